@@ -1,0 +1,32 @@
+-- The rows that picks or indices name.
+use Rattle.std.specs.Prelude.{ℕ, ℤ, pos, negsuc, Bool, true, false, List, [], ◌∷◌, map, Option, Some, None, nat_lt, slice_index_or}
+use Rattle.std.specs.List.{list_all}
+use Rattle.sel_arrow.specs.Value.{Value, Null, Number}
+
+-- the entry that a pick (list, place) names, and d for none (own)
+abbrev pub found : {A : Type 0} → A → List (List A) → Option (ℕ × ℕ) → A
+found d xss None = d
+found d xss (Some p) = slice_index_or (slice_index_or xss p.0 []) p.1 d
+
+-- entry k is d where pick k is none, else entry i of list s for the pick (s, i) (own: the meaning of a take from several columns)
+abbrev pub pick : {A : Type 0} → A → List (List A) → List (Option (ℕ × ℕ)) → List A
+pick d xss ps = map (found d xss) ps
+
+-- the pick that an index makes of one list: none for a null (own)
+abbrev pub pick_of : Value → Option (ℕ × ℕ)
+pick_of (Number (pos i)) = Some (0, i)
+pick_of _ = None
+
+-- the rows at the indices, null for a null index (own: the meaning of a take)
+abbrev pub take_rows : List Value → List Value → List Value
+take_rows rows indices = pick Null (rows ∷ []) (map pick_of indices)
+
+-- an index that is not null names one of n rows (own)
+abbrev pub is_within : ℕ → Value → Bool
+is_within n (Number (pos i)) = nat_lt i n
+is_within n (Number (negsuc i)) = false
+is_within n _ = true
+
+-- each index that is not null names one of n rows (own)
+abbrev pub all_within : ℕ → List Value → Bool
+all_within n indices = list_all (is_within n) indices

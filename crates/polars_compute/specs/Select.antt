@@ -1,0 +1,29 @@
+-- The entries that a mask keeps.
+use Rattle.std.specs.Prelude.{ℕ, ◌+◌, Bool, true, false, List, [], ◌∷◌, ◌++◌, map, if◌then◌else◌}
+use Rattle.sel_arrow.specs.Value.{Value, Truth}
+
+-- the elements of the first list at the places where the second is true, in order (own: the meaning of a filter)
+abbrev pub select : {A : Type 0} → List A → List Bool → List A
+select [] ms = []
+select (x ∷ xs) [] = []
+select (x ∷ xs) (true ∷ ms) = x ∷ select xs ms
+select (x ∷ xs) (false ∷ ms) = select xs ms
+
+-- whether a mask row is the valid value true (own: a null counts as false)
+abbrev pub is_true : Value → Bool
+is_true (Truth b) = b
+is_true _ = false
+
+-- which rows of a mask column are the valid value true
+abbrev pub in_force : List Value → List Bool
+in_force rows = map is_true rows
+
+-- the places of the true entries, where the first entry stands at place n
+abbrev pub kept_from : ℕ → List Bool → List ℕ
+kept_from n [] = []
+kept_from n (true ∷ ms) = n ∷ kept_from (n + 1) ms
+kept_from n (false ∷ ms) = kept_from (n + 1) ms
+
+-- the places of the true entries, ascending (own)
+abbrev pub kept : List Bool → List ℕ
+kept ms = kept_from 0 ms
