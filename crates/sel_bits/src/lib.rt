@@ -1,1 +1,10 @@
+//! Faults, shared bitmaps and buffers, and the number types that columns hold.
 #![tactic(auto)]
+
+pub mod bitmap;
+pub mod buffer;
+pub mod faults;
+pub mod native;
+pub mod number;
+pub mod operations;
+pub mod packer;

@@ -1,0 +1,31 @@
+-- What callers see of a bitmap.
+use Rattle.std.specs.Prelude.{ℕ, ◌+◌, ◌/◌, ◌%◌, Bool, List, [], ◌∷◌, map, slice_index, count_by, not}
+use Rattle.std.specs.List.{range_with_len}
+use Rattle.sel_bits.specs.Words.{is_set}
+
+-- the truth values, and the place of the first one among the bits of the shared bytes (own)
+pub record Bits : Type 0 where
+  pub bits : List Bool
+  pub offset : ℕ
+
+-- bit j of the bytes, each byte from its lowest bit (Arrow columnar format: bitmaps are least significant bit first)
+abbrev pub bit_in : List ℕ → ℕ → Bool
+bit_in bytes j = is_set (slice_index bytes (j / 8)) (j % 8)
+
+-- the n bits of the bytes from bit o on
+unfoldable pub bits_from : List ℕ → ℕ → ℕ → List Bool
+bits_from bytes o n = map (bit_in bytes) (range_with_len o n)
+
+-- how many entries are true
+abbrev pub count_true : List Bool → ℕ
+count_true bits = count_by (λ b. b) bits
+
+-- how many entries are false
+abbrev pub count_false : List Bool → ℕ
+count_false bits = count_by not bits
+
+-- an answer for each two entries of one position
+abbrev pub zip_with : {A B C : Type 0} → (A → B → C) → List A → List B → List C
+zip_with f [] ys = []
+zip_with f (x ∷ xs) [] = []
+zip_with f (x ∷ xs) (y ∷ ys) = f x y ∷ zip_with f xs ys

@@ -1,0 +1,89 @@
+//! Bits that are packed behind one another, up to 56 at a time.
+#![tactic(auto, using(crate::proofs::BitLists::length_bits_from))]
+
+ghost use Rattle.std.specs.Prelude.{◌≡◌, ℕ, ◌+◌, ◌-◌, ◌*◌, ◌^◌, ◌<◌, ◌≤◌, [], ◌∷◌, ◌++◌, length, take, IfOk, IfErr, OnOk};
+ghost use Rattle.sel_bits.specs.Words.{bits};
+
+use crate::bitmap::Bitmap;
+use crate::faults::{PolarsError, PolarsResult};
+use std::alloc::Global;
+use std::marker::Model;
+
+/// The most bits that can be put behind the others at once: the seven that may wait stand below them in one word.
+pub const MOST_BITS: usize = 56;
+
+/// A bitmap that grows at its end: whole bytes, and fewer than eight bits that wait for their byte to fill.
+///
+/// Contracts see the list of the bits so far.
+#[derive(Drop)]
+pub struct BitPacker {
+    bytes: Vec<u8>,
+    pending: u64,
+    held: u32,
+}
+
+impl Model for BitPacker {
+    ghost use Rattle.std.specs.Prelude.{Bool, List, ◌^◌, ◌<◌};
+    ghost use Rattle.sel_bits.specs.Packing.{packed_bits};
+
+    ghost Value = { List Bool };
+
+    ghost view = { λ p. packed_bits p.bytes.items p.held p.pending };
+
+    ghost invariant = { λ p. (p.held < 8) × (p.pending < 2 ^ p.held) };
+}
+
+impl BitPacker {
+    /// No bits, with room for `count` of them. Refuses only for want of memory.
+    pub fn with_capacity(alloc: Global, count: usize) -> PolarsResult<BitPacker>
+        ensures value { IfOk result (λ packer. packer ≡ []) }
+        ensures refusal { IfErr result (λ fault. fault ≡ PolarsError.OutOfMemory) }
+    {
+        let bytes = Vec::with_capacity(alloc, count.div_ceil(8))?;
+        Ok(BitPacker {
+            bytes,
+            pending: 0,
+            held: 0,
+        })
+    }
+
+    /// Puts the `count` lowest bits of `word` behind the others. Refuses only for want of memory, and then changes nothing.
+    pub fn append(&mut self, word: u64, count: u32) -> PolarsResult<()>
+        requires count { count ≤ 56 }
+        requires fits { word < 2 ^ count }
+        ensures appended { OnOk result (self.new ≡ self.old ++ bits count word) }
+        ensures unchanged { IfErr result (λ _. self.new ≡ self.old) }
+        ensures refusal { IfErr result (λ fault. fault ≡ PolarsError.OutOfMemory) }
+    {
+        let full = self.pending | (word << self.held);
+        let held = self.held + count;
+        let whole = held / 8;
+        self.bytes
+            .extend_from_slice(&full.to_le_bytes()[..whole as usize])?;
+        self.pending = full >> (8 * whole);
+        self.held = held % 8;
+        Ok(())
+    }
+
+    /// Puts one bit behind the others. Refuses only for want of memory, and then changes nothing.
+    pub fn push(&mut self, bit: bool) -> PolarsResult<()>
+        ensures pushed { OnOk result (self.new ≡ self.old ++ bit ∷ []) }
+        ensures unchanged { IfErr result (λ _. self.new ≡ self.old) }
+        ensures refusal { IfErr result (λ fault. fault ≡ PolarsError.OutOfMemory) }
+    {
+        self.append(u64::from(bit), 1)
+    }
+
+    /// The bits, `len` in number, as a bitmap. Refuses only for want of memory.
+    pub fn into_bitmap(mut self, len: usize) -> PolarsResult<Bitmap>
+        requires { length self ≡ len }
+        ensures value { IfOk result (λ bitmap. bitmap ≡ record { bits = self; offset = 0 }) }
+        ensures refusal { IfErr result (λ fault. fault ≡ PolarsError.OutOfMemory) }
+    {
+        if self.held == 0 {
+            return Bitmap::from_u8_vec(self.bytes, len);
+        }
+        self.bytes.push(self.pending as u8)?;
+        Bitmap::from_u8_vec(self.bytes, len)
+    }
+}
