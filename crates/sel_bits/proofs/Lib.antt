@@ -1,7 +1,9 @@
 pub mod BitLists
 pub mod Lists
+pub mod Packed
 pub mod Packs
 pub mod Padded
 pub mod Parts
 pub mod Shifts
 pub mod WordsOf
+pub mod Zips

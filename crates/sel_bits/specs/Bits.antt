@@ -1,5 +1,5 @@
 -- What callers see of a bitmap.
-use Rattle.std.specs.Prelude.{ℕ, ◌+◌, ◌/◌, ◌%◌, Bool, List, [], ◌∷◌, map, slice_index, count_by, not}
+use Rattle.std.specs.Prelude.{ℕ, ◌/◌, ◌%◌, Bool, List, [], ◌∷◌, map, slice_index, count_by, not}
 use Rattle.std.specs.List.{range_with_len}
 use Rattle.sel_bits.specs.Words.{is_set}
 

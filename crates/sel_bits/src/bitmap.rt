@@ -1,7 +1,7 @@
 //! Truth values, eight to a byte from its lowest bit on, in bytes that several bitmaps can share.
 #![tactic(auto, using(crate::proofs::BitLists::length_bits_from))]
 
-ghost use Rattle.std.specs.Prelude.{◌≡◌, ℕ, ◌+◌, ◌-◌, ◌*◌, ◌/◌, ◌%◌, ◌^◌, ◌<◌, ◌≤◌, [], ◌∷◌, ◌++◌, Bool, false, length, take, drop, slice_index_or, replicate, IfOk, IfErr, IsTrue, ◌↔◌, vec_len};
+ghost use Rattle.std.specs.Prelude.{◌≡◌, ℕ, ◌+◌, ◌-◌, ◌*◌, ◌/◌, ◌%◌, ◌^◌, ◌<◌, ◌≤◌, [], ◌∷◌, ◌++◌, Bool, false, length, take, drop, slice_index_or, replicate, IfOk, IfErr, IsTrue, ◌↔◌, vec_len, if◌then◌else◌};
 ghost use Rattle.sel_bits.specs.Bits.{bits_from, count_true, count_false};
 ghost use Rattle.sel_bits.specs.Words.{word_of};
 
@@ -48,8 +48,8 @@ impl Bitmap {
         ensures value { IfOk result (λ bitmap. bitmap ≡ record { bits = replicate len value; offset = 0 }) }
         ensures refusal { IfErr result (λ fault. fault ≡ PolarsError.OutOfMemory) }
     {
-        let byte = if value { u8::MAX } else { 0 };
-        Bitmap::from_u8_vec(vec![in alloc; byte; len.div_ceil(8)]?, len)
+        let bytes = vec![in alloc; byte_of(value); len.div_ceil(8)]?;
+        Bitmap::from_u8_vec(bytes, len)
     }
 
     /// The first `len` bits of the bytes. Refuses only for want of memory.
@@ -174,6 +174,13 @@ impl Bitmap {
             len: self.len,
         })
     }
+}
+
+/// The byte of eight equal bits.
+fn byte_of(value: bool) -> u8
+    ensures { result ≡ (if value then 255 else 0) }
+{
+    if value { u8::MAX } else { 0 }
 }
 
 /// The word whose bits are these, from the lowest on, and then zeros.

@@ -17,7 +17,7 @@ impl Bitmap {
     {
         let mut packer = BitPacker::with_capacity(alloc, self.len())?;
         for i in 0..self.len() {
-            packer.push(self.get_bit(i) && other.get_bit(i))?;
+            packer.push(self.get_bit(i) & other.get_bit(i))?;
         }
         packer.into_bitmap(self.len())
     }
