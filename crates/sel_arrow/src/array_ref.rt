@@ -53,7 +53,7 @@ impl ArrayRef {
     {
         let ArrayRef { column } = self;
         match T::from_column(column) {
-            Ok(array) => Ok(array),
+            Ok((values, validity)) => Ok(PrimitiveArray { values, validity }),
             Err(column) => Err(ArrayRef { column }),
         }
     }

@@ -1,10 +1,10 @@
 //! A column of numbers.
 
-ghost use Rattle.std.specs.Prelude.{◌≡◌, ◌≢◌, ◌≤◌, ◌<◌, ◌↔◌, length, slice_index_or, None, IfOk, IfErr, IsTrue, MatchResult};
+ghost use Rattle.std.specs.Prelude.{◌≡◌, ◌≢◌, ◌≤◌, ◌<◌, ◌↔◌, length, slice_index_or, None, IfOk, IfErr, IsTrue, pos};
 ghost use Rattle.std.specs.Option.{option_copied};
 ghost use Rattle.sel_bits.specs.Faults.{IsFault};
 ghost use Rattle.sel_arrow.specs.Makers.{flat_fault};
-ghost use Rattle.sel_arrow.specs.Masked.{Covers, number_value};
+ghost use Rattle.sel_arrow.specs.Masked.{Covers, number_rows, number_value};
 ghost use Rattle.sel_arrow.specs.Shape.{Shape, of_null};
 ghost use Rattle.sel_arrow.specs.Value.{Null};
 
@@ -76,7 +76,6 @@ impl<T: NativeType> PrimitiveArray<T> {
 
 /// A number type whose columns are a kind of `Column`.
 pub trait ArrowPrimitive: NativeType {
-    ghost use Rattle.sel_arrow.specs.Columns.{primitive_rows};
     ghost use Rattle.sel_arrow.specs.DataType.{shape_of};
     ghost use Rattle.sel_arrow.specs.Rows.{rows, type_of, IsWellFormed};
 
@@ -91,15 +90,19 @@ pub trait ArrowPrimitive: NativeType {
     fn is_column_dtype(dtype: &ArrowDataType) -> bool
         ensures { IsTrue result ↔ (shape ≡ shape_of dtype.now) };
 
-    /// The column as one of any type.
-    fn into_column(array: PrimitiveArray<Self>) -> Column
-        ensures rows { rows result ≡ primitive_rows array }
+    /// The column of these parts.
+    fn into_column(values: Buffer<Self>, validity: Option<Bitmap>) -> Column
+        requires few { length values ≤ 4294967295 }
+        requires covers { Covers validity (length values) }
+        ensures rows { rows result ≡ number_rows Self.number values validity }
         ensures dtype { type_of result ≡ shape }
         ensures formed { IsWellFormed result };
 
-    /// The column of numbers, or the column back where it is of another type.
-    fn from_column(column: Column) -> Result<PrimitiveArray<Self>, Column>
-        ensures rows { IfOk result (λ array. primitive_rows array ≡ rows column) }
+    /// The values and the validity, or the column back where it is of another type.
+    fn from_column(column: Column) -> Result<(Buffer<Self>, Option<Bitmap>), Column>
+        ensures rows { IfOk result (λ parts. number_rows Self.number parts.0 parts.1 ≡ rows column) }
+        ensures few { IfOk result (λ parts. length parts.0 ≤ 4294967295) }
+        ensures covers { IfOk result (λ parts. Covers parts.1 (length parts.0)) }
         ensures dtype { IfOk result (λ _. type_of column ≡ shape) }
         ensures back { IfErr result (λ back. back ≡ column) }
         ensures other { IfErr result (λ _. type_of column ≢ shape) };
@@ -109,7 +112,6 @@ pub trait ArrowPrimitive: NativeType {
 }
 
 impl ArrowPrimitive for i64 {
-    ghost use Rattle.sel_arrow.specs.Columns.{primitive_rows};
     ghost use Rattle.sel_arrow.specs.Rows.{rows, type_of, IsWellFormed};
     ghost use Rattle.sel_arrow.specs.Shape.{of_int64};
 
@@ -125,24 +127,28 @@ impl ArrowPrimitive for i64 {
         matches!(dtype, ArrowDataType::Int64)
     }
 
-    fn into_column(array: PrimitiveArray<i64>) -> Column
-        ensures rows { rows result ≡ primitive_rows array }
+    fn into_column(values: Buffer<i64>, validity: Option<Bitmap>) -> Column
+        requires few { length values ≤ 4294967295 }
+        requires covers { Covers validity (length values) }
+        ensures rows { rows result ≡ number_rows (λ x. x) values validity }
         ensures dtype { type_of result ≡ of_int64 }
         ensures formed { IsWellFormed result }
     {
-        Column::Int64(array)
+        Column::Int64(PrimitiveArray { values, validity })
     }
 
-    fn from_column(column: Column) -> Result<PrimitiveArray<i64>, Column> {
+    fn from_column(column: Column) -> Result<(Buffer<i64>, Option<Bitmap>), Column> {
         match column {
-            Column::Int64(array) => Ok(array),
+            Column::Int64(array) => {
+                let PrimitiveArray { values, validity } = array;
+                Ok((values, validity))
+            }
             other => Err(other),
         }
     }
 }
 
 impl ArrowPrimitive for u32 {
-    ghost use Rattle.sel_arrow.specs.Columns.{primitive_rows};
     ghost use Rattle.sel_arrow.specs.Rows.{rows, type_of, IsWellFormed};
     ghost use Rattle.sel_arrow.specs.Shape.{of_uint32};
 
@@ -158,17 +164,22 @@ impl ArrowPrimitive for u32 {
         matches!(dtype, ArrowDataType::UInt32)
     }
 
-    fn into_column(array: PrimitiveArray<u32>) -> Column
-        ensures rows { rows result ≡ primitive_rows array }
+    fn into_column(values: Buffer<u32>, validity: Option<Bitmap>) -> Column
+        requires few { length values ≤ 4294967295 }
+        requires covers { Covers validity (length values) }
+        ensures rows { rows result ≡ number_rows pos values validity }
         ensures dtype { type_of result ≡ of_uint32 }
         ensures formed { IsWellFormed result }
     {
-        Column::UInt32(array)
+        Column::UInt32(PrimitiveArray { values, validity })
     }
 
-    fn from_column(column: Column) -> Result<PrimitiveArray<u32>, Column> {
+    fn from_column(column: Column) -> Result<(Buffer<u32>, Option<Bitmap>), Column> {
         match column {
-            Column::UInt32(array) => Ok(array),
+            Column::UInt32(array) => {
+                let PrimitiveArray { values, validity } = array;
+                Ok((values, validity))
+            }
             other => Err(other),
         }
     }
@@ -199,8 +210,9 @@ impl<T: ArrowPrimitive> Array for PrimitiveArray<T> {
     }
 
     fn into_ref(self) -> ArrayRef {
+        let PrimitiveArray { values, validity } = self;
         ArrayRef {
-            column: T::into_column(self),
+            column: T::into_column(values, validity),
         }
     }
 
