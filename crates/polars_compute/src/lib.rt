@@ -4,3 +4,5 @@
 pub mod filter;
 pub mod gather;
 mod growing;
+#[cfg(test)]
+mod tests;
