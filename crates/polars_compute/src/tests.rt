@@ -37,12 +37,12 @@ fn truths(alloc: Global, values: &[bool], validity: &[bool]) -> Result<BooleanAr
     Ok(BooleanArray::try_new(values, Some(validity))?)
 }
 
-fn rows_of<T: NativeType>(
+fn rows_of<T: ArrowPrimitive>(
     alloc: Global,
     column: &PrimitiveArray<T>,
 ) -> Result<Vec<Option<T>>, Fail> {
     let mut rows = Vec::new(alloc);
-    for i in 0..column.values().len() {
+    for i in 0..column.len() {
         rows.push(column.get(i))?;
     }
     Ok(rows)
