@@ -2,7 +2,6 @@
 use Rattle.std.proofs.Common.{◌≡◌, ℕ, zero, suc, ◌+◌, ◌-◌, ◌*◌, ◌^◌, ◌<◌, ◌≤◌, ◌≢◌, ◌∙◌, sym, refl, ap, ⊎_elim, arith, List, [], ◌∷◌, length, get_or, take, drop, reverse, Bool, true, false, cond}
 use Rattle.std.specs.Int.{bit_at, w64, trailing_zeros as lowest_place}
 use Rattle.std.proofs.lemmas.Bool.{cases_lt}
-use Rattle.std.proofs.lemmas.Nat.{pow_pos}
 use Rattle.std.proofs.lemmas.Nat.Bits.{bit_at-trailing_zeros, bit_at_cat_high, bit_at-zero, bit_at_above}
 use Rattle.std.proofs.lemmas.List.{length-take, length-drop, length-reverse, get_or-take, get_or-drop, get_or_past, get_or-reverse, take_all}
 use Rattle.sel_bits.specs.Words.{word_of}
@@ -104,15 +103,17 @@ module _ (l : List Bool) (at len word : ℕ) (is : word ≡ word_of (take len (d
   lowest_set some fits low =
       let t = lowest_place w64 word in
       let found = bit_at-trailing_zeros w64 word (omega arith) fits in
-      let below : t < len = set_below t found.1 in
-      (omega arith, leading_found l (at + t)
-      (λ i le lt.
-      ⊎_elim (λ (before : i < at). low i le before)
-      (λ (after : at ≤ i).
-      let place : at + (i - at) ≡ i = omega arith in
-      ap (λ j. get_or l j false) (sym place) ∙ unset (i - at) (omega arith) (found.2 (i - at) (omega arith)))
-      (cases_lt i at))
-      (set t found.1))
+      let below : t < len = set_below t found.1 in (
+        omega arith,
+        leading_found l (at + t)
+            (λ i le lt.
+            ⊎_elim (λ (before : i < at). low i le before)
+            (λ (after : at ≤ i).
+            let place : at + (i - at) ≡ i = omega arith in
+            ap (λ j. get_or l j false) (sym place) ∙ unset (i - at) (omega arith) (found.2 (i - at) (omega arith)))
+            (cases_lt i at))
+            (set t found.1),
+      )
 
   -- the last word with a set bit, whose highest one is bit h
   pub highest_set : (h : ℕ) → 2 ^ h ≤ word → word < 2 * 2 ^ h → AreFalse l (at + len) (length l) → (at + h < length l) × (trailing_zeros l ≡ length l - (at + h + 1))

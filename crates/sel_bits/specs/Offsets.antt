@@ -1,5 +1,5 @@
 -- Offsets as whole numbers.
-use Rattle.std.specs.Prelude.{◌≡◌, ℕ, ◌<◌, ◌≤◌, ◌+◌, ℤ, pos, negsuc, Bool, true, false, ◌||◌, List, [], ◌∷◌, map, length, Option, slice_index}
+use Rattle.std.specs.Prelude.{◌≡◌, ℕ, ◌<◌, ◌≤◌, ℤ, pos, Bool, true, false, ◌||◌, List, [], ◌∷◌, map, length, Option, slice_index}
 use Rattle.std.specs.List.{list_any}
 use lib.Signed.{lt_z}
 use Rattle.sel_bits.specs.declared.faults.Malformed.{Malformed}

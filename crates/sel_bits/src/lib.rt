@@ -9,6 +9,5 @@ pub mod number;
 pub mod offsets;
 pub mod operations;
 pub mod packer;
-
 #[cfg(test)]
 mod tests;

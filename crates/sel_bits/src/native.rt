@@ -69,7 +69,7 @@ impl Offset for i32 {
     ghost room = { Prim.search rules };
 
     fn is_negative(self) -> bool {
-        self < 0
+        i64::from(self).is_negative()
     }
 
     fn is_below(self, other: i32) -> bool {
@@ -77,7 +77,7 @@ impl Offset for i32 {
     }
 
     fn to_position(self) -> usize {
-        self as usize
+        i64::from(self).to_position()
     }
 }
 
@@ -308,7 +308,7 @@ impl NativeType for u64 {
     const GREATEST: u64 = u64::MAX;
 
     fn try_usize(self) -> Option<usize> {
-        usize::try_from(self).ok()
+        Some(self as usize)
     }
 
     fn from_usize(n: usize) -> Option<u64> {

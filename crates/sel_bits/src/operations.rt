@@ -57,7 +57,12 @@ impl Bitmap {
     }
 
     /// The bit of `if_true` where the mask's bit is true, else that of `if_false`. Refuses only for want of memory.
-    pub fn choose(alloc: Global, mask: &Bitmap, if_true: &Bitmap, if_false: &Bitmap) -> PolarsResult<Bitmap>
+    pub fn choose(
+        alloc: Global,
+        mask: &Bitmap,
+        if_true: &Bitmap,
+        if_false: &Bitmap,
+    ) -> PolarsResult<Bitmap>
         requires true_side { length mask.now.bits ≡ length if_true.now.bits }
         requires false_side { length mask.now.bits ≡ length if_false.now.bits }
         ensures value { IfOk result (λ bitmap. bitmap ≡ record { bits = choose mask.now.bits if_true.now.bits if_false.now.bits; offset = 0 }) }

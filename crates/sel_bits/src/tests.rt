@@ -22,7 +22,11 @@ fn bits_of(alloc: Global, bitmap: &Bitmap) -> PolarsResult<Vec<bool>> {
     Ok(bits)
 }
 
-fn assert_bits(rt: &(impl Abort + Alloc<A = Global>), bitmap: &Bitmap, wanted: &[bool]) -> PolarsResult<()> {
+fn assert_bits(
+    rt: &(impl Abort + Alloc<A = Global>),
+    bitmap: &Bitmap,
+    wanted: &[bool],
+) -> PolarsResult<()> {
     let bits = bits_of(rt.alloc(), bitmap)?;
     assert_eq!(rt; bits.as_slice(), wanted);
     Ok(())
@@ -32,7 +36,11 @@ fn assert_bits(rt: &(impl Abort + Alloc<A = Global>), bitmap: &Bitmap, wanted: &
 fn bitmaps_hold_their_bits(rt: HostRuntime) -> Result<(), Fail> {
     let alloc = rt.alloc();
     assert!(rt; Bitmap::new(alloc)?.is_empty());
-    assert_bits(&rt, &Bitmap::new_with_value(alloc, true, 3)?, &[true, true, true])?;
+    assert_bits(
+        &rt,
+        &Bitmap::new_with_value(alloc, true, 3)?,
+        &[true, true, true],
+    )?;
     assert_bits(&rt, &Bitmap::new_zeroed(alloc, 2)?, &[false, false])?;
     let bits = [false, true, true, false, false, false, true, true, true];
     assert_bits(&rt, &Bitmap::from_bools(alloc, &bits)?, &bits)?;
@@ -40,7 +48,11 @@ fn bitmaps_hold_their_bits(rt: HostRuntime) -> Result<(), Fail> {
     let part = whole.try_clone()?.sliced(2, 5);
     assert_bits(&rt, &part, &[true, false, true, true, false])?;
     assert_eq!(rt; (part.len(), part.set_bits(), part.unset_bits()), (5, 3, 2));
-    assert_bits(&rt, &whole, &[false, false, true, false, true, true, false, true])?;
+    assert_bits(
+        &rt,
+        &whole,
+        &[false, false, true, false, true, true, false, true],
+    )?;
     Ok(())
 }
 
@@ -76,7 +88,11 @@ fn packed_bits_stand_behind_one_another(rt: HostRuntime) -> Result<(), Fail> {
     packer.push(true)?;
     packer.append(0b001, 3)?;
     let bitmap = packer.into_bitmap(9)?;
-    assert_bits(&rt, &bitmap, &[false, true, true, false, true, true, true, false, false])?;
+    assert_bits(
+        &rt,
+        &bitmap,
+        &[false, true, true, false, true, true, true, false, false],
+    )?;
     Ok(())
 }
 
@@ -99,7 +115,11 @@ fn mixed_bits(alloc: Global, seed: u64, off: usize) -> PolarsResult<Bitmap>
 #[test]
 fn operations_go_position_by_position(rt: HostRuntime) -> Result<(), Fail> {
     let alloc = rt.alloc();
-    let (a, b, c) = (mixed_bits(alloc, 1, 3)?, mixed_bits(alloc, 2, 13)?, mixed_bits(alloc, 3, 0)?);
+    let (a, b, c) = (
+        mixed_bits(alloc, 1, 3)?,
+        mixed_bits(alloc, 2, 13)?,
+        mixed_bits(alloc, 3, 0)?,
+    );
     let mut wanted = [[false; 130]; 6];
     for i in 0..130 {
         let (x, y, z) = (a.get_bit(i), b.get_bit(i), c.get_bit(i));
@@ -136,10 +156,22 @@ fn fault_of(alloc: Global, offsets: &[i32]) -> Result<Option<MakeError>, Fail> {
 #[test]
 fn offsets_are_tested_in_order(rt: HostRuntime) -> Result<(), Fail> {
     let alloc = rt.alloc();
-    assert_eq!(rt; fault_of(alloc, &[])?, Some(MakeError::Malformed(Malformed::OffsetCount)));
-    assert_eq!(rt; fault_of(alloc, &[-1, 0])?, Some(MakeError::Malformed(Malformed::OffsetNegative)));
-    assert_eq!(rt; fault_of(alloc, &[0, 2, 1])?, Some(MakeError::Malformed(Malformed::OffsetOrder)));
-    assert_eq!(rt; fault_of(alloc, &[2, 1, -1])?, Some(MakeError::Malformed(Malformed::OffsetNegative)));
+    assert_eq!(rt;
+        fault_of(alloc, &[])?,
+        Some(MakeError::Malformed(Malformed::OffsetCount))
+    );
+    assert_eq!(rt;
+        fault_of(alloc, &[-1, 0])?,
+        Some(MakeError::Malformed(Malformed::OffsetNegative))
+    );
+    assert_eq!(rt;
+        fault_of(alloc, &[0, 2, 1])?,
+        Some(MakeError::Malformed(Malformed::OffsetOrder))
+    );
+    assert_eq!(rt;
+        fault_of(alloc, &[2, 1, -1])?,
+        Some(MakeError::Malformed(Malformed::OffsetNegative))
+    );
     assert_eq!(rt; fault_of(alloc, &[3])?, None);
     Ok(())
 }
@@ -165,18 +197,45 @@ fn back<T: NativeType>(n: usize) -> Option<usize> {
 #[test]
 fn numbers_go_to_usize_and_back(rt: HostRuntime) {
     assert_eq!(rt; (back::<i8>(127), back::<i8>(128)), (Some(127), None));
-    assert_eq!(rt; (back::<i16>(32767), back::<i16>(32768)), (Some(32767), None));
-    assert_eq!(rt; (back::<i32>(2147483647), back::<i32>(2147483648)), (Some(2147483647), None));
-    assert_eq!(rt; (back::<i64>(9223372036854775807), back::<i64>(9223372036854775808)), (Some(9223372036854775807), None));
+    assert_eq!(rt;
+        (back::<i16>(32767), back::<i16>(32768)),
+        (Some(32767), None)
+    );
+    assert_eq!(rt;
+        (back::<i32>(2147483647), back::<i32>(2147483648)),
+        (Some(2147483647), None)
+    );
+    assert_eq!(rt;
+        (
+            back::<i64>(9223372036854775807),
+            back::<i64>(9223372036854775808)
+        ),
+        (Some(9223372036854775807), None)
+    );
     assert_eq!(rt; (back::<u8>(255), back::<u8>(256)), (Some(255), None));
-    assert_eq!(rt; (back::<u16>(65535), back::<u16>(65536)), (Some(65535), None));
-    assert_eq!(rt; (back::<u32>(4294967295), back::<u32>(4294967296)), (Some(4294967295), None));
+    assert_eq!(rt;
+        (back::<u16>(65535), back::<u16>(65536)),
+        (Some(65535), None)
+    );
+    assert_eq!(rt;
+        (back::<u32>(4294967295), back::<u32>(4294967296)),
+        (Some(4294967295), None)
+    );
     assert_eq!(rt; back::<u64>(usize::MAX), Some(usize::MAX));
     assert_eq!(rt; back::<i128>(usize::MAX), Some(usize::MAX));
     assert_eq!(rt; back::<u128>(usize::MAX), Some(usize::MAX));
-    assert_eq!(rt; ((-1i8).try_usize(), (1u128 << 64).try_usize()), (None, None));
-    assert_eq!(rt; (0i64.to_usize(), u64::MAX.to_usize(), 7i128.to_usize()), (0, usize::MAX, 7));
-    assert_eq!(rt; (i32::LEAST, <i32 as NativeType>::GREATEST, u128::LEAST), (i32::MIN, i32::MAX, 0));
+    assert_eq!(rt;
+        ((-1i8).try_usize(), (1u128 << 64).try_usize()),
+        (None, None)
+    );
+    assert_eq!(rt;
+        (0i64.to_usize(), u64::MAX.to_usize(), 7i128.to_usize()),
+        (0, usize::MAX, 7)
+    );
+    assert_eq!(rt;
+        (i32::LEAST, <i32 as NativeType>::GREATEST, u128::LEAST),
+        (i32::MIN, i32::MAX, 0)
+    );
 }
 
 /// How many of the indices are below the number.
@@ -196,18 +255,44 @@ fn told<O: Offset>(x: O, y: O) -> (bool, bool) {
 fn indices_and_offsets_by_their_traits(rt: HostRuntime) {
     assert_eq!(rt; count_below(&[-1i64, 0, 4, 5], 5), 2);
     assert_eq!(rt; count_below(&[0u8, 255], 255), 1);
-    assert_eq!(rt; (told(-1i32, 0), told(2i64, 2)), ((true, true), (false, false)));
-    assert_eq!(rt; (5i32.to_position(), i64::MAX.to_position()), (5, 9223372036854775807));
+    assert_eq!(rt;
+        (told(-1i32, 0), told(2i64, 2)),
+        ((true, true), (false, false))
+    );
+    assert_eq!(rt;
+        (5i32.to_position(), i64::MAX.to_position()),
+        (5, 9223372036854775807)
+    );
 }
 
 #[test]
 fn places_and_words(rt: HostRuntime) {
-    assert_eq!(rt; (negative_to_usize(0, 3), negative_to_usize(2, 3), negative_to_usize(3, 3)), (Some(0), Some(2), None));
-    assert_eq!(rt; (negative_to_usize(-1, 3), negative_to_usize(-3, 3), negative_to_usize(-4, 3)), (Some(2), Some(0), None));
-    assert_eq!(rt; (negative_to_usize(0, 0), negative_to_usize(i64::MIN, 3)), (None, None));
+    assert_eq!(rt;
+        (
+            negative_to_usize(0, 3),
+            negative_to_usize(2, 3),
+            negative_to_usize(3, 3)
+        ),
+        (Some(0), Some(2), None)
+    );
+    assert_eq!(rt;
+        (
+            negative_to_usize(-1, 3),
+            negative_to_usize(-3, 3),
+            negative_to_usize(-4, 3)
+        ),
+        (Some(2), Some(0), None)
+    );
+    assert_eq!(rt;
+        (negative_to_usize(0, 0), negative_to_usize(i64::MIN, 3)),
+        (None, None)
+    );
     assert_eq!(rt; prefix_xorsum(0b1011), 0xFFFF_FFFF_FFFF_FFF2);
     assert_eq!(rt; load_padded_le_u64(&[0x01, 0x02]), 0x201);
-    assert_eq!(rt; load_padded_le_u64(&[1, 2, 3, 4, 5, 6, 7, 8, 9]), 0x0807_0605_0403_0201);
+    assert_eq!(rt;
+        load_padded_le_u64(&[1, 2, 3, 4, 5, 6, 7, 8, 9]),
+        0x0807_0605_0403_0201
+    );
 }
 
 #[test]
@@ -217,7 +302,10 @@ fn refusals_have_texts(rt: HostRuntime) -> Result<(), Fail> {
         (PolarsError::SizeLimit(Limit::Rows), "size limit rows"),
         (PolarsError::SizeLimit(Limit::Bytes), "size limit bytes"),
         (PolarsError::SizeLimit(Limit::Buffers), "size limit buffers"),
-        (PolarsError::SizeLimit(Limit::ViewBytes), "size limit view bytes"),
+        (
+            PolarsError::SizeLimit(Limit::ViewBytes),
+            "size limit view bytes",
+        ),
         (PolarsError::ComputeError, "get index is out of bounds"),
     ] {
         assert_eq!(rt; refusal.to_string(rt.alloc())?.as_str(), text);

@@ -1,4 +1,4 @@
-use Rattle.std.proofs.Common.{◌≡◌, ◌+◌, ◌<◌, ◌≤◌, ◌^◌, ◌∙◌, List, Bool, length, take, ap, sym, arith, subst, IfOk}
+use Rattle.std.proofs.Common.{◌≡◌, ◌+◌, ◌≤◌, ◌∙◌, List, Bool, length, arith, subst, IfOk}
 use Rattle.std.proofs.lemmas.List.{take_all}
 use Rattle.sel_bits.specs.Bits.{zip_three}
 use Rattle.sel_bits.proofs.Combining.{length-zip_three, packed_more, part_fits}

@@ -1,4 +1,4 @@
-use Rattle.std.proofs.Common.{◌≡◌, ◌+◌, ◌<◌, sym, ap, length, arith, subst}
+use Rattle.std.proofs.Common.{◌≡◌, ◌+◌, ◌<◌, sym, length, arith, subst}
 use Rattle.std.specs.Int.{w64, trailing_zeros as lowest_place}
 use Rattle.sel_bits.specs.Bits.{leading_zeros}
 use Rattle.sel_bits.proofs.Zeros.{AreFalse, lowest_set, none_set, false_joined, leading_all}

@@ -1,6 +1,6 @@
-use Rattle.std.proofs.Common.{◌-◌, List, Bool, ap, take, ◌∙◌, sym}
+use Rattle.std.proofs.Common.{List, Bool, ap}
 use Rattle.std.specs.Rc.{rc_slice_items}
-use Rattle.sel_bits.specs.Bits.{Bits, bits_from}
+use Rattle.sel_bits.specs.Bits.{Bits}
 use Rattle.sel_bits.proofs.BitLists.{length_bits_from}
 use Rattle.sel_bits.proofs.Zeros.{bits_from_kept}
 use Rattle.sel_bits.proofs.bitmap.Bitmap.take_trailing_zeros.Goals as goal
