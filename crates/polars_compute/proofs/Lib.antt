@@ -1,3 +1,4 @@
+pub mod Compressing
 pub mod Growths
 pub mod Scalars
 pub mod Selects

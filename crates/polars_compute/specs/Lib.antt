@@ -1,3 +1,4 @@
+pub mod Compress
 pub mod Growing
 pub mod Pick
 pub mod Scalar

@@ -3,6 +3,8 @@
 ghost use Rattle.std.specs.Prelude.{◌≡◌, length, IfOk, IfErr};
 ghost use Rattle.std.specs.Option.{option_copied, option_map};
 ghost use Rattle.sel_arrow.specs.Masked.{Covers};
+ghost use Rattle.std.specs.Prelude.{count_ones};
+ghost use Rattle.polars_compute.specs.Compress.{compress};
 ghost use Rattle.polars_compute.specs.Select.{select};
 
 use sel_bits::bitmap::Bitmap;
@@ -59,4 +61,21 @@ pub(crate) fn filter_validity(
         None => Ok(None),
         Some(bits) => Ok(Some(filter_boolean_kernel(alloc, bits, mask)?)),
     }
+}
+
+/// The bits of `v` where `m` has a set bit, packed from the lowest on, and then zeros; `m_popcnt` is the number of set bits of `m`.
+pub fn pext64_polyfill(v: u64, m: u64, m_popcnt: u32) -> u64
+    requires { m_popcnt ≡ count_ones m }
+    ensures { result ≡ compress v m }
+{
+    let _ = m_popcnt;
+    let mut packed = 0;
+    let mut place = 0u32;
+    for i in 0..64u32 {
+        if (m >> i) & 1 == 1 {
+            packed += ((v >> i) & 1) << place;
+            place += 1;
+        }
+    }
+    packed
 }

@@ -29,17 +29,17 @@ loop-i-preserved g c =
     let room = c.loop-i.invariant.room in
     elim c.if-is_set.branch [
       | then-is_set+in_ok-push w ↦
-        let here = bit ∙ w.if-is_set.true in
-        let left = one_left bits c.loop-i.i inside here in
-        rw w.out-is (record {
-          kept = rw w.in_ok-push.ensures.items (kept_more values bits c.loop-i.i c.index-values-i.result c.index-values-i.result c.loop-i.out.items (old ++ select values bits) (omega arith) inside here c.index-values-i.is c.loop-i.invariant.kept);
-          room = omega (arith, left, room, w.in_ok-push.ensures.len, w.in_ok-push.ensures.capacity);
-        })
+          let here = bit ∙ w.if-is_set.true in
+          let left = one_left bits c.loop-i.i inside here in
+          rw w.out-is (record {
+            kept = rw w.in_ok-push.ensures.items (kept_more values bits c.loop-i.i c.index-values-i.result c.index-values-i.result c.loop-i.out.items (old ++ select values bits) (omega arith) inside here c.index-values-i.is c.loop-i.invariant.kept);
+            room = omega (arith, left, room, w.in_ok-push.ensures.len, w.in_ok-push.ensures.capacity);
+          })
       | else-is_set w ↦
-        let here = bit ∙ w.if-is_set.false in
-        let left = none_left bits c.loop-i.i inside here in
-        rw w.out-is (record {
-          kept = kept_same values bits c.loop-i.i c.index-values-i.result c.loop-i.out.items (old ++ select values bits) (omega arith) inside here c.loop-i.invariant.kept;
-          room = omega (arith, left, room);
-        })
+          let here = bit ∙ w.if-is_set.false in
+          let left = none_left bits c.loop-i.i inside here in
+          rw w.out-is (record {
+            kept = kept_same values bits c.loop-i.i c.index-values-i.result c.loop-i.out.items (old ++ select values bits) (omega arith) inside here c.loop-i.invariant.kept;
+            room = omega (arith, left, room);
+          })
     ]
