@@ -6,6 +6,7 @@ pub mod array_ref;
 pub mod boolean;
 pub mod column;
 pub mod datatype;
+pub mod native_columns;
 pub mod null;
 pub mod primitive;
 pub mod validity;
