@@ -1,9 +1,13 @@
 pub mod BitLists
+pub mod Combining
+pub mod Counts
 pub mod Lists
+pub mod OffsetLemmas
 pub mod Packed
 pub mod Packs
 pub mod Padded
 pub mod Parts
+pub mod Prefix
 pub mod Shifts
 pub mod WordsOf
-pub mod Zips
+pub mod Zeros

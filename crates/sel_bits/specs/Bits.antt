@@ -1,5 +1,5 @@
 -- What callers see of a bitmap.
-use Rattle.std.specs.Prelude.{ℕ, ◌/◌, ◌%◌, Bool, List, [], ◌∷◌, map, slice_index, count_by, not}
+use Rattle.std.specs.Prelude.{ℕ, ◌+◌, ◌/◌, ◌%◌, Bool, true, false, List, [], ◌∷◌, map, slice_index, count_by, not, reverse}
 use Rattle.std.specs.List.{range_with_len}
 use Rattle.sel_bits.specs.Words.{is_set}
 
@@ -29,3 +29,20 @@ abbrev pub zip_with : {A B C : Type 0} → (A → B → C) → List A → List B
 zip_with f [] ys = []
 zip_with f (x ∷ xs) [] = []
 zip_with f (x ∷ xs) (y ∷ ys) = f x y ∷ zip_with f xs ys
+
+-- an answer for each three entries of one position
+abbrev pub zip_three : {A B C D : Type 0} → (A → B → C → D) → List A → List B → List C → List D
+zip_three f [] ys zs = []
+zip_three f (x ∷ xs) [] zs = []
+zip_three f (x ∷ xs) (y ∷ ys) [] = []
+zip_three f (x ∷ xs) (y ∷ ys) (z ∷ zs) = f x y z ∷ zip_three f xs ys zs
+
+-- how many false entries stand before the first true one
+abbrev pub leading_zeros : List Bool → ℕ
+leading_zeros [] = 0
+leading_zeros (true ∷ bits) = 0
+leading_zeros (false ∷ bits) = leading_zeros bits + 1
+
+-- how many false entries stand behind the last true one
+abbrev pub trailing_zeros : List Bool → ℕ
+trailing_zeros bits = leading_zeros (reverse bits)

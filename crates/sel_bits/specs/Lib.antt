@@ -1,5 +1,9 @@
 pub mod Bits
+pub mod Choose
 pub mod Faults
+pub mod Offsets
 pub mod Packing
+pub mod Place
 pub mod Ranges
+pub mod Signs
 pub mod Words

@@ -2,7 +2,7 @@
 #![tactic(auto, using(crate::proofs::BitLists::length_bits_from))]
 
 ghost use Rattle.std.specs.Prelude.{◌≡◌, ℕ, ◌+◌, ◌-◌, ◌*◌, ◌/◌, ◌%◌, ◌^◌, ◌<◌, ◌≤◌, [], ◌∷◌, ◌++◌, Bool, false, length, take, drop, slice_index_or, replicate, IfOk, IfErr, IsTrue, ◌↔◌, vec_len, if◌then◌else◌};
-ghost use Rattle.sel_bits.specs.Bits.{bits_from, count_true, count_false};
+ghost use Rattle.sel_bits.specs.Bits.{bits_from, count_true, count_false, leading_zeros, trailing_zeros};
 ghost use Rattle.sel_bits.specs.Words.{word_of};
 
 use crate::faults::{PolarsError, PolarsResult};
@@ -50,6 +50,14 @@ impl Bitmap {
     {
         let bytes = vec![in alloc; byte_of(value); len.div_ceil(8)]?;
         Bitmap::from_u8_vec(bytes, len)
+    }
+
+    /// `len` bits, each of them false. Refuses only for want of memory.
+    pub fn new_zeroed(alloc: Global, len: usize) -> PolarsResult<Bitmap>
+        ensures value { IfOk result (λ bitmap. bitmap ≡ record { bits = replicate len false; offset = 0 }) }
+        ensures refusal { IfErr result (λ fault. fault ≡ PolarsError.OutOfMemory) }
+    {
+        Bitmap::new_with_value(alloc, false, len)
     }
 
     /// The first `len` bits of the bytes. Refuses only for want of memory.
@@ -160,6 +168,75 @@ impl Bitmap {
             offset: self.offset + off,
             len,
         }
+    }
+
+    /// Removes the false bits before the first true one, and answers how many there were.
+    pub fn take_leading_zeros(&mut self) -> usize
+        ensures count { result ≡ leading_zeros self.old.bits }
+        ensures rest { self.new ≡ record { bits = drop result self.old.bits; offset = self.old.offset + result } }
+    {
+        let count = self.leading_zeros();
+        self.offset += count;
+        self.len -= count;
+        count
+    }
+
+    /// Removes the false bits behind the last true one, and answers how many there were.
+    pub fn take_trailing_zeros(&mut self) -> usize
+        ensures count { result ≡ trailing_zeros self.old.bits }
+        ensures rest { self.new ≡ record { bits = take (length self.old.bits - result) self.old.bits; offset = self.old.offset } }
+    {
+        let count = self.trailing_zeros();
+        self.len -= count;
+        count
+    }
+
+    /// How many false bits stand before the first true one.
+    fn leading_zeros(&self) -> usize
+        ensures count { result ≡ leading_zeros self.now.bits }
+        ensures within { result ≤ length self.now.bits }
+    {
+        let mut at = 0;
+        while at < self.len() {
+            let len = (self.len() - at).min(MOST_BITS);
+            let word = self.word_at(at, len);
+            if word != 0 {
+                return at + word.trailing_zeros() as usize;
+            }
+            at += len;
+        }
+        at
+    }
+
+    /// How many false bits stand behind the last true one.
+    fn trailing_zeros(&self) -> usize
+        ensures count { result ≡ trailing_zeros self.now.bits }
+        ensures within { result ≤ length self.now.bits }
+    {
+        let mut end = self.len();
+        while end > 0 {
+            let len = end.min(MOST_BITS);
+            let word = self.word_at(end - len, len);
+            if word != 0 {
+                return self.len() - (end - len) - (word.ilog2() as usize + 1);
+            }
+            end -= len;
+        }
+        self.len()
+    }
+
+    /// The bytes that hold the bits, from the byte of the first one on; the place of the first bit in the first byte; and how many bits
+    /// there are.
+    pub fn as_slice(&self) -> (&[u8], usize, usize)
+        ensures bits { self.now.bits ≡ bits_from result.0.now result.1 result.2 }
+        ensures bytes { length result.0.now ≡ (result.1 + result.2 + 7) / 8 }
+        ensures offset { result.1 ≡ self.now.offset % 8 }
+        ensures len { result.2 ≡ length self.now.bits }
+    {
+        let first = self.offset / 8;
+        let within = self.offset % 8;
+        let count = (within + self.len).div_ceil(8);
+        (&self.bytes[first..first + count], within, self.len)
     }
 
     /// The same bits of the same shared bytes. Refuses only where they cannot be shared once more.

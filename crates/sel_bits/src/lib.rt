@@ -6,5 +6,9 @@ pub mod buffer;
 pub mod faults;
 pub mod native;
 pub mod number;
+pub mod offsets;
 pub mod operations;
 pub mod packer;
+
+#[cfg(test)]
+mod tests;

@@ -1,7 +1,9 @@
 //! The number types that a column can hold.
 
 ghost use Rattle.std.specs.Prelude.{◌≡◌, ℕ, ℤ, pos, negsuc, ◌≤ℤ◌, ◌<ℤ◌, ◌^◌, ◌-◌, MatchOption, IfSome};
+ghost use lib.Signed.{lt_z};
 ghost use Rattle.sel_bits.specs.Ranges.{IsWithin, IsOutside};
+ghost use Rattle.sel_bits.specs.Signs.{is_negative};
 
 /// A number type of columns: the integers of 8 to 128 bits.
 pub trait NativeType: Copy {
@@ -41,6 +43,80 @@ pub trait NativeType: Copy {
     /// A value is the number that it shows.
     ghost shown: { (x y : Self) → number x ≡ number y → x ≡ y };
 }
+
+/// A type of offsets: no number of it is past what a `usize` can show.
+pub trait Offset: NativeType {
+    /// Whether the number is below zero.
+    fn is_negative(self) -> bool
+        ensures { result ≡ is_negative (Self.number self) };
+
+    /// Whether the number is below another.
+    fn is_below(self, other: Self) -> bool
+        ensures { result ≡ lt_z (Self.number self) (Self.number other) };
+
+    /// The number as a position, which every number from zero on has.
+    fn to_position(self) -> usize
+        requires { pos 0 ≤ℤ Self.number self }
+        ensures { pos result ≡ Self.number self };
+
+    /// The greatest number of the type is a position.
+    ghost room: { IsWithin (pos 0) (pos 18446744073709551615) (Self.number Self.GREATEST) };
+}
+
+impl Offset for i32 {
+    ghost use Rattle.std.proofs.Common.{rules};
+
+    ghost room = { Prim.search rules };
+
+    fn is_negative(self) -> bool {
+        self < 0
+    }
+
+    fn is_below(self, other: i32) -> bool {
+        self < other
+    }
+
+    fn to_position(self) -> usize {
+        self as usize
+    }
+}
+
+impl Offset for i64 {
+    ghost use Rattle.std.proofs.Common.{rules};
+
+    ghost room = { Prim.search rules };
+
+    fn is_negative(self) -> bool {
+        self < 0
+    }
+
+    fn is_below(self, other: i64) -> bool {
+        self < other
+    }
+
+    fn to_position(self) -> usize {
+        self as usize
+    }
+}
+
+/// A type of indices: the integers of 8 to 64 bits.
+pub trait Index: NativeType {}
+
+impl Index for i8 {}
+
+impl Index for i16 {}
+
+impl Index for i32 {}
+
+impl Index for i64 {}
+
+impl Index for u8 {}
+
+impl Index for u16 {}
+
+impl Index for u32 {}
+
+impl Index for u64 {}
 
 impl NativeType for i8 {
     ghost number = { λ x. x };

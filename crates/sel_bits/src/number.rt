@@ -1,7 +1,9 @@
-//! Numbers read from bytes.
+//! Words read from bytes, parities of bits, and places of indices.
+
 ghost use Rattle.std.specs.Prelude.{◌≡◌, ℕ, ◌/◌, ◌%◌, ◌<◌, get_or};
 ghost use Rattle.std.specs.Int.{bit_at};
-ghost use Rattle.sel_bits.specs.Words.{padded_word};
+ghost use Rattle.sel_bits.specs.Place.{place};
+ghost use Rattle.sel_bits.specs.Words.{padded_word, ones_below};
 
 /// The first eight bytes as a little-endian number; bytes that are missing count as 0.
 pub fn load_padded_le_u64(bytes: &[u8]) -> u64
@@ -12,4 +14,26 @@ pub fn load_padded_le_u64(bytes: &[u8]) -> u64
     let count = bytes.len().min(8);
     eight[..count].copy_from_slice(&bytes[..count]);
     u64::from_le_bytes(eight)
+}
+
+/// The place of an index in a list of `len` entries, counted from its end where it is negative, or None where it has none.
+pub fn negative_to_usize(index: i64, len: usize) -> Option<usize>
+    ensures { result ≡ place index len }
+{
+    if index < 0 {
+        return len.checked_sub(index.unsigned_abs() as usize);
+    }
+    let at = index as usize;
+    if at < len { Some(at) } else { None }
+}
+
+/// The word whose bit p tells whether an odd number of the bits of `x` below bit p are set.
+pub fn prefix_xorsum(x: u64) -> u64
+    ensures { (p : ℕ) → p < 64 → bit_at result p ≡ ones_below x p % 2 }
+{
+    let mut sum = x;
+    for i in 0u32..6 {
+        sum ^= sum << (1u32 << i);
+    }
+    sum << 1
 }

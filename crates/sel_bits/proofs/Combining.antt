@@ -1,0 +1,167 @@
+-- What a rule on the bits of a position makes of lists, and of words.
+use Rattle.std.proofs.Common.{◌≡◌, ℕ, zero, suc, ◌+◌, ◌-◌, ◌*◌, ◌%◌, ◌^◌, ◌<◌, ◌≤◌, ◌∙◌, sym, refl, ap, subst, ⊎_elim, arith, min, max, List, [], ◌∷◌, ◌++◌, length, get_or, take, drop, map, Bool, true, false, cond, not, ◌&&◌, ◌||◌}
+use Rattle.std.specs.Prelude.{bit_and, bit_or, ◌==◌, if◌then◌else◌}
+use Rattle.std.specs.Int.{bit_at, bit_not, w64}
+use Rattle.std.proofs.Math.Seq.{take-add}
+use Rattle.std.proofs.lemmas.Bool.{cases_lt}
+use Rattle.std.proofs.lemmas.Nat.{one_shl, and_mask, mod_below, pow_pos}
+use Rattle.std.proofs.lemmas.Nat.Bits.{bit_at-lt, bit_at_and, bit_at_or, bit_at_not}
+use Rattle.std.proofs.lemmas.List.{get_or-take, get_or-drop}
+use Rattle.sel_bits.specs.Bits.{zip_with, zip_three}
+use Rattle.sel_bits.specs.Choose.{choose}
+use Rattle.sel_bits.specs.Words.{is_set, bits, word_of}
+use Rattle.sel_bits.proofs.Lists.{cond_of_bit}
+use Rattle.sel_bits.proofs.Padded.{bit_at_word_of, word_of_lt}
+use Rattle.sel_bits.proofs.Packed.{bits_word_of}
+use Rattle.sel_bits.proofs.Shifts.{bit_at_mod}
+use Rattle.sel_bits.proofs.WordsOf.{length_part, is_word_of}
+
+pub length-zip_three : {A B C D : Type 0} (f : A → B → C → D) (xs : List A) (ys : List B) (zs : List C) → length xs ≡ length ys → length xs ≡ length zs → length (zip_three f xs ys zs) ≡ length xs
+length-zip_three f [] ys zs p q = refl
+length-zip_three f (x ∷ xs) [] zs p q = absurd (omega arith)
+length-zip_three f (x ∷ xs) (y ∷ ys) [] p q = absurd (omega arith)
+length-zip_three f (x ∷ xs) (y ∷ ys) (z ∷ zs) p q = omega (arith, length-zip_three f xs ys zs (omega arith) (omega arith))
+
+get_or-zip_three : {A B C D : Type 0} (f : A → B → C → D) (xs : List A) (ys : List B) (zs : List C) (i : ℕ) (a : A) (b : B) (c : C) (d : D) → length xs ≡ length ys → length xs ≡ length zs → i < length xs
+    → get_or (zip_three f xs ys zs) i d ≡ f (get_or xs i a) (get_or ys i b) (get_or zs i c)
+get_or-zip_three f [] ys zs i a b c d p q lt = absurd (omega arith)
+get_or-zip_three f (x ∷ xs) [] zs i a b c d p q lt = absurd (omega arith)
+get_or-zip_three f (x ∷ xs) (y ∷ ys) [] i a b c d p q lt = absurd (omega arith)
+get_or-zip_three f (x ∷ xs) (y ∷ ys) (z ∷ zs) zero a b c d p q lt = refl
+get_or-zip_three f (x ∷ xs) (y ∷ ys) (z ∷ zs) (suc i) a b c d p q lt = get_or-zip_three f xs ys zs i a b c d (omega arith) (omega arith) (omega arith)
+
+-- three lists of which the third, or all but the first, does not count
+of_two : {A B C : Type 0} (f : A → B → C) (xs : List A) (ys : List B) → zip_three (λ x y _. f x y) xs ys ys ≡ zip_with f xs ys
+of_two f [] ys = refl
+of_two f (x ∷ xs) [] = refl
+of_two f (x ∷ xs) (y ∷ ys) = ap (λ l. f x y ∷ l) (of_two f xs ys)
+
+of_one : {A B : Type 0} (f : A → B) (xs : List A) → zip_three (λ x _ _. f x) xs xs xs ≡ map f xs
+of_one f [] = refl
+of_one f (x ∷ xs) = ap (λ l. f x ∷ l) (of_one f xs)
+
+-- the rules of bitmaps
+pub of_and : (xs ys : List Bool) → zip_three (λ x y _. x && y) xs ys ys ≡ zip_with (λ x y. x && y) xs ys
+of_and xs ys = of_two (λ x y. x && y) xs ys
+
+pub of_or : (xs ys : List Bool) → zip_three (λ x y _. x || y) xs ys ys ≡ zip_with (λ x y. x || y) xs ys
+of_or xs ys = of_two (λ x y. x || y) xs ys
+
+pub of_and_not : (xs ys : List Bool) → zip_three (λ x y _. x && not y) xs ys ys ≡ zip_with (λ x y. x && not y) xs ys
+of_and_not xs ys = of_two (λ x y. x && not y) xs ys
+
+pub of_or_not : (xs ys : List Bool) → zip_three (λ x y _. x || not y) xs ys ys ≡ zip_with (λ x y. x || not y) xs ys
+of_or_not xs ys = of_two (λ x y. x || not y) xs ys
+
+pub of_not : (xs : List Bool) → zip_three (λ x _ _. not x) xs xs xs ≡ map not xs
+of_not xs = of_one not xs
+
+pub of_choice : (ms ts fs : List Bool) → zip_three (λ x y z. if x then y else z) ms ts fs ≡ choose ms ts fs
+of_choice [] ts fs = refl
+of_choice (m ∷ ms) [] fs = refl
+of_choice (m ∷ ms) (t ∷ ts) [] = refl
+of_choice (m ∷ ms) (t ∷ ts) (f ∷ fs) = ap (λ l. (if m then t else f) ∷ l) (of_choice ms ts fs)
+
+-- bits of words
+test_of_cond : (b : Bool) → (cond b 1 0 == 1) ≡ b
+test_of_cond true = refl
+test_of_cond false = refl
+
+-- entry i of the list of a word's bits
+pub is_set_word_of : (l : List Bool) (i : ℕ) → is_set (word_of l) i ≡ get_or l i false
+is_set_word_of l i = ap (λ b. b == 1) (bit_at_word_of l i) ∙ test_of_cond (get_or l i false)
+
+number_of_is_set : (w i : ℕ) → bit_at w i ≡ cond (is_set w i) 1 0
+number_of_is_set w i = sym (cond_of_bit (bit_at w i) (bit_at-lt w i))
+
+by_bits : (P : ℕ → Type 0) → P 0 → P 1 → (b : ℕ) → b < 2 → P b
+by_bits P p q b lt = ⊎_elim (λ (low : b < 1). let e : 0 ≡ b = omega arith in subst P e p) (λ (high : 1 ≤ b). let e : 1 ≡ b = omega arith in subst P e q) (cases_lt b 1)
+
+test_min : (a b : ℕ) → a < 2 → b < 2 → (min a b == 1) ≡ ((a == 1) && (b == 1))
+test_min a b la lb =
+    by_bits (λ x. (min x b == 1) ≡ ((x == 1) && (b == 1)))
+    (by_bits (λ y. (min 0 y == 1) ≡ ((0 == 1) && (y == 1))) refl refl b lb)
+    (by_bits (λ y. (min 1 y == 1) ≡ ((1 == 1) && (y == 1))) refl refl b lb)
+    a la
+
+test_max : (a b : ℕ) → a < 2 → b < 2 → (max a b == 1) ≡ ((a == 1) || (b == 1))
+test_max a b la lb =
+    by_bits (λ x. (max x b == 1) ≡ ((x == 1) || (b == 1)))
+    (by_bits (λ y. (max 0 y == 1) ≡ ((0 == 1) || (y == 1))) refl refl b lb)
+    (by_bits (λ y. (max 1 y == 1) ≡ ((1 == 1) || (y == 1))) refl refl b lb)
+    a la
+
+test_less : (a : ℕ) → a < 2 → (1 - a == 1) ≡ not (a == 1)
+test_less a la = by_bits (λ x. (1 - x == 1) ≡ not (x == 1)) refl refl a la
+
+pub set_and : (a b i : ℕ) → is_set (bit_and a b) i ≡ (is_set a i && is_set b i)
+set_and a b i = ap (λ x. x == 1) (bit_at_and a b i) ∙ test_min (bit_at a i) (bit_at b i) (bit_at-lt a i) (bit_at-lt b i)
+
+pub set_or : (a b i : ℕ) → is_set (bit_or a b) i ≡ (is_set a i || is_set b i)
+set_or a b i = ap (λ x. x == 1) (bit_at_or a b i) ∙ test_max (bit_at a i) (bit_at b i) (bit_at-lt a i) (bit_at-lt b i)
+
+pub set_not : (a i : ℕ) → a < 2 ^ 64 → i < 64 → is_set (bit_not w64 a) i ≡ not (is_set a i)
+set_not a i fits lt = ap (λ x. x == 1) (bit_at_not w64 a i fits lt) ∙ test_less (bit_at a i) (bit_at-lt a i)
+
+pub set_and_not : (a b i : ℕ) → b < 2 ^ 64 → i < 64 → is_set (bit_and a (bit_not w64 b)) i ≡ (is_set a i && not (is_set b i))
+set_and_not a b i fits lt = set_and a (bit_not w64 b) i ∙ ap (λ t. is_set a i && t) (set_not b i fits lt)
+
+pub set_or_not : (a b i : ℕ) → b < 2 ^ 64 → i < 64 → is_set (bit_or a (bit_not w64 b)) i ≡ (is_set a i || not (is_set b i))
+set_or_not a b i fits lt = set_or a (bit_not w64 b) i ∙ ap (λ t. is_set a i || t) (set_not b i fits lt)
+
+chosen : (m t f : Bool) → ((t && m) || (f && not m)) ≡ (if m then t else f)
+chosen true true true = refl
+chosen true true false = refl
+chosen true false true = refl
+chosen true false false = refl
+chosen false true true = refl
+chosen false true false = refl
+chosen false false true = refl
+chosen false false false = refl
+
+pub set_choice : (m t f i : ℕ) → m < 2 ^ 64 → i < 64 → is_set (bit_or (bit_and t m) (bit_and f (bit_not w64 m))) i ≡ (if is_set m i then is_set t i else is_set f i)
+set_choice m t f i fits lt =
+    set_or (bit_and t m) (bit_and f (bit_not w64 m)) i
+    ∙ (λ j. set_and t m i j || set_and_not f m i fits lt j)
+    ∙ chosen (is_set m i) (is_set t i) (is_set f i)
+
+-- what a rule on bits makes of three words
+abbrev pub IsMade : (Bool → Bool → Bool → Bool) → ℕ → ℕ → ℕ → ℕ → Type 0
+IsMade f x y z w = (i : ℕ) → i < 64 → is_set w i ≡ f (is_set x i) (is_set y i) (is_set z i)
+
+-- the words of a part of three lists make the word of that part of the list that the rule makes
+pub masked_made : (f : Bool → Bool → Bool → Bool) (xs ys zs : List Bool) (at len x y z w : ℕ) → length xs ≡ length ys → length xs ≡ length zs → at + len ≤ length xs → len ≤ 56
+    → x ≡ word_of (take len (drop at xs)) → y ≡ word_of (take len (drop at ys)) → z ≡ word_of (take len (drop at zs)) → IsMade f x y z w
+    → bit_and w (1 * 2 ^ len % 2 ^ 64 - 1) ≡ word_of (take len (drop at (zip_three f xs ys zs)))
+masked_made f xs ys zs at len x y z w second third within few x_is y_is z_is made =
+    ap (λ m. bit_and w (m - 1)) (one_shl len 64 (omega arith))
+    ∙ and_mask w len
+    ∙ is_word_of (take len (drop at all)) (w % 2 ^ len) len (length_part at len all (omega (arith, length-zip_three f xs ys zs second third))) (mod_below w (2 ^ len) (pow_pos len)) bit
+  where
+    all : List Bool
+    all = zip_three f xs ys zs
+
+    read : (l : List Bool) (v : ℕ) → v ≡ word_of (take len (drop at l)) → (i : ℕ) → i < len → is_set v i ≡ get_or l (at + i) false
+    read l v is i lt = ap (λ u. is_set u i) is ∙ is_set_word_of (take len (drop at l)) i ∙ get_or-take len (drop at l) i false lt ∙ get_or-drop at l i false
+
+    bit : (i : ℕ) → i < len → bit_at (w % 2 ^ len) i ≡ cond (get_or (take len (drop at all)) i false) 1 0
+    bit i lt =
+        bit_at_mod w len i lt
+        ∙ number_of_is_set w i
+        ∙ ap (λ b. cond b 1 0)
+        (made i (omega arith)
+        ∙ (λ j. f (read xs x x_is i lt j) (read ys y y_is i lt j) (read zs z z_is i lt j))
+        ∙ sym (get_or-take len (drop at all) i false lt ∙ get_or-drop at all i false ∙ get_or-zip_three f xs ys zs (at + i) false false false false second third (omega arith)))
+
+-- a packer that has the first bits of a list gets the next ones
+pub packed_more : (l : List Bool) (at len : ℕ) → at + len ≤ length l → take at l ++ bits len (word_of (take len (drop at l))) ≡ take (at + len) l
+packed_more l at len within =
+    let part = take len (drop at l) in
+    let block : bits len (word_of part) ≡ part = ap (λ n. bits n (word_of part)) (sym (length_part at len l within)) ∙ bits_word_of part in
+    ap (λ more. take at l ++ more) block ∙ sym (take-add at len l)
+
+-- such a part fits its number of bits
+pub part_fits : (l : List Bool) (at len : ℕ) → at + len ≤ length l → word_of (take len (drop at l)) < 2 ^ len
+part_fits l at len within = subst (λ n. word_of (take len (drop at l)) < 2 ^ n) (length_part at len l within) (word_of_lt (take len (drop at l)))
+
+pub ruleset combining = (set_and, set_or, set_not, set_and_not, set_or_not, set_choice, of_and, of_or, of_and_not, of_or_not, of_not, of_choice)

@@ -1,0 +1,116 @@
+-- Offsets that break no rule.
+use Rattle.std.proofs.Common.{◌≡◌, ℕ, zero, suc, ◌+◌, ◌≤◌, ◌<◌, ℤ, pos, negsuc, Bool, true, false, ◌||◌, List, [], ◌∷◌, length, take, drop, map, None, refl, ap, sym, ◌∙◌, arith, get_or, length-take}
+use Rattle.std.proofs.lemmas.Grind.{common_steps}
+use Rattle.std.proofs.lemmas.List.{length-map, get_or-map, take-map, drop-map, get_or-take, get_or-drop}
+use lib.Signed.{lt_z}
+use Rattle.sel_bits.specs.Signs.{is_negative, magnitude}
+use Rattle.sel_bits.specs.Offsets.{magnitudes, has_negative, has_fall, falls_after, IsOffsets, IsRising, offsets_fault}
+use Rattle.sel_bits.specs.Faults.{first_broken}
+use Rattle.sel_bits.specs.declared.faults.Malformed.TheVariants.{OffsetNegative, OffsetOrder}
+
+not_less : (a b : ℤ) → is_negative a ≡ false → is_negative b ≡ false → lt_z b a ≡ false → magnitude a ≤ magnitude b
+not_less (pos a) (pos b) p q h = grind (arith, common_steps)
+not_less (pos a) (negsuc b) p q h = cc
+not_less (negsuc a) b p q h = cc
+
+or-left : (a b : Bool) → (a || b) ≡ false → a ≡ false
+or-left true b h = cc
+or-left false b h = refl
+
+or-right : (a b : Bool) → (a || b) ≡ false → b ≡ false
+or-right true b h = cc
+or-right false b h = h
+
+neg_head : {T : Type 0} (number : T → ℤ) → (x : T) (xs : List T) → has_negative number (x ∷ xs) ≡ false → is_negative (number x) ≡ false
+neg_head number x xs h = or-left (is_negative (number x)) (has_negative number xs) h
+
+neg_tail : {T : Type 0} (number : T → ℤ) → (x : T) (xs : List T) → has_negative number (x ∷ xs) ≡ false → has_negative number xs ≡ false
+neg_tail number x xs h = or-right (is_negative (number x)) (has_negative number xs) h
+
+fall_head : {T : Type 0} (number : T → ℤ) → (x y : T) (xs : List T) → has_fall number (x ∷ (y ∷ xs)) ≡ false → lt_z (number y) (number x) ≡ false
+fall_head number x y xs h = or-left (lt_z (number y) (number x)) (falls_after number y xs) h
+
+fall_tail : {T : Type 0} (number : T → ℤ) → (x y : T) (xs : List T) → has_fall number (x ∷ (y ∷ xs)) ≡ false → has_fall number (y ∷ xs) ≡ false
+fall_tail number x y xs h = or-right (lt_z (number y) (number x)) (falls_after number y xs) h
+
+shown : (z : ℤ) → is_negative z ≡ false → z ≡ pos (magnitude z)
+shown (pos n) h = refl
+shown (negsuc n) h = cc
+
+pub positive : {T : Type 0} (number : T → ℤ) → (xs : List T) → has_negative number xs ≡ false → map number xs ≡ map pos (magnitudes number xs)
+positive number [] h = refl
+positive number (x ∷ xs) h =
+    cc (shown (number x) (neg_head number x xs h), positive number xs (neg_tail number x xs h))
+
+least : {T : Type 0} (number : T → ℤ) → (x : T) (xs : List T) → has_negative number (x ∷ xs) ≡ false → falls_after number x xs ≡ false → (k : ℕ) → k < length (x ∷ xs) → magnitude (number x) ≤ get_or (magnitudes number (x ∷ xs)) k 0
+least number x xs neg fall zero h = omega arith
+least number x [] neg fall (suc k) h = omega arith
+least number x (y ∷ ys) neg fall (suc k) h =
+    let later : has_negative number (y ∷ ys) ≡ false = neg_tail number x (y ∷ ys) neg in
+    let step : magnitude (number x) ≤ magnitude (number y) =
+    not_less (number x) (number y) (neg_head number x (y ∷ ys) neg) (neg_head number y ys later) (fall_head number x y ys fall)
+    in
+    let rest : magnitude (number y) ≤ get_or (magnitudes number (y ∷ ys)) k 0 =
+    least number y ys later (fall_tail number x y ys fall) k (omega arith)
+    in
+    omega arith
+
+climbs : {T : Type 0} (number : T → ℤ) → (xs : List T) → has_negative number xs ≡ false → has_fall number xs ≡ false → (j k : ℕ) → j ≤ k → k < length xs → get_or (magnitudes number xs) j 0 ≤ get_or (magnitudes number xs) k 0
+climbs number [] neg fall j k le h = omega arith
+climbs number (x ∷ xs) neg fall zero k le h = least number x xs neg fall k h
+climbs number (x ∷ xs) neg fall (suc j) zero le h = omega arith
+climbs number (x ∷ []) neg fall (suc j) (suc k) le h = omega arith
+climbs number (x ∷ (y ∷ ys)) neg fall (suc j) (suc k) le h =
+    climbs number (y ∷ ys) (neg_tail number x (y ∷ ys) neg) (fall_tail number x y ys fall) j k (omega arith) (omega arith)
+
+-- numbers that break no rule are offsets
+pub accepted : {T : Type 0} (number : T → ℤ) → (xs : List T) → offsets_fault number xs ≡ None → IsOffsets number xs
+accepted number [] h = cc
+accepted number (x ∷ xs) h = made (has_negative number (x ∷ xs)) (has_fall number (x ∷ xs)) refl refl h
+  where
+    made : (n f : Bool) → has_negative number (x ∷ xs) ≡ n → has_fall number (x ∷ xs) ≡ f → first_broken ((OffsetNegative, n) ∷ (OffsetOrder, f) ∷ []) ≡ None → IsOffsets number (x ∷ xs)
+    made true f neg fall h = cc
+    made false true neg fall h = cc
+    made false false neg fall h = record {
+      positive = positive number (x ∷ xs) neg;
+      rising = record {
+        some = omega arith;
+        rising = λ j k le h. climbs number (x ∷ xs) neg fall j k le (rw length-map at h);
+      };
+    }
+
+pub accepted-numbers : {T : Type 0} (number : T → ℤ) → (xs : List T) → offsets_fault number xs ≡ None → map number xs ≡ map pos (magnitudes number xs)
+accepted-numbers number xs h = (accepted number xs h).positive
+
+pub ruleset accepting = (accepted, accepted-numbers)
+
+-- an element of numbers that show `ns`
+pub shown_at : {T : Type 0} (number : T → ℤ) → (xs : List T) (ns : List ℕ) (i : ℕ) (x : T) → map number xs ≡ map pos ns → i < length ns → x ≡ get_or xs i x → number x ≡ pos (get_or ns i 0)
+shown_at number xs ns i x e h is =
+    let same : length xs ≡ length ns = simp length-map at (ap length e) in
+    let here : get_or (map number xs) i (number x) ≡ number (get_or xs i x) = get_or-map number xs i x (number x) (omega arith) in
+    let there : get_or (map pos ns) i (number x) ≡ pos (get_or ns i 0) = get_or-map pos ns i 0 (number x) (omega arith) in
+    cc
+
+-- a part of rising numbers rises
+pub rising_part : (ns : List ℕ) (off len : ℕ) → IsRising ns → off + len < length ns → IsRising (take (len + 1) (drop off ns))
+rising_part ns off len rises h = record {
+  some = grind (arith, common_steps);
+  rising = λ j k le below.
+      let short : length (take (len + 1) (drop off ns)) ≤ len + 1 = omega (arith, length-take (len + 1) (drop off ns)) in
+      rw (get_or-take (len + 1) (drop off ns) j 0 (omega arith), get_or-take (len + 1) (drop off ns) k 0 (omega arith), get_or-drop, get_or-drop)
+      (rises.rising (off + j) (off + k) (omega arith) (omega arith));
+}
+
+-- the numbers of a part are a part of the numbers
+pub part_shown : {T : Type 0} (number : T → ℤ) → (xs : List T) (off len : ℕ) → magnitudes number (take len (drop off xs)) ≡ take len (drop off (magnitudes number xs))
+part_shown number xs off len = rw (drop-map, take-map) refl
+
+pub part_accepted : {T : Type 0} (number : T → ℤ) → (xs : List T) (off len : ℕ) → IsOffsets number xs → off + len < length (magnitudes number xs) → IsOffsets number (take (len + 1) (drop off xs))
+part_accepted number xs off len ok h = record {
+  positive =
+      let shorter : map number (take (len + 1) (drop off xs)) ≡ take (len + 1) (drop off (map number xs)) = rw (drop-map, take-map) refl in
+      let part : take (len + 1) (drop off (map pos (magnitudes number xs))) ≡ map pos (take (len + 1) (drop off (magnitudes number xs))) = rw (drop-map, take-map) refl in
+      shorter ∙ ap (λ ns. take (len + 1) (drop off ns)) ok.positive ∙ part ∙ ap (map pos) (sym (part_shown number xs off (len + 1)));
+  rising = rw (part_shown number xs off (len + 1)) (rising_part (magnitudes number xs) off len ok.rising h);
+}

@@ -1,0 +1,9 @@
+use Rattle.std.proofs.Common.{sym, ◌∙◌}
+use Rattle.sel_bits.proofs.OffsetLemmas.{accepted}
+use Rattle.sel_bits.proofs.offsets.OffsetsBuffer.try_from.Goals as goal
+
+-- offsets at which no fault was found are well-formed
+pub invariant_of-result : goal.invariant_of-result
+invariant_of-result g c =
+    rw c.in-Ok.ensures.items
+    (accepted g.O.NativeType.number c.args.offsets.items (rw c.deref.ensures.value at (sym c.fault_of.ensures ∙ c.in_default.is)))

@@ -1,0 +1,172 @@
+//! Offsets, which say where each row of a column begins and ends.
+
+ghost use Rattle.std.specs.Prelude.{◌≡◌, ◌≤ℤ◌, ◌+◌, ◌-◌, ◌≤◌, ◌<◌, slice_index, ℤ, pos, length, take, drop, map, Some, None, IfOk, IfErr};
+ghost use Rattle.sel_bits.specs.Faults.{IsFaultOrMemory};
+ghost use Rattle.sel_bits.specs.Offsets.{IsOffsets, IsRising, has_negative, has_fall, falls_after, offsets_fault};
+
+use crate::buffer::Buffer;
+use crate::faults::{MakeError, Malformed, PolarsError, PolarsResult};
+use crate::native::{NativeType, Offset};
+use std::marker::Model;
+
+/// At least one offset, none of them negative or less than the one before. The first need not be 0.
+///
+/// Contracts see the list of the numbers that the offsets show. (Arrow columnar format: variable-size layouts.)
+#[derive(Drop)]
+pub struct OffsetsBuffer<O: Offset> {
+    offsets: Buffer<O>,
+}
+
+impl<O: Offset> Model for OffsetsBuffer<O> {
+    ghost use Rattle.std.specs.Prelude.{List, ℕ};
+    ghost use Rattle.sel_bits.specs.Offsets.{IsOffsets, magnitudes};
+
+    ghost Value = { List ℕ };
+
+    ghost view = { λ b. magnitudes O.number b.offsets };
+
+    ghost invariant = { λ b. IsOffsets O.number b.offsets };
+}
+
+impl<O: Offset> OffsetsBuffer<O> {
+    /// These offsets, or the first rule that they break. Refuses them otherwise only for want of memory.
+    #[tactic(auto, using(crate::proofs::OffsetLemmas::accepting))]
+    pub fn try_from(offsets: Vec<O>) -> Result<OffsetsBuffer<O>, MakeError>
+        ensures value { IfOk result (λ buffer. map O.number offsets.items ≡ map pos buffer) }
+        ensures accepted { IfOk result (λ _. offsets_fault O.number offsets.items ≡ None) }
+        ensures refusal { IfErr result (IsFaultOrMemory (offsets_fault O.number offsets.items)) }
+    {
+        if let Some(fault) = fault_of(&offsets) {
+            return Err(MakeError::Malformed(fault));
+        }
+        match Buffer::from_vec(offsets) {
+            Ok(offsets) => Ok(OffsetsBuffer { offsets }),
+            Err(_) => Err(MakeError::OutOfMemory),
+        }
+    }
+
+    /// These offsets, which are known to break no rule. Refuses only for want of memory.
+    pub fn of_rising(offsets: Vec<O>) -> PolarsResult<OffsetsBuffer<O>>
+        requires { IsOffsets O.number offsets.items }
+        ensures value { IfOk result (λ buffer. map O.number offsets.items ≡ map pos buffer) }
+        ensures refusal { IfErr result (λ fault. fault ≡ PolarsError.OutOfMemory) }
+    {
+        let offsets = Buffer::from_vec(offsets)?;
+        Ok(OffsetsBuffer { offsets })
+    }
+
+    /// The offsets, of which there is one more than there are rows.
+    pub fn as_slice(&self) -> &[O]
+        ensures numbers { map O.number result.now ≡ map pos self.now }
+        ensures len { length result.now ≡ length self.now }
+        ensures rising { IsRising self.now }
+    {
+        self.offsets.as_slice()
+    }
+
+    /// Offset `i` as a position.
+    pub fn at(&self, i: usize) -> usize
+        requires { i < length self.now }
+        ensures value { result ≡ slice_index self.now i }
+        ensures rising { IsRising self.now }
+    {
+        self.offset_at(i).to_position()
+    }
+
+    /// The first offset.
+    pub fn first(&self) -> O
+        ensures { O.number result ≡ pos (slice_index self.now 0) }
+    {
+        let _rows = self.len_proxy();
+        self.offset_at(0)
+    }
+
+    /// The last offset.
+    pub fn last(&self) -> O
+        ensures { O.number result ≡ pos (slice_index self.now (length self.now - 1)) }
+    {
+        self.offset_at(self.len_proxy())
+    }
+
+    /// How many rows lie between the offsets.
+    pub fn len_proxy(&self) -> usize
+        ensures count { result + 1 ≡ length self.now }
+        ensures rising { IsRising self.now }
+    {
+        self.as_slice().len() - 1
+    }
+
+    /// The `len + 1` offsets of the `len` rows from row `off` on.
+    pub fn sliced(self, off: usize, len: usize) -> OffsetsBuffer<O>
+        requires { off + len < length self }
+        ensures { result ≡ take (len + 1) (drop off self) }
+    {
+        OffsetsBuffer {
+            offsets: self.offsets.sliced(off, len + 1),
+        }
+    }
+
+    /// The same offsets, of the same shared slice. Refuses only where it cannot be shared once more.
+    pub fn try_clone(&self) -> PolarsResult<OffsetsBuffer<O>>
+        ensures value { IfOk result (λ buffer. buffer ≡ self.now) }
+        ensures refusal { IfErr result (λ fault. fault ≡ PolarsError.OutOfMemory) }
+    {
+        let offsets = self.offsets.try_clone()?;
+        Ok(OffsetsBuffer { offsets })
+    }
+
+    /// Offset `i`.
+    fn offset_at(&self, i: usize) -> O
+        requires { i < length self.now }
+        ensures value { O.number result ≡ pos (slice_index self.now i) }
+        ensures rising { IsRising self.now }
+    {
+        self.as_slice()[i]
+    }
+}
+
+/// The first rule of offsets that is broken.
+fn fault_of<O: Offset>(offsets: &[O]) -> Option<Malformed>
+    ensures { result ≡ offsets_fault O.number offsets.now }
+{
+    if offsets.is_empty() {
+        Some(Malformed::OffsetCount)
+    } else if any_negative(offsets) {
+        Some(Malformed::OffsetNegative)
+    } else if any_fall(offsets) {
+        Some(Malformed::OffsetOrder)
+    } else {
+        None
+    }
+}
+
+/// Whether some offset is below zero.
+fn any_negative<O: Offset>(offsets: &[O]) -> bool
+    ensures { result ≡ has_negative O.number offsets.now }
+{
+    offsets.iter().any(|offset| offset.is_negative())
+}
+
+/// Whether some offset is below the one before it.
+fn any_fall<O: Offset>(offsets: &[O]) -> bool
+    ensures { result ≡ has_fall O.number offsets.now }
+{
+    match offsets {
+        [] => false,
+        [first, rest @ ..] => any_fall_after(*first, rest),
+    }
+}
+
+/// Whether some offset is below the one before it, the first of them below `first`.
+fn any_fall_after<O: Offset>(first: O, offsets: &[O]) -> bool
+    ensures { result ≡ falls_after O.number first offsets.now }
+{
+    let mut before = first;
+    for offset in offsets {
+        if offset.is_below(before) {
+            return true;
+        }
+        before = *offset;
+    }
+    false
+}
