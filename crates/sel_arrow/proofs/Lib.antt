@@ -1,2 +1,6 @@
+pub mod ByteRows
+pub mod Lists
 pub mod NullCounts
 pub mod Rows
+pub mod Texts
+pub mod ViewRows

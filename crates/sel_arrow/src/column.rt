@@ -5,10 +5,13 @@ ghost use Rattle.std.specs.Option.{option_copied};
 ghost use Rattle.sel_arrow.specs.Nulls.{TellsNulls};
 
 use crate::array::Array;
+use crate::binary::BinaryArray;
+use crate::binview::BinaryViewArray;
 use crate::boolean::BooleanArray;
 use crate::datatype::ArrowDataType;
 use crate::null::NullArray;
 use crate::primitive::PrimitiveArray;
+use crate::utf8view::Utf8ViewArray;
 use sel_bits::bitmap::Bitmap;
 use sel_bits::faults::{PolarsError, PolarsResult};
 use std::alloc::Global;
@@ -28,6 +31,9 @@ pub enum Column {
     UInt32(PrimitiveArray<u32>),
     UInt64(PrimitiveArray<u64>),
     UInt128(PrimitiveArray<u128>),
+    LargeBinary(BinaryArray<i64>),
+    BinaryView(BinaryViewArray),
+    Utf8View(Utf8ViewArray),
 }
 
 impl Column {
@@ -53,6 +59,9 @@ impl Column {
             Column::UInt32(column) => column.len(),
             Column::UInt64(column) => column.len(),
             Column::UInt128(column) => column.len(),
+            Column::LargeBinary(column) => column.len(),
+            Column::BinaryView(column) => column.len(),
+            Column::Utf8View(column) => column.len(),
         }
     }
 
@@ -74,6 +83,9 @@ impl Column {
             Column::UInt32(column) => column.validity(),
             Column::UInt64(column) => column.validity(),
             Column::UInt128(column) => column.validity(),
+            Column::LargeBinary(column) => column.validity(),
+            Column::BinaryView(column) => column.validity(),
+            Column::Utf8View(column) => column.validity(),
         }
     }
 
@@ -94,6 +106,9 @@ impl Column {
             Column::UInt32(_) => matches!(dtype, ArrowDataType::UInt32),
             Column::UInt64(_) => matches!(dtype, ArrowDataType::UInt64),
             Column::UInt128(_) => matches!(dtype, ArrowDataType::UInt128),
+            Column::LargeBinary(_) => matches!(dtype, ArrowDataType::LargeBinary),
+            Column::BinaryView(_) => matches!(dtype, ArrowDataType::BinaryView),
+            Column::Utf8View(_) => matches!(dtype, ArrowDataType::Utf8View),
         }
     }
 
@@ -114,6 +129,9 @@ impl Column {
             Column::UInt32(_) => matches!(other, Column::UInt32(_)),
             Column::UInt64(_) => matches!(other, Column::UInt64(_)),
             Column::UInt128(_) => matches!(other, Column::UInt128(_)),
+            Column::LargeBinary(_) => matches!(other, Column::LargeBinary(_)),
+            Column::BinaryView(_) => matches!(other, Column::BinaryView(_)),
+            Column::Utf8View(_) => matches!(other, Column::Utf8View(_)),
         }
     }
 
@@ -135,6 +153,9 @@ impl Column {
             Column::UInt32(_) => Ok(ArrowDataType::UInt32),
             Column::UInt64(_) => Ok(ArrowDataType::UInt64),
             Column::UInt128(_) => Ok(ArrowDataType::UInt128),
+            Column::LargeBinary(_) => Ok(ArrowDataType::LargeBinary),
+            Column::BinaryView(_) => Ok(ArrowDataType::BinaryView),
+            Column::Utf8View(_) => Ok(ArrowDataType::Utf8View),
         }
     }
 
@@ -160,6 +181,9 @@ impl Column {
             Column::UInt32(column) => Ok(Column::UInt32(column.sliced(alloc, off, len)?)),
             Column::UInt64(column) => Ok(Column::UInt64(column.sliced(alloc, off, len)?)),
             Column::UInt128(column) => Ok(Column::UInt128(column.sliced(alloc, off, len)?)),
+            Column::LargeBinary(column) => Ok(Column::LargeBinary(column.sliced(alloc, off, len)?)),
+            Column::BinaryView(column) => Ok(Column::BinaryView(column.sliced(alloc, off, len)?)),
+            Column::Utf8View(column) => Ok(Column::Utf8View(column.sliced(alloc, off, len)?)),
         }
     }
 
@@ -184,6 +208,9 @@ impl Column {
             Column::UInt32(column) => Ok(Column::UInt32(column.try_clone(alloc)?)),
             Column::UInt64(column) => Ok(Column::UInt64(column.try_clone(alloc)?)),
             Column::UInt128(column) => Ok(Column::UInt128(column.try_clone(alloc)?)),
+            Column::LargeBinary(column) => Ok(Column::LargeBinary(column.try_clone(alloc)?)),
+            Column::BinaryView(column) => Ok(Column::BinaryView(column.try_clone(alloc)?)),
+            Column::Utf8View(column) => Ok(Column::Utf8View(column.try_clone(alloc)?)),
         }
     }
 }

@@ -15,4 +15,7 @@ pub enum ArrowDataType {
     UInt32,
     UInt64,
     UInt128,
+    LargeBinary,
+    BinaryView,
+    Utf8View,
 }

@@ -72,6 +72,19 @@ impl<T: NativeType> PrimitiveArray<T> {
             None
         }
     }
+
+    /// The same numbers under another validity of the same length.
+    pub fn with_validity(self, validity: Option<Bitmap>) -> PrimitiveArray<T>
+        requires { Covers validity (length (primitive_rows self)) }
+        ensures rows { primitive_rows result ≡ number_rows T.number self.values validity }
+        ensures validity { result.validity ≡ validity }
+    {
+        let PrimitiveArray {
+            values,
+            validity: _,
+        } = self;
+        PrimitiveArray { values, validity }
+    }
 }
 
 /// A number type whose columns are a kind of `Column`.
