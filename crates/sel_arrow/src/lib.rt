@@ -8,6 +8,7 @@ pub mod binview;
 pub mod boolean;
 pub mod column;
 pub mod datatype;
+pub mod empty;
 pub mod native_columns;
 pub mod null;
 pub mod primitive;
