@@ -1,2 +1,7 @@
+pub mod ByteRows
+pub mod Lists
+pub mod NoRows
 pub mod NullCounts
 pub mod Rows
+pub mod Texts
+pub mod ViewRows

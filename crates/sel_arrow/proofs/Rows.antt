@@ -78,18 +78,12 @@ pub part-masked : (validity : Option Bits) (vs : List Value) (off len : ℕ) →
 part-masked None vs off len = refl
 part-masked (Some validity) vs off len = rw (drop-hidden, take-hidden) refl
 
--- ---- numbers and truth values
+-- ---- values of one kind under a validity
 
 -- the values of one kind are no nulls
 validities-map : {A : Type 0} (f : A → Value) → ((x : A) → is_valid (f x) ≡ true) → (xs : List A) → validities (map f xs) ≡ replicate (length (map f xs)) true
 validities-map f valid [] = refl
 validities-map f valid (x ∷ xs) = cc (valid x, validities-map f valid xs)
-
-pub length-number_rows : {T : Type 0} (number : T → ℤ) → (xs : List T) (validity : Option Bits) → length (number_rows number xs validity) ≡ length xs
-length-number_rows number xs validity = rw (length-masked, length-map) refl
-
-pub length-truth_rows : (bits : List Bool) (validity : Option Bits) → length (truth_rows bits validity) ≡ length bits
-length-truth_rows bits validity = rw (length-masked, length-map) refl
 
 covers_map : {A : Type 0} (f : A → Value) → (xs : List A) (validity : Option Bits) → Covers validity (length xs) → Covers validity (length (map f xs))
 covers_map f xs validity covers = λ v there. rw length-map (covers v there)
@@ -97,46 +91,61 @@ covers_map f xs validity covers = λ v there. rw length-map (covers v there)
 inside_map : {A : Type 0} (f : A → Value) → (xs : List A) (i : ℕ) → i < length xs → i < length (map f xs)
 inside_map f xs i h = rw length-map h
 
+pub length-mapped : {A : Type 0} (f : A → Value) → (xs : List A) (validity : Option Bits) → length (masked validity (map f xs)) ≡ length xs
+length-mapped f xs validity = rw (length-masked, length-map) refl
+
+pub null_mapped : {A : Type 0} (f : A → Value) → (xs : List A) (validity : Option Bits) (i : ℕ) → valid_at validity i ≡ false → i < length xs → Covers validity (length xs) → get_or (masked validity (map f xs)) i Null ≡ Null
+null_mapped f xs validity i e h covers = masked_null validity (map f xs) i e (inside_map f xs i h) (covers_map f xs validity covers)
+
+pub valid_mapped : {A : Type 0} (f : A → Value) → (xs : List A) (validity : Option Bits) (i : ℕ) (d : A) → valid_at validity i ≡ true → i < length xs → Covers validity (length xs) → get_or (masked validity (map f xs)) i Null ≡ f (get_or xs i d)
+valid_mapped f xs validity i d e h covers = masked_valid validity (map f xs) i e (inside_map f xs i h) (covers_map f xs validity covers) ∙ get_or-map f xs i d Null h
+
+pub tells-mapped : {A : Type 0} (f : A → Value) → ((x : A) → is_valid (f x) ≡ true) → (s : Shape) (xs : List A) (validity : Option Bits) → s ≢ of_null → Covers validity (length xs) → TellsNulls s validity (masked validity (map f xs))
+tells-mapped f valid s xs validity other covers = tells-masked s validity (map f xs) other (validities-map f valid xs) (covers_map f xs validity covers)
+
+pub part-mapped : {A : Type 0} (f : A → Value) → (xs : List A) (validity : Option Bits) (off len : ℕ) → masked (option_map (part_of off len) validity) (map f (take len (drop off xs))) ≡ take len (drop off (masked validity (map f xs)))
+part-mapped f xs validity off len =
+    let parts : take len (drop off (map f xs)) ≡ map f (take len (drop off xs)) = rw (drop-map, take-map) refl in
+    sym (part-masked validity (map f xs) off len ∙ ap (masked (option_map (part_of off len) validity)) parts)
+
+-- ---- numbers and truth values
+
+abbrev number_of : {T : Type 0} → (T → ℤ) → T → Value
+number_of number x = Number (number x)
+
+pub length-number_rows : {T : Type 0} (number : T → ℤ) → (xs : List T) (validity : Option Bits) → length (number_rows number xs validity) ≡ length xs
+length-number_rows number xs validity = length-mapped (number_of number) xs validity
+
+pub length-truth_rows : (bits : List Bool) (validity : Option Bits) → length (truth_rows bits validity) ≡ length bits
+length-truth_rows bits validity = length-mapped Truth bits validity
+
 pub null_number : {T : Type 0} (number : T → ℤ) → (xs : List T) (validity : Option Bits) (i : ℕ) → valid_at validity i ≡ false → i < length xs → Covers validity (length xs) → get_or (number_rows number xs validity) i Null ≡ Null
-null_number {T} number xs validity i e h covers =
-    let f : T → Value = λ x. Number (number x) in
-    masked_null validity (map f xs) i e (inside_map f xs i h) (covers_map f xs validity covers)
+null_number number xs validity i e h covers = null_mapped (number_of number) xs validity i e h covers
 
 pub valid_number : {T : Type 0} (number : T → ℤ) → (xs : List T) (validity : Option Bits) (i : ℕ) (x : T) → valid_at validity i ≡ true → i < length xs → Covers validity (length xs) → x ≡ get_or xs i x → get_or (number_rows number xs validity) i Null ≡ Number (number x)
-valid_number {T} number xs validity i x e h covers is =
-    let f : T → Value = λ x. Number (number x) in
-    masked_valid validity (map f xs) i e (inside_map f xs i h) (covers_map f xs validity covers)
-    ∙ get_or-map f xs i x Null h ∙ ap f (sym is)
+valid_number number xs validity i x e h covers is = valid_mapped (number_of number) xs validity i x e h covers ∙ ap (number_of number) (sym is)
 
 pub null_truth : (bits : List Bool) (validity : Option Bits) (i : ℕ) → valid_at validity i ≡ false → i < length bits → Covers validity (length bits) → get_or (truth_rows bits validity) i Null ≡ Null
-null_truth bits validity i e h covers = masked_null validity (map Truth bits) i e (inside_map Truth bits i h) (covers_map Truth bits validity covers)
+null_truth bits validity i e h covers = null_mapped Truth bits validity i e h covers
 
 pub valid_truth : (bits : List Bool) (validity : Option Bits) (i : ℕ) → valid_at validity i ≡ true → i < length bits → Covers validity (length bits) → get_or (truth_rows bits validity) i Null ≡ Truth (get_or bits i false)
-valid_truth bits validity i e h covers =
-    masked_valid validity (map Truth bits) i e (inside_map Truth bits i h) (covers_map Truth bits validity covers) ∙ get_or-map Truth bits i false Null h
+valid_truth bits validity i e h covers = valid_mapped Truth bits validity i false e h covers
 
 pub tells-numbers : {T : Type 0} (s : Shape) (number : T → ℤ) → (xs : List T) (validity : Option Bits) → s ≢ of_null → Covers validity (length xs) → TellsNulls s validity (number_rows number xs validity)
-tells-numbers {T} s number xs validity other covers =
-    let f : T → Value = λ x. Number (number x) in
-    tells-masked s validity (map f xs) other (validities-map f (λ x. refl) xs) (covers_map f xs validity covers)
+tells-numbers s number xs validity other covers = tells-mapped (number_of number) (λ x. refl) s xs validity other covers
 
 pub tells-truths : (s : Shape) (bits : List Bool) (validity : Option Bits) → s ≢ of_null → Covers validity (length bits) → TellsNulls s validity (truth_rows bits validity)
-tells-truths s bits validity other covers = tells-masked s validity (map Truth bits) other (validities-map Truth (λ x. refl) bits) (covers_map Truth bits validity covers)
+tells-truths s bits validity other covers = tells-mapped Truth (λ x. refl) s bits validity other covers
 
 pub tells-nulls : (n : ℕ) → validities (replicate n Null) ≡ replicate (length (replicate n Null)) false
 tells-nulls zero = refl
 tells-nulls (suc n) = ap (λ l. false ∷ l) (tells-nulls n)
 
 pub part-number_rows : {T : Type 0} (number : T → ℤ) → (xs : List T) (validity : Option Bits) (off len : ℕ) → number_rows number (take len (drop off xs)) (option_map (part_of off len) validity) ≡ take len (drop off (number_rows number xs validity))
-part-number_rows {T} number xs validity off len =
-    let f : T → Value = λ x. Number (number x) in
-    let parts : take len (drop off (map f xs)) ≡ map f (take len (drop off xs)) = rw (drop-map, take-map) refl in
-    sym (part-masked validity (map f xs) off len ∙ ap (masked (option_map (part_of off len) validity)) parts)
+part-number_rows number xs validity off len = part-mapped (number_of number) xs validity off len
 
 pub part-truth_rows : (bits : List Bool) (validity : Option Bits) (off len : ℕ) → truth_rows (take len (drop off bits)) (option_map (part_of off len) validity) ≡ take len (drop off (truth_rows bits validity))
-part-truth_rows bits validity off len =
-    let parts : take len (drop off (map Truth bits)) ≡ map Truth (take len (drop off bits)) = rw (drop-map, take-map) refl in
-    sym (part-masked validity (map Truth bits) off len ∙ ap (masked (option_map (part_of off len) validity)) parts)
+part-truth_rows bits validity off len = part-mapped Truth bits validity off len
 
 pub part-replicate : {A : Type 0} (x : A) → (n off len : ℕ) → off + len ≤ n → replicate len x ≡ take len (drop off (replicate n x))
 part-replicate x n zero len h = front n len h
@@ -150,6 +159,12 @@ part-replicate x zero (suc off) len h = none len h
     none : (len : ℕ) → suc off + len ≤ 0 → replicate len x ≡ take len []
     none len h = absurd (omega arith)
 part-replicate x (suc n) (suc off) len h = part-replicate x n off len (omega arith)
+
+pub covers_numbers : {T : Type 0} (number : T → ℤ) → (xs : List T) (old new : Option Bits) → Covers new (length (number_rows number xs old)) → Covers new (length xs)
+covers_numbers number xs old new covers = λ v there. rw length-number_rows at (covers v there)
+
+pub covers_truths : (bits : List Bool) (old new : Option Bits) → Covers new (length (truth_rows bits old)) → Covers new (length bits)
+covers_truths bits old new covers = λ v there. rw length-truth_rows at (covers v there)
 
 -- ---- lengths
 
@@ -165,4 +180,4 @@ part_covers (Some validity) n off len covers h = λ part there.
 pub part_within : (validity : Option Bits) (n off len : ℕ) → Covers validity n → off + len ≤ n → ForSome validity (λ v. off + len ≤ length v.bits)
 part_within validity n off len covers h = λ v there. omega (arith, covers v there)
 
-pub ruleset columns = (null_number, valid_number, null_truth, valid_truth, length-number_rows, length-truth_rows, length-replicate, tells-numbers, tells-truths, tells-nulls, part-number_rows, part-truth_rows, part-replicate, length-part, part_covers, part_within)
+pub ruleset columns = (null_number, valid_number, null_truth, valid_truth, length-number_rows, length-truth_rows, length-replicate, tells-numbers, tells-truths, tells-nulls, part-number_rows, part-truth_rows, covers_numbers, covers_truths, part-replicate, length-part, part_covers, part_within)

@@ -1,10 +1,21 @@
 -- What a data type means.
-use Rattle.sel_arrow.specs.Shape.{Shape, of_null, of_boolean, of_int64, of_uint32}
+use Rattle.sel_arrow.specs.Shape.{Shape, of_null, of_boolean, of_int8, of_int16, of_int32, of_int64, of_int128, of_uint8, of_uint16, of_uint32, of_uint64, of_uint128, of_large_binary, of_binary_view, of_utf8_view}
 use Rattle.sel_arrow.specs.declared.datatype.ArrowDataType.{ArrowDataType}
-use Rattle.sel_arrow.specs.declared.datatype.ArrowDataType.TheVariants.{Null, Boolean, Int64, UInt32}
+use Rattle.sel_arrow.specs.declared.datatype.ArrowDataType.TheVariants.{Null, Boolean, Int8, Int16, Int32, Int64, Int128, UInt8, UInt16, UInt32, UInt64, UInt128, LargeBinary, BinaryView, Utf8View}
 
 abbrev pub shape_of : ArrowDataType → Shape
 shape_of Null = of_null
 shape_of Boolean = of_boolean
+shape_of Int8 = of_int8
+shape_of Int16 = of_int16
+shape_of Int32 = of_int32
 shape_of Int64 = of_int64
+shape_of Int128 = of_int128
+shape_of UInt8 = of_uint8
+shape_of UInt16 = of_uint16
 shape_of UInt32 = of_uint32
+shape_of UInt64 = of_uint64
+shape_of UInt128 = of_uint128
+shape_of LargeBinary = of_large_binary
+shape_of BinaryView = of_binary_view
+shape_of Utf8View = of_utf8_view

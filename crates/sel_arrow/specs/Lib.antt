@@ -3,6 +3,9 @@ pub mod DataType
 pub mod Makers
 pub mod Masked
 pub mod Nulls
+pub mod Pieces
 pub mod Rows
 pub mod Shape
+pub mod Texts
 pub mod Value
+pub mod Views

@@ -1,10 +1,14 @@
 -- The rules of columns, each with the first one that parts break.
-use Rattle.std.specs.Prelude.{ℕ, [], ◌∷◌, Option}
+use Rattle.std.specs.Prelude.{ℕ, [], ◌∷◌, List, length, Option, Some, None, not, nat_lt}
 use Rattle.sel_bits.specs.Bits.{Bits}
 use Rattle.sel_bits.specs.Faults.{first_broken}
 use Rattle.sel_bits.specs.declared.faults.Malformed.{Malformed}
-use Rattle.sel_bits.specs.declared.faults.Malformed.TheVariants.{TooManyRows, ValidityLength}
+use Rattle.sel_bits.specs.declared.faults.Malformed.TheVariants.{TooManyRows, TooManyBuffers, OffsetRange, ValidityLength, ViewRange, ViewPrefix, Utf8}
 use Rattle.sel_arrow.specs.Masked.{too_many, validity_differs}
+use Rattle.sel_arrow.specs.Pieces.{rows_between, last_offset}
+use Rattle.sel_arrow.specs.Texts.{all_text}
+use Rattle.sel_arrow.specs.Views.{is_in_range, has_prefix, view_rows}
+use Rattle.sel_arrow.specs.declared.view.View.{View}
 
 -- of n rows of numbers or truth values and a validity (own: the order of the rules)
 abbrev pub flat_fault : ℕ → Option Bits → Option Malformed
@@ -13,3 +17,31 @@ flat_fault n validity = first_broken ((TooManyRows, too_many n) ∷ (ValidityLen
 -- of n rows of nulls
 abbrev pub null_fault : ℕ → Option Malformed
 null_fault n = first_broken ((TooManyRows, too_many n) ∷ [])
+
+-- of rows of bytes between offsets
+abbrev pub binary_fault : List ℕ → List ℕ → Option Bits → Option Malformed
+binary_fault offsets bytes validity =
+    first_broken ((TooManyRows, too_many (rows_between offsets)) ∷ (OffsetRange, nat_lt (length bytes) (last_offset offsets)) ∷ (ValidityLength, validity_differs validity (rows_between offsets)) ∷ [])
+
+-- a fault, or the next one where it is none
+abbrev pub or_else : Option Malformed → Option Malformed → Option Malformed
+or_else None next = next
+or_else (Some fault) next = Some fault
+
+-- of one view, and of views, view by view
+abbrev pub view_fault : List (List ℕ) → View → Option Malformed
+view_fault buffers view = first_broken ((ViewRange, not (is_in_range buffers view)) ∷ (ViewPrefix, not (has_prefix buffers view)) ∷ [])
+
+abbrev pub views_fault : List (List ℕ) → List View → Option Malformed
+views_fault buffers [] = None
+views_fault buffers (view ∷ views) = or_else (view_fault buffers view) (views_fault buffers views)
+
+-- of rows of views
+abbrev pub binview_fault : List View → List (List ℕ) → Option Bits → Option Malformed
+binview_fault views buffers validity =
+    or_else (first_broken ((TooManyRows, too_many (length views)) ∷ (TooManyBuffers, too_many (length buffers)) ∷ (ValidityLength, validity_differs validity (length views)) ∷ [])) (views_fault buffers views)
+
+-- of rows of views that are to be texts
+abbrev pub utf8view_fault : List View → List (List ℕ) → Option Bits → Option Malformed
+utf8view_fault views buffers validity =
+    or_else (binview_fault views buffers validity) (first_broken ((Utf8, not (all_text (view_rows views buffers validity))) ∷ []))

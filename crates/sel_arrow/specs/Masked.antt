@@ -2,7 +2,7 @@
 use Rattle.std.specs.Prelude.{◌≡◌, ℕ, ℤ, ◌+◌, Bool, true, false, List, [], ◌∷◌, map, length, take, drop, replicate, slice_index_or, Option, Some, None, if◌then◌else◌, ◌==◌, not, nat_lt}
 use Rattle.std.specs.Option.{ForSome}
 use Rattle.sel_bits.specs.Bits.{Bits}
-use Rattle.sel_arrow.specs.Value.{Value, Null, Truth, Number, validities}
+use Rattle.sel_arrow.specs.Value.{Value, Null, Truth, Number, Bytes}
 
 -- the values, but null where the truth value beside one is false
 abbrev pub hidden : List Bool → List Value → List Value
@@ -22,7 +22,7 @@ number_rows number xs validity = masked validity (map (λ x. Number (number x)) 
 abbrev pub truth_rows : List Bool → Option Bits → List Value
 truth_rows bits validity = masked validity (map Truth bits)
 
--- a number, or a truth value, as a row; none is null
+-- a number, a truth value, or bytes, as a row; none is null
 abbrev pub number_value : {T : Type 0} → (T → ℤ) → Option T → Value
 number_value number None = Null
 number_value number (Some x) = Number (number x)
@@ -30,6 +30,10 @@ number_value number (Some x) = Number (number x)
 abbrev pub truth_value : Option Bool → Value
 truth_value None = Null
 truth_value (Some b) = Truth b
+
+abbrev pub bytes_value : Option (List ℕ) → Value
+bytes_value None = Null
+bytes_value (Some bytes) = Bytes bytes
 
 -- a validity that is there has this length
 abbrev pub Covers : Option Bits → ℕ → Type 0

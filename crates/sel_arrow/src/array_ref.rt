@@ -2,14 +2,18 @@
 
 ghost use Rattle.std.specs.Prelude.{◌≡◌, ◌≢◌, IfOk, IfErr};
 ghost use Rattle.sel_arrow.specs.Rows.{rows, type_of, IsWellFormed};
-ghost use Rattle.sel_arrow.specs.Columns.{boolean_rows, primitive_rows};
-ghost use Rattle.sel_arrow.specs.Shape.{of_boolean};
+ghost use Rattle.sel_arrow.specs.Columns.{null_rows, boolean_rows, primitive_rows, binary_rows, binview_rows, utf8view_rows};
+ghost use Rattle.sel_arrow.specs.Shape.{of_null, of_boolean, of_large_binary, of_binary_view, of_utf8_view};
 
 use crate::array::Array;
+use crate::binary::BinaryArray;
+use crate::binview::BinaryViewArray;
 use crate::boolean::BooleanArray;
 use crate::column::Column;
 use crate::datatype::ArrowDataType;
+use crate::null::NullArray;
 use crate::primitive::{ArrowPrimitive, PrimitiveArray};
+use crate::utf8view::Utf8ViewArray;
 use sel_bits::bitmap::Bitmap;
 use sel_bits::faults::PolarsResult;
 use std::alloc::Global;
@@ -28,6 +32,20 @@ impl ArrayRef {
         ensures formed { IsWellFormed result.now }
     {
         &self.column
+    }
+
+    /// The column of nulls, or the column back where it is of another type.
+    pub fn into_null(self) -> Result<NullArray, ArrayRef>
+        ensures rows { IfOk result (λ array. null_rows array ≡ rows self.column) }
+        ensures dtype { IfOk result (λ _. type_of self.column ≡ of_null) }
+        ensures back { IfErr result (λ back. back.column ≡ self.column) }
+        ensures other { IfErr result (λ _. type_of self.column ≢ of_null) }
+    {
+        let ArrayRef { column } = self;
+        match column {
+            Column::Null(array) => Ok(array),
+            column => Err(ArrayRef { column }),
+        }
     }
 
     /// The column of truth values, or the column back where it is of another type.
@@ -56,5 +74,89 @@ impl ArrayRef {
             Ok((values, validity)) => Ok(PrimitiveArray { values, validity }),
             Err(column) => Err(ArrayRef { column }),
         }
+    }
+
+    /// The column of bytes between offsets, or the column back where it is of another type.
+    pub fn into_binary(self) -> Result<BinaryArray<i64>, ArrayRef>
+        ensures rows { IfOk result (λ array. binary_rows array ≡ rows self.column) }
+        ensures dtype { IfOk result (λ _. type_of self.column ≡ of_large_binary) }
+        ensures back { IfErr result (λ back. back.column ≡ self.column) }
+        ensures other { IfErr result (λ _. type_of self.column ≢ of_large_binary) }
+    {
+        let ArrayRef { column } = self;
+        match column {
+            Column::LargeBinary(array) => Ok(array),
+            column => Err(ArrayRef { column }),
+        }
+    }
+
+    /// The column of bytes that views name, or the column back where it is of another type.
+    pub fn into_binview(self) -> Result<BinaryViewArray, ArrayRef>
+        ensures rows { IfOk result (λ array. binview_rows array ≡ rows self.column) }
+        ensures dtype { IfOk result (λ _. type_of self.column ≡ of_binary_view) }
+        ensures back { IfErr result (λ back. back.column ≡ self.column) }
+        ensures other { IfErr result (λ _. type_of self.column ≢ of_binary_view) }
+    {
+        let ArrayRef { column } = self;
+        match column {
+            Column::BinaryView(array) => Ok(array),
+            column => Err(ArrayRef { column }),
+        }
+    }
+
+    /// The column of texts that views name, or the column back where it is of another type.
+    pub fn into_utf8view(self) -> Result<Utf8ViewArray, ArrayRef>
+        ensures rows { IfOk result (λ array. utf8view_rows array ≡ rows self.column) }
+        ensures dtype { IfOk result (λ _. type_of self.column ≡ of_utf8_view) }
+        ensures back { IfErr result (λ back. back.column ≡ self.column) }
+        ensures other { IfErr result (λ _. type_of self.column ≢ of_utf8_view) }
+    {
+        let ArrayRef { column } = self;
+        match column {
+            Column::Utf8View(array) => Ok(array),
+            column => Err(ArrayRef { column }),
+        }
+    }
+}
+
+impl Array for ArrayRef {
+    ghost use Rattle.sel_arrow.specs.Rows.{rows as column_rows, type_of};
+
+    ghost rows = { λ array. column_rows array.column };
+
+    ghost shape = { λ array. type_of array.column };
+
+    fn len(&self) -> usize {
+        self.column.len()
+    }
+
+    fn validity(&self) -> Option<&Bitmap> {
+        self.column.validity()
+    }
+
+    fn has_dtype(&self, dtype: &ArrowDataType) -> bool {
+        self.column.has_dtype(dtype)
+    }
+
+    fn same_dtype(&self, other: &ArrayRef) -> bool {
+        self.column.same_dtype(&other.column)
+    }
+
+    fn into_ref(self) -> ArrayRef {
+        self
+    }
+
+    fn dtype(&self, alloc: Global) -> PolarsResult<ArrowDataType> {
+        self.column.dtype(alloc)
+    }
+
+    fn sliced(&self, alloc: Global, off: usize, len: usize) -> PolarsResult<ArrayRef> {
+        let column = self.column.sliced(alloc, off, len)?;
+        Ok(ArrayRef { column })
+    }
+
+    fn try_clone(&self, alloc: Global) -> PolarsResult<ArrayRef> {
+        let column = self.column.try_clone(alloc)?;
+        Ok(ArrayRef { column })
     }
 }

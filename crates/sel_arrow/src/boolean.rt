@@ -4,7 +4,7 @@ ghost use Rattle.std.specs.Prelude.{◌≡◌, ◌≤◌, ◌<◌, length, slice
 ghost use Rattle.std.specs.Option.{option_copied};
 ghost use Rattle.sel_bits.specs.Faults.{IsFault};
 ghost use Rattle.sel_arrow.specs.Makers.{flat_fault};
-ghost use Rattle.sel_arrow.specs.Masked.{Covers, truth_value};
+ghost use Rattle.sel_arrow.specs.Masked.{Covers, truth_rows, truth_value};
 ghost use Rattle.sel_arrow.specs.Value.{Null};
 
 use crate::array::Array;
@@ -62,6 +62,19 @@ impl BooleanArray {
         } else {
             None
         }
+    }
+
+    /// The same bits under another validity of the same length.
+    pub fn with_validity(self, validity: Option<Bitmap>) -> BooleanArray
+        requires { Covers validity (length (boolean_rows self)) }
+        ensures rows { boolean_rows result ≡ truth_rows self.values.bits validity }
+        ensures validity { result.validity ≡ validity }
+    {
+        let BooleanArray {
+            values,
+            validity: _,
+        } = self;
+        BooleanArray { values, validity }
     }
 }
 

@@ -1,14 +1,216 @@
 //! Columns of every kind.
 
+ghost use Rattle.std.specs.Prelude.{◌≡◌, ◌≤◌, ◌+◌, ◌↔◌, length, take, drop, IfOk, IfErr, IsTrue};
+ghost use Rattle.std.specs.Option.{option_copied};
+ghost use Rattle.sel_arrow.specs.Nulls.{TellsNulls};
+
+use crate::array::Array;
+use crate::binary::BinaryArray;
+use crate::binview::BinaryViewArray;
 use crate::boolean::BooleanArray;
+use crate::datatype::ArrowDataType;
 use crate::null::NullArray;
 use crate::primitive::PrimitiveArray;
+use crate::utf8view::Utf8ViewArray;
+use sel_bits::bitmap::Bitmap;
+use sel_bits::faults::{PolarsError, PolarsResult};
+use std::alloc::Global;
 
 /// A column, by the layout of its parts. (Arrow columnar format.)
 #[derive(Drop)]
 pub enum Column {
     Null(NullArray),
     Boolean(BooleanArray),
+    Int8(PrimitiveArray<i8>),
+    Int16(PrimitiveArray<i16>),
+    Int32(PrimitiveArray<i32>),
     Int64(PrimitiveArray<i64>),
+    Int128(PrimitiveArray<i128>),
+    UInt8(PrimitiveArray<u8>),
+    UInt16(PrimitiveArray<u16>),
     UInt32(PrimitiveArray<u32>),
+    UInt64(PrimitiveArray<u64>),
+    UInt128(PrimitiveArray<u128>),
+    LargeBinary(BinaryArray<i64>),
+    BinaryView(BinaryViewArray),
+    Utf8View(Utf8ViewArray),
+}
+
+impl Column {
+    ghost use Rattle.sel_arrow.specs.DataType.{shape_of};
+    ghost use Rattle.sel_arrow.specs.Rows.{rows, type_of, IsWellFormed};
+
+    /// How many rows there are: at most 4,294,967,295.
+    pub fn len(&self) -> usize
+        requires { IsWellFormed self.now }
+        ensures len { result ≡ length (rows self.now) }
+        ensures few { result ≤ 4294967295 }
+    {
+        match self {
+            Column::Null(column) => column.len(),
+            Column::Boolean(column) => column.len(),
+            Column::Int8(column) => column.len(),
+            Column::Int16(column) => column.len(),
+            Column::Int32(column) => column.len(),
+            Column::Int64(column) => column.len(),
+            Column::Int128(column) => column.len(),
+            Column::UInt8(column) => column.len(),
+            Column::UInt16(column) => column.len(),
+            Column::UInt32(column) => column.len(),
+            Column::UInt64(column) => column.len(),
+            Column::UInt128(column) => column.len(),
+            Column::LargeBinary(column) => column.len(),
+            Column::BinaryView(column) => column.len(),
+            Column::Utf8View(column) => column.len(),
+        }
+    }
+
+    /// Which rows are valid. Without it each row is, but in a column of nulls none.
+    pub fn validity(&self) -> Option<&Bitmap>
+        requires { IsWellFormed self.now }
+        ensures { TellsNulls (type_of self.now) (option_copied result) (rows self.now) }
+    {
+        match self {
+            Column::Null(column) => column.validity(),
+            Column::Boolean(column) => column.validity(),
+            Column::Int8(column) => column.validity(),
+            Column::Int16(column) => column.validity(),
+            Column::Int32(column) => column.validity(),
+            Column::Int64(column) => column.validity(),
+            Column::Int128(column) => column.validity(),
+            Column::UInt8(column) => column.validity(),
+            Column::UInt16(column) => column.validity(),
+            Column::UInt32(column) => column.validity(),
+            Column::UInt64(column) => column.validity(),
+            Column::UInt128(column) => column.validity(),
+            Column::LargeBinary(column) => column.validity(),
+            Column::BinaryView(column) => column.validity(),
+            Column::Utf8View(column) => column.validity(),
+        }
+    }
+
+    /// Whether the column is of this type.
+    pub fn has_dtype(&self, dtype: &ArrowDataType) -> bool
+        ensures { IsTrue result ↔ (type_of self.now ≡ shape_of dtype.now) }
+    {
+        match self {
+            Column::Null(_) => matches!(dtype, ArrowDataType::Null),
+            Column::Boolean(_) => matches!(dtype, ArrowDataType::Boolean),
+            Column::Int8(_) => matches!(dtype, ArrowDataType::Int8),
+            Column::Int16(_) => matches!(dtype, ArrowDataType::Int16),
+            Column::Int32(_) => matches!(dtype, ArrowDataType::Int32),
+            Column::Int64(_) => matches!(dtype, ArrowDataType::Int64),
+            Column::Int128(_) => matches!(dtype, ArrowDataType::Int128),
+            Column::UInt8(_) => matches!(dtype, ArrowDataType::UInt8),
+            Column::UInt16(_) => matches!(dtype, ArrowDataType::UInt16),
+            Column::UInt32(_) => matches!(dtype, ArrowDataType::UInt32),
+            Column::UInt64(_) => matches!(dtype, ArrowDataType::UInt64),
+            Column::UInt128(_) => matches!(dtype, ArrowDataType::UInt128),
+            Column::LargeBinary(_) => matches!(dtype, ArrowDataType::LargeBinary),
+            Column::BinaryView(_) => matches!(dtype, ArrowDataType::BinaryView),
+            Column::Utf8View(_) => matches!(dtype, ArrowDataType::Utf8View),
+        }
+    }
+
+    /// Whether the two columns are of one type.
+    pub fn same_dtype(&self, other: &Column) -> bool
+        ensures { IsTrue result ↔ (type_of self.now ≡ type_of other.now) }
+    {
+        match self {
+            Column::Null(_) => matches!(other, Column::Null(_)),
+            Column::Boolean(_) => matches!(other, Column::Boolean(_)),
+            Column::Int8(_) => matches!(other, Column::Int8(_)),
+            Column::Int16(_) => matches!(other, Column::Int16(_)),
+            Column::Int32(_) => matches!(other, Column::Int32(_)),
+            Column::Int64(_) => matches!(other, Column::Int64(_)),
+            Column::Int128(_) => matches!(other, Column::Int128(_)),
+            Column::UInt8(_) => matches!(other, Column::UInt8(_)),
+            Column::UInt16(_) => matches!(other, Column::UInt16(_)),
+            Column::UInt32(_) => matches!(other, Column::UInt32(_)),
+            Column::UInt64(_) => matches!(other, Column::UInt64(_)),
+            Column::UInt128(_) => matches!(other, Column::UInt128(_)),
+            Column::LargeBinary(_) => matches!(other, Column::LargeBinary(_)),
+            Column::BinaryView(_) => matches!(other, Column::BinaryView(_)),
+            Column::Utf8View(_) => matches!(other, Column::Utf8View(_)),
+        }
+    }
+
+    /// The type, read off the column. Refuses only for want of memory.
+    pub fn dtype(&self, _alloc: Global) -> PolarsResult<ArrowDataType>
+        ensures dtype { IfOk result (λ dtype. shape_of dtype ≡ type_of self.now) }
+        ensures refusal { IfErr result (λ fault. fault ≡ PolarsError.OutOfMemory) }
+    {
+        match self {
+            Column::Null(_) => Ok(ArrowDataType::Null),
+            Column::Boolean(_) => Ok(ArrowDataType::Boolean),
+            Column::Int8(_) => Ok(ArrowDataType::Int8),
+            Column::Int16(_) => Ok(ArrowDataType::Int16),
+            Column::Int32(_) => Ok(ArrowDataType::Int32),
+            Column::Int64(_) => Ok(ArrowDataType::Int64),
+            Column::Int128(_) => Ok(ArrowDataType::Int128),
+            Column::UInt8(_) => Ok(ArrowDataType::UInt8),
+            Column::UInt16(_) => Ok(ArrowDataType::UInt16),
+            Column::UInt32(_) => Ok(ArrowDataType::UInt32),
+            Column::UInt64(_) => Ok(ArrowDataType::UInt64),
+            Column::UInt128(_) => Ok(ArrowDataType::UInt128),
+            Column::LargeBinary(_) => Ok(ArrowDataType::LargeBinary),
+            Column::BinaryView(_) => Ok(ArrowDataType::BinaryView),
+            Column::Utf8View(_) => Ok(ArrowDataType::Utf8View),
+        }
+    }
+
+    /// The `len` rows from row `off` on. Refuses only for want of memory.
+    pub fn sliced(&self, alloc: Global, off: usize, len: usize) -> PolarsResult<Column>
+        requires formed { IsWellFormed self.now }
+        requires inside { off + len ≤ length (rows self.now) }
+        ensures rows { IfOk result (λ part. rows part ≡ take len (drop off (rows self.now))) }
+        ensures dtype { IfOk result (λ part. type_of part ≡ type_of self.now) }
+        ensures formed { IfOk result (λ part. IsWellFormed part) }
+        ensures refusal { IfErr result (λ fault. fault ≡ PolarsError.OutOfMemory) }
+    {
+        match self {
+            Column::Null(column) => Ok(Column::Null(column.sliced(alloc, off, len)?)),
+            Column::Boolean(column) => Ok(Column::Boolean(column.sliced(alloc, off, len)?)),
+            Column::Int8(column) => Ok(Column::Int8(column.sliced(alloc, off, len)?)),
+            Column::Int16(column) => Ok(Column::Int16(column.sliced(alloc, off, len)?)),
+            Column::Int32(column) => Ok(Column::Int32(column.sliced(alloc, off, len)?)),
+            Column::Int64(column) => Ok(Column::Int64(column.sliced(alloc, off, len)?)),
+            Column::Int128(column) => Ok(Column::Int128(column.sliced(alloc, off, len)?)),
+            Column::UInt8(column) => Ok(Column::UInt8(column.sliced(alloc, off, len)?)),
+            Column::UInt16(column) => Ok(Column::UInt16(column.sliced(alloc, off, len)?)),
+            Column::UInt32(column) => Ok(Column::UInt32(column.sliced(alloc, off, len)?)),
+            Column::UInt64(column) => Ok(Column::UInt64(column.sliced(alloc, off, len)?)),
+            Column::UInt128(column) => Ok(Column::UInt128(column.sliced(alloc, off, len)?)),
+            Column::LargeBinary(column) => Ok(Column::LargeBinary(column.sliced(alloc, off, len)?)),
+            Column::BinaryView(column) => Ok(Column::BinaryView(column.sliced(alloc, off, len)?)),
+            Column::Utf8View(column) => Ok(Column::Utf8View(column.sliced(alloc, off, len)?)),
+        }
+    }
+
+    /// The same column. Refuses only for want of memory.
+    pub fn try_clone(&self, alloc: Global) -> PolarsResult<Column>
+        requires { IsWellFormed self.now }
+        ensures rows { IfOk result (λ copy. rows copy ≡ rows self.now) }
+        ensures dtype { IfOk result (λ copy. type_of copy ≡ type_of self.now) }
+        ensures formed { IfOk result (λ copy. IsWellFormed copy) }
+        ensures refusal { IfErr result (λ fault. fault ≡ PolarsError.OutOfMemory) }
+    {
+        match self {
+            Column::Null(column) => Ok(Column::Null(column.try_clone(alloc)?)),
+            Column::Boolean(column) => Ok(Column::Boolean(column.try_clone(alloc)?)),
+            Column::Int8(column) => Ok(Column::Int8(column.try_clone(alloc)?)),
+            Column::Int16(column) => Ok(Column::Int16(column.try_clone(alloc)?)),
+            Column::Int32(column) => Ok(Column::Int32(column.try_clone(alloc)?)),
+            Column::Int64(column) => Ok(Column::Int64(column.try_clone(alloc)?)),
+            Column::Int128(column) => Ok(Column::Int128(column.try_clone(alloc)?)),
+            Column::UInt8(column) => Ok(Column::UInt8(column.try_clone(alloc)?)),
+            Column::UInt16(column) => Ok(Column::UInt16(column.try_clone(alloc)?)),
+            Column::UInt32(column) => Ok(Column::UInt32(column.try_clone(alloc)?)),
+            Column::UInt64(column) => Ok(Column::UInt64(column.try_clone(alloc)?)),
+            Column::UInt128(column) => Ok(Column::UInt128(column.try_clone(alloc)?)),
+            Column::LargeBinary(column) => Ok(Column::LargeBinary(column.try_clone(alloc)?)),
+            Column::BinaryView(column) => Ok(Column::BinaryView(column.try_clone(alloc)?)),
+            Column::Utf8View(column) => Ok(Column::Utf8View(column.try_clone(alloc)?)),
+        }
+    }
 }

@@ -3,9 +3,15 @@
 
 pub mod array;
 pub mod array_ref;
+pub mod binary;
+pub mod binview;
 pub mod boolean;
 pub mod column;
 pub mod datatype;
+pub mod empty;
+pub mod native_columns;
 pub mod null;
 pub mod primitive;
+pub mod utf8view;
 pub mod validity;
+pub mod view;

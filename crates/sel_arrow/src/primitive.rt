@@ -1,6 +1,6 @@
 //! A column of numbers.
 
-ghost use Rattle.std.specs.Prelude.{◌≡◌, ◌≢◌, ◌≤◌, ◌<◌, ◌↔◌, length, slice_index_or, None, IfOk, IfErr, IsTrue, pos};
+ghost use Rattle.std.specs.Prelude.{◌≡◌, ◌≢◌, ◌≤◌, ◌<◌, ◌↔◌, length, slice_index_or, None, IfOk, IfErr, IsTrue};
 ghost use Rattle.std.specs.Option.{option_copied};
 ghost use Rattle.sel_bits.specs.Faults.{IsFault};
 ghost use Rattle.sel_arrow.specs.Makers.{flat_fault};
@@ -72,6 +72,19 @@ impl<T: NativeType> PrimitiveArray<T> {
             None
         }
     }
+
+    /// The same numbers under another validity of the same length.
+    pub fn with_validity(self, validity: Option<Bitmap>) -> PrimitiveArray<T>
+        requires { Covers validity (length (primitive_rows self)) }
+        ensures rows { primitive_rows result ≡ number_rows T.number self.values validity }
+        ensures validity { result.validity ≡ validity }
+    {
+        let PrimitiveArray {
+            values,
+            validity: _,
+        } = self;
+        PrimitiveArray { values, validity }
+    }
 }
 
 /// A number type whose columns are a kind of `Column`.
@@ -109,80 +122,6 @@ pub trait ArrowPrimitive: NativeType {
 
     /// It is not the type of nulls.
     ghost no_null: { shape ≢ of_null };
-}
-
-impl ArrowPrimitive for i64 {
-    ghost use Rattle.sel_arrow.specs.Rows.{rows, type_of, IsWellFormed};
-    ghost use Rattle.sel_arrow.specs.Shape.{of_int64};
-
-    ghost shape = { of_int64 };
-
-    ghost no_null = { λ same. Prim.cc };
-
-    fn column_dtype() -> ArrowDataType {
-        ArrowDataType::Int64
-    }
-
-    fn is_column_dtype(dtype: &ArrowDataType) -> bool {
-        matches!(dtype, ArrowDataType::Int64)
-    }
-
-    fn into_column(values: Buffer<i64>, validity: Option<Bitmap>) -> Column
-        requires few { length values ≤ 4294967295 }
-        requires covers { Covers validity (length values) }
-        ensures rows { rows result ≡ number_rows (λ x. x) values validity }
-        ensures dtype { type_of result ≡ of_int64 }
-        ensures formed { IsWellFormed result }
-    {
-        Column::Int64(PrimitiveArray { values, validity })
-    }
-
-    fn from_column(column: Column) -> Result<(Buffer<i64>, Option<Bitmap>), Column> {
-        match column {
-            Column::Int64(array) => {
-                let PrimitiveArray { values, validity } = array;
-                Ok((values, validity))
-            }
-            other => Err(other),
-        }
-    }
-}
-
-impl ArrowPrimitive for u32 {
-    ghost use Rattle.sel_arrow.specs.Rows.{rows, type_of, IsWellFormed};
-    ghost use Rattle.sel_arrow.specs.Shape.{of_uint32};
-
-    ghost shape = { of_uint32 };
-
-    ghost no_null = { λ same. Prim.cc };
-
-    fn column_dtype() -> ArrowDataType {
-        ArrowDataType::UInt32
-    }
-
-    fn is_column_dtype(dtype: &ArrowDataType) -> bool {
-        matches!(dtype, ArrowDataType::UInt32)
-    }
-
-    fn into_column(values: Buffer<u32>, validity: Option<Bitmap>) -> Column
-        requires few { length values ≤ 4294967295 }
-        requires covers { Covers validity (length values) }
-        ensures rows { rows result ≡ number_rows pos values validity }
-        ensures dtype { type_of result ≡ of_uint32 }
-        ensures formed { IsWellFormed result }
-    {
-        Column::UInt32(PrimitiveArray { values, validity })
-    }
-
-    fn from_column(column: Column) -> Result<(Buffer<u32>, Option<Bitmap>), Column> {
-        match column {
-            Column::UInt32(array) => {
-                let PrimitiveArray { values, validity } = array;
-                Ok((values, validity))
-            }
-            other => Err(other),
-        }
-    }
 }
 
 #[tactic(auto, using(crate::proofs::Rows::columns))]

@@ -1,0 +1,116 @@
+-- Rows of bytes between offsets.
+use Rattle.std.proofs.Common.{◌≡◌, ◌≢◌, ℕ, zero, suc, ◌+◌, ◌-◌, ◌≤◌, ◌<◌, Bool, true, false, List, [], ◌∷◌, length, take, drop, map, Option, refl, ap, sym, ◌∙◌, subst, arith, get_or, add-one, length-take}
+use Rattle.std.specs.List.{slice_range}
+use Rattle.std.specs.Option.{option_map}
+use Rattle.std.proofs.lemmas.Grind.{common_steps}
+use Rattle.std.proofs.lemmas.List.{get_or-take, get_or-drop}
+use Rattle.sel_bits.specs.Bits.{Bits}
+use Rattle.sel_bits.specs.Offsets.{IsRising}
+use Rattle.sel_arrow.specs.Masked.{masked, Covers, valid_at, part_of}
+use Rattle.sel_arrow.specs.Nulls.{TellsNulls}
+use Rattle.sel_arrow.specs.Pieces.{byte_rows, last_offset, pieces, pieces_after, rows_between}
+use Rattle.sel_arrow.specs.Shape.{Shape, of_null}
+use Rattle.sel_arrow.specs.Value.{Value, Null, Bytes}
+use Rattle.sel_arrow.proofs.Rows.{length-mapped, null_mapped, valid_mapped, tells-mapped, part-mapped, length-part, part_covers, part_within}
+
+-- ---- pieces of a list
+
+length-pieces_after : {A : Type 0} (a : ℕ) (offsets : List ℕ) (xs : List A) → length (pieces_after a offsets xs) ≡ length offsets
+length-pieces_after a [] xs = refl
+length-pieces_after a (b ∷ offsets) xs = ap suc (length-pieces_after b offsets xs)
+
+pub length-pieces : {A : Type 0} (offsets : List ℕ) (xs : List A) → length (pieces offsets xs) ≡ rows_between offsets
+length-pieces [] xs = refl
+length-pieces (a ∷ offsets) xs = omega (arith, length-pieces_after a offsets xs)
+
+get_or-pieces_after : {A : Type 0} (a : ℕ) (offsets : List ℕ) (xs : List A) (i : ℕ) → i < length offsets → get_or (pieces_after a offsets xs) i [] ≡ slice_range xs (get_or (a ∷ offsets) i 0) (get_or offsets i 0)
+get_or-pieces_after a [] xs i h = absurd (omega arith)
+get_or-pieces_after a (b ∷ offsets) xs zero h = refl
+get_or-pieces_after a (b ∷ offsets) xs (suc i) h = get_or-pieces_after b offsets xs i (omega arith)
+
+pub get_or-pieces : {A : Type 0} (offsets : List ℕ) (xs : List A) (i : ℕ) → i < rows_between offsets → get_or (pieces offsets xs) i [] ≡ slice_range xs (get_or offsets i 0) (get_or offsets (i + 1) 0)
+get_or-pieces [] xs i h = absurd (omega arith)
+get_or-pieces (a ∷ offsets) xs i h = rw add-one (get_or-pieces_after a offsets xs i (omega arith))
+
+-- the pieces between a part of the offsets are a part of the pieces
+drop-pieces : {A : Type 0} (n : ℕ) (offsets : List ℕ) (xs : List A) → pieces (drop n offsets) xs ≡ drop n (pieces offsets xs)
+drop-pieces zero offsets xs = refl
+drop-pieces (suc n) [] xs = refl
+drop-pieces (suc zero) (a ∷ []) xs = refl
+drop-pieces (suc (suc n)) (a ∷ []) xs = refl
+drop-pieces (suc n) (a ∷ (b ∷ offsets)) xs = drop-pieces n (b ∷ offsets) xs
+
+take-pieces_after : {A : Type 0} (n a : ℕ) (offsets : List ℕ) (xs : List A) → pieces_after a (take n offsets) xs ≡ take n (pieces_after a offsets xs)
+take-pieces_after zero a offsets xs = refl
+take-pieces_after (suc n) a [] xs = refl
+take-pieces_after (suc n) a (b ∷ offsets) xs = ap (λ rest. slice_range xs a b ∷ rest) (take-pieces_after n b offsets xs)
+
+take-pieces : {A : Type 0} (n : ℕ) (offsets : List ℕ) (xs : List A) → pieces (take (n + 1) offsets) xs ≡ take n (pieces offsets xs)
+take-pieces zero [] xs = refl
+take-pieces (suc n) [] xs = rw add-one refl
+take-pieces n (a ∷ offsets) xs = rw add-one (take-pieces_after n a offsets xs)
+
+pub part-pieces : {A : Type 0} (offsets : List ℕ) (xs : List A) (off len : ℕ) → pieces (take (len + 1) (drop off offsets)) xs ≡ take len (drop off (pieces offsets xs))
+part-pieces offsets xs off len = take-pieces len (drop off offsets) xs ∙ ap (take len) (drop-pieces off offsets xs)
+
+-- ---- rows of bytes
+
+pub length-byte_rows : (offsets bytes : List ℕ) (validity : Option Bits) → length (byte_rows offsets bytes validity) ≡ rows_between offsets
+length-byte_rows offsets bytes validity = length-mapped Bytes (pieces offsets bytes) validity ∙ length-pieces offsets bytes
+
+inside_pieces : (offsets bytes : List ℕ) (i : ℕ) → i < rows_between offsets → i < length (pieces offsets bytes)
+inside_pieces offsets bytes i h = rw length-pieces h
+
+covers_pieces : (offsets bytes : List ℕ) (validity : Option Bits) → Covers validity (rows_between offsets) → Covers validity (length (pieces offsets bytes))
+covers_pieces offsets bytes validity covers = λ v there. rw length-pieces (covers v there)
+
+pub null_bytes : (offsets bytes : List ℕ) (validity : Option Bits) (i : ℕ) → valid_at validity i ≡ false → i < rows_between offsets → Covers validity (rows_between offsets) → get_or (byte_rows offsets bytes validity) i Null ≡ Null
+null_bytes offsets bytes validity i e h covers =
+    null_mapped Bytes (pieces offsets bytes) validity i e (inside_pieces offsets bytes i h) (covers_pieces offsets bytes validity covers)
+
+pub valid_bytes : (offsets bytes : List ℕ) (validity : Option Bits) (i : ℕ) → valid_at validity i ≡ true → i < rows_between offsets → Covers validity (rows_between offsets) → get_or (byte_rows offsets bytes validity) i Null ≡ Bytes (slice_range bytes (get_or offsets i 0) (get_or offsets (i + 1) 0))
+valid_bytes offsets bytes validity i e h covers =
+    valid_mapped Bytes (pieces offsets bytes) validity i [] e (inside_pieces offsets bytes i h) (covers_pieces offsets bytes validity covers)
+    ∙ ap Bytes (get_or-pieces offsets bytes i h)
+
+pub tells-bytes : (s : Shape) (offsets bytes : List ℕ) (validity : Option Bits) → s ≢ of_null → Covers validity (rows_between offsets) → TellsNulls s validity (byte_rows offsets bytes validity)
+tells-bytes s offsets bytes validity other covers = tells-mapped Bytes (λ x. refl) s (pieces offsets bytes) validity other (covers_pieces offsets bytes validity covers)
+
+pub part-byte_rows : (offsets bytes : List ℕ) (validity : Option Bits) (off len : ℕ) → byte_rows (take (len + 1) (drop off offsets)) bytes (option_map (part_of off len) validity) ≡ take len (drop off (byte_rows offsets bytes validity))
+part-byte_rows offsets bytes validity off len =
+    ap (λ parts. masked (option_map (part_of off len) validity) (map Bytes parts)) (part-pieces offsets bytes off len)
+    ∙ part-mapped Bytes (pieces offsets bytes) validity off len
+
+pub covers_bytes : (offsets bytes : List ℕ) (old new : Option Bits) → Covers new (length (byte_rows offsets bytes old)) → Covers new (rows_between offsets)
+covers_bytes offsets bytes old new covers = λ v there. rw length-byte_rows at (covers v there)
+
+-- ---- offsets of a part
+
+pub part_rising : (offsets : List ℕ) (off len : ℕ) → IsRising offsets → off + len ≤ rows_between offsets → IsRising (take (len + 1) (drop off offsets))
+part_rising offsets off len rises h =
+    let size : length (take (len + 1) (drop off offsets)) ≡ len + 1 = length-part offsets off (len + 1) (omega (arith, rises.some)) in
+    record {
+      some = omega arith;
+      rising = λ j k le below.
+          rw (get_or-take (len + 1) (drop off offsets) j 0 (omega arith), get_or-take (len + 1) (drop off offsets) k 0 (omega arith), get_or-drop, get_or-drop)
+          (rises.rising (off + j) (off + k) (omega arith) (omega (arith, rises.some)));
+    }
+
+pub rows_in_part : (offsets : List ℕ) (off len : ℕ) → IsRising offsets → off + len ≤ rows_between offsets → rows_between (take (len + 1) (drop off offsets)) ≡ len
+rows_in_part offsets off len rises h = omega (arith, length-part offsets off (len + 1) (omega (arith, rises.some)))
+
+pub part_few : (offsets : List ℕ) (off len : ℕ) → IsRising offsets → off + len ≤ rows_between offsets → rows_between offsets ≤ 4294967295 → rows_between (take (len + 1) (drop off offsets)) ≤ 4294967295
+part_few offsets off len rises h few = omega (arith, rows_in_part offsets off len rises h)
+
+pub part_ends : (offsets bytes : List ℕ) (off len : ℕ) → IsRising offsets → off + len ≤ rows_between offsets → last_offset offsets ≤ length bytes → last_offset (take (len + 1) (drop off offsets)) ≤ length bytes
+part_ends offsets bytes off len rises h ends =
+    let rows : rows_between (take (len + 1) (drop off offsets)) ≡ len = rows_in_part offsets off len rises h in
+    let last : last_offset (take (len + 1) (drop off offsets)) ≡ get_or offsets (off + len) 0 =
+    rw (rows, get_or-take (len + 1) (drop off offsets) len 0 (omega arith), get_or-drop) refl
+    in
+    omega (arith, rises.rising (off + len) (length offsets - 1) (omega arith) (omega (arith, rises.some)))
+
+pub part_covered : (offsets : List ℕ) (validity : Option Bits) (off len : ℕ) → IsRising offsets → off + len ≤ rows_between offsets → Covers validity (rows_between offsets) → Covers (option_map (part_of off len) validity) (rows_between (take (len + 1) (drop off offsets)))
+part_covered offsets validity off len rises h covers = rw (rows_in_part offsets off len rises h) (part_covers validity (rows_between offsets) off len covers h)
+
+pub ruleset byte_columns = (length-byte_rows, null_bytes, valid_bytes, tells-bytes, part-byte_rows, covers_bytes, part_rising, part_few, part_ends, part_covered, part_within)

@@ -1,0 +1,48 @@
+-- A test of each element of a list, at a part of it.
+use Rattle.std.proofs.Common.{◌≡◌, ℕ, zero, suc, ◌+◌, ◌<◌, Bool, true, false, ◌&&◌, List, [], ◌∷◌, length, take, drop, refl, ap, sym, ◌∙◌, arith, get_or}
+use Rattle.std.specs.List.{list_all}
+use Rattle.std.proofs.lemmas.List.{take_all}
+use Rattle.std.proofs.lemmas.List.Folds.{list_all_at, list_all_more}
+
+pub both : (a b : Bool) → a ≡ true → b ≡ true → (a && b) ≡ true
+both true b p q = q
+both false b p q = cc
+
+pub and_first : (a b : Bool) → (a && b) ≡ true → a ≡ true
+and_first true b e = refl
+and_first false b e = cc
+
+pub and_second : (a b : Bool) → (a && b) ≡ true → b ≡ true
+and_second true b e = e
+and_second false b e = cc
+
+pub all_at : {A : Type 0} (p : A → Bool) → (xs : List A) (i : ℕ) (d : A) → list_all p xs ≡ true → i < length xs → p (get_or xs i d) ≡ true
+all_at p [] i d e h = absurd (omega arith)
+all_at p (x ∷ xs) zero d e h = and_first (p x) (list_all p xs) e
+all_at p (x ∷ xs) (suc i) d e h = all_at p xs i d (and_second (p x) (list_all p xs) e) (omega arith)
+
+all_dropped : {A : Type 0} (p : A → Bool) → (n : ℕ) (xs : List A) → list_all p xs ≡ true → list_all p (drop n xs) ≡ true
+all_dropped p zero xs e = e
+all_dropped p (suc n) [] e = e
+all_dropped p (suc n) (x ∷ xs) e = all_dropped p n xs (and_second (p x) (list_all p xs) e)
+
+all_taken : {A : Type 0} (p : A → Bool) → (n : ℕ) (xs : List A) → list_all p xs ≡ true → list_all p (take n xs) ≡ true
+all_taken p zero xs e = refl
+all_taken p (suc n) [] e = e
+all_taken p (suc n) (x ∷ xs) e =
+    both (p x) (list_all p (take n xs)) (and_first (p x) (list_all p xs) e) (all_taken p n xs (and_second (p x) (list_all p xs) e))
+
+pub all_part : {A : Type 0} (p : A → Bool) → (xs : List A) (off len : ℕ) → list_all p xs ≡ true → list_all p (take len (drop off xs)) ≡ true
+all_part p xs off len e = all_taken p len (drop off xs) (all_dropped p off xs e)
+
+-- one more element
+pub all_more : {A : Type 0} (p : A → Bool) → (xs : List A) (i : ℕ) (d : A) → list_all p (take i xs) ≡ true → i < length xs → p (get_or xs i d) ≡ true → list_all p (take (i + 1) xs) ≡ true
+all_more p xs i d e h here = list_all_more p xs i d h ∙ both (list_all p (take i xs)) (p (get_or xs i d)) e here
+
+-- all of them
+pub all_of_them : {A : Type 0} (p : A → Bool) → (xs : List A) (n : ℕ) → list_all p (take n xs) ≡ true → n ≡ length xs → list_all p xs ≡ true
+all_of_them p xs n e h = sym (ap (list_all p) (take_all n xs (omega arith))) ∙ e
+
+-- one that fails
+pub none_at : {A : Type 0} (p : A → Bool) → (xs : List A) (i : ℕ) (d : A) → i < length xs → p (get_or xs i d) ≡ false → list_all p xs ≡ false
+none_at p xs i d h here = list_all_at p xs i d h here

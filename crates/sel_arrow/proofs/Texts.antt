@@ -1,0 +1,42 @@
+-- Rows that are texts.
+use Rattle.std.proofs.Common.{◌≡◌, ℕ, ◌+◌, ◌<◌, Bool, true, false, List, length, take, drop, refl, sym, ◌∙◌, ap, get_or}
+use Rattle.std.specs.Prelude.{IsTrue}
+use Rattle.std.specs.Str.{IsUtf8, is_utf8}
+use Rattle.std.proofs.lemmas.Str.{IsUtf8-from_is_utf8, is_utf8-from_IsUtf8}
+use Rattle.sel_arrow.specs.Texts.{all_text, is_text}
+use Rattle.sel_arrow.specs.Value.{Value, Null, Bytes}
+use Rattle.sel_arrow.proofs.Lists.{all_at, all_more, all_of_them, all_part, none_at}
+
+-- ---- the test of bytes
+
+pub utf8_passes : (bytes : List ℕ) → IsUtf8 bytes → is_utf8 bytes ≡ true
+utf8_passes bytes valid = is_utf8-from_IsUtf8 bytes valid
+
+pub other_fails : (bytes : List ℕ) → ¬ (IsUtf8 bytes) → is_utf8 bytes ≡ false
+other_fails bytes broken = decided (is_utf8 bytes) refl
+  where
+    decided : (b : Bool) → is_utf8 bytes ≡ b → is_utf8 bytes ≡ false
+    decided true e = absurd (broken (IsUtf8-from_is_utf8 bytes e))
+    decided false e = e
+
+pub ruleset utf8_tests = (utf8_passes, other_fails)
+
+-- ---- the test of rows
+
+pub part_text : (rows : List Value) (off len : ℕ) → IsTrue (all_text rows) → IsTrue (all_text (take len (drop off rows)))
+part_text rows off len texts = all_part is_text rows off len texts
+
+-- a row of texts that is bytes is UTF-8
+pub utf8_row : (rows : List Value) (i : ℕ) (bytes : List ℕ) → Bytes bytes ≡ get_or rows i Null → IsTrue (all_text rows) → i < length rows → IsUtf8 bytes
+utf8_row rows i bytes is texts h = IsUtf8-from_is_utf8 bytes (ap is_text is ∙ all_at is_text rows i Null texts h)
+
+pub ruleset text_columns = (part_text, utf8_row)
+
+pub more_texts : (rows : List Value) (i : ℕ) → IsTrue (all_text (take i rows)) → i < length rows → IsTrue (is_text (get_or rows i Null)) → IsTrue (all_text (take (i + 1) rows))
+more_texts rows i texts h here = all_more is_text rows i Null texts h here
+
+pub no_text : (rows : List Value) (i : ℕ) → i < length rows → is_text (get_or rows i Null) ≡ false → all_text rows ≡ false
+no_text rows i h here = none_at is_text rows i Null h here
+
+pub all_texts : (rows : List Value) (n : ℕ) → IsTrue (all_text (take n rows)) → n ≡ length rows → all_text rows ≡ true
+all_texts rows n texts h = all_of_them is_text rows n texts h

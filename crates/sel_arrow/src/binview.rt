@@ -1,0 +1,280 @@
+//! A column of bytes that views name.
+
+ghost use Rattle.std.specs.Prelude.{◌≡◌, ◌≤◌, ◌<◌, ◌+◌, length, slice_index_or, None, IfOk, IfErr, IsTrue};
+ghost use Rattle.std.specs.Option.{option_copied, option_map};
+ghost use Rattle.std.specs.Str.{is_utf8};
+ghost use Rattle.sel_bits.specs.Faults.{IsFault};
+ghost use Rattle.sel_arrow.specs.Makers.{binview_fault, view_fault, views_fault};
+ghost use Rattle.sel_arrow.specs.Masked.{Covers, bytes_value};
+ghost use Rattle.sel_arrow.specs.Texts.{all_text, is_text};
+ghost use Rattle.sel_arrow.specs.Value.{Null};
+ghost use Rattle.sel_arrow.specs.Views.{all_placed, inline_space, is_placed, view_bytes, view_rows};
+
+use crate::array::Array;
+use crate::array_ref::ArrayRef;
+use crate::column::Column;
+use crate::datatype::ArrowDataType;
+use crate::utf8view::Utf8ViewArray;
+use crate::validity::{MOST_ROWS, clone_validity, has_other_length, is_valid_at, sliced_validity};
+use crate::view::{INLINE_BYTES, View, read_word};
+use sel_bits::bitmap::Bitmap;
+use sel_bits::buffer::Buffer;
+use sel_bits::faults::{MakeError, Malformed, PolarsError, PolarsResult};
+use std::alloc::Global;
+use std::str;
+
+/// The most data buffers that a column can have.
+pub const MOST_BUFFERS: usize = 4_294_967_295;
+
+/// Views, each in range of the data buffers with the right prefix, under a validity.
+#[derive(Drop)]
+pub struct BinaryViewArray {
+    pub views: Buffer<View>,
+    pub buffers: Buffer<Buffer<u8>>,
+    pub validity: Option<Bitmap>,
+    pub ghost rows_fit: { length views ≤ 4294967295 },
+    pub ghost buffers_fit: { length buffers ≤ 4294967295 },
+    pub ghost validity_fits: { Covers validity (length views) },
+    pub ghost placed: { IsTrue (all_placed buffers views) },
+}
+
+#[tactic(auto, using(crate::proofs::ViewRows::view_columns))]
+impl BinaryViewArray {
+    ghost use Rattle.sel_arrow.specs.Columns.{binview_rows, utf8view_rows};
+
+    /// The column of these views. Refused are more rows or more data buffers than 4,294,967,295, a validity of
+    /// another length, and then, view by view and beneath nulls too, one out of range or with another prefix.
+    pub fn try_new(
+        views: Buffer<View>,
+        buffers: Buffer<Buffer<u8>>,
+        validity: Option<Bitmap>,
+    ) -> Result<BinaryViewArray, MakeError>
+        ensures views { IfOk result (λ column. column.views ≡ views) }
+        ensures buffers { IfOk result (λ column. column.buffers ≡ buffers) }
+        ensures validity { IfOk result (λ column. column.validity ≡ validity) }
+        ensures accepted { IfOk result (λ _. binview_fault views buffers validity ≡ None) }
+        ensures refused { IfErr result (IsFault (binview_fault views buffers validity)) }
+    {
+        if views.len() > MOST_ROWS {
+            return Err(MakeError::Malformed(Malformed::TooManyRows));
+        }
+        if buffers.len() > MOST_BUFFERS {
+            return Err(MakeError::Malformed(Malformed::TooManyBuffers));
+        }
+        if has_other_length(&validity, views.len()) {
+            return Err(MakeError::Malformed(Malformed::ValidityLength));
+        }
+        if let Some(fault) = fault_of_views(buffers.as_slice(), views.as_slice()) {
+            return Err(MakeError::Malformed(fault));
+        }
+        Ok(BinaryViewArray {
+            views,
+            buffers,
+            validity,
+        })
+    }
+
+    /// The views, those beneath nulls too.
+    pub fn views(&self) -> &Buffer<View>
+        ensures { result.now ≡ self.now.views }
+    {
+        &self.views
+    }
+
+    /// The data buffers.
+    pub fn data_buffers(&self) -> &Buffer<Buffer<u8>>
+        ensures { result.now ≡ self.now.buffers }
+    {
+        &self.buffers
+    }
+
+    /// The bytes of row `i`: none where it is null. Refuses only for want of memory.
+    pub fn get(&self, alloc: Global, i: usize) -> PolarsResult<Option<Vec<u8>>>
+        requires { i < length (binview_rows self.now) }
+        ensures row { IfOk result (λ row. bytes_value (option_map (λ bytes. bytes.items) row) ≡ slice_index_or (binview_rows self.now) i Null) }
+        ensures refusal { IfErr result (λ fault. fault ≡ PolarsError.OutOfMemory) }
+    {
+        if is_valid_at(&self.validity, i) {
+            let view = self.views.as_slice()[i];
+            let space = view.inline_space();
+            let bytes = bytes_at(self.buffers.as_slice(), view, &space);
+            Ok(Some(Vec::from_slice(alloc, bytes)?))
+        } else {
+            Ok(None)
+        }
+    }
+
+    /// Whether each valid row is UTF-8.
+    pub fn is_utf8(&self) -> bool
+        ensures { result ≡ all_text (binview_rows self.now) }
+    {
+        for i in 0..self.views.len() {
+            if !self.is_row_utf8(i) {
+                return false;
+            }
+        }
+        true
+    }
+
+    /// Whether row `i` is null or UTF-8.
+    fn is_row_utf8(&self, i: usize) -> bool
+        requires { i < length (binview_rows self.now) }
+        ensures { result ≡ is_text (slice_index_or (binview_rows self.now) i Null) }
+    {
+        if is_valid_at(&self.validity, i) {
+            let view = self.views.as_slice()[i];
+            let space = view.inline_space();
+            is_bytes_utf8(bytes_at(self.buffers.as_slice(), view, &space))
+        } else {
+            true
+        }
+    }
+
+    /// The same rows as texts. Refuses only for want of memory.
+    pub fn to_utf8view_unchecked(&self, alloc: Global) -> PolarsResult<Utf8ViewArray>
+        requires { IsTrue (all_text (binview_rows self.now)) }
+        ensures rows { IfOk result (λ column. utf8view_rows column ≡ binview_rows self.now) }
+        ensures refusal { IfErr result (λ fault. fault ≡ PolarsError.OutOfMemory) }
+    {
+        let bytes = self.try_clone(alloc)?;
+        Ok(Utf8ViewArray { bytes })
+    }
+
+    /// The same views under another validity of the same length.
+    pub fn with_validity(self, validity: Option<Bitmap>) -> BinaryViewArray
+        requires { Covers validity (length (binview_rows self)) }
+        ensures rows { binview_rows result ≡ view_rows self.views self.buffers validity }
+        ensures validity { result.validity ≡ validity }
+    {
+        let BinaryViewArray {
+            views,
+            buffers,
+            validity: _,
+        } = self;
+        BinaryViewArray {
+            views,
+            buffers,
+            validity,
+        }
+    }
+}
+
+#[tactic(auto, using(crate::proofs::ViewRows::view_columns))]
+impl Array for BinaryViewArray {
+    ghost use Rattle.sel_arrow.specs.Columns.{binview_rows};
+    ghost use Rattle.sel_arrow.specs.Shape.{of_binary_view};
+
+    ghost rows = { binview_rows };
+
+    ghost shape = { λ _. of_binary_view };
+
+    fn len(&self) -> usize {
+        self.views.len()
+    }
+
+    fn validity(&self) -> Option<&Bitmap> {
+        self.validity.as_ref()
+    }
+
+    fn has_dtype(&self, dtype: &ArrowDataType) -> bool {
+        matches!(dtype, ArrowDataType::BinaryView)
+    }
+
+    fn same_dtype(&self, _other: &BinaryViewArray) -> bool {
+        true
+    }
+
+    fn into_ref(self) -> ArrayRef {
+        ArrayRef {
+            column: Column::BinaryView(self),
+        }
+    }
+
+    fn dtype(&self, _alloc: Global) -> PolarsResult<ArrowDataType> {
+        Ok(ArrowDataType::BinaryView)
+    }
+
+    fn sliced(&self, _alloc: Global, off: usize, len: usize) -> PolarsResult<BinaryViewArray> {
+        let views = self.views.try_clone()?.sliced(off, len);
+        let buffers = self.buffers.try_clone()?;
+        let validity = sliced_validity(&self.validity, off, len)?;
+        Ok(BinaryViewArray {
+            views,
+            buffers,
+            validity,
+        })
+    }
+
+    fn try_clone(&self, _alloc: Global) -> PolarsResult<BinaryViewArray> {
+        let views = self.views.try_clone()?;
+        let buffers = self.buffers.try_clone()?;
+        let validity = clone_validity(&self.validity)?;
+        Ok(BinaryViewArray {
+            views,
+            buffers,
+            validity,
+        })
+    }
+}
+
+/// The first rule that a view breaks, view by view.
+fn fault_of_views(buffers: &[Buffer<u8>], views: &[View]) -> Option<Malformed>
+    ensures { result ≡ views_fault buffers.now views.now }
+{
+    for view in views {
+        let fault = fault_of_view(buffers, *view);
+        if fault.is_some() {
+            return fault;
+        }
+    }
+    None
+}
+
+/// The first rule that one view breaks.
+fn fault_of_view(buffers: &[Buffer<u8>], view: View) -> Option<Malformed>
+    ensures { result ≡ view_fault buffers.now view }
+{
+    if view.length <= INLINE_BYTES {
+        return None;
+    }
+    let place = view.buffer_idx as usize;
+    if place >= buffers.len() {
+        return Some(Malformed::ViewRange);
+    }
+    let bytes = buffers[place].as_slice();
+    let start = view.offset as usize;
+    let end = start + view.length as usize;
+    if end > bytes.len() {
+        return Some(Malformed::ViewRange);
+    }
+    if read_word(&bytes[start..end], 0) != view.prefix {
+        return Some(Malformed::ViewPrefix);
+    }
+    None
+}
+
+/// The bytes that a view names; `space` is what lies in it.
+#[tactic(auto, using(crate::proofs::ViewRows::placing))]
+fn bytes_at<'a>(buffers: &'a [Buffer<u8>], view: View, space: &'a [u8; 12]) -> &'a [u8]
+    requires placed { IsTrue (is_placed buffers.now view) }
+    requires space { space.now ≡ inline_space view }
+    ensures { result.now ≡ view_bytes buffers.now view }
+{
+    if view.length <= INLINE_BYTES {
+        return &space[..view.length as usize];
+    }
+    let bytes = buffers[view.buffer_idx as usize].as_slice();
+    let start = view.offset as usize;
+    &bytes[start..start + view.length as usize]
+}
+
+/// Whether the bytes are UTF-8.
+#[tactic(auto, using(crate::proofs::Texts::utf8_tests))]
+fn is_bytes_utf8(bytes: &[u8]) -> bool
+    ensures { result ≡ is_utf8 bytes.now }
+{
+    match str::from_utf8(bytes) {
+        Ok(_) => true,
+        Err(_) => false,
+    }
+}
