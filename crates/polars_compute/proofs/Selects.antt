@@ -1,15 +1,21 @@
 -- What a mask keeps.
-use Rattle.std.proofs.Common.{◌≡◌, ℕ, zero, suc, ◌+◌, ◌≤◌, ◌<◌, ℤ, Bool, true, false, List, [], ◌∷◌, ◌++◌, length, map, drop, get_or, replicate, Option, Some, None, refl, ap, sym, ◌∙◌, arith, drop-cons, add-one, append_assoc, cond, ◌&&◌}
-use Rattle.std.specs.Prelude.{if◌then◌else◌, count_by}
+use Rattle.std.proofs.Common.{◌≡◌, ℕ, zero, suc, ◌+◌, ◌≤◌, ◌<◌, ℤ, Bool, true, false, List, [], ◌∷◌, ◌++◌, length, map, drop, get_or, replicate, Option, Some, None, refl, ap, sym, ◌∙◌, arith, ◌-◌, take, ⊎_elim, drop-cons, add-one, append_assoc, cond, ◌&&◌}
+use Rattle.std.specs.Prelude.{if◌then◌else◌, count_by, reverse}
+use Rattle.std.proofs.lemmas.Bool.{cases_lt}
+use Rattle.std.specs.List.{list_all}
 use Rattle.std.specs.Option.{option_map}
-use Rattle.std.proofs.lemmas.List.{length-map, length-replicate, drop_all, append-nil, get_or_default}
+use Rattle.std.proofs.lemmas.List.{length-map, length-replicate, drop_all, append-nil, get_or_default, get_or_past, get_or-reverse, length-reverse, length-drop, length-take}
 use Rattle.std.proofs.lemmas.List.Sums.{sum_by-cons, count_by-le-length}
-use Rattle.sel_bits.specs.Bits.{Bits, zip_with}
+use Rattle.sel_bits.specs.Bits.{Bits, zip_with, leading_zeros, trailing_zeros}
+use Rattle.sel_bits.proofs.Zeros.{leading_le}
 use Rattle.sel_arrow.specs.Value.{Value, Null, Truth, Number}
 use Rattle.sel_arrow.specs.Masked.{hidden, masked, number_rows, truth_rows, Covers}
 use Rattle.sel_arrow.specs.Columns.{null_rows}
+use Rattle.sel_arrow.specs.Views.{view_rows, view_value}
+use Rattle.sel_arrow.specs.declared.view.View.{View}
 use Rattle.sel_arrow.specs.declared.null.NullArray.{NullArray}
 use Rattle.sel_arrow.proofs.Rows.{length-number_rows, length-truth_rows}
+use Rattle.sel_arrow.proofs.ViewRows.{length-view_rows}
 use Rattle.polars_compute.specs.Select.{select, in_force, is_true}
 
 -- ---- one step of a selection
@@ -70,6 +76,13 @@ as_many_kept (x ∷ xs) (y ∷ ys) (false ∷ ms) h = as_many_kept xs ys ms (ome
 
 pub ruleset select_steps = (select_kept, select_dropped, length-select)
 
+both : (a b : Bool) → (a && b) ≡ true → (a ≡ true) × (b ≡ true)
+both true b e = (refl, e)
+both false b e = cc
+
+both_true : (a b : Bool) → a ≡ true → b ≡ true → (a && b) ≡ true
+both_true a b e f = rw (e, f) refl
+
 -- ---- rows under a validity
 
 select-map : {A B : Type 0} (f : A → B) → (xs : List A) (ms : List Bool) → select (map f xs) ms ≡ map f (select xs ms)
@@ -106,18 +119,116 @@ kept_covers (Some validity) (Some kept) xs ms n covers is count = λ v there.
     let here : kept ≡ v = cc in
     ap (λ (b : Bits). length b.bits) (sym here) ∙ ap (λ bs. length bs) same ∙ as_many_kept validity.bits xs ms (covers validity refl) ∙ sym count
 
-pub kept_numbers : {T : Type 0} (number : T → ℤ) → (validity kept : Option Bits) (xs ys : List T) (ms : List Bool) → Covers validity (length xs)
-    → option_map (λ v. v.bits) kept ≡ option_map (λ v. select v.bits ms) validity → ys ≡ select xs ms → number_rows number ys kept ≡ select (number_rows number xs validity) ms
-kept_numbers {T} number validity kept xs ys ms covers is made =
-    let f : T → Value = λ x. Number (number x) in
+-- a column of one kind keeps what is kept of its values and its validity
+pub kept_rows : {A : Type 0} (f : A → Value) → (validity kept : Option Bits) (xs ys : List A) (ms : List Bool) → Covers validity (length xs)
+    → option_map (λ v. v.bits) kept ≡ option_map (λ v. select v.bits ms) validity → ys ≡ select xs ms → masked kept (map f ys) ≡ select (masked validity (map f xs)) ms
+kept_rows f validity kept xs ys ms covers is made =
     ap (λ l. masked kept (map f l)) made ∙ ap (masked kept) (sym (select-map f xs ms))
     ∙ select-masked validity kept (map f xs) ms (λ v there. rw length-map (covers v there)) is
 
+pub kept_numbers : {T : Type 0} (number : T → ℤ) → (validity kept : Option Bits) (xs ys : List T) (ms : List Bool) → Covers validity (length xs)
+    → option_map (λ v. v.bits) kept ≡ option_map (λ v. select v.bits ms) validity → ys ≡ select xs ms → number_rows number ys kept ≡ select (number_rows number xs validity) ms
+kept_numbers number validity kept xs ys ms covers is made = kept_rows (λ x. Number (number x)) validity kept xs ys ms covers is made
+
 pub kept_truths : (validity kept : Option Bits) (xs ys : List Bool) (ms : List Bool) → Covers validity (length xs)
     → option_map (λ v. v.bits) kept ≡ option_map (λ v. select v.bits ms) validity → ys ≡ select xs ms → truth_rows ys kept ≡ select (truth_rows xs validity) ms
-kept_truths validity kept xs ys ms covers is made =
-    ap (λ l. masked kept (map Truth l)) made ∙ ap (masked kept) (sym (select-map Truth xs ms))
-    ∙ select-masked validity kept (map Truth xs) ms (λ v there. rw length-map (covers v there)) is
+kept_truths validity kept xs ys ms covers is made = kept_rows Truth validity kept xs ys ms covers is made
+
+pub kept_view_rows : (buffers : List (List ℕ)) (validity kept : Option Bits) (xs ys : List View) (ms : List Bool) → Covers validity (length xs)
+    → option_map (λ v. v.bits) kept ≡ option_map (λ v. select v.bits ms) validity → ys ≡ select xs ms → view_rows ys buffers kept ≡ select (view_rows xs buffers validity) ms
+kept_view_rows buffers validity kept xs ys ms covers is made = kept_rows (view_value buffers) validity kept xs ys ms covers is made
+
+-- what each element passes, each one that is kept passes
+pub passed_kept : {A : Type 0} (p : A → Bool) → (xs : List A) (ms : List Bool) → list_all p xs ≡ true → list_all p (select xs ms) ≡ true
+passed_kept p [] ms all = refl
+passed_kept p (x ∷ xs) [] all = refl
+passed_kept p (x ∷ xs) (true ∷ ms) all = let parts = both (p x) (list_all p xs) all in both_true (p x) (list_all p (select xs ms)) parts.0 (passed_kept p xs ms parts.1)
+passed_kept p (x ∷ xs) (false ∷ ms) all = passed_kept p xs ms (both (p x) (list_all p xs) all).1
+
+-- ---- rows under false bits at the ends
+
+-- the rows under the first bits, which are false, are not kept
+pub front_dropped : {A : Type 0} → (xs : List A) (ms : List Bool) → length xs ≡ length ms → select (drop (leading_zeros ms) xs) (drop (leading_zeros ms) ms) ≡ select xs ms
+front_dropped [] [] h = refl
+front_dropped [] (m ∷ ms) h = absurd (omega arith)
+front_dropped (x ∷ xs) [] h = absurd (omega arith)
+front_dropped (x ∷ xs) (true ∷ ms) h = refl
+front_dropped (x ∷ xs) (false ∷ ms) h = rw add-one (front_dropped xs ms (omega arith))
+
+false_front : (ms : List Bool) (i : ℕ) → i < leading_zeros ms → get_or ms i false ≡ false
+false_front [] i lt = refl
+false_front (true ∷ ms) i lt = absurd (omega arith)
+false_front (false ∷ ms) zero lt = refl
+false_front (false ∷ ms) (suc i) lt = false_front ms i (omega arith)
+
+-- the bits from n on are false
+abbrev EndsFalse : List Bool → ℕ → Type 0
+EndsFalse ms n = (i : ℕ) → n ≤ i → get_or ms i false ≡ false
+
+none_kept : {A : Type 0} → (xs : List A) (ms : List Bool) → EndsFalse ms 0 → select xs ms ≡ []
+none_kept [] ms ends = refl
+none_kept (x ∷ xs) [] ends = refl
+none_kept (x ∷ xs) (true ∷ ms) ends = let first = ends 0 (omega arith) in cc
+none_kept (x ∷ xs) (false ∷ ms) ends = none_kept xs ms (λ i le. ends (suc i) (omega arith))
+
+front_kept : {A : Type 0} → (xs : List A) (ms : List Bool) (n : ℕ) → EndsFalse ms n → select (take n xs) (take n ms) ≡ select xs ms
+front_kept xs ms zero ends = sym (none_kept xs ms ends)
+front_kept [] ms (suc n) ends = refl
+front_kept (x ∷ xs) [] (suc n) ends = refl
+front_kept (x ∷ xs) (true ∷ ms) (suc n) ends = ap (λ l. x ∷ l) (front_kept xs ms n (λ i le. ends (suc i) (omega arith)))
+front_kept (x ∷ xs) (false ∷ ms) (suc n) ends = front_kept xs ms n (λ i le. ends (suc i) (omega arith))
+
+false_end : (ms : List Bool) → EndsFalse ms (length ms - trailing_zeros ms)
+false_end ms i le =
+    ⊎_elim
+    (λ inside.
+    let back : length ms - 1 - (length ms - 1 - i) ≡ i = omega arith in
+    let turned : get_or (reverse ms) (length ms - 1 - i) false ≡ get_or ms i false = get_or-reverse ms (length ms - 1 - i) false (omega arith) ∙ ap (λ k. get_or ms k false) back in
+    sym turned ∙ false_front (reverse ms) (length ms - 1 - i) (omega arith))
+    (λ past. get_or_past ms i false past)
+    (cases_lt i (length ms))
+
+-- nor are those under the last
+pub end_dropped : {A : Type 0} → (xs : List A) (ms : List Bool) → select (take (length ms - trailing_zeros ms) xs) (take (length ms - trailing_zeros ms) ms) ≡ select xs ms
+end_dropped xs ms = front_kept xs ms (length ms - trailing_zeros ms) (false_end ms)
+
+-- a mask without the false bits at its ends, and the rows under it
+pub record IsTrimmed (ms first rest : List Bool) (leading trailing count : ℕ) : Type 0 where
+  pub leads : leading ≡ leading_zeros ms
+  pub first-is : first ≡ drop leading ms
+  pub trails : trailing ≡ trailing_zeros first
+  pub rest-is : rest ≡ take (length first - trailing) first
+  pub counts : count ≡ length rest
+
+pub trimmed_within : (ms first rest : List Bool) (leading trailing count : ℕ) → IsTrimmed ms first rest leading trailing count → leading + count ≤ length ms
+trimmed_within ms first rest leading trailing count t =
+    let front = leading_le ms in
+    let parts = ap (λ (l : List Bool). length l) t.first-is in
+    let ends = ap (λ (l : List Bool). length l) t.rest-is in
+    let leads = t.leads in
+    let counts = t.counts in
+    omega (arith, front, parts, ends, leads, counts, length-drop leading ms, length-take (length first - trailing) first)
+
+pub trimmed_kept : {A : Type 0} → (xs : List A) (ms first rest : List Bool) (leading trailing count : ℕ) → length xs ≡ length ms → IsTrimmed ms first rest leading trailing count
+    → select (take count (drop leading xs)) rest ≡ select xs ms
+trimmed_kept {A} xs ms first rest leading trailing count long t =
+    let ends = ap (λ (l : List Bool). length l) t.rest-is in
+    let counts = t.counts in
+    let trails = t.trails in
+    let count-is : count ≡ length first - trailing_zeros first = omega (arith, ends, counts, trails, length-take (length first - trailing) first) in
+    let rest-is : rest ≡ take (length first - trailing_zeros first) first = t.rest-is ∙ ap (λ n. take (length first - n) first) trails in
+    (λ i. select (take (count-is i) (drop leading xs)) (rest-is i))
+    ∙ end_dropped (drop leading xs) first
+    ∙ ap (select (drop leading xs)) (t.first-is ∙ ap (λ n. drop n ms) t.leads)
+    ∙ ap (λ n. select (drop n xs) (drop (leading_zeros ms) ms)) t.leads
+    ∙ front_dropped xs ms long
+
+-- where each row is kept, they all are
+pub all_kept : {A : Type 0} → (xs : List A) (ms : List Bool) → length xs ≡ length ms → count_by (λ b. b) ms ≡ length ms → select xs ms ≡ xs
+all_kept [] ms h count = refl
+all_kept (x ∷ xs) [] h count = absurd (omega arith)
+all_kept (x ∷ xs) (true ∷ ms) h count = ap (λ l. x ∷ l) (all_kept xs ms (omega arith) (omega (arith, count, sum_by-cons (λ b. cond b 1 0) true ms)))
+all_kept (x ∷ xs) (false ∷ ms) h count = absurd (omega (arith, count, sum_by-cons (λ b. cond b 1 0) false ms, count_by-le-length (λ (b : Bool). b) ms))
 
 -- ---- nulls
 
@@ -140,6 +251,10 @@ pub few_nulls : (n : ℕ) (ms : List Bool) → n ≤ 4294967295 → length (repl
 few_nulls n ms few long = omega (arith, count_by-le-length (λ (b : Bool). b) ms, length-replicate n Null, long)
 
 pub ruleset kept_nulls = (kept_null_rows, few_nulls, length-replicate)
+
+pub ruleset kept_views = (kept_view_rows, kept_covers, few_kept, passed_kept, length-view_rows)
+
+pub ruleset kept_texts = (passed_kept)
 
 pub ruleset kept_columns = (kept_numbers, kept_truths, kept_covers, few_kept, length-number_rows, length-truth_rows)
 

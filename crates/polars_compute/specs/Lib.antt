@@ -3,3 +3,4 @@ pub mod Growing
 pub mod Pick
 pub mod Scalar
 pub mod Select
+pub mod Trim

@@ -1,9 +1,10 @@
 //! The rows of a column that a mask keeps.
 
-ghost use Rattle.std.specs.Prelude.{◌≡◌, length, IfOk, IfErr};
-ghost use Rattle.sel_arrow.specs.Columns.{null_rows, boolean_rows, primitive_rows};
+ghost use Rattle.std.specs.Prelude.{◌≡◌, ◌≤◌, ◌+◌, length, IfOk, IfErr};
+ghost use Rattle.sel_arrow.specs.Columns.{null_rows, boolean_rows, primitive_rows, binary_rows, binview_rows, utf8view_rows};
 ghost use Rattle.sel_arrow.specs.Rows.{rows, type_of};
 ghost use Rattle.polars_compute.specs.Select.{select, in_force};
+ghost use Rattle.polars_compute.specs.Trim.{KeepsAll};
 
 pub mod boolean;
 pub mod primitive;
@@ -14,10 +15,13 @@ pub use boolean::filter_boolean_kernel;
 use primitive::filter_values_and_validity;
 use sel_arrow::array::Array;
 use sel_arrow::array_ref::ArrayRef;
+use sel_arrow::binary::BinaryArray;
+use sel_arrow::binview::BinaryViewArray;
 use sel_arrow::boolean::BooleanArray;
 use sel_arrow::column::Column;
 use sel_arrow::null::NullArray;
 use sel_arrow::primitive::{ArrowPrimitive, PrimitiveArray};
+use sel_arrow::utf8view::Utf8ViewArray;
 use sel_bits::bitmap::Bitmap;
 use sel_bits::buffer::Buffer;
 use sel_bits::faults::{PolarsError, PolarsResult};
@@ -36,17 +40,67 @@ pub fn filter(alloc: Global, array: &ArrayRef, mask: &BooleanArray) -> PolarsRes
 }
 
 /// The rows where the bit is true, in order. Refuses only for want of memory.
+///
+/// The rows under leading and trailing false bits are dropped first, and what is left is answered at once where all of it is kept.
 pub fn filter_with_bitmap(alloc: Global, array: &ArrayRef, mask: &Bitmap) -> PolarsResult<ArrayRef>
     requires { length (rows array.now.column) ≡ length mask.now.bits }
     ensures rows { IfOk result (λ kept. rows kept.column ≡ select (rows array.now.column) mask.now.bits) }
     ensures dtype { IfOk result (λ kept. type_of kept.column ≡ type_of array.now.column) }
     ensures refusal { IfErr result (λ fault. fault ≡ PolarsError.OutOfMemory) }
 {
-    match array.as_column() {
+    let (leading, rest) = trimmed(mask)?;
+    let array = array.sliced(alloc, leading, rest.len())?;
+    filter_trimmed(alloc, array, &rest)
+}
+
+/// A mask without the false bits at its ends, and how many of them were at the front.
+fn trimmed(mask: &Bitmap) -> PolarsResult<(usize, Bitmap)>
+    ensures within { IfOk result (λ part. part.0 + length part.1.bits ≤ length mask.now.bits) }
+    ensures kept { IfOk result (λ part. KeepsAll mask.now.bits part.0 part.1.bits) }
+    ensures refusal { IfErr result (λ fault. fault ≡ PolarsError.OutOfMemory) }
+{
+    let mut rest = mask.try_clone()?;
+    let leading = rest.take_leading_zeros();
+    let _ = rest.take_trailing_zeros();
+    Ok((leading, rest))
+}
+
+/// The rows where the bit is true, answered at once where each of them is.
+fn filter_trimmed(alloc: Global, array: ArrayRef, mask: &Bitmap) -> PolarsResult<ArrayRef>
+    requires { length (rows array.column) ≡ length mask.now.bits }
+    ensures rows { IfOk result (λ kept. rows kept.column ≡ select (rows array.column) mask.now.bits) }
+    ensures dtype { IfOk result (λ kept. type_of kept.column ≡ type_of array.column) }
+    ensures refusal { IfErr result (λ fault. fault ≡ PolarsError.OutOfMemory) }
+{
+    if mask.set_bits() == mask.len() {
+        return Ok(array);
+    }
+    filter_column(alloc, array.as_column(), mask)
+}
+
+/// The rows of a column where the bit is true.
+fn filter_column(alloc: Global, column: &Column, mask: &Bitmap) -> PolarsResult<ArrayRef>
+    requires { length (rows column.now) ≡ length mask.now.bits }
+    ensures rows { IfOk result (λ kept. rows kept.column ≡ select (rows column.now) mask.now.bits) }
+    ensures dtype { IfOk result (λ kept. type_of kept.column ≡ type_of column.now) }
+    ensures refusal { IfErr result (λ fault. fault ≡ PolarsError.OutOfMemory) }
+{
+    match column {
         Column::Null(column) => Ok(filter_null(column, mask).into_ref()),
         Column::Boolean(column) => Ok(filter_boolean(alloc, column, mask)?.into_ref()),
+        Column::Int8(column) => Ok(filter_primitive(alloc, column, mask)?.into_ref()),
+        Column::Int16(column) => Ok(filter_primitive(alloc, column, mask)?.into_ref()),
+        Column::Int32(column) => Ok(filter_primitive(alloc, column, mask)?.into_ref()),
         Column::Int64(column) => Ok(filter_primitive(alloc, column, mask)?.into_ref()),
+        Column::Int128(column) => Ok(filter_primitive(alloc, column, mask)?.into_ref()),
+        Column::UInt8(column) => Ok(filter_primitive(alloc, column, mask)?.into_ref()),
+        Column::UInt16(column) => Ok(filter_primitive(alloc, column, mask)?.into_ref()),
         Column::UInt32(column) => Ok(filter_primitive(alloc, column, mask)?.into_ref()),
+        Column::UInt64(column) => Ok(filter_primitive(alloc, column, mask)?.into_ref()),
+        Column::UInt128(column) => Ok(filter_primitive(alloc, column, mask)?.into_ref()),
+        Column::LargeBinary(column) => Ok(filter_binary(alloc, column, mask)?.into_ref()),
+        Column::BinaryView(column) => Ok(filter_views(alloc, column, mask)?.into_ref()),
+        Column::Utf8View(column) => Ok(filter_texts(alloc, column, mask)?.into_ref()),
     }
 }
 
@@ -107,4 +161,57 @@ fn filter_primitive<T: ArrowPrimitive>(
     )?;
     let values = Buffer::from_vec(values)?;
     Ok(PrimitiveArray { values, validity })
+}
+
+/// The bytes whose bit is true.
+fn filter_binary(
+    alloc: Global,
+    array: &BinaryArray<i64>,
+    mask: &Bitmap,
+) -> PolarsResult<BinaryArray<i64>>
+    requires { length (binary_rows array.now) ≡ length mask.now.bits }
+    ensures rows { IfOk result (λ kept. binary_rows kept ≡ select (binary_rows array.now) mask.now.bits) }
+    ensures refusal { IfErr result (λ fault. fault ≡ PolarsError.OutOfMemory) }
+{
+    let _ = alloc;
+    let _ = array;
+    let _ = mask;
+    Err(PolarsError::OutOfMemory)
+}
+
+/// The views whose bit is true, over the same data buffers.
+#[tactic(auto, using(crate::proofs::Selects::kept_views))]
+fn filter_views(
+    alloc: Global,
+    array: &BinaryViewArray,
+    mask: &Bitmap,
+) -> PolarsResult<BinaryViewArray>
+    requires { length (binview_rows array.now) ≡ length mask.now.bits }
+    ensures rows { IfOk result (λ kept. binview_rows kept ≡ select (binview_rows array.now) mask.now.bits) }
+    ensures refusal { IfErr result (λ fault. fault ≡ PolarsError.OutOfMemory) }
+{
+    let (views, validity) = filter_values_and_validity(
+        alloc,
+        array.views.as_slice(),
+        array.validity.as_ref(),
+        mask,
+    )?;
+    let views = Buffer::from_vec(views)?;
+    let buffers = array.buffers.try_clone()?;
+    Ok(BinaryViewArray {
+        views,
+        buffers,
+        validity,
+    })
+}
+
+/// The texts whose bit is true, by their views.
+#[tactic(auto, using(crate::proofs::Selects::kept_texts))]
+fn filter_texts(alloc: Global, array: &Utf8ViewArray, mask: &Bitmap) -> PolarsResult<Utf8ViewArray>
+    requires { length (utf8view_rows array.now) ≡ length mask.now.bits }
+    ensures rows { IfOk result (λ kept. utf8view_rows kept ≡ select (utf8view_rows array.now) mask.now.bits) }
+    ensures refusal { IfErr result (λ fault. fault ≡ PolarsError.OutOfMemory) }
+{
+    let bytes = filter_views(alloc, &array.bytes, mask)?;
+    Ok(Utf8ViewArray { bytes })
 }

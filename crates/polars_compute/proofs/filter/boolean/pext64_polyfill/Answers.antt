@@ -11,7 +11,7 @@ overflow_shl-packed c = below c
 
 pub overflow_add-packed : goal.overflow_add-packed
 overflow_add-packed c = record {
-  fits = packed_fits c.args.v c.args.m (c.loop-i.i + 1) _ (c.loop-i.place + 1) (omega arith) (packed_kept c.args.v c.args.m c.loop-i.i c.loop-i.packed c.loop-i.place c.loop-i-test.true c.loop-i.invariant c.if-m-i-eq1.true)
+  fits = packed_fits c.args.v c.args.m (c.loop-i.i + 1) _ (c.loop-i.place + 1) (omega arith) (packed_kept c.args.v c.args.m c.loop-i.i c.loop-i.packed c.loop-i.place c.loop-i-test.true c.loop-i.invariant c.if-m-i-eq1.true);
 }
 
 pub overflow_add-place : goal.overflow_add-place
