@@ -1,0 +1,13 @@
+//! What a kernel's refusal is to the program.
+ghost use Rattle.std.specs.Prelude.{◌≡◌};
+
+use sel_bits::faults::PolarsError;
+use std::alloc::AllocError;
+
+/// The refusal of a kernel that refuses only for want of memory.
+pub fn want_of_memory(fault: PolarsError) -> AllocError
+    requires { fault ≡ PolarsError.OutOfMemory }
+{
+    let _ = fault;
+    AllocError
+}
