@@ -95,7 +95,11 @@ fn run_over(alloc: Global, input: &[u8]) -> (Result<Done, RunError>, Vec<u8>) {
 }
 
 // A run over the two lines, into a writer that takes them so.
-fn run_into(alloc: Global, piece: usize, fault: Fault) -> (Result<Done, RunError>, u64, FakeWriter) {
+fn run_into(
+    alloc: Global,
+    piece: usize,
+    fault: Fault,
+) -> (Result<Done, RunError>, u64, FakeWriter) {
     let mut reader = Counted::new(TWO_LINES);
     let mut writer = Counted::new(FakeWriter::new(alloc, piece, fault));
     let result = run(alloc, &mut reader, &mut writer);
