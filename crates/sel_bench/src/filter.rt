@@ -11,11 +11,9 @@ ghost use Rattle.sel_bench.specs.Rows.{rows_of};
 use crate::columns::{parse_column, print_column};
 use crate::refusals::want_of_memory;
 use crate::rows::Rows;
-use crate::stand_ins::filter;
+use polars_compute::filter::filter;
 use sel_arrow::array::Array;
-use sel_arrow::array_ref::ArrayRef;
 use sel_arrow::boolean::BooleanArray;
-use sel_arrow::column::Column;
 use sel_arrow::primitive::PrimitiveArray;
 use sel_bits::faults::{PolarsError, PolarsResult};
 use std::alloc::{AllocError, Global};
@@ -71,6 +69,7 @@ fn filter_rows(
     Ok(Some(filter_column(alloc, column, &mask)?))
 }
 
+// The rows that a mask of the same length keeps.
 fn filter_column(
     alloc: Global,
     column: PrimitiveArray<i64>,
@@ -80,9 +79,7 @@ fn filter_column(
     ensures rows { IfOk result (λ kept. primitive_rows kept ≡ select (primitive_rows column) (in_force (boolean_rows mask.now))) }
     ensures refusal { IfErr result (λ fault. fault ≡ PolarsError.OutOfMemory) }
 {
-    let array = ArrayRef {
-        column: Column::Int64(column),
-    };
+    let array = column.into_ref();
     let kept = filter(alloc, &array, mask)?;
     match kept.into_primitive::<i64>() {
         Ok(kept) => Ok(kept),

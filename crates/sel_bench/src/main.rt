@@ -10,7 +10,6 @@ mod reading;
 mod refusals;
 mod rows;
 mod run;
-mod stand_ins;
 mod take;
 #[cfg(test)]
 mod tests;
