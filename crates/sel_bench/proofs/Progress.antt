@@ -1,5 +1,5 @@
 -- A run so far, and what one line more makes of it.
-use Rattle.std.proofs.Common.{Result, ◌≡◌, ℕ, suc, ◌+◌, ◌≤◌, ◌<◌, Bool, true, false, cond, List, [], ◌∷◌, ◌++◌, length, take, drop, Option, Some, None, Ok, Err, arith, refl, ap, sym, ◌∙◌, append_assoc, append-nil, length-append, inl, inr, ◌⊎◌}
+use Rattle.std.proofs.Common.{◌≡◌, ℕ, suc, ◌+◌, ◌≤◌, ◌<◌, Bool, true, false, cond, List, [], ◌∷◌, ◌++◌, length, take, drop, Option, Some, None, Ok, Err, arith, refl, ap, sym, ◌∙◌, append_assoc, append-nil, length-append, inl, inr, ◌⊎◌}
 use Rattle.std.specs.Prelude.{◌==◌, nat_le}
 use Rattle.std.specs.List.{All}
 use Rattle.std.specs.Io.{StartsWith}
@@ -15,7 +15,7 @@ use Rattle.sel_bench.specs.declared.run.Done.TheVariants.{End, BadLine}
 use Rattle.sel_bench.specs.declared.run.RunError.{RunError}
 use Rattle.sel_bench.specs.declared.run.RunError.TheVariants.{OutOfMemory, Input, Output}
 use Rattle.sel_bench.specs.Lines.{HasNoFeed, parts, lines_of_parts, but_last, lines, whole_lines}
-use Rattle.sel_bench.specs.Output.{output, answer_at, answers, first_bad, first_bad_from, output_from, bad_or, written_for}
+use Rattle.sel_bench.specs.Output.{answer_at, answers, first_bad, first_bad_from, output_from, bad_or, written_for}
 use Rattle.sel_bench.specs.Commands.{answer_of_line}
 use Rattle.sel_bench.specs.Step.{Step, piece, lines_in, IsReadTo}
 use Rattle.sel_bench.proofs.Steps.{none_some}

@@ -1,5 +1,5 @@
 -- Rows that are read and printed one by one.
-use Rattle.std.proofs.Common.{◌≡◌, ◌≢◌, ℕ, zero, suc, ◌+◌, ◌≤◌, ◌<◌, Bool, true, false, ℤ, List, [], ◌∷◌, ◌++◌, length, get_or, take, drop, map, Option, Some, None, arith, eqb-true, refl, ap, sym, ◌∙◌, Bor, append_assoc, add-one}
+use Rattle.std.proofs.Common.{◌≡◌, ◌≢◌, ℕ, zero, suc, ◌+◌, ◌≤◌, ◌<◌, Bool, false, List, [], ◌∷◌, ◌++◌, length, get_or, take, drop, map, Option, Some, None, arith, refl, ap, sym, ◌∙◌, Bor, append_assoc}
 use Rattle.std.specs.Prelude.{option_map, codes, ◌==◌, bytes_eq, cond, is_some, unwrap_or}
 use Rattle.std.specs.List.{join_with_byte, slice_split}
 use Rattle.std.proofs.lemmas.List.{take_more, map-append, take-append-drop, length-take, length-map}

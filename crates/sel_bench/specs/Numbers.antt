@@ -1,5 +1,5 @@
 -- Numbers and truth values as words.
-use Rattle.std.specs.Prelude.{ℕ, ◌≡◌, ◌≢◌, ◌^◌, ◌&&◌, ℤ, pos, List, length, slice_index, Option, None, Some, Bool, true, false, if◌then◌else◌, codes, nat_lt, bytes_eq, option_map}
+use Rattle.std.specs.Prelude.{ℕ, ◌≡◌, ◌≢◌, ◌^◌, ◌&&◌, ℤ, pos, List, length, slice_index, Option, None, Some, true, false, if◌then◌else◌, codes, nat_lt, bytes_eq, option_map}
 use Rattle.std.specs.Str.Parse.{digits_value, signed_digits_value}
 use Rattle.std.specs.Fmt.{decimal, signed_decimal}
 use Rattle.std.specs.Int.Signed.{mag}

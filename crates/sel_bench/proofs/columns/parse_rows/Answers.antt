@@ -1,4 +1,4 @@
-use Rattle.std.proofs.Common.{◌≡◌, sym, arith, ap, ◌∙◌, Some, length, length-append, ◌++◌, ◌∷◌, [], ◌+◌}
+use Rattle.std.proofs.Common.{sym, arith, ap, ◌∙◌, Some, length, length-append, ◌++◌, ◌∷◌, [], ◌+◌}
 use Rattle.std.specs.Prelude.{option_map}
 use Rattle.sel_bench.specs.Columns.{row_of}
 use Rattle.sel_bench.specs.Rows.{shown_row}
