@@ -1,3 +1,38 @@
+//! Reads lines such as `take 5,n,7 2,n,1` and answers each by a line.
 #![tactic(auto)]
 
-fn main() {}
+mod columns;
+mod commands;
+mod counted;
+mod filter;
+mod numbers;
+mod reading;
+mod refusals;
+mod rows;
+mod run;
+mod take;
+#[cfg(test)]
+mod tests;
+mod words;
+mod writing;
+
+use counted::Counted;
+use run::Done;
+use std::io;
+use std::io::BufReader;
+use std::process::ExitCode;
+
+const BAD_LINE_STATUS: u8 = 2;
+
+fn main(rt: HostRuntime) -> ExitCode {
+    let Ok(input) = BufReader::new(rt.alloc(), rt.reader()) else {
+        return ExitCode::FAILURE;
+    };
+    let mut reader = Counted::new(input);
+    let mut writer = Counted::new(io::writer(&rt));
+    match run::run(rt.alloc(), &mut reader, &mut writer) {
+        Ok(Done::End) => ExitCode::SUCCESS,
+        Ok(Done::BadLine(_)) => ExitCode::from(BAD_LINE_STATUS),
+        Err(_) => ExitCode::FAILURE,
+    }
+}

@@ -1,0 +1,6 @@
+pub mod Answered
+pub mod Pieces
+pub mod Printed
+pub mod Progress
+pub mod RowLemmas
+pub mod Steps

@@ -1,0 +1,29 @@
+use Rattle.std.proofs.Common.{◌≡◌, ◌∙◌, sym, ap, None, Some, cond}
+use Rattle.std.proofs.lemmas.Result.{err_from_is_err_and}
+use Rattle.std.proofs.KnownBytes.{Appends-kept}
+use Rattle.sel_bench.specs.Output.{first_bad_from, output_from}
+use Rattle.sel_bench.specs.Step.{lines_in}
+use Rattle.sel_bench.proofs.Steps.{failed_step, last_line}
+use Rattle.sel_bench.proofs.run.serve_line.Goals as goal
+
+pub returns-in_err-end-clause-step : goal.returns-in_err-end-clause-step
+returns-in_err-end-clause-step g c =
+    let p = err_from_is_err_and c.from_residual.result c.from_residual.ensures.1 in
+    let rest = c.in_err-end.ensures.err in
+    rw (p.1, p.2) (failed_step c.args.number c.in_err-end.field-0.0 rest.0 _ _ _ c.in_err-end.ensures.fault rest.1 rest.2)
+
+pub returns-clause-step : goal.returns-clause-step
+returns-clause-step g c =
+    let read = c.in_ok-end.ensures.ok in
+    let good : first_bad_from c.args.number (lines_in c.in_ok-end.end c.read_line.new.line.items) ≡ None =
+    ap (λ l. first_bad_from c.args.number (lines_in c.in_ok-end.end l)) (sym c.deref.ensures.value) ∙ c.in_ok-reply.ensures.good ∙ ap (λ b. cond b None (Some c.args.number)) c.if-not-reply.false in
+    let last = last_line c.args.number c.in_ok-end.end c.read_line.new.line.items _ read.2 (λ e. let test = c.eq.ensures in let other = c.if-eq.false in let same = rw e at test in cc) good in
+    record {
+      end = c.in_ok-end.end;
+      line = c.read_line.new.line.items;
+      written = c.as_bytes.result.now;
+      no_feed = read.0;
+      reads = read.1;
+      writes = Appends-kept _ _ _ _ c.in_ok-send.ensures.ok c.flush-2.ensures.bytes;
+      ends = (last.0, last.1, good, c.as_bytes.ensures.value ∙ c.in_ok-reply.ensures.text ∙ ap (λ l. output_from c.args.number (lines_in c.in_ok-end.end l)) c.deref.ensures.value);
+    }

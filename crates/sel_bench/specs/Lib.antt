@@ -1,0 +1,13 @@
+pub mod Columns
+pub mod Commands
+pub mod Counted
+pub mod Filter
+pub mod Lines
+pub mod Numbers
+pub mod Output
+pub mod Rows
+pub mod Run
+pub mod RunError
+pub mod Step
+pub mod Take
+pub mod Words

@@ -1,0 +1,32 @@
+-- Numbers and truth values as words.
+use Rattle.std.specs.Prelude.{ℕ, ◌≡◌, ◌≢◌, ◌^◌, ◌&&◌, ℤ, pos, List, length, slice_index, Option, None, Some, true, false, if◌then◌else◌, codes, nat_lt, bytes_eq, option_map}
+use Rattle.std.specs.Str.Parse.{digits_value, signed_digits_value}
+use Rattle.std.specs.Fmt.{decimal, signed_decimal}
+use Rattle.std.specs.Int.Signed.{mag}
+use Rattle.sel_arrow.specs.Value.{Value, Number, Truth}
+
+-- the number that a word is the printing of: its digits' value, where that is printed so and is one of 64 bits with a sign (own)
+unfoldable pub integer_of : List ℕ → Option ℤ
+integer_of word = let z = signed_digits_value 10 word in
+    if bytes_eq (signed_decimal z) word && nat_lt (mag z) (2 ^ 63) then Some z else None
+
+-- the same of 32 bits without a sign (own)
+unfoldable pub natural_of : List ℕ → Option ℕ
+natural_of word = let n = digits_value 10 word in
+    if bytes_eq (decimal n) word && nat_lt n (2 ^ 32) then Some n else None
+
+-- a word as a row of a column of numbers of 64 bits with a sign (own)
+abbrev pub number_of : List ℕ → Option Value
+number_of word = option_map Number (integer_of word)
+
+-- a word as a row of a column of indices, of 32 bits without a sign (own)
+abbrev pub index_of : List ℕ → Option Value
+index_of word = option_map (λ n. Number (pos n)) (natural_of word)
+
+-- a word as a row of a mask: `t` or `f` (own)
+unfoldable pub truth_of : List ℕ → Option Value
+truth_of word = if bytes_eq word (codes "t") then Some (Truth true) else if bytes_eq word (codes "f") then Some (Truth false) else None
+
+-- no plus, no `-0` and no leading zero: what printing never writes (own)
+abbrev pub HasOneSpelling : List ℕ → Type 0
+HasOneSpelling word = (slice_index word 0 ≢ 43) × (slice_index word 0 ≡ 45 → slice_index word 1 ≢ 48) × (slice_index word 0 ≡ 48 → length word ≡ 1)

@@ -1,0 +1,40 @@
+use Rattle.std.specs.Prelude.{ℕ, ◌+◌, List, [], ◌∷◌, ◌++◌, Option, None, Some, if◌then◌else◌, codes, decimal, nat_le}
+use Rattle.sel_bench.specs.Commands.{answer_of_line}
+use Rattle.sel_bench.specs.Lines.{lines, last_number}
+
+-- the answer to line number n, or None where it is bad
+abbrev pub answer_at : ℕ → List ℕ → Option (List ℕ)
+answer_at n line = if nat_le n last_number then answer_of_line line else None
+
+abbrev pub bad_line_text : ℕ → List ℕ
+bad_line_text n = codes "bad line " ++ decimal n ++ codes "\n"
+
+-- what is written for a line whose answer this is, and after it
+abbrev pub written_for : ℕ → Option (List ℕ) → List ℕ → List ℕ
+written_for n None after = bad_line_text n
+written_for n (Some answer) after = answer ++ 10 ∷ after
+
+-- what is written for lines of which the first is line n: the answers up to the first bad line, and then its number
+unfoldable pub output_from : ℕ → List (List ℕ) → List ℕ
+output_from n [] = []
+output_from n (line ∷ more) = written_for n (answer_at n line) (output_from (n + 1) more)
+
+abbrev pub bad_or : ℕ → Option (List ℕ) → Option ℕ → Option ℕ
+bad_or n None after = Some n
+bad_or n (Some answer) after = after
+
+-- the number of the first bad line, where the first of these is line n
+unfoldable pub first_bad_from : ℕ → List (List ℕ) → Option ℕ
+first_bad_from n [] = None
+first_bad_from n (line ∷ more) = bad_or n (answer_at n line) (first_bad_from (n + 1) more)
+
+-- what is written for these lines, and the first bad one of them
+abbrev pub answers : List (List ℕ) → List ℕ
+answers ls = output_from 1 ls
+
+abbrev pub first_bad : List (List ℕ) → Option ℕ
+first_bad ls = first_bad_from 1 ls
+
+-- what is written for a text
+abbrev pub output : List ℕ → List ℕ
+output text = answers (lines text)

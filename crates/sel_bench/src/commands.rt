@@ -1,0 +1,43 @@
+//! The answer to one line.
+ghost use Rattle.std.specs.Prelude.{◌≡◌, ◌≤◌, IfOk, All, length, string_bytes, option_map, map};
+ghost use Rattle.sel_bench.specs.Commands.{answer_of_line, answer_of_words};
+ghost use Rattle.sel_bench.specs.Lines.{longest_line};
+
+use crate::filter::answer_filter;
+use crate::take::answer_take;
+use crate::words::split_at_each;
+use std::alloc::{AllocError, Global};
+
+/// The most bytes of a line that is answered, without its line feed.
+pub const LONGEST_LINE: usize = 1_048_576;
+
+/// The answer to a line, or `None` where the line is bad.
+pub fn answer_line(alloc: Global, line: &[u8]) -> Result<Option<String>, AllocError>
+    ensures { IfOk result (λ answer. option_map string_bytes answer ≡ answer_of_line line.now) }
+{
+    if line.len() > LONGEST_LINE {
+        return Ok(None);
+    }
+    let Ok(text) = str::from_utf8(line) else {
+        return Ok(None);
+    };
+    let words = split_at_each(alloc, text, ' ')?;
+    answer_words(alloc, &words)
+}
+
+fn answer_words(alloc: Global, words: &[&str]) -> Result<Option<String>, AllocError>
+    requires { All (λ word. length word.now ≤ longest_line) words.now }
+    ensures { IfOk result (λ answer.
+        option_map string_bytes answer ≡ answer_of_words (map (λ word. word.now) words.now)) }
+{
+    let Some((name, words)) = words.split_first() else {
+        return Ok(None);
+    };
+    if *name == "filter" {
+        return answer_filter(alloc, words);
+    }
+    if *name == "take" {
+        return answer_take(alloc, words);
+    }
+    Ok(None)
+}

@@ -1,0 +1,62 @@
+//! Reading a line, byte by byte, so that nothing of the next line is read.
+ghost use Rattle.std.specs.Prelude.{◌≡◌, ◌≢◌, ℕ, List, is_err, IfOk, IfErr, OnErr, IfNone, None};
+ghost use Rattle.std.specs.Option.{option_to_list};
+ghost use Rattle.std.specs.Io.KnownBytes.{Consumes, Keeps, IsAtEnd};
+ghost use Rattle.sel_bench.specs.Counted.{inner_of, failures_of, counted_up};
+ghost use Rattle.sel_bench.specs.Lines.{HasNoFeed};
+ghost use Rattle.sel_bench.specs.RunError.{is_input_fault};
+ghost use Rattle.sel_bench.specs.Step.{piece, IsReadTo};
+
+use crate::commands::LONGEST_LINE;
+use crate::counted::Counted;
+use crate::run::RunError;
+use std::io::Read;
+
+/// How a line ended.
+#[derive(Clone, Copy, PartialEq)]
+pub enum LineEnd {
+    /// By a line feed, which was read.
+    Feed,
+    /// By the end of the input.
+    Input,
+    /// One byte past the longest line: its rest is not read.
+    TooLong,
+}
+
+/// Reads the next line into `line`, without its line feed.
+pub fn read_line<R: Read>(reader: &mut Counted<R>, line: &mut Vec<u8>) -> Result<LineEnd, RunError>
+    ensures ok { IfOk result (λ end. HasNoFeed line.new.items
+        × Consumes (R.remaining (inner_of reader.old)) (R.remaining (inner_of reader.new)) (piece end line.new.items)
+        × IsReadTo end line.new.items (R.remaining (inner_of reader.new))) }
+    ensures err { OnErr result ((rest : List ℕ) × HasNoFeed rest
+        × Consumes (R.remaining (inner_of reader.old)) (R.remaining (inner_of reader.new)) rest) }
+    ensures fault { IfErr result (λ e. e ≢ RunError.Output) }
+    ensures failures { failures_of reader.new ≡ counted_up (is_input_fault result) (failures_of reader.old) }
+{
+    line.clear();
+    for _ in 0..LONGEST_LINE + 1 {
+        match read_byte(reader)? {
+            None => return Ok(LineEnd::Input),
+            Some(b'\n') => return Ok(LineEnd::Feed),
+            Some(byte) => line.push(byte)?,
+        }
+    }
+    Ok(LineEnd::TooLong)
+}
+
+// The next byte, or `None` at the end.
+fn read_byte<R: Read>(reader: &mut Counted<R>) -> Result<Option<u8>, RunError>
+    ensures ok { IfOk result (λ byte.
+        Consumes (R.remaining (inner_of reader.old)) (R.remaining (inner_of reader.new)) (option_to_list byte)) }
+    ensures end { IfOk result (λ byte. IfNone byte (IsAtEnd (R.remaining (inner_of reader.new)))) }
+    ensures err { OnErr result (Keeps (R.remaining (inner_of reader.old)) (R.remaining (inner_of reader.new))) }
+    ensures fault { IfErr result (λ e. e ≡ RunError.Input) }
+    ensures failures { failures_of reader.new ≡ counted_up (is_err result) (failures_of reader.old) }
+{
+    let mut byte = [0];
+    match reader.read(&mut byte) {
+        Ok(0) => Ok(None),
+        Ok(_) => Ok(Some(byte[0])),
+        Err(_) => Err(RunError::Input),
+    }
+}

@@ -1,0 +1,267 @@
+//! Runs over readers and writers in memory, some of which fail.
+use crate::counted::Counted;
+use crate::reading::{LineEnd, read_line};
+use crate::run::{Done, RunError, run};
+use crate::writing::{flush, send};
+use std::alloc::Global;
+use std::io;
+use std::io::{ErrorKind, Read, Write};
+use std::test::Fail;
+
+// Gives its bytes and fails at one read.
+#[derive(Drop)]
+struct FakeReader<'a> {
+    rest: &'a [u8],
+    reads: u64,
+    fails_at: u64,
+}
+
+impl Read for FakeReader<'_> {
+    fn read(&mut self, buf: &mut [u8]) -> io::Result<usize> {
+        self.reads = self.reads.saturating_add(1);
+        if self.reads == self.fails_at {
+            return Err(ErrorKind::Interrupted.into());
+        }
+        self.rest.read(buf)
+    }
+}
+
+// How a writer fails, and at which of its writes.
+#[derive(Clone, Copy, PartialEq)]
+enum Fault {
+    None,
+    Error(u64),
+    TakesNone(u64),
+    Flush,
+}
+
+// Takes at most `piece` bytes in a write.
+#[derive(Drop)]
+struct FakeWriter {
+    taken: Vec<u8>,
+    piece: usize,
+    fault: Fault,
+    writes: u64,
+    flushes: u64,
+}
+
+impl FakeWriter {
+    fn new(alloc: Global, piece: usize, fault: Fault) -> FakeWriter {
+        FakeWriter {
+            taken: Vec::new(alloc),
+            piece,
+            fault,
+            writes: 0,
+            flushes: 0,
+        }
+    }
+}
+
+impl Write for FakeWriter {
+    fn write(&mut self, buf: &[u8]) -> io::Result<usize> {
+        self.writes = self.writes.saturating_add(1);
+        if self.fault == Fault::Error(self.writes) {
+            return Err(ErrorKind::Interrupted.into());
+        }
+        if self.fault == Fault::TakesNone(self.writes) {
+            return Ok(0);
+        }
+        let count = buf.len().min(self.piece);
+        match self.taken.extend_from_slice(&buf[..count]) {
+            Ok(()) => Ok(count),
+            Err(_) => Err(ErrorKind::OutOfMemory.into()),
+        }
+    }
+
+    fn flush(&mut self) -> io::Result<()> {
+        self.flushes = self.flushes.saturating_add(1);
+        if self.fault == Fault::Flush {
+            return Err(ErrorKind::Interrupted.into());
+        }
+        Ok(())
+    }
+}
+
+const TWO_LINES: &[u8] = b"filter 10,20,30,40 t,n,f,t\ntake 5,n,7 2,n,1\n";
+
+const TWO_ANSWERS: &[u8] = b"10,40\n7,n,n\n";
+
+// What a run over these bytes answers and writes.
+fn run_over(alloc: Global, input: &[u8]) -> (Result<Done, RunError>, Vec<u8>) {
+    let mut reader = Counted::new(input);
+    let mut writer = Counted::new(Vec::new(alloc));
+    let result = run(alloc, &mut reader, &mut writer);
+    (result, writer.into_inner())
+}
+
+// A run over the two lines, into a writer that takes them so.
+fn run_into(
+    alloc: Global,
+    piece: usize,
+    fault: Fault,
+) -> (Result<Done, RunError>, u64, FakeWriter) {
+    let mut reader = Counted::new(TWO_LINES);
+    let mut writer = Counted::new(FakeWriter::new(alloc, piece, fault));
+    let result = run(alloc, &mut reader, &mut writer);
+    let failures = writer.failures();
+    (result, failures, writer.into_inner())
+}
+
+#[test]
+fn good_lines(rt: HostRuntime) -> Result<(), Fail> {
+    let rows: [(&[u8], &[u8]); 9] = [
+        (TWO_LINES, TWO_ANSWERS),
+        (b"", b""),
+        (b"filter - -", b"-\n"),
+        (b"filter 1,2 n,f\n", b"-\n"),
+        (b"take - n,n\n", b"n,n\n"),
+        (b"take 5 0", b"5\n"),
+        (b"take 5,6 -\n", b"-\n"),
+        (
+            b"filter -9223372036854775808,9223372036854775807,-1,0 t,t,t,t\n",
+            b"-9223372036854775808,9223372036854775807,-1,0\n",
+        ),
+        (b"take 1,n,3 n,2,1,0,0\n", b"n,3,n,1,1\n"),
+    ];
+    for (input, output) in &rows {
+        let (result, written) = run_over(rt.alloc(), input);
+        assert_eq!(rt; result, Ok(Done::End));
+        assert!(rt; written.as_slice() == *output);
+    }
+    Ok(())
+}
+
+#[test]
+fn bad_lines(rt: HostRuntime) -> Result<(), Fail> {
+    let lines: [&[u8]; 26] = [
+        b"",
+        b" ",
+        b"take",
+        b"take 5",
+        b"take 5  0",
+        b"take 5 0 ",
+        b"take 5 0 0",
+        b"take 5,6 2",
+        b"take 5 4294967296",
+        b"take 5 -0",
+        b"take 5, 0",
+        b"take - 0",
+        b"take 5 0\r",
+        b"take 5 0\xFF",
+        b"filter 1,2 t",
+        b"filter 1 T",
+        b"filter 007 t",
+        b"filter +7 t",
+        b"filter -0 t",
+        b"filter 9223372036854775808 t",
+        b"filter -9223372036854775809 t",
+        b"Filter 1 t",
+        b"pext b4 cc",
+        b"get 1,2,3|4,5|6 -1",
+        b"flatten 2 2:1,2,3,4 1:9",
+        b"dict 0,1,2,n =a,n,=c",
+    ];
+    for line in &lines {
+        let mut input = line.to_vec(rt.alloc())?;
+        input.extend_from_slice(b"\ntake 5 0\n")?;
+        let (result, written) = run_over(rt.alloc(), &input);
+        assert_eq!(rt; result, Ok(Done::BadLine(1)));
+        assert!(rt; written.as_slice() == b"bad line 1\n".as_slice());
+    }
+    Ok(())
+}
+
+#[test]
+fn a_run_ends_at_a_bad_line(rt: HostRuntime) -> Result<(), Fail> {
+    let (result, written) = run_over(rt.alloc(), b"take 5 0\nfilter 1,2 t\ntake 5 0\n");
+    assert_eq!(rt; result, Ok(Done::BadLine(2)));
+    assert!(rt; written.as_slice() == b"5\nbad line 2\n".as_slice());
+    Ok(())
+}
+
+#[test]
+fn longest_line(rt: HostRuntime) -> Result<(), Fail> {
+    for (first, done) in [("take 5", Done::End), ("take 55", Done::BadLine(1))] {
+        let mut input = first.as_bytes().to_vec(rt.alloc())?;
+        for _ in 0..524_284 {
+            input.extend_from_slice(b",5")?;
+        }
+        input.extend_from_slice(b" 1\n")?;
+        let (result, _) = run_over(rt.alloc(), &input);
+        assert_eq!(rt; result, Ok(done));
+    }
+    Ok(())
+}
+
+#[test]
+fn each_read_fails(rt: HostRuntime) -> Result<(), Fail> {
+    for fails_at in 1..46 {
+        let fake = FakeReader {
+            rest: TWO_LINES,
+            reads: 0,
+            fails_at,
+        };
+        let mut reader = Counted::new(fake);
+        let mut writer = Counted::new(Vec::new(rt.alloc()));
+        let result = run(rt.alloc(), &mut reader, &mut writer);
+        assert_eq!(rt; result, Err(RunError::Input));
+        assert_eq!(rt; reader.failures(), 1);
+        assert_eq!(rt; writer.failures(), 0);
+        let answered = if fails_at <= 27 {
+            0
+        } else if fails_at <= 44 {
+            6
+        } else {
+            12
+        };
+        let written = writer.into_inner();
+        assert!(rt; written.as_slice() == &TWO_ANSWERS[..answered]);
+    }
+    Ok(())
+}
+
+#[test]
+fn each_write_fails(rt: HostRuntime) -> Result<(), Fail> {
+    for at in 1..13 {
+        for fault in [Fault::Error(at), Fault::TakesNone(at)] {
+            let (result, failures, fake) = run_into(rt.alloc(), 1, fault);
+            assert_eq!(rt; result, Err(RunError::Output));
+            assert_eq!(rt; failures, 1);
+            assert_eq!(rt; fake.taken.len() as u64 + 1, at);
+            assert_eq!(rt; fake.flushes, 0);
+        }
+    }
+    Ok(())
+}
+
+#[test]
+fn a_run_flushes_once(rt: HostRuntime) -> Result<(), Fail> {
+    for (piece, fault, end) in [
+        (1, Fault::None, Ok(Done::End)),
+        (100, Fault::None, Ok(Done::End)),
+        (100, Fault::Flush, Err(RunError::Output)),
+    ] {
+        let (result, failures, fake) = run_into(rt.alloc(), piece, fault);
+        assert_eq!(rt; result, end);
+        assert_eq!(rt; failures, if fault == Fault::Flush { 1 } else { 0 });
+        assert!(rt; fake.taken.as_slice() == TWO_ANSWERS);
+        assert_eq!(rt; fake.flushes, 1);
+    }
+    Ok(())
+}
+
+#[test]
+fn one_line_read_and_sent(rt: HostRuntime) -> Result<(), Fail> {
+    let mut reader = Counted::new(TWO_LINES);
+    let mut line = Vec::new(rt.alloc());
+    assert!(rt; read_line(&mut reader, &mut line) == Ok(LineEnd::Feed));
+    assert!(rt; line.as_slice() == &TWO_LINES[..26]);
+    assert!(rt; reader.into_inner() == &TWO_LINES[27..]);
+    let mut writer = Counted::new(FakeWriter::new(rt.alloc(), 4, Fault::None));
+    assert_eq!(rt; send(&mut writer, &line), Ok(()));
+    assert_eq!(rt; flush(&mut writer), Ok(()));
+    let fake = writer.into_inner();
+    assert!(rt; fake.taken.as_slice() == line.as_slice());
+    assert_eq!(rt; fake.flushes, 1);
+    Ok(())
+}
