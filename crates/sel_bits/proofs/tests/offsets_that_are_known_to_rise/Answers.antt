@@ -1,0 +1,6 @@
+use Rattle.std.proofs.Common.{◌≡◌, ℤ, pos, [], ◌∷◌, refl}
+use Rattle.sel_bits.proofs.OffsetLemmas.{accepted}
+use Rattle.sel_bits.proofs.tests.offsets_that_are_known_to_rise.Goals as goal
+
+pub of_rising-requires : goal.of_rising-requires
+of_rising-requires g c = ?
