@@ -1,2 +1,3 @@
+pub mod Growing
 pub mod Pick
 pub mod Select

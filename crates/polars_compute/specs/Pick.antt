@@ -1,5 +1,5 @@
 -- The rows that picks or indices name.
-use Rattle.std.specs.Prelude.{ℕ, ℤ, pos, negsuc, Bool, true, false, List, [], ◌∷◌, map, Option, Some, None, nat_lt, slice_index_or}
+use Rattle.std.specs.Prelude.{ℕ, pos, negsuc, Bool, true, false, List, [], ◌∷◌, map, Option, Some, None, nat_lt, slice_index_or}
 use Rattle.std.specs.List.{list_all}
 use Rattle.sel_arrow.specs.Value.{Value, Null, Number}
 

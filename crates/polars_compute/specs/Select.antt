@@ -1,5 +1,5 @@
 -- The entries that a mask keeps.
-use Rattle.std.specs.Prelude.{ℕ, ◌+◌, Bool, true, false, List, [], ◌∷◌, ◌++◌, map, if◌then◌else◌}
+use Rattle.std.specs.Prelude.{ℕ, ◌+◌, Bool, true, false, List, [], ◌∷◌, map}
 use Rattle.sel_arrow.specs.Value.{Value, Truth}
 
 -- the elements of the first list at the places where the second is true, in order (own: the meaning of a filter)

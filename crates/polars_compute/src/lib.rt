@@ -1,11 +1,8 @@
+//! The selection kernels: which rows of columns, in which order.
 #![tactic(auto)]
 
-ghost use Rattle.std.specs.Prelude.{◌≡◌};
-ghost use Rattle.polars_compute.specs.Select.{select};
-ghost use Rattle.polars_compute.specs.Pick.{take_rows};
-
-pub fn f(x: u32) -> u32
-    ensures { result ≡ x }
-{
-    x
-}
+pub mod filter;
+pub mod gather;
+mod growing;
+#[cfg(test)]
+mod tests;

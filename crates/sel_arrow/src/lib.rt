@@ -1,1 +1,11 @@
+//! Columns over shared bitmaps and buffers, in the layouts of the Arrow columnar format.
 #![tactic(auto)]
+
+pub mod array;
+pub mod array_ref;
+pub mod boolean;
+pub mod column;
+pub mod datatype;
+pub mod null;
+pub mod primitive;
+pub mod validity;

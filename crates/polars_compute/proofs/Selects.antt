@@ -1,0 +1,173 @@
+-- What a mask keeps.
+use Rattle.std.proofs.Common.{◌≡◌, ℕ, zero, suc, ◌+◌, ◌≤◌, ◌<◌, ℤ, Bool, true, false, List, [], ◌∷◌, ◌++◌, length, map, drop, get_or, replicate, Option, Some, None, refl, ap, sym, ◌∙◌, arith, drop-cons, add-one, append_assoc, cond, ◌&&◌}
+use Rattle.std.specs.Prelude.{if◌then◌else◌, count_by}
+use Rattle.std.specs.Option.{option_map}
+use Rattle.std.proofs.lemmas.List.{length-map, length-replicate, drop_all, append-nil, get_or_default}
+use Rattle.std.proofs.lemmas.List.Sums.{sum_by-cons, count_by-le-length}
+use Rattle.sel_bits.specs.Bits.{Bits, zip_with}
+use Rattle.sel_arrow.specs.Value.{Value, Null, Truth, Number}
+use Rattle.sel_arrow.specs.Masked.{hidden, masked, number_rows, truth_rows, Covers}
+use Rattle.sel_arrow.specs.Columns.{null_rows}
+use Rattle.sel_arrow.specs.declared.null.NullArray.{NullArray}
+use Rattle.sel_arrow.proofs.Rows.{length-number_rows, length-truth_rows}
+use Rattle.polars_compute.specs.Select.{select, in_force, is_true}
+
+-- ---- one step of a selection
+
+pub select_kept : {A : Type 0} → (xs : List A) (ms : List Bool) (i : ℕ) (x : A) → i < length xs → i < length ms → get_or ms i false ≡ true → x ≡ get_or xs i x
+    → select (drop i xs) (drop i ms) ≡ x ∷ select (drop (i + 1) xs) (drop (i + 1) ms)
+select_kept xs ms i x h below e is = rw (add-one, drop-cons xs i x h, drop-cons ms i false below, e, ← is) refl
+
+pub select_dropped : {A : Type 0} → (xs : List A) (ms : List Bool) (i : ℕ) (x : A) → i < length xs → i < length ms → get_or ms i false ≡ false
+    → select (drop i xs) (drop i ms) ≡ select (drop (i + 1) xs) (drop (i + 1) ms)
+select_dropped xs ms i x h below e = rw (add-one, drop-cons xs i x h, drop-cons ms i false below, e) refl
+
+-- one element more is kept
+pub kept_more : {A : Type 0} → (xs : List A) (ms : List Bool) (i : ℕ) (x d : A) (kept all : List A) → i < length xs → i < length ms → get_or ms i false ≡ true → x ≡ get_or xs i d
+    → kept ++ select (drop i xs) (drop i ms) ≡ all → (kept ++ x ∷ []) ++ select (drop (i + 1) xs) (drop (i + 1) ms) ≡ all
+kept_more xs ms i x d kept all h below e is before =
+    append_assoc kept (x ∷ []) (select (drop (i + 1) xs) (drop (i + 1) ms))
+    ∙ ap (λ l. kept ++ l) (sym (select_kept xs ms i x h below e (is ∙ get_or_default xs i d x h))) ∙ before
+
+-- one is passed over
+pub kept_same : {A : Type 0} → (xs : List A) (ms : List Bool) (i : ℕ) (d : A) (kept all : List A) → i < length xs → i < length ms → get_or ms i false ≡ false
+    → kept ++ select (drop i xs) (drop i ms) ≡ all → kept ++ select (drop (i + 1) xs) (drop (i + 1) ms) ≡ all
+kept_same xs ms i d kept all h below e before =
+    ap (λ l. kept ++ l) (sym (select_dropped xs ms i d h below e)) ∙ before
+
+-- past the end all is kept that is
+pub kept_all : {A : Type 0} → (xs : List A) (ms : List Bool) (i : ℕ) (kept all : List A) → length xs ≤ i → kept ++ select (drop i xs) (drop i ms) ≡ all → kept ≡ all
+kept_all xs ms i kept all past before =
+    sym (append-nil kept) ∙ ap (λ l. kept ++ select l (drop i ms)) (sym (drop_all i xs past)) ∙ before
+
+-- ---- how many are kept
+
+pub length-select : {A : Type 0} → (xs : List A) (ms : List Bool) → length xs ≡ length ms → length (select xs ms) ≡ count_by (λ b. b) ms
+length-select [] [] h = refl
+length-select [] (m ∷ ms) h = absurd (omega arith)
+length-select (x ∷ xs) [] h = absurd (omega arith)
+length-select (x ∷ xs) (true ∷ ms) h =
+    let rest = length-select xs ms (omega arith) in
+    omega (arith, rest, sum_by-cons (λ b. cond b 1 0) true ms)
+length-select (x ∷ xs) (false ∷ ms) h =
+    let rest = length-select xs ms (omega arith) in
+    omega (arith, rest, sum_by-cons (λ b. cond b 1 0) false ms)
+
+pub few_kept : {A : Type 0} → (xs : List A) (ms : List Bool) → length (select xs ms) ≤ length xs
+few_kept [] ms = omega arith
+few_kept (x ∷ xs) [] = omega arith
+few_kept (x ∷ xs) (true ∷ ms) = let rest = few_kept xs ms in omega (arith, rest)
+few_kept (x ∷ xs) (false ∷ ms) = let rest = few_kept xs ms in omega (arith, rest)
+
+-- lists of one length keep as many
+as_many_kept : {A B : Type 0} → (xs : List A) (ys : List B) (ms : List Bool) → length xs ≡ length ys → length (select xs ms) ≡ length (select ys ms)
+as_many_kept [] [] ms h = refl
+as_many_kept [] (y ∷ ys) ms h = absurd (omega arith)
+as_many_kept (x ∷ xs) [] ms h = absurd (omega arith)
+as_many_kept (x ∷ xs) (y ∷ ys) [] h = refl
+as_many_kept (x ∷ xs) (y ∷ ys) (true ∷ ms) h = ap suc (as_many_kept xs ys ms (omega arith))
+as_many_kept (x ∷ xs) (y ∷ ys) (false ∷ ms) h = as_many_kept xs ys ms (omega arith)
+
+pub ruleset select_steps = (select_kept, select_dropped, length-select)
+
+-- ---- rows under a validity
+
+select-map : {A B : Type 0} (f : A → B) → (xs : List A) (ms : List Bool) → select (map f xs) ms ≡ map f (select xs ms)
+select-map f [] ms = refl
+select-map f (x ∷ xs) [] = refl
+select-map f (x ∷ xs) (true ∷ ms) = ap (λ l. f x ∷ l) (select-map f xs ms)
+select-map f (x ∷ xs) (false ∷ ms) = select-map f xs ms
+
+select-hidden : (bs : List Bool) (vs : List Value) (ms : List Bool) → length bs ≡ length vs → select (hidden bs vs) ms ≡ hidden (select bs ms) (select vs ms)
+select-hidden [] [] ms h = refl
+select-hidden [] (v ∷ vs) ms h = absurd (omega arith)
+select-hidden (b ∷ bs) [] ms h = absurd (omega arith)
+select-hidden (b ∷ bs) (v ∷ vs) [] h = refl
+select-hidden (b ∷ bs) (v ∷ vs) (true ∷ ms) h = ap (λ l. (if b then v else Null) ∷ l) (select-hidden bs vs ms (omega arith))
+select-hidden (b ∷ bs) (v ∷ vs) (false ∷ ms) h = select-hidden bs vs ms (omega arith)
+
+select-masked : (validity kept : Option Bits) (vs : List Value) (ms : List Bool) → Covers validity (length vs)
+    → option_map (λ v. v.bits) kept ≡ option_map (λ v. select v.bits ms) validity → masked kept (select vs ms) ≡ select (masked validity vs) ms
+select-masked None None vs ms covers is = refl
+select-masked None (Some kept) vs ms covers is = cc
+select-masked (Some validity) None vs ms covers is = cc
+select-masked (Some validity) (Some kept) vs ms covers is =
+    let same : kept.bits ≡ select validity.bits ms = cc in
+    ap (λ bs. hidden bs (select vs ms)) same ∙ sym (select-hidden validity.bits vs ms (covers validity refl))
+
+-- a filtered validity has the length of what is kept
+pub kept_covers : {A : Type 0} → (validity kept : Option Bits) (xs : List A) (ms : List Bool) (n : ℕ) → Covers validity (length xs)
+    → option_map (λ v. v.bits) kept ≡ option_map (λ v. select v.bits ms) validity → n ≡ length (select xs ms) → Covers kept n
+kept_covers None None xs ms n covers is count = λ v there. cc
+kept_covers None (Some kept) xs ms n covers is count = cc
+kept_covers (Some validity) None xs ms n covers is count = cc
+kept_covers (Some validity) (Some kept) xs ms n covers is count = λ v there.
+    let same : kept.bits ≡ select validity.bits ms = cc in
+    let here : kept ≡ v = cc in
+    ap (λ (b : Bits). length b.bits) (sym here) ∙ ap (λ bs. length bs) same ∙ as_many_kept validity.bits xs ms (covers validity refl) ∙ sym count
+
+pub kept_numbers : {T : Type 0} (number : T → ℤ) → (validity kept : Option Bits) (xs ys : List T) (ms : List Bool) → Covers validity (length xs)
+    → option_map (λ v. v.bits) kept ≡ option_map (λ v. select v.bits ms) validity → ys ≡ select xs ms → number_rows number ys kept ≡ select (number_rows number xs validity) ms
+kept_numbers {T} number validity kept xs ys ms covers is made =
+    let f : T → Value = λ x. Number (number x) in
+    ap (λ l. masked kept (map f l)) made ∙ ap (masked kept) (sym (select-map f xs ms))
+    ∙ select-masked validity kept (map f xs) ms (λ v there. rw length-map (covers v there)) is
+
+pub kept_truths : (validity kept : Option Bits) (xs ys : List Bool) (ms : List Bool) → Covers validity (length xs)
+    → option_map (λ v. v.bits) kept ≡ option_map (λ v. select v.bits ms) validity → ys ≡ select xs ms → truth_rows ys kept ≡ select (truth_rows xs validity) ms
+kept_truths validity kept xs ys ms covers is made =
+    ap (λ l. masked kept (map Truth l)) made ∙ ap (masked kept) (sym (select-map Truth xs ms))
+    ∙ select-masked validity kept (map Truth xs) ms (λ v there. rw length-map (covers v there)) is
+
+-- ---- nulls
+
+replicate_kept : (n : ℕ) (ms : List Bool) → n ≡ length ms → replicate (count_by (λ b. b) ms) Null ≡ select (replicate n Null) ms
+replicate_kept zero [] h = refl
+replicate_kept zero (m ∷ ms) h = absurd (omega arith)
+replicate_kept (suc n) [] h = absurd (omega arith)
+replicate_kept (suc n) (true ∷ ms) h =
+    let more : count_by (λ b. b) (true ∷ ms) ≡ suc (count_by (λ b. b) ms) = omega (arith, sum_by-cons (λ b. cond b 1 0) true ms) in
+    ap (λ k. replicate k Null) more ∙ ap (λ l. Null ∷ l) (replicate_kept n ms (omega arith))
+replicate_kept (suc n) (false ∷ ms) h =
+    let more : count_by (λ b. b) (false ∷ ms) ≡ count_by (λ b. b) ms = omega (arith, sum_by-cons (λ b. cond b 1 0) false ms) in
+    ap (λ k. replicate k Null) more ∙ replicate_kept n ms (omega arith)
+
+pub kept_null_rows : (column : NullArray) (n : ℕ) (ms : List Bool) → length (null_rows column) ≡ length ms → n ≡ count_by (λ b. b) ms → replicate n Null ≡ select (null_rows column) ms
+kept_null_rows column n ms long count =
+    ap (λ k. replicate k Null) count ∙ replicate_kept column.length ms (sym (length-replicate column.length Null) ∙ long)
+
+pub few_nulls : (n : ℕ) (ms : List Bool) → n ≤ 4294967295 → length (replicate n Null) ≡ length ms → count_by (λ b. b) ms ≤ 4294967295
+few_nulls n ms few long = omega (arith, count_by-le-length (λ (b : Bool). b) ms, length-replicate n Null, long)
+
+pub ruleset kept_nulls = (kept_null_rows, few_nulls, length-replicate)
+
+pub ruleset kept_columns = (kept_numbers, kept_truths, kept_covers, few_kept, length-number_rows, length-truth_rows)
+
+-- ---- a mask of rows
+
+in_force-valid : (bits : List Bool) → in_force (truth_rows bits None) ≡ bits
+in_force-valid [] = refl
+in_force-valid (b ∷ bits) = ap (λ l. b ∷ l) (in_force-valid bits)
+
+in_force-hidden : (bs bits : List Bool) → length bs ≡ length bits → map is_true (hidden bs (map Truth bits)) ≡ zip_with (λ x y. x && y) bits bs
+in_force-hidden [] [] h = refl
+in_force-hidden [] (x ∷ bits) h = absurd (omega arith)
+in_force-hidden (b ∷ bs) [] h = absurd (omega arith)
+in_force-hidden (b ∷ bs) (x ∷ bits) h = (λ i. first b x i ∷ in_force-hidden bs bits (omega arith) i)
+  where
+    first : (b x : Bool) → is_true (if b then Truth x else Null) ≡ (x && b)
+    first true true = refl
+    first true false = refl
+    first false true = refl
+    first false false = refl
+
+-- the bits of a mask column that are in force
+pub in_force-truths : (bits : List Bool) (validity : Option Bits) (v : Bits) → validity ≡ Some v → Covers validity (length bits) → in_force (truth_rows bits validity) ≡ zip_with (λ x y. x && y) bits v.bits
+in_force-truths bits validity v is covers = ap (λ o. in_force (truth_rows bits o)) is ∙ in_force-hidden v.bits bits (covers v is)
+
+-- without a validity they are all
+pub in_force-all : (bits : List Bool) (validity : Option Bits) → validity ≡ None → in_force (truth_rows bits validity) ≡ bits
+in_force-all bits validity is = ap (λ o. in_force (truth_rows bits o)) is ∙ in_force-valid bits
+
+pub length-in_force : (rows : List Value) → length (in_force rows) ≡ length rows
+length-in_force rows = length-map rows is_true

@@ -1,0 +1,8 @@
+-- The indices so far name rows.
+use Rattle.std.proofs.Common.{◌≡◌, true, take}
+use Rattle.sel_arrow.specs.Columns.{primitive_rows}
+use Rattle.polars_compute.specs.Pick.{all_within}
+use Rattle.polars_compute.proofs.gather.indices_in_bounds.Given as goal
+
+abbrev pub invariant-loop-k : goal.invariant-loop-k
+invariant-loop-k l = all_within l.len (take l.k (primitive_rows l.indices)) ≡ true

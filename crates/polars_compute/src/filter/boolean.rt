@@ -1,0 +1,62 @@
+//! Bits that a mask keeps.
+
+ghost use Rattle.std.specs.Prelude.{◌≡◌, length, IfOk, IfErr};
+ghost use Rattle.std.specs.Option.{option_copied, option_map};
+ghost use Rattle.sel_arrow.specs.Masked.{Covers};
+ghost use Rattle.polars_compute.specs.Select.{select};
+
+use sel_bits::bitmap::Bitmap;
+use sel_bits::faults::{PolarsError, PolarsResult};
+use sel_bits::packer::BitPacker;
+use std::alloc::Global;
+
+/// The bits where the mask is true, in order. Refuses only for want of memory.
+#[tactic(auto, using(crate::proofs::Selects::select_steps))]
+pub fn filter_boolean_kernel(alloc: Global, values: &Bitmap, mask: &Bitmap) -> PolarsResult<Bitmap>
+    requires { length values.now.bits ≡ length mask.now.bits }
+    ensures bits { IfOk result (λ kept. kept.bits ≡ select values.now.bits mask.now.bits) }
+    ensures refusal { IfErr result (λ fault. fault ≡ PolarsError.OutOfMemory) }
+{
+    let count = mask.set_bits();
+    let mut kept = BitPacker::with_capacity(alloc, count)?;
+    for i in 0..mask.len() {
+        if mask.get_bit(i) {
+            kept.push(values.get_bit(i))?;
+        }
+    }
+    kept.into_bitmap(count)
+}
+
+/// Both filtered; a validity is answered exactly where one is given. Refuses only for want of memory.
+pub fn filter_bitmap_and_validity(
+    alloc: Global,
+    values: &Bitmap,
+    validity: Option<&Bitmap>,
+    mask: &Bitmap,
+) -> PolarsResult<(Bitmap, Option<Bitmap>)>
+    requires values { length values.now.bits ≡ length mask.now.bits }
+    requires validity { Covers (option_copied validity) (length mask.now.bits) }
+    ensures values { IfOk result (λ kept. kept.0.bits ≡ select values.now.bits mask.now.bits) }
+    ensures validity { IfOk result (λ kept. option_map (λ v. v.bits) kept.1 ≡ option_map (λ v. select v.bits mask.now.bits) (option_copied validity.entry)) }
+    ensures refusal { IfErr result (λ fault. fault ≡ PolarsError.OutOfMemory) }
+{
+    let kept = filter_boolean_kernel(alloc, values, mask)?;
+    let kept_validity = filter_validity(alloc, validity, mask)?;
+    Ok((kept, kept_validity))
+}
+
+/// A validity filtered, where there is one.
+pub(crate) fn filter_validity(
+    alloc: Global,
+    validity: Option<&Bitmap>,
+    mask: &Bitmap,
+) -> PolarsResult<Option<Bitmap>>
+    requires { Covers (option_copied validity) (length mask.now.bits) }
+    ensures validity { IfOk result (λ kept. option_map (λ v. v.bits) kept ≡ option_map (λ v. select v.bits mask.now.bits) (option_copied validity.entry)) }
+    ensures refusal { IfErr result (λ fault. fault ≡ PolarsError.OutOfMemory) }
+{
+    match validity {
+        None => Ok(None),
+        Some(bits) => Ok(Some(filter_boolean_kernel(alloc, bits, mask)?)),
+    }
+}

@@ -1,0 +1,2 @@
+pub mod NullCounts
+pub mod Rows

@@ -1,0 +1,168 @@
+-- Rows under a validity.
+use Rattle.std.proofs.Common.{◌≡◌, ◌≢◌, ℕ, zero, suc, ◌+◌, ◌≤◌, ◌<◌, ℤ, Bool, true, false, List, [], ◌∷◌, ◌++◌, length, take, drop, map, Option, Some, None, replicate, refl, ap, sym, ◌∙◌, arith, get_or, length-take, length-drop}
+use Rattle.std.specs.Prelude.{if◌then◌else◌}
+use Rattle.std.specs.Option.{ForSome, option_map}
+use Rattle.std.proofs.lemmas.List.{length-map, get_or-map, take-map, drop-map, length-replicate}
+use Rattle.sel_bits.specs.Bits.{Bits}
+use Rattle.sel_arrow.specs.Value.{Value, Null, Truth, Number, is_valid, validities}
+use Rattle.sel_arrow.specs.Masked.{hidden, masked, number_rows, truth_rows, Covers, valid_at, part_of}
+use Rattle.sel_arrow.specs.Shape.{Shape, of_null, of_boolean}
+use Rattle.sel_arrow.specs.Nulls.{TellsNulls}
+
+-- ---- values that are hidden
+
+length-hidden : (bs : List Bool) (vs : List Value) → length (hidden bs vs) ≡ length vs
+length-hidden [] vs = refl
+length-hidden (b ∷ bs) [] = refl
+length-hidden (b ∷ bs) (v ∷ vs) = ap suc (length-hidden bs vs)
+
+take-hidden : (n : ℕ) (bs : List Bool) (vs : List Value) → take n (hidden bs vs) ≡ hidden (take n bs) (take n vs)
+take-hidden zero bs vs = refl
+take-hidden (suc n) [] vs = refl
+take-hidden (suc n) (b ∷ bs) [] = refl
+take-hidden (suc n) (b ∷ bs) (v ∷ vs) = ap (λ rest. (if b then v else Null) ∷ rest) (take-hidden n bs vs)
+
+hidden_none : (bs : List Bool) → [] ≡ hidden bs []
+hidden_none [] = refl
+hidden_none (b ∷ bs) = refl
+
+drop-hidden : (n : ℕ) (bs : List Bool) (vs : List Value) → drop n (hidden bs vs) ≡ hidden (drop n bs) (drop n vs)
+drop-hidden zero bs vs = refl
+drop-hidden (suc n) [] vs = refl
+drop-hidden (suc n) (b ∷ bs) [] = hidden_none (drop n bs)
+drop-hidden (suc n) (b ∷ bs) (v ∷ vs) = drop-hidden n bs vs
+
+get_or-hidden : (bs : List Bool) (vs : List Value) (i : ℕ) → i < length bs → get_or (hidden bs vs) i Null ≡ (if get_or bs i false then get_or vs i Null else Null)
+get_or-hidden [] vs i h = absurd (omega arith)
+get_or-hidden (b ∷ bs) [] i h = elim (get_or (b ∷ bs) i false) as (λ t. Null ≡ (if t then Null else Null)) [ true ↦ refl | false ↦ refl ]
+get_or-hidden (b ∷ bs) (v ∷ vs) zero h = refl
+get_or-hidden (b ∷ bs) (v ∷ vs) (suc i) h = get_or-hidden bs vs i (omega arith)
+
+-- the validity of hidden values, none of them null by itself
+validities-hidden : (bs : List Bool) (vs : List Value) → validities vs ≡ replicate (length vs) true → length bs ≡ length vs → validities (hidden bs vs) ≡ bs
+validities-hidden [] [] all h = refl
+validities-hidden [] (v ∷ vs) all h = absurd (omega arith)
+validities-hidden (b ∷ bs) [] all h = absurd (omega arith)
+validities-hidden (b ∷ bs) (v ∷ vs) all h =
+    let here : is_valid v ≡ true = cc in
+    let rest : validities vs ≡ replicate (length vs) true = cc in
+    let first : (t : Bool) → is_valid (if t then v else Null) ≡ t = elim [ true ↦ here | false ↦ refl ] in
+    cc (first b, validities-hidden bs vs rest (omega arith))
+
+-- ---- values under a validity
+
+pub length-masked : (validity : Option Bits) (vs : List Value) → length (masked validity vs) ≡ length vs
+length-masked None vs = refl
+length-masked (Some validity) vs = length-hidden validity.bits vs
+
+get_or-masked : (validity : Option Bits) (vs : List Value) (i : ℕ) → i < length vs → Covers validity (length vs) → get_or (masked validity vs) i Null ≡ (if valid_at validity i then get_or vs i Null else Null)
+get_or-masked None vs i h covers = refl
+get_or-masked (Some validity) vs i h covers = get_or-hidden validity.bits vs i (omega (arith, covers validity refl))
+
+-- a row that is not valid
+pub masked_null : (validity : Option Bits) (vs : List Value) (i : ℕ) → valid_at validity i ≡ false → i < length vs → Covers validity (length vs) → get_or (masked validity vs) i Null ≡ Null
+masked_null validity vs i e h covers = get_or-masked validity vs i h covers ∙ ap (λ b. if b then get_or vs i Null else Null) e
+
+-- a row that is
+pub masked_valid : (validity : Option Bits) (vs : List Value) (i : ℕ) → valid_at validity i ≡ true → i < length vs → Covers validity (length vs) → get_or (masked validity vs) i Null ≡ get_or vs i Null
+masked_valid validity vs i e h covers = get_or-masked validity vs i h covers ∙ ap (λ b. if b then get_or vs i Null else Null) e
+
+-- a validity tells the nulls of what it hides, in a column of another type than that of nulls
+pub tells-masked : (s : Shape) (validity : Option Bits) (vs : List Value) → s ≢ of_null → validities vs ≡ replicate (length vs) true → Covers validity (length vs) → TellsNulls s validity (masked validity vs)
+tells-masked of_null validity vs other all covers = absurd (other refl)
+tells-masked s None vs other all covers = all
+tells-masked s (Some validity) vs other all covers = validities-hidden validity.bits vs all (covers validity refl)
+
+-- a part of the rows is the part of the values under the part of the validity
+pub part-masked : (validity : Option Bits) (vs : List Value) (off len : ℕ) → take len (drop off (masked validity vs)) ≡ masked (option_map (part_of off len) validity) (take len (drop off vs))
+part-masked None vs off len = refl
+part-masked (Some validity) vs off len = rw (drop-hidden, take-hidden) refl
+
+-- ---- numbers and truth values
+
+-- the values of one kind are no nulls
+validities-map : {A : Type 0} (f : A → Value) → ((x : A) → is_valid (f x) ≡ true) → (xs : List A) → validities (map f xs) ≡ replicate (length (map f xs)) true
+validities-map f valid [] = refl
+validities-map f valid (x ∷ xs) = cc (valid x, validities-map f valid xs)
+
+pub length-number_rows : {T : Type 0} (number : T → ℤ) → (xs : List T) (validity : Option Bits) → length (number_rows number xs validity) ≡ length xs
+length-number_rows number xs validity = rw (length-masked, length-map) refl
+
+pub length-truth_rows : (bits : List Bool) (validity : Option Bits) → length (truth_rows bits validity) ≡ length bits
+length-truth_rows bits validity = rw (length-masked, length-map) refl
+
+covers_map : {A : Type 0} (f : A → Value) → (xs : List A) (validity : Option Bits) → Covers validity (length xs) → Covers validity (length (map f xs))
+covers_map f xs validity covers = λ v there. rw length-map (covers v there)
+
+inside_map : {A : Type 0} (f : A → Value) → (xs : List A) (i : ℕ) → i < length xs → i < length (map f xs)
+inside_map f xs i h = rw length-map h
+
+pub null_number : {T : Type 0} (number : T → ℤ) → (xs : List T) (validity : Option Bits) (i : ℕ) → valid_at validity i ≡ false → i < length xs → Covers validity (length xs) → get_or (number_rows number xs validity) i Null ≡ Null
+null_number {T} number xs validity i e h covers =
+    let f : T → Value = λ x. Number (number x) in
+    masked_null validity (map f xs) i e (inside_map f xs i h) (covers_map f xs validity covers)
+
+pub valid_number : {T : Type 0} (number : T → ℤ) → (xs : List T) (validity : Option Bits) (i : ℕ) (x : T) → valid_at validity i ≡ true → i < length xs → Covers validity (length xs) → x ≡ get_or xs i x → get_or (number_rows number xs validity) i Null ≡ Number (number x)
+valid_number {T} number xs validity i x e h covers is =
+    let f : T → Value = λ x. Number (number x) in
+    masked_valid validity (map f xs) i e (inside_map f xs i h) (covers_map f xs validity covers)
+    ∙ get_or-map f xs i x Null h ∙ ap f (sym is)
+
+pub null_truth : (bits : List Bool) (validity : Option Bits) (i : ℕ) → valid_at validity i ≡ false → i < length bits → Covers validity (length bits) → get_or (truth_rows bits validity) i Null ≡ Null
+null_truth bits validity i e h covers = masked_null validity (map Truth bits) i e (inside_map Truth bits i h) (covers_map Truth bits validity covers)
+
+pub valid_truth : (bits : List Bool) (validity : Option Bits) (i : ℕ) → valid_at validity i ≡ true → i < length bits → Covers validity (length bits) → get_or (truth_rows bits validity) i Null ≡ Truth (get_or bits i false)
+valid_truth bits validity i e h covers =
+    masked_valid validity (map Truth bits) i e (inside_map Truth bits i h) (covers_map Truth bits validity covers) ∙ get_or-map Truth bits i false Null h
+
+pub tells-numbers : {T : Type 0} (s : Shape) (number : T → ℤ) → (xs : List T) (validity : Option Bits) → s ≢ of_null → Covers validity (length xs) → TellsNulls s validity (number_rows number xs validity)
+tells-numbers {T} s number xs validity other covers =
+    let f : T → Value = λ x. Number (number x) in
+    tells-masked s validity (map f xs) other (validities-map f (λ x. refl) xs) (covers_map f xs validity covers)
+
+pub tells-truths : (s : Shape) (bits : List Bool) (validity : Option Bits) → s ≢ of_null → Covers validity (length bits) → TellsNulls s validity (truth_rows bits validity)
+tells-truths s bits validity other covers = tells-masked s validity (map Truth bits) other (validities-map Truth (λ x. refl) bits) (covers_map Truth bits validity covers)
+
+pub tells-nulls : (n : ℕ) → validities (replicate n Null) ≡ replicate (length (replicate n Null)) false
+tells-nulls zero = refl
+tells-nulls (suc n) = ap (λ l. false ∷ l) (tells-nulls n)
+
+pub part-number_rows : {T : Type 0} (number : T → ℤ) → (xs : List T) (validity : Option Bits) (off len : ℕ) → number_rows number (take len (drop off xs)) (option_map (part_of off len) validity) ≡ take len (drop off (number_rows number xs validity))
+part-number_rows {T} number xs validity off len =
+    let f : T → Value = λ x. Number (number x) in
+    let parts : take len (drop off (map f xs)) ≡ map f (take len (drop off xs)) = rw (drop-map, take-map) refl in
+    sym (part-masked validity (map f xs) off len ∙ ap (masked (option_map (part_of off len) validity)) parts)
+
+pub part-truth_rows : (bits : List Bool) (validity : Option Bits) (off len : ℕ) → truth_rows (take len (drop off bits)) (option_map (part_of off len) validity) ≡ take len (drop off (truth_rows bits validity))
+part-truth_rows bits validity off len =
+    let parts : take len (drop off (map Truth bits)) ≡ map Truth (take len (drop off bits)) = rw (drop-map, take-map) refl in
+    sym (part-masked validity (map Truth bits) off len ∙ ap (masked (option_map (part_of off len) validity)) parts)
+
+pub part-replicate : {A : Type 0} (x : A) → (n off len : ℕ) → off + len ≤ n → replicate len x ≡ take len (drop off (replicate n x))
+part-replicate x n zero len h = front n len h
+  where
+    front : (n len : ℕ) → 0 + len ≤ n → replicate len x ≡ take len (replicate n x)
+    front n zero h = refl
+    front zero (suc len) h = absurd (omega arith)
+    front (suc n) (suc len) h = ap (λ l. x ∷ l) (front n len (omega arith))
+part-replicate x zero (suc off) len h = none len h
+  where
+    none : (len : ℕ) → suc off + len ≤ 0 → replicate len x ≡ take len []
+    none len h = absurd (omega arith)
+part-replicate x (suc n) (suc off) len h = part-replicate x n off len (omega arith)
+
+-- ---- lengths
+
+pub length-part : {A : Type 0} → (xs : List A) (off len : ℕ) → off + len ≤ length xs → length (take len (drop off xs)) ≡ len
+length-part {A} xs off len h = omega (arith, length-take len (drop off xs), length-drop off xs)
+
+pub part_covers : (validity : Option Bits) (n off len : ℕ) → Covers validity n → off + len ≤ n → Covers (option_map (part_of off len) validity) len
+part_covers None n off len covers h = λ v there. cc
+part_covers (Some validity) n off len covers h = λ part there.
+    let is : part_of off len validity ≡ part = cc in
+    rw (← is) (length-part validity.bits off len (omega (arith, covers validity refl)))
+
+pub part_within : (validity : Option Bits) (n off len : ℕ) → Covers validity n → off + len ≤ n → ForSome validity (λ v. off + len ≤ length v.bits)
+part_within validity n off len covers h = λ v there. omega (arith, covers v there)
+
+pub ruleset columns = (null_number, valid_number, null_truth, valid_truth, length-number_rows, length-truth_rows, length-replicate, tells-numbers, tells-truths, tells-nulls, part-number_rows, part-truth_rows, part-replicate, length-part, part_covers, part_within)

@@ -1,0 +1,20 @@
+-- The rows of each kind of column.
+use Rattle.std.specs.Prelude.{List, replicate}
+use Rattle.sel_bits.specs.declared.native.NativeType.{Ghosts}
+use Rattle.sel_arrow.specs.Value.{Value, Null}
+use Rattle.sel_arrow.specs.Masked.{number_rows, truth_rows}
+use Rattle.sel_arrow.specs.declared.boolean.BooleanArray.{BooleanArray}
+use Rattle.sel_arrow.specs.declared.null.NullArray.{NullArray}
+use Rattle.sel_arrow.specs.declared.primitive.PrimitiveArray.{PrimitiveArray}
+
+-- each row is null (Arrow columnar format: null layout)
+abbrev pub null_rows : NullArray → List Value
+null_rows column = replicate column.length Null
+
+-- row i is null where the validity says so, else bit i (Arrow columnar format: fixed-size primitive layout, of one bit)
+abbrev pub boolean_rows : BooleanArray → List Value
+boolean_rows column = truth_rows column.values.bits column.validity
+
+-- row i is null where the validity says so, else number i (Arrow columnar format: fixed-size primitive layout)
+abbrev pub primitive_rows : {T : Type 0} {type : Ghosts T} → PrimitiveArray T type → List Value
+primitive_rows {T} {type} column = number_rows type.number column.values column.validity

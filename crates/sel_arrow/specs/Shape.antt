@@ -1,0 +1,29 @@
+-- The types of columns.
+use Rattle.std.specs.Prelude.{ℕ}
+
+-- The type of a column: which layout it has, at every depth. Fields of a struct go by position.
+-- (Arrow columnar format: data types and their layouts.)
+mutual
+  pub data Shape : Type 0 where
+    of_null : Shape
+    of_boolean : Shape
+    of_int8 : Shape
+    of_int16 : Shape
+    of_int32 : Shape
+    of_int64 : Shape
+    of_int128 : Shape
+    of_uint8 : Shape
+    of_uint16 : Shape
+    of_uint32 : Shape
+    of_uint64 : Shape
+    of_uint128 : Shape
+    of_large_binary : Shape
+    of_binary_view : Shape
+    of_utf8_view : Shape
+    of_large_list : Shape → Shape
+    of_fixed_size_list : Shape → ℕ → Shape
+    of_struct : Shapes → Shape
+
+  pub data Shapes : Type 0 where
+    no_shapes : Shapes
+    next_shape : Shape → Shapes → Shapes

@@ -1,0 +1,96 @@
+//! What all columns have in common.
+
+ghost use Rattle.std.specs.Prelude.{◌≡◌, ◌≤◌, ◌+◌, ◌<◌, ◌↔◌, List, length, take, drop, count_by, IfOk, IfErr, IsTrue};
+ghost use Rattle.std.specs.Option.{option_copied};
+ghost use Rattle.sel_arrow.specs.Value.{Value, is_null};
+ghost use Rattle.sel_arrow.specs.Shape.{Shape};
+ghost use Rattle.sel_arrow.specs.Nulls.{TellsNulls};
+
+use crate::array_ref::ArrayRef;
+use crate::datatype::ArrowDataType;
+use sel_bits::bitmap::Bitmap;
+use sel_bits::faults::{PolarsError, PolarsResult};
+use std::alloc::Global;
+
+/// A column: contracts see the list of its rows and its type.
+///
+/// A part of a column is a column of that part of the rows; it copies no element.
+pub trait Array: Sized {
+    ghost use Rattle.sel_arrow.specs.DataType.{shape_of};
+    ghost use Rattle.sel_arrow.specs.Rows.{rows as column_rows, type_of};
+
+    /// The rows.
+    ghost rows: { Self → List Value };
+
+    /// The type.
+    ghost shape: { Self → Shape };
+
+    /// How many rows there are: at most 4,294,967,295.
+    fn len(&self) -> usize
+        ensures len { result ≡ length (rows self.now) }
+        ensures few { result ≤ 4294967295 };
+
+    /// Whether there are no rows.
+    fn is_empty(&self) -> bool
+        ensures { IsTrue result ↔ (length (rows self.now) ≡ 0) }
+    {
+        self.len() == 0
+    }
+
+    /// Which rows are valid. Without it each row is, but in a column of nulls none.
+    fn validity(&self) -> Option<&Bitmap>
+        ensures { TellsNulls (shape self.now) (option_copied result) (rows self.now) };
+
+    /// How many rows are null.
+    #[tactic(auto, using(crate::proofs::NullCounts::null_counts))]
+    fn null_count(&self) -> usize
+        ensures { result ≡ count_by is_null (rows self.now) }
+    {
+        let validity = self.validity();
+        if self.has_dtype(&ArrowDataType::Null) {
+            return self.len();
+        }
+        match validity {
+            None => 0,
+            Some(bits) => bits.unset_bits(),
+        }
+    }
+
+    /// Whether some row is null.
+    fn has_nulls(&self) -> bool
+        ensures { IsTrue result ↔ (0 < count_by is_null (rows self.now)) }
+    {
+        self.null_count() > 0
+    }
+
+    /// Whether the column is of this type.
+    fn has_dtype(&self, dtype: &ArrowDataType) -> bool
+        ensures { IsTrue result ↔ (shape self.now ≡ shape_of dtype.now) };
+
+    /// Whether the two columns are of one type.
+    fn same_dtype(&self, other: &Self) -> bool
+        ensures { IsTrue result ↔ (shape self.now ≡ shape other.now) };
+
+    /// The column as one of any type.
+    fn into_ref(self) -> ArrayRef
+        ensures rows { column_rows result.column ≡ rows self }
+        ensures dtype { type_of result.column ≡ shape self };
+
+    /// The type, read off the column. Refuses only for want of memory.
+    fn dtype(&self, alloc: Global) -> PolarsResult<ArrowDataType>
+        ensures dtype { IfOk result (λ dtype. shape_of dtype ≡ shape self.now) }
+        ensures refusal { IfErr result (λ fault. fault ≡ PolarsError.OutOfMemory) };
+
+    /// The `len` rows from row `off` on. Refuses only for want of memory.
+    fn sliced(&self, alloc: Global, off: usize, len: usize) -> PolarsResult<Self>
+        requires { off + len ≤ length (rows self.now) }
+        ensures rows { IfOk result (λ part. rows part ≡ take len (drop off (rows self.now))) }
+        ensures dtype { IfOk result (λ part. shape part ≡ shape self.now) }
+        ensures refusal { IfErr result (λ fault. fault ≡ PolarsError.OutOfMemory) };
+
+    /// The same column. Refuses only for want of memory.
+    fn try_clone(&self, alloc: Global) -> PolarsResult<Self>
+        ensures rows { IfOk result (λ copy. rows copy ≡ rows self.now) }
+        ensures dtype { IfOk result (λ copy. shape copy ≡ shape self.now) }
+        ensures refusal { IfErr result (λ fault. fault ≡ PolarsError.OutOfMemory) };
+}

@@ -1,0 +1,114 @@
+//! A column of truth values.
+
+ghost use Rattle.std.specs.Prelude.{◌≡◌, ◌≤◌, ◌<◌, length, slice_index_or, None, IfOk, IfErr};
+ghost use Rattle.std.specs.Option.{option_copied};
+ghost use Rattle.sel_bits.specs.Faults.{IsFault};
+ghost use Rattle.sel_arrow.specs.Makers.{flat_fault};
+ghost use Rattle.sel_arrow.specs.Masked.{Covers, truth_value};
+ghost use Rattle.sel_arrow.specs.Value.{Null};
+
+use crate::array::Array;
+use crate::array_ref::ArrayRef;
+use crate::column::Column;
+use crate::datatype::ArrowDataType;
+use crate::validity::{MOST_ROWS, clone_validity, has_other_length, is_valid_at, sliced_validity};
+use sel_bits::bitmap::Bitmap;
+use sel_bits::faults::{MakeError, Malformed, PolarsResult};
+use std::alloc::Global;
+
+/// Truth values, a bit each, under a validity.
+#[derive(Drop)]
+pub struct BooleanArray {
+    pub values: Bitmap,
+    pub validity: Option<Bitmap>,
+    pub ghost rows_fit: { length values.bits ≤ 4294967295 },
+    pub ghost validity_fits: { Covers validity (length values.bits) },
+}
+
+#[tactic(auto, using(crate::proofs::Rows::columns))]
+impl BooleanArray {
+    ghost use Rattle.sel_arrow.specs.Columns.{boolean_rows};
+
+    /// The column of these bits. Refused are more rows than 4,294,967,295, and then a validity of another length.
+    pub fn try_new(values: Bitmap, validity: Option<Bitmap>) -> Result<BooleanArray, MakeError>
+        ensures values { IfOk result (λ column. column.values ≡ values) }
+        ensures validity { IfOk result (λ column. column.validity ≡ validity) }
+        ensures accepted { IfOk result (λ _. flat_fault (length values.bits) validity ≡ None) }
+        ensures refused { IfErr result (IsFault (flat_fault (length values.bits) validity)) }
+    {
+        if values.len() > MOST_ROWS {
+            return Err(MakeError::Malformed(Malformed::TooManyRows));
+        }
+        if has_other_length(&validity, values.len()) {
+            return Err(MakeError::Malformed(Malformed::ValidityLength));
+        }
+        Ok(BooleanArray { values, validity })
+    }
+
+    /// The bits, those beneath nulls too.
+    pub fn values(&self) -> &Bitmap
+        ensures { result.now ≡ self.now.values }
+    {
+        &self.values
+    }
+
+    /// Row `i`: none where it is null.
+    pub fn get(&self, i: usize) -> Option<bool>
+        requires { i < length (boolean_rows self.now) }
+        ensures { truth_value result ≡ slice_index_or (boolean_rows self.now) i Null }
+    {
+        if is_valid_at(&self.validity, i) {
+            Some(self.values.get_bit(i))
+        } else {
+            None
+        }
+    }
+}
+
+#[tactic(auto, using(crate::proofs::Rows::columns))]
+impl Array for BooleanArray {
+    ghost use Rattle.sel_arrow.specs.Columns.{boolean_rows};
+    ghost use Rattle.sel_arrow.specs.Shape.{of_boolean};
+
+    ghost rows = { boolean_rows };
+
+    ghost shape = { λ _. of_boolean };
+
+    fn len(&self) -> usize {
+        self.values.len()
+    }
+
+    fn validity(&self) -> Option<&Bitmap> {
+        self.validity.as_ref()
+    }
+
+    fn has_dtype(&self, dtype: &ArrowDataType) -> bool {
+        matches!(dtype, ArrowDataType::Boolean)
+    }
+
+    fn same_dtype(&self, _other: &BooleanArray) -> bool {
+        true
+    }
+
+    fn into_ref(self) -> ArrayRef {
+        ArrayRef {
+            column: Column::Boolean(self),
+        }
+    }
+
+    fn dtype(&self, _alloc: Global) -> PolarsResult<ArrowDataType> {
+        Ok(ArrowDataType::Boolean)
+    }
+
+    fn sliced(&self, _alloc: Global, off: usize, len: usize) -> PolarsResult<BooleanArray> {
+        let values = self.values.try_clone()?.sliced(off, len);
+        let validity = sliced_validity(&self.validity, off, len)?;
+        Ok(BooleanArray { values, validity })
+    }
+
+    fn try_clone(&self, _alloc: Global) -> PolarsResult<BooleanArray> {
+        let values = self.values.try_clone()?;
+        let validity = clone_validity(&self.validity)?;
+        Ok(BooleanArray { values, validity })
+    }
+}

@@ -1,0 +1,234 @@
+//! A column of numbers.
+
+ghost use Rattle.std.specs.Prelude.{◌≡◌, ◌≢◌, ◌≤◌, ◌<◌, ◌↔◌, length, slice_index_or, None, IfOk, IfErr, IsTrue, pos};
+ghost use Rattle.std.specs.Option.{option_copied};
+ghost use Rattle.sel_bits.specs.Faults.{IsFault};
+ghost use Rattle.sel_arrow.specs.Makers.{flat_fault};
+ghost use Rattle.sel_arrow.specs.Masked.{Covers, number_rows, number_value};
+ghost use Rattle.sel_arrow.specs.Shape.{Shape, of_null};
+ghost use Rattle.sel_arrow.specs.Value.{Null};
+
+use crate::array::Array;
+use crate::array_ref::ArrayRef;
+use crate::column::Column;
+use crate::datatype::ArrowDataType;
+use crate::validity::{MOST_ROWS, clone_validity, has_other_length, is_valid_at, sliced_validity};
+use sel_bits::bitmap::Bitmap;
+use sel_bits::buffer::Buffer;
+use sel_bits::faults::{MakeError, Malformed, PolarsResult};
+use sel_bits::native::NativeType;
+use std::alloc::Global;
+
+/// Numbers of one type under a validity.
+#[derive(Drop)]
+pub struct PrimitiveArray<T: NativeType> {
+    pub values: Buffer<T>,
+    pub validity: Option<Bitmap>,
+    pub ghost rows_fit: { length values ≤ 4294967295 },
+    pub ghost validity_fits: { Covers validity (length values) },
+}
+
+/// A column of indices.
+pub type IdxArr = PrimitiveArray<u32>;
+
+#[tactic(auto, using(crate::proofs::Rows::columns))]
+impl<T: NativeType> PrimitiveArray<T> {
+    ghost use Rattle.sel_arrow.specs.Columns.{primitive_rows};
+
+    /// The column of these numbers. Refused are more rows than 4,294,967,295, and then a validity of another length.
+    pub fn try_new(
+        values: Buffer<T>,
+        validity: Option<Bitmap>,
+    ) -> Result<PrimitiveArray<T>, MakeError>
+        ensures values { IfOk result (λ column. column.values ≡ values) }
+        ensures validity { IfOk result (λ column. column.validity ≡ validity) }
+        ensures accepted { IfOk result (λ _. flat_fault (length values) validity ≡ None) }
+        ensures refused { IfErr result (IsFault (flat_fault (length values) validity)) }
+    {
+        if values.len() > MOST_ROWS {
+            return Err(MakeError::Malformed(Malformed::TooManyRows));
+        }
+        if has_other_length(&validity, values.len()) {
+            return Err(MakeError::Malformed(Malformed::ValidityLength));
+        }
+        Ok(PrimitiveArray { values, validity })
+    }
+
+    /// The numbers, those beneath nulls too.
+    pub fn values(&self) -> &Buffer<T>
+        ensures { result.now ≡ self.now.values }
+    {
+        &self.values
+    }
+
+    /// Row `i`: none where it is null.
+    pub fn get(&self, i: usize) -> Option<T>
+        requires { i < length (primitive_rows self.now) }
+        ensures { number_value T.number result ≡ slice_index_or (primitive_rows self.now) i Null }
+    {
+        if is_valid_at(&self.validity, i) {
+            Some(self.values.as_slice()[i])
+        } else {
+            None
+        }
+    }
+}
+
+/// A number type whose columns are a kind of `Column`.
+pub trait ArrowPrimitive: NativeType {
+    ghost use Rattle.sel_arrow.specs.DataType.{shape_of};
+    ghost use Rattle.sel_arrow.specs.Rows.{rows, type_of, IsWellFormed};
+
+    /// The type of such a column.
+    ghost shape: { Shape };
+
+    /// The type of such a column.
+    fn column_dtype() -> ArrowDataType
+        ensures { shape_of result ≡ shape };
+
+    /// Whether it is the type of such a column.
+    fn is_column_dtype(dtype: &ArrowDataType) -> bool
+        ensures { IsTrue result ↔ (shape ≡ shape_of dtype.now) };
+
+    /// The column of these parts.
+    fn into_column(values: Buffer<Self>, validity: Option<Bitmap>) -> Column
+        requires few { length values ≤ 4294967295 }
+        requires covers { Covers validity (length values) }
+        ensures rows { rows result ≡ number_rows Self.number values validity }
+        ensures dtype { type_of result ≡ shape }
+        ensures formed { IsWellFormed result };
+
+    /// The values and the validity, or the column back where it is of another type.
+    fn from_column(column: Column) -> Result<(Buffer<Self>, Option<Bitmap>), Column>
+        ensures rows { IfOk result (λ parts. number_rows Self.number parts.0 parts.1 ≡ rows column) }
+        ensures few { IfOk result (λ parts. length parts.0 ≤ 4294967295) }
+        ensures covers { IfOk result (λ parts. Covers parts.1 (length parts.0)) }
+        ensures dtype { IfOk result (λ _. type_of column ≡ shape) }
+        ensures back { IfErr result (λ back. back ≡ column) }
+        ensures other { IfErr result (λ _. type_of column ≢ shape) };
+
+    /// It is not the type of nulls.
+    ghost no_null: { shape ≢ of_null };
+}
+
+impl ArrowPrimitive for i64 {
+    ghost use Rattle.sel_arrow.specs.Rows.{rows, type_of, IsWellFormed};
+    ghost use Rattle.sel_arrow.specs.Shape.{of_int64};
+
+    ghost shape = { of_int64 };
+
+    ghost no_null = { λ same. Prim.cc };
+
+    fn column_dtype() -> ArrowDataType {
+        ArrowDataType::Int64
+    }
+
+    fn is_column_dtype(dtype: &ArrowDataType) -> bool {
+        matches!(dtype, ArrowDataType::Int64)
+    }
+
+    fn into_column(values: Buffer<i64>, validity: Option<Bitmap>) -> Column
+        requires few { length values ≤ 4294967295 }
+        requires covers { Covers validity (length values) }
+        ensures rows { rows result ≡ number_rows (λ x. x) values validity }
+        ensures dtype { type_of result ≡ of_int64 }
+        ensures formed { IsWellFormed result }
+    {
+        Column::Int64(PrimitiveArray { values, validity })
+    }
+
+    fn from_column(column: Column) -> Result<(Buffer<i64>, Option<Bitmap>), Column> {
+        match column {
+            Column::Int64(array) => {
+                let PrimitiveArray { values, validity } = array;
+                Ok((values, validity))
+            }
+            other => Err(other),
+        }
+    }
+}
+
+impl ArrowPrimitive for u32 {
+    ghost use Rattle.sel_arrow.specs.Rows.{rows, type_of, IsWellFormed};
+    ghost use Rattle.sel_arrow.specs.Shape.{of_uint32};
+
+    ghost shape = { of_uint32 };
+
+    ghost no_null = { λ same. Prim.cc };
+
+    fn column_dtype() -> ArrowDataType {
+        ArrowDataType::UInt32
+    }
+
+    fn is_column_dtype(dtype: &ArrowDataType) -> bool {
+        matches!(dtype, ArrowDataType::UInt32)
+    }
+
+    fn into_column(values: Buffer<u32>, validity: Option<Bitmap>) -> Column
+        requires few { length values ≤ 4294967295 }
+        requires covers { Covers validity (length values) }
+        ensures rows { rows result ≡ number_rows pos values validity }
+        ensures dtype { type_of result ≡ of_uint32 }
+        ensures formed { IsWellFormed result }
+    {
+        Column::UInt32(PrimitiveArray { values, validity })
+    }
+
+    fn from_column(column: Column) -> Result<(Buffer<u32>, Option<Bitmap>), Column> {
+        match column {
+            Column::UInt32(array) => {
+                let PrimitiveArray { values, validity } = array;
+                Ok((values, validity))
+            }
+            other => Err(other),
+        }
+    }
+}
+
+#[tactic(auto, using(crate::proofs::Rows::columns))]
+impl<T: ArrowPrimitive> Array for PrimitiveArray<T> {
+    ghost use Rattle.sel_arrow.specs.Columns.{primitive_rows};
+
+    ghost rows = { λ column. primitive_rows column };
+
+    ghost shape = { λ _. T.shape };
+
+    fn len(&self) -> usize {
+        self.values.len()
+    }
+
+    fn validity(&self) -> Option<&Bitmap> {
+        self.validity.as_ref()
+    }
+
+    fn has_dtype(&self, dtype: &ArrowDataType) -> bool {
+        T::is_column_dtype(dtype)
+    }
+
+    fn same_dtype(&self, _other: &PrimitiveArray<T>) -> bool {
+        true
+    }
+
+    fn into_ref(self) -> ArrayRef {
+        let PrimitiveArray { values, validity } = self;
+        ArrayRef {
+            column: T::into_column(values, validity),
+        }
+    }
+
+    fn dtype(&self, _alloc: Global) -> PolarsResult<ArrowDataType> {
+        Ok(T::column_dtype())
+    }
+
+    fn sliced(&self, _alloc: Global, off: usize, len: usize) -> PolarsResult<PrimitiveArray<T>> {
+        let values = self.values.try_clone()?.sliced(off, len);
+        let validity = sliced_validity(&self.validity, off, len)?;
+        Ok(PrimitiveArray { values, validity })
+    }
+
+    fn try_clone(&self, _alloc: Global) -> PolarsResult<PrimitiveArray<T>> {
+        let values = self.values.try_clone()?;
+        let validity = clone_validity(&self.validity)?;
+        Ok(PrimitiveArray { values, validity })
+    }
+}

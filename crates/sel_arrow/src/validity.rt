@@ -1,0 +1,60 @@
+//! A validity, which may be missing: then each row is valid.
+#![tactic(auto, using(crate::proofs::Rows::columns))]
+
+ghost use Rattle.std.specs.Prelude.{◌≡◌, ◌≤◌, ◌<◌, ◌+◌, length, IfOk, IfErr};
+ghost use Rattle.std.specs.Option.{ForSome, option_map};
+ghost use Rattle.sel_arrow.specs.Masked.{Covers, valid_at, validity_differs, part_of};
+
+use sel_bits::bitmap::Bitmap;
+use sel_bits::faults::{PolarsError, PolarsResult};
+
+/// The most rows that a column can have.
+pub const MOST_ROWS: usize = 4_294_967_295;
+
+/// Whether a validity that is there has another length.
+pub fn has_other_length(validity: &Option<Bitmap>, len: usize) -> bool
+    ensures { result ≡ validity_differs validity.now len }
+{
+    match validity {
+        None => false,
+        Some(bits) => bits.len() != len,
+    }
+}
+
+/// Whether row `i` is valid.
+pub fn is_valid_at(validity: &Option<Bitmap>, i: usize) -> bool
+    requires { ForSome validity.now (λ v. i < length v.bits) }
+    ensures { result ≡ valid_at validity.now i }
+{
+    match validity {
+        None => true,
+        Some(bits) => bits.get_bit(i),
+    }
+}
+
+/// The validity of the `len` rows from row `off` on. Refuses only for want of memory.
+pub fn sliced_validity(
+    validity: &Option<Bitmap>,
+    off: usize,
+    len: usize,
+) -> PolarsResult<Option<Bitmap>>
+    requires { ForSome validity.now (λ v. off + len ≤ length v.bits) }
+    ensures value { IfOk result (λ part. part ≡ option_map (part_of off len) validity.now) }
+    ensures refusal { IfErr result (λ fault. fault ≡ PolarsError.OutOfMemory) }
+{
+    match validity {
+        None => Ok(None),
+        Some(bits) => Ok(Some(bits.try_clone()?.sliced(off, len))),
+    }
+}
+
+/// The same validity. Refuses only for want of memory.
+pub fn clone_validity(validity: &Option<Bitmap>) -> PolarsResult<Option<Bitmap>>
+    ensures value { IfOk result (λ copy. copy ≡ validity.now) }
+    ensures refusal { IfErr result (λ fault. fault ≡ PolarsError.OutOfMemory) }
+{
+    match validity {
+        None => Ok(None),
+        Some(bits) => Ok(Some(bits.try_clone()?)),
+    }
+}
