@@ -191,7 +191,7 @@ fn offsets_of_a_part(rt: HostRuntime) -> Result<(), Fail> {
 
 #[test]
 fn offsets_that_are_known_to_rise(rt: HostRuntime) -> Result<(), Fail> {
-    let offsets = OffsetsBuffer::of_rising([0i32, 0, 7].to_vec(rt.alloc())?)?;
+    let offsets = OffsetsBuffer::of_rising(Vec::from_array(rt.alloc(), [0i32, 0, 7])?)?;
     assert_eq!(rt; offsets.as_slice(), [0i32, 0, 7].as_slice());
     Ok(())
 }
