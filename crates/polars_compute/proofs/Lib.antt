@@ -1,2 +1,3 @@
 pub mod Growths
+pub mod Scalars
 pub mod Selects

@@ -1,3 +1,4 @@
 pub mod Growing
 pub mod Pick
+pub mod Scalar
 pub mod Select

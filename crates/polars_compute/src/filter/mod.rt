@@ -7,6 +7,7 @@ ghost use Rattle.polars_compute.specs.Select.{select, in_force};
 
 pub mod boolean;
 pub mod primitive;
+pub mod scalar;
 
 use boolean::filter_bitmap_and_validity;
 pub use boolean::filter_boolean_kernel;
