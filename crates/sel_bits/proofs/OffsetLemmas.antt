@@ -2,13 +2,12 @@
 use Rattle.std.proofs.Common.{◌≡◌, ℕ, zero, suc, ◌+◌, ◌≤◌, ◌<◌, ℤ, pos, negsuc, Bool, true, false, ◌||◌, List, [], ◌∷◌, length, take, drop, map, None, refl, ap, sym, ◌∙◌, arith, get_or, length-take}
 use Rattle.std.proofs.lemmas.Grind.{common_steps}
 use Rattle.std.proofs.lemmas.List.{length-map, get_or-map, take-map, drop-map, get_or-take, get_or-drop}
-use lib.Signed.{lt_z}
-use Rattle.sel_bits.specs.Signs.{is_negative, magnitude}
+use Rattle.sel_bits.specs.Signs.{is_negative, is_below, magnitude}
 use Rattle.sel_bits.specs.Offsets.{magnitudes, has_negative, has_fall, falls_after, IsOffsets, IsRising, offsets_fault}
 use Rattle.sel_bits.specs.Faults.{first_broken}
 use Rattle.sel_bits.specs.declared.faults.Malformed.TheVariants.{OffsetNegative, OffsetOrder}
 
-not_less : (a b : ℤ) → is_negative a ≡ false → is_negative b ≡ false → lt_z b a ≡ false → magnitude a ≤ magnitude b
+not_less : (a b : ℤ) → is_negative a ≡ false → is_negative b ≡ false → is_below b a ≡ false → magnitude a ≤ magnitude b
 not_less (pos a) (pos b) p q h = grind (arith, common_steps)
 not_less (pos a) (negsuc b) p q h = cc
 not_less (negsuc a) b p q h = cc
@@ -27,11 +26,11 @@ neg_head number x xs h = or-left (is_negative (number x)) (has_negative number x
 neg_tail : {T : Type 0} (number : T → ℤ) → (x : T) (xs : List T) → has_negative number (x ∷ xs) ≡ false → has_negative number xs ≡ false
 neg_tail number x xs h = or-right (is_negative (number x)) (has_negative number xs) h
 
-fall_head : {T : Type 0} (number : T → ℤ) → (x y : T) (xs : List T) → has_fall number (x ∷ (y ∷ xs)) ≡ false → lt_z (number y) (number x) ≡ false
-fall_head number x y xs h = or-left (lt_z (number y) (number x)) (falls_after number y xs) h
+fall_head : {T : Type 0} (number : T → ℤ) → (x y : T) (xs : List T) → has_fall number (x ∷ (y ∷ xs)) ≡ false → is_below (number y) (number x) ≡ false
+fall_head number x y xs h = or-left (is_below (number y) (number x)) (falls_after number y xs) h
 
 fall_tail : {T : Type 0} (number : T → ℤ) → (x y : T) (xs : List T) → has_fall number (x ∷ (y ∷ xs)) ≡ false → has_fall number (y ∷ xs) ≡ false
-fall_tail number x y xs h = or-right (lt_z (number y) (number x)) (falls_after number y xs) h
+fall_tail number x y xs h = or-right (is_below (number y) (number x)) (falls_after number y xs) h
 
 shown : (z : ℤ) → is_negative z ≡ false → z ≡ pos (magnitude z)
 shown (pos n) h = refl

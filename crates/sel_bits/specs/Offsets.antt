@@ -1,11 +1,10 @@
 -- Offsets as whole numbers.
 use Rattle.std.specs.Prelude.{◌≡◌, ℕ, ◌<◌, ◌≤◌, ℤ, pos, Bool, true, false, ◌||◌, List, [], ◌∷◌, map, length, Option, slice_index}
 use Rattle.std.specs.List.{list_any}
-use lib.Signed.{lt_z}
 use Rattle.sel_bits.specs.declared.faults.Malformed.{Malformed}
 use Rattle.sel_bits.specs.declared.faults.Malformed.TheVariants.{OffsetCount, OffsetNegative, OffsetOrder}
 use Rattle.sel_bits.specs.Faults.{first_broken}
-use Rattle.sel_bits.specs.Signs.{is_negative, magnitude}
+use Rattle.sel_bits.specs.Signs.{is_negative, is_below, magnitude}
 
 -- the numbers that values show, without their signs
 abbrev pub magnitudes : {T : Type 0} → (T → ℤ) → List T → List ℕ
@@ -18,7 +17,7 @@ has_negative number xs = list_any (λ x. is_negative (number x)) xs
 -- some number is below the one before it, the first of them below that of `x`
 abbrev pub falls_after : {T : Type 0} → (T → ℤ) → T → List T → Bool
 falls_after number x [] = false
-falls_after number x (y ∷ ys) = lt_z (number y) (number x) || falls_after number y ys
+falls_after number x (y ∷ ys) = is_below (number y) (number x) || falls_after number y ys
 
 -- some number is below the one before it
 abbrev pub has_fall : {T : Type 0} → (T → ℤ) → List T → Bool

@@ -1,5 +1,6 @@
--- The sign of a whole number.
+-- Signs and order of whole numbers.
 use Rattle.std.specs.Prelude.{ℕ, ◌+◌, ℤ, pos, negsuc, Bool, true, false}
+use lib.Signed.{lt_z}
 
 -- it is below zero
 abbrev pub is_negative : ℤ → Bool
@@ -10,3 +11,7 @@ is_negative (negsuc n) = true
 abbrev pub magnitude : ℤ → ℕ
 magnitude (pos n) = n
 magnitude (negsuc n) = n + 1
+
+-- the first is less than the second
+abbrev pub is_below : ℤ → ℤ → Bool
+is_below a b = lt_z a b

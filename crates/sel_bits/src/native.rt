@@ -1,9 +1,8 @@
 //! The number types that a column can hold.
 
 ghost use Rattle.std.specs.Prelude.{◌≡◌, ℕ, ℤ, pos, negsuc, ◌≤ℤ◌, ◌<ℤ◌, ◌^◌, ◌-◌, MatchOption, IfSome};
-ghost use lib.Signed.{lt_z};
 ghost use Rattle.sel_bits.specs.Ranges.{IsWithin, IsOutside};
-ghost use Rattle.sel_bits.specs.Signs.{is_negative};
+ghost use Rattle.sel_bits.specs.Signs.{is_negative, is_below};
 
 /// A number type of columns: the integers of 8 to 128 bits.
 pub trait NativeType: Copy {
@@ -52,7 +51,7 @@ pub trait Offset: NativeType {
 
     /// Whether the number is below another.
     fn is_below(self, other: Self) -> bool
-        ensures { result ≡ lt_z (Self.number self) (Self.number other) };
+        ensures { result ≡ is_below (Self.number self) (Self.number other) };
 
     /// The number as a position, which every number from zero on has.
     fn to_position(self) -> usize

@@ -77,8 +77,7 @@ impl<O: Offset> OffsetsBuffer<O> {
     pub fn first(&self) -> O
         ensures { O.number result ≡ pos (slice_index self.now 0) }
     {
-        let _rows = self.len_proxy();
-        self.offset_at(0)
+        self.as_slice()[0]
     }
 
     /// The last offset.

@@ -189,6 +189,13 @@ fn offsets_of_a_part(rt: HostRuntime) -> Result<(), Fail> {
     Ok(())
 }
 
+#[test]
+fn offsets_that_are_known_to_rise(rt: HostRuntime) -> Result<(), Fail> {
+    let offsets = OffsetsBuffer::of_rising(Vec::from_array(rt.alloc(), [0i32, 0, 7])?)?;
+    assert_eq!(rt; offsets.as_slice(), [0i32, 0, 7].as_slice());
+    Ok(())
+}
+
 /// The number, made a value of the type and read again.
 fn back<T: NativeType>(n: usize) -> Option<usize> {
     T::from_usize(n)?.try_usize()

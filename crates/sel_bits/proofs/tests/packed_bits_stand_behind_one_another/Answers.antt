@@ -1,5 +1,4 @@
-use Rattle.std.proofs.Common.{◌≡◌, length, [], ◌∷◌, ◌++◌, true, arith, length-append}
-use Rattle.sel_bits.specs.Words.{bits}
+use Rattle.std.proofs.Common.{arith, length-append}
 use Rattle.sel_bits.proofs.Packs.{length_bits}
 use Rattle.sel_bits.proofs.tests.packed_bits_stand_behind_one_another.Goals as goal
 
