@@ -1,4 +1,4 @@
 pub mod Compressing
-pub mod Growths
 pub mod Scalars
 pub mod Selects
+pub mod Takes

@@ -1,5 +1,4 @@
 pub mod Compress
-pub mod Growing
 pub mod Pick
 pub mod Scalar
 pub mod Select

@@ -3,6 +3,5 @@
 
 pub mod filter;
 pub mod gather;
-mod growing;
 #[cfg(test)]
 mod tests;

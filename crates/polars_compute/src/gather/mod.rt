@@ -5,7 +5,11 @@ ghost use Rattle.sel_arrow.specs.Columns.{primitive_rows};
 ghost use Rattle.sel_arrow.specs.Masked.{number_value};
 ghost use Rattle.polars_compute.specs.Pick.{is_within, all_within};
 
+mod binview;
+pub mod bitmap;
+pub mod boolean;
 pub mod primitive;
+mod validity;
 
 use sel_arrow::array::Array;
 use sel_arrow::primitive::IdxArr;

@@ -1,21 +1,21 @@
 //! Numbers at indices.
 
-ghost use Rattle.std.specs.Prelude.{◌≡◌, IsTrue, length, pos, IfOk, IfErr};
+ghost use Rattle.std.specs.Prelude.{◌≡◌, IsTrue, length, pos, [], ◌∷◌, map, IfOk, IfErr};
 ghost use Rattle.sel_arrow.specs.Columns.{primitive_rows};
 ghost use Rattle.sel_arrow.specs.Masked.{number_value};
-ghost use Rattle.polars_compute.specs.Pick.{all_within, is_within, take_rows, found, pick_of};
-ghost use Rattle.sel_arrow.specs.Value.{Null};
-ghost use Rattle.std.specs.Prelude.{[], ◌∷◌};
+ghost use Rattle.polars_compute.specs.Pick.{all_within, is_within, take_rows, pick, found, pick_of};
 
-use crate::growing::GrowingNumbers;
+use crate::gather::validity::take_validity;
 use sel_arrow::array::Array;
 use sel_arrow::primitive::{IdxArr, PrimitiveArray};
+use sel_bits::buffer::Buffer;
 use sel_bits::faults::{PolarsError, PolarsResult};
 use sel_bits::native::NativeType;
 use std::alloc::Global;
 
 /// Row k is null where index k is null, else the row at index k. A number beneath a null index is never looked at.
 /// Refuses only for want of memory.
+
 pub fn take_primitive_unchecked<T: NativeType>(
     alloc: Global,
     arr: &PrimitiveArray<T>,
@@ -25,20 +25,40 @@ pub fn take_primitive_unchecked<T: NativeType>(
     ensures rows { IfOk result (λ taken. primitive_rows taken ≡ take_rows (primitive_rows arr.now) (primitive_rows indices.now)) }
     ensures refusal { IfErr result (λ fault. fault ≡ PolarsError.OutOfMemory) }
 {
-    let mut taken = GrowingNumbers::with_capacity(alloc, indices.len())?;
-    for k in 0..indices.len() {
-        taken.push(row_at(arr, indices.get(k)))?;
-    }
-    taken.into_column()
+    let values = take_values(alloc, arr.values.as_slice(), indices, T::LEAST)?;
+    let validity = take_validity(alloc, &arr.validity, indices)?;
+    let values = Buffer::from_vec(values)?;
+    Ok(PrimitiveArray {
+        values,
+        validity: Some(validity),
+    })
 }
 
-/// The row at an index: none for a null one.
-fn row_at<T: NativeType>(arr: &PrimitiveArray<T>, index: Option<u32>) -> Option<T>
-    requires { IsTrue (is_within (length (primitive_rows arr.now)) (number_value pos index)) }
-    ensures { number_value T.number result ≡ found Null (primitive_rows arr.now ∷ []) (pick_of (number_value pos index)) }
+/// The value at each index, and the filler for a null one. Refuses only for want of memory.
+pub(crate) fn take_values<T: Copy>(
+    alloc: Global,
+    values: &[T],
+    indices: &IdxArr,
+    filler: T,
+) -> PolarsResult<Vec<T>>
+    requires { IsTrue (all_within (length values.now) (primitive_rows indices.now)) }
+    ensures items { IfOk result (λ taken. taken.items ≡ pick filler (values.now ∷ []) (map pick_of (primitive_rows indices.now))) }
+    ensures refusal { IfErr result (λ fault. fault ≡ PolarsError.OutOfMemory) }
+{
+    let mut taken = Vec::with_capacity(alloc, indices.len())?;
+    for k in 0..indices.len() {
+        taken.push(value_at(values, indices.get(k), filler))?;
+    }
+    Ok(taken)
+}
+
+/// The value at an index, and the filler for a null one.
+fn value_at<T: Copy>(values: &[T], index: Option<u32>, filler: T) -> T
+    requires { IsTrue (is_within (length values.now) (number_value pos index)) }
+    ensures { result ≡ found filler (values.now ∷ []) (pick_of (number_value pos index)) }
 {
     match index {
-        None => None,
-        Some(place) => arr.get(place as usize),
+        None => filler,
+        Some(place) => values[place as usize],
     }
 }

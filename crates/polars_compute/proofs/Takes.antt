@@ -1,0 +1,70 @@
+-- Rows at indices.
+use Rattle.std.proofs.Common.{◌≡◌, ℕ, zero, suc, ◌+◌, ◌≤◌, ◌<◌, ℤ, pos, negsuc, Bool, true, false, ◌&&◌, List, [], ◌∷◌, ◌++◌, length, map, take, get_or, replicate, Option, Some, None, refl, ap, sym, ◌∙◌, arith}
+use Rattle.std.specs.Prelude.{if◌then◌else◌}
+use Rattle.std.specs.List.{list_all}
+use Rattle.std.specs.Option.{ForSome}
+use Rattle.std.proofs.lemmas.List.{length-map, get_or-map, get_or_past}
+use Rattle.std.proofs.lemmas.Bool.{cases_lt, ltb-true}
+use Rattle.sel_bits.specs.Bits.{Bits}
+use Rattle.sel_arrow.specs.Value.{Value, Null, Truth, Number}
+use Rattle.sel_arrow.specs.Masked.{hidden, masked, number_rows, truth_rows, Covers, valid_at}
+use Rattle.sel_arrow.specs.Views.{view_rows, view_value}
+use Rattle.sel_arrow.specs.declared.view.View.{View}
+use Rattle.sel_arrow.proofs.Rows.{length-number_rows, length-truth_rows, length-masked, masked_null, masked_valid}
+use Rattle.sel_arrow.proofs.ViewRows.{length-view_rows}
+use Rattle.polars_compute.specs.Pick.{found, pick, pick_of, take_rows, is_within, all_within, valid_pick}
+
+both : (a b : Bool) → (a && b) ≡ true → (a ≡ true) × (b ≡ true)
+both true b e = (refl, e)
+both false b e = cc
+
+-- ---- one row at an index
+
+by_validity : (b : Bool) (validity : Option Bits) (vs : List Value) (i : ℕ) (v : Value) → valid_at validity i ≡ b → i < length vs → Covers validity (length vs) → v ≡ get_or vs i Null
+    → (if b then v else Null) ≡ get_or (masked validity vs) i Null
+by_validity true validity vs i v e inside covers is = is ∙ sym (masked_valid validity vs i e inside covers)
+by_validity false validity vs i v e inside covers is = sym (masked_null validity vs i e inside covers)
+
+row_taken : {A : Type 0} (f : A → Value) → (validity : Option Bits) (xs : List A) (d : A) (index : Value) → Covers validity (length xs) → is_within (length xs) index ≡ true
+    → (if valid_pick validity (pick_of index) then f (found d (xs ∷ []) (pick_of index)) else Null) ≡ found Null (masked validity (map f xs) ∷ []) (pick_of index)
+row_taken f validity xs d (Number (pos i)) covers within =
+    let inside : i < length xs = ltb-true i (length xs) within in
+    by_validity (valid_at validity i) validity (map f xs) i (f (get_or xs i d)) refl (rw length-map inside) (λ v there. rw length-map (covers v there)) (sym (get_or-map f xs i d Null inside))
+row_taken f validity xs d index covers within = refl
+
+-- ---- all of them
+
+taken_list : {A : Type 0} (f : A → Value) → (validity : Option Bits) (xs : List A) (d : A) (indices : List Value) → Covers validity (length xs) → all_within (length xs) indices ≡ true
+    → hidden (map (valid_pick validity) (map pick_of indices)) (map f (pick d (xs ∷ []) (map pick_of indices))) ≡ take_rows (masked validity (map f xs)) indices
+taken_list f validity xs d [] covers within = refl
+taken_list f validity xs d (index ∷ indices) covers within =
+    let parts = both (is_within (length xs) index) (all_within (length xs) indices) within in
+    (λ i. row_taken f validity xs d index covers parts.0 i ∷ taken_list f validity xs d indices covers parts.1 i)
+
+-- a column of one kind has the rows at the indices where its values and its validity are those at them
+pub taken_rows : {A : Type 0} (f : A → Value) → (validity : Option Bits) (bits : Bits) (xs ys : List A) (d : A) (indices : List Value) → Covers validity (length xs) → all_within (length xs) indices ≡ true
+    → ys ≡ pick d (xs ∷ []) (map pick_of indices) → bits.bits ≡ map (valid_pick validity) (map pick_of indices)
+    → masked (Some bits) (map f ys) ≡ take_rows (masked validity (map f xs)) indices
+taken_rows f validity bits xs ys d indices covers within values valid =
+    (λ i. hidden (valid i) (map f (values i))) ∙ taken_list f validity xs d indices covers within
+
+pub length-pick : {A : Type 0} (d : A) → (xss : List (List A)) (indices : List Value) → length (pick d xss (map pick_of indices)) ≡ length indices
+length-pick d xss indices = length-map (map pick_of indices) (found d xss) ∙ length-map indices pick_of
+
+pub length-valid : (validity : Option Bits) (indices : List Value) → length (map (valid_pick validity) (map pick_of indices)) ≡ length indices
+length-valid validity indices = length-map (map pick_of indices) (valid_pick validity) ∙ length-map indices pick_of
+
+-- ---- what each element passes
+
+passed_at : {A : Type 0} (p : A → Bool) → (xs : List A) (d : A) (i : ℕ) → list_all p xs ≡ true → p d ≡ true → p (get_or xs i d) ≡ true
+passed_at p [] d i all filler = filler
+passed_at p (x ∷ xs) d zero all filler = (both (p x) (list_all p xs) all).0
+passed_at p (x ∷ xs) d (suc i) all filler = passed_at p xs d i (both (p x) (list_all p xs) all).1 filler
+
+passed_found : {A : Type 0} (p : A → Bool) → (xs : List A) (d : A) (index : Value) → list_all p xs ≡ true → p d ≡ true → p (found d (xs ∷ []) (pick_of index)) ≡ true
+passed_found p xs d (Number (pos i)) all filler = passed_at p xs d i all filler
+passed_found p xs d index all filler = filler
+
+pub passed_taken : {A : Type 0} (p : A → Bool) → (xs : List A) (d : A) (indices : List Value) → list_all p xs ≡ true → p d ≡ true → list_all p (pick d (xs ∷ []) (map pick_of indices)) ≡ true
+passed_taken p xs d [] all filler = refl
+passed_taken p xs d (index ∷ indices) all filler = rw (passed_found p xs d index all filler) (passed_taken p xs d indices all filler)

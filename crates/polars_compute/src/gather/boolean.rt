@@ -1,0 +1,32 @@
+//! Truth values at indices.
+
+ghost use Rattle.std.specs.Prelude.{◌≡◌, IsTrue, length, IfOk, IfErr};
+ghost use Rattle.sel_arrow.specs.Columns.{boolean_rows, primitive_rows};
+ghost use Rattle.polars_compute.specs.Pick.{all_within, take_rows};
+
+use crate::gather::bitmap::take_bitmap_nulls_unchecked;
+use crate::gather::validity::take_validity;
+use sel_arrow::boolean::BooleanArray;
+use sel_arrow::primitive::IdxArr;
+use sel_bits::faults::{PolarsError, PolarsResult};
+use std::alloc::Global;
+
+/// Row k is null where index k is null, else the row at index k. A number beneath a null index is never looked at.
+/// Refuses only for want of memory.
+
+pub fn take_unchecked(
+    alloc: Global,
+    values: &BooleanArray,
+    indices: &IdxArr,
+) -> PolarsResult<BooleanArray>
+    requires { IsTrue (all_within (length (boolean_rows values.now)) (primitive_rows indices.now)) }
+    ensures rows { IfOk result (λ taken. boolean_rows taken ≡ take_rows (boolean_rows values.now) (primitive_rows indices.now)) }
+    ensures refusal { IfErr result (λ fault. fault ≡ PolarsError.OutOfMemory) }
+{
+    let bits = take_bitmap_nulls_unchecked(alloc, &values.values, indices)?;
+    let validity = take_validity(alloc, &values.validity, indices)?;
+    Ok(BooleanArray {
+        values: bits,
+        validity: Some(validity),
+    })
+}
