@@ -1,5 +1,5 @@
 -- Rows at indices.
-use Rattle.std.proofs.Common.{◌≡◌, ℕ, zero, suc, ◌+◌, ◌≤◌, ◌<◌, ℤ, pos, negsuc, Bool, true, false, ◌&&◌, List, [], ◌∷◌, ◌++◌, length, map, take, get_or, replicate, Option, Some, None, refl, ap, sym, ◌∙◌, arith}
+use Rattle.std.proofs.Common.{◌≡◌, ℕ, zero, suc, ◌+◌, ◌≤◌, ◌<◌, ℤ, pos, negsuc, Bool, true, false, ◌&&◌, List, [], ◌∷◌, ◌++◌, length, map, take, get_or, replicate, Option, Some, None, refl, ap, sym, ◌∙◌, arith, subst}
 use Rattle.std.specs.Prelude.{if◌then◌else◌}
 use Rattle.std.specs.List.{list_all}
 use Rattle.std.specs.Option.{ForSome}
@@ -68,3 +68,25 @@ passed_found p xs d index all filler = filler
 pub passed_taken : {A : Type 0} (p : A → Bool) → (xs : List A) (d : A) (indices : List Value) → list_all p xs ≡ true → p d ≡ true → list_all p (pick d (xs ∷ []) (map pick_of indices)) ≡ true
 passed_taken p xs d [] all filler = refl
 passed_taken p xs d (index ∷ indices) all filler = rw (passed_found p xs d index all filler) (passed_taken p xs d indices all filler)
+
+-- ---- conditions
+
+pub within_as : (n m : ℕ) (indices : List Value) → n ≡ m → all_within n indices ≡ true → all_within m indices ≡ true
+within_as n m indices same within = subst (λ (k : ℕ). all_within k indices ≡ true) same within
+
+pub validity_within : (validity : Option Bits) (n : ℕ) (indices : List Value) → Covers validity n → all_within n indices ≡ true → ForSome validity (λ v. all_within (length v.bits) indices ≡ true)
+validity_within validity n indices covers within = λ v there. within_as n (length v.bits) indices (sym (covers v there)) within
+
+-- the validity of as many rows
+pub covers_as : {A : Type 0} → (bits v : Bits) (xs : List A) (indices : List Value) (validity : Option Bits) → bits.bits ≡ map (valid_pick validity) (map pick_of indices) → length xs ≡ length indices → Some bits ≡ Some v
+    → length v.bits ≡ length xs
+covers_as bits v xs indices validity valid count there =
+    let is : bits ≡ v = cc in
+    ap (λ (b : Bits). length b.bits) (sym is) ∙ ap (λ (l : List Bool). length l) valid ∙ length-valid validity indices ∙ sym count
+
+-- as many as there are indices
+pub count_taken : {A : Type 0} → (ys : List A) (d : A) (xss : List (List A)) (indices : List Value) → ys ≡ pick d xss (map pick_of indices) → length ys ≡ length indices
+count_taken ys d xss indices is = ap (λ l. length l) is ∙ length-pick d xss indices
+
+pub passed_by : {A : Type 0} (p : A → Bool) → (xs ys : List A) (d : A) (indices : List Value) → ys ≡ pick d (xs ∷ []) (map pick_of indices) → list_all p xs ≡ true → p d ≡ true → list_all p ys ≡ true
+passed_by p xs ys d indices is all filler = ap (list_all p) is ∙ passed_taken p xs d indices all filler

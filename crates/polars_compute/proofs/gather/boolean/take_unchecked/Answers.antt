@@ -1,0 +1,34 @@
+use Rattle.std.proofs.Common.{◌≡◌, ◌∙◌, ◌≤◌, [], ◌∷◌, List, Bool, length, ap, false, pos, arith}
+use Rattle.std.specs.Prelude.{slice_index_or}
+use Rattle.sel_arrow.specs.Columns.{primitive_rows}
+use Rattle.sel_arrow.specs.Value.{Truth}
+use Rattle.sel_arrow.proofs.Rows.{length-truth_rows, length-number_rows}
+use Rattle.polars_compute.proofs.Takes.{within_as, validity_within, covers_as, taken_rows, length-pick}
+use Rattle.polars_compute.proofs.gather.boolean.take_unchecked.Goals as goal
+
+pub take_bitmap_nulls_unchecked-requires : goal.take_bitmap_nulls_unchecked-requires
+take_bitmap_nulls_unchecked-requires c =
+    within_as _ _ (primitive_rows c.args.indices.now) (length-truth_rows c.args.values.now.values.bits c.args.values.now.validity) c.requires
+
+pub take_validity-requires : goal.take_validity-requires
+take_validity-requires c =
+    let values = c.args.values.now in
+    validity_within values.validity (length values.values.bits) (primitive_rows c.args.indices.now) values.validity_fits
+    (within_as _ _ (primitive_rows c.args.indices.now) (length-truth_rows values.values.bits values.validity) c.requires)
+
+pub invariant_of-result : goal.invariant_of-result
+invariant_of-result c =
+    let values = c.args.values.now in
+    let indices = primitive_rows c.args.indices.now in
+    let count : length c.in_ok-bits.bits.bits ≡ length indices = ap (λ (l : List Bool). length l) c.in_ok-bits.ensures.bits ∙ length-pick (slice_index_or values.values.bits 0 false) (values.values.bits ∷ []) indices in
+    record {
+      rows_fit = omega (arith, count, length-number_rows pos c.args.indices.now.values c.args.indices.now.validity, c.args.indices.now.rows_fit);
+      validity_fits = λ v there. covers_as c.in_ok-validity.validity v c.in_ok-bits.bits.bits indices values.validity c.in_ok-validity.ensures.bits count there;
+    }
+
+pub returns-clause-rows : goal.returns-clause-rows
+returns-clause-rows c =
+    let values = c.args.values.now in
+    let indices = primitive_rows c.args.indices.now in
+    taken_rows Truth values.validity c.in_ok-validity.validity values.values.bits c.in_ok-bits.bits.bits (slice_index_or values.values.bits 0 false) indices values.validity_fits
+    (within_as _ _ indices (length-truth_rows values.values.bits values.validity) c.requires) c.in_ok-bits.ensures.bits c.in_ok-validity.ensures.bits
