@@ -162,11 +162,11 @@ impl Array for BinaryArray<i64> {
     ghost shape = { λ _. of_large_binary };
 
     fn len(&self) -> usize {
-        self.offsets.len_proxy()
+        BinaryArray::len(self)
     }
 
     fn validity(&self) -> Option<&Bitmap> {
-        self.validity.as_ref()
+        BinaryArray::validity(self)
     }
 
     fn has_dtype(&self, dtype: &ArrowDataType) -> bool {
