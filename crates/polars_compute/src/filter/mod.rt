@@ -9,6 +9,8 @@ ghost use Rattle.polars_compute.specs.Trim.{KeepsAll};
 pub mod boolean;
 pub mod primitive;
 pub mod scalar;
+#[cfg(test)]
+mod tests;
 
 use boolean::filter_bitmap_and_validity;
 pub use boolean::filter_boolean_kernel;

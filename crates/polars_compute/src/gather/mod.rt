@@ -3,12 +3,14 @@
 ghost use Rattle.std.specs.Prelude.{◌≡◌};
 ghost use Rattle.sel_arrow.specs.Columns.{primitive_rows};
 ghost use Rattle.sel_arrow.specs.Masked.{number_value};
-ghost use Rattle.polars_compute.specs.Pick.{is_within, all_within};
+ghost use Rattle.polars_compute.specs.Pick.{is_within, all_within, all_below};
 
 mod binview;
 pub mod bitmap;
 pub mod boolean;
 pub mod primitive;
+#[cfg(test)]
+mod tests;
 mod validity;
 
 use sel_arrow::array::Array;
@@ -25,6 +27,13 @@ pub fn indices_in_bounds(indices: &IdxArr, len: usize) -> bool
         }
     }
     true
+}
+
+/// Whether each place is below `len`.
+pub fn idx_slice_in_bounds(indices: &[u32], len: usize) -> bool
+    ensures { result ≡ all_below len indices.now }
+{
+    indices.iter().all(|place| (*place as usize) < len)
 }
 
 /// Whether an index that is not null names one of `len` rows.

@@ -1,0 +1,169 @@
+use crate::filter::boolean::pext64_polyfill;
+use crate::filter::scalar::{scalar_filter, scalar_filter_offset};
+use crate::filter::{filter, filter_boolean_kernel};
+use sel_arrow::array::Array;
+use sel_arrow::boolean::BooleanArray;
+use sel_arrow::utf8view::Utf8ViewArray;
+use sel_arrow::view::View;
+use sel_bits::bitmap::Bitmap;
+use sel_bits::buffer::Buffer;
+use std::test::Fail;
+
+#[test]
+fn bits_under_masks(rt: HostRuntime) {
+    let rows = [
+        (0b10110100, 0b11001100, 4, 0b1001),
+        (0b10110100, 0b11111000, 5, 0b10110),
+        (u64::MAX, u64::MAX, 64, u64::MAX),
+        (0x8000000000000001, 0xF00000000000000F, 8, 0x81),
+        (0x8000000000000000, 0xAAAAAAAAAAAAAAAA, 32, 0x80000000),
+        (0, 0, 0, 0),
+    ];
+    for (value, mask, count, packed) in rows {
+        assert_eq!(rt; mask.count_ones(), count);
+        assert_eq!(rt; pext64_polyfill(value, mask, mask.count_ones()), packed);
+    }
+}
+
+// The extraction bit by bit, the highest kept bit first.
+fn extracted(value: u64, mask: u64) -> u64 {
+    let mut packed = 0u64;
+    for place in (0..64u32).rev() {
+        if mask & (1u64 << place) != 0 {
+            packed = packed.wrapping_mul(2) | (value >> place) & 1;
+        }
+    }
+    packed
+}
+
+// The `count` lowest set bits.
+fn lowest_bits(word: u64, count: u32) -> u64 {
+    let mut kept = 0u64;
+    let mut left = word;
+    for _ in 0..count {
+        let lowest = left & left.wrapping_neg();
+        kept |= lowest;
+        left ^= lowest;
+    }
+    kept
+}
+
+#[test]
+fn bits_of_many_words(rt: HostRuntime) {
+    let mut word = 1u64;
+    let mut next = || {
+        word = word
+            .wrapping_mul(6364136223846793005)
+            .wrapping_add(1442695040888963407);
+        word
+    };
+    for n in 0..100u32 {
+        let x = next();
+        let y = next();
+        let few = lowest_bits(y, n % 9);
+        for (value, mask) in [
+            (x, y),
+            (x, 0),
+            (x, u64::MAX),
+            (x, few),
+            (0, y),
+            (u64::MAX, y),
+        ] {
+            let packed = pext64_polyfill(value, mask, mask.count_ones());
+            assert_eq!(rt; packed, extracted(value, mask));
+        }
+    }
+}
+
+#[test]
+fn two_bits_of_many(rt: HostRuntime) -> Result<(), Fail> {
+    let alloc = rt.alloc();
+    let mut values = Vec::new(alloc);
+    let mut mask = Vec::new(alloc);
+    for i in 0..512 {
+        values.push(i == 511)?;
+        mask.push(i == 63 || i == 511)?;
+    }
+    let values = Bitmap::from_bools(alloc, &values)?;
+    let mask = Bitmap::from_bools(alloc, &mask)?;
+    assert_eq!(rt; values.len(), mask.len());
+    let kept = filter_boolean_kernel(alloc, &values, &mask)?;
+    assert_eq!(rt; kept.len(), 2);
+    assert!(rt; !kept.get_bit(0));
+    assert!(rt; kept.get_bit(1));
+    Ok(())
+}
+
+#[test]
+fn values_by_bytes(rt: HostRuntime) -> Result<(), Fail> {
+    let alloc = rt.alloc();
+    let mut values = Vec::new(alloc);
+    for i in 0..65u64 {
+        values.push(i)?;
+    }
+    let mut out = Vec::new(alloc);
+    let bytes = [0b100101, 0, 0, 0, 0, 0, 0, 0, 0xFF];
+    assert!(rt; values.len() <= 8 * bytes.len());
+    scalar_filter(&values, &bytes, &mut out)?;
+    assert!(rt; out.as_slice() == [0, 2, 5, 64].as_slice());
+    Ok(())
+}
+
+#[test]
+fn values_up_to_a_byte(rt: HostRuntime) -> Result<(), Fail> {
+    let alloc = rt.alloc();
+    let bytes = vec![in alloc; 0xFF, 0xFF]?;
+    assert_eq!(rt; bytes.len(), 2);
+    let whole = Bitmap::from_u8_vec(bytes, 16)?;
+    let mask = whole.sliced(5, 4);
+    let values = [10u32, 20, 30, 40];
+    assert_eq!(rt; mask.len(), values.len());
+    let mut out = Vec::new(alloc);
+    let (others, bytes) = scalar_filter_offset(&values, &mask, &mut out)?;
+    assert!(rt; out.as_slice() == [10, 20, 30].as_slice());
+    assert!(rt; others == [40].as_slice());
+    assert!(rt; bytes == [0xFF].as_slice());
+    assert!(rt; others.len() <= 8 * bytes.len());
+    scalar_filter(others, bytes, &mut out)?;
+    assert!(rt; out.as_slice() == [10, 20, 30, 40].as_slice());
+
+    let bytes = vec![in alloc; 0xFF]?;
+    assert_eq!(rt; bytes.len(), 1);
+    let empty = Bitmap::from_u8_vec(bytes, 8)?.sliced(3, 0);
+    let none: [u32; 0] = [];
+    assert_eq!(rt; empty.len(), none.len());
+    let mut out = Vec::new(alloc);
+    let (others, bytes) = scalar_filter_offset(&none, &empty, &mut out)?;
+    assert!(rt; out.is_empty() && others.is_empty() && bytes.is_empty());
+    Ok(())
+}
+
+#[test]
+fn filters_of_texts(rt: HostRuntime) -> Result<(), Fail> {
+    let alloc = rt.alloc();
+    let long = b"abcdefghijklm";
+    let views = vec![in alloc;
+        View::new_from_bytes(b"a", 0, 0),
+        View::new_from_bytes(long, 0, 0),
+        View::new_from_bytes(b"", 0, 0),
+    ]?;
+    let data = Buffer::from_vec(Vec::from_slice(alloc, long)?)?;
+    let mut buffers = Vec::new(alloc);
+    buffers.push(data)?;
+    let validity = Bitmap::from_bools(alloc, &[true, true, false])?;
+    let texts = Utf8ViewArray::try_new(
+        Buffer::from_vec(views)?,
+        Buffer::from_vec(buffers)?,
+        Some(validity),
+    )?;
+    let mask = BooleanArray::try_new(Bitmap::from_bools(alloc, &[false, true, true])?, None)?;
+    assert_eq!(rt; texts.len(), mask.len());
+    let Ok(kept) = filter(alloc, &texts.into_ref(), &mask)?.into_utf8view() else {
+        return Err(Fail::from("another type"));
+    };
+    assert_eq!(rt; kept.len(), 2);
+    let text = kept.get(alloc, 0)?;
+    assert!(rt; text.is_some_and(|text| text.as_str() == "abcdefghijklm"));
+    assert!(rt; kept.get(alloc, 1)?.is_none());
+    Ok(())
+}
