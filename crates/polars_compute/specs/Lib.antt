@@ -1,5 +1,7 @@
 pub mod Compress
 pub mod Growing
+pub mod JoinedBytes
+pub mod Need
 pub mod Pick
 pub mod Scalar
 pub mod Select
