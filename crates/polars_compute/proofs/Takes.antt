@@ -90,3 +90,18 @@ count_taken ys d xss indices is = ap (λ l. length l) is ∙ length-pick d xss i
 
 pub passed_by : {A : Type 0} (p : A → Bool) → (xs ys : List A) (d : A) (indices : List Value) → ys ≡ pick d (xs ∷ []) (map pick_of indices) → list_all p xs ≡ true → p d ≡ true → list_all p ys ≡ true
 passed_by p xs ys d indices is all filler = ap (list_all p) is ∙ passed_taken p xs d indices all filler
+
+-- ---- nulls
+
+null_at : (n : ℕ) (i : ℕ) → get_or (replicate n Null) i Null ≡ Null
+null_at zero i = refl
+null_at (suc n) zero = refl
+null_at (suc n) (suc i) = null_at n i
+
+null_found : (n : ℕ) (index : Value) → Null ≡ found Null (replicate n Null ∷ []) (pick_of index)
+null_found n (Number (pos i)) = sym (null_at n i)
+null_found n index = refl
+
+pub taken_nulls : (n : ℕ) (indices : List Value) → replicate (length indices) Null ≡ take_rows (replicate n Null) indices
+taken_nulls n [] = refl
+taken_nulls n (index ∷ indices) = (λ i. null_found n index i ∷ taken_nulls n indices i)

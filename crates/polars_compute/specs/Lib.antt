@@ -1,4 +1,6 @@
 pub mod Compress
+pub mod JoinedBytes
+pub mod Need
 pub mod Pick
 pub mod Scalar
 pub mod Select

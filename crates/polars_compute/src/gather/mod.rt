@@ -1,27 +1,85 @@
 //! The rows of a column at indices.
 
-ghost use Rattle.std.specs.Prelude.{◌≡◌};
-ghost use Rattle.sel_arrow.specs.Columns.{primitive_rows};
+ghost use Rattle.std.specs.Prelude.{◌≡◌, ◌≤◌, length, IsTrue, IfOk, IfErr};
+ghost use Rattle.sel_arrow.specs.Columns.{null_rows, primitive_rows};
+ghost use Rattle.sel_arrow.specs.Rows.{rows, type_of};
+ghost use Rattle.polars_compute.specs.Need.{IsRefusal, past};
 ghost use Rattle.sel_arrow.specs.Masked.{number_value};
-ghost use Rattle.polars_compute.specs.Pick.{is_within, all_within, all_below};
+ghost use Rattle.polars_compute.specs.Pick.{is_within, all_within, all_below, take_rows};
 
+pub mod binary;
 mod binview;
 pub mod bitmap;
 pub mod boolean;
+pub(crate) mod generic_binary;
 pub mod primitive;
 #[cfg(test)]
 mod tests;
 mod validity;
 
+use binview::{take_texts, take_views};
+use primitive::take_primitive_unchecked;
 use sel_arrow::array::Array;
-use sel_arrow::primitive::IdxArr;
-use sel_bits::native::NativeType;
+use sel_arrow::array_ref::ArrayRef;
+use sel_arrow::column::Column;
+use sel_arrow::null::NullArray;
+use sel_arrow::primitive::{IdxArr, PrimitiveArray};
+use sel_bits::faults::PolarsResult;
+use sel_bits::native::{Index, NativeType};
+use std::alloc::Global;
+
+/// Row k is null where index k is null, else the row at index k. A number beneath a null index is never looked at.
+/// Refuses for want of memory, and where a limit is passed by the rows that are asked for.
+pub fn take_unchecked(alloc: Global, values: &ArrayRef, indices: &IdxArr) -> PolarsResult<ArrayRef>
+    requires { IsTrue (all_within (length (rows values.now.column)) (primitive_rows indices.now)) }
+    ensures rows { IfOk result (λ taken. rows taken.column ≡ take_rows (rows values.now.column) (primitive_rows indices.now)) }
+    ensures dtype { IfOk result (λ taken. type_of taken.column ≡ type_of values.now.column) }
+    ensures refusal { IfErr result (IsRefusal (past (type_of values.now.column) (take_rows (rows values.now.column) (primitive_rows indices.now)))) }
+{
+    match values.as_column() {
+        Column::Null(column) => Ok(take_nulls(column, indices).into_ref()),
+        Column::Boolean(column) => Ok(boolean::take_unchecked(alloc, column, indices)?.into_ref()),
+        Column::Int8(column) => Ok(take_primitive_unchecked(alloc, column, indices)?.into_ref()),
+        Column::Int16(column) => Ok(take_primitive_unchecked(alloc, column, indices)?.into_ref()),
+        Column::Int32(column) => Ok(take_primitive_unchecked(alloc, column, indices)?.into_ref()),
+        Column::Int64(column) => Ok(take_primitive_unchecked(alloc, column, indices)?.into_ref()),
+        Column::Int128(column) => Ok(take_primitive_unchecked(alloc, column, indices)?.into_ref()),
+        Column::UInt8(column) => Ok(take_primitive_unchecked(alloc, column, indices)?.into_ref()),
+        Column::UInt16(column) => Ok(take_primitive_unchecked(alloc, column, indices)?.into_ref()),
+        Column::UInt32(column) => Ok(take_primitive_unchecked(alloc, column, indices)?.into_ref()),
+        Column::UInt64(column) => Ok(take_primitive_unchecked(alloc, column, indices)?.into_ref()),
+        Column::UInt128(column) => Ok(take_primitive_unchecked(alloc, column, indices)?.into_ref()),
+        Column::LargeBinary(column) => {
+            Ok(binary::take_unchecked(alloc, column, indices)?.into_ref())
+        }
+        Column::BinaryView(column) => Ok(take_views(alloc, column, indices)?.into_ref()),
+        Column::Utf8View(column) => Ok(take_texts(alloc, column, indices)?.into_ref()),
+    }
+}
+
+/// As many nulls as there are indices.
+#[tactic(auto, using(crate::proofs::Takes::taken_nulls))]
+fn take_nulls(_values: &NullArray, indices: &IdxArr) -> NullArray
+    requires { IsTrue (all_within (length (null_rows _values.now)) (primitive_rows indices.now)) }
+    ensures { null_rows result ≡ take_rows (null_rows _values.now) (primitive_rows indices.now) }
+{
+    NullArray {
+        length: indices.len(),
+    }
+}
 
 /// Whether each index that is not null names one of `len` rows.
 pub fn indices_in_bounds(indices: &IdxArr, len: usize) -> bool
     ensures { result ≡ all_within len (primitive_rows indices.now) }
 {
-    for k in 0..indices.len() {
+    indices_in_bounds_of(indices, len)
+}
+
+/// Whether each index that is not null names one of `len` rows, of indices of any type.
+pub fn indices_in_bounds_of<I: Index>(indices: &PrimitiveArray<I>, len: usize) -> bool
+    ensures { result ≡ all_within len (primitive_rows indices.now) }
+{
+    for k in 0..row_count(indices) {
         if !is_in_bounds(indices.get(k), len) {
             return false;
         }
@@ -34,6 +92,15 @@ pub fn idx_slice_in_bounds(indices: &[u32], len: usize) -> bool
     ensures { result ≡ all_below len indices.now }
 {
     indices.iter().all(|place| (*place as usize) < len)
+}
+
+/// How many rows a column of numbers has: at most 4,294,967,295.
+#[tactic(auto, using(crate::proofs::Selects::kept_columns))]
+fn row_count<T: NativeType>(column: &PrimitiveArray<T>) -> usize
+    ensures count { result ≡ length (primitive_rows column.now) }
+    ensures few { result ≤ 4294967295 }
+{
+    column.values().len()
 }
 
 /// Whether an index that is not null names one of `len` rows.

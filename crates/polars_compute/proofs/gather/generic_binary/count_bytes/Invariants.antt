@@ -1,0 +1,12 @@
+-- The bytes so far and those of the other rows are all of them; a row has fewer than 2^64.
+use Rattle.std.proofs.Common.{◌≡◌, ◌+◌, ◌≤◌, ◌*◌, drop}
+use Rattle.polars_compute.specs.Need.{bytes_needed}
+use Rattle.polars_compute.proofs.gather.generic_binary.count_bytes.Given as goal
+
+abbrev pub invariant-loop-k : goal.invariant-loop-k
+invariant-loop-k g l =
+    let rows = g.S.ByteRows.rows l.source in
+    record {
+      so_far : l.total + bytes_needed (drop l.k rows) ≡ bytes_needed rows;
+      small : l.total ≤ 18446744073709551615 * l.k;
+    }

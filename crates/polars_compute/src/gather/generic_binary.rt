@@ -1,0 +1,158 @@
+//! Columns of bytes that are made of rows which something lends one by one.
+
+ghost use Rattle.std.specs.Prelude.{◌≡◌, ◌≤◌, ◌<◌, ◌≤ℤ◌, ◌∷◌, List, pos, map, length, slice_index_or, IfOk, IfErr};
+ghost use Rattle.std.specs.Option.{option_copied};
+ghost use Rattle.sel_arrow.specs.Columns.{binary_rows};
+ghost use Rattle.sel_arrow.specs.Masked.{bytes_value};
+ghost use Rattle.sel_arrow.specs.Value.{Value, Null, is_valid, validities};
+ghost use Rattle.polars_compute.specs.JoinedBytes.{IsBytesRow, AllBytesRows, ends_from, joined_bytes};
+ghost use Rattle.polars_compute.specs.Need.{byte_count, bytes_needed, IsRefusal, IsPastBytes};
+
+use sel_arrow::binary::BinaryArray;
+use sel_bits::bitmap::Bitmap;
+use sel_bits::buffer::Buffer;
+use sel_bits::faults::{Limit, PolarsError, PolarsResult};
+use sel_bits::native::{NativeType, Offset};
+use sel_bits::offsets::OffsetsBuffer;
+use sel_bits::packer::BitPacker;
+use std::alloc::Global;
+
+/// Rows of bytes, of which each can be looked at.
+pub trait ByteRows {
+    ghost rows: { Self → List Value };
+
+    /// How many rows there are: at most 4,294,967,295.
+    fn count(&self) -> usize
+        ensures count { result ≡ length (rows self.now) }
+        ensures few { result ≤ 4294967295 };
+
+    /// The bytes of row `k`: none where it is null.
+    fn row(&self, k: usize) -> Option<&[u8]>
+        requires { k < length (rows self.now) }
+        ensures { bytes_value (option_copied result) ≡ slice_index_or (rows self.now) k Null };
+
+    /// How many bytes row `k` has.
+    fn row_len(&self, k: usize) -> usize
+        requires { k < length (rows self.now) }
+        ensures { result ≡ byte_count (slice_index_or (rows self.now) k Null) }
+    {
+        match self.row(k) {
+            None => 0,
+            Some(bytes) => bytes.len(),
+        }
+    }
+
+    /// Whether row `k` is not null.
+    fn is_valid_row(&self, k: usize) -> bool
+        requires { k < length (rows self.now) }
+        ensures valid { result ≡ is_valid (slice_index_or (rows self.now) k Null) }
+        ensures bytes { IsBytesRow (slice_index_or (rows self.now) k Null) }
+    {
+        match self.row(k) {
+            None => false,
+            Some(_) => true,
+        }
+    }
+}
+
+/// The column of all rows. Refuses where they need more bytes than an offset can show, and only there, and for want
+/// of memory. A null row of the column has no bytes.
+pub fn collect_bytes<O: Offset, S: ByteRows>(
+    alloc: Global,
+    source: &S,
+) -> PolarsResult<BinaryArray<O>>
+    ensures rows { IfOk result (λ column. binary_rows column ≡ S.rows source.now) }
+    ensures offsets { IfOk result (λ column. column.offsets ≡ 0 ∷ ends_from 0 (S.rows source.now)) }
+    ensures fits { IfOk result (λ _. pos (bytes_needed (S.rows source.now)) ≤ℤ O.number O.GREATEST) }
+    ensures refusal { IfErr result (IsRefusal (IsPastBytes (O.number O.GREATEST) (S.rows source.now))) }
+{
+    let need = count_bytes(source);
+    if need > most_bytes::<O>() as u128 {
+        return Err(PolarsError::SizeLimit(Limit::Bytes));
+    }
+    let offsets = collect_offsets::<O, S>(alloc, source)?;
+    let values = collect_joined(alloc, source, need as usize)?;
+    let validity = collect_validity(alloc, source)?;
+    let offsets = OffsetsBuffer::of_rising(offsets)?;
+    let values = Buffer::from_vec(values)?;
+    Ok(BinaryArray {
+        offsets,
+        values,
+        validity: Some(validity),
+    })
+}
+
+/// How many bytes the rows need.
+#[tactic(auto, using(crate::proofs::Collects::needed_steps))]
+fn count_bytes<S: ByteRows>(source: &S) -> u128
+    ensures { result ≡ bytes_needed (S.rows source.now) }
+{
+    let mut total: u128 = 0;
+    for k in 0..source.count() {
+        total += source.row_len(k) as u128;
+    }
+    total
+}
+
+/// The most bytes that an offset can show.
+fn most_bytes<O: Offset>() -> usize
+    ensures { pos result ≡ O.number O.GREATEST }
+{
+    O::GREATEST.to_usize()
+}
+
+/// Where each row begins and ends in the joined bytes.
+#[tactic(auto, using(crate::proofs::Collects::end_steps))]
+fn collect_offsets<O: Offset, S: ByteRows>(alloc: Global, source: &S) -> PolarsResult<Vec<O>>
+    requires { pos (bytes_needed (S.rows source.now)) ≤ℤ O.number O.GREATEST }
+    ensures offsets { IfOk result (λ offsets. map O.number offsets.items ≡ map pos (0 ∷ ends_from 0 (S.rows source.now))) }
+    ensures refusal { IfErr result (λ fault. fault ≡ PolarsError.OutOfMemory) }
+{
+    let mut end: usize = 0;
+    let mut offsets = Vec::with_capacity(alloc, source.count() + 1)?;
+    offsets.push(offset_of(end))?;
+    for k in 0..source.count() {
+        end += source.row_len(k);
+        offsets.push(offset_of(end))?;
+    }
+    Ok(offsets)
+}
+
+/// The offset that shows a number.
+fn offset_of<O: Offset>(n: usize) -> O
+    requires { pos n ≤ℤ O.number O.GREATEST }
+    ensures { O.number result ≡ pos n }
+{
+    match O::from_usize(n) {
+        Some(offset) => offset,
+        None => unreachable!(),
+    }
+}
+
+/// The bytes of all rows, joined, of which there are `count`.
+fn collect_joined<S: ByteRows>(alloc: Global, source: &S, count: usize) -> PolarsResult<Vec<u8>>
+    ensures bytes { IfOk result (λ bytes. bytes.items ≡ joined_bytes (S.rows source.now)) }
+    ensures refusal { IfErr result (λ fault. fault ≡ PolarsError.OutOfMemory) }
+{
+    let mut bytes = Vec::with_capacity(alloc, count)?;
+    for k in 0..source.count() {
+        if let Some(row) = source.row(k) {
+            bytes.extend_from_slice(row)?;
+        }
+    }
+    Ok(bytes)
+}
+
+/// Which rows are not null.
+fn collect_validity<S: ByteRows>(alloc: Global, source: &S) -> PolarsResult<Bitmap>
+    ensures bits { IfOk result (λ validity. validity.bits ≡ validities (S.rows source.now)) }
+    ensures rows { IfOk result (λ _. AllBytesRows (S.rows source.now)) }
+    ensures few { IfOk result (λ _. length (S.rows source.now) ≤ 4294967295) }
+    ensures refusal { IfErr result (λ fault. fault ≡ PolarsError.OutOfMemory) }
+{
+    let mut validity = BitPacker::with_capacity(alloc, source.count())?;
+    for k in 0..source.count() {
+        validity.push(source.is_valid_row(k))?;
+    }
+    validity.into_bitmap(source.count())
+}
