@@ -6,12 +6,15 @@ ghost use Rattle.sel_arrow.specs.Rows.{rows, type_of};
 ghost use Rattle.polars_compute.specs.Select.{select, in_force};
 ghost use Rattle.polars_compute.specs.Trim.{KeepsAll};
 
+mod binary;
 pub mod boolean;
 pub mod primitive;
 pub mod scalar;
 #[cfg(test)]
 mod tests;
 
+use crate::gather::generic_binary::collect_bytes;
+use binary::{PlacedRows, kept_places};
 use boolean::filter_bitmap_and_validity;
 pub use boolean::filter_boolean_kernel;
 use primitive::filter_values_and_validity;
@@ -165,7 +168,7 @@ fn filter_primitive<T: ArrowPrimitive>(
     Ok(PrimitiveArray { values, validity })
 }
 
-/// The bytes whose bit is true.
+/// The bytes whose bit is true. They need no more than those of all rows, so no limit is passed.
 fn filter_binary(
     alloc: Global,
     array: &BinaryArray<i64>,
@@ -175,10 +178,17 @@ fn filter_binary(
     ensures rows { IfOk result (λ kept. binary_rows kept ≡ select (binary_rows array.now) mask.now.bits) }
     ensures refusal { IfErr result (λ fault. fault ≡ PolarsError.OutOfMemory) }
 {
-    let _ = alloc;
-    let _ = array;
-    let _ = mask;
-    Err(PolarsError::OutOfMemory)
+    // The last offset is one of its type, and no row ends behind it.
+    let _last = array.offsets.last();
+    let places = kept_places(alloc, mask)?;
+    let rows = PlacedRows {
+        values: array,
+        places: &places,
+    };
+    match collect_bytes(alloc, &rows) {
+        Ok(kept) => Ok(kept),
+        Err(fault) => Err(fault),
+    }
 }
 
 /// The views whose bit is true, over the same data buffers.
