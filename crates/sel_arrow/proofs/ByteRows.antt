@@ -1,8 +1,7 @@
 -- Rows of bytes between offsets.
-use Rattle.std.proofs.Common.{◌≡◌, ◌≢◌, ℕ, zero, suc, ◌+◌, ◌-◌, ◌≤◌, ◌<◌, Bool, true, false, List, [], ◌∷◌, length, take, drop, map, Option, refl, ap, sym, ◌∙◌, subst, arith, get_or, add-one, length-take}
+use Rattle.std.proofs.Common.{◌≡◌, ◌≢◌, ℕ, zero, suc, ◌+◌, ◌-◌, ◌≤◌, ◌<◌, true, false, List, [], ◌∷◌, length, take, drop, map, Option, refl, ap, ◌∙◌, arith, get_or, add-one}
 use Rattle.std.specs.List.{slice_range}
 use Rattle.std.specs.Option.{option_map}
-use Rattle.std.proofs.lemmas.Grind.{common_steps}
 use Rattle.std.proofs.lemmas.List.{get_or-take, get_or-drop}
 use Rattle.sel_bits.specs.Bits.{Bits}
 use Rattle.sel_bits.specs.Offsets.{IsRising}
@@ -10,7 +9,7 @@ use Rattle.sel_arrow.specs.Masked.{masked, Covers, valid_at, part_of}
 use Rattle.sel_arrow.specs.Nulls.{TellsNulls}
 use Rattle.sel_arrow.specs.Pieces.{byte_rows, last_offset, pieces, pieces_after, rows_between}
 use Rattle.sel_arrow.specs.Shape.{Shape, of_null}
-use Rattle.sel_arrow.specs.Value.{Value, Null, Bytes}
+use Rattle.sel_arrow.specs.Value.{Null, Bytes}
 use Rattle.sel_arrow.proofs.Rows.{length-mapped, null_mapped, valid_mapped, tells-mapped, part-mapped, length-part, part_covers, part_within}
 
 -- ---- pieces of a list

@@ -1,5 +1,5 @@
 -- The one offset of no rows.
-use Rattle.std.proofs.Common.{◌≡◌, ℕ, ℤ, pos, List, [], ◌∷◌, map, refl, arith}
+use Rattle.std.proofs.Common.{◌≡◌, ℕ, pos, List, [], ◌∷◌, map, refl, arith}
 use Rattle.sel_bits.specs.Offsets.{IsOffsets, IsRising}
 
 rising_alone : (n : ℕ) → IsRising (n ∷ [])

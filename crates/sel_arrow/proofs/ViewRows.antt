@@ -1,5 +1,5 @@
 -- Rows of views.
-use Rattle.std.proofs.Common.{◌≡◌, ◌≢◌, ℕ, zero, suc, ◌<◌, Bool, true, false, ◌&&◌, List, [], ◌∷◌, length, map, take, drop, Option, Some, None, refl, arith, get_or}
+use Rattle.std.proofs.Common.{◌≡◌, ◌≢◌, ℕ, ◌<◌, Bool, true, false, ◌&&◌, List, [], ◌∷◌, length, take, drop, Option, Some, None, refl, get_or}
 use Rattle.std.specs.Prelude.{IsTrue, not}
 use Rattle.std.specs.Option.{option_map}
 use Rattle.sel_bits.specs.Bits.{Bits}
@@ -11,7 +11,7 @@ use Rattle.sel_arrow.specs.Makers.{or_else, view_fault, views_fault}
 use Rattle.sel_arrow.specs.Masked.{Covers, valid_at, part_of}
 use Rattle.sel_arrow.specs.Nulls.{TellsNulls}
 use Rattle.sel_arrow.specs.Shape.{Shape, of_null}
-use Rattle.sel_arrow.specs.Value.{Value, Null, Bytes}
+use Rattle.sel_arrow.specs.Value.{Null, Bytes}
 use Rattle.sel_arrow.specs.Views.{all_placed, has_prefix, is_in_range, is_placed, view_bytes, view_rows, view_value}
 use Rattle.sel_arrow.proofs.Lists.{both, all_at, all_part}
 use Rattle.sel_arrow.proofs.Rows.{length-mapped, null_mapped, valid_mapped, tells-mapped, part-mapped, length-part, part_covers, part_within}

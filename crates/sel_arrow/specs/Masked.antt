@@ -1,5 +1,5 @@
 -- Rows under a validity.
-use Rattle.std.specs.Prelude.{◌≡◌, ℕ, ℤ, ◌+◌, Bool, true, false, List, [], ◌∷◌, map, length, take, drop, replicate, slice_index_or, Option, Some, None, if◌then◌else◌, ◌==◌, not, nat_lt}
+use Rattle.std.specs.Prelude.{◌≡◌, ℕ, ℤ, ◌+◌, Bool, true, false, List, [], ◌∷◌, map, length, take, drop, slice_index_or, Option, Some, None, if◌then◌else◌, ◌==◌, not, nat_lt}
 use Rattle.std.specs.Option.{ForSome}
 use Rattle.sel_bits.specs.Bits.{Bits}
 use Rattle.sel_arrow.specs.Value.{Value, Null, Truth, Number, Bytes}
