@@ -4,6 +4,7 @@ use Rattle.std.specs.List.{slice_split}
 use Rattle.std.specs.Str.{is_utf8}
 use Rattle.sel_bench.specs.Filter.{filter_words}
 use Rattle.sel_bench.specs.Lines.{longest_line}
+use Rattle.sel_bench.specs.Pext.{pext_words}
 use Rattle.sel_bench.specs.Take.{take_words}
 
 -- the answer to a line of these words, of which the first is the command, or None where the line is bad (own)
@@ -12,6 +13,7 @@ answer_of_words [] = None
 answer_of_words (name ∷ words) =
     if bytes_eq name (codes "filter") then filter_words words
     else if bytes_eq name (codes "take") then take_words words
+    else if bytes_eq name (codes "pext") then pext_words words
     else None
 
 -- the answer to a line of words with one space between them, or None where it is bad (own)

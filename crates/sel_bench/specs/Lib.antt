@@ -5,6 +5,7 @@ pub mod Filter
 pub mod Lines
 pub mod Numbers
 pub mod Output
+pub mod Pext
 pub mod Rows
 pub mod Run
 pub mod RunError

@@ -6,6 +6,7 @@ mod commands;
 mod counted;
 mod filter;
 mod numbers;
+mod pext;
 mod reading;
 mod refusals;
 mod rows;

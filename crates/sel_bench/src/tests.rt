@@ -109,7 +109,7 @@ fn run_into(
 
 #[test]
 fn good_lines(rt: HostRuntime) -> Result<(), Fail> {
-    let rows: [(&[u8], &[u8]); 9] = [
+    let rows: [(&[u8], &[u8]); 16] = [
         (TWO_LINES, TWO_ANSWERS),
         (b"", b""),
         (b"filter - -", b"-\n"),
@@ -122,6 +122,16 @@ fn good_lines(rt: HostRuntime) -> Result<(), Fail> {
             b"-9223372036854775808,9223372036854775807,-1,0\n",
         ),
         (b"take 1,n,3 n,2,1,0,0\n", b"n,3,n,1,1\n"),
+        (b"pext b4 cc\n", b"9\n"),
+        (b"pext 0 0\n", b"0\n"),
+        (b"pext 00b4 cc\n", b"9\n"),
+        (b"pext b4 f8\n", b"16\n"),
+        (b"pext 8000000000000001 f00000000000000f\n", b"81\n"),
+        (b"pext 8000000000000000 aaaaaaaaaaaaaaaa\n", b"80000000\n"),
+        (
+            b"pext ffffffffffffffff ffffffffffffffff\n",
+            b"ffffffffffffffff\n",
+        ),
     ];
     for (input, output) in &rows {
         let (result, written) = run_over(rt.alloc(), input);
@@ -133,7 +143,7 @@ fn good_lines(rt: HostRuntime) -> Result<(), Fail> {
 
 #[test]
 fn bad_lines(rt: HostRuntime) -> Result<(), Fail> {
-    let lines: [&[u8]; 26] = [
+    let lines: [&[u8]; 38] = [
         b"",
         b" ",
         b"take",
@@ -156,7 +166,19 @@ fn bad_lines(rt: HostRuntime) -> Result<(), Fail> {
         b"filter 9223372036854775808 t",
         b"filter -9223372036854775809 t",
         b"Filter 1 t",
-        b"pext b4 cc",
+        b"Pext b4 cc",
+        b"pext",
+        b"pext b4",
+        b"pext b4 cc 1",
+        b"pext  cc",
+        b"pext b4 ",
+        b"pext B4 cc",
+        b"pext b4 CC",
+        b"pext +b4 cc",
+        b"pext b4 -1",
+        b"pext b4g cc",
+        b"pext 0123456789abcdef0 cc",
+        b"pext b4 000000000000000cc",
         b"get 1,2,3|4,5|6 -1",
         b"flatten 2 2:1,2,3,4 1:9",
         b"dict 0,1,2,n =a,n,=c",
