@@ -7,6 +7,7 @@ use sel_arrow::utf8view::Utf8ViewArray;
 use sel_arrow::view::View;
 use sel_bits::bitmap::Bitmap;
 use sel_bits::buffer::Buffer;
+use std::alloc::Global;
 use std::test::Fail;
 
 #[test]
@@ -138,9 +139,8 @@ fn values_up_to_a_byte(rt: HostRuntime) -> Result<(), Fail> {
     Ok(())
 }
 
-#[test]
-fn filters_of_texts(rt: HostRuntime) -> Result<(), Fail> {
-    let alloc = rt.alloc();
+// One short text, one of 13 bytes and one that is null.
+fn three_texts(alloc: Global) -> Result<Utf8ViewArray, Fail> {
     let long = b"abcdefghijklm";
     let views = vec![in alloc;
         View::new_from_bytes(b"a", 0, 0),
@@ -148,19 +148,19 @@ fn filters_of_texts(rt: HostRuntime) -> Result<(), Fail> {
         View::new_from_bytes(b"", 0, 0),
     ]?;
     let data = Buffer::from_vec(Vec::from_slice(alloc, long)?)?;
-    let mut buffers = Vec::new(alloc);
-    buffers.push(data)?;
+    let buffers = Buffer::from_vec(vec![in alloc; data]?)?;
     let validity = Bitmap::from_bools(alloc, &[true, true, false])?;
-    let texts = Utf8ViewArray::try_new(
-        Buffer::from_vec(views)?,
-        Buffer::from_vec(buffers)?,
-        Some(validity),
-    )?;
+    Ok(Utf8ViewArray::try_new(Buffer::from_vec(views)?, buffers, Some(validity))?)
+}
+
+#[test]
+fn filters_of_texts(rt: HostRuntime) -> Result<(), Fail> {
+    let alloc = rt.alloc();
+    let texts = three_texts(alloc)?;
     let mask = BooleanArray::try_new(Bitmap::from_bools(alloc, &[false, true, true])?, None)?;
     assert_eq!(rt; texts.len(), mask.len());
-    let Ok(kept) = filter(alloc, &texts.into_ref(), &mask)?.into_utf8view() else {
-        return Err(Fail::from("another type"));
-    };
+    let kept = filter(alloc, &texts.into_ref(), &mask)?;
+    let kept = kept.into_utf8view().ok().ok_or("another type")?;
     assert_eq!(rt; kept.len(), 2);
     let text = kept.get(alloc, 0)?;
     assert!(rt; text.is_some_and(|text| text.as_str() == "abcdefghijklm"));
