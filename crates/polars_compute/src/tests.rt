@@ -1,17 +1,21 @@
 use crate::filter::boolean::filter_bitmap_and_validity;
 use crate::filter::primitive::{filter_values, filter_values_and_validity};
 use crate::filter::{filter, filter_boolean_kernel, filter_with_bitmap};
-use crate::gather::indices_in_bounds;
+use crate::gather::binary::take_unchecked;
 use crate::gather::primitive::take_primitive_unchecked;
+use crate::gather::{indices_in_bounds, indices_in_bounds_of};
 use sel_arrow::array::Array;
 use sel_arrow::array_ref::ArrayRef;
+use sel_arrow::binary::BinaryArray;
 use sel_arrow::boolean::BooleanArray;
 use sel_arrow::column::Column;
 use sel_arrow::null::NullArray;
 use sel_arrow::primitive::{ArrowPrimitive, IdxArr, PrimitiveArray};
 use sel_bits::bitmap::Bitmap;
 use sel_bits::buffer::Buffer;
-use sel_bits::native::NativeType;
+use sel_bits::faults::{Limit, PolarsError};
+use sel_bits::native::{Index, NativeType, Offset};
+use sel_bits::offsets::OffsetsBuffer;
 use std::alloc::Global;
 use std::test::Fail;
 
@@ -61,6 +65,101 @@ fn numbers_of<T: ArrowPrimitive>(alloc: Global, column: ArrayRef) -> Result<Vec<
         Ok(column) => rows_of(alloc, &column),
         Err(_) => Err(Fail::from("another type")),
     }
+}
+
+// Indices over these numbers.
+fn indices<I: Index>(
+    alloc: Global,
+    numbers: &[I],
+    validity: &[bool],
+) -> Result<PrimitiveArray<I>, Fail> {
+    let mut values = Vec::new(alloc);
+    for number in numbers {
+        values.push(*number)?;
+    }
+    let validity = Bitmap::from_bools(alloc, validity)?;
+    Ok(PrimitiveArray::try_new(Buffer::from_vec(values)?, Some(validity))?)
+}
+
+// A column of bytes; none is null over one hidden byte.
+fn bytes_column<O: Offset>(alloc: Global, rows: &[Option<&[u8]>]) -> Result<BinaryArray<O>, Fail> {
+    let mut values = Vec::new(alloc);
+    let mut validity = Vec::new(alloc);
+    let mut offsets = Vec::new(alloc);
+    offsets.push(O::from_usize(0).ok_or("no zero")?)?;
+    for row in rows {
+        match row {
+            Some(bytes) => values.extend_from_slice(bytes)?,
+            None => values.push(255)?,
+        }
+        validity.push(row.is_some())?;
+        offsets.push(O::from_usize(values.len()).ok_or("too long")?)?;
+    }
+    let validity = Bitmap::from_bools(alloc, &validity)?;
+    let offsets = OffsetsBuffer::try_from(offsets)?;
+    Ok(BinaryArray::try_new(offsets, Buffer::from_vec(values)?, Some(validity))?)
+}
+
+fn has_rows<O: Offset>(column: &BinaryArray<O>, rows: &[Option<&[u8]>]) -> bool {
+    if column.len() != rows.len() {
+        return false;
+    }
+    for (i, row) in rows.iter().enumerate() {
+        if column.get(i) != *row {
+            return false;
+        }
+    }
+    true
+}
+
+// One row of `len` bytes.
+fn long_row(alloc: Global, len: i32, validity: Option<Bitmap>) -> Result<BinaryArray<i32>, Fail> {
+    let offsets = OffsetsBuffer::try_from(vec![in alloc; 0i32, len]?)?;
+    let len = len.try_usize().ok_or("a negative length")?;
+    let values = Buffer::from_vec(vec![in alloc; 97u8; len]?)?;
+    Ok(BinaryArray::try_new(offsets, values, validity)?)
+}
+
+// Whether a take of this row `count` times passes the limit of bytes, or how many nulls it has.
+fn repeated(alloc: Global, column: &BinaryArray<i32>, count: usize) -> Result<Option<usize>, Fail> {
+    let indices = zeros(alloc, count)?;
+    if !indices_in_bounds_of(&indices, column.len()) {
+        return Err(Fail::from("out of bounds"));
+    }
+    match take_unchecked(alloc, column, &indices) {
+        Ok(taken) => Ok(Some(taken.null_count())),
+        Err(PolarsError::SizeLimit(Limit::Bytes)) => Ok(None),
+        Err(_) => Err(Fail::from("another refusal")),
+    }
+}
+
+// Zeros as indices.
+fn zeros(alloc: Global, count: usize) -> Result<IdxArr, Fail> {
+    let mut numbers = Vec::new(alloc);
+    for _ in 0..count {
+        numbers.push(0u32)?;
+    }
+    Ok(PrimitiveArray::try_new(Buffer::from_vec(numbers)?, None)?)
+}
+
+fn holds(column: ArrayRef, rows: &[Option<&[u8]>]) -> Result<bool, Fail> {
+    match column.into_binary() {
+        Ok(column) => Ok(has_rows(&column, rows)),
+        Err(_) => Err(Fail::from("another type")),
+    }
+}
+
+fn keeps(
+    alloc: Global,
+    array: BinaryArray<i64>,
+    mask: &Bitmap,
+    rows: &[Option<&[u8]>],
+) -> Result<bool, Fail> {
+    if array.len() != mask.len() {
+        return Err(Fail::from("another length"));
+    }
+    let kept = filter_with_bitmap(alloc, &array.into_ref(), mask)?;
+    holds(kept, rows)
 }
 
 #[test]
@@ -167,6 +266,96 @@ fn kept_values(rt: HostRuntime) -> Result<(), Fail> {
     let (kept, validity) = filter_values_and_validity(alloc, &values, None, &mask)?;
     assert!(rt; kept.as_slice() == [0, 2, 5, 64].as_slice());
     assert!(rt; validity.is_none());
+    Ok(())
+}
+
+#[test]
+fn filters_of_bytes(rt: HostRuntime) -> Result<(), Fail> {
+    let alloc = rt.alloc();
+    let rows: [Option<&[u8]>; 5] = [Some(b"a"), None, Some(b"bc"), Some(b""), Some(b"def")];
+    // The first row of the part, its mask, and what is kept of it.
+    let parts: [(usize, &[bool], &[Option<&[u8]>]); 4] = [
+        (
+            0,
+            &[true, true, false, true, false],
+            &[Some(b"a"), None, Some(b"")],
+        ),
+        (0, &[false, false, false, false, false], &[]),
+        (
+            1,
+            &[true, false, true, true],
+            &[None, Some(b""), Some(b"def")],
+        ),
+        (2, &[true, false, true], &[Some(b"bc"), Some(b"def")]),
+    ];
+    let array = bytes_column::<i64>(alloc, &rows)?;
+    assert_eq!(rt; array.len(), 5);
+    for (first, mask, kept) in &parts {
+        let mask = Bitmap::from_bools(alloc, mask)?;
+        assert!(rt; *first <= 5);
+        assert_eq!(rt; mask.len(), 5 - *first);
+        let part = array.sliced(alloc, *first, mask.len())?;
+        assert!(rt; keeps(alloc, part, &mask, kept)?);
+    }
+    Ok(())
+}
+
+#[test]
+fn takes_of_bytes(rt: HostRuntime) -> Result<(), Fail> {
+    let alloc = rt.alloc();
+    let column = bytes_column::<i64>(alloc, &[Some(b"a"), Some(b"bc")])?;
+
+    let signed = indices(alloc, &[-1i8, 1], &[false, true])?;
+    assert!(rt; indices_in_bounds_of(&signed, column.len()));
+    let taken = take_unchecked(alloc, &column, &signed)?;
+    assert!(rt; has_rows(&taken, &[None, Some(b"bc")]));
+
+    let unsigned = indices(alloc, &[u64::MAX, 0], &[false, true])?;
+    assert!(rt; indices_in_bounds_of(&unsigned, column.len()));
+    let taken = take_unchecked(alloc, &column, &unsigned)?;
+    assert!(rt; has_rows(&taken, &[None, Some(b"a")]));
+    Ok(())
+}
+
+#[test]
+fn takes_past_the_limit_of_bytes(rt: HostRuntime) -> Result<(), Fail> {
+    let alloc = rt.alloc();
+    let column = long_row(alloc, 65_536, None)?;
+    assert!(rt; repeated(alloc, &column, 32_768)?.is_none());
+    Ok(())
+}
+
+#[test]
+fn null_rows_need_no_bytes(rt: HostRuntime) -> Result<(), Fail> {
+    let alloc = rt.alloc();
+    let null = Bitmap::from_bools(alloc, &[false])?;
+    let column = long_row(alloc, 65_536, Some(null))?;
+    assert_eq!(rt; repeated(alloc, &column, 32_768)?, Some(32_768));
+    Ok(())
+}
+
+#[test]
+fn bounds_of_indices(rt: HostRuntime) -> Result<(), Fail> {
+    let alloc = rt.alloc();
+    let signed: [(&[i8], &[bool], usize, bool); 4] = [
+        (&[0, 127], &[true, true], 128, true),
+        (&[0, 127], &[true, true], 127, false),
+        (&[-1], &[true], 128, false),
+        (&[-1], &[false], 0, true),
+    ];
+    for (numbers, validity, len, within) in &signed {
+        let indices = indices(alloc, numbers, validity)?;
+        assert_eq!(rt; indices_in_bounds_of(&indices, *len), *within);
+    }
+    let unsigned: [(&[u64], &[bool], usize, bool); 3] = [
+        (&[0, 2], &[true, true], 3, true),
+        (&[u64::MAX], &[true], 3, false),
+        (&[u64::MAX], &[false], 3, true),
+    ];
+    for (numbers, validity, len, within) in &unsigned {
+        let indices = indices(alloc, numbers, validity)?;
+        assert_eq!(rt; indices_in_bounds_of(&indices, *len), *within);
+    }
     Ok(())
 }
 
