@@ -1,5 +1,5 @@
 -- The bits of a word under another, one after the other.
-use Rattle.std.proofs.Common.{◌≡◌, ◌≢◌, ℕ, zero, suc, ◌+◌, ◌*◌, ◌/◌, ◌%◌, ◌^◌, ◌<◌, ◌≤◌, List, [], ◌∷◌, ◌++◌, length, take, get_or, Bool, true, false, cond, refl, ap, sym, ◌∙◌, arith, add-one, length-append, length-take, append-nil}
+use Rattle.std.proofs.Common.{◌≡◌, ◌≢◌, ℕ, zero, suc, ◌+◌, ◌*◌, ◌/◌, ◌%◌, ◌^◌, ◌<◌, ◌≤◌, List, [], ◌∷◌, ◌++◌, length, take, get_or, Bool, true, false, cond, refl, ap, sym, ◌∙◌, arith, add-one, length-append, length-take}
 use Rattle.std.specs.Prelude.{bit_and, ◌==◌}
 use Rattle.std.specs.Int.{bit_at, from_bool}
 use lib.Pow.{pow_mono}

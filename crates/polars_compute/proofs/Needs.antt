@@ -1,18 +1,16 @@
 -- How many bytes kept rows need.
-use Rattle.std.proofs.Common.{◌≡◌, ℕ, zero, suc, ◌+◌, ◌-◌, ◌≤◌, ◌<◌, ℤ, pos, ◌≤ℤ◌, Bool, true, false, List, [], ◌∷◌, length, map, drop, get_or, Option, Some, None, refl, ap, sym, ◌∙◌, arith, length-take}
-use Rattle.std.specs.Prelude.{⊤}
+use Rattle.std.proofs.Common.{◌≡◌, ℕ, suc, ◌+◌, ◌-◌, ◌≤◌, ◌<◌, ℤ, pos, ◌≤ℤ◌, Bool, true, false, List, [], ◌∷◌, length, map, get_or, Option, Some, None, refl, arith, length-take}
 use Rattle.std.specs.List.{slice_range}
 use Rattle.std.proofs.lemmas.Int.{ints}
 use Rattle.sel_bits.specs.Bits.{Bits}
 use Rattle.sel_bits.specs.Offsets.{IsRising}
-use Rattle.sel_bits.specs.declared.faults.Limit.{Limit}
 use Rattle.sel_bits.specs.declared.faults.Limit.TheVariants.{Bytes as ByteLimit}
 use Rattle.sel_bits.specs.declared.faults.PolarsError.{PolarsError}
 use Rattle.sel_bits.specs.declared.faults.PolarsError.TheVariants.{OutOfMemory, SizeLimit, ComputeError}
-use Rattle.sel_arrow.specs.Value.{Value, Null, Bytes}
+use Rattle.sel_arrow.specs.Value.{Value, Bytes}
 use Rattle.sel_arrow.specs.Masked.{hidden, masked}
 use Rattle.sel_arrow.specs.Pieces.{pieces_after, byte_rows, last_offset}
-use Rattle.polars_compute.specs.Need.{byte_count, bytes_needed, IsRefusal, IsPastBytes}
+use Rattle.polars_compute.specs.Need.{bytes_needed, IsRefusal, IsPastBytes}
 use Rattle.polars_compute.specs.Select.{select}
 
 -- kept rows need no more

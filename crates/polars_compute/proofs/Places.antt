@@ -1,6 +1,6 @@
 -- The places that a mask keeps.
-use Rattle.std.proofs.Common.{◌≡◌, ℕ, zero, suc, ◌+◌, ◌-◌, ◌≤◌, ◌<◌, Bool, true, false, List, [], ◌∷◌, ◌++◌, length, map, drop, get_or, refl, ap, sym, ◌∙◌, arith, add-one, drop-cons}
-use Rattle.std.proofs.lemmas.List.{length-map, drop_all, drop-drop, get_or-drop, get_or-map}
+use Rattle.std.proofs.Common.{◌≡◌, ℕ, zero, suc, ◌+◌, ◌≤◌, ◌<◌, Bool, true, false, List, [], ◌∷◌, length, map, drop, get_or, refl, ap, sym, ◌∙◌, arith, add-one, drop-cons}
+use Rattle.std.proofs.lemmas.List.{drop_all}
 use Rattle.polars_compute.specs.Select.{select, kept, kept_from}
 
 -- ---- one bit more

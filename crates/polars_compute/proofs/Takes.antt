@@ -1,17 +1,14 @@
 -- Rows at indices.
-use Rattle.std.proofs.Common.{◌≡◌, ℕ, zero, suc, ◌+◌, ◌≤◌, ◌<◌, ℤ, pos, negsuc, Bool, true, false, ◌&&◌, List, [], ◌∷◌, ◌++◌, length, map, take, get_or, replicate, Option, Some, None, refl, ap, sym, ◌∙◌, arith, subst}
+use Rattle.std.proofs.Common.{◌≡◌, ℕ, zero, suc, ◌<◌, pos, Bool, true, false, ◌&&◌, List, [], ◌∷◌, length, map, get_or, replicate, Option, Some, refl, ap, sym, ◌∙◌, subst}
 use Rattle.std.specs.Prelude.{if◌then◌else◌}
 use Rattle.std.specs.List.{list_all}
 use Rattle.std.specs.Option.{ForSome}
-use Rattle.std.proofs.lemmas.List.{length-map, get_or-map, get_or_past}
-use Rattle.std.proofs.lemmas.Bool.{cases_lt, ltb-true}
+use Rattle.std.proofs.lemmas.List.{length-map, get_or-map}
+use Rattle.std.proofs.lemmas.Bool.{ltb-true}
 use Rattle.sel_bits.specs.Bits.{Bits}
-use Rattle.sel_arrow.specs.Value.{Value, Null, Truth, Number}
-use Rattle.sel_arrow.specs.Masked.{hidden, masked, number_rows, truth_rows, Covers, valid_at}
-use Rattle.sel_arrow.specs.Views.{view_rows, view_value}
-use Rattle.sel_arrow.specs.declared.view.View.{View}
-use Rattle.sel_arrow.proofs.Rows.{length-number_rows, length-truth_rows, length-masked, masked_null, masked_valid}
-use Rattle.sel_arrow.proofs.ViewRows.{length-view_rows}
+use Rattle.sel_arrow.specs.Value.{Value, Null, Number}
+use Rattle.sel_arrow.specs.Masked.{hidden, masked, Covers, valid_at}
+use Rattle.sel_arrow.proofs.Rows.{masked_null, masked_valid}
 use Rattle.polars_compute.specs.Pick.{found, pick, pick_of, take_rows, is_within, all_within, valid_pick}
 
 both : (a b : Bool) → (a && b) ≡ true → (a ≡ true) × (b ≡ true)

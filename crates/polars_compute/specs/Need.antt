@@ -1,5 +1,5 @@
 -- How many bytes rows need, and which refusals there are.
-use Rattle.std.specs.Prelude.{◌≡◌, ℕ, ◌+◌, ℤ, pos, ◌<ℤ◌, ⊤, List, [], ◌∷◌, length}
+use Rattle.std.specs.Prelude.{ℕ, ◌+◌, ℤ, pos, ◌<ℤ◌, ⊤, List, [], ◌∷◌, length}
 use Rattle.sel_bits.specs.declared.faults.Limit.{Limit}
 use Rattle.sel_bits.specs.declared.faults.Limit.TheVariants.{Bytes as ByteLimit}
 use Rattle.sel_bits.specs.declared.faults.PolarsError.{PolarsError}

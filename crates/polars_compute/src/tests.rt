@@ -300,19 +300,27 @@ fn filters_of_bytes(rt: HostRuntime) -> Result<(), Fail> {
     Ok(())
 }
 
+// The rows of bytes at these indices, where they are in bounds.
+fn taken_bytes<I: Index>(
+    alloc: Global,
+    column: &BinaryArray<i64>,
+    numbers: &[I],
+    validity: &[bool],
+) -> Result<BinaryArray<i64>, Fail> {
+    let indices = indices(alloc, numbers, validity)?;
+    if !indices_in_bounds_of(&indices, column.len()) {
+        return Err(Fail::from("out of bounds"));
+    }
+    Ok(take_unchecked(alloc, column, &indices)?)
+}
+
 #[test]
 fn takes_of_bytes(rt: HostRuntime) -> Result<(), Fail> {
     let alloc = rt.alloc();
     let column = bytes_column::<i64>(alloc, &[Some(b"a"), Some(b"bc")])?;
-
-    let signed = indices(alloc, &[-1i8, 1], &[false, true])?;
-    assert!(rt; indices_in_bounds_of(&signed, column.len()));
-    let taken = take_unchecked(alloc, &column, &signed)?;
+    let taken = taken_bytes(alloc, &column, &[-1i8, 1], &[false, true])?;
     assert!(rt; has_rows(&taken, &[None, Some(b"bc")]));
-
-    let unsigned = indices(alloc, &[u64::MAX, 0], &[false, true])?;
-    assert!(rt; indices_in_bounds_of(&unsigned, column.len()));
-    let taken = take_unchecked(alloc, &column, &unsigned)?;
+    let taken = taken_bytes(alloc, &column, &[u64::MAX, 0], &[false, true])?;
     assert!(rt; has_rows(&taken, &[None, Some(b"a")]));
     Ok(())
 }

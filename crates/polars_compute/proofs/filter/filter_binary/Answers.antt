@@ -1,12 +1,10 @@
-use Rattle.std.proofs.Common.{◌≡◌, ◌≤◌, pos, ◌≤ℤ◌, length, map, get_or, arith, w64, sym, ap, ◌∙◌, rules}
+use Rattle.std.proofs.Common.{◌≡◌, ◌≤◌, pos, ◌≤ℤ◌, length, map, get_or, arith, w64, ◌∙◌, rules}
 use Rattle.std.proofs.lemmas.Int.{ints}
 use mir.Val.{SFits}
 use Rattle.sel_arrow.specs.Columns.{binary_rows}
 use Rattle.sel_arrow.specs.Pieces.{last_offset}
 use Rattle.sel_arrow.specs.Value.{Null}
 use Rattle.sel_arrow.proofs.ByteRows.{length-byte_rows}
-use Rattle.polars_compute.specs.Need.{bytes_needed}
-use Rattle.polars_compute.specs.Select.{select, kept}
 use Rattle.polars_compute.proofs.Needs.{kept_fit, only_memory}
 use Rattle.polars_compute.proofs.Places.{places_few, places_inside, placed}
 use Rattle.polars_compute.proofs.filter.filter_binary.Goals as goal

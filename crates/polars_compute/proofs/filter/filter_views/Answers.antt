@@ -1,7 +1,5 @@
-use Rattle.std.proofs.Common.{◌≡◌, ◌≤◌, ◌∙◌, List, ℕ, length, ap, arith, true}
-use Rattle.std.specs.List.{list_all}
+use Rattle.std.proofs.Common.{◌≡◌, ◌∙◌, length, ap, arith}
 use Rattle.sel_arrow.specs.Views.{is_placed}
-use Rattle.sel_arrow.specs.declared.view.View.{View}
 use Rattle.polars_compute.specs.Select.{select}
 use Rattle.polars_compute.proofs.Selects.{few_kept, kept_covers, passed_kept}
 use Rattle.polars_compute.proofs.filter.filter_views.Goals as goal

@@ -1,4 +1,4 @@
-use Rattle.std.proofs.Common.{◌≡◌, ◌∙◌, List, Bool, length, ap, sym, refl}
+use Rattle.std.proofs.Common.{length, ap, refl}
 use Rattle.sel_bits.specs.Bits.{Bits}
 use Rattle.polars_compute.proofs.Selects.{IsTrimmed, trimmed_within, trimmed_kept}
 use Rattle.polars_compute.proofs.filter.trimmed.Goals as goal

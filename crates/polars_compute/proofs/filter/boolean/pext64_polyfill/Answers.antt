@@ -1,5 +1,5 @@
 use Rattle.std.proofs.Common.{◌≡◌, ◌<◌, ◌+◌, ℕ, subst, arith}
-use Rattle.polars_compute.proofs.Compressing.{IsPacked, packed_first, packed_kept, packed_passed, packed_fits, packed_last, few_bits}
+use Rattle.polars_compute.proofs.Compressing.{IsPacked, packed_kept, packed_passed, packed_fits, packed_last, few_bits}
 use Rattle.polars_compute.proofs.filter.boolean.pext64_polyfill.Goals as goal
 use Rattle.polars_compute.proofs.filter.boolean.pext64_polyfill.Goals.{then-m-i-eq1, else-m-i-eq1, Then-m-i-eq1}
 

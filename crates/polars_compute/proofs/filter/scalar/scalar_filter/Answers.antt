@@ -1,5 +1,5 @@
-use Rattle.std.proofs.Common.{◌≡◌, ◌≤◌, ◌<◌, ◌+◌, ◌++◌, ◌∙◌, length, ap, sym, arith}
-use Rattle.sel_bits.specs.Bits.{bits_from, count_true}
+use Rattle.std.proofs.Common.{◌<◌, ◌++◌, ◌∙◌, length, sym, arith}
+use Rattle.sel_bits.specs.Bits.{bits_from}
 use Rattle.sel_bits.proofs.BitLists.{length_bits_from}
 use Rattle.polars_compute.specs.Select.{select}
 use Rattle.polars_compute.proofs.Scalars.{bit_of, one_left, none_left}

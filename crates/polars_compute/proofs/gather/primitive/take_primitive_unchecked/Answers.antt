@@ -1,8 +1,7 @@
-use Rattle.std.proofs.Common.{◌≡◌, ◌∙◌, ◌≤◌, [], ◌∷◌, List, length, map, ap, pos, arith}
+use Rattle.std.proofs.Common.{◌≡◌, ◌∙◌, [], ◌∷◌, length, pos, arith}
 use Rattle.sel_arrow.specs.Columns.{primitive_rows}
-use Rattle.sel_arrow.specs.Value.{Value, Number}
+use Rattle.sel_arrow.specs.Value.{Number}
 use Rattle.sel_arrow.proofs.Rows.{length-number_rows}
-use Rattle.polars_compute.specs.Pick.{pick, pick_of}
 use Rattle.polars_compute.proofs.Takes.{within_as, validity_within, covers_as, taken_rows, count_taken}
 use Rattle.polars_compute.proofs.gather.primitive.take_primitive_unchecked.Goals as goal
 

@@ -1,4 +1,4 @@
-use Rattle.std.proofs.Common.{◌≡◌, ◌≤◌, length, pos, true, arith, ap, ◌∙◌}
+use Rattle.std.proofs.Common.{◌≡◌, ◌≤◌, length, true, arith, ap, ◌∙◌}
 use Rattle.sel_arrow.specs.Columns.{binary_rows, primitive_rows}
 use Rattle.sel_arrow.specs.Value.{Number}
 use Rattle.sel_arrow.proofs.ByteRows.{length-byte_rows}
