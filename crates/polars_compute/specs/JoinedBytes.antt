@@ -18,11 +18,12 @@ abbrev pub ends_from : ℕ → List Value → List ℕ
 ends_from start [] = []
 ends_from start (row ∷ rows) = (start + byte_count row) ∷ ends_from (start + byte_count row) rows
 
--- a row is null or bytes
+-- a row is null or bytes (own)
 abbrev pub IsBytesRow : Value → Type 0
 IsBytesRow Null = ⊤
 IsBytesRow (Bytes bytes) = ⊤
 IsBytesRow _ = ⊥
 
+-- each row is (own)
 abbrev pub AllBytesRows : List Value → Type 0
 AllBytesRows rows = (k : ℕ) → k < length rows → IsBytesRow (slice_index_or rows k Null)

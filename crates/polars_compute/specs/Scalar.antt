@@ -2,7 +2,7 @@
 use Rattle.std.specs.Prelude.{ℕ, zero, suc, ◌-◌, ◌%◌, min, length}
 use Rattle.sel_bits.specs.Bits.{Bits}
 
--- how many rows there are up to a boundary of the bytes, where the first stands at this place of its byte
+-- how many rows there are up to a boundary of the bytes, where the first stands at this place of its byte (own)
 abbrev pub up_to_boundary : ℕ → ℕ → ℕ
 up_to_boundary zero n = 0
 up_to_boundary (suc place) n = min n (8 - suc place)

@@ -14,11 +14,11 @@ abbrev pub is_true : Value → Bool
 is_true (Truth b) = b
 is_true _ = false
 
--- which rows of a mask column are the valid value true
+-- which rows of a mask column are the valid value true (own)
 abbrev pub in_force : List Value → List Bool
 in_force rows = map is_true rows
 
--- the places of the true entries, where the first entry stands at place n
+-- the places of the true entries, where the first entry stands at place n (own)
 abbrev pub kept_from : ℕ → List Bool → List ℕ
 kept_from n [] = []
 kept_from n (true ∷ ms) = n ∷ kept_from (n + 1) ms

@@ -32,6 +32,6 @@ binary_rows column = byte_rows column.offsets column.values column.validity
 abbrev pub binview_rows : BinaryViewArray → List Value
 binview_rows column = view_rows column.views column.buffers column.validity
 
--- the same, of texts
+-- the same, of texts (Arrow columnar format: variable-size binary view layout)
 abbrev pub utf8view_rows : Utf8ViewArray → List Value
 utf8view_rows column = binview_rows column.bytes

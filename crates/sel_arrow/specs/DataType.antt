@@ -3,6 +3,7 @@ use Rattle.sel_arrow.specs.Shape.{Shape, of_null, of_boolean, of_int8, of_int16,
 use Rattle.sel_arrow.specs.declared.datatype.ArrowDataType.{ArrowDataType}
 use Rattle.sel_arrow.specs.declared.datatype.ArrowDataType.TheVariants.{Null, Boolean, Int8, Int16, Int32, Int64, Int128, UInt8, UInt16, UInt32, UInt64, UInt128, LargeBinary, BinaryView, Utf8View}
 
+-- the layout that a type names (Arrow columnar format: data types)
 abbrev pub shape_of : ArrowDataType → Shape
 shape_of Null = of_null
 shape_of Boolean = of_boolean

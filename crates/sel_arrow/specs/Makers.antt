@@ -14,34 +14,35 @@ use Rattle.sel_arrow.specs.declared.view.View.{View}
 abbrev pub flat_fault : ℕ → Option Bits → Option Malformed
 flat_fault n validity = first_broken ((TooManyRows, too_many n) ∷ (ValidityLength, validity_differs validity n) ∷ [])
 
--- of n rows of nulls
+-- of n rows of nulls (own)
 abbrev pub null_fault : ℕ → Option Malformed
 null_fault n = first_broken ((TooManyRows, too_many n) ∷ [])
 
--- of rows of bytes between offsets
+-- of rows of bytes between offsets (own)
 abbrev pub binary_fault : List ℕ → List ℕ → Option Bits → Option Malformed
 binary_fault offsets bytes validity =
     first_broken ((TooManyRows, too_many (rows_between offsets)) ∷ (OffsetRange, nat_lt (length bytes) (last_offset offsets)) ∷ (ValidityLength, validity_differs validity (rows_between offsets)) ∷ [])
 
--- a fault, or the next one where it is none
+-- a fault, or the next one where it is none (own)
 abbrev pub or_else : Option Malformed → Option Malformed → Option Malformed
 or_else None next = next
 or_else (Some fault) next = Some fault
 
--- of one view, and of views, view by view
+-- of one view (own)
 abbrev pub view_fault : List (List ℕ) → View → Option Malformed
 view_fault buffers view = first_broken ((ViewRange, not (is_in_range buffers view)) ∷ (ViewPrefix, not (has_prefix buffers view)) ∷ [])
 
+-- of views, the first fault of one (own)
 abbrev pub views_fault : List (List ℕ) → List View → Option Malformed
 views_fault buffers [] = None
 views_fault buffers (view ∷ views) = or_else (view_fault buffers view) (views_fault buffers views)
 
--- of rows of views
+-- of rows of views (own)
 abbrev pub binview_fault : List View → List (List ℕ) → Option Bits → Option Malformed
 binview_fault views buffers validity =
     or_else (first_broken ((TooManyRows, too_many (length views)) ∷ (TooManyBuffers, too_many (length buffers)) ∷ (ValidityLength, validity_differs validity (length views)) ∷ [])) (views_fault buffers views)
 
--- of rows of views that are to be texts
+-- of rows of views that are to be texts (own)
 abbrev pub utf8view_fault : List View → List (List ℕ) → Option Bits → Option Malformed
 utf8view_fault views buffers validity =
     or_else (binview_fault views buffers validity) (first_broken ((Utf8, not (all_text (view_rows views buffers validity))) ∷ []))

@@ -5,7 +5,7 @@ use Rattle.sel_bits.specs.Bits.{Bits}
 use Rattle.sel_arrow.specs.Masked.{masked}
 use Rattle.sel_arrow.specs.Value.{Value, Bytes}
 
--- the part of a list between `a` and the next offset, then from there to the one after, and so on
+-- the part of a list between `a` and the next offset, then from there to the one after, and so on (Arrow columnar format: variable-size layouts)
 abbrev pub pieces_after : {A : Type 0} → ℕ → List ℕ → List A → List (List A)
 pieces_after a [] xs = []
 pieces_after a (b ∷ offsets) xs = slice_range xs a b ∷ pieces_after b offsets xs
@@ -15,14 +15,14 @@ abbrev pub pieces : {A : Type 0} → List ℕ → List A → List (List A)
 pieces [] xs = []
 pieces (a ∷ offsets) xs = pieces_after a offsets xs
 
--- how many parts there are
+-- how many parts there are (Arrow columnar format: variable-size layouts)
 abbrev pub rows_between : List ℕ → ℕ
 rows_between offsets = length offsets - 1
 
--- where the last part ends
+-- where the last part ends (Arrow columnar format: variable-size layouts)
 abbrev pub last_offset : List ℕ → ℕ
 last_offset offsets = slice_index offsets (length offsets - 1)
 
--- the rows of bytes between offsets under a validity
+-- the rows of bytes between offsets under a validity (Arrow columnar format: variable-size binary layout)
 abbrev pub byte_rows : List ℕ → List ℕ → Option Bits → List Value
 byte_rows offsets bytes validity = masked validity (map Bytes (pieces offsets bytes))

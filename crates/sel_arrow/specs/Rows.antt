@@ -25,7 +25,7 @@ rows (LargeBinary column) = binary_rows column
 rows (BinaryView column) = binview_rows column
 rows (Utf8View column) = utf8view_rows column
 
--- how many rows there are
+-- how many rows there are (own)
 abbrev pub row_count : Column → ℕ
 row_count (NullColumn column) = column.length
 row_count (Boolean column) = length column.values.bits
@@ -43,7 +43,7 @@ row_count (LargeBinary column) = rows_between column.offsets
 row_count (BinaryView column) = length column.views
 row_count (Utf8View column) = length column.bytes.views
 
--- the type
+-- the type (Arrow columnar format: data types)
 abbrev pub type_of : Column → Shape
 type_of (NullColumn column) = of_null
 type_of (Boolean column) = of_boolean
@@ -79,5 +79,6 @@ well_formed (LargeBinary column) = true
 well_formed (BinaryView column) = true
 well_formed (Utf8View column) = true
 
+-- the same, as a condition (own)
 abbrev pub IsWellFormed : Column → Type 0
 IsWellFormed column = IsTrue (well_formed column)

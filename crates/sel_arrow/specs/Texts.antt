@@ -9,6 +9,6 @@ abbrev pub is_text : Value → Bool
 is_text (Bytes bytes) = is_utf8 bytes
 is_text _ = true
 
--- whether each row is
+-- whether each row is (own)
 abbrev pub all_text : List Value → Bool
 all_text rows = list_all is_text rows

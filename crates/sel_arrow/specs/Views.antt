@@ -16,7 +16,7 @@ word_at bytes at =
 abbrev pub is_inline : View → Bool
 is_inline view = nat_le view.length 12
 
--- the 12 bytes of a view's last three numbers, the lowest byte of each first
+-- the 12 bytes of a view's last three numbers, the lowest byte of each first (Arrow columnar format: variable-size binary view layout)
 abbrev pub inline_space : View → List ℕ
 inline_space view = to_le_bytes w32 view.prefix ++ to_le_bytes w32 view.buffer_idx ++ to_le_bytes w32 view.offset
 
@@ -24,7 +24,7 @@ inline_space view = to_le_bytes w32 view.prefix ++ to_le_bytes w32 view.buffer_i
 abbrev pub inline_bytes : View → List ℕ
 inline_bytes view = take view.length (inline_space view)
 
--- the bytes of data buffer i
+-- the bytes of data buffer i (Arrow columnar format: variable-size binary view layout)
 abbrev pub buffer_at : List (List ℕ) → ℕ → List ℕ
 buffer_at buffers i = slice_index_or buffers i []
 
@@ -33,31 +33,32 @@ abbrev pub view_bytes : List (List ℕ) → View → List ℕ
 view_bytes buffers view =
     if is_inline view then inline_bytes view else slice_range (buffer_at buffers view.buffer_idx) view.offset (view.offset + view.length)
 
--- the view of bytes, which lie in it if they fit, and else from `offset` on in data buffer `buffer_idx`
+-- the view of bytes, which lie in it if they fit, and else from `offset` on in data buffer `buffer_idx` (Arrow columnar format: variable-size binary view layout)
 abbrev pub view_of : List ℕ → ℕ → ℕ → View
 view_of bytes buffer_idx offset =
     if nat_le (length bytes) 12 then record { length = length bytes; prefix = word_at bytes 0; buffer_idx = word_at bytes 4; offset = word_at bytes 8 } else record { length = length bytes; prefix = word_at bytes 0; buffer_idx = buffer_idx; offset = offset }
 
--- whether the bytes that a view names are there
+-- whether the bytes that a view names are there (Arrow columnar format: variable-size binary view layout)
 abbrev pub is_in_range : List (List ℕ) → View → Bool
 is_in_range buffers view =
     is_inline view || (nat_lt view.buffer_idx (length buffers) && nat_le (view.offset + view.length) (length (buffer_at buffers view.buffer_idx)))
 
--- whether the prefix of a view into a data buffer is the first four bytes that it names
+-- whether the prefix of a view into a data buffer is the first four bytes that it names (Arrow columnar format: variable-size binary view layout)
 abbrev pub has_prefix : List (List ℕ) → View → Bool
 has_prefix buffers view = is_inline view || (view.prefix == word_at (view_bytes buffers view) 0)
 
--- whether a view is in range with the right prefix, and whether each one is
+-- whether a view is in range with the right prefix (Arrow columnar format: variable-size binary view layout)
 abbrev pub is_placed : List (List ℕ) → View → Bool
 is_placed buffers view = is_in_range buffers view && has_prefix buffers view
 
+-- whether each view is (Arrow columnar format: variable-size binary view layout)
 abbrev pub all_placed : List (List ℕ) → List View → Bool
 all_placed buffers views = list_all (is_placed buffers) views
 
--- the bytes that a view names, as a row
+-- the bytes that a view names, as a row (Arrow columnar format: variable-size binary view layout)
 abbrev pub view_value : List (List ℕ) → View → Value
 view_value buffers view = Bytes (view_bytes buffers view)
 
--- the rows of views under a validity
+-- the rows of views under a validity (Arrow columnar format: variable-size binary view layout)
 abbrev pub view_rows : List View → List (List ℕ) → Option Bits → List Value
 view_rows views buffers validity = masked validity (map (view_value buffers) views)

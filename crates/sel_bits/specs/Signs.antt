@@ -2,16 +2,16 @@
 use Rattle.std.specs.Prelude.{ℕ, ◌+◌, ℤ, pos, negsuc, Bool, true, false}
 use lib.Signed.{lt_z}
 
--- it is below zero
+-- it is below zero (own)
 abbrev pub is_negative : ℤ → Bool
 is_negative (pos n) = false
 is_negative (negsuc n) = true
 
--- the number without its sign
+-- the number without its sign (own)
 abbrev pub magnitude : ℤ → ℕ
 magnitude (pos n) = n
 magnitude (negsuc n) = n + 1
 
--- the first is less than the second
+-- the first is less than the second (own)
 abbrev pub is_below : ℤ → ℤ → Bool
 is_below a b = lt_z a b
