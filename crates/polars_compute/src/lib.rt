@@ -3,5 +3,3 @@
 
 pub mod filter;
 pub mod gather;
-#[cfg(test)]
-mod tests;

@@ -12,8 +12,6 @@ pub mod empty;
 pub mod native_columns;
 pub mod null;
 pub mod primitive;
-#[cfg(test)]
-mod tests;
 pub mod utf8view;
 pub mod validity;
 pub mod view;

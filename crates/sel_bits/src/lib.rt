@@ -9,5 +9,3 @@ pub mod number;
 pub mod offsets;
 pub mod operations;
 pub mod packer;
-#[cfg(test)]
-mod tests;

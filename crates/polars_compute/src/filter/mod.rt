@@ -10,8 +10,6 @@ mod binary;
 pub mod boolean;
 pub mod primitive;
 pub mod scalar;
-#[cfg(test)]
-mod tests;
 
 use crate::gather::generic_binary::collect_bytes;
 use binary::{PlacedRows, kept_places};

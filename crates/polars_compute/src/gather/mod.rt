@@ -13,8 +13,6 @@ pub mod bitmap;
 pub mod boolean;
 pub(crate) mod generic_binary;
 pub mod primitive;
-#[cfg(test)]
-mod tests;
 mod validity;
 
 use binview::{take_texts, take_views};

@@ -4,19 +4,19 @@ ghost use Rattle.std.specs.Prelude.{◌≡◌, ◌≤◌, length, IfOk};
 ghost use Rattle.sel_arrow.specs.Masked.{Covers};
 ghost use Rattle.sel_arrow.specs.Rows.{IsWellFormed};
 
-use crate::array::Array;
-use crate::array_ref::ArrayRef;
-use crate::binary::BinaryArray;
-use crate::binview::BinaryViewArray;
-use crate::boolean::BooleanArray;
-use crate::column::Column;
-use crate::datatype::ArrowDataType;
-use crate::empty::new_empty_array;
-use crate::null::NullArray;
-use crate::primitive::{ArrowPrimitive, IdxArr, PrimitiveArray};
-use crate::utf8view::Utf8ViewArray;
-use crate::validity::{clone_validity, has_other_length, is_valid_at, sliced_validity};
-use crate::view::View;
+use sel_arrow::array::Array;
+use sel_arrow::array_ref::ArrayRef;
+use sel_arrow::binary::BinaryArray;
+use sel_arrow::binview::BinaryViewArray;
+use sel_arrow::boolean::BooleanArray;
+use sel_arrow::column::Column;
+use sel_arrow::datatype::ArrowDataType;
+use sel_arrow::empty::new_empty_array;
+use sel_arrow::null::NullArray;
+use sel_arrow::primitive::{ArrowPrimitive, IdxArr, PrimitiveArray};
+use sel_arrow::utf8view::Utf8ViewArray;
+use sel_arrow::validity::{clone_validity, has_other_length, is_valid_at, sliced_validity};
+use sel_arrow::view::View;
 use sel_bits::bitmap::Bitmap;
 use sel_bits::buffer::Buffer;
 use sel_bits::faults::{MakeError, Malformed, PolarsResult};
@@ -72,30 +72,41 @@ fn fault_of_text(alloc: Global, view: View, valid: bool) -> PolarsResult<Option<
     Ok(Utf8ViewArray::try_new(views, no_buffers(alloc)?, validity(alloc, &[valid])?).err())
 }
 
+fn malformed(rule: Malformed) -> Option<MakeError> {
+    Some(MakeError::Malformed(rule))
+}
+
 #[test]
-fn makers_name_the_first_broken_rule(rt: HostRuntime) -> Result<(), Fail> {
-    let alloc = rt.alloc();
-    let many = Some(MakeError::Malformed(Malformed::TooManyRows));
+fn columns_of_nulls_have_a_limit(rt: HostRuntime) {
     assert_eq!(rt; NullArray::try_new(4294967295).err(), None);
-    assert_eq!(rt; NullArray::try_new(4294967296).err(), many);
-    let other = Some(MakeError::Malformed(Malformed::ValidityLength));
-    let bits = Bitmap::from_bools(alloc, &[true, false])?;
     assert_eq!(rt;
-        BooleanArray::try_new(bits, validity(alloc, &[true])?).err(),
-        other
+        NullArray::try_new(4294967296).err(),
+        malformed(Malformed::TooManyRows)
     );
-    let numbers = Buffer::from_vec(vec![in alloc; 1i8]?)?;
-    assert_eq!(rt;
-        PrimitiveArray::try_new(numbers, validity(alloc, &[])?).err(),
-        other
-    );
-    let offsets = OffsetsBuffer::try_from(vec![in alloc; 0i32, 3]?)?;
-    let bytes = Buffer::from_vec(Vec::from_slice(alloc, b"ab")?)?;
-    let range = Some(MakeError::Malformed(Malformed::OffsetRange));
-    assert_eq!(rt;
-        BinaryArray::try_new(offsets, bytes, validity(alloc, &[])?).err(),
-        range
-    );
+}
+
+#[test]
+fn validities_are_as_long_as_truth_values(rt: HostRuntime) -> Result<(), Fail> {
+    let bits = Bitmap::from_bools(rt.alloc(), &[true, false])?;
+    let column = BooleanArray::try_new(bits, validity(rt.alloc(), &[true])?);
+    assert_eq!(rt; column.err(), malformed(Malformed::ValidityLength));
+    Ok(())
+}
+
+#[test]
+fn validities_are_as_long_as_numbers(rt: HostRuntime) -> Result<(), Fail> {
+    let numbers = Buffer::from_vec(Vec::from_slice(rt.alloc(), &[1i8])?)?;
+    let column = PrimitiveArray::try_new(numbers, validity(rt.alloc(), &[])?);
+    assert_eq!(rt; column.err(), malformed(Malformed::ValidityLength));
+    Ok(())
+}
+
+#[test]
+fn last_offsets_are_within_the_bytes(rt: HostRuntime) -> Result<(), Fail> {
+    let offsets = OffsetsBuffer::try_from(Vec::from_slice(rt.alloc(), &[0i32, 3])?)?;
+    let bytes = Buffer::from_vec(Vec::from_slice(rt.alloc(), b"ab")?)?;
+    let column = BinaryArray::try_new(offsets, bytes, validity(rt.alloc(), &[])?);
+    assert_eq!(rt; column.err(), malformed(Malformed::OffsetRange));
     Ok(())
 }
 

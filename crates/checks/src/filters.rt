@@ -1,12 +1,15 @@
-use crate::filter::boolean::pext64_polyfill;
-use crate::filter::scalar::{scalar_filter, scalar_filter_offset};
-use crate::filter::{filter, filter_boolean_kernel};
+ghost use Rattle.std.specs.Prelude.{◌≡◌, ◌≤◌, length, IfOk};
+
+use polars_compute::filter::boolean::pext64_polyfill;
+use polars_compute::filter::scalar::{scalar_filter, scalar_filter_offset};
+use polars_compute::filter::{filter, filter_boolean_kernel};
 use sel_arrow::array::Array;
 use sel_arrow::boolean::BooleanArray;
 use sel_arrow::utf8view::Utf8ViewArray;
 use sel_arrow::view::View;
 use sel_bits::bitmap::Bitmap;
 use sel_bits::buffer::Buffer;
+use sel_bits::faults::PolarsResult;
 use std::alloc::Global;
 use std::test::Fail;
 
@@ -110,29 +113,35 @@ fn values_by_bytes(rt: HostRuntime) -> Result<(), Fail> {
     Ok(())
 }
 
+// `len` true bits at bit offset 5.
+fn true_bits(alloc: Global, len: usize) -> PolarsResult<Bitmap>
+    requires { len ≤ 4 }
+    ensures { IfOk result (λ bits. length bits.bits ≡ len) }
+{
+    let bytes = Vec::from_slice(alloc, &[0xFF, 0xFF])?;
+    Ok(Bitmap::from_u8_vec(bytes, 16)?.sliced(5, len))
+}
+
 #[test]
 fn values_up_to_a_byte(rt: HostRuntime) -> Result<(), Fail> {
     let alloc = rt.alloc();
-    let bytes = vec![in alloc; 0xFF, 0xFF]?;
-    assert_eq!(rt; bytes.len(), 2);
-    let whole = Bitmap::from_u8_vec(bytes, 16)?;
-    let mask = whole.sliced(5, 4);
-    let values = [10u32, 20, 30, 40];
-    assert_eq!(rt; mask.len(), values.len());
+    let mask = true_bits(alloc, 4)?;
     let mut out = Vec::new(alloc);
-    let (others, bytes) = scalar_filter_offset(&values, &mask, &mut out)?;
+    let (others, bytes) = scalar_filter_offset(&[10u32, 20, 30, 40], &mask, &mut out)?;
     assert!(rt; out.as_slice() == [10, 20, 30].as_slice());
     assert!(rt; others == [40].as_slice());
     assert!(rt; bytes == [0xFF].as_slice());
-    assert!(rt; others.len() <= 8 * bytes.len());
     scalar_filter(others, bytes, &mut out)?;
     assert!(rt; out.as_slice() == [10, 20, 30, 40].as_slice());
+    Ok(())
+}
 
-    let bytes = vec![in alloc; 0xFF]?;
-    assert_eq!(rt; bytes.len(), 1);
+#[test]
+fn no_values_behind_an_offset(rt: HostRuntime) -> Result<(), Fail> {
+    let alloc = rt.alloc();
+    let bytes = Vec::from_slice(alloc, &[0xFF])?;
     let empty = Bitmap::from_u8_vec(bytes, 8)?.sliced(3, 0);
     let none: [u32; 0] = [];
-    assert_eq!(rt; empty.len(), none.len());
     let mut out = Vec::new(alloc);
     let (others, bytes) = scalar_filter_offset(&none, &empty, &mut out)?;
     assert!(rt; out.is_empty() && others.is_empty() && bytes.is_empty());

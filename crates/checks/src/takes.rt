@@ -1,5 +1,5 @@
-use crate::gather::bitmap::{take_bitmap_nulls_unchecked, take_bitmap_unchecked};
-use crate::gather::{boolean, idx_slice_in_bounds, indices_in_bounds, take_unchecked};
+use polars_compute::gather::bitmap::{take_bitmap_nulls_unchecked, take_bitmap_unchecked};
+use polars_compute::gather::{boolean, idx_slice_in_bounds, indices_in_bounds, take_unchecked};
 use sel_arrow::array::Array;
 use sel_arrow::array_ref::ArrayRef;
 use sel_arrow::binary::BinaryArray;

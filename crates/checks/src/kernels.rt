@@ -1,9 +1,9 @@
-use crate::filter::boolean::filter_bitmap_and_validity;
-use crate::filter::primitive::{filter_values, filter_values_and_validity};
-use crate::filter::{filter, filter_boolean_kernel, filter_with_bitmap};
-use crate::gather::binary::take_unchecked;
-use crate::gather::primitive::take_primitive_unchecked;
-use crate::gather::{indices_in_bounds, indices_in_bounds_of};
+use polars_compute::filter::boolean::filter_bitmap_and_validity;
+use polars_compute::filter::primitive::{filter_values, filter_values_and_validity};
+use polars_compute::filter::{filter, filter_boolean_kernel, filter_with_bitmap};
+use polars_compute::gather::binary::take_unchecked;
+use polars_compute::gather::primitive::take_primitive_unchecked;
+use polars_compute::gather::{indices_in_bounds, indices_in_bounds_of};
 use sel_arrow::array::Array;
 use sel_arrow::array_ref::ArrayRef;
 use sel_arrow::binary::BinaryArray;
@@ -112,12 +112,10 @@ fn has_rows<O: Offset>(column: &BinaryArray<O>, rows: &[Option<&[u8]>]) -> bool 
     true
 }
 
-// One row of `len` bytes.
-fn long_row(alloc: Global, len: i32, validity: Option<Bitmap>) -> Result<BinaryArray<i32>, Fail> {
-    let offsets = OffsetsBuffer::try_from(vec![in alloc; 0i32, len]?)?;
-    let len = len.try_usize().ok_or("a negative length")?;
-    let values = Buffer::from_vec(vec![in alloc; 97u8; len]?)?;
-    Ok(BinaryArray::try_new(offsets, values, validity)?)
+// One row of 65,536 bytes.
+fn long_row(alloc: Global) -> Result<BinaryArray<i32>, Fail> {
+    let bytes = vec![in alloc; 97u8; 65_536]?;
+    bytes_column(alloc, &[Some(bytes.as_slice())])
 }
 
 // Whether a take of this row `count` times passes the limit of bytes, or how many nulls it has.
@@ -328,7 +326,7 @@ fn takes_of_bytes(rt: HostRuntime) -> Result<(), Fail> {
 #[test]
 fn takes_past_the_limit_of_bytes(rt: HostRuntime) -> Result<(), Fail> {
     let alloc = rt.alloc();
-    let column = long_row(alloc, 65_536, None)?;
+    let column = long_row(alloc)?;
     assert!(rt; repeated(alloc, &column, 32_768)?.is_none());
     Ok(())
 }
@@ -337,7 +335,9 @@ fn takes_past_the_limit_of_bytes(rt: HostRuntime) -> Result<(), Fail> {
 fn null_rows_need_no_bytes(rt: HostRuntime) -> Result<(), Fail> {
     let alloc = rt.alloc();
     let null = Bitmap::from_bools(alloc, &[false])?;
-    let column = long_row(alloc, 65_536, Some(null))?;
+    let column = long_row(alloc)?;
+    assert_eq!(rt; (column.len(), null.len()), (1, 1));
+    let column = column.with_validity(Some(null));
     assert_eq!(rt; repeated(alloc, &column, 32_768)?, Some(32_768));
     Ok(())
 }

@@ -2,13 +2,13 @@
 
 ghost use Rattle.std.specs.Prelude.{◌≡◌, ◌≤◌, ◌-◌, length, IfOk};
 
-use crate::bitmap::Bitmap;
-use crate::buffer::Buffer;
-use crate::faults::{Limit, MakeError, Malformed, PolarsError, PolarsResult};
-use crate::native::{Index, NativeType, Offset};
-use crate::number::{load_padded_le_u64, negative_to_usize, prefix_xorsum};
-use crate::offsets::OffsetsBuffer;
-use crate::packer::BitPacker;
+use sel_bits::bitmap::Bitmap;
+use sel_bits::buffer::Buffer;
+use sel_bits::faults::{Limit, MakeError, Malformed, PolarsError, PolarsResult};
+use sel_bits::native::{Index, NativeType, Offset};
+use sel_bits::number::{load_padded_le_u64, negative_to_usize, prefix_xorsum};
+use sel_bits::offsets::OffsetsBuffer;
+use sel_bits::packer::BitPacker;
 use std::alloc::Global;
 use std::process::Abort;
 use std::test::Fail;

@@ -1,0 +1,13 @@
+//! The worked rows of the libraries below, and each of their public calls once, as tests.
+#![tactic(auto)]
+
+#[cfg(test)]
+mod bits;
+#[cfg(test)]
+mod columns;
+#[cfg(test)]
+mod filters;
+#[cfg(test)]
+mod kernels;
+#[cfg(test)]
+mod takes;
