@@ -2,9 +2,12 @@
 
 ghost use Rattle.std.specs.Prelude.{◌≡◌, ◌≤◌, ◌+◌, ◌↔◌, length, take, drop, IfOk, IfErr, IsTrue};
 ghost use Rattle.std.specs.Option.{option_copied};
+ghost use Rattle.sel_arrow.specs.DataType.{shape_of};
 ghost use Rattle.sel_arrow.specs.Nulls.{TellsNulls};
+ghost use Rattle.sel_arrow.specs.Rows.{rows, type_of, IsWellFormed};
 
 use crate::array::Array;
+use crate::array_ref::ArrayRef;
 use crate::binary::BinaryArray;
 use crate::binview::BinaryViewArray;
 use crate::boolean::BooleanArray;
@@ -37,9 +40,6 @@ pub enum Column {
 }
 
 impl Column {
-    ghost use Rattle.sel_arrow.specs.DataType.{shape_of};
-    ghost use Rattle.sel_arrow.specs.Rows.{rows, type_of, IsWellFormed};
-
     /// How many rows there are: at most 4,294,967,295.
     pub fn len(&self) -> usize
         requires { IsWellFormed self.now }
@@ -169,21 +169,21 @@ impl Column {
         ensures refusal { IfErr result (λ fault. fault ≡ PolarsError.OutOfMemory) }
     {
         match self {
-            Column::Null(column) => Ok(Column::Null(column.sliced(alloc, off, len)?)),
-            Column::Boolean(column) => Ok(Column::Boolean(column.sliced(alloc, off, len)?)),
-            Column::Int8(column) => Ok(Column::Int8(column.sliced(alloc, off, len)?)),
-            Column::Int16(column) => Ok(Column::Int16(column.sliced(alloc, off, len)?)),
-            Column::Int32(column) => Ok(Column::Int32(column.sliced(alloc, off, len)?)),
-            Column::Int64(column) => Ok(Column::Int64(column.sliced(alloc, off, len)?)),
-            Column::Int128(column) => Ok(Column::Int128(column.sliced(alloc, off, len)?)),
-            Column::UInt8(column) => Ok(Column::UInt8(column.sliced(alloc, off, len)?)),
-            Column::UInt16(column) => Ok(Column::UInt16(column.sliced(alloc, off, len)?)),
-            Column::UInt32(column) => Ok(Column::UInt32(column.sliced(alloc, off, len)?)),
-            Column::UInt64(column) => Ok(Column::UInt64(column.sliced(alloc, off, len)?)),
-            Column::UInt128(column) => Ok(Column::UInt128(column.sliced(alloc, off, len)?)),
-            Column::LargeBinary(column) => Ok(Column::LargeBinary(column.sliced(alloc, off, len)?)),
-            Column::BinaryView(column) => Ok(Column::BinaryView(column.sliced(alloc, off, len)?)),
-            Column::Utf8View(column) => Ok(Column::Utf8View(column.sliced(alloc, off, len)?)),
+            Column::Null(column) => part_of(column, alloc, off, len),
+            Column::Boolean(column) => part_of(column, alloc, off, len),
+            Column::Int8(column) => part_of(column, alloc, off, len),
+            Column::Int16(column) => part_of(column, alloc, off, len),
+            Column::Int32(column) => part_of(column, alloc, off, len),
+            Column::Int64(column) => part_of(column, alloc, off, len),
+            Column::Int128(column) => part_of(column, alloc, off, len),
+            Column::UInt8(column) => part_of(column, alloc, off, len),
+            Column::UInt16(column) => part_of(column, alloc, off, len),
+            Column::UInt32(column) => part_of(column, alloc, off, len),
+            Column::UInt64(column) => part_of(column, alloc, off, len),
+            Column::UInt128(column) => part_of(column, alloc, off, len),
+            Column::LargeBinary(column) => part_of(column, alloc, off, len),
+            Column::BinaryView(column) => part_of(column, alloc, off, len),
+            Column::Utf8View(column) => part_of(column, alloc, off, len),
         }
     }
 
@@ -196,21 +196,49 @@ impl Column {
         ensures refusal { IfErr result (λ fault. fault ≡ PolarsError.OutOfMemory) }
     {
         match self {
-            Column::Null(column) => Ok(Column::Null(column.try_clone(alloc)?)),
-            Column::Boolean(column) => Ok(Column::Boolean(column.try_clone(alloc)?)),
-            Column::Int8(column) => Ok(Column::Int8(column.try_clone(alloc)?)),
-            Column::Int16(column) => Ok(Column::Int16(column.try_clone(alloc)?)),
-            Column::Int32(column) => Ok(Column::Int32(column.try_clone(alloc)?)),
-            Column::Int64(column) => Ok(Column::Int64(column.try_clone(alloc)?)),
-            Column::Int128(column) => Ok(Column::Int128(column.try_clone(alloc)?)),
-            Column::UInt8(column) => Ok(Column::UInt8(column.try_clone(alloc)?)),
-            Column::UInt16(column) => Ok(Column::UInt16(column.try_clone(alloc)?)),
-            Column::UInt32(column) => Ok(Column::UInt32(column.try_clone(alloc)?)),
-            Column::UInt64(column) => Ok(Column::UInt64(column.try_clone(alloc)?)),
-            Column::UInt128(column) => Ok(Column::UInt128(column.try_clone(alloc)?)),
-            Column::LargeBinary(column) => Ok(Column::LargeBinary(column.try_clone(alloc)?)),
-            Column::BinaryView(column) => Ok(Column::BinaryView(column.try_clone(alloc)?)),
-            Column::Utf8View(column) => Ok(Column::Utf8View(column.try_clone(alloc)?)),
+            Column::Null(column) => copy_of(column, alloc),
+            Column::Boolean(column) => copy_of(column, alloc),
+            Column::Int8(column) => copy_of(column, alloc),
+            Column::Int16(column) => copy_of(column, alloc),
+            Column::Int32(column) => copy_of(column, alloc),
+            Column::Int64(column) => copy_of(column, alloc),
+            Column::Int128(column) => copy_of(column, alloc),
+            Column::UInt8(column) => copy_of(column, alloc),
+            Column::UInt16(column) => copy_of(column, alloc),
+            Column::UInt32(column) => copy_of(column, alloc),
+            Column::UInt64(column) => copy_of(column, alloc),
+            Column::UInt128(column) => copy_of(column, alloc),
+            Column::LargeBinary(column) => copy_of(column, alloc),
+            Column::BinaryView(column) => copy_of(column, alloc),
+            Column::Utf8View(column) => copy_of(column, alloc),
         }
     }
+}
+
+/// A part of a column of one kind, as a column of any kind. Refuses only for want of memory.
+fn part_of<A: Array + Drop>(
+    column: &A,
+    alloc: Global,
+    off: usize,
+    len: usize,
+) -> PolarsResult<Column>
+    requires inside { off + len ≤ length (A.rows column.now) }
+    ensures rows { IfOk result (λ part. rows part ≡ take len (drop off (A.rows column.now))) }
+    ensures dtype { IfOk result (λ part. type_of part ≡ A.shape column.now) }
+    ensures formed { IfOk result (λ part. IsWellFormed part) }
+    ensures refusal { IfErr result (λ fault. fault ≡ PolarsError.OutOfMemory) }
+{
+    let ArrayRef { column } = column.sliced(alloc, off, len)?.into_ref();
+    Ok(column)
+}
+
+/// A column of one kind once more, as a column of any kind. Refuses only for want of memory.
+fn copy_of<A: Array + Drop>(column: &A, alloc: Global) -> PolarsResult<Column>
+    ensures rows { IfOk result (λ copy. rows copy ≡ A.rows column.now) }
+    ensures dtype { IfOk result (λ copy. type_of copy ≡ A.shape column.now) }
+    ensures formed { IfOk result (λ copy. IsWellFormed copy) }
+    ensures refusal { IfErr result (λ fault. fault ≡ PolarsError.OutOfMemory) }
+{
+    let ArrayRef { column } = column.try_clone(alloc)?.into_ref();
+    Ok(column)
 }
