@@ -35,6 +35,13 @@ impl ArrowPrimitive for i8 {
         Column::Int8(PrimitiveArray { values, validity })
     }
 
+    fn of_column(column: &Column) -> Option<(&[i8], Option<&Bitmap>)> {
+        match column {
+            Column::Int8(array) => Some((array.values.as_slice(), array.validity.as_ref())),
+            _ => None,
+        }
+    }
+
     fn from_column(column: Column) -> Result<(Buffer<i8>, Option<Bitmap>), Column> {
         match column {
             Column::Int8(array) => {
@@ -70,6 +77,13 @@ impl ArrowPrimitive for i16 {
         ensures formed { IsWellFormed result }
     {
         Column::Int16(PrimitiveArray { values, validity })
+    }
+
+    fn of_column(column: &Column) -> Option<(&[i16], Option<&Bitmap>)> {
+        match column {
+            Column::Int16(array) => Some((array.values.as_slice(), array.validity.as_ref())),
+            _ => None,
+        }
     }
 
     fn from_column(column: Column) -> Result<(Buffer<i16>, Option<Bitmap>), Column> {
@@ -109,6 +123,13 @@ impl ArrowPrimitive for i32 {
         Column::Int32(PrimitiveArray { values, validity })
     }
 
+    fn of_column(column: &Column) -> Option<(&[i32], Option<&Bitmap>)> {
+        match column {
+            Column::Int32(array) => Some((array.values.as_slice(), array.validity.as_ref())),
+            _ => None,
+        }
+    }
+
     fn from_column(column: Column) -> Result<(Buffer<i32>, Option<Bitmap>), Column> {
         match column {
             Column::Int32(array) => {
@@ -144,6 +165,13 @@ impl ArrowPrimitive for i64 {
         ensures formed { IsWellFormed result }
     {
         Column::Int64(PrimitiveArray { values, validity })
+    }
+
+    fn of_column(column: &Column) -> Option<(&[i64], Option<&Bitmap>)> {
+        match column {
+            Column::Int64(array) => Some((array.values.as_slice(), array.validity.as_ref())),
+            _ => None,
+        }
     }
 
     fn from_column(column: Column) -> Result<(Buffer<i64>, Option<Bitmap>), Column> {
@@ -183,6 +211,13 @@ impl ArrowPrimitive for i128 {
         Column::Int128(PrimitiveArray { values, validity })
     }
 
+    fn of_column(column: &Column) -> Option<(&[i128], Option<&Bitmap>)> {
+        match column {
+            Column::Int128(array) => Some((array.values.as_slice(), array.validity.as_ref())),
+            _ => None,
+        }
+    }
+
     fn from_column(column: Column) -> Result<(Buffer<i128>, Option<Bitmap>), Column> {
         match column {
             Column::Int128(array) => {
@@ -218,6 +253,13 @@ impl ArrowPrimitive for u8 {
         ensures formed { IsWellFormed result }
     {
         Column::UInt8(PrimitiveArray { values, validity })
+    }
+
+    fn of_column(column: &Column) -> Option<(&[u8], Option<&Bitmap>)> {
+        match column {
+            Column::UInt8(array) => Some((array.values.as_slice(), array.validity.as_ref())),
+            _ => None,
+        }
     }
 
     fn from_column(column: Column) -> Result<(Buffer<u8>, Option<Bitmap>), Column> {
@@ -257,6 +299,13 @@ impl ArrowPrimitive for u16 {
         Column::UInt16(PrimitiveArray { values, validity })
     }
 
+    fn of_column(column: &Column) -> Option<(&[u16], Option<&Bitmap>)> {
+        match column {
+            Column::UInt16(array) => Some((array.values.as_slice(), array.validity.as_ref())),
+            _ => None,
+        }
+    }
+
     fn from_column(column: Column) -> Result<(Buffer<u16>, Option<Bitmap>), Column> {
         match column {
             Column::UInt16(array) => {
@@ -292,6 +341,13 @@ impl ArrowPrimitive for u32 {
         ensures formed { IsWellFormed result }
     {
         Column::UInt32(PrimitiveArray { values, validity })
+    }
+
+    fn of_column(column: &Column) -> Option<(&[u32], Option<&Bitmap>)> {
+        match column {
+            Column::UInt32(array) => Some((array.values.as_slice(), array.validity.as_ref())),
+            _ => None,
+        }
     }
 
     fn from_column(column: Column) -> Result<(Buffer<u32>, Option<Bitmap>), Column> {
@@ -331,6 +387,13 @@ impl ArrowPrimitive for u64 {
         Column::UInt64(PrimitiveArray { values, validity })
     }
 
+    fn of_column(column: &Column) -> Option<(&[u64], Option<&Bitmap>)> {
+        match column {
+            Column::UInt64(array) => Some((array.values.as_slice(), array.validity.as_ref())),
+            _ => None,
+        }
+    }
+
     fn from_column(column: Column) -> Result<(Buffer<u64>, Option<Bitmap>), Column> {
         match column {
             Column::UInt64(array) => {
@@ -366,6 +429,13 @@ impl ArrowPrimitive for u128 {
         ensures formed { IsWellFormed result }
     {
         Column::UInt128(PrimitiveArray { values, validity })
+    }
+
+    fn of_column(column: &Column) -> Option<(&[u128], Option<&Bitmap>)> {
+        match column {
+            Column::UInt128(array) => Some((array.values.as_slice(), array.validity.as_ref())),
+            _ => None,
+        }
     }
 
     fn from_column(column: Column) -> Result<(Buffer<u128>, Option<Bitmap>), Column> {

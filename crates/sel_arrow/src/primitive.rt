@@ -1,6 +1,6 @@
 //! A column of numbers.
 
-ghost use Rattle.std.specs.Prelude.{◌≡◌, ◌≢◌, ◌≤◌, ◌<◌, ◌↔◌, length, slice_index_or, None, IfOk, IfErr, IsTrue};
+ghost use Rattle.std.specs.Prelude.{◌≡◌, ◌≢◌, ◌≤◌, ◌<◌, ◌↔◌, length, slice_index_or, None, IfOk, IfErr, IfSome, IfNone, IsTrue};
 ghost use Rattle.std.specs.Option.{option_copied};
 ghost use Rattle.sel_bits.specs.Faults.{IsFault};
 ghost use Rattle.sel_arrow.specs.Makers.{flat_fault};
@@ -110,6 +110,12 @@ pub trait ArrowPrimitive: NativeType {
         ensures rows { rows result ≡ number_rows Self.number values validity }
         ensures dtype { type_of result ≡ shape }
         ensures formed { IsWellFormed result };
+
+    /// The values and the validity, lent; none where the column is of another type.
+    fn of_column(column: &Column) -> Option<(&[Self], Option<&Bitmap>)>
+        ensures rows { IfSome result (λ parts. number_rows Self.number parts.0.now (option_copied parts.1) ≡ rows column.now) }
+        ensures covers { IfSome result (λ parts. Covers (option_copied parts.1) (length parts.0.now)) }
+        ensures other { IfNone result (type_of column.now ≢ shape) };
 
     /// The values and the validity, or the column back where it is of another type.
     fn from_column(column: Column) -> Result<(Buffer<Self>, Option<Bitmap>), Column>

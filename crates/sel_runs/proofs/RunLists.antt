@@ -1,0 +1,154 @@
+-- Runs, the picks that they stand for, and what these find.
+use Rattle.std.proofs.Common.{◌≡◌, ◌-◌, All, subst, ℕ, ◌<◌, ◌≤◌, ◌+◌, List, [], ◌∷◌, ◌++◌, map, length, replicate, get_or, take, drop, refl, sym, ap, ◌∙◌, arith, append_assoc, length-append, Option, Some, None, suc, zero, zero-add}
+use Rattle.std.proofs.lemmas.List.{length-map, take-append-le, drop-append-le, take_all, drop_all, take_more, drop_more, take-append-drop, replicate-append-replicate, map-append, length-replicate, append-nil, nil_from_length}
+use Rattle.std.proofs.lemmas.List.FromFn.{length-map-range_with_len, get_or-map-range_with_len}
+use Rattle.std.proofs.lemmas.List.Elements.{All-get_or, All-take, All-drop}
+use Rattle.std.specs.List.{range_with_len}
+use Rattle.sel_runs.specs.declared.run.Run.{Run}
+use Rattle.sel_runs.specs.Picks.{found, pick, PickFits}
+use Rattle.sel_runs.specs.Runs.{expand, unrolled, unrolled_from, picks_of}
+
+-- ---- runs behind one another
+
+pub expand-append : (a b : List Run) → expand (a ++ b) ≡ expand a ++ expand b
+expand-append [] b = refl
+expand-append (r ∷ a) b = ap (λ l. unrolled r ++ l) (expand-append a b) ∙ sym (append_assoc (unrolled r) (expand a) (expand b))
+
+pub expand-one : (r : Run) → expand (r ∷ []) ≡ unrolled r
+expand-one r = append-nil (unrolled r)
+
+pub expand-push : (a : List Run) (r : Run) → expand (a ++ r ∷ []) ≡ expand a ++ unrolled r
+expand-push a r = expand-append a (r ∷ []) ∙ ap (λ l. expand a ++ l) (expand-one r)
+
+length-unrolled_from : (s : Option ℕ) (a n : ℕ) → length (unrolled_from s a n) ≡ n
+length-unrolled_from None a n = length-replicate n None
+length-unrolled_from (Some s) a n = length-map-range_with_len (λ i. Some (s, i)) a n
+
+pub length-unrolled : (r : Run) → length (unrolled r) ≡ r.len
+length-unrolled r = length-unrolled_from r.source r.start r.len
+
+range-append : (n m a b : ℕ) → a + n ≡ b → range_with_len a (n + m) ≡ range_with_len a n ++ range_with_len b m
+range-append zero m a b e =
+    let same : a ≡ b = omega (arith, e) in
+    rw (zero-add m, same) refl
+range-append (suc n) m a b e =
+    let more : suc n + m ≡ suc (n + m) = omega arith in
+    let next : (a + 1) + n ≡ b = omega (arith, e) in
+    rw more (ap (λ l. a ∷ l) (range-append n m (a + 1) b next))
+
+picks_of-append : (s a b n m : ℕ) → a + n ≡ b → picks_of s a (n + m) ≡ picks_of s a n ++ picks_of s b m
+picks_of-append s a b n m e =
+    ap (map (λ i. Some (s, i))) (range-append n m a b e) ∙ map-append (λ i. Some (s, i)) (range_with_len a n) (range_with_len b m)
+
+nulls-append : (n m : ℕ) → replicate (n + m) (let none : Option (ℕ × ℕ) = None in none) ≡ replicate n None ++ replicate m None
+nulls-append n m = sym (replicate-append-replicate n m None)
+
+pub joined_nulls : (r s : Run) → r.source ≡ None → s.source ≡ None → unrolled_from r.source r.start (r.len + s.len) ≡ unrolled r ++ unrolled s
+joined_nulls r s e f = rw (e, f) (nulls-append r.len s.len)
+
+pub joined_rows : (r s : Run) (a b : ℕ) → r.source ≡ Some a → s.source ≡ Some b → a ≡ b → r.start + r.len ≡ s.start → unrolled_from r.source r.start (r.len + s.len) ≡ unrolled r ++ unrolled s
+joined_rows r s a b e f same next = rw (e, f, ← same) (picks_of-append a r.start s.start r.len s.len next)
+
+pub expand_joined : (old rest new : List Run) (last both run : Run) → old ≡ rest ++ last ∷ [] → unrolled both ≡ unrolled last ++ unrolled run →
+    new ≡ rest ++ both ∷ [] → expand new ≡ expand old ++ unrolled run
+expand_joined old rest new last both run e u f =
+    rw (e, f, expand-push rest both, expand-push rest last, u) (sym (append_assoc (expand rest) (unrolled last) (unrolled run)))
+
+pub expand_behind : (old rest one new : List Run) (last run : Run) → old ≡ rest ++ last ∷ [] → one ≡ rest ++ last ∷ [] → new ≡ one ++ run ∷ [] → expand new ≡ expand old ++ unrolled run
+expand_behind old rest one new last run e f g = rw (e, g, f) (expand-push (rest ++ last ∷ []) run)
+
+pub last_len : (old rest : List Run) (last : Run) → old ≡ rest ++ last ∷ [] → last.len ≤ length (expand old)
+last_len old rest last e = rw (e, expand-push rest last, length-append (expand rest) (unrolled last), length-unrolled last) (omega arith)
+
+pub ruleset run_rules = (expand-append, expand-one, length-unrolled)
+
+-- ---- picks that fit
+
+below_length : {A : Type 0} (xss : List (List A)) (s i : ℕ) → i < length (get_or xss s []) → s < length xss
+below_length [] s i h = absurd (omega (arith, h))
+below_length (xs ∷ xss) zero i h = omega arith
+below_length (xs ∷ xss) (suc s) i h = let rest = below_length xss s i h in omega arith
+
+-- the rows of a run of at least one row are there
+pub run_inside : {A : Type 0} (xss : List (List A)) (s a n : ℕ) → 0 < n → All (PickFits xss) (picks_of s a n) → a + n ≤ length (get_or xss s [])
+run_inside xss s a n some fits =
+    let inside : n - 1 < length (picks_of s a n) = rw (length-map-range_with_len (λ i. let p : Option (ℕ × ℕ) = Some (s, i) in p) a n) (omega arith) in
+    let last = All-get_or (PickFits xss) (picks_of s a n) (n - 1) None inside fits in
+    let place : get_or (picks_of s a n) (n - 1) None ≡ Some (s, a + (n - 1)) = get_or-map-range_with_len (λ i. Some (s, i)) a n (n - 1) (a + (n - 1)) None (omega arith) refl in
+    let below : a + (n - 1) < length (get_or xss s []) = subst (PickFits xss) place last in
+    omega arith
+
+-- its source is there
+pub run_source : {A : Type 0} (xss : List (List A)) (s a n : ℕ) → 0 < n → All (PickFits xss) (picks_of s a n) → s < length xss
+run_source xss s a n some fits =
+    let h = run_inside xss s a n some fits in
+    below_length xss s (a + n - 1) (omega arith)
+
+-- ---- a loop over runs
+
+-- the run at a place, as a loop over runs reads it
+abbrev pub run_at : List Run → ℕ → Run
+run_at rs i = get_or rs i (record { source = None; start = 0; len = 0 })
+
+-- the runs up to a place, and the one there
+expand_more : (rs : List Run) (i : ℕ) → i < length rs → expand (take (i + 1) rs) ≡ expand (take i rs) ++ unrolled (run_at rs i)
+expand_more rs i inside = ap expand (take_more rs i _ inside) ∙ expand-push (take i rs) (run_at rs i)
+
+expand_split : (rs : List Run) (i : ℕ) → i < length rs → expand rs ≡ (expand (take i rs) ++ unrolled (run_at rs i)) ++ expand (drop (i + 1) rs)
+expand_split rs i inside =
+    ap expand (sym (take-append-drop (i + 1) rs)) ∙ expand-append (take (i + 1) rs) (drop (i + 1) rs) ∙ ap (λ l. l ++ expand (drop (i + 1) rs)) (expand_more rs i inside)
+
+pub room_at : (rs : List Run) (i : ℕ) → i < length rs → length (expand (take i rs)) + (run_at rs i).len ≤ length (expand rs)
+room_at rs i inside =
+    let e = ap length (expand_split rs i inside) ∙ length-append (expand (take i rs) ++ unrolled (run_at rs i)) (expand (drop (i + 1) rs)) in
+    let f = length-append (expand (take i rs)) (unrolled (run_at rs i)) in
+    omega (arith, e, f, length-unrolled (run_at rs i))
+
+All-left : {A : Type 0} (P : A → Type 0) (xs ys : List A) → All P (xs ++ ys) → All P xs
+All-left P xs ys h = subst (All P) (take-append-le (length xs) xs ys (omega arith) ∙ take_all (length xs) xs (omega arith)) (All-take P (length xs) (xs ++ ys) h)
+
+All-right : {A : Type 0} (P : A → Type 0) (xs ys : List A) → All P (xs ++ ys) → All P ys
+All-right P xs ys h = subst (All P) (drop-append-le (length xs) xs ys (omega arith) ∙ ap (λ l. l ++ ys) (drop_all (length xs) xs (omega arith))) (All-drop P (length xs) (xs ++ ys) h)
+
+pub all_at : (P : Option (ℕ × ℕ) → Type 0) (rs : List Run) (i : ℕ) → i < length rs → All P (expand rs) → All P (unrolled (run_at rs i))
+all_at P rs i inside all =
+    let split : All P ((expand (take i rs) ++ unrolled (run_at rs i)) ++ expand (drop (i + 1) rs)) = subst (All P) (expand_split rs i inside) all in
+    All-right P (expand (take i rs)) (unrolled (run_at rs i)) (All-left P (expand (take i rs) ++ unrolled (run_at rs i)) (expand (drop (i + 1) rs)) split)
+
+-- what the runs up to the next place pick
+pub pick_more : {A : Type 0} (d : A) (xss : List (List A)) (rs : List Run) (i : ℕ) → i < length rs →
+    pick d xss (expand (take (i + 1) rs)) ≡ pick d xss (expand (take i rs)) ++ pick d xss (unrolled (run_at rs i))
+pick_more d xss rs i inside = ap (pick d xss) (expand_more rs i inside) ∙ map-append (found d xss) (expand (take i rs)) (unrolled (run_at rs i))
+
+pub length-pick : {A : Type 0} (d : A) (xss : List (List A)) (ps : List (Option (ℕ × ℕ))) → length (pick d xss ps) ≡ length ps
+length-pick d xss ps = length-map ps (found d xss)
+
+-- ---- what one run picks
+
+pick_rows : {A : Type 0} (d : A) (xss : List (List A)) (s a n : ℕ) → a + n ≤ length (get_or xss s []) → pick d xss (picks_of s a n) ≡ take n (drop a (get_or xss s []))
+pick_rows d xss s a zero h = refl
+pick_rows d xss s a (suc n) h =
+    let inside : a < length (get_or xss s []) = omega arith in
+    let next : (a + 1) + n ≤ length (get_or xss s []) = omega arith in
+    rw (drop_more (get_or xss s []) a d inside) (ap (λ l. get_or (get_or xss s []) a d ∷ l) (pick_rows d xss s (a + 1) n next))
+
+pub pick_run : {A : Type 0} (d : A) (xss : List (List A)) (r : Run) (s : ℕ) → r.source ≡ Some s → r.start + r.len ≤ length (get_or xss s []) →
+    pick d xss (unrolled r) ≡ take r.len (drop r.start (get_or xss s []))
+pick_run d xss r s is inside = rw is (pick_rows d xss s r.start r.len inside)
+
+map_nulls : {A : Type 0} (d : A) (xss : List (List A)) (n : ℕ) → pick d xss (replicate n None) ≡ replicate n d
+map_nulls d xss zero = refl
+map_nulls d xss (suc n) = ap (λ l. d ∷ l) (map_nulls d xss n)
+
+pub pick_nulls : {A : Type 0} (d : A) (xss : List (List A)) (r : Run) → r.source ≡ None → pick d xss (unrolled r) ≡ replicate r.len d
+pick_nulls d xss r is = rw is (map_nulls d xss r.len)
+
+pub pick_empty : {A : Type 0} (d : A) (xss : List (List A)) (r : Run) → r.len ≡ 0 → pick d xss (unrolled r) ≡ []
+pick_empty d xss r is = ap (map (found d xss)) (nil_from_length (unrolled r) (length-unrolled r ∙ is))
+
+-- the source and the rows of a run of at least one row
+pub run_there : {A : Type 0} (xss : List (List A)) (r : Run) (s : ℕ) → r.source ≡ Some s → (r.len ≡ 0 → ⊥) → All (PickFits xss) (unrolled r) → (s < length xss) × (r.start + r.len ≤ length (get_or xss s []))
+run_there xss r s is other fits =
+    let picks : All (PickFits xss) (picks_of s r.start r.len) = subst (λ o. All (PickFits xss) (unrolled_from o r.start r.len)) is fits in
+    let some : 0 < r.len = omega (arith, other) in
+    (run_source xss s r.start r.len some picks, run_inside xss s r.start r.len some picks)

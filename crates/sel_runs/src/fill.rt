@@ -1,0 +1,16 @@
+//! One value many times.
+
+ghost use Rattle.std.specs.Prelude.{◌≡◌, ◌<◌, ◌+◌, ◌++◌, ◌^◌, length, replicate, IfErr, OnOk};
+
+use sel_bits::faults::{PolarsError, PolarsResult};
+
+/// Puts the same value `count` times behind the others. Refuses only for want of memory.
+#[tactic(auto, using(crate::proofs::Windows::resized))]
+pub fn push_values<T: Copy>(items: &mut Vec<T>, value: T, count: usize) -> PolarsResult<()>
+    requires { length items.old.items + count < 2 ^ 64 }
+    ensures items { OnOk result (items.new.items ≡ items.old.items ++ replicate count value) }
+    ensures refusal { IfErr result (λ fault. fault ≡ PolarsError.OutOfMemory) }
+{
+    items.resize(items.len() + count, value)?;
+    Ok(())
+}

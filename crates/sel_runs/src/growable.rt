@@ -1,0 +1,64 @@
+//! Columns that grow by rows of others.
+
+ghost use Rattle.std.specs.Prelude.{◌≡◌, ◌≤◌, ◌<◌, ◌+◌, ◌++◌, All, List, length, take, drop, replicate, slice_index_or, [], IfOk, IfErr};
+ghost use Rattle.sel_arrow.specs.Value.{Value, Null};
+ghost use Rattle.sel_runs.specs.Picks.{pick, PickFits};
+ghost use Rattle.sel_runs.specs.Runs.{expand, unrolled};
+
+use crate::run::Run;
+use sel_bits::faults::{PolarsError, PolarsResult};
+
+/// A column that grows at its end, by rows of given sources and by nulls.
+pub trait Growable: Sized {
+    /// The rows of each source.
+    ghost sources: { Self → List (List Value) };
+
+    /// The rows so far.
+    ghost grown: { Self → List Value };
+
+    /// Puts the `len` rows of a source from row `start` on behind the others. Refuses only for want of memory.
+    fn extend(self, source: u32, start: u32, len: u32) -> PolarsResult<Self>
+        requires source { source < length (sources self) }
+        requires inside { start + len ≤ length (slice_index_or (sources self) source []) }
+        requires room { length (grown self) + len ≤ 4294967295 }
+        ensures rows { IfOk result (λ longer. grown longer ≡ grown self ++ take len (drop start (slice_index_or (sources self) source []))) }
+        ensures sources { IfOk result (λ longer. sources longer ≡ sources self) }
+        ensures refusal { IfErr result (λ fault. fault ≡ PolarsError.OutOfMemory) };
+
+    /// Puts `len` nulls behind the others. Refuses only for want of memory.
+    fn extend_nulls(self, len: u32) -> PolarsResult<Self>
+        requires room { length (grown self) + len ≤ 4294967295 }
+        ensures rows { IfOk result (λ longer. grown longer ≡ grown self ++ replicate len Null) }
+        ensures sources { IfOk result (λ longer. sources longer ≡ sources self) }
+        ensures refusal { IfErr result (λ fault. fault ≡ PolarsError.OutOfMemory) };
+}
+
+/// Puts the rows that runs pick behind the others. Refuses only for want of memory.
+pub fn extend_runs<G: Growable>(mut growable: G, runs: &[Run]) -> PolarsResult<G>
+    requires fits { All (PickFits (G.sources growable)) (expand runs.now) }
+    requires room { length (G.grown growable) + length (expand runs.now) ≤ 4294967295 }
+    ensures rows { IfOk result (λ longer. G.grown longer ≡ G.grown growable ++ pick Null (G.sources growable) (expand runs.now)) }
+    ensures sources { IfOk result (λ longer. G.sources longer ≡ G.sources growable) }
+    ensures refusal { IfErr result (λ fault. fault ≡ PolarsError.OutOfMemory) }
+{
+    for run in runs {
+        growable = extend_run(growable, *run)?;
+    }
+    Ok(growable)
+}
+
+fn extend_run<G: Growable>(growable: G, run: Run) -> PolarsResult<G>
+    requires fits { All (PickFits (G.sources growable)) (unrolled run) }
+    requires room { length (G.grown growable) + run.len ≤ 4294967295 }
+    ensures rows { IfOk result (λ longer. G.grown longer ≡ G.grown growable ++ pick Null (G.sources growable) (unrolled run)) }
+    ensures sources { IfOk result (λ longer. G.sources longer ≡ G.sources growable) }
+    ensures refusal { IfErr result (λ fault. fault ≡ PolarsError.OutOfMemory) }
+{
+    if run.len == 0 {
+        return Ok(growable);
+    }
+    match run.source {
+        None => growable.extend_nulls(run.len),
+        Some(source) => growable.extend(source, run.start, run.len),
+    }
+}

@@ -1,0 +1,8 @@
+//! Rows of several columns, copied by runs of rows that stand together.
+#![tactic(auto)]
+
+pub mod bits;
+pub mod fill;
+pub mod growable;
+pub mod primitive;
+pub mod run;

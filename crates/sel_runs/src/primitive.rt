@@ -1,0 +1,144 @@
+//! Numbers that grow by those of other columns.
+
+ghost use Rattle.std.specs.Prelude.{◌≡◌, ◌≤◌, ◌+◌, ◌++◌, All, length, map, take, drop, IfOk, IfErr, OnOk};
+ghost use Rattle.std.specs.Option.{option_copied};
+ghost use Rattle.sel_arrow.specs.Masked.{Covers, hidden, number_rows};
+ghost use Rattle.sel_arrow.specs.Rows.{rows, type_of, IsWellFormed};
+ghost use Rattle.sel_arrow.specs.Value.{Null, Number};
+ghost use Rattle.sel_runs.specs.Picks.{pick, PickFits};
+ghost use Rattle.sel_runs.specs.Runs.{expand};
+ghost use Rattle.sel_runs.specs.Validity.{part_bits};
+
+use crate::bits::{push_copies, push_validity, validity_from};
+use crate::fill::push_values;
+use crate::growable::{Growable, extend_runs};
+use crate::run::Run;
+use sel_arrow::column::Column;
+use sel_arrow::primitive::ArrowPrimitive;
+use sel_bits::bitmap::Bitmap;
+use sel_bits::buffer::Buffer;
+use sel_bits::faults::{PolarsError, PolarsResult};
+use sel_bits::packer::BitPacker;
+use std::alloc::Global;
+
+/// The numbers and the validity of a source.
+#[derive(Drop)]
+struct Numbers<'a, T: ArrowPrimitive> {
+    values: &'a [T],
+    validity: Option<&'a Bitmap>,
+    ghost covers: { Covers (option_copied validity) (length values.now) },
+}
+
+/// The numbers so far, and the validity, one bit a number.
+#[derive(Drop)]
+struct GrowablePrimitive<'a, T: ArrowPrimitive> {
+    sources: &'a [Numbers<'a, T>],
+    values: Vec<T>,
+    validity: BitPacker,
+    ghost lengths: { length validity ≡ length values.items },
+}
+
+impl<T: ArrowPrimitive + Drop> Growable for GrowablePrimitive<'_, T> {
+    ghost sources = { λ g. map (λ s. number_rows T.number s.values.now (option_copied s.validity)) g.sources.now };
+
+    ghost grown = { λ g. hidden g.validity (map (λ x. Number (T.number x)) g.values.items) };
+
+    fn extend(self, source: u32, start: u32, len: u32) -> PolarsResult<Self> {
+        let GrowablePrimitive {
+            sources,
+            mut values,
+            mut validity,
+        } = self;
+        let from = &sources[source as usize];
+        let (start, len) = (start as usize, len as usize);
+        push_part(&mut values, &mut validity, from, start, len)?;
+        Ok(GrowablePrimitive {
+            sources,
+            values,
+            validity,
+        })
+    }
+
+    fn extend_nulls(self, len: u32) -> PolarsResult<Self> {
+        let GrowablePrimitive {
+            sources,
+            mut values,
+            mut validity,
+        } = self;
+        push_values(&mut values, T::LEAST, len as usize)?;
+        push_copies(&mut validity, false, len as usize)?;
+        Ok(GrowablePrimitive {
+            sources,
+            values,
+            validity,
+        })
+    }
+}
+
+// Puts a part of a source behind the others.
+fn push_part<T: ArrowPrimitive>(
+    values: &mut Vec<T>,
+    validity: &mut BitPacker,
+    from: &Numbers<T>,
+    start: usize,
+    len: usize,
+) -> PolarsResult<()>
+    requires { start + len ≤ length from.now.values.now }
+    ensures values { OnOk result (values.new.items ≡ values.old.items ++ take len (drop start from.now.values.now)) }
+    ensures bits { OnOk result (validity.new ≡ validity.old ++ part_bits start len (option_copied from.now.validity)) }
+    ensures refusal { IfErr result (λ fault. fault ≡ PolarsError.OutOfMemory) }
+{
+    values.extend_from_slice(&from.values[start..start + len])?;
+    push_validity(validity, from.validity, start, len)
+}
+
+/// What each source has. Refuses only for want of memory.
+fn numbers_of<'a, T: ArrowPrimitive>(
+    alloc: Global,
+    sources: &'a [&'a Column],
+) -> PolarsResult<Vec<Numbers<'a, T>>>
+    requires { All (λ c. type_of c.now ≡ T.shape) sources.now }
+    ensures rows { IfOk result (λ found. map (λ s. number_rows T.number s.values.now (option_copied s.validity)) found.items ≡ map (λ c. rows c.now) sources.now) }
+    ensures refusal { IfErr result (λ fault. fault ≡ PolarsError.OutOfMemory) }
+{
+    let mut found = Vec::with_capacity(alloc, sources.len())?;
+    for source in sources {
+        let Some((values, validity)) = T::of_column(*source) else {
+            unreachable!()
+        };
+        found.push(Numbers { values, validity })?;
+    }
+    Ok(found)
+}
+
+/// The rows that runs pick of columns of one type of numbers, `len` in all. Refuses only for want of memory.
+pub fn collect_primitive<'a, T: ArrowPrimitive + Drop>(
+    alloc: Global,
+    sources: &'a [&'a Column],
+    runs: &[Run],
+    len: usize,
+) -> PolarsResult<Column>
+    requires alike { All (λ c. type_of c.now ≡ T.shape) sources.now }
+    requires fits { All (PickFits (map (λ c. rows c.now) sources.now)) (expand runs.now) }
+    requires len { length (expand runs.now) ≡ len }
+    requires few { len ≤ 4294967295 }
+    ensures rows { IfOk result (λ column. rows column ≡ pick Null (map (λ c. rows c.now) sources.now) (expand runs.now)) }
+    ensures dtype { IfOk result (λ column. type_of column ≡ T.shape) }
+    ensures formed { IfOk result (λ column. IsWellFormed column) }
+    ensures refusal { IfErr result (λ fault. fault ≡ PolarsError.OutOfMemory) }
+{
+    let found = numbers_of::<T>(alloc, sources)?;
+    let empty = GrowablePrimitive {
+        sources: &found,
+        values: Vec::with_capacity(alloc, len)?,
+        validity: BitPacker::with_capacity(alloc, len)?,
+    };
+    let GrowablePrimitive {
+        values,
+        validity,
+        ..
+    } = extend_runs(empty, runs)?;
+    let validity = validity_from(validity, len)?;
+    let values = Buffer::from_vec(values)?;
+    Ok(T::into_column(values, validity))
+}

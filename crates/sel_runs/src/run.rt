@@ -1,0 +1,54 @@
+//! Rows that stand together.
+
+ghost use Rattle.std.specs.Prelude.{◌≡◌, ◌≤◌, ◌+◌, ◌++◌, length, IfSome, IfErr, OnOk};
+ghost use Rattle.sel_runs.specs.Runs.{expand, unrolled};
+
+use sel_bits::faults::{PolarsError, PolarsResult};
+
+/// `len` rows of one source from row `start` on; without a source, `len` nulls.
+#[derive(Clone, Copy, Drop)]
+pub struct Run {
+    pub source: Option<u32>,
+    pub start: u32,
+    pub len: u32,
+}
+
+/// Puts a run behind the others, as a part of the last one where it goes on from there. Refuses only for want of memory.
+pub fn push_run(runs: &mut Vec<Run>, run: Run) -> PolarsResult<()>
+    requires { length (expand runs.old.items) + run.len ≤ 4294967295 }
+    ensures picks { OnOk result (expand runs.new.items ≡ expand runs.old.items ++ unrolled run) }
+    ensures refusal { IfErr result (λ fault. fault ≡ PolarsError.OutOfMemory) }
+{
+    match runs.pop() {
+        None => runs.push(run)?,
+        Some(last) => match joined(last, run) {
+            Some(both) => runs.push(both)?,
+            None => {
+                runs.push(last)?;
+                runs.push(run)?;
+            }
+        },
+    }
+    Ok(())
+}
+
+// The two as one run, where the second goes on where the first ends.
+#[tactic(auto, using(crate::proofs::RunLists::run_rules))]
+fn joined(first: Run, second: Run) -> Option<Run>
+    requires { first.len + second.len ≤ 4294967295 }
+    ensures { IfSome result (λ both. unrolled both ≡ unrolled first ++ unrolled second) }
+{
+    let len = first.len + second.len;
+    match (first.source, second.source) {
+        (None, None) => Some(Run { len, ..first }),
+        (Some(one), Some(other)) => {
+            let end = first.start as u64 + first.len as u64;
+            if one == other && end == second.start as u64 {
+                Some(Run { len, ..first })
+            } else {
+                None
+            }
+        }
+        _ => None,
+    }
+}
