@@ -1,3 +1,4 @@
 pub mod Grown
+pub mod NullPicks
 pub mod RunLists
 pub mod Windows

@@ -2,7 +2,9 @@
 #![tactic(auto)]
 
 pub mod bits;
+pub mod boolean;
 pub mod fill;
 pub mod growable;
+pub mod null;
 pub mod primitive;
 pub mod run;

@@ -1,0 +1,131 @@
+//! Truth values that grow by those of other columns.
+
+ghost use Rattle.std.specs.Prelude.{◌≡◌, ◌≤◌, ◌+◌, ◌++◌, All, length, map, take, drop, IfOk, IfErr, OnOk};
+ghost use Rattle.sel_arrow.specs.Columns.{boolean_rows};
+ghost use Rattle.sel_arrow.specs.Masked.{hidden};
+ghost use Rattle.sel_arrow.specs.Rows.{rows, type_of, IsWellFormed};
+ghost use Rattle.sel_arrow.specs.Shape.{of_boolean};
+ghost use Rattle.sel_arrow.specs.Value.{Null, Truth};
+ghost use Rattle.sel_runs.specs.Picks.{pick, PickFits};
+ghost use Rattle.sel_runs.specs.Runs.{expand};
+ghost use Rattle.sel_runs.specs.Validity.{part_bits};
+
+use crate::bits::{push_bits, push_copies, push_validity, validity_from};
+use crate::growable::{Growable, extend_runs};
+use crate::run::Run;
+use sel_arrow::boolean::BooleanArray;
+use sel_arrow::column::Column;
+use sel_bits::faults::{PolarsError, PolarsResult};
+use sel_bits::packer::BitPacker;
+use std::alloc::Global;
+
+/// The truth values so far, and the validity, one bit a truth value.
+#[derive(Drop)]
+struct GrowableBoolean<'a> {
+    sources: &'a [&'a BooleanArray],
+    values: BitPacker,
+    validity: BitPacker,
+    ghost lengths: { length validity ≡ length values },
+}
+
+impl Growable for GrowableBoolean<'_> {
+    ghost sources = { λ g. map (λ s. boolean_rows s.now) g.sources.now };
+
+    ghost grown = { λ g. hidden g.validity (map Truth g.values) };
+
+    fn extend(self, source: u32, start: u32, len: u32) -> PolarsResult<Self> {
+        let GrowableBoolean {
+            sources,
+            mut values,
+            mut validity,
+        } = self;
+        let from = sources[source as usize];
+        let (start, len) = (start as usize, len as usize);
+        push_part(&mut values, &mut validity, from, start, len)?;
+        Ok(GrowableBoolean {
+            sources,
+            values,
+            validity,
+        })
+    }
+
+    fn extend_nulls(self, len: u32) -> PolarsResult<Self> {
+        let GrowableBoolean {
+            sources,
+            mut values,
+            mut validity,
+        } = self;
+        push_copies(&mut values, false, len as usize)?;
+        push_copies(&mut validity, false, len as usize)?;
+        Ok(GrowableBoolean {
+            sources,
+            values,
+            validity,
+        })
+    }
+}
+
+// Puts a part of a source behind the others.
+fn push_part(
+    values: &mut BitPacker,
+    validity: &mut BitPacker,
+    from: &BooleanArray,
+    start: usize,
+    len: usize,
+) -> PolarsResult<()>
+    requires { start + len ≤ length from.now.values.bits }
+    ensures values { OnOk result (values.new ≡ values.old ++ take len (drop start from.now.values.bits)) }
+    ensures bits { OnOk result (validity.new ≡ validity.old ++ part_bits start len from.now.validity) }
+    ensures refusal { IfErr result (λ fault. fault ≡ PolarsError.OutOfMemory) }
+{
+    push_bits(values, &from.values, start, len)?;
+    push_validity(validity, from.validity.as_ref(), start, len)
+}
+
+/// The columns by their layout. Refuses only for want of memory.
+fn booleans_of<'a>(alloc: Global, sources: &'a [&'a Column]) -> PolarsResult<Vec<&'a BooleanArray>>
+    requires { All (λ c. type_of c.now ≡ of_boolean) sources.now }
+    ensures rows { IfOk result (λ found. map (λ s. boolean_rows s.now) found.items ≡ map (λ c. rows c.now) sources.now) }
+    ensures refusal { IfErr result (λ fault. fault ≡ PolarsError.OutOfMemory) }
+{
+    let mut found = Vec::with_capacity(alloc, sources.len())?;
+    for source in sources {
+        let Column::Boolean(array) = *source else {
+            unreachable!()
+        };
+        found.push(array)?;
+    }
+    Ok(found)
+}
+
+/// The rows that runs pick of columns of truth values, `len` in all. Refuses only for want of memory.
+pub fn collect_boolean<'a>(
+    alloc: Global,
+    sources: &'a [&'a Column],
+    runs: &[Run],
+    len: usize,
+) -> PolarsResult<Column>
+    requires alike { All (λ c. type_of c.now ≡ of_boolean) sources.now }
+    requires fits { All (PickFits (map (λ c. rows c.now) sources.now)) (expand runs.now) }
+    requires len { length (expand runs.now) ≡ len }
+    requires few { len ≤ 4294967295 }
+    ensures rows { IfOk result (λ column. rows column ≡ pick Null (map (λ c. rows c.now) sources.now) (expand runs.now)) }
+    ensures dtype { IfOk result (λ column. type_of column ≡ of_boolean) }
+    ensures formed { IfOk result (λ column. IsWellFormed column) }
+    ensures refusal { IfErr result (λ fault. fault ≡ PolarsError.OutOfMemory) }
+{
+    let found = booleans_of(alloc, sources)?;
+    let empty = GrowableBoolean {
+        sources: &found,
+        values: BitPacker::with_capacity(alloc, len)?,
+        validity: BitPacker::with_capacity(alloc, len)?,
+    };
+    let GrowableBoolean {
+        values,
+        validity,
+        ..
+    } = extend_runs(empty, runs)?;
+    let validity = validity_from(validity, len)?;
+    let values = values.into_bitmap(len)?;
+    Ok(Column::Boolean(BooleanArray { values, validity }))
+}

@@ -1,0 +1,24 @@
+//! Nulls picked of columns of nulls.
+
+ghost use Rattle.std.specs.Prelude.{◌≡◌, ◌≤◌, All, length, map};
+ghost use Rattle.sel_arrow.specs.Rows.{rows, type_of, IsWellFormed};
+ghost use Rattle.sel_arrow.specs.Shape.{of_null};
+ghost use Rattle.sel_arrow.specs.Value.{Null};
+ghost use Rattle.sel_runs.specs.Picks.{pick};
+ghost use Rattle.sel_runs.specs.Runs.{expand};
+
+use crate::run::Run;
+use sel_arrow::column::Column;
+use sel_arrow::null::NullArray;
+
+/// The rows that runs pick of columns of nulls, `len` in all: each is null, and nothing is listed for them.
+pub fn collect_null(sources: &[&Column], runs: &[Run], len: usize) -> Column
+    requires alike { All (λ c. type_of c.now ≡ of_null) sources.now }
+    requires len { length (expand runs.now) ≡ len }
+    requires few { len ≤ 4294967295 }
+    ensures rows { rows result ≡ pick Null (map (λ c. rows c.now) sources.now) (expand runs.now) }
+    ensures dtype { type_of result ≡ of_null }
+    ensures formed { IsWellFormed result }
+{
+    Column::Null(NullArray { length: len })
+}
