@@ -1,3 +1,4 @@
+pub mod Need
 pub mod Picks
 pub mod Runs
 pub mod Validity
