@@ -1,5 +1,6 @@
 pub mod Collects
 pub mod Compressing
+pub mod LawProofs
 pub mod Needs
 pub mod Places
 pub mod Scalars

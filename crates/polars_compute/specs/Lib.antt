@@ -1,5 +1,6 @@
 pub mod Compress
 pub mod JoinedBytes
+pub mod Laws
 pub mod Need
 pub mod Pick
 pub mod Scalar

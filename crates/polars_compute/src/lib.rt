@@ -3,3 +3,4 @@
 
 pub mod filter;
 pub mod gather;
+pub mod laws;

@@ -1,0 +1,65 @@
+-- What filters, takes and choices have to do with one another.
+use Rattle.std.proofs.Common.{◌≡◌, ℕ, zero, suc, true, false, List, [], ◌∷◌, map, get_or, Option, Some, None, refl, ap, ◌∙◌, arith}
+use Rattle.std.specs.Prelude.{if◌then◌else◌}
+use Rattle.polars_compute.specs.Select.{kept}
+use Rattle.polars_compute.specs.Pick.{found, pick, place_pick}
+use Rattle.polars_compute.specs.Laws.{FilterIsTake, TakesCompose, KeepsThen, KeepsOtherwise, RepeatsThen, RepeatsOtherwise, RepeatsBoth}
+use Rattle.polars_compute.proofs.Places.{selected}
+
+-- ---- filters and takes
+
+at_places : {A : Type 0} → (d : A) (xs : List A) (places : List ℕ) → map (λ i. get_or xs i d) places ≡ pick d (xs ∷ []) (map place_pick places)
+at_places d xs [] = refl
+at_places d xs (place ∷ places) = ap (λ l. get_or xs place d ∷ l) (at_places d xs places)
+
+pub filter_is_take : (A : Type 0) → FilterIsTake A
+filter_is_take A d xs ms long = selected xs ms d long ∙ at_places d xs (kept ms)
+
+-- entry i of what was picked is what pick i names
+picked_at : {A : Type 0} → (d : A) (xss : List (List A)) (ps : List (Option (ℕ × ℕ))) (i : ℕ) → get_or (pick d xss ps) i d ≡ found d xss (get_or ps i None)
+picked_at d xss [] i = refl
+picked_at d xss (p ∷ ps) zero = refl
+picked_at d xss (p ∷ ps) (suc i) = picked_at d xss ps i
+
+found_again : {A : Type 0} → (d : A) (xss : List (List A)) (ps : List (Option (ℕ × ℕ))) (q : Option (ℕ × ℕ)) → found d (pick d xss ps ∷ []) q ≡ found d xss (found None (ps ∷ []) q)
+found_again d xss ps None = refl
+found_again d xss ps (Some (zero, i)) = picked_at d xss ps i
+found_again d xss ps (Some (suc s, i)) = refl
+
+pub takes_compose : (A : Type 0) → TakesCompose A
+takes_compose A d xss ps [] = refl
+takes_compose A d xss ps (q ∷ qs) = (λ i. found_again d xss ps q i ∷ takes_compose A d xss ps qs i)
+
+-- ---- filters of choices
+
+pub keeps_then : (A : Type 0) → KeepsThen A
+keeps_then A [] [] fs h k = refl
+keeps_then A [] (t ∷ ts) fs h k = refl
+keeps_then A (m ∷ ms) [] fs h k = refl
+keeps_then A (m ∷ ms) (t ∷ ts) [] h k = absurd (omega arith)
+keeps_then A (true ∷ ms) (t ∷ ts) (f ∷ fs) h k = ap (λ l. t ∷ l) (keeps_then A ms ts fs (omega arith) (omega arith))
+keeps_then A (false ∷ ms) (t ∷ ts) (f ∷ fs) h k = keeps_then A ms ts fs (omega arith) (omega arith)
+
+pub keeps_otherwise : (A : Type 0) → KeepsOtherwise A
+keeps_otherwise A [] ts [] h k = refl
+keeps_otherwise A [] ts (f ∷ fs) h k = refl
+keeps_otherwise A (m ∷ ms) [] fs h k = absurd (omega arith)
+keeps_otherwise A (m ∷ ms) (t ∷ ts) [] h k = refl
+keeps_otherwise A (true ∷ ms) (t ∷ ts) (f ∷ fs) h k = keeps_otherwise A ms ts fs (omega arith) (omega arith)
+keeps_otherwise A (false ∷ ms) (t ∷ ts) (f ∷ fs) h k = ap (λ l. f ∷ l) (keeps_otherwise A ms ts fs (omega arith) (omega arith))
+
+-- ---- choices with a single value
+
+pub repeats_then : (A : Type 0) → RepeatsThen A
+repeats_then A [] x fs = refl
+repeats_then A (m ∷ ms) x [] = refl
+repeats_then A (m ∷ ms) x (f ∷ fs) = ap (λ l. (if m then x else f) ∷ l) (repeats_then A ms x fs)
+
+pub repeats_otherwise : (A : Type 0) → RepeatsOtherwise A
+repeats_otherwise A [] ts x = refl
+repeats_otherwise A (m ∷ ms) [] x = refl
+repeats_otherwise A (m ∷ ms) (t ∷ ts) x = ap (λ l. (if m then t else x) ∷ l) (repeats_otherwise A ms ts x)
+
+pub repeats_both : (A : Type 0) → RepeatsBoth A
+repeats_both A [] x y = refl
+repeats_both A (m ∷ ms) x y = ap (λ l. (if m then x else y) ∷ l) (repeats_both A ms x y)

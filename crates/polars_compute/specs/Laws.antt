@@ -1,0 +1,60 @@
+-- What filters, takes and choices have to do with one another, for all lists whose elements are of one type.
+use Rattle.std.specs.Prelude.{◌≡◌, ℕ, Bool, List, [], ◌∷◌, length, map, replicate, Option, None, not, if◌then◌else◌}
+use Rattle.sel_bits.specs.Choose.{choose}
+use Rattle.polars_compute.specs.Select.{select, kept}
+use Rattle.polars_compute.specs.Pick.{pick, place_pick}
+
+-- ---- filters and takes
+
+-- what a mask as long as the list keeps of it is the take of the places that the mask keeps (own)
+abbrev pub FilterIsTake : Type 0 → Type 0
+FilterIsTake A = (d : A) (xs : List A) (ms : List Bool) → length xs ≡ length ms → select xs ms ≡ pick d (xs ∷ []) (map place_pick (kept ms))
+
+-- entry k is the entry of ps that pick k of qs names, none where that pick is none or names none of them (own)
+abbrev pub composed : List (Option (ℕ × ℕ)) → List (Option (ℕ × ℕ)) → List (Option (ℕ × ℕ))
+composed ps qs = pick None (ps ∷ []) qs
+
+-- the take by qs of what a take by ps gave is the one take by the composed picks (own)
+abbrev pub TakesCompose : Type 0 → Type 0
+TakesCompose A = (d : A) (xss : List (List A)) (ps qs : List (Option (ℕ × ℕ))) → pick d (pick d xss ps ∷ []) qs ≡ pick d xss (composed ps qs)
+
+-- ---- filters of choices
+
+-- of a choice between lists as long as its mask, the mask keeps what it keeps of the first list (own)
+abbrev pub KeepsThen : Type 0 → Type 0
+KeepsThen A = (ms : List Bool) (ts fs : List A) → length ts ≡ length ms → length fs ≡ length ms → select (choose ms ts fs) ms ≡ select ts ms
+
+-- of a choice between lists as long as its mask, the mask's complement keeps what it keeps of the second list (own)
+abbrev pub KeepsOtherwise : Type 0 → Type 0
+KeepsOtherwise A = (ms : List Bool) (ts fs : List A) → length ts ≡ length ms → length fs ≡ length ms → select (choose ms ts fs) (map not ms) ≡ select fs (map not ms)
+
+-- ---- choices with a single value, which stands at every position
+
+-- entry i is x where entry i of ms is true, else fs's (own)
+abbrev pub choose_one : {A : Type 0} → List Bool → A → List A → List A
+choose_one [] x fs = []
+choose_one (m ∷ ms) x [] = []
+choose_one (m ∷ ms) x (f ∷ fs) = (if m then x else f) ∷ choose_one ms x fs
+
+-- entry i is ts's where entry i of ms is true, else x (own)
+abbrev pub choose_or_one : {A : Type 0} → List Bool → List A → A → List A
+choose_or_one [] ts x = []
+choose_or_one (m ∷ ms) [] x = []
+choose_or_one (m ∷ ms) (t ∷ ts) x = (if m then t else x) ∷ choose_or_one ms ts x
+
+-- entry i is x where entry i of ms is true, else y (own)
+abbrev pub choose_of_two : {A : Type 0} → List Bool → A → A → List A
+choose_of_two [] x y = []
+choose_of_two (m ∷ ms) x y = (if m then x else y) ∷ choose_of_two ms x y
+
+-- a choice with a single value where the mask is true is that with the list that repeats it, as long as the mask (own)
+abbrev pub RepeatsThen : Type 0 → Type 0
+RepeatsThen A = (ms : List Bool) (x : A) (fs : List A) → choose_one ms x fs ≡ choose ms (replicate (length ms) x) fs
+
+-- a choice with a single value where the mask is false is that with the list that repeats it, as long as the mask (own)
+abbrev pub RepeatsOtherwise : Type 0 → Type 0
+RepeatsOtherwise A = (ms : List Bool) (ts : List A) (x : A) → choose_or_one ms ts x ≡ choose ms ts (replicate (length ms) x)
+
+-- a choice between two single values is that between the lists that repeat them, as long as the mask (own)
+abbrev pub RepeatsBoth : Type 0 → Type 0
+RepeatsBoth A = (ms : List Bool) (x y : A) → choose_of_two ms x y ≡ choose ms (replicate (length ms) x) (replicate (length ms) y)

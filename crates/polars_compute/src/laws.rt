@@ -1,0 +1,29 @@
+//! What filters, takes and choices have to do with one another.
+
+ghost use Rattle.sel_arrow.specs.Value.{Value};
+ghost use Rattle.polars_compute.specs.Laws.{FilterIsTake, TakesCompose, KeepsThen, KeepsOtherwise, RepeatsThen, RepeatsOtherwise, RepeatsBoth};
+
+/// A filter is the take of the places that its mask keeps. Filters and joins rely on it.
+pub fn law_filter_is_take()
+    ensures { FilterIsTake Value }
+{}
+
+/// A take of a take is one take, by the composed picks. Filters and joins rely on it.
+pub fn law_take_of_take()
+    ensures { TakesCompose Value }
+{}
+
+/// A choice filtered by its own mask is its first list filtered so, and by the mask's complement its second.
+/// Evaluators of when-then-otherwise rely on it.
+pub fn law_choice_filtered()
+    ensures chosen { KeepsThen Value }
+    ensures otherwise { KeepsOtherwise Value }
+{}
+
+/// A choice with a single value, on either side or on both, is the choice with the list that repeats it.
+/// Evaluators of when-then-otherwise rely on it.
+pub fn law_broadcast_is_repeat()
+    ensures chosen { RepeatsThen Value }
+    ensures otherwise { RepeatsOtherwise Value }
+    ensures both { RepeatsBoth Value }
+{}
