@@ -1,18 +1,10 @@
 -- The rows that picks or indices name.
-use Rattle.std.specs.Prelude.{ℕ, pos, negsuc, Bool, true, false, List, [], ◌∷◌, map, Option, Some, None, nat_lt, slice_index_or}
+use Rattle.std.specs.Prelude.{ℕ, pos, negsuc, Bool, true, false, List, [], ◌∷◌, map, Option, Some, None, nat_lt}
 use Rattle.std.specs.List.{list_all}
 use Rattle.sel_bits.specs.Bits.{Bits}
 use Rattle.sel_arrow.specs.Masked.{valid_at}
 use Rattle.sel_arrow.specs.Value.{Value, Null, Number}
-
--- the entry that a pick (list, place) names, and d for none (own)
-abbrev pub found : {A : Type 0} → A → List (List A) → Option (ℕ × ℕ) → A
-found d xss None = d
-found d xss (Some p) = slice_index_or (slice_index_or xss p.0 []) p.1 d
-
--- entry k is d where pick k is none, else entry i of list s for the pick (s, i) (own: the meaning of a take from several columns)
-abbrev pub pick : {A : Type 0} → A → List (List A) → List (Option (ℕ × ℕ)) → List A
-pick d xss ps = map (found d xss) ps
+pub use Rattle.sel_runs.specs.Picks.{found, pick}
 
 -- the pick that an index makes of one list: none for a null (own)
 abbrev pub pick_of : Value → Option (ℕ × ℕ)
