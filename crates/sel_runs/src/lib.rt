@@ -5,6 +5,7 @@ pub mod bits;
 pub mod boolean;
 pub mod fill;
 pub mod growable;
+pub mod kinds;
 pub mod null;
 pub mod primitive;
 pub mod run;

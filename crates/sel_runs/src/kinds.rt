@@ -1,0 +1,71 @@
+//! Columns of any kind as columns of one.
+
+ghost use Rattle.std.specs.Prelude.{◌≡◌, All, map, IfOk, IfErr, IsTrue};
+ghost use Rattle.sel_arrow.specs.Columns.{binary_rows, binview_rows};
+ghost use Rattle.sel_arrow.specs.Rows.{rows, type_of};
+ghost use Rattle.sel_arrow.specs.Shape.{of_large_binary, of_binary_view, of_utf8_view};
+ghost use Rattle.sel_arrow.specs.Texts.{all_text};
+
+use sel_arrow::binary::BinaryArray;
+use sel_arrow::binview::BinaryViewArray;
+use sel_arrow::column::Column;
+use sel_bits::faults::{PolarsError, PolarsResult};
+use std::alloc::Global;
+
+/// The columns of bytes. Refuses only for want of memory.
+pub fn binaries_of<'a>(
+    alloc: Global,
+    sources: &'a [&'a Column],
+) -> PolarsResult<Vec<&'a BinaryArray<i64>>>
+    requires { All (λ c. type_of c.now ≡ of_large_binary) sources.now }
+    ensures rows { IfOk result (λ found. map (λ s. binary_rows s.now) found.items ≡ map (λ c. rows c.now) sources.now) }
+    ensures refusal { IfErr result (λ fault. fault ≡ PolarsError.OutOfMemory) }
+{
+    let mut found = Vec::with_capacity(alloc, sources.len())?;
+    for source in sources {
+        let Column::LargeBinary(array) = *source else {
+            unreachable!()
+        };
+        found.push(array)?;
+    }
+    Ok(found)
+}
+
+/// The columns of views. Refuses only for want of memory.
+pub fn views_of<'a>(
+    alloc: Global,
+    sources: &'a [&'a Column],
+) -> PolarsResult<Vec<&'a BinaryViewArray>>
+    requires { All (λ c. type_of c.now ≡ of_binary_view) sources.now }
+    ensures rows { IfOk result (λ found. map (λ s. binview_rows s.now) found.items ≡ map (λ c. rows c.now) sources.now) }
+    ensures refusal { IfErr result (λ fault. fault ≡ PolarsError.OutOfMemory) }
+{
+    let mut found = Vec::with_capacity(alloc, sources.len())?;
+    for source in sources {
+        let Column::BinaryView(array) = *source else {
+            unreachable!()
+        };
+        found.push(array)?;
+    }
+    Ok(found)
+}
+
+/// The columns of texts, as those of their views. Refuses only for want of memory.
+pub fn texts_of<'a>(
+    alloc: Global,
+    sources: &'a [&'a Column],
+) -> PolarsResult<Vec<&'a BinaryViewArray>>
+    requires { All (λ c. type_of c.now ≡ of_utf8_view) sources.now }
+    ensures rows { IfOk result (λ found. map (λ s. binview_rows s.now) found.items ≡ map (λ c. rows c.now) sources.now) }
+    ensures texts { IfOk result (λ found. All (λ s. IsTrue (all_text (binview_rows s.now))) found.items) }
+    ensures refusal { IfErr result (λ fault. fault ≡ PolarsError.OutOfMemory) }
+{
+    let mut found = Vec::with_capacity(alloc, sources.len())?;
+    for source in sources {
+        let Column::Utf8View(array) = *source else {
+            unreachable!()
+        };
+        found.push(&array.bytes)?;
+    }
+    Ok(found)
+}
