@@ -1,3 +1,4 @@
 pub mod Grown
+pub mod Raising
 pub mod RunLists
 pub mod Windows

@@ -1,3 +1,4 @@
 pub mod Picks
+pub mod Raised
 pub mod Runs
 pub mod Validity

@@ -6,3 +6,4 @@ pub mod fill;
 pub mod growable;
 pub mod primitive;
 pub mod run;
+pub mod view;
