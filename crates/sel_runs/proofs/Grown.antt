@@ -8,7 +8,7 @@ use Rattle.sel_arrow.proofs.Rows.{length-part, part-mapped}
 use Rattle.sel_runs.specs.Picks.{pick}
 use Rattle.sel_runs.specs.Validity.{part_bits, bits_for}
 
-hidden-append : (bs cs : List Bool) (vs ws : List Value) → length bs ≡ length vs → hidden (bs ++ cs) (vs ++ ws) ≡ hidden bs vs ++ hidden cs ws
+pub hidden-append : (bs cs : List Bool) (vs ws : List Value) → length bs ≡ length vs → hidden (bs ++ cs) (vs ++ ws) ≡ hidden bs vs ++ hidden cs ws
 hidden-append [] cs [] ws h = refl
 hidden-append [] cs (v ∷ vs) ws h = absurd (omega (arith, h))
 hidden-append (b ∷ bs) cs [] ws h = absurd (omega (arith, h))
@@ -26,7 +26,7 @@ hidden_none (suc n) [] h = absurd (omega (arith, h))
 hidden_none (suc n) (v ∷ vs) h = ap (λ l. Null ∷ l) (hidden_none n vs (omega (arith, h)))
 
 -- a part of a source's values under the part of its validity is the part of its rows
-part_hidden : {A : Type 0} (f : A → Value) (xs : List A) (validity : Option Bits) (a n : ℕ) → a + n ≤ length xs →
+pub part_hidden : {A : Type 0} (f : A → Value) (xs : List A) (validity : Option Bits) (a n : ℕ) → a + n ≤ length xs →
     hidden (part_bits a n validity) (map f (take n (drop a xs))) ≡ take n (drop a (masked validity (map f xs)))
 part_hidden f xs None a n h = hidden_all n (map f (take n (drop a xs))) (length-map (take n (drop a xs)) f ∙ length-part xs a n h) ∙ part-mapped f xs None a n
 part_hidden f xs (Some validity) a n h = part-mapped f xs (Some validity) a n

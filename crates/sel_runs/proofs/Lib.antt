@@ -1,4 +1,5 @@
 pub mod Grown
 pub mod NullPicks
+pub mod Raising
 pub mod RunLists
 pub mod Windows

@@ -4,7 +4,7 @@ use Rattle.std.specs.Prelude.{count_by, not}
 use Rattle.std.proofs.lemmas.List.{take_more, take_all, get_or-drop, replicate-append-replicate}
 use Rattle.std.proofs.lemmas.List.Sums.{sum_by-cons}
 
-window_more : {A : Type 0} (xs : List A) (a i : ℕ) (d : A) → a + i < length xs → take (i + 1) (drop a xs) ≡ take i (drop a xs) ++ get_or xs (a + i) d ∷ []
+pub window_more : {A : Type 0} (xs : List A) (a i : ℕ) (d : A) → a + i < length xs → take (i + 1) (drop a xs) ≡ take i (drop a xs) ++ get_or xs (a + i) d ∷ []
 window_more xs a i d h =
     let inside : i < length (drop a xs) = simp length-drop (omega arith) in
     take_more (drop a xs) i d inside ∙ ap (λ x. take i (drop a xs) ++ x ∷ []) (get_or-drop a xs i d)

@@ -1,4 +1,5 @@
 pub mod Need
 pub mod Picks
+pub mod Raised
 pub mod Runs
 pub mod Validity

@@ -9,3 +9,4 @@ pub mod kinds;
 pub mod null;
 pub mod primitive;
 pub mod run;
+pub mod view;

@@ -1,0 +1,271 @@
+//! Views that grow by those of other columns, over the data buffers of all of these.
+
+ghost use Rattle.std.specs.Prelude.{◌≡◌, ◌≤◌, ◌<◌, ◌+◌, ◌++◌, All, length, map, take, drop, IfOk, IfErr, IsTrue, OnOk};
+ghost use Rattle.std.specs.List.{flat_map};
+ghost use Rattle.sel_bits.specs.declared.faults.Limit.TheVariants.{Buffers as BufferLimit};
+ghost use Rattle.sel_arrow.specs.Columns.{binview_rows};
+ghost use Rattle.sel_arrow.specs.Masked.{hidden};
+ghost use Rattle.sel_arrow.specs.Value.{Null};
+ghost use Rattle.sel_arrow.specs.Views.{all_placed, view_value};
+ghost use Rattle.sel_runs.specs.Picks.{pick, PickFits};
+ghost use Rattle.sel_runs.specs.Raised.{raised, starts_of, IsRefusalAt};
+ghost use Rattle.sel_runs.specs.Runs.{expand};
+ghost use Rattle.sel_runs.specs.Validity.{part_bits};
+
+use crate::bits::{push_copies, push_validity, validity_from};
+use crate::fill::push_values;
+use crate::growable::{Growable, extend_runs};
+use crate::run::Run;
+use sel_arrow::binview::{BinaryViewArray, MOST_BUFFERS};
+use sel_arrow::view::{INLINE_BYTES, View};
+use sel_bits::buffer::Buffer;
+use sel_bits::faults::{Limit, PolarsError, PolarsResult};
+use sel_bits::packer::BitPacker;
+use std::alloc::Global;
+use std::marker::{Brand, PhantomData};
+
+// The view of no bytes, which stands beneath a null.
+const NO_BYTES: View = View {
+    length: 0,
+    prefix: 0,
+    buffer_idx: 0,
+    offset: 0,
+};
+
+/// The data buffers that views stand over while they grow.
+trait Beneath {
+    ghost use Rattle.std.specs.Prelude.{ℕ, List};
+
+    ghost buffers: { List (List ℕ) };
+}
+
+impl Beneath for Brand {
+    ghost use Rattle.std.specs.Prelude.{[]};
+
+    ghost buffers = { [] };
+}
+
+/// The views so far, over the data buffers of all sources, and the validity, one bit a view.
+#[derive(Drop)]
+struct GrowableViews<'a, B: Beneath> {
+    sources: &'a [&'a BinaryViewArray],
+    starts: &'a [u32],
+    views: Vec<View>,
+    validity: BitPacker,
+    beneath: PhantomData<B>,
+    ghost joined: { flat_map (λ s. s.now.buffers) sources.now ≡ B.buffers },
+    ghost few: { length B.buffers ≤ 4294967295 },
+    ghost started: { starts.now ≡ starts_of (λ s. s.now.buffers) sources.now },
+    ghost lengths: { length validity ≡ length views.items },
+    ghost placed: { IsTrue (all_placed B.buffers views.items) },
+}
+
+impl<B: Beneath> Growable for GrowableViews<'_, B> {
+    ghost sources = { λ g. map (λ s. binview_rows s.now) g.sources.now };
+
+    ghost grown = { λ g. hidden g.validity (map (view_value B.buffers) g.views.items) };
+
+    fn extend(self, source: u32, start: u32, len: u32) -> PolarsResult<Self> {
+        let GrowableViews {
+            sources,
+            starts,
+            mut views,
+            mut validity,
+            beneath,
+        } = self;
+        let from = sources[source as usize];
+        let before = starts[source as usize];
+        let (start, len) = (start as usize, len as usize);
+        push_part(&mut views, &mut validity, from, start, len, before)?;
+        Ok(GrowableViews {
+            sources,
+            starts,
+            views,
+            validity,
+            beneath,
+        })
+    }
+
+    fn extend_nulls(self, len: u32) -> PolarsResult<Self> {
+        let GrowableViews {
+            sources,
+            starts,
+            mut views,
+            mut validity,
+            beneath,
+        } = self;
+        push_values(&mut views, NO_BYTES, len as usize)?;
+        push_copies(&mut validity, false, len as usize)?;
+        Ok(GrowableViews {
+            sources,
+            starts,
+            views,
+            validity,
+            beneath,
+        })
+    }
+}
+
+// Puts a part of a source behind the others, over data buffers that stand behind `before` others.
+fn push_part(
+    views: &mut Vec<View>,
+    validity: &mut BitPacker,
+    from: &BinaryViewArray,
+    start: usize,
+    len: usize,
+    before: u32,
+) -> PolarsResult<()>
+    requires inside { start + len ≤ length from.now.views }
+    requires room { before + length from.now.buffers ≤ 4294967295 }
+    ensures views { OnOk result (views.new.items ≡ views.old.items ++ map (λ v. raised v before) (take len (drop start from.now.views))) }
+    ensures bits { OnOk result (validity.new ≡ validity.old ++ part_bits start len from.now.validity) }
+    ensures refusal { IfErr result (λ fault. fault ≡ PolarsError.OutOfMemory) }
+{
+    push_raised(views, from, start, len, before)?;
+    push_validity(validity, from.validity.as_ref(), start, len)
+}
+
+// Puts the `len` views from `start` on behind the others, over data buffers that stand behind `before` others.
+fn push_raised(
+    views: &mut Vec<View>,
+    from: &BinaryViewArray,
+    start: usize,
+    len: usize,
+    before: u32,
+) -> PolarsResult<()>
+    requires inside { start + len ≤ length from.now.views }
+    requires room { before + length from.now.buffers ≤ 4294967295 }
+    ensures views { OnOk result (views.new.items ≡ views.old.items ++ map (λ v. raised v before) (take len (drop start from.now.views))) }
+    ensures refusal { IfErr result (λ fault. fault ≡ PolarsError.OutOfMemory) }
+{
+    let all = from.views.as_slice();
+    for i in 0..len {
+        views.push(raised_view(all[start + i], before))?;
+    }
+    Ok(())
+}
+
+// The view over data buffers that stand behind `before` others.
+fn raised_view(view: View, before: u32) -> View
+    requires { 12 < view.length → view.buffer_idx + before ≤ 4294967295 }
+    ensures { result ≡ raised view before }
+{
+    if view.length <= INLINE_BYTES {
+        return view;
+    }
+    View {
+        buffer_idx: view.buffer_idx + before,
+        ..view
+    }
+}
+
+// Refuses where the sources have more than 4,294,967,295 data buffers in all.
+fn check_buffers(sources: &[&BinaryViewArray]) -> PolarsResult<()>
+    ensures few { IfOk result (λ _. length (flat_map (λ s. s.now.buffers) sources.now) ≤ 4294967295) }
+    ensures refusal { IfErr result (λ fault. (fault ≡ PolarsError.SizeLimit BufferLimit) × (4294967295 < length (flat_map (λ s. s.now.buffers) sources.now))) }
+{
+    let mut count = 0;
+    for source in sources {
+        count += source.buffers.len();
+        if count > MOST_BUFFERS {
+            return Err(PolarsError::SizeLimit(Limit::Buffers));
+        }
+    }
+    Ok(())
+}
+
+// How many data buffers stand before those of each source. Refuses only for want of memory.
+fn starts_of_buffers(alloc: Global, sources: &[&BinaryViewArray]) -> PolarsResult<Vec<u32>>
+    requires { length (flat_map (λ s. s.now.buffers) sources.now) ≤ 4294967295 }
+    ensures starts { IfOk result (λ starts. starts.items ≡ starts_of (λ s. s.now.buffers) sources.now) }
+    ensures refusal { IfErr result (λ fault. fault ≡ PolarsError.OutOfMemory) }
+{
+    let mut starts = Vec::with_capacity(alloc, sources.len())?;
+    let mut before = 0;
+    for source in sources {
+        starts.push(before)?;
+        before += source.buffers.len() as u32;
+    }
+    Ok(starts)
+}
+
+// The data buffers of all sources. Refuses only for want of memory.
+fn joined_buffers(alloc: Global, sources: &[&BinaryViewArray]) -> PolarsResult<Buffer<Buffer<u8>>>
+    ensures buffers { IfOk result (λ joined. joined ≡ flat_map (λ s. s.now.buffers) sources.now) }
+    ensures refusal { IfErr result (λ fault. fault ≡ PolarsError.OutOfMemory) }
+{
+    let mut joined = Vec::new(alloc);
+    for source in sources {
+        push_buffers(&mut joined, source.buffers.as_slice())?;
+    }
+    Buffer::from_vec(joined)
+}
+
+// Puts data buffers behind the others. Refuses only for want of memory.
+fn push_buffers(joined: &mut Vec<Buffer<u8>>, buffers: &[Buffer<u8>]) -> PolarsResult<()>
+    ensures buffers { OnOk result (joined.new.items ≡ joined.old.items ++ buffers.now) }
+    ensures refusal { IfErr result (λ fault. fault ≡ PolarsError.OutOfMemory) }
+{
+    for buffer in buffers {
+        joined.push(buffer.try_clone()?)?;
+    }
+    Ok(())
+}
+
+/// The rows that runs pick of columns of views, `len` in all, over the data buffers of all sources, joined in their order.
+/// Refuses for want of memory, and where there are more than 4,294,967,295 data buffers.
+pub fn collect_views<'a>(
+    alloc: Global,
+    sources: &'a [&'a BinaryViewArray],
+    runs: &[Run],
+    len: usize,
+) -> PolarsResult<BinaryViewArray>
+    requires fits { All (PickFits (map (λ s. binview_rows s.now) sources.now)) (expand runs.now) }
+    requires len { length (expand runs.now) ≡ len }
+    requires few { len ≤ 4294967295 }
+    ensures rows { IfOk result (λ array. binview_rows array ≡ pick Null (map (λ s. binview_rows s.now) sources.now) (expand runs.now)) }
+    ensures buffers { IfOk result (λ array. array.buffers ≡ flat_map (λ s. s.now.buffers) sources.now) }
+    ensures refusal { IfErr result (IsRefusalAt (length (flat_map (λ s. s.now.buffers) sources.now))) }
+{
+    check_buffers(sources)?;
+    collect_few::<Brand>(alloc, sources, runs, len)
+}
+
+// The same over data buffers that are few enough. Refuses only for want of memory.
+fn collect_few<'a, B: Beneath>(
+    alloc: Global,
+    sources: &'a [&'a BinaryViewArray],
+    runs: &[Run],
+    len: usize,
+) -> PolarsResult<BinaryViewArray>
+    requires joined { flat_map (λ s. s.now.buffers) sources.now ≡ B.buffers }
+    requires few { length B.buffers ≤ 4294967295 }
+    requires fits { All (PickFits (map (λ s. binview_rows s.now) sources.now)) (expand runs.now) }
+    requires len { length (expand runs.now) ≡ len }
+    requires room { len ≤ 4294967295 }
+    ensures rows { IfOk result (λ array. binview_rows array ≡ pick Null (map (λ s. binview_rows s.now) sources.now) (expand runs.now)) }
+    ensures buffers { IfOk result (λ array. array.buffers ≡ flat_map (λ s. s.now.buffers) sources.now) }
+    ensures refusal { IfErr result (λ fault. fault ≡ PolarsError.OutOfMemory) }
+{
+    let starts = starts_of_buffers(alloc, sources)?;
+    let empty = GrowableViews {
+        sources,
+        starts: &starts,
+        views: Vec::with_capacity(alloc, len)?,
+        validity: BitPacker::with_capacity(alloc, len)?,
+        beneath: PhantomData::<B>,
+    };
+    let GrowableViews {
+        views,
+        validity,
+        ..
+    } = extend_runs(empty, runs)?;
+    let validity = validity_from(validity, len)?;
+    let views = Buffer::from_vec(views)?;
+    let buffers = joined_buffers(alloc, sources)?;
+    Ok(BinaryViewArray {
+        views,
+        buffers,
+        validity,
+    })
+}
