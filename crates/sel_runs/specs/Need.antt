@@ -1,10 +1,13 @@
--- How many bytes rows need, and which refusals there are.
-use Rattle.std.specs.Prelude.{ℕ, ◌+◌, ℤ, pos, ◌<ℤ◌, ⊤, List, [], ◌∷◌, length}
+-- What rows need, and which refusals there are.
+use Rattle.std.specs.Prelude.{ℕ, ◌+◌, ◌<◌, ℤ, pos, ◌<ℤ◌, ⊤, List, [], ◌∷◌, length}
 use Rattle.sel_bits.specs.declared.faults.Limit.{Limit}
-use Rattle.sel_bits.specs.declared.faults.Limit.TheVariants.{Bytes as ByteLimit}
+use Rattle.sel_bits.specs.declared.faults.Limit.TheVariants.{Bytes as ByteLimit, Buffers as BufferLimit}
 use Rattle.sel_bits.specs.declared.faults.PolarsError.{PolarsError}
 use Rattle.sel_bits.specs.declared.faults.PolarsError.TheVariants.{OutOfMemory, SizeLimit, ComputeError}
+use Rattle.sel_arrow.specs.Shape.{Shape, of_large_binary, of_binary_view, of_utf8_view}
 use Rattle.sel_arrow.specs.Value.{Value, Bytes}
+use Rattle.sel_arrow.specs.declared.column.Column.{Column}
+use Rattle.sel_arrow.specs.declared.column.Column.TheVariants.{BinaryView, Utf8View}
 
 -- how many bytes a row has; none where it is null (own)
 abbrev pub byte_count : Value → ℕ
@@ -26,3 +29,26 @@ IsRefusal past ComputeError = ⊥
 abbrev pub IsPastBytes : ℤ → List Value → Limit → Type 0
 IsPastBytes greatest rows ByteLimit = greatest <ℤ pos (bytes_needed rows)
 IsPastBytes greatest rows _ = ⊥
+
+-- how many data buffers a column has (Arrow columnar format: variable-size binary view layout)
+abbrev pub buffer_count : Column → ℕ
+buffer_count (BinaryView column) = length column.buffers
+buffer_count (Utf8View column) = length column.bytes.buffers
+buffer_count column = 0
+
+-- how many all columns have together (own)
+abbrev pub buffers_joined : List Column → ℕ
+buffers_joined [] = 0
+buffers_joined (column ∷ columns) = buffer_count column + buffers_joined columns
+
+-- the one limit that joined data buffers can pass: there are more than a column may have (own)
+abbrev pub IsPastBuffers : ℕ → Limit → Type 0
+IsPastBuffers count BufferLimit = 4294967295 < count
+IsPastBuffers count _ = ⊥
+
+-- which limits rows pass that are taken of columns of this type (own)
+abbrev pub past_taken : Shape → List Column → List Value → Limit → Type 0
+past_taken of_large_binary columns rows limit = IsPastBytes (pos 9223372036854775807) rows limit
+past_taken of_binary_view columns rows limit = IsPastBuffers (buffers_joined columns) limit
+past_taken of_utf8_view columns rows limit = IsPastBuffers (buffers_joined columns) limit
+past_taken shape columns rows limit = ⊥

@@ -3,6 +3,7 @@
 
 pub mod bits;
 pub mod boolean;
+pub mod collect;
 pub mod fill;
 pub mod growable;
 pub mod kinds;

@@ -1,0 +1,52 @@
+//! Rows of columns of any one type.
+
+ghost use Rattle.std.specs.Prelude.{◌≡◌, ◌≤◌, All, length, map, IfOk, IfErr};
+ghost use Rattle.sel_arrow.specs.Rows.{rows, type_of, IsWellFormed};
+ghost use Rattle.sel_arrow.specs.Value.{Null};
+ghost use Rattle.sel_runs.specs.Need.{IsRefusal, past_taken};
+ghost use Rattle.sel_runs.specs.Picks.{pick, PickFits};
+ghost use Rattle.sel_runs.specs.Runs.{expand};
+
+use crate::boolean::collect_boolean;
+use crate::null::collect_null;
+use crate::primitive::collect_primitive;
+use crate::run::Run;
+use sel_arrow::column::Column;
+use sel_bits::faults::PolarsResult;
+use std::alloc::Global;
+
+/// The rows that runs pick of columns of the type of `first`, `len` in all.
+fn collect_like<'a>(
+    alloc: Global,
+    first: &Column,
+    sources: &'a [&'a Column],
+    runs: &[Run],
+    len: usize,
+) -> PolarsResult<Column>
+    requires alike { All (λ c. type_of c.now ≡ type_of first.now) sources.now }
+    requires fits { All (PickFits (map (λ c. rows c.now) sources.now)) (expand runs.now) }
+    requires len { length (expand runs.now) ≡ len }
+    requires few { len ≤ 4294967295 }
+    ensures rows { IfOk result (λ column. rows column ≡ pick Null (map (λ c. rows c.now) sources.now) (expand runs.now)) }
+    ensures dtype { IfOk result (λ column. type_of column ≡ type_of first.now) }
+    ensures formed { IfOk result (λ column. IsWellFormed column) }
+    ensures refusal { IfErr result (IsRefusal (past_taken (type_of first.now) (map (λ c. c.now) sources.now) (pick Null (map (λ c. rows c.now) sources.now) (expand runs.now)))) }
+{
+    match first {
+        Column::Null(_) => Ok(collect_null(sources, runs, len)),
+        Column::Boolean(_) => Ok(collect_boolean(alloc, sources, runs, len)?),
+        Column::Int8(_) => Ok(collect_primitive::<i8>(alloc, sources, runs, len)?),
+        Column::Int16(_) => Ok(collect_primitive::<i16>(alloc, sources, runs, len)?),
+        Column::Int32(_) => Ok(collect_primitive::<i32>(alloc, sources, runs, len)?),
+        Column::Int64(_) => Ok(collect_primitive::<i64>(alloc, sources, runs, len)?),
+        Column::Int128(_) => Ok(collect_primitive::<i128>(alloc, sources, runs, len)?),
+        Column::UInt8(_) => Ok(collect_primitive::<u8>(alloc, sources, runs, len)?),
+        Column::UInt16(_) => Ok(collect_primitive::<u16>(alloc, sources, runs, len)?),
+        Column::UInt32(_) => Ok(collect_primitive::<u32>(alloc, sources, runs, len)?),
+        Column::UInt64(_) => Ok(collect_primitive::<u64>(alloc, sources, runs, len)?),
+        Column::UInt128(_) => Ok(collect_primitive::<u128>(alloc, sources, runs, len)?),
+        Column::LargeBinary(_) => unreachable!(),
+        Column::BinaryView(_) => unreachable!(),
+        Column::Utf8View(_) => unreachable!(),
+    }
+}
