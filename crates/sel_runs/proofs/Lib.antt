@@ -1,3 +1,4 @@
+pub mod Fits
 pub mod Grown
 pub mod NullPicks
 pub mod RunLists

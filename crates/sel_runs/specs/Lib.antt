@@ -1,4 +1,5 @@
 pub mod Need
 pub mod Picks
 pub mod Runs
+pub mod Sources
 pub mod Validity

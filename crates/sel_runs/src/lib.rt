@@ -8,3 +8,4 @@ pub mod growable;
 pub mod null;
 pub mod primitive;
 pub mod run;
+pub mod sources;
