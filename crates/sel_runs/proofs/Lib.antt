@@ -1,5 +1,7 @@
+pub mod Fits
 pub mod Grown
 pub mod NullPicks
 pub mod Raising
+pub mod Refusals
 pub mod RunLists
 pub mod Windows

@@ -91,7 +91,7 @@ abbrev pub run_at : List Run → ℕ → Run
 run_at rs i = get_or rs i (record { source = None; start = 0; len = 0 })
 
 -- the runs up to a place, and the one there
-expand_more : (rs : List Run) (i : ℕ) → i < length rs → expand (take (i + 1) rs) ≡ expand (take i rs) ++ unrolled (run_at rs i)
+pub expand_more : (rs : List Run) (i : ℕ) → i < length rs → expand (take (i + 1) rs) ≡ expand (take i rs) ++ unrolled (run_at rs i)
 expand_more rs i inside = ap expand (take_more rs i _ inside) ∙ expand-push (take i rs) (run_at rs i)
 
 expand_split : (rs : List Run) (i : ℕ) → i < length rs → expand rs ≡ (expand (take i rs) ++ unrolled (run_at rs i)) ++ expand (drop (i + 1) rs)

@@ -2,4 +2,5 @@ pub mod Need
 pub mod Picks
 pub mod Raised
 pub mod Runs
+pub mod Sources
 pub mod Validity

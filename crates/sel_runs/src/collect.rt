@@ -2,16 +2,20 @@
 
 ghost use Rattle.std.specs.Prelude.{◌≡◌, ◌≤◌, All, length, map, IfOk, IfErr};
 ghost use Rattle.sel_arrow.specs.Rows.{rows, type_of, IsWellFormed};
+ghost use Rattle.sel_arrow.specs.Shape.{of_binary_view, of_utf8_view};
 ghost use Rattle.sel_arrow.specs.Value.{Null};
-ghost use Rattle.sel_runs.specs.Need.{IsRefusal, past_taken};
+ghost use Rattle.sel_runs.specs.Need.{IsPastBuffers, IsRefusal, buffers_joined, past_taken};
 ghost use Rattle.sel_runs.specs.Picks.{pick, PickFits};
 ghost use Rattle.sel_runs.specs.Runs.{expand};
 
 use crate::boolean::collect_boolean;
+use crate::kinds::{texts_of, views_of};
 use crate::null::collect_null;
 use crate::primitive::collect_primitive;
 use crate::run::Run;
+use crate::view::collect_views;
 use sel_arrow::column::Column;
+use sel_arrow::utf8view::Utf8ViewArray;
 use sel_bits::faults::PolarsResult;
 use std::alloc::Global;
 
@@ -46,7 +50,49 @@ fn collect_like<'a>(
         Column::UInt64(_) => Ok(collect_primitive::<u64>(alloc, sources, runs, len)?),
         Column::UInt128(_) => Ok(collect_primitive::<u128>(alloc, sources, runs, len)?),
         Column::LargeBinary(_) => unreachable!(),
-        Column::BinaryView(_) => unreachable!(),
-        Column::Utf8View(_) => unreachable!(),
+        Column::BinaryView(_) => Ok(collect_binview(alloc, sources, runs, len)?),
+        Column::Utf8View(_) => Ok(collect_utf8view(alloc, sources, runs, len)?),
     }
+}
+
+/// The rows that runs pick of columns of views.
+fn collect_binview<'a>(
+    alloc: Global,
+    sources: &'a [&'a Column],
+    runs: &[Run],
+    len: usize,
+) -> PolarsResult<Column>
+    requires alike { All (λ c. type_of c.now ≡ of_binary_view) sources.now }
+    requires fits { All (PickFits (map (λ c. rows c.now) sources.now)) (expand runs.now) }
+    requires len { length (expand runs.now) ≡ len }
+    requires few { len ≤ 4294967295 }
+    ensures rows { IfOk result (λ column. rows column ≡ pick Null (map (λ c. rows c.now) sources.now) (expand runs.now)) }
+    ensures dtype { IfOk result (λ column. type_of column ≡ of_binary_view) }
+    ensures formed { IfOk result (λ column. IsWellFormed column) }
+    ensures refusal { IfErr result (IsRefusal (IsPastBuffers (buffers_joined (map (λ c. c.now) sources.now)))) }
+{
+    let found = views_of(alloc, sources)?;
+    let array = collect_views(alloc, &found, runs, len)?;
+    Ok(Column::BinaryView(array))
+}
+
+/// The rows that runs pick of columns of texts, by their views.
+fn collect_utf8view<'a>(
+    alloc: Global,
+    sources: &'a [&'a Column],
+    runs: &[Run],
+    len: usize,
+) -> PolarsResult<Column>
+    requires alike { All (λ c. type_of c.now ≡ of_utf8_view) sources.now }
+    requires fits { All (PickFits (map (λ c. rows c.now) sources.now)) (expand runs.now) }
+    requires len { length (expand runs.now) ≡ len }
+    requires few { len ≤ 4294967295 }
+    ensures rows { IfOk result (λ column. rows column ≡ pick Null (map (λ c. rows c.now) sources.now) (expand runs.now)) }
+    ensures dtype { IfOk result (λ column. type_of column ≡ of_utf8_view) }
+    ensures formed { IfOk result (λ column. IsWellFormed column) }
+    ensures refusal { IfErr result (IsRefusal (IsPastBuffers (buffers_joined (map (λ c. c.now) sources.now)))) }
+{
+    let found = texts_of(alloc, sources)?;
+    let bytes = collect_views(alloc, &found, runs, len)?;
+    Ok(Column::Utf8View(Utf8ViewArray { bytes }))
 }

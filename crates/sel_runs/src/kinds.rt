@@ -1,10 +1,11 @@
 //! Columns of any kind as columns of one.
 
-ghost use Rattle.std.specs.Prelude.{◌≡◌, All, map, IfOk, IfErr, IsTrue};
+ghost use Rattle.std.specs.Prelude.{◌≡◌, All, length, map, IfOk, IfErr, IsTrue};
 ghost use Rattle.sel_arrow.specs.Columns.{binary_rows, binview_rows};
 ghost use Rattle.sel_arrow.specs.Rows.{rows, type_of};
 ghost use Rattle.sel_arrow.specs.Shape.{of_large_binary, of_binary_view, of_utf8_view};
 ghost use Rattle.sel_arrow.specs.Texts.{all_text};
+ghost use Rattle.sel_runs.specs.Need.{buffer_count};
 
 use sel_arrow::binary::BinaryArray;
 use sel_arrow::binview::BinaryViewArray;
@@ -38,6 +39,7 @@ pub fn views_of<'a>(
 ) -> PolarsResult<Vec<&'a BinaryViewArray>>
     requires { All (λ c. type_of c.now ≡ of_binary_view) sources.now }
     ensures rows { IfOk result (λ found. map (λ s. binview_rows s.now) found.items ≡ map (λ c. rows c.now) sources.now) }
+    ensures buffers { IfOk result (λ found. map (λ s. length s.now.buffers) found.items ≡ map (λ c. buffer_count c.now) sources.now) }
     ensures refusal { IfErr result (λ fault. fault ≡ PolarsError.OutOfMemory) }
 {
     let mut found = Vec::with_capacity(alloc, sources.len())?;
@@ -58,6 +60,7 @@ pub fn texts_of<'a>(
     requires { All (λ c. type_of c.now ≡ of_utf8_view) sources.now }
     ensures rows { IfOk result (λ found. map (λ s. binview_rows s.now) found.items ≡ map (λ c. rows c.now) sources.now) }
     ensures texts { IfOk result (λ found. All (λ s. IsTrue (all_text (binview_rows s.now))) found.items) }
+    ensures buffers { IfOk result (λ found. map (λ s. length s.now.buffers) found.items ≡ map (λ c. buffer_count c.now) sources.now) }
     ensures refusal { IfErr result (λ fault. fault ≡ PolarsError.OutOfMemory) }
 {
     let mut found = Vec::with_capacity(alloc, sources.len())?;

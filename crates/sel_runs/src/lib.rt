@@ -10,4 +10,5 @@ pub mod kinds;
 pub mod null;
 pub mod primitive;
 pub mod run;
+pub mod sources;
 pub mod view;

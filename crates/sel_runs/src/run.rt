@@ -1,9 +1,10 @@
 //! Rows that stand together.
 
-ghost use Rattle.std.specs.Prelude.{◌≡◌, ◌≤◌, ◌+◌, ◌++◌, length, IfSome, IfErr, OnOk};
+ghost use Rattle.std.specs.Prelude.{◌≡◌, ◌≤◌, ◌+◌, ◌++◌, ◌∷◌, [], length, IfSome, IfOk, IfErr, OnOk};
 ghost use Rattle.sel_runs.specs.Runs.{expand, unrolled};
 
 use sel_bits::faults::{PolarsError, PolarsResult};
+use std::alloc::Global;
 
 /// `len` rows of one source from row `start` on; without a source, `len` nulls.
 #[derive(Clone, Copy, Drop)]
@@ -50,5 +51,37 @@ fn joined(first: Run, second: Run) -> Option<Run>
             }
         }
         _ => None,
+    }
+}
+
+/// The runs that picks make, neighbours joined. Refuses only for want of memory.
+pub fn runs_of_picks(alloc: Global, picks: &[Option<(u32, u32)>]) -> PolarsResult<Vec<Run>>
+    requires { length picks.now ≤ 4294967295 }
+    ensures picks { IfOk result (λ runs. expand runs.items ≡ picks.now) }
+    ensures refusal { IfErr result (λ fault. fault ≡ PolarsError.OutOfMemory) }
+{
+    let mut runs = Vec::new(alloc);
+    for pick in picks {
+        push_run(&mut runs, run_of_pick(*pick))?;
+    }
+    Ok(runs)
+}
+
+// The run of one pick.
+fn run_of_pick(pick: Option<(u32, u32)>) -> Run
+    ensures picks { unrolled result ≡ pick ∷ [] }
+    ensures len { result.len ≡ 1 }
+{
+    match pick {
+        None => Run {
+            source: None,
+            start: 0,
+            len: 1,
+        },
+        Some((source, start)) => Run {
+            source: Some(source),
+            start,
+            len: 1,
+        },
     }
 }
