@@ -1,4 +1,5 @@
 pub mod Grown
+pub mod JoinedRows
 pub mod NullPicks
 pub mod RunLists
 pub mod Windows
