@@ -1,5 +1,6 @@
 pub mod Fits
 pub mod Grown
+pub mod JoinedRows
 pub mod NullPicks
 pub mod Raising
 pub mod Refusals

@@ -104,6 +104,10 @@ room_at rs i inside =
     let f = length-append (expand (take i rs)) (unrolled (run_at rs i)) in
     omega (arith, e, f, length-unrolled (run_at rs i))
 
+pub length_more : (rs : List Run) (i : ℕ) → i < length rs → length (expand (take (i + 1) rs)) ≡ length (expand (take i rs)) + (run_at rs i).len
+length_more rs i inside =
+    ap length (expand_more rs i inside) ∙ length-append (expand (take i rs)) (unrolled (run_at rs i)) ∙ ap (λ n. length (expand (take i rs)) + n) (length-unrolled (run_at rs i))
+
 All-left : {A : Type 0} (P : A → Type 0) (xs ys : List A) → All P (xs ++ ys) → All P xs
 All-left P xs ys h = subst (All P) (take-append-le (length xs) xs ys (omega arith) ∙ take_all (length xs) xs (omega arith)) (All-take P (length xs) (xs ++ ys) h)
 

@@ -1,3 +1,4 @@
+pub mod JoinedBytes
 pub mod Need
 pub mod Picks
 pub mod Raised

@@ -1,6 +1,7 @@
 //! Rows of several columns, copied by runs of rows that stand together.
 #![tactic(auto)]
 
+pub mod binary;
 pub mod bits;
 pub mod boolean;
 pub mod collect;
