@@ -1,9 +1,7 @@
-use Rattle.std.proofs.Common.{◌∙◌, length, map, ap, subst, sym}
+use Rattle.std.proofs.Common.{◌∙◌, length, ap}
 use Rattle.std.specs.List.{flat_map}
 use Rattle.std.proofs.lemmas.Result.{err_from_is_err_and}
-use Rattle.sel_arrow.specs.Columns.{binview_rows}
-use Rattle.sel_runs.specs.Runs.{expand}
-use Rattle.sel_runs.proofs.Refusals.{joined_count, refused_at, texts_picked}
+use Rattle.sel_runs.proofs.Refusals.{joined_count, refused_at}
 use Rattle.sel_runs.proofs.collect.collect_binview.Goals as goal
 
 pub returns-in_err-array-clause-refusal : goal.returns-in_err-array-clause-refusal

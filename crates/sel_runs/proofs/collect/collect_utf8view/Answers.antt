@@ -1,4 +1,4 @@
-use Rattle.std.proofs.Common.{◌∙◌, length, map, ap, subst, sym}
+use Rattle.std.proofs.Common.{◌∙◌, length, ap}
 use Rattle.std.specs.List.{flat_map}
 use Rattle.std.proofs.lemmas.Result.{err_from_is_err_and}
 use Rattle.sel_arrow.specs.Columns.{binview_rows}
