@@ -10,4 +10,6 @@ mod filters;
 #[cfg(test)]
 mod kernels;
 #[cfg(test)]
+mod rows;
+#[cfg(test)]
 mod takes;

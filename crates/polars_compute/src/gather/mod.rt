@@ -24,6 +24,8 @@ use sel_arrow::null::NullArray;
 use sel_arrow::primitive::{IdxArr, PrimitiveArray};
 use sel_bits::faults::PolarsResult;
 use sel_bits::native::{Index, NativeType};
+pub use sel_runs::collect::collect_rows;
+pub use sel_runs::sources::picks_in_bounds;
 use std::alloc::Global;
 
 /// Row k is null where index k is null, else the row at index k. A number beneath a null index is never looked at.
