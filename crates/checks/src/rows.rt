@@ -186,6 +186,6 @@ fn rows_of_runs(rt: HostRuntime) -> Result<(), Fail> {
     assert_eq!(rt; (runs.len(), picked_rows(&runs)), (2, 4));
     assert!(rt; are_alike(&sources) && runs_fit(&sources, &runs));
     let rows = collect_runs(alloc, &sources, &runs, 4)?;
-    assert!(rt; matches!(rows, Column::UInt8(rows) if rows.len() == 4 && rows.null_count() == 2));
+    assert!(rt; matches!(&rows, Column::UInt8(rows) if rows.len() == 4 && rows.null_count() == 2));
     Ok(())
 }
