@@ -2,6 +2,7 @@
 
 ghost use Rattle.std.specs.Prelude.{◌≡◌, ◌≤◌, ◌-◌, length, IfOk};
 
+use crate::fixtures::{buffer, has_bits};
 use sel_bits::bitmap::Bitmap;
 use sel_bits::buffer::Buffer;
 use sel_bits::faults::{Limit, MakeError, Malformed, PolarsError, PolarsResult};
@@ -13,46 +14,26 @@ use std::alloc::Global;
 use std::process::Abort;
 use std::test::Fail;
 
-/// The bits, one by one.
-fn bits_of(alloc: Global, bitmap: &Bitmap) -> PolarsResult<Vec<bool>> {
-    let mut bits = Vec::new(alloc);
-    for i in 0..bitmap.len() {
-        bits.push(bitmap.get_bit(i))?;
-    }
-    Ok(bits)
-}
-
-fn assert_bits(
-    rt: &(impl Abort + Alloc<A = Global>),
-    bitmap: &Bitmap,
-    wanted: &[bool],
-) -> PolarsResult<()> {
-    let bits = bits_of(rt.alloc(), bitmap)?;
-    assert_eq!(rt; bits.as_slice(), wanted);
-    Ok(())
-}
-
 #[test]
 fn bitmaps_hold_their_bits(rt: HostRuntime) -> Result<(), Fail> {
     let alloc = rt.alloc();
     assert!(rt; Bitmap::new(alloc)?.is_empty());
-    assert_bits(
-        &rt,
-        &Bitmap::new_with_value(alloc, true, 3)?,
-        &[true, true, true],
-    )?;
-    assert_bits(&rt, &Bitmap::new_zeroed(alloc, 2)?, &[false, false])?;
+    let ones = Bitmap::new_with_value(alloc, true, 3)?;
+    assert!(rt; has_bits(&ones, &[true, true, true]));
+    assert!(rt; has_bits(&Bitmap::new_zeroed(alloc, 2)?, &[false, false]));
     let bits = [false, true, true, false, false, false, true, true, true];
-    assert_bits(&rt, &Bitmap::from_bools(alloc, &bits)?, &bits)?;
-    let whole = Bitmap::from_u8_vec([0xB4u8].to_vec(alloc)?, 8)?;
+    assert!(rt; has_bits(&Bitmap::from_bools(alloc, &bits)?, &bits));
+    Ok(())
+}
+
+#[test]
+fn bitmaps_hold_a_part(rt: HostRuntime) -> Result<(), Fail> {
+    let whole = Bitmap::from_u8_vec([0xB4u8].to_vec(rt.alloc())?, 8)?;
     let part = whole.try_clone()?.sliced(2, 5);
-    assert_bits(&rt, &part, &[true, false, true, true, false])?;
+    assert!(rt; has_bits(&part, &[true, false, true, true, false]));
     assert_eq!(rt; (part.len(), part.set_bits(), part.unset_bits()), (5, 3, 2));
-    assert_bits(
-        &rt,
-        &whole,
-        &[false, false, true, false, true, true, false, true],
-    )?;
+    let bits = [false, false, true, false, true, true, false, true];
+    assert!(rt; has_bits(&whole, &bits));
     Ok(())
 }
 
@@ -74,7 +55,12 @@ fn zeros_are_taken_at_both_ends(rt: HostRuntime) -> Result<(), Fail> {
     let mut bitmap = Bitmap::from_bools(rt.alloc(), &bits)?.sliced(1, 129);
     assert_eq!(rt; bitmap.take_leading_zeros(), 60);
     assert_eq!(rt; bitmap.take_trailing_zeros(), 66);
-    assert_bits(&rt, &bitmap, &[true, false, true])?;
+    assert!(rt; has_bits(&bitmap, &[true, false, true]));
+    Ok(())
+}
+
+#[test]
+fn all_zeros_are_taken_at_one_end(rt: HostRuntime) -> Result<(), Fail> {
     let mut zeros = Bitmap::new_zeroed(rt.alloc(), 70)?;
     assert_eq!(rt; zeros.take_trailing_zeros(), 70);
     assert_eq!(rt; zeros.take_leading_zeros(), 0);
@@ -88,11 +74,8 @@ fn packed_bits_stand_behind_one_another(rt: HostRuntime) -> Result<(), Fail> {
     packer.push(true)?;
     packer.append(0b001, 3)?;
     let bitmap = packer.into_bitmap(9)?;
-    assert_bits(
-        &rt,
-        &bitmap,
-        &[false, true, true, false, true, true, true, false, false],
-    )?;
+    let bits = [false, true, true, false, true, true, true, false, false];
+    assert!(rt; has_bits(&bitmap, &bits));
     Ok(())
 }
 
@@ -130,21 +113,26 @@ fn operations_go_position_by_position(rt: HostRuntime) -> Result<(), Fail> {
         wanted[4][i] = !x;
         wanted[5][i] = if x { y } else { z };
     }
-    assert_bits(&rt, &a.and(alloc, &b)?, &wanted[0])?;
-    assert_bits(&rt, &a.or(alloc, &b)?, &wanted[1])?;
-    assert_bits(&rt, &a.and_not(alloc, &b)?, &wanted[2])?;
-    assert_bits(&rt, &a.or_not(alloc, &b)?, &wanted[3])?;
-    assert_bits(&rt, &a.not(alloc)?, &wanted[4])?;
-    assert_bits(&rt, &Bitmap::choose(alloc, &a, &b, &c)?, &wanted[5])?;
+    assert!(rt; has_bits(&a.and(alloc, &b)?, &wanted[0]));
+    assert!(rt; has_bits(&a.or(alloc, &b)?, &wanted[1]));
+    assert!(rt; has_bits(&a.and_not(alloc, &b)?, &wanted[2]));
+    assert!(rt; has_bits(&a.or_not(alloc, &b)?, &wanted[3]));
+    assert!(rt; has_bits(&a.not(alloc)?, &wanted[4]));
+    assert!(rt; has_bits(&Bitmap::choose(alloc, &a, &b, &c)?, &wanted[5]));
+    Ok(())
+}
+
+fn check_buffer(rt: &(impl Abort + Alloc<A = Global>), whole: &Buffer<u16>) -> PolarsResult<()> {
+    assert!(rt; whole.len() == 4);
+    let part = whole.try_clone()?.sliced(1, 2);
+    assert!(rt; part.as_slice() == [6u16, 7].as_slice());
+    assert!(rt; whole.len() == 4 && part.len() == 2);
     Ok(())
 }
 
 #[test]
 fn buffers_hold_a_part(rt: HostRuntime) -> Result<(), Fail> {
-    let whole = Buffer::from_vec([5u16, 6, 7, 8].to_vec(rt.alloc())?)?;
-    let part = whole.try_clone()?.sliced(1, 2);
-    assert_eq!(rt; part.as_slice(), [6u16, 7].as_slice());
-    assert_eq!(rt; (whole.len(), part.len()), (4, 2));
+    check_buffer(&rt, &buffer(rt.alloc(), &[5u16, 6, 7, 8])?)?;
     Ok(())
 }
 
@@ -155,37 +143,41 @@ fn fault_of(alloc: Global, offsets: &[i32]) -> Result<Option<MakeError>, Fail> {
 
 #[test]
 fn offsets_are_tested_in_order(rt: HostRuntime) -> Result<(), Fail> {
-    let alloc = rt.alloc();
-    assert_eq!(rt;
-        fault_of(alloc, &[])?,
-        Some(MakeError::Malformed(Malformed::OffsetCount))
-    );
-    assert_eq!(rt;
-        fault_of(alloc, &[-1, 0])?,
-        Some(MakeError::Malformed(Malformed::OffsetNegative))
-    );
-    assert_eq!(rt;
-        fault_of(alloc, &[0, 2, 1])?,
-        Some(MakeError::Malformed(Malformed::OffsetOrder))
-    );
-    assert_eq!(rt;
-        fault_of(alloc, &[2, 1, -1])?,
-        Some(MakeError::Malformed(Malformed::OffsetNegative))
-    );
-    assert_eq!(rt; fault_of(alloc, &[3])?, None);
+    let table: [(&[i32], Option<Malformed>); 5] = [
+        (&[], Some(Malformed::OffsetCount)),
+        (&[-1, 0], Some(Malformed::OffsetNegative)),
+        (&[0, 2, 1], Some(Malformed::OffsetOrder)),
+        (&[2, 1, -1], Some(Malformed::OffsetNegative)),
+        (&[3], None),
+    ];
+    for (offsets, rule) in &table {
+        let wanted = match rule {
+            Some(rule) => Some(MakeError::Malformed(*rule)),
+            None => None,
+        };
+        assert_eq!(rt; fault_of(rt.alloc(), offsets)?, wanted);
+    }
+    Ok(())
+}
+
+fn check_offsets(
+    rt: &(impl Abort + Alloc<A = Global>),
+    whole: &OffsetsBuffer<i64>,
+) -> PolarsResult<()> {
+    let part = whole.try_clone()?;
+    assert!(rt; part.len_proxy() == 3);
+    let part = part.sliced(1, 2);
+    assert!(rt; part.as_slice() == [2i64, 5, 9].as_slice());
+    assert!(rt; part.len_proxy() == 2);
+    assert!(rt; part.at(1) == 5);
     Ok(())
 }
 
 #[test]
 fn offsets_of_a_part(rt: HostRuntime) -> Result<(), Fail> {
     let whole = OffsetsBuffer::try_from([2i64, 2, 5, 9].to_vec(rt.alloc())?)?;
-    assert_eq!(rt; (whole.first(), whole.last(), whole.len_proxy()), (2, 9, 3));
-    let part = whole.try_clone()?;
-    assert!(rt; part.len_proxy() == 3);
-    let part = part.sliced(1, 2);
-    assert_eq!(rt; part.as_slice(), [2i64, 5, 9].as_slice());
-    assert!(rt; part.len_proxy() == 2);
-    assert_eq!(rt; part.at(1), 5);
+    assert!(rt; whole.first() == 2 && whole.last() == 9 && whole.len_proxy() == 3);
+    assert!(rt; check_offsets(&rt, &whole).is_ok());
     Ok(())
 }
 

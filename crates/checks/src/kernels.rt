@@ -1,3 +1,9 @@
+ghost use Rattle.std.specs.Prelude.{◌≡◌, length, IfOk};
+
+use crate::fixtures::{
+    begins_with, column, has_bytes, has_numbers, has_truths, is_bytes, is_numbers, numbers, truths,
+    validity_of,
+};
 use polars_compute::filter::boolean::filter_bitmap_and_validity;
 use polars_compute::filter::primitive::{filter_values, filter_values_and_validity};
 use polars_compute::filter::{filter, filter_boolean_kernel, filter_with_bitmap};
@@ -10,106 +16,48 @@ use sel_arrow::binary::BinaryArray;
 use sel_arrow::boolean::BooleanArray;
 use sel_arrow::column::Column;
 use sel_arrow::null::NullArray;
-use sel_arrow::primitive::{ArrowPrimitive, IdxArr, PrimitiveArray};
+use sel_arrow::primitive::{IdxArr, PrimitiveArray};
 use sel_bits::bitmap::Bitmap;
 use sel_bits::buffer::Buffer;
-use sel_bits::faults::{Limit, PolarsError};
-use sel_bits::native::{Index, NativeType, Offset};
+use sel_bits::faults::{Limit, PolarsError, PolarsResult};
+use sel_bits::native::{Index, Offset};
 use sel_bits::offsets::OffsetsBuffer;
 use std::alloc::Global;
 use std::test::Fail;
 
-// A column of numbers; none is null over the least number.
-fn column<T: NativeType>(alloc: Global, rows: &[Option<T>]) -> Result<PrimitiveArray<T>, Fail> {
-    let mut values = Vec::new(alloc);
-    let mut validity = Vec::new(alloc);
+// The bytes of the rows, one hidden byte for none.
+fn bytes_of(alloc: Global, rows: &[Option<&[u8]>]) -> PolarsResult<Buffer<u8>> {
+    let mut bytes = Vec::new(alloc);
     for row in rows {
         match row {
-            Some(value) => values.push(*value)?,
-            None => values.push(T::LEAST)?,
+            Some(row) => bytes.extend_from_slice(row)?,
+            None => bytes.push(255)?,
         }
-        validity.push(row.is_some())?;
     }
-    let validity = Bitmap::from_bools(alloc, &validity)?;
-    Ok(PrimitiveArray::try_new(Buffer::from_vec(values)?, Some(validity))?)
+    Buffer::from_vec(bytes)
 }
 
-// A column of truth values with a validity.
-fn truths(alloc: Global, values: &[bool], validity: &[bool]) -> Result<BooleanArray, Fail> {
-    let values = Bitmap::from_bools(alloc, values)?;
-    let validity = Bitmap::from_bools(alloc, validity)?;
-    Ok(BooleanArray::try_new(values, Some(validity))?)
-}
-
-fn rows_of<T: ArrowPrimitive>(
-    alloc: Global,
-    column: &PrimitiveArray<T>,
-) -> Result<Vec<Option<T>>, Fail> {
-    let mut rows = Vec::new(alloc);
-    for i in 0..column.len() {
-        rows.push(column.get(i))?;
+// Where those bytes begin and end.
+fn offsets_of<O: Offset>(alloc: Global, rows: &[Option<&[u8]>]) -> Result<OffsetsBuffer<O>, Fail> {
+    let mut offsets = Vec::new(alloc);
+    let mut end = 0usize;
+    offsets.push(O::from_usize(end).ok_or("no zero")?)?;
+    for row in rows {
+        let len = match row {
+            Some(row) => row.len(),
+            None => 1,
+        };
+        end = end.checked_add(len).ok_or("too long")?;
+        offsets.push(O::from_usize(end).ok_or("too long")?)?;
     }
-    Ok(rows)
-}
-
-fn bits_of(alloc: Global, bitmap: &Bitmap) -> Result<Vec<bool>, Fail> {
-    let mut bits = Vec::new(alloc);
-    for i in 0..bitmap.len() {
-        bits.push(bitmap.get_bit(i))?;
-    }
-    Ok(bits)
-}
-
-fn numbers_of<T: ArrowPrimitive>(alloc: Global, column: ArrayRef) -> Result<Vec<Option<T>>, Fail> {
-    match column.into_primitive::<T>() {
-        Ok(column) => rows_of(alloc, &column),
-        Err(_) => Err(Fail::from("another type")),
-    }
-}
-
-// Indices over these numbers.
-fn indices<I: Index>(
-    alloc: Global,
-    numbers: &[I],
-    validity: &[bool],
-) -> Result<PrimitiveArray<I>, Fail> {
-    let mut values = Vec::new(alloc);
-    for number in numbers {
-        values.push(*number)?;
-    }
-    let validity = Bitmap::from_bools(alloc, validity)?;
-    Ok(PrimitiveArray::try_new(Buffer::from_vec(values)?, Some(validity))?)
+    Ok(OffsetsBuffer::try_from(offsets)?)
 }
 
 // A column of bytes; none is null over one hidden byte.
 fn bytes_column<O: Offset>(alloc: Global, rows: &[Option<&[u8]>]) -> Result<BinaryArray<O>, Fail> {
-    let mut values = Vec::new(alloc);
-    let mut validity = Vec::new(alloc);
-    let mut offsets = Vec::new(alloc);
-    offsets.push(O::from_usize(0).ok_or("no zero")?)?;
-    for row in rows {
-        match row {
-            Some(bytes) => values.extend_from_slice(bytes)?,
-            None => values.push(255)?,
-        }
-        validity.push(row.is_some())?;
-        offsets.push(O::from_usize(values.len()).ok_or("too long")?)?;
-    }
-    let validity = Bitmap::from_bools(alloc, &validity)?;
-    let offsets = OffsetsBuffer::try_from(offsets)?;
-    Ok(BinaryArray::try_new(offsets, Buffer::from_vec(values)?, Some(validity))?)
-}
-
-fn has_rows<O: Offset>(column: &BinaryArray<O>, rows: &[Option<&[u8]>]) -> bool {
-    if column.len() != rows.len() {
-        return false;
-    }
-    for (i, row) in rows.iter().enumerate() {
-        if column.get(i) != *row {
-            return false;
-        }
-    }
-    true
+    let validity = validity_of(alloc, rows)?;
+    let offsets = offsets_of(alloc, rows)?;
+    Ok(BinaryArray::try_new(offsets, bytes_of(alloc, rows)?, Some(validity))?)
 }
 
 // One row of 65,536 bytes.
@@ -140,13 +88,6 @@ fn zeros(alloc: Global, count: usize) -> Result<IdxArr, Fail> {
     Ok(PrimitiveArray::try_new(Buffer::from_vec(numbers)?, None)?)
 }
 
-fn holds(column: ArrayRef, rows: &[Option<&[u8]>]) -> Result<bool, Fail> {
-    match column.into_binary() {
-        Ok(column) => Ok(has_rows(&column, rows)),
-        Err(_) => Err(Fail::from("another type")),
-    }
-}
-
 fn keeps(
     alloc: Global,
     array: BinaryArray<i64>,
@@ -157,7 +98,16 @@ fn keeps(
         return Err(Fail::from("another length"));
     }
     let kept = filter_with_bitmap(alloc, &array.into_ref(), mask)?;
-    holds(kept, rows)
+    is_bytes(kept, rows)
+}
+
+// The rows, the least number hidden below none, under the mask.
+fn filtered(alloc: Global, rows: &[Option<i64>], mask: &BooleanArray) -> Result<ArrayRef, Fail> {
+    let array = column(alloc, rows, i64::MIN)?;
+    if array.len() != mask.len() {
+        return Err(Fail::from("another length"));
+    }
+    Ok(filter(alloc, &array.into_ref(), mask)?)
 }
 
 #[test]
@@ -180,68 +130,97 @@ fn filters_of_numbers(rt: HostRuntime) -> Result<(), Fail> {
         (&[Some(1), None], &[false, true], &[true, true], &[None]),
     ];
     for (values, mask, validity, kept) in &rows {
-        let array = column(alloc, values)?;
         let mask = truths(alloc, mask, validity)?;
-        assert_eq!(rt; array.len(), mask.len());
-        let answer = filter(alloc, &array.into_ref(), &mask)?;
-        let answer = numbers_of::<i64>(alloc, answer)?;
-        assert!(rt; answer.as_slice() == *kept);
+        let answer = filtered(alloc, values, &mask)?;
+        assert!(rt; is_numbers(answer, kept)?);
     }
     Ok(())
 }
 
+fn three_bits(alloc: Global) -> PolarsResult<Bitmap>
+    ensures { IfOk result (λ bitmap. length bitmap.bits ≡ 3) }
+{
+    Bitmap::from_bools(alloc, &[false, true, true])
+}
+
 #[test]
-fn filters_by_bits(rt: HostRuntime) -> Result<(), Fail> {
+fn numbers_by_bits(rt: HostRuntime) -> Result<(), Fail> {
     let alloc = rt.alloc();
-    let mask = Bitmap::from_bools(alloc, &[false, true, true])?;
-    let indices = column(alloc, &[Some(7u32), None, Some(9)])?;
-    assert_eq!(rt; indices.len(), mask.len());
-    let kept = filter_with_bitmap(alloc, &indices.into_ref(), &mask)?;
-    assert!(rt; numbers_of::<u32>(alloc, kept)?.as_slice() == [None, Some(9)].as_slice());
-
-    let array = truths(alloc, &[true, false, true], &[true, true, false])?;
+    let array = column(alloc, &[Some(7u32), None, Some(9)], 0)?;
+    let mask = three_bits(alloc)?;
     assert_eq!(rt; array.len(), mask.len());
-    let Ok(kept) = filter_with_bitmap(alloc, &array.into_ref(), &mask)?.into_boolean() else {
-        return Err(Fail::from("another type"));
-    };
-    assert_eq!(rt; kept.len(), 2);
-    assert_eq!(rt; kept.get(0), Some(false));
-    assert_eq!(rt; kept.get(1), None);
+    let kept = filter_with_bitmap(alloc, &array.into_ref(), &mask)?;
+    assert!(rt; is_numbers(kept, &[None, Some(9u32)])?);
+    Ok(())
+}
 
+#[test]
+fn truth_values_by_bits(rt: HostRuntime) -> Result<(), Fail> {
+    let alloc = rt.alloc();
+    let array = truths(alloc, &[true, false, true], &[true, true, false])?;
+    let mask = three_bits(alloc)?;
+    assert_eq!(rt; array.len(), mask.len());
+    let kept = filter_with_bitmap(alloc, &array.into_ref(), &mask)?;
+    let kept = kept.into_boolean().ok().ok_or("another type")?;
+    assert!(rt; has_truths(&kept, &[Some(false), None]));
+    Ok(())
+}
+
+#[test]
+fn nulls_by_bits(rt: HostRuntime) -> Result<(), Fail> {
+    let alloc = rt.alloc();
     let nulls = NullArray::try_new(3)?;
+    let mask = three_bits(alloc)?;
     assert_eq!(rt; nulls.len(), mask.len());
     let kept = filter_with_bitmap(alloc, &nulls.into_ref(), &mask)?;
     assert!(rt; matches!(kept.as_column(), Column::Null(nulls) if nulls.len() == 2));
     Ok(())
 }
 
-#[test]
-fn kept_bits(rt: HostRuntime) -> Result<(), Fail> {
-    let alloc = rt.alloc();
-    // 112 bits at bit offset 3, true at even places; the mask is true at 0, 1, 2 and from 56 on.
+// 112 bits at bit offset 3, true at even places.
+fn even_bits(alloc: Global) -> Result<Bitmap, Fail> {
     let mut values = Vec::new(alloc);
-    let mut mask = Vec::new(alloc);
     for _ in 0..3 {
         values.push(false)?;
     }
     for i in 0..112 {
         values.push(i % 2 == 0)?;
-        mask.push(i < 3 || i >= 56)?;
     }
     let all = Bitmap::from_bools(alloc, &values)?;
-    assert_eq!(rt; all.len(), 115);
-    let values = all.sliced(3, 112);
-    let mask = Bitmap::from_bools(alloc, &mask)?;
-    assert_eq!(rt; mask.len(), 112);
+    if all.len() != 115 {
+        return Err(Fail::from("another length"));
+    }
+    Ok(all.sliced(3, 112))
+}
+
+// 112 bits, true at 0, 1, 2 and from 56 on.
+fn late_bits(alloc: Global) -> PolarsResult<Bitmap> {
+    let mut mask = Vec::new(alloc);
+    for i in 0..112 {
+        mask.push(i < 3 || i >= 56)?;
+    }
+    Bitmap::from_bools(alloc, &mask)
+}
+
+#[test]
+fn kept_bits(rt: HostRuntime) -> Result<(), Fail> {
+    let alloc = rt.alloc();
+    let values = even_bits(alloc)?;
+    let mask = late_bits(alloc)?;
+    assert_eq!(rt; (values.len(), mask.len()), (112, 112));
     let kept = filter_boolean_kernel(alloc, &values, &mask)?;
     assert_eq!(rt; kept.len(), 59);
     assert_eq!(rt; kept.set_bits(), 30);
-    let bits = bits_of(alloc, &kept)?;
-    assert!(rt;
-        bits.as_slice()
-            .starts_with(&[true, false, true, true, false])
-    );
+    assert!(rt; begins_with(&kept, &[true, false, true, true, false]));
+    Ok(())
+}
 
+#[test]
+fn kept_bits_with_their_validity(rt: HostRuntime) -> Result<(), Fail> {
+    let alloc = rt.alloc();
+    let values = even_bits(alloc)?;
+    let mask = late_bits(alloc)?;
+    assert_eq!(rt; (values.len(), mask.len()), (112, 112));
     let (bits, validity) = filter_bitmap_and_validity(alloc, &values, Some(&mask), &mask)?;
     assert_eq!(rt; bits.set_bits(), 30);
     assert!(rt; validity.is_some_and(|validity| validity.set_bits() == 59));
@@ -302,10 +281,10 @@ fn filters_of_bytes(rt: HostRuntime) -> Result<(), Fail> {
 fn taken_bytes<I: Index>(
     alloc: Global,
     column: &BinaryArray<i64>,
-    numbers: &[I],
+    places: &[I],
     validity: &[bool],
 ) -> Result<BinaryArray<i64>, Fail> {
-    let indices = indices(alloc, numbers, validity)?;
+    let indices = numbers(alloc, places, validity)?;
     if !indices_in_bounds_of(&indices, column.len()) {
         return Err(Fail::from("out of bounds"));
     }
@@ -317,9 +296,9 @@ fn takes_of_bytes(rt: HostRuntime) -> Result<(), Fail> {
     let alloc = rt.alloc();
     let column = bytes_column::<i64>(alloc, &[Some(b"a"), Some(b"bc")])?;
     let taken = taken_bytes(alloc, &column, &[-1i8, 1], &[false, true])?;
-    assert!(rt; has_rows(&taken, &[None, Some(b"bc")]));
+    assert!(rt; has_bytes(&taken, &[None, Some(b"bc")]));
     let taken = taken_bytes(alloc, &column, &[u64::MAX, 0], &[false, true])?;
-    assert!(rt; has_rows(&taken, &[None, Some(b"a")]));
+    assert!(rt; has_bytes(&taken, &[None, Some(b"a")]));
     Ok(())
 }
 
@@ -351,8 +330,8 @@ fn bounds_of_indices(rt: HostRuntime) -> Result<(), Fail> {
         (&[-1], &[true], 128, false),
         (&[-1], &[false], 0, true),
     ];
-    for (numbers, validity, len, within) in &signed {
-        let indices = indices(alloc, numbers, validity)?;
+    for (places, validity, len, within) in &signed {
+        let indices = numbers(alloc, places, validity)?;
         assert_eq!(rt; indices_in_bounds_of(&indices, *len), *within);
     }
     let unsigned: [(&[u64], &[bool], usize, bool); 3] = [
@@ -360,8 +339,8 @@ fn bounds_of_indices(rt: HostRuntime) -> Result<(), Fail> {
         (&[u64::MAX], &[true], 3, false),
         (&[u64::MAX], &[false], 3, true),
     ];
-    for (numbers, validity, len, within) in &unsigned {
-        let indices = indices(alloc, numbers, validity)?;
+    for (places, validity, len, within) in &unsigned {
+        let indices = numbers(alloc, places, validity)?;
         assert_eq!(rt; indices_in_bounds_of(&indices, *len), *within);
     }
     Ok(())
@@ -370,13 +349,11 @@ fn bounds_of_indices(rt: HostRuntime) -> Result<(), Fail> {
 #[test]
 fn takes_of_numbers(rt: HostRuntime) -> Result<(), Fail> {
     let alloc = rt.alloc();
-    let array = column(alloc, &[Some(5i64), None, Some(7)])?;
-    let numbers = Buffer::from_vec(vec![in alloc; 2u32, u32::MAX, 1]?)?;
-    let validity = Bitmap::from_bools(alloc, &[true, false, true])?;
-    let indices: IdxArr = PrimitiveArray::try_new(numbers, Some(validity))?;
+    let array = column(alloc, &[Some(5i64), None, Some(7)], i64::MIN)?;
+    let indices = numbers(alloc, &[2u32, u32::MAX, 1], &[true, false, true])?;
     assert!(rt; indices_in_bounds(&indices, array.len()));
     assert!(rt; !indices_in_bounds(&indices, 2));
     let taken = take_primitive_unchecked(alloc, &array, &indices)?;
-    assert!(rt; rows_of(alloc, &taken)?.as_slice() == [Some(7), None, None].as_slice());
+    assert!(rt; has_numbers(&taken, &[Some(7), None, None]));
     Ok(())
 }

@@ -8,6 +8,8 @@ mod columns;
 #[cfg(test)]
 mod filters;
 #[cfg(test)]
+mod fixtures;
+#[cfg(test)]
 mod kernels;
 #[cfg(test)]
 mod rows;

@@ -1,12 +1,14 @@
+use crate::fixtures::{
+    buffer, column, has_bits, has_text, has_truths, is_bytes, is_numbers, numbers, truths,
+};
 use polars_compute::gather::bitmap::{take_bitmap_nulls_unchecked, take_bitmap_unchecked};
 use polars_compute::gather::{boolean, idx_slice_in_bounds, indices_in_bounds, take_unchecked};
 use sel_arrow::array::Array;
 use sel_arrow::array_ref::ArrayRef;
 use sel_arrow::binary::BinaryArray;
-use sel_arrow::boolean::BooleanArray;
 use sel_arrow::column::Column;
 use sel_arrow::null::NullArray;
-use sel_arrow::primitive::{IdxArr, PrimitiveArray};
+use sel_arrow::primitive::IdxArr;
 use sel_arrow::utf8view::Utf8ViewArray;
 use sel_arrow::view::View;
 use sel_bits::bitmap::Bitmap;
@@ -17,22 +19,7 @@ use std::test::Fail;
 
 // Indices; none is null over the greatest number.
 fn indices(alloc: Global, rows: &[Option<u32>]) -> Result<IdxArr, Fail> {
-    let mut values = Vec::new(alloc);
-    let mut validity = Vec::new(alloc);
-    for row in rows {
-        values.push(row.unwrap_or(u32::MAX))?;
-        validity.push(row.is_some())?;
-    }
-    let validity = Bitmap::from_bools(alloc, &validity)?;
-    Ok(PrimitiveArray::try_new(Buffer::from_vec(values)?, Some(validity))?)
-}
-
-fn bits_of(alloc: Global, bitmap: &Bitmap) -> Result<Vec<bool>, Fail> {
-    let mut bits = Vec::new(alloc);
-    for i in 0..bitmap.len() {
-        bits.push(bitmap.get_bit(i))?;
-    }
-    Ok(bits)
+    column(alloc, rows, u32::MAX)
 }
 
 #[test]
@@ -43,8 +30,17 @@ fn bits_at_places(rt: HostRuntime) -> Result<(), Fail> {
     let places = [2u32, 1, 1, 0];
     assert!(rt; idx_slice_in_bounds(&places, values.len()));
     let taken = take_bitmap_unchecked(alloc, &values, &places)?;
-    assert!(rt; bits_of(alloc, &taken)?.as_slice() == [true, false, false, true].as_slice());
+    assert!(rt; has_bits(&taken, &[true, false, false, true]));
     Ok(())
+}
+
+// The bits at these indices, where they are in bounds.
+fn bits_taken(alloc: Global, values: &Bitmap, places: &[Option<u32>]) -> Result<Bitmap, Fail> {
+    let places = indices(alloc, places)?;
+    if !indices_in_bounds(&places, values.len()) {
+        return Err(Fail::from("out of bounds"));
+    }
+    Ok(take_bitmap_nulls_unchecked(alloc, values, &places)?)
 }
 
 #[test]
@@ -56,10 +52,7 @@ fn bits_at_indices(rt: HostRuntime) -> Result<(), Fail> {
     ];
     for (values, places, taken) in &rows {
         let values = Bitmap::from_bools(alloc, values)?;
-        let places = indices(alloc, places)?;
-        assert!(rt; indices_in_bounds(&places, values.len()));
-        let bits = take_bitmap_nulls_unchecked(alloc, &values, &places)?;
-        assert!(rt; bits_of(alloc, &bits)?.as_slice() == *taken);
+        assert!(rt; has_bits(&bits_taken(alloc, &values, places)?, taken));
     }
     Ok(())
 }
@@ -67,17 +60,11 @@ fn bits_at_indices(rt: HostRuntime) -> Result<(), Fail> {
 #[test]
 fn truth_values_at_indices(rt: HostRuntime) -> Result<(), Fail> {
     let alloc = rt.alloc();
-    let values = Bitmap::from_bools(alloc, &[true, true, false])?;
-    let validity = Bitmap::from_bools(alloc, &[true, false, true])?;
-    let array = BooleanArray::try_new(values, Some(validity))?;
+    let array = truths(alloc, &[true, true, false], &[true, false, true])?;
     let places = indices(alloc, &[Some(2), None, Some(1), Some(0)])?;
     assert!(rt; indices_in_bounds(&places, array.len()));
     let taken = boolean::take_unchecked(alloc, &array, &places)?;
-    assert_eq!(rt; taken.len(), 4);
-    assert_eq!(rt; taken.get(0), Some(false));
-    assert_eq!(rt; taken.get(1), None);
-    assert_eq!(rt; taken.get(2), None);
-    assert_eq!(rt; taken.get(3), Some(true));
+    assert!(rt; has_truths(&taken, &[Some(false), None, None, Some(true)]));
     Ok(())
 }
 
@@ -93,15 +80,9 @@ fn taken(alloc: Global, column: ArrayRef, places: &[Option<u32>]) -> Result<Arra
 #[test]
 fn numbers_of_any_column_at_indices(rt: HostRuntime) -> Result<(), Fail> {
     let alloc = rt.alloc();
-    let values = Buffer::from_vec(vec![in alloc; 5i64, 6, 7]?)?;
-    let validity = Bitmap::from_bools(alloc, &[true, false, true])?;
-    let column = PrimitiveArray::try_new(values, Some(validity))?;
+    let column = numbers(alloc, &[5i64, 6, 7], &[true, false, true])?;
     let rows = taken(alloc, column.into_ref(), &[Some(2), None, Some(1)])?;
-    let rows = rows.into_primitive::<i64>().ok().ok_or("another type")?;
-    assert_eq!(rt; rows.len(), 3);
-    assert_eq!(rt; rows.get(0), Some(7));
-    assert_eq!(rt; rows.get(1), None);
-    assert_eq!(rt; rows.get(2), None);
+    assert!(rt; is_numbers(rows, &[Some(7i64), None, None])?);
     Ok(())
 }
 
@@ -117,35 +98,38 @@ fn nulls_of_any_column_at_indices(rt: HostRuntime) -> Result<(), Fail> {
     Ok(())
 }
 
+// A column of these two short texts.
+fn two_texts(alloc: Global) -> Result<Utf8ViewArray, Fail> {
+    let views = [
+        View::new_from_bytes(b"a", 0, 0),
+        View::new_from_bytes(b"bc", 0, 0),
+    ];
+    let buffers = Buffer::from_vec(Vec::new(alloc))?;
+    Ok(Utf8ViewArray::try_new(buffer(alloc, &views)?, buffers, None)?)
+}
+
 #[test]
 fn texts_of_any_column_at_indices(rt: HostRuntime) -> Result<(), Fail> {
     let alloc = rt.alloc();
-    let views = vec![in alloc;
-        View::new_from_bytes(b"a", 0, 0),
-        View::new_from_bytes(b"bc", 0, 0),
-    ]?;
-    let buffers = Buffer::from_vec(Vec::new(alloc))?;
-    let column = Utf8ViewArray::try_new(Buffer::from_vec(views)?, buffers, None)?;
-    let rows = taken(alloc, column.into_ref(), &[Some(1), None])?;
+    let rows = taken(alloc, two_texts(alloc)?.into_ref(), &[Some(1), None])?;
     let rows = rows.into_utf8view().ok().ok_or("another type")?;
     assert_eq!(rt; rows.len(), 2);
-    let text = rows.get(alloc, 0)?;
-    assert!(rt; text.is_some_and(|text| text.as_str() == "bc"));
-    assert!(rt; rows.get(alloc, 1)?.is_none());
+    assert!(rt; has_text(alloc, &rows, 0, Some("bc"))?);
+    assert!(rt; has_text(alloc, &rows, 1, None)?);
     Ok(())
+}
+
+// A column of bytes between these offsets, without a validity.
+fn pieces(alloc: Global, offsets: &[i64], bytes: &[u8]) -> Result<BinaryArray<i64>, Fail> {
+    let offsets = OffsetsBuffer::try_from(Vec::from_slice(alloc, offsets)?)?;
+    Ok(BinaryArray::try_new(offsets, buffer(alloc, bytes)?, None)?)
 }
 
 #[test]
 fn bytes_of_any_column_at_indices(rt: HostRuntime) -> Result<(), Fail> {
     let alloc = rt.alloc();
-    let offsets = OffsetsBuffer::try_from(vec![in alloc; 0i64, 1, 3]?)?;
-    let values = Buffer::from_vec(vec![in alloc; 97u8, 98, 99]?)?;
-    let column = BinaryArray::try_new(offsets, values, None)?;
+    let column = pieces(alloc, &[0, 1, 3], b"abc")?;
     let rows = taken(alloc, column.into_ref(), &[Some(1), None, Some(0)])?;
-    let rows = rows.into_binary().ok().ok_or("another type")?;
-    assert_eq!(rt; rows.len(), 3);
-    assert!(rt; rows.get(0) == Some(b"bc".as_slice()));
-    assert!(rt; rows.get(1).is_none());
-    assert!(rt; rows.get(2) == Some(b"a".as_slice()));
+    assert!(rt; is_bytes(rows, &[Some(b"bc"), None, Some(b"a")])?);
     Ok(())
 }
