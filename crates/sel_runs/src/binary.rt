@@ -28,7 +28,7 @@ struct Joined {
 }
 
 /// The rows that runs pick of columns of bytes, `len` in all. Refuses where they need more bytes than an offset can
-/// show, and only there, and for want of memory. A null row of the column has no bytes.
+/// show, and only there, and for want of memory.
 pub fn collect_binary<'a>(
     alloc: Global,
     sources: &'a [&'a BinaryArray<i64>],
