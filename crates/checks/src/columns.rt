@@ -4,7 +4,7 @@ ghost use Rattle.std.specs.Prelude.{◌≡◌, ◌≤◌, length, IfOk};
 ghost use Rattle.sel_arrow.specs.Masked.{Covers};
 ghost use Rattle.sel_arrow.specs.Rows.{IsWellFormed};
 
-use crate::fixtures::{buffer, has_bytes, has_numbers, has_text, has_truths, numbers, truths};
+use crate::fixtures::{buffer, has_bytes, has_text, has_truths, numbers, truths};
 use sel_arrow::array::Array;
 use sel_arrow::array_ref::ArrayRef;
 use sel_arrow::binary::BinaryArray;
@@ -329,7 +329,8 @@ fn check_rows<T: ArrowPrimitive + Debug + PartialEq + Drop>(
     let alloc = rt.alloc();
     assert_eq!(rt; column.values().as_slice(), values.as_slice());
     assert_eq!(rt; column.len(), 3);
-    assert!(rt; has_numbers(&column, &[Some(values[0]), None, Some(values[2])]));
+    assert!(rt; column.get(0) == Some(values[0]) && column.get(1).is_none());
+    assert!(rt; column.get(2) == Some(values[2]));
     let column = column.with_validity(None);
     assert_eq!(rt; (column.len(), column.null_count()), (3, 0));
     assert!(rt; column.get(1) == Some(values[1]));

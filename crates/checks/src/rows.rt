@@ -61,7 +61,8 @@ fn rows_of_two_columns_of_nulls(rt: HostRuntime) -> Result<(), Fail> {
     let first = Column::Null(NullArray::try_new(2)?);
     let second = Column::Null(NullArray::try_new(1)?);
     let rows = collected(rt.alloc(), &[&first, &second], &PICKS)?;
-    assert!(rt; matches!(rows.as_column(), Column::Null(nulls) if nulls.len() == 3));
+    let rows = rows.into_null().ok().ok_or("another type")?;
+    assert_eq!(rt; rows.len(), 3);
     Ok(())
 }
 
@@ -178,14 +179,44 @@ fn some_runs(alloc: Global) -> PolarsResult<Vec<Run>> {
 }
 
 #[test]
+fn runs_that_go_on_are_one(rt: HostRuntime) -> Result<(), Fail> {
+    let runs = some_runs(rt.alloc())?;
+    assert_eq!(rt; runs.len(), 2);
+    assert_eq!(rt; picked_rows(&runs), 4);
+    Ok(())
+}
+
+// The four rows that runs pick of a column of small numbers.
+fn picked_numbers<'a>(
+    alloc: Global,
+    sources: &'a [&'a Column],
+    runs: &[Run],
+) -> Result<PrimitiveArray<u8>, Fail> {
+    if sources.is_empty() || !are_alike(sources) || !runs_fit(sources, runs) {
+        return Err(Fail::from("another argument"));
+    }
+    if picked_rows(runs) != 4 {
+        return Err(Fail::from("another count"));
+    }
+    let column = collect_runs(alloc, sources, runs, 4)?;
+    let rows = ArrayRef { column };
+    Ok(rows.into_primitive::<u8>().ok().ok_or("another type")?)
+}
+
+// Whether runs pick the second and the third row, and then nulls.
+fn picks_the_last(alloc: Global, column: &Column, runs: &[Run]) -> Result<bool, Fail> {
+    let rows = picked_numbers(alloc, &[column], runs)?;
+    if rows.len() != 4 {
+        return Ok(false);
+    }
+    Ok(rows.get(0) == Some(2) && rows.get(1) == Some(3) && rows.get(2).is_none())
+}
+
+#[test]
 fn rows_of_runs(rt: HostRuntime) -> Result<(), Fail> {
     let alloc = rt.alloc();
-    let column = numbers(alloc, &[1u8, 2, 3])?;
-    let sources = [&column];
     let runs = some_runs(alloc)?;
-    assert_eq!(rt; (runs.len(), picked_rows(&runs)), (2, 4));
-    assert!(rt; are_alike(&sources) && runs_fit(&sources, &runs));
-    let rows = collect_runs(alloc, &sources, &runs, 4)?;
-    assert!(rt; matches!(&rows, Column::UInt8(rows) if rows.len() == 4 && rows.null_count() == 2));
+    let column = numbers(alloc, &[1u8, 2, 3])?;
+    assert!(rt; picks_the_last(alloc, &column, &runs)?);
     Ok(())
 }
