@@ -2,10 +2,6 @@
 #![tactic(auto)]
 
 #[cfg(test)]
-mod bits;
-#[cfg(test)]
-mod columns;
-#[cfg(test)]
 mod filters;
 #[cfg(test)]
 mod fixtures;

@@ -1,0 +1,154 @@
+//! What several files share: columns made of rows, and columns compared with rows.
+
+use sel_arrow::array::Array;
+use sel_arrow::array_ref::ArrayRef;
+use sel_arrow::binary::BinaryArray;
+use sel_arrow::boolean::BooleanArray;
+use sel_arrow::primitive::{ArrowPrimitive, PrimitiveArray};
+use sel_arrow::utf8view::Utf8ViewArray;
+use sel_bits::bitmap::Bitmap;
+use sel_bits::buffer::Buffer;
+use sel_bits::faults::PolarsResult;
+use sel_bits::native::{NativeType, Offset};
+use std::alloc::Global;
+use std::test::Fail;
+
+/// The values as a buffer.
+pub fn buffer<T: Copy>(alloc: Global, values: &[T]) -> PolarsResult<Buffer<T>> {
+    Buffer::from_vec(Vec::from_slice(alloc, values)?)
+}
+
+/// A column of these numbers under this validity.
+pub fn numbers<T: NativeType>(
+    alloc: Global,
+    values: &[T],
+    validity: &[bool],
+) -> Result<PrimitiveArray<T>, Fail> {
+    let validity = Bitmap::from_bools(alloc, validity)?;
+    Ok(PrimitiveArray::try_new(buffer(alloc, values)?, Some(validity))?)
+}
+
+/// Which rows are there.
+pub fn validity_of<T: Copy>(alloc: Global, rows: &[Option<T>]) -> PolarsResult<Bitmap> {
+    let mut bits = Vec::new(alloc);
+    for row in rows {
+        bits.push(row.is_some())?;
+    }
+    Bitmap::from_bools(alloc, &bits)
+}
+
+/// The rows, with this number in the place of none.
+fn values_of<T: NativeType>(
+    alloc: Global,
+    rows: &[Option<T>],
+    hidden: T,
+) -> PolarsResult<Buffer<T>> {
+    let mut values = Vec::new(alloc);
+    for row in rows {
+        values.push(row.unwrap_or(hidden))?;
+    }
+    Buffer::from_vec(values)
+}
+
+/// A column of numbers; none is null over the hidden number.
+pub fn column<T: NativeType>(
+    alloc: Global,
+    rows: &[Option<T>],
+    hidden: T,
+) -> Result<PrimitiveArray<T>, Fail> {
+    let validity = validity_of(alloc, rows)?;
+    Ok(PrimitiveArray::try_new(values_of(alloc, rows, hidden)?, Some(validity))?)
+}
+
+/// A column of truth values with a validity.
+pub fn truths(alloc: Global, values: &[bool], validity: &[bool]) -> Result<BooleanArray, Fail> {
+    let values = Bitmap::from_bools(alloc, values)?;
+    Ok(BooleanArray::try_new(values, Some(Bitmap::from_bools(alloc, validity)?))?)
+}
+
+/// Whether the bitmap begins with these bits.
+pub fn begins_with(bitmap: &Bitmap, bits: &[bool]) -> bool {
+    if bitmap.len() < bits.len() {
+        return false;
+    }
+    for (i, bit) in bits.iter().enumerate() {
+        if bitmap.get_bit(i) != *bit {
+            return false;
+        }
+    }
+    true
+}
+
+pub fn has_bits(bitmap: &Bitmap, bits: &[bool]) -> bool {
+    bitmap.len() == bits.len() && begins_with(bitmap, bits)
+}
+
+pub fn has_truths(column: &BooleanArray, rows: &[Option<bool>]) -> bool {
+    if column.len() != rows.len() {
+        return false;
+    }
+    for (i, row) in rows.iter().enumerate() {
+        if column.get(i) != *row {
+            return false;
+        }
+    }
+    true
+}
+
+pub fn has_numbers<T: ArrowPrimitive + PartialEq>(
+    column: &PrimitiveArray<T>,
+    rows: &[Option<T>],
+) -> bool {
+    if column.len() != rows.len() {
+        return false;
+    }
+    for (i, row) in rows.iter().enumerate() {
+        if column.get(i) != *row {
+            return false;
+        }
+    }
+    true
+}
+
+/// Whether a column of any type is one of these numbers.
+pub fn is_numbers<T: ArrowPrimitive + PartialEq>(
+    column: ArrayRef,
+    rows: &[Option<T>],
+) -> Result<bool, Fail> {
+    let column = column.into_primitive::<T>().ok().ok_or("another type")?;
+    Ok(has_numbers(&column, rows))
+}
+
+pub fn has_bytes<O: Offset>(column: &BinaryArray<O>, rows: &[Option<&[u8]>]) -> bool {
+    if column.len() != rows.len() {
+        return false;
+    }
+    for (i, row) in rows.iter().enumerate() {
+        if column.get(i) != *row {
+            return false;
+        }
+    }
+    true
+}
+
+/// Whether a column of any type is one of these bytes.
+pub fn is_bytes(column: ArrayRef, rows: &[Option<&[u8]>]) -> Result<bool, Fail> {
+    let column = column.into_binary().ok().ok_or("another type")?;
+    Ok(has_bytes(&column, rows))
+}
+
+/// Whether the row at the place is this text.
+pub fn has_text(
+    alloc: Global,
+    column: &Utf8ViewArray,
+    at: usize,
+    text: Option<&str>,
+) -> PolarsResult<bool> {
+    if at >= column.len() {
+        return Ok(false);
+    }
+    Ok(match column.get(alloc, at)? {
+        Some(row) => text == Some(row.as_str()),
+        None => text.is_none(),
+    })
+}
