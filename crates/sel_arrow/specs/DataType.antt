@@ -1,22 +1,31 @@
 -- What a data type means.
-use Rattle.sel_arrow.specs.Shape.{Shape, of_null, of_boolean, of_int8, of_int16, of_int32, of_int64, of_int128, of_uint8, of_uint16, of_uint32, of_uint64, of_uint128, of_large_binary, of_binary_view, of_utf8_view}
-use Rattle.sel_arrow.specs.declared.datatype.ArrowDataType.{ArrowDataType}
-use Rattle.sel_arrow.specs.declared.datatype.ArrowDataType.TheVariants.{Null, Boolean, Int8, Int16, Int32, Int64, Int128, UInt8, UInt16, UInt32, UInt64, UInt128, LargeBinary, BinaryView, Utf8View}
+use Rattle.sel_arrow.specs.Shape.{Shape, Shapes, no_shapes, next_shape, of_large_list, of_fixed_size_list, of_struct, of_null, of_boolean, of_int8, of_int16, of_int32, of_int64, of_int128, of_uint8, of_uint16, of_uint32, of_uint64, of_uint128, of_large_binary, of_binary_view, of_utf8_view}
+use Rattle.sel_arrow.specs.declared.datatype.ArrowDataType.{ArrowDataType, Row_of-ArrowDataType, end_of-ArrowDataType, more_of-ArrowDataType}
+use Rattle.sel_arrow.specs.declared.datatype.ArrowDataType.TheVariants.{Null, Boolean, Int8, Int16, Int32, Int64, Int128, UInt8, UInt16, UInt32, UInt64, UInt128, LargeBinary, BinaryView, Utf8View, LargeList', FixedSizeList', Struct'}
 
--- the layout that a type names (Arrow columnar format: data types)
-abbrev pub shape_of : ArrowDataType → Shape
-shape_of Null = of_null
-shape_of Boolean = of_boolean
-shape_of Int8 = of_int8
-shape_of Int16 = of_int16
-shape_of Int32 = of_int32
-shape_of Int64 = of_int64
-shape_of Int128 = of_int128
-shape_of UInt8 = of_uint8
-shape_of UInt16 = of_uint16
-shape_of UInt32 = of_uint32
-shape_of UInt64 = of_uint64
-shape_of UInt128 = of_uint128
-shape_of LargeBinary = of_large_binary
-shape_of BinaryView = of_binary_view
-shape_of Utf8View = of_utf8_view
+abbrev mutual
+  -- the layout that a type names (Arrow columnar format: data types)
+  pub shape_of : ArrowDataType → Shape
+  shape_of Null = of_null
+  shape_of Boolean = of_boolean
+  shape_of Int8 = of_int8
+  shape_of Int16 = of_int16
+  shape_of Int32 = of_int32
+  shape_of Int64 = of_int64
+  shape_of Int128 = of_int128
+  shape_of UInt8 = of_uint8
+  shape_of UInt16 = of_uint16
+  shape_of UInt32 = of_uint32
+  shape_of UInt64 = of_uint64
+  shape_of UInt128 = of_uint128
+  shape_of LargeBinary = of_large_binary
+  shape_of BinaryView = of_binary_view
+  shape_of Utf8View = of_utf8_view
+  shape_of (LargeList' p child) = of_large_list (shape_of child)
+  shape_of (FixedSizeList' p child size) = of_fixed_size_list (shape_of child) size
+  shape_of (Struct' n fields) = of_struct (shapes_of_each fields)
+
+  -- the layouts that types name (own)
+  pub shapes_of_each : {n : _} → Row_of-ArrowDataType n → Shapes
+  shapes_of_each end_of-ArrowDataType = no_shapes
+  shapes_of_each (more_of-ArrowDataType dtype dtypes) = next_shape (shape_of dtype) (shapes_of_each dtypes)

@@ -2,6 +2,7 @@ pub mod Columns
 pub mod DataType
 pub mod Makers
 pub mod Masked
+pub mod Nested
 pub mod Nulls
 pub mod Pieces
 pub mod Rows

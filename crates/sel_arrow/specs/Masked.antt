@@ -1,5 +1,5 @@
 -- Rows under a validity.
-use Rattle.std.specs.Prelude.{◌≡◌, ℕ, ℤ, ◌+◌, Bool, true, false, List, [], ◌∷◌, map, length, take, drop, slice_index_or, Option, Some, None, if◌then◌else◌, ◌==◌, not, nat_lt}
+use Rattle.std.specs.Prelude.{◌≡◌, ℕ, ℤ, ◌+◌, Bool, true, false, List, [], ◌∷◌, map, length, take, drop, slice_index_or, Option, Some, None, if◌then◌else◌, ◌==◌, not, nat_lt, nat_le}
 use Rattle.std.specs.Option.{ForSome}
 use Rattle.sel_bits.specs.Bits.{Bits}
 use Rattle.sel_arrow.specs.Value.{Value, Null, Truth, Number, Bytes}
@@ -47,6 +47,10 @@ abbrev pub validity_differs : Option Bits → ℕ → Bool
 validity_differs None n = false
 validity_differs (Some validity) n = not (length validity.bits == n)
 
+-- whether a validity, if it is there, has this length (Arrow columnar format: validity bitmaps)
+abbrev pub covers : Option Bits → ℕ → Bool
+covers validity n = not (validity_differs validity n)
+
 -- whether row i is valid (Arrow columnar format: validity bitmaps)
 abbrev pub valid_at : Option Bits → ℕ → Bool
 valid_at None i = true
@@ -59,3 +63,7 @@ part_of off len b = record { bits = take len (drop off b.bits); offset = b.offse
 -- more rows than a column may have (own)
 abbrev pub too_many : ℕ → Bool
 too_many n = nat_lt 4294967295 n
+
+-- whether a column may have as many rows (own)
+abbrev pub is_few : ℕ → Bool
+is_few n = nat_le n 4294967295

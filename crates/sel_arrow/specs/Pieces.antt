@@ -1,5 +1,5 @@
 -- Parts between offsets.
-use Rattle.std.specs.Prelude.{ℕ, ◌-◌, List, [], ◌∷◌, map, length, Option, slice_index}
+use Rattle.std.specs.Prelude.{ℕ, ◌-◌, Bool, true, false, ◌&&◌, nat_le, List, [], ◌∷◌, map, length, Option, slice_index}
 use Rattle.std.specs.List.{slice_range}
 use Rattle.sel_bits.specs.Bits.{Bits}
 use Rattle.sel_arrow.specs.Masked.{masked}
@@ -14,6 +14,16 @@ pieces_after a (b ∷ offsets) xs = slice_range xs a b ∷ pieces_after b offset
 abbrev pub pieces : {A : Type 0} → List ℕ → List A → List (List A)
 pieces [] xs = []
 pieces (a ∷ offsets) xs = pieces_after a offsets xs
+
+-- whether no offset is less than the one before, the first of them not less than `a` (Arrow columnar format: variable-size layouts)
+abbrev pub rises_from : ℕ → List ℕ → Bool
+rises_from a [] = true
+rises_from a (b ∷ offsets) = nat_le a b && rises_from b offsets
+
+-- whether there is at least one offset, and none is less than the one before (Arrow columnar format: variable-size layouts)
+abbrev pub is_rising : List ℕ → Bool
+is_rising [] = false
+is_rising (a ∷ offsets) = rises_from a offsets
 
 -- how many parts there are (Arrow columnar format: variable-size layouts)
 abbrev pub rows_between : List ℕ → ℕ

@@ -1,29 +1,40 @@
 -- What a column of any type means: its rows, its type, and when it is well-formed.
-use Rattle.std.specs.Prelude.{ℕ, Bool, true, List, length, IsTrue}
+use Rattle.std.specs.Prelude.{◌≡◌, ℕ, ◌*◌, Bool, true, ◌&&◌, nat_le, ◌==◌, List, [], ◌∷◌, length, IsTrue}
 use Rattle.sel_arrow.specs.Value.{Value}
-use Rattle.sel_arrow.specs.Shape.{Shape, of_null, of_boolean, of_int8, of_int16, of_int32, of_int64, of_int128, of_uint8, of_uint16, of_uint32, of_uint64, of_uint128, of_large_binary, of_binary_view, of_utf8_view}
+use Rattle.sel_arrow.specs.Masked.{covers, is_few}
+use Rattle.sel_arrow.specs.Nested.{list_rows, block_rows, tuple_rows}
+use Rattle.sel_arrow.specs.Shape.{Shape, Shapes, no_shapes, next_shape, of_large_list, of_fixed_size_list, of_struct, of_null, of_boolean, of_int8, of_int16, of_int32, of_int64, of_int128, of_uint8, of_uint16, of_uint32, of_uint64, of_uint128, of_large_binary, of_binary_view, of_utf8_view}
 use Rattle.sel_arrow.specs.Columns.{null_rows, boolean_rows, primitive_rows, binary_rows, binview_rows, utf8view_rows}
-use Rattle.sel_arrow.specs.Pieces.{rows_between}
-use Rattle.sel_arrow.specs.declared.column.Column.{Column}
-use Rattle.sel_arrow.specs.declared.column.Column.TheVariants.{Null as NullColumn, Boolean, Int8, Int16, Int32, Int64, Int128, UInt8, UInt16, UInt32, UInt64, UInt128, LargeBinary, BinaryView, Utf8View}
+use Rattle.sel_arrow.specs.Pieces.{rows_between, last_offset, is_rising}
+use Rattle.sel_arrow.specs.declared.column.Column.{Column, Row_of-Column, end_of-Column, more_of-Column}
+use Rattle.sel_arrow.specs.declared.column.Column.TheVariants.{Null as NullColumn, Boolean, Int8, Int16, Int32, Int64, Int128, UInt8, UInt16, UInt32, UInt64, UInt128, LargeBinary, BinaryView, Utf8View, LargeList', FixedSizeList', Struct'}
 
--- the rows, by cases on the layout (Arrow columnar format: physical memory layouts)
-abbrev pub rows : Column → List Value
-rows (NullColumn column) = null_rows column
-rows (Boolean column) = boolean_rows column
-rows (Int8 column) = primitive_rows column
-rows (Int16 column) = primitive_rows column
-rows (Int32 column) = primitive_rows column
-rows (Int64 column) = primitive_rows column
-rows (Int128 column) = primitive_rows column
-rows (UInt8 column) = primitive_rows column
-rows (UInt16 column) = primitive_rows column
-rows (UInt32 column) = primitive_rows column
-rows (UInt64 column) = primitive_rows column
-rows (UInt128 column) = primitive_rows column
-rows (LargeBinary column) = binary_rows column
-rows (BinaryView column) = binview_rows column
-rows (Utf8View column) = utf8view_rows column
+abbrev mutual
+  -- the rows, by cases on the layout (Arrow columnar format: physical memory layouts)
+  pub rows : Column → List Value
+  rows (NullColumn column) = null_rows column
+  rows (Boolean column) = boolean_rows column
+  rows (Int8 column) = primitive_rows column
+  rows (Int16 column) = primitive_rows column
+  rows (Int32 column) = primitive_rows column
+  rows (Int64 column) = primitive_rows column
+  rows (Int128 column) = primitive_rows column
+  rows (UInt8 column) = primitive_rows column
+  rows (UInt16 column) = primitive_rows column
+  rows (UInt32 column) = primitive_rows column
+  rows (UInt64 column) = primitive_rows column
+  rows (UInt128 column) = primitive_rows column
+  rows (LargeBinary column) = binary_rows column
+  rows (BinaryView column) = binview_rows column
+  rows (Utf8View column) = utf8view_rows column
+  rows (LargeList' offsets p values validity) = list_rows offsets (rows values) validity
+  rows (FixedSizeList' size len p values validity) = block_rows size len (rows values) validity
+  rows (Struct' len n fields validity) = tuple_rows len (rows_of_each fields) validity
+
+  -- the rows of each column (own)
+  pub rows_of_each : {n : _} → Row_of-Column n → List (List Value)
+  rows_of_each end_of-Column = []
+  rows_of_each (more_of-Column column columns) = rows column ∷ rows_of_each columns
 
 -- how many rows there are (own)
 abbrev pub row_count : Column → ℕ
@@ -42,43 +53,70 @@ row_count (UInt128 column) = length column.values
 row_count (LargeBinary column) = rows_between column.offsets
 row_count (BinaryView column) = length column.views
 row_count (Utf8View column) = length column.bytes.views
+row_count (LargeList' offsets p values validity) = rows_between offsets
+row_count (FixedSizeList' size len p values validity) = len
+row_count (Struct' len n fields validity) = len
 
--- the type (Arrow columnar format: data types)
-abbrev pub type_of : Column → Shape
-type_of (NullColumn column) = of_null
-type_of (Boolean column) = of_boolean
-type_of (Int8 column) = of_int8
-type_of (Int16 column) = of_int16
-type_of (Int32 column) = of_int32
-type_of (Int64 column) = of_int64
-type_of (Int128 column) = of_int128
-type_of (UInt8 column) = of_uint8
-type_of (UInt16 column) = of_uint16
-type_of (UInt32 column) = of_uint32
-type_of (UInt64 column) = of_uint64
-type_of (UInt128 column) = of_uint128
-type_of (LargeBinary column) = of_large_binary
-type_of (BinaryView column) = of_binary_view
-type_of (Utf8View column) = of_utf8_view
+abbrev mutual
+  -- the type (Arrow columnar format: data types)
+  pub type_of : Column → Shape
+  type_of (NullColumn column) = of_null
+  type_of (Boolean column) = of_boolean
+  type_of (Int8 column) = of_int8
+  type_of (Int16 column) = of_int16
+  type_of (Int32 column) = of_int32
+  type_of (Int64 column) = of_int64
+  type_of (Int128 column) = of_int128
+  type_of (UInt8 column) = of_uint8
+  type_of (UInt16 column) = of_uint16
+  type_of (UInt32 column) = of_uint32
+  type_of (UInt64 column) = of_uint64
+  type_of (UInt128 column) = of_uint128
+  type_of (LargeBinary column) = of_large_binary
+  type_of (BinaryView column) = of_binary_view
+  type_of (Utf8View column) = of_utf8_view
+  type_of (LargeList' offsets p values validity) = of_large_list (type_of values)
+  type_of (FixedSizeList' size len p values validity) = of_fixed_size_list (type_of values) size
+  type_of (Struct' len n fields validity) = of_struct (types_of_each fields)
 
--- whether a column's parts fit together, at every depth; a leaf's do by its type (own)
-abbrev pub well_formed : Column → Bool
-well_formed (NullColumn column) = true
-well_formed (Boolean column) = true
-well_formed (Int8 column) = true
-well_formed (Int16 column) = true
-well_formed (Int32 column) = true
-well_formed (Int64 column) = true
-well_formed (Int128 column) = true
-well_formed (UInt8 column) = true
-well_formed (UInt16 column) = true
-well_formed (UInt32 column) = true
-well_formed (UInt64 column) = true
-well_formed (UInt128 column) = true
-well_formed (LargeBinary column) = true
-well_formed (BinaryView column) = true
-well_formed (Utf8View column) = true
+  -- the types of columns (own)
+  pub types_of_each : {n : _} → Row_of-Column n → Shapes
+  types_of_each end_of-Column = no_shapes
+  types_of_each (more_of-Column column columns) = next_shape (type_of column) (types_of_each columns)
+
+abbrev mutual
+  -- whether a column's parts fit together, at every depth; a leaf's do by its type (Arrow columnar format: physical memory layouts; own: the limits)
+  pub well_formed : Column → Bool
+  well_formed (NullColumn column) = true
+  well_formed (Boolean column) = true
+  well_formed (Int8 column) = true
+  well_formed (Int16 column) = true
+  well_formed (Int32 column) = true
+  well_formed (Int64 column) = true
+  well_formed (Int128 column) = true
+  well_formed (UInt8 column) = true
+  well_formed (UInt16 column) = true
+  well_formed (UInt32 column) = true
+  well_formed (UInt64 column) = true
+  well_formed (UInt128 column) = true
+  well_formed (LargeBinary column) = true
+  well_formed (BinaryView column) = true
+  well_formed (Utf8View column) = true
+  well_formed (LargeList' offsets p values validity) =
+      is_rising offsets && is_few (rows_between offsets) && nat_le (last_offset offsets) (row_count values) && covers validity (rows_between offsets) && well_formed values
+  well_formed (FixedSizeList' size len p values validity) =
+      is_few len && is_few size && (row_count values == len * size) && covers validity len && well_formed values
+  well_formed (Struct' len n fields validity) = is_few len && covers validity len && all_well_formed len fields
+
+  -- whether each column's parts do, and it has as many rows (Arrow columnar format: struct layout)
+  pub all_well_formed : {n : _} → ℕ → Row_of-Column n → Bool
+  all_well_formed len end_of-Column = true
+  all_well_formed len (more_of-Column column columns) = (row_count column == len) && well_formed column && all_well_formed len columns
 
 -- the same, as a condition (own)
 abbrev pub IsWellFormed : Column → Type 0
 IsWellFormed column = IsTrue (well_formed column)
+
+-- well-formed, and of so many rows (Arrow columnar format: struct layout)
+abbrev pub IsField : ℕ → Column → Type 0
+IsField len column = (row_count column ≡ len) × IsWellFormed column

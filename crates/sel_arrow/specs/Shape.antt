@@ -1,5 +1,5 @@
 -- The types of columns.
-use Rattle.std.specs.Prelude.{ℕ}
+use Rattle.std.specs.Prelude.{ℕ, List, [], ◌∷◌}
 
 -- The type of a column: which layout it has, at every depth. Fields of a struct go by position.
 -- (Arrow columnar format: data types and their layouts.)
@@ -27,3 +27,13 @@ mutual
   pub data Shapes : Type 0 where
     no_shapes : Shapes
     next_shape : Shape → Shapes → Shapes
+
+-- a list of types, as the types of fields (own)
+abbrev pub shapes_of : List Shape → Shapes
+shapes_of [] = no_shapes
+shapes_of (s ∷ ss) = next_shape s (shapes_of ss)
+
+-- and back (own)
+abbrev pub shape_list : Shapes → List Shape
+shape_list no_shapes = []
+shape_list (next_shape s ss) = s ∷ shape_list ss

@@ -17,6 +17,7 @@ use crate::primitive::PrimitiveArray;
 use crate::utf8view::Utf8ViewArray;
 use sel_bits::bitmap::Bitmap;
 use sel_bits::faults::{PolarsError, PolarsResult};
+use sel_bits::offsets::OffsetsBuffer;
 use std::alloc::Global;
 
 /// A column, by the layout of its parts. (Arrow columnar format.)
@@ -37,6 +38,22 @@ pub enum Column {
     LargeBinary(BinaryArray<i64>),
     BinaryView(BinaryViewArray),
     Utf8View(Utf8ViewArray),
+    LargeList {
+        offsets: OffsetsBuffer<i64>,
+        values: Box<Column>,
+        validity: Option<Bitmap>,
+    },
+    FixedSizeList {
+        size: usize,
+        len: usize,
+        values: Box<Column>,
+        validity: Option<Bitmap>,
+    },
+    Struct {
+        len: usize,
+        fields: Vec<Column>,
+        validity: Option<Bitmap>,
+    },
 }
 
 impl Column {
@@ -62,6 +79,9 @@ impl Column {
             Column::LargeBinary(column) => column.len(),
             Column::BinaryView(column) => column.len(),
             Column::Utf8View(column) => column.len(),
+            Column::LargeList { offsets, .. } => offsets.len_proxy(),
+            Column::FixedSizeList { len, .. } => *len,
+            Column::Struct { len, .. } => *len,
         }
     }
 
@@ -86,6 +106,9 @@ impl Column {
             Column::LargeBinary(column) => column.validity(),
             Column::BinaryView(column) => column.validity(),
             Column::Utf8View(column) => column.validity(),
+            Column::LargeList { validity, .. } => validity.as_ref(),
+            Column::FixedSizeList { validity, .. } => validity.as_ref(),
+            Column::Struct { validity, .. } => validity.as_ref(),
         }
     }
 

@@ -1,6 +1,7 @@
 //! The types of columns.
 
-/// The type of a column.
+/// The type of a column: that of lists names its child's, that of lists of one length the length too, and that of structs those of
+/// the fields, in order.
 #[derive(Drop)]
 pub enum ArrowDataType {
     Null,
@@ -18,4 +19,7 @@ pub enum ArrowDataType {
     LargeBinary,
     BinaryView,
     Utf8View,
+    LargeList(Box<ArrowDataType>),
+    FixedSizeList(Box<ArrowDataType>, usize),
+    Struct(Vec<ArrowDataType>),
 }
