@@ -1,5 +1,6 @@
 pub mod ByteRows
 pub mod Lists
+pub mod NestedRows
 pub mod NoRows
 pub mod NullCounts
 pub mod Rows

@@ -1,0 +1,255 @@
+-- Rows of columns with children, and what a well-formed column has.
+use Rattle.std.proofs.Common.{◌≡◌, ◌≢◌, ℕ, zero, suc, ◌+◌, ◌-◌, ◌*◌, ◌≤◌, ◌<◌, Bool, true, false, ◌&&◌, nat_le, ◌==◌, List, [], ◌∷◌, length, map, Option, Some, None, refl, ap, sym, ◌∙◌, arith, get_or, Vec, Box, Global, subst}
+use Rattle.std.specs.List.{range_with_len, slice_range}
+use Rattle.std.proofs.lemmas.Bool.{leb-true, le-leb}
+use Rattle.std.proofs.lemmas.Bool.Decides.{nat_tests}
+use Rattle.std.proofs.lemmas.List.{length-replicate}
+use Rattle.std.proofs.lemmas.List.FromFn.{length-map-range_with_len}
+use mathlib.Core.Former.{Count}
+use Rattle.sel_bits.specs.Bits.{Bits}
+use Rattle.sel_bits.specs.Offsets.{IsRising}
+use Rattle.sel_arrow.specs.Value.{Value, Null}
+use Rattle.sel_arrow.specs.Masked.{masked, Covers, covers, is_few}
+use Rattle.sel_arrow.specs.Nested.{list_of, list_rows, blocks, block_rows, tuple_at, tuple_rows}
+use Rattle.sel_arrow.specs.Nulls.{TellsNulls}
+use Rattle.sel_arrow.specs.Pieces.{pieces, rows_between, last_offset, is_rising, rises_from}
+use Rattle.sel_arrow.specs.Rows.{rows, rows_of_each, row_count, type_of, types_of_each, well_formed, all_well_formed}
+use Rattle.sel_arrow.specs.Shape.{Shape, Shapes, of_null, of_large_list, of_fixed_size_list, of_struct}
+use Rattle.sel_arrow.specs.declared.column.Column.{Column, LargeList, FixedSizeList, Struct, Row_of-Column, end_of-Column}
+use Rattle.sel_arrow.specs.declared.column.Column.TheVariants.{Null as NullColumn, Boolean, Int8, Int16, Int32, Int64, Int128, UInt8, UInt16, UInt32, UInt64, UInt128, LargeBinary, BinaryView, Utf8View, LargeList', FixedSizeList', Struct'}
+use Rattle.sel_arrow.proofs.ByteRows.{length-pieces, length-byte_rows}
+use Rattle.sel_arrow.proofs.Lists.{both, and_first, and_second}
+use Rattle.sel_arrow.proofs.Rows.{length-mapped, tells-mapped, length-truth_rows, length-number_rows}
+use Rattle.sel_arrow.proofs.ViewRows.{length-view_rows}
+
+-- ---- how many rows there are
+
+pub length-list_rows : (offsets : List ℕ) (child : List Value) (validity : Option Bits) → length (list_rows offsets child validity) ≡ rows_between offsets
+length-list_rows offsets child validity = length-mapped list_of (pieces offsets child) validity ∙ length-pieces offsets child
+
+pub length-blocks : {A : Type 0} (width n : ℕ) (xs : List A) → length (blocks width n xs) ≡ n
+length-blocks width n xs = length-map-range_with_len (λ i. slice_range xs (i * width) (i * width + width)) 0 n
+
+pub length-block_rows : (width n : ℕ) (child : List Value) (validity : Option Bits) → length (block_rows width n child validity) ≡ n
+length-block_rows width n child validity = length-mapped list_of (blocks width n child) validity ∙ length-blocks width n child
+
+length-range : (n : ℕ) → length (range_with_len 0 n) ≡ n
+length-range n = from 0 n
+  where
+    from : (a n : ℕ) → length (range_with_len a n) ≡ n
+    from a zero = refl
+    from a (suc n) = ap suc (from (a + 1) n)
+
+pub length-tuple_rows : (n : ℕ) (fields : List (List Value)) (validity : Option Bits) → length (tuple_rows n fields validity) ≡ n
+length-tuple_rows n fields validity = length-mapped (tuple_at fields) (range_with_len 0 n) validity ∙ length-range n
+
+pub length-rows : (c : Column) → length (rows c) ≡ row_count c
+length-rows (NullColumn column) = length-replicate column.length Null
+length-rows (Boolean column) = length-truth_rows column.values.bits column.validity
+length-rows (Int8 column) = length-number_rows _ column.values column.validity
+length-rows (Int16 column) = length-number_rows _ column.values column.validity
+length-rows (Int32 column) = length-number_rows _ column.values column.validity
+length-rows (Int64 column) = length-number_rows _ column.values column.validity
+length-rows (Int128 column) = length-number_rows _ column.values column.validity
+length-rows (UInt8 column) = length-number_rows _ column.values column.validity
+length-rows (UInt16 column) = length-number_rows _ column.values column.validity
+length-rows (UInt32 column) = length-number_rows _ column.values column.validity
+length-rows (UInt64 column) = length-number_rows _ column.values column.validity
+length-rows (UInt128 column) = length-number_rows _ column.values column.validity
+length-rows (LargeBinary column) = length-byte_rows column.offsets column.values column.validity
+length-rows (BinaryView column) = length-view_rows column.views column.buffers column.validity
+length-rows (Utf8View column) = length-view_rows column.bytes.views column.bytes.buffers column.bytes.validity
+length-rows (LargeList' offsets p values validity) = length-list_rows offsets (rows values) validity
+length-rows (FixedSizeList' size len p values validity) = length-block_rows size len (rows values) validity
+length-rows (Struct' len n fields validity) = length-tuple_rows len (rows_of_each fields) validity
+
+-- ---- a validity tells the nulls
+
+covers_pieces : (offsets : List ℕ) (child : List Value) (validity : Option Bits) → Covers validity (rows_between offsets) → Covers validity (length (pieces offsets child))
+covers_pieces offsets child validity covers = λ v there. rw length-pieces (covers v there)
+
+pub tells-lists : (s : Shape) (offsets : List ℕ) (child : List Value) (validity : Option Bits) → s ≢ of_null → Covers validity (rows_between offsets) → TellsNulls s validity (list_rows offsets child validity)
+tells-lists s offsets child validity other covers = tells-mapped list_of (λ x. refl) s (pieces offsets child) validity other (covers_pieces offsets child validity covers)
+
+pub tells-blocks : (s : Shape) (width n : ℕ) (child : List Value) (validity : Option Bits) → s ≢ of_null → Covers validity n → TellsNulls s validity (block_rows width n child validity)
+tells-blocks s width n child validity other covers = tells-mapped list_of (λ x. refl) s (blocks width n child) validity other (λ v there. rw length-blocks (covers v there))
+
+pub tells-tuples : (s : Shape) (n : ℕ) (fields : List (List Value)) (validity : Option Bits) → s ≢ of_null → Covers validity n → TellsNulls s validity (tuple_rows n fields validity)
+tells-tuples s n fields validity other covers = tells-mapped (tuple_at fields) (λ x. refl) s (range_with_len 0 n) validity other (λ v there. rw length-range (covers v there))
+
+-- ---- offsets that rise
+
+rises : (a : ℕ) (ns : List ℕ) → ((j k : ℕ) → j ≤ k → k < length (a ∷ ns) → get_or (a ∷ ns) j 0 ≤ get_or (a ∷ ns) k 0) → rises_from a ns ≡ true
+rises a [] h = refl
+rises a (b ∷ ns) h = both (nat_le a b) (rises_from b ns) (le-leb a b (h 0 1 (omega arith) (omega arith))) (rises b ns (λ j k le below. h (suc j) (suc k) (omega arith) (omega arith)))
+
+pub rising_test : (ns : List ℕ) → IsRising ns → is_rising ns ≡ true
+rising_test [] h = absurd (omega (arith, h.some))
+rising_test (a ∷ ns) h = rises a ns h.rising
+
+first_least : (a : ℕ) (ns : List ℕ) (k : ℕ) → rises_from a ns ≡ true → k < length (a ∷ ns) → a ≤ get_or (a ∷ ns) k 0
+first_least a ns zero e h = omega arith
+first_least a [] (suc k) e h = absurd (omega arith)
+first_least a (b ∷ ns) (suc k) e h =
+    let here = leb-true a b (and_first (nat_le a b) (rises_from b ns) e) in
+    let there = first_least b ns k (and_second (nat_le a b) (rises_from b ns) e) (omega arith) in
+    omega (arith, here, there)
+
+each_rises : (a : ℕ) (ns : List ℕ) (j k : ℕ) → rises_from a ns ≡ true → j ≤ k → k < length (a ∷ ns) → get_or (a ∷ ns) j 0 ≤ get_or (a ∷ ns) k 0
+each_rises a ns zero k e le h = first_least a ns k e h
+each_rises a ns (suc j) zero e le h = absurd (omega arith)
+each_rises a [] (suc j) (suc k) e le h = absurd (omega arith)
+each_rises a (b ∷ ns) (suc j) (suc k) e le h = each_rises b ns j k (and_second (nat_le a b) (rises_from b ns) e) (omega arith) (omega arith)
+
+pub tested_rising : (ns : List ℕ) → is_rising ns ≡ true → IsRising ns
+tested_rising [] e = absurd cc
+tested_rising (a ∷ ns) e = record { some = omega arith; rising = λ j k le below. each_rises a ns j k e le below; }
+
+-- ---- the parts of well-formed columns
+
+pub covers_is : (validity : Option Bits) (n : ℕ) → covers validity n ≡ true → Covers validity n
+covers_is None n e = λ v there. absurd cc
+covers_is (Some validity) n e = λ v there.
+    let same : length validity.bits ≡ n = grind (arith, nat_tests, e) in
+    let is : validity ≡ v = cc in
+    rw (← is) same
+
+pub is_covers : (validity : Option Bits) (n : ℕ) → Covers validity n → covers validity n ≡ true
+is_covers None n h = refl
+is_covers (Some validity) n h = let same = h validity refl in grind (arith, nat_tests, same)
+
+-- what a well-formed column of lists has
+pub record HasLists (offsets : List ℕ) (values : Column) (validity : Option Bits) : Type 0 where
+  pub rising : IsRising offsets
+  pub few : rows_between offsets ≤ 4294967295
+  pub ends : last_offset offsets ≤ row_count values
+  pub covered : Covers validity (rows_between offsets)
+  pub child : well_formed values ≡ true
+
+pub has_lists : (offsets : List ℕ) (values : Column) (validity : Option Bits) →
+    (is_rising offsets && is_few (rows_between offsets) && nat_le (last_offset offsets) (row_count values) && covers validity (rows_between offsets) && well_formed values) ≡ true → HasLists offsets values validity
+has_lists offsets values validity h =
+    let a = is_rising offsets in
+    let b = is_few (rows_between offsets) in
+    let d = nat_le (last_offset offsets) (row_count values) in
+    let e = covers validity (rows_between offsets) in
+    let f = well_formed values in
+    let four = and_first (a && b && d && e) f h in
+    let three = and_first (a && b && d) e four in
+    let two = and_first (a && b) d three in
+    record {
+      rising = tested_rising offsets (and_first a b two);
+      few = leb-true (rows_between offsets) 4294967295 (and_second a b two);
+      ends = leb-true (last_offset offsets) (row_count values) (and_second (a && b) d three);
+      covered = covers_is validity (rows_between offsets) (and_second (a && b && d) e four);
+      child = and_second (a && b && d && e) f h;
+    }
+
+pub lists_formed : (offsets : List ℕ) (values : Column) (validity : Option Bits) → HasLists offsets values validity →
+    (is_rising offsets && is_few (rows_between offsets) && nat_le (last_offset offsets) (row_count values) && covers validity (rows_between offsets) && well_formed values) ≡ true
+lists_formed offsets values validity h =
+    let a = is_rising offsets in
+    let b = is_few (rows_between offsets) in
+    let d = nat_le (last_offset offsets) (row_count values) in
+    let e = covers validity (rows_between offsets) in
+    let f = well_formed values in
+    both (a && b && d && e) f
+    (both (a && b && d) e
+    (both (a && b) d
+    (both a b (rising_test offsets h.rising) (le-leb (rows_between offsets) 4294967295 h.few))
+    (le-leb (last_offset offsets) (row_count values) h.ends))
+    (is_covers validity (rows_between offsets) h.covered))
+    h.child
+
+-- what a well-formed column of lists of one length has
+pub record HasBlocks (size len : ℕ) (values : Column) (validity : Option Bits) : Type 0 where
+  pub few : len ≤ 4294967295
+  pub narrow : size ≤ 4294967295
+  pub fills : row_count values ≡ len * size
+  pub covered : Covers validity len
+  pub child : well_formed values ≡ true
+
+equal : (m n : ℕ) → (m == n) ≡ true → m ≡ n
+equal m n h = grind (arith, nat_tests, h)
+
+equals : (m n : ℕ) → m ≡ n → (m == n) ≡ true
+equals m n h = grind (arith, nat_tests, h)
+
+pub has_blocks : (size len : ℕ) (values : Column) (validity : Option Bits) →
+    (is_few len && is_few size && (row_count values == len * size) && covers validity len && well_formed values) ≡ true → HasBlocks size len values validity
+has_blocks size len values validity h =
+    let a = is_few len in
+    let b = is_few size in
+    let d = row_count values == len * size in
+    let e = covers validity len in
+    let f = well_formed values in
+    let four = and_first (a && b && d && e) f h in
+    let three = and_first (a && b && d) e four in
+    let two = and_first (a && b) d three in
+    record {
+      few = leb-true len 4294967295 (and_first a b two);
+      narrow = leb-true size 4294967295 (and_second a b two);
+      fills = equal (row_count values) (len * size) (and_second (a && b) d three);
+      covered = covers_is validity len (and_second (a && b && d) e four);
+      child = and_second (a && b && d && e) f h;
+    }
+
+pub blocks_formed : (size len : ℕ) (values : Column) (validity : Option Bits) → HasBlocks size len values validity →
+    (is_few len && is_few size && (row_count values == len * size) && covers validity len && well_formed values) ≡ true
+blocks_formed size len values validity h =
+    let a = is_few len in
+    let b = is_few size in
+    let d = row_count values == len * size in
+    let e = covers validity len in
+    let f = well_formed values in
+    both (a && b && d && e) f
+    (both (a && b && d) e
+    (both (a && b) d
+    (both a b (le-leb len 4294967295 h.few) (le-leb size 4294967295 h.narrow))
+    (equals (row_count values) (len * size) h.fills))
+    (is_covers validity len h.covered))
+    h.child
+
+-- a well-formed column of tuples is covered, and has few rows
+pub struct_covered : (len : ℕ) (validity : Option Bits) (fields : Bool) → (is_few len && covers validity len && fields) ≡ true → (len ≤ 4294967295) × Covers validity len × (fields ≡ true)
+struct_covered len validity fields h =
+    let two = and_first (is_few len && covers validity len) fields h in
+    (leb-true len 4294967295 (and_first (is_few len) (covers validity len) two), covers_is validity len (and_second (is_few len) (covers validity len) two), and_second (is_few len && covers validity len) fields h)
+
+pub struct_formed : (len : ℕ) (validity : Option Bits) (fields : Bool) → len ≤ 4294967295 → Covers validity len → fields ≡ true → (is_few len && covers validity len && fields) ≡ true
+struct_formed len validity fields few covered all =
+    both (is_few len && covers validity len) fields (both (is_few len) (covers validity len) (le-leb len 4294967295 few) (is_covers validity len covered)) all
+
+-- ---- the same of a column that is one of these
+
+not_null_list : (s : Shape) → of_large_list s ≢ of_null
+not_null_list s e = absurd cc
+
+pub list_tells : (c : Column) (offsets : List ℕ) (values : Box Column Global) (validity : Option Bits) → c ≡ LargeList offsets values validity → well_formed c ≡ true → TellsNulls (type_of c) validity (rows c)
+list_tells c offsets values validity is formed =
+    let has = has_lists offsets values.value validity (ap well_formed (sym is) ∙ formed) in
+    subst (λ x. TellsNulls (type_of x) validity (rows x)) (sym is)
+    (tells-lists (of_large_list (type_of values.value)) offsets (rows values.value) validity (not_null_list (type_of values.value)) has.covered)
+
+not_null_block : (s : Shape) (size : ℕ) → of_fixed_size_list s size ≢ of_null
+not_null_block s size e = absurd cc
+
+pub block_tells : (c : Column) (size len : ℕ) (values : Box Column Global) (validity : Option Bits) → c ≡ FixedSizeList size len values validity → well_formed c ≡ true → TellsNulls (type_of c) validity (rows c)
+block_tells c size len values validity is formed =
+    let has = has_blocks size len values.value validity (ap well_formed (sym is) ∙ formed) in
+    subst (λ x. TellsNulls (type_of x) validity (rows x)) (sym is)
+    (tells-blocks (of_fixed_size_list (type_of values.value) size) size len (rows values.value) validity (not_null_block (type_of values.value) size) has.covered)
+
+not_null_struct : (ss : Shapes) → of_struct ss ≢ of_null
+not_null_struct ss e = absurd cc
+
+abbrev row_of : Column → (n : Count) × Row_of-Column n
+row_of (Struct' len n fields validity) = (_, fields)
+row_of _ = (_, end_of-Column)
+
+pub struct_tells : (c : Column) (len : ℕ) (fields : Vec Column Global) (validity : Option Bits) → c ≡ Struct len fields validity → well_formed c ≡ true → TellsNulls (type_of c) validity (rows c)
+struct_tells c len fields validity is formed =
+    let row = row_of (Struct len fields validity) in
+    let has = struct_covered len validity (all_well_formed len row.1) (ap well_formed (sym is) ∙ formed) in
+    subst (λ x. TellsNulls (type_of x) validity (rows x)) (sym is)
+    (tells-tuples (of_struct (types_of_each row.1)) len (rows_of_each row.1) validity (not_null_struct (types_of_each row.1)) has.1)
