@@ -5,4 +5,5 @@ pub mod NoRows
 pub mod NullCounts
 pub mod Rows
 pub mod Texts
+pub mod Types
 pub mod ViewRows

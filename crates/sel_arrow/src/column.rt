@@ -1,6 +1,6 @@
 //! Columns of every kind.
 
-ghost use Rattle.std.specs.Prelude.{◌≡◌, ◌≤◌, ◌+◌, ◌↔◌, length, take, drop, IfOk, IfErr, IsTrue};
+ghost use Rattle.std.specs.Prelude.{◌≡◌, ◌≤◌, ◌+◌, ◌↔◌, length, take, drop, map, IfOk, IfErr, IsTrue};
 ghost use Rattle.std.specs.Option.{option_copied};
 ghost use Rattle.sel_arrow.specs.DataType.{shape_of};
 ghost use Rattle.sel_arrow.specs.Nulls.{TellsNulls};
@@ -113,6 +113,7 @@ impl Column {
     }
 
     /// Whether the column is of this type.
+    #[cycle(has_dtype)]
     pub fn has_dtype(&self, dtype: &ArrowDataType) -> bool
         ensures { IsTrue result ↔ (type_of self.now ≡ shape_of dtype.now) }
     {
@@ -132,10 +133,25 @@ impl Column {
             Column::LargeBinary(_) => matches!(dtype, ArrowDataType::LargeBinary),
             Column::BinaryView(_) => matches!(dtype, ArrowDataType::BinaryView),
             Column::Utf8View(_) => matches!(dtype, ArrowDataType::Utf8View),
+            Column::LargeList { values, .. } => match dtype {
+                ArrowDataType::LargeList(child) => values.has_dtype(child),
+                _ => false,
+            },
+            Column::FixedSizeList { size, values, .. } => match dtype {
+                ArrowDataType::FixedSizeList(child, width) => {
+                    *size == *width && values.has_dtype(child)
+                }
+                _ => false,
+            },
+            Column::Struct { fields, .. } => match dtype {
+                ArrowDataType::Struct(dtypes) => have_dtypes(fields, dtypes),
+                _ => false,
+            },
         }
     }
 
     /// Whether the two columns are of one type.
+    #[cycle(same_dtype)]
     pub fn same_dtype(&self, other: &Column) -> bool
         ensures { IsTrue result ↔ (type_of self.now ≡ type_of other.now) }
     {
@@ -155,11 +171,28 @@ impl Column {
             Column::LargeBinary(_) => matches!(other, Column::LargeBinary(_)),
             Column::BinaryView(_) => matches!(other, Column::BinaryView(_)),
             Column::Utf8View(_) => matches!(other, Column::Utf8View(_)),
+            Column::LargeList { values, .. } => match other {
+                Column::LargeList { values: others, .. } => values.same_dtype(others),
+                _ => false,
+            },
+            Column::FixedSizeList { size, values, .. } => match other {
+                Column::FixedSizeList {
+                    size: width,
+                    values: others,
+                    ..
+                } => *size == *width && values.same_dtype(others),
+                _ => false,
+            },
+            Column::Struct { fields, .. } => match other {
+                Column::Struct { fields: others, .. } => same_dtypes(fields, others),
+                _ => false,
+            },
         }
     }
 
     /// The type, read off the column. Refuses only for want of memory.
-    pub fn dtype(&self, _alloc: Global) -> PolarsResult<ArrowDataType>
+    #[cycle(dtype)]
+    pub fn dtype(&self, alloc: Global) -> PolarsResult<ArrowDataType>
         ensures dtype { IfOk result (λ dtype. shape_of dtype ≡ type_of self.now) }
         ensures refusal { IfErr result (λ fault. fault ≡ PolarsError.OutOfMemory) }
     {
@@ -179,6 +212,18 @@ impl Column {
             Column::LargeBinary(_) => Ok(ArrowDataType::LargeBinary),
             Column::BinaryView(_) => Ok(ArrowDataType::BinaryView),
             Column::Utf8View(_) => Ok(ArrowDataType::Utf8View),
+            Column::LargeList { values, .. } => {
+                let child = Box::new(alloc, values.dtype(alloc)?)?;
+                Ok(ArrowDataType::LargeList(child))
+            }
+            Column::FixedSizeList { size, values, .. } => {
+                let child = Box::new(alloc, values.dtype(alloc)?)?;
+                Ok(ArrowDataType::FixedSizeList(child, *size))
+            }
+            Column::Struct { fields, .. } => {
+                let dtypes = dtypes_of(alloc, fields)?;
+                Ok(ArrowDataType::Struct(dtypes))
+            }
         }
     }
 
@@ -236,6 +281,53 @@ impl Column {
             Column::Utf8View(column) => copy_of(column, alloc),
         }
     }
+}
+
+/// Whether there are as many columns as types, and each column is of the type at its place.
+#[cycle(has_dtype)]
+#[tactic(auto, using(crate::proofs::Types::both_lists))]
+fn have_dtypes(columns: &[Column], dtypes: &[ArrowDataType]) -> bool
+    ensures { IsTrue result ↔ (map type_of columns.now ≡ map shape_of dtypes.now) }
+{
+    if columns.len() != dtypes.len() {
+        return false;
+    }
+    for (i, column) in columns.iter().enumerate() {
+        if !column.has_dtype(&dtypes[i]) {
+            return false;
+        }
+    }
+    true
+}
+
+/// Whether there are as many columns on both sides, and those at each place are of one type.
+#[cycle(same_dtype)]
+#[tactic(auto, using(crate::proofs::Types::both_lists))]
+fn same_dtypes(columns: &[Column], others: &[Column]) -> bool
+    ensures { IsTrue result ↔ (map type_of columns.now ≡ map type_of others.now) }
+{
+    if columns.len() != others.len() {
+        return false;
+    }
+    for (i, column) in columns.iter().enumerate() {
+        if !column.same_dtype(&others[i]) {
+            return false;
+        }
+    }
+    true
+}
+
+/// The types of the columns, in order. Refuses only for want of memory.
+#[cycle(dtype)]
+fn dtypes_of(alloc: Global, columns: &[Column]) -> PolarsResult<Vec<ArrowDataType>>
+    ensures dtypes { IfOk result (λ dtypes. map shape_of dtypes.items ≡ map type_of columns.now) }
+    ensures refusal { IfErr result (λ fault. fault ≡ PolarsError.OutOfMemory) }
+{
+    let mut dtypes = Vec::with_capacity(alloc, columns.len())?;
+    for column in columns {
+        dtypes.push(column.dtype(alloc)?)?;
+    }
+    Ok(dtypes)
 }
 
 /// A part of a column of one kind, as a column of any kind. Refuses only for want of memory.
