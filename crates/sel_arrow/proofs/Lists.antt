@@ -46,3 +46,5 @@ all_of_them p xs n e h = sym (ap (list_all p) (take_all n xs (omega arith))) ∙
 -- one that fails
 pub none_at : {A : Type 0} (p : A → Bool) → (xs : List A) (i : ℕ) (d : A) → i < length xs → p (get_or xs i d) ≡ false → list_all p xs ≡ false
 none_at p xs i d h here = list_all_at p xs i d h here
+
+pub ruleset all_lists = (all_at, all_more, all_of_them, none_at)

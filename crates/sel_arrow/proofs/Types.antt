@@ -1,10 +1,11 @@
 -- The types of columns that have children.
-use Rattle.std.proofs.Common.{◌≡◌, ℕ, ◌+◌, ◌<◌, List, [], ◌∷◌, length, take, map, Option, Vec, Global, refl, sym, ap, ◌∙◌, arith, get_or}
+use Rattle.std.proofs.Common.{◌≡◌, ℕ, ◌+◌, ◌<◌, ◌&&◌, List, [], ◌∷◌, length, take, map, Option, Vec, Global, refl, sym, ap, ◌∙◌, arith, get_or}
 use Rattle.std.specs.Prelude.{◌↔◌}
+use Rattle.std.specs.List.{list_all}
 use Rattle.std.proofs.lemmas.List.{length-map, get_or-map, map_more, take_all}
 use mathlib.Core.Former.{Count}
 use Rattle.sel_bits.specs.Bits.{Bits}
-use Rattle.sel_arrow.specs.DataType.{shape_of, shapes_of_each}
+use Rattle.sel_arrow.specs.DataType.{shape_of, shapes_of_each, widths_fit, all_widths_fit}
 use Rattle.sel_arrow.specs.Rows.{type_of, types_of_each}
 use Rattle.sel_arrow.specs.Shape.{Shape, next_shape, of_struct, shapes_of, shape_list}
 use Rattle.sel_arrow.specs.declared.column.Column.{Column, Struct as StructColumn, Row_of-Column, end_of-Column, more_of-Column, items-the_row-Column, items_hidden-the_row-Column-0}
@@ -45,6 +46,15 @@ struct_type column len fields validity is = ap type_of is ∙ type_of-Struct len
 
 pub struct_shape : (dtype : ArrowDataType) (fields : Vec ArrowDataType Global) → dtype ≡ Struct fields → shape_of dtype ≡ of_struct (shapes_of (map shape_of fields.items))
 struct_shape dtype fields is = ap shape_of is ∙ shape_of-Struct fields
+
+each_width : (n : _) (row : Row_of-ArrowDataType n) → all_widths_fit row ≡ list_all widths_fit (items-the_row-ArrowDataType n row)
+each_width n end_of-ArrowDataType = refl
+each_width n (more_of-ArrowDataType dtype dtypes) = ap (λ b. widths_fit dtype && b) (each_width _ dtypes)
+
+pub widths_fit-Struct : (fields : Vec ArrowDataType Global) → widths_fit (Struct fields) ≡ list_all widths_fit fields.items
+widths_fit-Struct fields =
+    let row = dtypes_in (Struct fields) in
+    each_width row.0 row.1 ∙ ap (list_all widths_fit) (items_hidden-the_row-ArrowDataType-0 fields)
 
 -- ---- when two types of structs are one
 

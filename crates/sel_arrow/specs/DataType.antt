@@ -1,4 +1,8 @@
 -- What a data type means.
+use Rattle.std.specs.Prelude.{◌≡◌, Bool, true, ◌&&◌, length}
+use Rattle.sel_arrow.specs.Masked.{is_few}
+use Rattle.sel_arrow.specs.Rows.{rows, type_of}
+use Rattle.sel_arrow.specs.declared.column.Column.{Column}
 use Rattle.sel_arrow.specs.Shape.{Shape, Shapes, no_shapes, next_shape, of_large_list, of_fixed_size_list, of_struct, of_null, of_boolean, of_int8, of_int16, of_int32, of_int64, of_int128, of_uint8, of_uint16, of_uint32, of_uint64, of_uint128, of_large_binary, of_binary_view, of_utf8_view}
 use Rattle.sel_arrow.specs.declared.datatype.ArrowDataType.{ArrowDataType, Row_of-ArrowDataType, end_of-ArrowDataType, more_of-ArrowDataType}
 use Rattle.sel_arrow.specs.declared.datatype.ArrowDataType.TheVariants.{Null, Boolean, Int8, Int16, Int32, Int64, Int128, UInt8, UInt16, UInt32, UInt64, UInt128, LargeBinary, BinaryView, Utf8View, LargeList', FixedSizeList', Struct'}
@@ -29,3 +33,22 @@ abbrev mutual
   pub shapes_of_each : {n : _} → Row_of-ArrowDataType n → Shapes
   shapes_of_each end_of-ArrowDataType = no_shapes
   shapes_of_each (more_of-ArrowDataType dtype dtypes) = next_shape (shape_of dtype) (shapes_of_each dtypes)
+
+abbrev mutual
+  -- whether each width of lists of one length, at every depth, is at most the rows that a column may have (own)
+  pub widths_fit : ArrowDataType → Bool
+  widths_fit (LargeList' p child) = widths_fit child
+  widths_fit (FixedSizeList' p child size) = is_few size && widths_fit child
+  widths_fit (Struct' n fields) = all_widths_fit fields
+  widths_fit dtype = true
+
+  -- whether each type's do (own)
+  pub all_widths_fit : {n : _} → Row_of-ArrowDataType n → Bool
+  all_widths_fit end_of-ArrowDataType = true
+  all_widths_fit (more_of-ArrowDataType dtype dtypes) = widths_fit dtype && all_widths_fit dtypes
+
+-- the column is one row of a list type: it is of the child's type, and has as many rows as the type has in each list (own)
+abbrev pub ScalarFits : Shape → Column → Type 0
+ScalarFits (of_large_list s) scalar = type_of scalar ≡ s
+ScalarFits (of_fixed_size_list s width) scalar = (type_of scalar ≡ s) × (length (rows scalar) ≡ width)
+ScalarFits s scalar = ⊥

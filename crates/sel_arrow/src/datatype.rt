@@ -1,5 +1,12 @@
 //! The types of columns.
 
+ghost use Rattle.std.specs.Prelude.{◌≡◌, ◌↔◌, IsTrue};
+ghost use Rattle.std.specs.List.{list_all};
+ghost use Rattle.sel_arrow.specs.DataType.{shape_of, widths_fit, ScalarFits};
+
+use crate::array::Array;
+use crate::array_ref::ArrayRef;
+
 /// The type of a column: that of lists names its child's, that of lists of one length the length too, and that of structs those of
 /// the fields, in order.
 #[derive(Drop)]
@@ -22,4 +29,49 @@ pub enum ArrowDataType {
     LargeList(Box<ArrowDataType>),
     FixedSizeList(Box<ArrowDataType>, usize),
     Struct(Vec<ArrowDataType>),
+}
+
+impl ArrowDataType {
+    /// Whether lists of one length have at most 4,294,967,295 entries each, at every depth.
+    #[cycle(widths_fit)]
+    pub fn widths_fit(&self) -> bool
+        ensures { result ≡ widths_fit self.now }
+    {
+        match self {
+            ArrowDataType::LargeList(child) => child.widths_fit(),
+            ArrowDataType::FixedSizeList(child, width) => {
+                *width <= 4294967295 && child.widths_fit()
+            }
+            ArrowDataType::Struct(fields) => all_widths_fit(fields),
+            _ => true,
+        }
+    }
+
+    /// Whether the column is one row of this type: only for a type of lists, whose child's type it has; if each list has
+    /// so many entries, the column has as many rows.
+    pub fn scalar_fits(&self, scalar: &ArrayRef) -> bool
+        ensures { IsTrue result ↔ ScalarFits (shape_of self.now) scalar.now.column }
+    {
+        match self {
+            ArrowDataType::LargeList(child) => scalar.has_dtype(child),
+            ArrowDataType::FixedSizeList(child, width) => {
+                scalar.has_dtype(child) && scalar.len() == *width
+            }
+            _ => false,
+        }
+    }
+}
+
+/// Whether each type's widths fit.
+#[cycle(widths_fit)]
+#[tactic(auto, using(crate::proofs::Lists::all_lists))]
+fn all_widths_fit(dtypes: &[ArrowDataType]) -> bool
+    ensures { result ≡ list_all widths_fit dtypes.now }
+{
+    for dtype in dtypes {
+        if !dtype.widths_fit() {
+            return false;
+        }
+    }
+    true
 }
