@@ -47,7 +47,7 @@ abbrev mutual
   all_widths_fit end_of-ArrowDataType = true
   all_widths_fit (more_of-ArrowDataType dtype dtypes) = widths_fit dtype && all_widths_fit dtypes
 
--- the column is one row of a list type: it is of the child's type, and has as many rows as the type has in each list (own)
+-- the column's rows can be one list of the type: they are of its child's type, as many as the type says, where it does (own)
 abbrev pub ScalarFits : Shape → Column → Type 0
 ScalarFits (of_large_list s) scalar = type_of scalar ≡ s
 ScalarFits (of_fixed_size_list s width) scalar = (type_of scalar ≡ s) × (length (rows scalar) ≡ width)

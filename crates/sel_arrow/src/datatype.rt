@@ -6,6 +6,7 @@ ghost use Rattle.sel_arrow.specs.DataType.{shape_of, widths_fit, ScalarFits};
 
 use crate::array::Array;
 use crate::array_ref::ArrayRef;
+use crate::validity::MOST_ROWS;
 
 /// The type of a column: that of lists names its child's, that of lists of one length the length too, and that of structs those of
 /// the fields, in order.
@@ -40,15 +41,15 @@ impl ArrowDataType {
         match self {
             ArrowDataType::LargeList(child) => child.widths_fit(),
             ArrowDataType::FixedSizeList(child, width) => {
-                *width <= 4294967295 && child.widths_fit()
+                *width <= MOST_ROWS && child.widths_fit()
             }
             ArrowDataType::Struct(fields) => all_widths_fit(fields),
             _ => true,
         }
     }
 
-    /// Whether the column is one row of this type: only for a type of lists, whose child's type it has; if each list has
-    /// so many entries, the column has as many rows.
+    /// Whether the column's rows can be one list of this type: they are of its child's type, and where the type says how many
+    /// entries a list has, there are as many. Never for a type that is not one of lists.
     pub fn scalar_fits(&self, scalar: &ArrayRef) -> bool
         ensures { IsTrue result ↔ ScalarFits (shape_of self.now) scalar.now.column }
     {

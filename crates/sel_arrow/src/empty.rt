@@ -1,9 +1,11 @@
 //! Columns without rows.
 
-ghost use Rattle.std.specs.Prelude.{◌≡◌, [], IfOk, IfErr};
+ghost use Rattle.std.specs.Prelude.{◌≡◌, ◌≤◌, [], ◌∷◌, map, IfOk, IfErr, IsTrue};
+ghost use Rattle.std.specs.List.{All, list_all};
 ghost use Rattle.sel_arrow.specs.Columns.{binary_rows, binview_rows};
-ghost use Rattle.sel_arrow.specs.DataType.{shape_of};
-ghost use Rattle.sel_arrow.specs.Rows.{rows, type_of, IsWellFormed};
+ghost use Rattle.sel_arrow.specs.DataType.{shape_of, widths_fit};
+ghost use Rattle.sel_arrow.specs.Rows.{rows, type_of, IsField, IsWellFormed};
+ghost use Rattle.sel_arrow.specs.Shape.{of_large_list, of_fixed_size_list, of_struct, shapes_of};
 
 use crate::array_ref::ArrayRef;
 use crate::binary::BinaryArray;
@@ -20,8 +22,9 @@ use sel_bits::faults::{PolarsError, PolarsResult};
 use sel_bits::offsets::OffsetsBuffer;
 use std::alloc::Global;
 
-/// The column of this type that has no rows. Refuses only for want of memory.
+/// The column of this type that has no rows, if its widths fit. Refuses only for want of memory.
 pub fn new_empty_array(alloc: Global, dtype: &ArrowDataType) -> PolarsResult<ArrayRef>
+    requires { IsTrue (widths_fit dtype.now) }
     ensures rows { IfOk result (λ array. rows array.column ≡ []) }
     ensures dtype { IfOk result (λ array. type_of array.column ≡ shape_of dtype.now) }
     ensures refusal { IfErr result (λ fault. fault ≡ PolarsError.OutOfMemory) }
@@ -31,7 +34,9 @@ pub fn new_empty_array(alloc: Global, dtype: &ArrowDataType) -> PolarsResult<Arr
 }
 
 /// The same as a `Column`.
+#[cycle(empty_column)]
 fn empty_column(alloc: Global, dtype: &ArrowDataType) -> PolarsResult<Column>
+    requires { IsTrue (widths_fit dtype.now) }
     ensures rows { IfOk result (λ column. rows column ≡ []) }
     ensures dtype { IfOk result (λ column. type_of column ≡ shape_of dtype.now) }
     ensures formed { IfOk result (λ column. IsWellFormed column) }
@@ -62,6 +67,77 @@ fn empty_column(alloc: Global, dtype: &ArrowDataType) -> PolarsResult<Column>
             let bytes = empty_views(alloc)?;
             Ok(Column::Utf8View(Utf8ViewArray { bytes }))
         }
+        ArrowDataType::LargeList(child) => Ok(no_lists(alloc, empty_column(alloc, child)?)?),
+        ArrowDataType::FixedSizeList(child, size) => {
+            Ok(no_blocks(alloc, *size, empty_column(alloc, child)?)?)
+        }
+        ArrowDataType::Struct(dtypes) => Ok(no_tuples(empty_columns(alloc, dtypes)?)),
+    }
+}
+
+/// The columns of these types that have no rows. Refuses only for want of memory.
+#[cycle(empty_column)]
+#[tactic(auto, using(crate::proofs::Lists::all_at))]
+fn empty_columns(alloc: Global, dtypes: &[ArrowDataType]) -> PolarsResult<Vec<Column>>
+    requires { IsTrue (list_all widths_fit dtypes.now) }
+    ensures dtypes { IfOk result (λ columns. map type_of columns.items ≡ map shape_of dtypes.now) }
+    ensures fields { IfOk result (λ columns. All (IsField 0) columns.items) }
+    ensures refusal { IfErr result (λ fault. fault ≡ PolarsError.OutOfMemory) }
+{
+    let mut columns = Vec::with_capacity(alloc, dtypes.len())?;
+    for dtype in dtypes {
+        columns.push(empty_column(alloc, dtype)?)?;
+    }
+    Ok(columns)
+}
+
+/// No lists, of this child. Refuses only for want of memory.
+fn no_lists(alloc: Global, child: Column) -> PolarsResult<Column>
+    requires { IsWellFormed child }
+    ensures rows { IfOk result (λ column. rows column ≡ []) }
+    ensures dtype { IfOk result (λ column. type_of column ≡ of_large_list (type_of child)) }
+    ensures formed { IfOk result (λ column. IsWellFormed column) }
+    ensures refusal { IfErr result (λ fault. fault ≡ PolarsError.OutOfMemory) }
+{
+    let offsets = first_offset(alloc)?;
+    let values = Box::new(alloc, child)?;
+    Ok(Column::LargeList {
+        offsets,
+        values,
+        validity: None,
+    })
+}
+
+/// No lists of `size` entries each, of this child without rows. Refuses only for want of memory.
+fn no_blocks(alloc: Global, size: usize, child: Column) -> PolarsResult<Column>
+    requires narrow { size ≤ 4294967295 }
+    requires formed { IsWellFormed child }
+    requires empty { rows child ≡ [] }
+    ensures rows { IfOk result (λ column. rows column ≡ []) }
+    ensures dtype { IfOk result (λ column. type_of column ≡ of_fixed_size_list (type_of child) size) }
+    ensures formed { IfOk result (λ column. IsWellFormed column) }
+    ensures refusal { IfErr result (λ fault. fault ≡ PolarsError.OutOfMemory) }
+{
+    let values = Box::new(alloc, child)?;
+    Ok(Column::FixedSizeList {
+        size,
+        len: 0,
+        values,
+        validity: None,
+    })
+}
+
+/// No tuples of these fields without rows.
+fn no_tuples(fields: Vec<Column>) -> Column
+    requires { All (IsField 0) fields.items }
+    ensures rows { rows result ≡ [] }
+    ensures dtype { type_of result ≡ of_struct (shapes_of (map type_of fields.items)) }
+    ensures formed { IsWellFormed result }
+{
+    Column::Struct {
+        len: 0,
+        fields,
+        validity: None,
     }
 }
 
@@ -76,13 +152,22 @@ fn empty_numbers<T: ArrowPrimitive>(alloc: Global) -> PolarsResult<Column>
     Ok(T::into_column(values, None))
 }
 
+/// The offset that stands before any row.
+#[tactic(auto, using(crate::proofs::NoRows::no_bytes))]
+fn first_offset(alloc: Global) -> PolarsResult<OffsetsBuffer<i64>>
+    ensures offsets { IfOk result (λ offsets. offsets ≡ 0 ∷ []) }
+    ensures refusal { IfErr result (λ fault. fault ≡ PolarsError.OutOfMemory) }
+{
+    Ok(OffsetsBuffer::of_rising(vec![in alloc; 0]?)?)
+}
+
 /// No bytes.
 #[tactic(auto, using(crate::proofs::NoRows::no_bytes))]
 fn empty_bytes(alloc: Global) -> PolarsResult<BinaryArray<i64>>
     ensures rows { IfOk result (λ column. binary_rows column ≡ []) }
     ensures refusal { IfErr result (λ fault. fault ≡ PolarsError.OutOfMemory) }
 {
-    let offsets = OffsetsBuffer::of_rising(vec![in alloc; 0]?)?;
+    let offsets = first_offset(alloc)?;
     let values = Buffer::from_vec(Vec::new(alloc))?;
     Ok(BinaryArray {
         offsets,

@@ -1,0 +1,29 @@
+use Rattle.std.proofs.Common.{rules, arith, ◌∙◌, sym, ap}
+use Rattle.std.proofs.lemmas.List.Elements.{All-push}
+use Rattle.sel_arrow.specs.DataType.{shape_of}
+use Rattle.sel_arrow.specs.Rows.{IsField}
+use Rattle.sel_arrow.specs.Shape.{of_struct, shapes_of}
+use Rattle.sel_arrow.specs.declared.datatype.ArrowDataType.{the_lemmas}
+use Rattle.sel_arrow.proofs.NoRows.{columns_more, field_of_none, fields_fit}
+use Rattle.sel_arrow.proofs.Types.{struct_shape}
+use Rattle.sel_arrow.proofs.empty.+empty_column.Goals as goal
+
+pub empty_column-returns-in_ok-empty_columns-in-Struct-clause-dtype :
+    goal.empty_column-returns-in_ok-empty_columns-in-Struct-clause-dtype
+empty_column-returns-in_ok-empty_columns-in-Struct-clause-dtype t c =
+    let same = rw c.deref-in-Struct.ensures.value at c.in_ok-empty_columns-in-Struct.ensures.dtypes in
+    c.no_tuples.ensures.dtype ∙ ap (λ l. of_struct (shapes_of l)) same ∙ sym (struct_shape _ _ c.in-Struct.is)
+
+pub empty_column-empty_columns-requires : goal.empty_column-empty_columns-requires
+empty_column-empty_columns-requires t c =
+    (search (rules, the_lemmas), fields_fit _ _ _ c.in-Struct.is c.deref-in-Struct.ensures.value c.requires)
+
+pub empty_columns-loop-dtype-preserved : goal.empty_columns-loop-dtype-preserved
+empty_columns-loop-dtype-preserved t c =
+    let column = c.in_ok-empty_column in
+    let here = column.ensures.dtype ∙ ap shape_of c.dtype-item.is in
+    let one = field_of_none column.field-0 column.ensures.rows column.ensures.formed in
+    record {
+      dtypes = rw c.in_ok-push.ensures.items (columns_more c.loop-dtype.columns.items column.field-0 c.args.dtypes.now c.loop-dtype.dtype-index _ (omega arith) c.loop-dtype.invariant.dtypes here);
+      fields = rw c.in_ok-push.ensures.items (All-push (IsField 0) c.loop-dtype.columns.items column.field-0 c.loop-dtype.invariant.fields one);
+    }
