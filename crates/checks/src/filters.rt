@@ -1,8 +1,10 @@
 ghost use Rattle.std.specs.Prelude.{◌≡◌, ◌≤◌, length, IfOk};
 
+use crate::kernels::{filtered_by, many_values};
+use checks_columns::fixtures::has_text;
 use polars_compute::filter::boolean::pext64_polyfill;
+use polars_compute::filter::filter_boolean_kernel;
 use polars_compute::filter::scalar::{scalar_filter, scalar_filter_offset};
-use polars_compute::filter::{filter, filter_boolean_kernel};
 use sel_arrow::array::Array;
 use sel_arrow::boolean::BooleanArray;
 use sel_arrow::utf8view::Utf8ViewArray;
@@ -79,37 +81,47 @@ fn bits_of_many_words(rt: HostRuntime) {
     }
 }
 
+// 512 bits, true at these two places alone, which may be one.
+fn two_of_many(alloc: Global, first: usize, second: usize) -> PolarsResult<Bitmap> {
+    let mut bits = Vec::new(alloc);
+    for i in 0..512 {
+        bits.push(i == first || i == second)?;
+    }
+    Bitmap::from_bools(alloc, &bits)
+}
+
+// Whether the bits of the values under the mask are false and true.
+fn keeps_last(alloc: Global, values: &Bitmap, mask: &Bitmap) -> PolarsResult<bool> {
+    if values.len() != mask.len() {
+        return Ok(false);
+    }
+    let kept = filter_boolean_kernel(alloc, values, mask)?;
+    Ok(kept.len() == 2 && !kept.get_bit(0) && kept.get_bit(1))
+}
+
 #[test]
 fn two_bits_of_many(rt: HostRuntime) -> Result<(), Fail> {
-    let alloc = rt.alloc();
-    let mut values = Vec::new(alloc);
-    let mut mask = Vec::new(alloc);
-    for i in 0..512 {
-        values.push(i == 511)?;
-        mask.push(i == 63 || i == 511)?;
-    }
-    let values = Bitmap::from_bools(alloc, &values)?;
-    let mask = Bitmap::from_bools(alloc, &mask)?;
-    assert_eq!(rt; values.len(), mask.len());
-    let kept = filter_boolean_kernel(alloc, &values, &mask)?;
-    assert_eq!(rt; kept.len(), 2);
-    assert!(rt; !kept.get_bit(0));
-    assert!(rt; kept.get_bit(1));
+    let values = two_of_many(rt.alloc(), 511, 511)?;
+    let mask = two_of_many(rt.alloc(), 63, 511)?;
+    assert!(rt; keeps_last(rt.alloc(), &values, &mask) == Ok(true));
     Ok(())
+}
+
+// Whether the values under these bytes of bits are four.
+fn keeps_few(alloc: Global, values: &[u64]) -> PolarsResult<bool> {
+    let bytes = [0b100101, 0, 0, 0, 0, 0, 0, 0, 0xFF];
+    if values.len() > 8 * bytes.len() {
+        return Ok(false);
+    }
+    let mut out = Vec::new(alloc);
+    scalar_filter(values, &bytes, &mut out)?;
+    Ok(out.as_slice() == [0, 2, 5, 64].as_slice())
 }
 
 #[test]
 fn values_by_bytes(rt: HostRuntime) -> Result<(), Fail> {
-    let alloc = rt.alloc();
-    let mut values = Vec::new(alloc);
-    for i in 0..65u64 {
-        values.push(i)?;
-    }
-    let mut out = Vec::new(alloc);
-    let bytes = [0b100101, 0, 0, 0, 0, 0, 0, 0, 0xFF];
-    assert!(rt; values.len() <= 8 * bytes.len());
-    scalar_filter(&values, &bytes, &mut out)?;
-    assert!(rt; out.as_slice() == [0, 2, 5, 64].as_slice());
+    let values = many_values(rt.alloc())?;
+    assert!(rt; keeps_few(rt.alloc(), &values) == Ok(true));
     Ok(())
 }
 
@@ -162,17 +174,21 @@ fn three_texts(alloc: Global) -> Result<Utf8ViewArray, Fail> {
     Ok(Utf8ViewArray::try_new(Buffer::from_vec(views)?, buffers, Some(validity))?)
 }
 
+// Whether the rows are the long text and a null.
+fn are_last_texts(alloc: Global, kept: &Utf8ViewArray) -> PolarsResult<bool> {
+    Ok(
+        kept.len() == 2
+            && has_text(alloc, kept, 0, Some("abcdefghijklm"))?
+            && has_text(alloc, kept, 1, None)?,
+    )
+}
+
 #[test]
 fn filters_of_texts(rt: HostRuntime) -> Result<(), Fail> {
-    let alloc = rt.alloc();
-    let texts = three_texts(alloc)?;
-    let mask = BooleanArray::try_new(Bitmap::from_bools(alloc, &[false, true, true])?, None)?;
-    assert_eq!(rt; texts.len(), mask.len());
-    let kept = filter(alloc, &texts.into_ref(), &mask)?;
+    let bits = Bitmap::from_bools(rt.alloc(), &[false, true, true])?;
+    let mask = BooleanArray::try_new(bits, None)?;
+    let kept = filtered_by(rt.alloc(), three_texts(rt.alloc())?.into_ref(), &mask)?;
     let kept = kept.into_utf8view().ok().ok_or("another type")?;
-    assert_eq!(rt; kept.len(), 2);
-    let text = kept.get(alloc, 0)?;
-    assert!(rt; text.is_some_and(|text| text.as_str() == "abcdefghijklm"));
-    assert!(rt; kept.get(alloc, 1)?.is_none());
+    assert!(rt; are_last_texts(rt.alloc(), &kept) == Ok(true));
     Ok(())
 }

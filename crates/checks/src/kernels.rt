@@ -1,7 +1,5 @@
-ghost use Rattle.std.specs.Prelude.{◌≡◌, length, IfOk};
-
-use crate::fixtures::{
-    begins_with, column, has_bytes, has_numbers, has_truths, is_bytes, is_numbers, numbers, truths,
+use checks_columns::fixtures::{
+    begins_with, column, has_bytes, has_numbers, is_bytes, is_numbers, is_truths, numbers, truths,
     validity_of,
 };
 use polars_compute::filter::boolean::filter_bitmap_and_validity;
@@ -87,26 +85,45 @@ fn zeros(alloc: Global, count: usize) -> Result<IdxArr, Fail> {
     Ok(PrimitiveArray::try_new(Buffer::from_vec(numbers)?, None)?)
 }
 
-fn keeps(
-    alloc: Global,
-    array: BinaryArray<i64>,
-    mask: &Bitmap,
-    rows: &[Option<&[u8]>],
-) -> Result<bool, Fail> {
-    if array.len() != mask.len() {
-        return Err(Fail::from("another length"));
-    }
-    let kept = filter_with_bitmap(alloc, &array.into_ref(), mask)?;
-    is_bytes(kept, rows)
+// The rows of any column whose bits are set, where there are as many bits.
+//
+// Columns of every kind are dropped by a call: a drop at the end of a body is proved kind by kind.
+fn kept_by(alloc: Global, array: ArrayRef, mask: &Bitmap) -> Result<ArrayRef, Fail> {
+    let kept = rows_kept(alloc, &array, mask);
+    drop(array);
+    kept
 }
 
-// The rows, the least number hidden below none, under the mask.
-fn filtered(alloc: Global, rows: &[Option<i64>], mask: &BooleanArray) -> Result<ArrayRef, Fail> {
-    let array = column(alloc, rows, i64::MIN)?;
+fn rows_kept(alloc: Global, array: &ArrayRef, mask: &Bitmap) -> Result<ArrayRef, Fail> {
     if array.len() != mask.len() {
         return Err(Fail::from("another length"));
     }
-    Ok(filter(alloc, &array.into_ref(), mask)?)
+    Ok(filter_with_bitmap(alloc, array, mask)?)
+}
+
+// The rows of any column under the mask, where they are as many.
+pub fn filtered_by(alloc: Global, array: ArrayRef, mask: &BooleanArray) -> Result<ArrayRef, Fail> {
+    let kept = rows_filtered(alloc, &array, mask);
+    drop(array);
+    kept
+}
+
+fn rows_filtered(alloc: Global, array: &ArrayRef, mask: &BooleanArray) -> Result<ArrayRef, Fail> {
+    if array.len() != mask.len() {
+        return Err(Fail::from("another length"));
+    }
+    Ok(filter(alloc, array, mask)?)
+}
+
+// Whether the rows, the least number hidden below none, are these under the mask.
+fn filters(
+    alloc: Global,
+    rows: &[Option<i64>],
+    mask: &BooleanArray,
+    kept: &[Option<i64>],
+) -> Result<bool, Fail> {
+    let array = column(alloc, rows, i64::MIN)?;
+    is_numbers(filtered_by(alloc, array.into_ref(), mask)?, kept)
 }
 
 #[test]
@@ -130,50 +147,43 @@ fn filters_of_numbers(rt: HostRuntime) -> Result<(), Fail> {
     ];
     for (values, mask, validity, kept) in &rows {
         let mask = truths(alloc, mask, validity)?;
-        let answer = filtered(alloc, values, &mask)?;
-        assert!(rt; is_numbers(answer, kept)?);
+        assert!(rt; filters(alloc, values, &mask, kept)?);
     }
     Ok(())
 }
 
-fn three_bits(alloc: Global) -> PolarsResult<Bitmap>
-    ensures { IfOk result (λ bitmap. length bitmap.bits ≡ 3) }
-{
-    Bitmap::from_bools(alloc, &[false, true, true])
+// The last two of the three rows of any column.
+fn last_two(alloc: Global, array: ArrayRef) -> Result<ArrayRef, Fail> {
+    let kept = rows_behind(alloc, &array);
+    drop(array);
+    kept
+}
+
+fn rows_behind(alloc: Global, array: &ArrayRef) -> Result<ArrayRef, Fail> {
+    let mask = Bitmap::from_bools(alloc, &[false, true, true])?;
+    rows_kept(alloc, array, &mask)
 }
 
 #[test]
 fn numbers_by_bits(rt: HostRuntime) -> Result<(), Fail> {
-    let alloc = rt.alloc();
-    let array = column(alloc, &[Some(7u32), None, Some(9)], 0)?;
-    let mask = three_bits(alloc)?;
-    assert_eq!(rt; array.len(), mask.len());
-    let kept = filter_with_bitmap(alloc, &array.into_ref(), &mask)?;
+    let array = column(rt.alloc(), &[Some(7u32), None, Some(9)], 0)?;
+    let kept = last_two(rt.alloc(), array.into_ref())?;
     assert!(rt; is_numbers(kept, &[None, Some(9u32)])?);
     Ok(())
 }
 
 #[test]
 fn truth_values_by_bits(rt: HostRuntime) -> Result<(), Fail> {
-    let alloc = rt.alloc();
-    let array = truths(alloc, &[true, false, true], &[true, true, false])?;
-    let mask = three_bits(alloc)?;
-    assert_eq!(rt; array.len(), mask.len());
-    let kept = filter_with_bitmap(alloc, &array.into_ref(), &mask)?;
-    let kept = kept.into_boolean().ok().ok_or("another type")?;
-    assert!(rt; has_truths(&kept, &[Some(false), None]));
+    let array = truths(rt.alloc(), &[true, false, true], &[true, true, false])?;
+    let kept = last_two(rt.alloc(), array.into_ref())?;
+    assert!(rt; is_truths(kept, &[Some(false), None])?);
     Ok(())
 }
 
 #[test]
 fn nulls_by_bits(rt: HostRuntime) -> Result<(), Fail> {
-    let alloc = rt.alloc();
-    let nulls = NullArray::try_new(3)?;
-    let mask = three_bits(alloc)?;
-    assert_eq!(rt; nulls.len(), mask.len());
-    let kept = filter_with_bitmap(alloc, &nulls.into_ref(), &mask)?;
-    let kept = kept.into_null().ok().ok_or("another type")?;
-    assert_eq!(rt; kept.len(), 2);
+    let kept = last_two(rt.alloc(), NullArray::try_new(3)?.into_ref())?;
+    assert!(rt; kept.into_null().ok().ok_or("another type")?.len() == 2);
     Ok(())
 }
 
@@ -202,47 +212,82 @@ fn late_bits(alloc: Global) -> PolarsResult<Bitmap> {
     Bitmap::from_bools(alloc, &mask)
 }
 
+// Whether the bits of the values under the mask are so many, begin so, and half of them are true.
+fn keeps_bits(alloc: Global, values: &Bitmap, mask: &Bitmap) -> PolarsResult<bool> {
+    if (values.len(), mask.len()) != (112, 112) {
+        return Ok(false);
+    }
+    let kept = filter_boolean_kernel(alloc, values, mask)?;
+    Ok(
+        kept.len() == 59
+            && kept.set_bits() == 30
+            && begins_with(&kept, &[true, false, true, true, false]),
+    )
+}
+
 #[test]
 fn kept_bits(rt: HostRuntime) -> Result<(), Fail> {
-    let alloc = rt.alloc();
-    let values = even_bits(alloc)?;
-    let mask = late_bits(alloc)?;
-    assert_eq!(rt; (values.len(), mask.len()), (112, 112));
-    let kept = filter_boolean_kernel(alloc, &values, &mask)?;
-    assert_eq!(rt; kept.len(), 59);
-    assert_eq!(rt; kept.set_bits(), 30);
-    assert!(rt; begins_with(&kept, &[true, false, true, true, false]));
+    let values = even_bits(rt.alloc())?;
+    let mask = late_bits(rt.alloc())?;
+    assert!(rt; keeps_bits(rt.alloc(), &values, &mask) == Ok(true));
     Ok(())
+}
+
+// The same under a validity, which is the mask.
+fn keeps_validity(alloc: Global, values: &Bitmap, mask: &Bitmap) -> PolarsResult<bool> {
+    if (values.len(), mask.len()) != (112, 112) {
+        return Ok(false);
+    }
+    let (bits, validity) = filter_bitmap_and_validity(alloc, values, Some(mask), mask)?;
+    Ok(bits.set_bits() == 30 && validity.is_some_and(|validity| validity.set_bits() == 59))
 }
 
 #[test]
 fn kept_bits_with_their_validity(rt: HostRuntime) -> Result<(), Fail> {
-    let alloc = rt.alloc();
-    let values = even_bits(alloc)?;
-    let mask = late_bits(alloc)?;
-    assert_eq!(rt; (values.len(), mask.len()), (112, 112));
-    let (bits, validity) = filter_bitmap_and_validity(alloc, &values, Some(&mask), &mask)?;
-    assert_eq!(rt; bits.set_bits(), 30);
-    assert!(rt; validity.is_some_and(|validity| validity.set_bits() == 59));
+    let values = even_bits(rt.alloc())?;
+    let mask = late_bits(rt.alloc())?;
+    assert!(rt; keeps_validity(rt.alloc(), &values, &mask) == Ok(true));
     Ok(())
+}
+
+// The numbers from 0 to 64.
+pub fn many_values(alloc: Global) -> PolarsResult<Vec<u64>> {
+    let mut values = Vec::new(alloc);
+    for i in 0..65u64 {
+        values.push(i)?;
+    }
+    Ok(values)
+}
+
+// 65 bits, true at 0, 2, 5 and 64.
+fn few_bits(alloc: Global) -> PolarsResult<Bitmap> {
+    let mut mask = [false; 65];
+    mask[0] = true;
+    mask[2] = true;
+    mask[5] = true;
+    mask[64] = true;
+    Bitmap::from_bools(alloc, &mask)
+}
+
+// Whether these four values are kept, by themselves and beside a validity that is missing.
+fn keeps_few(alloc: Global, values: &[u64], mask: &Bitmap) -> PolarsResult<bool> {
+    if values.len() != mask.len() {
+        return Ok(false);
+    }
+    let kept = filter_values(alloc, values, mask)?;
+    let (again, validity) = filter_values_and_validity(alloc, values, None, mask)?;
+    Ok(
+        kept.as_slice() == [0, 2, 5, 64].as_slice()
+            && again.as_slice() == [0, 2, 5, 64].as_slice()
+            && validity.is_none(),
+    )
 }
 
 #[test]
 fn kept_values(rt: HostRuntime) -> Result<(), Fail> {
-    let alloc = rt.alloc();
-    let mut values = Vec::new(alloc);
-    let mut mask = Vec::new(alloc);
-    for i in 0..65u64 {
-        values.push(i)?;
-        mask.push(i == 0 || i == 2 || i == 5 || i == 64)?;
-    }
-    let mask = Bitmap::from_bools(alloc, &mask)?;
-    assert_eq!(rt; values.len(), mask.len());
-    let kept = filter_values(alloc, &values, &mask)?;
-    assert!(rt; kept.as_slice() == [0, 2, 5, 64].as_slice());
-    let (kept, validity) = filter_values_and_validity(alloc, &values, None, &mask)?;
-    assert!(rt; kept.as_slice() == [0, 2, 5, 64].as_slice());
-    assert!(rt; validity.is_none());
+    let values = many_values(rt.alloc())?;
+    let mask = few_bits(rt.alloc())?;
+    assert!(rt; keeps_few(rt.alloc(), &values, &mask) == Ok(true));
     Ok(())
 }
 
@@ -266,15 +311,26 @@ fn filters_of_bytes(rt: HostRuntime) -> Result<(), Fail> {
         (2, &[true, false, true], &[Some(b"bc"), Some(b"def")]),
     ];
     let array = bytes_column::<i64>(alloc, &rows)?;
-    assert_eq!(rt; array.len(), 5);
     for (first, mask, kept) in &parts {
-        let mask = Bitmap::from_bools(alloc, mask)?;
-        assert!(rt; *first <= 5);
-        assert_eq!(rt; mask.len(), 5 - *first);
-        let part = array.sliced(alloc, *first, mask.len())?;
-        assert!(rt; keeps(alloc, part, &mask, kept)?);
+        assert!(rt; keeps_of_part(alloc, &array, *first, mask, kept)?);
     }
     Ok(())
+}
+
+// Whether these rows are kept of those from the place on.
+fn keeps_of_part(
+    alloc: Global,
+    array: &BinaryArray<i64>,
+    first: usize,
+    mask: &[bool],
+    kept: &[Option<&[u8]>],
+) -> Result<bool, Fail> {
+    if array.len() != 5 || first > 5 || mask.len() != 5 - first {
+        return Err(Fail::from("another length"));
+    }
+    let mask = Bitmap::from_bools(alloc, mask)?;
+    let part = array.sliced(alloc, first, 5 - first)?;
+    is_bytes(kept_by(alloc, part.into_ref(), &mask)?, kept)
 }
 
 // The rows of bytes at these indices, where they are in bounds.
@@ -315,9 +371,9 @@ fn null_rows_need_no_bytes(rt: HostRuntime) -> Result<(), Fail> {
     let alloc = rt.alloc();
     let null = Bitmap::from_bools(alloc, &[false])?;
     let column = long_row(alloc)?;
-    assert_eq!(rt; (column.len(), null.len()), (1, 1));
+    assert!(rt; column.len() == 1 && null.len() == 1);
     let column = column.with_validity(Some(null));
-    assert_eq!(rt; repeated(alloc, &column, 32_768)?, Some(32_768));
+    assert!(rt; repeated(alloc, &column, 32_768)? == Some(32_768));
     Ok(())
 }
 
@@ -332,7 +388,7 @@ fn bounds_of_indices(rt: HostRuntime) -> Result<(), Fail> {
     ];
     for (places, validity, len, within) in &signed {
         let indices = numbers(alloc, places, validity)?;
-        assert_eq!(rt; indices_in_bounds_of(&indices, *len), *within);
+        assert!(rt; indices_in_bounds_of(&indices, *len) == *within);
     }
     let unsigned: [(&[u64], &[bool], usize, bool); 3] = [
         (&[0, 2], &[true, true], 3, true),
@@ -341,9 +397,22 @@ fn bounds_of_indices(rt: HostRuntime) -> Result<(), Fail> {
     ];
     for (places, validity, len, within) in &unsigned {
         let indices = numbers(alloc, places, validity)?;
-        assert_eq!(rt; indices_in_bounds_of(&indices, *len), *within);
+        assert!(rt; indices_in_bounds_of(&indices, *len) == *within);
     }
     Ok(())
+}
+
+// Whether the last number, and nulls from a null index and from a null row, are taken.
+fn takes_numbers(
+    alloc: Global,
+    array: &PrimitiveArray<i64>,
+    indices: &IdxArr,
+) -> PolarsResult<bool> {
+    if !indices_in_bounds(indices, array.len()) || indices_in_bounds(indices, 2) {
+        return Ok(false);
+    }
+    let taken = take_primitive_unchecked(alloc, array, indices)?;
+    Ok(has_numbers(&taken, &[Some(7), None, None]))
 }
 
 #[test]
@@ -351,9 +420,6 @@ fn takes_of_numbers(rt: HostRuntime) -> Result<(), Fail> {
     let alloc = rt.alloc();
     let array = column(alloc, &[Some(5i64), None, Some(7)], i64::MIN)?;
     let indices = numbers(alloc, &[2u32, u32::MAX, 1], &[true, false, true])?;
-    assert!(rt; indices_in_bounds(&indices, array.len()));
-    assert!(rt; !indices_in_bounds(&indices, 2));
-    let taken = take_primitive_unchecked(alloc, &array, &indices)?;
-    assert!(rt; has_numbers(&taken, &[Some(7), None, None]));
+    assert!(rt; takes_numbers(alloc, &array, &indices) == Ok(true));
     Ok(())
 }

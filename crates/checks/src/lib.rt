@@ -4,8 +4,6 @@
 #[cfg(test)]
 mod filters;
 #[cfg(test)]
-mod fixtures;
-#[cfg(test)]
 mod kernels;
 #[cfg(test)]
 mod rows;

@@ -1,18 +1,18 @@
 //! Rows of several columns, by picks and by runs.
 
+use checks_columns::fixtures::{
+    buffer, has_bytes_at, has_text, is_bytes, is_numbers, is_truths, one_buffer, truths,
+};
 use polars_compute::gather::{collect_rows, picks_in_bounds};
 use sel_arrow::array::Array;
 use sel_arrow::array_ref::ArrayRef;
 use sel_arrow::binary::BinaryArray;
 use sel_arrow::binview::BinaryViewArray;
-use sel_arrow::boolean::BooleanArray;
 use sel_arrow::column::Column;
 use sel_arrow::null::NullArray;
 use sel_arrow::primitive::{ArrowPrimitive, PrimitiveArray};
 use sel_arrow::utf8view::Utf8ViewArray;
 use sel_arrow::view::View;
-use sel_bits::bitmap::Bitmap;
-use sel_bits::buffer::Buffer;
 use sel_bits::faults::PolarsResult;
 use sel_bits::offsets::OffsetsBuffer;
 use sel_runs::collect::collect_runs;
@@ -35,10 +35,23 @@ fn collected<'a>(
     Ok(collect_rows(alloc, sources, picks)?)
 }
 
-fn numbers<T: ArrowPrimitive>(alloc: Global, values: &[T]) -> Result<Column, Fail> {
-    let values = Buffer::from_vec(Vec::from_slice(alloc, values)?)?;
-    let ArrayRef { column } = PrimitiveArray::try_new(values, None)?.into_ref();
-    Ok(column)
+// The rows at these picks of two columns of any type, each of which is taken out of its column for it.
+//
+// Columns of every kind are dropped by a call: a drop at the end of a body is proved kind by kind.
+fn collected_of_two(
+    alloc: Global,
+    first: ArrayRef,
+    second: ArrayRef,
+    picks: &[Option<(u32, u32)>],
+) -> Result<ArrayRef, Fail> {
+    let rows = collected(alloc, &[first.as_column(), second.as_column()], picks);
+    drop(first);
+    drop(second);
+    rows
+}
+
+fn numbers<T: ArrowPrimitive>(alloc: Global, values: &[T]) -> Result<PrimitiveArray<T>, Fail> {
+    Ok(PrimitiveArray::try_new(buffer(alloc, values)?, None)?)
 }
 
 #[test]
@@ -46,30 +59,18 @@ fn rows_of_two_columns_of_numbers(rt: HostRuntime) -> Result<(), Fail> {
     let alloc = rt.alloc();
     let first = numbers(alloc, &[1i64, 2])?;
     let second = numbers(alloc, &[3i64])?;
-    let rows = collected(alloc, &[&first, &second], &PICKS)?;
-    let rows = rows.into_primitive::<i64>().ok().ok_or("another type")?;
-    assert_eq!(rt; rows.len(), 3);
-    assert_eq!(rt;
-        (rows.get(0), rows.get(1), rows.get(2)),
-        (Some(3), None, Some(2))
-    );
+    let rows = collected_of_two(alloc, first.into_ref(), second.into_ref(), &PICKS)?;
+    assert!(rt; is_numbers(rows, &[Some(3i64), None, Some(2)])?);
     Ok(())
 }
 
 #[test]
 fn rows_of_two_columns_of_nulls(rt: HostRuntime) -> Result<(), Fail> {
-    let first = Column::Null(NullArray::try_new(2)?);
-    let second = Column::Null(NullArray::try_new(1)?);
-    let rows = collected(rt.alloc(), &[&first, &second], &PICKS)?;
-    let rows = rows.into_null().ok().ok_or("another type")?;
-    assert_eq!(rt; rows.len(), 3);
+    let first = NullArray::try_new(2)?.into_ref();
+    let second = NullArray::try_new(1)?.into_ref();
+    let rows = collected_of_two(rt.alloc(), first, second, &PICKS)?;
+    assert!(rt; rows.into_null().ok().ok_or("another type")?.len() == 3);
     Ok(())
-}
-
-fn truths(alloc: Global, values: &[bool], validity: &[bool]) -> Result<Column, Fail> {
-    let values = Bitmap::from_bools(alloc, values)?;
-    let validity = Bitmap::from_bools(alloc, validity)?;
-    Ok(Column::Boolean(BooleanArray::try_new(values, Some(validity))?))
 }
 
 #[test]
@@ -77,21 +78,15 @@ fn rows_of_two_columns_of_truth_values(rt: HostRuntime) -> Result<(), Fail> {
     let alloc = rt.alloc();
     let first = truths(alloc, &[false, true], &[true, false])?;
     let second = truths(alloc, &[true], &[true])?;
-    let rows = collected(alloc, &[&first, &second], &PICKS)?;
-    let rows = rows.into_boolean().ok().ok_or("another type")?;
-    assert_eq!(rt; rows.len(), 3);
-    assert_eq!(rt;
-        (rows.get(0), rows.get(1), rows.get(2)),
-        (Some(true), None, None)
-    );
+    let rows = collected_of_two(alloc, first.into_ref(), second.into_ref(), &PICKS)?;
+    assert!(rt; is_truths(rows, &[Some(true), None, None])?);
     Ok(())
 }
 
 // Rows of `abc`, cut at these offsets.
-fn pieces(alloc: Global, offsets: &[i64]) -> Result<Column, Fail> {
+fn pieces(alloc: Global, offsets: &[i64]) -> Result<BinaryArray<i64>, Fail> {
     let offsets = OffsetsBuffer::try_from(Vec::from_slice(alloc, offsets)?)?;
-    let bytes = Buffer::from_vec(Vec::from_slice(alloc, b"abc")?)?;
-    Ok(Column::LargeBinary(BinaryArray::try_new(offsets, bytes, None)?))
+    Ok(BinaryArray::try_new(offsets, buffer(alloc, b"abc")?, None)?)
 }
 
 #[test]
@@ -99,11 +94,8 @@ fn rows_of_two_columns_of_bytes(rt: HostRuntime) -> Result<(), Fail> {
     let alloc = rt.alloc();
     let first = pieces(alloc, &[0, 0, 1])?;
     let second = pieces(alloc, &[1, 3])?;
-    let rows = collected(alloc, &[&first, &second], &PICKS)?;
-    let rows = rows.into_binary().ok().ok_or("another type")?;
-    assert_eq!(rt; rows.len(), 3);
-    assert!(rt; rows.get(0) == Some(b"bc".as_slice()) && rows.get(1).is_none());
-    assert!(rt; rows.get(2) == Some(b"a".as_slice()));
+    let rows = collected_of_two(alloc, first.into_ref(), second.into_ref(), &PICKS)?;
+    assert!(rt; is_bytes(rows, &[Some(b"bc"), None, Some(b"a")])?);
     Ok(())
 }
 
@@ -116,42 +108,41 @@ fn views(alloc: Global, long: &[u8]) -> Result<BinaryViewArray, Fail> {
         View::new_from_bytes(b"ab", 0, 0),
         View::new_from_bytes(long, 0, 0),
     ];
-    let views = Buffer::from_vec(Vec::from_slice(alloc, &views)?)?;
+    let views = buffer(alloc, &views)?;
     Ok(BinaryViewArray::try_new(views, one_buffer(alloc, long)?, None)?)
-}
-
-fn one_buffer(alloc: Global, bytes: &[u8]) -> PolarsResult<Buffer<Buffer<u8>>> {
-    let bytes = Buffer::from_vec(Vec::from_slice(alloc, bytes)?)?;
-    let mut buffers = Vec::new(alloc);
-    buffers.push(bytes)?;
-    Buffer::from_vec(buffers)
 }
 
 const LONG_PICKS: [Option<(u32, u32)>; 3] = [Some((1, 1)), None, Some((0, 0))];
 
+// Whether there are three rows over two data buffers, the first the long text of the second column, then a null.
+fn are_long_rows(alloc: Global, rows: &BinaryViewArray) -> PolarsResult<bool> {
+    Ok(
+        rows.len() == 3
+            && rows.data_buffers().len() == 2
+            && has_bytes_at(alloc, rows, 0, Some(b"nopqrstuvwxyz"))?
+            && has_bytes_at(alloc, rows, 1, None)?,
+    )
+}
+
 #[test]
 fn rows_of_two_columns_of_views(rt: HostRuntime) -> Result<(), Fail> {
     let alloc = rt.alloc();
-    let first = Column::BinaryView(views(alloc, b"abcdefghijklm")?);
-    let second = Column::BinaryView(views(alloc, b"nopqrstuvwxyz")?);
-    let rows = collected(alloc, &[&first, &second], &LONG_PICKS)?;
+    let first = views(alloc, b"abcdefghijklm")?;
+    let second = views(alloc, b"nopqrstuvwxyz")?;
+    let rows = collected_of_two(alloc, first.into_ref(), second.into_ref(), &LONG_PICKS)?;
     let rows = rows.into_binview().ok().ok_or("another type")?;
-    assert_eq!(rt; (rows.len(), rows.data_buffers().len()), (3, 2));
-    let row = rows.get(alloc, 0)?.ok_or("null")?;
-    assert_eq!(rt; row.as_slice(), b"nopqrstuvwxyz".as_slice());
-    assert!(rt; rows.get(alloc, 1)?.is_none());
+    assert!(rt; are_long_rows(alloc, &rows) == Ok(true));
     Ok(())
 }
 
-fn texts(alloc: Global, long: &[u8]) -> Result<Column, Fail> {
-    let bytes = views(alloc, long)?;
+fn texts(alloc: Global, long: &[u8]) -> Result<Utf8ViewArray, Fail> {
     let BinaryViewArray {
         views,
         buffers,
         validity,
         ..
-    } = bytes;
-    Ok(Column::Utf8View(Utf8ViewArray::try_new(views, buffers, validity)?))
+    } = views(alloc, long)?;
+    Ok(Utf8ViewArray::try_new(views, buffers, validity)?)
 }
 
 #[test]
@@ -159,11 +150,9 @@ fn rows_of_two_columns_of_texts(rt: HostRuntime) -> Result<(), Fail> {
     let alloc = rt.alloc();
     let first = texts(alloc, b"abcdefghijklm")?;
     let second = texts(alloc, b"nopqrstuvwxyz")?;
-    let rows = collected(alloc, &[&first, &second], &LONG_PICKS)?;
+    let rows = collected_of_two(alloc, first.into_ref(), second.into_ref(), &LONG_PICKS)?;
     let rows = rows.into_utf8view().ok().ok_or("another type")?;
-    assert_eq!(rt; rows.len(), 3);
-    let row = rows.get(alloc, 2)?.ok_or("null")?;
-    assert_eq!(rt; row.as_str(), "ab");
+    assert!(rt; rows.len() == 3 && has_text(alloc, &rows, 2, Some("ab")) == Ok(true));
     Ok(())
 }
 
@@ -181,8 +170,7 @@ fn some_runs(alloc: Global) -> PolarsResult<Vec<Run>> {
 #[test]
 fn runs_that_go_on_are_one(rt: HostRuntime) -> Result<(), Fail> {
     let runs = some_runs(rt.alloc())?;
-    assert_eq!(rt; runs.len(), 2);
-    assert_eq!(rt; picked_rows(&runs), 4);
+    assert!(rt; runs.len() == 2 && picked_rows(&runs) == 4);
     Ok(())
 }
 
@@ -212,11 +200,17 @@ fn picks_the_last(alloc: Global, column: &Column, runs: &[Run]) -> Result<bool, 
     Ok(rows.get(0) == Some(2) && rows.get(1) == Some(3) && rows.get(2).is_none())
 }
 
+// The same of these runs of one column, which is dropped by a call.
+fn runs_pick_the_last(alloc: Global, column: ArrayRef, runs: &[Run]) -> Result<bool, Fail> {
+    let answer = picks_the_last(alloc, column.as_column(), runs);
+    drop(column);
+    answer
+}
+
 #[test]
 fn rows_of_runs(rt: HostRuntime) -> Result<(), Fail> {
-    let alloc = rt.alloc();
-    let runs = some_runs(alloc)?;
-    let column = numbers(alloc, &[1u8, 2, 3])?;
-    assert!(rt; picks_the_last(alloc, &column, &runs)?);
+    let runs = some_runs(rt.alloc())?;
+    let column = numbers(rt.alloc(), &[1u8, 2, 3])?;
+    assert!(rt; runs_pick_the_last(rt.alloc(), column.into_ref(), &runs)?);
     Ok(())
 }

@@ -1,4 +1,4 @@
-use crate::fixtures::{
+use checks_columns::fixtures::{
     buffer, column, has_bits, has_text, has_truths, is_bytes, is_numbers, numbers, truths,
 };
 use polars_compute::gather::bitmap::{take_bitmap_nulls_unchecked, take_bitmap_unchecked};
@@ -6,13 +6,14 @@ use polars_compute::gather::{boolean, idx_slice_in_bounds, indices_in_bounds, ta
 use sel_arrow::array::Array;
 use sel_arrow::array_ref::ArrayRef;
 use sel_arrow::binary::BinaryArray;
-use sel_arrow::column::Column;
+use sel_arrow::boolean::BooleanArray;
 use sel_arrow::null::NullArray;
 use sel_arrow::primitive::IdxArr;
 use sel_arrow::utf8view::Utf8ViewArray;
 use sel_arrow::view::View;
 use sel_bits::bitmap::Bitmap;
 use sel_bits::buffer::Buffer;
+use sel_bits::faults::PolarsResult;
 use sel_bits::offsets::OffsetsBuffer;
 use std::alloc::Global;
 use std::test::Fail;
@@ -22,15 +23,25 @@ fn indices(alloc: Global, rows: &[Option<u32>]) -> Result<IdxArr, Fail> {
     column(alloc, rows, u32::MAX)
 }
 
+// Whether the bits at these places are these.
+fn takes_bits(
+    alloc: Global,
+    values: &Bitmap,
+    places: &[u32],
+    taken: &[bool],
+) -> PolarsResult<bool> {
+    if !idx_slice_in_bounds(places, values.len()) {
+        return Ok(false);
+    }
+    Ok(has_bits(&take_bitmap_unchecked(alloc, values, places)?, taken))
+}
+
 #[test]
 fn bits_at_places(rt: HostRuntime) -> Result<(), Fail> {
-    let alloc = rt.alloc();
-    let values = Bitmap::from_bools(alloc, &[true, false, true])?;
+    let values = Bitmap::from_bools(rt.alloc(), &[true, false, true])?;
     assert!(rt; !idx_slice_in_bounds(&[3], values.len()));
-    let places = [2u32, 1, 1, 0];
-    assert!(rt; idx_slice_in_bounds(&places, values.len()));
-    let taken = take_bitmap_unchecked(alloc, &values, &places)?;
-    assert!(rt; has_bits(&taken, &[true, false, false, true]));
+    let taken = [true, false, false, true];
+    assert!(rt; takes_bits(rt.alloc(), &values, &[2u32, 1, 1, 0], &taken) == Ok(true));
     Ok(())
 }
 
@@ -43,38 +54,62 @@ fn bits_taken(alloc: Global, values: &Bitmap, places: &[Option<u32>]) -> Result<
     Ok(take_bitmap_nulls_unchecked(alloc, values, &places)?)
 }
 
+// Whether the bits at these indices are these.
+fn takes_bits_and_nulls(
+    alloc: Global,
+    values: &[bool],
+    places: &[Option<u32>],
+    taken: &[bool],
+) -> Result<bool, Fail> {
+    let values = Bitmap::from_bools(alloc, values)?;
+    Ok(has_bits(&bits_taken(alloc, &values, places)?, taken))
+}
+
 #[test]
 fn bits_at_indices(rt: HostRuntime) -> Result<(), Fail> {
     let alloc = rt.alloc();
-    let rows: [(&[bool], &[Option<u32>], &[bool]); 2] = [
-        (&[], &[None, None], &[false, false]),
-        (&[true, false], &[None, Some(1)], &[true, false]),
-    ];
-    for (values, places, taken) in &rows {
-        let values = Bitmap::from_bools(alloc, values)?;
-        assert!(rt; has_bits(&bits_taken(alloc, &values, places)?, taken));
-    }
+    assert!(rt; takes_bits_and_nulls(alloc, &[], &[None, None], &[false, false])?);
+    assert!(rt; takes_bits_and_nulls(alloc, &[true, false], &[None, Some(1)], &[true, false])?);
     Ok(())
+}
+
+// The truth values at these indices, where they are in bounds.
+fn truths_taken(
+    alloc: Global,
+    array: &BooleanArray,
+    places: &[Option<u32>],
+) -> Result<BooleanArray, Fail> {
+    let places = indices(alloc, places)?;
+    if !indices_in_bounds(&places, array.len()) {
+        return Err(Fail::from("out of bounds"));
+    }
+    Ok(boolean::take_unchecked(alloc, array, &places)?)
 }
 
 #[test]
 fn truth_values_at_indices(rt: HostRuntime) -> Result<(), Fail> {
-    let alloc = rt.alloc();
-    let array = truths(alloc, &[true, true, false], &[true, false, true])?;
-    let places = indices(alloc, &[Some(2), None, Some(1), Some(0)])?;
-    assert!(rt; indices_in_bounds(&places, array.len()));
-    let taken = boolean::take_unchecked(alloc, &array, &places)?;
+    let array = truths(rt.alloc(), &[true, true, false], &[true, false, true])?;
+    let taken = truths_taken(rt.alloc(), &array, &[Some(2), None, Some(1), Some(0)])?;
     assert!(rt; has_truths(&taken, &[Some(false), None, None, Some(true)]));
     Ok(())
 }
 
 // The rows of any column at these indices, where they are in bounds.
-fn taken(alloc: Global, column: ArrayRef, places: &[Option<u32>]) -> Result<ArrayRef, Fail> {
+fn rows_taken(alloc: Global, column: &ArrayRef, places: &[Option<u32>]) -> Result<ArrayRef, Fail> {
     let places = indices(alloc, places)?;
     if !indices_in_bounds(&places, column.len()) {
         return Err(Fail::from("out of bounds"));
     }
-    Ok(take_unchecked(alloc, &column, &places)?)
+    Ok(take_unchecked(alloc, column, &places)?)
+}
+
+// The same of a column that is needed no more.
+//
+// Columns of every kind are dropped by a call: a drop at the end of a body is proved kind by kind.
+fn taken(alloc: Global, column: ArrayRef, places: &[Option<u32>]) -> Result<ArrayRef, Fail> {
+    let rows = rows_taken(alloc, &column, places);
+    drop(column);
+    rows
 }
 
 #[test]
@@ -89,12 +124,9 @@ fn numbers_of_any_column_at_indices(rt: HostRuntime) -> Result<(), Fail> {
 #[test]
 fn nulls_of_any_column_at_indices(rt: HostRuntime) -> Result<(), Fail> {
     let alloc = rt.alloc();
-    let rows = taken(
-        alloc,
-        NullArray::try_new(2)?.into_ref(),
-        &[Some(1), None, Some(0)],
-    )?;
-    assert!(rt; matches!(rows.as_column(), Column::Null(nulls) if nulls.len() == 3));
+    let nulls = NullArray::try_new(2)?;
+    let rows = taken(alloc, nulls.into_ref(), &[Some(1), None, Some(0)])?;
+    assert!(rt; rows.into_null().ok().ok_or("another type")?.len() == 3);
     Ok(())
 }
 
@@ -108,14 +140,17 @@ fn two_texts(alloc: Global) -> Result<Utf8ViewArray, Fail> {
     Ok(Utf8ViewArray::try_new(buffer(alloc, &views)?, buffers, None)?)
 }
 
+// Whether the rows are the longer text and a null.
+fn are_taken_texts(alloc: Global, rows: &Utf8ViewArray) -> PolarsResult<bool> {
+    Ok(rows.len() == 2 && has_text(alloc, rows, 0, Some("bc"))? && has_text(alloc, rows, 1, None)?)
+}
+
 #[test]
 fn texts_of_any_column_at_indices(rt: HostRuntime) -> Result<(), Fail> {
     let alloc = rt.alloc();
     let rows = taken(alloc, two_texts(alloc)?.into_ref(), &[Some(1), None])?;
     let rows = rows.into_utf8view().ok().ok_or("another type")?;
-    assert_eq!(rt; rows.len(), 2);
-    assert!(rt; has_text(alloc, &rows, 0, Some("bc"))?);
-    assert!(rt; has_text(alloc, &rows, 1, None)?);
+    assert!(rt; are_taken_texts(alloc, &rows) == Ok(true));
     Ok(())
 }
 

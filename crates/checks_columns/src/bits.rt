@@ -14,37 +14,69 @@ use std::alloc::Global;
 use std::process::Abort;
 use std::test::Fail;
 
-#[test]
-fn bitmaps_hold_their_bits(rt: HostRuntime) -> Result<(), Fail> {
-    let alloc = rt.alloc();
-    assert!(rt; Bitmap::new(alloc)?.is_empty());
-    let ones = Bitmap::new_with_value(alloc, true, 3)?;
-    assert!(rt; has_bits(&ones, &[true, true, true]));
-    assert!(rt; has_bits(&Bitmap::new_zeroed(alloc, 2)?, &[false, false]));
+/// Whether bitmaps made of nothing, of one value, of zeros and of bits have these bits.
+fn makers_hold_bits(alloc: Global) -> PolarsResult<bool> {
     let bits = [false, true, true, false, false, false, true, true, true];
-    assert!(rt; has_bits(&Bitmap::from_bools(alloc, &bits)?, &bits));
-    Ok(())
+    Ok(
+        Bitmap::new(alloc)?.is_empty()
+            && has_bits(
+                &Bitmap::new_with_value(alloc, true, 3)?,
+                &[true, true, true],
+            )
+            && has_bits(&Bitmap::new_zeroed(alloc, 2)?, &[false, false])
+            && has_bits(&Bitmap::from_bools(alloc, &bits)?, &bits),
+    )
+}
+
+#[test]
+fn bitmaps_hold_their_bits(rt: HostRuntime) {
+    assert!(rt; makers_hold_bits(rt.alloc()) == Ok(true));
+}
+
+/// Whether the bits of the byte 0xB4 from the third on are these, and so counted.
+fn has_part(whole: Bitmap) -> bool
+    requires { length whole.bits ≡ 8 }
+{
+    let part = whole.sliced(2, 5);
+    has_bits(&part, &[true, false, true, true, false])
+        && part.len() == 5
+        && part.set_bits() == 3
+        && part.unset_bits() == 2
+}
+
+/// Whether the bits are those of the byte 0xB4.
+fn is_whole(whole: &Bitmap) -> bool {
+    let bits = [false, false, true, false, true, true, false, true];
+    has_bits(whole, &bits)
 }
 
 #[test]
 fn bitmaps_hold_a_part(rt: HostRuntime) -> Result<(), Fail> {
     let whole = Bitmap::from_u8_vec([0xB4u8].to_vec(rt.alloc())?, 8)?;
-    let part = whole.try_clone()?.sliced(2, 5);
-    assert!(rt; has_bits(&part, &[true, false, true, true, false]));
-    assert_eq!(rt; (part.len(), part.set_bits(), part.unset_bits()), (5, 3, 2));
-    let bits = [false, false, true, false, true, true, false, true];
-    assert!(rt; has_bits(&whole, &bits));
+    assert!(rt; has_part(whole.try_clone()?));
+    assert!(rt; is_whole(&whole));
     Ok(())
+}
+
+/// Whether the bytes of the bits 11 to 15 are the second byte, from its fourth bit on.
+fn lends_bytes(part: &Bitmap) -> bool {
+    let (bytes, offset, len) = part.as_slice();
+    bytes == [0x0Fu8].as_slice() && offset == 3 && len == 5
 }
 
 #[test]
 fn bitmaps_lend_their_bytes(rt: HostRuntime) -> Result<(), Fail> {
     let bytes = [0xB4u8, 0x0F, 0xFF].to_vec(rt.alloc())?;
     let part = Bitmap::from_u8_vec(bytes, 24)?.sliced(11, 5);
-    let (bytes, offset, len) = part.as_slice();
-    assert_eq!(rt; bytes, [0x0Fu8].as_slice());
-    assert_eq!(rt; (offset, len), (3, 5));
+    assert!(rt; lends_bytes(&part));
     Ok(())
+}
+
+/// Whether sixty zeros are taken in front and sixty-six behind, and three bits are left.
+fn takes_both_ends(mut bitmap: Bitmap) -> bool {
+    bitmap.take_leading_zeros() == 60
+        && bitmap.take_trailing_zeros() == 66
+        && has_bits(&bitmap, &[true, false, true])
 }
 
 #[test]
@@ -52,18 +84,19 @@ fn zeros_are_taken_at_both_ends(rt: HostRuntime) -> Result<(), Fail> {
     let mut bits = [false; 130];
     bits[61] = true;
     bits[63] = true;
-    let mut bitmap = Bitmap::from_bools(rt.alloc(), &bits)?.sliced(1, 129);
-    assert_eq!(rt; bitmap.take_leading_zeros(), 60);
-    assert_eq!(rt; bitmap.take_trailing_zeros(), 66);
-    assert!(rt; has_bits(&bitmap, &[true, false, true]));
+    let bitmap = Bitmap::from_bools(rt.alloc(), &bits)?.sliced(1, 129);
+    assert!(rt; takes_both_ends(bitmap));
     Ok(())
+}
+
+/// Whether seventy zeros are taken behind, and then none in front.
+fn takes_one_end(mut zeros: Bitmap) -> bool {
+    zeros.take_trailing_zeros() == 70 && zeros.take_leading_zeros() == 0
 }
 
 #[test]
 fn all_zeros_are_taken_at_one_end(rt: HostRuntime) -> Result<(), Fail> {
-    let mut zeros = Bitmap::new_zeroed(rt.alloc(), 70)?;
-    assert_eq!(rt; zeros.take_trailing_zeros(), 70);
-    assert_eq!(rt; zeros.take_leading_zeros(), 0);
+    assert!(rt; takes_one_end(Bitmap::new_zeroed(rt.alloc(), 70)?));
     Ok(())
 }
 
@@ -95,14 +128,12 @@ fn mixed_bits(alloc: Global, seed: u64, off: usize) -> PolarsResult<Bitmap>
     Ok(Bitmap::from_bools(alloc, &bits)?.sliced(off, 130))
 }
 
-#[test]
-fn operations_go_position_by_position(rt: HostRuntime) -> Result<(), Fail> {
-    let alloc = rt.alloc();
-    let (a, b, c) = (
-        mixed_bits(alloc, 1, 3)?,
-        mixed_bits(alloc, 2, 13)?,
-        mixed_bits(alloc, 3, 0)?,
-    );
+/// What the operations give, position by position.
+fn wanted_bits(a: &Bitmap, b: &Bitmap, c: &Bitmap) -> [[bool; 130]; 6]
+    requires first { length a.now.bits ≡ 130 }
+    requires second { length b.now.bits ≡ 130 }
+    requires third { length c.now.bits ≡ 130 }
+{
     let mut wanted = [[false; 130]; 6];
     for i in 0..130 {
         let (x, y, z) = (a.get_bit(i), b.get_bit(i), c.get_bit(i));
@@ -113,26 +144,47 @@ fn operations_go_position_by_position(rt: HostRuntime) -> Result<(), Fail> {
         wanted[4][i] = !x;
         wanted[5][i] = if x { y } else { z };
     }
-    assert!(rt; has_bits(&a.and(alloc, &b)?, &wanted[0]));
-    assert!(rt; has_bits(&a.or(alloc, &b)?, &wanted[1]));
-    assert!(rt; has_bits(&a.and_not(alloc, &b)?, &wanted[2]));
-    assert!(rt; has_bits(&a.or_not(alloc, &b)?, &wanted[3]));
-    assert!(rt; has_bits(&a.not(alloc)?, &wanted[4]));
-    assert!(rt; has_bits(&Bitmap::choose(alloc, &a, &b, &c)?, &wanted[5]));
+    wanted
+}
+
+/// Whether the operations on bitmaps of one length give what their definitions do.
+fn operations_are(alloc: Global, a: &Bitmap, b: &Bitmap, c: &Bitmap) -> PolarsResult<bool>
+    requires first { length a.now.bits ≡ 130 }
+    requires second { length b.now.bits ≡ 130 }
+    requires third { length c.now.bits ≡ 130 }
+{
+    let wanted = wanted_bits(a, b, c);
+    Ok(
+        has_bits(&a.and(alloc, b)?, &wanted[0])
+            && has_bits(&a.or(alloc, b)?, &wanted[1])
+            && has_bits(&a.and_not(alloc, b)?, &wanted[2])
+            && has_bits(&a.or_not(alloc, b)?, &wanted[3])
+            && has_bits(&a.not(alloc)?, &wanted[4])
+            && has_bits(&Bitmap::choose(alloc, a, b, c)?, &wanted[5]),
+    )
+}
+
+#[test]
+fn operations_go_position_by_position(rt: HostRuntime) -> Result<(), Fail> {
+    let a = mixed_bits(rt.alloc(), 1, 3)?;
+    let b = mixed_bits(rt.alloc(), 2, 13)?;
+    let c = mixed_bits(rt.alloc(), 3, 0)?;
+    assert!(rt; operations_are(rt.alloc(), &a, &b, &c) == Ok(true));
     Ok(())
 }
 
-fn check_buffer(rt: &(impl Abort + Alloc<A = Global>), whole: &Buffer<u16>) -> PolarsResult<()> {
-    assert!(rt; whole.len() == 4);
+/// Whether the two numbers behind the first are these, and the whole keeps its four.
+fn has_two_behind(whole: &Buffer<u16>) -> PolarsResult<bool> {
+    if whole.len() != 4 {
+        return Ok(false);
+    }
     let part = whole.try_clone()?.sliced(1, 2);
-    assert!(rt; part.as_slice() == [6u16, 7].as_slice());
-    assert!(rt; whole.len() == 4 && part.len() == 2);
-    Ok(())
+    Ok(part.as_slice() == [6u16, 7].as_slice() && whole.len() == 4 && part.len() == 2)
 }
 
 #[test]
 fn buffers_hold_a_part(rt: HostRuntime) -> Result<(), Fail> {
-    check_buffer(&rt, &buffer(rt.alloc(), &[5u16, 6, 7, 8])?)?;
+    assert!(rt; has_two_behind(&buffer(rt.alloc(), &[5u16, 6, 7, 8])?)?);
     Ok(())
 }
 
@@ -151,40 +203,33 @@ fn offsets_are_tested_in_order(rt: HostRuntime) -> Result<(), Fail> {
         (&[3], None),
     ];
     for (offsets, rule) in &table {
-        let wanted = match rule {
-            Some(rule) => Some(MakeError::Malformed(*rule)),
-            None => None,
-        };
-        assert_eq!(rt; fault_of(rt.alloc(), offsets)?, wanted);
+        assert!(rt; fault_of(rt.alloc(), offsets)? == rule.map(MakeError::Malformed));
     }
     Ok(())
 }
 
-fn check_offsets(
-    rt: &(impl Abort + Alloc<A = Global>),
-    whole: &OffsetsBuffer<i64>,
-) -> PolarsResult<()> {
+/// Whether the two pieces behind the first lie between these offsets.
+fn has_pieces_behind(whole: &OffsetsBuffer<i64>) -> PolarsResult<bool> {
     let part = whole.try_clone()?;
-    assert!(rt; part.len_proxy() == 3);
+    if part.len_proxy() != 3 {
+        return Ok(false);
+    }
     let part = part.sliced(1, 2);
-    assert!(rt; part.as_slice() == [2i64, 5, 9].as_slice());
-    assert!(rt; part.len_proxy() == 2);
-    assert!(rt; part.at(1) == 5);
-    Ok(())
+    Ok(part.as_slice() == [2i64, 5, 9].as_slice() && part.len_proxy() == 2 && part.at(1) == 5)
 }
 
 #[test]
 fn offsets_of_a_part(rt: HostRuntime) -> Result<(), Fail> {
     let whole = OffsetsBuffer::try_from([2i64, 2, 5, 9].to_vec(rt.alloc())?)?;
     assert!(rt; whole.first() == 2 && whole.last() == 9 && whole.len_proxy() == 3);
-    assert!(rt; check_offsets(&rt, &whole).is_ok());
+    assert!(rt; has_pieces_behind(&whole) == Ok(true));
     Ok(())
 }
 
 #[test]
 fn offsets_that_are_known_to_rise(rt: HostRuntime) -> Result<(), Fail> {
     let offsets = OffsetsBuffer::of_rising(Vec::from_array(rt.alloc(), [0i32, 0, 7])?)?;
-    assert_eq!(rt; offsets.as_slice(), [0i32, 0, 7].as_slice());
+    assert!(rt; offsets.as_slice() == [0i32, 0, 7].as_slice());
     Ok(())
 }
 
@@ -193,48 +238,36 @@ fn back<T: NativeType>(n: usize) -> Option<usize> {
     T::from_usize(n)?.try_usize()
 }
 
+/// Whether the first number is one of the type, and the other is none.
+fn ends_at<T: NativeType>(last: usize, next: usize) -> bool {
+    back::<T>(last) == Some(last) && back::<T>(next).is_none()
+}
+
+/// Whether the greatest of all positions is a number of the type.
+fn holds_positions<T: NativeType>() -> bool {
+    back::<T>(usize::MAX) == Some(usize::MAX)
+}
+
 #[test]
 fn numbers_go_to_usize_and_back(rt: HostRuntime) {
-    assert_eq!(rt; (back::<i8>(127), back::<i8>(128)), (Some(127), None));
-    assert_eq!(rt;
-        (back::<i16>(32767), back::<i16>(32768)),
-        (Some(32767), None)
-    );
-    assert_eq!(rt;
-        (back::<i32>(2147483647), back::<i32>(2147483648)),
-        (Some(2147483647), None)
-    );
-    assert_eq!(rt;
-        (
-            back::<i64>(9223372036854775807),
-            back::<i64>(9223372036854775808)
-        ),
-        (Some(9223372036854775807), None)
-    );
-    assert_eq!(rt; (back::<u8>(255), back::<u8>(256)), (Some(255), None));
-    assert_eq!(rt;
-        (back::<u16>(65535), back::<u16>(65536)),
-        (Some(65535), None)
-    );
-    assert_eq!(rt;
-        (back::<u32>(4294967295), back::<u32>(4294967296)),
-        (Some(4294967295), None)
-    );
-    assert_eq!(rt; back::<u64>(usize::MAX), Some(usize::MAX));
-    assert_eq!(rt; back::<i128>(usize::MAX), Some(usize::MAX));
-    assert_eq!(rt; back::<u128>(usize::MAX), Some(usize::MAX));
-    assert_eq!(rt;
-        ((-1i8).try_usize(), (1u128 << 64).try_usize()),
-        (None, None)
-    );
-    assert_eq!(rt;
-        (0i64.to_usize(), u64::MAX.to_usize(), 7i128.to_usize()),
-        (0, usize::MAX, 7)
-    );
-    assert_eq!(rt;
-        (i32::LEAST, <i32 as NativeType>::GREATEST, u128::LEAST),
-        (i32::MIN, i32::MAX, 0)
-    );
+    assert!(rt; ends_at::<i8>(127, 128));
+    assert!(rt; ends_at::<i16>(32767, 32768));
+    assert!(rt; ends_at::<i32>(2147483647, 2147483648));
+    assert!(rt; ends_at::<i64>(9223372036854775807, 9223372036854775808));
+    assert!(rt; ends_at::<u8>(255, 256));
+    assert!(rt; ends_at::<u16>(65535, 65536));
+    assert!(rt; ends_at::<u32>(4294967295, 4294967296));
+    assert!(rt; holds_positions::<u64>() && holds_positions::<i128>());
+    assert!(rt; holds_positions::<u128>());
+}
+
+#[test]
+fn numbers_that_are_no_positions(rt: HostRuntime) {
+    assert!(rt; (-1i8).try_usize().is_none() && (1u128 << 64).try_usize().is_none());
+    assert!(rt; 0i64.to_usize() == 0 && u64::MAX.to_usize() == usize::MAX);
+    assert!(rt; 7i128.to_usize() == 7);
+    assert!(rt; i32::LEAST == i32::MIN && <i32 as NativeType>::GREATEST == i32::MAX);
+    assert!(rt; u128::LEAST == 0);
 }
 
 /// How many of the indices are below the number.
@@ -245,53 +278,49 @@ fn count_below<I: Index>(indices: &[I], n: usize) -> usize {
         .count()
 }
 
-/// What the traits of offsets say of two offsets.
-fn told<O: Offset>(x: O, y: O) -> (bool, bool) {
-    (x.is_negative(), x.is_below(y))
+/// Whether the first offset is negative and below the other, as the trait has it.
+fn is_negative_and_below<O: Offset>(x: O, y: O) -> bool {
+    x.is_negative() && x.is_below(y)
+}
+
+/// Whether the first offset is neither.
+fn is_neither<O: Offset>(x: O, y: O) -> bool {
+    !x.is_negative() && !x.is_below(y)
 }
 
 #[test]
 fn indices_and_offsets_by_their_traits(rt: HostRuntime) {
-    assert_eq!(rt; count_below(&[-1i64, 0, 4, 5], 5), 2);
-    assert_eq!(rt; count_below(&[0u8, 255], 255), 1);
-    assert_eq!(rt;
-        (told(-1i32, 0), told(2i64, 2)),
-        ((true, true), (false, false))
-    );
-    assert_eq!(rt;
-        (5i32.to_position(), i64::MAX.to_position()),
-        (5, 9223372036854775807)
-    );
+    assert!(rt; count_below(&[-1i64, 0, 4, 5], 5) == 2);
+    assert!(rt; count_below(&[0u8, 255], 255) == 1);
+    assert!(rt; is_negative_and_below(-1i32, 0));
+    assert!(rt; is_neither(2i64, 2));
+    assert!(rt; 5i32.to_position() == 5 && i64::MAX.to_position() == 9223372036854775807);
 }
 
 #[test]
-fn places_and_words(rt: HostRuntime) {
-    assert_eq!(rt;
-        (
-            negative_to_usize(0, 3),
-            negative_to_usize(2, 3),
-            negative_to_usize(3, 3)
-        ),
-        (Some(0), Some(2), None)
-    );
-    assert_eq!(rt;
-        (
-            negative_to_usize(-1, 3),
-            negative_to_usize(-3, 3),
-            negative_to_usize(-4, 3)
-        ),
-        (Some(2), Some(0), None)
-    );
-    assert_eq!(rt;
-        (negative_to_usize(0, 0), negative_to_usize(i64::MIN, 3)),
-        (None, None)
-    );
-    assert_eq!(rt; prefix_xorsum(0b1011), 0xFFFF_FFFF_FFFF_FFF2);
-    assert_eq!(rt; load_padded_le_u64(&[0x01, 0x02]), 0x201);
-    assert_eq!(rt;
-        load_padded_le_u64(&[1, 2, 3, 4, 5, 6, 7, 8, 9]),
-        0x0807_0605_0403_0201
-    );
+fn places_from_both_ends(rt: HostRuntime) {
+    for (place, len, wanted) in [
+        (0, 3, Some(0)),
+        (2, 3, Some(2)),
+        (3, 3, None),
+        (-1, 3, Some(2)),
+        (-3, 3, Some(0)),
+        (-4, 3, None),
+        (0, 0, None),
+        (i64::MIN, 3, None),
+    ] {
+        assert!(rt;
+            negative_to_usize(place, len) == wanted,
+            "at {place} of {len}"
+        );
+    }
+}
+
+#[test]
+fn words_of_bits_and_bytes(rt: HostRuntime) {
+    assert!(rt; prefix_xorsum(0b1011) == 0xFFFF_FFFF_FFFF_FFF2);
+    assert!(rt; load_padded_le_u64(&[0x01, 0x02]) == 0x201);
+    assert!(rt; load_padded_le_u64(&[1, 2, 3, 4, 5, 6, 7, 8, 9]) == 0x0807_0605_0403_0201);
 }
 
 #[test]
@@ -307,7 +336,7 @@ fn refusals_have_texts(rt: HostRuntime) -> Result<(), Fail> {
         ),
         (PolarsError::ComputeError, "get index is out of bounds"),
     ] {
-        assert_eq!(rt; refusal.to_string(rt.alloc())?.as_str(), text);
+        assert!(rt; refusal.to_string(rt.alloc())?.as_str() == text);
     }
     Ok(())
 }

@@ -4,7 +4,9 @@ ghost use Rattle.std.specs.Prelude.{◌≡◌, ◌≤◌, length, IfOk};
 ghost use Rattle.sel_arrow.specs.Masked.{Covers};
 ghost use Rattle.sel_arrow.specs.Rows.{IsWellFormed};
 
-use crate::fixtures::{buffer, has_bytes, has_text, has_truths, numbers, truths};
+use crate::fixtures::{
+    buffer, has_bytes, has_bytes_at, has_text, has_truths, numbers, one_buffer, truths,
+};
 use sel_arrow::array::Array;
 use sel_arrow::array_ref::ArrayRef;
 use sel_arrow::binary::BinaryArray;
@@ -48,14 +50,6 @@ fn validity(alloc: Global, bits: &[bool]) -> PolarsResult<Option<Bitmap>>
     Ok(Some(Bitmap::from_bools(alloc, bits)?))
 }
 
-/// One data buffer of these bytes.
-fn one_buffer(alloc: Global, bytes: &[u8]) -> PolarsResult<Buffer<Buffer<u8>>> {
-    let bytes = buffer(alloc, bytes)?;
-    let mut buffers = Vec::new(alloc);
-    buffers.push(bytes)?;
-    Buffer::from_vec(buffers)
-}
-
 fn no_buffers(alloc: Global) -> PolarsResult<Buffer<Buffer<u8>>> {
     Buffer::from_vec(Vec::new(alloc))
 }
@@ -77,82 +71,95 @@ fn malformed(rule: Malformed) -> Option<MakeError> {
     Some(MakeError::Malformed(rule))
 }
 
+fn fault_of_nulls(rows: usize) -> Option<MakeError> {
+    NullArray::try_new(rows).err()
+}
+
 #[test]
 fn columns_of_nulls_have_a_limit(rt: HostRuntime) {
-    assert_eq!(rt; NullArray::try_new(4294967295).err(), None);
-    assert_eq!(rt;
-        NullArray::try_new(4294967296).err(),
-        malformed(Malformed::TooManyRows)
-    );
+    assert!(rt; fault_of_nulls(4294967295).is_none());
+    assert!(rt; fault_of_nulls(4294967296) == malformed(Malformed::TooManyRows));
+}
+
+/// Why two truth values under a validity of one row are no column.
+fn fault_of_truths(alloc: Global) -> PolarsResult<Option<MakeError>> {
+    let bits = Bitmap::from_bools(alloc, &[true, false])?;
+    Ok(BooleanArray::try_new(bits, validity(alloc, &[true])?).err())
+}
+
+/// Why one number under a validity of no rows is no column.
+fn fault_of_numbers(alloc: Global) -> PolarsResult<Option<MakeError>> {
+    let values = buffer(alloc, &[1i8])?;
+    Ok(PrimitiveArray::try_new(values, validity(alloc, &[])?).err())
 }
 
 #[test]
-fn validities_are_as_long_as_truth_values(rt: HostRuntime) -> Result<(), Fail> {
-    let bits = Bitmap::from_bools(rt.alloc(), &[true, false])?;
-    let column = BooleanArray::try_new(bits, validity(rt.alloc(), &[true])?);
-    assert_eq!(rt; column.err(), malformed(Malformed::ValidityLength));
-    Ok(())
+fn validities_are_as_long_as_the_values(rt: HostRuntime) {
+    let fault = Ok(malformed(Malformed::ValidityLength));
+    assert!(rt; fault_of_truths(rt.alloc()) == fault);
+    assert!(rt; fault_of_numbers(rt.alloc()) == fault);
 }
 
-#[test]
-fn validities_are_as_long_as_numbers(rt: HostRuntime) -> Result<(), Fail> {
-    let column = PrimitiveArray::try_new(buffer(rt.alloc(), &[1i8])?, validity(rt.alloc(), &[])?);
-    assert_eq!(rt; column.err(), malformed(Malformed::ValidityLength));
-    Ok(())
+/// Why two bytes are no column between offsets up to three.
+fn fault_of_bytes(alloc: Global) -> Result<Option<MakeError>, Fail> {
+    let offsets = OffsetsBuffer::try_from(Vec::from_slice(alloc, &[0i32, 3])?)?;
+    let bytes = buffer(alloc, b"ab")?;
+    Ok(BinaryArray::try_new(offsets, bytes, validity(alloc, &[])?).err())
 }
 
 #[test]
 fn last_offsets_are_within_the_bytes(rt: HostRuntime) -> Result<(), Fail> {
-    let offsets = OffsetsBuffer::try_from(Vec::from_slice(rt.alloc(), &[0i32, 3])?)?;
-    let bytes = buffer(rt.alloc(), b"ab")?;
-    let column = BinaryArray::try_new(offsets, bytes, validity(rt.alloc(), &[])?);
-    assert_eq!(rt; column.err(), malformed(Malformed::OffsetRange));
+    assert!(rt; fault_of_bytes(rt.alloc())? == malformed(Malformed::OffsetRange));
     Ok(())
 }
 
 #[test]
 fn views_are_in_range_with_their_prefix(rt: HostRuntime) -> Result<(), Fail> {
-    let alloc = rt.alloc();
-    let range = Some(MakeError::Malformed(Malformed::ViewRange));
-    let prefix = Some(MakeError::Malformed(Malformed::ViewPrefix));
-    let table = [
+    let range = malformed(Malformed::ViewRange);
+    let prefix = malformed(Malformed::ViewPrefix);
+    let far = View {
+        offset: 4294967295,
+        ..WHOLE
+    };
+    let late = View { offset: 1, ..WHOLE };
+    let elsewhere = View {
+        buffer_idx: 5,
+        ..WHOLE
+    };
+    let other = View { prefix: 0, ..WHOLE };
+    for (view, valid, wanted) in [
         (WHOLE, true, None),
         (SHORT, true, None),
-        (
-            View {
-                offset: 4294967295,
-                ..WHOLE
-            },
-            true,
-            range,
-        ),
-        (View { offset: 1, ..WHOLE }, true, range),
-        (
-            View {
-                buffer_idx: 5,
-                ..WHOLE
-            },
-            false,
-            range,
-        ),
-        (View { prefix: 0, ..WHOLE }, true, prefix),
-        (View { prefix: 0, ..WHOLE }, false, prefix),
-    ];
-    for (view, valid, wanted) in table {
-        assert_eq!(rt; fault_of_view(alloc, view, valid)?, wanted, "at {view:?}");
+        (far, true, range),
+        (late, true, range),
+        (elsewhere, false, range),
+        (other, true, prefix),
+        (other, false, prefix),
+    ] {
+        assert!(rt;
+            fault_of_view(rt.alloc(), view, valid)? == wanted,
+            "at {view:?}"
+        );
     }
+    Ok(())
+}
+
+#[test]
+fn valid_views_of_texts_are_texts(rt: HostRuntime) -> Result<(), Fail> {
     let broken = View {
         length: 1,
         prefix: 0xFF,
         ..SHORT
     };
-    let text = Some(MakeError::Malformed(Malformed::Utf8));
     for (view, valid, wanted) in [
         (SHORT, true, None),
-        (broken, true, text),
+        (broken, true, malformed(Malformed::Utf8)),
         (broken, false, None),
     ] {
-        assert_eq!(rt; fault_of_text(alloc, view, valid)?, wanted, "at {view:?}");
+        assert!(rt;
+            fault_of_text(rt.alloc(), view, valid)? == wanted,
+            "at {view:?}"
+        );
     }
     Ok(())
 }
@@ -186,56 +193,69 @@ fn views_name_their_bytes(rt: HostRuntime) -> Result<(), Fail> {
     Ok(())
 }
 
-/// Whether the row at the place is these bytes.
-fn has_bytes_at(
-    alloc: Global,
-    column: &BinaryViewArray,
-    at: usize,
-    bytes: Option<&[u8]>,
-) -> PolarsResult<bool> {
-    if at >= column.len() {
-        return Ok(false);
-    }
-    Ok(match column.get(alloc, at)? {
-        Some(row) => bytes == Some(row.as_slice()),
-        None => bytes.is_none(),
-    })
-}
-
 fn short_views(alloc: Global) -> Result<BinaryViewArray, Fail> {
     let views = buffer(alloc, &[SHORT, SHORT])?;
     let buffers = no_buffers(alloc)?;
     Ok(BinaryViewArray::try_new(views, buffers, validity(alloc, &[true, false])?)?)
 }
 
+/// Whether the rows are four letters and a null.
+fn are_letters(alloc: Global, column: &BinaryViewArray) -> PolarsResult<bool> {
+    Ok(
+        column.len() == 2
+            && has_bytes_at(alloc, column, 0, Some(b"abcd"))?
+            && has_bytes_at(alloc, column, 1, None)?,
+    )
+}
+
 #[test]
 fn views_hold_up_to_twelve_bytes(rt: HostRuntime) -> Result<(), Fail> {
-    let alloc = rt.alloc();
-    let column = short_views(alloc)?;
-    assert_eq!(rt; column.len(), 2);
-    assert!(rt; has_bytes_at(alloc, &column, 0, Some(b"abcd"))?);
-    assert!(rt; has_bytes_at(alloc, &column, 1, None)?);
+    let column = short_views(rt.alloc())?;
+    assert!(rt; are_letters(rt.alloc(), &column) == Ok(true));
     Ok(())
 }
 
-/// What a column tells of itself: how many of its three rows are null, and its type.
-fn check_facts<A: Array>(
-    rt: &(impl Abort + Alloc<A = Global>),
+/// Whether a column tells of itself that it has three rows, how many of them are null, and its type.
+fn tells<A: Array>(column: &A, dtype: &ArrowDataType, nulls: usize) -> bool {
+    column.len() == 3
+        && !column.is_empty()
+        && column.null_count() == nulls
+        && column.has_nulls() == (nulls > 0)
+        && column.validity().is_some() == (nulls == 1)
+        && column.has_dtype(dtype)
+}
+
+/// Whether the type that is read off a column is its type.
+fn has_own_dtype<A: Array>(alloc: Global, column: &A) -> PolarsResult<bool> {
+    let dtype = column.dtype(alloc)?;
+    let is_own = column.has_dtype(&dtype);
+    drop(dtype);
+    Ok(is_own)
+}
+
+/// Whether so many of the two rows behind the first are null.
+fn part_tells<A: Array + Drop>(alloc: Global, column: &A, nulls: usize) -> PolarsResult<bool> {
+    if column.len() != 3 {
+        return Ok(false);
+    }
+    let part = column.sliced(alloc, 1, 2)?;
+    Ok(part.len() == 2 && part.null_count() == nulls)
+}
+
+/// Whether a copy tells the same.
+fn copy_tells<A: Array + Drop>(
+    alloc: Global,
     column: &A,
     dtype: &ArrowDataType,
     nulls: usize,
-) {
-    assert_eq!(rt; column.len(), 3);
-    assert!(rt; !column.is_empty());
-    assert_eq!(rt;
-        (column.null_count(), column.has_nulls()),
-        (nulls, nulls > 0)
-    );
-    assert_eq!(rt; column.validity().is_some(), nulls == 1);
-    assert!(rt; column.has_dtype(dtype));
+) -> PolarsResult<bool> {
+    let copy = column.try_clone(alloc)?;
+    Ok(tells(&copy, dtype, nulls) && copy.same_dtype(column))
 }
 
-/// Its type made anew, the null rows behind the first row, and a copy as a column of any type.
+/// What the column, its part and its copy tell of themselves, and the copy as a column of any type.
+///
+/// It takes a column of any kind, so that how the kind is dropped is no part of it.
 fn check_column<A: Array + Drop>(
     rt: &(impl Abort + Alloc<A = Global>),
     column: A,
@@ -243,14 +263,11 @@ fn check_column<A: Array + Drop>(
     nulls: (usize, usize),
 ) -> PolarsResult<ArrayRef> {
     let alloc = rt.alloc();
-    check_facts(rt, &column, dtype, nulls.0);
-    assert!(rt; column.has_dtype(&column.dtype(alloc)?));
-    assert_eq!(rt; column.len(), 3);
-    let part = column.sliced(alloc, 1, 2)?;
-    assert_eq!(rt; (part.len(), part.null_count()), (2, nulls.1));
+    assert!(rt; tells(&column, dtype, nulls.0));
+    assert!(rt; has_own_dtype(alloc, &column)?);
+    assert!(rt; part_tells(alloc, &column, nulls.1)?);
+    assert!(rt; copy_tells(alloc, &column, dtype, nulls.0)?);
     let copy = column.try_clone(alloc)?;
-    check_facts(rt, &copy, dtype, nulls.0);
-    assert!(rt; copy.same_dtype(&column));
     Ok(copy.into_ref())
 }
 
@@ -262,7 +279,7 @@ fn check_erased<A: Array + Drop>(
     nulls: (usize, usize),
 ) -> PolarsResult<ArrayRef> {
     let erased = check_column(rt, column, dtype, nulls)?;
-    assert!(rt; check_inside(rt, erased.as_column(), dtype, nulls.0).is_ok());
+    check_inside(rt, erased.as_column(), dtype, nulls.0);
     check_column(rt, erased, dtype, nulls)
 }
 
@@ -272,110 +289,184 @@ fn check_inside(
     column: &Column,
     dtype: &ArrowDataType,
     nulls: usize,
-) -> PolarsResult<()>
+)
     requires { IsWellFormed column.now }
 {
-    check_empty(rt, column, dtype)?;
-    check_part(rt, column)?;
-    assert!(rt; column.has_dtype(&column.dtype(rt.alloc())?));
-    let copy = column.try_clone(rt.alloc())?;
-    assert!(rt; copy.validity().is_some() == (nulls == 1));
-    Ok(())
+    let alloc = rt.alloc();
+    assert!(rt; is_like_empty(alloc, column, dtype) == Ok(true));
+    assert!(rt; has_part(alloc, column) == Ok(true));
+    assert!(rt; is_of_own_dtype(alloc, column) == Ok(true));
+    assert!(rt; copy_has_validity(alloc, column) == Ok(nulls == 1));
 }
 
-fn check_empty(
-    rt: &(impl Abort + Alloc<A = Global>),
-    column: &Column,
-    dtype: &ArrowDataType,
-) -> PolarsResult<()>
+// Columns of every kind are dropped by a call: a drop at the end of a body is proved kind by kind.
+
+/// Whether the empty column of the type has no rows and the type of the column.
+fn is_like_empty(alloc: Global, column: &Column, dtype: &ArrowDataType) -> PolarsResult<bool>
     requires { IsWellFormed column.now }
 {
-    let empty = new_empty_array(rt.alloc(), dtype)?;
-    assert!(rt; empty.is_empty());
-    assert!(rt; column.same_dtype(empty.as_column()));
-    Ok(())
+    let empty = new_empty_array(alloc, dtype)?;
+    let is_like = empty.is_empty() && column.same_dtype(empty.as_column());
+    drop(empty);
+    Ok(is_like)
 }
 
-fn check_part(rt: &(impl Abort + Alloc<A = Global>), column: &Column) -> PolarsResult<()>
+/// Whether the part behind two of three rows has one.
+fn has_part(alloc: Global, column: &Column) -> PolarsResult<bool>
     requires { IsWellFormed column.now }
 {
-    assert!(rt; column.len() == 3);
-    let part = column.sliced(rt.alloc(), 2, 1)?;
-    assert!(rt; part.len() == 1);
-    Ok(())
+    if column.len() != 3 {
+        return Ok(false);
+    }
+    let part = column.sliced(alloc, 2, 1)?;
+    let len = part.len();
+    drop(part);
+    Ok(len == 1)
+}
+
+/// Whether the type that is read off the column is its type.
+fn is_of_own_dtype(alloc: Global, column: &Column) -> PolarsResult<bool>
+    requires { IsWellFormed column.now }
+{
+    let dtype = column.dtype(alloc)?;
+    let is_own = column.has_dtype(&dtype);
+    drop(dtype);
+    Ok(is_own)
+}
+
+/// Whether a copy of the column has a validity.
+fn copy_has_validity(alloc: Global, column: &Column) -> PolarsResult<bool>
+    requires { IsWellFormed column.now }
+{
+    let copy = column.try_clone(alloc)?;
+    let has_validity = copy.validity().is_some();
+    drop(copy);
+    Ok(has_validity)
+}
+
+/// Whether the type of such numbers is this type, and is made so.
+fn is_dtype_of<T: ArrowPrimitive>(dtype: &ArrowDataType) -> bool {
+    let made = T::column_dtype();
+    let is_dtype = T::is_column_dtype(dtype) && T::is_column_dtype(&made);
+    drop(made);
+    is_dtype
 }
 
 /// A column of three numbers of each type, and back.
 fn check_numbers<T: ArrowPrimitive + Debug + PartialEq + Drop>(
     rt: &(impl Abort + Alloc<A = Global>),
     values: &[T; 3],
-    dtype: ArrowDataType,
+    dtype: &ArrowDataType,
 ) -> Result<(), Fail> {
-    let alloc = rt.alloc();
-    assert!(rt; T::is_column_dtype(&dtype) && T::is_column_dtype(&T::column_dtype()));
-    let column = numbers(alloc, values.as_slice(), &[true, false, true])?;
-    let erased = check_erased(rt, column, &dtype, (1, 1))?;
-    let column = erased.into_primitive::<T>().ok().ok_or("another type")?;
-    check_rows(rt, column, values)?;
+    assert!(rt; is_dtype_of::<T>(dtype));
+    let column = numbers(rt.alloc(), values.as_slice(), &[true, false, true])?;
+    let erased = check_erased(rt, column, dtype, (1, 1))?;
+    assert!(rt; are_numbers(rt.alloc(), erased, values)?);
     Ok(())
 }
 
-/// The rows of such a column, under its validity and under another.
-fn check_rows<T: ArrowPrimitive + Debug + PartialEq + Drop>(
-    rt: &(impl Abort + Alloc<A = Global>),
-    column: PrimitiveArray<T>,
+/// Whether these numbers lie in the column of any type.
+fn are_numbers<T: ArrowPrimitive + PartialEq>(
+    alloc: Global,
+    erased: ArrayRef,
     values: &[T; 3],
-) -> PolarsResult<()> {
-    let alloc = rt.alloc();
-    assert_eq!(rt; column.values().as_slice(), values.as_slice());
-    assert_eq!(rt; column.len(), 3);
-    assert!(rt; column.get(0) == Some(values[0]) && column.get(1).is_none());
-    assert!(rt; column.get(2) == Some(values[2]));
+) -> Result<bool, Fail> {
+    let column = erased.into_primitive::<T>().ok().ok_or("another type")?;
+    let bits = validity(alloc, &[false, true, true])?;
+    Ok(keeps_numbers(column, bits, values))
+}
+
+/// Whether the column has these numbers, the second null, and keeps them without a validity and under this one.
+fn keeps_numbers<T: ArrowPrimitive + PartialEq>(
+    column: PrimitiveArray<T>,
+    bits: Option<Bitmap>,
+    values: &[T; 3],
+) -> bool
+    requires { Covers bits 3 }
+{
+    let is_masked = holds_masked(&column, values);
     let column = column.with_validity(None);
-    assert_eq!(rt; (column.len(), column.null_count()), (3, 0));
-    assert!(rt; column.get(1) == Some(values[1]));
-    let column = column.with_validity(validity(alloc, &[false, true, true])?);
-    assert_eq!(rt; column.len(), 3);
-    assert!(rt; column.get(0).is_none() && column.get(1) == Some(values[1]));
-    Ok(())
+    if column.len() != 3 {
+        return false;
+    }
+    let is_whole = holds_all(&column, values);
+    let column = column.with_validity(bits);
+    is_masked && is_whole && holds_behind(&column, values)
+}
+
+/// Whether these are the numbers, the second of them null.
+fn holds_masked<T: ArrowPrimitive + PartialEq>(
+    column: &PrimitiveArray<T>,
+    values: &[T; 3],
+) -> bool {
+    column.values().as_slice() == values.as_slice()
+        && column.len() == 3
+        && column.get(0) == Some(values[0])
+        && column.get(1).is_none()
+        && column.get(2) == Some(values[2])
+}
+
+/// Whether no row is null, nor the second number another.
+fn holds_all<T: ArrowPrimitive + PartialEq>(column: &PrimitiveArray<T>, values: &[T; 3]) -> bool {
+    column.len() == 3 && column.null_count() == 0 && column.get(1) == Some(values[1])
+}
+
+/// Whether the first row is null and the second is its number.
+fn holds_behind<T: ArrowPrimitive + PartialEq>(
+    column: &PrimitiveArray<T>,
+    values: &[T; 3],
+) -> bool {
+    column.len() == 3 && column.get(0).is_none() && column.get(1) == Some(values[1])
 }
 
 #[test]
 fn columns_hold_signed_numbers(rt: HostRuntime) -> Result<(), Fail> {
-    check_numbers(&rt, &[-128i8, 0, 127], ArrowDataType::Int8)?;
-    check_numbers(&rt, &[-32768i16, 0, 32767], ArrowDataType::Int16)?;
-    check_numbers(&rt, &[-2147483648i32, 0, 2147483647], ArrowDataType::Int32)?;
-    check_numbers(&rt, &[i64::MIN, 0, i64::MAX], ArrowDataType::Int64)?;
-    check_numbers(&rt, &[i128::MIN, 0, i128::MAX], ArrowDataType::Int128)
+    check_numbers(&rt, &[-128i8, 0, 127], &ArrowDataType::Int8)?;
+    check_numbers(&rt, &[-32768i16, 0, 32767], &ArrowDataType::Int16)?;
+    check_numbers(&rt, &[-2147483648i32, 0, 2147483647], &ArrowDataType::Int32)?;
+    check_numbers(&rt, &[i64::MIN, 0, i64::MAX], &ArrowDataType::Int64)?;
+    check_numbers(&rt, &[i128::MIN, 0, i128::MAX], &ArrowDataType::Int128)
 }
 
 #[test]
 fn columns_hold_unsigned_numbers(rt: HostRuntime) -> Result<(), Fail> {
-    check_numbers(&rt, &[1u8, 0, 255], ArrowDataType::UInt8)?;
-    check_numbers(&rt, &[1u16, 0, 65535], ArrowDataType::UInt16)?;
-    check_numbers(&rt, &[1u32, 0, 4294967295], ArrowDataType::UInt32)?;
-    check_numbers(&rt, &[1u64, 0, u64::MAX], ArrowDataType::UInt64)?;
-    check_numbers(&rt, &[1u128, 0, u128::MAX], ArrowDataType::UInt128)
+    check_numbers(&rt, &[1u8, 0, 255], &ArrowDataType::UInt8)?;
+    check_numbers(&rt, &[1u16, 0, 65535], &ArrowDataType::UInt16)?;
+    check_numbers(&rt, &[1u32, 0, 4294967295], &ArrowDataType::UInt32)?;
+    check_numbers(&rt, &[1u64, 0, u64::MAX], &ArrowDataType::UInt64)?;
+    check_numbers(&rt, &[1u128, 0, u128::MAX], &ArrowDataType::UInt128)
+}
+
+/// Whether a call was refused.
+fn is_refused<T: Drop, E: Drop>(answer: Result<T, E>) -> bool {
+    answer.is_err()
+}
+
+/// One index, made a column of any type and taken out of it.
+fn one_index(alloc: Global) -> Result<(Buffer<u32>, Option<Bitmap>), Fail> {
+    let indices = IdxArr::try_new(buffer(alloc, &[5u32])?, None)?;
+    let ArrayRef { column } = indices.into_ref();
+    Ok(u32::from_column(column).ok().ok_or("another type")?)
 }
 
 #[test]
 fn numbers_are_a_kind_of_column(rt: HostRuntime) -> Result<(), Fail> {
-    let alloc = rt.alloc();
-    let indices = IdxArr::try_new(buffer(alloc, &[5u32])?, None)?;
-    let ArrayRef { column } = indices.into_ref();
-    let (values, bits) = u32::from_column(column).ok().ok_or("another type")?;
-    assert_eq!(rt; values.len(), 1);
-    assert!(rt; bits.is_none());
-    let column = u32::into_column(values, None);
-    assert!(rt; i64::from_column(column).is_err());
+    let (values, bits) = one_index(rt.alloc())?;
+    assert!(rt; values.len() == 1 && bits.is_none());
+    assert!(rt; is_refused(i64::from_column(u32::into_column(values, None))));
     Ok(())
+}
+
+/// How many rows the column of nulls has that lies in one of any type.
+fn nulls_again(erased: ArrayRef) -> Result<usize, Fail> {
+    let erased = erased.into_boolean().err().ok_or("taken for truth values")?;
+    Ok(erased.into_null().ok().ok_or("another type")?.len())
 }
 
 #[test]
 fn columns_hold_nulls(rt: HostRuntime) -> Result<(), Fail> {
     let erased = check_column(&rt, NullArray::try_new(3)?, &ArrowDataType::Null, (3, 2))?;
-    let erased = erased.into_boolean().err().ok_or("taken for truth values")?;
-    assert_eq!(rt; erased.into_null().ok().ok_or("another type")?.len(), 3);
+    assert!(rt; nulls_again(erased)? == 3);
     Ok(())
 }
 
@@ -386,16 +477,20 @@ fn truths_again(erased: ArrayRef) -> Result<BooleanArray, Fail> {
     Ok(column)
 }
 
+/// Whether the truth values are these, and without the validity the second is true.
+fn are_truths(column: BooleanArray) -> bool {
+    if !has_truths(&column, &[Some(true), None, Some(false)]) || column.values().set_bits() != 2 {
+        return false;
+    }
+    let column = column.with_validity(None);
+    column.len() == 3 && column.get(1) == Some(true)
+}
+
 #[test]
 fn columns_hold_truth_values(rt: HostRuntime) -> Result<(), Fail> {
     let column = truths(rt.alloc(), &[true, true, false], &[true, false, true])?;
     let erased = check_erased(&rt, column, &ArrowDataType::Boolean, (1, 1))?;
-    let column = truths_again(erased)?;
-    assert!(rt; has_truths(&column, &[Some(true), None, Some(false)]));
-    assert_eq!(rt; column.values().set_bits(), 2);
-    let column = column.with_validity(None);
-    assert!(rt; column.len() == 3);
-    assert!(rt; column.get(1) == Some(true));
+    assert!(rt; are_truths(truths_again(erased)?));
     Ok(())
 }
 
@@ -413,36 +508,43 @@ fn bytes_again(erased: ArrayRef) -> Result<BinaryArray<i64>, Fail> {
     Ok(column)
 }
 
-/// A part of such a column shares its bytes.
-fn check_pieces(
-    rt: &(impl Abort + Alloc<A = Global>),
-    column: &BinaryArray<i64>,
-) -> PolarsResult<()> {
-    assert!(rt; column.len() == 3);
-    let part = column.sliced(rt.alloc(), 1, 1)?;
-    assert!(rt; part.offsets().as_slice() == [3i64, 3].as_slice());
-    assert!(rt; part.values().len() == 6);
-    Ok(())
+/// Whether a part of such a column shares its bytes.
+fn shares_bytes(alloc: Global, column: &BinaryArray<i64>) -> PolarsResult<bool> {
+    if column.len() != 3 {
+        return Ok(false);
+    }
+    let part = column.sliced(alloc, 1, 1)?;
+    Ok(part.offsets().as_slice() == [3i64, 3].as_slice() && part.values().len() == 6)
 }
 
 #[test]
 fn columns_hold_bytes_between_wide_offsets(rt: HostRuntime) -> Result<(), Fail> {
     let column = three_pieces(rt.alloc(), &[1i64, 3, 3, 6])?;
     let erased = check_erased(&rt, column, &ArrowDataType::LargeBinary, (1, 1))?;
-    check_pieces(&rt, &bytes_again(erased)?)?;
+    assert!(rt; shares_bytes(rt.alloc(), &bytes_again(erased)?)?);
     Ok(())
+}
+
+/// Whether the column has the rows `ab`, nothing and null, and tells so of itself.
+fn are_pieces(column: &BinaryArray<i32>) -> bool {
+    column.len() == 3
+        && !column.is_empty()
+        && column.null_count() == 1
+        && column.has_nulls()
+        && column.validity().is_some()
+        && has_bytes(column, &[Some(b"ab"), Some(b""), None])
+}
+
+/// Whether no row is null, and the last has the bytes that were beneath the null.
+fn are_all_pieces(column: &BinaryArray<i32>) -> bool {
+    column.len() == 3 && column.null_count() == 0 && column.get(2) == Some(b"cde".as_slice())
 }
 
 #[test]
 fn columns_hold_bytes_between_narrow_offsets(rt: HostRuntime) -> Result<(), Fail> {
     let column = three_pieces(rt.alloc(), &[1i32, 3, 3, 6])?;
-    assert_eq!(rt; (column.len(), column.is_empty()), (3, false));
-    assert_eq!(rt; (column.null_count(), column.has_nulls()), (1, true));
-    assert!(rt; column.validity().is_some());
-    assert!(rt; has_bytes(&column, &[Some(b"ab"), Some(b""), None]));
-    let column = column.with_validity(None);
-    assert_eq!(rt; (column.len(), column.null_count()), (3, 0));
-    assert!(rt; column.get(2) == Some(b"cde".as_slice()));
+    assert!(rt; are_pieces(&column));
+    assert!(rt; are_all_pieces(&column.with_validity(None)));
     Ok(())
 }
 
@@ -465,17 +567,28 @@ fn views_again(erased: ArrayRef) -> Result<BinaryViewArray, Fail> {
     Ok(column)
 }
 
+/// Whether there are three views of texts over one data buffer.
+fn are_views(column: &BinaryViewArray) -> bool {
+    column.views().len() == 3 && column.data_buffers().len() == 1 && column.is_utf8()
+}
+
+/// Whether no row is null, and the last is the byte that is no text.
+fn are_all_views(alloc: Global, column: &BinaryViewArray) -> PolarsResult<bool> {
+    Ok(
+        column.len() == 3
+            && column.null_count() == 0
+            && !column.is_utf8()
+            && has_bytes_at(alloc, column, 2, Some(&[0xFF]))?,
+    )
+}
+
 #[test]
 fn columns_hold_views(rt: HostRuntime) -> Result<(), Fail> {
     let views = three_views(rt.alloc())?;
     let erased = check_erased(&rt, views, &ArrowDataType::BinaryView, (1, 1))?;
     let column = views_again(erased)?;
-    assert_eq!(rt; (column.views().len(), column.data_buffers().len()), (3, 1));
-    assert!(rt; column.is_utf8());
-    let column = column.with_validity(None);
-    assert_eq!(rt; (column.len(), column.null_count()), (3, 0));
-    assert!(rt; !column.is_utf8());
-    assert!(rt; has_bytes_at(rt.alloc(), &column, 2, Some(&[0xFF]))?);
+    assert!(rt; are_views(&column));
+    assert!(rt; are_all_views(rt.alloc(), &column.with_validity(None)) == Ok(true));
     Ok(())
 }
 
@@ -493,47 +606,65 @@ fn three_texts(rt: &(impl Abort + Alloc<A = Global>)) -> Result<Utf8ViewArray, F
     Ok(column.to_utf8view_unchecked(rt.alloc())?)
 }
 
+/// Whether the rows behind the first are a short text and a null.
+fn has_texts(alloc: Global, texts: &Utf8ViewArray) -> PolarsResult<bool> {
+    if texts.len() != 3 {
+        return Ok(false);
+    }
+    let part = texts.sliced(alloc, 1, 2)?;
+    Ok(
+        part.len() == 2
+            && has_text(alloc, &part, 0, Some("abcd"))?
+            && has_text(alloc, &part, 1, None)?,
+    )
+}
+
+/// Whether the bytes of the texts are as many rows, as many of them null.
+fn has_bytes_of_texts(alloc: Global, texts: &Utf8ViewArray) -> PolarsResult<bool> {
+    let bytes = texts.to_binview(alloc)?;
+    Ok(bytes.len() == 3 && bytes.null_count() == 1)
+}
+
 #[test]
 fn columns_hold_texts(rt: HostRuntime) -> Result<(), Fail> {
     let texts = three_texts(&rt)?;
-    assert_eq!(rt; (texts.views().len(), texts.data_buffers().len()), (3, 1));
+    assert!(rt; texts.views().len() == 3 && texts.data_buffers().len() == 1);
     let erased = check_erased(&rt, texts, &ArrowDataType::Utf8View, (1, 1))?;
     let texts = texts_again(erased)?;
-    check_texts(&rt, &texts)?;
-    check_bytes_of_texts(&rt, &texts)?;
+    assert!(rt; has_texts(rt.alloc(), &texts) == Ok(true));
+    assert!(rt; has_bytes_of_texts(rt.alloc(), &texts) == Ok(true));
     Ok(())
 }
 
-fn check_texts(rt: &(impl Abort + Alloc<A = Global>), texts: &Utf8ViewArray) -> PolarsResult<()> {
-    let alloc = rt.alloc();
-    assert!(rt; texts.len() == 3);
-    let part = texts.sliced(alloc, 1, 2)?;
-    assert!(rt; part.len() == 2);
-    assert!(rt; has_text(alloc, &part, 0, Some("abcd"))?);
-    assert!(rt; has_text(alloc, &part, 1, None)?);
-    Ok(())
+/// Whether without a validity each row is valid, in a part and in a copy too.
+fn missing_is_valid() -> PolarsResult<bool> {
+    Ok(
+        !has_other_length(&None, 2)
+            && is_valid_at(&None, 1)
+            && sliced_validity(&None, 1, 2)?.is_none()
+            && clone_validity(&None)?.is_none(),
+    )
 }
 
-fn check_bytes_of_texts(
-    rt: &(impl Abort + Alloc<A = Global>),
-    texts: &Utf8ViewArray,
-) -> PolarsResult<()> {
-    let bytes = texts.to_binview(rt.alloc())?;
-    assert!(rt; (bytes.len(), bytes.null_count()) == (3, 1));
-    Ok(())
+/// Whether the validity of three rows has the second null, in a part too.
+fn has_second_null(bits: &Option<Bitmap>) -> PolarsResult<bool>
+    requires { Covers bits.now 3 }
+{
+    let part = sliced_validity(bits, 1, 2)?;
+    Ok(
+        is_valid_at(bits, 0)
+            && !is_valid_at(bits, 1)
+            && !is_valid_at(&part, 0)
+            && is_valid_at(&part, 1),
+    )
 }
 
 #[test]
 fn a_validity_may_be_missing(rt: HostRuntime) -> Result<(), Fail> {
-    let alloc = rt.alloc();
-    let bits = validity(alloc, &[true, false, true])?;
-    assert!(rt;
-        has_other_length(&bits, 2) && !has_other_length(&bits, 3) && !has_other_length(&None, 2)
-    );
-    assert!(rt; is_valid_at(&bits, 0) && !is_valid_at(&bits, 1) && is_valid_at(&None, 1));
-    let part = sliced_validity(&bits, 1, 2)?;
-    assert!(rt; !is_valid_at(&part, 0) && is_valid_at(&part, 1));
-    assert!(rt; sliced_validity(&None, 1, 2)?.is_none());
-    assert!(rt; clone_validity(&bits)?.is_some() && clone_validity(&None)?.is_none());
+    let bits = validity(rt.alloc(), &[true, false, true])?;
+    assert!(rt; has_other_length(&bits, 2) && !has_other_length(&bits, 3));
+    assert!(rt; has_second_null(&bits) == Ok(true));
+    assert!(rt; clone_validity(&bits)?.is_some());
+    assert!(rt; missing_is_valid() == Ok(true));
     Ok(())
 }

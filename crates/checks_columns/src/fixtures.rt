@@ -3,6 +3,7 @@
 use sel_arrow::array::Array;
 use sel_arrow::array_ref::ArrayRef;
 use sel_arrow::binary::BinaryArray;
+use sel_arrow::binview::BinaryViewArray;
 use sel_arrow::boolean::BooleanArray;
 use sel_arrow::primitive::{ArrowPrimitive, PrimitiveArray};
 use sel_arrow::utf8view::Utf8ViewArray;
@@ -50,6 +51,14 @@ fn values_of<T: NativeType>(
     Buffer::from_vec(values)
 }
 
+/// One data buffer of these bytes.
+pub fn one_buffer(alloc: Global, bytes: &[u8]) -> PolarsResult<Buffer<Buffer<u8>>> {
+    let bytes = buffer(alloc, bytes)?;
+    let mut buffers = Vec::new(alloc);
+    buffers.push(bytes)?;
+    Buffer::from_vec(buffers)
+}
+
 /// A column of numbers; none is null over the hidden number.
 pub fn column<T: NativeType>(
     alloc: Global,
@@ -95,6 +104,12 @@ pub fn has_truths(column: &BooleanArray, rows: &[Option<bool>]) -> bool {
     true
 }
 
+/// Whether a column of any type is one of these truth values.
+pub fn is_truths(column: ArrayRef, rows: &[Option<bool>]) -> Result<bool, Fail> {
+    let column = column.into_boolean().ok().ok_or("another type")?;
+    Ok(has_truths(&column, rows))
+}
+
 pub fn has_numbers<T: ArrowPrimitive + PartialEq>(
     column: &PrimitiveArray<T>,
     rows: &[Option<T>],
@@ -135,6 +150,22 @@ pub fn has_bytes<O: Offset>(column: &BinaryArray<O>, rows: &[Option<&[u8]>]) -> 
 pub fn is_bytes(column: ArrayRef, rows: &[Option<&[u8]>]) -> Result<bool, Fail> {
     let column = column.into_binary().ok().ok_or("another type")?;
     Ok(has_bytes(&column, rows))
+}
+
+/// Whether the row at the place is these bytes.
+pub fn has_bytes_at(
+    alloc: Global,
+    column: &BinaryViewArray,
+    at: usize,
+    bytes: Option<&[u8]>,
+) -> PolarsResult<bool> {
+    if at >= column.len() {
+        return Ok(false);
+    }
+    Ok(match column.get(alloc, at)? {
+        Some(row) => bytes == Some(row.as_slice()),
+        None => bytes.is_none(),
+    })
 }
 
 /// Whether the row at the place is this text.

@@ -5,5 +5,4 @@
 mod bits;
 #[cfg(test)]
 mod columns;
-#[cfg(test)]
-mod fixtures;
+pub mod fixtures;
