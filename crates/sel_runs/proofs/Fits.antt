@@ -24,7 +24,7 @@ counted_more rs i count inside is =
 pub all_more : (P : Option (ℕ × ℕ) → Type 0) (rs : List Run) (i : ℕ) → i < length rs → All P (expand (take i rs)) → All P (unrolled (run_at rs i)) → All P (expand (take (i + 1) rs))
 all_more P rs i inside so_far next = subst (All P) (sym (expand_more rs i inside)) (All-append P (expand (take i rs)) (unrolled (run_at rs i)) so_far next)
 
-rows_fit : {A : Type 0} (xss : List (List A)) (s a n : ℕ) → a + n ≤ length (get_or xss s []) → All (PickFits xss) (picks_of s a n)
+pub rows_fit : {A : Type 0} (xss : List (List A)) (s a n : ℕ) → a + n ≤ length (get_or xss s []) → All (PickFits xss) (picks_of s a n)
 rows_fit xss s a n inside k d below =
     let small : k < n = let long = length-map-range_with_len (λ i. let p : Option (ℕ × ℕ) = Some (s, i) in p) a n in omega (arith, below, long) in
     let there : a + k < length (get_or xss s []) = omega (arith, small, inside) in

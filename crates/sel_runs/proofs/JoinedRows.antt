@@ -242,7 +242,7 @@ rebuilt rows validity n all long valid =
 
 -- ---- numbers that show the ends
 
-same_numbers : (ms ns : List ℕ) → map pos ms ≡ map pos ns → ms ≡ ns
+pub same_numbers : (ms ns : List ℕ) → map pos ms ≡ map pos ns → ms ≡ ns
 same_numbers [] [] e = refl
 same_numbers [] (n ∷ ns) e = cc
 same_numbers (m ∷ ms) [] e = cc
@@ -269,7 +269,7 @@ offsets_of number xs ns e rises =
 pub ends_shown : {T : Type 0} (number : T → ℤ) → (xs : List T) (offsets : List ℕ) (rows : List Value) → map number xs ≡ map pos (0 ∷ ends_from 0 rows) → map number xs ≡ map pos offsets → offsets ≡ 0 ∷ ends_from 0 rows
 ends_shown number xs offsets rows e d = same_numbers offsets (0 ∷ ends_from 0 rows) (sym d ∙ e)
 
-map_same : (xs : List ℤ) → map (λ (x : ℤ). x) xs ≡ xs
+pub map_same : (xs : List ℤ) → map (λ (x : ℤ). x) xs ≡ xs
 map_same [] = refl
 map_same (x ∷ xs) = ap (λ l. x ∷ l) (map_same xs)
 

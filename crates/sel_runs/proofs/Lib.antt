@@ -1,8 +1,17 @@
+pub mod Below
+pub mod Depths
+pub mod FieldsOf
 pub mod Fits
 pub mod Grown
+pub mod ItemRuns
 pub mod JoinedRows
 pub mod NullPicks
 pub mod Raising
+pub mod Layouts
+pub mod ListParts
+pub mod Rebuilt
 pub mod Refusals
 pub mod RunLists
+pub mod SplitRuns
+pub mod TupleRows
 pub mod Windows

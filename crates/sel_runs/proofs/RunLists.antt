@@ -64,7 +64,7 @@ pub ruleset run_rules = (expand-append, expand-one, length-unrolled)
 
 -- ---- picks that fit
 
-below_length : {A : Type 0} (xss : List (List A)) (s i : ℕ) → i < length (get_or xss s []) → s < length xss
+pub below_length : {A : Type 0} (xss : List (List A)) (s i : ℕ) → i < length (get_or xss s []) → s < length xss
 below_length [] s i h = absurd (omega (arith, h))
 below_length (xs ∷ xss) zero i h = omega arith
 below_length (xs ∷ xss) (suc s) i h = let rest = below_length xss s i h in omega arith
@@ -129,7 +129,7 @@ length-pick d xss ps = length-map ps (found d xss)
 
 -- ---- what one run picks
 
-pick_rows : {A : Type 0} (d : A) (xss : List (List A)) (s a n : ℕ) → a + n ≤ length (get_or xss s []) → pick d xss (picks_of s a n) ≡ take n (drop a (get_or xss s []))
+pub pick_rows : {A : Type 0} (d : A) (xss : List (List A)) (s a n : ℕ) → a + n ≤ length (get_or xss s []) → pick d xss (picks_of s a n) ≡ take n (drop a (get_or xss s []))
 pick_rows d xss s a zero h = refl
 pick_rows d xss s a (suc n) h =
     let inside : a < length (get_or xss s []) = omega arith in
@@ -140,7 +140,7 @@ pub pick_run : {A : Type 0} (d : A) (xss : List (List A)) (r : Run) (s : ℕ) �
     pick d xss (unrolled r) ≡ take r.len (drop r.start (get_or xss s []))
 pick_run d xss r s is inside = rw is (pick_rows d xss s r.start r.len inside)
 
-map_nulls : {A : Type 0} (d : A) (xss : List (List A)) (n : ℕ) → pick d xss (replicate n None) ≡ replicate n d
+pub map_nulls : {A : Type 0} (d : A) (xss : List (List A)) (n : ℕ) → pick d xss (replicate n None) ≡ replicate n d
 map_nulls d xss zero = refl
 map_nulls d xss (suc n) = ap (λ l. d ∷ l) (map_nulls d xss n)
 

@@ -1,3 +1,6 @@
+pub mod Children
+pub mod Cleared
+pub mod Ends
 pub mod JoinedBytes
 pub mod Need
 pub mod Picks

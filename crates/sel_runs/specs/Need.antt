@@ -1,12 +1,13 @@
 -- What rows need, and which refusals there are.
-use Rattle.std.specs.Prelude.{ℕ, ◌+◌, ◌<◌, ℤ, pos, ◌<ℤ◌, ⊤, List, [], ◌∷◌, length}
+use Rattle.std.specs.Prelude.{ℕ, ◌+◌, ◌<◌, ℤ, pos, ◌<ℤ◌, ⊤, ◌⊎◌, List, [], ◌∷◌, length, map}
 use Rattle.sel_bits.specs.declared.faults.Limit.{Limit}
-use Rattle.sel_bits.specs.declared.faults.Limit.TheVariants.{Bytes as ByteLimit, Buffers as BufferLimit}
+use Rattle.sel_bits.specs.declared.faults.Limit.TheVariants.{Rows as RowLimit, Bytes as ByteLimit, Buffers as BufferLimit}
 use Rattle.sel_bits.specs.declared.faults.PolarsError.{PolarsError}
 use Rattle.sel_bits.specs.declared.faults.PolarsError.TheVariants.{OutOfMemory, SizeLimit, ComputeError}
-use Rattle.sel_arrow.specs.Shape.{Shape, of_large_binary, of_binary_view, of_utf8_view}
+use Rattle.sel_arrow.specs.Shape.{Shape, Shapes, no_shapes, next_shape, of_large_binary, of_binary_view, of_utf8_view, of_large_list, of_fixed_size_list, of_struct}
 use Rattle.sel_arrow.specs.Value.{Value, Bytes}
 use Rattle.sel_arrow.specs.declared.column.Column.{Column}
+use Rattle.sel_runs.specs.Children.{child, field, joined_items, part_at}
 use Rattle.sel_arrow.specs.declared.column.Column.TheVariants.{BinaryView, Utf8View}
 
 -- how many bytes a row has; none where it is null (own)
@@ -46,9 +47,28 @@ abbrev pub IsPastBuffers : ℕ → Limit → Type 0
 IsPastBuffers count BufferLimit = 4294967295 < count
 IsPastBuffers count _ = ⊥
 
--- which limits rows pass that are taken of columns of this type (own)
-abbrev pub past_taken : Shape → List Column → List Value → Limit → Type 0
-past_taken of_large_binary columns rows limit = IsPastBytes (pos 9223372036854775807) rows limit
-past_taken of_binary_view columns rows limit = IsPastBuffers (buffers_joined columns) limit
-past_taken of_utf8_view columns rows limit = IsPastBuffers (buffers_joined columns) limit
-past_taken shape columns rows limit = ⊥
+-- the one limit that so many rows can pass: they are more than a column may have (own)
+abbrev pub IsPastRows : ℕ → Limit → Type 0
+IsPastRows count RowLimit = 4294967295 < count
+IsPastRows count _ = ⊥
+
+abbrev mutual
+  -- Which limits rows pass that are taken of columns of this type: those of the rows themselves and those of what they
+  -- need of the columns below. A null list needs no row below it, a null list of one length as many as its length, a
+  -- null tuple one of each field. (own)
+  pub past_taken : Shape → List Column → List Value → Limit → Type 0
+  past_taken of_large_binary columns rows limit = IsPastBytes (pos 9223372036854775807) rows limit
+  past_taken of_binary_view columns rows limit = IsPastBuffers (buffers_joined columns) limit
+  past_taken of_utf8_view columns rows limit = IsPastBuffers (buffers_joined columns) limit
+  past_taken (of_large_list s) columns rows limit =
+      IsPastRows (length (joined_items 0 rows)) limit ⊎ past_taken s (map child columns) (joined_items 0 rows) limit
+  past_taken (of_fixed_size_list s width) columns rows limit =
+      IsPastRows (length (joined_items width rows)) limit ⊎ past_taken s (map child columns) (joined_items width rows) limit
+  past_taken (of_struct ss) columns rows limit = past_fields ss 0 columns rows limit
+  past_taken s columns rows limit = ⊥
+
+  -- the same of the fields from place j on (own)
+  pub past_fields : Shapes → ℕ → List Column → List Value → Limit → Type 0
+  past_fields no_shapes j columns rows limit = ⊥
+  past_fields (next_shape s ss) j columns rows limit =
+      past_taken s (map (field j) columns) (map (part_at j) rows) limit ⊎ past_fields ss (j + 1) columns rows limit

@@ -1,10 +1,11 @@
 //! Rows of columns of any one type.
 
 ghost use Rattle.std.specs.Prelude.{◌≡◌, ◌≤◌, ◌<◌, All, length, map, pos, IfOk, IfErr};
-ghost use Rattle.sel_arrow.specs.Rows.{rows, type_of, IsWellFormed};
-ghost use Rattle.sel_arrow.specs.Shape.{of_large_binary, of_binary_view, of_utf8_view};
+ghost use Rattle.sel_arrow.specs.Rows.{rows, type_of, IsField, IsWellFormed};
+ghost use Rattle.sel_arrow.specs.Shape.{of_large_binary, of_binary_view, of_utf8_view, of_large_list, of_fixed_size_list, of_struct, shapes_of};
 ghost use Rattle.sel_arrow.specs.Value.{Null};
-ghost use Rattle.sel_runs.specs.Need.{IsPastBuffers, IsPastBytes, IsRefusal, buffers_joined, past_taken};
+ghost use Rattle.sel_runs.specs.Children.{parts_of};
+ghost use Rattle.sel_runs.specs.Need.{IsPastBuffers, IsPastBytes, IsRefusal, buffers_joined, past_fields, past_taken};
 ghost use Rattle.sel_runs.specs.Picks.{pick, PickFits};
 ghost use Rattle.sel_runs.specs.Runs.{expand};
 ghost use Rattle.sel_runs.specs.Sources.{first_type};
@@ -12,14 +13,17 @@ ghost use Rattle.sel_runs.specs.Sources.{first_type};
 use crate::binary::collect_binary;
 use crate::boolean::collect_boolean;
 use crate::kinds::{binaries_of, texts_of, views_of};
+use crate::lists::{child_runs, children_of, count_items};
+use crate::nested::{blocks_over, lists_over, tuples_over};
 use crate::null::collect_null;
 use crate::primitive::collect_primitive;
 use crate::run::{Run, runs_of_picks};
+use crate::structs::{fields_at, split_runs};
 use crate::view::collect_views;
 use sel_arrow::array_ref::ArrayRef;
 use sel_arrow::column::Column;
 use sel_arrow::utf8view::Utf8ViewArray;
-use sel_bits::faults::PolarsResult;
+use sel_bits::faults::{Limit, PolarsError, PolarsResult};
 use std::alloc::Global;
 
 /// Row k is null where pick k is none, else the row that it names of one of the sources. Refuses for want of memory,
@@ -31,6 +35,7 @@ pub fn collect_rows<'a>(
 ) -> PolarsResult<ArrayRef>
     requires some { 0 < length sources.now }
     requires alike { All (λ c. type_of c.now ≡ first_type (map (λ c. c.now) sources.now)) sources.now }
+    requires formed { All (λ c. IsWellFormed c.now) sources.now }
     requires fits { All (PickFits (map (λ c. rows c.now) sources.now)) picks.now }
     requires few { length picks.now ≤ 4294967295 }
     ensures rows { IfOk result (λ array. rows array.column ≡ pick Null (map (λ c. rows c.now) sources.now) picks.now) }
@@ -51,6 +56,7 @@ pub fn collect_runs<'a>(
 ) -> PolarsResult<Column>
     requires some { 0 < length sources.now }
     requires alike { All (λ c. type_of c.now ≡ first_type (map (λ c. c.now) sources.now)) sources.now }
+    requires formed { All (λ c. IsWellFormed c.now) sources.now }
     requires fits { All (PickFits (map (λ c. rows c.now) sources.now)) (expand runs.now) }
     requires len { length (expand runs.now) ≡ len }
     requires few { len ≤ 4294967295 }
@@ -63,7 +69,8 @@ pub fn collect_runs<'a>(
     collect_like(alloc, first, sources, runs, len)
 }
 
-/// The rows that runs pick of columns of the type of `first`, `len` in all.
+// The rows that runs pick of columns of the type of `first`, `len` in all.
+#[cycle(collecting)]
 fn collect_like<'a>(
     alloc: Global,
     first: &Column,
@@ -71,7 +78,9 @@ fn collect_like<'a>(
     runs: &[Run],
     len: usize,
 ) -> PolarsResult<Column>
+    requires first { IsWellFormed first.now }
     requires alike { All (λ c. type_of c.now ≡ type_of first.now) sources.now }
+    requires formed { All (λ c. IsWellFormed c.now) sources.now }
     requires fits { All (PickFits (map (λ c. rows c.now) sources.now)) (expand runs.now) }
     requires len { length (expand runs.now) ≡ len }
     requires few { len ≤ 4294967295 }
@@ -96,7 +105,132 @@ fn collect_like<'a>(
         Column::LargeBinary(_) => Ok(collect_large_binary(alloc, sources, runs, len)?),
         Column::BinaryView(_) => Ok(collect_binview(alloc, sources, runs, len)?),
         Column::Utf8View(_) => Ok(collect_utf8view(alloc, sources, runs, len)?),
+        Column::LargeList { values, .. } => Ok(collect_lists(alloc, values, sources, runs, len)?),
+        Column::FixedSizeList { size, values, .. } => {
+            Ok(collect_blocks(alloc, *size, values, sources, runs, len)?)
+        }
+        Column::Struct { fields, .. } => Ok(collect_tuples(alloc, fields, sources, runs, len)?),
     }
+}
+
+// The lists that runs pick, whose child is of the type of `child`.
+#[cycle(collecting)]
+fn collect_lists<'a>(
+    alloc: Global,
+    child: &Column,
+    sources: &'a [&'a Column],
+    runs: &[Run],
+    len: usize,
+) -> PolarsResult<Column>
+    requires child { IsWellFormed child.now }
+    requires alike { All (λ c. type_of c.now ≡ of_large_list (type_of child.now)) sources.now }
+    requires formed { All (λ c. IsWellFormed c.now) sources.now }
+    requires fits { All (PickFits (map (λ c. rows c.now) sources.now)) (expand runs.now) }
+    requires len { length (expand runs.now) ≡ len }
+    requires few { len ≤ 4294967295 }
+    ensures rows { IfOk result (λ column. rows column ≡ pick Null (map (λ c. rows c.now) sources.now) (expand runs.now)) }
+    ensures dtype { IfOk result (λ column. type_of column ≡ of_large_list (type_of child.now)) }
+    ensures formed { IfOk result (λ column. IsWellFormed column) }
+    ensures refusal { IfErr result (IsRefusal (past_taken (of_large_list (type_of child.now)) (map (λ c. c.now) sources.now) (pick Null (map (λ c. rows c.now) sources.now) (expand runs.now)))) }
+{
+    let need = count_items(sources, runs, 0);
+    if need > u32::MAX as u128 {
+        return Err(PolarsError::SizeLimit(Limit::Rows));
+    }
+    let below = child_runs(alloc, sources, runs, 0)?;
+    let children = children_of(alloc, sources)?;
+    let values = collect_like(alloc, child, &children, &below, need as usize)?;
+    let column = lists_over(alloc, values, sources, runs, len)?;
+    Ok(column)
+}
+
+// The lists of `size` rows that runs pick, whose child is of the type of `child`.
+#[cycle(collecting)]
+fn collect_blocks<'a>(
+    alloc: Global,
+    size: usize,
+    child: &Column,
+    sources: &'a [&'a Column],
+    runs: &[Run],
+    len: usize,
+) -> PolarsResult<Column>
+    requires narrow { size ≤ 4294967295 }
+    requires child { IsWellFormed child.now }
+    requires alike { All (λ c. type_of c.now ≡ of_fixed_size_list (type_of child.now) size) sources.now }
+    requires formed { All (λ c. IsWellFormed c.now) sources.now }
+    requires fits { All (PickFits (map (λ c. rows c.now) sources.now)) (expand runs.now) }
+    requires len { length (expand runs.now) ≡ len }
+    requires few { len ≤ 4294967295 }
+    ensures rows { IfOk result (λ column. rows column ≡ pick Null (map (λ c. rows c.now) sources.now) (expand runs.now)) }
+    ensures dtype { IfOk result (λ column. type_of column ≡ of_fixed_size_list (type_of child.now) size) }
+    ensures formed { IfOk result (λ column. IsWellFormed column) }
+    ensures refusal { IfErr result (IsRefusal (past_taken (of_fixed_size_list (type_of child.now) size) (map (λ c. c.now) sources.now) (pick Null (map (λ c. rows c.now) sources.now) (expand runs.now)))) }
+{
+    let need = count_items(sources, runs, size as u32);
+    if need > u32::MAX as u128 {
+        return Err(PolarsError::SizeLimit(Limit::Rows));
+    }
+    let below = child_runs(alloc, sources, runs, size as u32)?;
+    let children = children_of(alloc, sources)?;
+    let values = collect_like(alloc, child, &children, &below, need as usize)?;
+    let column = blocks_over(alloc, size, values, sources, runs, len)?;
+    Ok(column)
+}
+
+// The tuples that runs pick, whose fields are of the types of `firsts`.
+#[cycle(collecting)]
+fn collect_tuples<'a>(
+    alloc: Global,
+    firsts: &[Column],
+    sources: &'a [&'a Column],
+    runs: &[Run],
+    len: usize,
+) -> PolarsResult<Column>
+    requires firsts { All (λ c. IsWellFormed c) firsts.now }
+    requires alike { All (λ c. type_of c.now ≡ of_struct (shapes_of (map type_of firsts.now))) sources.now }
+    requires formed { All (λ c. IsWellFormed c.now) sources.now }
+    requires fits { All (PickFits (map (λ c. rows c.now) sources.now)) (expand runs.now) }
+    requires len { length (expand runs.now) ≡ len }
+    requires few { len ≤ 4294967295 }
+    ensures rows { IfOk result (λ column. rows column ≡ pick Null (map (λ c. rows c.now) sources.now) (expand runs.now)) }
+    ensures dtype { IfOk result (λ column. type_of column ≡ of_struct (shapes_of (map type_of firsts.now))) }
+    ensures formed { IfOk result (λ column. IsWellFormed column) }
+    ensures refusal { IfErr result (IsRefusal (past_taken (of_struct (shapes_of (map type_of firsts.now))) (map (λ c. c.now) sources.now) (pick Null (map (λ c. rows c.now) sources.now) (expand runs.now)))) }
+{
+    let fields = collect_fields(alloc, firsts, sources, runs, len)?;
+    let column = tuples_over(alloc, fields, sources, runs, len)?;
+    Ok(column)
+}
+
+// The fields of the tuples that runs pick, which are of the types of `firsts`.
+#[cycle(collecting)]
+fn collect_fields<'a>(
+    alloc: Global,
+    firsts: &[Column],
+    sources: &'a [&'a Column],
+    runs: &[Run],
+    len: usize,
+) -> PolarsResult<Vec<Column>>
+    requires firsts { All (λ c. IsWellFormed c) firsts.now }
+    requires alike { All (λ c. type_of c.now ≡ of_struct (shapes_of (map type_of firsts.now))) sources.now }
+    requires formed { All (λ c. IsWellFormed c.now) sources.now }
+    requires fits { All (PickFits (map (λ c. rows c.now) sources.now)) (expand runs.now) }
+    requires len { length (expand runs.now) ≡ len }
+    requires few { len ≤ 4294967295 }
+    ensures parts { IfOk result (λ fields. map rows fields.items ≡ parts_of (length firsts.now) (pick Null (map (λ c. rows c.now) sources.now) (expand runs.now))) }
+    ensures dtypes { IfOk result (λ fields. map type_of fields.items ≡ map type_of firsts.now) }
+    ensures formed { IfOk result (λ fields. All (IsField len) fields.items) }
+    ensures refusal { IfErr result (IsRefusal (past_fields (shapes_of (map type_of firsts.now)) 0 (map (λ c. c.now) sources.now) (pick Null (map (λ c. rows c.now) sources.now) (expand runs.now)))) }
+{
+    let split = split_runs(alloc, sources, runs)?;
+    let count = firsts.len();
+    let mut fields = Vec::with_capacity(alloc, count)?;
+    for j in 0..count {
+        let columns = fields_at(alloc, sources, j)?;
+        let field = collect_like(alloc, &firsts[j], &columns, &split, len)?;
+        fields.push(field)?;
+    }
+    Ok(fields)
 }
 
 /// The rows that runs pick of columns of bytes.

@@ -1,0 +1,33 @@
+-- Each call goes on at a smaller type; the fields so far.
+use Rattle.std.proofs.Common.{◌≡◌, ◌+◌, ◌*◌, All, map, take}
+use Rattle.sel_arrow.specs.Rows.{rows, type_of, IsField}
+use Rattle.sel_arrow.specs.Shape.{shapes_of}
+use Rattle.sel_arrow.specs.Value.{Null}
+use Rattle.sel_runs.specs.Children.{parts_of}
+use Rattle.sel_runs.specs.Picks.{pick}
+use Rattle.sel_runs.specs.Runs.{expand}
+use Rattle.sel_runs.proofs.Depths.{size_of, sizes_of}
+use Rattle.sel_runs.proofs.ItemRuns.{rows_of}
+use Rattle.sel_runs.proofs.collect.+collecting.Given as goal
+
+abbrev pub decreases-collect_like : goal.decreases-collect_like
+decreases-collect_like l = 3 * size_of (type_of l.first.now) + 1
+
+abbrev pub decreases-collect_lists : goal.decreases-collect_lists
+decreases-collect_lists l = 3 * size_of (type_of l.child.now) + 2
+
+abbrev pub decreases-collect_blocks : goal.decreases-collect_blocks
+decreases-collect_blocks l = 3 * size_of (type_of l.child.now) + 2
+
+abbrev pub decreases-collect_tuples : goal.decreases-collect_tuples
+decreases-collect_tuples l = 3 * sizes_of (shapes_of (map type_of l.firsts.now)) + 3
+
+abbrev pub decreases-collect_fields : goal.decreases-collect_fields
+decreases-collect_fields l = 3 * sizes_of (shapes_of (map type_of l.firsts.now)) + 2
+
+abbrev pub invariant-collect_fields-loop-j : goal.invariant-collect_fields-loop-j
+invariant-collect_fields-loop-j l = record {
+  parts : map rows l.fields.items ≡ parts_of l.j (pick Null (rows_of l.sources) (expand l.runs));
+  dtypes : map type_of l.fields.items ≡ map type_of (take l.j l.firsts);
+  formed : All (IsField l.len) l.fields.items;
+}

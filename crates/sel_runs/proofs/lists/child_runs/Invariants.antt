@@ -1,0 +1,13 @@
+-- The items of the runs so far.
+use Rattle.std.proofs.Common.{◌≡◌, ◌≤◌, ◌+◌, ◌*◌, ◌++◌, ◌∷◌, All, length, map, take, pos}
+use Rattle.sel_arrow.specs.Value.{Null}
+use Rattle.sel_runs.specs.Children.{joined_items}
+use Rattle.sel_runs.specs.Ends.{item_ends}
+use Rattle.sel_runs.specs.Picks.{pick, PickFits}
+use Rattle.sel_runs.specs.Runs.{expand, unrolled}
+use Rattle.sel_runs.proofs.ItemRuns.{rows_of, below_of}
+use Rattle.sel_runs.proofs.lists.child_runs.Given as goal
+
+abbrev pub invariant-loop-run : goal.invariant-loop-run
+invariant-loop-run l =
+    (pick Null (below_of l.sources) (expand l.below.items) ≡ joined_items l.width (pick Null (rows_of l.sources) (expand (take l.run-index l.runs)))) × All (PickFits (below_of l.sources)) (expand l.below.items)

@@ -1,0 +1,13 @@
+-- The items of the rows so far stand behind those that were there.
+use Rattle.std.proofs.Common.{◌≡◌, ◌≤◌, ◌+◌, ◌*◌, ◌++◌, ◌∷◌, All, length, map, take, pos}
+use Rattle.sel_arrow.specs.Value.{Null}
+use Rattle.sel_runs.specs.Children.{joined_items}
+use Rattle.sel_runs.specs.Ends.{item_ends}
+use Rattle.sel_runs.specs.Picks.{pick, PickFits}
+use Rattle.sel_runs.specs.Runs.{expand, unrolled}
+use Rattle.sel_runs.proofs.ItemRuns.{rows_of, below_of}
+use Rattle.sel_runs.proofs.lists.push_items.Given as goal
+
+abbrev pub invariant-loop-i : goal.invariant-loop-i
+invariant-loop-i l =
+    (pick Null (below_of l.sources) (expand l.below.items) ≡ pick Null (below_of l.sources) (expand l.initial.below.items) ++ joined_items l.width (take l.i (pick Null (rows_of l.sources) (unrolled l.run)))) × All (PickFits (below_of l.sources)) (expand l.below.items)

@@ -1,0 +1,218 @@
+//! Rows of children that rows of lists hold.
+
+ghost use Rattle.std.specs.Prelude.{◌≡◌, ◌≤◌, ◌<◌, ◌+◌, ◌*◌, ◌∷◌, ◌++◌, true, pos, All, length, map, take, drop, slice_index_or, IfSome, IfNone, IfOk, IfErr, OnOk};
+ghost use Rattle.sel_arrow.specs.Nested.{list_of};
+ghost use Rattle.sel_arrow.specs.Rows.{rows, type_of, IsWellFormed};
+ghost use Rattle.sel_arrow.specs.Value.{Null};
+ghost use Rattle.sel_runs.specs.Children.{child, is_listing, items_in, joined_items};
+ghost use Rattle.sel_runs.specs.Picks.{pick, PickFits};
+ghost use Rattle.sel_runs.specs.Runs.{expand, unrolled};
+ghost use Rattle.sel_runs.specs.Ends.{item_ends};
+
+use crate::run::{Run, push_run};
+use sel_arrow::column::Column;
+use sel_arrow::validity::is_valid_at;
+use sel_bits::faults::{PolarsError, PolarsResult};
+use std::alloc::Global;
+
+/// The children of columns of lists. Refuses only for want of memory.
+pub fn children_of<'a>(alloc: Global, sources: &[&'a Column]) -> PolarsResult<Vec<&'a Column>>
+    requires lists { All (λ c. is_listing (type_of c.now) ≡ true) sources.now }
+    ensures children { IfOk result (λ found. map (λ c. c.now) found.items ≡ map (λ c. child c.now) sources.now) }
+    ensures refusal { IfErr result (λ fault. fault ≡ PolarsError.OutOfMemory) }
+{
+    let mut found = Vec::with_capacity(alloc, sources.len())?;
+    for source in sources {
+        found.push(child_of(*source))?;
+    }
+    Ok(found)
+}
+
+// The child of a column of lists.
+fn child_of<'a>(column: &'a Column) -> &'a Column
+    ensures { result.now ≡ child column.now }
+{
+    match column {
+        Column::LargeList { values, .. } => values,
+        Column::FixedSizeList { values, .. } => values,
+        _ => column,
+    }
+}
+
+// Where the child's rows in row `i` begin, and how many there are; none where the row is null.
+fn part_of_row(column: &Column, i: usize) -> Option<(u32, u32)>
+    requires lists { is_listing (type_of column.now) ≡ true }
+    requires formed { IsWellFormed column.now }
+    requires inside { i < length (rows column.now) }
+    ensures null { IfNone result (slice_index_or (rows column.now) i Null ≡ Null) }
+    ensures row { IfSome result (λ part. slice_index_or (rows column.now) i Null ≡ list_of (take part.1 (drop part.0 (rows (child column.now))))) }
+    ensures inside { IfSome result (λ part. part.0 + part.1 ≤ length (rows (child column.now))) }
+{
+    match column {
+        Column::LargeList {
+            offsets,
+            validity,
+            ..
+        } => {
+            if !is_valid_at(validity, i) {
+                return None;
+            }
+            let (start, end) = (offsets.at(i), offsets.at(i + 1));
+            Some((start as u32, (end - start) as u32))
+        }
+        Column::FixedSizeList { size, validity, .. } => {
+            if !is_valid_at(validity, i) {
+                return None;
+            }
+            Some(((i * *size) as u32, *size as u32))
+        }
+        _ => unreachable!(),
+    }
+}
+
+// The child's rows in row `i` of a run; `width` nulls where it is null.
+fn run_of_row(sources: &[&Column], run: Run, i: u32, width: u32) -> Run
+    requires lists { All (λ c. is_listing (type_of c.now) ≡ true) sources.now }
+    requires formed { All (λ c. IsWellFormed c.now) sources.now }
+    requires fits { All (PickFits (map (λ c. rows c.now) sources.now)) (unrolled run) }
+    requires inside { i < run.len }
+    ensures items { pick Null (map (λ c. rows (child c.now)) sources.now) (unrolled result) ≡ items_in width (slice_index_or (pick Null (map (λ c. rows c.now) sources.now) (unrolled run)) i Null) }
+    ensures fits { All (PickFits (map (λ c. rows (child c.now)) sources.now)) (unrolled result) }
+    ensures small { result.len ≤ 4294967295 }
+{
+    let Some(source) = run.source else {
+        return nulls(width);
+    };
+    let row = run.start as usize + i as usize;
+    match part_of_row(sources[source as usize], row) {
+        None => nulls(width),
+        Some((start, len)) => Run {
+            source: Some(source),
+            start,
+            len,
+        },
+    }
+}
+
+// So many nulls.
+fn nulls(len: u32) -> Run
+    ensures { result ≡ (record { source = None; start = 0; len = len }) }
+{
+    Run {
+        source: None,
+        start: 0,
+        len,
+    }
+}
+
+/// How many rows of the children the rows hold that runs pick of columns of lists; `width` for each null.
+pub fn count_items(sources: &[&Column], runs: &[Run], width: u32) -> u128
+    requires lists { All (λ c. is_listing (type_of c.now) ≡ true) sources.now }
+    requires formed { All (λ c. IsWellFormed c.now) sources.now }
+    requires fits { All (PickFits (map (λ c. rows c.now) sources.now)) (expand runs.now) }
+    requires few { length (expand runs.now) ≤ 4294967295 }
+    ensures { result ≡ length (joined_items width (pick Null (map (λ c. rows c.now) sources.now) (expand runs.now))) }
+{
+    let mut total: u128 = 0;
+    for run in runs {
+        total += count_run(sources, *run, width);
+    }
+    total
+}
+
+// How many the rows of one run hold.
+fn count_run(sources: &[&Column], run: Run, width: u32) -> u128
+    requires lists { All (λ c. is_listing (type_of c.now) ≡ true) sources.now }
+    requires formed { All (λ c. IsWellFormed c.now) sources.now }
+    requires fits { All (PickFits (map (λ c. rows c.now) sources.now)) (unrolled run) }
+    ensures count { result ≡ length (joined_items width (pick Null (map (λ c. rows c.now) sources.now) (unrolled run))) }
+    ensures small { result ≤ 4294967295 * run.len }
+{
+    let mut total: u128 = 0;
+    for i in 0..run.len {
+        total += run_of_row(sources, run, i, width).len as u128;
+    }
+    total
+}
+
+/// The runs of the children's rows that the rows hold which runs pick of columns of lists, `width` nulls for each null.
+/// Neighbours are joined. Refuses only for want of memory.
+pub fn child_runs(
+    alloc: Global,
+    sources: &[&Column],
+    runs: &[Run],
+    width: u32,
+) -> PolarsResult<Vec<Run>>
+    requires lists { All (λ c. is_listing (type_of c.now) ≡ true) sources.now }
+    requires formed { All (λ c. IsWellFormed c.now) sources.now }
+    requires fits { All (PickFits (map (λ c. rows c.now) sources.now)) (expand runs.now) }
+    requires room { length (joined_items width (pick Null (map (λ c. rows c.now) sources.now) (expand runs.now))) ≤ 4294967295 }
+    ensures items { IfOk result (λ below. pick Null (map (λ c. rows (child c.now)) sources.now) (expand below.items) ≡ joined_items width (pick Null (map (λ c. rows c.now) sources.now) (expand runs.now))) }
+    ensures fits { IfOk result (λ below. All (PickFits (map (λ c. rows (child c.now)) sources.now)) (expand below.items)) }
+    ensures refusal { IfErr result (λ fault. fault ≡ PolarsError.OutOfMemory) }
+{
+    let mut below = Vec::new(alloc);
+    for run in runs {
+        push_items(&mut below, sources, *run, width)?;
+    }
+    Ok(below)
+}
+
+// Puts the children's rows that the rows of a run hold behind the others. Refuses only for want of memory.
+fn push_items(below: &mut Vec<Run>, sources: &[&Column], run: Run, width: u32) -> PolarsResult<()>
+    requires lists { All (λ c. is_listing (type_of c.now) ≡ true) sources.now }
+    requires formed { All (λ c. IsWellFormed c.now) sources.now }
+    requires fits { All (PickFits (map (λ c. rows c.now) sources.now)) (unrolled run) }
+    requires sound { All (PickFits (map (λ c. rows (child c.now)) sources.now)) (expand below.old.items) }
+    requires room { length (expand below.old.items) + length (joined_items width (pick Null (map (λ c. rows c.now) sources.now) (unrolled run))) ≤ 4294967295 }
+    ensures items { OnOk result (pick Null (map (λ c. rows (child c.now)) sources.now) (expand below.new.items) ≡ pick Null (map (λ c. rows (child c.now)) sources.now) (expand below.old.items) ++ joined_items width (pick Null (map (λ c. rows c.now) sources.now) (unrolled run))) }
+    ensures sound { OnOk result (All (PickFits (map (λ c. rows (child c.now)) sources.now)) (expand below.new.items)) }
+    ensures refusal { IfErr result (λ fault. fault ≡ PolarsError.OutOfMemory) }
+{
+    for i in 0..run.len {
+        push_run(below, run_of_row(sources, run, i, width))?;
+    }
+    Ok(())
+}
+
+/// A 0 and where each list ends that runs pick, `len` lists in all. Refuses only for want of memory.
+pub fn ends_of(
+    alloc: Global,
+    sources: &[&Column],
+    runs: &[Run],
+    len: usize,
+) -> PolarsResult<Vec<i64>>
+    requires lists { All (λ c. is_listing (type_of c.now) ≡ true) sources.now }
+    requires formed { All (λ c. IsWellFormed c.now) sources.now }
+    requires fits { All (PickFits (map (λ c. rows c.now) sources.now)) (expand runs.now) }
+    requires few { len ≤ 4294967295 }
+    requires room { length (joined_items 0 (pick Null (map (λ c. rows c.now) sources.now) (expand runs.now))) ≤ 4294967295 }
+    ensures ends { IfOk result (λ ends. ends.items ≡ map pos (0 ∷ item_ends 0 (pick Null (map (λ c. rows c.now) sources.now) (expand runs.now)))) }
+    ensures refusal { IfErr result (λ fault. fault ≡ PolarsError.OutOfMemory) }
+{
+    let mut ends = Vec::with_capacity(alloc, len + 1)?;
+    ends.push(0)?;
+    let mut end = 0;
+    for run in runs {
+        end = push_ends(&mut ends, sources, *run, end)?;
+    }
+    Ok(ends)
+}
+
+// Puts the ends of the lists of a run behind the others, and answers the last one. Refuses only for want of memory.
+fn push_ends(ends: &mut Vec<i64>, sources: &[&Column], run: Run, start: u32) -> PolarsResult<u32>
+    requires lists { All (λ c. is_listing (type_of c.now) ≡ true) sources.now }
+    requires formed { All (λ c. IsWellFormed c.now) sources.now }
+    requires fits { All (PickFits (map (λ c. rows c.now) sources.now)) (unrolled run) }
+    requires room { start + length (joined_items 0 (pick Null (map (λ c. rows c.now) sources.now) (unrolled run))) ≤ 4294967295 }
+    ensures ends { OnOk result (ends.new.items ≡ ends.old.items ++ map pos (item_ends start (pick Null (map (λ c. rows c.now) sources.now) (unrolled run)))) }
+    ensures last { IfOk result (λ end. end ≡ start + length (joined_items 0 (pick Null (map (λ c. rows c.now) sources.now) (unrolled run)))) }
+    ensures refusal { IfErr result (λ fault. fault ≡ PolarsError.OutOfMemory) }
+{
+    let mut end = start;
+    for i in 0..run.len {
+        end += run_of_row(sources, run, i, 0).len;
+        ends.push(end as i64)?;
+    }
+    Ok(end)
+}

@@ -1,0 +1,110 @@
+//! Columns with children over children that are collected already.
+
+ghost use Rattle.std.specs.Prelude.{◌≡◌, ◌≤◌, All, length, map, IfOk, IfErr};
+ghost use Rattle.sel_arrow.specs.Rows.{rows, type_of, IsField, IsWellFormed};
+ghost use Rattle.sel_arrow.specs.Shape.{of_large_list, of_fixed_size_list, of_struct, shapes_of};
+ghost use Rattle.sel_arrow.specs.Value.{Null};
+ghost use Rattle.sel_runs.specs.Children.{joined_items, parts_of};
+ghost use Rattle.sel_runs.specs.Picks.{pick, PickFits};
+ghost use Rattle.sel_runs.specs.Runs.{expand};
+
+use crate::lists::ends_of;
+use crate::run::Run;
+use crate::validity::collect_validity;
+use sel_arrow::column::Column;
+use sel_bits::faults::{PolarsError, PolarsResult};
+use sel_bits::offsets::OffsetsBuffer;
+use std::alloc::Global;
+
+/// The lists that runs pick of columns of lists, `len` in all, over the rows that they hold. Refuses only for want of
+/// memory.
+pub fn lists_over(
+    alloc: Global,
+    values: Column,
+    sources: &[&Column],
+    runs: &[Run],
+    len: usize,
+) -> PolarsResult<Column>
+    requires lists { All (λ c. type_of c.now ≡ of_large_list (type_of values)) sources.now }
+    requires formed { All (λ c. IsWellFormed c.now) sources.now }
+    requires fits { All (PickFits (map (λ c. rows c.now) sources.now)) (expand runs.now) }
+    requires len { length (expand runs.now) ≡ len }
+    requires few { len ≤ 4294967295 }
+    requires below { rows values ≡ joined_items 0 (pick Null (map (λ c. rows c.now) sources.now) (expand runs.now)) }
+    requires child { IsWellFormed values }
+    ensures rows { IfOk result (λ column. rows column ≡ pick Null (map (λ c. rows c.now) sources.now) (expand runs.now)) }
+    ensures dtype { IfOk result (λ column. type_of column ≡ of_large_list (type_of values)) }
+    ensures formed { IfOk result (λ column. IsWellFormed column) }
+    ensures refusal { IfErr result (λ fault. fault ≡ PolarsError.OutOfMemory) }
+{
+    let values = Box::new(alloc, values)?;
+    let ends = ends_of(alloc, sources, runs, len)?;
+    let offsets = OffsetsBuffer::of_rising(ends)?;
+    let validity = collect_validity(alloc, sources, runs, len)?;
+    Ok(Column::LargeList {
+        offsets,
+        values,
+        validity,
+    })
+}
+
+/// The lists of `size` rows that runs pick of columns of such lists, `len` in all, over the rows that they hold.
+/// Refuses only for want of memory.
+pub fn blocks_over(
+    alloc: Global,
+    size: usize,
+    values: Column,
+    sources: &[&Column],
+    runs: &[Run],
+    len: usize,
+) -> PolarsResult<Column>
+    requires lists { All (λ c. type_of c.now ≡ of_fixed_size_list (type_of values) size) sources.now }
+    requires formed { All (λ c. IsWellFormed c.now) sources.now }
+    requires fits { All (PickFits (map (λ c. rows c.now) sources.now)) (expand runs.now) }
+    requires len { length (expand runs.now) ≡ len }
+    requires few { len ≤ 4294967295 }
+    requires narrow { size ≤ 4294967295 }
+    requires below { rows values ≡ joined_items size (pick Null (map (λ c. rows c.now) sources.now) (expand runs.now)) }
+    requires child { IsWellFormed values }
+    ensures rows { IfOk result (λ column. rows column ≡ pick Null (map (λ c. rows c.now) sources.now) (expand runs.now)) }
+    ensures dtype { IfOk result (λ column. type_of column ≡ of_fixed_size_list (type_of values) size) }
+    ensures formed { IfOk result (λ column. IsWellFormed column) }
+    ensures refusal { IfErr result (λ fault. fault ≡ PolarsError.OutOfMemory) }
+{
+    let values = Box::new(alloc, values)?;
+    let validity = collect_validity(alloc, sources, runs, len)?;
+    Ok(Column::FixedSizeList {
+        size,
+        len,
+        values,
+        validity,
+    })
+}
+
+/// The tuples that runs pick of columns of structs, `len` in all, over their parts. Refuses only for want of memory.
+pub fn tuples_over(
+    alloc: Global,
+    fields: Vec<Column>,
+    sources: &[&Column],
+    runs: &[Run],
+    len: usize,
+) -> PolarsResult<Column>
+    requires tuples { All (λ c. type_of c.now ≡ of_struct (shapes_of (map type_of fields.items))) sources.now }
+    requires formed { All (λ c. IsWellFormed c.now) sources.now }
+    requires fits { All (PickFits (map (λ c. rows c.now) sources.now)) (expand runs.now) }
+    requires len { length (expand runs.now) ≡ len }
+    requires few { len ≤ 4294967295 }
+    requires parts { map rows fields.items ≡ parts_of (length fields.items) (pick Null (map (λ c. rows c.now) sources.now) (expand runs.now)) }
+    requires fields { All (IsField len) fields.items }
+    ensures rows { IfOk result (λ column. rows column ≡ pick Null (map (λ c. rows c.now) sources.now) (expand runs.now)) }
+    ensures dtype { IfOk result (λ column. type_of column ≡ of_struct (shapes_of (map type_of fields.items))) }
+    ensures formed { IfOk result (λ column. IsWellFormed column) }
+    ensures refusal { IfErr result (λ fault. fault ≡ PolarsError.OutOfMemory) }
+{
+    let validity = collect_validity(alloc, sources, runs, len)?;
+    Ok(Column::Struct {
+        len,
+        fields,
+        validity,
+    })
+}

@@ -1,0 +1,122 @@
+//! Rows of fields that rows of structs hold.
+
+ghost use Rattle.std.specs.Prelude.{◌≡◌, ◌≢◌, ◌≤◌, ◌<◌, ◌+◌, ◌++◌, ◌∷◌, [], All, length, map, IfOk, IfErr, OnOk};
+ghost use Rattle.sel_arrow.specs.Rows.{rows, type_of, IsWellFormed};
+ghost use Rattle.sel_arrow.specs.Shape.{of_null};
+ghost use Rattle.sel_runs.specs.Children.{field};
+ghost use Rattle.sel_runs.specs.Cleared.{cleared, kept_by, row_pick};
+ghost use Rattle.sel_runs.specs.Picks.{PickFits};
+ghost use Rattle.sel_runs.specs.Runs.{expand, unrolled};
+
+use crate::run::{Run, push_run};
+use sel_arrow::column::Column;
+use sel_bits::bitmap::Bitmap;
+use sel_bits::faults::{PolarsError, PolarsResult};
+use std::alloc::Global;
+
+/// Field `j` of each column. Refuses only for want of memory.
+pub fn fields_at<'a>(
+    alloc: Global,
+    sources: &[&'a Column],
+    j: usize,
+) -> PolarsResult<Vec<&'a Column>>
+    ensures fields { IfOk result (λ found. map (λ c. c.now) found.items ≡ map (λ c. field j c.now) sources.now) }
+    ensures refusal { IfErr result (λ fault. fault ≡ PolarsError.OutOfMemory) }
+{
+    let mut found = Vec::with_capacity(alloc, sources.len())?;
+    for source in sources {
+        found.push(field_of(*source, j))?;
+    }
+    Ok(found)
+}
+
+// Field `j` of a column; where there is none, the column.
+fn field_of<'a>(column: &'a Column, j: usize) -> &'a Column
+    ensures { result.now ≡ field j column.now }
+{
+    if let Column::Struct { fields, .. } = column {
+        if j < fields.len() {
+            return &fields[j];
+        }
+    }
+    column
+}
+
+/// The runs of the fields' rows that the rows hold which runs pick of columns of structs: the same rows, and nulls for
+/// the null ones. Refuses only for want of memory.
+pub fn split_runs(alloc: Global, sources: &[&Column], runs: &[Run]) -> PolarsResult<Vec<Run>>
+    requires known { All (λ c. type_of c.now ≢ of_null) sources.now }
+    requires formed { All (λ c. IsWellFormed c.now) sources.now }
+    requires fits { All (PickFits (map (λ c. rows c.now) sources.now)) (expand runs.now) }
+    requires few { length (expand runs.now) ≤ 4294967295 }
+    ensures picks { IfOk result (λ split. expand split.items ≡ map (cleared (map (λ c. rows c.now) sources.now)) (expand runs.now)) }
+    ensures refusal { IfErr result (λ fault. fault ≡ PolarsError.OutOfMemory) }
+{
+    let mut split = Vec::new(alloc);
+    for run in runs {
+        push_split(&mut split, sources, *run)?;
+    }
+    Ok(split)
+}
+
+// Puts a run behind the others, with nulls for its null rows. Refuses only for want of memory.
+fn push_split(split: &mut Vec<Run>, sources: &[&Column], run: Run) -> PolarsResult<()>
+    requires known { All (λ c. type_of c.now ≢ of_null) sources.now }
+    requires formed { All (λ c. IsWellFormed c.now) sources.now }
+    requires fits { All (PickFits (map (λ c. rows c.now) sources.now)) (unrolled run) }
+    requires room { length (expand split.old.items) + run.len ≤ 4294967295 }
+    ensures picks { OnOk result (expand split.new.items ≡ expand split.old.items ++ map (cleared (map (λ c. rows c.now) sources.now)) (unrolled run)) }
+    ensures refusal { IfErr result (λ fault. fault ≡ PolarsError.OutOfMemory) }
+{
+    if run.len == 0 {
+        return Ok(());
+    }
+    let Some(source) = run.source else {
+        push_run(split, run)?;
+        return Ok(());
+    };
+    match sources[source as usize].validity() {
+        None => {
+            push_run(split, run)?;
+            Ok(())
+        }
+        Some(bits) => {
+            push_kept(split, bits, run)?;
+            Ok(())
+        }
+    }
+}
+
+// Puts the rows of a run behind the others whose bit is true, and nulls for the others. Refuses only for want of memory.
+fn push_kept(split: &mut Vec<Run>, bits: &Bitmap, run: Run) -> PolarsResult<()>
+    requires inside { run.start + run.len ≤ length bits.now.bits }
+    requires few { length bits.now.bits ≤ 4294967295 }
+    requires room { length (expand split.old.items) + run.len ≤ 4294967295 }
+    ensures picks { OnOk result (expand split.new.items ≡ expand split.old.items ++ map (kept_by bits.now.bits) (unrolled run)) }
+    ensures refusal { IfErr result (λ fault. fault ≡ PolarsError.OutOfMemory) }
+{
+    for i in 0..run.len {
+        push_run(split, kept_row(bits, run.source, run.start + i))?;
+    }
+    Ok(())
+}
+
+// The run of one row, of a null where its bit is false.
+fn kept_row(bits: &Bitmap, source: Option<u32>, row: u32) -> Run
+    requires { row < length bits.now.bits }
+    ensures picks { unrolled result ≡ kept_by bits.now.bits (row_pick source row) ∷ [] }
+    ensures len { result.len ≡ 1 }
+{
+    if bits.get_bit(row as usize) {
+        return Run {
+            source,
+            start: row,
+            len: 1,
+        };
+    }
+    Run {
+        source: None,
+        start: 0,
+        len: 1,
+    }
+}

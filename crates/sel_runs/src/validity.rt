@@ -1,0 +1,62 @@
+//! Which rows are valid that runs pick.
+
+ghost use Rattle.std.specs.Prelude.{◌≡◌, ◌≢◌, ◌++◌, All, length, map, IfOk, IfErr, OnOk};
+ghost use Rattle.sel_arrow.specs.Masked.{Covers};
+ghost use Rattle.sel_arrow.specs.Rows.{rows, type_of, IsWellFormed};
+ghost use Rattle.sel_arrow.specs.Shape.{of_null};
+ghost use Rattle.sel_arrow.specs.Value.{Null, validities};
+ghost use Rattle.sel_runs.specs.Picks.{pick, PickFits};
+ghost use Rattle.sel_runs.specs.Runs.{expand, unrolled};
+ghost use Rattle.sel_runs.specs.Validity.{bits_for};
+
+use crate::bits::{push_copies, push_validity, validity_from};
+use crate::run::Run;
+use sel_arrow::column::Column;
+use sel_bits::bitmap::Bitmap;
+use sel_bits::faults::{PolarsError, PolarsResult};
+use sel_bits::packer::BitPacker;
+use std::alloc::Global;
+
+/// The validity of the rows that runs pick of columns of any type but that of nulls, `len` in all; none where each row
+/// is valid. Refuses only for want of memory.
+pub fn collect_validity(
+    alloc: Global,
+    sources: &[&Column],
+    runs: &[Run],
+    len: usize,
+) -> PolarsResult<Option<Bitmap>>
+    requires known { All (λ c. type_of c.now ≢ of_null) sources.now }
+    requires formed { All (λ c. IsWellFormed c.now) sources.now }
+    requires fits { All (PickFits (map (λ c. rows c.now) sources.now)) (expand runs.now) }
+    requires len { length (expand runs.now) ≡ len }
+    ensures bits { IfOk result (λ validity. bits_for len validity ≡ validities (pick Null (map (λ c. rows c.now) sources.now) (expand runs.now))) }
+    ensures covers { IfOk result (λ validity. Covers validity len) }
+    ensures refusal { IfErr result (λ fault. fault ≡ PolarsError.OutOfMemory) }
+{
+    let mut bits = BitPacker::with_capacity(alloc, len)?;
+    for run in runs {
+        push_valid_rows(&mut bits, sources, *run)?;
+    }
+    let validity = validity_from(bits, len)?;
+    Ok(validity)
+}
+
+// Puts one bit for each row of a run behind the others. Refuses only for want of memory.
+fn push_valid_rows(bits: &mut BitPacker, sources: &[&Column], run: Run) -> PolarsResult<()>
+    requires known { All (λ c. type_of c.now ≢ of_null) sources.now }
+    requires formed { All (λ c. IsWellFormed c.now) sources.now }
+    requires fits { All (PickFits (map (λ c. rows c.now) sources.now)) (unrolled run) }
+    ensures bits { OnOk result (bits.new ≡ bits.old ++ validities (pick Null (map (λ c. rows c.now) sources.now) (unrolled run))) }
+    ensures refusal { IfErr result (λ fault. fault ≡ PolarsError.OutOfMemory) }
+{
+    if run.len == 0 {
+        return Ok(());
+    }
+    let Some(source) = run.source else {
+        push_copies(bits, false, run.len as usize)?;
+        return Ok(());
+    };
+    let validity = sources[source as usize].validity();
+    push_validity(bits, validity, run.start as usize, run.len as usize)?;
+    Ok(())
+}
