@@ -101,13 +101,16 @@ rows_in_part offsets off len rises h = omega (arith, length-part offsets off (le
 pub part_few : (offsets : List ℕ) (off len : ℕ) → IsRising offsets → off + len ≤ rows_between offsets → rows_between offsets ≤ 4294967295 → rows_between (take (len + 1) (drop off offsets)) ≤ 4294967295
 part_few offsets off len rises h few = omega (arith, rows_in_part offsets off len rises h)
 
-pub part_ends : (offsets bytes : List ℕ) (off len : ℕ) → IsRising offsets → off + len ≤ rows_between offsets → last_offset offsets ≤ length bytes → last_offset (take (len + 1) (drop off offsets)) ≤ length bytes
-part_ends offsets bytes off len rises h ends =
+pub part_last : (offsets : List ℕ) (off len : ℕ) → IsRising offsets → off + len ≤ rows_between offsets → last_offset (take (len + 1) (drop off offsets)) ≤ last_offset offsets
+part_last offsets off len rises h =
     let rows : rows_between (take (len + 1) (drop off offsets)) ≡ len = rows_in_part offsets off len rises h in
     let last : last_offset (take (len + 1) (drop off offsets)) ≡ get_or offsets (off + len) 0 =
     rw (rows, get_or-take (len + 1) (drop off offsets) len 0 (omega arith), get_or-drop) refl
     in
     omega (arith, rises.rising (off + len) (length offsets - 1) (omega arith) (omega (arith, rises.some)))
+
+pub part_ends : (offsets bytes : List ℕ) (off len : ℕ) → IsRising offsets → off + len ≤ rows_between offsets → last_offset offsets ≤ length bytes → last_offset (take (len + 1) (drop off offsets)) ≤ length bytes
+part_ends offsets bytes off len rises h ends = omega (arith, part_last offsets off len rises h)
 
 pub part_covered : (offsets : List ℕ) (validity : Option Bits) (off len : ℕ) → IsRising offsets → off + len ≤ rows_between offsets → Covers validity (rows_between offsets) → Covers (option_map (part_of off len) validity) (rows_between (take (len + 1) (drop off offsets)))
 part_covered offsets validity off len rises h covers = rw (rows_in_part offsets off len rises h) (part_covers validity (rows_between offsets) off len covers h)

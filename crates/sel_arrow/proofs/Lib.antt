@@ -1,9 +1,12 @@
 pub mod ByteRows
 pub mod Lists
+pub mod NestedFaults
+pub mod NestedParts
 pub mod NestedRows
 pub mod NoRows
 pub mod NullCounts
 pub mod Rows
 pub mod Texts
+pub mod Trees
 pub mod Types
 pub mod ViewRows

@@ -1,5 +1,5 @@
 -- Rows of columns with children, and what a well-formed column has.
-use Rattle.std.proofs.Common.{◌≡◌, ◌≢◌, ℕ, zero, suc, ◌+◌, ◌-◌, ◌*◌, ◌≤◌, ◌<◌, Bool, true, false, ◌&&◌, nat_le, ◌==◌, List, [], ◌∷◌, length, map, Option, Some, None, refl, ap, sym, ◌∙◌, arith, get_or, Vec, Box, Global, subst}
+use Rattle.std.proofs.Common.{◌≡◌, ◌≢◌, ℕ, zero, suc, ◌+◌, ◌*◌, ◌≤◌, ◌<◌, Bool, true, ◌&&◌, nat_le, ◌==◌, List, [], ◌∷◌, length, Option, Some, None, refl, ap, sym, ◌∙◌, arith, get_or, Vec, Box, Global, subst}
 use Rattle.std.specs.List.{range_with_len, slice_range}
 use Rattle.std.proofs.lemmas.Bool.{leb-true, le-leb}
 use Rattle.std.proofs.lemmas.Bool.Decides.{nat_tests}
@@ -9,7 +9,7 @@ use mathlib.Core.Former.{Count}
 use Rattle.sel_bits.specs.Bits.{Bits}
 use Rattle.sel_bits.specs.Offsets.{IsRising}
 use Rattle.sel_arrow.specs.Value.{Value, Null}
-use Rattle.sel_arrow.specs.Masked.{masked, Covers, covers, is_few}
+use Rattle.sel_arrow.specs.Masked.{Covers, covers, is_few}
 use Rattle.sel_arrow.specs.Nested.{list_of, list_rows, blocks, block_rows, tuple_at, tuple_rows}
 use Rattle.sel_arrow.specs.Nulls.{TellsNulls}
 use Rattle.sel_arrow.specs.Pieces.{pieces, rows_between, last_offset, is_rising, rises_from}
@@ -103,7 +103,7 @@ each_rises a (b ∷ ns) (suc j) (suc k) e le h = each_rises b ns j k (and_second
 
 pub tested_rising : (ns : List ℕ) → is_rising ns ≡ true → IsRising ns
 tested_rising [] e = absurd cc
-tested_rising (a ∷ ns) e = record { some = omega arith; rising = λ j k le below. each_rises a ns j k e le below; }
+tested_rising (a ∷ ns) e = record { some = omega arith; rising = λ j k le below. each_rises a ns j k e le below }
 
 -- ---- the parts of well-formed columns
 
@@ -243,7 +243,7 @@ block_tells c size len values validity is formed =
 not_null_struct : (ss : Shapes) → of_struct ss ≢ of_null
 not_null_struct ss e = absurd cc
 
-abbrev row_of : Column → (n : Count) × Row_of-Column n
+abbrev pub row_of : Column → (n : Count) × Row_of-Column n
 row_of (Struct' len n fields validity) = (_, fields)
 row_of _ = (_, end_of-Column)
 

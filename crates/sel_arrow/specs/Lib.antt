@@ -3,6 +3,7 @@ pub mod DataType
 pub mod Makers
 pub mod Masked
 pub mod Nested
+pub mod NestedArrays
 pub mod Nulls
 pub mod Pieces
 pub mod Rows

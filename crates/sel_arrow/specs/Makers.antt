@@ -1,9 +1,10 @@
 -- The rules of columns, each with the first one that parts break.
-use Rattle.std.specs.Prelude.{ℕ, [], ◌∷◌, List, length, Option, Some, None, not, nat_lt}
+use Rattle.std.specs.Prelude.{ℕ, ◌*◌, ◌==◌, Bool, [], ◌∷◌, List, length, Option, Some, None, not, nat_lt}
+use Rattle.std.specs.List.{list_all}
 use Rattle.sel_bits.specs.Bits.{Bits}
 use Rattle.sel_bits.specs.Faults.{first_broken}
 use Rattle.sel_bits.specs.declared.faults.Malformed.{Malformed}
-use Rattle.sel_bits.specs.declared.faults.Malformed.TheVariants.{TooManyRows, TooManyBuffers, OffsetRange, ValidityLength, ViewRange, ViewPrefix, Utf8}
+use Rattle.sel_bits.specs.declared.faults.Malformed.TheVariants.{TooManyRows, TooManyBuffers, Width, OffsetRange, ChildLength, FieldLength, ValidityLength, ViewRange, ViewPrefix, Utf8}
 use Rattle.sel_arrow.specs.Masked.{too_many, validity_differs}
 use Rattle.sel_arrow.specs.Pieces.{rows_between, last_offset}
 use Rattle.sel_arrow.specs.Texts.{all_text}
@@ -46,3 +47,22 @@ binview_fault views buffers validity =
 abbrev pub utf8view_fault : List View → List (List ℕ) → Option Bits → Option Malformed
 utf8view_fault views buffers validity =
     or_else (binview_fault views buffers validity) (first_broken ((Utf8, not (all_text (view_rows views buffers validity))) ∷ []))
+
+-- of lists between offsets over a child of so many rows (own)
+abbrev pub list_fault : List ℕ → ℕ → Option Bits → Option Malformed
+list_fault offsets child validity =
+    first_broken ((TooManyRows, too_many (rows_between offsets)) ∷ (OffsetRange, nat_lt child (last_offset offsets)) ∷ (ValidityLength, validity_differs validity (rows_between offsets)) ∷ [])
+
+-- of n lists of this size over a child of so many rows (own)
+abbrev pub block_fault : ℕ → ℕ → ℕ → Option Bits → Option Malformed
+block_fault size n child validity =
+    first_broken ((TooManyRows, too_many n) ∷ (Width, too_many size) ∷ (ChildLength, not (child == n * size)) ∷ (ValidityLength, validity_differs validity n) ∷ [])
+
+-- of n tuples, where it is known whether each field has n rows (own)
+abbrev pub tuple_fault : ℕ → Bool → Option Bits → Option Malformed
+tuple_fault n fit validity =
+    first_broken ((TooManyRows, too_many n) ∷ (FieldLength, not fit) ∷ (ValidityLength, validity_differs validity n) ∷ [])
+
+-- of n tuples over fields of so many rows each (own)
+abbrev pub struct_fault : ℕ → List ℕ → Option Bits → Option Malformed
+struct_fault n fields validity = tuple_fault n (list_all (λ rows. rows == n) fields) validity

@@ -1,10 +1,10 @@
 //! Columns of every kind.
 
-ghost use Rattle.std.specs.Prelude.{◌≡◌, ◌≤◌, ◌+◌, ◌↔◌, length, take, drop, map, IfOk, IfErr, IsTrue};
+ghost use Rattle.std.specs.Prelude.{◌≡◌, ◌≤◌, ◌+◌, ◌↔◌, length, take, drop, map, All, IfOk, IfErr, IsTrue};
 ghost use Rattle.std.specs.Option.{option_copied};
 ghost use Rattle.sel_arrow.specs.DataType.{shape_of};
 ghost use Rattle.sel_arrow.specs.Nulls.{TellsNulls};
-ghost use Rattle.sel_arrow.specs.Rows.{rows, type_of, IsWellFormed};
+ghost use Rattle.sel_arrow.specs.Rows.{rows, type_of, well_formed, IsField, IsWellFormed};
 
 use crate::array::Array;
 use crate::array_ref::ArrayRef;
@@ -12,8 +12,12 @@ use crate::binary::BinaryArray;
 use crate::binview::BinaryViewArray;
 use crate::boolean::BooleanArray;
 use crate::datatype::ArrowDataType;
+use crate::fixed_size_list::FixedSizeListArray;
+use crate::list::ListArray;
 use crate::null::NullArray;
 use crate::primitive::PrimitiveArray;
+use crate::rules::{fault_of_blocks, fault_of_lists, fault_of_tuples};
+use crate::structure::StructArray;
 use crate::utf8view::Utf8ViewArray;
 use sel_bits::bitmap::Bitmap;
 use sel_bits::faults::{PolarsError, PolarsResult};
@@ -109,6 +113,36 @@ impl Column {
             Column::LargeList { validity, .. } => validity.as_ref(),
             Column::FixedSizeList { validity, .. } => validity.as_ref(),
             Column::Struct { validity, .. } => validity.as_ref(),
+        }
+    }
+
+    /// Whether the column is well-formed. At every depth there are at most 4,294,967,295 rows, and a validity has a bit for each;
+    /// offsets rise, and end within the child; lists of one length have at most 4,294,967,295 entries each, and their child has
+    /// a row for each entry; each field of a struct has as many rows as the struct.
+    #[cycle(forming)]
+    pub fn is_well_formed(&self) -> bool
+        ensures { result ≡ well_formed self.now }
+    {
+        match self {
+            Column::LargeList {
+                offsets,
+                values,
+                validity,
+            } => values.is_well_formed()
+                && fault_of_lists(offsets, values.len(), validity).is_none(),
+            Column::FixedSizeList {
+                size,
+                len,
+                values,
+                validity,
+            } => values.is_well_formed()
+                && fault_of_blocks(*size, *len, values.len(), validity).is_none(),
+            Column::Struct {
+                len,
+                fields,
+                validity,
+            } => are_fields(fields, *len) && fault_of_tuples(*len, true, validity).is_none(),
+            _ => true,
         }
     }
 
@@ -228,6 +262,7 @@ impl Column {
     }
 
     /// The `len` rows from row `off` on. Refuses only for want of memory.
+    #[cycle(slicing)]
     pub fn sliced(&self, alloc: Global, off: usize, len: usize) -> PolarsResult<Column>
         requires formed { IsWellFormed self.now }
         requires inside { off + len ≤ length (rows self.now) }
@@ -252,10 +287,38 @@ impl Column {
             Column::LargeBinary(column) => part_of(column, alloc, off, len),
             Column::BinaryView(column) => part_of(column, alloc, off, len),
             Column::Utf8View(column) => part_of(column, alloc, off, len),
+            Column::LargeList {
+                offsets,
+                values,
+                validity,
+            } => {
+                let part = ListArray::part_of(offsets, values, validity, alloc, off, len)?;
+                Ok(part.into_column())
+            }
+            Column::FixedSizeList {
+                size,
+                len: count,
+                values,
+                validity,
+            } => {
+                let part = FixedSizeListArray::part_of(
+                    *size, *count, values, validity, alloc, off, len,
+                )?;
+                Ok(part.into_column())
+            }
+            Column::Struct {
+                len: count,
+                fields,
+                validity,
+            } => {
+                let part = StructArray::part_of(*count, fields, validity, alloc, off, len)?;
+                Ok(part.into_column())
+            }
         }
     }
 
     /// The same column. Refuses only for want of memory.
+    #[cycle(copying)]
     pub fn try_clone(&self, alloc: Global) -> PolarsResult<Column>
         requires { IsWellFormed self.now }
         ensures rows { IfOk result (λ copy. rows copy ≡ rows self.now) }
@@ -279,6 +342,24 @@ impl Column {
             Column::LargeBinary(column) => copy_of(column, alloc),
             Column::BinaryView(column) => copy_of(column, alloc),
             Column::Utf8View(column) => copy_of(column, alloc),
+            Column::LargeList {
+                offsets,
+                values,
+                validity,
+            } => Ok(ListArray::copy_of(offsets, values, validity, alloc)?.into_column()),
+            Column::FixedSizeList {
+                size,
+                len,
+                values,
+                validity,
+            } => Ok(FixedSizeListArray::copy_of(
+                *size, *len, values, validity, alloc,
+            )?.into_column()),
+            Column::Struct {
+                len,
+                fields,
+                validity,
+            } => Ok(StructArray::copy_of(*len, fields, validity, alloc)?.into_column()),
         }
     }
 }
@@ -286,7 +367,7 @@ impl Column {
 /// Whether there are as many columns as types, and each column is of the type at its place.
 #[cycle(has_dtype)]
 #[tactic(auto, using(crate::proofs::Types::both_lists))]
-fn have_dtypes(columns: &[Column], dtypes: &[ArrowDataType]) -> bool
+pub(crate) fn have_dtypes(columns: &[Column], dtypes: &[ArrowDataType]) -> bool
     ensures { IsTrue result ↔ (map type_of columns.now ≡ map shape_of dtypes.now) }
 {
     if columns.len() != dtypes.len() {
@@ -303,7 +384,7 @@ fn have_dtypes(columns: &[Column], dtypes: &[ArrowDataType]) -> bool
 /// Whether there are as many columns on both sides, and those at each place are of one type.
 #[cycle(same_dtype)]
 #[tactic(auto, using(crate::proofs::Types::both_lists))]
-fn same_dtypes(columns: &[Column], others: &[Column]) -> bool
+pub(crate) fn same_dtypes(columns: &[Column], others: &[Column]) -> bool
     ensures { IsTrue result ↔ (map type_of columns.now ≡ map type_of others.now) }
 {
     if columns.len() != others.len() {
@@ -319,7 +400,7 @@ fn same_dtypes(columns: &[Column], others: &[Column]) -> bool
 
 /// The types of the columns, in order. Refuses only for want of memory.
 #[cycle(dtype)]
-fn dtypes_of(alloc: Global, columns: &[Column]) -> PolarsResult<Vec<ArrowDataType>>
+pub(crate) fn dtypes_of(alloc: Global, columns: &[Column]) -> PolarsResult<Vec<ArrowDataType>>
     ensures dtypes { IfOk result (λ dtypes. map shape_of dtypes.items ≡ map type_of columns.now) }
     ensures refusal { IfErr result (λ fault. fault ≡ PolarsError.OutOfMemory) }
 {
@@ -356,4 +437,20 @@ fn copy_of<A: Array + Drop>(column: &A, alloc: Global) -> PolarsResult<Column>
 {
     let ArrayRef { column } = column.try_clone(alloc)?.into_ref();
     Ok(column)
+}
+
+/// Whether each column is well-formed and has `len` rows.
+#[cycle(forming)]
+fn are_fields(columns: &[Column], len: usize) -> bool
+    ensures { IsTrue result ↔ All (IsField len) columns.now }
+{
+    for column in columns {
+        if !column.is_well_formed() {
+            return false;
+        }
+        if column.len() != len {
+            return false;
+        }
+    }
+    true
 }

@@ -1,0 +1,114 @@
+-- The definitions on a struct, read at the list of its fields.
+use Rattle.std.proofs.Common.{◌≡◌, ◌≢◌, ℕ, ◌+◌, ◌≤◌, ◌<◌, Bool, true, false, true≢false, ◌&&◌, ◌==◌, not, All, List, [], ◌∷◌, length, take, get_or, map, Option, is_some, Vec, Global, refl, ap, sym, subst, ◌∙◌, arith}
+use Rattle.std.proofs.lemmas.Bool.Decides.{nat_tests}
+use Rattle.std.proofs.lemmas.List.{take_all}
+use Rattle.std.proofs.lemmas.List.Elements.{All-nil, All-cons, All-head, All-tail, All-get_or, All-more}
+use Rattle.sel_bits.specs.Bits.{Bits}
+use Rattle.sel_arrow.specs.Makers.{tuple_fault}
+use Rattle.sel_arrow.specs.Masked.{Covers, covers, is_few}
+use Rattle.sel_arrow.specs.Nested.{tuple_rows}
+use Rattle.sel_arrow.specs.Rows.{rows, rows_of_each, row_count, type_of, types_of_each, well_formed, all_well_formed, IsField}
+use Rattle.sel_arrow.specs.Shape.{next_shape, of_struct, shapes_of}
+use Rattle.sel_arrow.specs.declared.column.Column.{Column, Struct, Row_of-Column, end_of-Column, more_of-Column, items-the_row-Column, items_hidden-the_row-Column-0}
+use Rattle.sel_arrow.proofs.Lists.{both, and_first, and_second}
+use Rattle.sel_arrow.proofs.NestedFaults.{and_true, sound_tuples}
+use Rattle.sel_arrow.proofs.NestedRows.{row_of, length-rows, struct_covered, struct_formed}
+
+each_rows : (n : _) (row : Row_of-Column n) → rows_of_each row ≡ map rows (items-the_row-Column n row)
+each_rows n end_of-Column = refl
+each_rows n (more_of-Column c rest) = ap (λ l. rows c ∷ l) (each_rows _ rest)
+
+pub rows-Struct : (len : ℕ) (fields : Vec Column Global) (validity : Option Bits) → rows (Struct len fields validity) ≡ tuple_rows len (map rows fields.items) validity
+rows-Struct len fields validity =
+    let row = row_of (Struct len fields validity) in
+    ap (λ l. tuple_rows len l validity) (each_rows row.0 row.1 ∙ ap (map rows) (items_hidden-the_row-Column-0 fields))
+
+each_type : (n : _) (row : Row_of-Column n) → types_of_each row ≡ shapes_of (map type_of (items-the_row-Column n row))
+each_type n end_of-Column = refl
+each_type n (more_of-Column c rest) = ap (λ l. next_shape (type_of c) l) (each_type _ rest)
+
+pub type_of-Struct : (len : ℕ) (fields : Vec Column Global) (validity : Option Bits) → type_of (Struct len fields validity) ≡ of_struct (shapes_of (map type_of fields.items))
+type_of-Struct len fields validity =
+    let row = row_of (Struct len fields validity) in
+    ap of_struct (each_type row.0 row.1 ∙ ap (λ l. shapes_of (map type_of l)) (items_hidden-the_row-Column-0 fields))
+
+-- whether columns are well-formed, each of so many rows
+abbrev pub are_fields : ℕ → List Column → Bool
+are_fields len [] = true
+are_fields len (c ∷ cs) = (row_count c == len) && well_formed c && are_fields len cs
+
+each_well_formed : (len : ℕ) (n : _) (row : Row_of-Column n) → all_well_formed len row ≡ are_fields len (items-the_row-Column n row)
+each_well_formed len n end_of-Column = refl
+each_well_formed len n (more_of-Column c rest) = ap (λ b. (row_count c == len) && well_formed c && b) (each_well_formed len _ rest)
+
+pub well_formed-Struct : (len : ℕ) (fields : Vec Column Global) (validity : Option Bits) →
+    well_formed (Struct len fields validity) ≡ (is_few len && covers validity len && are_fields len fields.items)
+well_formed-Struct len fields validity =
+    let row = row_of (Struct len fields validity) in
+    ap (λ b. is_few len && covers validity len && b) (each_well_formed len row.0 row.1 ∙ ap (are_fields len) (items_hidden-the_row-Column-0 fields))
+
+-- ---- the same as a condition
+
+pub fields_formed : (len : ℕ) (cs : List Column) → are_fields len cs ≡ true → All (IsField len) cs
+fields_formed len [] h = All-nil (IsField len)
+fields_formed len (c ∷ cs) h =
+    let two = and_first ((row_count c == len) && well_formed c) (are_fields len cs) h in
+    let rows : row_count c ≡ len = let e = and_first (row_count c == len) (well_formed c) two in grind (arith, nat_tests, e) in
+    All-cons (IsField len) c cs (rows, and_second (row_count c == len) (well_formed c) two) (fields_formed len cs (and_second ((row_count c == len) && well_formed c) (are_fields len cs) h))
+
+pub formed_fields : (len : ℕ) (cs : List Column) → All (IsField len) cs → are_fields len cs ≡ true
+formed_fields len [] h = refl
+formed_fields len (c ∷ cs) h =
+    let first = All-head (IsField len) c cs h in
+    let rows : (row_count c == len) ≡ true = let e = first.0 in grind (arith, nat_tests, e) in
+    both ((row_count c == len) && well_formed c) (are_fields len cs) (both (row_count c == len) (well_formed c) rows first.1) (formed_fields len cs (All-tail (IsField len) c cs h))
+
+-- what a well-formed column of tuples has
+pub record HasFields (len : ℕ) (cs : List Column) (validity : Option Bits) : Type 0 where
+  pub few : len ≤ 4294967295
+  pub covered : Covers validity len
+  pub fields : All (IsField len) cs
+
+pub has_fields : (len : ℕ) (fields : Vec Column Global) (validity : Option Bits) → well_formed (Struct len fields validity) ≡ true → HasFields len fields.items validity
+has_fields len fields validity h =
+    let facts = struct_covered len validity (are_fields len fields.items) (sym (well_formed-Struct len fields validity) ∙ h) in
+    record { few = facts.0; covered = facts.1; fields = fields_formed len fields.items facts.2 }
+
+pub fields_make : (len : ℕ) (fields : Vec Column Global) (validity : Option Bits) → HasFields len fields.items validity → well_formed (Struct len fields validity) ≡ true
+fields_make len fields validity h =
+    well_formed-Struct len fields validity ∙ struct_formed len validity (are_fields len fields.items) h.few h.covered (formed_fields len fields.items h.fields)
+
+-- fields that fit, under the rules on the number of rows and the validity
+pub struct_test : (len : ℕ) (fields : Vec Column Global) (validity : Option Bits) (t : Bool) → All (IsField len) fields.items → is_some (tuple_fault len true validity) ≡ not t → t ≡ well_formed (Struct len fields validity)
+struct_test len fields validity t fit fault =
+    sound_tuples len validity t fault
+    ∙ sym (and_true (is_few len && covers validity len))
+    ∙ ap (λ b. is_few len && covers validity len && b) (sym (formed_fields len fields.items fit))
+    ∙ sym (well_formed-Struct len fields validity)
+
+-- fields that do not
+pub struct_failed : (len : ℕ) (fields : Vec Column Global) (validity : Option Bits) → (All (IsField len) fields.items → ⊥) → false ≡ well_formed (Struct len fields validity)
+struct_failed len fields validity none = failed (well_formed (Struct len fields validity)) refl
+  where
+    failed : (b : Bool) → well_formed (Struct len fields validity) ≡ b → false ≡ well_formed (Struct len fields validity)
+    failed true e = absurd (none (has_fields len fields validity e).fields)
+    failed false e = sym e
+
+-- ---- field by field
+
+pub one_differs : (len n : ℕ) (cs : List Column) (i : ℕ) (c : Column) → i < length cs → c ≡ get_or cs i c → n ≡ length (rows c) → n ≢ len → All (IsField len) cs → ⊥
+one_differs len n cs i c lt is count differs all =
+    let here = subst (IsField len) (sym is) (All-get_or (IsField len) cs i c lt all) in
+    differs (count ∙ length-rows c ∙ here.0)
+
+pub one_failed : (len : ℕ) (cs : List Column) (i : ℕ) (c : Column) → i < length cs → c ≡ get_or cs i c → false ≡ well_formed c → All (IsField len) cs → ⊥
+one_failed len cs i c lt is failed all =
+    let here = subst (IsField len) (sym is) (All-get_or (IsField len) cs i c lt all) in
+    true≢false (sym (failed ∙ here.1))
+
+pub one_more_field : (len n : ℕ) (cs : List Column) (i : ℕ) (c : Column) → i < length cs → c ≡ get_or cs i c → n ≡ length (rows c) → n ≡ len → true ≡ well_formed c → All (IsField len) (take i cs) → All (IsField len) (take (i + 1) cs)
+one_more_field len n cs i c lt is count same formed all =
+    All-more (IsField len) cs i c lt all (subst (IsField len) is (sym (length-rows c) ∙ sym count ∙ same, sym formed))
+
+pub all_fields : (len : ℕ) (cs : List Column) (i : ℕ) → length cs ≤ i → All (IsField len) (take i cs) → All (IsField len) cs
+all_fields len cs i le all = subst (All (IsField len)) (take_all i cs le) all

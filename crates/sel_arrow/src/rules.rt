@@ -1,0 +1,69 @@
+//! The rules of columns that have children.
+
+ghost use Rattle.std.specs.Prelude.{◌≡◌};
+ghost use Rattle.sel_bits.specs.Offsets.{IsRising};
+ghost use Rattle.sel_arrow.specs.Makers.{list_fault, block_fault, tuple_fault};
+
+use crate::validity::{MOST_ROWS, has_other_length};
+use sel_bits::bitmap::Bitmap;
+use sel_bits::faults::Malformed;
+use sel_bits::native::Offset;
+use sel_bits::offsets::OffsetsBuffer;
+
+/// The first rule that lists over a child of `rows` rows break.
+pub(crate) fn fault_of_lists<O: Offset>(
+    offsets: &OffsetsBuffer<O>,
+    rows: usize,
+    validity: &Option<Bitmap>,
+) -> Option<Malformed>
+    ensures fault { result ≡ list_fault offsets.now rows validity.now }
+    ensures rising { IsRising offsets.now }
+{
+    let len = offsets.len_proxy();
+    if len > MOST_ROWS {
+        Some(Malformed::TooManyRows)
+    } else if offsets.at(len) > rows {
+        Some(Malformed::OffsetRange)
+    } else if has_other_length(validity, len) {
+        Some(Malformed::ValidityLength)
+    } else {
+        None
+    }
+}
+
+/// The first rule that `len` lists, each of `size` of a child's `rows` rows, break.
+pub(crate) fn fault_of_blocks(
+    size: usize,
+    len: usize,
+    rows: usize,
+    validity: &Option<Bitmap>,
+) -> Option<Malformed>
+    ensures { result ≡ block_fault size len rows validity.now }
+{
+    if len > MOST_ROWS {
+        Some(Malformed::TooManyRows)
+    } else if size > MOST_ROWS {
+        Some(Malformed::Width)
+    } else if rows != len * size {
+        Some(Malformed::ChildLength)
+    } else if has_other_length(validity, len) {
+        Some(Malformed::ValidityLength)
+    } else {
+        None
+    }
+}
+
+/// The first rule that `len` tuples break; `fit` says whether each field has as many rows.
+pub(crate) fn fault_of_tuples(len: usize, fit: bool, validity: &Option<Bitmap>) -> Option<Malformed>
+    ensures { result ≡ tuple_fault len fit validity.now }
+{
+    if len > MOST_ROWS {
+        Some(Malformed::TooManyRows)
+    } else if !fit {
+        Some(Malformed::FieldLength)
+    } else if has_other_length(validity, len) {
+        Some(Malformed::ValidityLength)
+    } else {
+        None
+    }
+}
