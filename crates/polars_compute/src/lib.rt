@@ -4,3 +4,4 @@
 pub mod filter;
 pub mod gather;
 pub mod laws;
+mod runs;

@@ -67,8 +67,8 @@ pub fn runs_of_picks(alloc: Global, picks: &[Option<(u32, u32)>]) -> PolarsResul
     Ok(runs)
 }
 
-// The run of one pick.
-fn run_of_pick(pick: Option<(u32, u32)>) -> Run
+/// The run of one pick.
+pub fn run_of_pick(pick: Option<(u32, u32)>) -> Run
     ensures picks { unrolled result ≡ pick ∷ [] }
     ensures len { result.len ≡ 1 }
 {

@@ -2,7 +2,8 @@
 
 ghost use Rattle.std.specs.Prelude.{◌≡◌, ◌≤◌, ◌+◌, length, IfOk, IfErr};
 ghost use Rattle.sel_arrow.specs.Columns.{null_rows, boolean_rows, primitive_rows, binary_rows, binview_rows, utf8view_rows};
-ghost use Rattle.sel_arrow.specs.Rows.{rows, type_of};
+ghost use Rattle.sel_arrow.specs.Rows.{rows, type_of, IsWellFormed};
+ghost use Rattle.polars_compute.specs.Need.{IsRefusal, past, past_below};
 ghost use Rattle.polars_compute.specs.Select.{select, in_force};
 ghost use Rattle.polars_compute.specs.Trim.{KeepsAll};
 
@@ -12,6 +13,7 @@ pub mod primitive;
 pub mod scalar;
 
 use crate::gather::generic_binary::collect_bytes;
+use crate::runs::{collect_one, runs_of_mask};
 use binary::{PlacedRows, kept_places};
 use boolean::filter_bitmap_and_validity;
 pub use boolean::filter_boolean_kernel;
@@ -31,25 +33,26 @@ use sel_bits::faults::{PolarsError, PolarsResult};
 use std::alloc::Global;
 
 /// The rows where the mask is the valid value true, in order; a null in the mask counts as false.
-/// Refuses only for want of memory.
+/// Refuses only for want of memory; of a column with children also where its kept rows pass a limit.
 pub fn filter(alloc: Global, array: &ArrayRef, mask: &BooleanArray) -> PolarsResult<ArrayRef>
     requires { length (rows array.now.column) ≡ length (boolean_rows mask.now) }
     ensures rows { IfOk result (λ kept. rows kept.column ≡ select (rows array.now.column) (in_force (boolean_rows mask.now))) }
     ensures dtype { IfOk result (λ kept. type_of kept.column ≡ type_of array.now.column) }
-    ensures refusal { IfErr result (λ fault. fault ≡ PolarsError.OutOfMemory) }
+    ensures refusal { IfErr result (IsRefusal (past_below (type_of array.now.column) (select (rows array.now.column) (in_force (boolean_rows mask.now))))) }
 {
     let in_force = bits_in_force(alloc, mask)?;
     filter_with_bitmap(alloc, array, &in_force)
 }
 
-/// The rows where the bit is true, in order. Refuses only for want of memory.
+/// The rows where the bit is true, in order. Refuses only for want of memory; of a column with children also where its
+/// kept rows pass a limit.
 ///
 /// The rows under leading and trailing false bits are dropped first, and what is left is answered at once where all of it is kept.
 pub fn filter_with_bitmap(alloc: Global, array: &ArrayRef, mask: &Bitmap) -> PolarsResult<ArrayRef>
     requires { length (rows array.now.column) ≡ length mask.now.bits }
     ensures rows { IfOk result (λ kept. rows kept.column ≡ select (rows array.now.column) mask.now.bits) }
     ensures dtype { IfOk result (λ kept. type_of kept.column ≡ type_of array.now.column) }
-    ensures refusal { IfErr result (λ fault. fault ≡ PolarsError.OutOfMemory) }
+    ensures refusal { IfErr result (IsRefusal (past_below (type_of array.now.column) (select (rows array.now.column) mask.now.bits))) }
 {
     let (leading, rest) = trimmed(mask)?;
     let array = array.sliced(alloc, leading, rest.len())?;
@@ -73,7 +76,7 @@ fn filter_trimmed(alloc: Global, array: ArrayRef, mask: &Bitmap) -> PolarsResult
     requires { length (rows array.column) ≡ length mask.now.bits }
     ensures rows { IfOk result (λ kept. rows kept.column ≡ select (rows array.column) mask.now.bits) }
     ensures dtype { IfOk result (λ kept. type_of kept.column ≡ type_of array.column) }
-    ensures refusal { IfErr result (λ fault. fault ≡ PolarsError.OutOfMemory) }
+    ensures refusal { IfErr result (IsRefusal (past_below (type_of array.column) (select (rows array.column) mask.now.bits))) }
 {
     if mask.set_bits() == mask.len() {
         return Ok(array);
@@ -83,10 +86,11 @@ fn filter_trimmed(alloc: Global, array: ArrayRef, mask: &Bitmap) -> PolarsResult
 
 /// The rows of a column where the bit is true.
 fn filter_column(alloc: Global, column: &Column, mask: &Bitmap) -> PolarsResult<ArrayRef>
-    requires { length (rows column.now) ≡ length mask.now.bits }
+    requires formed { IsWellFormed column.now }
+    requires long { length (rows column.now) ≡ length mask.now.bits }
     ensures rows { IfOk result (λ kept. rows kept.column ≡ select (rows column.now) mask.now.bits) }
     ensures dtype { IfOk result (λ kept. type_of kept.column ≡ type_of column.now) }
-    ensures refusal { IfErr result (λ fault. fault ≡ PolarsError.OutOfMemory) }
+    ensures refusal { IfErr result (IsRefusal (past_below (type_of column.now) (select (rows column.now) mask.now.bits))) }
 {
     match column {
         Column::Null(column) => Ok(filter_null(column, mask).into_ref()),
@@ -104,7 +108,24 @@ fn filter_column(alloc: Global, column: &Column, mask: &Bitmap) -> PolarsResult<
         Column::LargeBinary(column) => Ok(filter_binary(alloc, column, mask)?.into_ref()),
         Column::BinaryView(column) => Ok(filter_views(alloc, column, mask)?.into_ref()),
         Column::Utf8View(column) => Ok(filter_texts(alloc, column, mask)?.into_ref()),
+        Column::LargeList { .. } | Column::FixedSizeList { .. } | Column::Struct { .. } => {
+            Ok(filter_nested(alloc, column, mask)?)
+        }
     }
+}
+
+/// The rows of a column with children where the bit is true.
+fn filter_nested(alloc: Global, column: &Column, mask: &Bitmap) -> PolarsResult<ArrayRef>
+    requires formed { IsWellFormed column.now }
+    requires long { length (rows column.now) ≡ length mask.now.bits }
+    requires few { length mask.now.bits ≤ 4294967295 }
+    ensures rows { IfOk result (λ kept. rows kept.column ≡ select (rows column.now) mask.now.bits) }
+    ensures dtype { IfOk result (λ kept. type_of kept.column ≡ type_of column.now) }
+    ensures refusal { IfErr result (IsRefusal (past (type_of column.now) (select (rows column.now) mask.now.bits))) }
+{
+    let runs = runs_of_mask(alloc, mask)?;
+    let kept = collect_one(alloc, column, &runs, mask.set_bits())?;
+    Ok(kept)
 }
 
 /// Which rows of a mask are the valid value true.

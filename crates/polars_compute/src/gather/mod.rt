@@ -2,7 +2,7 @@
 
 ghost use Rattle.std.specs.Prelude.{◌≡◌, ◌≤◌, length, IsTrue, IfOk, IfErr};
 ghost use Rattle.sel_arrow.specs.Columns.{null_rows, primitive_rows};
-ghost use Rattle.sel_arrow.specs.Rows.{rows, type_of};
+ghost use Rattle.sel_arrow.specs.Rows.{rows, type_of, IsWellFormed};
 ghost use Rattle.polars_compute.specs.Need.{IsRefusal, past};
 ghost use Rattle.sel_arrow.specs.Masked.{number_value};
 ghost use Rattle.polars_compute.specs.Pick.{is_within, all_within, all_below, take_rows};
@@ -15,6 +15,7 @@ pub(crate) mod generic_binary;
 pub mod primitive;
 mod validity;
 
+use crate::runs::{collect_one, runs_of_indices};
 use binview::{take_texts, take_views};
 use primitive::take_primitive_unchecked;
 use sel_arrow::array::Array;
@@ -54,7 +55,23 @@ pub fn take_unchecked(alloc: Global, values: &ArrayRef, indices: &IdxArr) -> Pol
         }
         Column::BinaryView(column) => Ok(take_views(alloc, column, indices)?.into_ref()),
         Column::Utf8View(column) => Ok(take_texts(alloc, column, indices)?.into_ref()),
+        Column::LargeList { .. } | Column::FixedSizeList { .. } | Column::Struct { .. } => {
+            Ok(take_nested(alloc, values.as_column(), indices)?)
+        }
     }
+}
+
+/// The rows of a column with children at the indices.
+fn take_nested(alloc: Global, values: &Column, indices: &IdxArr) -> PolarsResult<ArrayRef>
+    requires formed { IsWellFormed values.now }
+    requires inside { IsTrue (all_within (length (rows values.now)) (primitive_rows indices.now)) }
+    ensures rows { IfOk result (λ taken. rows taken.column ≡ take_rows (rows values.now) (primitive_rows indices.now)) }
+    ensures dtype { IfOk result (λ taken. type_of taken.column ≡ type_of values.now) }
+    ensures refusal { IfErr result (IsRefusal (past (type_of values.now) (take_rows (rows values.now) (primitive_rows indices.now)))) }
+{
+    let runs = runs_of_indices(alloc, indices)?;
+    let taken = collect_one(alloc, values, &runs, indices.len())?;
+    Ok(taken)
 }
 
 /// As many nulls as there are indices.

@@ -1,0 +1,39 @@
+-- Runs of the places that a mask keeps, and of those that indices name.
+use Rattle.std.proofs.Common.{◌≡◌, All, ℕ, zero, suc, ◌+◌, ◌-◌, ◌≤◌, ◌<◌, pos, negsuc, true, false, ◌&&◌, Bool, List, [], ◌∷◌, ◌++◌, length, drop, take, map, Option, Some, None, refl, ap, sym, subst, ◌∙◌, arith, get_or, IsTrue}
+use Rattle.std.specs.List.{list_all}
+use Rattle.std.proofs.lemmas.List.{length-map, map-append}
+use Rattle.std.proofs.lemmas.Bool.{ltb-true}
+use Rattle.sel_arrow.specs.Value.{Value, Null, Truth, Number, Bytes, Items, Tuple}
+use Rattle.sel_arrow.proofs.Lists.{and_first, and_second}
+use Rattle.sel_runs.specs.Picks.{found, pick, PickFits}
+use Rattle.polars_compute.specs.Pick.{pick_of, place_pick, is_within, all_within, take_rows}
+use Rattle.polars_compute.specs.Select.{select, kept, kept_from}
+use Rattle.polars_compute.proofs.Places.{selected, kept_below, kept_step, passed_step, kept_end, length-kept_from}
+
+-- what is picked at the places that a mask keeps is what it selects
+pub picked_kept : (xs : List Value) (ms : List Bool) → length xs ≡ length ms → pick Null (xs ∷ []) (map place_pick (kept ms)) ≡ select xs ms
+picked_kept xs ms long = each (kept ms) ∙ sym (selected xs ms Null long)
+  where
+    each : (ps : List ℕ) → pick Null (xs ∷ []) (map place_pick ps) ≡ map (λ i. get_or xs i Null) ps
+    each [] = refl
+    each (p ∷ ps) = ap (λ l. get_or xs p Null ∷ l) (each ps)
+
+-- these places are there
+pub kept_fit : (xs : List Value) (ms : List Bool) → length xs ≡ length ms → All (PickFits (xs ∷ [])) (map place_pick (kept ms))
+kept_fit xs ms long = each (kept ms) (λ k h. omega (arith, kept_below ms k h, long))
+  where
+    each : (ps : List ℕ) → ((k : ℕ) → k < length ps → get_or ps k 0 < length xs) → All (PickFits (xs ∷ [])) (map place_pick ps)
+    each [] below k d h = absurd (omega (arith, h))
+    each (p ∷ ps) below zero d h = below 0 (omega arith)
+    each (p ∷ ps) below (suc k) d h = each ps (λ i more. below (suc i) (omega (arith, more))) k d (omega (arith, h))
+
+-- picks that are there of indices within bounds
+pub within_fit : (xs indices : List Value) → IsTrue (all_within (length xs) indices) → All (PickFits (xs ∷ [])) (map pick_of indices)
+within_fit xs [] h k d below = absurd (omega (arith, below))
+within_fit xs (v ∷ vs) h zero d below = one v (and_first (is_within (length xs) v) (all_within (length xs) vs) h)
+  where
+    one : (v : Value) → is_within (length xs) v ≡ true → PickFits (xs ∷ []) (pick_of v)
+    one (Number (pos i)) e = ltb-true i (length xs) e
+    one (Number (negsuc i)) e = absurd (cc e)
+    one _ e = tt
+within_fit xs (v ∷ vs) h (suc k) d below = within_fit xs vs (and_second (is_within (length xs) v) (all_within (length xs) vs) h) k d (omega (arith, below))

@@ -1,0 +1,80 @@
+//! Runs of rows of one column, and the rows that they pick.
+
+ghost use Rattle.std.specs.Prelude.{◌≡◌, ◌≤◌, ◌<◌, ◌∷◌, [], All, slice_index_or, length, map, IfOk, IfErr};
+ghost use Rattle.sel_arrow.specs.Columns.{primitive_rows};
+ghost use Rattle.sel_arrow.specs.Rows.{rows, type_of, IsWellFormed};
+ghost use Rattle.sel_arrow.specs.Value.{Null};
+ghost use Rattle.sel_runs.specs.Picks.{pick, PickFits};
+ghost use Rattle.sel_runs.specs.Runs.{expand};
+ghost use Rattle.polars_compute.specs.Need.{IsRefusal, past};
+ghost use Rattle.polars_compute.specs.Pick.{pick_of, place_pick};
+ghost use Rattle.polars_compute.specs.Select.{kept};
+
+use sel_arrow::array::Array;
+use sel_arrow::array_ref::ArrayRef;
+use sel_arrow::column::Column;
+use sel_arrow::primitive::IdxArr;
+use sel_bits::bitmap::Bitmap;
+use sel_bits::faults::{PolarsError, PolarsResult};
+use sel_runs::collect::collect_runs;
+use sel_runs::run::{Run, push_run, run_of_pick};
+use std::alloc::Global;
+
+/// The runs of the places where the bit is true. Refuses only for want of memory.
+#[tactic(auto, using(crate::proofs::KeptRuns::run_steps))]
+pub(crate) fn runs_of_mask(alloc: Global, mask: &Bitmap) -> PolarsResult<Vec<Run>>
+    requires { length mask.now.bits ≤ 4294967295 }
+    ensures picks { IfOk result (λ runs. expand runs.items ≡ map place_pick (kept mask.now.bits)) }
+    ensures refusal { IfErr result (λ fault. fault ≡ PolarsError.OutOfMemory) }
+{
+    let mut runs = Vec::new(alloc);
+    for i in 0..mask.len() {
+        if mask.get_bit(i) {
+            push_run(&mut runs, run_of_pick(Some((0, i as u32))))?;
+        }
+    }
+    Ok(runs)
+}
+
+/// The runs of the rows that indices name, nulls for null indices. Refuses only for want of memory.
+pub(crate) fn runs_of_indices(alloc: Global, indices: &IdxArr) -> PolarsResult<Vec<Run>>
+    ensures picks { IfOk result (λ runs. expand runs.items ≡ map pick_of (primitive_rows indices.now)) }
+    ensures refusal { IfErr result (λ fault. fault ≡ PolarsError.OutOfMemory) }
+{
+    let mut runs = Vec::new(alloc);
+    for k in 0..indices.len() {
+        push_run(&mut runs, run_of_pick(pick_at(indices, k)))?;
+    }
+    Ok(runs)
+}
+
+// The pick that index `k` makes of one column; none for a null.
+fn pick_at(indices: &IdxArr, k: usize) -> Option<(u32, u32)>
+    requires { k < length (primitive_rows indices.now) }
+    ensures { result ≡ pick_of (slice_index_or (primitive_rows indices.now) k Null) }
+{
+    match indices.get(k) {
+        None => None,
+        Some(place) => Some((0, place)),
+    }
+}
+
+/// The rows that runs pick of one column, `len` in all. Refuses for want of memory, and where they pass a limit.
+pub(crate) fn collect_one(
+    alloc: Global,
+    column: &Column,
+    runs: &[Run],
+    len: usize,
+) -> PolarsResult<ArrayRef>
+    requires formed { IsWellFormed column.now }
+    requires fits { All (PickFits (rows column.now ∷ [])) (expand runs.now) }
+    requires len { length (expand runs.now) ≡ len }
+    requires few { len ≤ 4294967295 }
+    ensures rows { IfOk result (λ array. rows array.column ≡ pick Null (rows column.now ∷ []) (expand runs.now)) }
+    ensures dtype { IfOk result (λ array. type_of array.column ≡ type_of column.now) }
+    ensures refusal { IfErr result (IsRefusal (past (type_of column.now) (pick Null (rows column.now ∷ []) (expand runs.now)))) }
+{
+    let sources = [column];
+    let column = collect_runs(alloc, &sources, runs, len)?;
+    Ok(ArrayRef { column })
+}
