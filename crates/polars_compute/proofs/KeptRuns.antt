@@ -1,14 +1,16 @@
 -- Runs of the places that a mask keeps, and of those that indices name.
-use Rattle.std.proofs.Common.{◌≡◌, All, ℕ, zero, suc, ◌+◌, ◌-◌, ◌≤◌, ◌<◌, pos, negsuc, true, false, ◌&&◌, Bool, List, [], ◌∷◌, ◌++◌, length, drop, take, map, Option, Some, None, refl, ap, sym, subst, ◌∙◌, arith, get_or, IsTrue}
+use Rattle.std.proofs.Common.{◌≡◌, All, ℕ, zero, suc, ◌+◌, ◌-◌, ◌≤◌, ◌<◌, pos, negsuc, true, false, ◌&&◌, Bool, List, [], ◌∷◌, ◌++◌, length, drop, take, map, Option, Some, None, cond, refl, ap, sym, subst, ◌∙◌, arith, get_or, IsTrue}
 use Rattle.std.specs.List.{list_all}
 use Rattle.std.proofs.lemmas.List.{length-map, map-append}
 use Rattle.std.proofs.lemmas.Bool.{ltb-true}
+use Rattle.std.proofs.lemmas.List.Sums.{sum_by-cons}
+use Rattle.sel_bits.specs.Bits.{count_true}
 use Rattle.sel_arrow.specs.Value.{Value, Null, Truth, Number, Bytes, Items, Tuple}
 use Rattle.sel_arrow.proofs.Lists.{and_first, and_second}
 use Rattle.sel_runs.specs.Picks.{found, pick, PickFits}
 use Rattle.polars_compute.specs.Pick.{pick_of, place_pick, is_within, all_within, take_rows}
 use Rattle.polars_compute.specs.Select.{select, kept, kept_from}
-use Rattle.polars_compute.proofs.Places.{selected, kept_below, kept_step, passed_step, kept_end, length-kept_from}
+use Rattle.polars_compute.proofs.Places.{selected, kept_below}
 
 -- what is picked at the places that a mask keeps is what it selects
 pub picked_kept : (xs : List Value) (ms : List Bool) → length xs ≡ length ms → pick Null (xs ∷ []) (map place_pick (kept ms)) ≡ select xs ms
@@ -37,3 +39,12 @@ within_fit xs (v ∷ vs) h zero d below = one v (and_first (is_within (length xs
     one (Number (negsuc i)) e = absurd (cc e)
     one _ e = tt
 within_fit xs (v ∷ vs) h (suc k) d below = within_fit xs vs (and_second (is_within (length xs) v) (all_within (length xs) vs) h) k d (omega (arith, below))
+
+-- as many places as true bits
+pub count_kept : (ms : List Bool) → length (kept ms) ≡ count_true ms
+count_kept ms = from 0 ms
+  where
+    from : (n : ℕ) (ms : List Bool) → length (kept_from n ms) ≡ count_true ms
+    from n [] = refl
+    from n (true ∷ ms) = omega (arith, from (n + 1) ms, sum_by-cons (λ b. cond b 1 0) true ms)
+    from n (false ∷ ms) = omega (arith, from (n + 1) ms, sum_by-cons (λ b. cond b 1 0) false ms)

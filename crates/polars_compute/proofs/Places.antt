@@ -24,10 +24,10 @@ kept_from_below n (true ∷ ms) zero h = omega arith
 kept_from_below n (true ∷ ms) (suc k) h = omega (arith, kept_from_below (n + 1) ms k (omega arith))
 kept_from_below n (false ∷ ms) k h = omega (arith, kept_from_below (n + 1) ms k h)
 
-kept_below : (ms : List Bool) (k : ℕ) → k < length (kept ms) → get_or (kept ms) k 0 < length ms
+pub kept_below : (ms : List Bool) (k : ℕ) → k < length (kept ms) → get_or (kept ms) k 0 < length ms
 kept_below ms k h = omega (arith, kept_from_below 0 ms k h)
 
-length-kept_from : (n : ℕ) (ms : List Bool) → length (kept_from n ms) ≤ length ms
+pub length-kept_from : (n : ℕ) (ms : List Bool) → length (kept_from n ms) ≤ length ms
 length-kept_from n [] = omega arith
 length-kept_from n (true ∷ ms) = omega (arith, length-kept_from (n + 1) ms)
 length-kept_from n (false ∷ ms) = omega (arith, length-kept_from (n + 1) ms)

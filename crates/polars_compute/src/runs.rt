@@ -1,6 +1,6 @@
 //! Runs of rows of one column, and the rows that they pick.
 
-ghost use Rattle.std.specs.Prelude.{◌≡◌, ◌≤◌, ◌<◌, ◌∷◌, [], All, slice_index_or, length, map, IfOk, IfErr};
+ghost use Rattle.std.specs.Prelude.{◌≡◌, ◌≤◌, ◌<◌, ◌+◌, ◌++◌, ◌∷◌, [], All, slice_index_or, length, map, drop, IfOk, IfErr, OnOk};
 ghost use Rattle.sel_arrow.specs.Columns.{primitive_rows};
 ghost use Rattle.sel_arrow.specs.Rows.{rows, type_of, IsWellFormed};
 ghost use Rattle.sel_arrow.specs.Value.{Null};
@@ -8,7 +8,7 @@ ghost use Rattle.sel_runs.specs.Picks.{pick, PickFits};
 ghost use Rattle.sel_runs.specs.Runs.{expand};
 ghost use Rattle.polars_compute.specs.Need.{IsRefusal, past};
 ghost use Rattle.polars_compute.specs.Pick.{pick_of, place_pick};
-ghost use Rattle.polars_compute.specs.Select.{kept};
+ghost use Rattle.polars_compute.specs.Select.{kept, kept_from};
 
 use sel_arrow::array::Array;
 use sel_arrow::array_ref::ArrayRef;
@@ -21,7 +21,6 @@ use sel_runs::run::{Run, push_run, run_of_pick};
 use std::alloc::Global;
 
 /// The runs of the places where the bit is true. Refuses only for want of memory.
-#[tactic(auto, using(crate::proofs::KeptRuns::run_steps))]
 pub(crate) fn runs_of_mask(alloc: Global, mask: &Bitmap) -> PolarsResult<Vec<Run>>
     requires { length mask.now.bits ≤ 4294967295 }
     ensures picks { IfOk result (λ runs. expand runs.items ≡ map place_pick (kept mask.now.bits)) }
@@ -29,11 +28,25 @@ pub(crate) fn runs_of_mask(alloc: Global, mask: &Bitmap) -> PolarsResult<Vec<Run
 {
     let mut runs = Vec::new(alloc);
     for i in 0..mask.len() {
-        if mask.get_bit(i) {
-            push_run(&mut runs, run_of_pick(Some((0, i as u32))))?;
-        }
+        push_kept(&mut runs, mask, i)?;
     }
     Ok(runs)
+}
+
+// Puts place `i` behind the others where its bit is true. Refuses only for want of memory.
+fn push_kept(runs: &mut Vec<Run>, mask: &Bitmap, i: usize) -> PolarsResult<()>
+    requires inside { i < length mask.now.bits }
+    requires few { length mask.now.bits ≤ 4294967295 }
+    requires room { length (expand runs.old.items) ≤ i }
+    ensures picks { OnOk result (expand runs.new.items ++ map place_pick (kept_from (i + 1) (drop (i + 1) mask.now.bits)) ≡ expand runs.old.items ++ map place_pick (kept_from i (drop i mask.now.bits))) }
+    ensures len { OnOk result (length (expand runs.new.items) ≤ i + 1) }
+    ensures refusal { IfErr result (λ fault. fault ≡ PolarsError.OutOfMemory) }
+{
+    if !mask.get_bit(i) {
+        return Ok(());
+    }
+    push_run(runs, run_of_pick(Some((0, i as u32))))?;
+    Ok(())
 }
 
 /// The runs of the rows that indices name, nulls for null indices. Refuses only for want of memory.
