@@ -104,8 +104,7 @@ fn runs(alloc: Global, input: &[u8], done: Done, output: &[u8]) -> bool {
 
 // Whether a run ends at this line before a good one.
 fn is_bad(alloc: Global, line: &[u8]) -> Result<bool, AllocError> {
-    let mut input = line.to_vec(alloc)?;
-    input.extend_from_slice(b"\ntake 5 0\n")?;
+    let input = [line, b"\ntake 5 0\n".as_slice()].concat(alloc)?;
     let is_bad = runs(alloc, &input, Done::BadLine(1), b"bad line 1\n");
     drop(input);
     Ok(is_bad)
@@ -221,12 +220,10 @@ fn run_over_rows(alloc: Global, first: &str) -> Result<Result<Done, RunError>, A
 }
 
 fn many_rows(alloc: Global, first: &str) -> Result<Vec<u8>, AllocError> {
-    let mut line = first.as_bytes().to_vec(alloc)?;
-    for _ in 0..524_284 {
-        line.extend_from_slice(b",5")?;
-    }
-    line.extend_from_slice(b" 1\n")?;
-    Ok(line)
+    let rows = b",5".as_slice().repeat(alloc, 524_284)?;
+    let line = [first.as_bytes(), rows.as_slice(), b" 1\n".as_slice()].concat(alloc);
+    drop(rows);
+    line
 }
 
 #[test]
