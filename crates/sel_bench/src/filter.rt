@@ -2,6 +2,8 @@
 ghost use Rattle.std.specs.Prelude.{◌≡◌, ◌≤◌, IfOk, IfErr, All, length, map, option_map, string_bytes};
 ghost use Rattle.polars_compute.specs.Select.{select, in_force};
 ghost use Rattle.sel_arrow.specs.Columns.{boolean_rows, primitive_rows};
+ghost use Rattle.sel_arrow.specs.Rows.{rows, type_of};
+ghost use Rattle.sel_arrow.specs.Shape.{of_int64};
 ghost use Rattle.sel_arrow.specs.Value.{Number, Truth};
 ghost use Rattle.sel_bench.specs.Columns.{column_text};
 ghost use Rattle.sel_bench.specs.Filter.{filter_answer, filter_words};
@@ -13,6 +15,7 @@ use crate::refusals::want_of_memory;
 use crate::rows::Rows;
 use polars_compute::filter::filter;
 use sel_arrow::array::Array;
+use sel_arrow::array_ref::ArrayRef;
 use sel_arrow::boolean::BooleanArray;
 use sel_arrow::primitive::PrimitiveArray;
 use sel_bits::faults::{PolarsError, PolarsResult};
@@ -80,9 +83,18 @@ fn filter_column(
     ensures refusal { IfErr result (λ fault. fault ≡ PolarsError.OutOfMemory) }
 {
     let array = column.into_ref();
-    let kept = filter(alloc, &array, mask)?;
-    match kept.into_primitive::<i64>() {
-        Ok(kept) => Ok(kept),
+    let kept = filter(alloc, &array, mask);
+    drop(array);
+    Ok(numbers_of(kept?))
+}
+
+// The column of numbers that a column of their type is.
+fn numbers_of(array: ArrayRef) -> PrimitiveArray<i64>
+    requires { type_of array.column ≡ of_int64 }
+    ensures { primitive_rows result ≡ rows array.column }
+{
+    match array.into_primitive::<i64>() {
+        Ok(numbers) => numbers,
         Err(_) => unreachable!(),
     }
 }

@@ -83,9 +83,11 @@ fn serve_line<R: Read, W: Write>(
     ensures output { failures_of writer.new ≡ counted_up (is_output_fault result) (failures_of writer.old) }
 {
     let end = read_line(reader, line)?;
-    let reply = reply_to(alloc, number, line, end)?;
-    send(writer, reply.text.as_bytes())?;
-    if !reply.is_good {
+    let Reply { text, is_good } = reply_to(alloc, number, line, end)?;
+    let sent = send(writer, text.as_bytes());
+    drop(text);
+    sent?;
+    if !is_good {
         flush(writer)?;
         return Ok(Some(Done::BadLine(number)));
     }

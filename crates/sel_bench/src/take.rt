@@ -13,7 +13,7 @@ use crate::rows::Rows;
 use polars_compute::gather::indices_in_bounds;
 use polars_compute::gather::primitive::take_primitive_unchecked;
 use sel_arrow::array::Array;
-use sel_arrow::primitive::PrimitiveArray;
+use sel_arrow::primitive::{IdxArr, PrimitiveArray};
 use sel_bits::faults::{PolarsError, PolarsResult};
 use std::alloc::{AllocError, Global};
 
@@ -62,8 +62,24 @@ fn take_rows(
 {
     let column = column.into_primitive(alloc)?;
     let indices = indices.into_primitive(alloc)?;
-    if !indices_in_bounds(&indices, column.len()) {
+    let taken = take_column(alloc, &column, &indices);
+    drop(column);
+    drop(indices);
+    taken
+}
+
+// The rows of a column at the indices, or `None` where an index has none.
+fn take_column(
+    alloc: Global,
+    column: &PrimitiveArray<i64>,
+    indices: &IdxArr,
+) -> PolarsResult<Option<PrimitiveArray<i64>>>
+    ensures rows { IfOk result (λ taken. option_map (λ rows. column_text (primitive_rows rows)) taken
+        ≡ take_answer (primitive_rows column.now) (primitive_rows indices.now)) }
+    ensures refusal { IfErr result (λ fault. fault ≡ PolarsError.OutOfMemory) }
+{
+    if !indices_in_bounds(indices, column.len()) {
         return Ok(None);
     }
-    Ok(Some(take_primitive_unchecked(alloc, &column, &indices)?))
+    Ok(Some(take_primitive_unchecked(alloc, column, indices)?))
 }

@@ -3,7 +3,7 @@ use crate::counted::Counted;
 use crate::reading::{LineEnd, read_line};
 use crate::run::{Done, RunError, run};
 use crate::writing::{flush, send};
-use std::alloc::Global;
+use std::alloc::{AllocError, Global};
 use std::io;
 use std::io::{ErrorKind, Read, Write};
 use std::test::Fail;
@@ -94,6 +94,22 @@ fn run_over(alloc: Global, input: &[u8]) -> (Result<Done, RunError>, Vec<u8>) {
     (result, writer.into_inner())
 }
 
+// Whether a run over these bytes ends so, having written this.
+fn runs(alloc: Global, input: &[u8], done: Done, output: &[u8]) -> bool {
+    let (result, written) = run_over(alloc, input);
+    let is_so = result == Ok(done) && written.as_slice() == output;
+    drop(written);
+    is_so
+}
+
+// Whether a run ends at this line before a good one.
+fn is_bad(alloc: Global, line: &[u8]) -> Result<bool, AllocError> {
+    let input = [line, b"\ntake 5 0\n".as_slice()].concat(alloc)?;
+    let is_bad = runs(alloc, &input, Done::BadLine(1), b"bad line 1\n");
+    drop(input);
+    Ok(is_bad)
+}
+
 // A run over the two lines, into a writer that takes them so.
 fn run_into(
     alloc: Global,
@@ -134,9 +150,7 @@ fn good_lines(rt: HostRuntime) -> Result<(), Fail> {
         ),
     ];
     for (input, output) in &rows {
-        let (result, written) = run_over(rt.alloc(), input);
-        assert_eq!(rt; result, Ok(Done::End));
-        assert!(rt; written.as_slice() == *output);
+        assert!(rt; runs(rt.alloc(), input, Done::End, output));
     }
     Ok(())
 }
@@ -184,51 +198,63 @@ fn bad_lines(rt: HostRuntime) -> Result<(), Fail> {
         b"dict 0,1,2,n =a,n,=c",
     ];
     for line in &lines {
-        let mut input = line.to_vec(rt.alloc())?;
-        input.extend_from_slice(b"\ntake 5 0\n")?;
-        let (result, written) = run_over(rt.alloc(), &input);
-        assert_eq!(rt; result, Ok(Done::BadLine(1)));
-        assert!(rt; written.as_slice() == b"bad line 1\n".as_slice());
+        assert!(rt; is_bad(rt.alloc(), line)?);
     }
     Ok(())
 }
 
 #[test]
 fn a_run_ends_at_a_bad_line(rt: HostRuntime) -> Result<(), Fail> {
-    let (result, written) = run_over(rt.alloc(), b"take 5 0\nfilter 1,2 t\ntake 5 0\n");
-    assert_eq!(rt; result, Ok(Done::BadLine(2)));
-    assert!(rt; written.as_slice() == b"5\nbad line 2\n".as_slice());
+    let input = b"take 5 0\nfilter 1,2 t\ntake 5 0\n";
+    assert!(rt; runs(rt.alloc(), input, Done::BadLine(2), b"5\nbad line 2\n"));
     Ok(())
+}
+
+// How a run ends over a line of a take whose column has this and 524,284 rows more.
+fn run_over_rows(alloc: Global, first: &str) -> Result<Result<Done, RunError>, AllocError> {
+    let input = many_rows(alloc, first)?;
+    let (result, written) = run_over(alloc, &input);
+    drop(input);
+    drop(written);
+    Ok(result)
+}
+
+fn many_rows(alloc: Global, first: &str) -> Result<Vec<u8>, AllocError> {
+    let rows = b",5".as_slice().repeat(alloc, 524_284)?;
+    let line = [first.as_bytes(), rows.as_slice(), b" 1\n".as_slice()].concat(alloc);
+    drop(rows);
+    line
 }
 
 #[test]
 fn longest_line(rt: HostRuntime) -> Result<(), Fail> {
     for (first, done) in [("take 5", Done::End), ("take 55", Done::BadLine(1))] {
-        let mut input = first.as_bytes().to_vec(rt.alloc())?;
-        for _ in 0..524_284 {
-            input.extend_from_slice(b",5")?;
-        }
-        input.extend_from_slice(b" 1\n")?;
-        let (result, _) = run_over(rt.alloc(), &input);
-        assert_eq!(rt; result, Ok(done));
+        assert_eq!(rt; run_over_rows(rt.alloc(), first)?, Ok(done));
     }
     Ok(())
+}
+
+// Whether a run over the two lines ends by the one failure of this read, having written this.
+fn fails_by_input(alloc: Global, fails_at: u64, output: &[u8]) -> bool {
+    let fake = FakeReader {
+        rest: TWO_LINES,
+        reads: 0,
+        fails_at,
+    };
+    let mut reader = Counted::new(fake);
+    let mut writer = Counted::new(Vec::new(alloc));
+    let result = run(alloc, &mut reader, &mut writer);
+    let has_failed = result == Err(RunError::Input);
+    let failures = (reader.failures(), writer.failures());
+    let written = writer.into_inner();
+    let is_so = has_failed && failures == (1, 0) && written.as_slice() == output;
+    drop(written);
+    is_so
 }
 
 #[test]
 fn each_read_fails(rt: HostRuntime) -> Result<(), Fail> {
     for fails_at in 1..46 {
-        let fake = FakeReader {
-            rest: TWO_LINES,
-            reads: 0,
-            fails_at,
-        };
-        let mut reader = Counted::new(fake);
-        let mut writer = Counted::new(Vec::new(rt.alloc()));
-        let result = run(rt.alloc(), &mut reader, &mut writer);
-        assert_eq!(rt; result, Err(RunError::Input));
-        assert_eq!(rt; reader.failures(), 1);
-        assert_eq!(rt; writer.failures(), 0);
         let answered = if fails_at <= 27 {
             0
         } else if fails_at <= 44 {
@@ -236,8 +262,7 @@ fn each_read_fails(rt: HostRuntime) -> Result<(), Fail> {
         } else {
             12
         };
-        let written = writer.into_inner();
-        assert!(rt; written.as_slice() == &TWO_ANSWERS[..answered]);
+        assert!(rt; fails_by_input(rt.alloc(), fails_at, &TWO_ANSWERS[..answered]));
     }
     Ok(())
 }

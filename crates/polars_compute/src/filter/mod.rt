@@ -95,16 +95,16 @@ fn filter_column(alloc: Global, column: &Column, mask: &Bitmap) -> PolarsResult<
     match column {
         Column::Null(column) => Ok(filter_null(column, mask).into_ref()),
         Column::Boolean(column) => Ok(filter_boolean(alloc, column, mask)?.into_ref()),
-        Column::Int8(column) => Ok(filter_primitive(alloc, column, mask)?.into_ref()),
-        Column::Int16(column) => Ok(filter_primitive(alloc, column, mask)?.into_ref()),
-        Column::Int32(column) => Ok(filter_primitive(alloc, column, mask)?.into_ref()),
-        Column::Int64(column) => Ok(filter_primitive(alloc, column, mask)?.into_ref()),
-        Column::Int128(column) => Ok(filter_primitive(alloc, column, mask)?.into_ref()),
-        Column::UInt8(column) => Ok(filter_primitive(alloc, column, mask)?.into_ref()),
-        Column::UInt16(column) => Ok(filter_primitive(alloc, column, mask)?.into_ref()),
-        Column::UInt32(column) => Ok(filter_primitive(alloc, column, mask)?.into_ref()),
-        Column::UInt64(column) => Ok(filter_primitive(alloc, column, mask)?.into_ref()),
-        Column::UInt128(column) => Ok(filter_primitive(alloc, column, mask)?.into_ref()),
+        Column::Int8(column) => filter_numbers(alloc, column, mask),
+        Column::Int16(column) => filter_numbers(alloc, column, mask),
+        Column::Int32(column) => filter_numbers(alloc, column, mask),
+        Column::Int64(column) => filter_numbers(alloc, column, mask),
+        Column::Int128(column) => filter_numbers(alloc, column, mask),
+        Column::UInt8(column) => filter_numbers(alloc, column, mask),
+        Column::UInt16(column) => filter_numbers(alloc, column, mask),
+        Column::UInt32(column) => filter_numbers(alloc, column, mask),
+        Column::UInt64(column) => filter_numbers(alloc, column, mask),
+        Column::UInt128(column) => filter_numbers(alloc, column, mask),
         Column::LargeBinary(column) => Ok(filter_binary(alloc, column, mask)?.into_ref()),
         Column::BinaryView(column) => Ok(filter_views(alloc, column, mask)?.into_ref()),
         Column::Utf8View(column) => Ok(filter_texts(alloc, column, mask)?.into_ref()),
@@ -112,6 +112,20 @@ fn filter_column(alloc: Global, column: &Column, mask: &Bitmap) -> PolarsResult<
             Ok(filter_nested(alloc, column, mask)?)
         }
     }
+}
+
+/// Numbers where the bit is true, as a column of any type.
+fn filter_numbers<T: ArrowPrimitive>(
+    alloc: Global,
+    column: &PrimitiveArray<T>,
+    mask: &Bitmap,
+) -> PolarsResult<ArrayRef>
+    requires { length (primitive_rows column.now) ≡ length mask.now.bits }
+    ensures rows { IfOk result (λ kept. rows kept.column ≡ select (primitive_rows column.now) mask.now.bits) }
+    ensures dtype { IfOk result (λ kept. type_of kept.column ≡ T.shape) }
+    ensures refusal { IfErr result (λ fault. fault ≡ PolarsError.OutOfMemory) }
+{
+    Ok(filter_primitive(alloc, column, mask)?.into_ref())
 }
 
 /// The rows of a column with children where the bit is true.

@@ -22,7 +22,7 @@ use sel_arrow::array::Array;
 use sel_arrow::array_ref::ArrayRef;
 use sel_arrow::column::Column;
 use sel_arrow::null::NullArray;
-use sel_arrow::primitive::{IdxArr, PrimitiveArray};
+use sel_arrow::primitive::{ArrowPrimitive, IdxArr, PrimitiveArray};
 use sel_bits::faults::PolarsResult;
 use sel_bits::native::{Index, NativeType};
 pub use sel_runs::collect::collect_rows;
@@ -40,16 +40,16 @@ pub fn take_unchecked(alloc: Global, values: &ArrayRef, indices: &IdxArr) -> Pol
     match values.as_column() {
         Column::Null(column) => Ok(take_nulls(column, indices).into_ref()),
         Column::Boolean(column) => Ok(boolean::take_unchecked(alloc, column, indices)?.into_ref()),
-        Column::Int8(column) => Ok(take_primitive_unchecked(alloc, column, indices)?.into_ref()),
-        Column::Int16(column) => Ok(take_primitive_unchecked(alloc, column, indices)?.into_ref()),
-        Column::Int32(column) => Ok(take_primitive_unchecked(alloc, column, indices)?.into_ref()),
-        Column::Int64(column) => Ok(take_primitive_unchecked(alloc, column, indices)?.into_ref()),
-        Column::Int128(column) => Ok(take_primitive_unchecked(alloc, column, indices)?.into_ref()),
-        Column::UInt8(column) => Ok(take_primitive_unchecked(alloc, column, indices)?.into_ref()),
-        Column::UInt16(column) => Ok(take_primitive_unchecked(alloc, column, indices)?.into_ref()),
-        Column::UInt32(column) => Ok(take_primitive_unchecked(alloc, column, indices)?.into_ref()),
-        Column::UInt64(column) => Ok(take_primitive_unchecked(alloc, column, indices)?.into_ref()),
-        Column::UInt128(column) => Ok(take_primitive_unchecked(alloc, column, indices)?.into_ref()),
+        Column::Int8(column) => take_numbers(alloc, column, indices),
+        Column::Int16(column) => take_numbers(alloc, column, indices),
+        Column::Int32(column) => take_numbers(alloc, column, indices),
+        Column::Int64(column) => take_numbers(alloc, column, indices),
+        Column::Int128(column) => take_numbers(alloc, column, indices),
+        Column::UInt8(column) => take_numbers(alloc, column, indices),
+        Column::UInt16(column) => take_numbers(alloc, column, indices),
+        Column::UInt32(column) => take_numbers(alloc, column, indices),
+        Column::UInt64(column) => take_numbers(alloc, column, indices),
+        Column::UInt128(column) => take_numbers(alloc, column, indices),
         Column::LargeBinary(column) => {
             Ok(binary::take_unchecked(alloc, column, indices)?.into_ref())
         }
@@ -72,6 +72,20 @@ fn take_nested(alloc: Global, values: &Column, indices: &IdxArr) -> PolarsResult
     let runs = runs_of_indices(alloc, indices)?;
     let taken = collect_one(alloc, values, &runs, indices.len())?;
     Ok(taken)
+}
+
+/// Numbers at indices, as a column of any type.
+fn take_numbers<T: ArrowPrimitive>(
+    alloc: Global,
+    values: &PrimitiveArray<T>,
+    indices: &IdxArr,
+) -> PolarsResult<ArrayRef>
+    requires { IsTrue (all_within (length (primitive_rows values.now)) (primitive_rows indices.now)) }
+    ensures rows { IfOk result (λ taken. rows taken.column ≡ take_rows (primitive_rows values.now) (primitive_rows indices.now)) }
+    ensures dtype { IfOk result (λ taken. type_of taken.column ≡ T.shape) }
+    ensures refusal { IfErr result (IsRefusal (past T.shape (take_rows (primitive_rows values.now) (primitive_rows indices.now)))) }
+{
+    Ok(take_primitive_unchecked(alloc, values, indices)?.into_ref())
 }
 
 /// As many nulls as there are indices.

@@ -16,7 +16,7 @@ pub returns-clause-step : goal.returns-clause-step
 returns-clause-step g c =
     let read = c.in_ok-end.ensures.ok in
     let good : first_bad_from c.args.number (lines_in c.in_ok-end.end c.read_line.new.line.items) ≡ None =
-    ap (λ l. first_bad_from c.args.number (lines_in c.in_ok-end.end l)) (sym c.deref.ensures.value) ∙ c.in_ok-reply.ensures.good ∙ ap (λ b. cond b None (Some c.args.number)) c.if-not-reply.false in
+    ap (λ l. first_bad_from c.args.number (lines_in c.in_ok-end.end l)) (sym c.deref.ensures.value) ∙ c.in_ok-text.ensures.good ∙ ap (λ b. cond b None (Some c.args.number)) c.if-not-is_good.false in
     let last = last_line c.args.number c.in_ok-end.end c.read_line.new.line.items _ read.2 (λ e. let test = c.eq.ensures in let other = c.if-eq.false in let same = rw e at test in cc) good in
     record {
       end = c.in_ok-end.end;
@@ -24,6 +24,6 @@ returns-clause-step g c =
       written = c.as_bytes.result.now;
       no_feed = read.0;
       reads = read.1;
-      writes = Appends-kept _ _ _ _ c.in_ok-send.ensures.ok c.flush-2.ensures.bytes;
-      ends = (last.0, last.1, good, c.as_bytes.ensures.value ∙ c.in_ok-reply.ensures.text ∙ ap (λ l. output_from c.args.number (lines_in c.in_ok-end.end l)) c.deref.ensures.value);
+      writes = Appends-kept _ _ _ _ c.in_ok-sent.ensures.ok c.flush-2.ensures.bytes;
+      ends = (last.0, last.1, good, c.as_bytes.ensures.value ∙ c.in_ok-text.ensures.text ∙ ap (λ l. output_from c.args.number (lines_in c.in_ok-end.end l)) c.deref.ensures.value);
     }
