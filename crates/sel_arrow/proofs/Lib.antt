@@ -1,6 +1,7 @@
 pub mod ByteRows
 pub mod Lists
 pub mod NestedFaults
+pub mod NestedMakers
 pub mod NestedParts
 pub mod NestedRows
 pub mod NoRows

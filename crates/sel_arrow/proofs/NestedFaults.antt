@@ -1,5 +1,5 @@
 -- The rules of columns with children, against the tests of well-formed columns.
-use Rattle.std.proofs.Common.{◌≡◌, ℕ, ◌*◌, Bool, true, false, not, ◌&&◌, nat_le, nat_lt, ◌==◌, List, [], ◌∷◌, length, Option, is_some, is_none, refl, ap, sym, ◌∙◌, arith}
+use Rattle.std.proofs.Common.{◌≡◌, ℕ, ◌*◌, Bool, true, false, not, ◌&&◌, nat_le, nat_lt, ◌==◌, List, [], ◌∷◌, length, Option, None, is_some, is_none, refl, ap, sym, ◌∙◌, arith}
 use Rattle.std.proofs.lemmas.Bool.Decides.{nat_tests}
 use Rattle.sel_bits.specs.Bits.{Bits}
 use Rattle.sel_bits.specs.Faults.{first_broken}
@@ -11,6 +11,7 @@ use Rattle.sel_arrow.specs.Masked.{covers, is_few, too_many, validity_differs}
 use Rattle.sel_arrow.specs.Pieces.{rows_between, last_offset, is_rising}
 use Rattle.sel_arrow.specs.Rows.{rows, row_count, well_formed}
 use Rattle.sel_arrow.specs.declared.column.Column.{Column}
+use Rattle.sel_arrow.proofs.Lists.{and_first, and_second}
 use Rattle.sel_arrow.proofs.NestedRows.{length-rows, rising_test}
 
 opposite : (m n : ℕ) → not (nat_lt n m) ≡ nat_le m n
@@ -62,6 +63,12 @@ sound_tuples len validity t fault =
     ∙ none_of_three TooManyRows FieldLength ValidityLength (too_many len) false (validity_differs validity len)
     ∙ ap (λ b. b && true && covers validity len) (opposite len 4294967295)
     ∙ ap (λ b. b && covers validity len) (and_true (is_few len))
+
+-- fields fit where no rule of tuples is broken
+pub tuple_fit : (len : ℕ) (fit : Bool) (validity : Option Bits) → tuple_fault len fit validity ≡ None → fit ≡ true
+tuple_fit len fit validity sound =
+    let tests = sym (none_of_three TooManyRows FieldLength ValidityLength (too_many len) (not fit) (validity_differs validity len)) ∙ ap is_none sound in
+    sym (twice fit) ∙ and_second (not (too_many len)) (not (not fit)) (and_first (not (too_many len) && not (not fit)) (covers validity len) tests)
 
 -- lists of which no rule is broken, over a well-formed child
 pub list_test : (offsets : List ℕ) (values : Column) (validity : Option Bits) (n : ℕ) (t : Bool) → IsRising offsets → well_formed values ≡ true → n ≡ length (rows values) → is_some (list_fault offsets n validity) ≡ not t →

@@ -17,7 +17,8 @@ use Rattle.sel_arrow.specs.declared.column.Column.{Column, LargeList, FixedSizeL
 use Rattle.sel_arrow.proofs.ByteRows.{part-pieces, part_rising, part_few, part_last, part_covered}
 use Rattle.sel_arrow.proofs.NestedRows.{length-rows, length-list_rows, length-block_rows, length-tuple_rows, has_lists, lists_formed, has_blocks, blocks_formed}
 use Rattle.sel_arrow.proofs.Rows.{part-mapped, part-masked, length-part, part_covers, part_within}
-use Rattle.sel_arrow.proofs.Trees.{rows-Struct, type_of-Struct, has_fields, fields_make}
+use Rattle.sel_arrow.proofs.Trees.{rows-Struct, has_fields, fields_make}
+use Rattle.sel_arrow.proofs.Types.{type_of-Struct}
 
 -- a part of a list by place is a list by place
 part_by_place : {A : Type 0} (f g : ℕ → A) (n off len : ℕ) (d : A) → off + len ≤ n → ((i : ℕ) → i < len → g i ≡ f (off + i)) → map g (range_with_len 0 len) ≡ take len (drop off (map f (range_with_len 0 n)))

@@ -7,8 +7,7 @@ use Rattle.sel_bits.specs.Bits.{Bits}
 use Rattle.sel_arrow.specs.Makers.{tuple_fault}
 use Rattle.sel_arrow.specs.Masked.{Covers, covers, is_few}
 use Rattle.sel_arrow.specs.Nested.{tuple_rows}
-use Rattle.sel_arrow.specs.Rows.{rows, rows_of_each, row_count, type_of, types_of_each, well_formed, all_well_formed, IsField}
-use Rattle.sel_arrow.specs.Shape.{next_shape, of_struct, shapes_of}
+use Rattle.sel_arrow.specs.Rows.{rows, rows_of_each, row_count, well_formed, all_well_formed, IsField}
 use Rattle.sel_arrow.specs.declared.column.Column.{Column, Struct, Row_of-Column, end_of-Column, more_of-Column, items-the_row-Column, items_hidden-the_row-Column-0}
 use Rattle.sel_arrow.proofs.Lists.{both, and_first, and_second}
 use Rattle.sel_arrow.proofs.NestedFaults.{and_true, sound_tuples}
@@ -22,15 +21,6 @@ pub rows-Struct : (len : ℕ) (fields : Vec Column Global) (validity : Option Bi
 rows-Struct len fields validity =
     let row = row_of (Struct len fields validity) in
     ap (λ l. tuple_rows len l validity) (each_rows row.0 row.1 ∙ ap (map rows) (items_hidden-the_row-Column-0 fields))
-
-each_type : (n : _) (row : Row_of-Column n) → types_of_each row ≡ shapes_of (map type_of (items-the_row-Column n row))
-each_type n end_of-Column = refl
-each_type n (more_of-Column c rest) = ap (λ l. next_shape (type_of c) l) (each_type _ rest)
-
-pub type_of-Struct : (len : ℕ) (fields : Vec Column Global) (validity : Option Bits) → type_of (Struct len fields validity) ≡ of_struct (shapes_of (map type_of fields.items))
-type_of-Struct len fields validity =
-    let row = row_of (Struct len fields validity) in
-    ap of_struct (each_type row.0 row.1 ∙ ap (λ l. shapes_of (map type_of l)) (items_hidden-the_row-Column-0 fields))
 
 -- whether columns are well-formed, each of so many rows
 abbrev pub are_fields : ℕ → List Column → Bool

@@ -1,5 +1,5 @@
 -- The types of columns.
-use Rattle.std.specs.Prelude.{ℕ, List, [], ◌∷◌}
+use Rattle.std.specs.Prelude.{ℕ, Bool, true, false, List, [], ◌∷◌}
 
 -- The type of a column: which layout it has, at every depth. Fields of a struct go by position.
 -- (Arrow columnar format: data types and their layouts.)
@@ -37,3 +37,16 @@ shapes_of (s ∷ ss) = next_shape s (shapes_of ss)
 abbrev pub shape_list : Shapes → List Shape
 shape_list no_shapes = []
 shape_list (next_shape s ss) = s ∷ shape_list ss
+
+-- whether it is a type of lists, of lists of one length, and of structs (own)
+abbrev pub is_list_shape : Shape → Bool
+is_list_shape (of_large_list s) = true
+is_list_shape s = false
+
+abbrev pub is_block_shape : Shape → Bool
+is_block_shape (of_fixed_size_list s size) = true
+is_block_shape s = false
+
+abbrev pub is_struct_shape : Shape → Bool
+is_struct_shape (of_struct ss) = true
+is_struct_shape s = false

@@ -1,7 +1,7 @@
 //! A column of any type that is well-formed at every depth.
 
-ghost use Rattle.std.specs.Prelude.{◌≡◌, ◌≢◌, IfOk, IfErr};
-ghost use Rattle.sel_arrow.specs.Rows.{rows, type_of, IsWellFormed};
+ghost use Rattle.std.specs.Prelude.{◌≡◌, ◌≢◌, true, false, IfOk, IfErr};
+ghost use Rattle.sel_arrow.specs.Rows.{rows, type_of, well_formed, IsWellFormed};
 ghost use Rattle.sel_arrow.specs.Columns.{null_rows, boolean_rows, primitive_rows, binary_rows, binview_rows, utf8view_rows};
 ghost use Rattle.sel_arrow.specs.Shape.{of_null, of_boolean, of_large_binary, of_binary_view, of_utf8_view};
 
@@ -11,8 +11,11 @@ use crate::binview::BinaryViewArray;
 use crate::boolean::BooleanArray;
 use crate::column::Column;
 use crate::datatype::ArrowDataType;
+use crate::fixed_size_list::FixedSizeListArray;
+use crate::list::ListArray;
 use crate::null::NullArray;
 use crate::primitive::{ArrowPrimitive, PrimitiveArray};
+use crate::structure::StructArray;
 use crate::utf8view::Utf8ViewArray;
 use sel_bits::bitmap::Bitmap;
 use sel_bits::faults::PolarsResult;
@@ -26,6 +29,23 @@ pub struct ArrayRef {
 }
 
 impl ArrayRef {
+    ghost use Rattle.sel_arrow.specs.NestedArrays.{list_column, block_column, tuple_column};
+    ghost use Rattle.sel_arrow.specs.Shape.{is_list_shape, is_block_shape, is_struct_shape};
+
+    /// The column as one of any type, or the column back where it is not well-formed (`Column::is_well_formed`).
+    pub fn try_new(column: Column) -> Result<ArrayRef, Column>
+        ensures column { IfOk result (λ array. array.column ≡ column) }
+        ensures back { IfErr result (λ back. back ≡ column) }
+        ensures accepted { IfOk result (λ _. well_formed column ≡ true) }
+        ensures refused { IfErr result (λ _. well_formed column ≡ false) }
+    {
+        if column.is_well_formed() {
+            Ok(ArrayRef { column })
+        } else {
+            Err(column)
+        }
+    }
+
     /// The column.
     pub fn as_column(&self) -> &Column
         ensures column { result.now ≡ self.now.column }
@@ -114,6 +134,74 @@ impl ArrayRef {
         let ArrayRef { column } = self;
         match column {
             Column::Utf8View(array) => Ok(array),
+            column => Err(ArrayRef { column }),
+        }
+    }
+
+    /// The column of lists between offsets, or the column back where it is of another type.
+    pub fn into_list(self) -> Result<ListArray<i64>, ArrayRef>
+        ensures rows { IfOk result (λ array. rows (list_column array) ≡ rows self.column) }
+        ensures dtype { IfOk result (λ array. type_of (list_column array) ≡ type_of self.column) }
+        ensures back { IfErr result (λ back. back.column ≡ self.column) }
+        ensures other { IfErr result (λ _. is_list_shape (type_of self.column) ≡ false) }
+    {
+        let ArrayRef { column } = self;
+        match column {
+            Column::LargeList {
+                offsets,
+                values,
+                validity,
+            } => Ok(ListArray {
+                offsets,
+                values,
+                validity,
+            }),
+            column => Err(ArrayRef { column }),
+        }
+    }
+
+    /// The column of lists of one length, or the column back where it is of another type.
+    pub fn into_fixed_size_list(self) -> Result<FixedSizeListArray, ArrayRef>
+        ensures rows { IfOk result (λ array. rows (block_column array) ≡ rows self.column) }
+        ensures dtype { IfOk result (λ array. type_of (block_column array) ≡ type_of self.column) }
+        ensures back { IfErr result (λ back. back.column ≡ self.column) }
+        ensures other { IfErr result (λ _. is_block_shape (type_of self.column) ≡ false) }
+    {
+        let ArrayRef { column } = self;
+        match column {
+            Column::FixedSizeList {
+                size,
+                len,
+                values,
+                validity,
+            } => Ok(FixedSizeListArray {
+                size,
+                len,
+                values,
+                validity,
+            }),
+            column => Err(ArrayRef { column }),
+        }
+    }
+
+    /// The column of tuples, or the column back where it is of another type.
+    pub fn into_struct(self) -> Result<StructArray, ArrayRef>
+        ensures rows { IfOk result (λ array. rows (tuple_column array) ≡ rows self.column) }
+        ensures dtype { IfOk result (λ array. type_of (tuple_column array) ≡ type_of self.column) }
+        ensures back { IfErr result (λ back. back.column ≡ self.column) }
+        ensures other { IfErr result (λ _. is_struct_shape (type_of self.column) ≡ false) }
+    {
+        let ArrayRef { column } = self;
+        match column {
+            Column::Struct {
+                len,
+                fields,
+                validity,
+            } => Ok(StructArray {
+                len,
+                fields,
+                validity,
+            }),
             column => Err(ArrayRef { column }),
         }
     }

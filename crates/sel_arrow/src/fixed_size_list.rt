@@ -1,13 +1,21 @@
 //! A column of lists of one length.
 
-ghost use Rattle.std.specs.Prelude.{◌≡◌, ◌+◌, ◌≤◌, length, take, drop, IfOk, IfErr};
-ghost use Rattle.sel_arrow.specs.Rows.{rows, type_of, IsWellFormed};
+ghost use Rattle.std.specs.Prelude.{◌≡◌, ◌+◌, ◌≤◌, ◌↔◌, length, take, drop, None, IfOk, IfErr, IsTrue};
+ghost use Rattle.sel_bits.specs.Faults.{IsFaultOrMemory};
+ghost use Rattle.sel_arrow.specs.Makers.{block_fault};
+ghost use Rattle.sel_arrow.specs.Masked.{Covers};
+ghost use Rattle.sel_arrow.specs.Nested.{block_rows};
+ghost use Rattle.sel_arrow.specs.Rows.{rows, row_count, type_of, IsWellFormed};
 ghost use Rattle.sel_arrow.specs.declared.column.Column.{FixedSizeList};
 
+use crate::array::Array;
+use crate::array_ref::ArrayRef;
 use crate::column::Column;
+use crate::datatype::ArrowDataType;
+use crate::rules::fault_of_blocks;
 use crate::validity::{clone_validity, sliced_validity};
 use sel_bits::bitmap::Bitmap;
-use sel_bits::faults::{PolarsError, PolarsResult};
+use sel_bits::faults::{MakeError, PolarsError, PolarsResult};
 use std::alloc::Global;
 
 /// `len` lists of `size` entries each, list i the child's rows from i * size up to (i + 1) * size, under a validity.
@@ -20,8 +28,84 @@ pub struct FixedSizeListArray {
     pub ghost formed: { IsWellFormed (FixedSizeList size len values validity) },
 }
 
+#[tactic(auto, using(crate::proofs::NestedMakers::nested_makers))]
 impl FixedSizeListArray {
     ghost use Rattle.sel_arrow.specs.NestedArrays.{block_column};
+
+    /// The column of `len` lists of `size` entries each over this child. Refused are more rows than 4,294,967,295, then a greater
+    /// size than 4,294,967,295, then a child that has not `len * size` rows, and then a validity of another length; what breaks
+    /// no rule is refused only for want of memory.
+    pub fn try_new(
+        alloc: Global,
+        size: usize,
+        len: usize,
+        values: ArrayRef,
+        validity: Option<Bitmap>,
+    ) -> Result<FixedSizeListArray, MakeError>
+        ensures size { IfOk result (λ array. array.size ≡ size) }
+        ensures len { IfOk result (λ array. array.len ≡ len) }
+        ensures values { IfOk result (λ array. array.values.value ≡ values.column) }
+        ensures validity { IfOk result (λ array. array.validity ≡ validity) }
+        ensures accepted { IfOk result (λ _. block_fault size len (row_count values.column) validity ≡ None) }
+        ensures refused { IfErr result (IsFaultOrMemory (block_fault size len (row_count values.column) validity)) }
+    {
+        let ArrayRef { column } = values;
+        if let Some(fault) = fault_of_blocks(size, len, column.len(), &validity) {
+            return Err(MakeError::Malformed(fault));
+        }
+        match Box::new(alloc, column) {
+            Ok(values) => Ok(FixedSizeListArray {
+                size,
+                len,
+                values,
+                validity,
+            }),
+            Err(_) => Err(MakeError::OutOfMemory),
+        }
+    }
+
+    /// How many entries each list has: at most 4,294,967,295.
+    pub fn size(&self) -> usize
+        ensures size { result ≡ self.now.size }
+        ensures few { result ≤ 4294967295 }
+    {
+        self.size
+    }
+
+    /// The child: the entries of the lists, one list after the other, those beneath nulls too.
+    pub fn values(&self) -> &Column
+        ensures column { result.now ≡ self.now.values.value }
+        ensures formed { IsWellFormed result.now }
+    {
+        &self.values
+    }
+
+    /// The same lists under another validity of the same length.
+    pub fn with_validity(self, validity: Option<Bitmap>) -> FixedSizeListArray
+        requires { Covers validity (length (rows (block_column self))) }
+        ensures rows { rows (block_column result) ≡ block_rows self.size self.len (rows self.values.value) validity }
+        ensures validity { result.validity ≡ validity }
+    {
+        let FixedSizeListArray {
+            size,
+            len,
+            values,
+            validity: _,
+        } = self;
+        FixedSizeListArray {
+            size,
+            len,
+            values,
+            validity,
+        }
+    }
+
+    /// Whether the scalar's rows can be one list of this column: they are of the child's type, and as many as a list has.
+    pub fn scalar_fits(&self, scalar: &ArrayRef) -> bool
+        ensures { IsTrue result ↔ ((type_of scalar.now.column ≡ type_of self.now.values.value) × (length (rows scalar.now.column) ≡ self.now.size)) }
+    {
+        scalar.column.len() == self.size && scalar.column.same_dtype(&self.values)
+    }
 
     /// The column of these parts.
     pub(crate) fn into_column(self) -> Column
@@ -92,5 +176,62 @@ impl FixedSizeListArray {
             values,
             validity,
         })
+    }
+}
+
+#[tactic(auto, using(crate::proofs::NestedMakers::nested_makers))]
+impl Array for FixedSizeListArray {
+    ghost use Rattle.sel_arrow.specs.NestedArrays.{block_column};
+
+    ghost rows = { λ array. rows (block_column array) };
+
+    ghost shape = { λ array. type_of (block_column array) };
+
+    fn len(&self) -> usize {
+        self.len
+    }
+
+    fn validity(&self) -> Option<&Bitmap> {
+        self.validity.as_ref()
+    }
+
+    fn has_dtype(&self, dtype: &ArrowDataType) -> bool {
+        match dtype {
+            ArrowDataType::FixedSizeList(child, size) => {
+                self.size == *size && self.values.has_dtype(child)
+            }
+            _ => false,
+        }
+    }
+
+    fn same_dtype(&self, other: &FixedSizeListArray) -> bool {
+        self.size == other.size && self.values.same_dtype(&other.values)
+    }
+
+    fn into_ref(self) -> ArrayRef {
+        ArrayRef {
+            column: self.into_column(),
+        }
+    }
+
+    fn dtype(&self, alloc: Global) -> PolarsResult<ArrowDataType> {
+        let child = Box::new(alloc, self.values.dtype(alloc)?)?;
+        Ok(ArrowDataType::FixedSizeList(child, self.size))
+    }
+
+    fn sliced(&self, alloc: Global, off: usize, len: usize) -> PolarsResult<FixedSizeListArray> {
+        FixedSizeListArray::part_of(
+            self.size,
+            self.len,
+            &self.values,
+            &self.validity,
+            alloc,
+            off,
+            len,
+        )
+    }
+
+    fn try_clone(&self, alloc: Global) -> PolarsResult<FixedSizeListArray> {
+        FixedSizeListArray::copy_of(self.size, self.len, &self.values, &self.validity, alloc)
     }
 }

@@ -1,13 +1,21 @@
 //! A column of lists between offsets.
 
-ghost use Rattle.std.specs.Prelude.{◌≡◌, ◌+◌, ◌≤◌, length, take, drop, IfOk, IfErr};
-ghost use Rattle.sel_arrow.specs.Rows.{rows, type_of, IsWellFormed};
+ghost use Rattle.std.specs.Prelude.{◌≡◌, ◌+◌, ◌≤◌, ◌↔◌, length, take, drop, None, IfOk, IfErr, IsTrue};
+ghost use Rattle.sel_bits.specs.Faults.{IsFaultOrMemory};
+ghost use Rattle.sel_arrow.specs.Makers.{list_fault};
+ghost use Rattle.sel_arrow.specs.Masked.{Covers};
+ghost use Rattle.sel_arrow.specs.Nested.{list_rows};
+ghost use Rattle.sel_arrow.specs.Rows.{rows, row_count, type_of, IsWellFormed};
 ghost use Rattle.sel_arrow.specs.declared.column.Column.{LargeList};
 
+use crate::array::Array;
+use crate::array_ref::ArrayRef;
 use crate::column::Column;
+use crate::datatype::ArrowDataType;
+use crate::rules::fault_of_lists;
 use crate::validity::{clone_validity, sliced_validity};
 use sel_bits::bitmap::Bitmap;
-use sel_bits::faults::{PolarsError, PolarsResult};
+use sel_bits::faults::{MakeError, PolarsError, PolarsResult};
 use sel_bits::native::Offset;
 use sel_bits::offsets::OffsetsBuffer;
 use std::alloc::Global;
@@ -21,8 +29,77 @@ pub struct ListArray<O: Offset> {
     pub ghost formed: { IsWellFormed (LargeList offsets values validity) },
 }
 
+#[tactic(auto, using(crate::proofs::NestedMakers::nested_makers))]
 impl ListArray<i64> {
     ghost use Rattle.sel_arrow.specs.NestedArrays.{list_column};
+
+    /// The column of the lists over this child. Refused are more rows than 4,294,967,295, then a last offset past the child's
+    /// rows, and then a validity of another length; what breaks no rule is refused only for want of memory.
+    pub fn try_new(
+        alloc: Global,
+        offsets: OffsetsBuffer<i64>,
+        values: ArrayRef,
+        validity: Option<Bitmap>,
+    ) -> Result<ListArray<i64>, MakeError>
+        ensures offsets { IfOk result (λ array. array.offsets ≡ offsets) }
+        ensures values { IfOk result (λ array. array.values.value ≡ values.column) }
+        ensures validity { IfOk result (λ array. array.validity ≡ validity) }
+        ensures accepted { IfOk result (λ _. list_fault offsets (row_count values.column) validity ≡ None) }
+        ensures refused { IfErr result (IsFaultOrMemory (list_fault offsets (row_count values.column) validity)) }
+    {
+        let ArrayRef { column } = values;
+        if let Some(fault) = fault_of_lists(&offsets, column.len(), &validity) {
+            return Err(MakeError::Malformed(fault));
+        }
+        match Box::new(alloc, column) {
+            Ok(values) => Ok(ListArray {
+                offsets,
+                values,
+                validity,
+            }),
+            Err(_) => Err(MakeError::OutOfMemory),
+        }
+    }
+
+    /// The offsets, one more than there are lists.
+    pub fn offsets(&self) -> &OffsetsBuffer<i64>
+        ensures { result.now ≡ self.now.offsets }
+    {
+        &self.offsets
+    }
+
+    /// The child, those rows too that are in no list.
+    pub fn values(&self) -> &Column
+        ensures column { result.now ≡ self.now.values.value }
+        ensures formed { IsWellFormed result.now }
+    {
+        &self.values
+    }
+
+    /// The same lists under another validity of the same length.
+    pub fn with_validity(self, validity: Option<Bitmap>) -> ListArray<i64>
+        requires { Covers validity (length (rows (list_column self))) }
+        ensures rows { rows (list_column result) ≡ list_rows self.offsets (rows self.values.value) validity }
+        ensures validity { result.validity ≡ validity }
+    {
+        let ListArray {
+            offsets,
+            values,
+            validity: _,
+        } = self;
+        ListArray {
+            offsets,
+            values,
+            validity,
+        }
+    }
+
+    /// Whether the scalar's rows can be one list of this column: they are of the child's type.
+    pub fn scalar_fits(&self, scalar: &ArrayRef) -> bool
+        ensures { IsTrue result ↔ (type_of scalar.now.column ≡ type_of self.now.values.value) }
+    {
+        scalar.column.same_dtype(&self.values)
+    }
 
     /// The column of these parts.
     pub(crate) fn into_column(self) -> Column
@@ -87,5 +164,52 @@ impl ListArray<i64> {
             values,
             validity,
         })
+    }
+}
+
+#[tactic(auto, using(crate::proofs::NestedMakers::nested_makers))]
+impl Array for ListArray<i64> {
+    ghost use Rattle.sel_arrow.specs.NestedArrays.{list_column};
+
+    ghost rows = { λ array. rows (list_column array) };
+
+    ghost shape = { λ array. type_of (list_column array) };
+
+    fn len(&self) -> usize {
+        self.offsets.len_proxy()
+    }
+
+    fn validity(&self) -> Option<&Bitmap> {
+        self.validity.as_ref()
+    }
+
+    fn has_dtype(&self, dtype: &ArrowDataType) -> bool {
+        match dtype {
+            ArrowDataType::LargeList(child) => self.values.has_dtype(child),
+            _ => false,
+        }
+    }
+
+    fn same_dtype(&self, other: &ListArray<i64>) -> bool {
+        self.values.same_dtype(&other.values)
+    }
+
+    fn into_ref(self) -> ArrayRef {
+        ArrayRef {
+            column: self.into_column(),
+        }
+    }
+
+    fn dtype(&self, alloc: Global) -> PolarsResult<ArrowDataType> {
+        let child = Box::new(alloc, self.values.dtype(alloc)?)?;
+        Ok(ArrowDataType::LargeList(child))
+    }
+
+    fn sliced(&self, alloc: Global, off: usize, len: usize) -> PolarsResult<ListArray<i64>> {
+        ListArray::part_of(&self.offsets, &self.values, &self.validity, alloc, off, len)
+    }
+
+    fn try_clone(&self, alloc: Global) -> PolarsResult<ListArray<i64>> {
+        ListArray::copy_of(&self.offsets, &self.values, &self.validity, alloc)
     }
 }

@@ -1,13 +1,22 @@
 //! A column of tuples.
 
-ghost use Rattle.std.specs.Prelude.{◌≡◌, ◌+◌, ◌≤◌, length, take, drop, map, All, IfOk, IfErr};
-ghost use Rattle.sel_arrow.specs.Rows.{rows, type_of, IsField, IsWellFormed};
+ghost use Rattle.std.specs.Prelude.{◌≡◌, ◌+◌, ◌≤◌, ◌==◌, length, take, drop, map, All, None, IfOk, IfErr};
+ghost use Rattle.std.specs.List.{list_all};
+ghost use Rattle.sel_bits.specs.Faults.{IsFaultOrMemory};
+ghost use Rattle.sel_arrow.specs.Makers.{struct_fault};
+ghost use Rattle.sel_arrow.specs.Masked.{Covers};
+ghost use Rattle.sel_arrow.specs.Nested.{tuple_rows};
+ghost use Rattle.sel_arrow.specs.Rows.{rows, row_count, type_of, IsField, IsWellFormed};
 ghost use Rattle.sel_arrow.specs.declared.column.Column.{Struct};
 
-use crate::column::Column;
+use crate::array::Array;
+use crate::array_ref::ArrayRef;
+use crate::column::{Column, dtypes_of, have_dtypes, same_dtypes};
+use crate::datatype::ArrowDataType;
+use crate::rules::fault_of_tuples;
 use crate::validity::{clone_validity, sliced_validity};
 use sel_bits::bitmap::Bitmap;
-use sel_bits::faults::{PolarsError, PolarsResult};
+use sel_bits::faults::{MakeError, PolarsError, PolarsResult};
 use std::alloc::Global;
 
 /// `len` tuples, tuple i row i of each field, under a validity.
@@ -19,8 +28,63 @@ pub struct StructArray {
     pub ghost formed: { IsWellFormed (Struct len fields validity) },
 }
 
+#[tactic(auto, using(crate::proofs::NestedMakers::nested_makers))]
 impl StructArray {
     ghost use Rattle.sel_arrow.specs.NestedArrays.{tuple_column};
+
+    /// The column of `len` tuples of these fields. Refused are more rows than 4,294,967,295, then a field that has not `len` rows,
+    /// and then a validity of another length; what breaks no rule is refused only for want of memory.
+    pub fn try_new(
+        alloc: Global,
+        len: usize,
+        fields: Vec<ArrayRef>,
+        validity: Option<Bitmap>,
+    ) -> Result<StructArray, MakeError>
+        ensures len { IfOk result (λ array. array.len ≡ len) }
+        ensures fields { IfOk result (λ array. array.fields.items ≡ map (λ field. field.column) fields.items) }
+        ensures validity { IfOk result (λ array. array.validity ≡ validity) }
+        ensures accepted { IfOk result (λ _. struct_fault len (map (λ field. row_count field.column) fields.items) validity ≡ None) }
+        ensures refused { IfErr result (IsFaultOrMemory (struct_fault len (map (λ field. row_count field.column) fields.items) validity)) }
+    {
+        let fit = have_rows(&fields, len);
+        if let Some(fault) = fault_of_tuples(len, fit, &validity) {
+            return Err(MakeError::Malformed(fault));
+        }
+        match columns_of(alloc, fields) {
+            Ok(fields) => Ok(StructArray {
+                len,
+                fields,
+                validity,
+            }),
+            Err(_) => Err(MakeError::OutOfMemory),
+        }
+    }
+
+    /// The fields, in order.
+    pub fn fields(&self) -> &[Column]
+        ensures columns { result.now ≡ self.now.fields.items }
+        ensures formed { All (IsField self.now.len) result.now }
+    {
+        &self.fields
+    }
+
+    /// The same tuples under another validity of the same length.
+    pub fn with_validity(self, validity: Option<Bitmap>) -> StructArray
+        requires { Covers validity (length (rows (tuple_column self))) }
+        ensures rows { rows (tuple_column result) ≡ tuple_rows self.len (map rows self.fields.items) validity }
+        ensures validity { result.validity ≡ validity }
+    {
+        let StructArray {
+            len,
+            fields,
+            validity: _,
+        } = self;
+        StructArray {
+            len,
+            fields,
+            validity,
+        }
+    }
 
     /// The column of these parts.
     pub(crate) fn into_column(self) -> Column
@@ -85,6 +149,80 @@ impl StructArray {
             validity,
         })
     }
+}
+
+#[tactic(auto, using(crate::proofs::NestedMakers::nested_makers))]
+impl Array for StructArray {
+    ghost use Rattle.sel_arrow.specs.NestedArrays.{tuple_column};
+
+    ghost rows = { λ array. rows (tuple_column array) };
+
+    ghost shape = { λ array. type_of (tuple_column array) };
+
+    fn len(&self) -> usize {
+        self.len
+    }
+
+    fn validity(&self) -> Option<&Bitmap> {
+        self.validity.as_ref()
+    }
+
+    fn has_dtype(&self, dtype: &ArrowDataType) -> bool {
+        match dtype {
+            ArrowDataType::Struct(dtypes) => have_dtypes(&self.fields, dtypes),
+            _ => false,
+        }
+    }
+
+    fn same_dtype(&self, other: &StructArray) -> bool {
+        same_dtypes(&self.fields, &other.fields)
+    }
+
+    fn into_ref(self) -> ArrayRef {
+        ArrayRef {
+            column: self.into_column(),
+        }
+    }
+
+    fn dtype(&self, alloc: Global) -> PolarsResult<ArrowDataType> {
+        let dtypes = dtypes_of(alloc, &self.fields)?;
+        Ok(ArrowDataType::Struct(dtypes))
+    }
+
+    fn sliced(&self, alloc: Global, off: usize, len: usize) -> PolarsResult<StructArray> {
+        StructArray::part_of(self.len, &self.fields, &self.validity, alloc, off, len)
+    }
+
+    fn try_clone(&self, alloc: Global) -> PolarsResult<StructArray> {
+        StructArray::copy_of(self.len, &self.fields, &self.validity, alloc)
+    }
+}
+
+/// Whether each column has `len` rows.
+#[tactic(auto, using(crate::proofs::Lists::all_lists))]
+fn have_rows(columns: &[ArrayRef], len: usize) -> bool
+    ensures { result ≡ list_all (λ column. row_count column.column == len) columns.now }
+{
+    for column in columns {
+        if column.column.len() != len {
+            return false;
+        }
+    }
+    true
+}
+
+/// The columns, each known to be well-formed. Refuses only for want of memory.
+fn columns_of(alloc: Global, arrays: Vec<ArrayRef>) -> PolarsResult<Vec<Column>>
+    ensures columns { IfOk result (λ columns. columns.items ≡ map (λ array. array.column) arrays.items) }
+    ensures formed { IfOk result (λ columns. All IsWellFormed columns.items) }
+    ensures refusal { IfErr result (λ fault. fault ≡ PolarsError.OutOfMemory) }
+{
+    let mut columns = Vec::with_capacity(alloc, arrays.len())?;
+    for array in arrays {
+        let ArrayRef { column } = array;
+        columns.push(column)?;
+    }
+    Ok(columns)
 }
 
 /// The `len` rows from row `off` on of each column. Refuses only for want of memory.

@@ -1,0 +1,92 @@
+-- Columns with children made of parts that break no rule, and under another validity.
+use Rattle.std.proofs.Common.{◌≡◌, ◌≢◌, ℕ, ◌≤◌, Bool, true, false, ◌==◌, List, [], ◌∷◌, length, map, Option, None, is_some, All, Vec, Box, Global, refl, ap, sym, subst, ◌∙◌, arith}
+use Rattle.std.specs.List.{list_all}
+use Rattle.std.proofs.lemmas.Bool.Decides.{nat_tests}
+use Rattle.std.proofs.lemmas.List.Elements.{All-nil, All-cons, All-head, All-tail}
+use Rattle.sel_bits.specs.Bits.{Bits}
+use Rattle.sel_bits.specs.Offsets.{IsRising}
+use Rattle.sel_arrow.specs.Makers.{list_fault, block_fault, tuple_fault}
+use Rattle.sel_arrow.specs.Masked.{Covers}
+use Rattle.sel_arrow.specs.Nulls.{TellsNulls}
+use Rattle.sel_arrow.specs.Rows.{rows, row_count, type_of, well_formed, IsField, IsWellFormed}
+use Rattle.sel_arrow.specs.declared.column.Column.{Column, LargeList, FixedSizeList, Struct}
+use Rattle.sel_arrow.proofs.Lists.{and_first, and_second}
+use Rattle.sel_arrow.proofs.NestedFaults.{list_test, block_test, tuple_fit}
+use Rattle.sel_arrow.proofs.NestedRows.{length-rows, length-list_rows, length-block_rows, length-tuple_rows, has_lists, lists_formed, has_blocks, blocks_formed, list_tells, block_tells, struct_tells}
+use Rattle.sel_arrow.proofs.Trees.{rows-Struct, struct_test, has_fields, fields_make}
+
+-- ---- parts that break no rule
+
+pub lists_make : (offsets : List ℕ) (values : Box Column Global) (validity : Option Bits) (n : ℕ) → IsRising offsets → well_formed values.value ≡ true → n ≡ length (rows values.value) → list_fault offsets n validity ≡ None →
+    well_formed (LargeList offsets values validity) ≡ true
+lists_make offsets values validity n rising formed count sound = sym (list_test offsets values.value validity n true rising formed count (ap is_some sound))
+
+pub blocks_make : (size len : ℕ) (values : Box Column Global) (validity : Option Bits) (n : ℕ) → well_formed values.value ≡ true → n ≡ length (rows values.value) → block_fault size len n validity ≡ None →
+    well_formed (FixedSizeList size len values validity) ≡ true
+blocks_make size len values validity n formed count sound = sym (block_test size len values.value validity n true formed count (ap is_some sound))
+
+counted : (len : ℕ) (cs : List Column) → list_all (λ c. row_count c == len) cs ≡ true → All IsWellFormed cs → All (IsField len) cs
+counted len [] same formed = All-nil (IsField len)
+counted len (c ∷ cs) same formed =
+    let here = and_first (row_count c == len) (list_all (λ d. row_count d == len) cs) same in
+    let count : row_count c ≡ len = grind (arith, nat_tests, here) in
+    All-cons (IsField len) c cs (count, All-head IsWellFormed c cs formed)
+    (counted len cs (and_second (row_count c == len) (list_all (λ d. row_count d == len) cs) same) (All-tail IsWellFormed c cs formed))
+
+pub tuples_make : (len : ℕ) (fields : Vec Column Global) (validity : Option Bits) (fit : Bool) → fit ≡ list_all (λ c. row_count c == len) fields.items → All IsWellFormed fields.items → tuple_fault len fit validity ≡ None →
+    well_formed (Struct len fields validity) ≡ true
+tuples_make len fields validity fit is formed sound =
+    let fits = tuple_fit len fit validity sound in
+    sym (struct_test len fields validity true (counted len fields.items (sym is ∙ fits) formed) (ap (λ b. is_some (tuple_fault len b validity)) (sym fits) ∙ ap is_some sound))
+
+-- ---- another validity
+
+pub lists_under : (offsets : List ℕ) (values : Box Column Global) (old new : Option Bits) → well_formed (LargeList offsets values old) ≡ true → Covers new (length (rows (LargeList offsets values old))) → well_formed (LargeList offsets values new) ≡ true
+lists_under offsets values old new formed covers =
+    let has = has_lists offsets values.value old formed in
+    let covered = subst (Covers new) (length-list_rows offsets (rows values.value) old) covers in
+    lists_formed offsets values.value new (record { rising = has.rising; few = has.few; ends = has.ends; covered = covered; child = has.child })
+
+pub blocks_under : (size len : ℕ) (values : Box Column Global) (old new : Option Bits) → well_formed (FixedSizeList size len values old) ≡ true → Covers new (length (rows (FixedSizeList size len values old))) →
+    well_formed (FixedSizeList size len values new) ≡ true
+blocks_under size len values old new formed covers =
+    let has = has_blocks size len values.value old formed in
+    let covered = subst (Covers new) (length-block_rows size len (rows values.value) old) covers in
+    blocks_formed size len values.value new (record { few = has.few; narrow = has.narrow; fills = has.fills; covered = covered; child = has.child })
+
+pub tuples_under : (len : ℕ) (fields : Vec Column Global) (old new : Option Bits) → well_formed (Struct len fields old) ≡ true → Covers new (length (rows (Struct len fields old))) → well_formed (Struct len fields new) ≡ true
+tuples_under len fields old new formed covers =
+    let has = has_fields len fields old formed in
+    let count = ap length (rows-Struct len fields old) ∙ length-tuple_rows len (map rows fields.items) old in
+    fields_make len fields new (record { few = has.few; covered = subst (Covers new) count covers; fields = has.fields })
+
+-- ---- how many rows there are, and which are null
+
+pub lists_few : (offsets : List ℕ) (values : Box Column Global) (validity : Option Bits) → well_formed (LargeList offsets values validity) ≡ true → length (rows (LargeList offsets values validity)) ≤ 4294967295
+lists_few offsets values validity formed = omega (arith, length-list_rows offsets (rows values.value) validity, (has_lists offsets values.value validity formed).few)
+
+pub lists_tell : (offsets : List ℕ) (values : Box Column Global) (validity : Option Bits) → well_formed (LargeList offsets values validity) ≡ true → TellsNulls (type_of (LargeList offsets values validity)) validity (rows (LargeList offsets values validity))
+lists_tell offsets values validity formed = list_tells (LargeList offsets values validity) offsets values validity refl formed
+
+pub blocks_tell : (size len : ℕ) (values : Box Column Global) (validity : Option Bits) → well_formed (FixedSizeList size len values validity) ≡ true →
+    TellsNulls (type_of (FixedSizeList size len values validity)) validity (rows (FixedSizeList size len values validity))
+blocks_tell size len values validity formed = block_tells (FixedSizeList size len values validity) size len values validity refl formed
+
+pub tuples_tell : (len : ℕ) (fields : Vec Column Global) (validity : Option Bits) → well_formed (Struct len fields validity) ≡ true → TellsNulls (type_of (Struct len fields validity)) validity (rows (Struct len fields validity))
+tuples_tell len fields validity formed = struct_tells (Struct len fields validity) len fields validity refl formed
+
+pub tuples_count : (len : ℕ) (fields : Vec Column Global) (validity : Option Bits) → length (rows (Struct len fields validity)) ≡ len
+tuples_count len fields validity = length-rows (Struct len fields validity)
+
+-- ---- whether a column has so many rows
+
+pub count_fits : (len n : ℕ) (c : Column) → n ≡ length (rows c) → n ≡ len → (row_count c == len) ≡ true
+count_fits len n c count same = let is : row_count c ≡ len = sym (length-rows c) ∙ sym count ∙ same in grind (arith, nat_tests, is)
+
+pub count_differs : (len n : ℕ) (c : Column) → n ≡ length (rows c) → n ≢ len → (row_count c == len) ≡ false
+count_differs len n c count differs = apart (row_count c) len (λ same. differs (count ∙ length-rows c ∙ same))
+  where
+    apart : (m n : ℕ) → m ≢ n → (m == n) ≡ false
+    apart m n h = grind (arith, nat_tests, h)
+
+pub ruleset nested_makers = (length-list_rows, length-block_rows)
