@@ -24,6 +24,18 @@ pub fn are_alike(sources: &[&Column]) -> bool
     true
 }
 
+/// Whether each column is well-formed.
+pub fn are_well_formed(sources: &[&Column]) -> bool
+    ensures { IsTrue result ↔ All (λ c. IsWellFormed c.now) sources.now }
+{
+    for source in sources {
+        if !source.is_well_formed() {
+            return false;
+        }
+    }
+    true
+}
+
 /// Whether each run names rows that its source has.
 pub fn runs_fit(sources: &[&Column], runs: &[Run]) -> bool
     requires { All (λ c. IsWellFormed c.now) sources.now }
