@@ -30,7 +30,8 @@ mutual
   one_source (FixedSizeList' size len p values validity) formed vs limit (inl h) = inl h
   one_source (FixedSizeList' size len p values validity) formed vs limit (inr h) = inr (one_source values (has_blocks size len values validity formed).child (joined_items size vs) limit h)
   one_source (Struct' len n fields validity) formed vs limit h =
-      one_fields _ fields len 0 (Struct' len n fields validity) (struct_covered len validity (all_well_formed len fields) formed).2 (λ k below. refl) vs limit h
+      one_fields _ fields len 0 (Struct' len n fields validity) (struct_covered len validity (all_well_formed len fields) formed).2
+      (λ k below. let place : 0 + k ≡ k = omega arith in ap (λ i. field i (Struct' len n fields validity)) place) vs limit h
   one_source c formed vs limit h = absurd h
 
   one_fields : (n : _) (row : Row_of-Column n) (len j : ℕ) (c : Column) → all_well_formed len row ≡ true → ((k : ℕ) → k < length (columns_in row) → field (j + k) c ≡ get_or (columns_in row) k c) →

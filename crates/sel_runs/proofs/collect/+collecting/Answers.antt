@@ -7,7 +7,8 @@ use Rattle.sel_arrow.specs.Shape.{Shape, of_null, of_large_list, of_fixed_size_l
 use Rattle.sel_arrow.specs.Value.{Null}
 use Rattle.sel_arrow.specs.declared.column.Column.{Column, Struct}
 use Rattle.sel_arrow.proofs.NestedRows.{length-rows}
-use Rattle.sel_arrow.proofs.Trees.{type_of-Struct, has_fields}
+use Rattle.sel_arrow.proofs.Trees.{has_fields}
+use Rattle.sel_arrow.proofs.Types.{type_of-Struct}
 use Rattle.sel_runs.specs.Children.{child, field, joined_items, part_at, parts_of}
 use Rattle.sel_runs.specs.Cleared.{cleared}
 use Rattle.sel_runs.specs.Need.{IsRefusal, past_taken, past_fields}

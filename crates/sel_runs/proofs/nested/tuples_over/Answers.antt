@@ -3,7 +3,8 @@ use Rattle.std.proofs.lemmas.List.{length-map}
 use Rattle.sel_arrow.specs.Rows.{rows, type_of}
 use Rattle.sel_arrow.specs.Shape.{shapes_of, shape_list}
 use Rattle.sel_arrow.specs.Value.{Null}
-use Rattle.sel_arrow.proofs.Trees.{rows-Struct, type_of-Struct, fields_make}
+use Rattle.sel_arrow.proofs.Trees.{rows-Struct, fields_make}
+use Rattle.sel_arrow.proofs.Types.{type_of-Struct}
 use Rattle.sel_runs.specs.Picks.{pick}
 use Rattle.sel_runs.specs.Runs.{expand}
 use Rattle.sel_runs.proofs.Below.{listed_shapes}

@@ -10,10 +10,12 @@ loop-source-preserved c =
     All-more (λ s. IsWellFormed s.now) c.args.sources.now c.loop-source.source-index c.source-item.result c.loop-source-test.true c.loop-source.invariant (subst (λ s. IsWellFormed s.now) c.source-item.is here)
 
 pub returns-then-not-is_well_formed : goal.returns-then-not-is_well_formed
-returns-then-not-is_well_formed c =
-    (λ never. absurd cc, λ all.
-        let here = subst (λ s. IsWellFormed s.now) (sym c.source-item.is) (All-get_or (λ s. IsWellFormed s.now) c.args.sources.now c.loop-source.source-index c.source-item.result c.loop-source-test.true all) in
-        sym c.if-not-is_well_formed.true ∙ c.is_well_formed.ensures ∙ here)
+returns-then-not-is_well_formed c = (
+  λ never. absurd cc,
+  λ all.
+      let here = subst (λ s. IsWellFormed s.now) (sym c.source-item.is) (All-get_or (λ s. IsWellFormed s.now) c.args.sources.now c.loop-source.source-index c.source-item.result c.loop-source-test.true all) in
+      sym c.if-not-is_well_formed.true ∙ c.is_well_formed.ensures ∙ here,
+)
 
 pub returns : goal.returns
 returns c =
