@@ -17,7 +17,7 @@ use sel_bits::faults::PolarsResult;
 use sel_bits::offsets::OffsetsBuffer;
 use sel_runs::collect::collect_runs;
 use sel_runs::run::{Run, push_run};
-use sel_runs::sources::{are_alike, picked_rows, runs_fit};
+use sel_runs::sources::{are_alike, are_well_formed, picked_rows, runs_fit};
 use std::alloc::Global;
 use std::test::Fail;
 
@@ -29,7 +29,10 @@ fn collected<'a>(
     sources: &'a [&'a Column],
     picks: &[Option<(u32, u32)>],
 ) -> Result<ArrayRef, Fail> {
-    if sources.is_empty() || !are_alike(sources) || !picks_in_bounds(sources, picks) {
+    if sources.is_empty() || !are_alike(sources) || !are_well_formed(sources) {
+        return Err(Fail::from("another argument"));
+    }
+    if !picks_in_bounds(sources, picks) {
         return Err(Fail::from("another argument"));
     }
     Ok(collect_rows(alloc, sources, picks)?)
@@ -180,11 +183,11 @@ fn picked_numbers<'a>(
     sources: &'a [&'a Column],
     runs: &[Run],
 ) -> Result<PrimitiveArray<u8>, Fail> {
-    if sources.is_empty() || !are_alike(sources) || !runs_fit(sources, runs) {
+    if sources.is_empty() || !are_alike(sources) || !are_well_formed(sources) {
         return Err(Fail::from("another argument"));
     }
-    if picked_rows(runs) != 4 {
-        return Err(Fail::from("another count"));
+    if !runs_fit(sources, runs) || picked_rows(runs) != 4 {
+        return Err(Fail::from("another argument"));
     }
     let column = collect_runs(alloc, sources, runs, 4)?;
     let rows = ArrayRef { column };

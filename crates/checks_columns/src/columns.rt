@@ -305,6 +305,9 @@ fn check_inside(
 fn is_like_empty(alloc: Global, column: &Column, dtype: &ArrowDataType) -> PolarsResult<bool>
     requires { IsWellFormed column.now }
 {
+    if !dtype.widths_fit() {
+        return Ok(false);
+    }
     let empty = new_empty_array(alloc, dtype)?;
     let is_like = empty.is_empty() && column.same_dtype(empty.as_column());
     drop(empty);

@@ -1,0 +1,206 @@
+//! Lists of one length.
+
+use crate::shared::{are_numbers, has_too_many_rows, is_valid, nulls, nulls_in, taken, validity};
+use checks_columns::fixtures::numbers;
+use sel_arrow::array::Array;
+use sel_arrow::array_ref::ArrayRef;
+use sel_arrow::column::Column;
+use sel_arrow::fixed_size_list::FixedSizeListArray;
+use sel_bits::bitmap::Bitmap;
+use sel_bits::faults::{MakeError, Malformed};
+use std::alloc::Global;
+use std::test::Fail;
+
+/// So many lists of `size` entries of the child, under this validity.
+fn blocks(
+    alloc: Global,
+    size: usize,
+    len: usize,
+    child: ArrayRef,
+    validity: Option<Bitmap>,
+) -> Result<ArrayRef, Fail> {
+    Ok(FixedSizeListArray::try_new(alloc, size, len, child, validity)?.into_ref())
+}
+
+/// Whether there are so many lists of `size` entries.
+fn are_blocks(column: &Column, size: usize, count: usize) -> bool {
+    match column {
+        Column::FixedSizeList { size: own, len, .. } => *own == size && *len == count,
+        _ => false,
+    }
+}
+
+/// Whether the list is null.
+fn is_null_at(column: &Column, at: usize) -> bool {
+    match column {
+        Column::FixedSizeList { validity, .. } => !is_valid(validity, at),
+        _ => false,
+    }
+}
+
+/// Whether the list, the entries from this place on, has these two numbers.
+fn is_pair_at(column: &Column, at: usize, start: usize, row: &[Option<i64>; 2]) -> bool {
+    match column {
+        Column::FixedSizeList {
+            values,
+            validity,
+            ..
+        } => {
+            start < 10
+                && is_valid(validity, at)
+                && are_numbers(values, start, start + 2, row.as_slice())
+        }
+        _ => false,
+    }
+}
+
+/// The rows `[1, 2]` and null, which hides `3` and `4`.
+fn pair_and_null(alloc: Global) -> Result<ArrayRef, Fail> {
+    let bits = validity(alloc, &[true, false])?;
+    let child = numbers(alloc, &[1i64, 2, 3, 4], &[true, true, true, true])?;
+    blocks(alloc, 2, 2, child.into_ref(), bits)
+}
+
+/// Whether these rows at their own places are the same.
+fn takes_pair_and_null(alloc: Global) -> Result<bool, Fail> {
+    let rows = taken(alloc, pair_and_null(alloc)?, &[Some(0), Some(1)])?;
+    let column = rows.as_column();
+    let are_same = are_blocks(column, 2, 2)
+        && is_pair_at(column, 0, 0, &[Some(1), Some(2)])
+        && is_null_at(column, 1);
+    drop(rows);
+    Ok(are_same)
+}
+
+/// Two lists of two nulls each.
+fn pairs_of_nulls(alloc: Global) -> Result<ArrayRef, Fail> {
+    let child = numbers(alloc, &[5i64, 6, 7, 8], &[false, false, false, false])?;
+    blocks(alloc, 2, 2, child.into_ref(), None)
+}
+
+/// Whether these rows at their own places are the same.
+fn takes_pairs_of_nulls(alloc: Global) -> Result<bool, Fail> {
+    let rows = taken(alloc, pairs_of_nulls(alloc)?, &[Some(0), Some(1)])?;
+    let column = rows.as_column();
+    let are_same = are_blocks(column, 2, 2)
+        && is_pair_at(column, 0, 0, &[None, None])
+        && is_pair_at(column, 1, 2, &[None, None]);
+    drop(rows);
+    Ok(are_same)
+}
+
+/// Whether lists of no entries at places are two such lists.
+fn takes_empty_blocks(alloc: Global) -> Result<bool, Fail> {
+    let empty = nulls(0)?;
+    let column = blocks(alloc, 0, 3, empty, None)?;
+    let rows = taken(alloc, column, &[Some(2), Some(0)])?;
+    let column = rows.as_column();
+    let are_empty = are_blocks(column, 0, 2) && !is_null_at(column, 0) && !is_null_at(column, 1);
+    drop(rows);
+    Ok(are_empty)
+}
+
+#[test]
+fn lists_of_one_length_at_indices(rt: HostRuntime) -> Result<(), Fail> {
+    assert!(rt; takes_pair_and_null(rt.alloc())?);
+    assert!(rt; takes_pairs_of_nulls(rt.alloc())?);
+    assert!(rt; takes_empty_blocks(rt.alloc())?);
+    Ok(())
+}
+
+/// One list of so many nulls.
+fn wide_block(alloc: Global, size: usize) -> Result<ArrayRef, Fail> {
+    let child = nulls(size)?;
+    blocks(alloc, size, 1, child, None)
+}
+
+/// Whether the child is so many nulls.
+fn has_nulls(column: &Column, count: usize) -> bool {
+    match column {
+        Column::FixedSizeList { values, .. } => nulls_in(values) == Some(count),
+        _ => false,
+    }
+}
+
+/// Whether the widest list can be taken once.
+fn takes_widest_block(alloc: Global) -> Result<bool, Fail> {
+    let rows = taken(alloc, wide_block(alloc, 4294967295)?, &[Some(0)])?;
+    let column = rows.as_column();
+    let is_same = are_blocks(column, 4294967295, 1)
+        && !is_null_at(column, 0)
+        && has_nulls(column, 4294967295);
+    drop(rows);
+    Ok(is_same)
+}
+
+#[test]
+fn children_of_lists_of_one_length_have_a_limit(rt: HostRuntime) -> Result<(), Fail> {
+    let wide = wide_block(rt.alloc(), 2147483648)?;
+    assert!(rt; has_too_many_rows(rt.alloc(), wide, &[Some(0), Some(0)])?);
+    assert!(rt; takes_widest_block(rt.alloc())?);
+    Ok(())
+}
+
+/// Why so many lists of `size` entries are none over a child of so many rows.
+fn fault_of_blocks(
+    alloc: Global,
+    size: usize,
+    len: usize,
+    rows: usize,
+) -> Result<Option<MakeError>, Fail> {
+    let child = nulls(rows)?;
+    Ok(FixedSizeListArray::try_new(alloc, size, len, child, None).err())
+}
+
+#[test]
+fn lists_of_one_length_have_their_entries(rt: HostRuntime) -> Result<(), Fail> {
+    let length = Some(MakeError::Malformed(Malformed::ChildLength));
+    let width = Some(MakeError::Malformed(Malformed::Width));
+    assert!(rt; fault_of_blocks(rt.alloc(), 2, 2, 3)? == length);
+    assert!(rt; fault_of_blocks(rt.alloc(), 4294967296, 0, 0)? == width);
+    Ok(())
+}
+
+/// Two lists of two entries each over three numbers, which is no column.
+fn broken_blocks(alloc: Global) -> Result<Column, Fail> {
+    let child = numbers(alloc, &[1i64, 2, 3], &[true, true, true])?;
+    let values = Box::new(alloc, Column::Int64(child))?;
+    Ok(Column::FixedSizeList {
+        size: 2,
+        len: 2,
+        values,
+        validity: None,
+    })
+}
+
+/// Whether this is the column above.
+fn are_broken_blocks(column: &Column) -> bool {
+    match column {
+        Column::FixedSizeList { values, .. } => {
+            are_blocks(column, 2, 2) && are_numbers(values, 0, 3, &[Some(1), Some(2), Some(3)])
+        }
+        _ => false,
+    }
+}
+
+/// Whether what is no column is handed back as it was.
+fn is_handed_back(broken: Column) -> bool {
+    match ArrayRef::try_new(broken) {
+        Ok(array) => {
+            drop(array);
+            false
+        }
+        Err(back) => {
+            let is_same = are_broken_blocks(&back);
+            drop(back);
+            is_same
+        }
+    }
+}
+
+#[test]
+fn broken_columns_are_handed_back(rt: HostRuntime) -> Result<(), Fail> {
+    let broken = broken_blocks(rt.alloc())?;
+    assert!(rt; is_handed_back(broken));
+    Ok(())
+}

@@ -1,0 +1,121 @@
+//! What several files share: takes, and entries compared with rows.
+//!
+//! Columns of every kind are dropped by a call: a drop at the end of a body is proved kind by kind.
+
+use checks_columns::fixtures::column;
+use polars_compute::gather::{indices_in_bounds, take_unchecked};
+use sel_arrow::array::Array;
+use sel_arrow::array_ref::ArrayRef;
+use sel_arrow::column::Column;
+use sel_arrow::null::NullArray;
+use sel_arrow::primitive::IdxArr;
+use sel_bits::bitmap::Bitmap;
+use sel_bits::faults::{Limit, PolarsError, PolarsResult};
+use std::alloc::Global;
+use std::test::Fail;
+
+/// Indices; none is null over 7.
+fn indices(alloc: Global, rows: &[Option<u32>]) -> Result<IdxArr, Fail> {
+    column(alloc, rows, 7)
+}
+
+/// The rows of any column at these indices, where they are in bounds.
+fn rows_taken(alloc: Global, column: &ArrayRef, places: &[Option<u32>]) -> Result<ArrayRef, Fail> {
+    let places = indices(alloc, places)?;
+    if !indices_in_bounds(&places, column.len()) {
+        return Err(Fail::from("out of bounds"));
+    }
+    Ok(take_unchecked(alloc, column, &places)?)
+}
+
+/// The same of a column that is needed no more.
+pub fn taken(alloc: Global, column: ArrayRef, places: &[Option<u32>]) -> Result<ArrayRef, Fail> {
+    let rows = rows_taken(alloc, &column, places);
+    drop(column);
+    rows
+}
+
+/// Why the rows at these indices are refused, or nothing.
+fn refusal_of(
+    alloc: Global,
+    column: &ArrayRef,
+    places: &[Option<u32>],
+) -> Result<Option<PolarsError>, Fail> {
+    let places = indices(alloc, places)?;
+    if !indices_in_bounds(&places, column.len()) {
+        return Err(Fail::from("out of bounds"));
+    }
+    Ok(take_unchecked(alloc, column, &places).err())
+}
+
+/// Whether the rows at these indices are more than a column may have, its children included.
+pub fn has_too_many_rows(
+    alloc: Global,
+    column: ArrayRef,
+    places: &[Option<u32>],
+) -> Result<bool, Fail> {
+    let refusal = refusal_of(alloc, &column, places);
+    drop(column);
+    Ok(refusal? == Some(PolarsError::SizeLimit(Limit::Rows)))
+}
+
+/// A column of so many nulls.
+pub fn nulls(rows: usize) -> Result<ArrayRef, Fail> {
+    Ok(NullArray::try_new(rows)?.into_ref())
+}
+
+/// These bits as a validity.
+pub fn validity(alloc: Global, bits: &[bool]) -> PolarsResult<Option<Bitmap>> {
+    Ok(Some(Bitmap::from_bools(alloc, bits)?))
+}
+
+/// Whether the row is not null.
+pub fn is_valid(validity: &Option<Bitmap>, at: usize) -> bool {
+    match validity {
+        None => true,
+        Some(bits) => at < bits.len() && bits.get_bit(at),
+    }
+}
+
+/// The number at a place of a column of them, where there is one.
+pub fn number_at(column: &Column, at: usize) -> Option<Option<i64>> {
+    let Column::Int64(array) = column else {
+        return None;
+    };
+    if at >= array.len() {
+        return None;
+    }
+    Some(array.get(at))
+}
+
+/// The truth value at a place of a column of them, where there is one.
+pub fn truth_at(column: &Column, at: usize) -> Option<Option<bool>> {
+    let Column::Boolean(array) = column else {
+        return None;
+    };
+    if at >= array.len() {
+        return None;
+    }
+    Some(array.get(at))
+}
+
+/// How many rows a column of nulls has.
+pub fn nulls_in(column: &Column) -> Option<usize> {
+    let Column::Null(array) = column else {
+        return None;
+    };
+    Some(array.len())
+}
+
+/// Whether the entries between the places are these numbers.
+pub fn are_numbers(column: &Column, start: usize, end: usize, rows: &[Option<i64>]) -> bool {
+    if start > end || end - start != rows.len() {
+        return false;
+    }
+    for (i, row) in rows.iter().enumerate() {
+        if number_at(column, start + i) != Some(*row) {
+            return false;
+        }
+    }
+    true
+}

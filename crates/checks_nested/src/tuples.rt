@@ -1,0 +1,87 @@
+//! Tuples.
+
+use crate::shared::{is_valid, number_at, taken, truth_at};
+use checks_columns::fixtures::{numbers, truths};
+use sel_arrow::array::Array;
+use sel_arrow::array_ref::ArrayRef;
+use sel_arrow::column::Column;
+use sel_arrow::structure::StructArray;
+use std::alloc::Global;
+use std::test::Fail;
+
+/// Three tuples of no fields.
+fn empty_tuples(alloc: Global) -> Result<ArrayRef, Fail> {
+    Ok(StructArray::try_new(alloc, 3, Vec::new(alloc), None)?.into_ref())
+}
+
+/// Whether these are the empty tuple and a null.
+fn are_taken_empty(column: &Column) -> bool {
+    match column {
+        Column::Struct {
+            len,
+            fields,
+            validity,
+        } => *len == 2 && fields.is_empty() && is_valid(validity, 0) && !is_valid(validity, 1),
+        _ => false,
+    }
+}
+
+/// Whether empty tuples at places are these.
+fn takes_empty_tuples(alloc: Global) -> Result<bool, Fail> {
+    let rows = taken(alloc, empty_tuples(alloc)?, &[Some(2), None])?;
+    let are_taken = are_taken_empty(rows.as_column());
+    drop(rows);
+    Ok(are_taken)
+}
+
+#[test]
+fn empty_tuples_at_indices(rt: HostRuntime) -> Result<(), Fail> {
+    assert!(rt; takes_empty_tuples(rt.alloc())?);
+    Ok(())
+}
+
+/// Two tuples of these fields.
+fn pairs(alloc: Global, first: ArrayRef, second: ArrayRef) -> Result<ArrayRef, Fail> {
+    let fields = vec![in alloc; first, second]?;
+    Ok(StructArray::try_new(alloc, 2, fields, None)?.into_ref())
+}
+
+/// The rows `(1, true)` and `(2, null)`.
+fn two_pairs(alloc: Global) -> Result<ArrayRef, Fail> {
+    let first = numbers(alloc, &[1i64, 2], &[true, true])?;
+    let second = truths(alloc, &[true, true], &[true, false])?;
+    pairs(alloc, first.into_ref(), second.into_ref())
+}
+
+/// Whether these are `(2, null)` and a null.
+fn are_taken_pairs(column: &Column) -> bool {
+    match column {
+        Column::Struct {
+            len,
+            fields,
+            validity,
+        } => {
+            *len == 2
+                && is_valid(validity, 0)
+                && !is_valid(validity, 1)
+                && fields.len() == 2
+                && number_at(&fields[0], 0) == Some(Some(2))
+                && truth_at(&fields[1], 0) == Some(None)
+        }
+        _ => false,
+    }
+}
+
+/// Whether pairs at places are these.
+fn takes_pairs(alloc: Global) -> Result<bool, Fail> {
+    let rows = taken(alloc, two_pairs(alloc)?, &[Some(1), None])?;
+    let are_taken = are_taken_pairs(rows.as_column());
+    drop(rows);
+    Ok(are_taken)
+}
+
+#[test]
+fn pairs_at_indices(rt: HostRuntime) -> Result<(), Fail> {
+    assert!(rt; takes_pairs(rt.alloc())?);
+    Ok(())
+}
