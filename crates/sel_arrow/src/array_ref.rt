@@ -151,11 +151,14 @@ impl ArrayRef {
                 offsets,
                 values,
                 validity,
-            } => Ok(ListArray {
-                offsets,
-                values,
-                validity,
-            }),
+            } => {
+                let lists = ListArray {
+                    offsets,
+                    values,
+                    validity,
+                };
+                Ok(lists)
+            }
             column => Err(ArrayRef { column }),
         }
     }
@@ -174,12 +177,15 @@ impl ArrayRef {
                 len,
                 values,
                 validity,
-            } => Ok(FixedSizeListArray {
-                size,
-                len,
-                values,
-                validity,
-            }),
+            } => {
+                let blocks = FixedSizeListArray {
+                    size,
+                    len,
+                    values,
+                    validity,
+                };
+                Ok(blocks)
+            }
             column => Err(ArrayRef { column }),
         }
     }
@@ -197,11 +203,14 @@ impl ArrayRef {
                 len,
                 fields,
                 validity,
-            } => Ok(StructArray {
-                len,
-                fields,
-                validity,
-            }),
+            } => {
+                let tuples = StructArray {
+                    len,
+                    fields,
+                    validity,
+                };
+                Ok(tuples)
+            }
             column => Err(ArrayRef { column }),
         }
     }
