@@ -38,15 +38,17 @@ abbrev pub shape_list : Shapes → List Shape
 shape_list no_shapes = []
 shape_list (next_shape s ss) = s ∷ shape_list ss
 
--- whether it is a type of lists, of lists of one length, and of structs (own)
+-- whether it is a type of lists between offsets (Arrow columnar format: variable-size list layout)
 abbrev pub is_list_shape : Shape → Bool
 is_list_shape (of_large_list s) = true
 is_list_shape s = false
 
+-- whether it is a type of lists of one length (Arrow columnar format: fixed-size list layout)
 abbrev pub is_block_shape : Shape → Bool
 is_block_shape (of_fixed_size_list s size) = true
 is_block_shape s = false
 
+-- whether it is a type of structs (Arrow columnar format: struct layout)
 abbrev pub is_struct_shape : Shape → Bool
 is_struct_shape (of_struct ss) = true
 is_struct_shape s = false
