@@ -3,7 +3,6 @@ pub mod Compressing
 pub mod KeptRuns
 pub mod LawProofs
 pub mod Needs
-pub mod OneSource
 pub mod Places
 pub mod Scalars
 pub mod Selects

@@ -1,22 +1,16 @@
-//! Runs of rows of one column, and the rows that they pick.
+//! Runs of rows of one column, from a mask and from indices.
 
-ghost use Rattle.std.specs.Prelude.{◌≡◌, ◌≤◌, ◌<◌, ◌+◌, ◌++◌, ◌∷◌, [], All, slice_index_or, length, map, drop, IfOk, IfErr, OnOk};
+ghost use Rattle.std.specs.Prelude.{◌≡◌, ◌≤◌, ◌<◌, ◌+◌, ◌++◌, slice_index_or, length, map, drop, IfOk, IfErr, OnOk};
 ghost use Rattle.sel_arrow.specs.Columns.{primitive_rows};
-ghost use Rattle.sel_arrow.specs.Rows.{rows, type_of, IsWellFormed};
 ghost use Rattle.sel_arrow.specs.Value.{Null};
-ghost use Rattle.sel_runs.specs.Picks.{pick, PickFits};
 ghost use Rattle.sel_runs.specs.Runs.{expand};
-ghost use Rattle.polars_compute.specs.Need.{IsRefusal, past};
 ghost use Rattle.polars_compute.specs.Pick.{pick_of, place_pick};
 ghost use Rattle.polars_compute.specs.Select.{kept, kept_from};
 
 use sel_arrow::array::Array;
-use sel_arrow::array_ref::ArrayRef;
-use sel_arrow::column::Column;
 use sel_arrow::primitive::IdxArr;
 use sel_bits::bitmap::Bitmap;
 use sel_bits::faults::{PolarsError, PolarsResult};
-use sel_runs::collect::collect_runs;
 use sel_runs::run::{Run, push_run, run_of_pick};
 use std::alloc::Global;
 
@@ -70,24 +64,4 @@ fn pick_at(indices: &IdxArr, k: usize) -> Option<(u32, u32)>
         None => None,
         Some(place) => Some((0, place)),
     }
-}
-
-/// The rows that runs pick of one column, `len` in all. Refuses for want of memory, and where they pass a limit.
-pub(crate) fn collect_one(
-    alloc: Global,
-    column: &Column,
-    runs: &[Run],
-    len: usize,
-) -> PolarsResult<ArrayRef>
-    requires formed { IsWellFormed column.now }
-    requires fits { All (PickFits (rows column.now ∷ [])) (expand runs.now) }
-    requires len { length (expand runs.now) ≡ len }
-    requires few { len ≤ 4294967295 }
-    ensures rows { IfOk result (λ array. rows array.column ≡ pick Null (rows column.now ∷ []) (expand runs.now)) }
-    ensures dtype { IfOk result (λ array. type_of array.column ≡ type_of column.now) }
-    ensures refusal { IfErr result (IsRefusal (past (type_of column.now) (pick Null (rows column.now ∷ []) (expand runs.now)))) }
-{
-    let sources = [column];
-    let column = collect_runs(alloc, &sources, runs, len)?;
-    Ok(ArrayRef { column })
 }

@@ -6,6 +6,7 @@ pub mod Grown
 pub mod ItemRuns
 pub mod JoinedRows
 pub mod NullPicks
+pub mod OneSource
 pub mod Raising
 pub mod Layouts
 pub mod ListParts

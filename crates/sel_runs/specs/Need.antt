@@ -53,6 +53,22 @@ IsPastRows count RowLimit = 4294967295 < count
 IsPastRows count _ = ⊥
 
 abbrev mutual
+  -- Which limits the rows that are asked for pass, in a column of this type: those of the rows themselves and those of
+  -- what they need of the columns below. A null list needs no row below it, a null list of one length as many as its
+  -- length, a null tuple one of each field. (own)
+  pub past : Shape → List Value → Limit → Type 0
+  past of_large_binary rows limit = IsPastBytes (pos 9223372036854775807) rows limit
+  past (of_large_list s) rows limit = IsPastRows (length (joined_items 0 rows)) limit ⊎ past s (joined_items 0 rows) limit
+  past (of_fixed_size_list s width) rows limit = IsPastRows (length (joined_items width rows)) limit ⊎ past s (joined_items width rows) limit
+  past (of_struct ss) rows limit = past_parts ss 0 rows limit
+  past s rows limit = ⊥
+
+  -- the same of the parts of tuples, from place j on (own)
+  pub past_parts : Shapes → ℕ → List Value → Limit → Type 0
+  past_parts no_shapes j rows limit = ⊥
+  past_parts (next_shape s ss) j rows limit = past s (map (part_at j) rows) limit ⊎ past_parts ss (j + 1) rows limit
+
+abbrev mutual
   -- Which limits rows pass that are taken of columns of this type: those of the rows themselves and those of what they
   -- need of the columns below. A null list needs no row below it, a null list of one length as many as its length, a
   -- null tuple one of each field. (own)

@@ -13,6 +13,7 @@ pub mod nested;
 pub mod null;
 pub mod primitive;
 pub mod run;
+pub mod single;
 pub mod sources;
 pub mod structs;
 pub mod validity;

@@ -13,7 +13,7 @@ pub mod primitive;
 pub mod scalar;
 
 use crate::gather::generic_binary::collect_bytes;
-use crate::runs::{collect_one, runs_of_mask};
+use crate::runs::runs_of_mask;
 use binary::{PlacedRows, kept_places};
 use boolean::filter_bitmap_and_validity;
 pub use boolean::filter_boolean_kernel;
@@ -30,6 +30,7 @@ use sel_arrow::utf8view::Utf8ViewArray;
 use sel_bits::bitmap::Bitmap;
 use sel_bits::buffer::Buffer;
 use sel_bits::faults::{PolarsError, PolarsResult};
+use sel_runs::single::collect_one;
 use std::alloc::Global;
 
 /// The rows where the mask is the valid value true, in order; a null in the mask counts as false.

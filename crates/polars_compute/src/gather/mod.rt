@@ -15,7 +15,7 @@ pub(crate) mod generic_binary;
 pub mod primitive;
 mod validity;
 
-use crate::runs::{collect_one, runs_of_indices};
+use crate::runs::runs_of_indices;
 use binview::{take_texts, take_views};
 use primitive::take_primitive_unchecked;
 use sel_arrow::array::Array;
@@ -26,6 +26,7 @@ use sel_arrow::primitive::{ArrowPrimitive, IdxArr, PrimitiveArray};
 use sel_bits::faults::PolarsResult;
 use sel_bits::native::{Index, NativeType};
 pub use sel_runs::collect::collect_rows;
+use sel_runs::single::collect_one;
 pub use sel_runs::sources::picks_in_bounds;
 use std::alloc::Global;
 

@@ -11,8 +11,7 @@ use Rattle.sel_arrow.specs.declared.column.Column.TheVariants.{LargeBinary, Bina
 use Rattle.sel_arrow.proofs.Lists.{and_first, and_second}
 use Rattle.sel_arrow.proofs.NestedRows.{has_lists, has_blocks, struct_covered}
 use Rattle.sel_runs.specs.Children.{columns_in, field, joined_items, part_at}
-use Rattle.sel_runs.specs.Need.{IsRefusal, IsPastBuffers, past_taken, past_fields}
-use Rattle.polars_compute.specs.Need.{past, past_parts}
+use Rattle.sel_runs.specs.Need.{IsRefusal, IsPastBuffers, past, past_parts, past_taken, past_fields}
 
 few_buffers : (n : ℕ) (limit : Limit) → n ≤ 4294967295 → IsPastBuffers (n + 0) limit → ⊥
 few_buffers n RowLimit few h = h

@@ -4,8 +4,8 @@ use Rattle.sel_arrow.specs.Rows.{rows, type_of}
 use Rattle.sel_arrow.specs.Value.{Null}
 use Rattle.sel_runs.specs.Picks.{pick}
 use Rattle.sel_runs.specs.Runs.{expand}
-use Rattle.polars_compute.proofs.OneSource.{one_source, refused_less}
-use Rattle.polars_compute.proofs.runs.collect_one.Goals as goal
+use Rattle.sel_runs.proofs.OneSource.{one_source, refused_less}
+use Rattle.sel_runs.proofs.single.collect_one.Goals as goal
 
 pub returns-in_err-column-clause-refusal : goal.returns-in_err-column-clause-refusal
 returns-in_err-column-clause-refusal c =

@@ -1,0 +1,35 @@
+//! Rows of one column, copied by runs of rows that stand together.
+
+ghost use Rattle.std.specs.Prelude.{◌≡◌, ◌≤◌, ◌∷◌, [], All, length, IfOk, IfErr};
+ghost use Rattle.sel_arrow.specs.Rows.{rows, type_of, IsWellFormed};
+ghost use Rattle.sel_arrow.specs.Value.{Null};
+ghost use Rattle.sel_runs.specs.Need.{IsRefusal, past};
+ghost use Rattle.sel_runs.specs.Picks.{pick, PickFits};
+ghost use Rattle.sel_runs.specs.Runs.{expand};
+
+use crate::collect::collect_runs;
+use crate::run::Run;
+use sel_arrow::array_ref::ArrayRef;
+use sel_arrow::column::Column;
+use sel_bits::faults::PolarsResult;
+use std::alloc::Global;
+
+/// The rows that runs pick of one column, `len` in all. Refuses for want of memory, and where they pass a limit.
+pub fn collect_one(
+    alloc: Global,
+    column: &Column,
+    runs: &[Run],
+    len: usize,
+) -> PolarsResult<ArrayRef>
+    requires formed { IsWellFormed column.now }
+    requires fits { All (PickFits (rows column.now ∷ [])) (expand runs.now) }
+    requires len { length (expand runs.now) ≡ len }
+    requires few { len ≤ 4294967295 }
+    ensures rows { IfOk result (λ array. rows array.column ≡ pick Null (rows column.now ∷ []) (expand runs.now)) }
+    ensures dtype { IfOk result (λ array. type_of array.column ≡ type_of column.now) }
+    ensures refusal { IfErr result (IsRefusal (past (type_of column.now) (pick Null (rows column.now ∷ []) (expand runs.now)))) }
+{
+    let sources = [column];
+    let column = collect_runs(alloc, &sources, runs, len)?;
+    Ok(ArrayRef { column })
+}
