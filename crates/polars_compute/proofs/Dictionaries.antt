@@ -1,11 +1,11 @@
 -- Keys and values of a dictionary without its null values.
-use Rattle.std.proofs.Common.{◌≡◌, ℕ, zero, suc, ◌+◌, ◌≤◌, ◌<◌, pos, Bool, true, false, ◌&&◌, List, [], ◌∷◌, length, map, take, get_or, Option, Some, None, refl, ap, sym, ◌∙◌, arith, cond, zero-add}
-use Rattle.std.specs.Prelude.{if◌then◌else◌, count_by, not}
+use Rattle.std.proofs.Common.{◌≡◌, ℕ, zero, suc, ◌+◌, ◌≤◌, ◌<◌, pos, Bool, true, false, ◌&&◌, List, [], ◌∷◌, length, map, take, get_or, Option, Some, None, refl, ap, sym, ◌∙◌, arith, cond, zero-add, add-one, length-take}
+use Rattle.std.specs.Prelude.{if◌then◌else◌, count_by, not, IfNone}
 use Rattle.std.specs.List.{list_all, range_with_len}
 use Rattle.std.proofs.lemmas.Bool.{ltb-true}
 use Rattle.std.proofs.lemmas.List.{length-map, get_or-map}
 use Rattle.std.proofs.lemmas.List.FromFn.{get_or-map-range_with_len, length-map-range_with_len}
-use Rattle.std.proofs.lemmas.List.Sums.{sum_by-cons}
+use Rattle.std.proofs.lemmas.List.Sums.{sum_by-cons, count_by-le-length}
 use Rattle.sel_bits.specs.Bits.{Bits, count_true}
 use Rattle.sel_arrow.specs.Masked.{hidden, masked, number_rows, Covers, valid_at}
 use Rattle.sel_arrow.specs.Value.{Value, Null, Number, is_valid, is_null, validities}
@@ -17,26 +17,29 @@ use Rattle.polars_compute.specs.Select.{select}
 
 -- ---- how many rows are null
 
-null_more : (v : Value) (vs : List Value) → count_by is_null (v ∷ vs) ≡ cond (is_null v) 1 0 + count_by is_null vs
-null_more v vs = sum_by-cons (λ w. cond (is_null w) 1 0) v vs
+abbrev tally : Bool → ℕ
+tally b = cond b 1 0
 
-valid_more : (v : Value) (vs : List Value) → count_by is_valid (v ∷ vs) ≡ cond (is_valid v) 1 0 + count_by is_valid vs
-valid_more v vs = sum_by-cons (λ w. cond (is_valid w) 1 0) v vs
+null_more : (v : Value) (vs : List Value) → count_by is_null (v ∷ vs) ≡ tally (is_null v) + count_by is_null vs
+null_more v vs = sum_by-cons (λ w. tally (is_null w)) v vs
+
+valid_more : (v : Value) (vs : List Value) → count_by is_valid (v ∷ vs) ≡ tally (is_valid v) + count_by is_valid vs
+valid_more v vs = sum_by-cons (λ w. tally (is_valid w)) v vs
 
 -- where none is, the first is not
 no_null : (b : Bool) (v : Value) (vs : List Value) → is_valid v ≡ b → count_by is_null (v ∷ vs) ≡ 0 → is_valid v ≡ true
 no_null true v vs e h = e
 no_null false v vs e h =
-    let one : cond (is_null v) 1 0 ≡ 1 = ap (λ b. cond (not b) 1 0) e in
+    let one : tally (is_null v) ≡ 1 = ap (λ b. tally (not b)) e in
     let n = null_more v vs in absurd (omega (arith, one, n, h))
 
-one_valid : (v : Value) (vs : List Value) → count_by is_null (v ∷ vs) ≡ 0 → cond (is_valid v) 1 0 ≡ 1
-one_valid v vs none = ap (λ b. cond b 1 0) (no_null (is_valid v) v vs refl none)
+one_valid : (v : Value) (vs : List Value) → count_by is_null (v ∷ vs) ≡ 0 → tally (is_valid v) ≡ 1
+one_valid v vs none = ap (λ b. tally b) (no_null (is_valid v) v vs refl none)
 
 -- the rows that are kept for being valid are no nulls
 one_kept : (b : Bool) (v : Value) (vs : List Value) → is_valid v ≡ b → count_by is_null (select vs (validities vs)) ≡ 0 → count_by is_null (select (v ∷ vs) (b ∷ validities vs)) ≡ 0
 one_kept true v vs e h =
-    let off : cond (is_null v) 1 0 ≡ 0 = ap (λ b. cond (not b) 1 0) e in
+    let off : tally (is_null v) ≡ 0 = ap (λ b. tally (not b)) e in
     omega (arith, off, h, null_more v (select vs (validities vs)))
 one_kept false v vs e h = h
 
@@ -57,21 +60,66 @@ pub bare_rows : {A : Type 0} (f : A → Value) → (validity : Option Bits) (xs 
 bare_rows f None xs h = refl
 bare_rows f (Some validity) xs h = sym (shown f validity.bits xs h)
 
+-- ---- what a validity tells
+
+-- the validities of rows under a validity are its bits
+told_bits : {A : Type 0} (f : A → Value) → ((x : A) → is_valid (f x) ≡ true) → (bs : List Bool) (xs : List A) → length bs ≡ length xs → validities (hidden bs (map f xs)) ≡ bs
+told_bits f valid [] [] long = refl
+told_bits f valid [] (x ∷ xs) long = absurd (omega arith)
+told_bits f valid (b ∷ bs) [] long = absurd (omega arith)
+told_bits f valid (true ∷ bs) (x ∷ xs) long = (λ i. valid x i ∷ told_bits f valid bs xs (omega arith) i)
+told_bits f valid (false ∷ bs) (x ∷ xs) long = ap (λ l. false ∷ l) (told_bits f valid bs xs (omega arith))
+
+pub told_validity : {A : Type 0} (f : A → Value) → ((x : A) → is_valid (f x) ≡ true) → (old : Option Bits) (validity : Bits) (xs : List A) → old ≡ Some validity → Covers old (length xs) →
+    validity.bits ≡ validities (masked old (map f xs))
+told_validity f valid old validity xs is covers =
+    rw is (sym (told_bits f valid validity.bits xs (covers validity is)))
+
+pub if_none : {A : Type 0} (o : Option A) (P : Type 0) → (o ≡ None → P) → IfNone o P
+if_none None P h = h refl
+if_none (Some x) P h = tt
+
+-- without a validity no row is null
+pub all_valid : {A : Type 0} (f : A → Value) → ((x : A) → is_valid (f x) ≡ true) → (xs : List A) → count_by is_null (map f xs) ≡ 0
+all_valid f valid [] = refl
+all_valid f valid (x ∷ xs) =
+    let off : tally (is_null (f x)) ≡ 0 = ap (λ b. tally (not b)) (valid x) in
+    null_more (f x) (map f xs) ∙ omega (arith, off, all_valid f valid xs)
+
 -- ---- ranks
+
+one_more : (bs : List Bool) (i : ℕ) → i < length bs → count_true (take (suc i) bs) ≡ count_true (take i bs) + (if get_or bs i false then 1 else 0)
+one_more [] i inside = absurd (omega (arith, inside))
+one_more (true ∷ bs) zero inside = refl
+one_more (false ∷ bs) zero inside = refl
+one_more (b ∷ bs) (suc i) inside =
+    let rest = one_more bs i (omega (arith, inside)) in
+    let longer = sum_by-cons tally b (take (suc i) bs) in
+    let shorter = sum_by-cons tally b (take i bs) in
+    omega (arith, rest, longer, shorter)
+
+pub count_step : (bs : List Bool) (i : ℕ) → i < length bs → count_true (take (i + 1) bs) ≡ count_true (take i bs) + (if get_or bs i false then 1 else 0)
+count_step bs i inside = rw add-one (one_more bs i inside)
+
+pub count_few : (bs : List Bool) (i : ℕ) → count_true (take i bs) ≤ i
+count_few bs i = let few = count_by-le-length (λ b. b) (take i bs) in omega (arith, few, length-take i bs)
 
 one_count : (b : Bool) (v : Value) (vs : List Value) → is_valid v ≡ b → count_by is_valid vs + count_by is_null vs ≡ length vs → count_by is_valid (v ∷ vs) + count_by is_null (v ∷ vs) ≡ suc (length vs)
 one_count true v vs e h =
-    let yes : cond (is_valid v) 1 0 ≡ 1 = ap (λ b. cond b 1 0) e in
-    let no : cond (is_null v) 1 0 ≡ 0 = ap (λ b. cond (not b) 1 0) e in
+    let yes : tally (is_valid v) ≡ 1 = ap (λ b. tally b) e in
+    let no : tally (is_null v) ≡ 0 = ap (λ b. tally (not b)) e in
     omega (arith, yes, no, h, valid_more v vs, null_more v vs)
 one_count false v vs e h =
-    let no : cond (is_valid v) 1 0 ≡ 0 = ap (λ b. cond b 1 0) e in
-    let yes : cond (is_null v) 1 0 ≡ 1 = ap (λ b. cond (not b) 1 0) e in
+    let no : tally (is_valid v) ≡ 0 = ap (λ b. tally b) e in
+    let yes : tally (is_null v) ≡ 1 = ap (λ b. tally (not b)) e in
     omega (arith, yes, no, h, valid_more v vs, null_more v vs)
 
 both_counts : (vs : List Value) → count_by is_valid vs + count_by is_null vs ≡ length vs
 both_counts [] = refl
 both_counts (v ∷ vs) = one_count (is_valid v) v vs refl (both_counts vs)
+
+pub counts_long : (ranks : List ℕ) (bits : List Bool) → ranks ≡ map (λ i. count_true (take i bits)) (range_with_len 0 (length bits)) → length ranks ≡ length bits
+counts_long ranks bits counts = ap length counts ∙ length-map-range_with_len (λ i. count_true (take i bits)) 0 (length bits)
 
 -- the true bits before a place are the rows that are not null
 counted_before : (vs : List Value) (k : ℕ) → count_true (take k (validities vs)) ≡ rank vs k
@@ -79,13 +127,13 @@ counted_before [] zero = refl
 counted_before [] (suc k) = refl
 counted_before (v ∷ vs) zero = refl
 counted_before (v ∷ vs) (suc k) =
-    sum_by-cons (λ b. cond b 1 0) (is_valid v) (take k (validities vs)) ∙ ap (λ n. cond (is_valid v) 1 0 + n) (counted_before vs k) ∙ sym (valid_more v (take k vs))
+    sum_by-cons (λ b. tally b) (is_valid v) (take k (validities vs)) ∙ ap (λ n. tally (is_valid v) + n) (counted_before vs k) ∙ sym (valid_more v (take k vs))
 
 -- ---- the keys of the valid values
 
 module _ (vs : List Value) (ranks : List ℕ) (validity : Bits) (bits : validity.bits ≡ validities vs) (counts : ranks ≡ map (λ i. count_true (take i validity.bits)) (range_with_len 0 (length validity.bits))) where
   long : length ranks ≡ length vs
-  long = ap length counts ∙ length-map-range_with_len (λ i. count_true (take i validity.bits)) 0 (length validity.bits) ∙ ap length bits ∙ length-map vs is_valid
+  long = counts_long ranks validity.bits counts ∙ ap length bits ∙ length-map vs is_valid
 
   covered : Covers (Some validity) (length (map (λ x. Number (pos x)) ranks))
   covered = λ v there. let same : validity ≡ v = cc in ap (λ (b : Bits). length b.bits) (sym same) ∙ ap length bits ∙ length-map vs is_valid ∙ sym long ∙ sym (length-map ranks (λ x. Number (pos x)))
@@ -175,10 +223,11 @@ null_is v e = cc
 behind : (b : Bool) (v : Value) (vs : List Value) (k : ℕ) → is_valid v ≡ b → get_or (valid_values vs) (rank vs k) Null ≡ get_or vs k Null →
     get_or (select (v ∷ vs) (b ∷ validities vs)) (rank (v ∷ vs) (suc k)) Null ≡ get_or vs k Null
 behind true v vs k e h =
-    let one : rank (v ∷ vs) (suc k) ≡ suc (rank vs k) = valid_more v (take k vs) ∙ ap (λ b. cond b 1 0 + rank vs k) e in
+    let more : suc (rank vs k) ≡ 1 + rank vs k = omega arith in
+    let one : rank (v ∷ vs) (suc k) ≡ suc (rank vs k) = valid_more v (take k vs) ∙ ap (λ b. tally b + rank vs k) e ∙ sym more in
     ap (λ i. get_or (v ∷ valid_values vs) i Null) one ∙ h
 behind false v vs k e h =
-    let same : rank (v ∷ vs) (suc k) ≡ rank vs k = valid_more v (take k vs) ∙ ap (λ b. cond b 1 0 + rank vs k) e in
+    let same : rank (v ∷ vs) (suc k) ≡ rank vs k = valid_more v (take k vs) ∙ ap (λ b. tally b + rank vs k) e ∙ zero-add (rank vs k) in
     ap (λ i. get_or (valid_values vs) i Null) same ∙ h
 
 -- a valid value stands at its rank among the valid ones

@@ -1,6 +1,6 @@
 //! Nulls of a dictionary's values, handed on to its keys.
 
-ghost use Rattle.std.specs.Prelude.{◌≡◌, ◌≤◌, ◌<◌, pos, Some, None, length, map, take, count_by, IsTrue, IfSome, IfNone, IfOk, IfErr};
+ghost use Rattle.std.specs.Prelude.{◌≡◌, ◌≤◌, ◌<◌, ◌+◌, if◌then◌else◌, Some, None, length, map, take, count_by, IsTrue, IfSome, IfNone, IfOk, IfErr};
 ghost use Rattle.std.specs.List.{range_with_len};
 ghost use Rattle.sel_bits.specs.Bits.{count_true};
 ghost use Rattle.sel_arrow.specs.Columns.{primitive_rows, utf8view_rows};
@@ -115,9 +115,15 @@ fn counts_before(alloc: Global, bits: &Bitmap) -> PolarsResult<Vec<u32>>
     let mut count = 0;
     for i in 0..bits.len() {
         counts.push(count)?;
-        if bits.get_bit(i) {
-            count += 1;
-        }
+        count = counted(count, bits.get_bit(i));
     }
     Ok(counts)
+}
+
+// One more where the bit is true.
+fn counted(count: u32, bit: bool) -> u32
+    requires { count < 4294967295 }
+    ensures { result ≡ count + (if bit then 1 else 0) }
+{
+    if bit { count + 1 } else { count }
 }

@@ -253,7 +253,11 @@ fn filter_views(
 
 /// The texts whose bit is true, by their views.
 #[tactic(auto, using(crate::proofs::Selects::kept_texts))]
-pub(crate) fn filter_texts(alloc: Global, array: &Utf8ViewArray, mask: &Bitmap) -> PolarsResult<Utf8ViewArray>
+pub(crate) fn filter_texts(
+    alloc: Global,
+    array: &Utf8ViewArray,
+    mask: &Bitmap,
+) -> PolarsResult<Utf8ViewArray>
     requires { length (utf8view_rows array.now) ≡ length mask.now.bits }
     ensures rows { IfOk result (λ kept. utf8view_rows kept ≡ select (utf8view_rows array.now) mask.now.bits) }
     ensures refusal { IfErr result (λ fault. fault ≡ PolarsError.OutOfMemory) }
