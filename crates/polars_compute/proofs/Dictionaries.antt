@@ -1,7 +1,7 @@
 -- Keys and values of a dictionary without its null values.
-use Rattle.std.proofs.Common.{◌≡◌, ℕ, zero, suc, ◌+◌, ◌≤◌, ◌<◌, pos, Bool, true, false, ◌&&◌, List, [], ◌∷◌, length, map, take, get_or, Option, Some, None, refl, ap, sym, ◌∙◌, arith, cond, zero-add, add-one, length-take}
+use Rattle.std.proofs.Common.{◌≡◌, ℕ, zero, suc, ◌+◌, ◌≤◌, ◌<◌, pos, Bool, true, false, List, [], ◌∷◌, length, map, take, get_or, Option, Some, None, refl, ap, sym, ◌∙◌, arith, cond, zero-add, add-one, length-take}
 use Rattle.std.specs.Prelude.{if◌then◌else◌, count_by, not, IfNone}
-use Rattle.std.specs.List.{list_all, range_with_len}
+use Rattle.std.specs.List.{range_with_len}
 use Rattle.std.proofs.lemmas.Bool.{ltb-true}
 use Rattle.std.proofs.lemmas.List.{length-map, get_or-map}
 use Rattle.std.proofs.lemmas.List.FromFn.{get_or-map-range_with_len, length-map-range_with_len}
@@ -12,7 +12,7 @@ use Rattle.sel_arrow.specs.Value.{Value, Null, Number, is_valid, is_null, validi
 use Rattle.sel_arrow.proofs.Lists.{and_first, and_second}
 use Rattle.sel_arrow.proofs.Rows.{masked_null, masked_valid}
 use Rattle.polars_compute.specs.Dictionary.{decode, rank, valid_values, key_of_valid, propagated_keys}
-use Rattle.polars_compute.specs.Pick.{found, pick, pick_of, take_rows, is_within, all_within}
+use Rattle.polars_compute.specs.Pick.{found, pick_of, take_rows, is_within, all_within}
 use Rattle.polars_compute.specs.Select.{select}
 
 -- ---- how many rows are null

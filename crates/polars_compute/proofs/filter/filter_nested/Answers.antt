@@ -1,4 +1,4 @@
-use Rattle.std.proofs.Common.{◌∷◌, [], All, ◌∙◌, ap, sym, subst, length, map}
+use Rattle.std.proofs.Common.{◌∷◌, [], All, ◌∙◌, ap, sym, subst, length}
 use Rattle.std.proofs.lemmas.List.{length-map}
 use Rattle.std.proofs.lemmas.Result.{err_from_is_err_and}
 use Rattle.sel_arrow.specs.Rows.{rows, type_of}
@@ -7,7 +7,7 @@ use Rattle.sel_runs.specs.Picks.{pick, PickFits}
 use Rattle.sel_runs.specs.Runs.{expand}
 use Rattle.polars_compute.specs.Need.{IsRefusal, past}
 use Rattle.polars_compute.specs.Pick.{place_pick}
-use Rattle.polars_compute.specs.Select.{select, kept}
+use Rattle.polars_compute.specs.Select.{kept}
 use Rattle.polars_compute.proofs.KeptRuns.{picked_kept, kept_fit, count_kept}
 use Rattle.polars_compute.proofs.filter.filter_nested.Goals as goal
 

@@ -1,16 +1,12 @@
-use Rattle.std.proofs.Common.{◌≡◌, ◌∙◌, [], ◌∷◌, pos, Some, refl, ap, sym, subst, length, map, arith}
+use Rattle.std.proofs.Common.{◌∙◌, pos, refl, ap, sym, length, map, arith}
 use Rattle.std.specs.Prelude.{count_by}
-use Rattle.std.specs.List.{range_with_len}
 use Rattle.std.proofs.lemmas.List.{length-map}
-use Rattle.std.proofs.lemmas.List.FromFn.{length-map-range_with_len}
-use Rattle.sel_bits.specs.Bits.{count_true}
 use Rattle.sel_arrow.specs.Columns.{primitive_rows, utf8view_rows}
 use Rattle.sel_arrow.specs.Masked.{number_rows}
-use Rattle.sel_arrow.specs.Value.{validities, is_valid, is_null}
+use Rattle.sel_arrow.specs.Value.{is_valid, is_null}
 use Rattle.sel_arrow.specs.Views.{view_value}
 use Rattle.sel_arrow.proofs.Rows.{length-number_rows, length-masked}
-use Rattle.polars_compute.specs.Dictionary.{propagated_keys, valid_values}
-use Rattle.polars_compute.specs.Pick.{take_rows, all_within}
+use Rattle.polars_compute.specs.Pick.{take_rows}
 use Rattle.polars_compute.specs.Select.{select}
 use Rattle.polars_compute.proofs.Dictionaries.{keys_taken, keys_stay, values_stay, none_null, told_validity, counts_long}
 use Rattle.polars_compute.proofs.propagate_dictionary.propagate_dictionary_value_nulls.Goals as goal

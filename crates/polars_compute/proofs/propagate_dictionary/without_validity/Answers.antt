@@ -1,8 +1,7 @@
-use Rattle.std.proofs.Common.{◌≡◌, ◌∙◌, sym, subst, map}
+use Rattle.std.proofs.Common.{sym, subst}
 use Rattle.std.specs.Prelude.{IsTrue}
 use Rattle.sel_arrow.specs.Texts.{all_text}
 use Rattle.sel_arrow.specs.Views.{view_value}
-use Rattle.sel_arrow.specs.declared.view.View.{View}
 use Rattle.polars_compute.proofs.Dictionaries.{bare_rows}
 use Rattle.polars_compute.proofs.propagate_dictionary.without_validity.Goals as goal
 
