@@ -5,7 +5,7 @@ use Rattle.sel_arrow.specs.Value.{Null}
 use Rattle.sel_runs.specs.JoinedBytes.{ends_from, joined_bytes}
 use Rattle.sel_runs.specs.Picks.{pick}
 use Rattle.sel_runs.specs.Runs.{expand}
-use Rattle.sel_runs.proofs.JoinedRows.{all_bits, all_bytes, all_ends, built_ends, built_rows, column_bytes, ends_shown, offsets_of, picked_bytes, rebuilt, rising-ends, sources_bytes}
+use Rattle.sel_runs.proofs.JoinedRows.{all_bits, all_bytes, all_ends, built_ends, built_rows, column_bytes, ends_shown, length-joined, offsets_of, picked_bytes, rebuilt, rising-ends, sources_bytes}
 use Rattle.sel_runs.proofs.RunLists.{length-pick}
 use Rattle.sel_runs.proofs.binary.collect_binary.Goals as goal
 
@@ -28,6 +28,7 @@ invariant_of-result c =
       rising = rising-ends rows;
       rows_fit = omega (arith, built_rows rows, long, c.requires.few);
       values_fit = built_ends rows;
+      bytes_fit = omega (arith, length-joined rows);
       validity_fits = subst (Covers c.in_ok-validity.validity) (sym (built_rows rows ∙ long)) c.in_ok-validity.ensures.covers;
     })
 
