@@ -1,5 +1,5 @@
 -- Rows of a column of which some are left out and some are hidden: they pass no limit, since the column does not.
-use Rattle.std.proofs.Common.{◌≡◌, ◌⊎◌, inl, inr, ℕ, zero, suc, ◌+◌, ◌-◌, ◌*◌, ◌≤◌, ◌<◌, ℤ, pos, Bool, true, false, ◌&&◌, ◌==◌, List, [], ◌∷◌, ◌++◌, length, take, drop, map, replicate, Option, Some, None, refl, ap, sym, subst, ◌∙◌, arith, get_or, length-take}
+use Rattle.std.proofs.Common.{◌≡◌, ◌⊎◌, inl, inr, ℕ, zero, suc, ◌+◌, ◌-◌, ◌*◌, ◌≤◌, ◌<◌, pos, Bool, true, false, ◌&&◌, ◌==◌, List, [], ◌∷◌, ◌++◌, length, take, drop, map, replicate, Option, Some, None, refl, ap, sym, subst, ◌∙◌, arith, get_or, length-take}
 use Rattle.std.specs.List.{range_with_len, slice_range}
 use Rattle.std.proofs.lemmas.Int.{ints}
 use Rattle.std.proofs.lemmas.List.{drop-drop, get_or-map, length-drop, length-map}
@@ -178,31 +178,28 @@ entry_marks w (suc n) (m ∷ ms) = replicate w m ++ entry_marks w n ms
 abbrev block_at : ℕ → List Value → ℕ → List Value
 block_at w below i = slice_range below (i * w) (i * w + w)
 
+-- one list more
+entry_drawn : (w k n : ℕ) (below : List Value) (ms : List Mark) (m : Mark) → k * w + suc n * w ≤ length below →
+    joined_items w (draw ms (map list_of (map (block_at w below) (range_with_len (k + 1) n)))) ≡ draw (entry_marks w n ms) (drop w (drop (k * w) below)) →
+    joined_items w (draw (m ∷ ms) (map list_of (map (block_at w below) (range_with_len k (suc n))))) ≡ draw (entry_marks w (suc n) (m ∷ ms)) (drop (k * w) below)
+entry_drawn w k n below ms skip room rest = rest ∙ sym (skipped w (entry_marks w n ms) (drop (k * w) below))
+entry_drawn w k n below ms hide room rest =
+    let inside : w ≤ length (drop (k * w) below) = omega (arith, length-drop (k * w) below, room) in
+    ap (λ l. replicate w Null ++ l) rest ∙ sym (nulled w (entry_marks w n ms) (drop (k * w) below) inside)
+entry_drawn w k n below ms keep room rest =
+    let width : (k * w + w) - k * w ≡ w = omega arith in
+    ap (λ l. l ++ joined_items w (draw ms (map list_of (map (block_at w below) (range_with_len (k + 1) n))))) (listed_values (block_at w below k) ∙ ap (λ i. take i (drop (k * w) below)) width)
+    ∙ ap (λ l. take w (drop (k * w) below) ++ l) rest ∙ sym (kept w (entry_marks w n ms) (drop (k * w) below))
+
 entries_drawn : (w k n : ℕ) (below : List Value) (ms : List Mark) → k * w + n * w ≤ length below →
     joined_items w (draw ms (map list_of (map (block_at w below) (range_with_len k n)))) ≡ draw (entry_marks w n ms) (drop (k * w) below)
 entries_drawn w k zero below [] room = refl
 entries_drawn w k zero below (m ∷ ms) room = refl
 entries_drawn w k (suc n) below [] room = refl
-entries_drawn w k (suc n) below (m ∷ ms) room = each m
-  where
-    next : (k + 1) * w ≡ k * w + w
-    next = omega arith
-
-    rest : joined_items w (draw ms (map list_of (map (block_at w below) (range_with_len (k + 1) n)))) ≡ draw (entry_marks w n ms) (drop w (drop (k * w) below))
-    rest =
-        entries_drawn w (k + 1) n below ms (omega (arith, room, next))
-        ∙ ap (draw (entry_marks w n ms)) (ap (λ i. drop i below) next ∙ sym (drop-drop w (k * w) below))
-
-    each : (m : Mark) → joined_items w (draw (m ∷ ms) (map list_of (map (block_at w below) (range_with_len k (suc n))))) ≡ draw (entry_marks w (suc n) (m ∷ ms)) (drop (k * w) below)
-    each skip = rest ∙ sym (skipped w (entry_marks w n ms) (drop (k * w) below))
-    each hide =
-        ap (λ l. replicate w Null ++ l) rest
-        ∙ sym (nulled w (entry_marks w n ms) (drop (k * w) below) (omega (arith, length-drop (k * w) below, room)))
-    each keep =
-        let width : (k * w + w) - k * w ≡ w = omega arith in
-        ap (λ l. l ++ joined_items w (draw ms (map list_of (map (block_at w below) (range_with_len (k + 1) n))))) (listed_values (block_at w below k) ∙ ap (λ i. take i (drop (k * w) below)) width)
-        ∙ ap (λ l. take w (drop (k * w) below) ++ l) rest
-        ∙ sym (kept w (entry_marks w n ms) (drop (k * w) below))
+entries_drawn w k (suc n) below (m ∷ ms) room =
+    let next : (k + 1) * w ≡ k * w + w = omega arith in
+    entry_drawn w k n below ms m room
+    (entries_drawn w (k + 1) n below ms (omega (arith, room, next)) ∙ ap (draw (entry_marks w n ms)) (ap (λ i. drop i below) next ∙ sym (drop-drop w (k * w) below)))
 
 blocks_drawn : (w n : ℕ) (below : List Value) (validity : Option Bits) (ms : List Mark) → length below ≡ n * w →
     joined_items w (draw ms (block_rows w n below validity)) ≡ draw (entry_marks w n (under validity ms)) below
