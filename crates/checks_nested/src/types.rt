@@ -77,8 +77,8 @@ fn is_empty_column(made: PolarsResult<ArrayRef>, dtype: &ArrowDataType) -> Polar
 
 /// Whether there is a column of this type without rows.
 fn has_empty_column(alloc: Global, dtype: ArrowDataType) -> PolarsResult<bool> {
-    let is_made =
-        dtype.widths_fit() && is_empty_column(new_empty_array(alloc, &dtype), &dtype) == Ok(true);
+    let is_made = dtype.widths_fit()
+        && is_empty_column(new_empty_array(alloc, &dtype), &dtype) == Ok(true);
     drop(dtype);
     Ok(is_made)
 }
@@ -152,7 +152,7 @@ fn fit_blocks(alloc: Global) -> Result<(bool, bool), Fail> {
     Ok((fits_two, fits_three))
 }
 
-/// Whether two numbers can be a tuple's list.
+/// Whether two numbers can be one list of the type of tuples, which is none of lists.
 fn fit_tuples(alloc: Global) -> Result<bool, Fail> {
     let row = numbers(alloc, &[8i64, 9], &[true, true])?;
     Ok(fits_type(dtype_of(alloc, two_pairs(alloc)?)?, row))
