@@ -1,7 +1,7 @@
 -- Entries of lists of one length.
-use Rattle.std.proofs.Common.{◌≡◌, ◌<◌, ◌≤◌, ◌+◌, ◌*◌, ℕ, zero, suc, ℤ, Bool, true, false, All, List, [], ◌∷◌, ◌||◌, length, map, replicate, get_or, Option, Some, None, Box, Global, refl, ap, sym, subst, ◌∙◌, arith}
+use Rattle.std.proofs.Common.{◌≡◌, ◌<◌, ◌≤◌, ◌+◌, ◌*◌, ℕ, zero, suc, ℤ, Bool, true, false, All, List, [], ◌∷◌, ◌||◌, length, map, replicate, get_or, Option, Some, None, Box, Global, refl, ap, sym, ◌∙◌, arith}
 use Rattle.std.specs.Prelude.{IfSome}
-use Rattle.std.specs.List.{list_any, range_with_len}
+use Rattle.std.specs.List.{list_any}
 use Rattle.std.specs.Option.{option_map, is_none}
 use Rattle.std.proofs.lemmas.List.{get_or-replicate, length-replicate}
 use Rattle.sel_bits.specs.Place.{place}
@@ -16,7 +16,7 @@ use Rattle.sel_arrow.specs.Value.{Value, Null, Truth, Number, Bytes, Items, Tupl
 use Rattle.sel_runs.specs.Need.{IsRefusal}
 use Rattle.sel_runs.specs.Picks.{pick, PickFits}
 use Rattle.sel_runs.proofs.ListParts.{few_rows}
-use Rattle.sel_sublists.specs.Elements.{element_at, child_pick}
+use Rattle.sel_sublists.specs.Elements.{child_pick}
 use Rattle.sel_sublists.specs.Entries.{place_of, entry_place, entry_places, fixed_get, short, IsGetRefusal}
 use Rattle.sel_sublists.proofs.Offsets.{below_shifted}
 use Rattle.sel_sublists.proofs.Places.{picked, places_fit, place_below, PlaceBelow}

@@ -1,22 +1,22 @@
 -- Elements of lists between offsets.
-use Rattle.std.proofs.Common.{◌≡◌, ◌<◌, ◌≤◌, ◌+◌, ◌-◌, ℕ, zero, suc, ℤ, pos, Bool, true, false, All, List, [], ◌∷◌, ◌++◌, length, map, take, drop, get_or, Option, Some, None, Box, Global, refl, ap, sym, subst, ◌∙◌, arith}
+use Rattle.std.proofs.Common.{◌≡◌, ◌<◌, ◌≤◌, ◌+◌, ◌-◌, ℕ, ℤ, pos, Bool, true, false, All, List, [], ◌∷◌, length, map, take, drop, get_or, Option, Some, None, Box, Global, refl, ap, sym, subst, ◌∙◌, arith}
 use Rattle.std.specs.Prelude.{if◌then◌else◌}
-use Rattle.std.specs.List.{range_with_len, slice_range}
+use Rattle.std.specs.List.{range_with_len}
 use Rattle.std.specs.Option.{option_map, is_none, is_some, unwrap_or}
 use Rattle.std.proofs.lemmas.List.{length-map, length-take, length-drop, get_or-map, get_or-take, get_or-drop}
-use Rattle.std.proofs.lemmas.List.FromFn.{fill_by_all, length-map-range_with_len, get_or-map-range_with_len}
+use Rattle.std.proofs.lemmas.List.FromFn.{fill_by_all}
 use Rattle.sel_bits.specs.Bits.{Bits}
 use Rattle.sel_bits.specs.Place.{place}
 use Rattle.sel_arrow.specs.Masked.{hidden, number_value, valid_at}
 use Rattle.sel_arrow.specs.Nested.{list_of}
 use Rattle.sel_arrow.specs.Pieces.{rows_between}
 use Rattle.sel_arrow.specs.Rows.{rows, well_formed}
-use Rattle.sel_arrow.specs.Value.{Value, Null, Number, Items, listed, values_of}
+use Rattle.sel_arrow.specs.Value.{Value, Null, Number}
 use Rattle.sel_arrow.specs.declared.column.Column.{Column, LargeList}
 use Rattle.sel_arrow.proofs.NestedRows.{has_lists, length-rows}
 use Rattle.sel_runs.specs.Picks.{pick, PickFits}
 use Rattle.sel_runs.proofs.ItemRuns.{listed_values}
-use Rattle.sel_runs.proofs.ListParts.{OfList, list_null, list_row}
+use Rattle.sel_runs.proofs.ListParts.{list_null, list_row}
 use Rattle.sel_sublists.specs.Elements.{element_at, child_pick}
 use Rattle.sel_sublists.specs.Lists.{element_of, list_get, lacks_place, child_place, places_in}
 use Rattle.sel_sublists.proofs.Places.{picked, places_fit, place_below, PlaceBelow}

@@ -1,5 +1,5 @@
 -- Rows of one child at places.
-use Rattle.std.proofs.Common.{◌≡◌, ◌<◌, ◌≤◌, ◌+◌, ◌-◌, ℕ, ℤ, pos, negsuc, Bool, true, false, All, List, [], ◌∷◌, ◌++◌, length, map, get_or, Option, Some, None, refl, ap, sym, subst, ◌∙◌, arith}
+use Rattle.std.proofs.Common.{◌≡◌, ◌<◌, ◌+◌, ◌-◌, ℕ, ℤ, pos, negsuc, Bool, true, false, All, List, [], ◌∷◌, ◌++◌, length, map, get_or, Option, Some, None, refl, ap, sym, subst, ◌∙◌, arith}
 use Rattle.std.specs.Prelude.{nat_lt, if◌then◌else◌, not, IfSome}
 use Rattle.std.specs.Option.{is_some, is_none}
 use Rattle.std.specs.List.{range_with_len}
@@ -8,7 +8,7 @@ use Rattle.std.proofs.lemmas.List.{length-map, map-append, get_or-map}
 use Rattle.std.proofs.lemmas.List.FromFn.{length-map-range_with_len, get_or-map-range_with_len, map-range_with_len_more}
 use Rattle.sel_bits.specs.Place.{place}
 use Rattle.sel_arrow.specs.Value.{Value, Null}
-use Rattle.sel_runs.specs.Picks.{found, pick, PickFits}
+use Rattle.sel_runs.specs.Picks.{pick, PickFits}
 use Rattle.sel_sublists.specs.Elements.{element_at, child_pick}
 
 -- ---- a loop over places

@@ -1,12 +1,12 @@
 -- Each row in a list of its own.
-use Rattle.std.proofs.Common.{◌≡◌, ◌<◌, ◌≤◌, ◌+◌, ◌-◌, ℕ, true, Bool, List, [], ◌∷◌, ◌++◌, pos, length, map, take, drop, get_or, Option, Some, None, Box, Global, refl, ap, sym, subst, ◌∙◌, arith}
+use Rattle.std.proofs.Common.{◌≡◌, ◌<◌, ◌+◌, ◌-◌, ℕ, true, List, [], ◌∷◌, ◌++◌, pos, length, map, take, drop, get_or, None, Box, Global, ap, sym, subst, ◌∙◌, arith}
 use Rattle.std.specs.List.{range_with_len, slice_range}
 use Rattle.std.proofs.lemmas.List.{length-map, get_or-map, drop_more}
 use Rattle.std.proofs.lemmas.List.FromFn.{fill_by_all, length-range_with_len, get_or-range_with_len, map-range_with_len_more}
 use Rattle.sel_bits.specs.Offsets.{IsRising}
 use Rattle.sel_arrow.specs.Nested.{list_of, list_rows}
-use Rattle.sel_arrow.specs.Pieces.{pieces, rows_between, last_offset}
-use Rattle.sel_arrow.specs.Rows.{rows, row_count, well_formed}
+use Rattle.sel_arrow.specs.Pieces.{pieces, rows_between}
+use Rattle.sel_arrow.specs.Rows.{rows, well_formed}
 use Rattle.sel_arrow.specs.Value.{Value, Null}
 use Rattle.sel_arrow.specs.declared.column.Column.{Column, LargeList}
 use Rattle.sel_arrow.proofs.ByteRows.{length-pieces, get_or-pieces}

@@ -1,5 +1,5 @@
 -- Elements of a list at places that there may be.
-use Rattle.std.specs.Prelude.{ℕ, List, map, Option, Some, None, slice_index_or}
+use Rattle.std.specs.Prelude.{ℕ, List, Option, Some, None, slice_index_or}
 use Rattle.std.specs.Option.{option_map}
 use Rattle.sel_arrow.specs.Value.{Value, Null}
 

@@ -1,11 +1,11 @@
 -- Elements of lists of one length, by an index for each of them.
-use Rattle.std.specs.Prelude.{◌≡◌, ℕ, ◌+◌, ◌*◌, Bool, true, false, ◌&&◌, not, List, map, length, Option, Some, None, slice_index_or}
+use Rattle.std.specs.Prelude.{◌≡◌, ℕ, ◌+◌, ◌*◌, Bool, true, false, ◌&&◌, not, List, map, length, Option, None, slice_index_or}
 use Rattle.std.specs.List.{list_any, range_with_len}
 use Rattle.std.specs.Option.{option_map, is_none}
 use Rattle.sel_bits.specs.Place.{place}
 use Rattle.sel_bits.specs.declared.faults.Limit.{Limit}
 use Rattle.sel_bits.specs.declared.faults.PolarsError.{PolarsError}
-use Rattle.sel_bits.specs.declared.faults.PolarsError.TheVariants.{OutOfMemory, SizeLimit, ComputeError}
+use Rattle.sel_bits.specs.declared.faults.PolarsError.TheVariants.{ComputeError}
 use Rattle.sel_arrow.specs.Value.{Value, Null, Number}
 use Rattle.sel_runs.specs.Need.{IsRefusal}
 use Rattle.sel_sublists.specs.Elements.{element_at}

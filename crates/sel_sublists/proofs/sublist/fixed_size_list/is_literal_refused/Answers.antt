@@ -1,4 +1,4 @@
-use Rattle.std.proofs.Common.{◌≡◌, ◌<◌, ◌∙◌, ap, sym, arith, replicate, w64}
+use Rattle.std.proofs.Common.{◌<◌, ◌∙◌, ap, sym, arith, replicate, w64}
 use Rattle.std.specs.Prelude.{◌&&◌, not}
 use Rattle.std.specs.Option.{is_none}
 use Rattle.std.proofs.lemmas.Int.{to_z-of_z}

@@ -1,7 +1,6 @@
-use Rattle.std.proofs.Common.{◌≡◌, ◌<◌, ◌+◌, ◌*◌, ◌++◌, ◌∷◌, [], ◌∙◌, ap, sym, subst, arith, length, get_or}
+use Rattle.std.proofs.Common.{◌<◌, ◌+◌, ◌*◌, ◌++◌, ◌∙◌, ap, sym, subst, arith, length}
 use Rattle.std.specs.Option.{option_map}
 use Rattle.sel_arrow.specs.Columns.{primitive_rows}
-use Rattle.sel_arrow.specs.Value.{Null}
 use Rattle.sel_runs.specs.Runs.{expand}
 use Rattle.sel_sublists.specs.Elements.{child_pick}
 use Rattle.sel_sublists.specs.Entries.{entry_place, place_of}

@@ -1,4 +1,4 @@
-use Rattle.std.proofs.Common.{◌≡◌, ◌+◌, ◌*◌, ◌++◌, ◌∷◌, [], ◌∙◌, ap, sym, subst, arith, length, replicate, w64, to_z, of_z}
+use Rattle.std.proofs.Common.{◌+◌, ◌*◌, ◌++◌, ◌∙◌, ap, sym, subst, arith, length, replicate, w64, to_z, of_z}
 use Rattle.std.specs.Option.{option_map}
 use Rattle.sel_arrow.specs.Value.{Number}
 use Rattle.sel_runs.specs.Runs.{expand}

@@ -1,4 +1,4 @@
-use Rattle.std.proofs.Common.{◌≡◌, ◌*◌, ◌≤◌, ◌∷◌, [], All, ◌∙◌, ap, sym, subst, arith, length, map}
+use Rattle.std.proofs.Common.{◌*◌, ◌∷◌, [], All, ◌∙◌, ap, sym, subst, arith, length}
 use Rattle.std.proofs.lemmas.Result.{err_from_is_err_and}
 use Rattle.sel_arrow.specs.Columns.{primitive_rows}
 use Rattle.sel_arrow.specs.Rows.{rows, type_of}
@@ -7,7 +7,7 @@ use Rattle.sel_runs.specs.Need.{past}
 use Rattle.sel_runs.specs.Picks.{pick, PickFits}
 use Rattle.sel_runs.specs.Runs.{expand}
 use Rattle.sel_sublists.specs.Elements.{child_pick}
-use Rattle.sel_sublists.specs.Entries.{entry_place, fixed_get, out_of_bounds, IsGetRefusal}
+use Rattle.sel_sublists.specs.Entries.{entry_place, fixed_get, out_of_bounds}
 use Rattle.sel_sublists.proofs.Blocks.{entries_fit, entries_got, filled, filled_few, long_rows, refused_so}
 use Rattle.sel_sublists.proofs.Places.{mapped_count}
 use Rattle.sel_sublists.proofs.sublist.fixed_size_list.sub_fixed_size_list_get.Goals as goal

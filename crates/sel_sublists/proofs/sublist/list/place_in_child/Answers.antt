@@ -1,4 +1,4 @@
-use Rattle.std.proofs.Common.{◌≡◌, ◌+◌, ◌-◌, ◌∙◌, ap, sym, arith, slice_index, w64, to_z, of_z, Some}
+use Rattle.std.proofs.Common.{◌+◌, ◌-◌, ◌∙◌, ap, sym, arith, slice_index, w64, to_z, of_z}
 use Rattle.sel_bits.specs.Place.{place}
 use Rattle.sel_sublists.proofs.Offsets.{place_small}
 use Rattle.sel_sublists.proofs.sublist.list.place_in_child.Goals as goal

@@ -1,5 +1,4 @@
-use Rattle.std.proofs.Common.{◌≡◌, ◌≤◌, ◌++◌, ◌∷◌, [], ◌∙◌, ap, arith, length, w64, to_z, of_z}
-use Rattle.sel_arrow.specs.Pieces.{rows_between}
+use Rattle.std.proofs.Common.{◌++◌, ◌∙◌, ap, arith, length, w64, to_z, of_z}
 use Rattle.sel_runs.specs.Runs.{expand}
 use Rattle.sel_sublists.specs.Elements.{child_pick}
 use Rattle.sel_sublists.specs.Lists.{child_place}

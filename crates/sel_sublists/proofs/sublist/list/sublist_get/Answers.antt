@@ -1,10 +1,9 @@
-use Rattle.std.proofs.Common.{◌≡◌, ◌≤◌, ◌∷◌, [], All, map, ◌∙◌, ap, sym, subst, arith, length, w64}
+use Rattle.std.proofs.Common.{◌∷◌, [], All, map, ◌∙◌, ap, sym, subst, arith, length, w64}
 use Rattle.std.proofs.lemmas.Int.{to_z-of_z}
 use Rattle.std.proofs.lemmas.Result.{err_from_is_err_and}
 use Rattle.sel_arrow.specs.Pieces.{rows_between}
-use Rattle.sel_arrow.specs.Rows.{rows, type_of}
+use Rattle.sel_arrow.specs.Rows.{rows}
 use Rattle.sel_arrow.specs.Value.{Null}
-use Rattle.sel_runs.specs.Need.{past, IsRefusal}
 use Rattle.sel_runs.specs.Picks.{pick, PickFits}
 use Rattle.sel_runs.specs.Runs.{expand}
 use Rattle.sel_sublists.specs.Elements.{child_pick}

@@ -1,4 +1,4 @@
-use Rattle.std.proofs.Common.{◌≡◌, ◌≤◌, ◌+◌, ℕ, pos, List, ◌++◌, ◌∷◌, [], ◌∙◌, map, ap, sym, arith, length, w64, to_z, of_z}
+use Rattle.std.proofs.Common.{◌≡◌, pos, ◌∙◌, map, ap, sym, arith, length, w64, to_z, of_z}
 use Rattle.std.specs.List.{range_with_len}
 use Rattle.std.specs.Option.{is_some, unwrap_or}
 use Rattle.std.proofs.lemmas.Int.{to_z-of_z}

@@ -1,7 +1,6 @@
 use Rattle.std.proofs.Common.{◌≡◌, ◌<◌, ◌+◌, ℤ, pos, ◌++◌, ◌∷◌, [], ◌∙◌, map, ap, sym, arith, w64, to_z}
 use Rattle.std.specs.List.{range_with_len}
 use Rattle.std.proofs.lemmas.Int.{ints}
-use Rattle.std.proofs.lemmas.List.FromFn.{map-range_with_len_more}
 use Rattle.std.proofs.lemmas.Result.{IfOk-weaker}
 use Rattle.sel_runs.proofs.JoinedRows.{map_same, offsets_of, same_numbers}
 use Rattle.sel_sublists.proofs.Units.{counts_rise, more_numbers}
