@@ -3,5 +3,6 @@ pub mod Hex
 pub mod Pieces
 pub mod Printed
 pub mod Progress
+pub mod ReadLists
 pub mod RowLemmas
 pub mod Steps

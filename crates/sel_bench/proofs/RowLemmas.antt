@@ -78,7 +78,7 @@ unfolding column_text
 text_of_some [] some = absurd (some refl)
 text_of_some (row ∷ rows) some = refl
 
-map_now : {Y : Type 0} (f : List ℕ → Y) (words : List (Bor (List ℕ))) → map (λ word. f word.now) words ≡ map f (map (λ word. word.now) words)
+pub map_now : {Y : Type 0} (f : List ℕ → Y) (words : List (Bor (List ℕ))) → map (λ word. f word.now) words ≡ map f (map (λ word. word.now) words)
 map_now f [] = refl
 map_now f (word ∷ words) = ap (λ ys. f word.now ∷ ys) (map_now f words)
 

@@ -3,6 +3,7 @@ use Rattle.std.specs.Prelude.{ℕ, ◌==◌, ◌&&◌, List, [], ◌∷◌, leng
 use Rattle.std.specs.List.{slice_split}
 use Rattle.std.specs.Str.{is_utf8}
 use Rattle.sel_bench.specs.Filter.{filter_words}
+use Rattle.sel_bench.specs.Get.{get_words}
 use Rattle.sel_bench.specs.Lines.{longest_line}
 use Rattle.sel_bench.specs.Pext.{pext_words}
 use Rattle.sel_bench.specs.Take.{take_words}
@@ -13,6 +14,7 @@ answer_of_words [] = None
 answer_of_words (name ∷ words) =
     if bytes_eq name (codes "filter") then filter_words words
     else if bytes_eq name (codes "take") then take_words words
+    else if bytes_eq name (codes "get") then get_words words
     else if bytes_eq name (codes "pext") then pext_words words
     else None
 

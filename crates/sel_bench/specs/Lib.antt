@@ -2,7 +2,9 @@ pub mod Columns
 pub mod Commands
 pub mod Counted
 pub mod Filter
+pub mod Get
 pub mod Lines
+pub mod Lists
 pub mod Numbers
 pub mod Output
 pub mod Pext

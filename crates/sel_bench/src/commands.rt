@@ -4,6 +4,7 @@ ghost use Rattle.sel_bench.specs.Commands.{answer_of_line, answer_of_words};
 ghost use Rattle.sel_bench.specs.Lines.{longest_line};
 
 use crate::filter::answer_filter;
+use crate::get::answer_get;
 use crate::pext::answer_pext;
 use crate::take::answer_take;
 use crate::words::split_at_each;
@@ -39,6 +40,9 @@ fn answer_words(alloc: Global, words: &[&str]) -> Result<Option<String>, AllocEr
     }
     if *name == "take" {
         return answer_take(alloc, words);
+    }
+    if *name == "get" {
+        return answer_get(alloc, words);
     }
     if *name == "pext" {
         return answer_pext(alloc, words);

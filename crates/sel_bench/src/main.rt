@@ -5,6 +5,8 @@ mod columns;
 mod commands;
 mod counted;
 mod filter;
+mod get;
+mod lists;
 mod numbers;
 mod pext;
 mod reading;

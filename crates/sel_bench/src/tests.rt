@@ -125,7 +125,7 @@ fn run_into(
 
 #[test]
 fn good_lines(rt: HostRuntime) -> Result<(), Fail> {
-    let rows: [(&[u8], &[u8]); 16] = [
+    let rows: [(&[u8], &[u8]); 23] = [
         (TWO_LINES, TWO_ANSWERS),
         (b"", b""),
         (b"filter - -", b"-\n"),
@@ -138,6 +138,13 @@ fn good_lines(rt: HostRuntime) -> Result<(), Fail> {
             b"-9223372036854775808,9223372036854775807,-1,0\n",
         ),
         (b"take 1,n,3 n,2,1,0,0\n", b"n,3,n,1,1\n"),
+        (b"get 1,2,3|4,5|6 -1\n", b"3,5,6\n"),
+        (b"get _|-|1,n 0\n", b"n,n,1\n"),
+        (b"get _|-|1,n 1\n", b"n,n,n\n"),
+        (b"get . 0\n", b"-\n"),
+        (b"get 1 -9223372036854775808\n", b"n\n"),
+        (b"get n 0\n", b"n\n"),
+        (b"get -|_ 0\n", b"n,n\n"),
         (b"pext b4 cc\n", b"9\n"),
         (b"pext 0 0\n", b"0\n"),
         (b"pext 00b4 cc\n", b"9\n"),
@@ -193,7 +200,7 @@ fn bad_lines(rt: HostRuntime) -> Result<(), Fail> {
         b"pext b4g cc",
         b"pext 0123456789abcdef0 cc",
         b"pext b4 000000000000000cc",
-        b"get 1,2,3|4,5|6 -1",
+        b"get 1||2 0",
         b"flatten 2 2:1,2,3,4 1:9",
         b"dict 0,1,2,n =a,n,=c",
     ];
