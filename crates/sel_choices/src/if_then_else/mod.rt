@@ -1,0 +1,3 @@
+//! Choices between columns by a mask.
+
+pub mod scalar;
