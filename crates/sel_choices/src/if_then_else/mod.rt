@@ -1,3 +1,4 @@
 //! Choices between columns by a mask.
 
+mod loops;
 pub mod scalar;
