@@ -1,3 +1,4 @@
 pub mod Blocks
 pub mod Chosen
 pub mod Parts
+pub mod Validities
