@@ -13,10 +13,11 @@ use sel_bits::bitmap::Bitmap;
 use sel_bits::faults::PolarsResult;
 use std::alloc::Global;
 
+mod boolean;
 mod loops;
-pub mod primitive;
+mod primitive;
 pub mod scalar;
-pub mod validity;
+mod validity;
 
 pub use validity::if_then_else_validity;
 
