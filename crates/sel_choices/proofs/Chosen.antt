@@ -1,7 +1,7 @@
 -- Choices between lists, part by part.
-use Rattle.std.proofs.Common.{◌≡◌, ℕ, suc, ◌+◌, ◌<◌, ◌≤◌, ◌∙◌, sym, refl, ap, arith, List, [], ◌∷◌, ◌++◌, length, get_or, take, drop, replicate, Bool, false}
+use Rattle.std.proofs.Common.{◌≡◌, ℕ, zero, suc, ◌+◌, ◌<◌, ◌≤◌, ◌∙◌, sym, refl, ap, arith, List, [], ◌∷◌, ◌++◌, length, get_or, take, drop, replicate, map, Bool}
 use Rattle.std.specs.Prelude.{if◌then◌else◌}
-use Rattle.std.proofs.Math.ListN.{set, drop_of_length-le}
+use Rattle.std.proofs.Math.ListN.{set, drop_of_length-le, get_or-map}
 use Rattle.std.proofs.Math.Seq.{take-add, drop-cons, drop-append-add}
 use Rattle.std.proofs.lemmas.List.{append_assoc, append-nil, drop-drop, length-drop, length-take, length-replicate, get_or-replicate, set_split, take-append-le, take_all}
 use Rattle.sel_bits.specs.Words.{bits, is_set}
@@ -131,3 +131,18 @@ module _ {A : Type 0} (n mask : ℕ) (base out : List A) (i : ℕ) (size : lengt
   all_rows_of_two x y was =
       all_rows (replicate n x) (replicate n y) (length-replicate n x) (length-replicate n y) was
       ∙ sym (repeated_both (bits n mask) x y ∙ ap (λ k. choose (bits n mask) (replicate k x) (replicate k y)) (length_bits n mask))
+
+any_default : {A : Type 0} → (l : List A) (i : ℕ) (d e : A) → i < length l → get_or l i d ≡ get_or l i e
+any_default [] i d e lt = absurd (omega arith)
+any_default (x ∷ l) zero d e lt = refl
+any_default (x ∷ l) (suc i) d e lt = any_default l i d e (omega arith)
+
+-- the same, of entries that are read out of the lists, those of the second one changed
+pub chosen_mapped : {A B : Type 0} → (n mask : ℕ) (f : B → A) (ts : List A) (fs : List B) (base out : List A) (i : ℕ) (d x : A) (e : B) → Rows n ts (map f fs) out → i < n → IsChosen (bits n mask) ts (map f fs) base i out
+    → x ≡ (if is_set mask i then get_or ts i d else f (get_or fs i e)) → IsChosen (bits n mask) ts (map f fs) base (i + 1) (set out i x)
+chosen_mapped n mask f ts fs base out i d x e rows lt was x_is =
+    let trues = rows.trues in
+    let falses = rows.falses in
+    let t = get_or ts i d in
+    let y = f (get_or fs i e) in
+    chosen_row n mask ts (map f fs) base out i t y x rows lt was (any_default ts i d t (omega arith)) (sym (get_or-map f fs i e) ∙ any_default (map f fs) i (f e) y (omega arith)) x_is

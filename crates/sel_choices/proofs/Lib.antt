@@ -2,4 +2,5 @@ pub mod BitChoices
 pub mod Blocks
 pub mod Chosen
 pub mod Parts
+pub mod Placed
 pub mod Validities

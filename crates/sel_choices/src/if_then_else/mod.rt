@@ -18,6 +18,7 @@ mod loops;
 mod primitive;
 pub mod scalar;
 mod validity;
+pub mod view;
 
 pub use validity::if_then_else_validity;
 
