@@ -1,8 +1,8 @@
 -- Views that are chosen over the data buffers of both sides.
-use Rattle.std.proofs.Common.{◌≡◌, ℕ, zero, suc, ◌+◌, ◌≤◌, ◌<◌, ◌∙◌, sym, refl, ap, arith, List, [], ◌∷◌, ◌++◌, length, map, get_or, take, drop, replicate, Bool, true, false, ◌&&◌}
+use Rattle.std.proofs.Common.{◌≡◌, ℕ, zero, suc, ◌+◌, ◌-◌, ◌≤◌, ◌<◌, ◌∙◌, sym, refl, ap, arith, List, [], ◌∷◌, ◌++◌, length, map, get_or, take, drop, replicate, Bool, true, false, ◌&&◌}
 use Rattle.std.specs.Prelude.{leb, ltb, ◌==◌, ◌⊎◌, IfErr, Result, if◌then◌else◌}
 use Rattle.std.specs.List.{list_all, slice_range}
-use Rattle.std.proofs.lemmas.Bool.{leb-true}
+use Rattle.std.proofs.lemmas.Bool.{leb-false, leb-true, le-leb, lt-leb, lt-ltb, eq-eqb}
 use Rattle.std.proofs.lemmas.List.{append-nil, get_or_append_left, get_or-append-add, length-append, take_all}
 use Rattle.sel_bits.specs.declared.faults.Limit.{Limit}
 use Rattle.sel_bits.specs.declared.faults.PolarsError.{PolarsError}
@@ -61,7 +61,7 @@ all_chosen_of_two p ms x y a b = ap (list_all p) (repeated_both ms x y) ∙ all_
 pub front_behind : {A : Type 0} → (d : A) (xs ys : List A) → Behind d (xs ++ ys) xs 0
 front_behind d xs ys i inside =
     let here : i + 0 ≡ i = omega arith in
-    (omega (arith, length-append xs ys), ap (λ k. get_or (xs ++ ys) k d) here ∙ get_or_append_left xs ys i d inside)
+    (omega (arith, length-append xs ys), ap (λ k. get_or (xs ++ ys) k d) here ∙ get_or_append_left xs ys d i inside)
 
 pub back_behind : {A : Type 0} → (d : A) (xs ys : List A) → Behind d (xs ++ ys) ys (length xs)
 back_behind d xs ys i inside =
@@ -109,4 +109,76 @@ views_rise own k (view ∷ views) placed room =
       where
         decided : (b : Bool) → is_inline view ≡ b → can_rise k view ≡ true
         decided true e = rw e refl
-        decided false e = rw e ?
+        decided false e = rw e (le-leb (view.buffer_idx + k) 4294967295 (room_to_raise own view k 4294967295 there room (leb-false view.length 12 e)))
+
+-- ---- the view of a scalar
+
+module _ (all : List (List ℕ)) (bytes : List ℕ) (k : ℕ) (view : View) (is : view ≡ view_of bytes k 0) (there : 12 < length bytes → (k < length all) × (get_or all k [] ≡ bytes)) where
+  as_long : (view_of bytes k 0).length ≡ length bytes
+  as_long = decided (leb (length bytes) 12) refl
+    where
+      decided : (b : Bool) → leb (length bytes) 12 ≡ b → (view_of bytes k 0).length ≡ length bytes
+      decided true e = rw e refl
+      decided false e = rw e refl
+
+  lies_inline : leb (length bytes) 12 ≡ true → is_inline view ≡ true
+  lies_inline e = ap (λ (v : View). leb v.length 12) is ∙ ap (λ n. leb n 12) as_long ∙ e
+
+  abbrev far : View
+  far = record { length = length bytes; prefix = word_at bytes 0; buffer_idx = k; offset = 0 }
+
+  lies_far : leb (length bytes) 12 ≡ false → view ≡ far
+  lies_far e = is ∙ rw e refl
+
+  named : leb (length bytes) 12 ≡ false → slice_range (get_or all k []) 0 (0 + length bytes) ≡ bytes
+  named e = ap (λ l. slice_range l 0 (0 + length bytes)) (there (leb-false (length bytes) 12 e)).1 ∙ whole
+    where
+      whole : slice_range bytes 0 (0 + length bytes) ≡ bytes
+      whole = let same : 0 + length bytes - 0 ≡ length bytes = omega arith in ap (λ n. take n bytes) same ∙ take_all (length bytes) bytes (omega arith)
+
+  pub scalar_placed : is_placed all view ≡ true
+  scalar_placed = decided (leb (length bytes) 12) refl
+    where
+      decided : (b : Bool) → leb (length bytes) 12 ≡ b → is_placed all view ≡ true
+      decided true e = inline_placed all view (lies_inline e)
+      decided false e =
+          let found = there (leb-false (length bytes) 12 e) in
+          let enough : leb (0 + length bytes) (length (get_or all k [])) ≡ true = le-leb (0 + length bytes) (length (get_or all k [])) (omega (arith, ap length found.1)) in
+          let start : (word_at bytes 0 == word_at (slice_range (get_or all k []) 0 (0 + length bytes)) 0) ≡ true = ap (λ l. word_at bytes 0 == word_at l 0) (named e) ∙ eq-eqb (word_at bytes 0) (word_at bytes 0) refl in
+          ap (is_placed all) (lies_far e) ∙ far_placed all far e
+          ∙ both (ltb k (length all) && leb (0 + length bytes) (length (get_or all k []))) _ (both (ltb k (length all)) _ (lt-ltb k (length all) found.0) enough) start
+
+  pub scalar_value : (length bytes ≤ 12 → inline_bytes view ≡ bytes) → view_value all view ≡ Bytes bytes
+  scalar_value inline = decided (leb (length bytes) 12) refl
+    where
+      decided : (b : Bool) → leb (length bytes) 12 ≡ b → view_value all view ≡ Bytes bytes
+      decided true e = inline_bytes_value (lies_inline e) ∙ ap Bytes (inline (leb-true (length bytes) 12 e))
+        where
+          inline_bytes_value : is_inline view ≡ true → view_value all view ≡ Bytes (inline_bytes view)
+          inline_bytes_value d = rw d refl
+      decided false e = ap (view_value all) (lies_far e) ∙ far_value all far e ∙ ap Bytes (named e)
+
+-- a scalar's data buffer, where it has one, stands behind those of a column
+pub scalar_there : (before : List (List ℕ)) (bytes : List ℕ) → 12 < length bytes → (length before < length (before ++ scalar_buffers bytes)) × (get_or (before ++ scalar_buffers bytes) (length before) [] ≡ bytes)
+scalar_there before bytes long =
+    let one : scalar_buffers bytes ≡ bytes ∷ [] = rw (is_long bytes long) refl in
+    let here : length before + 0 ≡ length before = omega arith in (
+      omega (arith, length-append before (scalar_buffers bytes), ap length one),
+      ap (λ l. get_or (before ++ l) (length before) []) one ∙ ap (λ n. get_or (before ++ bytes ∷ []) n []) (sym here) ∙ get_or-append-add before (bytes ∷ []) 0 [],
+    )
+  where
+    is_long : (bytes : List ℕ) → 12 < length bytes → leb (length bytes) 12 ≡ false
+    is_long bytes long = lt-leb (length bytes) 12 long
+
+-- ---- refusals
+
+pub refused_more : (P Q : Limit → Type 0) (fault : PolarsError) → ((limit : Limit) → P limit → Q limit) → IsRefusal P fault → IsRefusal Q fault
+refused_more P Q OutOfMemory f p = p
+refused_more P Q (SizeLimit limit) f p = f limit p
+refused_more P Q ComputeError f p = p
+
+-- the first of two scalars
+pub first_there : (first second : List ℕ) → 12 < length first → (0 < length (scalar_buffers first ++ scalar_buffers second)) × (get_or (scalar_buffers first ++ scalar_buffers second) 0 [] ≡ first)
+first_there first second long =
+    let one : scalar_buffers first ≡ first ∷ [] = rw (lt-leb (length first) 12 long) refl in
+    (omega (arith, length-append (scalar_buffers first) (scalar_buffers second), ap length one), ap (λ l. get_or (l ++ scalar_buffers second) 0 []) one)

@@ -19,6 +19,7 @@ mod primitive;
 pub mod scalar;
 mod validity;
 pub mod view;
+mod view_columns;
 
 pub use validity::if_then_else_validity;
 

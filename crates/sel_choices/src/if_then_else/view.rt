@@ -1,30 +1,18 @@
-//! Choices between columns of views, over the data buffers of both sides.
+//! The choice of up to 64 views by the bits of one word, and of any number of them.
 
-ghost use Rattle.std.specs.Prelude.{◌≡◌, ◌≤◌, ◌<◌, ◌+◌, ◌++◌, length, map, max, IfOk, IfErr, IsTrue, if◌then◌else◌};
+ghost use Rattle.std.specs.Prelude.{◌≡◌, ◌≤◌, ◌<◌, length, map, IfOk, IfErr, IsTrue, if◌then◌else◌};
 ghost use Rattle.sel_bits.specs.Words.{bits, is_set};
-ghost use Rattle.sel_arrow.specs.Columns.{binview_rows};
-ghost use Rattle.sel_arrow.specs.Value.{Bytes};
-ghost use Rattle.sel_choices.specs.Choose.{choose, choose_of_two, choose_one, choose_or_one};
-ghost use Rattle.sel_choices.specs.Sides.{IsRefusal};
-ghost use Rattle.sel_choices.specs.ViewSides.{all_rise, can_rise, raised, scalar_buffers, IsPastViews};
+ghost use Rattle.sel_choices.specs.Choose.{choose, choose_or_one};
+ghost use Rattle.sel_choices.specs.ViewSides.{all_rise, can_rise, raised};
 
-use crate::if_then_else::loops::{
-    BlockChoice, choose_blocks, choose_one_false, choose_one_true, choose_two,
-};
+use crate::if_then_else::loops::{BlockChoice, choose_blocks};
 use crate::if_then_else::scalar::if_then_else_broadcast_false_scalar_64;
-use crate::if_then_else::validity::if_then_else_validity;
-use sel_arrow::array::Array;
-use sel_arrow::binview::{BinaryViewArray, MOST_BUFFERS};
 use sel_arrow::view::{INLINE_BYTES, View};
 use sel_bits::aligned_words::AlignedWords;
 use sel_bits::bitmap::Bitmap;
-use sel_bits::buffer::Buffer;
-use sel_bits::faults::{Limit, PolarsError, PolarsResult};
-use sel_runs::view::{push_buffers, raised_view};
+use sel_bits::faults::{PolarsError, PolarsResult};
+use sel_runs::view::raised_view;
 use std::alloc::Global;
-
-/// The most bytes that a view can name.
-const MOST_VIEW_BYTES: usize = 4_294_967_295;
 
 /// Writes place `i` of `out`, for each of its at most 64 places: the view of `if_true` there where bit `i` of the mask is set, else that of
 /// `if_false`, raised by the offset.
@@ -129,4 +117,29 @@ impl BlockChoice for BetweenViews<'_> {
         let if_false = &self.if_false[at..at + out.len()];
         if_then_else_view_rest(mask, if_true, if_false, out, self.offset)
     }
+}
+
+/// The choice between two lists of views, the second over data buffers that stand behind `offset` others. Refuses only for want of
+/// memory.
+pub(crate) fn choose_views(
+    alloc: Global,
+    mask: &Bitmap,
+    if_true: &[View],
+    if_false: &[View],
+    offset: u32,
+) -> PolarsResult<Vec<View>>
+    requires true_side { length if_true.now ≡ length mask.now.bits }
+    requires false_side { length if_false.now ≡ length mask.now.bits }
+    requires rises { IsTrue (all_rise offset if_false.now) }
+    ensures items { IfOk result (λ out. out.items ≡ choose mask.now.bits if_true.now (map (λ view. raised view offset) if_false.now)) }
+    ensures refusal { IfErr result (λ fault. fault ≡ PolarsError.OutOfMemory) }
+{
+    let mut out = Vec::from_slice(alloc, if_false)?;
+    let choice = BetweenViews {
+        if_true,
+        if_false,
+        offset,
+    };
+    choose_blocks(&choice, &mut AlignedWords::new(mask), &mut out);
+    Ok(out)
 }
