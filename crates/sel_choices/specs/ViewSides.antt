@@ -1,10 +1,14 @@
 -- What the sides of a choice between columns of views bring, and the limits that they pass.
-use Rattle.std.specs.Prelude.{ℕ, ◌+◌, ◌<◌, ◌||◌, ◌⊎◌, max, Bool, List, [], ◌∷◌, length, nat_le, if◌then◌else◌}
+use Rattle.std.specs.Prelude.{ℕ, ◌+◌, ◌<◌, ◌||◌, ◌⊎◌, max, Bool, Vec, String, string_bytes, List, [], ◌∷◌, length, nat_le, if◌then◌else◌}
+use Rattle.std.specs.Global.{Global}
 use Rattle.std.specs.List.{list_all}
+use Rattle.std.specs.Vec.{vec_items}
 use Rattle.sel_bits.specs.declared.faults.Limit.{Limit}
 use Rattle.sel_bits.specs.declared.faults.Limit.TheVariants.{Buffers as BufferLimit, ViewBytes as ViewByteLimit}
 use Rattle.sel_arrow.specs.Value.{Value}
 use Rattle.sel_arrow.specs.Views.{is_inline}
+use Rattle.sel_arrow.specs.declared.binview.BinaryViewArray.{BinaryViewArray}
+use Rattle.sel_arrow.specs.declared.utf8view.Utf8ViewArray.{Utf8ViewArray}
 use Rattle.sel_arrow.specs.declared.view.View.{View}
 use Rattle.sel_choices.specs.Sides.{Side, column, scalar, past_flat}
 pub use Rattle.sel_runs.specs.Raised.{raised}
@@ -16,6 +20,14 @@ can_rise k view = is_inline view || nat_le (view.buffer_idx + k) 4294967295
 -- whether it can at each view (own)
 abbrev pub all_rise : ℕ → List View → Bool
 all_rise k views = list_all (can_rise k) views
+
+-- the data buffers of a column of bytes (Arrow columnar format: variable-size binary view layout)
+abbrev pub binview_buffers : BinaryViewArray → List (List ℕ)
+binview_buffers array = array.buffers
+
+-- the same of a column of texts (Arrow columnar format: variable-size binary view layout)
+abbrev pub utf8view_buffers : Utf8ViewArray → List (List ℕ)
+utf8view_buffers array = array.bytes.buffers
 
 -- the data buffers of a scalar: one of its bytes, but none where they lie in its view (Arrow columnar format: up to 12 bytes lie inline)
 abbrev pub scalar_buffers : List ℕ → List (List ℕ)
@@ -41,3 +53,10 @@ IsPastViews buffers bytes _ = ⊥
 abbrev pub past_views : {C S : Type 0} → (C → List (List ℕ)) → (S → List ℕ) → Side C S → Side C S → List Value → Limit → Type 0
 past_views of_column of_scalar if_true if_false rows limit =
     past_flat if_true if_false rows limit ⊎ IsPastViews (length (side_buffers of_column of_scalar if_true) + length (side_buffers of_column of_scalar if_false)) (max (scalar_size of_scalar if_true) (scalar_size of_scalar if_false)) limit
+
+-- the same of columns of bytes, and of texts (own)
+abbrev pub past_binview : Side BinaryViewArray (Vec ℕ Global) → Side BinaryViewArray (Vec ℕ Global) → List Value → Limit → Type 0
+past_binview if_true if_false rows limit = past_views binview_buffers vec_items if_true if_false rows limit
+
+abbrev pub past_utf8view : Side Utf8ViewArray (String Global) → Side Utf8ViewArray (String Global) → List Value → Limit → Type 0
+past_utf8view if_true if_false rows limit = past_views utf8view_buffers string_bytes if_true if_false rows limit

@@ -13,10 +13,12 @@ use sel_bits::bitmap::Bitmap;
 use sel_bits::faults::PolarsResult;
 use std::alloc::Global;
 
+mod binview;
 mod boolean;
 mod loops;
 mod primitive;
 pub mod scalar;
+mod utf8view;
 mod validity;
 pub mod view;
 mod view_columns;
