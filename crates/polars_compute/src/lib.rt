@@ -5,3 +5,5 @@ pub mod filter;
 pub mod gather;
 pub mod laws;
 mod runs;
+
+pub use sel_choices::if_then_else;

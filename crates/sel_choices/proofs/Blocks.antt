@@ -1,7 +1,7 @@
 -- What a choice keeps from word to word of its mask.
-use Rattle.std.proofs.Common.{◌≡◌, ℕ, ◌+◌, ◌<◌, ◌≤◌, ◌∙◌, sym, ap, arith, List, Bool, ◌++◌, length, take, drop}
+use Rattle.std.proofs.Common.{◌≡◌, ℕ, ◌+◌, ◌<◌, ◌≤◌, ◌∙◌, sym, ap, arith, List, ◌++◌, length, take, drop}
 use borrow.Rule.Slice.PartMut.{put_mid}
-use Rattle.std.proofs.lemmas.List.{append_assoc, take-append-drop, take_all, length-take, length-drop}
+use Rattle.std.proofs.lemmas.List.{append_assoc, take-append-drop}
 use Rattle.std.proofs.lemmas.Slice.{take-put_mid, drop-put_mid}
 use Rattle.sel_bits.specs.Bits.{Bits}
 use Rattle.sel_bits.specs.Reading.{WordReading, after_word, next_bits, next_count, reached}
@@ -9,7 +9,7 @@ use Rattle.sel_bits.specs.Words.{bits, word_of}
 use Rattle.sel_bits.proofs.Packed.{bits_word_of}
 use Rattle.sel_bits.proofs.WordsOf.{length_part}
 use Rattle.sel_choices.specs.Choose.{choose}
-use Rattle.sel_choices.proofs.Chosen.{AsLong, IsChosen, chosen_all, chosen_block, chosen_none, length-choose}
+use Rattle.sel_choices.proofs.Chosen.{AsLong, IsChosen, chosen_all, chosen_block, length-choose}
 
 -- the entries of the words that were given out are chosen
 pub record IsBegun {A : Type 0} (mask : Bits) (ts fs base : List A) (reading : WordReading) (at : ℕ) (out : List A) : Type 0 where

@@ -3,7 +3,7 @@ use Rattle.std.proofs.Common.{◌≡◌, ℕ, zero, suc, ◌+◌, ◌<◌, ◌�
 use Rattle.std.specs.Prelude.{if◌then◌else◌}
 use Rattle.std.proofs.Math.ListN.{set, drop_of_length-le, get_or-map}
 use Rattle.std.proofs.Math.Seq.{take-add, drop-cons, drop-append-add}
-use Rattle.std.proofs.lemmas.List.{append_assoc, append-nil, drop-drop, length-drop, length-take, length-replicate, get_or-replicate, set_split, take-append-le, take_all}
+use Rattle.std.proofs.lemmas.List.{append_assoc, append-nil, drop-drop, length-take, length-replicate, get_or-replicate, set_split, take-append-le, take_all}
 use Rattle.sel_bits.specs.Words.{bits, is_set}
 use Rattle.sel_bits.proofs.Packs.{length_bits, get_bits}
 use Rattle.sel_choices.specs.Choose.{choose, choose_one, choose_or_one, choose_of_two}

@@ -1,8 +1,7 @@
 -- Choices with a single value, over parts of lists.
-use Rattle.std.proofs.Common.{◌≡◌, ℕ, ◌+◌, ◌-◌, ◌^◌, ◌<◌, ◌≤◌, ◌∙◌, sym, refl, ap, arith, List, [], ◌∷◌, ◌++◌, length, take, drop, replicate, map, Bool, true, false, not}
-use Rattle.std.specs.Prelude.{if◌then◌else◌}
+use Rattle.std.proofs.Common.{◌≡◌, ℕ, ◌+◌, ◌^◌, ◌<◌, ◌≤◌, ◌∙◌, sym, refl, ap, arith, List, [], ◌∷◌, ◌++◌, length, take, drop, replicate, map, Bool, true, false, not}
 use Rattle.std.specs.Int.{bit_not, w64}
-use Rattle.std.proofs.lemmas.List.{same_lists, take-append-le, take_all, length-map, length-take, length-drop, length-replicate, get_or-replicate, get_or-take, get_or-drop, get_or-map}
+use Rattle.std.proofs.lemmas.List.{same_lists, take-append-le, take_all, length-map, length-replicate, get_or-replicate, get_or-take, get_or-drop, get_or-map}
 use Rattle.sel_bits.specs.Words.{bits}
 use Rattle.sel_bits.proofs.Combining.{set_not}
 use Rattle.sel_bits.proofs.Packs.{length_bits, get_bits}

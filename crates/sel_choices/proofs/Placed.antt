@@ -1,17 +1,17 @@
 -- Views that are chosen over the data buffers of both sides.
 use Rattle.std.proofs.Common.{◌≡◌, ℕ, zero, suc, ◌+◌, ◌-◌, ◌≤◌, ◌<◌, ◌∙◌, sym, refl, ap, arith, List, [], ◌∷◌, ◌++◌, length, map, get_or, take, drop, replicate, Bool, true, false, ◌&&◌}
-use Rattle.std.specs.Prelude.{leb, ltb, ◌==◌, ◌⊎◌, IfErr, Result, if◌then◌else◌}
+use Rattle.std.specs.Prelude.{leb, ltb, ◌==◌}
 use Rattle.std.specs.List.{list_all, slice_range}
 use Rattle.std.proofs.lemmas.Bool.{leb-false, leb-true, le-leb, lt-leb, lt-ltb, eq-eqb}
-use Rattle.std.proofs.lemmas.List.{append-nil, get_or_append_left, get_or-append-add, length-append, take_all}
+use Rattle.std.proofs.lemmas.List.{get_or_append_left, get_or-append-add, length-append, take_all}
 use Rattle.sel_bits.specs.declared.faults.Limit.{Limit}
 use Rattle.sel_bits.specs.declared.faults.PolarsError.{PolarsError}
 use Rattle.sel_bits.specs.declared.faults.PolarsError.TheVariants.{OutOfMemory, SizeLimit, ComputeError}
-use Rattle.sel_arrow.specs.Value.{Value, Bytes}
+use Rattle.sel_arrow.specs.Value.{Bytes}
 use Rattle.sel_arrow.specs.Views.{inline_bytes, is_inline, is_placed, view_of, view_value, word_at}
 use Rattle.sel_arrow.specs.declared.view.View.{View}
 use Rattle.sel_arrow.proofs.Lists.{all_at, all_more, all_of_them, none_at, all_part, both, and_first, and_second}
-use Rattle.sel_runs.proofs.Raising.{Behind, all_raised, raised_values, inline_value, inline_placed, far_value, far_placed, room_to_raise}
+use Rattle.sel_runs.proofs.Raising.{Behind, all_raised, raised_values, inline_placed, far_value, far_placed, room_to_raise}
 use Rattle.sel_choices.specs.Choose.{choose, choose_one, choose_or_one, choose_of_two}
 use Rattle.sel_choices.specs.Sides.{IsRefusal}
 use Rattle.sel_choices.specs.ViewSides.{all_rise, can_rise, raised, scalar_buffers}

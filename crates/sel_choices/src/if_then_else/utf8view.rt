@@ -13,8 +13,8 @@ use crate::if_then_else::IfThenElseKernel;
 use crate::if_then_else::view_columns::{
     choose_bytes, choose_bytes_false, choose_bytes_true, choose_columns,
 };
-use sel_arrow::utf8view::Utf8ViewArray;
 use sel_arrow::datatype::ArrowDataType;
+use sel_arrow::utf8view::Utf8ViewArray;
 use sel_arrow::validity::MOST_ROWS;
 use sel_bits::bitmap::Bitmap;
 use sel_bits::faults::{Limit, PolarsError, PolarsResult};

@@ -1,4 +1,4 @@
-use Rattle.std.proofs.Common.{◌≡◌, ◌<◌, ◌∙◌, length, map, refl, arith}
+use Rattle.std.proofs.Common.{◌<◌, ◌∙◌, length, map, refl, arith}
 use Rattle.std.proofs.lemmas.List.{length-map}
 use Rattle.sel_arrow.specs.declared.view.View.{View}
 use Rattle.sel_arrow.proofs.Lists.{all_at}

@@ -1,6 +1,5 @@
 use Rattle.std.proofs.Common.{◌≡◌, ◌∙◌, length, ap, arith, None}
 use Rattle.sel_arrow.specs.Value.{Truth}
-use Rattle.sel_choices.specs.Choose.{choose_or_one}
 use Rattle.sel_choices.specs.Validity.{chosen_validity}
 use Rattle.sel_choices.proofs.Validities.{choice_covers, length-choose_or_one, no_validity, rows_choose_or_one, side_covers, side_long}
 use Rattle.sel_choices.proofs.if_then_else.boolean.BooleanArrayIfThenElseKernel.if_then_else_broadcast_false.Goals as goal

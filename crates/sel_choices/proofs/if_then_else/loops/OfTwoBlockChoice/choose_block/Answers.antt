@@ -1,4 +1,4 @@
-use Rattle.std.proofs.Common.{◌≡◌, ◌+◌, ◌≤◌, ◌∙◌, length, arith}
+use Rattle.std.proofs.Common.{◌+◌, ◌≤◌, ◌∙◌, length, arith}
 use Rattle.std.proofs.lemmas.List.{length-replicate}
 use Rattle.sel_choices.proofs.Parts.{part_of_two}
 use Rattle.sel_choices.proofs.if_then_else.loops.OfTwoBlockChoice.choose_block.Goals as goal

@@ -1,5 +1,4 @@
 use Rattle.std.proofs.Common.{◌≡◌, ◌+◌, ◌-◌, ◌∙◌, length, take, drop, ap, arith}
-use Rattle.std.proofs.lemmas.List.{length-replicate}
 use Rattle.std.specs.Int.{bit_not, w64}
 use Rattle.sel_bits.specs.Words.{bits}
 use Rattle.sel_choices.specs.Choose.{choose_or_one}

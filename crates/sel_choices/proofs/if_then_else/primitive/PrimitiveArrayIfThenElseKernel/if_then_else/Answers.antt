@@ -1,7 +1,6 @@
-use Rattle.std.proofs.Common.{◌≡◌, ◌∙◌, List, length, sym, ap, arith}
-use Rattle.std.specs.Prelude.{Bool}
+use Rattle.std.proofs.Common.{◌≡◌, ◌∙◌, length, sym, ap, arith}
 use Rattle.sel_bits.specs.Reading.{WordReading}
-use Rattle.sel_arrow.specs.Value.{Value, Number}
+use Rattle.sel_arrow.specs.Value.{Number}
 use Rattle.sel_choices.specs.Choose.{choose}
 use Rattle.sel_choices.specs.Validity.{chosen_validity}
 use Rattle.sel_choices.proofs.Chosen.{length-choose}

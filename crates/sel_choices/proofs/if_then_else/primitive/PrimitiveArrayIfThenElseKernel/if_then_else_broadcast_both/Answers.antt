@@ -1,6 +1,5 @@
-use Rattle.std.proofs.Common.{◌≡◌, ◌∙◌, length, sym, ap, arith, refl, None}
+use Rattle.std.proofs.Common.{◌≡◌, ◌∙◌, length, ap, arith, refl, None}
 use Rattle.sel_arrow.specs.Value.{Number}
-use Rattle.sel_choices.specs.Choose.{choose_of_two}
 use Rattle.sel_choices.proofs.Validities.{length-choose_of_two, no_validity, rows_choose_of_two}
 use Rattle.sel_choices.proofs.if_then_else.primitive.PrimitiveArrayIfThenElseKernel.if_then_else_broadcast_both.Goals as goal
 

@@ -1,4 +1,4 @@
-use Rattle.std.proofs.Common.{◌≡◌, ◌∙◌, length, sym, ap, arith, None}
+use Rattle.std.proofs.Common.{◌≡◌, ◌∙◌, length, ap, arith, None}
 use Rattle.sel_arrow.specs.Value.{Number}
 use Rattle.sel_choices.specs.Choose.{choose_one}
 use Rattle.sel_choices.specs.Validity.{chosen_validity}

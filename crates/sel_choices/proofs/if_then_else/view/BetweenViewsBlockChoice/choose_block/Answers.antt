@@ -1,4 +1,4 @@
-use Rattle.std.proofs.Common.{◌≡◌, ◌+◌, ◌-◌, ◌∙◌, length, map, take, drop, sym, ap, arith}
+use Rattle.std.proofs.Common.{◌≡◌, ◌+◌, ◌-◌, ◌∙◌, length, map, take, drop, ap, arith}
 use Rattle.sel_bits.specs.Words.{bits}
 use Rattle.sel_arrow.specs.declared.view.View.{View}
 use Rattle.sel_arrow.proofs.Lists.{all_part}
