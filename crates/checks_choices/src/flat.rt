@@ -58,7 +58,11 @@ fn long_rows(alloc: Global) -> Result<(Vec<Option<i32>>, Vec<Option<i32>>), Fail
     for i in 0u8..135 {
         let row = i32::from(i);
         rows.push(Some(row))?;
-        chosen.push(Some(if long_bit(usize::from(i) + 3) { row } else { 1000 }))?;
+        chosen.push(Some(if long_bit(usize::from(i) + 3) {
+            row
+        } else {
+            1000
+        }))?;
     }
     Ok((rows, chosen))
 }
