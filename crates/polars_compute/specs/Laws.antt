@@ -1,8 +1,8 @@
 -- What filters, takes and choices have to do with one another, for all lists whose elements are of one type, and what
 -- becomes of dictionaries.
 use Rattle.std.specs.Prelude.{◌≡◌, ℕ, Bool, true, List, [], ◌∷◌, length, map, replicate, Option, None, not, count_by, if◌then◌else◌}
-use Rattle.sel_bits.specs.Choose.{choose}
 use Rattle.sel_arrow.specs.Value.{Value, is_null}
+use Rattle.sel_choices.specs.Choose.{choose, choose_one, choose_or_one, choose_of_two}
 use Rattle.polars_compute.specs.Dictionary.{decode, propagated_keys, valid_values}
 use Rattle.polars_compute.specs.Select.{select, kept}
 use Rattle.polars_compute.specs.Pick.{pick, place_pick, all_within}
@@ -32,23 +32,6 @@ abbrev pub KeepsOtherwise : Type 0 → Type 0
 KeepsOtherwise A = (ms : List Bool) (ts fs : List A) → length ts ≡ length ms → length fs ≡ length ms → select (choose ms ts fs) (map not ms) ≡ select fs (map not ms)
 
 -- ---- choices with a single value, which stands at every position
-
--- entry i is x where entry i of ms is true, else fs's (own)
-abbrev pub choose_one : {A : Type 0} → List Bool → A → List A → List A
-choose_one [] x fs = []
-choose_one (m ∷ ms) x [] = []
-choose_one (m ∷ ms) x (f ∷ fs) = (if m then x else f) ∷ choose_one ms x fs
-
--- entry i is ts's where entry i of ms is true, else x (own)
-abbrev pub choose_or_one : {A : Type 0} → List Bool → List A → A → List A
-choose_or_one [] ts x = []
-choose_or_one (m ∷ ms) [] x = []
-choose_or_one (m ∷ ms) (t ∷ ts) x = (if m then t else x) ∷ choose_or_one ms ts x
-
--- entry i is x where entry i of ms is true, else y (own)
-abbrev pub choose_of_two : {A : Type 0} → List Bool → A → A → List A
-choose_of_two [] x y = []
-choose_of_two (m ∷ ms) x y = (if m then x else y) ∷ choose_of_two ms x y
 
 -- a choice with a single value where the mask is true is that with the list that repeats it, as long as the mask (own)
 abbrev pub RepeatsThen : Type 0 → Type 0

@@ -7,4 +7,5 @@ pub mod laws;
 pub mod propagate_dictionary;
 mod runs;
 
+pub use sel_choices::if_then_else;
 pub use sel_flatten::horizontal_flatten;

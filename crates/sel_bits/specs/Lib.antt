@@ -5,5 +5,6 @@ pub mod Offsets
 pub mod Packing
 pub mod Place
 pub mod Ranges
+pub mod Reading
 pub mod Signs
 pub mod Words

@@ -1,6 +1,7 @@
 //! Faults, shared bitmaps and buffers, and the number types that columns hold.
 #![tactic(auto)]
 
+pub mod aligned_words;
 pub mod bitmap;
 pub mod buffer;
 pub mod faults;

@@ -83,13 +83,13 @@ moved v k = record { length = v.length; prefix = v.prefix; buffer_idx = v.buffer
 far_moved : (v : View) (k : ℕ) → is_inline v ≡ false → raised v k ≡ moved v k
 far_moved v k e = rw e refl
 
-inline_value : (all some : List (List ℕ)) (v : View) → is_inline v ≡ true → view_value all v ≡ view_value some v
+pub inline_value : (all some : List (List ℕ)) (v : View) → is_inline v ≡ true → view_value all v ≡ view_value some v
 inline_value all some v e = rw e refl
 
-inline_placed : (all : List (List ℕ)) (v : View) → is_inline v ≡ true → is_placed all v ≡ true
+pub inline_placed : (all : List (List ℕ)) (v : View) → is_inline v ≡ true → is_placed all v ≡ true
 inline_placed all v e = rw e refl
 
-far_value : (bs : List (List ℕ)) (v : View) → is_inline v ≡ false → view_value bs v ≡ Bytes (slice_range (get_or bs v.buffer_idx []) v.offset (v.offset + v.length))
+pub far_value : (bs : List (List ℕ)) (v : View) → is_inline v ≡ false → view_value bs v ≡ Bytes (slice_range (get_or bs v.buffer_idx []) v.offset (v.offset + v.length))
 far_value bs v e = rw e refl
 
 -- whether bytes have those that a view names, and whether its prefix is the first four of them
@@ -99,7 +99,7 @@ fits bytes v = leb (v.offset + v.length) (length bytes)
 abbrev starts : List ℕ → View → Bool
 starts bytes v = v.prefix == word_at (slice_range bytes v.offset (v.offset + v.length)) 0
 
-far_placed : (bs : List (List ℕ)) (v : View) → is_inline v ≡ false → is_placed bs v ≡ ((ltb v.buffer_idx (length bs) && fits (get_or bs v.buffer_idx []) v) && starts (get_or bs v.buffer_idx []) v)
+pub far_placed : (bs : List (List ℕ)) (v : View) → is_inline v ≡ false → is_placed bs v ≡ ((ltb v.buffer_idx (length bs) && fits (get_or bs v.buffer_idx []) v) && starts (get_or bs v.buffer_idx []) v)
 far_placed bs v e = rw e refl
 
 -- its data buffer is there
@@ -149,7 +149,7 @@ raised_values all some k (v ∷ vs) behind placed =
     let rest = raised_values all some k vs behind (and_second (is_placed some v) (list_all (is_placed some) vs) placed) in
     ap (λ x. x ∷ map (view_value all) (map (λ v. raised v k) vs)) here ∙ ap (λ l. view_value some v ∷ l) rest
 
-all_raised : (all some : List (List ℕ)) (k : ℕ) (vs : List View) → Behind [] all some k → list_all (is_placed some) vs ≡ true → list_all (is_placed all) (map (λ v. raised v k) vs) ≡ true
+pub all_raised : (all some : List (List ℕ)) (k : ℕ) (vs : List View) → Behind [] all some k → list_all (is_placed some) vs ≡ true → list_all (is_placed all) (map (λ v. raised v k) vs) ≡ true
 all_raised all some k [] behind placed = refl
 all_raised all some k (v ∷ vs) behind placed =
     both (is_placed all (raised v k)) (list_all (is_placed all) (map (λ v. raised v k) vs)) (raised_placed all some k v behind (and_first (is_placed some v) (list_all (is_placed some) vs) placed))

@@ -145,8 +145,8 @@ fn push_raised(
     Ok(())
 }
 
-// The view over data buffers that stand behind `before` others.
-fn raised_view(view: View, before: u32) -> View
+/// The view over data buffers that stand behind `before` others.
+pub fn raised_view(view: View, before: u32) -> View
     requires { 12 < view.length → view.buffer_idx + before ≤ 4294967295 }
     ensures { result ≡ raised view before }
 {
@@ -201,8 +201,8 @@ fn joined_buffers(alloc: Global, sources: &[&BinaryViewArray]) -> PolarsResult<B
     Buffer::from_vec(joined)
 }
 
-// Puts data buffers behind the others. Refuses only for want of memory.
-fn push_buffers(joined: &mut Vec<Buffer<u8>>, buffers: &[Buffer<u8>]) -> PolarsResult<()>
+/// Puts data buffers behind the others. Refuses only for want of memory.
+pub fn push_buffers(joined: &mut Vec<Buffer<u8>>, buffers: &[Buffer<u8>]) -> PolarsResult<()>
     ensures buffers { OnOk result (joined.new.items ≡ joined.old.items ++ buffers.now) }
     ensures refusal { IfErr result (λ fault. fault ≡ PolarsError.OutOfMemory) }
 {

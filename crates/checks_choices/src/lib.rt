@@ -1,0 +1,11 @@
+//! The worked rows of choices, as tests.
+#![tactic(auto)]
+
+#[cfg(test)]
+mod flat;
+#[cfg(test)]
+mod masks;
+#[cfg(test)]
+mod views;
+#[cfg(test)]
+mod words;

@@ -1,0 +1,33 @@
+//! What several files share: masks, and columns as long as they are.
+
+ghost use Rattle.std.specs.Prelude.{◌≡◌, ◌==◌, length};
+
+use sel_arrow::array::Array;
+use sel_bits::bitmap::Bitmap;
+use std::alloc::Global;
+use std::test::Fail;
+
+/// The bits that places have in a long mask.
+pub fn long_bit(i: usize) -> bool {
+    i % 3 == 0 || i % 7 == 1
+}
+
+/// A mask of 135 rows whose first bit is the fourth of its bytes: 61 bits, a word of 64 and 10 more. Row `i` has the bit of place `i + 3`.
+pub fn long_mask(alloc: Global) -> Result<Bitmap, Fail> {
+    let mut bits = Vec::new(alloc);
+    for i in 0..138 {
+        bits.push(long_bit(i))?;
+    }
+    let bitmap = Bitmap::from_bools(alloc, &bits)?;
+    if bitmap.len() != 138 {
+        return Err(Fail::from("another length"));
+    }
+    Ok(bitmap.sliced(3, 135))
+}
+
+/// Whether the column is as long as the mask.
+pub fn is_as_long<A: Array>(column: &A, mask: &Bitmap) -> bool
+    ensures { result ≡ (length (A.rows column.now) == length mask.now.bits) }
+{
+    column.len() == mask.len()
+}

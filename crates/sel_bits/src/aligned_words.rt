@@ -1,0 +1,81 @@
+//! A reader that gives the bits of a bitmap out in words, and counts them.
+
+ghost use Rattle.std.specs.Prelude.{◌≡◌, ◌+◌, ◌/◌, ◌<◌, ◌≤◌, length, IfSome, IfNone, MatchOption};
+ghost use Rattle.sel_bits.specs.Reading.{after_word, next_bits, next_count, reached};
+ghost use Rattle.sel_bits.specs.Words.{word_of};
+
+use crate::bitmap::Bitmap;
+use std::marker::Model;
+
+/// The bits of a bitmap in words, each of which ends at a boundary of 64 bits in the shared bytes, or with the last bit.
+///
+/// Contracts see the bitmap and how many words were given out.
+#[derive(Drop)]
+pub struct AlignedWords<'a> {
+    bitmap: &'a Bitmap,
+    at: usize,
+    words: u64,
+}
+
+impl<'a> Model for AlignedWords<'a> {
+    ghost use Rattle.std.specs.Prelude.{◌≡◌, ◌+◌, ◌/◌, ◌≤◌, length};
+    ghost use Rattle.sel_bits.specs.Reading.{WordReading, bits_in};
+
+    ghost Value = { WordReading };
+
+    ghost view = { λ r. record { source = r.bitmap.now; words_read = r.words } };
+
+    ghost invariant = { λ r. (r.at ≡ bits_in r.bitmap.now r.words) × (r.words ≤ length r.bitmap.now.bits / 64 + 2) };
+}
+
+impl<'a> AlignedWords<'a> {
+    /// A reader of this bitmap, unread.
+    pub fn new(bitmap: &'a Bitmap) -> AlignedWords<'a>
+        ensures { result ≡ record { source = bitmap.now; words_read = 0 } }
+    {
+        AlignedWords {
+            bitmap,
+            at: 0,
+            words: 0,
+        }
+    }
+
+    /// How many bits the bitmap has.
+    pub fn len(&self) -> usize
+        ensures { result ≡ length self.now.source.bits }
+    {
+        let bitmap = self.bitmap;
+        bitmap.len()
+    }
+
+    /// How many words were given out: at most two more than the bitmap has whole words.
+    pub fn words_read(&self) -> u64
+        ensures count { result ≡ self.now.words_read }
+        ensures bound { result ≤ length self.now.source.bits / 64 + 2 }
+    {
+        self.words
+    }
+
+    /// The next word, with zeros above its bits, and how many bits it has; none behind the last bit. The first word has the bits up
+    /// to a boundary of 64 in the shared bytes, the others 64 bits, the last one those that are left.
+    pub fn next(&mut self) -> Option<(u64, usize)>
+        ensures some { IfSome result (λ _. reached self.old < length self.old.source.bits) }
+        ensures end { IfNone result (reached self.old ≡ length self.old.source.bits) }
+        ensures word { IfSome result (λ part. part.0 ≡ word_of (next_bits self.old)) }
+        ensures count { IfSome result (λ part. part.1 ≡ next_count self.old) }
+        ensures after { MatchOption result (self.new ≡ self.old) (λ _. self.new ≡ after_word self.old) }
+        ensures bound { self.new.words_read ≤ length self.new.source.bits / 64 + 2 }
+    {
+        let bitmap = self.bitmap;
+        let left = bitmap.len() - self.at;
+        if left == 0 {
+            return None;
+        }
+        let room = 64 - (bitmap.offset() + self.at) % 64;
+        let count = left.min(room);
+        let word = bitmap.word_at(self.at, count);
+        self.at += count;
+        self.words += 1;
+        Some((word, count))
+    }
+}

@@ -1,0 +1,7 @@
+pub mod BitChoices
+pub mod Blocks
+pub mod Chosen
+pub mod JoinedViews
+pub mod Parts
+pub mod Placed
+pub mod Validities

@@ -1,0 +1,16 @@
+use Rattle.std.proofs.Common.{length, replicate, refl, arith}
+use Rattle.std.proofs.lemmas.List.{length-replicate}
+use Rattle.sel_choices.proofs.Chosen.{all_rows_or_one, chosen_row, repeated_at}
+use Rattle.sel_choices.proofs.if_then_else.scalar.if_then_else_broadcast_false_scalar_rest.Goals as goal
+
+pub loop-i-preserved : goal.loop-i-preserved
+loop-i-preserved g c =
+    let n = length c.args.out.now in
+    let y = c.args.if_false in
+    chosen_row n c.args.mask c.args.if_true.now (replicate n y) c.args.out.now c.loop-i.out c.loop-i.i c.index-if_true-i.result y c.chosen.result
+    (record { trues = c.requires.true_side; falses = length-replicate n y; places = c.loop-i.auto.out })
+    c.loop-i-test.true c.loop-i.invariant c.index-if_true-i.is (repeated_at n c.loop-i.i y c.loop-i-test.true) c.chosen.ensures
+
+pub returns : goal.returns
+returns g c =
+    all_rows_or_one (length c.args.out.now) c.args.mask c.args.out.now c.loop-i.out c.loop-i.i refl (omega arith) c.args.if_true.now c.args.if_false c.requires.true_side c.loop-i.invariant

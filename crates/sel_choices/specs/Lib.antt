@@ -1,0 +1,4 @@
+pub mod Choose
+pub mod Sides
+pub mod Validity
+pub mod ViewSides

@@ -1,0 +1,12 @@
+-- The validity of a choice.
+use Rattle.std.specs.Prelude.{Bool, List, length, Option, Some, None}
+use Rattle.sel_bits.specs.Bits.{Bits}
+use Rattle.sel_runs.specs.Validity.{bits_for}
+use Rattle.sel_choices.specs.Choose.{choose}
+
+-- which rows are valid: those whose side is valid there; a side without a validity is, and none is told where neither side has one
+-- (Arrow columnar format: validity bitmaps)
+abbrev pub chosen_validity : List Bool → Option Bits → Option Bits → Option (List Bool)
+chosen_validity ms None None = None
+chosen_validity ms None (Some f) = Some (choose ms (bits_for (length ms) None) f.bits)
+chosen_validity ms (Some t) if_false = Some (choose ms t.bits (bits_for (length ms) if_false))

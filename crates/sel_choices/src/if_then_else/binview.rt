@@ -1,0 +1,104 @@
+//! Choices between columns of bytes that views name.
+
+ghost use Rattle.std.specs.Prelude.{◌≡◌, ◌≤◌, ◌++◌, length, max, IfOk, IfErr};
+ghost use Rattle.std.specs.Vec.{vec_items};
+ghost use Rattle.sel_arrow.specs.Columns.{binview_rows};
+ghost use Rattle.sel_arrow.specs.DataType.{shape_of};
+ghost use Rattle.sel_arrow.specs.Shape.{of_binary_view};
+ghost use Rattle.sel_arrow.specs.Value.{Bytes};
+ghost use Rattle.sel_choices.specs.Choose.{choose, choose_of_two, choose_one, choose_or_one};
+ghost use Rattle.sel_choices.specs.Sides.{IsRefusal, column, scalar};
+ghost use Rattle.sel_choices.specs.ViewSides.{binview_buffers, past_binview, scalar_buffers};
+
+use crate::if_then_else::IfThenElseKernel;
+use crate::if_then_else::view_columns::{
+    choose_bytes, choose_bytes_false, choose_bytes_true, choose_columns,
+};
+use sel_arrow::binview::BinaryViewArray;
+use sel_arrow::datatype::ArrowDataType;
+use sel_arrow::validity::MOST_ROWS;
+use sel_bits::bitmap::Bitmap;
+use sel_bits::faults::{Limit, PolarsError, PolarsResult};
+use std::alloc::Global;
+
+/// The data buffers of a choice are those of the true side and then those of the false side; a scalar of more than 12 bytes has one,
+/// behind those of a column. Refused are more than 4,294,967,295 of them, and a scalar of more bytes than that.
+impl IfThenElseKernel for BinaryViewArray {
+    ghost use Rattle.std.specs.Prelude.{◌≡◌, ⊤};
+
+    type Scalar = Vec<u8>;
+
+    ghost scalar_row = { λ s. Bytes (vec_items s) };
+
+    ghost fits = { λ _ _. ⊤ };
+
+    ghost is_own = { λ type. type ≡ of_binary_view };
+
+    ghost past = { λ _ if_true if_false rows limit. past_binview if_true if_false rows limit };
+
+    fn if_then_else(
+        alloc: Global,
+        mask: &Bitmap,
+        if_true: &BinaryViewArray,
+        if_false: &BinaryViewArray,
+    ) -> PolarsResult<BinaryViewArray>
+        requires true_side { length (binview_rows if_true.now) ≡ length mask.now.bits }
+        requires false_side { length (binview_rows if_false.now) ≡ length mask.now.bits }
+        ensures rows { IfOk result (λ chosen. binview_rows chosen ≡ choose mask.now.bits (binview_rows if_true.now) (binview_rows if_false.now)) }
+        ensures buffers { IfOk result (λ chosen. binview_buffers chosen ≡ binview_buffers if_true.now ++ binview_buffers if_false.now) }
+        ensures refusal { IfErr result (IsRefusal (past_binview (column if_true.now) (column if_false.now) (choose mask.now.bits (binview_rows if_true.now) (binview_rows if_false.now)))) }
+    {
+        choose_columns(alloc, mask, if_true, if_false)
+    }
+
+    fn if_then_else_broadcast_true(
+        alloc: Global,
+        mask: &Bitmap,
+        if_true: &Vec<u8>,
+        if_false: &BinaryViewArray,
+    ) -> PolarsResult<BinaryViewArray>
+        requires { length (binview_rows if_false.now) ≡ length mask.now.bits }
+        ensures rows { IfOk result (λ chosen. binview_rows chosen ≡ choose_one mask.now.bits (Bytes (vec_items if_true.now)) (binview_rows if_false.now)) }
+        ensures buffers { IfOk result (λ chosen. binview_buffers chosen ≡ binview_buffers if_false.now ++ scalar_buffers (vec_items if_true.now)) }
+        ensures bytes { IfOk result (λ _. length (vec_items if_true.now) ≤ 4294967295) }
+        ensures refusal { IfErr result (IsRefusal (past_binview (scalar if_true.now) (column if_false.now) (choose_one mask.now.bits (Bytes (vec_items if_true.now)) (binview_rows if_false.now)))) }
+    {
+        choose_bytes_true(alloc, mask, if_true.as_slice(), if_false)
+    }
+
+    fn if_then_else_broadcast_false(
+        alloc: Global,
+        mask: &Bitmap,
+        if_true: &BinaryViewArray,
+        if_false: &Vec<u8>,
+    ) -> PolarsResult<BinaryViewArray>
+        requires { length (binview_rows if_true.now) ≡ length mask.now.bits }
+        ensures rows { IfOk result (λ chosen. binview_rows chosen ≡ choose_or_one mask.now.bits (binview_rows if_true.now) (Bytes (vec_items if_false.now))) }
+        ensures buffers { IfOk result (λ chosen. binview_buffers chosen ≡ binview_buffers if_true.now ++ scalar_buffers (vec_items if_false.now)) }
+        ensures bytes { IfOk result (λ _. length (vec_items if_false.now) ≤ 4294967295) }
+        ensures refusal { IfErr result (IsRefusal (past_binview (column if_true.now) (scalar if_false.now) (choose_or_one mask.now.bits (binview_rows if_true.now) (Bytes (vec_items if_false.now))))) }
+    {
+        choose_bytes_false(alloc, mask, if_true, if_false.as_slice())
+    }
+
+    fn if_then_else_broadcast_both(
+        alloc: Global,
+        dtype: ArrowDataType,
+        mask: &Bitmap,
+        if_true: &Vec<u8>,
+        if_false: &Vec<u8>,
+    ) -> PolarsResult<BinaryViewArray>
+        requires { shape_of dtype ≡ of_binary_view }
+        ensures rows { IfOk result (λ chosen. binview_rows chosen ≡ choose_of_two mask.now.bits (Bytes (vec_items if_true.now)) (Bytes (vec_items if_false.now))) }
+        ensures dtype { IfOk result (λ _. shape_of dtype ≡ of_binary_view) }
+        ensures buffers { IfOk result (λ chosen. binview_buffers chosen ≡ scalar_buffers (vec_items if_true.now) ++ scalar_buffers (vec_items if_false.now)) }
+        ensures bytes { IfOk result (λ _. max (length (vec_items if_true.now)) (length (vec_items if_false.now)) ≤ 4294967295) }
+        ensures refusal { IfErr result (IsRefusal (past_binview (scalar if_true.now) (scalar if_false.now) (choose_of_two mask.now.bits (Bytes (vec_items if_true.now)) (Bytes (vec_items if_false.now))))) }
+    {
+        drop(dtype);
+        if mask.len() > MOST_ROWS {
+            return Err(PolarsError::SizeLimit(Limit::Rows));
+        }
+        choose_bytes(alloc, mask, if_true.as_slice(), if_false.as_slice())
+    }
+}

@@ -1,0 +1,103 @@
+//! Choices between columns by a mask: row k is that of the one side where bit k of the mask is true, else that of the other.
+
+ghost use Rattle.std.specs.Prelude.{◌≡◌, List, length, IfOk, IfErr};
+ghost use Rattle.sel_bits.specs.declared.faults.Limit.{Limit};
+ghost use Rattle.sel_arrow.specs.Shape.{Shape};
+ghost use Rattle.sel_arrow.specs.Value.{Value};
+ghost use Rattle.sel_choices.specs.Choose.{choose, choose_of_two, choose_one, choose_or_one};
+ghost use Rattle.sel_choices.specs.Sides.{Side, column, scalar, IsRefusal};
+
+use sel_arrow::array::Array;
+use sel_arrow::datatype::ArrowDataType;
+use sel_bits::bitmap::Bitmap;
+use sel_bits::faults::PolarsResult;
+use std::alloc::Global;
+
+mod binview;
+mod boolean;
+mod loops;
+mod primitive;
+pub mod scalar;
+mod utf8view;
+mod validity;
+pub mod view;
+mod view_columns;
+
+pub use validity::if_then_else_validity;
+
+/// Columns between which a mask can choose, row by row. A scalar is one row that stands at every position.
+///
+/// Each call refuses for want of memory, and else only where a limit of `past` is passed.
+pub trait IfThenElseKernel: Sized + Array {
+    ghost use Rattle.sel_arrow.specs.DataType.{shape_of};
+
+    /// A single value that can stand for a whole side.
+    type Scalar;
+
+    /// The row that a scalar is.
+    ghost scalar_row: { Self.Scalar → Value };
+
+    /// That a scalar can be a row of a column of this type.
+    ghost fits: { Self.Scalar → Shape → Type 0 };
+
+    /// That a column of this type can be such a column.
+    ghost is_own: { Shape → Type 0 };
+
+    /// Which limits a choice between the two sides passes that is of this type and has these rows.
+    ghost past: { Shape → Side Self Self.Scalar → Side Self Self.Scalar → List Value → Limit → Type 0 };
+
+    /// The choice between two columns of one type.
+    fn if_then_else(
+        alloc: Global,
+        mask: &Bitmap,
+        if_true: &Self,
+        if_false: &Self,
+    ) -> PolarsResult<Self>
+        requires true_side { length (Self.rows if_true.now) ≡ length mask.now.bits }
+        requires false_side { length (Self.rows if_false.now) ≡ length mask.now.bits }
+        requires alike { Self.shape if_true.now ≡ Self.shape if_false.now }
+        ensures rows { IfOk result (λ chosen. Self.rows chosen ≡ choose mask.now.bits (Self.rows if_true.now) (Self.rows if_false.now)) }
+        ensures dtype { IfOk result (λ chosen. Self.shape chosen ≡ Self.shape if_true.now) }
+        ensures refusal { IfErr result (IsRefusal (past (Self.shape if_true.now) (column if_true.now) (column if_false.now) (choose mask.now.bits (Self.rows if_true.now) (Self.rows if_false.now)))) };
+
+    /// The choice between a scalar and a column.
+    fn if_then_else_broadcast_true(
+        alloc: Global,
+        mask: &Bitmap,
+        if_true: &Self::Scalar,
+        if_false: &Self,
+    ) -> PolarsResult<Self>
+        requires false_side { length (Self.rows if_false.now) ≡ length mask.now.bits }
+        requires fits { fits if_true.now (Self.shape if_false.now) }
+        ensures rows { IfOk result (λ chosen. Self.rows chosen ≡ choose_one mask.now.bits (scalar_row if_true.now) (Self.rows if_false.now)) }
+        ensures dtype { IfOk result (λ chosen. Self.shape chosen ≡ Self.shape if_false.now) }
+        ensures refusal { IfErr result (IsRefusal (past (Self.shape if_false.now) (scalar if_true.now) (column if_false.now) (choose_one mask.now.bits (scalar_row if_true.now) (Self.rows if_false.now)))) };
+
+    /// The choice between a column and a scalar.
+    fn if_then_else_broadcast_false(
+        alloc: Global,
+        mask: &Bitmap,
+        if_true: &Self,
+        if_false: &Self::Scalar,
+    ) -> PolarsResult<Self>
+        requires true_side { length (Self.rows if_true.now) ≡ length mask.now.bits }
+        requires fits { fits if_false.now (Self.shape if_true.now) }
+        ensures rows { IfOk result (λ chosen. Self.rows chosen ≡ choose_or_one mask.now.bits (Self.rows if_true.now) (scalar_row if_false.now)) }
+        ensures dtype { IfOk result (λ chosen. Self.shape chosen ≡ Self.shape if_true.now) }
+        ensures refusal { IfErr result (IsRefusal (past (Self.shape if_true.now) (column if_true.now) (scalar if_false.now) (choose_or_one mask.now.bits (Self.rows if_true.now) (scalar_row if_false.now)))) };
+
+    /// The choice between two scalars, as a column of this type with a row for each bit of the mask.
+    fn if_then_else_broadcast_both(
+        alloc: Global,
+        dtype: ArrowDataType,
+        mask: &Bitmap,
+        if_true: &Self::Scalar,
+        if_false: &Self::Scalar,
+    ) -> PolarsResult<Self>
+        requires own { is_own (shape_of dtype) }
+        requires true_fits { fits if_true.now (shape_of dtype) }
+        requires false_fits { fits if_false.now (shape_of dtype) }
+        ensures rows { IfOk result (λ chosen. Self.rows chosen ≡ choose_of_two mask.now.bits (scalar_row if_true.now) (scalar_row if_false.now)) }
+        ensures dtype { IfOk result (λ chosen. Self.shape chosen ≡ shape_of dtype) }
+        ensures refusal { IfErr result (IsRefusal (past (shape_of dtype) (scalar if_true.now) (scalar if_false.now) (choose_of_two mask.now.bits (scalar_row if_true.now) (scalar_row if_false.now)))) };
+}

@@ -1,0 +1,120 @@
+//! The choice of up to 64 values by the bits of one word, and of any number of them by the words of a reader.
+
+ghost use Rattle.std.specs.Prelude.{◌≡◌, ◌≤◌, ◌<◌, ◌+◌, ◌/◌, length, IfOk, IfErr, OnOk, if◌then◌else◌};
+ghost use Rattle.sel_bits.specs.Words.{bits, is_set};
+ghost use Rattle.sel_choices.specs.Choose.{choose, choose_of_two, choose_or_one};
+
+use crate::if_then_else::loops::choose_words;
+use sel_bits::aligned_words::AlignedWords;
+use sel_bits::faults::{PolarsError, PolarsResult};
+use std::alloc::Global;
+
+/// Writes place `i` of `out`, for each of its at most 64 places: the value of `if_true` there where bit `i` of the mask is set, else
+/// that of `if_false`.
+pub fn if_then_else_scalar_rest<T: Copy>(mask: u64, if_true: &[T], if_false: &[T], out: &mut [T])
+    requires few { length out.old ≤ 64 }
+    requires true_side { length if_true.now ≡ length out.old }
+    requires false_side { length if_false.now ≡ length out.old }
+    ensures { out.new ≡ choose (bits (length out.old) mask) if_true.now if_false.now }
+{
+    for i in 0..out.len() {
+        out[i] = chosen(mask, i, if_true[i], if_false[i]);
+    }
+}
+
+/// The same where one value stands for the whole false side.
+pub fn if_then_else_broadcast_false_scalar_rest<T: Copy>(
+    mask: u64,
+    if_true: &[T],
+    if_false: T,
+    out: &mut [T],
+)
+    requires few { length out.old ≤ 64 }
+    requires true_side { length if_true.now ≡ length out.old }
+    ensures { out.new ≡ choose_or_one (bits (length out.old) mask) if_true.now if_false }
+{
+    for i in 0..out.len() {
+        out[i] = chosen(mask, i, if_true[i], if_false);
+    }
+}
+
+/// The same where one value stands for each side.
+pub fn if_then_else_broadcast_both_scalar_rest<T: Copy>(
+    mask: u64,
+    if_true: T,
+    if_false: T,
+    out: &mut [T],
+)
+    requires { length out.old ≤ 64 }
+    ensures { out.new ≡ choose_of_two (bits (length out.old) mask) if_true if_false }
+{
+    for i in 0..out.len() {
+        out[i] = chosen(mask, i, if_true, if_false);
+    }
+}
+
+/// `if_then_else_scalar_rest` of 64 places.
+pub fn if_then_else_scalar_64<T: Copy>(
+    mask: u64,
+    if_true: &[T; 64],
+    if_false: &[T; 64],
+    out: &mut [T; 64],
+)
+    ensures { out.new ≡ choose (bits 64 mask) if_true.now if_false.now }
+{
+    if_then_else_scalar_rest(mask, if_true, if_false, out)
+}
+
+/// `if_then_else_broadcast_false_scalar_rest` of 64 places.
+pub fn if_then_else_broadcast_false_scalar_64<T: Copy>(
+    mask: u64,
+    if_true: &[T; 64],
+    if_false: T,
+    out: &mut [T; 64],
+)
+    ensures { out.new ≡ choose_or_one (bits 64 mask) if_true.now if_false }
+{
+    if_then_else_broadcast_false_scalar_rest(mask, if_true, if_false, out)
+}
+
+/// `if_then_else_broadcast_both_scalar_rest` of 64 places.
+pub fn if_then_else_broadcast_both_scalar_64<T: Copy>(
+    mask: u64,
+    if_true: T,
+    if_false: T,
+    out: &mut [T; 64],
+)
+    ensures { out.new ≡ choose_of_two (bits 64 mask) if_true if_false }
+{
+    if_then_else_broadcast_both_scalar_rest(mask, if_true, if_false, out)
+}
+
+/// The choice between two lists of any length, by the words of a reader that is unread and as long as they are; after it the reader has
+/// given out at most two words more than the rows make whole ones. Refuses only for want of memory, and then has read in part.
+pub fn if_then_else_words<T: Copy>(
+    alloc: Global,
+    mask: &mut AlignedWords<'_>,
+    if_true: &[T],
+    if_false: &[T],
+) -> PolarsResult<Vec<T>>
+    requires unread { mask.old.words_read ≡ 0 }
+    requires true_side { length if_true.now ≡ length mask.old.source.bits }
+    requires false_side { length if_false.now ≡ length mask.old.source.bits }
+    ensures items { IfOk result (λ out. out.items ≡ choose mask.old.source.bits if_true.now if_false.now) }
+    ensures words { OnOk result (mask.new.words_read ≤ length mask.old.source.bits / 64 + 2) }
+    ensures refusal { IfErr result (λ fault. fault ≡ PolarsError.OutOfMemory) }
+{
+    choose_words(alloc, mask, if_true, if_false)
+}
+
+/// The one value where bit `i` of the mask is set, else the other.
+fn chosen<T: Copy>(mask: u64, i: usize, if_true: T, if_false: T) -> T
+    requires { i < 64 }
+    ensures { result ≡ (if is_set mask i then if_true else if_false) }
+{
+    if (mask >> i) & 1 == 1 {
+        if_true
+    } else {
+        if_false
+    }
+}

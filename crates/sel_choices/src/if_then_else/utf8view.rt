@@ -1,0 +1,111 @@
+//! Choices between columns of texts that views name.
+
+ghost use Rattle.std.specs.Prelude.{◌≡◌, ◌≤◌, ◌++◌, length, max, IfOk, IfErr, string_bytes};
+ghost use Rattle.sel_arrow.specs.Columns.{utf8view_rows};
+ghost use Rattle.sel_arrow.specs.DataType.{shape_of};
+ghost use Rattle.sel_arrow.specs.Shape.{of_utf8_view};
+ghost use Rattle.sel_arrow.specs.Value.{Bytes};
+ghost use Rattle.sel_choices.specs.Choose.{choose, choose_of_two, choose_one, choose_or_one};
+ghost use Rattle.sel_choices.specs.Sides.{IsRefusal, column, scalar};
+ghost use Rattle.sel_choices.specs.ViewSides.{utf8view_buffers, past_utf8view, scalar_buffers};
+
+use crate::if_then_else::IfThenElseKernel;
+use crate::if_then_else::view_columns::{
+    choose_bytes, choose_bytes_false, choose_bytes_true, choose_columns,
+};
+use sel_arrow::datatype::ArrowDataType;
+use sel_arrow::utf8view::Utf8ViewArray;
+use sel_arrow::validity::MOST_ROWS;
+use sel_bits::bitmap::Bitmap;
+use sel_bits::faults::{Limit, PolarsError, PolarsResult};
+use std::alloc::Global;
+
+/// The data buffers of a choice are those of the true side and then those of the false side; a scalar of more than 12 bytes has one,
+/// behind those of a column. Refused are more than 4,294,967,295 of them, and a scalar of more bytes than that.
+impl IfThenElseKernel for Utf8ViewArray {
+    ghost use Rattle.std.specs.Prelude.{◌≡◌, ⊤};
+
+    type Scalar = String;
+
+    ghost scalar_row = { λ s. Bytes (string_bytes s) };
+
+    ghost fits = { λ _ _. ⊤ };
+
+    ghost is_own = { λ type. type ≡ of_utf8_view };
+
+    ghost past = { λ _ if_true if_false rows limit. past_utf8view if_true if_false rows limit };
+
+    fn if_then_else(
+        alloc: Global,
+        mask: &Bitmap,
+        if_true: &Utf8ViewArray,
+        if_false: &Utf8ViewArray,
+    ) -> PolarsResult<Utf8ViewArray>
+        requires true_side { length (utf8view_rows if_true.now) ≡ length mask.now.bits }
+        requires false_side { length (utf8view_rows if_false.now) ≡ length mask.now.bits }
+        ensures rows { IfOk result (λ chosen. utf8view_rows chosen ≡ choose mask.now.bits (utf8view_rows if_true.now) (utf8view_rows if_false.now)) }
+        ensures buffers { IfOk result (λ chosen. utf8view_buffers chosen ≡ utf8view_buffers if_true.now ++ utf8view_buffers if_false.now) }
+        ensures refusal { IfErr result (IsRefusal (past_utf8view (column if_true.now) (column if_false.now) (choose mask.now.bits (utf8view_rows if_true.now) (utf8view_rows if_false.now)))) }
+    {
+        let bytes = choose_columns(alloc, mask, &if_true.bytes, &if_false.bytes)?;
+        Ok(Utf8ViewArray { bytes })
+    }
+
+    fn if_then_else_broadcast_true(
+        alloc: Global,
+        mask: &Bitmap,
+        if_true: &String,
+        if_false: &Utf8ViewArray,
+    ) -> PolarsResult<Utf8ViewArray>
+        requires { length (utf8view_rows if_false.now) ≡ length mask.now.bits }
+        ensures rows { IfOk result (λ chosen. utf8view_rows chosen ≡ choose_one mask.now.bits (Bytes (string_bytes if_true.now)) (utf8view_rows if_false.now)) }
+        ensures buffers { IfOk result (λ chosen. utf8view_buffers chosen ≡ utf8view_buffers if_false.now ++ scalar_buffers (string_bytes if_true.now)) }
+        ensures bytes { IfOk result (λ _. length (string_bytes if_true.now) ≤ 4294967295) }
+        ensures refusal { IfErr result (IsRefusal (past_utf8view (scalar if_true.now) (column if_false.now) (choose_one mask.now.bits (Bytes (string_bytes if_true.now)) (utf8view_rows if_false.now)))) }
+    {
+        let scalar = if_true.as_str().as_bytes();
+        let bytes = choose_bytes_true(alloc, mask, scalar, &if_false.bytes)?;
+        Ok(Utf8ViewArray { bytes })
+    }
+
+    fn if_then_else_broadcast_false(
+        alloc: Global,
+        mask: &Bitmap,
+        if_true: &Utf8ViewArray,
+        if_false: &String,
+    ) -> PolarsResult<Utf8ViewArray>
+        requires { length (utf8view_rows if_true.now) ≡ length mask.now.bits }
+        ensures rows { IfOk result (λ chosen. utf8view_rows chosen ≡ choose_or_one mask.now.bits (utf8view_rows if_true.now) (Bytes (string_bytes if_false.now))) }
+        ensures buffers { IfOk result (λ chosen. utf8view_buffers chosen ≡ utf8view_buffers if_true.now ++ scalar_buffers (string_bytes if_false.now)) }
+        ensures bytes { IfOk result (λ _. length (string_bytes if_false.now) ≤ 4294967295) }
+        ensures refusal { IfErr result (IsRefusal (past_utf8view (column if_true.now) (scalar if_false.now) (choose_or_one mask.now.bits (utf8view_rows if_true.now) (Bytes (string_bytes if_false.now))))) }
+    {
+        let scalar = if_false.as_str().as_bytes();
+        let bytes = choose_bytes_false(alloc, mask, &if_true.bytes, scalar)?;
+        Ok(Utf8ViewArray { bytes })
+    }
+
+    fn if_then_else_broadcast_both(
+        alloc: Global,
+        dtype: ArrowDataType,
+        mask: &Bitmap,
+        if_true: &String,
+        if_false: &String,
+    ) -> PolarsResult<Utf8ViewArray>
+        requires { shape_of dtype ≡ of_utf8_view }
+        ensures rows { IfOk result (λ chosen. utf8view_rows chosen ≡ choose_of_two mask.now.bits (Bytes (string_bytes if_true.now)) (Bytes (string_bytes if_false.now))) }
+        ensures dtype { IfOk result (λ _. shape_of dtype ≡ of_utf8_view) }
+        ensures buffers { IfOk result (λ chosen. utf8view_buffers chosen ≡ scalar_buffers (string_bytes if_true.now) ++ scalar_buffers (string_bytes if_false.now)) }
+        ensures bytes { IfOk result (λ _. max (length (string_bytes if_true.now)) (length (string_bytes if_false.now)) ≤ 4294967295) }
+        ensures refusal { IfErr result (IsRefusal (past_utf8view (scalar if_true.now) (scalar if_false.now) (choose_of_two mask.now.bits (Bytes (string_bytes if_true.now)) (Bytes (string_bytes if_false.now))))) }
+    {
+        drop(dtype);
+        if mask.len() > MOST_ROWS {
+            return Err(PolarsError::SizeLimit(Limit::Rows));
+        }
+        let first = if_true.as_str().as_bytes();
+        let second = if_false.as_str().as_bytes();
+        let bytes = choose_bytes(alloc, mask, first, second)?;
+        Ok(Utf8ViewArray { bytes })
+    }
+}

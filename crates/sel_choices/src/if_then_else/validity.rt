@@ -1,0 +1,34 @@
+//! Which rows of a choice are valid.
+#![tactic(auto, using(crate::proofs::Validities::validities))]
+
+ghost use Rattle.std.specs.Prelude.{◌≡◌, length, IfOk, IfErr};
+ghost use Rattle.std.specs.Option.{option_copied, option_map};
+ghost use Rattle.sel_arrow.specs.Masked.{Covers};
+ghost use Rattle.sel_choices.specs.Validity.{chosen_validity};
+
+use sel_bits::bitmap::Bitmap;
+use sel_bits::faults::{PolarsError, PolarsResult};
+use std::alloc::Global;
+
+/// The validity of a choice between rows with these validities, a missing one of which counts as all true: none where both are
+/// missing. Refuses only for want of memory.
+pub fn if_then_else_validity(
+    alloc: Global,
+    mask: &Bitmap,
+    if_true: Option<&Bitmap>,
+    if_false: Option<&Bitmap>,
+) -> PolarsResult<Option<Bitmap>>
+    requires true_side { Covers (option_copied if_true) (length mask.now.bits) }
+    requires false_side { Covers (option_copied if_false) (length mask.now.bits) }
+    ensures value { IfOk result (λ chosen. option_map (λ b. b.bits) chosen ≡ chosen_validity mask.now.bits (option_copied if_true.entry) (option_copied if_false.entry)) }
+    ensures refusal { IfErr result (λ fault. fault ≡ PolarsError.OutOfMemory) }
+{
+    match (if_true, if_false) {
+        (None, None) => Ok(None),
+        (None, Some(if_false)) => Ok(Some(mask.or(alloc, if_false)?)),
+        (Some(if_true), None) => Ok(Some(if_true.or_not(alloc, mask)?)),
+        (Some(if_true), Some(if_false)) => {
+            Ok(Some(Bitmap::choose(alloc, mask, if_true, if_false)?))
+        }
+    }
+}

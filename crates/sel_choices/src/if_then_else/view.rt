@@ -1,0 +1,145 @@
+//! The choice of up to 64 views by the bits of one word, and of any number of them.
+
+ghost use Rattle.std.specs.Prelude.{◌≡◌, ◌≤◌, ◌<◌, length, map, IfOk, IfErr, IsTrue, if◌then◌else◌};
+ghost use Rattle.sel_bits.specs.Words.{bits, is_set};
+ghost use Rattle.sel_choices.specs.Choose.{choose, choose_or_one};
+ghost use Rattle.sel_choices.specs.ViewSides.{all_rise, can_rise, raised};
+
+use crate::if_then_else::loops::{BlockChoice, choose_blocks};
+use crate::if_then_else::scalar::if_then_else_broadcast_false_scalar_64;
+use sel_arrow::view::{INLINE_BYTES, View};
+use sel_bits::aligned_words::AlignedWords;
+use sel_bits::bitmap::Bitmap;
+use sel_bits::faults::{PolarsError, PolarsResult};
+use sel_runs::view::raised_view;
+use std::alloc::Global;
+
+/// Writes place `i` of `out`, for each of its at most 64 places: the view of `if_true` there where bit `i` of the mask is set, else that of
+/// `if_false`, raised by the offset.
+pub fn if_then_else_view_rest(
+    mask: u64,
+    if_true: &[View],
+    if_false: &[View],
+    out: &mut [View],
+    false_buffer_idx_offset: u32,
+)
+    requires few { length out.old ≤ 64 }
+    requires true_side { length if_true.now ≡ length out.old }
+    requires false_side { length if_false.now ≡ length out.old }
+    requires rises { IsTrue (all_rise false_buffer_idx_offset if_false.now) }
+    ensures { out.new ≡ choose (bits (length out.old) mask) if_true.now (map (λ view. raised view false_buffer_idx_offset) if_false.now) }
+{
+    for i in 0..out.len() {
+        out[i] = chosen_view(mask, i, if_true[i], if_false[i], false_buffer_idx_offset);
+    }
+}
+
+/// `if_then_else_view_rest` of 64 places.
+pub fn if_then_else_view_64(
+    mask: u64,
+    if_true: &[View; 64],
+    if_false: &[View; 64],
+    out: &mut [View; 64],
+    false_buffer_idx_offset: u32,
+)
+    requires { IsTrue (all_rise false_buffer_idx_offset if_false.now) }
+    ensures { out.new ≡ choose (bits 64 mask) if_true.now (map (λ view. raised view false_buffer_idx_offset) if_false.now) }
+{
+    if_then_else_view_rest(mask, if_true, if_false, out, false_buffer_idx_offset)
+}
+
+/// Writes each of 64 places: the view of `if_true` there where the mask's bit is set, else the one view.
+pub fn if_then_else_broadcast_false_view_64(
+    mask: u64,
+    if_true: &[View; 64],
+    if_false: View,
+    out: &mut [View; 64],
+)
+    ensures { out.new ≡ choose_or_one (bits 64 mask) if_true.now if_false }
+{
+    if_then_else_broadcast_false_scalar_64(mask, if_true, if_false, out)
+}
+
+/// Whether the offset can be added to the number of each view's data buffer. Views of up to 12 bytes have none.
+#[tactic(auto, using(crate::proofs::Placed::all_views))]
+pub fn views_can_rise(views: &[View], by: u32) -> bool
+    ensures { result ≡ all_rise by views.now }
+{
+    for view in views {
+        if !can_rise(*view, by) {
+            return false;
+        }
+    }
+    true
+}
+
+/// Whether the offset can be added to the number of the view's data buffer.
+fn can_rise(view: View, by: u32) -> bool
+    ensures { result ≡ can_rise by view }
+{
+    view.length <= INLINE_BYTES || view.buffer_idx <= u32::MAX - by
+}
+
+/// The one view where bit `i` of the mask is set, else the other, raised by the offset.
+fn chosen_view(mask: u64, i: usize, if_true: View, if_false: View, offset: u32) -> View
+    requires place { i < 64 }
+    requires rises { IsTrue (can_rise offset if_false) }
+    ensures { result ≡ (if is_set mask i then if_true else raised if_false offset) }
+{
+    if (mask >> i) & 1 == 1 {
+        if_true
+    } else {
+        raised_view(if_false, offset)
+    }
+}
+
+/// Two lists of views, the second over data buffers that stand behind others.
+#[derive(Drop)]
+struct BetweenViews<'a> {
+    if_true: &'a [View],
+    if_false: &'a [View],
+    offset: u32,
+    ghost rises: { IsTrue (all_rise offset if_false.now) },
+}
+
+impl BlockChoice for BetweenViews<'_> {
+    ghost use Rattle.std.specs.Prelude.{map};
+    ghost use Rattle.sel_choices.specs.ViewSides.{raised};
+
+    type Item = View;
+
+    ghost trues = { λ c. c.if_true.now };
+
+    ghost falses = { λ c. map (λ view. raised view c.offset) c.if_false.now };
+
+    fn choose_block(&self, mask: u64, at: usize, out: &mut [View]) {
+        let if_true = &self.if_true[at..at + out.len()];
+        let if_false = &self.if_false[at..at + out.len()];
+        if_then_else_view_rest(mask, if_true, if_false, out, self.offset)
+    }
+}
+
+/// The choice between two lists of views, the second over data buffers that stand behind `offset` others. Refuses only for want of
+/// memory.
+pub(crate) fn choose_views(
+    alloc: Global,
+    mask: &Bitmap,
+    if_true: &[View],
+    if_false: &[View],
+    offset: u32,
+) -> PolarsResult<Vec<View>>
+    requires true_side { length if_true.now ≡ length mask.now.bits }
+    requires false_side { length if_false.now ≡ length mask.now.bits }
+    requires rises { IsTrue (all_rise offset if_false.now) }
+    ensures items { IfOk result (λ out. out.items ≡ choose mask.now.bits if_true.now (map (λ view. raised view offset) if_false.now)) }
+    ensures refusal { IfErr result (λ fault. fault ≡ PolarsError.OutOfMemory) }
+{
+    let mut out = Vec::from_slice(alloc, if_false)?;
+    let choice = BetweenViews {
+        if_true,
+        if_false,
+        offset,
+    };
+    choose_blocks(&choice, &mut AlignedWords::new(mask), &mut out);
+    Ok(out)
+}
