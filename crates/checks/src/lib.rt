@@ -2,6 +2,8 @@
 #![tactic(auto)]
 
 #[cfg(test)]
+mod dictionaries;
+#[cfg(test)]
 mod filters;
 #[cfg(test)]
 mod kernels;

@@ -17,4 +17,4 @@ pub mod single;
 pub mod sources;
 mod structs;
 mod validity;
-mod view;
+pub mod view;
