@@ -1,5 +1,5 @@
 -- Lists that are read one by one.
-use Rattle.std.proofs.Common.{◌≡◌, ℕ, ℤ, zero, suc, pos, ◌+◌, Bool, true, false, Bor, cond, List, [], ◌∷◌, ◌++◌, length, length-append, get_or, map, Option, None, Some, arith, refl, ap, sym, subst, ◌∙◌, append_assoc}
+use Rattle.std.proofs.Common.{◌≡◌, ℕ, ℤ, zero, suc, pos, ◌+◌, Bool, true, false, Bor, cond, List, [], ◌∷◌, ◌++◌, length, length-append, get_or, map, Some, arith, refl, ap, sym, ◌∙◌}
 use Rattle.std.specs.Prelude.{codes, bytes_eq, ◌==◌}
 use Rattle.std.specs.List.{slice_split}
 use Rattle.std.proofs.lemmas.List.{map-append, append-nil, length-map}

@@ -1,4 +1,4 @@
-use Rattle.std.proofs.Common.{◌++◌, ◌∷◌, [], ◌∙◌, ap, sym, arith}
+use Rattle.std.proofs.Common.{◌++◌, ◌∷◌, [], ◌∙◌, ap, sym}
 use Rattle.std.specs.Prelude.{option_map}
 use Rattle.sel_bench.specs.Lists.{list_of_word, shown_list}
 use Rattle.sel_bench.proofs.RowLemmas.{rows_none, rows_step}

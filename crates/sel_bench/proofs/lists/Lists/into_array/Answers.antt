@@ -1,4 +1,4 @@
-use Rattle.std.proofs.Common.{◌≡◌, ◌∙◌, map, ap, sym, Some}
+use Rattle.std.proofs.Common.{◌∙◌, map, ap, sym}
 use Rattle.sel_arrow.specs.Masked.{hidden}
 use Rattle.sel_arrow.specs.Nested.{list_rows}
 use Rattle.sel_arrow.specs.Rows.{rows}
