@@ -3,6 +3,7 @@ pub mod Compressing
 pub mod Dictionaries
 pub mod KeptRuns
 pub mod LawProofs
+pub mod Meanings
 pub mod Needs
 pub mod Places
 pub mod Scalars

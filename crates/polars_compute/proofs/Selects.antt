@@ -85,7 +85,7 @@ both_true a b e f = rw (e, f) refl
 
 -- ---- rows under a validity
 
-select-map : {A B : Type 0} (f : A → B) → (xs : List A) (ms : List Bool) → select (map f xs) ms ≡ map f (select xs ms)
+pub select-map : {A B : Type 0} (f : A → B) → (xs : List A) (ms : List Bool) → select (map f xs) ms ≡ map f (select xs ms)
 select-map f [] ms = refl
 select-map f (x ∷ xs) [] = refl
 select-map f (x ∷ xs) (true ∷ ms) = ap (λ l. f x ∷ l) (select-map f xs ms)

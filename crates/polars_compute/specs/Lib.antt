@@ -2,6 +2,7 @@ pub mod Compress
 pub mod Dictionary
 pub mod JoinedBytes
 pub mod Laws
+pub mod Meaning
 pub mod Need
 pub mod Pick
 pub mod Scalar

@@ -1,6 +1,7 @@
-//! What filters, takes and choices have to do with one another, and what becomes of dictionaries.
+//! What filters, takes and choices have to do with one another, what becomes of dictionaries, and that rows alone count.
 
 ghost use Rattle.sel_arrow.specs.Value.{Value};
+ghost use Rattle.polars_compute.specs.Meaning.{EqualMeaning, KeptNeedsNoMore, NeedsWithinLimits};
 ghost use Rattle.polars_compute.specs.Laws.{FilterIsTake, TakesCompose, KeepsThen, KeepsOtherwise, RepeatsThen, RepeatsOtherwise, RepeatsBoth, PropagationDecodes, PropagationLeavesNoNull};
 
 /// A filter is the take of the places that its mask keeps. Filters and joins rely on it.
@@ -33,4 +34,13 @@ pub fn law_broadcast_is_repeat()
 pub fn law_propagate()
     ensures decodes { PropagationDecodes }
     ensures valid { PropagationLeavesNoNull }
+{}
+
+/// Two columns of one type with the same rows, however laid out, need the same and answer every selection alike; what a
+/// mask keeps needs no more than all rows do; and the rows of a well-formed column need nothing above its limit.
+/// Executors over batches rely on it.
+pub fn law_equal_meaning()
+    ensures alike { EqualMeaning }
+    ensures kept { KeptNeedsNoMore }
+    ensures within { NeedsWithinLimits }
 {}

@@ -1,0 +1,135 @@
+-- What columns need that mean the same, what kept rows need, and what those of a well-formed column do.
+use Rattle.std.proofs.Common.{◌≡◌, ◌⊎◌, inl, inr, ℕ, zero, suc, ◌+◌, ◌≤◌, ◌<◌, pos, Bool, true, false, List, [], ◌∷◌, ◌++◌, length, map, replicate, refl, ap, sym, subst, ◌∙◌, arith, ◌<ℤ◌}
+use Rattle.std.proofs.lemmas.Int.{ints}
+use Rattle.std.proofs.lemmas.List.{length-map}
+use Rattle.sel_bits.specs.declared.faults.Limit.{Limit}
+use Rattle.sel_bits.specs.declared.faults.Limit.TheVariants.{Rows as RowLimit, Bytes as ByteLimit}
+use Rattle.sel_arrow.specs.Rows.{rows, type_of, well_formed}
+use Rattle.sel_arrow.specs.Shape.{Shape, Shapes, no_shapes, next_shape, of_large_binary, of_large_list, of_fixed_size_list, of_struct}
+use Rattle.sel_arrow.specs.Value.{Value, Null}
+use Rattle.sel_arrow.specs.declared.column.Column.{Column}
+use Rattle.sel_arrow.proofs.NestedRows.{length-rows}
+use Rattle.sel_choices.specs.Choose.{choose}
+use Rattle.sel_flatten.specs.Flatten.{flatten}
+use Rattle.sel_runs.specs.Children.{items_in, joined_items, part_at}
+use Rattle.sel_runs.proofs.ListParts.{few_rows}
+use Rattle.sel_runs.proofs.Thinned.{whole_fits}
+use Rattle.sel_sublists.specs.Lists.{list_get, oob}
+use Rattle.polars_compute.specs.Dictionary.{decode}
+use Rattle.polars_compute.specs.Meaning.{MeansTheSame, Alike}
+use Rattle.polars_compute.specs.Need.{byte_count, bytes_needed, past, past_parts, Needed, so_many_rows, so_many_bytes, need, need_of_parts, NoneGreater, NoneAbove}
+use Rattle.polars_compute.specs.Pick.{pick}
+use Rattle.polars_compute.specs.Select.{select, in_force}
+use Rattle.polars_compute.proofs.Selects.{few_kept, select-map}
+
+-- ---- columns that mean the same
+
+pub alike : (c d : Column) → MeansTheSame c d → Alike c d
+alike c d same = record {
+  needs = ap (λ s. need s (rows c)) same.0 ∙ ap (need (type_of d)) same.1;
+  selects = (λ ms. ap (λ vs. select vs ms) same.1);
+  forces = ap in_force same.1;
+  picks = (λ before after ps. ap (λ vs. pick Null (before ++ vs ∷ after) ps) same.1);
+  chooses = (λ ms others. ap (λ vs. choose ms vs others) same.1);
+  chooses_otherwise = (λ ms others. ap (choose ms others) same.1);
+  flattens = (λ before after ws h. ap (λ vs. flatten (before ++ vs ∷ after) ws h) same.1);
+  gets = (λ index. ap (λ vs. list_get vs index) same.1);
+  lacks = (λ index. ap (λ vs. oob vs index) same.1);
+  decodes = (λ values. ap (λ vs. decode vs values) same.1);
+  is_decoded = (λ keys. ap (decode keys) same.1);
+}
+
+-- ---- kept rows and what they hold
+
+-- each row's bit, once for each item in it
+spread : ℕ → List Value → List Bool → List Bool
+spread w [] ms = []
+spread w (v ∷ vs) [] = []
+spread w (v ∷ vs) (m ∷ ms) = replicate (length (items_in w v)) m ++ spread w vs ms
+
+select_front : (vs ws : List Value) (ms : List Bool) → select (vs ++ ws) (replicate (length vs) true ++ ms) ≡ vs ++ select ws ms
+select_front [] ws ms = refl
+select_front (v ∷ vs) ws ms = ap (λ l. v ∷ l) (select_front vs ws ms)
+
+select_behind : (vs ws : List Value) (ms : List Bool) → select (vs ++ ws) (replicate (length vs) false ++ ms) ≡ select ws ms
+select_behind [] ws ms = refl
+select_behind (v ∷ vs) ws ms = select_behind vs ws ms
+
+select_none : (vs : List Value) → select vs [] ≡ []
+select_none [] = refl
+select_none (v ∷ vs) = refl
+
+-- the items in kept rows are kept items
+items_kept : (w : ℕ) (vs : List Value) (ms : List Bool) → joined_items w (select vs ms) ≡ select (joined_items w vs) (spread w vs ms)
+items_kept w [] ms = refl
+items_kept w (v ∷ vs) [] = sym (select_none (items_in w v ++ joined_items w vs))
+items_kept w (v ∷ vs) (true ∷ ms) = ap (λ l. items_in w v ++ l) (items_kept w vs ms) ∙ sym (select_front (items_in w v) (joined_items w vs) (spread w vs ms))
+items_kept w (v ∷ vs) (false ∷ ms) = items_kept w vs ms ∙ sym (select_behind (items_in w v) (joined_items w vs) (spread w vs ms))
+
+bytes_kept : (vs : List Value) (ms : List Bool) → bytes_needed (select vs ms) ≤ bytes_needed vs
+bytes_kept [] ms = omega arith
+bytes_kept (v ∷ vs) [] = omega arith
+bytes_kept (v ∷ vs) (true ∷ ms) = let rest = bytes_kept vs ms in omega (arith, rest)
+bytes_kept (v ∷ vs) (false ∷ ms) = let rest = bytes_kept vs ms in omega (arith, rest)
+
+greater-append : (as bs cs ds : List Needed) → NoneGreater as bs → NoneGreater cs ds → NoneGreater (as ++ cs) (bs ++ ds)
+greater-append [] [] cs ds h k = k
+greater-append [] (b ∷ bs) cs ds h k = absurd h
+greater-append (so_many_rows m ∷ as) [] cs ds h k = absurd h
+greater-append (so_many_bytes m ∷ as) [] cs ds h k = absurd h
+greater-append (so_many_rows m ∷ as) (so_many_rows n ∷ bs) cs ds h k = (h.0, greater-append as bs cs ds h.1 k)
+greater-append (so_many_rows m ∷ as) (so_many_bytes n ∷ bs) cs ds h k = absurd h
+greater-append (so_many_bytes m ∷ as) (so_many_rows n ∷ bs) cs ds h k = absurd h
+greater-append (so_many_bytes m ∷ as) (so_many_bytes n ∷ bs) cs ds h k = (h.0, greater-append as bs cs ds h.1 k)
+
+mutual
+  pub kept_needs : (s : Shape) (vs : List Value) (ms : List Bool) → NoneGreater (need s (select vs ms)) (need s vs)
+  kept_needs of_large_binary vs ms = (few_kept vs ms, bytes_kept vs ms, tt)
+  kept_needs (of_large_list s) vs ms =
+      (few_kept vs ms, subst (λ l. NoneGreater (need s l) (need s (joined_items 0 vs))) (sym (items_kept 0 vs ms)) (kept_needs s (joined_items 0 vs) (spread 0 vs ms)))
+  kept_needs (of_fixed_size_list s w) vs ms =
+      (few_kept vs ms, subst (λ l. NoneGreater (need s l) (need s (joined_items w vs))) (sym (items_kept w vs ms)) (kept_needs s (joined_items w vs) (spread w vs ms)))
+  kept_needs (of_struct ss) vs ms = (few_kept vs ms, kept_parts ss 0 vs ms)
+  kept_needs s vs ms = (few_kept vs ms, tt)
+
+  kept_parts : (ss : Shapes) (j : ℕ) (vs : List Value) (ms : List Bool) → NoneGreater (need_of_parts ss j (select vs ms)) (need_of_parts ss j vs)
+  kept_parts no_shapes j vs ms = tt
+  kept_parts (next_shape s ss) j vs ms =
+      greater-append (need s (map (part_at j) (select vs ms))) (need s (map (part_at j) vs)) (need_of_parts ss (j + 1) (select vs ms)) (need_of_parts ss (j + 1) vs)
+      (subst (λ l. NoneGreater (need s l) (need s (map (part_at j) vs))) (select-map (part_at j) vs ms) (kept_needs s (map (part_at j) vs) ms))
+      (kept_parts ss (j + 1) vs ms)
+
+-- ---- needs within their limits
+
+above-append : (as bs : List Needed) → NoneAbove as → NoneAbove bs → NoneAbove (as ++ bs)
+above-append [] bs h k = k
+above-append (so_many_rows n ∷ as) bs h k = (h.0, above-append as bs h.1 k)
+above-append (so_many_bytes n ∷ as) bs h k = (h.0, above-append as bs h.1 k)
+
+mutual
+  -- rows that pass no limit need nothing above one
+  within : (s : Shape) (vs : List Value) → length vs ≤ 4294967295 → ((limit : Limit) → past s vs limit → ⊥) → NoneAbove (need s vs)
+  within of_large_binary vs few fits = (few, few_bytes (bytes_needed vs) (fits ByteLimit), tt)
+  within (of_large_list s) vs few fits =
+      (few, within s (joined_items 0 vs) (few_items (length (joined_items 0 vs)) (λ h. fits RowLimit (inl h))) (λ limit h. fits limit (inr h)))
+  within (of_fixed_size_list s w) vs few fits =
+      (few, within s (joined_items w vs) (few_items (length (joined_items w vs)) (λ h. fits RowLimit (inl h))) (λ limit h. fits limit (inr h)))
+  within (of_struct ss) vs few fits = (few, within_parts ss 0 vs few fits)
+  within s vs few fits = (few, tt)
+
+  within_parts : (ss : Shapes) (j : ℕ) (vs : List Value) → length vs ≤ 4294967295 → ((limit : Limit) → past_parts ss j vs limit → ⊥) → NoneAbove (need_of_parts ss j vs)
+  within_parts no_shapes j vs few fits = tt
+  within_parts (next_shape s ss) j vs few fits =
+      above-append (need s (map (part_at j) vs)) (need_of_parts ss (j + 1) vs)
+      (within s (map (part_at j) vs) (rw length-map few) (λ limit h. fits limit (inl h)))
+      (within_parts ss (j + 1) vs few (λ limit h. fits limit (inr h)))
+
+  few_items : (n : ℕ) → (4294967295 < n → ⊥) → n ≤ 4294967295
+  few_items n fits = omega (arith, fits)
+
+  few_bytes : (n : ℕ) → (pos 9223372036854775807 <ℤ pos n → ⊥) → n ≤ 9223372036854775807
+  few_bytes n fits = omega (arith, ints, fits)
+
+pub needs_fit : (c : Column) → well_formed c ≡ true → NoneAbove (need (type_of c) (rows c))
+needs_fit c formed =
+    within (type_of c) (rows c) (let few = few_rows c formed in omega (arith, few, length-rows c)) (whole_fits c formed)

@@ -1,0 +1,43 @@
+-- What columns of one type with the same rows have alike, whatever their layout.
+use Rattle.std.specs.Prelude.{◌≡◌, ℕ, ℤ, Bool, List, ◌∷◌, ◌++◌, Option}
+use Rattle.sel_arrow.specs.Rows.{rows, type_of, IsWellFormed}
+use Rattle.sel_arrow.specs.Shape.{Shape}
+use Rattle.sel_arrow.specs.Value.{Value, Null}
+use Rattle.sel_arrow.specs.declared.column.Column.{Column}
+use Rattle.sel_choices.specs.Choose.{choose}
+use Rattle.sel_flatten.specs.Flatten.{flatten}
+use Rattle.sel_sublists.specs.Lists.{list_get, oob}
+use Rattle.polars_compute.specs.Dictionary.{decode}
+use Rattle.polars_compute.specs.Need.{need, NoneGreater, NoneAbove}
+use Rattle.polars_compute.specs.Pick.{pick}
+use Rattle.polars_compute.specs.Select.{select, in_force}
+
+-- two columns of one type that have the same rows (own)
+abbrev pub MeansTheSame : Column → Column → Type 0
+MeansTheSame c d = (type_of c ≡ type_of d) × (rows c ≡ rows d)
+
+-- What such columns have alike: their need, and what each definition gives of them, beside any other lists. (own)
+pub record Alike (c d : Column) : Type 0 where
+  pub needs : need (type_of c) (rows c) ≡ need (type_of d) (rows d)
+  pub selects : (ms : List Bool) → select (rows c) ms ≡ select (rows d) ms
+  pub forces : in_force (rows c) ≡ in_force (rows d)
+  pub picks : (before after : List (List Value)) (ps : List (Option (ℕ × ℕ))) → pick Null (before ++ rows c ∷ after) ps ≡ pick Null (before ++ rows d ∷ after) ps
+  pub chooses : (ms : List Bool) (others : List Value) → choose ms (rows c) others ≡ choose ms (rows d) others
+  pub chooses_otherwise : (ms : List Bool) (others : List Value) → choose ms others (rows c) ≡ choose ms others (rows d)
+  pub flattens : (before after : List (List Value)) (ws : List ℕ) (h : ℕ) → flatten (before ++ rows c ∷ after) ws h ≡ flatten (before ++ rows d ∷ after) ws h
+  pub gets : (index : ℤ) → list_get (rows c) index ≡ list_get (rows d) index
+  pub lacks : (index : ℤ) → oob (rows c) index ≡ oob (rows d) index
+  pub decodes : (values : List Value) → decode (rows c) values ≡ decode (rows d) values
+  pub is_decoded : (keys : List Value) → decode keys (rows c) ≡ decode keys (rows d)
+
+-- columns that mean the same are alike in all of this (own)
+abbrev pub EqualMeaning : Type 0
+EqualMeaning = (c d : Column) → MeansTheSame c d → Alike c d
+
+-- what a mask keeps needs no more than all rows (own)
+abbrev pub KeptNeedsNoMore : Type 0
+KeptNeedsNoMore = (s : Shape) (xs : List Value) (ms : List Bool) → NoneGreater (need s (select xs ms)) (need s xs)
+
+-- the rows of a well-formed column need nothing above its limit (own)
+abbrev pub NeedsWithinLimits : Type 0
+NeedsWithinLimits = (c : Column) → IsWellFormed c → NoneAbove (need (type_of c) (rows c))
