@@ -8,6 +8,8 @@ mod filters;
 #[cfg(test)]
 mod kernels;
 #[cfg(test)]
+mod laws;
+#[cfg(test)]
 mod rows;
 #[cfg(test)]
 mod takes;
