@@ -1,5 +1,6 @@
 -- What columns need that mean the same, what kept rows need, and what those of a well-formed column do.
-use Rattle.std.proofs.Common.{◌≡◌, ◌⊎◌, inl, inr, ℕ, zero, suc, ◌+◌, ◌≤◌, ◌<◌, pos, Bool, true, false, List, [], ◌∷◌, ◌++◌, length, map, replicate, refl, ap, sym, subst, ◌∙◌, arith, ◌<ℤ◌}
+use Rattle.std.proofs.Common.{◌≡◌, ◌⊎◌, inl, inr, ℕ, ◌+◌, ◌≤◌, ◌<◌, pos, Bool, true, false, List, [], ◌∷◌, ◌++◌, length, map, replicate, refl, ap, sym, subst, ◌∙◌, arith, ◌<ℤ◌}
+use Rattle.std.proofs.lemmas.Bool.{cases_lt}
 use Rattle.std.proofs.lemmas.Int.{ints}
 use Rattle.std.proofs.lemmas.List.{length-map}
 use Rattle.sel_bits.specs.declared.faults.Limit.{Limit}
@@ -17,7 +18,7 @@ use Rattle.sel_runs.proofs.Thinned.{whole_fits}
 use Rattle.sel_sublists.specs.Lists.{list_get, oob}
 use Rattle.polars_compute.specs.Dictionary.{decode}
 use Rattle.polars_compute.specs.Meaning.{MeansTheSame, Alike}
-use Rattle.polars_compute.specs.Need.{byte_count, bytes_needed, past, past_parts, Needed, so_many_rows, so_many_bytes, need, need_of_parts, NoneGreater, NoneAbove}
+use Rattle.polars_compute.specs.Need.{bytes_needed, past, past_parts, Needed, so_many_rows, so_many_bytes, need, need_of_parts, NoneGreater, NoneAbove}
 use Rattle.polars_compute.specs.Pick.{pick}
 use Rattle.polars_compute.specs.Select.{select, in_force}
 use Rattle.polars_compute.proofs.Selects.{few_kept, select-map}
@@ -42,7 +43,7 @@ alike c d same = record {
 -- ---- kept rows and what they hold
 
 -- each row's bit, once for each item in it
-spread : ℕ → List Value → List Bool → List Bool
+abbrev spread : ℕ → List Value → List Bool → List Bool
 spread w [] ms = []
 spread w (v ∷ vs) [] = []
 spread w (v ∷ vs) (m ∷ ms) = replicate (length (items_in w v)) m ++ spread w vs ms
@@ -72,19 +73,19 @@ bytes_kept (v ∷ vs) [] = omega arith
 bytes_kept (v ∷ vs) (true ∷ ms) = let rest = bytes_kept vs ms in omega (arith, rest)
 bytes_kept (v ∷ vs) (false ∷ ms) = let rest = bytes_kept vs ms in omega (arith, rest)
 
-greater-append : (as bs cs ds : List Needed) → NoneGreater as bs → NoneGreater cs ds → NoneGreater (as ++ cs) (bs ++ ds)
+greater-append : (ks bs cs ds : List Needed) → NoneGreater ks bs → NoneGreater cs ds → NoneGreater (ks ++ cs) (bs ++ ds)
 greater-append [] [] cs ds h k = k
 greater-append [] (b ∷ bs) cs ds h k = absurd h
-greater-append (so_many_rows m ∷ as) [] cs ds h k = absurd h
-greater-append (so_many_bytes m ∷ as) [] cs ds h k = absurd h
-greater-append (so_many_rows m ∷ as) (so_many_rows n ∷ bs) cs ds h k = (h.0, greater-append as bs cs ds h.1 k)
-greater-append (so_many_rows m ∷ as) (so_many_bytes n ∷ bs) cs ds h k = absurd h
-greater-append (so_many_bytes m ∷ as) (so_many_rows n ∷ bs) cs ds h k = absurd h
-greater-append (so_many_bytes m ∷ as) (so_many_bytes n ∷ bs) cs ds h k = (h.0, greater-append as bs cs ds h.1 k)
+greater-append (so_many_rows m ∷ ks) [] cs ds h k = absurd h
+greater-append (so_many_bytes m ∷ ks) [] cs ds h k = absurd h
+greater-append (so_many_rows m ∷ ks) (so_many_rows n ∷ bs) cs ds h k = (h.0, greater-append ks bs cs ds h.1 k)
+greater-append (so_many_rows m ∷ ks) (so_many_bytes n ∷ bs) cs ds h k = absurd h
+greater-append (so_many_bytes m ∷ ks) (so_many_rows n ∷ bs) cs ds h k = absurd h
+greater-append (so_many_bytes m ∷ ks) (so_many_bytes n ∷ bs) cs ds h k = (h.0, greater-append ks bs cs ds h.1 k)
 
 mutual
   pub kept_needs : (s : Shape) (vs : List Value) (ms : List Bool) → NoneGreater (need s (select vs ms)) (need s vs)
-  kept_needs of_large_binary vs ms = (few_kept vs ms, bytes_kept vs ms, tt)
+  kept_needs of_large_binary vs ms = (few_kept vs ms, (bytes_kept vs ms, tt))
   kept_needs (of_large_list s) vs ms =
       (few_kept vs ms, subst (λ l. NoneGreater (need s l) (need s (joined_items 0 vs))) (sym (items_kept 0 vs ms)) (kept_needs s (joined_items 0 vs) (spread 0 vs ms)))
   kept_needs (of_fixed_size_list s w) vs ms =
@@ -101,15 +102,25 @@ mutual
 
 -- ---- needs within their limits
 
-above-append : (as bs : List Needed) → NoneAbove as → NoneAbove bs → NoneAbove (as ++ bs)
+above-append : (ks bs : List Needed) → NoneAbove ks → NoneAbove bs → NoneAbove (ks ++ bs)
 above-append [] bs h k = k
-above-append (so_many_rows n ∷ as) bs h k = (h.0, above-append as bs h.1 k)
-above-append (so_many_bytes n ∷ as) bs h k = (h.0, above-append as bs h.1 k)
+above-append (so_many_rows n ∷ ks) bs h k = (h.0, above-append ks bs h.1 k)
+above-append (so_many_bytes n ∷ ks) bs h k = (h.0, above-append ks bs h.1 k)
+
+few_items : (n : ℕ) → (4294967295 < n → ⊥) → n ≤ 4294967295
+few_items n fits = omega (arith, fits)
+
+few_bytes : (n : ℕ) → (pos 9223372036854775807 <ℤ pos n → ⊥) → n ≤ 9223372036854775807
+few_bytes n fits = by_order (cases_lt 9223372036854775807 n)
+  where
+    by_order : ((9223372036854775807 < n) ⊎ (n ≤ 9223372036854775807)) → n ≤ 9223372036854775807
+    by_order (inl above) = absurd (fits (omega (ints, arith, above)))
+    by_order (inr below) = below
 
 mutual
   -- rows that pass no limit need nothing above one
   within : (s : Shape) (vs : List Value) → length vs ≤ 4294967295 → ((limit : Limit) → past s vs limit → ⊥) → NoneAbove (need s vs)
-  within of_large_binary vs few fits = (few, few_bytes (bytes_needed vs) (fits ByteLimit), tt)
+  within of_large_binary vs few fits = (few, (few_bytes (bytes_needed vs) (fits ByteLimit), tt))
   within (of_large_list s) vs few fits =
       (few, within s (joined_items 0 vs) (few_items (length (joined_items 0 vs)) (λ h. fits RowLimit (inl h))) (λ limit h. fits limit (inr h)))
   within (of_fixed_size_list s w) vs few fits =
@@ -123,12 +134,6 @@ mutual
       above-append (need s (map (part_at j) vs)) (need_of_parts ss (j + 1) vs)
       (within s (map (part_at j) vs) (rw length-map few) (λ limit h. fits limit (inl h)))
       (within_parts ss (j + 1) vs few (λ limit h. fits limit (inr h)))
-
-  few_items : (n : ℕ) → (4294967295 < n → ⊥) → n ≤ 4294967295
-  few_items n fits = omega (arith, fits)
-
-  few_bytes : (n : ℕ) → (pos 9223372036854775807 <ℤ pos n → ⊥) → n ≤ 9223372036854775807
-  few_bytes n fits = omega (arith, ints, fits)
 
 pub needs_fit : (c : Column) → well_formed c ≡ true → NoneAbove (need (type_of c) (rows c))
 needs_fit c formed =

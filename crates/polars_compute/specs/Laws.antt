@@ -1,6 +1,6 @@
 -- What filters, takes and choices have to do with one another, for all lists whose elements are of one type, and what
 -- becomes of dictionaries.
-use Rattle.std.specs.Prelude.{◌≡◌, ℕ, Bool, true, List, [], ◌∷◌, length, map, replicate, Option, None, not, count_by, if◌then◌else◌}
+use Rattle.std.specs.Prelude.{◌≡◌, ℕ, Bool, true, List, [], ◌∷◌, length, map, replicate, Option, None, not, count_by}
 use Rattle.sel_arrow.specs.Value.{Value, is_null}
 use Rattle.sel_choices.specs.Choose.{choose, choose_one, choose_or_one, choose_of_two}
 use Rattle.polars_compute.specs.Dictionary.{decode, propagated_keys, valid_values}
