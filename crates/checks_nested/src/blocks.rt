@@ -23,7 +23,7 @@ fn blocks(
 }
 
 /// Whether there are so many lists of `size` entries.
-fn are_blocks(column: &Column, size: usize, count: usize) -> bool {
+pub fn are_blocks(column: &Column, size: usize, count: usize) -> bool {
     match column {
         Column::FixedSizeList { size: own, len, .. } => *own == size && *len == count,
         _ => false,
@@ -31,7 +31,7 @@ fn are_blocks(column: &Column, size: usize, count: usize) -> bool {
 }
 
 /// Whether the list is null.
-fn is_null_at(column: &Column, at: usize) -> bool {
+pub fn is_null_at(column: &Column, at: usize) -> bool {
     match column {
         Column::FixedSizeList { validity, .. } => !is_valid(validity, at),
         _ => false,
@@ -39,7 +39,7 @@ fn is_null_at(column: &Column, at: usize) -> bool {
 }
 
 /// Whether the list, the entries from this place on, has these two numbers.
-fn is_pair_at(column: &Column, at: usize, start: usize, row: &[Option<i64>; 2]) -> bool {
+pub fn is_pair_at(column: &Column, at: usize, start: usize, row: &[Option<i64>; 2]) -> bool {
     match column {
         Column::FixedSizeList {
             values,
@@ -55,7 +55,7 @@ fn is_pair_at(column: &Column, at: usize, start: usize, row: &[Option<i64>; 2]) 
 }
 
 /// The rows `[1, 2]` and null, which hides `3` and `4`.
-fn pair_and_null(alloc: Global) -> Result<ArrayRef, Fail> {
+pub fn pair_and_null(alloc: Global) -> Result<ArrayRef, Fail> {
     let bits = validity(alloc, &[true, false])?;
     let child = numbers(alloc, &[1i64, 2, 3, 4], &[true, true, true, true])?;
     blocks(alloc, 2, 2, child.into_ref(), bits)

@@ -4,8 +4,12 @@
 #[cfg(test)]
 mod blocks;
 #[cfg(test)]
+mod kinds;
+#[cfg(test)]
 mod lists;
 #[cfg(test)]
 mod shared;
 #[cfg(test)]
 mod tuples;
+#[cfg(test)]
+mod types;

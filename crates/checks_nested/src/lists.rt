@@ -29,7 +29,7 @@ fn offsets(alloc: Global, offsets: &[i64]) -> Result<OffsetsBuffer<i64>, Fail> {
 }
 
 /// Where the list lies in the child, if it is one and not null.
-fn bounds_at(column: &Column, at: usize) -> Option<(usize, usize)> {
+pub fn bounds_at(column: &Column, at: usize) -> Option<(usize, usize)> {
     let Column::LargeList {
         offsets,
         validity,
@@ -45,7 +45,7 @@ fn bounds_at(column: &Column, at: usize) -> Option<(usize, usize)> {
 }
 
 /// Whether the list has these numbers.
-fn is_list_at(column: &Column, at: usize, row: &[Option<i64>]) -> bool {
+pub fn is_list_at(column: &Column, at: usize, row: &[Option<i64>]) -> bool {
     let Some((start, end)) = bounds_at(column, at) else {
         return false;
     };
@@ -56,7 +56,7 @@ fn is_list_at(column: &Column, at: usize, row: &[Option<i64>]) -> bool {
 }
 
 /// Whether the lists are so many.
-fn are_lists(column: &Column, count: usize) -> bool {
+pub fn are_lists(column: &Column, count: usize) -> bool {
     match column {
         Column::LargeList { offsets, .. } => offsets.len_proxy() == count,
         _ => false,
@@ -105,7 +105,7 @@ fn lists_of_lists_at_indices(rt: HostRuntime) -> Result<(), Fail> {
 }
 
 /// The rows `[1, 2]`, null and `[3]`.
-fn three_lists(alloc: Global) -> Result<ArrayRef, Fail> {
+pub fn three_lists(alloc: Global) -> Result<ArrayRef, Fail> {
     let offsets = offsets(alloc, &[0, 2, 2, 3])?;
     let bits = validity(alloc, &[true, false, true])?;
     let child = numbers(alloc, &[1i64, 2, 3], &[true, true, true])?;

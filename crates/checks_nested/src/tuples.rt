@@ -47,7 +47,7 @@ fn pairs(alloc: Global, first: ArrayRef, second: ArrayRef) -> Result<ArrayRef, F
 }
 
 /// The rows `(1, true)` and `(2, null)`.
-fn two_pairs(alloc: Global) -> Result<ArrayRef, Fail> {
+pub fn two_pairs(alloc: Global) -> Result<ArrayRef, Fail> {
     let first = numbers(alloc, &[1i64, 2], &[true, true])?;
     let second = truths(alloc, &[true, true], &[true, false])?;
     pairs(alloc, first.into_ref(), second.into_ref())

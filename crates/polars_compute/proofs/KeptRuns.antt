@@ -1,14 +1,12 @@
 -- Runs of the places that a mask keeps, and of those that indices name.
-use Rattle.std.proofs.Common.{◌≡◌, All, ℕ, zero, suc, ◌+◌, ◌-◌, ◌≤◌, ◌<◌, pos, negsuc, true, false, ◌&&◌, Bool, List, [], ◌∷◌, ◌++◌, length, drop, take, map, Option, Some, None, cond, refl, ap, sym, subst, ◌∙◌, arith, get_or, IsTrue}
-use Rattle.std.specs.List.{list_all}
-use Rattle.std.proofs.lemmas.List.{length-map, map-append}
+use Rattle.std.proofs.Common.{◌≡◌, All, ℕ, zero, suc, ◌+◌, ◌<◌, pos, negsuc, true, false, Bool, List, [], ◌∷◌, length, map, cond, refl, ap, sym, ◌∙◌, arith, get_or, IsTrue}
 use Rattle.std.proofs.lemmas.Bool.{ltb-true}
 use Rattle.std.proofs.lemmas.List.Sums.{sum_by-cons}
 use Rattle.sel_bits.specs.Bits.{count_true}
-use Rattle.sel_arrow.specs.Value.{Value, Null, Truth, Number, Bytes, Items, Tuple}
+use Rattle.sel_arrow.specs.Value.{Value, Null, Number}
 use Rattle.sel_arrow.proofs.Lists.{and_first, and_second}
-use Rattle.sel_runs.specs.Picks.{found, pick, PickFits}
-use Rattle.polars_compute.specs.Pick.{pick_of, place_pick, is_within, all_within, take_rows}
+use Rattle.sel_runs.specs.Picks.{pick, PickFits}
+use Rattle.polars_compute.specs.Pick.{pick_of, place_pick, is_within, all_within}
 use Rattle.polars_compute.specs.Select.{select, kept, kept_from}
 use Rattle.polars_compute.proofs.Places.{selected, kept_below}
 

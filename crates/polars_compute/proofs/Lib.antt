@@ -1,5 +1,6 @@
 pub mod Collects
 pub mod Compressing
+pub mod Dictionaries
 pub mod KeptRuns
 pub mod LawProofs
 pub mod Needs

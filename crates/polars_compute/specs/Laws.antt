@@ -1,8 +1,11 @@
--- What filters, takes and choices have to do with one another, for all lists whose elements are of one type.
-use Rattle.std.specs.Prelude.{◌≡◌, ℕ, Bool, List, [], ◌∷◌, length, map, replicate, Option, None, not, if◌then◌else◌}
+-- What filters, takes and choices have to do with one another, for all lists whose elements are of one type, and what
+-- becomes of dictionaries.
+use Rattle.std.specs.Prelude.{◌≡◌, ℕ, Bool, true, List, [], ◌∷◌, length, map, replicate, Option, None, not, count_by, if◌then◌else◌}
 use Rattle.sel_bits.specs.Choose.{choose}
+use Rattle.sel_arrow.specs.Value.{Value, is_null}
+use Rattle.polars_compute.specs.Dictionary.{decode, propagated_keys, valid_values}
 use Rattle.polars_compute.specs.Select.{select, kept}
-use Rattle.polars_compute.specs.Pick.{pick, place_pick}
+use Rattle.polars_compute.specs.Pick.{pick, place_pick, all_within}
 
 -- ---- filters and takes
 
@@ -58,3 +61,13 @@ RepeatsOtherwise A = (ms : List Bool) (ts : List A) (x : A) → choose_or_one ms
 -- a choice between two single values is that between the lists that repeat them, as long as the mask (own)
 abbrev pub RepeatsBoth : Type 0 → Type 0
 RepeatsBoth A = (ms : List Bool) (x y : A) → choose_of_two ms x y ≡ choose ms (replicate (length ms) x) (replicate (length ms) y)
+
+-- ---- dictionaries
+
+-- with the propagated keys and the values that are not null, each key names the value that it named before (own)
+abbrev pub PropagationDecodes : Type 0
+PropagationDecodes = (keys values : List Value) → all_within (length values) keys ≡ true → decode (propagated_keys keys values) (valid_values values) ≡ decode keys values
+
+-- and none of those values is null (own)
+abbrev pub PropagationLeavesNoNull : Type 0
+PropagationLeavesNoNull = (values : List Value) → count_by is_null (valid_values values) ≡ 0

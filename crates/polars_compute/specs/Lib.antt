@@ -1,4 +1,5 @@
 pub mod Compress
+pub mod Dictionary
 pub mod JoinedBytes
 pub mod Laws
 pub mod Need

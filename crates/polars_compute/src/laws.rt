@@ -1,7 +1,7 @@
-//! What filters, takes and choices have to do with one another.
+//! What filters, takes and choices have to do with one another, and what becomes of dictionaries.
 
 ghost use Rattle.sel_arrow.specs.Value.{Value};
-ghost use Rattle.polars_compute.specs.Laws.{FilterIsTake, TakesCompose, KeepsThen, KeepsOtherwise, RepeatsThen, RepeatsOtherwise, RepeatsBoth};
+ghost use Rattle.polars_compute.specs.Laws.{FilterIsTake, TakesCompose, KeepsThen, KeepsOtherwise, RepeatsThen, RepeatsOtherwise, RepeatsBoth, PropagationDecodes, PropagationLeavesNoNull};
 
 /// A filter is the take of the places that its mask keeps. Filters and joins rely on it.
 pub fn law_filter_is_take()
@@ -26,4 +26,11 @@ pub fn law_broadcast_is_repeat()
     ensures chosen { RepeatsThen Value }
     ensures otherwise { RepeatsOtherwise Value }
     ensures both { RepeatsBoth Value }
+{}
+
+/// A dictionary whose null values were handed on to its keys means the same as before, and has no null value.
+/// Dictionary encoders rely on it.
+pub fn law_propagate()
+    ensures decodes { PropagationDecodes }
+    ensures valid { PropagationLeavesNoNull }
 {}

@@ -4,4 +4,7 @@
 pub mod filter;
 pub mod gather;
 pub mod laws;
+pub mod propagate_dictionary;
 mod runs;
+
+pub use sel_flatten::horizontal_flatten;

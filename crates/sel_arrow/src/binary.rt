@@ -32,6 +32,7 @@ pub struct BinaryArray<O: Offset> {
     pub ghost rising: { IsRising offsets },
     pub ghost rows_fit: { rows_between offsets ≤ 4294967295 },
     pub ghost values_fit: { last_offset offsets ≤ length values },
+    pub ghost bytes_fit: { length values ≤ 9223372036854775807 },
     pub ghost validity_fits: { Covers validity (rows_between offsets) },
 }
 
@@ -56,7 +57,7 @@ impl<O: Offset> BinaryArray<O> {
         if rows > MOST_ROWS {
             return Err(MakeError::Malformed(Malformed::TooManyRows));
         }
-        if offsets.at(rows) > values.len() {
+        if offsets.at(rows) > values.as_slice().len() {
             return Err(MakeError::Malformed(Malformed::OffsetRange));
         }
         if has_other_length(&validity, rows) {

@@ -85,7 +85,7 @@ length-bytes_of : (row : Value) → length (bytes_of row) ≡ byte_count row
 length-bytes_of (Bytes bytes) = refl
 length-bytes_of _ = refl
 
-length-joined : (rows : List Value) → length (joined_bytes rows) ≡ bytes_needed rows
+pub length-joined : (rows : List Value) → length (joined_bytes rows) ≡ bytes_needed rows
 length-joined [] = refl
 length-joined (row ∷ rows) = omega (arith, length-bytes_of row, length-append (bytes_of row) (joined_bytes rows), length-joined rows)
 

@@ -14,5 +14,6 @@ pub mod Rebuilt
 pub mod Refusals
 pub mod RunLists
 pub mod SplitRuns
+pub mod Thinned
 pub mod TupleRows
 pub mod Windows

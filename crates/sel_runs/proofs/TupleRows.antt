@@ -32,7 +32,7 @@ fields_in s = no_shapes
 
 -- ---- the fields, place by place
 
-rows_in : (n : _) (row : Row_of-Column n) → rows_of_each row ≡ map rows (columns_in row)
+pub rows_in : (n : _) (row : Row_of-Column n) → rows_of_each row ≡ map rows (columns_in row)
 rows_in n end_of-Column = refl
 rows_in n (more_of-Column c rest) = ap (λ l. rows c ∷ l) (rows_in _ rest)
 
@@ -45,7 +45,7 @@ type_in n end_of-Column j c d h = absurd (omega (arith, h))
 type_in n (more_of-Column x rest) zero c d h = refl
 type_in n (more_of-Column x rest) (suc j) c d h = type_in _ rest j c d (omega arith)
 
-formed_in : (n : _) (row : Row_of-Column n) (len j : ℕ) (c : Column) → all_well_formed len row ≡ true → j < length (columns_in row) → IsField len (get_or (columns_in row) j c)
+pub formed_in : (n : _) (row : Row_of-Column n) (len j : ℕ) (c : Column) → all_well_formed len row ≡ true → j < length (columns_in row) → IsField len (get_or (columns_in row) j c)
 formed_in n end_of-Column len j c all h = absurd (omega (arith, h))
 formed_in n (more_of-Column x rest) len zero c all h =
     let two = and_first ((row_count x == len) && well_formed x) (all_well_formed len rest) all in

@@ -1,20 +1,20 @@
 //! Rows of several columns, copied by runs of rows that stand together.
 #![tactic(auto)]
 
-pub mod binary;
-pub mod bits;
-pub mod boolean;
+mod binary;
+mod bits;
+mod boolean;
 pub mod collect;
-pub mod fill;
-pub mod growable;
-pub mod kinds;
-pub mod lists;
-pub mod nested;
-pub mod null;
-pub mod primitive;
+mod fill;
+mod growable;
+mod kinds;
+mod lists;
+mod nested;
+mod null;
+mod primitive;
 pub mod run;
 pub mod single;
 pub mod sources;
-pub mod structs;
-pub mod validity;
-pub mod view;
+mod structs;
+mod validity;
+mod view;

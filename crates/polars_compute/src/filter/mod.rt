@@ -3,7 +3,6 @@
 ghost use Rattle.std.specs.Prelude.{◌≡◌, ◌≤◌, ◌+◌, length, IfOk, IfErr};
 ghost use Rattle.sel_arrow.specs.Columns.{null_rows, boolean_rows, primitive_rows, binary_rows, binview_rows, utf8view_rows};
 ghost use Rattle.sel_arrow.specs.Rows.{rows, type_of, IsWellFormed};
-ghost use Rattle.polars_compute.specs.Need.{IsRefusal, past, past_below};
 ghost use Rattle.polars_compute.specs.Select.{select, in_force};
 ghost use Rattle.polars_compute.specs.Trim.{KeepsAll};
 
@@ -34,26 +33,25 @@ use sel_runs::single::collect_one;
 use std::alloc::Global;
 
 /// The rows where the mask is the valid value true, in order; a null in the mask counts as false.
-/// Refuses only for want of memory; of a column with children also where its kept rows pass a limit.
+/// Refuses only for want of memory.
 pub fn filter(alloc: Global, array: &ArrayRef, mask: &BooleanArray) -> PolarsResult<ArrayRef>
     requires { length (rows array.now.column) ≡ length (boolean_rows mask.now) }
     ensures rows { IfOk result (λ kept. rows kept.column ≡ select (rows array.now.column) (in_force (boolean_rows mask.now))) }
     ensures dtype { IfOk result (λ kept. type_of kept.column ≡ type_of array.now.column) }
-    ensures refusal { IfErr result (IsRefusal (past_below (type_of array.now.column) (select (rows array.now.column) (in_force (boolean_rows mask.now))))) }
+    ensures refusal { IfErr result (λ fault. fault ≡ PolarsError.OutOfMemory) }
 {
     let in_force = bits_in_force(alloc, mask)?;
     filter_with_bitmap(alloc, array, &in_force)
 }
 
-/// The rows where the bit is true, in order. Refuses only for want of memory; of a column with children also where its
-/// kept rows pass a limit.
+/// The rows where the bit is true, in order. Refuses only for want of memory.
 ///
 /// The rows under leading and trailing false bits are dropped first, and what is left is answered at once where all of it is kept.
 pub fn filter_with_bitmap(alloc: Global, array: &ArrayRef, mask: &Bitmap) -> PolarsResult<ArrayRef>
     requires { length (rows array.now.column) ≡ length mask.now.bits }
     ensures rows { IfOk result (λ kept. rows kept.column ≡ select (rows array.now.column) mask.now.bits) }
     ensures dtype { IfOk result (λ kept. type_of kept.column ≡ type_of array.now.column) }
-    ensures refusal { IfErr result (IsRefusal (past_below (type_of array.now.column) (select (rows array.now.column) mask.now.bits))) }
+    ensures refusal { IfErr result (λ fault. fault ≡ PolarsError.OutOfMemory) }
 {
     let (leading, rest) = trimmed(mask)?;
     let array = array.sliced(alloc, leading, rest.len())?;
@@ -77,7 +75,7 @@ fn filter_trimmed(alloc: Global, array: ArrayRef, mask: &Bitmap) -> PolarsResult
     requires { length (rows array.column) ≡ length mask.now.bits }
     ensures rows { IfOk result (λ kept. rows kept.column ≡ select (rows array.column) mask.now.bits) }
     ensures dtype { IfOk result (λ kept. type_of kept.column ≡ type_of array.column) }
-    ensures refusal { IfErr result (IsRefusal (past_below (type_of array.column) (select (rows array.column) mask.now.bits))) }
+    ensures refusal { IfErr result (λ fault. fault ≡ PolarsError.OutOfMemory) }
 {
     if mask.set_bits() == mask.len() {
         return Ok(array);
@@ -91,7 +89,7 @@ fn filter_column(alloc: Global, column: &Column, mask: &Bitmap) -> PolarsResult<
     requires long { length (rows column.now) ≡ length mask.now.bits }
     ensures rows { IfOk result (λ kept. rows kept.column ≡ select (rows column.now) mask.now.bits) }
     ensures dtype { IfOk result (λ kept. type_of kept.column ≡ type_of column.now) }
-    ensures refusal { IfErr result (IsRefusal (past_below (type_of column.now) (select (rows column.now) mask.now.bits))) }
+    ensures refusal { IfErr result (λ fault. fault ≡ PolarsError.OutOfMemory) }
 {
     match column {
         Column::Null(column) => Ok(filter_null(column, mask).into_ref()),
@@ -129,14 +127,15 @@ fn filter_numbers<T: ArrowPrimitive>(
     Ok(filter_primitive(alloc, column, mask)?.into_ref())
 }
 
-/// The rows of a column with children where the bit is true.
+/// The rows of a column with children where the bit is true. At every depth they need no more than all rows do, so no
+/// limit is passed.
 fn filter_nested(alloc: Global, column: &Column, mask: &Bitmap) -> PolarsResult<ArrayRef>
     requires formed { IsWellFormed column.now }
     requires long { length (rows column.now) ≡ length mask.now.bits }
     requires few { length mask.now.bits ≤ 4294967295 }
     ensures rows { IfOk result (λ kept. rows kept.column ≡ select (rows column.now) mask.now.bits) }
     ensures dtype { IfOk result (λ kept. type_of kept.column ≡ type_of column.now) }
-    ensures refusal { IfErr result (IsRefusal (past (type_of column.now) (select (rows column.now) mask.now.bits))) }
+    ensures refusal { IfErr result (λ fault. fault ≡ PolarsError.OutOfMemory) }
 {
     let runs = runs_of_mask(alloc, mask)?;
     let kept = collect_one(alloc, column, &runs, mask.set_bits())?;
@@ -212,8 +211,6 @@ fn filter_binary(
     ensures rows { IfOk result (λ kept. binary_rows kept ≡ select (binary_rows array.now) mask.now.bits) }
     ensures refusal { IfErr result (λ fault. fault ≡ PolarsError.OutOfMemory) }
 {
-    // The last offset is one of its type, and no row ends behind it.
-    let _last = array.offsets.last();
     let places = kept_places(alloc, mask)?;
     let rows = PlacedRows {
         values: array,
@@ -253,7 +250,11 @@ fn filter_views(
 
 /// The texts whose bit is true, by their views.
 #[tactic(auto, using(crate::proofs::Selects::kept_texts))]
-fn filter_texts(alloc: Global, array: &Utf8ViewArray, mask: &Bitmap) -> PolarsResult<Utf8ViewArray>
+pub(crate) fn filter_texts(
+    alloc: Global,
+    array: &Utf8ViewArray,
+    mask: &Bitmap,
+) -> PolarsResult<Utf8ViewArray>
     requires { length (utf8view_rows array.now) ≡ length mask.now.bits }
     ensures rows { IfOk result (λ kept. utf8view_rows kept ≡ select (utf8view_rows array.now) mask.now.bits) }
     ensures refusal { IfErr result (λ fault. fault ≡ PolarsError.OutOfMemory) }

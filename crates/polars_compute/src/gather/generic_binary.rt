@@ -132,6 +132,7 @@ fn offset_of<O: Offset>(n: usize) -> O
 /// The bytes of all rows, joined, of which there are `count`.
 fn collect_joined<S: ByteRows>(alloc: Global, source: &S, count: usize) -> PolarsResult<Vec<u8>>
     ensures bytes { IfOk result (λ bytes. bytes.items ≡ joined_bytes (S.rows source.now)) }
+    ensures few { IfOk result (λ bytes. length bytes.items ≤ 9223372036854775807) }
     ensures refusal { IfErr result (λ fault. fault ≡ PolarsError.OutOfMemory) }
 {
     let mut bytes = Vec::with_capacity(alloc, count)?;

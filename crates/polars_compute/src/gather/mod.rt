@@ -28,6 +28,7 @@ use sel_bits::native::{Index, NativeType};
 pub use sel_runs::collect::collect_rows;
 use sel_runs::single::collect_one;
 pub use sel_runs::sources::picks_in_bounds;
+pub use sel_sublists::sublist;
 use std::alloc::Global;
 
 /// Row k is null where index k is null, else the row at index k. A number beneath a null index is never looked at.

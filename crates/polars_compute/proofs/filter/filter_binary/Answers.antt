@@ -1,11 +1,11 @@
-use Rattle.std.proofs.Common.{◌≡◌, ◌≤◌, pos, ◌≤ℤ◌, length, map, get_or, arith, w64, ◌∙◌, rules}
-use Rattle.std.proofs.lemmas.Int.{ints}
-use mir.Val.{SFits}
+use Rattle.std.proofs.Common.{◌≤◌, pos, length, map, get_or, arith, refl, subst, ◌∙◌}
 use Rattle.sel_arrow.specs.Columns.{binary_rows}
-use Rattle.sel_arrow.specs.Pieces.{last_offset}
 use Rattle.sel_arrow.specs.Value.{Null}
+use Rattle.sel_arrow.specs.declared.column.Column.TheVariants.{LargeBinary}
 use Rattle.sel_arrow.proofs.ByteRows.{length-byte_rows}
-use Rattle.polars_compute.proofs.Needs.{kept_fit, only_memory}
+use Rattle.sel_runs.proofs.Thinned.{memory_alone}
+use Rattle.polars_compute.specs.Need.{IsPastBytes}
+use Rattle.polars_compute.proofs.Needs.{kept_fits}
 use Rattle.polars_compute.proofs.Places.{places_few, places_inside, placed}
 use Rattle.polars_compute.proofs.filter.filter_binary.Goals as goal
 
@@ -30,15 +30,11 @@ returns-in-Ok-clause-rows c =
     c.in-Ok.ensures.rows
     ∙ placed (binary_rows c.args.array.now) c.deref.result.now c.args.mask.now.bits Null (c.deref.ensures.value ∙ c.in_ok-places.ensures.places) c.requires
 
--- the last offset fits its type, and the kept rows need no more bytes
 pub returns-clause-refusal : goal.returns-clause-refusal
 returns-clause-refusal c =
     let column = c.args.array.now in
     let rows = binary_rows column in
     let ms = c.args.mask.now.bits in
-    let range : SFits w64 c.last-last.result = search rules in
-    let shown : c.last-last.result ≡ pos (last_offset column.offsets) = c.last-last.ensures in
-    let fits : pos (last_offset column.offsets) ≤ℤ pos 9223372036854775807 = omega (arith, ints, shown, range) in
-    let need = kept_fit column.offsets column.values column.validity ms (pos 9223372036854775807) column.rising fits in
-    only_memory (pos 9223372036854775807) (map (λ i. get_or rows i Null) c.deref.result.now) c.in-Err.fault c.in-Err.ensures.refusal
-    (rw (placed rows c.deref.result.now ms Null (c.deref.ensures.value ∙ c.in_ok-places.ensures.places) c.requires) need)
+    let is = placed rows c.deref.result.now ms Null (c.deref.ensures.value ∙ c.in_ok-places.ensures.places) c.requires in
+    memory_alone (IsPastBytes (pos 9223372036854775807) (map (λ i. get_or rows i Null) c.deref.result.now)) c.in-Err.fault
+    (λ limit h. kept_fits (LargeBinary column) refl ms limit (subst (λ l. IsPastBytes (pos 9223372036854775807) l limit) is h)) c.in-Err.ensures.refusal

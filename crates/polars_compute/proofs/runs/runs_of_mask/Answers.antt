@@ -1,4 +1,4 @@
-use Rattle.std.proofs.Common.{◌∙◌, ◌++◌, ap, sym, refl, arith, length, map}
+use Rattle.std.proofs.Common.{◌∙◌, ◌++◌, ap, sym, arith, length, map}
 use Rattle.std.proofs.lemmas.List.{append-nil}
 use Rattle.sel_runs.specs.Runs.{expand}
 use Rattle.polars_compute.specs.Pick.{place_pick}

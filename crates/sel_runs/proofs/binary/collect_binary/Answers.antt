@@ -1,11 +1,14 @@
-use Rattle.std.proofs.Common.{◌≡◌, ◌∷◌, ℤ, sym, subst, ◌∙◌, arith, length, map}
+use Rattle.std.proofs.Common.{◌≡◌, ◌∷◌, ℕ, ℤ, List, ap, sym, subst, ◌∙◌, arith, length, map}
+use Rattle.sel_bits.specs.Offsets.{IsRising}
 use Rattle.sel_arrow.specs.Columns.{binary_rows}
 use Rattle.sel_arrow.specs.Masked.{Covers}
+use Rattle.sel_arrow.specs.Pieces.{rows_between, last_offset}
 use Rattle.sel_arrow.specs.Value.{Null}
 use Rattle.sel_runs.specs.JoinedBytes.{ends_from, joined_bytes}
+use Rattle.sel_runs.specs.Need.{bytes_needed}
 use Rattle.sel_runs.specs.Picks.{pick}
 use Rattle.sel_runs.specs.Runs.{expand}
-use Rattle.sel_runs.proofs.JoinedRows.{all_bits, all_bytes, all_ends, built_ends, built_rows, column_bytes, ends_shown, offsets_of, picked_bytes, rebuilt, rising-ends, sources_bytes}
+use Rattle.sel_runs.proofs.JoinedRows.{all_bits, all_bytes, all_ends, built_ends, built_rows, column_bytes, ends_shown, length-joined, offsets_of, picked_bytes, rebuilt, rising-ends, sources_bytes}
 use Rattle.sel_runs.proofs.RunLists.{length-pick}
 use Rattle.sel_runs.proofs.binary.collect_binary.Goals as goal
 
@@ -23,13 +26,15 @@ invariant_of-result c =
     let ends : c.in_ok-offsets.offsets ≡ 0 ∷ ends_from 0 rows = ends_shown (λ (x : ℤ). x) joined.ends.items c.in_ok-offsets.offsets rows shown c.in_ok-offsets.ensures.value in
     let bytes : c.in_ok-values.values ≡ joined_bytes rows = c.in_ok-values.ensures.items ∙ all_bytes rows c.in_ok-joined.joined joined c.in_ok-joined.ensures.bytes c.in_ok-push_runs.ensures.rows in
     let long : length rows ≡ c.args.len = length-pick Null _ (expand c.args.runs.now) ∙ c.requires.len in
-    rw (ends, bytes)
-    (record {
-      rising = rising-ends rows;
-      rows_fit = omega (arith, built_rows rows, long, c.requires.few);
-      values_fit = built_ends rows;
-      validity_fits = subst (Covers c.in_ok-validity.validity) (sym (built_rows rows ∙ long)) c.in_ok-validity.ensures.covers;
-    })
+    let between : rows_between c.in_ok-offsets.offsets ≡ c.args.len = ap rows_between ends ∙ built_rows rows ∙ long in
+    let count : length c.in_ok-values.values ≡ bytes_needed rows = ap (λ (l : List ℕ). length l) bytes ∙ length-joined rows in
+    record {
+      rising = subst IsRising (sym ends) (rising-ends rows);
+      rows_fit = omega (arith, between, c.requires.few);
+      values_fit = omega (arith, ap last_offset ends, ap (λ (l : List ℕ). length l) bytes, built_ends rows);
+      bytes_fit = omega (arith, count);
+      validity_fits = subst (Covers c.in_ok-validity.validity) (sym between) c.in_ok-validity.ensures.covers;
+    }
 
 pub returns-clause-rows : goal.returns-clause-rows
 returns-clause-rows c =

@@ -8,5 +8,6 @@ invariant_of-result g c =
       rising = column.rising;
       rows_fit = column.rows_fit;
       values_fit = column.values_fit;
+      bytes_fit = column.bytes_fit;
       validity_fits = covers_bytes column.offsets column.values column.validity c.args.validity c.requires;
     }

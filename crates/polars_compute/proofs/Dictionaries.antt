@@ -1,0 +1,254 @@
+-- Keys and values of a dictionary without its null values.
+use Rattle.std.proofs.Common.{◌≡◌, ℕ, zero, suc, ◌+◌, ◌≤◌, ◌<◌, pos, Bool, true, false, List, [], ◌∷◌, length, map, take, get_or, Option, Some, None, refl, ap, sym, ◌∙◌, arith, cond, zero-add, add-one, length-take}
+use Rattle.std.specs.Prelude.{if◌then◌else◌, count_by, not, IfNone}
+use Rattle.std.specs.List.{range_with_len}
+use Rattle.std.proofs.lemmas.Bool.{ltb-true}
+use Rattle.std.proofs.lemmas.List.{length-map, get_or-map}
+use Rattle.std.proofs.lemmas.List.FromFn.{get_or-map-range_with_len, length-map-range_with_len}
+use Rattle.std.proofs.lemmas.List.Sums.{sum_by-cons, count_by-le-length}
+use Rattle.sel_bits.specs.Bits.{Bits, count_true}
+use Rattle.sel_arrow.specs.Masked.{hidden, masked, number_rows, Covers, valid_at}
+use Rattle.sel_arrow.specs.Value.{Value, Null, Number, is_valid, is_null, validities}
+use Rattle.sel_arrow.proofs.Lists.{and_first, and_second}
+use Rattle.sel_arrow.proofs.Rows.{masked_null, masked_valid}
+use Rattle.polars_compute.specs.Dictionary.{decode, rank, valid_values, key_of_valid, propagated_keys}
+use Rattle.polars_compute.specs.Pick.{found, pick_of, take_rows, is_within, all_within}
+use Rattle.polars_compute.specs.Select.{select}
+
+-- ---- how many rows are null
+
+abbrev tally : Bool → ℕ
+tally b = cond b 1 0
+
+null_more : (v : Value) (vs : List Value) → count_by is_null (v ∷ vs) ≡ tally (is_null v) + count_by is_null vs
+null_more v vs = sum_by-cons (λ w. tally (is_null w)) v vs
+
+valid_more : (v : Value) (vs : List Value) → count_by is_valid (v ∷ vs) ≡ tally (is_valid v) + count_by is_valid vs
+valid_more v vs = sum_by-cons (λ w. tally (is_valid w)) v vs
+
+-- where none is, the first is not
+no_null : (b : Bool) (v : Value) (vs : List Value) → is_valid v ≡ b → count_by is_null (v ∷ vs) ≡ 0 → is_valid v ≡ true
+no_null true v vs e h = e
+no_null false v vs e h =
+    let one : tally (is_null v) ≡ 1 = ap (λ b. tally (not b)) e in
+    let n = null_more v vs in absurd (omega (arith, one, n, h))
+
+one_valid : (v : Value) (vs : List Value) → count_by is_null (v ∷ vs) ≡ 0 → tally (is_valid v) ≡ 1
+one_valid v vs none = ap (λ b. tally b) (no_null (is_valid v) v vs refl none)
+
+-- the rows that are kept for being valid are no nulls
+one_kept : (b : Bool) (v : Value) (vs : List Value) → is_valid v ≡ b → count_by is_null (select vs (validities vs)) ≡ 0 → count_by is_null (select (v ∷ vs) (b ∷ validities vs)) ≡ 0
+one_kept true v vs e h =
+    let off : tally (is_null v) ≡ 0 = ap (λ b. tally (not b)) e in
+    omega (arith, off, h, null_more v (select vs (validities vs)))
+one_kept false v vs e h = h
+
+pub none_null : (vs : List Value) → count_by is_null (select vs (validities vs)) ≡ 0
+none_null [] = refl
+none_null (v ∷ vs) = one_kept (is_valid v) v vs refl (none_null vs)
+
+-- ---- rows without a null need no validity
+
+shown : {A : Type 0} (f : A → Value) → (bs : List Bool) (xs : List A) → count_by is_null (hidden bs (map f xs)) ≡ 0 → hidden bs (map f xs) ≡ map f xs
+shown f [] xs h = refl
+shown f (b ∷ bs) [] h = refl
+shown f (true ∷ bs) (x ∷ xs) h =
+    ap (λ l. f x ∷ l) (shown f bs xs (let e = null_more (f x) (hidden bs (map f xs)) in omega (arith, e, h)))
+shown f (false ∷ bs) (x ∷ xs) h = let e = null_more Null (hidden bs (map f xs)) in absurd (omega (arith, e, h))
+
+pub bare_rows : {A : Type 0} (f : A → Value) → (validity : Option Bits) (xs : List A) → count_by is_null (masked validity (map f xs)) ≡ 0 → map f xs ≡ masked validity (map f xs)
+bare_rows f None xs h = refl
+bare_rows f (Some validity) xs h = sym (shown f validity.bits xs h)
+
+-- ---- what a validity tells
+
+-- the validities of rows under a validity are its bits
+told_bits : {A : Type 0} (f : A → Value) → ((x : A) → is_valid (f x) ≡ true) → (bs : List Bool) (xs : List A) → length bs ≡ length xs → validities (hidden bs (map f xs)) ≡ bs
+told_bits f valid [] [] long = refl
+told_bits f valid [] (x ∷ xs) long = absurd (omega arith)
+told_bits f valid (b ∷ bs) [] long = absurd (omega arith)
+told_bits f valid (true ∷ bs) (x ∷ xs) long = (λ i. valid x i ∷ told_bits f valid bs xs (omega arith) i)
+told_bits f valid (false ∷ bs) (x ∷ xs) long = ap (λ l. false ∷ l) (told_bits f valid bs xs (omega arith))
+
+pub told_validity : {A : Type 0} (f : A → Value) → ((x : A) → is_valid (f x) ≡ true) → (old : Option Bits) (validity : Bits) (xs : List A) → old ≡ Some validity → Covers old (length xs) →
+    validity.bits ≡ validities (masked old (map f xs))
+told_validity f valid old validity xs is covers =
+    rw is (sym (told_bits f valid validity.bits xs (covers validity is)))
+
+pub if_none : {A : Type 0} (o : Option A) (P : Type 0) → (o ≡ None → P) → IfNone o P
+if_none None P h = h refl
+if_none (Some x) P h = tt
+
+-- without a validity no row is null
+pub all_valid : {A : Type 0} (f : A → Value) → ((x : A) → is_valid (f x) ≡ true) → (xs : List A) → count_by is_null (map f xs) ≡ 0
+all_valid f valid [] = refl
+all_valid f valid (x ∷ xs) =
+    let off : tally (is_null (f x)) ≡ 0 = ap (λ b. tally (not b)) (valid x) in
+    null_more (f x) (map f xs) ∙ omega (arith, off, all_valid f valid xs)
+
+-- ---- ranks
+
+one_more : (bs : List Bool) (i : ℕ) → i < length bs → count_true (take (suc i) bs) ≡ count_true (take i bs) + (if get_or bs i false then 1 else 0)
+one_more [] i inside = absurd (omega (arith, inside))
+one_more (true ∷ bs) zero inside = refl
+one_more (false ∷ bs) zero inside = refl
+one_more (b ∷ bs) (suc i) inside =
+    let rest = one_more bs i (omega (arith, inside)) in
+    let longer = sum_by-cons tally b (take (suc i) bs) in
+    let shorter = sum_by-cons tally b (take i bs) in
+    omega (arith, rest, longer, shorter)
+
+pub count_step : (bs : List Bool) (i : ℕ) → i < length bs → count_true (take (i + 1) bs) ≡ count_true (take i bs) + (if get_or bs i false then 1 else 0)
+count_step bs i inside = rw add-one (one_more bs i inside)
+
+pub count_few : (bs : List Bool) (i : ℕ) → count_true (take i bs) ≤ i
+count_few bs i = let few = count_by-le-length (λ b. b) (take i bs) in omega (arith, few, length-take i bs)
+
+one_count : (b : Bool) (v : Value) (vs : List Value) → is_valid v ≡ b → count_by is_valid vs + count_by is_null vs ≡ length vs → count_by is_valid (v ∷ vs) + count_by is_null (v ∷ vs) ≡ suc (length vs)
+one_count true v vs e h =
+    let yes : tally (is_valid v) ≡ 1 = ap (λ b. tally b) e in
+    let no : tally (is_null v) ≡ 0 = ap (λ b. tally (not b)) e in
+    omega (arith, yes, no, h, valid_more v vs, null_more v vs)
+one_count false v vs e h =
+    let no : tally (is_valid v) ≡ 0 = ap (λ b. tally b) e in
+    let yes : tally (is_null v) ≡ 1 = ap (λ b. tally (not b)) e in
+    omega (arith, yes, no, h, valid_more v vs, null_more v vs)
+
+both_counts : (vs : List Value) → count_by is_valid vs + count_by is_null vs ≡ length vs
+both_counts [] = refl
+both_counts (v ∷ vs) = one_count (is_valid v) v vs refl (both_counts vs)
+
+pub counts_long : (ranks : List ℕ) (bits : List Bool) → ranks ≡ map (λ i. count_true (take i bits)) (range_with_len 0 (length bits)) → length ranks ≡ length bits
+counts_long ranks bits counts = ap length counts ∙ length-map-range_with_len (λ i. count_true (take i bits)) 0 (length bits)
+
+-- the true bits before a place are the rows that are not null
+counted_before : (vs : List Value) (k : ℕ) → count_true (take k (validities vs)) ≡ rank vs k
+counted_before [] zero = refl
+counted_before [] (suc k) = refl
+counted_before (v ∷ vs) zero = refl
+counted_before (v ∷ vs) (suc k) =
+    sum_by-cons (λ b. tally b) (is_valid v) (take k (validities vs)) ∙ ap (λ n. tally (is_valid v) + n) (counted_before vs k) ∙ sym (valid_more v (take k vs))
+
+-- ---- the keys of the valid values
+
+module _ (vs : List Value) (ranks : List ℕ) (validity : Bits) (bits : validity.bits ≡ validities vs) (counts : ranks ≡ map (λ i. count_true (take i validity.bits)) (range_with_len 0 (length validity.bits))) where
+  long : length ranks ≡ length vs
+  long = counts_long ranks validity.bits counts ∙ ap length bits ∙ length-map vs is_valid
+
+  covered : Covers (Some validity) (length (map (λ x. Number (pos x)) ranks))
+  covered = λ v there. let same : validity ≡ v = cc in ap (λ (b : Bits). length b.bits) (sym same) ∙ ap length bits ∙ length-map vs is_valid ∙ sym long ∙ sym (length-map ranks (λ x. Number (pos x)))
+
+  rank_at : (i : ℕ) → i < length vs → get_or ranks i 0 ≡ rank vs i
+  rank_at i inside =
+      let within : i < length validity.bits = let e = ap length bits ∙ length-map vs is_valid in omega (arith, e, inside) in
+      ap (λ l. get_or l i 0) counts ∙ get_or-map-range_with_len (λ k. count_true (take k validity.bits)) 0 (length validity.bits) i i 0 within (zero-add i)
+      ∙ ap (λ l. count_true (take i l)) bits ∙ counted_before vs i
+
+  one_key : (b : Bool) (i : ℕ) → i < length vs → is_valid (get_or vs i Null) ≡ b →
+      get_or (number_rows pos ranks (Some validity)) i Null ≡ (if b then Number (pos (rank vs i)) else Null)
+  one_key true i inside e =
+      let there : i < length ranks = let l = long in omega (arith, l, inside) in
+      let bit : valid_at (Some validity) i ≡ true = ap (λ l. get_or l i false) bits ∙ get_or-map is_valid vs i Null false inside ∙ e in
+      masked_valid (Some validity) (map (λ x. Number (pos x)) ranks) i bit (rw length-map there) covered
+      ∙ get_or-map (λ x. Number (pos x)) ranks i 0 Null there ∙ ap (λ n. Number (pos n)) (rank_at i inside)
+  one_key false i inside e =
+      let there : i < length ranks = let l = long in omega (arith, l, inside) in
+      let bit : valid_at (Some validity) i ≡ false = ap (λ l. get_or l i false) bits ∙ get_or-map is_valid vs i Null false inside ∙ e in
+      masked_null (Some validity) (map (λ x. Number (pos x)) ranks) i bit (rw length-map there) covered
+
+  each_key : (key : Value) → is_within (length vs) key ≡ true → found Null (number_rows pos ranks (Some validity) ∷ []) (pick_of key) ≡ key_of_valid vs key
+  each_key (Number (pos i)) within = one_key (is_valid (get_or vs i Null)) i (ltb-true i (length vs) within) refl
+  each_key key within = refl
+
+  pub keys_taken : (keys : List Value) → all_within (length vs) keys ≡ true → take_rows (number_rows pos ranks (Some validity)) keys ≡ propagated_keys keys vs
+  keys_taken [] within = refl
+  keys_taken (key ∷ keys) within =
+      let first = and_first (is_within (length vs) key) (all_within (length vs) keys) within in
+      let rest = and_second (is_within (length vs) key) (all_within (length vs) keys) within in
+      (λ i. each_key key first i ∷ keys_taken keys rest i)
+
+-- ---- where no value is null each key stays
+
+rank_all : (vs : List Value) (k : ℕ) → count_by is_null vs ≡ 0 → k ≤ length vs → rank vs k ≡ k
+rank_all [] k none inside = let e : k ≡ 0 = omega (arith, inside) in rw e refl
+rank_all (v ∷ vs) zero none inside = refl
+rank_all (v ∷ vs) (suc k) none inside =
+    let valid = one_valid v vs none in
+    let e = rank_all vs k (let n = null_more v vs in omega (arith, n, none)) (omega (arith, inside)) in
+    valid_more v (take k vs) ∙ omega (arith, e, valid)
+
+valid_here : (vs : List Value) (k : ℕ) → count_by is_null vs ≡ 0 → k < length vs → is_valid (get_or vs k Null) ≡ true
+valid_here [] k none inside = absurd (omega (arith, inside))
+valid_here (v ∷ vs) zero none inside = no_null (is_valid v) v vs refl none
+valid_here (v ∷ vs) (suc k) none inside = valid_here vs k (let n = null_more v vs in omega (arith, n, none)) (omega (arith, inside))
+
+key_stays : (vs : List Value) (n : ℕ) → count_by is_null vs ≡ 0 → is_within (length vs) (Number (pos n)) ≡ true → key_of_valid vs (Number (pos n)) ≡ Number (pos n)
+key_stays vs n none within =
+    let inside = ltb-true n (length vs) within in
+    ap (λ b. if b then Number (pos (rank vs n)) else Null) (valid_here vs n none inside) ∙ ap (λ m. Number (pos m)) (rank_all vs n none (omega (arith, inside)))
+
+keys_hidden : (vs : List Value) (bs : List Bool) (xs : List ℕ) → count_by is_null vs ≡ 0 → all_within (length vs) (hidden bs (map (λ x. Number (pos x)) xs)) ≡ true →
+    hidden bs (map (λ x. Number (pos x)) xs) ≡ propagated_keys (hidden bs (map (λ x. Number (pos x)) xs)) vs
+keys_hidden vs [] [] none within = refl
+keys_hidden vs [] (x ∷ xs) none within =
+    let first = and_first (is_within (length vs) (Number (pos x))) (all_within (length vs) (map (λ x. Number (pos x)) xs)) within in
+    let rest = and_second (is_within (length vs) (Number (pos x))) (all_within (length vs) (map (λ x. Number (pos x)) xs)) within in
+    (λ i. sym (key_stays vs x none first) i ∷ keys_hidden vs [] xs none rest i)
+keys_hidden vs (b ∷ bs) [] none within = refl
+keys_hidden vs (true ∷ bs) (x ∷ xs) none within =
+    let first = and_first (is_within (length vs) (Number (pos x))) (all_within (length vs) (hidden bs (map (λ x. Number (pos x)) xs))) within in
+    let rest = and_second (is_within (length vs) (Number (pos x))) (all_within (length vs) (hidden bs (map (λ x. Number (pos x)) xs))) within in
+    (λ i. sym (key_stays vs x none first) i ∷ keys_hidden vs bs xs none rest i)
+keys_hidden vs (false ∷ bs) (x ∷ xs) none within = ap (λ l. Null ∷ l) (keys_hidden vs bs xs none within)
+
+pub keys_stay : (vs : List Value) (xs : List ℕ) (validity : Option Bits) → count_by is_null vs ≡ 0 → all_within (length vs) (number_rows pos xs validity) ≡ true →
+    number_rows pos xs validity ≡ propagated_keys (number_rows pos xs validity) vs
+keys_stay vs xs None none within = keys_hidden vs [] xs none within
+keys_stay vs xs (Some validity) none within = keys_hidden vs validity.bits xs none within
+
+-- and each value
+pub values_stay : (vs : List Value) → count_by is_null vs ≡ 0 → vs ≡ valid_values vs
+values_stay [] none = refl
+values_stay (v ∷ vs) none =
+    let rest = values_stay vs (let n = null_more v vs in omega (arith, n, none)) in
+    ap (λ l. v ∷ l) rest ∙ ap (λ b. select (v ∷ vs) (b ∷ validities vs)) (sym (no_null (is_valid v) v vs refl none))
+
+-- ---- each key names the same value as before
+
+null_is : (v : Value) → is_valid v ≡ false → v ≡ Null
+null_is Null e = refl
+null_is v e = cc
+
+-- one value more in front of it
+behind : (b : Bool) (v : Value) (vs : List Value) (k : ℕ) → is_valid v ≡ b → get_or (valid_values vs) (rank vs k) Null ≡ get_or vs k Null →
+    get_or (select (v ∷ vs) (b ∷ validities vs)) (rank (v ∷ vs) (suc k)) Null ≡ get_or vs k Null
+behind true v vs k e h =
+    let more : suc (rank vs k) ≡ 1 + rank vs k = omega arith in
+    let one : rank (v ∷ vs) (suc k) ≡ suc (rank vs k) = valid_more v (take k vs) ∙ ap (λ b. tally b + rank vs k) e ∙ sym more in
+    ap (λ i. get_or (v ∷ valid_values vs) i Null) one ∙ h
+behind false v vs k e h =
+    let same : rank (v ∷ vs) (suc k) ≡ rank vs k = valid_more v (take k vs) ∙ ap (λ b. tally b + rank vs k) e ∙ zero-add (rank vs k) in
+    ap (λ i. get_or (valid_values vs) i Null) same ∙ h
+
+-- a valid value stands at its rank among the valid ones
+rank_found : (vs : List Value) (k : ℕ) → k < length vs → is_valid (get_or vs k Null) ≡ true → get_or (valid_values vs) (rank vs k) Null ≡ get_or vs k Null
+rank_found [] k inside valid = absurd (omega (arith, inside))
+rank_found (v ∷ vs) zero inside valid = ap (λ b. get_or (select (v ∷ vs) (b ∷ validities vs)) 0 Null) valid
+rank_found (v ∷ vs) (suc k) inside valid = behind (is_valid v) v vs k refl (rank_found vs k (omega (arith, inside)) valid)
+
+-- the value that a key names, before and after
+same_value : (b : Bool) (vs : List Value) (k : ℕ) → k < length vs → is_valid (get_or vs k Null) ≡ b →
+    found Null (valid_values vs ∷ []) (pick_of (if b then Number (pos (rank vs k)) else Null)) ≡ get_or vs k Null
+same_value true vs k inside valid = rank_found vs k inside valid
+same_value false vs k inside valid = sym (null_is (get_or vs k Null) valid)
+
+one_decoded : (vs : List Value) (key : Value) → is_within (length vs) key ≡ true → found Null (valid_values vs ∷ []) (pick_of (key_of_valid vs key)) ≡ found Null (vs ∷ []) (pick_of key)
+one_decoded vs (Number (pos k)) within = same_value (is_valid (get_or vs k Null)) vs k (ltb-true k (length vs) within) refl
+one_decoded vs key within = refl
+
+pub propagation_decodes : (keys vs : List Value) → all_within (length vs) keys ≡ true → decode (propagated_keys keys vs) (valid_values vs) ≡ decode keys vs
+propagation_decodes [] vs within = refl
+propagation_decodes (key ∷ keys) vs within =
+    let first = and_first (is_within (length vs) key) (all_within (length vs) keys) within in
+    let rest = and_second (is_within (length vs) key) (all_within (length vs) keys) within in
+    (λ i. one_decoded vs key first i ∷ propagation_decodes keys vs rest i)

@@ -1,0 +1,25 @@
+use Rattle.std.proofs.Common.{◌≡◌, ℕ, ◌<◌, ◌∙◌, ◌++◌, ◌∷◌, [], ◌+◌, ap, sym, arith, map, take, length, zero-add}
+use Rattle.std.specs.Prelude.{if◌then◌else◌}
+use Rattle.std.specs.List.{range_with_len}
+use Rattle.std.proofs.lemmas.List.FromFn.{map-range_with_len_more}
+use Rattle.sel_bits.specs.Bits.{count_true}
+use Rattle.polars_compute.proofs.Dictionaries.{count_step}
+use Rattle.polars_compute.proofs.propagate_dictionary.counts_before.Goals as goal
+
+pub loop-i-preserved : goal.loop-i-preserved
+loop-i-preserved c =
+    let bits = c.args.bits.now.bits in
+    let i = c.loop-i.i in
+    let count : ℕ → ℕ = λ k. count_true (take k bits) in
+    let inside : i < length bits = omega (arith, c.loop-i-test.true, c.len-i-end.ensures) in (
+      c.in_ok-push.ensures.items ∙ ap (λ l. l ++ c.loop-i.count ∷ []) c.loop-i.invariant.0 ∙ ap (λ n. map count (range_with_len 0 i) ++ n ∷ []) c.loop-i.invariant.1
+          ∙ sym (map-range_with_len_more count 0 i i (zero-add i)),
+      c.counted-count.ensures ∙ ap (λ n. n + (if c.get_bit.result then 1 else 0)) c.loop-i.invariant.1 ∙ ap (λ b. count i + (if b then 1 else 0)) c.get_bit.ensures ∙ sym (count_step bits i inside),
+    )
+
+pub returns-clause-counts : goal.returns-clause-counts
+returns-clause-counts c =
+    let bits = c.args.bits.now.bits in
+    let count : ℕ → ℕ = λ k. count_true (take k bits) in
+    let done : c.loop-i.i ≡ length bits = omega (arith, c.loop-i-test.false, c.loop-i.auto.i-end, c.len-i-end.ensures) in
+    c.loop-i.invariant.0 ∙ ap (λ n. map count (range_with_len 0 n)) done

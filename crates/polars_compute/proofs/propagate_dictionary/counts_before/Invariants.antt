@@ -1,0 +1,8 @@
+-- The counts so far, and how many bits were true.
+use Rattle.std.proofs.Common.{◌≡◌, map, take}
+use Rattle.std.specs.List.{range_with_len}
+use Rattle.sel_bits.specs.Bits.{count_true}
+use Rattle.polars_compute.proofs.propagate_dictionary.counts_before.Given as goal
+
+abbrev pub invariant-loop-i : goal.invariant-loop-i
+invariant-loop-i l = (l.counts.items ≡ map (λ i. count_true (take i l.bits.bits)) (range_with_len 0 l.i)) × (l.count ≡ count_true (take l.i l.bits.bits))

@@ -1,0 +1,16 @@
+use Rattle.std.proofs.Common.{sym, subst}
+use Rattle.std.specs.Prelude.{IsTrue}
+use Rattle.sel_arrow.specs.Texts.{all_text}
+use Rattle.sel_arrow.specs.Views.{view_value}
+use Rattle.polars_compute.proofs.Dictionaries.{bare_rows}
+use Rattle.polars_compute.proofs.propagate_dictionary.without_validity.Goals as goal
+
+pub invariant_of-result : goal.invariant_of-result
+invariant_of-result c =
+    let array = c.args.values.bytes in
+    record { texts = subst (λ l. IsTrue (all_text l)) (sym (bare_rows (view_value array.buffers) array.validity array.views c.requires)) c.args.values.texts }
+
+pub returns-clause-rows : goal.returns-clause-rows
+returns-clause-rows c =
+    let array = c.args.values.bytes in
+    bare_rows (view_value array.buffers) array.validity array.views c.requires

@@ -1,0 +1,219 @@
+//! Columns side by side: of each row the parts of all columns, behind one another.
+
+ghost use Rattle.std.specs.Prelude.{◌≡◌, ◌≤◌, ◌<◌, ◌+◌, ◌*◌, ◌++◌, ◌↔◌, Some, All, length, map, take, drop, IsTrue, IfSome, IfNone, IfOk, IfErr, OnOk};
+ghost use Rattle.sel_arrow.specs.Rows.{rows, type_of};
+ghost use Rattle.sel_arrow.specs.Value.{Null};
+ghost use Rattle.sel_runs.specs.Need.{IsRefusal};
+ghost use Rattle.sel_runs.specs.Picks.{pick, PickFits};
+ghost use Rattle.sel_runs.specs.Runs.{expand};
+ghost use Rattle.sel_runs.specs.Sources.{first_type};
+ghost use Rattle.sel_flatten.specs.Flatten.{flatten, flat_row, row_part, row_width, part_fits, parts_fit, past_flattened};
+
+use sel_arrow::array::Array;
+use sel_arrow::array_ref::ArrayRef;
+use sel_arrow::column::Column;
+use sel_bits::faults::{Limit, PolarsError, PolarsResult};
+use sel_runs::collect::collect_runs;
+use sel_runs::run::{Run, push_run};
+use std::alloc::Global;
+
+/// The rows of all columns side by side: row h of the answer, which is as wide as all `widths` together, has column by
+/// column its rows from `h * width` up to `(h + 1) * width`, or its only `width` rows where it has no more; the answer is
+/// all of them behind one another, for `output_height` rows.
+///
+/// Refuses for want of memory, and where the answer passes a limit; one without rows passes none.
+pub fn horizontal_flatten_unchecked(
+    alloc: Global,
+    arrays: &[ArrayRef],
+    widths: &[usize],
+    output_height: usize,
+) -> PolarsResult<ArrayRef>
+    requires some { 0 < length arrays.now }
+    requires alike { All (λ a. type_of a.column ≡ first_type (map (λ a. a.column) arrays.now)) arrays.now }
+    requires fit { IsTrue (parts_fit output_height (map (λ a. rows a.column) arrays.now) widths.now) }
+    ensures rows { IfOk result (λ flat. rows flat.column ≡ flatten (map (λ a. rows a.column) arrays.now) widths.now output_height) }
+    ensures dtype { IfOk result (λ flat. type_of flat.column ≡ first_type (map (λ a. a.column) arrays.now)) }
+    ensures refusal { IfErr result (IsRefusal (past_flattened output_height (first_type (map (λ a. a.column) arrays.now)) (map (λ a. a.column) arrays.now) (flatten (map (λ a. rows a.column) arrays.now) widths.now output_height))) }
+{
+    if output_height == 0 {
+        return arrays[0].sliced(alloc, 0, 0);
+    }
+    match flat_rows(widths, output_height) {
+        None => Err(PolarsError::SizeLimit(Limit::Rows)),
+        Some(len) => collect_flat(alloc, arrays, widths, output_height, len),
+    }
+}
+
+/// Whether `horizontal_flatten_unchecked` may be called: there are columns, all of one type, and for each a width other
+/// than 0 and so many rows for each row of the answer, or for one alone. It multiplies in wide numbers.
+pub fn flatten_is_safe(arrays: &[ArrayRef], widths: &[usize], output_height: usize) -> bool
+    ensures { IsTrue result ↔ ((0 < length arrays.now) × All (λ a. type_of a.column ≡ first_type (map (λ a. a.column) arrays.now)) arrays.now × IsTrue (parts_fit output_height (map (λ a. rows a.column) arrays.now) widths.now)) }
+{
+    if arrays.is_empty() {
+        return false;
+    }
+    are_of_one_type(arrays) && do_parts_fit(arrays, widths, output_height)
+}
+
+// Whether each column is of the type of the first.
+fn are_of_one_type(arrays: &[ArrayRef]) -> bool
+    requires { 0 < length arrays.now }
+    ensures { IsTrue result ↔ All (λ a. type_of a.column ≡ first_type (map (λ a. a.column) arrays.now)) arrays.now }
+{
+    let first = &arrays[0];
+    for array in arrays {
+        if !array.same_dtype(first) {
+            return false;
+        }
+    }
+    true
+}
+
+// Whether there is a width for each column, other than 0, and so many rows for each of `height` rows, or for one alone.
+fn do_parts_fit(arrays: &[ArrayRef], widths: &[usize], height: usize) -> bool
+    ensures { result ≡ parts_fit height (map (λ a. rows a.column) arrays.now) widths.now }
+{
+    if arrays.len() != widths.len() {
+        return false;
+    }
+    for s in 0..widths.len() {
+        if !does_part_fit(arrays[s].len(), widths[s], height) {
+            return false;
+        }
+    }
+    true
+}
+
+// Whether a column of `len` rows has `width` of them, which is not 0, for each of `height` rows, or for one alone.
+fn does_part_fit(len: usize, width: usize, height: usize) -> bool
+    ensures { result ≡ part_fits height len width }
+{
+    width > 0 && (len as u128 == width as u128 * height as u128 || len == width)
+}
+
+// How many rows the answer has; none where they are more than a column may have.
+fn flat_rows(widths: &[usize], height: usize) -> Option<usize>
+    requires { 0 < height }
+    ensures len { IfSome result (λ len. len ≡ height * row_width widths.now) }
+    ensures few { IfSome result (λ len. len ≤ 4294967295) }
+    ensures many { IfNone result (4294967295 < height * row_width widths.now) }
+{
+    let row = width_of_row(widths);
+    if row > u32::MAX as u128 {
+        return None;
+    }
+    let len = row * height as u128;
+    if len > u32::MAX as u128 {
+        return None;
+    }
+    Some(len as usize)
+}
+
+// How many rows of all columns one row of the answer has.
+fn width_of_row(widths: &[usize]) -> u128
+    ensures { result ≡ row_width widths.now }
+{
+    // (there are no more widths than a place can show)
+    let _len = widths.len();
+    let mut row = 0;
+    for width in widths {
+        row += *width as u128;
+    }
+    row
+}
+
+// The rows side by side, `len` in all.
+fn collect_flat(
+    alloc: Global,
+    arrays: &[ArrayRef],
+    widths: &[usize],
+    height: usize,
+    len: usize,
+) -> PolarsResult<ArrayRef>
+    requires some { 0 < length arrays.now }
+    requires alike { All (λ a. type_of a.column ≡ first_type (map (λ a. a.column) arrays.now)) arrays.now }
+    requires fit { IsTrue (parts_fit height (map (λ a. rows a.column) arrays.now) widths.now) }
+    requires high { 0 < height }
+    requires len { len ≡ height * row_width widths.now }
+    requires few { len ≤ 4294967295 }
+    ensures rows { IfOk result (λ flat. rows flat.column ≡ flatten (map (λ a. rows a.column) arrays.now) widths.now height) }
+    ensures dtype { IfOk result (λ flat. type_of flat.column ≡ first_type (map (λ a. a.column) arrays.now)) }
+    ensures refusal { IfErr result (IsRefusal (past_flattened height (first_type (map (λ a. a.column) arrays.now)) (map (λ a. a.column) arrays.now) (flatten (map (λ a. rows a.column) arrays.now) widths.now height))) }
+{
+    let runs = runs_of_parts(alloc, arrays, widths, height)?;
+    let sources = columns_of(alloc, arrays)?;
+    let column = collect_runs(alloc, &sources, &runs, len)?;
+    Ok(ArrayRef { column })
+}
+
+// The columns themselves. Refuses only for want of memory.
+fn columns_of<'a>(alloc: Global, arrays: &'a [ArrayRef]) -> PolarsResult<Vec<&'a Column>>
+    ensures columns { IfOk result (λ found. map (λ c. c.now) found.items ≡ map (λ a. a.column) arrays.now) }
+    ensures refusal { IfErr result (λ fault. fault ≡ PolarsError.OutOfMemory) }
+{
+    let mut found = Vec::with_capacity(alloc, arrays.len())?;
+    for array in arrays {
+        found.push(array.as_column())?;
+    }
+    Ok(found)
+}
+
+// The parts of all columns as runs, row by row. Refuses only for want of memory.
+fn runs_of_parts(
+    alloc: Global,
+    arrays: &[ArrayRef],
+    widths: &[usize],
+    height: usize,
+) -> PolarsResult<Vec<Run>>
+    requires fit { IsTrue (parts_fit height (map (λ a. rows a.column) arrays.now) widths.now) }
+    requires few { height * row_width widths.now ≤ 4294967295 }
+    ensures rows { IfOk result (λ runs. pick Null (map (λ a. rows a.column) arrays.now) (expand runs.items) ≡ flatten (map (λ a. rows a.column) arrays.now) widths.now height) }
+    ensures fits { IfOk result (λ runs. All (PickFits (map (λ a. rows a.column) arrays.now)) (expand runs.items)) }
+    ensures refusal { IfErr result (λ fault. fault ≡ PolarsError.OutOfMemory) }
+{
+    let mut runs = Vec::new(alloc);
+    for r in 0..height {
+        push_row(&mut runs, arrays, widths, height, r)?;
+    }
+    Ok(runs)
+}
+
+// Puts the parts of row `r` behind the others. Refuses only for want of memory.
+fn push_row(
+    runs: &mut Vec<Run>,
+    arrays: &[ArrayRef],
+    widths: &[usize],
+    height: usize,
+    r: usize,
+) -> PolarsResult<()>
+    requires fit { IsTrue (parts_fit height (map (λ a. rows a.column) arrays.now) widths.now) }
+    requires inside { r < height }
+    requires fits { All (PickFits (map (λ a. rows a.column) arrays.now)) (expand runs.old.items) }
+    requires room { length (expand runs.old.items) + row_width widths.now ≤ 4294967295 }
+    ensures rows { OnOk result (pick Null (map (λ a. rows a.column) arrays.now) (expand runs.new.items) ≡ pick Null (map (λ a. rows a.column) arrays.now) (expand runs.old.items) ++ flat_row r (map (λ a. rows a.column) arrays.now) widths.now) }
+    ensures fits { OnOk result (All (PickFits (map (λ a. rows a.column) arrays.now)) (expand runs.new.items)) }
+    ensures refusal { IfErr result (λ fault. fault ≡ PolarsError.OutOfMemory) }
+{
+    for (s, array) in arrays.iter().enumerate() {
+        push_run(runs, run_of_part(array, s, widths[s], height, r))?;
+    }
+    Ok(())
+}
+
+// The part of column `s` in row `r`.
+fn run_of_part(array: &ArrayRef, s: usize, width: usize, height: usize, r: usize) -> Run
+    requires numbered { s ≤ 4294967295 }
+    requires inside { r < height }
+    requires fit { IsTrue (part_fits height (length (rows array.now.column)) width) }
+    ensures source { result.source ≡ Some s }
+    ensures len { result.len ≡ width }
+    ensures part { take result.len (drop result.start (rows array.now.column)) ≡ row_part r (rows array.now.column) width }
+    ensures inside { result.start + result.len ≤ length (rows array.now.column) }
+{
+    let start = if array.len() == width { 0 } else { r * width };
+    Run {
+        source: Some(s as u32),
+        start: start as u32,
+        len: width as u32,
+    }
+}

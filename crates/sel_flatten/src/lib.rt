@@ -1,0 +1,4 @@
+//! Columns side by side, flattened into one.
+#![tactic(auto)]
+
+pub mod horizontal_flatten;

@@ -1,0 +1,4 @@
+pub mod Blocks
+pub mod Offsets
+pub mod Places
+pub mod Units

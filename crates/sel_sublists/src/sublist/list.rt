@@ -1,0 +1,171 @@
+//! Elements of lists between offsets, by one index for all of them.
+
+ghost use Rattle.std.specs.Prelude.{◌≡◌, ◌<◌, ◌≤◌, ◌+◌, pos, [], ◌∷◌, map, length, slice_index_or, IfOk, IfErr};
+ghost use Rattle.std.specs.List.{range_with_len};
+ghost use Rattle.sel_arrow.specs.Columns.{primitive_rows};
+ghost use Rattle.sel_arrow.specs.Masked.{number_value};
+ghost use Rattle.sel_arrow.specs.NestedArrays.{list_column};
+ghost use Rattle.sel_arrow.specs.Pieces.{rows_between};
+ghost use Rattle.sel_arrow.specs.Rows.{rows, type_of};
+ghost use Rattle.sel_arrow.specs.Shape.{of_large_list};
+ghost use Rattle.sel_arrow.specs.Value.{Null};
+ghost use Rattle.sel_runs.specs.Need.{IsRefusal, past};
+ghost use Rattle.sel_runs.specs.Runs.{expand};
+ghost use Rattle.sel_sublists.specs.Elements.{child_pick};
+ghost use Rattle.sel_sublists.specs.Lists.{list_get, lacks_place, oob, child_place, places_in, unit_lists};
+
+use crate::sublist::run_of_place;
+use sel_arrow::array::Array;
+use sel_arrow::array_ref::ArrayRef;
+use sel_arrow::list::ListArray;
+use sel_arrow::primitive::{IdxArr, PrimitiveArray};
+use sel_arrow::validity::is_valid_at;
+use sel_bits::buffer::Buffer;
+use sel_bits::faults::{PolarsError, PolarsResult};
+use sel_bits::number::negative_to_usize;
+use sel_bits::offsets::OffsetsBuffer;
+use sel_bits::packer::BitPacker;
+use sel_runs::run::{Run, push_run};
+use sel_runs::single::collect_one;
+use std::alloc::Global;
+
+/// Row k is null where list k is null or the index has no place in it, else the element at that place, which may be null.
+/// A negative index counts from the end. The answer has the child's type. Refuses for want of memory, and where a limit is
+/// passed by the rows that are asked for.
+pub fn sublist_get(alloc: Global, arr: &ListArray<i64>, index: i64) -> PolarsResult<ArrayRef>
+    ensures rows { IfOk result (λ taken. rows taken.column ≡ list_get (rows (list_column arr.now)) index) }
+    ensures dtype { IfOk result (λ taken. type_of taken.column ≡ type_of arr.now.values.value) }
+    ensures refusal { IfErr result (IsRefusal (past (type_of arr.now.values.value) (list_get (rows (list_column arr.now)) index))) }
+{
+    let runs = runs_of_places(alloc, arr, index)?;
+    let taken = collect_one(alloc, arr.values(), &runs, arr.offsets.len_proxy())?;
+    Ok(taken)
+}
+
+/// Row k is null where list k is null or the index has no place in it, else it says which of the child's rows is the element
+/// at that place. Refuses only for want of memory.
+pub fn sublist_get_indexes(alloc: Global, arr: &ListArray<i64>, index: i64) -> PolarsResult<IdxArr>
+    ensures rows { IfOk result (λ indices. primitive_rows indices ≡ map (number_value pos) (places_in arr.now.offsets arr.now.validity index)) }
+    ensures refusal { IfErr result (λ fault. fault ≡ PolarsError.OutOfMemory) }
+{
+    let len = arr.offsets.len_proxy();
+    let mut values = Vec::with_capacity(alloc, len)?;
+    let mut validity = BitPacker::with_capacity(alloc, len)?;
+    for k in 0..len {
+        let place = place_in_child(arr, index, k);
+        values.push(place.unwrap_or(0))?;
+        validity.push(place.is_some())?;
+    }
+    let validity = validity.into_bitmap(len)?;
+    let values = Buffer::from_vec(values)?;
+    Ok(PrimitiveArray {
+        values,
+        validity: Some(validity),
+    })
+}
+
+/// Whether the index has no place in some list. A null list has none to be in, and is passed over.
+pub fn index_is_oob(arr: &ListArray<i64>, index: i64) -> bool
+    ensures { result ≡ oob (rows (list_column arr.now)) index }
+{
+    for k in 0..arr.offsets.len_proxy() {
+        if is_oob_at(arr, index, k) {
+            return true;
+        }
+    }
+    false
+}
+
+/// Each row in a list of its own; no list is null. Refuses only for want of memory, and hands the column back.
+pub fn array_to_unit_list(
+    alloc: Global,
+    array: ArrayRef,
+) -> Result<ListArray<i64>, (ArrayRef, PolarsError)>
+    ensures rows { IfOk result (λ lists. rows (list_column lists) ≡ unit_lists (rows array.column)) }
+    ensures dtype { IfOk result (λ lists. type_of (list_column lists) ≡ of_large_list (type_of array.column)) }
+    ensures back { IfErr result (λ refused. refused.0.column ≡ array.column) }
+    ensures refusal { IfErr result (λ refused. refused.1 ≡ PolarsError.OutOfMemory) }
+{
+    match unit_offsets(alloc, array.len()) {
+        Ok(offsets) => unit_column(alloc, offsets, array),
+        Err(fault) => Err((array, fault)),
+    }
+}
+
+// The lists of one row each between these offsets, or the column back.
+fn unit_column(
+    alloc: Global,
+    offsets: OffsetsBuffer<i64>,
+    array: ArrayRef,
+) -> Result<ListArray<i64>, (ArrayRef, PolarsError)>
+    requires { offsets ≡ range_with_len 0 (length (rows array.column) + 1) }
+    ensures rows { IfOk result (λ lists. rows (list_column lists) ≡ unit_lists (rows array.column)) }
+    ensures dtype { IfOk result (λ lists. type_of (list_column lists) ≡ of_large_list (type_of array.column)) }
+    ensures back { IfErr result (λ refused. refused.0.column ≡ array.column) }
+    ensures refusal { IfErr result (λ refused. refused.1 ≡ PolarsError.OutOfMemory) }
+{
+    let ArrayRef { column } = array;
+    match Box::new(alloc, column) {
+        Ok(values) => Ok(ListArray {
+            offsets,
+            values,
+            validity: None,
+        }),
+        Err(refused) => Err((
+            ArrayRef {
+                column: refused.value,
+            },
+            PolarsError::OutOfMemory,
+        )),
+    }
+}
+
+// The numbers from 0 to `len`. Refuses only for want of memory.
+fn unit_offsets(alloc: Global, len: usize) -> PolarsResult<OffsetsBuffer<i64>>
+    requires { len ≤ 4294967295 }
+    ensures value { IfOk result (λ offsets. offsets ≡ range_with_len 0 (len + 1)) }
+    ensures refusal { IfErr result (λ fault. fault ≡ PolarsError.OutOfMemory) }
+{
+    let mut offsets = Vec::with_capacity(alloc, len + 1)?;
+    for offset in 0..len + 1 {
+        offsets.push(offset as i64)?;
+    }
+    OffsetsBuffer::of_rising(offsets)
+}
+
+// The runs of the elements at the places of the index. Refuses only for want of memory.
+fn runs_of_places(alloc: Global, arr: &ListArray<i64>, index: i64) -> PolarsResult<Vec<Run>>
+    ensures picks { IfOk result (λ runs. expand runs.items ≡ map child_pick (places_in arr.now.offsets arr.now.validity index)) }
+    ensures refusal { IfErr result (λ fault. fault ≡ PolarsError.OutOfMemory) }
+{
+    let mut runs = Vec::new(alloc);
+    for k in 0..arr.offsets.len_proxy() {
+        push_run(&mut runs, run_of_place(place_in_child(arr, index, k)))?;
+    }
+    Ok(runs)
+}
+
+// Which of the child's rows is the element of list `k`; none where it is null or has no place for the index.
+fn place_in_child(arr: &ListArray<i64>, index: i64, k: usize) -> Option<u32>
+    requires { k < rows_between arr.now.offsets }
+    ensures { result ≡ child_place arr.now.offsets arr.now.validity index k }
+{
+    if !is_valid_at(&arr.validity, k) {
+        return None;
+    }
+    let start = arr.offsets.at(k);
+    let place = negative_to_usize(index, arr.offsets.at(k + 1) - start)?;
+    Some((start + place) as u32)
+}
+
+// Whether list `k` is not null and has no place for the index.
+fn is_oob_at(arr: &ListArray<i64>, index: i64, k: usize) -> bool
+    requires { k < rows_between arr.now.offsets }
+    ensures { result ≡ lacks_place index (slice_index_or (rows (list_column arr.now)) k Null) }
+{
+    if !is_valid_at(&arr.validity, k) {
+        return false;
+    }
+    let len = arr.offsets.at(k + 1) - arr.offsets.at(k);
+    negative_to_usize(index, len).is_none()
+}
