@@ -2,7 +2,7 @@
 #![tactic(auto)]
 
 mod binary;
-mod bits;
+pub mod bits;
 mod boolean;
 pub mod collect;
 mod fill;
@@ -17,4 +17,4 @@ pub mod single;
 pub mod sources;
 mod structs;
 mod validity;
-mod view;
+pub mod view;
