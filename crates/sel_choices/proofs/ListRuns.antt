@@ -112,7 +112,7 @@ chosen_is i (m ∷ ms) (x ∷ xs) (y ∷ ys) ts fs d p q t f =
     ∙ ap (λ l. (if m then x else y) ∷ l)
       (chosen_is (i + 1) ms xs ys ts fs d (omega (arith, p)) (omega (arith, q)) (λ k h. ap ts (next k) ∙ t (suc k) (omega (arith, h))) (λ k h. ap fs (next k) ∙ f (suc k) (omega (arith, h))))
 
-plain : (k : ℕ) → 0 + k ≡ k
+pub plain : (k : ℕ) → 0 + k ≡ k
 plain k = omega arith
 
 pub chosen_columns : (ms : List Bool) (xs ys : List Value) → length xs ≡ length ms → length ys ≡ length ms → chosen_from 0 ms (λ i. get_or xs i Null) (λ i. get_or ys i Null) ≡ choose ms xs ys
