@@ -1,17 +1,28 @@
 -- Sides of choices between lists, and the parts of their children that the chosen rows hold.
 use Rattle.std.specs.Prelude.{◌≡◌, ℕ, ◌+◌, Bool, List, [], ◌∷◌, map, length, Option, Some, None, if◌then◌else◌, ◌⊎◌}
 use Rattle.sel_bits.specs.declared.faults.Limit.{Limit}
+use Rattle.sel_bits.specs.declared.native.NativeType.{Ghosts}
 use Rattle.sel_arrow.specs.Nested.{list_of}
 use Rattle.sel_arrow.specs.Shape.{Shape, of_large_list, of_fixed_size_list}
 use Rattle.sel_arrow.specs.Value.{Value, Null}
 use Rattle.sel_arrow.specs.declared.array_ref.ArrayRef.{ArrayRef}
 use Rattle.sel_arrow.specs.declared.column.Column.{Column}
+use Rattle.sel_arrow.specs.declared.fixed_size_list.FixedSizeListArray.{FixedSizeListArray}
+use Rattle.sel_arrow.specs.declared.list.ListArray.{ListArray}
 use Rattle.sel_runs.specs.Children.{joined_items}
 use Rattle.sel_runs.specs.Need.{IsPastRows, past_taken}
 use Rattle.sel_runs.specs.Picks.{pick}
 use Rattle.sel_runs.specs.Runs.{picks_of}
 use Rattle.sel_runs.specs.declared.run.Run.{Run}
 use Rattle.sel_choices.specs.Sides.{Side, column, scalar, past_flat}
+
+-- the child of lists (Arrow columnar format: variable-size list layout)
+abbrev pub list_child : {O : Type 0} {type : Ghosts O} → ListArray O type → Column
+list_child array = array.values.value
+
+-- the child of lists of one length (Arrow columnar format: fixed-size list layout)
+abbrev pub block_child : FixedSizeListArray → Column
+block_child array = array.values.value
 
 -- the column whose rows a side's lists hold: the child of its lists, or the rows that are one list (Arrow columnar format: list layouts)
 abbrev pub below : {C : Type 0} → (C → Column) → Side C ArrayRef → Column
