@@ -110,7 +110,7 @@ chosen_is i (m ∷ ms) (x ∷ xs) (y ∷ ys) ts fs d p q t f =
     let next : (k : ℕ) → (i + 1) + k ≡ i + suc k = λ k. omega arith in
     (λ j. (if m then first j else second j) ∷ chosen_from (i + 1) ms ts fs)
     ∙ ap (λ l. (if m then x else y) ∷ l)
-      (chosen_is (i + 1) ms xs ys ts fs d (omega (arith, p)) (omega (arith, q)) (λ k h. ap ts (next k) ∙ t (suc k) (omega (arith, h))) (λ k h. ap fs (next k) ∙ f (suc k) (omega (arith, h))))
+    (chosen_is (i + 1) ms xs ys ts fs d (omega (arith, p)) (omega (arith, q)) (λ k h. ap ts (next k) ∙ t (suc k) (omega (arith, h))) (λ k h. ap fs (next k) ∙ f (suc k) (omega (arith, h))))
 
 pub plain : (k : ℕ) → 0 + k ≡ k
 plain k = omega arith

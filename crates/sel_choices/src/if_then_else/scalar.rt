@@ -89,5 +89,9 @@ fn chosen<T: Copy>(mask: u64, i: usize, if_true: T, if_false: T) -> T
     requires { i < 64 }
     ensures { result ≡ (if is_set mask i then if_true else if_false) }
 {
-    if (mask >> i) & 1 == 1 { if_true } else { if_false }
+    if (mask >> i) & 1 == 1 {
+        if_true
+    } else {
+        if_false
+    }
 }

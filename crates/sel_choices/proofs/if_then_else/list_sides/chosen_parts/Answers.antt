@@ -20,11 +20,11 @@ loop-i-preserved g c =
     let next : IsPart xss c.args.width (if m then ts i else fs i) c.if-get_bit.part =
     elim c.if-get_bit.branch [
       | then-get_bit w ↦
-        part_if xss c.args.width m true (ts i) (fs i) c.if-get_bit.part w.run_of_part-part.result (sym bit ∙ w.if-get_bit.true) w.part-is
-        (record { row_is = w.run_of_part-part.ensures.row xss refl; fits = w.run_of_part-part.ensures.fits xss refl; nulls = w.run_of_part-part.ensures.nulls })
+          part_if xss c.args.width m true (ts i) (fs i) c.if-get_bit.part w.run_of_part-part.result (sym bit ∙ w.if-get_bit.true) w.part-is
+          (record { row_is = w.run_of_part-part.ensures.row xss refl; fits = w.run_of_part-part.ensures.fits xss refl; nulls = w.run_of_part-part.ensures.nulls })
       | else-get_bit w ↦
-        part_if xss c.args.width m false (ts i) (fs i) c.if-get_bit.part w.run_of_part-part-else-get_bit.result (sym bit ∙ w.if-get_bit.false) w.part-is
-        (record { row_is = w.run_of_part-part-else-get_bit.ensures.row xss refl; fits = w.run_of_part-part-else-get_bit.ensures.fits xss refl; nulls = w.run_of_part-part-else-get_bit.ensures.nulls })
+          part_if xss c.args.width m false (ts i) (fs i) c.if-get_bit.part w.run_of_part-part-else-get_bit.result (sym bit ∙ w.if-get_bit.false) w.part-is
+          (record { row_is = w.run_of_part-part-else-get_bit.ensures.row xss refl; fits = w.run_of_part-part-else-get_bit.ensures.fits xss refl; nulls = w.run_of_part-part-else-get_bit.ensures.nulls })
     ]
     in
     let grew = c.in_ok-push.ensures.items in

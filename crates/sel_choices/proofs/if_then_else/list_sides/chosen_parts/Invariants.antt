@@ -10,5 +10,5 @@ abbrev pub invariant-loop-i : goal.invariant-loop-i
 invariant-loop-i g l = record {
   chosen : rows_of_parts (rows (g.T.ListSide.held l.if_true) ∷ rows (g.F.ListSide.held l.if_false) ∷ []) l.parts.items ≡ chosen_from 0 (take l.i l.mask.bits) (g.T.ListSide.row_at l.if_true) (g.F.ListSide.row_at l.if_false);
   sound : All (PickFits (rows (g.T.ListSide.held l.if_true) ∷ rows (g.F.ListSide.held l.if_false) ∷ [])) (expand l.parts.items);
-  nulls : All (IsNullsOf l.width) l.parts.items
+  nulls : All (IsNullsOf l.width) l.parts.items;
 }

@@ -1,0 +1,5 @@
+//! The worked rows of choices, as tests.
+#![tactic(auto)]
+
+#[cfg(test)]
+mod lists;
