@@ -4,6 +4,8 @@
 #[cfg(test)]
 mod flat;
 #[cfg(test)]
+mod lists;
+#[cfg(test)]
 mod masks;
 #[cfg(test)]
 mod views;

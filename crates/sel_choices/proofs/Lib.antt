@@ -2,6 +2,8 @@ pub mod BitChoices
 pub mod Blocks
 pub mod Chosen
 pub mod JoinedViews
+pub mod ListChoices
+pub mod ListRuns
 pub mod Parts
 pub mod Placed
 pub mod Validities

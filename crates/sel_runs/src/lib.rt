@@ -2,7 +2,7 @@
 #![tactic(auto)]
 
 mod binary;
-mod bits;
+pub mod bits;
 mod boolean;
 pub mod collect;
 mod fill;

@@ -13,8 +13,12 @@ use sel_bits::bitmap::Bitmap;
 use sel_bits::faults::PolarsResult;
 use std::alloc::Global;
 
+mod array;
 mod binview;
 mod boolean;
+mod list;
+mod list_parts;
+mod list_sides;
 mod loops;
 mod primitive;
 pub mod scalar;

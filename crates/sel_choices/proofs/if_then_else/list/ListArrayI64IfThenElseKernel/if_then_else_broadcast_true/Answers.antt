@@ -1,0 +1,33 @@
+use Rattle.std.proofs.Common.{◌≡◌, sym, subst, length, get_or}
+use Rattle.std.specs.Prelude.{IfOk}
+use Rattle.sel_arrow.specs.Nested.{list_of}
+use Rattle.sel_arrow.specs.NestedArrays.{list_column}
+use Rattle.sel_arrow.specs.Rows.{rows, type_of}
+use Rattle.sel_arrow.specs.Shape.{of_large_list}
+use Rattle.sel_arrow.specs.Value.{Null}
+use Rattle.sel_choices.specs.Choose.{choose_one}
+use Rattle.sel_choices.specs.ListSides.{chosen_from, list_child}
+use Rattle.sel_choices.specs.Sides.{column, scalar}
+use Rattle.sel_choices.proofs.ListChoices.{few_bits, refused_choice}
+use Rattle.sel_choices.proofs.ListRuns.{chosen_true}
+use Rattle.sel_choices.proofs.if_then_else.list.ListArrayI64IfThenElseKernel.if_then_else_broadcast_true.Goals as goal
+
+pub choose_lists-requires-clause-few : goal.choose_lists-requires-clause-few
+choose_lists-requires-clause-few c = few_bits (list_column c.args.if_false.now) (length c.args.mask.now.bits) c.args.if_false.now.formed c.requires.false_side
+
+pub returns-clause-rows : goal.returns-clause-rows
+returns-clause-rows c =
+    subst (λ vs. IfOk c.choose_lists.result (λ chosen. rows (list_column chosen) ≡ vs)) (chosen_true c.args.mask.now.bits (list_of (rows c.args.if_true.now.column)) (rows (list_column c.args.if_false.now)) c.requires.false_side) c.choose_lists.ensures.rows
+
+pub returns-clause-refusal : goal.returns-clause-refusal
+returns-clause-refusal c =
+    let t = c.args.if_true.now in
+    let f = c.args.if_false.now in
+    let ms = c.args.mask.now.bits in
+    let given = of_large_list (type_of c.args.if_true.now.column) in
+    let type = type_of (list_column c.args.if_false.now) in
+    let is : given ≡ type = sym c.requires.fits in
+    let chosen = chosen_from 0 ms (λ i. list_of (rows t.column)) (λ i. get_or (rows (list_column f)) i Null) in
+    let wanted = choose_one ms (list_of (rows t.column)) (rows (list_column f)) in
+    let same : chosen ≡ wanted = chosen_true ms (list_of (rows t.column)) (rows (list_column f)) c.requires.false_side in
+    refused_choice c.choose_lists.result list_child type given (scalar t) (column f) chosen wanted is same c.choose_lists.ensures.refusal

@@ -1,0 +1,98 @@
+//! Choices between columns of lists.
+
+ghost use Rattle.std.specs.Prelude.{◌≡◌, ◌≤◌, ◌<◌, ◌∷◌, [], ℕ, length, IfOk, IfErr};
+ghost use Rattle.sel_arrow.specs.NestedArrays.{list_column};
+ghost use Rattle.sel_arrow.specs.Rows.{rows, type_of};
+ghost use Rattle.sel_arrow.specs.Shape.{of_large_list};
+ghost use Rattle.sel_choices.specs.ListSides.{chosen_from, past_below};
+ghost use Rattle.sel_choices.specs.Sides.{IsRefusal};
+
+use crate::if_then_else::IfThenElseKernel;
+use crate::if_then_else::list_parts::lists_of_parts;
+use crate::if_then_else::list_sides::{ListSide, chosen_parts};
+use sel_arrow::array_ref::ArrayRef;
+use sel_arrow::datatype::ArrowDataType;
+use sel_arrow::list::ListArray;
+use sel_arrow::validity::MOST_ROWS;
+use sel_bits::bitmap::Bitmap;
+use sel_bits::faults::{Limit, PolarsError, PolarsResult};
+use std::alloc::Global;
+
+/// A scalar is the rows of one list.
+impl IfThenElseKernel for ListArray<i64> {
+    ghost use Rattle.std.specs.Prelude.{◌≡◌, true};
+    ghost use Rattle.sel_arrow.specs.Nested.{list_of};
+    ghost use Rattle.sel_arrow.specs.Rows.{rows, type_of};
+    ghost use Rattle.sel_arrow.specs.Shape.{is_list_shape, of_large_list};
+    ghost use Rattle.sel_choices.specs.ListSides.{list_child, past_lists};
+
+    type Scalar = ArrayRef;
+
+    ghost scalar_row = { λ scalar. list_of (rows scalar.column) };
+
+    ghost fits = { λ scalar type. type ≡ of_large_list (type_of scalar.column) };
+
+    ghost is_own = { λ type. is_list_shape type ≡ true };
+
+    ghost past = { λ type if_true if_false chosen limit. past_lists list_child type if_true if_false chosen limit };
+
+    fn if_then_else(
+        alloc: Global,
+        mask: &Bitmap,
+        if_true: &ListArray<i64>,
+        if_false: &ListArray<i64>,
+    ) -> PolarsResult<ListArray<i64>> {
+        choose_lists(alloc, mask, if_true, if_false)
+    }
+
+    fn if_then_else_broadcast_true(
+        alloc: Global,
+        mask: &Bitmap,
+        if_true: &ArrayRef,
+        if_false: &ListArray<i64>,
+    ) -> PolarsResult<ListArray<i64>> {
+        choose_lists(alloc, mask, if_true, if_false)
+    }
+
+    fn if_then_else_broadcast_false(
+        alloc: Global,
+        mask: &Bitmap,
+        if_true: &ListArray<i64>,
+        if_false: &ArrayRef,
+    ) -> PolarsResult<ListArray<i64>> {
+        choose_lists(alloc, mask, if_true, if_false)
+    }
+
+    fn if_then_else_broadcast_both(
+        alloc: Global,
+        _dtype: ArrowDataType,
+        mask: &Bitmap,
+        if_true: &ArrayRef,
+        if_false: &ArrayRef,
+    ) -> PolarsResult<ListArray<i64>> {
+        if mask.len() > MOST_ROWS {
+            return Err(PolarsError::SizeLimit(Limit::Rows));
+        }
+        choose_lists(alloc, mask, if_true, if_false)
+    }
+}
+
+// The choice between two sides, whose lists hold rows of columns of one type. Refuses for want of memory, and where the rows that the
+// lists hold pass a limit.
+fn choose_lists<T: ListSide, F: ListSide>(
+    alloc: Global,
+    mask: &Bitmap,
+    if_true: &T,
+    if_false: &F,
+) -> PolarsResult<ListArray<i64>>
+    requires true_side { (i : ℕ) → i < length mask.now.bits → T.is_row if_true.now i }
+    requires false_side { (i : ℕ) → i < length mask.now.bits → F.is_row if_false.now i }
+    requires alike { type_of (F.held if_false.now) ≡ type_of (T.held if_true.now) }
+    requires few { length mask.now.bits ≤ 4294967295 }
+    ensures rows { IfOk result (λ lists. rows (list_column lists) ≡ chosen_from 0 mask.now.bits (T.row_at if_true.now) (F.row_at if_false.now)) }
+    ensures dtype { IfOk result (λ lists. type_of (list_column lists) ≡ of_large_list (type_of (T.held if_true.now))) }
+    ensures refusal { IfErr result (IsRefusal (past_below (of_large_list (type_of (T.held if_true.now))) (T.held if_true.now ∷ F.held if_false.now ∷ []) (chosen_from 0 mask.now.bits (T.row_at if_true.now) (F.row_at if_false.now)))) }
+{
+    let parts = chosen_parts(alloc, mask, if_true, if_false, 0)?;
+    lists_of_parts(alloc, if_true.child(), if_false.child(), &parts)
+}

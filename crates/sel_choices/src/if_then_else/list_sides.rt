@@ -1,0 +1,163 @@
+//! Sides of choices between lists: which part of a child each row holds.
+
+ghost use Rattle.std.specs.Prelude.{◌≡◌, ◌≤◌, ◌<◌, ◌+◌, ◌∷◌, [], ℕ, List, All, None, length, take, drop, slice_index_or, IfSome, IfNone, IfOk, IfErr};
+ghost use Rattle.sel_arrow.specs.Nested.{list_of};
+ghost use Rattle.sel_arrow.specs.Rows.{rows, IsWellFormed};
+ghost use Rattle.sel_arrow.specs.Value.{Value, Null};
+ghost use Rattle.sel_arrow.specs.declared.column.Column.{Column};
+ghost use Rattle.sel_runs.specs.Picks.{PickFits};
+ghost use Rattle.sel_runs.specs.Runs.{expand, unrolled};
+ghost use Rattle.sel_choices.specs.ListSides.{chosen_from, row_of_part, rows_of_parts, IsNullsOf};
+
+use sel_arrow::array_ref::ArrayRef;
+use sel_arrow::column::Column;
+use sel_arrow::fixed_size_list::FixedSizeListArray;
+use sel_arrow::list::ListArray;
+use sel_arrow::validity::is_valid_at;
+use sel_bits::bitmap::Bitmap;
+use sel_bits::faults::{PolarsError, PolarsResult};
+use sel_runs::run::Run;
+use std::alloc::Global;
+
+/// A side of a choice between lists, each of which holds rows of one column that stand together.
+pub(crate) trait ListSide {
+    /// Row i.
+    ghost row_at: { Self → ℕ → Value };
+
+    /// That there is a row i.
+    ghost is_row: { Self → ℕ → Type 0 };
+
+    /// The column whose rows the lists hold.
+    ghost held: { Self → Column };
+
+    /// The column whose rows the lists hold.
+    fn child(&self) -> &Column
+        ensures column { result.now ≡ held self.now }
+        ensures formed { IsWellFormed result.now };
+
+    /// Where the child's rows in row `i` begin, and how many there are; none where the row is null.
+    fn part(&self, i: usize) -> Option<(u32, u32)>
+        requires { is_row self.now i }
+        ensures null { IfNone result (row_at self.now i ≡ Null) }
+        ensures row { IfSome result (λ part. row_at self.now i ≡ list_of (take part.1 (drop part.0 (rows (held self.now))))) }
+        ensures inside { IfSome result (λ part. part.0 + part.1 ≤ length (rows (held self.now))) };
+}
+
+impl ListSide for ListArray<i64> {
+    ghost use Rattle.std.specs.Prelude.{◌<◌, length, slice_index_or};
+    ghost use Rattle.sel_arrow.specs.NestedArrays.{list_column};
+    ghost use Rattle.sel_arrow.specs.Rows.{rows};
+    ghost use Rattle.sel_arrow.specs.Value.{Null};
+
+    ghost row_at = { λ array i. slice_index_or (rows (list_column array)) i Null };
+
+    ghost is_row = { λ array i. i < length (rows (list_column array)) };
+
+    ghost held = { λ array. array.values.value };
+
+    fn child(&self) -> &Column {
+        self.values()
+    }
+
+    fn part(&self, i: usize) -> Option<(u32, u32)> {
+        if !is_valid_at(&self.validity, i) {
+            return None;
+        }
+        let (start, end) = (self.offsets.at(i), self.offsets.at(i + 1));
+        Some((start as u32, (end - start) as u32))
+    }
+}
+
+impl ListSide for FixedSizeListArray {
+    ghost use Rattle.std.specs.Prelude.{◌<◌, length, slice_index_or};
+    ghost use Rattle.sel_arrow.specs.NestedArrays.{block_column};
+    ghost use Rattle.sel_arrow.specs.Rows.{rows};
+    ghost use Rattle.sel_arrow.specs.Value.{Null};
+
+    ghost row_at = { λ array i. slice_index_or (rows (block_column array)) i Null };
+
+    ghost is_row = { λ array i. i < length (rows (block_column array)) };
+
+    ghost held = { λ array. array.values.value };
+
+    fn child(&self) -> &Column {
+        self.values()
+    }
+
+    fn part(&self, i: usize) -> Option<(u32, u32)> {
+        if !is_valid_at(&self.validity, i) {
+            return None;
+        }
+        Some(((i * self.size) as u32, self.size as u32))
+    }
+}
+
+/// The rows that are one list, which stands at every position.
+impl ListSide for ArrayRef {
+    ghost use Rattle.std.specs.Prelude.{⊤};
+    ghost use Rattle.sel_arrow.specs.Nested.{list_of};
+    ghost use Rattle.sel_arrow.specs.Rows.{rows};
+
+    ghost row_at = { λ scalar _. list_of (rows scalar.column) };
+
+    ghost is_row = { λ _ _. ⊤ };
+
+    ghost held = { λ scalar. scalar.column };
+
+    fn child(&self) -> &Column {
+        self.as_column()
+    }
+
+    fn part(&self, _i: usize) -> Option<(u32, u32)> {
+        Some((0, self.column.len() as u32))
+    }
+}
+
+/// The part of a child that each chosen row holds, source 0 the child of the true bits' side and source 1 the other; `width` nulls for
+/// a null row. Refuses only for want of memory.
+pub(crate) fn chosen_parts<T: ListSide, F: ListSide>(
+    alloc: Global,
+    mask: &Bitmap,
+    if_true: &T,
+    if_false: &F,
+    width: u32,
+) -> PolarsResult<Vec<Run>>
+    requires true_side { (i : ℕ) → i < length mask.now.bits → T.is_row if_true.now i }
+    requires false_side { (i : ℕ) → i < length mask.now.bits → F.is_row if_false.now i }
+    ensures rows { IfOk result (λ parts. rows_of_parts (rows (T.held if_true.now) ∷ rows (F.held if_false.now) ∷ []) parts.items ≡ chosen_from 0 mask.now.bits (T.row_at if_true.now) (F.row_at if_false.now)) }
+    ensures fits { IfOk result (λ parts. All (PickFits (rows (T.held if_true.now) ∷ rows (F.held if_false.now) ∷ [])) (expand parts.items)) }
+    ensures nulls { IfOk result (λ parts. All (IsNullsOf width) parts.items) }
+    ensures refusal { IfErr result (λ fault. fault ≡ PolarsError.OutOfMemory) }
+{
+    let mut parts = Vec::with_capacity(alloc, mask.len())?;
+    for i in 0..mask.len() {
+        let part = if mask.get_bit(i) {
+            run_of_part(if_true, i, 0, width)
+        } else {
+            run_of_part(if_false, i, 1, width)
+        };
+        parts.push(part)?;
+    }
+    Ok(parts)
+}
+
+// The part of the child that row `i` holds, as rows of that source; `width` nulls where the row is null.
+fn run_of_part<S: ListSide>(side: &S, i: usize, source: u32, width: u32) -> Run
+    requires { S.is_row side.now i }
+    ensures row { (xss : List (List Value)) → slice_index_or xss source [] ≡ rows (S.held side.now) → row_of_part xss result ≡ S.row_at side.now i }
+    ensures fits { (xss : List (List Value)) → slice_index_or xss source [] ≡ rows (S.held side.now) → All (PickFits xss) (unrolled result) }
+    ensures nulls { IsNullsOf width result }
+{
+    match side.part(i) {
+        None => Run {
+            source: None,
+            start: 0,
+            len: width,
+        },
+        Some((start, len)) => Run {
+            source: Some(source),
+            start,
+            len,
+        },
+    }
+}
