@@ -78,7 +78,7 @@ unfolding column_text
 text_of_some [] some = absurd (some refl)
 text_of_some (row ∷ rows) some = refl
 
-map_now : {Y : Type 0} (f : List ℕ → Y) (words : List (Bor (List ℕ))) → map (λ word. f word.now) words ≡ map f (map (λ word. word.now) words)
+pub map_now : {Y : Type 0} (f : List ℕ → Y) (words : List (Bor (List ℕ))) → map (λ word. f word.now) words ≡ map f (map (λ word. word.now) words)
 map_now f [] = refl
 map_now f (word ∷ words) = ap (λ ys. f word.now ∷ ys) (map_now f words)
 
@@ -91,7 +91,7 @@ column_from_rows value_of word words long cut =
 
 -- ---- items and their validity
 
-hidden_push : (bs : List Bool) (vs : List Value) (b : Bool) (v : Value) → length bs ≡ length vs → hidden (bs ++ (b ∷ [])) (vs ++ (v ∷ [])) ≡ hidden bs vs ++ (cond b v Null ∷ [])
+pub hidden_push : (bs : List Bool) (vs : List Value) (b : Bool) (v : Value) → length bs ≡ length vs → hidden (bs ++ (b ∷ [])) (vs ++ (v ∷ [])) ≡ hidden bs vs ++ (cond b v Null ∷ [])
 hidden_push [] [] b v same = refl
 hidden_push [] (w ∷ vs) b v same = absurd (omega (arith, same))
 hidden_push (a ∷ bs) [] b v same = absurd (omega (arith, same))

@@ -2,6 +2,7 @@ pub mod Columns
 pub mod Commands
 pub mod Counted
 pub mod Filter
+pub mod Flatten
 pub mod Lines
 pub mod Numbers
 pub mod Output

@@ -88,8 +88,8 @@ fn filter_column(
     Ok(numbers_of(kept?))
 }
 
-// The column of numbers that a column of their type is.
-fn numbers_of(array: ArrayRef) -> PrimitiveArray<i64>
+/// The column of numbers that a column of their type is.
+pub fn numbers_of(array: ArrayRef) -> PrimitiveArray<i64>
     requires { type_of array.column ≡ of_int64 }
     ensures { primitive_rows result ≡ rows array.column }
 {

@@ -5,6 +5,7 @@ mod columns;
 mod commands;
 mod counted;
 mod filter;
+mod flatten;
 mod numbers;
 mod pext;
 mod reading;
