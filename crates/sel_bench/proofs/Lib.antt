@@ -6,3 +6,4 @@ pub mod Printed
 pub mod Progress
 pub mod RowLemmas
 pub mod Steps
+pub mod TextViews

@@ -1,6 +1,7 @@
 pub mod Columns
 pub mod Commands
 pub mod Counted
+pub mod Dict
 pub mod Filter
 pub mod Flatten
 pub mod Lines
@@ -12,4 +13,6 @@ pub mod Run
 pub mod RunError
 pub mod Step
 pub mod Take
+pub mod Texts
+pub mod ViewedTexts
 pub mod Words

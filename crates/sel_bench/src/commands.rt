@@ -3,6 +3,7 @@ ghost use Rattle.std.specs.Prelude.{◌≡◌, ◌≤◌, IfOk, All, length, str
 ghost use Rattle.sel_bench.specs.Commands.{answer_of_command, answer_of_line, answer_of_words};
 ghost use Rattle.sel_bench.specs.Lines.{longest_line};
 
+use crate::dict::answer_dict;
 use crate::filter::answer_filter;
 use crate::flatten::answer_flatten;
 use crate::pext::answer_pext;
@@ -54,6 +55,9 @@ fn answer_command(alloc: Global, name: &str, words: &[&str]) -> Result<Option<St
     }
     if name == "flatten" {
         return answer_flatten(alloc, words);
+    }
+    if name == "dict" {
+        return answer_dict(alloc, words);
     }
     Ok(None)
 }

@@ -4,6 +4,7 @@
 mod columns;
 mod commands;
 mod counted;
+mod dict;
 mod filter;
 mod flatten;
 mod numbers;
@@ -15,6 +16,7 @@ mod run;
 mod take;
 #[cfg(test)]
 mod tests;
+mod texts;
 mod words;
 mod writing;
 
