@@ -17,7 +17,7 @@ pub take_answered : (rows indices a b : List Value) (text : List ℕ) → rows �
 take_answered rows indices a b text isa isb within made =
     ap Some made ∙ ap (λ t. cond t (Some (column_text (take_rows rows indices))) None) (sym within) ∙ ap (λ r. take_answer r indices) isa ∙ ap (take_answer a) isb
 
-none_unless : {A : Type 0} (b : Bool) (x : Option A) → (b ≡ true → ⊥) → None ≡ cond b x None
+pub none_unless : {A : Type 0} (b : Bool) (x : Option A) → (b ≡ true → ⊥) → None ≡ cond b x None
 none_unless true x never = absurd (never refl)
 none_unless false x never = refl
 

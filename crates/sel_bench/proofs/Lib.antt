@@ -1,4 +1,5 @@
 pub mod Answered
+pub mod Flattened
 pub mod Hex
 pub mod Pieces
 pub mod Printed
@@ -6,3 +7,4 @@ pub mod Progress
 pub mod ReadLists
 pub mod RowLemmas
 pub mod Steps
+pub mod TextViews

@@ -12,7 +12,7 @@ use mathlib.Core.Logic.{⊎_elim}
 use Rattle.std.proofs.lemmas.Slice.Eq.{bytes_eq-Decides}
 use Rattle.std.proofs.lemmas.Fmt.{decimal_is_IsNumeral, first_decimal, decimal_digit, decimal-digits_value, parse-decimal, parse-signed_decimal}
 use Rattle.std.proofs.lemmas.Str.Parse.{parse_plain, parse_signed_plain, parse_signed_minus, numerals_by_value, tells_digits, digit_at, IsNumeralModel}
-use Rattle.sel_bench.specs.Numbers.{integer_of, natural_of, HasOneSpelling}
+use Rattle.sel_bench.specs.Numbers.{integer_of, unsigned_of, HasOneSpelling}
 
 cond_true : {A : Type 0} (b : Bool) (x y : A) → b ≡ true → cond b x y ≡ x
 cond_true b x y e = rw e refl
@@ -38,19 +38,19 @@ integer_none word never =
     let v = signed_digits_value 10 word in
     cond_none _ _ (λ t. let both = (test_of (signed_decimal v) word (mag v) (2 ^ 63)).0 t in never v both.0 both.1)
 
-pub natural_some : (word : List ℕ) (n : ℕ) → n ≡ digits_value 10 word → decimal n ≡ word → n < 2 ^ 32 → natural_of word ≡ Some n
-unfolding natural_of
-natural_some word n is prints small =
+pub unsigned_some : (bits : ℕ) (word : List ℕ) (n : ℕ) → n ≡ digits_value 10 word → decimal n ≡ word → n < 2 ^ bits → unsigned_of bits word ≡ Some n
+unfolding unsigned_of
+unsigned_some bits word n is prints small =
     let v = digits_value 10 word in
     let same : decimal v ≡ word = ap decimal (sym is) ∙ prints in
-    let fits : v < 2 ^ 32 = rw (← is) small in
-    cond_true _ _ _ ((test_of (decimal v) word v (2 ^ 32)).1 (same, fits)) ∙ ap Some (sym is)
+    let fits : v < 2 ^ bits = rw (← is) small in
+    cond_true _ _ _ ((test_of (decimal v) word v (2 ^ bits)).1 (same, fits)) ∙ ap Some (sym is)
 
-pub natural_none : (word : List ℕ) → ((n : ℕ) → decimal n ≡ word → n < 2 ^ 32 → ⊥) → natural_of word ≡ None
-unfolding natural_of
-natural_none word never =
+pub unsigned_none : (bits : ℕ) (word : List ℕ) → ((n : ℕ) → decimal n ≡ word → n < 2 ^ bits → ⊥) → unsigned_of bits word ≡ None
+unfolding unsigned_of
+unsigned_none bits word never =
     let v = digits_value 10 word in
-    cond_none _ _ (λ t. let both = (test_of (decimal v) word v (2 ^ 32)).0 t in never v both.0 both.1)
+    cond_none _ _ (λ t. let both = (test_of (decimal v) word v (2 ^ bits)).0 t in never v both.0 both.1)
 
 own : IsNumeralModel (AllDigits 10) (digits_value 10)
 own = numerals_by_value _ tells_digits
@@ -72,17 +72,17 @@ integer_one_spelling (negsuc n) small =
 
 -- ---- what `parse` gives, where the word has one spelling
 
-pub natural_parsed : {E : Type 0} (word : List ℕ) (r : Result ℕ E) → ParsesUnsigned 32 10 word r → HasOneSpelling word → result_ok r ≡ natural_of word
-natural_parsed {E = E} word (Ok n) h one =
-    let p = parse_plain own {E = E} 32 word (Ok n) h one.0 in
-    let under : digits_value 10 word < 2 ^ 32 = p.0.2 in
+pub unsigned_parsed : {E : Type 0} (bits : ℕ) (word : List ℕ) (r : Result ℕ E) → ParsesUnsigned bits 10 word r → HasOneSpelling word → 2 ^ bits ≤ 2 ^ 64 → result_ok r ≡ unsigned_of bits word
+unsigned_parsed {E = E} bits word (Ok n) h one few =
+    let p = parse_plain own {E = E} bits word (Ok n) h one.0 in
+    let under : digits_value 10 word < 2 ^ bits = p.0.2 in
     let is : n ≡ digits_value 10 word = p.1 in
-    sym (natural_some word n is (ap decimal is ∙ decimal-digits_value own word p.0.0 p.0.1 one.2 (omega arith)) (omega arith))
-natural_parsed word (Err e) h one = sym (natural_none word (λ n prints small.
-    let found = parse-decimal 32 n word (Err e) small (omega arith) (sym prints) h in cc))
+    sym (unsigned_some bits word n is (ap decimal is ∙ decimal-digits_value own word p.0.0 p.0.1 one.2 (omega arith)) (omega arith))
+unsigned_parsed bits word (Err e) h one few = sym (unsigned_none bits word (λ n prints small.
+    let found = parse-decimal bits n word (Err e) small (omega arith) (sym prints) h in cc))
 
-pub natural_refused : (word : List ℕ) → (HasOneSpelling word → ⊥) → None ≡ natural_of word
-natural_refused word never = sym (natural_none word (λ n prints small. never (rw (← prints) (decimal_one_spelling n (omega arith)))))
+pub unsigned_refused : (bits : ℕ) (word : List ℕ) → (HasOneSpelling word → ⊥) → 2 ^ bits ≤ 2 ^ 64 → None ≡ unsigned_of bits word
+unsigned_refused bits word never few = sym (unsigned_none bits word (λ n prints small. never (rw (← prints) (decimal_one_spelling n (omega arith)))))
 
 minus_prints : (word : List ℕ) (n : ℕ) → get_or word 0 0 ≡ 45 → AllDigits 10 (drop 1 word) → 0 < length (drop 1 word) → get_or word 1 0 ≢ 48
     → n ≡ digits_value 10 (drop 1 word) → n ≤ 2 ^ 63 → signed_decimal (neg_ℤ (pos n)) ≡ word

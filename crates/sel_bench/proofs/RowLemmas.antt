@@ -91,7 +91,7 @@ column_from_rows value_of word words long cut =
 
 -- ---- items and their validity
 
-hidden_push : (bs : List Bool) (vs : List Value) (b : Bool) (v : Value) → length bs ≡ length vs → hidden (bs ++ (b ∷ [])) (vs ++ (v ∷ [])) ≡ hidden bs vs ++ (cond b v Null ∷ [])
+pub hidden_push : (bs : List Bool) (vs : List Value) (b : Bool) (v : Value) → length bs ≡ length vs → hidden (bs ++ (b ∷ [])) (vs ++ (v ∷ [])) ≡ hidden bs vs ++ (cond b v Null ∷ [])
 hidden_push [] [] b v same = refl
 hidden_push [] (w ∷ vs) b v same = absurd (omega (arith, same))
 hidden_push (a ∷ bs) [] b v same = absurd (omega (arith, same))

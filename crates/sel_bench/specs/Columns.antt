@@ -2,7 +2,7 @@
 use Rattle.std.specs.Prelude.{ℕ, ◌==◌, List, [], ◌∷◌, map, Option, None, Some, if◌then◌else◌, codes, bytes_eq, option_map}
 use Rattle.std.specs.List.{slice_split, join_with_byte}
 use Rattle.std.specs.Fmt.{signed_decimal}
-use Rattle.sel_arrow.specs.Value.{Value, Null, Number}
+use Rattle.sel_arrow.specs.Value.{Value, Null, Number, Bytes}
 
 -- the items, where each of them is there (own)
 abbrev pub all_some : {X : Type 0} → List (Option X) → Option (List X)
@@ -18,10 +18,11 @@ row_of value_of word = if bytes_eq word (codes "n") then Some Null else value_of
 abbrev pub column_of : (List ℕ → Option Value) → List ℕ → Option (List Value)
 column_of value_of word = if bytes_eq word (codes "-") then Some [] else all_some (map (row_of value_of) (slice_split (λ b. b == 44) word))
 
--- a row, printed: `n` for null, a number in decimal. No column that is printed has other values, and they have no text. (own)
+-- a row, printed: `n` for null, a number in decimal, `=` before a text. No column that is printed has other values, and they have no text. (own)
 abbrev pub row_text : Value → List ℕ
 row_text Null = codes "n"
 row_text (Number z) = signed_decimal z
+row_text (Bytes text) = 61 ∷ text
 row_text _ = []
 
 -- a column, printed: `-` for no rows, or rows with commas between them (own)

@@ -1,7 +1,9 @@
 pub mod Columns
 pub mod Commands
 pub mod Counted
+pub mod Dict
 pub mod Filter
+pub mod Flatten
 pub mod Get
 pub mod Lines
 pub mod Lists
@@ -13,4 +15,6 @@ pub mod Run
 pub mod RunError
 pub mod Step
 pub mod Take
+pub mod Texts
+pub mod ViewedTexts
 pub mod Words

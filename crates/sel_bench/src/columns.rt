@@ -8,10 +8,12 @@ ghost use Rattle.sel_bench.specs.Rows.{rows_of, shown_row};
 ghost use Rattle.sel_bench.specs.Lines.{longest_line};
 
 use crate::numbers::Item;
+use crate::refusals::want_of_memory;
 use crate::rows::Rows;
 use crate::words::split_at_each;
 use sel_arrow::array::Array;
 use sel_arrow::primitive::PrimitiveArray;
+use sel_arrow::utf8view::Utf8ViewArray;
 use std::alloc::{AllocError, Global};
 
 /// The column that a word is the printing of.
@@ -60,8 +62,8 @@ fn parse_row<T: Item>(word: &str) -> Option<Option<T>>
 }
 
 /// The printing of a column.
-pub fn print_column(alloc: Global, column: &PrimitiveArray<i64>) -> Result<String, AllocError>
-    ensures { IfOk result (λ text. string_bytes text ≡ column_text (primitive_rows column.now)) }
+pub fn print_column<C: Printed>(alloc: Global, column: &C) -> Result<String, AllocError>
+    ensures { IfOk result (λ text. string_bytes text ≡ column_text (C.rows column.now)) }
 {
     if column.is_empty() {
         return String::from_str(alloc, "-");
@@ -69,24 +71,54 @@ pub fn print_column(alloc: Global, column: &PrimitiveArray<i64>) -> Result<Strin
     print_rows(alloc, column)
 }
 
-fn print_rows(alloc: Global, column: &PrimitiveArray<i64>) -> Result<String, AllocError>
-    ensures { IfOk result (λ text. string_bytes text ≡ join_with_byte 44 (map row_text (primitive_rows column.now))) }
+fn print_rows<C: Printed>(alloc: Global, column: &C) -> Result<String, AllocError>
+    ensures { IfOk result (λ text. string_bytes text ≡ join_with_byte 44 (map row_text (C.rows column.now))) }
 {
     let mut text = String::new(alloc);
     for place in 0..column.len() {
         if place > 0 {
             text.push(',')?;
         }
-        push_row(&mut text, column.get(place))?;
+        column.push_row(alloc, place, &mut text)?;
     }
     Ok(text)
 }
 
-fn push_row(text: &mut String, row: Option<i64>) -> Result<(), AllocError>
-    ensures { OnOk result (string_bytes text.new ≡ string_bytes text.old ++ row_text (shown_row Number row)) }
-{
-    match row {
-        Some(number) => write!(text, "{number}"),
-        None => text.push('n'),
+/// A column whose rows have a printing.
+pub trait Printed: Array {
+    /// Puts the printing of row `place` behind the text.
+    fn push_row(&self, alloc: Global, place: usize, text: &mut String) -> Result<(), AllocError>
+        requires { place < length (Self.rows self.now) }
+        ensures { OnOk result (string_bytes text.new ≡ string_bytes text.old ++ row_text (slice_index_or (Self.rows self.now) place Null)) };
+}
+
+impl Printed for PrimitiveArray<i64> {
+    fn push_row(&self, _alloc: Global, place: usize, text: &mut String) -> Result<(), AllocError> {
+        match self.get(place) {
+            Some(number) => write!(text, "{number}"),
+            None => text.push('n'),
+        }
+    }
+}
+
+impl Printed for PrimitiveArray<u32> {
+    fn push_row(&self, _alloc: Global, place: usize, text: &mut String) -> Result<(), AllocError> {
+        match self.get(place) {
+            Some(number) => write!(text, "{number}"),
+            None => text.push('n'),
+        }
+    }
+}
+
+impl Printed for Utf8ViewArray {
+    fn push_row(&self, alloc: Global, place: usize, text: &mut String) -> Result<(), AllocError> {
+        match self.get(alloc, place) {
+            Ok(Some(row)) => {
+                text.push('=')?;
+                text.push_str(&row)
+            }
+            Ok(None) => text.push('n'),
+            Err(fault) => Err(want_of_memory(fault)),
+        }
     }
 }

@@ -1,9 +1,11 @@
 //! The answer to one line.
 ghost use Rattle.std.specs.Prelude.{◌≡◌, ◌≤◌, IfOk, All, length, string_bytes, option_map, map};
-ghost use Rattle.sel_bench.specs.Commands.{answer_of_line, answer_of_words};
+ghost use Rattle.sel_bench.specs.Commands.{answer_of_command, answer_of_line, answer_of_words};
 ghost use Rattle.sel_bench.specs.Lines.{longest_line};
 
+use crate::dict::answer_dict;
 use crate::filter::answer_filter;
+use crate::flatten::answer_flatten;
 use crate::get::answer_get;
 use crate::pext::answer_pext;
 use crate::take::answer_take;
@@ -32,20 +34,34 @@ fn answer_words(alloc: Global, words: &[&str]) -> Result<Option<String>, AllocEr
     ensures { IfOk result (λ answer.
         option_map string_bytes answer ≡ answer_of_words (map (λ word. word.now) words.now)) }
 {
-    let Some((name, words)) = words.split_first() else {
-        return Ok(None);
-    };
-    if *name == "filter" {
+    match words.split_first() {
+        Some((name, words)) => answer_command(alloc, name, words),
+        None => Ok(None),
+    }
+}
+
+fn answer_command(alloc: Global, name: &str, words: &[&str]) -> Result<Option<String>, AllocError>
+    requires { All (λ word. length word.now ≤ longest_line) words.now }
+    ensures { IfOk result (λ answer.
+        option_map string_bytes answer ≡ answer_of_command name.now (map (λ word. word.now) words.now)) }
+{
+    if name == "filter" {
         return answer_filter(alloc, words);
     }
-    if *name == "take" {
+    if name == "take" {
         return answer_take(alloc, words);
     }
-    if *name == "get" {
+    if name == "get" {
         return answer_get(alloc, words);
     }
-    if *name == "pext" {
+    if name == "pext" {
         return answer_pext(alloc, words);
+    }
+    if name == "flatten" {
+        return answer_flatten(alloc, words);
+    }
+    if name == "dict" {
+        return answer_dict(alloc, words);
     }
     Ok(None)
 }

@@ -4,7 +4,9 @@
 mod columns;
 mod commands;
 mod counted;
+mod dict;
 mod filter;
+mod flatten;
 mod get;
 mod lists;
 mod numbers;
@@ -16,6 +18,7 @@ mod run;
 mod take;
 #[cfg(test)]
 mod tests;
+mod texts;
 mod words;
 mod writing;
 

@@ -1,7 +1,7 @@
 //! Numbers and truth values as words.
 ghost use Rattle.std.specs.Prelude.{◌≡◌, ℕ, pos, List, Option, option_map, Decides};
 ghost use Rattle.sel_arrow.specs.Value.{Value, Number, Truth};
-ghost use Rattle.sel_bench.specs.Numbers.{number_of, index_of, truth_of, HasOneSpelling};
+ghost use Rattle.sel_bench.specs.Numbers.{number_of, index_of, size_of, truth_of, HasOneSpelling};
 
 /// What a column has in a row that is not null.
 pub trait Item: Copy {
@@ -65,6 +65,17 @@ impl Item for bool {
             [b'f'] => Some(false),
             _ => None,
         }
+    }
+}
+
+/// The number that a word is the printing of.
+pub fn parse_size(word: &str) -> Option<usize>
+    ensures { result ≡ size_of word.now }
+{
+    if has_one_spelling(word) {
+        word.parse::<usize>().ok()
+    } else {
+        None
     }
 }
 

@@ -125,7 +125,7 @@ fn run_into(
 
 #[test]
 fn good_lines(rt: HostRuntime) -> Result<(), Fail> {
-    let rows: [(&[u8], &[u8]); 23] = [
+    let rows: [(&[u8], &[u8]); 33] = [
         (TWO_LINES, TWO_ANSWERS),
         (b"", b""),
         (b"filter - -", b"-\n"),
@@ -155,6 +155,22 @@ fn good_lines(rt: HostRuntime) -> Result<(), Fail> {
             b"pext ffffffffffffffff ffffffffffffffff\n",
             b"ffffffffffffffff\n",
         ),
+        (b"flatten 2 2:1,2,3,4 1:9\n", b"1,2,9,3,4,9\n"),
+        (b"flatten 3 1:1,n,-3\n", b"1,n,-3\n"),
+        (b"flatten 0 3:- 2:7,8\n", b"-\n"),
+        (b"flatten 4294967296 1:5\n", b"size limit rows\n"),
+        (
+            b"flatten 18446744073709551615 2:1,2\n",
+            b"size limit rows\n",
+        ),
+        (b"dict 0,1,2,n =a,n,=c\n", b"0,n,1,n =a,=c\n"),
+        (b"dict n -\n", b"n -\n"),
+        (b"dict - n\n", b"- -\n"),
+        (b"dict 0 =\n", b"0 =\n"),
+        (
+            b"dict 2,1,0 =twelve.bytes,=thirteen=byte,=\xC3\xA9\n",
+            b"2,1,0 =twelve.bytes,=thirteen=byte,=\xC3\xA9\n",
+        ),
     ];
     for (input, output) in &rows {
         assert!(rt; runs(rt.alloc(), input, Done::End, output));
@@ -164,7 +180,7 @@ fn good_lines(rt: HostRuntime) -> Result<(), Fail> {
 
 #[test]
 fn bad_lines(rt: HostRuntime) -> Result<(), Fail> {
-    let lines: [&[u8]; 38] = [
+    let lines: [&[u8]; 54] = [
         b"",
         b" ",
         b"take",
@@ -201,8 +217,24 @@ fn bad_lines(rt: HostRuntime) -> Result<(), Fail> {
         b"pext 0123456789abcdef0 cc",
         b"pext b4 000000000000000cc",
         b"get 1||2 0",
-        b"flatten 2 2:1,2,3,4 1:9",
-        b"dict 0,1,2,n =a,n,=c",
+        b"flatten",
+        b"flatten 2",
+        b"flatten 2 0:-",
+        b"flatten 1 2:1",
+        b"flatten 2 2:1,2,3",
+        b"flatten 02 2:1,2,3,4",
+        b"flatten 18446744073709551616 1:5",
+        b"flatten -1 1:5",
+        b"flatten 1 +1:5",
+        b"flatten 1 1:5:",
+        b"flatten 1 1",
+        b"flatten 1 1:",
+        b"dict 0",
+        b"dict 0 =a =b",
+        b"dict 0,n,3 =a,n",
+        b"dict 0 a",
+        b"dict 0 =a,",
+        b"dict -1 =a",
     ];
     for line in &lines {
         assert!(rt; is_bad(rt.alloc(), line)?);
