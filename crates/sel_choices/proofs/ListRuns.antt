@@ -3,8 +3,7 @@ use Rattle.std.proofs.Common.{◌≡◌, All, ℕ, zero, suc, ◌+◌, ◌≤◌
 use Rattle.std.specs.Prelude.{if◌then◌else◌, is_some}
 use Rattle.std.proofs.lemmas.List.{length-replicate, length-take, get_or-replicate, map-append, take_more}
 use Rattle.std.proofs.lemmas.List.Elements.{All-append}
-use Rattle.sel_arrow.specs.Nested.{list_of}
-use Rattle.sel_arrow.specs.Value.{Value, Null, Items, is_valid, validities, values_of, listed}
+use Rattle.sel_arrow.specs.Value.{Value, Null, is_valid, validities}
 use Rattle.sel_runs.specs.Children.{items_in, joined_items}
 use Rattle.sel_runs.specs.Ends.{item_ends}
 use Rattle.sel_runs.specs.Picks.{found, pick, PickFits}

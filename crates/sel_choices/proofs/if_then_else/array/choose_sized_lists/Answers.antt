@@ -1,4 +1,4 @@
-use Rattle.std.proofs.Common.{◌≡◌, ◌≤◌, ◌<◌, ◌∙◌, ◌∷◌, [], ℕ, List, All, ap, subst, sym, arith, length, get_or}
+use Rattle.std.proofs.Common.{◌≡◌, ◌∷◌, [], ℕ, List, All, ap, subst, sym, arith, length, get_or}
 use Rattle.std.specs.Prelude.{IfErr}
 use Rattle.std.proofs.lemmas.List.{length-map, length-replicate}
 use Rattle.sel_arrow.specs.Rows.{rows, type_of}

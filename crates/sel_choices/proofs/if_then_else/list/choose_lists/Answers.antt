@@ -1,9 +1,8 @@
-use Rattle.std.proofs.Common.{◌≡◌, ◌≤◌, ◌∙◌, ◌∷◌, [], List, ap, subst, sym, arith, length}
+use Rattle.std.proofs.Common.{◌≡◌, ◌∷◌, [], List, ap, subst, arith, length}
 use Rattle.std.specs.Prelude.{IfErr}
 use Rattle.std.proofs.lemmas.List.{length-map}
 use Rattle.sel_arrow.specs.Rows.{rows, type_of}
 use Rattle.sel_arrow.specs.Shape.{of_large_list}
-use Rattle.sel_arrow.specs.Value.{Value}
 use Rattle.sel_arrow.specs.declared.column.Column.{Column}
 use Rattle.sel_runs.specs.declared.run.Run.{Run}
 use Rattle.sel_choices.specs.ListSides.{past_below, rows_of_parts, row_of_part}

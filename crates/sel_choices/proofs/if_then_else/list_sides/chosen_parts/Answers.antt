@@ -1,7 +1,6 @@
-use Rattle.std.proofs.Common.{◌≡◌, ◌∷◌, [], ◌∙◌, List, Bool, true, false, get_or, ap, arith, refl, sym, length, subst}
+use Rattle.std.proofs.Common.{◌≡◌, ◌∷◌, [], ◌∙◌, true, false, get_or, arith, refl, sym}
 use Rattle.std.specs.Prelude.{if◌then◌else◌}
 use Rattle.sel_arrow.specs.Rows.{rows}
-use Rattle.sel_arrow.specs.Value.{Value}
 use Rattle.sel_choices.proofs.ListRuns.{IsPart, part_if, more_rows, more_fits, more_nulls}
 use Rattle.sel_choices.proofs.if_then_else.list_sides.chosen_parts.Goals as goal
 use Rattle.sel_choices.proofs.if_then_else.list_sides.chosen_parts.Goals.{then-get_bit, else-get_bit}

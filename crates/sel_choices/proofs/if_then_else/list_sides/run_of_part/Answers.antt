@@ -1,4 +1,4 @@
-use Rattle.std.proofs.Common.{◌≡◌, ◌≤◌, ◌+◌, [], get_or, ◌∙◌, ap, sym, arith, length, take, drop}
+use Rattle.std.proofs.Common.{◌≤◌, ◌+◌, [], get_or, ◌∙◌, ap, sym, arith, length, take, drop}
 use Rattle.sel_arrow.specs.Nested.{list_of}
 use Rattle.sel_arrow.specs.Value.{Null}
 use Rattle.sel_runs.proofs.Fits.{rows_fit}

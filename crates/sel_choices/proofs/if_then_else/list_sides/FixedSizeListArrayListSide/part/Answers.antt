@@ -1,6 +1,6 @@
-use Rattle.std.proofs.Common.{◌∙◌, refl, sym, arith, length}
+use Rattle.std.proofs.Common.{◌∙◌, refl, sym, arith}
 use Rattle.sel_arrow.specs.NestedArrays.{block_column}
-use Rattle.sel_runs.proofs.ListParts.{OfBlock, block_has, block_below, block_null, block_row}
+use Rattle.sel_runs.proofs.ListParts.{block_has, block_below, block_null, block_row}
 use Rattle.sel_choices.proofs.if_then_else.list_sides.FixedSizeListArrayListSide.part.Goals as goal
 
 pub is_valid_at-requires : goal.is_valid_at-requires

@@ -1,6 +1,5 @@
-use Rattle.std.proofs.Common.{◌<◌, ◌∙◌, refl, sym, arith, length}
+use Rattle.std.proofs.Common.{◌∙◌, refl, sym, arith}
 use Rattle.sel_arrow.specs.NestedArrays.{list_column}
-use Rattle.sel_arrow.specs.Pieces.{rows_between}
 use Rattle.sel_runs.proofs.ListParts.{OfList, list_has, list_inside, list_null, list_row}
 use Rattle.sel_choices.proofs.if_then_else.list_sides.ListArrayI64ListSide.part.Goals as goal
 
