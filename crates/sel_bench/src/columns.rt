@@ -104,7 +104,7 @@ impl Printed for PrimitiveArray<i64> {
 impl Printed for PrimitiveArray<u32> {
     fn push_row(&self, _alloc: Global, place: usize, text: &mut String) -> Result<(), AllocError> {
         match self.get(place) {
-            Some(number) => write!(text, "{number}"),
+            Some(index) => write!(text, "{index}"),
             None => text.push('n'),
         }
     }
