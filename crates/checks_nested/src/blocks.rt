@@ -2,6 +2,7 @@
 
 use crate::shared::{are_numbers, has_too_many_rows, is_valid, nulls, nulls_in, taken, validity};
 use checks_columns::fixtures::numbers;
+use polars_compute::filter::filter_with_bitmap;
 use sel_arrow::array::Array;
 use sel_arrow::array_ref::ArrayRef;
 use sel_arrow::column::Column;
@@ -202,5 +203,36 @@ fn is_handed_back(broken: Column) -> bool {
 fn broken_columns_are_handed_back(rt: HostRuntime) -> Result<(), Fail> {
     let broken = broken_blocks(rt.alloc())?;
     assert!(rt; is_handed_back(broken));
+    Ok(())
+}
+
+/// The first of two rows, by a mask.
+fn first_kept(alloc: Global, column: &ArrayRef) -> Result<ArrayRef, Fail> {
+    let mask = Bitmap::from_bools(alloc, &[true, false])?;
+    if column.len() != mask.len() {
+        return Err(Fail::from("another length"));
+    }
+    Ok(filter_with_bitmap(alloc, column, &mask)?)
+}
+
+/// The same of a column that is needed no more.
+fn kept(alloc: Global, column: ArrayRef) -> Result<ArrayRef, Fail> {
+    let kept = first_kept(alloc, &column);
+    drop(column);
+    kept
+}
+
+/// Whether this is the one list of 1 and 2.
+fn is_first_pair(rows: ArrayRef) -> bool {
+    let column = rows.as_column();
+    let is_first = are_blocks(column, 2, 1) && is_pair_at(column, 0, 0, &[Some(1), Some(2)]);
+    drop(rows);
+    is_first
+}
+
+#[test]
+fn a_filter_of_lists_of_one_length_is_a_take(rt: HostRuntime) -> Result<(), Fail> {
+    assert!(rt; is_first_pair(kept(rt.alloc(), pair_and_null(rt.alloc())?)?));
+    assert!(rt; is_first_pair(taken(rt.alloc(), pair_and_null(rt.alloc())?, &[Some(0)])?));
     Ok(())
 }
