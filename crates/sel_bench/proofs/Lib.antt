@@ -1,4 +1,5 @@
 pub mod Answered
+pub mod Chosen
 pub mod Flattened
 pub mod Hex
 pub mod Pieces

@@ -2,6 +2,7 @@
 use Rattle.std.specs.Prelude.{ℕ, ◌==◌, ◌&&◌, List, [], ◌∷◌, length, Option, None, if◌then◌else◌, codes, bytes_eq, nat_le}
 use Rattle.std.specs.List.{slice_split}
 use Rattle.std.specs.Str.{is_utf8}
+use Rattle.sel_bench.specs.Choose.{choose_words}
 use Rattle.sel_bench.specs.Dict.{dict_words}
 use Rattle.sel_bench.specs.Filter.{filter_words}
 use Rattle.sel_bench.specs.Flatten.{flatten_words}
@@ -17,6 +18,7 @@ answer_of_command name words =
     else if bytes_eq name (codes "take") then take_words words
     else if bytes_eq name (codes "get") then get_words words
     else if bytes_eq name (codes "pext") then pext_words words
+    else if bytes_eq name (codes "choose") then choose_words words
     else if bytes_eq name (codes "flatten") then flatten_words words
     else if bytes_eq name (codes "dict") then dict_words words
     else None

@@ -1,3 +1,4 @@
+pub mod Choose
 pub mod Columns
 pub mod Commands
 pub mod Counted

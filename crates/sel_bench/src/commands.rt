@@ -3,6 +3,7 @@ ghost use Rattle.std.specs.Prelude.{◌≡◌, ◌≤◌, IfOk, All, length, str
 ghost use Rattle.sel_bench.specs.Commands.{answer_of_command, answer_of_line, answer_of_words};
 ghost use Rattle.sel_bench.specs.Lines.{longest_line};
 
+use crate::choose::answer_choose;
 use crate::dict::answer_dict;
 use crate::filter::answer_filter;
 use crate::flatten::answer_flatten;
@@ -56,6 +57,9 @@ fn answer_command(alloc: Global, name: &str, words: &[&str]) -> Result<Option<St
     }
     if name == "pext" {
         return answer_pext(alloc, words);
+    }
+    if name == "choose" {
+        return answer_choose(alloc, words);
     }
     if name == "flatten" {
         return answer_flatten(alloc, words);

@@ -1,6 +1,7 @@
 //! Reads lines such as `take 5,n,7 2,n,1` and answers each by a line.
 #![tactic(auto)]
 
+mod choose;
 mod columns;
 mod commands;
 mod counted;

@@ -125,7 +125,7 @@ fn run_into(
 
 #[test]
 fn good_lines(rt: HostRuntime) -> Result<(), Fail> {
-    let rows: [(&[u8], &[u8]); 33] = [
+    let rows: [(&[u8], &[u8]); 35] = [
         (TWO_LINES, TWO_ANSWERS),
         (b"", b""),
         (b"filter - -", b"-\n"),
@@ -155,6 +155,8 @@ fn good_lines(rt: HostRuntime) -> Result<(), Fail> {
             b"pext ffffffffffffffff ffffffffffffffff\n",
             b"ffffffffffffffff\n",
         ),
+        (b"choose t,f,t 1,n,3 7,8,n\n", b"1,8,3\n"),
+        (b"choose - - -\n", b"-\n"),
         (b"flatten 2 2:1,2,3,4 1:9\n", b"1,2,9,3,4,9\n"),
         (b"flatten 3 1:1,n,-3\n", b"1,n,-3\n"),
         (b"flatten 0 3:- 2:7,8\n", b"-\n"),
@@ -180,7 +182,7 @@ fn good_lines(rt: HostRuntime) -> Result<(), Fail> {
 
 #[test]
 fn bad_lines(rt: HostRuntime) -> Result<(), Fail> {
-    let lines: [&[u8]; 54] = [
+    let lines: [&[u8]; 59] = [
         b"",
         b" ",
         b"take",
@@ -217,6 +219,11 @@ fn bad_lines(rt: HostRuntime) -> Result<(), Fail> {
         b"pext 0123456789abcdef0 cc",
         b"pext b4 000000000000000cc",
         b"get 1||2 0",
+        b"choose t,n 1,2 3,4",
+        b"choose t 1,2 3",
+        b"choose t 1 -",
+        b"choose t,f 1 3",
+        b"choose t 1",
         b"flatten",
         b"flatten 2",
         b"flatten 2 0:-",
