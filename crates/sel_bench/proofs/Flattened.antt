@@ -1,5 +1,5 @@
 -- Columns of numbers side by side.
-use Rattle.std.proofs.Common.{◌≡◌, ℕ, ◌<◌, ◌≤◌, ◌⊎◌, Bool, true, false, cond, Bor, List, [], ◌∷◌, length, map, Option, Some, None, arith, refl, ap, sym, subst, ◌∙◌}
+use Rattle.std.proofs.Common.{◌≡◌, ℕ, ◌<◌, ◌≤◌, Bool, true, false, cond, Bor, List, [], ◌∷◌, length, map, Option, Some, None, arith, refl, ap, sym, subst, ◌∙◌}
 use Rattle.std.specs.Prelude.{Decides, IsTrue, ◌&&◌, nat_lt, option_map, codes}
 use Rattle.std.specs.List.{All}
 use Rattle.std.proofs.lemmas.Bool.Decides.{Decides-and, Decides-ltb}
@@ -16,7 +16,7 @@ use Rattle.sel_arrow.specs.Shape.{of_int64}
 use Rattle.sel_arrow.specs.Value.{Value}
 use Rattle.sel_arrow.specs.declared.array_ref.ArrayRef.{ArrayRef}
 use Rattle.sel_arrow.specs.declared.column.Column.{Column}
-use Rattle.sel_runs.specs.Need.{IsRefusal, IsPastRows, past_taken}
+use Rattle.sel_runs.specs.Need.{IsRefusal, IsPastRows}
 use Rattle.sel_runs.specs.Sources.{first_type}
 use Rattle.sel_flatten.specs.Flatten.{flatten, parts_fit, past_flattened}
 use Rattle.sel_bench.specs.Columns.{all_some, column_text}

@@ -1,7 +1,7 @@
 -- Texts as words, and views of them over one data buffer that grows.
 use Rattle.std.proofs.Common.{◌≡◌, ◌≢◌, ℕ, zero, suc, ◌+◌, ◌-◌, ◌≤◌, ◌<◌, Bool, true, false, ◌&&◌, cond, Bor, List, [], ◌∷◌, ◌++◌, length, take, drop, map, get_or, Option, Some, None, arith, refl, ap, sym, subst, ◌∙◌, length-append, length-drop}
 use Rattle.std.specs.Prelude.{leb, ltb, ◌==◌, IsTrue, codes, bytes_eq, option_map, is_some, unwrap_or}
-use Rattle.std.specs.List.{list_all, slice_range, slice_split, onto_first}
+use Rattle.std.specs.List.{slice_range, slice_split, onto_first}
 use Rattle.std.specs.Str.{IsUtf8, is_utf8}
 use Rattle.std.proofs.lemmas.Bool.{leb-true, le-leb, ltb-true, eqb-true, eq-eqb}
 use Rattle.std.proofs.lemmas.List.{map-append, length-map, take_all, take_more, take-append-drop, take-append-le, drop-append-le}
@@ -11,7 +11,7 @@ use Rattle.std.proofs.lemmas.Str.{is_utf8-from_IsUtf8}
 use Rattle.sel_arrow.specs.Masked.{hidden}
 use Rattle.sel_arrow.specs.Texts.{all_text, is_text}
 use Rattle.sel_arrow.specs.Value.{Value, Null, Bytes}
-use Rattle.sel_arrow.specs.Views.{all_placed, inline_bytes, is_inline, is_placed, view_of, view_value, view_bytes, word_at}
+use Rattle.sel_arrow.specs.Views.{all_placed, inline_bytes, is_inline, is_placed, view_of, view_value, word_at}
 use Rattle.sel_arrow.specs.declared.view.View.{View}
 use Rattle.sel_arrow.proofs.Lists.{both, and_first, and_second}
 use Rattle.sel_runs.specs.Need.{byte_count, bytes_needed}

@@ -1,4 +1,4 @@
-use Rattle.std.proofs.Common.{◌∙◌, Some, None, List, ap, sym, map}
+use Rattle.std.proofs.Common.{◌∙◌, Some, None, ap, sym, map}
 use Rattle.std.specs.Prelude.{option_map}
 use Rattle.std.proofs.lemmas.Result.{IfOk-weaker}
 use Rattle.sel_bench.specs.Flatten.{read_part}

@@ -1,4 +1,4 @@
-use Rattle.std.proofs.Common.{◌∙◌, Some, None, ap, sym, arith}
+use Rattle.std.proofs.Common.{◌∙◌, Some, ap, sym}
 use Rattle.std.specs.Prelude.{option_map}
 use Rattle.sel_arrow.specs.Columns.{primitive_rows}
 use Rattle.sel_arrow.proofs.Rows.{length-number_rows}

@@ -1,4 +1,4 @@
-use Rattle.std.proofs.Common.{arith, map, length, true, false}
+use Rattle.std.proofs.Common.{map}
 use Rattle.std.proofs.lemmas.List.{length-map}
 use Rattle.std.proofs.lemmas.Result.{err_from_is_err_and}
 use Rattle.sel_arrow.specs.Rows.{rows}

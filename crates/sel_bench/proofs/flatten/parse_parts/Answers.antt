@@ -1,4 +1,4 @@
-use Rattle.std.proofs.Common.{Bor, List, ℕ, ◌∙◌, ◌∷◌, [], Some, arith, ap, map, sym}
+use Rattle.std.proofs.Common.{Bor, List, ℕ, ◌∙◌, Some, arith, ap, map, sym}
 use Rattle.std.specs.Prelude.{option_map}
 use Rattle.std.proofs.lemmas.List.{map-append}
 use Rattle.sel_bench.specs.Flatten.{part_of, read_part}

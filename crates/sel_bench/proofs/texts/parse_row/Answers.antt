@@ -1,4 +1,4 @@
-use Rattle.std.proofs.Common.{◌∙◌, Some, Option, Bor, List, ℕ, ap, sym, arith, cond, lit<}
+use Rattle.std.proofs.Common.{◌∙◌, Some, ap, cond, lit<}
 use Rattle.std.proofs.lemmas.Str.Pattern.{strip_prefix_char}
 use Rattle.sel_arrow.specs.Value.{Null}
 use Rattle.sel_bench.specs.Texts.{text_of}
