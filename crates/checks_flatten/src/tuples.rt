@@ -15,19 +15,43 @@ fn two_rows(alloc: Global, first: ArrayRef, second: ArrayRef) -> Result<ArrayRef
     Ok(flattened(alloc, vec![in alloc; first, second]?, &[1, 1], 2)??)
 }
 
-/// Tuples of these numbers and truth values, none of them null.
+/// So many tuples of these fields.
 fn pairs(
     alloc: Global,
-    firsts: &[i64],
-    seconds: &[bool],
-    validity: &[bool],
+    len: usize,
+    first: ArrayRef,
+    second: ArrayRef,
+    validity: Bitmap,
 ) -> Result<ArrayRef, Fail> {
-    let all = [true, true];
-    let first = numbers(alloc, firsts, &all[..firsts.len().min(2)])?.into_ref();
-    let second = truths(alloc, seconds, &all[..seconds.len().min(2)])?.into_ref();
-    let validity = Bitmap::from_bools(alloc, validity)?;
     let fields = vec![in alloc; first, second]?;
-    Ok(StructArray::try_new(alloc, firsts.len(), fields, Some(validity))?.into_ref())
+    Ok(StructArray::try_new(alloc, len, fields, Some(validity))?.into_ref())
+}
+
+/// The rows `(1, true)` and null.
+fn pair_and_null(alloc: Global) -> Result<ArrayRef, Fail> {
+    let validity = Bitmap::from_bools(alloc, &[true, false])?;
+    let first = numbers(alloc, &[1i64, 5], &[true, true])?;
+    let second = truths(alloc, &[true, true], &[true, true])?;
+    pairs(alloc, 2, first.into_ref(), second.into_ref(), validity)
+}
+
+/// The row `(2, false)`.
+fn one_pair(alloc: Global) -> Result<ArrayRef, Fail> {
+    let validity = Bitmap::from_bools(alloc, &[true])?;
+    let first = numbers(alloc, &[2i64], &[true])?;
+    let second = truths(alloc, &[false], &[true])?;
+    pairs(alloc, 1, first.into_ref(), second.into_ref(), validity)
+}
+
+/// One row of the column, and beside it the row `(2, false)`, twice.
+fn beside_one_pair(alloc: Global, first: ArrayRef) -> Result<ArrayRef, Fail> {
+    match one_pair(alloc) {
+        Ok(second) => two_rows(alloc, first, second),
+        Err(fail) => {
+            drop(first);
+            Err(fail)
+        }
+    }
 }
 
 /// The number and the truth value of the tuple in a row, none where it is null; nothing where it is another row.
@@ -82,9 +106,7 @@ fn are_pairs(column: &Column) -> bool {
 
 /// Whether a null tuple and one that stands in each row are put side by side.
 fn flattens_pairs(alloc: Global) -> Result<bool, Fail> {
-    let first = pairs(alloc, &[1, 5], &[true, true], &[true, false])?;
-    let second = pairs(alloc, &[2], &[false], &[true])?;
-    let flat = two_rows(alloc, first, second)?;
+    let flat = beside_one_pair(alloc, pair_and_null(alloc)?)?;
     let are = are_pairs(flat.as_column());
     drop(flat);
     Ok(are)
