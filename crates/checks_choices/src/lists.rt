@@ -74,7 +74,7 @@ fn is_valid(validity: &Option<Bitmap>, at: usize) -> bool {
 
 /// Whether the row is this list; none is null.
 fn is_list_at(lists: &ListArray<i64>, at: usize, row: Option<&[Option<i64>]>) -> bool {
-    if at >= lists.len() || is_valid(&lists.validity, at) != row.is_some() {
+    if at >= lists.offsets.len_proxy() || is_valid(&lists.validity, at) != row.is_some() {
         return false;
     }
     match row {
