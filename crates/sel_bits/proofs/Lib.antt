@@ -1,6 +1,7 @@
 pub mod BitLists
 pub mod Combining
 pub mod Counts
+pub mod Extended
 pub mod Lists
 pub mod OffsetLemmas
 pub mod Packed

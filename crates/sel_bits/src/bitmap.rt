@@ -142,10 +142,11 @@ impl Bitmap {
         ensures { result ≡ count_true self.now.bits }
     {
         let mut count = 0;
-        for i in 0..self.len {
-            if self.get_bit(i) {
-                count += 1;
-            }
+        let mut at = 0;
+        while at < self.len() {
+            let len = (self.len() - at).min(MOST_BITS);
+            count += self.word_at(at, len).count_ones() as usize;
+            at += len;
         }
         count
     }

@@ -1,8 +1,8 @@
 //! Bits that are packed behind one another, up to 56 at a time.
 #![tactic(auto, using(crate::proofs::BitLists::length_bits_from))]
 
-ghost use Rattle.std.specs.Prelude.{◌≡◌, ℕ, ◌+◌, ◌-◌, ◌*◌, ◌^◌, ◌<◌, ◌≤◌, [], ◌∷◌, ◌++◌, length, take, IfOk, IfErr, OnOk};
-ghost use Rattle.sel_bits.specs.Words.{bits};
+ghost use Rattle.std.specs.Prelude.{◌≡◌, ℕ, ◌+◌, ◌-◌, ◌*◌, ◌^◌, ◌<◌, ◌≤◌, [], ◌∷◌, ◌++◌, length, take, drop, replicate, IfOk, IfErr, OnOk};
+ghost use Rattle.sel_bits.specs.Words.{bits, word_of};
 
 use crate::bitmap::Bitmap;
 use crate::faults::{PolarsError, PolarsResult};
@@ -74,6 +74,46 @@ impl BitPacker {
         self.append(u64::from(bit), 1)
     }
 
+    /// Puts the `len` bits of a bitmap from bit `start` on behind the others, many at a time. Refuses only for want of
+    /// memory, and then keeps the bits that stood here.
+    pub fn extend_from_bitmap(
+        &mut self,
+        bits: &Bitmap,
+        start: usize,
+        len: usize,
+    ) -> PolarsResult<()>
+        requires { start + len ≤ length bits.now.bits }
+        ensures extended { OnOk result (self.new ≡ self.old ++ take len (drop start bits.now.bits)) }
+        ensures kept { IfErr result (λ _. take (length self.old) self.new ≡ self.old) }
+        ensures refusal { IfErr result (λ fault. fault ≡ PolarsError.OutOfMemory) }
+    {
+        // (a bitmap has no more bits than a place can show)
+        let _whole = bits.len();
+        let mut at = 0;
+        while at < len {
+            let count = (len - at).min(MOST_BITS);
+            self.append(bits.word_at(start + at, count), count as u32)?;
+            at += count;
+        }
+        Ok(())
+    }
+
+    /// Puts the same bit `len` times behind the others, many at a time. Refuses only for want of memory, and then keeps
+    /// the bits that stood here.
+    pub fn extend_constant(&mut self, len: usize, value: bool) -> PolarsResult<()>
+        ensures extended { OnOk result (self.new ≡ self.old ++ replicate len value) }
+        ensures kept { IfErr result (λ _. take (length self.old) self.new ≡ self.old) }
+        ensures refusal { IfErr result (λ fault. fault ≡ PolarsError.OutOfMemory) }
+    {
+        let mut at = 0;
+        while at < len {
+            let count = (len - at).min(MOST_BITS);
+            self.append(word_of_copies(value, count), count as u32)?;
+            at += count;
+        }
+        Ok(())
+    }
+
     /// The bits, `len` in number, as a bitmap. Refuses only for want of memory.
     pub fn into_bitmap(mut self, len: usize) -> PolarsResult<Bitmap>
         requires { length self ≡ len }
@@ -86,4 +126,12 @@ impl BitPacker {
         self.bytes.push(self.pending as u8)?;
         Bitmap::from_u8_vec(self.bytes, len)
     }
+}
+
+/// The word whose `count` lowest bits are this one, with zeros above them.
+fn word_of_copies(value: bool, count: usize) -> u64
+    requires { count ≤ 56 }
+    ensures { result ≡ word_of (replicate count value) }
+{
+    if value { (1 << count) - 1 } else { 0 }
 }

@@ -1,14 +1,12 @@
 -- What a recursion into children and fields stands on.
-use Rattle.std.proofs.Common.{◌≡◌, ◌⊎◌, inl, inr, All, Bor, ℕ, zero, suc, ◌+◌, ◌≤◌, ◌<◌, true, List, [], ◌∷◌, ◌++◌, length, map, Option, refl, ap, sym, subst, ◌∙◌, arith, get_or}
-use Rattle.std.specs.Prelude.{⊤}
-use Rattle.std.specs.List.{range_with_len}
+use Rattle.std.proofs.Common.{◌≡◌, inl, inr, All, Bor, ℕ, zero, suc, ◌+◌, ◌<◌, true, List, [], ◌∷◌, ◌++◌, length, map, refl, ap, sym, subst, ◌∙◌, arith, get_or}
 use Rattle.std.proofs.lemmas.List.{get_or-map}
 use Rattle.std.proofs.lemmas.List.FromFn.{map-range_with_len_more}
 use Rattle.sel_bits.specs.declared.faults.Limit.{Limit}
 use Rattle.sel_bits.specs.declared.faults.PolarsError.{PolarsError}
 use Rattle.sel_bits.specs.declared.faults.PolarsError.TheVariants.{OutOfMemory, SizeLimit, ComputeError}
-use Rattle.sel_arrow.specs.Rows.{rows, row_count, type_of, well_formed, IsWellFormed}
-use Rattle.sel_arrow.specs.Shape.{Shape, Shapes, of_null, of_large_list, of_fixed_size_list, of_struct, shapes_of, shape_list}
+use Rattle.sel_arrow.specs.Rows.{rows, type_of, well_formed, IsWellFormed}
+use Rattle.sel_arrow.specs.Shape.{Shape, of_null, of_large_list, of_fixed_size_list, shapes_of, shape_list}
 use Rattle.sel_arrow.specs.Value.{Value}
 use Rattle.sel_arrow.specs.declared.column.Column.{Column}
 use Rattle.sel_arrow.specs.declared.column.Column.TheVariants.{LargeList', FixedSizeList'}

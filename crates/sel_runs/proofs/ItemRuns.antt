@@ -1,21 +1,20 @@
 -- The child's rows that rows of lists hold, as runs.
-use Rattle.std.proofs.Common.{◌≡◌, All, Bor, ℤ, pos, ℕ, zero, suc, ◌+◌, ◌*◌, ◌≤◌, ◌<◌, true, List, [], ◌∷◌, ◌++◌, length, take, drop, map, replicate, Option, Some, None, refl, ap, sym, subst, ◌∙◌, arith, get_or, length-append, append_assoc}
-use Rattle.std.specs.List.{flat_map}
-use Rattle.std.proofs.lemmas.List.{length-map, get_or-map, length-replicate, take_more, take_all, take-append-drop, map-append, append-nil}
+use Rattle.std.proofs.Common.{◌≡◌, All, Bor, ℤ, pos, ℕ, zero, suc, ◌+◌, ◌≤◌, ◌<◌, List, [], ◌∷◌, ◌++◌, length, take, drop, map, replicate, Option, Some, None, refl, ap, sym, subst, ◌∙◌, arith, get_or, length-append, append_assoc}
+use Rattle.std.proofs.lemmas.List.{length-map, get_or-map, take_more, take_all, take-append-drop, map-append, append-nil}
 use Rattle.std.proofs.lemmas.List.Concat.{flat_map-append}
 use Rattle.std.proofs.lemmas.List.Elements.{All-append, All-get_or}
 use Rattle.sel_arrow.specs.Nested.{list_of}
-use Rattle.sel_arrow.specs.Rows.{rows, row_count, type_of, well_formed}
-use Rattle.sel_arrow.specs.Value.{Value, Null, Items, values_of, listed}
+use Rattle.sel_arrow.specs.Rows.{rows}
+use Rattle.sel_arrow.specs.Value.{Value, Null, values_of, listed}
 use Rattle.sel_arrow.specs.declared.column.Column.{Column}
-use Rattle.sel_runs.specs.Children.{child, items_in, joined_items, is_listing}
+use Rattle.sel_runs.specs.Children.{child, items_in, joined_items}
 use Rattle.sel_runs.specs.Ends.{item_ends}
 use Rattle.sel_runs.specs.Picks.{found, pick, PickFits}
-use Rattle.sel_runs.specs.Runs.{expand, unrolled, picks_of, unrolled_from}
+use Rattle.sel_runs.specs.Runs.{expand, unrolled, picks_of}
 use Rattle.sel_runs.specs.declared.run.Run.{Run}
 use Rattle.sel_runs.proofs.Fits.{rows_fit}
 use Rattle.sel_runs.proofs.JoinedRows.{null_row, run_row, run_length}
-use Rattle.sel_runs.proofs.RunLists.{run_there, pick_rows, map_nulls, pick_more, run_at, expand-push, expand-append, length-pick, length-unrolled}
+use Rattle.sel_runs.proofs.RunLists.{run_there, pick_rows, map_nulls, pick_more, run_at, expand-append, length-pick}
 
 -- the rows of each source, and those of its child
 abbrev pub rows_of : List (Bor Column) → List (List Value)

@@ -73,7 +73,7 @@ pub needed_run : (xss : List (List Value)) (rs : List Run) (i : ℕ) → i < len
     bytes_needed (pick Null xss (expand (take (i + 1) rs))) ≡ bytes_needed (pick Null xss (expand (take i rs))) + bytes_needed (pick Null xss (unrolled (run_at rs i)))
 needed_run xss rs i h = ap bytes_needed (pick_more Null xss rs i h) ∙ needed-append (pick Null xss (expand (take i rs))) (pick Null xss (unrolled (run_at rs i)))
 
-ends-append : (start : ℕ) (a b : List Value) → ends_from start (a ++ b) ≡ ends_from start a ++ ends_from (start + bytes_needed a) b
+pub ends-append : (start : ℕ) (a b : List Value) → ends_from start (a ++ b) ≡ ends_from start a ++ ends_from (start + bytes_needed a) b
 ends-append start [] b =
     let same : start + 0 ≡ start = omega arith in
     rw same refl

@@ -1,18 +1,17 @@
 -- Rows of columns with children are null, lists or tuples.
-use Rattle.std.proofs.Common.{◌≡◌, All, Bor, ℕ, zero, suc, ◌+◌, ◌-◌, ◌*◌, ◌≤◌, ◌<◌, Bool, true, false, List, [], ◌∷◌, length, take, drop, map, Option, Some, None, refl, ap, sym, subst, ◌∙◌, arith, get_or, length-take, length-drop}
+use Rattle.std.proofs.Common.{◌≡◌, All, Bor, ℕ, zero, suc, ◌+◌, ◌-◌, ◌*◌, ◌≤◌, ◌<◌, Bool, true, false, List, [], ◌∷◌, length, drop, map, Option, Some, None, refl, ap, sym, subst, ◌∙◌, arith, get_or, length-take, length-drop}
 use Rattle.std.specs.List.{range_with_len, slice_range}
-use Rattle.std.proofs.lemmas.List.{length-map, get_or-map}
-use Rattle.std.proofs.lemmas.List.FromFn.{get_or-map-range_with_len}
+use Rattle.std.proofs.lemmas.List.{length-map}
 use Rattle.sel_bits.specs.Bits.{Bits}
 use Rattle.sel_arrow.specs.Masked.{hidden, masked}
 use Rattle.sel_arrow.specs.Nested.{list_of, blocks, tuple_at}
 use Rattle.sel_arrow.specs.Pieces.{pieces}
-use Rattle.sel_arrow.specs.Rows.{rows, rows_of_each, row_count, type_of, types_of_each, well_formed, IsWellFormed}
+use Rattle.sel_arrow.specs.Rows.{rows, rows_of_each, type_of, types_of_each, well_formed, IsWellFormed}
 use Rattle.sel_arrow.specs.Shape.{Shape, Shapes, no_shapes, of_large_list, of_fixed_size_list, of_struct, shape_list}
-use Rattle.sel_arrow.specs.Value.{Value, Null, values_of, listed}
+use Rattle.sel_arrow.specs.Value.{Value, Null}
 use Rattle.sel_arrow.specs.declared.column.Column.{Column, Row_of-Column, end_of-Column, more_of-Column}
 use Rattle.sel_arrow.specs.declared.column.Column.TheVariants.{LargeList', FixedSizeList', Struct'}
-use Rattle.sel_arrow.proofs.NestedRows.{has_blocks, length-rows, length-blocks}
+use Rattle.sel_arrow.proofs.NestedRows.{has_blocks, length-rows}
 use Rattle.sel_runs.proofs.ItemRuns.{rows_of, listed_values}
 use Rattle.sel_runs.proofs.Rebuilt.{IsListed, IsBlock, IsTuple, picked_all}
 use Rattle.sel_runs.specs.Picks.{pick}

@@ -16,4 +16,5 @@ pub mod RunLists
 pub mod SplitRuns
 pub mod Thinned
 pub mod TupleRows
+pub mod ValidBytes
 pub mod Windows

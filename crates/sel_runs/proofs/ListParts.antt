@@ -1,13 +1,12 @@
 -- A row of a column of lists, and the child's rows in it.
-use Rattle.std.proofs.Common.{◌≡◌, ℕ, zero, suc, ◌+◌, ◌-◌, ◌*◌, ◌≤◌, ◌<◌, Bool, true, false, List, [], ◌∷◌, length, take, drop, map, Option, Some, None, Box, Global, refl, ap, sym, subst, ◌∙◌, arith, get_or, true≢false}
-use Rattle.std.specs.List.{range_with_len, slice_range}
+use Rattle.std.proofs.Common.{◌≡◌, ℕ, zero, suc, ◌+◌, ◌-◌, ◌*◌, ◌≤◌, ◌<◌, true, false, List, [], length, take, drop, Option, Box, Global, ap, sym, ◌∙◌, arith, get_or}
+use Rattle.std.specs.List.{slice_range}
 use Rattle.std.proofs.lemmas.List.FromFn.{get_or-map-range_with_len}
 use Rattle.sel_bits.specs.Bits.{Bits}
-use Rattle.sel_bits.specs.Offsets.{IsRising}
 use Rattle.sel_arrow.specs.Masked.{Covers, valid_at}
-use Rattle.sel_arrow.specs.Nested.{list_of, list_rows, blocks, block_rows}
+use Rattle.sel_arrow.specs.Nested.{list_of, blocks}
 use Rattle.sel_arrow.specs.Pieces.{pieces, rows_between, last_offset}
-use Rattle.sel_arrow.specs.Rows.{rows, row_count, type_of, well_formed}
+use Rattle.sel_arrow.specs.Rows.{rows, row_count, well_formed}
 use Rattle.sel_arrow.specs.Value.{Value, Null}
 use Rattle.sel_arrow.specs.declared.column.Column.{Column, LargeList, FixedSizeList}
 use Rattle.sel_arrow.specs.declared.column.Column.TheVariants.{Null as NullColumn, Boolean, Int8, Int16, Int32, Int64, Int128, UInt8, UInt16, UInt32, UInt64, UInt128, LargeBinary, BinaryView, Utf8View, LargeList', FixedSizeList', Struct'}

@@ -83,6 +83,20 @@ moved v k = record { length = v.length; prefix = v.prefix; buffer_idx = v.buffer
 far_moved : (v : View) (k : ℕ) → is_inline v ≡ false → raised v k ≡ moved v k
 far_moved v k e = rw e refl
 
+-- views over data buffers that stand behind no others stay as they are
+pub unraised : (vs : List View) (k : ℕ) → k ≡ 0 → map (λ v. raised v k) vs ≡ vs
+unraised [] k none = refl
+unraised (v ∷ vs) k none =
+    let same : v.buffer_idx + k ≡ v.buffer_idx = omega (arith, none) in
+    (λ i. one v same i ∷ unraised vs k none i)
+  where
+    one : (v : View) → v.buffer_idx + k ≡ v.buffer_idx → raised v k ≡ v
+    one v same = by (is_inline v) refl
+      where
+        by : (b : Bool) → is_inline v ≡ b → raised v k ≡ v
+        by true e = inline_same v k e
+        by false e = far_moved v k e ∙ ap (λ n. let w : View = record { length = v.length; prefix = v.prefix; buffer_idx = n; offset = v.offset } in w) same
+
 pub inline_value : (all some : List (List ℕ)) (v : View) → is_inline v ≡ true → view_value all v ≡ view_value some v
 inline_value all some v e = rw e refl
 

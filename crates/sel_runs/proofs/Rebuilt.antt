@@ -1,5 +1,5 @@
 -- Columns with children that are built of their rows.
-use Rattle.std.proofs.Common.{◌≡◌, ◌≢◌, ℕ, zero, suc, ◌+◌, ◌-◌, ◌*◌, ◌≤◌, ◌<◌, ℤ, pos, true, false, Bool, List, [], ◌∷◌, ◌++◌, length, take, drop, map, replicate, Option, Some, None, Box, Global, refl, ap, sym, subst, ◌∙◌, arith, get_or, length-append, append_assoc}
+use Rattle.std.proofs.Common.{◌≡◌, ℕ, zero, suc, ◌+◌, ◌-◌, ◌*◌, ◌≤◌, ◌<◌, true, false, Bool, List, [], ◌∷◌, ◌++◌, length, take, drop, map, Option, Some, None, refl, ap, sym, subst, ◌∙◌, arith, get_or, length-append, append_assoc}
 use Rattle.std.specs.Prelude.{if◌then◌else◌}
 use Rattle.std.specs.List.{slice_range, range_with_len}
 use Rattle.std.proofs.lemmas.List.{length-map, get_or-map, length-replicate, ext_get_or}
@@ -7,17 +7,17 @@ use Rattle.std.proofs.lemmas.List.FromFn.{length-map-range_with_len, get_or-map-
 use Rattle.std.proofs.lemmas.Grind.{common_steps}
 use Rattle.sel_bits.specs.Bits.{Bits}
 use Rattle.sel_bits.specs.Offsets.{IsRising}
-use Rattle.sel_arrow.specs.Masked.{hidden, masked, Covers}
+use Rattle.sel_arrow.specs.Masked.{hidden, Covers}
 use Rattle.sel_arrow.specs.Nested.{list_of, list_rows, blocks, block_rows, tuple_at, tuple_rows}
 use Rattle.sel_arrow.specs.Pieces.{pieces, pieces_after, rows_between, last_offset}
-use Rattle.sel_arrow.specs.Rows.{rows, row_count, type_of, well_formed}
+use Rattle.sel_arrow.specs.Rows.{rows, row_count, well_formed}
 use Rattle.sel_arrow.specs.Value.{Value, Values, no_values, next_value, Null, Items, Tuple, values_of, listed, is_valid, validities}
 use Rattle.sel_arrow.specs.declared.column.Column.{Column}
 use Rattle.sel_arrow.proofs.ByteRows.{length-pieces}
-use Rattle.sel_arrow.proofs.NestedRows.{HasLists, HasBlocks, lists_formed, blocks_formed, length-rows, length-blocks}
+use Rattle.sel_arrow.proofs.NestedRows.{HasLists, HasBlocks, length-rows, length-blocks}
 use Rattle.sel_runs.specs.Children.{items_in, joined_items, part_at, parts_of}
 use Rattle.sel_runs.specs.Ends.{item_ends}
-use Rattle.sel_runs.specs.Picks.{found, pick}
+use Rattle.sel_runs.specs.Picks.{pick}
 use Rattle.sel_runs.specs.Validity.{bits_for}
 use Rattle.sel_runs.proofs.Grown.{finished}
 

@@ -1,23 +1,22 @@
 -- Bits of picked rows, and picks of null rows.
-use Rattle.std.proofs.Common.{◌≡◌, ◌≢◌, All, Bor, ℕ, zero, suc, ◌+◌, ◌≤◌, ◌<◌, Bool, true, false, List, [], ◌∷◌, ◌++◌, length, take, drop, map, replicate, Option, Some, None, refl, ap, sym, subst, ◌∙◌, arith, get_or, length-append, length-take, append_assoc}
+use Rattle.std.proofs.Common.{◌≡◌, ◌≢◌, All, Bor, ℕ, zero, suc, ◌+◌, ◌≤◌, ◌<◌, Bool, true, false, List, [], ◌∷◌, ◌++◌, length, take, drop, map, replicate, Option, Some, None, refl, ap, sym, ◌∙◌, arith, get_or, length-append, length-take, append_assoc}
 use Rattle.std.specs.Prelude.{if◌then◌else◌}
-use Rattle.std.specs.List.{range_with_len}
-use Rattle.std.proofs.lemmas.List.{length-map, get_or-map, length-replicate, take_more, take_all, map-append, take-map, drop-map, nil_from_length}
-use Rattle.std.proofs.lemmas.List.FromFn.{length-map-range_with_len, get_or-map-range_with_len}
+use Rattle.std.proofs.lemmas.List.{length-map, get_or-map, take_more, take_all, map-append, take-map, drop-map, nil_from_length}
+use Rattle.std.proofs.lemmas.List.FromFn.{get_or-map-range_with_len}
 use Rattle.sel_bits.specs.Bits.{Bits}
 use Rattle.sel_arrow.specs.Nulls.{TellsNulls}
-use Rattle.sel_arrow.specs.Rows.{rows, type_of}
+use Rattle.sel_arrow.specs.Rows.{rows}
 use Rattle.sel_arrow.specs.Shape.{Shape, of_null}
 use Rattle.sel_arrow.specs.Value.{Value, Null, is_valid, validities}
 use Rattle.sel_arrow.specs.declared.column.Column.{Column}
 use Rattle.sel_arrow.proofs.Rows.{part-replicate}
 use Rattle.sel_runs.specs.Cleared.{cleared, kept_by, row_pick}
 use Rattle.sel_runs.specs.Picks.{found, pick, PickFits}
-use Rattle.sel_runs.specs.Runs.{expand, unrolled, unrolled_from, picks_of}
+use Rattle.sel_runs.specs.Runs.{unrolled, unrolled_from, picks_of}
 use Rattle.sel_runs.specs.Validity.{part_bits}
 use Rattle.sel_runs.specs.declared.run.Run.{Run}
 use Rattle.sel_runs.proofs.ItemRuns.{rows_of, source_there}
-use Rattle.sel_runs.proofs.RunLists.{run_there, pick_run, pick_nulls, pick_empty, pick_more, run_at, length-unrolled}
+use Rattle.sel_runs.proofs.RunLists.{run_there, pick_run, pick_nulls, pick_empty, length-unrolled}
 
 -- ---- what a validity tells of a part of the rows
 

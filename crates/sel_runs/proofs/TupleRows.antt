@@ -1,5 +1,5 @@
 -- Parts of tuples are rows of the fields.
-use Rattle.std.proofs.Common.{◌≡◌, ◌≢◌, All, Bor, ℕ, zero, suc, ◌+◌, ◌≤◌, ◌<◌, Bool, true, false, ◌&&◌, ◌==◌, List, [], ◌∷◌, length, map, Option, Some, None, refl, ap, sym, subst, ◌∙◌, arith, get_or, IsTrue}
+use Rattle.std.proofs.Common.{◌≡◌, All, Bor, ℕ, zero, suc, ◌<◌, Bool, true, false, ◌&&◌, ◌==◌, List, [], ◌∷◌, length, map, Option, Some, None, refl, ap, sym, subst, ◌∙◌, arith, get_or}
 use Rattle.std.specs.Prelude.{if◌then◌else◌}
 use Rattle.std.specs.List.{range_with_len}
 use Rattle.std.proofs.lemmas.Bool.Decides.{nat_tests}
@@ -10,17 +10,16 @@ use Rattle.sel_arrow.specs.Masked.{hidden, masked}
 use Rattle.sel_arrow.specs.Nested.{tuple_at}
 use Rattle.sel_arrow.specs.Rows.{rows, rows_of_each, row_count, type_of, types_of_each, well_formed, all_well_formed, IsField, IsWellFormed}
 use Rattle.sel_arrow.specs.Shape.{Shape, Shapes, no_shapes, of_struct, shape_list}
-use Rattle.sel_arrow.specs.Value.{Value, Null, values_of, listed, is_valid}
+use Rattle.sel_arrow.specs.Value.{Value, Null, is_valid}
 use Rattle.sel_arrow.specs.declared.column.Column.{Column, Row_of-Column, end_of-Column, more_of-Column}
 use Rattle.sel_arrow.specs.declared.column.Column.TheVariants.{Struct'}
 use Rattle.sel_arrow.proofs.Lists.{and_first, and_second}
 use Rattle.sel_arrow.proofs.NestedRows.{length-rows, struct_covered}
-use Rattle.sel_runs.specs.Children.{columns_in, fields_of, field, part_at}
+use Rattle.sel_runs.specs.Children.{columns_in, field, part_at}
 use Rattle.sel_runs.specs.Cleared.{cleared}
 use Rattle.sel_runs.specs.Picks.{found, pick, PickFits}
 use Rattle.sel_runs.proofs.ItemRuns.{rows_of, listed_values}
 use Rattle.sel_runs.proofs.Rebuilt.{only_null}
-use Rattle.sel_runs.proofs.RunLists.{below_length}
 
 abbrev IsStructType : Shape → Type 0
 IsStructType (of_struct ss) = Unit {0}

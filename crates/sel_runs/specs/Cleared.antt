@@ -1,5 +1,5 @@
 -- Picks of columns of tuples, as picks of their fields.
-use Rattle.std.specs.Prelude.{ℕ, Bool, false, List, Option, Some, None, slice_index_or, if◌then◌else◌}
+use Rattle.std.specs.Prelude.{◌≡◌, ℕ, Bool, true, false, ⊤, List, Option, Some, None, slice_index_or, if◌then◌else◌}
 use Rattle.sel_arrow.specs.Value.{Value, Null, is_valid}
 use Rattle.sel_runs.specs.Picks.{found}
 
@@ -16,3 +16,8 @@ kept_by bits (Some p) = if slice_index_or bits p.1 false then Some p else None
 abbrev pub row_pick : Option ℕ → ℕ → Option (ℕ × ℕ)
 row_pick None row = None
 row_pick (Some source) row = Some (source, row)
+
+-- a pick that is not none names a row that is not null (own)
+abbrev pub IsLive : List (List Value) → Option (ℕ × ℕ) → Type 0
+IsLive xss None = ⊤
+IsLive xss (Some p) = is_valid (found Null xss (Some p)) ≡ true

@@ -1,12 +1,11 @@
 //! Bytes collected by runs of rows.
 
-ghost use Rattle.std.specs.Prelude.{◌≡◌, ◌≤◌, ◌<◌, ◌+◌, ◌*◌, ◌∷◌, [], pos, All, length, map, slice_index_or, IfOk, IfErr, OnOk};
-ghost use Rattle.std.specs.Option.{option_copied};
+ghost use Rattle.std.specs.Prelude.{◌≡◌, ◌≤◌, ◌+◌, ◌*◌, ◌∷◌, ◌++◌, [], true, pos, All, length, map, take, drop, replicate, IfOk, IfErr, OnOk};
 ghost use Rattle.sel_arrow.specs.Columns.{binary_rows};
-ghost use Rattle.sel_arrow.specs.Masked.{bytes_value};
-ghost use Rattle.sel_arrow.specs.Value.{Null};
-ghost use Rattle.sel_runs.specs.JoinedBytes.{GrewBy};
-ghost use Rattle.sel_runs.specs.Need.{byte_count, bytes_needed, IsRefusal, IsPastBytes};
+ghost use Rattle.sel_arrow.specs.Value.{Null, validities};
+ghost use Rattle.sel_runs.specs.Cleared.{IsLive};
+ghost use Rattle.sel_runs.specs.JoinedBytes.{ends_from, joined_bytes, GrewBy};
+ghost use Rattle.sel_runs.specs.Need.{bytes_needed, IsRefusal, IsPastBytes};
 ghost use Rattle.sel_runs.specs.Picks.{pick, PickFits};
 ghost use Rattle.sel_runs.specs.Runs.{expand, unrolled};
 
@@ -27,8 +26,9 @@ struct Joined {
     validity: BitPacker,
 }
 
-/// The rows that runs pick of columns of bytes, `len` in all. Refuses where they need more bytes than an offset can
-/// show, and only there, and for want of memory.
+/// The rows that runs pick of columns of bytes, `len` in all; each run of a source is of rows that are not null, whose
+/// bytes are copied at once. Refuses where they need more bytes than an offset can show, and only there, and for want of
+/// memory.
 pub fn collect_binary<'a>(
     alloc: Global,
     sources: &'a [&'a BinaryArray<i64>],
@@ -36,6 +36,7 @@ pub fn collect_binary<'a>(
     len: usize,
 ) -> PolarsResult<BinaryArray<i64>>
     requires fits { All (PickFits (map (λ s. binary_rows s.now) sources.now)) (expand runs.now) }
+    requires live { All (IsLive (map (λ s. binary_rows s.now) sources.now)) (expand runs.now) }
     requires len { length (expand runs.now) ≡ len }
     requires few { len ≤ 4294967295 }
     ensures rows { IfOk result (λ array. binary_rows array ≡ pick Null (map (λ s. binary_rows s.now) sources.now) (expand runs.now)) }
@@ -65,6 +66,7 @@ pub fn collect_binary<'a>(
 // How many bytes the rows need that runs pick.
 fn count_bytes(sources: &[&BinaryArray<i64>], runs: &[Run]) -> u128
     requires fits { All (PickFits (map (λ s. binary_rows s.now) sources.now)) (expand runs.now) }
+    requires live { All (IsLive (map (λ s. binary_rows s.now) sources.now)) (expand runs.now) }
     requires few { length (expand runs.now) ≤ 4294967295 }
     ensures { result ≡ bytes_needed (pick Null (map (λ s. binary_rows s.now) sources.now) (expand runs.now)) }
 {
@@ -75,39 +77,46 @@ fn count_bytes(sources: &[&BinaryArray<i64>], runs: &[Run]) -> u128
     total
 }
 
-// How many bytes the rows of one run need. A row has fewer than 2^64.
+// How many bytes the rows of one run need.
 fn count_run(sources: &[&BinaryArray<i64>], run: Run) -> u128
-    requires { All (PickFits (map (λ s. binary_rows s.now) sources.now)) (unrolled run) }
+    requires fits { All (PickFits (map (λ s. binary_rows s.now) sources.now)) (unrolled run) }
+    requires live { All (IsLive (map (λ s. binary_rows s.now) sources.now)) (unrolled run) }
     ensures count { result ≡ bytes_needed (pick Null (map (λ s. binary_rows s.now) sources.now) (unrolled run)) }
     ensures small { result ≤ 18446744073709551615 * run.len }
 {
-    let mut total: u128 = 0;
-    for i in 0..run.len {
-        total += row_len(row_of(sources, run, i)) as u128;
+    if run.len == 0 {
+        return 0;
     }
-    total
+    bytes_of(sources, run).len() as u128
 }
 
-// How many bytes a row has.
-fn row_len(row: Option<&[u8]>) -> usize
-    ensures { result ≡ byte_count (bytes_value (option_copied row.entry)) }
-{
-    match row {
-        None => 0,
-        Some(bytes) => bytes.len(),
-    }
-}
-
-// Row `i` of a run.
-fn row_of<'a>(sources: &[&'a BinaryArray<i64>], run: Run, i: u32) -> Option<&'a [u8]>
+// The bytes of the rows of one run, which stand together; none of nulls.
+fn bytes_of<'a>(sources: &[&'a BinaryArray<i64>], run: Run) -> &'a [u8]
     requires fits { All (PickFits (map (λ s. binary_rows s.now) sources.now)) (unrolled run) }
-    requires inside { i < run.len }
-    ensures { bytes_value (option_copied result) ≡ slice_index_or (pick Null (map (λ s. binary_rows s.now) sources.now) (unrolled run)) i Null }
+    requires live { All (IsLive (map (λ s. binary_rows s.now) sources.now)) (unrolled run) }
+    ensures { result.now ≡ joined_bytes (pick Null (map (λ s. binary_rows s.now) sources.now) (unrolled run)) }
 {
-    match run.source {
-        None => None,
-        Some(source) => sources[source as usize].get(run.start as usize + i as usize),
+    if run.len == 0 {
+        return &[];
     }
+    match run.source {
+        None => &[],
+        Some(source) => part_of(
+            sources[source as usize],
+            run.start as usize,
+            run.len as usize,
+        ),
+    }
+}
+
+// The bytes of the `len` rows from `start` on, of which none is null.
+fn part_of(array: &BinaryArray<i64>, start: usize, len: usize) -> &[u8]
+    requires inside { start + len ≤ length (binary_rows array.now) }
+    requires live { validities (take len (drop start (binary_rows array.now))) ≡ replicate len true }
+    ensures { result.now ≡ joined_bytes (take len (drop start (binary_rows array.now))) }
+{
+    let end = array.offsets.at(start + len);
+    &array.values.as_slice()[array.offsets.at(start)..end]
 }
 
 // No rows yet, with room for `len` of them and `need` bytes. Refuses only for want of memory.
@@ -130,6 +139,7 @@ fn with_room(alloc: Global, len: usize, need: usize) -> PolarsResult<Joined>
 // Puts the rows that runs pick behind the others. Refuses only for want of memory.
 fn push_runs(joined: &mut Joined, sources: &[&BinaryArray<i64>], runs: &[Run]) -> PolarsResult<()>
     requires fits { All (PickFits (map (λ s. binary_rows s.now) sources.now)) (expand runs.now) }
+    requires live { All (IsLive (map (λ s. binary_rows s.now) sources.now)) (expand runs.now) }
     requires room { length joined.old.bytes.items + bytes_needed (pick Null (map (λ s. binary_rows s.now) sources.now) (expand runs.now)) ≤ 9223372036854775807 }
     ensures rows { OnOk result (GrewBy (pick Null (map (λ s. binary_rows s.now) sources.now) (expand runs.now)) joined.old joined.new) }
     ensures refusal { IfErr result (λ fault. fault ≡ PolarsError.OutOfMemory) }
@@ -140,29 +150,83 @@ fn push_runs(joined: &mut Joined, sources: &[&BinaryArray<i64>], runs: &[Run]) -
     Ok(())
 }
 
-// Puts the rows of one run behind the others. Refuses only for want of memory.
+// Puts the rows of one run behind the others, their bytes at once. Refuses only for want of memory.
 fn push_run(joined: &mut Joined, sources: &[&BinaryArray<i64>], run: Run) -> PolarsResult<()>
     requires fits { All (PickFits (map (λ s. binary_rows s.now) sources.now)) (unrolled run) }
+    requires live { All (IsLive (map (λ s. binary_rows s.now) sources.now)) (unrolled run) }
     requires room { length joined.old.bytes.items + bytes_needed (pick Null (map (λ s. binary_rows s.now) sources.now) (unrolled run)) ≤ 9223372036854775807 }
     ensures rows { OnOk result (GrewBy (pick Null (map (λ s. binary_rows s.now) sources.now) (unrolled run)) joined.old joined.new) }
     ensures refusal { IfErr result (λ fault. fault ≡ PolarsError.OutOfMemory) }
 {
-    for i in 0..run.len {
-        push_row(joined, row_of(sources, run, i))?;
+    let before = joined.bytes.len();
+    joined.bytes.extend_from_slice(bytes_of(sources, run))?;
+    push_ends(&mut joined.ends, sources, run, before)?;
+    joined
+        .validity
+        .extend_constant(run.len as usize, run.source.is_some())?;
+    Ok(())
+}
+
+// Puts where each row of a run ends behind the others, if they are joined behind `before` bytes. Refuses only for want
+// of memory.
+fn push_ends(
+    ends: &mut Vec<i64>,
+    sources: &[&BinaryArray<i64>],
+    run: Run,
+    before: usize,
+) -> PolarsResult<()>
+    requires fits { All (PickFits (map (λ s. binary_rows s.now) sources.now)) (unrolled run) }
+    requires live { All (IsLive (map (λ s. binary_rows s.now) sources.now)) (unrolled run) }
+    requires room { before + bytes_needed (pick Null (map (λ s. binary_rows s.now) sources.now) (unrolled run)) ≤ 9223372036854775807 }
+    ensures ends { OnOk result (ends.new.items ≡ ends.old.items ++ map pos (ends_from before (pick Null (map (λ s. binary_rows s.now) sources.now) (unrolled run)))) }
+    ensures refusal { IfErr result (λ fault. fault ≡ PolarsError.OutOfMemory) }
+{
+    if run.len == 0 {
+        return Ok(());
+    }
+    match run.source {
+        None => push_same_ends(ends, before, run.len as usize),
+        Some(source) => push_row_ends(
+            ends,
+            sources[source as usize],
+            run.start as usize,
+            run.len as usize,
+            before,
+        ),
+    }
+}
+
+// Puts `before` behind the others `len` times: so many nulls end where they begin. Refuses only for want of memory.
+fn push_same_ends(ends: &mut Vec<i64>, before: usize, len: usize) -> PolarsResult<()>
+    requires { before ≤ 9223372036854775807 }
+    ensures ends { OnOk result (ends.new.items ≡ ends.old.items ++ replicate len (pos before)) }
+    ensures refusal { IfErr result (λ fault. fault ≡ PolarsError.OutOfMemory) }
+{
+    for _ in 0..len {
+        ends.push(before as i64)?;
     }
     Ok(())
 }
 
-// Puts a row behind the others. Refuses only for want of memory.
-fn push_row(joined: &mut Joined, row: Option<&[u8]>) -> PolarsResult<()>
-    requires { length joined.old.bytes.items + byte_count (bytes_value (option_copied row)) ≤ 9223372036854775807 }
-    ensures row { OnOk result (GrewBy (bytes_value (option_copied row.entry) ∷ []) joined.old joined.new) }
+// Puts where each of the `len` rows from `start` on ends behind the others, if they are joined behind `before` bytes.
+// Refuses only for want of memory.
+fn push_row_ends(
+    ends: &mut Vec<i64>,
+    array: &BinaryArray<i64>,
+    start: usize,
+    len: usize,
+    before: usize,
+) -> PolarsResult<()>
+    requires inside { start + len ≤ length (binary_rows array.now) }
+    requires live { validities (take len (drop start (binary_rows array.now))) ≡ replicate len true }
+    requires room { before + bytes_needed (take len (drop start (binary_rows array.now))) ≤ 9223372036854775807 }
+    ensures ends { OnOk result (ends.new.items ≡ ends.old.items ++ map pos (ends_from before (take len (drop start (binary_rows array.now))))) }
     ensures refusal { IfErr result (λ fault. fault ≡ PolarsError.OutOfMemory) }
 {
-    if let Some(bytes) = row {
-        joined.bytes.extend_from_slice(bytes)?;
+    let first = array.offsets.at(start);
+    for i in 0..len {
+        let end = array.offsets.at(start + i + 1);
+        ends.push((before + (end - first)) as i64)?;
     }
-    joined.ends.push(joined.bytes.len() as i64)?;
-    joined.validity.push(row.is_some())?;
     Ok(())
 }

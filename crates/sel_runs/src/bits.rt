@@ -1,6 +1,6 @@
-//! Bits of bitmaps that are put behind one another, and validities made of them.
+//! Validities that are put behind one another.
 
-ghost use Rattle.std.specs.Prelude.{◌≡◌, ◌≤◌, ◌+◌, ◌++◌, length, take, drop, replicate, true, IfOk, IfErr, OnOk};
+ghost use Rattle.std.specs.Prelude.{◌≡◌, ◌≤◌, ◌+◌, ◌++◌, length, IfOk, IfErr, OnOk};
 ghost use Rattle.std.specs.Option.{ForSome, option_copied};
 ghost use Rattle.sel_arrow.specs.Masked.{Covers};
 ghost use Rattle.sel_runs.specs.Validity.{part_bits, bits_for};
@@ -8,36 +8,6 @@ ghost use Rattle.sel_runs.specs.Validity.{part_bits, bits_for};
 use sel_bits::bitmap::Bitmap;
 use sel_bits::faults::{PolarsError, PolarsResult};
 use sel_bits::packer::BitPacker;
-
-/// Puts the `len` bits from `start` on behind the others. Refuses only for want of memory.
-pub fn push_bits(
-    packer: &mut BitPacker,
-    bits: &Bitmap,
-    start: usize,
-    len: usize,
-) -> PolarsResult<()>
-    requires { start + len ≤ length bits.now.bits }
-    ensures bits { OnOk result (packer.new ≡ packer.old ++ take len (drop start bits.now.bits)) }
-    ensures refusal { IfErr result (λ fault. fault ≡ PolarsError.OutOfMemory) }
-{
-    // (a bitmap has no more bits than a place can show)
-    let _whole = bits.len();
-    for i in 0..len {
-        packer.push(bits.get_bit(start + i))?;
-    }
-    Ok(())
-}
-
-/// Puts the same bit `len` times behind the others. Refuses only for want of memory.
-pub fn push_copies(packer: &mut BitPacker, bit: bool, len: usize) -> PolarsResult<()>
-    ensures bits { OnOk result (packer.new ≡ packer.old ++ replicate len bit) }
-    ensures refusal { IfErr result (λ fault. fault ≡ PolarsError.OutOfMemory) }
-{
-    for _ in 0..len {
-        packer.push(bit)?;
-    }
-    Ok(())
-}
 
 /// Puts a validity's `len` bits from `start` on behind the others, all true where there is none. Refuses only for want of memory.
 pub fn push_validity(
@@ -51,8 +21,8 @@ pub fn push_validity(
     ensures refusal { IfErr result (λ fault. fault ≡ PolarsError.OutOfMemory) }
 {
     match validity {
-        None => push_copies(packer, true, len),
-        Some(bits) => push_bits(packer, bits, start, len),
+        None => packer.extend_constant(len, true),
+        Some(bits) => packer.extend_from_bitmap(bits, start, len),
     }
 }
 

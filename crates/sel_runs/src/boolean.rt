@@ -10,7 +10,7 @@ ghost use Rattle.sel_runs.specs.Picks.{pick, PickFits};
 ghost use Rattle.sel_runs.specs.Runs.{expand};
 ghost use Rattle.sel_runs.specs.Validity.{part_bits};
 
-use crate::bits::{push_bits, push_copies, push_validity, validity_from};
+use crate::bits::{push_validity, validity_from};
 use crate::growable::{Growable, extend_runs};
 use crate::run::Run;
 use sel_arrow::boolean::BooleanArray;
@@ -55,8 +55,8 @@ impl Growable for GrowableBoolean<'_> {
             mut values,
             mut validity,
         } = self;
-        push_copies(&mut values, false, len as usize)?;
-        push_copies(&mut validity, false, len as usize)?;
+        values.extend_constant(len as usize, false)?;
+        validity.extend_constant(len as usize, false)?;
         Ok(GrowableBoolean {
             sources,
             values,
@@ -78,7 +78,7 @@ fn push_part(
     ensures bits { OnOk result (validity.new ≡ validity.old ++ part_bits start len from.now.validity) }
     ensures refusal { IfErr result (λ fault. fault ≡ PolarsError.OutOfMemory) }
 {
-    push_bits(values, &from.values, start, len)?;
+    values.extend_from_bitmap(&from.values, start, len)?;
     push_validity(validity, from.validity.as_ref(), start, len)
 }
 

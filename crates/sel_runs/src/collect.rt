@@ -233,7 +233,7 @@ fn collect_fields<'a>(
     Ok(fields)
 }
 
-/// The rows that runs pick of columns of bytes.
+/// The rows that runs pick of columns of bytes, whose null rows may lie over bytes that are not theirs.
 fn collect_large_binary<'a>(
     alloc: Global,
     sources: &'a [&'a Column],
@@ -241,6 +241,7 @@ fn collect_large_binary<'a>(
     len: usize,
 ) -> PolarsResult<Column>
     requires alike { All (λ c. type_of c.now ≡ of_large_binary) sources.now }
+    requires formed { All (λ c. IsWellFormed c.now) sources.now }
     requires fits { All (PickFits (map (λ c. rows c.now) sources.now)) (expand runs.now) }
     requires len { length (expand runs.now) ≡ len }
     requires few { len ≤ 4294967295 }
@@ -249,8 +250,9 @@ fn collect_large_binary<'a>(
     ensures formed { IfOk result (λ column. IsWellFormed column) }
     ensures refusal { IfErr result (IsRefusal (IsPastBytes (pos 9223372036854775807) (pick Null (map (λ c. rows c.now) sources.now) (expand runs.now)))) }
 {
+    let live = split_runs(alloc, sources, runs)?;
     let found = binaries_of(alloc, sources)?;
-    let array = collect_binary(alloc, &found, runs, len)?;
+    let array = collect_binary(alloc, &found, &live, len)?;
     Ok(Column::LargeBinary(array))
 }
 

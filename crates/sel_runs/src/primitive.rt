@@ -9,7 +9,7 @@ ghost use Rattle.sel_runs.specs.Picks.{pick, PickFits};
 ghost use Rattle.sel_runs.specs.Runs.{expand};
 ghost use Rattle.sel_runs.specs.Validity.{part_bits};
 
-use crate::bits::{push_copies, push_validity, validity_from};
+use crate::bits::{push_validity, validity_from};
 use crate::fill::push_values;
 use crate::growable::{Growable, extend_runs};
 use crate::run::Run;
@@ -66,7 +66,7 @@ impl<T: ArrowPrimitive + Drop> Growable for GrowablePrimitive<'_, T> {
             mut validity,
         } = self;
         push_values(&mut values, T::LEAST, len as usize)?;
-        push_copies(&mut validity, false, len as usize)?;
+        validity.extend_constant(len as usize, false)?;
         Ok(GrowablePrimitive {
             sources,
             values,

@@ -9,7 +9,7 @@ ghost use Rattle.sel_runs.specs.Picks.{pick, PickFits};
 ghost use Rattle.sel_runs.specs.Runs.{expand, unrolled};
 ghost use Rattle.sel_runs.specs.Validity.{bits_for};
 
-use crate::bits::{push_copies, push_validity, validity_from};
+use crate::bits::{push_validity, validity_from};
 use crate::run::Run;
 use sel_arrow::column::Column;
 use sel_bits::bitmap::Bitmap;
@@ -53,7 +53,7 @@ fn push_valid_rows(bits: &mut BitPacker, sources: &[&Column], run: Run) -> Polar
         return Ok(());
     }
     let Some(source) = run.source else {
-        push_copies(bits, false, run.len as usize)?;
+        bits.extend_constant(run.len as usize, false)?;
         return Ok(());
     };
     let validity = sources[source as usize].validity();

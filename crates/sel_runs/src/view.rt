@@ -12,7 +12,7 @@ ghost use Rattle.sel_runs.specs.Raised.{raised, starts_of, IsRefusalAt};
 ghost use Rattle.sel_runs.specs.Runs.{expand};
 ghost use Rattle.sel_runs.specs.Validity.{part_bits};
 
-use crate::bits::{push_copies, push_validity, validity_from};
+use crate::bits::{push_validity, validity_from};
 use crate::fill::push_values;
 use crate::growable::{Growable, extend_runs};
 use crate::run::Run;
@@ -95,7 +95,7 @@ impl<B: Beneath> Growable for GrowableViews<'_, B> {
             beneath,
         } = self;
         push_values(&mut views, NO_BYTES, len as usize)?;
-        push_copies(&mut validity, false, len as usize)?;
+        validity.extend_constant(len as usize, false)?;
         Ok(GrowableViews {
             sources,
             starts,
@@ -125,7 +125,8 @@ fn push_part(
     push_validity(validity, from.validity.as_ref(), start, len)
 }
 
-// Puts the `len` views from `start` on behind the others, over data buffers that stand behind `before` others.
+// Puts the `len` views from `start` on behind the others, over data buffers that stand behind `before` others: all at
+// once where there are none, since they stay as they are.
 fn push_raised(
     views: &mut Vec<View>,
     from: &BinaryViewArray,
@@ -139,6 +140,10 @@ fn push_raised(
     ensures refusal { IfErr result (λ fault. fault ≡ PolarsError.OutOfMemory) }
 {
     let all = from.views.as_slice();
+    if before == 0 {
+        views.extend_from_slice(&all[start..start + len])?;
+        return Ok(());
+    }
     for i in 0..len {
         views.push(raised_view(all[start + i], before))?;
     }

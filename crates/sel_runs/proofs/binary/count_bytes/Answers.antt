@@ -2,6 +2,7 @@ use Rattle.std.proofs.Common.{ap, ◌∙◌, arith, map}
 use Rattle.std.proofs.lemmas.List.{take_all}
 use Rattle.sel_arrow.specs.Columns.{binary_rows}
 use Rattle.sel_arrow.specs.Value.{Null}
+use Rattle.sel_runs.specs.Cleared.{IsLive}
 use Rattle.sel_runs.specs.Need.{bytes_needed}
 use Rattle.sel_runs.specs.Picks.{pick, PickFits}
 use Rattle.sel_runs.specs.Runs.{expand}
@@ -10,7 +11,10 @@ use Rattle.sel_runs.proofs.RunLists.{all_at, room_at, length_more}
 use Rattle.sel_runs.proofs.binary.count_bytes.Goals as goal
 
 pub count_run-total-requires : goal.count_run-total-requires
-count_run-total-requires c = all_at (PickFits (map (λ s. binary_rows s.now) c.args.sources.now)) c.args.runs.now c.loop-run.run-index c.loop-run-test.true c.requires.fits
+count_run-total-requires c = record {
+  fits = all_at (PickFits (map (λ s. binary_rows s.now) c.args.sources.now)) c.args.runs.now c.loop-run.run-index c.loop-run-test.true c.requires.fits;
+  live = all_at (IsLive (map (λ s. binary_rows s.now) c.args.sources.now)) c.args.runs.now c.loop-run.run-index c.loop-run-test.true c.requires.live;
+}
 
 pub overflow_add-total : goal.overflow_add-total
 overflow_add-total c = omega (arith, room_at c.args.runs.now c.loop-run.run-index c.loop-run-test.true, c.count_run-total.ensures.small, c.loop-run.invariant.1, c.requires.few)

@@ -1,5 +1,6 @@
 use Rattle.std.proofs.Common.{arith, map}
 use Rattle.sel_arrow.specs.Columns.{binary_rows}
+use Rattle.sel_runs.specs.Cleared.{IsLive}
 use Rattle.sel_runs.specs.Picks.{PickFits}
 use Rattle.sel_runs.proofs.JoinedRows.{run_room, grew_none, grew_run, grew_runs}
 use Rattle.sel_runs.proofs.RunLists.{all_at}
@@ -10,6 +11,9 @@ loop-run-init c = grew_none c.args.joined.now
 
 pub push_run-requires-clause-fits : goal.push_run-requires-clause-fits
 push_run-requires-clause-fits c = all_at (PickFits (map (λ s. binary_rows s.now) c.args.sources.now)) c.args.runs.now c.loop-run.run-index c.loop-run-test.true c.requires.fits
+
+pub push_run-requires-clause-live : goal.push_run-requires-clause-live
+push_run-requires-clause-live c = all_at (IsLive (map (λ s. binary_rows s.now) c.args.sources.now)) c.args.runs.now c.loop-run.run-index c.loop-run-test.true c.requires.live
 
 pub push_run-requires-clause-room : goal.push_run-requires-clause-room
 push_run-requires-clause-room c =

@@ -1,21 +1,20 @@
-use Rattle.std.proofs.Common.{◌≡◌, ◌∙◌, ◌<◌, ◌+◌, ◌≤◌, ◌++◌, ◌∷◌, [], All, inl, inr, ap, sym, subst, refl, map, length, get_or, take, arith, true}
+use Rattle.std.proofs.Common.{◌≡◌, ◌∙◌, ◌<◌, ◌+◌, ◌++◌, ◌∷◌, [], All, inr, ap, sym, subst, map, length, get_or, take, arith, true}
 use Rattle.std.proofs.lemmas.List.{length-map, take_all, map_more, map-append}
 use Rattle.std.proofs.lemmas.List.Elements.{All-get_or, All-push}
 use Rattle.std.proofs.lemmas.Result.{err_from_is_err_and}
 use Rattle.sel_arrow.specs.Rows.{rows, row_count, type_of, well_formed, IsField, IsWellFormed}
-use Rattle.sel_arrow.specs.Shape.{Shape, of_null, of_large_list, of_fixed_size_list, of_struct, shapes_of, shape_list}
+use Rattle.sel_arrow.specs.Shape.{of_null, of_struct, shapes_of, shape_list}
 use Rattle.sel_arrow.specs.Value.{Null}
-use Rattle.sel_arrow.specs.declared.column.Column.{Column, Struct}
 use Rattle.sel_arrow.proofs.NestedRows.{length-rows}
 use Rattle.sel_arrow.proofs.Trees.{has_fields}
 use Rattle.sel_arrow.proofs.Types.{type_of-Struct}
 use Rattle.sel_runs.specs.Children.{child, field, joined_items, part_at, parts_of}
 use Rattle.sel_runs.specs.Cleared.{cleared}
-use Rattle.sel_runs.specs.Need.{IsRefusal, past_taken, past_fields}
+use Rattle.sel_runs.specs.Need.{IsRefusal, past_taken}
 use Rattle.sel_runs.specs.Picks.{pick, PickFits}
 use Rattle.sel_runs.specs.Runs.{expand}
 use Rattle.sel_runs.proofs.Below.{lists_recurse, blocks_recurse, found_all, found_map, mapped_now, listed_shapes, refused_more, past_at, parts_more, field_kind}
-use Rattle.sel_runs.proofs.Depths.{size_of, sizes_of, one_size}
+use Rattle.sel_runs.proofs.Depths.{size_of, one_size}
 use Rattle.sel_runs.proofs.ItemRuns.{rows_of, below_of}
 use Rattle.sel_runs.proofs.RunLists.{length-pick}
 use Rattle.sel_runs.proofs.TupleRows.{field_rows, field_type, field_formed, picked_parts, parts_fit}

@@ -1,8 +1,8 @@
-use Rattle.std.proofs.Common.{◌∙◌, ap, arith, sym, length}
+use Rattle.std.proofs.Common.{◌∙◌, ap, sym, length}
 use Rattle.sel_arrow.specs.Value.{Null}
 use Rattle.sel_runs.specs.Children.{joined_items}
 use Rattle.sel_runs.specs.Picks.{pick, PickFits}
-use Rattle.sel_runs.specs.Runs.{expand, unrolled}
+use Rattle.sel_runs.specs.Runs.{expand}
 use Rattle.sel_runs.proofs.ItemRuns.{rows_of, below_of, items_of_run, run_items_room, all_runs}
 use Rattle.sel_runs.proofs.RunLists.{all_at, length-pick}
 use Rattle.sel_runs.proofs.lists.child_runs.Goals as goal

@@ -1,11 +1,10 @@
 -- The items of the runs so far; a row has fewer than 2^32.
-use Rattle.std.proofs.Common.{◌≡◌, ◌≤◌, ◌+◌, ◌*◌, ◌++◌, ◌∷◌, All, length, map, take, pos}
+use Rattle.std.proofs.Common.{◌≡◌, ◌≤◌, ◌*◌, length, take}
 use Rattle.sel_arrow.specs.Value.{Null}
 use Rattle.sel_runs.specs.Children.{joined_items}
-use Rattle.sel_runs.specs.Ends.{item_ends}
-use Rattle.sel_runs.specs.Picks.{pick, PickFits}
-use Rattle.sel_runs.specs.Runs.{expand, unrolled}
-use Rattle.sel_runs.proofs.ItemRuns.{rows_of, below_of}
+use Rattle.sel_runs.specs.Picks.{pick}
+use Rattle.sel_runs.specs.Runs.{expand}
+use Rattle.sel_runs.proofs.ItemRuns.{rows_of}
 use Rattle.sel_runs.proofs.lists.count_items.Given as goal
 
 abbrev pub invariant-loop-run : goal.invariant-loop-run

@@ -1,8 +1,5 @@
 use Rattle.std.proofs.Common.{◌∙◌, arith, length}
-use Rattle.sel_arrow.specs.Value.{Null}
 use Rattle.sel_runs.specs.Children.{joined_items}
-use Rattle.sel_runs.specs.Picks.{pick, PickFits}
-use Rattle.sel_runs.specs.Runs.{expand, unrolled}
 use Rattle.sel_runs.proofs.ItemRuns.{rows_of, below_of, counted_row, all_rows}
 use Rattle.sel_runs.proofs.lists.count_run.Goals as goal
 

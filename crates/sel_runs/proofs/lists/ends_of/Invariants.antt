@@ -1,11 +1,11 @@
 -- The ends of the runs so far.
-use Rattle.std.proofs.Common.{◌≡◌, ◌≤◌, ◌+◌, ◌*◌, ◌++◌, ◌∷◌, All, length, map, take, pos}
+use Rattle.std.proofs.Common.{◌≡◌, ◌∷◌, length, map, take, pos}
 use Rattle.sel_arrow.specs.Value.{Null}
 use Rattle.sel_runs.specs.Children.{joined_items}
 use Rattle.sel_runs.specs.Ends.{item_ends}
-use Rattle.sel_runs.specs.Picks.{pick, PickFits}
-use Rattle.sel_runs.specs.Runs.{expand, unrolled}
-use Rattle.sel_runs.proofs.ItemRuns.{rows_of, below_of}
+use Rattle.sel_runs.specs.Picks.{pick}
+use Rattle.sel_runs.specs.Runs.{expand}
+use Rattle.sel_runs.proofs.ItemRuns.{rows_of}
 use Rattle.sel_runs.proofs.lists.ends_of.Given as goal
 
 abbrev pub invariant-loop-run : goal.invariant-loop-run

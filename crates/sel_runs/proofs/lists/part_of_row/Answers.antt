@@ -1,6 +1,6 @@
-use Rattle.std.proofs.Common.{◌≡◌, ◌<◌, ◌∙◌, ap, sym, arith, length, get_or}
+use Rattle.std.proofs.Common.{◌<◌, ◌∙◌, sym, arith}
 use Rattle.sel_arrow.specs.Pieces.{rows_between}
-use Rattle.sel_runs.proofs.ListParts.{OfList, OfBlock, list_has, list_inside, list_null, list_row, block_has, block_below, block_null, block_row}
+use Rattle.sel_runs.proofs.ListParts.{OfList, list_has, list_inside, list_null, list_row, block_has, block_below, block_null, block_row}
 use Rattle.sel_runs.proofs.lists.part_of_row.Goals as goal
 
 -- ---- lists between offsets

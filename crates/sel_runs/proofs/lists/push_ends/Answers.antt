@@ -1,8 +1,8 @@
 use Rattle.std.proofs.Common.{◌∙◌, ◌++◌, arith, ap, map, pos, w64, ◌+◌, ◌≡◌, ◌<◌, length, take, refl}
 use Rattle.sel_arrow.specs.Value.{Null}
 use Rattle.sel_runs.specs.Children.{joined_items}
-use Rattle.sel_runs.specs.Picks.{pick, PickFits}
-use Rattle.sel_runs.specs.Runs.{expand, unrolled}
+use Rattle.sel_runs.specs.Picks.{pick}
+use Rattle.sel_runs.specs.Runs.{unrolled}
 use Rattle.std.proofs.lemmas.Int.{to_z_pos}
 use Rattle.sel_runs.specs.Ends.{item_ends}
 use Rattle.sel_runs.proofs.ItemRuns.{rows_of, below_of, counted_row, joined_part, ends_more, all_rows}

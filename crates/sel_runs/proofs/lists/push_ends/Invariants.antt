@@ -1,11 +1,11 @@
 -- The ends of the rows so far stand behind those that were there.
-use Rattle.std.proofs.Common.{◌≡◌, ◌≤◌, ◌+◌, ◌*◌, ◌++◌, ◌∷◌, All, length, map, take, pos}
+use Rattle.std.proofs.Common.{◌≡◌, ◌+◌, ◌++◌, length, map, take, pos}
 use Rattle.sel_arrow.specs.Value.{Null}
 use Rattle.sel_runs.specs.Children.{joined_items}
 use Rattle.sel_runs.specs.Ends.{item_ends}
-use Rattle.sel_runs.specs.Picks.{pick, PickFits}
-use Rattle.sel_runs.specs.Runs.{expand, unrolled}
-use Rattle.sel_runs.proofs.ItemRuns.{rows_of, below_of}
+use Rattle.sel_runs.specs.Picks.{pick}
+use Rattle.sel_runs.specs.Runs.{unrolled}
+use Rattle.sel_runs.proofs.ItemRuns.{rows_of}
 use Rattle.sel_runs.proofs.lists.push_ends.Given as goal
 
 abbrev pub invariant-loop-i : goal.invariant-loop-i

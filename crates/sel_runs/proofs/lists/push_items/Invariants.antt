@@ -1,8 +1,7 @@
 -- The items of the rows so far stand behind those that were there.
-use Rattle.std.proofs.Common.{◌≡◌, ◌≤◌, ◌+◌, ◌*◌, ◌++◌, ◌∷◌, All, length, map, take, pos}
+use Rattle.std.proofs.Common.{◌≡◌, ◌++◌, All, take}
 use Rattle.sel_arrow.specs.Value.{Null}
 use Rattle.sel_runs.specs.Children.{joined_items}
-use Rattle.sel_runs.specs.Ends.{item_ends}
 use Rattle.sel_runs.specs.Picks.{pick, PickFits}
 use Rattle.sel_runs.specs.Runs.{expand, unrolled}
 use Rattle.sel_runs.proofs.ItemRuns.{rows_of, below_of}

@@ -1,6 +1,6 @@
-use Rattle.std.proofs.Common.{◌≡◌, ◌∙◌, true, ap, arith, length}
-use Rattle.sel_arrow.specs.Rows.{rows, row_count, type_of, well_formed}
-use Rattle.sel_arrow.specs.Value.{Value, Null}
+use Rattle.std.proofs.Common.{◌≡◌, ◌∙◌, true, ap}
+use Rattle.sel_arrow.specs.Rows.{rows, type_of, well_formed}
+use Rattle.sel_arrow.specs.Value.{Null}
 use Rattle.sel_runs.specs.Picks.{pick}
 use Rattle.sel_runs.specs.Runs.{expand}
 use Rattle.sel_runs.specs.Children.{joined_items}

@@ -1,4 +1,4 @@
-use Rattle.std.proofs.Common.{◌≡◌, ◌∙◌, ap, sym, subst, length, map, get_or}
+use Rattle.std.proofs.Common.{◌≡◌, ◌∙◌, ap, subst, length, map, get_or}
 use Rattle.std.proofs.lemmas.List.{length-map}
 use Rattle.sel_arrow.specs.Rows.{rows, type_of}
 use Rattle.sel_arrow.specs.Shape.{shapes_of, shape_list}

@@ -1,6 +1,6 @@
 use Rattle.std.proofs.Common.{◌∷◌, []}
 use Rattle.std.proofs.lemmas.Result.{err_from_is_err_and}
-use Rattle.sel_arrow.specs.Rows.{rows, type_of}
+use Rattle.sel_arrow.specs.Rows.{rows}
 use Rattle.sel_arrow.specs.Value.{Null}
 use Rattle.sel_runs.specs.Picks.{pick}
 use Rattle.sel_runs.specs.Runs.{expand}

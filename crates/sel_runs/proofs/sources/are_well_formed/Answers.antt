@@ -1,4 +1,4 @@
-use Rattle.std.proofs.Common.{◌≡◌, All, subst, refl, sym, ◌∙◌}
+use Rattle.std.proofs.Common.{All, subst, refl, sym, ◌∙◌}
 use Rattle.std.proofs.lemmas.List.{take_all}
 use Rattle.std.proofs.lemmas.List.Elements.{All-more, All-get_or}
 use Rattle.sel_arrow.specs.Rows.{IsWellFormed}

@@ -1,4 +1,4 @@
-use Rattle.std.proofs.Common.{◌∙◌, ◌++◌, arith, ap, sym, length}
+use Rattle.std.proofs.Common.{◌∙◌, ◌++◌, arith, ap, sym}
 use Rattle.std.proofs.lemmas.List.{append-nil}
 use Rattle.sel_runs.specs.Runs.{expand}
 use Rattle.sel_runs.proofs.SplitRuns.{kept_more, kept_all, kept_length}

@@ -1,14 +1,13 @@
-use Rattle.std.proofs.Common.{◌≡◌, ◌≢◌, ◌∙◌, ◌++◌, All, Bor, arith, ap, sym, subst, length, map}
+use Rattle.std.proofs.Common.{◌≢◌, ◌∙◌, ◌++◌, Bor, arith, ap, sym, subst}
 use Rattle.std.specs.Option.{option_copied}
 use Rattle.std.proofs.lemmas.List.Elements.{All-get_or}
 use Rattle.sel_arrow.specs.Rows.{rows, type_of, IsWellFormed}
 use Rattle.sel_arrow.specs.Shape.{of_null}
 use Rattle.sel_arrow.specs.declared.column.Column.{Column}
-use Rattle.sel_runs.specs.Cleared.{cleared}
-use Rattle.sel_runs.specs.Runs.{expand, unrolled}
+use Rattle.sel_runs.specs.Runs.{expand}
 use Rattle.sel_runs.proofs.ItemRuns.{rows_of, source_there}
 use Rattle.sel_runs.proofs.ListParts.{few_rows}
-use Rattle.sel_runs.proofs.SplitRuns.{split_source, split_inside, told_length, told_bits, told_valid, kept_run, whole_run, null_picks, no_picks}
+use Rattle.sel_runs.proofs.SplitRuns.{split_source, split_inside, told_length, told_bits, told_valid, kept_run, whole_run, null_picks}
 use Rattle.sel_arrow.proofs.NestedRows.{length-rows}
 use Rattle.sel_runs.proofs.structs.push_split.Goals as goal
 

@@ -1,6 +1,6 @@
 use Rattle.std.proofs.Common.{◌∙◌, ◌++◌, ap, sym, length, take}
 use Rattle.std.proofs.lemmas.List.{length-map, map-append}
-use Rattle.sel_arrow.specs.Value.{Value, Null, is_valid, validities}
+use Rattle.sel_arrow.specs.Value.{Null, is_valid, validities}
 use Rattle.sel_runs.specs.Picks.{pick, PickFits}
 use Rattle.sel_runs.specs.Runs.{expand, unrolled}
 use Rattle.sel_runs.proofs.ItemRuns.{rows_of, all_runs}

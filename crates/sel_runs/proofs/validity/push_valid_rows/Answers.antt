@@ -1,4 +1,4 @@
-use Rattle.std.proofs.Common.{◌≡◌, ◌≢◌, ◌∙◌, ◌++◌, All, Bor, arith, ap, sym, subst, length, map}
+use Rattle.std.proofs.Common.{◌≢◌, ◌∙◌, ◌++◌, Bor, arith, ap, sym, subst}
 use Rattle.std.specs.Option.{option_copied}
 use Rattle.std.proofs.lemmas.List.Elements.{All-get_or}
 use Rattle.sel_arrow.specs.Rows.{rows, type_of, IsWellFormed}
@@ -10,7 +10,7 @@ use Rattle.sel_runs.proofs.validity.push_valid_rows.Goals as goal
 
 pub returns-in_default-clause-bits : goal.returns-in_default-clause-bits
 returns-in_default-clause-bits c =
-    c.in_ok-push_copies.ensures.bits ∙ ap (λ l. c.args.bits.now ++ l) (null_bits (rows_of c.args.sources.now) c.args.run c.in_default.is)
+    c.in_ok-extend_constant.ensures.extended ∙ ap (λ l. c.args.bits.now ++ l) (null_bits (rows_of c.args.sources.now) c.args.run c.in_default.is)
 
 pub bounds-sources-source : goal.bounds-sources-source
 bounds-sources-source c = source_there c.args.sources.now c.args.run c.in-Some.source 0 c.in-Some.is c.requires.fits (omega (arith, c.if-run-eq0.false))

@@ -1,7 +1,15 @@
-use Rattle.std.proofs.Common.{arith}
+use Rattle.std.proofs.Common.{◌≡◌, ◌+◌, ◌-◌, ◌++◌, ◌∙◌, ap, sym, arith, take, drop}
 use Rattle.sel_runs.specs.Raised.{raised}
-use Rattle.sel_runs.proofs.Raising.{raised_more}
+use Rattle.sel_runs.proofs.Raising.{raised_more, unraised}
 use Rattle.sel_runs.proofs.view.push_raised.Goals as goal
+
+pub returns-then-before-eq0-clause-views : goal.returns-then-before-eq0-clause-views
+returns-then-before-eq0-clause-views c =
+    let len : c.args.start + c.args.len - c.args.start ≡ c.args.len = omega arith in
+    c.in_ok-extend_from_slice.ensures.items
+    ∙ ap (λ n. c.args.views.now.items ++ take n (drop c.args.start c.as_slice-all.result.now)) len
+    ∙ ap (λ l. c.args.views.now.items ++ take c.args.len (drop c.args.start l)) c.as_slice-all.ensures
+    ∙ ap (λ l. c.args.views.now.items ++ l) (sym (unraised (take c.args.len (drop c.args.start c.args.from.now.views)) c.args.before c.if-before-eq0.true))
 
 pub loop-i-preserved : goal.loop-i-preserved
 loop-i-preserved c =

@@ -5,5 +5,5 @@ use Rattle.sel_runs.proofs.boolean.GrowableBooleanGrowable.extend_nulls.Goals as
 
 pub returns-clause-rows : goal.returns-clause-rows
 returns-clause-rows c =
-    grown_nulls Truth c.args.self.values c.push_copies.new.packer false c.args.self.validity c.push_copies-2.new.packer c.args.len
-    c.args.self.lengths c.in_ok-push_copies.ensures.bits c.in_ok-push_copies-2.ensures.bits
+    grown_nulls Truth c.args.self.values c.extend_constant.new.self false c.args.self.validity c.extend_constant-2.new.self c.args.len
+    c.args.self.lengths c.in_ok-extend_constant.ensures.extended c.in_ok-extend_constant-2.ensures.extended

@@ -1,0 +1,68 @@
+-- Bits that are put behind others many at a time, and counts of the bits of words.
+use Rattle.std.proofs.Common.{◌≡◌, ℕ, zero, suc, ◌+◌, ◌-◌, ◌*◌, ◌%◌, ◌^◌, ◌<◌, ◌≤◌, ◌∙◌, sym, refl, ap, arith, List, [], ◌∷◌, ◌++◌, length, take, drop, map, replicate, Bool, true, false, cond, append_assoc, length-drop}
+use Rattle.std.specs.Prelude.{count_by, count_ones}
+use Rattle.std.specs.Simd.Lanes.{mask_l}
+use Rattle.std.proofs.Math.Nat.{pow-suc}
+use Rattle.std.proofs.Math.Seq.{take-add, take-append_seam}
+use Rattle.std.proofs.lemmas.Nat.{one_shl}
+use Rattle.std.proofs.lemmas.List.{length-replicate, replicate-append-replicate, drop-drop}
+use Rattle.std.proofs.lemmas.List.Sums.{sum_by-cons, sum_by-append}
+use Rattle.std.proofs.lemmas.Simd.{ones-mask_l}
+use Rattle.sel_bits.specs.Bits.{count_true}
+use Rattle.sel_bits.specs.Words.{bits, word_of}
+use Rattle.sel_bits.proofs.Combining.{packed_more}
+use Rattle.sel_bits.proofs.Packed.{bits_word_of}
+
+-- the word of bits that are all false, and of bits that are all true
+pub word_of-false : (n : ℕ) → word_of (replicate n false) ≡ 0
+word_of-false zero = refl
+word_of-false (suc n) = omega (arith, word_of-false n)
+
+word_of-true : (n : ℕ) → word_of (replicate n true) + 1 ≡ 2 ^ n
+word_of-true zero = refl
+word_of-true (suc n) = omega (arith, word_of-true n, pow-suc 2 n)
+
+pub all_ones : (n : ℕ) → n < 64 → 1 * 2 ^ n % 18446744073709551616 - 1 ≡ word_of (replicate n true)
+all_ones n few = omega (arith, one_shl n 64 few, word_of-true n)
+
+-- what stood before is still there
+pub kept_before : {A : Type 0} (old new more : List A) → new ≡ old ++ more → take (length old) new ≡ old
+kept_before old new more is = ap (take (length old)) is ∙ take-append_seam old more
+
+-- one block more of a part of a list
+pub block_more : (old so_far new xs : List Bool) (start len at count : ℕ) → start + len ≤ length xs → at + count ≤ len →
+    so_far ≡ old ++ take at (drop start xs) → new ≡ so_far ++ bits count (word_of (take count (drop (start + at) xs))) → new ≡ old ++ take (at + count) (drop start xs)
+block_more old so_far new xs start len at count inside within before is =
+    let part = drop start xs in
+    let fits : at + count ≤ length part = simp length-drop (omega arith) in
+    is
+    ∙ ap (λ l. so_far ++ bits count (word_of (take count l))) (sym (drop-drop at start xs))
+    ∙ ap (λ l. l ++ bits count (word_of (take count (drop at part)))) before
+    ∙ append_assoc old (take at part) (bits count (word_of (take count (drop at part))))
+    ∙ ap (λ l. old ++ l) (packed_more part at count fits)
+
+-- one block more of equal bits
+pub copies_more : (old so_far new : List Bool) (at count : ℕ) (b : Bool) → so_far ≡ old ++ replicate at b → new ≡ so_far ++ bits count (word_of (replicate count b)) → new ≡ old ++ replicate (at + count) b
+copies_more old so_far new at count b before is =
+    let block : bits count (word_of (replicate count b)) ≡ replicate count b = ap (λ n. bits n (word_of (replicate count b))) (sym (length-replicate count b)) ∙ bits_word_of (replicate count b) in
+    is
+    ∙ ap (λ l. l ++ bits count (word_of (replicate count b))) before
+    ∙ ap (λ l. (old ++ replicate at b) ++ l) block
+    ∙ append_assoc old (replicate at b) (replicate count b)
+    ∙ ap (λ l. old ++ l) (replicate-append-replicate at count b)
+
+-- as many bits of the word of a list are set as entries are true
+ones_word : (xs : List Bool) → count_ones (word_of xs) ≡ count_true xs
+ones_word xs = ap count_ones (same xs) ∙ ones-mask_l (λ b. b) xs
+  where
+    same : (xs : List Bool) → word_of xs ≡ mask_l (map (λ b. b) xs)
+    same [] = refl
+    same (b ∷ xs) = ap (λ n. cond b 1 0 + 2 * n) (same xs)
+
+-- one block more is counted
+pub ones_more : (xs : List Bool) (at len total : ℕ) → total ≡ count_true (take at xs) → total + count_ones (word_of (take len (drop at xs))) ≡ count_true (take (at + len) xs)
+ones_more xs at len total is =
+    let block = ones_word (take len (drop at xs)) in
+    let both = sum_by-append (λ b. cond b 1 0) (take at xs) (take len (drop at xs)) in
+    let whole = ap count_true (take-add at len xs) in
+    omega (arith, is, block, both, whole)

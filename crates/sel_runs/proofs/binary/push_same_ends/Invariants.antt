@@ -1,0 +1,6 @@
+-- So many ends stand behind those that were there.
+use Rattle.std.proofs.Common.{◌≡◌, ◌++◌, replicate, pos}
+use Rattle.sel_runs.proofs.binary.push_same_ends.Given as goal
+
+abbrev pub invariant-loop : goal.invariant-loop
+invariant-loop l = l.ends.items ≡ l.initial.ends.items ++ replicate l.counter (pos l.before)
