@@ -1,7 +1,7 @@
 //! Rows of several columns, by picks and by runs.
 
 use checks_columns::fixtures::{
-    buffer, has_bytes_at, has_text, is_bytes, is_numbers, is_truths, one_buffer, truths,
+    buffer, has_bytes, has_bytes_at, has_text, is_bytes, is_numbers, is_truths, one_buffer, truths,
 };
 use polars_compute::gather::{collect_rows, picks_in_bounds};
 use sel_arrow::array::Array;
@@ -13,6 +13,7 @@ use sel_arrow::null::NullArray;
 use sel_arrow::primitive::{ArrowPrimitive, PrimitiveArray};
 use sel_arrow::utf8view::Utf8ViewArray;
 use sel_arrow::view::View;
+use sel_bits::bitmap::Bitmap;
 use sel_bits::faults::PolarsResult;
 use sel_bits::offsets::OffsetsBuffer;
 use sel_runs::collect::collect_runs;
@@ -99,6 +100,33 @@ fn rows_of_two_columns_of_bytes(rt: HostRuntime) -> Result<(), Fail> {
     let second = pieces(alloc, &[1, 3])?;
     let rows = collected_of_two(alloc, first.into_ref(), second.into_ref(), &PICKS)?;
     assert!(rt; is_bytes(rows, &[Some(b"bc"), None, Some(b"a")])?);
+    Ok(())
+}
+
+// The rows `a` and `c`, and between them a null over a byte that is not its own.
+fn pieces_over_hidden(alloc: Global) -> Result<BinaryArray<i64>, Fail> {
+    let offsets = OffsetsBuffer::try_from(Vec::from_slice(alloc, &[0i64, 1, 2, 3])?)?;
+    let validity = Bitmap::from_bools(alloc, &[true, false, true])?;
+    Ok(BinaryArray::try_new(offsets, buffer(alloc, b"abc")?, Some(validity))?)
+}
+
+// Whether these are the bytes of four rows, of which nulls have none.
+fn are_bytes_of_valid_rows(rows: ArrayRef) -> Result<bool, Fail> {
+    let rows = rows.into_binary().ok().ok_or("another type")?;
+    Ok(
+        has_bytes(&rows, &[Some(b"a"), None, Some(b"c"), Some(b"bc")])
+            && rows.values().as_slice() == b"acbc".as_slice(),
+    )
+}
+
+#[test]
+fn bytes_beneath_nulls_are_not_copied(rt: HostRuntime) -> Result<(), Fail> {
+    let alloc = rt.alloc();
+    let first = pieces_over_hidden(alloc)?;
+    let second = pieces(alloc, &[1, 3])?;
+    let picks = [Some((0, 0)), Some((0, 1)), Some((0, 2)), Some((1, 0))];
+    let rows = collected_of_two(alloc, first.into_ref(), second.into_ref(), &picks)?;
+    assert!(rt; are_bytes_of_valid_rows(rows)?);
     Ok(())
 }
 

@@ -2,7 +2,7 @@
 
 ghost use Rattle.std.specs.Prelude.{◌≡◌, ◌≤◌, ◌-◌, length, IfOk};
 
-use crate::fixtures::{buffer, has_bits};
+use crate::fixtures::{begins_with, buffer, has_bits};
 use sel_bits::bitmap::Bitmap;
 use sel_bits::buffer::Buffer;
 use sel_bits::faults::{Limit, MakeError, Malformed, PolarsError, PolarsResult};
@@ -126,6 +126,73 @@ fn mixed_bits(alloc: Global, seed: u64, off: usize) -> PolarsResult<Bitmap>
         *bit = x >> 63 == 1;
     }
     Ok(Bitmap::from_bools(alloc, &bits)?.sliced(off, 130))
+}
+
+/// Whether three bits stand first, then the 120 bits of the source from its sixth on, and then seventy true ones.
+fn is_extended(packed: &Bitmap, source: &Bitmap) -> bool {
+    if packed.len() != 193 || source.len() != 130 {
+        return false;
+    }
+    for i in 0..120 {
+        if packed.get_bit(3 + i) != source.get_bit(5 + i) {
+            return false;
+        }
+    }
+    for i in 123..193 {
+        if !packed.get_bit(i) {
+            return false;
+        }
+    }
+    begins_with(packed, &[true, false, true])
+}
+
+#[test]
+fn packer_takes_parts_and_copies(rt: HostRuntime) -> Result<(), Fail> {
+    let source = mixed_bits(rt.alloc(), 7, 9)?;
+    let mut packer = BitPacker::with_capacity(rt.alloc(), 193)?;
+    packer.push(true)?;
+    packer.push(false)?;
+    packer.push(true)?;
+    packer.extend_from_bitmap(&source, 5, 120)?;
+    packer.extend_constant(70, true)?;
+    let packed = packer.into_bitmap(193)?;
+    assert!(rt; is_extended(&packed, &source));
+    Ok(())
+}
+
+#[test]
+fn packer_takes_false_copies_and_none(rt: HostRuntime) -> Result<(), Fail> {
+    let source = mixed_bits(rt.alloc(), 7, 9)?;
+    let mut packer = BitPacker::with_capacity(rt.alloc(), 3)?;
+    packer.extend_constant(2, false)?;
+    packer.extend_from_bitmap(&source, 130, 0)?;
+    packer.extend_constant(0, true)?;
+    packer.push(true)?;
+    let packed = packer.into_bitmap(3)?;
+    assert!(rt; has_bits(&packed, &[false, false, true]));
+    Ok(())
+}
+
+/// How many of 130 bits are true, bit by bit.
+fn counted_bits(bits: &Bitmap) -> usize
+    requires { length bits.now.bits ≡ 130 }
+{
+    let mut count: u8 = 0;
+    for i in 0..130 {
+        count = count.wrapping_add(u8::from(bits.get_bit(i)));
+    }
+    count as usize
+}
+
+#[test]
+fn bits_of_several_words_are_counted(rt: HostRuntime) -> Result<(), Fail> {
+    for off in 0..30 {
+        let bits = mixed_bits(rt.alloc(), 5, off)?;
+        let count = counted_bits(&bits);
+        assert!(rt; count > 0 && bits.set_bits() == count);
+        assert!(rt; bits.unset_bits() == 130usize.saturating_sub(count));
+    }
+    Ok(())
 }
 
 /// What the operations give, position by position.

@@ -84,6 +84,7 @@ impl BitPacker {
     ) -> PolarsResult<()>
         requires { start + len ≤ length bits.now.bits }
         ensures extended { OnOk result (self.new ≡ self.old ++ take len (drop start bits.now.bits)) }
+        ensures len { OnOk result (length self.new ≡ length self.old + len) }
         ensures kept { IfErr result (λ _. take (length self.old) self.new ≡ self.old) }
         ensures refusal { IfErr result (λ fault. fault ≡ PolarsError.OutOfMemory) }
     {
@@ -102,6 +103,7 @@ impl BitPacker {
     /// the bits that stood here.
     pub fn extend_constant(&mut self, len: usize, value: bool) -> PolarsResult<()>
         ensures extended { OnOk result (self.new ≡ self.old ++ replicate len value) }
+        ensures len { OnOk result (length self.new ≡ length self.old + len) }
         ensures kept { IfErr result (λ _. take (length self.old) self.new ≡ self.old) }
         ensures refusal { IfErr result (λ fault. fault ≡ PolarsError.OutOfMemory) }
     {
