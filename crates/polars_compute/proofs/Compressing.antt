@@ -52,9 +52,6 @@ pub record IsPacked (v m i packed place : ℕ) : Type 0 where
 pub few_bits : (v m i : ℕ) → i ≤ 64 → length (kept_bits v m i) ≤ i
 few_bits v m i le = omega (arith, few_kept (take i (bits 64 v)) (take i (bits 64 m)), length-take i (bits 64 v), length_bits 64 v)
 
-pub packed_first : (v m : ℕ) → IsPacked v m 0 0 0
-packed_first v m = record { word = refl; count = refl }
-
 module _ (v m i packed place : ℕ) (below : i < 64) (was : IsPacked v m i packed place) where
   inside : (w : ℕ) → i < length (bits 64 w)
   inside w = omega (arith, length_bits 64 w)

@@ -101,9 +101,6 @@ one_more (b ∷ bs) (suc i) inside =
 pub count_step : (bs : List Bool) (i : ℕ) → i < length bs → count_true (take (i + 1) bs) ≡ count_true (take i bs) + (if get_or bs i false then 1 else 0)
 count_step bs i inside = rw add-one (one_more bs i inside)
 
-pub count_few : (bs : List Bool) (i : ℕ) → count_true (take i bs) ≤ i
-count_few bs i = let few = count_by-le-length (λ b. b) (take i bs) in omega (arith, few, length-take i bs)
-
 one_count : (b : Bool) (v : Value) (vs : List Value) → is_valid v ≡ b → count_by is_valid vs + count_by is_null vs ≡ length vs → count_by is_valid (v ∷ vs) + count_by is_null (v ∷ vs) ≡ suc (length vs)
 one_count true v vs e h =
     let yes : tally (is_valid v) ≡ 1 = ap (λ b. tally b) e in

@@ -75,11 +75,6 @@ other_bits bytes o n count some place is =
         ap (λ w. is_set w ((0 + i) % 8)) (get_or-drop 1 bytes ((0 + i) / 8) 0 ∙ ap (λ j. get_or bytes j 0) byte)
         ∙ ap (is_set (get_or bytes ((o + (count + i)) / 8) 0)) place
 
--- the rows up to the boundary, by the place of the first
-pub boundary_zero : (o n : ℕ) → o ≡ 0 → up_to_boundary o n ≡ 0
-boundary_zero zero n e = refl
-boundary_zero (suc o) n e = absurd (omega arith)
-
 pub boundary_some : (o n : ℕ) → 0 < o → up_to_boundary o n ≡ min n (8 - o)
 boundary_some zero n some = absurd (omega arith)
 boundary_some (suc o) n some = refl

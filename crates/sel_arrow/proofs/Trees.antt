@@ -1,5 +1,5 @@
 -- The definitions on a struct, read at the list of its fields.
-use Rattle.std.proofs.Common.{◌≡◌, ◌≢◌, ℕ, ◌+◌, ◌≤◌, ◌<◌, Bool, true, false, true≢false, ◌&&◌, ◌==◌, not, All, List, [], ◌∷◌, length, take, get_or, map, Option, is_some, Vec, Global, refl, ap, sym, subst, ◌∙◌, arith}
+use Rattle.std.proofs.Common.{◌≡◌, ◌≢◌, ℕ, ◌+◌, ◌≤◌, ◌<◌, Bool, true, false, ◌&&◌, ◌==◌, not, All, List, [], ◌∷◌, length, take, get_or, map, Option, is_some, Vec, Global, refl, ap, sym, subst, ◌∙◌, arith}
 use Rattle.std.proofs.lemmas.Bool.Decides.{nat_tests}
 use Rattle.std.proofs.lemmas.List.{take_all}
 use Rattle.std.proofs.lemmas.List.Elements.{All-nil, All-cons, All-head, All-tail, All-get_or, All-more}
@@ -90,11 +90,6 @@ pub one_differs : (len n : ℕ) (cs : List Column) (i : ℕ) (c : Column) → i 
 one_differs len n cs i c lt is count differs all =
     let here = subst (IsField len) (sym is) (All-get_or (IsField len) cs i c lt all) in
     differs (count ∙ length-rows c ∙ here.0)
-
-pub one_failed : (len : ℕ) (cs : List Column) (i : ℕ) (c : Column) → i < length cs → c ≡ get_or cs i c → false ≡ well_formed c → All (IsField len) cs → ⊥
-one_failed len cs i c lt is failed all =
-    let here = subst (IsField len) (sym is) (All-get_or (IsField len) cs i c lt all) in
-    true≢false (sym (failed ∙ here.1))
 
 pub one_more_field : (len n : ℕ) (cs : List Column) (i : ℕ) (c : Column) → i < length cs → c ≡ get_or cs i c → n ≡ length (rows c) → n ≡ len → true ≡ well_formed c → All (IsField len) (take i cs) → All (IsField len) (take (i + 1) cs)
 one_more_field len n cs i c lt is count same formed all =

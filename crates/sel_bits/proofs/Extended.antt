@@ -1,12 +1,12 @@
 -- Bits that are put behind others many at a time, and counts of the bits of words.
 use Rattle.std.proofs.Common.{◌≡◌, ℕ, zero, suc, ◌+◌, ◌-◌, ◌*◌, ◌%◌, ◌^◌, ◌<◌, ◌≤◌, ◌∙◌, sym, refl, ap, arith, List, [], ◌∷◌, ◌++◌, length, take, drop, map, replicate, Bool, true, false, cond, append_assoc, length-drop}
-use Rattle.std.specs.Prelude.{count_by, count_ones}
+use Rattle.std.specs.Prelude.{count_ones}
 use Rattle.std.specs.Simd.Lanes.{mask_l}
 use Rattle.std.proofs.Math.Nat.{pow-suc}
-use Rattle.std.proofs.Math.Seq.{take-add, take-append_seam}
+use Rattle.std.proofs.Math.Seq.{take-add}
 use Rattle.std.proofs.lemmas.Nat.{one_shl}
 use Rattle.std.proofs.lemmas.List.{length-replicate, replicate-append-replicate, drop-drop}
-use Rattle.std.proofs.lemmas.List.Sums.{sum_by-cons, sum_by-append}
+use Rattle.std.proofs.lemmas.List.Sums.{sum_by-append}
 use Rattle.std.proofs.lemmas.Simd.{ones-mask_l}
 use Rattle.sel_bits.specs.Bits.{count_true}
 use Rattle.sel_bits.specs.Words.{bits, word_of}
@@ -24,10 +24,6 @@ word_of-true (suc n) = omega (arith, word_of-true n, pow-suc 2 n)
 
 pub all_ones : (n : ℕ) → n < 64 → 1 * 2 ^ n % 18446744073709551616 - 1 ≡ word_of (replicate n true)
 all_ones n few = omega (arith, one_shl n 64 few, word_of-true n)
-
--- what stood before is still there
-pub kept_before : {A : Type 0} (old new more : List A) → new ≡ old ++ more → take (length old) new ≡ old
-kept_before old new more is = ap (take (length old)) is ∙ take-append_seam old more
 
 -- one block more of a part of a list
 pub block_more : (old so_far new xs : List Bool) (start len at count : ℕ) → start + len ≤ length xs → at + count ≤ len →

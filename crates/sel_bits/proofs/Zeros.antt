@@ -37,9 +37,6 @@ leading_le [] = omega arith
 leading_le (true ∷ l) = omega arith
 leading_le (false ∷ l) = omega (arith, leading_le l)
 
-pub trailing_le : (l : List Bool) → trailing_zeros l ≤ length l
-trailing_le l = omega (arith, leading_le (reverse l), length-reverse l)
-
 -- the same at the other end
 pub trailing_found : (l : List Bool) (kept : ℕ) → kept < length l → get_or l kept false ≡ true → AreFalse l (kept + 1) (length l) → trailing_zeros l ≡ length l - (kept + 1)
 trailing_found l kept lt here high =

@@ -31,10 +31,6 @@ next_end reading more = omega arith
 pub next_within : (reading : WordReading) → reached (after_word reading) ≤ length reading.source.bits
 next_within reading = omega arith
 
--- a word has at most 64 bits
-pub next_few : (reading : WordReading) → next_count reading ≤ 64
-next_few reading = omega arith
-
 module _ {A : Type 0} (n : ℕ) (mask : Bits) (ts fs base : List A) (long : AsLong n mask.bits ts fs) (reading : WordReading) (at : ℕ) (out : List A) (was : IsBegun mask ts fs base reading at out) (size : length out ≡ n)
     (more : reached reading < length reading.source.bits) (count : ℕ) (is_count : count ≡ next_count reading) where
   many : length reading.source.bits ≡ n
@@ -45,9 +41,6 @@ module _ {A : Type 0} (n : ℕ) (mask : Bits) (ts fs base : List A) (long : AsLo
 
   pub begun_within : at + count ≤ n
   begun_within = omega (arith, end, many, next_within reading)
-
-  pub begun_few : count ≤ 64
-  begun_few = omega (arith, is_count, next_few reading)
 
   pub begun_trues : at + count ≤ length ts
   begun_trues = omega (arith, begun_within, long.trues)
@@ -81,9 +74,3 @@ module _ {A : Type 0} (n : ℕ) (mask : Bits) (ts fs base : List A) (long : AsLo
         here = end ∙ ap reached (sym is_next);
         chosen = chosen_block n mask.bits ts fs base long at out was.chosen count (put_mid at k out part) begun_within put;
       }
-
--- behind the last word all is chosen
-pub begun_all : {A : Type 0} → (n : ℕ) (mask : Bits) (ts fs base : List A) (long : AsLong n mask.bits ts fs) (reading : WordReading) (at : ℕ) (out : List A) → IsBegun mask ts fs base reading at out
-    → length base ≡ n → reached reading ≡ length reading.source.bits → out ≡ choose mask.bits ts fs
-begun_all n mask ts fs base long reading at out was size done =
-    chosen_all n mask.bits ts fs base long at out was.chosen size (was.here ∙ done ∙ ap (λ (b : Bits). length b.bits) was.source ∙ long.mask)

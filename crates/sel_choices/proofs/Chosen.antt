@@ -45,9 +45,6 @@ choose-append (m ∷ ms) ns (t ∷ ts) us (f ∷ fs) gs p q = ap (λ l. (if m th
 pub record IsChosen {A : Type 0} (ms : List Bool) (ts fs base : List A) (at : ℕ) (out : List A) : Type 0 where
   pub begun : out ≡ choose (take at ms) (take at ts) (take at fs) ++ drop at base
 
-pub chosen_none : {A : Type 0} → (ms : List Bool) (ts fs base : List A) → IsChosen ms ts fs base 0 base
-chosen_none ms ts fs base = record { begun = refl }
-
 -- of lists as long as the mask
 pub record AsLong {A : Type 0} (n : ℕ) (ms : List Bool) (ts fs : List A) : Type 0 where
   pub mask : length ms ≡ n

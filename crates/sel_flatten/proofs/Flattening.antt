@@ -180,10 +180,6 @@ pub start_at : {A : Type 0} (r : ℕ) (xs : List A) (w : ℕ) (start : ℕ) (b :
 start_at r xs w start true e is = rw (e, is) (take_all w xs (let long = eqb-true (length xs) w e in omega (arith, long)))
 start_at r xs w start false e is = rw (e, is) refl
 
-pub start_inside : {A : Type 0} (r h : ℕ) (xs : List A) (w : ℕ) (start : ℕ) (b : Bool) → r < h → Parts h (length xs) w → (length xs == w) ≡ b → start ≡ (if b then 0 else r * w) → start + w ≤ length xs
-start_inside r h xs w start true inside fit e is = let long = eqb-true (length xs) w e in omega (arith, long, is)
-start_inside r h xs w start false inside fit e is = let there = row_inside r h (length xs) w inside (many_of h (length xs) w fit.1 e) in omega (arith, there, is)
-
 -- ---- columns as the sources of rows
 
 -- what the engine asks of its sources
@@ -227,13 +223,6 @@ part_fitting arrays s a run inside is source within =
     let xss = map (λ (x : ArrayRef). rows x.column) arrays in
     let xs = rows_at arrays s a inside is in
     subst (λ o. All (PickFits xss) (unrolled_from o run.start run.len)) (sym source) (rows_fit xss s run.start run.len (rw xs within))
-
--- the test of one part, as a fact
-pub part_test : (h n w : ℕ) → part_fits h n w ≡ true → Parts h n w
-part_test h n w fit = (
-  ltb-true 0 w (and_first (nat_lt 0 w) ((n == w * h) || (n == w)) fit),
-  either (n == w * h) (n == w) (n ≡ w * h) (n ≡ w) (eqb-true n (w * h)) (eqb-true n w) (and_second (nat_lt 0 w) ((n == w * h) || (n == w)) fit),
-)
 
 rest_fits : {A : Type 0} (h : ℕ) (xss : List (List A)) (ws : List ℕ) (s : ℕ) → parts_fit h xss ws ≡ true → parts_fit h (drop s xss) (drop s ws) ≡ true
 rest_fits h xss ws zero fit = fit

@@ -74,9 +74,6 @@ module _ (f : Column → Column) where
 
 -- ---- types
 
-pub all_types : (P : Shape → Type 0) (s : Shape) (cs : List (Bor Column)) → All (λ c. type_of c.now ≡ s) cs → P s → All (λ c. P (type_of c.now)) cs
-all_types P s cs all h k d below = subst P (sym (all k d below)) h
-
 pub listed_shapes : (ss : List Shape) → shape_list (shapes_of ss) ≡ ss
 listed_shapes [] = refl
 listed_shapes (s ∷ ss) = ap (λ l. s ∷ l) (listed_shapes ss)
@@ -87,12 +84,6 @@ pub record Recurses (s : Shape) (xs : List (Bor Column)) (yss : List (List Value
   pub alike : All (λ x. type_of x.now ≡ s) xs
   pub formed : All (λ x. IsWellFormed x.now) xs
   pub rows : map (λ x. rows x.now) xs ≡ yss
-
-listing_large : (s : Shape) (cs : List (Bor Column)) → All (λ c. type_of c.now ≡ of_large_list s) cs → All (λ c. is_listing (type_of c.now) ≡ true) cs
-listing_large s cs types k d h = ap is_listing (types k d h)
-
-listing_block : (s : Shape) (w : ℕ) (cs : List (Bor Column)) → All (λ c. type_of c.now ≡ of_fixed_size_list s w) cs → All (λ c. is_listing (type_of c.now) ≡ true) cs
-listing_block s w cs types k d h = ap is_listing (types k d h)
 
 pub lists_recurse : (s : Shape) (xs cs : List (Bor Column)) → map (λ x. x.now) xs ≡ map (λ c. child c.now) cs → All (λ c. type_of c.now ≡ of_large_list s) cs → All (λ c. IsWellFormed c.now) cs →
     Recurses s xs (map (λ c. rows (child c.now)) cs)
@@ -116,9 +107,6 @@ pub refused_more : (P Q : Limit → Type 0) (fault : PolarsError) → ((limit : 
 refused_more P Q OutOfMemory more h = tt
 refused_more P Q (SizeLimit limit) more h = more limit h
 refused_more P Q ComputeError more h = h
-
-pub refused_memory : (Q : Limit → Type 0) (fault : PolarsError) → fault ≡ OutOfMemory → IsRefusal Q fault
-refused_memory Q fault is = subst (IsRefusal Q) (sym is) tt
 
 -- what is past a limit at a field is past it
 pub past_at : (ss : List Shape) (start k : ℕ) (d : Shape) (columns : List Column) (vs : List Value) (limit : Limit) → k < length ss →

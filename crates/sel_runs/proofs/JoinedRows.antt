@@ -2,7 +2,7 @@
 use Rattle.std.proofs.Common.{◌≡◌, ℕ, zero, suc, ◌+◌, ◌≤◌, ◌<◌, ℤ, pos, true, false, Bool, List, [], ◌∷◌, ◌++◌, length, take, drop, map, replicate, Option, Some, None, refl, ap, sym, subst, ◌∙◌, arith, get_or, length-append, append_assoc}
 use Rattle.std.specs.Prelude.{if◌then◌else◌}
 use Rattle.std.specs.List.{slice_range}
-use Rattle.std.proofs.lemmas.List.{take_all, take_more, take-append-drop, append-nil, map-append, get_or-take, get_or-drop}
+use Rattle.std.proofs.lemmas.List.{take_all, take-append-drop, append-nil, map-append, get_or-take, get_or-drop}
 use Rattle.std.proofs.lemmas.List.Concat.{flat_map-append}
 use Rattle.std.proofs.lemmas.Grind.{common_steps}
 use Rattle.sel_bits.specs.Bits.{Bits}
@@ -45,13 +45,6 @@ run_length d xss r = length-pick d xss (unrolled r) ∙ length-unrolled r
 pub needed-append : (a b : List Value) → bytes_needed (a ++ b) ≡ bytes_needed a + bytes_needed b
 needed-append [] b = omega arith
 needed-append (row ∷ a) b = omega (arith, needed-append a b)
-
--- one row more
-pub needed_more : (rows : List Value) (i : ℕ) → i < length rows → bytes_needed (take (i + 1) rows) ≡ bytes_needed (take i rows) + byte_count (get_or rows i Null)
-needed_more rows i h =
-    let last = needed-append (take i rows) (get_or rows i Null ∷ []) in
-    let whole = ap bytes_needed (take_more rows i Null h) in
-    omega (arith, last, whole)
 
 -- some rows need no more than all
 pub needed_part : (rows : List Value) (i : ℕ) → bytes_needed (take i rows) ≤ bytes_needed rows
@@ -109,19 +102,6 @@ grew_more a b s t u first second =
       bits = second.bits ∙ ap (λ l. l ++ validities b) first.bits ∙ append_assoc s.validity (validities a) (validities b)
           ∙ ap (λ l. s.validity ++ l) (sym (map-append is_valid a b));
     }
-
--- one row more
-pub grew_row : (rows : List Value) (i : ℕ) (v : Value) (s t u : Joined) → i < length rows → v ≡ get_or rows i Null → GrewBy (take i rows) s t → GrewBy (v ∷ []) t u → GrewBy (take (i + 1) rows) s u
-grew_row rows i v s t u h is first second =
-    subst (λ l. GrewBy l s u) (ap (λ x. take i rows ++ x ∷ []) is ∙ sym (take_more rows i Null h)) (grew_more (take i rows) (v ∷ []) s t u first second)
-
-pub grew_rows : (rows : List Value) (i : ℕ) (s t : Joined) → length rows ≤ i → GrewBy (take i rows) s t → GrewBy rows s t
-grew_rows rows i s t past grew = subst (λ l. GrewBy l s t) (take_all i rows past) grew
-
-pub row_room : (rows : List Value) (i : ℕ) (v : Value) (s t : Joined) (n : ℕ) → i < length rows → v ≡ get_or rows i Null → GrewBy (take i rows) s t → length s.bytes.items + bytes_needed rows ≤ n →
-    length t.bytes.items + byte_count v ≤ n
-row_room rows i v s t n h is grew room =
-    omega (arith, grew_length (take i rows) s t grew, needed_more rows i h, needed_part rows (i + 1), ap byte_count is, room)
 
 -- one run more
 pub grew_run : (xss : List (List Value)) (rs : List Run) (i : ℕ) (s t u : Joined) → i < length rs → GrewBy (pick Null xss (expand (take i rs))) s t → GrewBy (pick Null xss (unrolled (run_at rs i))) t u →

@@ -2,8 +2,6 @@
 use Rattle.std.proofs.Common.{◌≡◌, inl, inr, ℕ, suc, ◌+◌, ◌≤◌, ◌<◌, true, ◌&&◌, ◌==◌, List, [], ◌∷◌, length, map, ap, subst, ◌∙◌, arith, get_or}
 use Rattle.sel_bits.specs.declared.faults.Limit.{Limit}
 use Rattle.sel_bits.specs.declared.faults.Limit.TheVariants.{Rows as RowLimit, Bytes as ByteLimit, Buffers as BufferLimit, ViewBytes}
-use Rattle.sel_bits.specs.declared.faults.PolarsError.{PolarsError}
-use Rattle.sel_bits.specs.declared.faults.PolarsError.TheVariants.{OutOfMemory, SizeLimit, ComputeError}
 use Rattle.sel_arrow.specs.Rows.{row_count, type_of, types_of_each, well_formed, all_well_formed}
 use Rattle.sel_arrow.specs.Value.{Value}
 use Rattle.sel_arrow.specs.declared.column.Column.{Column, Row_of-Column, end_of-Column, more_of-Column}
@@ -11,7 +9,7 @@ use Rattle.sel_arrow.specs.declared.column.Column.TheVariants.{LargeBinary, Bina
 use Rattle.sel_arrow.proofs.Lists.{and_first, and_second}
 use Rattle.sel_arrow.proofs.NestedRows.{has_lists, has_blocks, struct_covered}
 use Rattle.sel_runs.specs.Children.{columns_in, field, joined_items, part_at}
-use Rattle.sel_runs.specs.Need.{IsRefusal, IsPastBuffers, past, past_parts, past_taken, past_fields}
+use Rattle.sel_runs.specs.Need.{IsPastBuffers, past, past_parts, past_taken, past_fields}
 
 few_buffers : (n : ℕ) (limit : Limit) → n ≤ 4294967295 → IsPastBuffers (n + 0) limit → ⊥
 few_buffers n RowLimit few h = h
@@ -45,8 +43,3 @@ mutual
       inr (one_fields _ rest len (j + 1) c (and_second ((row_count x == len) && well_formed x) (all_well_formed len rest) all)
       (λ k below. let place : (j + 1) + k ≡ j + suc k = omega arith in ap (λ i. field i c) place ∙ at (suc k) (omega (arith, below)))
       vs limit h)
-
-pub refused_less : (P Q : Limit → Type 0) (fault : PolarsError) → ((limit : Limit) → P limit → Q limit) → IsRefusal P fault → IsRefusal Q fault
-refused_less P Q OutOfMemory less h = tt
-refused_less P Q (SizeLimit limit) less h = less limit h
-refused_less P Q ComputeError less h = h

@@ -6,19 +6,12 @@ use Rattle.sel_bits.specs.declared.faults.Limit.TheVariants.{Buffers as BufferLi
 use Rattle.sel_bits.specs.declared.faults.PolarsError.{PolarsError}
 use Rattle.sel_bits.specs.declared.faults.PolarsError.TheVariants.{OutOfMemory, SizeLimit}
 use Rattle.sel_arrow.specs.declared.column.Column.{Column}
+use Rattle.sel_arrow.proofs.Lists.{and_first, and_second}
 use Rattle.sel_runs.specs.Need.{IsRefusal, IsPastBuffers, buffer_count, buffers_joined}
 use Rattle.sel_runs.specs.Picks.{found, pick}
 use Rattle.sel_runs.specs.Raised.{IsRefusalAt}
 use Rattle.sel_arrow.specs.Texts.{is_text}
 use Rattle.sel_arrow.specs.Value.{Value, Null}
-
-and-left : (a b : Bool) → (a && b) ≡ true → a ≡ true
-and-left true b h = refl
-and-left false b h = absurd (cc h)
-
-and-right : (a b : Bool) → (a && b) ≡ true → b ≡ true
-and-right true b h = h
-and-right false b h = absurd (cc h)
 
 and-both : (a b : Bool) → a ≡ true → b ≡ true → (a && b) ≡ true
 and-both true b h k = k
@@ -44,8 +37,8 @@ refused_at count n _ e h = absurd h
 
 text_at : (xs : List Value) (i : ℕ) → list_all is_text xs ≡ true → is_text (get_or xs i Null) ≡ true
 text_at [] i h = refl
-text_at (x ∷ xs) zero h = and-left (is_text x) (list_all is_text xs) h
-text_at (x ∷ xs) (suc i) h = text_at xs i (and-right (is_text x) (list_all is_text xs) h)
+text_at (x ∷ xs) zero h = and_first (is_text x) (list_all is_text xs) h
+text_at (x ∷ xs) (suc i) h = text_at xs i (and_second (is_text x) (list_all is_text xs) h)
 
 texts_at : {S : Type 0} (f : S → List Value) (ss : List S) (i : ℕ) → All (λ s. list_all is_text (f s) ≡ true) ss → list_all is_text (get_or (map f ss) i []) ≡ true
 texts_at f [] i h = refl

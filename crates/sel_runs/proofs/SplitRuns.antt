@@ -1,7 +1,7 @@
 -- Bits of picked rows, and picks of null rows.
 use Rattle.std.proofs.Common.{◌≡◌, ◌≢◌, All, Bor, ℕ, zero, suc, ◌+◌, ◌≤◌, ◌<◌, Bool, true, false, List, [], ◌∷◌, ◌++◌, length, take, drop, map, replicate, Option, Some, None, refl, ap, sym, ◌∙◌, arith, get_or, length-append, length-take, append_assoc}
 use Rattle.std.specs.Prelude.{if◌then◌else◌}
-use Rattle.std.proofs.lemmas.List.{length-map, get_or-map, take_more, take_all, map-append, take-map, drop-map, nil_from_length}
+use Rattle.std.proofs.lemmas.List.{length-map, get_or-map, take_more, take_all, map-append, take-map, drop-map}
 use Rattle.std.proofs.lemmas.List.FromFn.{get_or-map-range_with_len}
 use Rattle.sel_bits.specs.Bits.{Bits}
 use Rattle.sel_arrow.specs.Nulls.{TellsNulls}
@@ -16,7 +16,7 @@ use Rattle.sel_runs.specs.Runs.{unrolled, unrolled_from, picks_of}
 use Rattle.sel_runs.specs.Validity.{part_bits}
 use Rattle.sel_runs.specs.declared.run.Run.{Run}
 use Rattle.sel_runs.proofs.ItemRuns.{rows_of, source_there}
-use Rattle.sel_runs.proofs.RunLists.{run_there, pick_run, pick_nulls, pick_empty, length-unrolled}
+use Rattle.sel_runs.proofs.RunLists.{run_there, pick_run, pick_nulls, length-unrolled}
 
 -- ---- what a validity tells of a part of the rows
 
@@ -129,12 +129,6 @@ null_picks xss r is = rw is (each r.len)
     each : (n : ℕ) → replicate n (let none : Option (ℕ × ℕ) = None in none) ≡ map (cleared xss) (replicate n None)
     each zero = refl
     each (suc n) = ap (λ (l : List (Option (ℕ × ℕ))). None ∷ l) (each n)
-
-pub no_bits : (xss : List (List Value)) (r : Run) → r.len ≡ 0 → validities (pick Null xss (unrolled r)) ≡ []
-no_bits xss r is = ap validities (pick_empty Null xss r is)
-
-pub no_picks : (r : Run) → r.len ≡ 0 → unrolled r ≡ []
-no_picks r is = nil_from_length (unrolled r) (length-unrolled r ∙ is)
 
 -- ---- a loop over the rows of a run
 

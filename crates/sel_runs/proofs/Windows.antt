@@ -1,5 +1,5 @@
 -- Parts of lists that a loop copies entry by entry, and bits that are all true.
-use Rattle.std.proofs.Common.{◌≡◌, ℕ, zero, suc, ◌+◌, ◌-◌, ◌≤◌, ◌<◌, Bool, true, false, List, [], ◌∷◌, ◌++◌, length, take, drop, get_or, replicate, refl, ap, sym, ◌∙◌, arith, append_assoc, length-drop, cond}
+use Rattle.std.proofs.Common.{◌≡◌, ℕ, zero, suc, ◌+◌, ◌-◌, ◌≤◌, ◌<◌, Bool, true, false, List, [], ◌∷◌, ◌++◌, length, take, drop, get_or, replicate, refl, ap, ◌∙◌, arith, append_assoc, length-drop, cond}
 use Rattle.std.specs.Prelude.{count_by, not}
 use Rattle.std.proofs.lemmas.List.{take_more, take_all, get_or-drop, replicate-append-replicate}
 use Rattle.std.proofs.lemmas.List.Sums.{sum_by-cons}
@@ -8,12 +8,6 @@ pub window_more : {A : Type 0} (xs : List A) (a i : ℕ) (d : A) → a + i < len
 window_more xs a i d h =
     let inside : i < length (drop a xs) = simp length-drop (omega arith) in
     take_more (drop a xs) i d inside ∙ ap (λ x. take i (drop a xs) ++ x ∷ []) (get_or-drop a xs i d)
-
--- one more entry of a part behind those that were there
-pub copied_more : {A : Type 0} (old so_far new xs : List A) (a i : ℕ) (x d : A) → a + i < length xs → so_far ≡ old ++ take i (drop a xs) → x ≡ get_or xs (a + i) d → new ≡ so_far ++ x ∷ [] →
-    new ≡ old ++ take (i + 1) (drop a xs)
-copied_more old so_far new xs a i x d h e is f =
-    f ∙ ap (λ l. l ++ x ∷ []) e ∙ append_assoc old (take i (drop a xs)) (x ∷ []) ∙ ap (λ y. old ++ (take i (drop a xs) ++ y ∷ [])) is ∙ ap (λ l. old ++ l) (sym (window_more xs a i d h))
 
 pub repeated_more : {A : Type 0} (old so_far new : List A) (i : ℕ) (x : A) → so_far ≡ old ++ replicate i x → new ≡ so_far ++ x ∷ [] → new ≡ old ++ replicate (i + 1) x
 repeated_more old so_far new i x e f =

@@ -63,12 +63,6 @@ module _ (offsets : List ℕ) (values : Box Column Global) (validity : Option Bi
       let has = list_row column offsets values validity refl formed k (inside_rows k h) e in
       omega (arith, length-take (count k) (drop (start k) (rows values.value)), length-drop (start k) (rows values.value), has.ordered, has.inside)
 
-  -- row k where it is a list
-  pub row_listed : {A : Type 0} (f : List Value → A) (g : Value → A) → ((vs : List Value) → g (list_of vs) ≡ f vs) → (k : ℕ) → k < rows_between offsets → valid_at validity k ≡ true → g (get_or (rows column) k Null) ≡ f (part k)
-  row_listed f g same k h e =
-      let has = list_row column offsets values validity refl formed k (inside_rows k h) e in
-      ap g has.row ∙ same (part k)
-
   pub element_is : (k : ℕ) → k < rows_between offsets → element_at (rows values.value) (child_place offsets validity index k) ≡ element_of index (get_or (rows column) k Null)
   element_is k h = by (valid_at validity k) refl
     where

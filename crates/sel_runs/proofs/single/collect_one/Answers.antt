@@ -4,7 +4,8 @@ use Rattle.sel_arrow.specs.Rows.{rows}
 use Rattle.sel_arrow.specs.Value.{Null}
 use Rattle.sel_runs.specs.Picks.{pick}
 use Rattle.sel_runs.specs.Runs.{expand}
-use Rattle.sel_runs.proofs.OneSource.{one_source, refused_less}
+use Rattle.sel_runs.proofs.Below.{refused_more}
+use Rattle.sel_runs.proofs.OneSource.{one_source}
 use Rattle.sel_runs.proofs.single.collect_one.Goals as goal
 
 pub returns-in_err-column-clause-refusal : goal.returns-in_err-column-clause-refusal
@@ -12,4 +13,4 @@ returns-in_err-column-clause-refusal c =
     let p = err_from_is_err_and c.from_residual.result c.from_residual.ensures.1 in
     let column = c.args.column.now in
     let vs = pick Null (rows column ∷ []) (expand c.args.runs.now) in
-    rw (p.1, p.2) (refused_less _ _ c.in_err-column.field-0.0 (λ limit h. one_source column c.requires.formed vs limit h) c.in_err-column.ensures.refusal)
+    rw (p.1, p.2) (refused_more _ _ c.in_err-column.field-0.0 (λ limit h. one_source column c.requires.formed vs limit h) c.in_err-column.ensures.refusal)

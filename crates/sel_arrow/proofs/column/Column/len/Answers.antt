@@ -1,5 +1,5 @@
 use Rattle.std.proofs.Common.{sym, ◌∙◌, ap, arith}
-use Rattle.sel_arrow.specs.Rows.{rows, row_count}
+use Rattle.sel_arrow.specs.Rows.{row_count}
 use Rattle.sel_arrow.proofs.NestedRows.{length-rows}
 use Rattle.sel_arrow.proofs.column.Column.len.Goals as goal
 

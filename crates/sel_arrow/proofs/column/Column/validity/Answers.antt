@@ -1,6 +1,3 @@
-use Rattle.std.proofs.Common.{sym, subst, ◌∙◌}
-use Rattle.sel_arrow.specs.Nulls.{TellsNulls}
-use Rattle.sel_arrow.specs.Rows.{rows, type_of}
 use Rattle.sel_arrow.proofs.NestedRows.{list_tells, block_tells, struct_tells}
 use Rattle.sel_arrow.proofs.column.Column.validity.Goals as goal
 

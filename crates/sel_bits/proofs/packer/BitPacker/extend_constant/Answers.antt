@@ -1,4 +1,4 @@
-use Rattle.std.proofs.Common.{ap, ◌∙◌, ◌++◌, arith, subst, ◌<◌, ◌^◌, length, replicate}
+use Rattle.std.proofs.Common.{ap, ◌∙◌, ◌++◌, arith, subst, ◌<◌, ◌^◌, replicate}
 use Rattle.std.proofs.lemmas.List.{length-replicate}
 use Rattle.sel_bits.specs.Words.{bits, word_of}
 use Rattle.sel_bits.proofs.Extended.{copies_more}
