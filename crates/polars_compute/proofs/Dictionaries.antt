@@ -1,11 +1,11 @@
 -- Keys and values of a dictionary without its null values.
-use Rattle.std.proofs.Common.{◌≡◌, ℕ, zero, suc, ◌+◌, ◌≤◌, ◌<◌, pos, Bool, true, false, List, [], ◌∷◌, length, map, take, get_or, Option, Some, None, refl, ap, sym, ◌∙◌, arith, cond, zero-add, add-one, length-take}
+use Rattle.std.proofs.Common.{◌≡◌, ℕ, zero, suc, ◌+◌, ◌≤◌, ◌<◌, pos, Bool, true, false, List, [], ◌∷◌, length, map, take, get_or, Option, Some, None, refl, ap, sym, ◌∙◌, arith, cond, zero-add, add-one}
 use Rattle.std.specs.Prelude.{if◌then◌else◌, count_by, not, IfNone}
 use Rattle.std.specs.List.{range_with_len}
 use Rattle.std.proofs.lemmas.Bool.{ltb-true}
 use Rattle.std.proofs.lemmas.List.{length-map, get_or-map}
 use Rattle.std.proofs.lemmas.List.FromFn.{get_or-map-range_with_len, length-map-range_with_len}
-use Rattle.std.proofs.lemmas.List.Sums.{sum_by-cons, count_by-le-length}
+use Rattle.std.proofs.lemmas.List.Sums.{sum_by-cons}
 use Rattle.sel_bits.specs.Bits.{Bits, count_true}
 use Rattle.sel_arrow.specs.Masked.{hidden, masked, number_rows, Covers, valid_at}
 use Rattle.sel_arrow.specs.Value.{Value, Null, Number, is_valid, is_null, validities}

@@ -32,13 +32,6 @@ length-kept_from n [] = omega arith
 length-kept_from n (true ∷ ms) = omega (arith, length-kept_from (n + 1) ms)
 length-kept_from n (false ∷ ms) = omega (arith, length-kept_from (n + 1) ms)
 
--- places of few bits, each of them below the count
-pub places_few : (places : List ℕ) (ms : List Bool) → places ≡ kept ms → length ms ≤ 4294967295 → length places ≤ 4294967295
-places_few places ms is few = rw is (omega (arith, length-kept_from 0 ms))
-
-pub places_inside : (places : List ℕ) (ms : List Bool) (n : ℕ) → places ≡ kept ms → n ≡ length ms → (k : ℕ) → k < length places → get_or places k 0 < n
-places_inside places ms n is long = rw (is, long) (kept_below ms)
-
 -- ---- what is kept stands at the places
 
 first_dropped : {A : Type 0} → (all : List A) (x : A) (xs : List A) (n : ℕ) (d : A) → drop n all ≡ x ∷ xs → get_or all n d ≡ x

@@ -9,7 +9,7 @@ use Rattle.sel_bits.specs.Words.{bits, word_of}
 use Rattle.sel_bits.proofs.Packed.{bits_word_of}
 use Rattle.sel_bits.proofs.WordsOf.{length_part}
 use Rattle.sel_choices.specs.Choose.{choose}
-use Rattle.sel_choices.proofs.Chosen.{AsLong, IsChosen, chosen_all, chosen_block, length-choose}
+use Rattle.sel_choices.proofs.Chosen.{AsLong, IsChosen, chosen_block, length-choose}
 
 -- the entries of the words that were given out are chosen
 pub record IsBegun {A : Type 0} (mask : Bits) (ts fs base : List A) (reading : WordReading) (at : ℕ) (out : List A) : Type 0 where

@@ -147,9 +147,6 @@ map_nulls d xss (suc n) = ap (λ l. d ∷ l) (map_nulls d xss n)
 pub pick_nulls : {A : Type 0} (d : A) (xss : List (List A)) (r : Run) → r.source ≡ None → pick d xss (unrolled r) ≡ replicate r.len d
 pick_nulls d xss r is = rw is (map_nulls d xss r.len)
 
-pub pick_empty : {A : Type 0} (d : A) (xss : List (List A)) (r : Run) → r.len ≡ 0 → pick d xss (unrolled r) ≡ []
-pick_empty d xss r is = ap (map (found d xss)) (nil_from_length (unrolled r) (length-unrolled r ∙ is))
-
 -- the source and the rows of a run of at least one row
 pub run_there : {A : Type 0} (xss : List (List A)) (r : Run) (s : ℕ) → r.source ≡ Some s → (r.len ≡ 0 → ⊥) → All (PickFits xss) (unrolled r) → (s < length xss) × (r.start + r.len ≤ length (get_or xss s []))
 run_there xss r s is other fits =

@@ -8,7 +8,6 @@ use Rattle.std.proofs.lemmas.List.FromFn.{fill_by_all}
 use Rattle.sel_bits.specs.Bits.{Bits}
 use Rattle.sel_bits.specs.Place.{place}
 use Rattle.sel_arrow.specs.Masked.{hidden, number_value, valid_at}
-use Rattle.sel_arrow.specs.Nested.{list_of}
 use Rattle.sel_arrow.specs.Pieces.{rows_between}
 use Rattle.sel_arrow.specs.Rows.{rows, well_formed}
 use Rattle.sel_arrow.specs.Value.{Value, Null, Number}

@@ -1,25 +1,21 @@
 //! The rows of a column that a mask keeps.
 
 ghost use Rattle.std.specs.Prelude.{◌≡◌, ◌≤◌, ◌+◌, length, IfOk, IfErr};
-ghost use Rattle.sel_arrow.specs.Columns.{null_rows, boolean_rows, primitive_rows, binary_rows, binview_rows, utf8view_rows};
+ghost use Rattle.sel_arrow.specs.Columns.{null_rows, boolean_rows, primitive_rows, binview_rows, utf8view_rows};
 ghost use Rattle.sel_arrow.specs.Rows.{rows, type_of, IsWellFormed};
 ghost use Rattle.polars_compute.specs.Select.{select, in_force};
 ghost use Rattle.polars_compute.specs.Trim.{KeepsAll};
 
-mod binary;
 pub mod boolean;
 pub mod primitive;
 pub mod scalar;
 
-use crate::gather::generic_binary::collect_bytes;
 use crate::runs::runs_of_mask;
-use binary::{PlacedRows, kept_places};
 use boolean::filter_bitmap_and_validity;
 pub use boolean::filter_boolean_kernel;
 use primitive::filter_values_and_validity;
 use sel_arrow::array::Array;
 use sel_arrow::array_ref::ArrayRef;
-use sel_arrow::binary::BinaryArray;
 use sel_arrow::binview::BinaryViewArray;
 use sel_arrow::boolean::BooleanArray;
 use sel_arrow::column::Column;
@@ -104,12 +100,12 @@ fn filter_column(alloc: Global, column: &Column, mask: &Bitmap) -> PolarsResult<
         Column::UInt32(column) => filter_numbers(alloc, column, mask),
         Column::UInt64(column) => filter_numbers(alloc, column, mask),
         Column::UInt128(column) => filter_numbers(alloc, column, mask),
-        Column::LargeBinary(column) => Ok(filter_binary(alloc, column, mask)?.into_ref()),
         Column::BinaryView(column) => Ok(filter_views(alloc, column, mask)?.into_ref()),
         Column::Utf8View(column) => Ok(filter_texts(alloc, column, mask)?.into_ref()),
-        Column::LargeList { .. } | Column::FixedSizeList { .. } | Column::Struct { .. } => {
-            Ok(filter_nested(alloc, column, mask)?)
-        }
+        Column::LargeBinary(_)
+        | Column::LargeList { .. }
+        | Column::FixedSizeList { .. }
+        | Column::Struct { .. } => Ok(filter_runs(alloc, column, mask)?),
     }
 }
 
@@ -127,9 +123,9 @@ fn filter_numbers<T: ArrowPrimitive>(
     Ok(filter_primitive(alloc, column, mask)?.into_ref())
 }
 
-/// The rows of a column with children where the bit is true. At every depth they need no more than all rows do, so no
+/// The rows of a column where the bit is true, copied by runs. At every depth they need no more than all rows do, so no
 /// limit is passed.
-fn filter_nested(alloc: Global, column: &Column, mask: &Bitmap) -> PolarsResult<ArrayRef>
+fn filter_runs(alloc: Global, column: &Column, mask: &Bitmap) -> PolarsResult<ArrayRef>
     requires formed { IsWellFormed column.now }
     requires long { length (rows column.now) ≡ length mask.now.bits }
     requires few { length mask.now.bits ≤ 4294967295 }
@@ -199,27 +195,6 @@ fn filter_primitive<T: ArrowPrimitive>(
     )?;
     let values = Buffer::from_vec(values)?;
     Ok(PrimitiveArray { values, validity })
-}
-
-/// The bytes whose bit is true. They need no more than those of all rows, so no limit is passed.
-fn filter_binary(
-    alloc: Global,
-    array: &BinaryArray<i64>,
-    mask: &Bitmap,
-) -> PolarsResult<BinaryArray<i64>>
-    requires { length (binary_rows array.now) ≡ length mask.now.bits }
-    ensures rows { IfOk result (λ kept. binary_rows kept ≡ select (binary_rows array.now) mask.now.bits) }
-    ensures refusal { IfErr result (λ fault. fault ≡ PolarsError.OutOfMemory) }
-{
-    let places = kept_places(alloc, mask)?;
-    let rows = PlacedRows {
-        values: array,
-        places: &places,
-    };
-    match collect_bytes(alloc, &rows) {
-        Ok(kept) => Ok(kept),
-        Err(fault) => Err(fault),
-    }
 }
 
 /// The views whose bit is true, over the same data buffers.

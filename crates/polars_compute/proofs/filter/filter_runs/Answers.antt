@@ -11,7 +11,7 @@ use Rattle.polars_compute.specs.Pick.{place_pick}
 use Rattle.polars_compute.specs.Select.{kept}
 use Rattle.polars_compute.proofs.KeptRuns.{picked_kept, kept_fit, count_kept}
 use Rattle.polars_compute.proofs.Needs.{kept_fits}
-use Rattle.polars_compute.proofs.filter.filter_nested.Goals as goal
+use Rattle.polars_compute.proofs.filter.filter_runs.Goals as goal
 
 pub collect_one-requires-clause-fits : goal.collect_one-requires-clause-fits
 collect_one-requires-clause-fits c =
