@@ -2,74 +2,35 @@
 //!
 //! Columns of every kind are dropped by a call: a drop at the end of a body is proved kind by kind.
 
-use checks_columns::fixtures::column;
+use checks_columns::fixtures::{are_numbers, is_valid, number_column, offsets};
 use sel_arrow::array::Array;
 use sel_arrow::array_ref::ArrayRef;
-use sel_arrow::column::Column;
 use sel_arrow::datatype::ArrowDataType;
 use sel_arrow::fixed_size_list::FixedSizeListArray;
 use sel_arrow::list::ListArray;
 use sel_bits::bitmap::Bitmap;
-use sel_bits::offsets::OffsetsBuffer;
 use sel_choices::if_then_else::IfThenElseKernel;
 use std::alloc::Global;
 use std::test::Fail;
 
-/// Numbers as a column of any type; none is null over 7.
-fn numbers(alloc: Global, rows: &[Option<i64>]) -> Result<ArrayRef, Fail> {
-    Ok(column(alloc, rows, 7)?.into_ref())
-}
-
 /// The lists of the numbers between these offsets, under this validity.
 fn lists(
     alloc: Global,
-    offsets: &[i64],
+    ends: &[i64],
     rows: &[Option<i64>],
     valid: &[bool],
 ) -> Result<ListArray<i64>, Fail> {
-    let offsets = OffsetsBuffer::try_from(Vec::from_slice(alloc, offsets)?)?;
+    let offsets = offsets(alloc, ends)?;
     let validity = Bitmap::from_bools(alloc, valid)?;
-    let child = numbers(alloc, rows)?;
+    let child = number_column(alloc, rows)?;
     Ok(ListArray::try_new(alloc, offsets, child, Some(validity))?)
 }
 
 /// Pairs of these numbers, under this validity.
 fn pairs(alloc: Global, rows: &[Option<i64>], valid: &[bool]) -> Result<FixedSizeListArray, Fail> {
     let validity = Bitmap::from_bools(alloc, valid)?;
-    let child = numbers(alloc, rows)?;
+    let child = number_column(alloc, rows)?;
     Ok(FixedSizeListArray::try_new(alloc, 2, valid.len(), child, Some(validity))?)
-}
-
-/// The number at a place of a column of them, where there is one.
-fn number_at(column: &Column, at: usize) -> Option<Option<i64>> {
-    let Column::Int64(array) = column else {
-        return None;
-    };
-    if at >= array.len() {
-        return None;
-    }
-    Some(array.get(at))
-}
-
-/// Whether the entries between the places are these numbers.
-fn are_numbers(column: &Column, start: usize, end: usize, rows: &[Option<i64>]) -> bool {
-    if start > end || end - start != rows.len() {
-        return false;
-    }
-    for (i, row) in rows.iter().enumerate() {
-        if number_at(column, start + i) != Some(*row) {
-            return false;
-        }
-    }
-    true
-}
-
-/// Whether the row is not null.
-fn is_valid(validity: &Option<Bitmap>, at: usize) -> bool {
-    match validity {
-        None => true,
-        Some(bits) => at < bits.len() && bits.get_bit(at),
-    }
 }
 
 /// Whether the row is this list; none is null.
@@ -211,7 +172,7 @@ fn two_or_list(alloc: Global, mask: &[bool], if_false: &ArrayRef) -> Result<List
 
 /// Whether the choice between the scalar `[5, 6]` and null, `[3, 4]` is `[5, 6]`, `[3, 4]`.
 fn chooses_list_or_lists(alloc: Global) -> Result<bool, Fail> {
-    let scalar = numbers(alloc, &[Some(5), Some(6)])?;
+    let scalar = number_column(alloc, &[Some(5), Some(6)])?;
     let chosen = list_or_two(alloc, &[true, false], &scalar);
     drop(scalar);
     let chosen = chosen?;
@@ -226,7 +187,7 @@ fn chooses_list_or_lists(alloc: Global) -> Result<bool, Fail> {
 
 /// Whether the choice between `[1]`, null and the scalar `[9]` is `[9]`, null.
 fn chooses_lists_or_list(alloc: Global) -> Result<bool, Fail> {
-    let scalar = numbers(alloc, &[Some(9)])?;
+    let scalar = number_column(alloc, &[Some(9)])?;
     let chosen = two_or_list(alloc, &[false, true], &scalar);
     drop(scalar);
     let chosen = chosen?;
@@ -260,7 +221,7 @@ fn of_two_lists(
 
 /// The choice between a scalar and a list of nothing.
 fn list_or_none(alloc: Global, mask: &[bool], if_true: &ArrayRef) -> Result<ListArray<i64>, Fail> {
-    let if_false = numbers(alloc, &[])?;
+    let if_false = number_column(alloc, &[])?;
     let chosen = of_two_lists(alloc, mask, if_true, &if_false);
     drop(if_false);
     chosen
@@ -268,7 +229,7 @@ fn list_or_none(alloc: Global, mask: &[bool], if_true: &ArrayRef) -> Result<List
 
 /// Whether the choice between the scalars `[1]` and `[]` is `[]`, `[1]`.
 fn chooses_of_two_lists(alloc: Global) -> Result<bool, Fail> {
-    let scalar = numbers(alloc, &[Some(1)])?;
+    let scalar = number_column(alloc, &[Some(1)])?;
     let chosen = list_or_none(alloc, &[false, true], &scalar);
     drop(scalar);
     let chosen = chosen?;
@@ -351,7 +312,7 @@ fn seven_or_pairs(
     mask: &[bool],
     if_false: &FixedSizeListArray,
 ) -> Result<FixedSizeListArray, Fail> {
-    let scalar = numbers(alloc, &[Some(7), Some(8)])?;
+    let scalar = number_column(alloc, &[Some(7), Some(8)])?;
     let chosen = pair_or_pairs(alloc, mask, &scalar, if_false);
     drop(scalar);
     chosen
@@ -363,7 +324,7 @@ fn pairs_or_seven(
     mask: &[bool],
     if_true: &FixedSizeListArray,
 ) -> Result<FixedSizeListArray, Fail> {
-    let scalar = numbers(alloc, &[Some(7), Some(8)])?;
+    let scalar = number_column(alloc, &[Some(7), Some(8)])?;
     let chosen = pairs_or_pair(alloc, mask, if_true, &scalar);
     drop(scalar);
     chosen
@@ -427,7 +388,7 @@ fn pair_or_three(
     mask: &[bool],
     if_true: &ArrayRef,
 ) -> Result<FixedSizeListArray, Fail> {
-    let if_false = numbers(alloc, &[Some(3), None])?;
+    let if_false = number_column(alloc, &[Some(3), None])?;
     let chosen = of_two_pairs(alloc, mask, if_true, &if_false);
     drop(if_false);
     chosen
@@ -435,7 +396,7 @@ fn pair_or_three(
 
 /// Whether the choice between the scalars `[1, 2]` and `[3, null]` is `[1, 2]`, `[3, null]`, `[1, 2]`.
 fn chooses_of_two_pairs(alloc: Global) -> Result<bool, Fail> {
-    let scalar = numbers(alloc, &[Some(1), Some(2)])?;
+    let scalar = number_column(alloc, &[Some(1), Some(2)])?;
     let chosen = pair_or_three(alloc, &[true, false, true], &scalar);
     drop(scalar);
     let chosen = chosen?;

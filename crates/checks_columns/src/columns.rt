@@ -1,11 +1,10 @@
 //! Each public call once, against rows worked by hand.
 
-ghost use Rattle.std.specs.Prelude.{◌≡◌, ◌≤◌, length, IfOk};
 ghost use Rattle.sel_arrow.specs.Masked.{Covers};
 ghost use Rattle.sel_arrow.specs.Rows.{IsWellFormed};
 
 use crate::fixtures::{
-    buffer, has_bytes, has_bytes_at, has_text, has_truths, numbers, one_buffer, truths,
+    buffer, has_bytes, has_bytes_at, has_text, has_truths, numbers, one_buffer, truths, validity,
 };
 use sel_arrow::array::Array;
 use sel_arrow::array_ref::ArrayRef;
@@ -43,12 +42,6 @@ const SHORT: View = View {
     buffer_idx: 4294967295,
     offset: 7,
 };
-
-fn validity(alloc: Global, bits: &[bool]) -> PolarsResult<Option<Bitmap>>
-    ensures { IfOk result (λ validity. Covers validity (length bits.now)) }
-{
-    Ok(Some(Bitmap::from_bools(alloc, bits)?))
-}
 
 fn no_buffers(alloc: Global) -> PolarsResult<Buffer<Buffer<u8>>> {
     Buffer::from_vec(Vec::new(alloc))

@@ -1,22 +1,45 @@
-//! What several files share: columns made of rows, and columns compared with rows.
+//! What several files and crates share: columns made of rows, and columns compared with rows.
+
+ghost use Rattle.std.specs.Prelude.{length, IfOk};
+ghost use Rattle.sel_arrow.specs.Masked.{Covers};
 
 use sel_arrow::array::Array;
 use sel_arrow::array_ref::ArrayRef;
 use sel_arrow::binary::BinaryArray;
 use sel_arrow::binview::BinaryViewArray;
 use sel_arrow::boolean::BooleanArray;
+use sel_arrow::column::Column;
+use sel_arrow::null::NullArray;
 use sel_arrow::primitive::{ArrowPrimitive, PrimitiveArray};
 use sel_arrow::utf8view::Utf8ViewArray;
 use sel_bits::bitmap::Bitmap;
 use sel_bits::buffer::Buffer;
 use sel_bits::faults::PolarsResult;
 use sel_bits::native::{NativeType, Offset};
+use sel_bits::offsets::OffsetsBuffer;
 use std::alloc::Global;
 use std::test::Fail;
 
 /// The values as a buffer.
 pub fn buffer<T: Copy>(alloc: Global, values: &[T]) -> PolarsResult<Buffer<T>> {
     Buffer::from_vec(Vec::from_slice(alloc, values)?)
+}
+
+/// Offsets that rise.
+pub fn offsets(alloc: Global, offsets: &[i64]) -> Result<OffsetsBuffer<i64>, Fail> {
+    Ok(OffsetsBuffer::try_from(Vec::from_slice(alloc, offsets)?)?)
+}
+
+/// These bits as a validity.
+pub fn validity(alloc: Global, bits: &[bool]) -> PolarsResult<Option<Bitmap>>
+    ensures { IfOk result (λ validity. Covers validity (length bits.now)) }
+{
+    Ok(Some(Bitmap::from_bools(alloc, bits)?))
+}
+
+/// A column of so many nulls.
+pub fn nulls(rows: usize) -> Result<ArrayRef, Fail> {
+    Ok(NullArray::try_new(rows)?.into_ref())
 }
 
 /// A column of these numbers under this validity.
@@ -67,6 +90,16 @@ pub fn column<T: NativeType>(
 ) -> Result<PrimitiveArray<T>, Fail> {
     let validity = validity_of(alloc, rows)?;
     Ok(PrimitiveArray::try_new(values_of(alloc, rows, hidden)?, Some(validity))?)
+}
+
+/// Numbers as a column of any type; none is null over 7.
+pub fn number_column(alloc: Global, rows: &[Option<i64>]) -> Result<ArrayRef, Fail> {
+    Ok(column(alloc, rows, 7)?.into_ref())
+}
+
+/// A column of bytes between these offsets, without a validity.
+pub fn pieces(alloc: Global, ends: &[i64], bytes: &[u8]) -> Result<BinaryArray<i64>, Fail> {
+    Ok(BinaryArray::try_new(offsets(alloc, ends)?, buffer(alloc, bytes)?, None)?)
 }
 
 /// A column of truth values with a validity.
@@ -132,6 +165,49 @@ pub fn is_numbers<T: ArrowPrimitive + PartialEq>(
 ) -> Result<bool, Fail> {
     let column = column.into_primitive::<T>().ok().ok_or("another type")?;
     Ok(has_numbers(&column, rows))
+}
+
+/// Whether the row is not null.
+pub fn is_valid(validity: &Option<Bitmap>, at: usize) -> bool {
+    match validity {
+        None => true,
+        Some(bits) => at < bits.len() && bits.get_bit(at),
+    }
+}
+
+/// The number at a place of a column of them, where there is one.
+pub fn number_at(column: &Column, at: usize) -> Option<Option<i64>> {
+    let Column::Int64(array) = column else {
+        return None;
+    };
+    if at >= array.len() {
+        return None;
+    }
+    Some(array.get(at))
+}
+
+/// The truth value at a place of a column of them, where there is one.
+pub fn truth_at(column: &Column, at: usize) -> Option<Option<bool>> {
+    let Column::Boolean(array) = column else {
+        return None;
+    };
+    if at >= array.len() {
+        return None;
+    }
+    Some(array.get(at))
+}
+
+/// Whether the entries between the places are these numbers.
+pub fn are_numbers(column: &Column, start: usize, end: usize, rows: &[Option<i64>]) -> bool {
+    if start > end || end - start != rows.len() {
+        return false;
+    }
+    for (i, row) in rows.iter().enumerate() {
+        if number_at(column, start + i) != Some(*row) {
+            return false;
+        }
+    }
+    true
 }
 
 pub fn has_bytes<O: Offset>(column: &BinaryArray<O>, rows: &[Option<&[u8]>]) -> bool {

@@ -1,7 +1,7 @@
 //! Tuples.
 
 use crate::shared::flattened;
-use checks_columns::fixtures::{numbers, truths};
+use checks_columns::fixtures::{is_valid, numbers, truths};
 use sel_arrow::array::Array;
 use sel_arrow::array_ref::ArrayRef;
 use sel_arrow::column::Column;
@@ -76,14 +76,6 @@ fn pair_at(column: &Column, at: usize) -> Option<Option<(i64, bool)>> {
             Some(Some((firsts.get(at)?, seconds.get(at)?)))
         }
         _ => None,
-    }
-}
-
-/// Whether a row is not null.
-fn is_valid(validity: &Option<Bitmap>, at: usize) -> bool {
-    match validity {
-        None => true,
-        Some(bits) => at < bits.len() && bits.get_bit(at),
     }
 }
 

@@ -1,7 +1,7 @@
 //! Lists of one length.
 
-use crate::shared::{are_numbers, has_too_many_rows, is_valid, nulls, nulls_in, taken, validity};
-use checks_columns::fixtures::numbers;
+use crate::shared::{has_too_many_rows, nulls_in, taken};
+use checks_columns::fixtures::{are_numbers, is_valid, nulls, numbers, validity};
 use polars_compute::filter::filter_with_bitmap;
 use sel_arrow::array::Array;
 use sel_arrow::array_ref::ArrayRef;

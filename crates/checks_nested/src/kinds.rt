@@ -2,9 +2,8 @@
 
 use crate::blocks::{are_blocks, is_pair_at, pair_and_null};
 use crate::lists::{are_lists, bounds_at, is_list_at, three_lists};
-use crate::shared::{is_valid, number_at};
 use crate::tuples::two_pairs;
-use checks_columns::fixtures::{numbers, truths};
+use checks_columns::fixtures::{is_valid, number_at, numbers, truths};
 use sel_arrow::array::Array;
 use sel_arrow::array_ref::ArrayRef;
 use sel_arrow::column::Column;

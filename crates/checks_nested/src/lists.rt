@@ -1,7 +1,7 @@
 //! Lists between offsets.
 
-use crate::shared::{are_numbers, has_too_many_rows, is_valid, nulls, taken, validity};
-use checks_columns::fixtures::numbers;
+use crate::shared::{has_too_many_rows, taken};
+use checks_columns::fixtures::{are_numbers, is_valid, nulls, numbers, offsets, validity};
 use polars_compute::filter::filter;
 use sel_arrow::array::Array;
 use sel_arrow::array_ref::ArrayRef;
@@ -22,10 +22,6 @@ fn lists(
     validity: Option<Bitmap>,
 ) -> Result<ArrayRef, Fail> {
     Ok(ListArray::try_new(alloc, offsets, child, validity)?.into_ref())
-}
-
-fn offsets(alloc: Global, offsets: &[i64]) -> Result<OffsetsBuffer<i64>, Fail> {
-    Ok(OffsetsBuffer::try_from(Vec::from_slice(alloc, offsets)?)?)
 }
 
 /// Where the list lies in the child, if it is one and not null.

@@ -1,4 +1,4 @@
-//! What several files share: takes, and entries compared with rows.
+//! What several files share: takes, and how many nulls a column is.
 //!
 //! Columns of every kind are dropped by a call: a drop at the end of a body is proved kind by kind.
 
@@ -7,10 +7,8 @@ use polars_compute::gather::{indices_in_bounds, take_unchecked};
 use sel_arrow::array::Array;
 use sel_arrow::array_ref::ArrayRef;
 use sel_arrow::column::Column;
-use sel_arrow::null::NullArray;
 use sel_arrow::primitive::IdxArr;
-use sel_bits::bitmap::Bitmap;
-use sel_bits::faults::{Limit, PolarsError, PolarsResult};
+use sel_bits::faults::{Limit, PolarsError};
 use std::alloc::Global;
 use std::test::Fail;
 
@@ -59,63 +57,10 @@ pub fn has_too_many_rows(
     Ok(refusal? == Some(PolarsError::SizeLimit(Limit::Rows)))
 }
 
-/// A column of so many nulls.
-pub fn nulls(rows: usize) -> Result<ArrayRef, Fail> {
-    Ok(NullArray::try_new(rows)?.into_ref())
-}
-
-/// These bits as a validity.
-pub fn validity(alloc: Global, bits: &[bool]) -> PolarsResult<Option<Bitmap>> {
-    Ok(Some(Bitmap::from_bools(alloc, bits)?))
-}
-
-/// Whether the row is not null.
-pub fn is_valid(validity: &Option<Bitmap>, at: usize) -> bool {
-    match validity {
-        None => true,
-        Some(bits) => at < bits.len() && bits.get_bit(at),
-    }
-}
-
-/// The number at a place of a column of them, where there is one.
-pub fn number_at(column: &Column, at: usize) -> Option<Option<i64>> {
-    let Column::Int64(array) = column else {
-        return None;
-    };
-    if at >= array.len() {
-        return None;
-    }
-    Some(array.get(at))
-}
-
-/// The truth value at a place of a column of them, where there is one.
-pub fn truth_at(column: &Column, at: usize) -> Option<Option<bool>> {
-    let Column::Boolean(array) = column else {
-        return None;
-    };
-    if at >= array.len() {
-        return None;
-    }
-    Some(array.get(at))
-}
-
 /// How many rows a column of nulls has.
 pub fn nulls_in(column: &Column) -> Option<usize> {
     let Column::Null(array) = column else {
         return None;
     };
     Some(array.len())
-}
-
-/// Whether the entries between the places are these numbers.
-pub fn are_numbers(column: &Column, start: usize, end: usize, rows: &[Option<i64>]) -> bool {
-    if start > end || end - start != rows.len() {
-        return false;
-    }
-    for (i, row) in rows.iter().enumerate() {
-        if number_at(column, start + i) != Some(*row) {
-            return false;
-        }
-    }
-    true
 }

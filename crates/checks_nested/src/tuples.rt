@@ -1,7 +1,7 @@
 //! Tuples.
 
-use crate::shared::{is_valid, number_at, taken, truth_at};
-use checks_columns::fixtures::{numbers, truths};
+use crate::shared::taken;
+use checks_columns::fixtures::{is_valid, number_at, numbers, truth_at, truths};
 use sel_arrow::array::Array;
 use sel_arrow::array_ref::ArrayRef;
 use sel_arrow::column::Column;

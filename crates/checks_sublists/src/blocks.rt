@@ -1,7 +1,7 @@
 //! Entries of lists of one length.
 
-use crate::made::{no_wide_blocks, number_column, numbers, validity};
-use checks_columns::fixtures::is_numbers;
+use crate::made::no_wide_blocks;
+use checks_columns::fixtures::{column, is_numbers, number_column, validity};
 use sel_arrow::array::Array;
 use sel_arrow::array_ref::ArrayRef;
 use sel_arrow::fixed_size_list::FixedSizeListArray;
@@ -81,7 +81,7 @@ fn entries_at(
     indices: &[Option<i64>],
     null_on_oob: bool,
 ) -> Result<ArrayRef, Fail> {
-    let indices = numbers(alloc, indices)?;
+    let indices = column(alloc, indices, 7)?;
     if indices.len() != lists.len() {
         return Err(Fail::from("not an index for each list"));
     }
@@ -95,7 +95,7 @@ fn refusal_at(
     indices: &[Option<i64>],
     null_on_oob: bool,
 ) -> Result<Option<PolarsError>, Fail> {
-    let indices = numbers(alloc, indices)?;
+    let indices = column(alloc, indices, 7)?;
     if indices.len() != lists.len() {
         return Err(Fail::from("not an index for each list"));
     }

@@ -1,7 +1,9 @@
 //! Elements of lists between offsets.
+//!
+//! Columns of every kind are dropped by a call: a drop at the end of a body is proved kind by kind.
 
-use crate::made::{no_wide_blocks, nulls, number_column, offsets, validity};
-use checks_columns::fixtures::{has_numbers, is_numbers};
+use crate::made::no_wide_blocks;
+use checks_columns::fixtures::{has_numbers, is_numbers, nulls, number_column, offsets, validity};
 use sel_arrow::array::Array;
 use sel_arrow::list::ListArray;
 use sel_bits::faults::{Limit, PolarsError};

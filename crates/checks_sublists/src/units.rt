@@ -1,6 +1,6 @@
 //! Lists of one row each.
 
-use crate::made::{number_at, number_column};
+use checks_columns::fixtures::{number_at, number_column};
 use sel_arrow::array::Array;
 use sel_arrow::array_ref::ArrayRef;
 use sel_arrow::list::ListArray;

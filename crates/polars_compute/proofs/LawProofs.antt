@@ -1,9 +1,8 @@
 -- What filters, takes and choices have to do with one another.
 use Rattle.std.proofs.Common.{◌≡◌, ℕ, zero, suc, true, false, List, [], ◌∷◌, map, get_or, Option, Some, None, refl, ap, ◌∙◌, arith}
-use Rattle.std.specs.Prelude.{if◌then◌else◌}
 use Rattle.polars_compute.specs.Select.{kept}
 use Rattle.polars_compute.specs.Pick.{found, pick, place_pick}
-use Rattle.polars_compute.specs.Laws.{FilterIsTake, TakesCompose, KeepsThen, KeepsOtherwise, RepeatsThen, RepeatsOtherwise, RepeatsBoth}
+use Rattle.polars_compute.specs.Laws.{FilterIsTake, TakesCompose, KeepsThen, KeepsOtherwise}
 use Rattle.polars_compute.proofs.Places.{selected}
 
 -- ---- filters and takes
@@ -47,19 +46,3 @@ keeps_otherwise A (m ∷ ms) [] fs h k = absurd (omega arith)
 keeps_otherwise A (m ∷ ms) (t ∷ ts) [] h k = refl
 keeps_otherwise A (true ∷ ms) (t ∷ ts) (f ∷ fs) h k = keeps_otherwise A ms ts fs (omega arith) (omega arith)
 keeps_otherwise A (false ∷ ms) (t ∷ ts) (f ∷ fs) h k = ap (λ l. f ∷ l) (keeps_otherwise A ms ts fs (omega arith) (omega arith))
-
--- ---- choices with a single value
-
-pub repeats_then : (A : Type 0) → RepeatsThen A
-repeats_then A [] x fs = refl
-repeats_then A (m ∷ ms) x [] = refl
-repeats_then A (m ∷ ms) x (f ∷ fs) = ap (λ l. (if m then x else f) ∷ l) (repeats_then A ms x fs)
-
-pub repeats_otherwise : (A : Type 0) → RepeatsOtherwise A
-repeats_otherwise A [] ts x = refl
-repeats_otherwise A (m ∷ ms) [] x = refl
-repeats_otherwise A (m ∷ ms) (t ∷ ts) x = ap (λ l. (if m then t else x) ∷ l) (repeats_otherwise A ms ts x)
-
-pub repeats_both : (A : Type 0) → RepeatsBoth A
-repeats_both A [] x y = refl
-repeats_both A (m ∷ ms) x y = ap (λ l. (if m then x else y) ∷ l) (repeats_both A ms x y)

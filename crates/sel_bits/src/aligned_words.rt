@@ -44,8 +44,8 @@ impl<'a> AlignedWords<'a> {
     pub fn len(&self) -> usize
         ensures { result ≡ length self.now.source.bits }
     {
-        let bitmap = self.bitmap;
-        bitmap.len()
+        let source = self.bitmap;
+        source.len()
     }
 
     /// How many words were given out: at most two more than the bitmap has whole words.

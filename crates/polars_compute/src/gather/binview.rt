@@ -23,7 +23,6 @@ const NO_BYTES: View = View {
 };
 
 /// The views at the indices, over the same data buffers.
-
 pub(crate) fn take_views(
     alloc: Global,
     values: &BinaryViewArray,
@@ -45,7 +44,6 @@ pub(crate) fn take_views(
 }
 
 /// The texts at the indices, by their views.
-
 pub(crate) fn take_texts(
     alloc: Global,
     values: &Utf8ViewArray,

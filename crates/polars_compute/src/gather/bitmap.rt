@@ -13,7 +13,6 @@ use sel_bits::packer::BitPacker;
 use std::alloc::Global;
 
 /// Bit k is the bit at index k. Refuses only for want of memory.
-
 pub fn take_bitmap_unchecked(
     alloc: Global,
     values: &Bitmap,
@@ -32,7 +31,6 @@ pub fn take_bitmap_unchecked(
 
 /// Bit k is the bit at index k; a null index gives the bit at 0, or false where there are no bits.
 /// A number beneath a null index is never looked at. Refuses only for want of memory.
-
 pub fn take_bitmap_nulls_unchecked(
     alloc: Global,
     values: &Bitmap,

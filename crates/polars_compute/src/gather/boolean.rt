@@ -13,7 +13,6 @@ use std::alloc::Global;
 
 /// Row k is null where index k is null, else the row at index k. A number beneath a null index is never looked at.
 /// Refuses only for want of memory.
-
 pub fn take_unchecked(
     alloc: Global,
     values: &BooleanArray,

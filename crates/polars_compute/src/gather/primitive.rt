@@ -15,7 +15,6 @@ use std::alloc::Global;
 
 /// Row k is null where index k is null, else the row at index k. A number beneath a null index is never looked at.
 /// Refuses only for want of memory.
-
 pub fn take_primitive_unchecked<T: NativeType>(
     alloc: Global,
     arr: &PrimitiveArray<T>,

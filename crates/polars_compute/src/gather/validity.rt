@@ -15,7 +15,6 @@ use sel_bits::packer::BitPacker;
 use std::alloc::Global;
 
 /// Of each index whether it is not null and its row is valid. Refuses only for want of memory.
-
 pub(crate) fn take_validity(
     alloc: Global,
     validity: &Option<Bitmap>,

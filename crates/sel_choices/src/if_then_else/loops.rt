@@ -138,9 +138,9 @@ pub(crate) fn choose_blocks<C: BlockChoice>(
     }
 }
 
-/// The choice between two lists, by the words of a reader that gives at most two more than the rows have whole ones. Refuses only for
-/// want of memory.
-pub(crate) fn choose_words<T: Copy>(
+/// The choice between two lists of any length, by the words of a reader that is unread and as long as they are; after it the reader has
+/// given out at most two words more than the rows make whole ones. Refuses only for want of memory, and then has read in part.
+pub fn if_then_else_words<T: Copy>(
     alloc: Global,
     mask: &mut AlignedWords<'_>,
     if_true: &[T],

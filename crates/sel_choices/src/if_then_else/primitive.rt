@@ -3,7 +3,9 @@
 ghost use Rattle.std.specs.Prelude.{length};
 
 use crate::if_then_else::IfThenElseKernel;
-use crate::if_then_else::loops::{choose_one_false, choose_one_true, choose_two, choose_words};
+use crate::if_then_else::loops::{
+    choose_one_false, choose_one_true, choose_two, if_then_else_words,
+};
 use crate::if_then_else::validity::if_then_else_validity;
 use sel_arrow::array::Array;
 use sel_arrow::datatype::ArrowDataType;
@@ -38,7 +40,7 @@ impl<T: ArrowPrimitive> IfThenElseKernel for PrimitiveArray<T> {
     ) -> PolarsResult<Self> {
         let mut words = AlignedWords::new(mask);
         let (trues, falses) = (if_true.values.as_slice(), if_false.values.as_slice());
-        let values = choose_words(alloc, &mut words, trues, falses)?;
+        let values = if_then_else_words(alloc, &mut words, trues, falses)?;
         let validity = if_then_else_validity(
             alloc,
             mask,

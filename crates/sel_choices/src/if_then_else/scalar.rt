@@ -1,13 +1,10 @@
 //! The choice of up to 64 values by the bits of one word, and of any number of them by the words of a reader.
 
-ghost use Rattle.std.specs.Prelude.{◌≡◌, ◌≤◌, ◌<◌, ◌+◌, ◌/◌, length, IfOk, IfErr, OnOk, if◌then◌else◌};
+ghost use Rattle.std.specs.Prelude.{◌≡◌, ◌≤◌, ◌<◌, length, if◌then◌else◌};
 ghost use Rattle.sel_bits.specs.Words.{bits, is_set};
 ghost use Rattle.sel_choices.specs.Choose.{choose, choose_of_two, choose_or_one};
 
-use crate::if_then_else::loops::choose_words;
-use sel_bits::aligned_words::AlignedWords;
-use sel_bits::faults::{PolarsError, PolarsResult};
-use std::alloc::Global;
+pub use crate::if_then_else::loops::if_then_else_words;
 
 /// Writes place `i` of `out`, for each of its at most 64 places: the value of `if_true` there where bit `i` of the mask is set, else
 /// that of `if_false`.
@@ -87,24 +84,6 @@ pub fn if_then_else_broadcast_both_scalar_64<T: Copy>(
     ensures { out.new ≡ choose_of_two (bits 64 mask) if_true if_false }
 {
     if_then_else_broadcast_both_scalar_rest(mask, if_true, if_false, out)
-}
-
-/// The choice between two lists of any length, by the words of a reader that is unread and as long as they are; after it the reader has
-/// given out at most two words more than the rows make whole ones. Refuses only for want of memory, and then has read in part.
-pub fn if_then_else_words<T: Copy>(
-    alloc: Global,
-    mask: &mut AlignedWords<'_>,
-    if_true: &[T],
-    if_false: &[T],
-) -> PolarsResult<Vec<T>>
-    requires unread { mask.old.words_read ≡ 0 }
-    requires true_side { length if_true.now ≡ length mask.old.source.bits }
-    requires false_side { length if_false.now ≡ length mask.old.source.bits }
-    ensures items { IfOk result (λ out. out.items ≡ choose mask.old.source.bits if_true.now if_false.now) }
-    ensures words { OnOk result (mask.new.words_read ≤ length mask.old.source.bits / 64 + 2) }
-    ensures refusal { IfErr result (λ fault. fault ≡ PolarsError.OutOfMemory) }
-{
-    choose_words(alloc, mask, if_true, if_false)
 }
 
 /// The one value where bit `i` of the mask is set, else the other.

@@ -7,14 +7,14 @@ use Rattle.sel_choices.proofs.Chosen.{length-choose}
 use Rattle.sel_choices.proofs.Validities.{choice_covers, rows_choose, side_covers, side_long}
 use Rattle.sel_choices.proofs.if_then_else.primitive.PrimitiveArrayIfThenElseKernel.if_then_else.Goals as goal
 
-pub choose_words-requires-clause-true_side : goal.choose_words-requires-clause-true_side
-choose_words-requires-clause-true_side g c =
+pub if_then_else_words-requires-clause-true_side : goal.if_then_else_words-requires-clause-true_side
+if_then_else_words-requires-clause-true_side g c =
     let a = c.args.if_true.now in
     let long : length a.values ≡ length c.args.mask.now.bits = side_long (λ x. Number (g.T.NativeType.number x)) c.args.mask.now.bits a.values a.validity c.requires.true_side in
     ap length c.as_slice-trues.ensures ∙ long ∙ sym (ap (λ (r : WordReading). length r.source.bits) c.new-words.ensures)
 
-pub choose_words-requires-clause-false_side : goal.choose_words-requires-clause-false_side
-choose_words-requires-clause-false_side g c =
+pub if_then_else_words-requires-clause-false_side : goal.if_then_else_words-requires-clause-false_side
+if_then_else_words-requires-clause-false_side g c =
     let b = c.args.if_false.now in
     let long : length b.values ≡ length c.args.mask.now.bits = side_long (λ x. Number (g.T.NativeType.number x)) c.args.mask.now.bits b.values b.validity c.requires.false_side in
     ap length c.as_slice-falses.ensures ∙ long ∙ sym (ap (λ (r : WordReading). length r.source.bits) c.new-words.ensures)
