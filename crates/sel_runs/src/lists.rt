@@ -185,6 +185,7 @@ pub fn ends_of(
     requires lists { All (λ c. is_listing (type_of c.now) ≡ true) sources.now }
     requires formed { All (λ c. IsWellFormed c.now) sources.now }
     requires fits { All (PickFits (map (λ c. rows c.now) sources.now)) (expand runs.now) }
+    requires len { length (expand runs.now) ≡ len }
     requires few { len ≤ 4294967295 }
     requires room { length (joined_items 0 (pick Null (map (λ c. rows c.now) sources.now) (expand runs.now))) ≤ 4294967295 }
     ensures ends { IfOk result (λ ends. ends.items ≡ map pos (0 ∷ item_ends 0 (pick Null (map (λ c. rows c.now) sources.now) (expand runs.now)))) }
