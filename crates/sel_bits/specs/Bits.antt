@@ -43,6 +43,10 @@ leading_zeros [] = 0
 leading_zeros (true ∷ bits) = 0
 leading_zeros (false ∷ bits) = leading_zeros bits + 1
 
+-- how many true entries stand before the first false one (own)
+abbrev pub leading_ones : List Bool → ℕ
+leading_ones bits = leading_zeros (map not bits)
+
 -- how many false entries stand behind the last true one (own)
 abbrev pub trailing_zeros : List Bool → ℕ
 trailing_zeros bits = leading_zeros (reverse bits)

@@ -2,11 +2,12 @@
 #![tactic(auto, using(crate::proofs::BitLists::length_bits_from))]
 
 ghost use Rattle.std.specs.Prelude.{◌≡◌, ℕ, ◌+◌, ◌-◌, ◌*◌, ◌/◌, ◌%◌, ◌^◌, ◌<◌, ◌≤◌, [], ◌∷◌, ◌++◌, Bool, false, length, take, drop, slice_index_or, replicate, IfOk, IfErr, IsTrue, ◌↔◌, vec_len, if◌then◌else◌};
-ghost use Rattle.sel_bits.specs.Bits.{bits_from, count_true, count_false, leading_zeros, trailing_zeros};
+ghost use Rattle.sel_bits.specs.Bits.{bits_from, count_true, count_false, leading_ones, leading_zeros, trailing_zeros};
 ghost use Rattle.sel_bits.specs.Words.{word_of};
 
 use crate::faults::{PolarsError, PolarsResult};
 use crate::number::load_padded_le_u64;
+use crate::operations::{Not, word_by};
 use crate::packer::{BitPacker, MOST_BITS};
 use std::alloc::Global;
 use std::marker::Model;
@@ -177,8 +178,17 @@ impl Bitmap {
         ensures rest { self.new ≡ record { bits = drop result self.old.bits; offset = self.old.offset + result } }
     {
         let count = self.leading_zeros();
-        self.offset += count;
-        self.len -= count;
+        self.drop_front(count);
+        count
+    }
+
+    /// Removes the true bits before the first false one, and answers how many there were.
+    pub fn take_leading_ones(&mut self) -> usize
+        ensures count { result ≡ leading_ones self.old.bits }
+        ensures rest { self.new ≡ record { bits = drop result self.old.bits; offset = self.old.offset + result } }
+    {
+        let count = self.leading_ones();
+        self.drop_front(count);
         count
     }
 
@@ -192,6 +202,15 @@ impl Bitmap {
         count
     }
 
+    /// Removes the first `count` bits.
+    fn drop_front(&mut self, count: usize)
+        requires { count ≤ length self.old.bits }
+        ensures { self.new ≡ record { bits = drop count self.old.bits; offset = self.old.offset + count } }
+    {
+        self.offset += count;
+        self.len -= count;
+    }
+
     /// How many false bits stand before the first true one.
     fn leading_zeros(&self) -> usize
         ensures count { result ≡ leading_zeros self.now.bits }
@@ -201,6 +220,23 @@ impl Bitmap {
         while at < self.len() {
             let len = (self.len() - at).min(MOST_BITS);
             let word = self.word_at(at, len);
+            if word != 0 {
+                return at + word.trailing_zeros() as usize;
+            }
+            at += len;
+        }
+        at
+    }
+
+    /// How many true bits stand before the first false one.
+    fn leading_ones(&self) -> usize
+        ensures count { result ≡ leading_ones self.now.bits }
+        ensures within { result ≤ length self.now.bits }
+    {
+        let mut at = 0;
+        while at < self.len() {
+            let len = (self.len() - at).min(MOST_BITS);
+            let word = word_by::<Not>(self, self, self, at, len);
             if word != 0 {
                 return at + word.trailing_zeros() as usize;
             }

@@ -171,7 +171,7 @@ fn combine<R: BitRule>(alloc: Global, x: &Bitmap, y: &Bitmap, z: &Bitmap) -> Pol
 }
 
 /// The word of what the rule makes of the `len` bits from bit `at` on.
-fn word_by<R: BitRule>(x: &Bitmap, y: &Bitmap, z: &Bitmap, at: usize, len: usize) -> u64
+pub(crate) fn word_by<R: BitRule>(x: &Bitmap, y: &Bitmap, z: &Bitmap, at: usize, len: usize) -> u64
     requires second { length x.now.bits ≡ length y.now.bits }
     requires third { length x.now.bits ≡ length z.now.bits }
     requires within { at + len ≤ length x.now.bits }
