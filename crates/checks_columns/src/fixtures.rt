@@ -97,11 +97,6 @@ pub fn number_column(alloc: Global, rows: &[Option<i64>]) -> Result<ArrayRef, Fa
     Ok(column(alloc, rows, 7)?.into_ref())
 }
 
-/// A column of bytes between these offsets, without a validity.
-pub fn pieces(alloc: Global, ends: &[i64], bytes: &[u8]) -> Result<BinaryArray<i64>, Fail> {
-    Ok(BinaryArray::try_new(offsets(alloc, ends)?, buffer(alloc, bytes)?, None)?)
-}
-
 /// A column of truth values with a validity.
 pub fn truths(alloc: Global, values: &[bool], validity: &[bool]) -> Result<BooleanArray, Fail> {
     let values = Bitmap::from_bools(alloc, values)?;

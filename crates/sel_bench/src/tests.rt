@@ -123,21 +123,52 @@ fn run_into(
     (result, failures, writer.into_inner())
 }
 
+// Whether the runs over these inputs end well, having written what stands beside each.
+fn all_run(alloc: Global, rows: &[(&[u8], &[u8])]) -> bool {
+    for (input, output) in rows {
+        if !runs(alloc, input, Done::End, output) {
+            return false;
+        }
+    }
+    true
+}
+
 #[test]
-fn good_lines(rt: HostRuntime) -> Result<(), Fail> {
-    let rows: [(&[u8], &[u8]); 35] = [
-        (TWO_LINES, TWO_ANSWERS),
-        (b"", b""),
+fn no_line_and_two(rt: HostRuntime) -> Result<(), Fail> {
+    let rows: [(&[u8], &[u8]); 2] = [(TWO_LINES, TWO_ANSWERS), (b"", b"")];
+    assert!(rt; all_run(rt.alloc(), &rows));
+    Ok(())
+}
+
+#[test]
+fn filter_lines(rt: HostRuntime) -> Result<(), Fail> {
+    let rows: [(&[u8], &[u8]); 3] = [
         (b"filter - -", b"-\n"),
         (b"filter 1,2 n,f\n", b"-\n"),
-        (b"take - n,n\n", b"n,n\n"),
-        (b"take 5 0", b"5\n"),
-        (b"take 5,6 -\n", b"-\n"),
         (
             b"filter -9223372036854775808,9223372036854775807,-1,0 t,t,t,t\n",
             b"-9223372036854775808,9223372036854775807,-1,0\n",
         ),
+    ];
+    assert!(rt; all_run(rt.alloc(), &rows));
+    Ok(())
+}
+
+#[test]
+fn take_lines(rt: HostRuntime) -> Result<(), Fail> {
+    let rows: [(&[u8], &[u8]); 4] = [
+        (b"take - n,n\n", b"n,n\n"),
+        (b"take 5 0", b"5\n"),
+        (b"take 5,6 -\n", b"-\n"),
         (b"take 1,n,3 n,2,1,0,0\n", b"n,3,n,1,1\n"),
+    ];
+    assert!(rt; all_run(rt.alloc(), &rows));
+    Ok(())
+}
+
+#[test]
+fn get_lines(rt: HostRuntime) -> Result<(), Fail> {
+    let rows: [(&[u8], &[u8]); 7] = [
         (b"get 1,2,3|4,5|6 -1\n", b"3,5,6\n"),
         (b"get _|-|1,n 0\n", b"n,n,1\n"),
         (b"get _|-|1,n 1\n", b"n,n,n\n"),
@@ -145,6 +176,14 @@ fn good_lines(rt: HostRuntime) -> Result<(), Fail> {
         (b"get 1 -9223372036854775808\n", b"n\n"),
         (b"get n 0\n", b"n\n"),
         (b"get -|_ 0\n", b"n,n\n"),
+    ];
+    assert!(rt; all_run(rt.alloc(), &rows));
+    Ok(())
+}
+
+#[test]
+fn pext_lines(rt: HostRuntime) -> Result<(), Fail> {
+    let rows: [(&[u8], &[u8]); 7] = [
         (b"pext b4 cc\n", b"9\n"),
         (b"pext 0 0\n", b"0\n"),
         (b"pext 00b4 cc\n", b"9\n"),
@@ -155,8 +194,24 @@ fn good_lines(rt: HostRuntime) -> Result<(), Fail> {
             b"pext ffffffffffffffff ffffffffffffffff\n",
             b"ffffffffffffffff\n",
         ),
+    ];
+    assert!(rt; all_run(rt.alloc(), &rows));
+    Ok(())
+}
+
+#[test]
+fn choose_lines(rt: HostRuntime) -> Result<(), Fail> {
+    let rows: [(&[u8], &[u8]); 2] = [
         (b"choose t,f,t 1,n,3 7,8,n\n", b"1,8,3\n"),
         (b"choose - - -\n", b"-\n"),
+    ];
+    assert!(rt; all_run(rt.alloc(), &rows));
+    Ok(())
+}
+
+#[test]
+fn flatten_lines(rt: HostRuntime) -> Result<(), Fail> {
+    let rows: [(&[u8], &[u8]); 5] = [
         (b"flatten 2 2:1,2,3,4 1:9\n", b"1,2,9,3,4,9\n"),
         (b"flatten 3 1:1,n,-3\n", b"1,n,-3\n"),
         (b"flatten 0 3:- 2:7,8\n", b"-\n"),
@@ -165,6 +220,14 @@ fn good_lines(rt: HostRuntime) -> Result<(), Fail> {
             b"flatten 18446744073709551615 2:1,2\n",
             b"size limit rows\n",
         ),
+    ];
+    assert!(rt; all_run(rt.alloc(), &rows));
+    Ok(())
+}
+
+#[test]
+fn dict_lines(rt: HostRuntime) -> Result<(), Fail> {
+    let rows: [(&[u8], &[u8]); 5] = [
         (b"dict 0,1,2,n =a,n,=c\n", b"0,n,1,n =a,=c\n"),
         (b"dict n -\n", b"n -\n"),
         (b"dict - n\n", b"- -\n"),
@@ -174,17 +237,45 @@ fn good_lines(rt: HostRuntime) -> Result<(), Fail> {
             b"2,1,0 =twelve.bytes,=thirteen=byte,=\xC3\xA9\n",
         ),
     ];
-    for (input, output) in &rows {
-        assert!(rt; runs(rt.alloc(), input, Done::End, output));
+    assert!(rt; all_run(rt.alloc(), &rows));
+    Ok(())
+}
+
+// Whether a run ends at each of these lines before a good one.
+fn are_bad(alloc: Global, lines: &[&[u8]]) -> Result<bool, AllocError> {
+    for line in lines {
+        if !is_bad(alloc, line)? {
+            return Ok(false);
+        }
     }
+    Ok(true)
+}
+
+#[test]
+fn words_that_are_no_command(rt: HostRuntime) -> Result<(), Fail> {
+    let lines: [&[u8]; 4] = [b"", b" ", b"Filter 1 t", b"Pext b4 cc"];
+    assert!(rt; are_bad(rt.alloc(), &lines)?);
     Ok(())
 }
 
 #[test]
-fn bad_lines(rt: HostRuntime) -> Result<(), Fail> {
-    let lines: [&[u8]; 59] = [
-        b"",
-        b" ",
+fn bad_filter_lines(rt: HostRuntime) -> Result<(), Fail> {
+    let lines: [&[u8]; 7] = [
+        b"filter 1,2 t",
+        b"filter 1 T",
+        b"filter 007 t",
+        b"filter +7 t",
+        b"filter -0 t",
+        b"filter 9223372036854775808 t",
+        b"filter -9223372036854775809 t",
+    ];
+    assert!(rt; are_bad(rt.alloc(), &lines)?);
+    Ok(())
+}
+
+#[test]
+fn bad_take_lines(rt: HostRuntime) -> Result<(), Fail> {
+    let lines: [&[u8]; 12] = [
         b"take",
         b"take 5",
         b"take 5  0",
@@ -197,15 +288,21 @@ fn bad_lines(rt: HostRuntime) -> Result<(), Fail> {
         b"take - 0",
         b"take 5 0\r",
         b"take 5 0\xFF",
-        b"filter 1,2 t",
-        b"filter 1 T",
-        b"filter 007 t",
-        b"filter +7 t",
-        b"filter -0 t",
-        b"filter 9223372036854775808 t",
-        b"filter -9223372036854775809 t",
-        b"Filter 1 t",
-        b"Pext b4 cc",
+    ];
+    assert!(rt; are_bad(rt.alloc(), &lines)?);
+    Ok(())
+}
+
+#[test]
+fn bad_get_lines(rt: HostRuntime) -> Result<(), Fail> {
+    let lines: [&[u8]; 1] = [b"get 1||2 0"];
+    assert!(rt; are_bad(rt.alloc(), &lines)?);
+    Ok(())
+}
+
+#[test]
+fn bad_pext_lines(rt: HostRuntime) -> Result<(), Fail> {
+    let lines: [&[u8]; 12] = [
         b"pext",
         b"pext b4",
         b"pext b4 cc 1",
@@ -218,12 +315,27 @@ fn bad_lines(rt: HostRuntime) -> Result<(), Fail> {
         b"pext b4g cc",
         b"pext 0123456789abcdef0 cc",
         b"pext b4 000000000000000cc",
-        b"get 1||2 0",
+    ];
+    assert!(rt; are_bad(rt.alloc(), &lines)?);
+    Ok(())
+}
+
+#[test]
+fn bad_choose_lines(rt: HostRuntime) -> Result<(), Fail> {
+    let lines: [&[u8]; 5] = [
         b"choose t,n 1,2 3,4",
         b"choose t 1,2 3",
         b"choose t 1 -",
         b"choose t,f 1 3",
         b"choose t 1",
+    ];
+    assert!(rt; are_bad(rt.alloc(), &lines)?);
+    Ok(())
+}
+
+#[test]
+fn bad_flatten_lines(rt: HostRuntime) -> Result<(), Fail> {
+    let lines: [&[u8]; 12] = [
         b"flatten",
         b"flatten 2",
         b"flatten 2 0:-",
@@ -236,6 +348,14 @@ fn bad_lines(rt: HostRuntime) -> Result<(), Fail> {
         b"flatten 1 1:5:",
         b"flatten 1 1",
         b"flatten 1 1:",
+    ];
+    assert!(rt; are_bad(rt.alloc(), &lines)?);
+    Ok(())
+}
+
+#[test]
+fn bad_dict_lines(rt: HostRuntime) -> Result<(), Fail> {
+    let lines: [&[u8]; 6] = [
         b"dict 0",
         b"dict 0 =a =b",
         b"dict 0,n,3 =a,n",
@@ -243,9 +363,7 @@ fn bad_lines(rt: HostRuntime) -> Result<(), Fail> {
         b"dict 0 =a,",
         b"dict -1 =a",
     ];
-    for line in &lines {
-        assert!(rt; is_bad(rt.alloc(), line)?);
-    }
+    assert!(rt; are_bad(rt.alloc(), &lines)?);
     Ok(())
 }
 
