@@ -84,6 +84,7 @@ impl FixedSizeListArray {
     pub fn with_validity(self, validity: Option<Bitmap>) -> FixedSizeListArray
         requires { Covers validity (length (rows (block_column self))) }
         ensures rows { rows (block_column result) ≡ block_rows self.size self.len (rows self.values.value) validity }
+        ensures dtype { type_of (block_column result) ≡ type_of (block_column self) }
         ensures validity { result.validity ≡ validity }
     {
         let FixedSizeListArray {

@@ -80,6 +80,7 @@ impl ListArray<i64> {
     pub fn with_validity(self, validity: Option<Bitmap>) -> ListArray<i64>
         requires { Covers validity (length (rows (list_column self))) }
         ensures rows { rows (list_column result) ≡ list_rows self.offsets (rows self.values.value) validity }
+        ensures dtype { type_of (list_column result) ≡ type_of (list_column self) }
         ensures validity { result.validity ≡ validity }
     {
         let ListArray {

@@ -61,7 +61,7 @@ impl StructArray {
     }
 
     /// The fields, in order.
-    pub fn fields(&self) -> &[Column]
+    pub fn values(&self) -> &[Column]
         ensures columns { result.now ≡ self.now.fields.items }
         ensures formed { All (IsField self.now.len) result.now }
     {
@@ -72,6 +72,7 @@ impl StructArray {
     pub fn with_validity(self, validity: Option<Bitmap>) -> StructArray
         requires { Covers validity (length (rows (tuple_column self))) }
         ensures rows { rows (tuple_column result) ≡ tuple_rows self.len (map rows self.fields.items) validity }
+        ensures dtype { type_of (tuple_column result) ≡ type_of (tuple_column self) }
         ensures validity { result.validity ≡ validity }
     {
         let StructArray {

@@ -1,7 +1,7 @@
 use Rattle.std.proofs.Common.{All, sym, subst}
 use Rattle.sel_arrow.specs.Rows.{IsField}
 use Rattle.sel_arrow.proofs.Trees.{has_fields}
-use Rattle.sel_arrow.proofs.structure.StructArray.fields.Goals as goal
+use Rattle.sel_arrow.proofs.structure.StructArray.values.Goals as goal
 
 pub returns-clause-formed : goal.returns-clause-formed
 returns-clause-formed c =
