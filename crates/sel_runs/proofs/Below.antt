@@ -85,19 +85,11 @@ pub record Recurses (s : Shape) (xs : List (Bor Column)) (yss : List (List Value
   pub formed : All (λ x. IsWellFormed x.now) xs
   pub rows : map (λ x. rows x.now) xs ≡ yss
 
-pub lists_recurse : (s : Shape) (xs cs : List (Bor Column)) → map (λ x. x.now) xs ≡ map (λ c. child c.now) cs → All (λ c. type_of c.now ≡ of_large_list s) cs → All (λ c. IsWellFormed c.now) cs →
-    Recurses s xs (map (λ c. rows (child c.now)) cs)
-lists_recurse s xs cs e types formed = record {
-  alike = found_all child (λ x. type_of x ≡ s) xs cs e (λ k d h. child_type (get_or cs k d).now s (types k d h));
-  formed = found_all child (λ x. well_formed x ≡ true) xs cs e (λ k d h. child_formed (get_or cs k d).now (ap is_listing (types k d h)) (formed k d h));
-  rows = found_map child rows xs cs e;
-}
-
-pub blocks_recurse : (s : Shape) (w : ℕ) (xs cs : List (Bor Column)) → map (λ x. x.now) xs ≡ map (λ c. child c.now) cs → All (λ c. type_of c.now ≡ of_fixed_size_list s w) cs → All (λ c. IsWellFormed c.now) cs →
-    Recurses s xs (map (λ c. rows (child c.now)) cs)
-blocks_recurse s w xs cs e types formed = record {
-  alike = found_all child (λ x. type_of x ≡ s) xs cs e (λ k d h. block_child_type (get_or cs k d).now s w (types k d h));
-  formed = found_all child (λ x. well_formed x ≡ true) xs cs e (λ k d h. child_formed (get_or cs k d).now (ap is_listing (types k d h)) (formed k d h));
+pub items_recurse : (s : Shape) (xs cs : List (Bor Column)) → map (λ x. x.now) xs ≡ map (λ c. child c.now) cs → All (λ c. is_listing (type_of c.now) ≡ true) cs → All (λ c. type_of (child c.now) ≡ s) cs →
+    All (λ c. IsWellFormed c.now) cs → Recurses s xs (map (λ c. rows (child c.now)) cs)
+items_recurse s xs cs e lists alike formed = record {
+  alike = found_all child (λ x. type_of x ≡ s) xs cs e alike;
+  formed = found_all child (λ x. well_formed x ≡ true) xs cs e (λ k d h. child_formed (get_or cs k d).now (lists k d h) (formed k d h));
   rows = found_map child rows xs cs e;
 }
 

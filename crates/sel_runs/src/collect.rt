@@ -1,10 +1,10 @@
 //! Rows of columns of any one type.
 
-ghost use Rattle.std.specs.Prelude.{◌≡◌, ◌≤◌, ◌<◌, All, length, map, pos, IfOk, IfErr};
+ghost use Rattle.std.specs.Prelude.{◌≡◌, ◌≤◌, ◌<◌, All, length, map, pos, true, IfOk, IfErr};
 ghost use Rattle.sel_arrow.specs.Rows.{rows, type_of, IsField, IsWellFormed};
 ghost use Rattle.sel_arrow.specs.Shape.{of_large_binary, of_binary_view, of_utf8_view, of_large_list, of_fixed_size_list, of_struct, shapes_of};
 ghost use Rattle.sel_arrow.specs.Value.{Null};
-ghost use Rattle.sel_runs.specs.Children.{parts_of};
+ghost use Rattle.sel_runs.specs.Children.{child, is_listing, joined_items, parts_of};
 ghost use Rattle.sel_runs.specs.Need.{IsPastBuffers, IsPastBytes, IsRefusal, buffers_joined, past_fields, past_taken};
 ghost use Rattle.sel_runs.specs.Picks.{pick, PickFits};
 ghost use Rattle.sel_runs.specs.Runs.{expand};
@@ -22,6 +22,7 @@ use crate::structs::{fields_at, split_runs};
 use crate::view::collect_views;
 use sel_arrow::array_ref::ArrayRef;
 use sel_arrow::column::Column;
+use sel_arrow::null::NullArray;
 use sel_arrow::utf8view::Utf8ViewArray;
 use sel_bits::faults::{Limit, PolarsError, PolarsResult};
 use std::alloc::Global;
@@ -137,9 +138,7 @@ fn collect_lists<'a>(
     if need > u32::MAX as u128 {
         return Err(PolarsError::SizeLimit(Limit::Rows));
     }
-    let below = child_runs(alloc, sources, runs, 0)?;
-    let children = children_of(alloc, sources)?;
-    let values = collect_like(alloc, child, &children, &below, need as usize)?;
+    let values = collect_items(alloc, child, sources, runs, 0, need as usize)?;
     let column = lists_over(alloc, values, sources, runs, len)?;
     Ok(column)
 }
@@ -170,11 +169,41 @@ fn collect_blocks<'a>(
     if need > u32::MAX as u128 {
         return Err(PolarsError::SizeLimit(Limit::Rows));
     }
-    let below = child_runs(alloc, sources, runs, size as u32)?;
-    let children = children_of(alloc, sources)?;
-    let values = collect_like(alloc, child, &children, &below, need as usize)?;
+    let values = collect_items(alloc, child, sources, runs, size as u32, need as usize)?;
     let column = blocks_over(alloc, size, values, sources, runs, len)?;
     Ok(column)
+}
+
+// The rows that lists hold which runs pick, `need` in all, `width` nulls for each null; they are of the type of `first`.
+// Nulls are counted alone.
+#[cycle(collecting)]
+fn collect_items<'a>(
+    alloc: Global,
+    first: &Column,
+    sources: &'a [&'a Column],
+    runs: &[Run],
+    width: u32,
+    need: usize,
+) -> PolarsResult<Column>
+    requires first { IsWellFormed first.now }
+    requires lists { All (λ c. is_listing (type_of c.now) ≡ true) sources.now }
+    requires alike { All (λ c. type_of (child c.now) ≡ type_of first.now) sources.now }
+    requires formed { All (λ c. IsWellFormed c.now) sources.now }
+    requires fits { All (PickFits (map (λ c. rows c.now) sources.now)) (expand runs.now) }
+    requires need { need ≡ length (joined_items width (pick Null (map (λ c. rows c.now) sources.now) (expand runs.now))) }
+    requires few { need ≤ 4294967295 }
+    ensures rows { IfOk result (λ column. rows column ≡ joined_items width (pick Null (map (λ c. rows c.now) sources.now) (expand runs.now))) }
+    ensures dtype { IfOk result (λ column. type_of column ≡ type_of first.now) }
+    ensures formed { IfOk result (λ column. IsWellFormed column) }
+    ensures refusal { IfErr result (IsRefusal (past_taken (type_of first.now) (map (λ c. child c.now) sources.now) (joined_items width (pick Null (map (λ c. rows c.now) sources.now) (expand runs.now))))) }
+{
+    if let Column::Null(_) = first {
+        return Ok(Column::Null(NullArray { length: need }));
+    }
+    let below = child_runs(alloc, sources, runs, width)?;
+    let children = children_of(alloc, sources)?;
+    let values = collect_like(alloc, first, &children, &below, need)?;
+    Ok(values)
 }
 
 // The tuples that runs pick, whose fields are of the types of `firsts`.

@@ -14,12 +14,16 @@ pub struct Run {
     pub len: u32,
 }
 
-/// Puts a run behind the others, as a part of the last one where it goes on from there. Refuses only for want of memory.
+/// Puts a run behind the others, as a part of the last one where it goes on from there; one of no rows adds none. Refuses
+/// only for want of memory.
 pub fn push_run(runs: &mut Vec<Run>, run: Run) -> PolarsResult<()>
     requires { length (expand runs.old.items) + run.len ≤ 4294967295 }
     ensures picks { OnOk result (expand runs.new.items ≡ expand runs.old.items ++ unrolled run) }
     ensures refusal { IfErr result (λ fault. fault ≡ PolarsError.OutOfMemory) }
 {
+    if run.len == 0 {
+        return Ok(());
+    }
     match runs.pop() {
         None => runs.push(run)?,
         Some(last) => match joined(last, run) {

@@ -1,4 +1,4 @@
-use Rattle.std.proofs.Common.{◌≡◌, ◌∙◌, ◌<◌, ◌+◌, ◌++◌, ◌∷◌, [], All, inr, ap, sym, subst, map, length, get_or, take, arith, true}
+use Rattle.std.proofs.Common.{◌≡◌, ◌∙◌, ◌<◌, ◌+◌, ◌++◌, ◌∷◌, [], All, inr, ap, sym, subst, map, length, get_or, take, replicate, arith, true}
 use Rattle.std.proofs.lemmas.List.{length-map, take_all, map_more, map-append}
 use Rattle.std.proofs.lemmas.List.Elements.{All-get_or, All-push}
 use Rattle.std.proofs.lemmas.Result.{err_from_is_err_and}
@@ -8,88 +8,93 @@ use Rattle.sel_arrow.specs.Value.{Null}
 use Rattle.sel_arrow.proofs.NestedRows.{length-rows}
 use Rattle.sel_arrow.proofs.Trees.{has_fields}
 use Rattle.sel_arrow.proofs.Types.{type_of-Struct}
-use Rattle.sel_runs.specs.Children.{child, field, joined_items, part_at, parts_of}
+use Rattle.sel_runs.specs.Children.{child, field, is_listing, joined_items, part_at, parts_of}
 use Rattle.sel_runs.specs.Cleared.{cleared}
 use Rattle.sel_runs.specs.Need.{IsRefusal, past_taken}
 use Rattle.sel_runs.specs.Picks.{pick, PickFits}
 use Rattle.sel_runs.specs.Runs.{expand}
-use Rattle.sel_runs.proofs.Below.{lists_recurse, blocks_recurse, found_all, found_map, mapped_now, listed_shapes, refused_more, past_at, parts_more, field_kind}
+use Rattle.sel_runs.proofs.Below.{child_type, block_child_type, items_recurse, found_all, found_map, mapped_now, listed_shapes, refused_more, past_at, parts_more, field_kind}
 use Rattle.sel_runs.proofs.Depths.{size_of, one_size}
 use Rattle.sel_runs.proofs.ItemRuns.{rows_of, below_of}
+use Rattle.sel_runs.proofs.NullItems.{null_items_in}
 use Rattle.sel_runs.proofs.RunLists.{length-pick}
 use Rattle.sel_runs.proofs.TupleRows.{field_rows, field_type, field_formed, picked_parts, parts_fit}
 use Rattle.sel_runs.proofs.collect.+collecting.Goals as goal
 
 -- ---- lists
 
-pub collect_lists-collect_like-requires : goal.collect_lists-collect_like-requires
-collect_lists-collect_like-requires t c =
+pub collect_lists-collect_items-requires : goal.collect_lists-collect_items-requires
+collect_lists-collect_items-requires t c =
     let cs = c.args.sources.now in
-    let xs = c.deref.result.now in
-    let found = ap (map (λ x. x.now)) c.deref.ensures.value ∙ c.in_ok-children.ensures.children in
-    let below = lists_recurse (type_of c.args.child.now) xs cs found c.requires.alike c.requires.formed in
-    let runs = ap expand c.deref-2.ensures.value in
-    let fits = subst (λ xss. All (PickFits xss) (expand c.deref-2.result.now)) (sym below.rows) (subst (All (PickFits (below_of cs))) (sym runs) c.in_ok-below.ensures.fits) in
-    let count = ap length runs ∙ sym (length-pick Null (below_of cs) (expand c.in_ok-below.below.items)) ∙ ap length c.in_ok-below.ensures.items ∙ sym c.count_items-need.ensures in
-    (omega (arith, c.decreases), (c.requires.child, (below.alike, (below.formed, (fits, (count, omega (arith, c.if-need.false)))))))
+    let s = type_of c.args.child.now in
+    let lists : All (λ c. is_listing (type_of c.now) ≡ true) cs = λ k d h. ap is_listing (c.requires.alike k d h) in
+    let alike : All (λ c. type_of (child c.now) ≡ s) cs = λ k d h. child_type (get_or cs k d).now s (c.requires.alike k d h) in
+    (omega (arith, c.decreases), (c.requires.child, (lists, (alike, (c.requires.formed, (c.requires.fits, (c.count_items-need.ensures, omega (arith, c.if-need.false))))))))
 
 pub collect_lists-returns-in_err-values-clause-refusal : goal.collect_lists-returns-in_err-values-clause-refusal
 collect_lists-returns-in_err-values-clause-refusal t c =
+    let items = joined_items 0 (pick Null (rows_of c.args.sources.now) (expand c.args.runs.now)) in
+    let fault = c.in_err-values.field-0.0 in
+    let p = err_from_is_err_and c.from_residual.result c.from_residual.ensures.1 in
+    let here = subst (λ l. IsRefusal (past_taken (type_of c.args.child.now) l items) fault) (mapped_now child c.args.sources.now) c.in_err-values.ensures.refusal in
+    rw (p.1, p.2) (refused_more _ _ fault (λ limit h. inr h) here)
+
+pub collect_blocks-collect_items-requires : goal.collect_blocks-collect_items-requires
+collect_blocks-collect_items-requires t c =
     let cs = c.args.sources.now in
-    let xs = c.deref.result.now in
     let s = type_of c.args.child.now in
-    let p = err_from_is_err_and c.from_residual-in_err-values.result c.from_residual-in_err-values.ensures.1 in
-    let found = ap (map (λ x. x.now)) c.deref.ensures.value ∙ c.in_ok-children.ensures.children in
-    let below = lists_recurse s xs cs found c.requires.alike c.requires.formed in
-    let columns = found ∙ mapped_now child cs in
-    let items = ap (λ xss. pick Null xss (expand c.deref-2.result.now)) below.rows ∙ ap (λ ps. pick Null (below_of cs) ps) (ap expand c.deref-2.ensures.value) ∙ c.in_ok-below.ensures.items in
-    let refused = c.in_err-values.ensures.refusal in
-    let here = subst (λ l. IsRefusal (past_taken s l (joined_items 0 (pick Null (rows_of c.args.sources.now) (expand c.args.runs.now)))) c.in_err-values.field-0.0) columns
-    (subst (λ l. IsRefusal (past_taken s (map (λ x. x.now) xs) l) c.in_err-values.field-0.0) items refused) in
-    rw (p.1, p.2) (refused_more _ _ c.in_err-values.field-0.0 (λ limit h. inr h) here)
-
-pub collect_lists-lists_over-requires-clause-below : goal.collect_lists-lists_over-requires-clause-below
-collect_lists-lists_over-requires-clause-below t c =
-    let cs = c.args.sources.now in
-    let xs = c.deref.result.now in
-    let found = ap (map (λ x. x.now)) c.deref.ensures.value ∙ c.in_ok-children.ensures.children in
-    let below = lists_recurse (type_of c.args.child.now) xs cs found c.requires.alike c.requires.formed in
-    c.in_ok-values.ensures.rows ∙ ap (λ xss. pick Null xss (expand c.deref-2.result.now)) below.rows ∙ ap (λ ps. pick Null (below_of cs) ps) (ap expand c.deref-2.ensures.value) ∙ c.in_ok-below.ensures.items
-
--- ---- blocks
-
-pub collect_blocks-collect_like-requires : goal.collect_blocks-collect_like-requires
-collect_blocks-collect_like-requires t c =
-    let cs = c.args.sources.now in
-    let xs = c.deref.result.now in
-    let found = ap (map (λ x. x.now)) c.deref.ensures.value ∙ c.in_ok-children.ensures.children in
-    let below = blocks_recurse (type_of c.args.child.now) c.args.size xs cs found c.requires.alike c.requires.formed in
-    let runs = ap expand c.deref-2.ensures.value in
-    let fits = subst (λ xss. All (PickFits xss) (expand c.deref-2.result.now)) (sym below.rows) (subst (All (PickFits (below_of cs))) (sym runs) c.in_ok-below.ensures.fits) in
-    let count = ap length runs ∙ sym (length-pick Null (below_of cs) (expand c.in_ok-below.below.items)) ∙ ap length c.in_ok-below.ensures.items ∙ sym c.count_items-need.ensures in
-    (omega (arith, c.decreases), (c.requires.child, (below.alike, (below.formed, (fits, (count, omega (arith, c.if-need.false)))))))
+    let lists : All (λ c. is_listing (type_of c.now) ≡ true) cs = λ k d h. ap is_listing (c.requires.alike k d h) in
+    let alike : All (λ c. type_of (child c.now) ≡ s) cs = λ k d h. block_child_type (get_or cs k d).now s c.args.size (c.requires.alike k d h) in
+    (omega (arith, c.decreases), (c.requires.child, (lists, (alike, (c.requires.formed, (c.requires.fits, (c.count_items-need.ensures, omega (arith, c.if-need.false))))))))
 
 pub collect_blocks-returns-in_err-values-clause-refusal : goal.collect_blocks-returns-in_err-values-clause-refusal
 collect_blocks-returns-in_err-values-clause-refusal t c =
+    let items = joined_items c.args.size (pick Null (rows_of c.args.sources.now) (expand c.args.runs.now)) in
+    let fault = c.in_err-values.field-0.0 in
+    let p = err_from_is_err_and c.from_residual.result c.from_residual.ensures.1 in
+    let here = subst (λ l. IsRefusal (past_taken (type_of c.args.child.now) l items) fault) (mapped_now child c.args.sources.now) c.in_err-values.ensures.refusal in
+    rw (p.1, p.2) (refused_more _ _ fault (λ limit h. inr h) here)
+
+-- ---- the rows that lists hold
+
+pub collect_items-returns-in-Null-clause-rows : goal.collect_items-returns-in-Null-clause-rows
+collect_items-returns-in-Null-clause-rows t c =
+    let cs = c.args.sources.now in
+    let none : type_of c.args.first.now ≡ of_null = ap type_of c.in-Null.is in
+    let nulls : All (λ c. type_of (child c.now) ≡ of_null) cs = λ k d h. c.requires.alike k d h ∙ none in
+    ap (λ n. replicate n Null) c.requires.need ∙ sym (null_items_in c.args.width cs c.requires.lists c.requires.formed nulls (expand c.args.runs.now) c.requires.fits)
+
+pub collect_items-collect_like-requires : goal.collect_items-collect_like-requires
+collect_items-collect_like-requires t c =
     let cs = c.args.sources.now in
     let xs = c.deref.result.now in
-    let s = type_of c.args.child.now in
+    let found = ap (map (λ x. x.now)) c.deref.ensures.value ∙ c.in_ok-children.ensures.children in
+    let below = items_recurse (type_of c.args.first.now) xs cs found c.requires.lists c.requires.alike c.requires.formed in
+    let runs = ap expand c.deref-2.ensures.value in
+    let fits = subst (λ xss. All (PickFits xss) (expand c.deref-2.result.now)) (sym below.rows) (subst (All (PickFits (below_of cs))) (sym runs) c.in_ok-below.ensures.fits) in
+    let count = ap length runs ∙ sym (length-pick Null (below_of cs) (expand c.in_ok-below.below.items)) ∙ ap length c.in_ok-below.ensures.items ∙ sym c.requires.need in
+    (omega (arith, c.decreases), (c.requires.first, (below.alike, (below.formed, (fits, (count, c.requires.few))))))
+
+pub collect_items-returns-in_err-values-clause-refusal : goal.collect_items-returns-in_err-values-clause-refusal
+collect_items-returns-in_err-values-clause-refusal t c =
+    let cs = c.args.sources.now in
+    let xs = c.deref.result.now in
+    let s = type_of c.args.first.now in
+    let fault = c.in_err-values.field-0.0 in
     let p = err_from_is_err_and c.from_residual-in_err-values.result c.from_residual-in_err-values.ensures.1 in
     let found = ap (map (λ x. x.now)) c.deref.ensures.value ∙ c.in_ok-children.ensures.children in
-    let below = blocks_recurse s c.args.size xs cs found c.requires.alike c.requires.formed in
-    let columns = found ∙ mapped_now child cs in
+    let below = items_recurse s xs cs found c.requires.lists c.requires.alike c.requires.formed in
     let items = ap (λ xss. pick Null xss (expand c.deref-2.result.now)) below.rows ∙ ap (λ ps. pick Null (below_of cs) ps) (ap expand c.deref-2.ensures.value) ∙ c.in_ok-below.ensures.items in
-    let refused = c.in_err-values.ensures.refusal in
-    let here = subst (λ l. IsRefusal (past_taken s l (joined_items c.args.size (pick Null (rows_of c.args.sources.now) (expand c.args.runs.now)))) c.in_err-values.field-0.0) columns
-    (subst (λ l. IsRefusal (past_taken s (map (λ x. x.now) xs) l) c.in_err-values.field-0.0) items refused) in
-    rw (p.1, p.2) (refused_more _ _ c.in_err-values.field-0.0 (λ limit h. inr h) here)
+    let here = subst (λ l. IsRefusal (past_taken s l (joined_items c.args.width (pick Null (rows_of cs) (expand c.args.runs.now)))) fault) found
+    (subst (λ l. IsRefusal (past_taken s (map (λ x. x.now) xs) l) fault) items c.in_err-values.ensures.refusal) in
+    rw (p.1, p.2) here
 
-pub collect_blocks-blocks_over-requires-clause-below : goal.collect_blocks-blocks_over-requires-clause-below
-collect_blocks-blocks_over-requires-clause-below t c =
+pub collect_items-returns-clause-rows : goal.collect_items-returns-clause-rows
+collect_items-returns-clause-rows t c =
     let cs = c.args.sources.now in
     let xs = c.deref.result.now in
     let found = ap (map (λ x. x.now)) c.deref.ensures.value ∙ c.in_ok-children.ensures.children in
-    let below = blocks_recurse (type_of c.args.child.now) c.args.size xs cs found c.requires.alike c.requires.formed in
+    let below = items_recurse (type_of c.args.first.now) xs cs found c.requires.lists c.requires.alike c.requires.formed in
     c.in_ok-values.ensures.rows ∙ ap (λ xss. pick Null xss (expand c.deref-2.result.now)) below.rows ∙ ap (λ ps. pick Null (below_of cs) ps) (ap expand c.deref-2.ensures.value) ∙ c.in_ok-below.ensures.items
 
 -- ---- tuples

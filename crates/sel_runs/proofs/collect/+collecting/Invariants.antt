@@ -14,10 +14,13 @@ abbrev pub decreases-collect_like : goal.decreases-collect_like
 decreases-collect_like l = 3 * size_of (type_of l.first.now) + 1
 
 abbrev pub decreases-collect_lists : goal.decreases-collect_lists
-decreases-collect_lists l = 3 * size_of (type_of l.child.now) + 2
+decreases-collect_lists l = 3 * size_of (type_of l.child.now) + 3
 
 abbrev pub decreases-collect_blocks : goal.decreases-collect_blocks
-decreases-collect_blocks l = 3 * size_of (type_of l.child.now) + 2
+decreases-collect_blocks l = 3 * size_of (type_of l.child.now) + 3
+
+abbrev pub decreases-collect_items : goal.decreases-collect_items
+decreases-collect_items l = 3 * size_of (type_of l.first.now) + 2
 
 abbrev pub decreases-collect_tuples : goal.decreases-collect_tuples
 decreases-collect_tuples l = 3 * sizes_of (shapes_of (map type_of l.firsts.now)) + 3
