@@ -173,6 +173,25 @@ fn packer_takes_false_copies_and_none(rt: HostRuntime) -> Result<(), Fail> {
     Ok(())
 }
 
+/// Whether sixty ones are taken in front, and then none, and the three bits behind them are left.
+fn takes_the_ones(mut bitmap: Bitmap) -> bool {
+    bitmap.take_leading_ones() == 60
+        && bitmap.take_leading_ones() == 0
+        && has_bits(&bitmap, &[false, true, true])
+}
+
+#[test]
+fn leading_ones_are_taken(rt: HostRuntime) -> Result<(), Fail> {
+    let mut bits = [true; 63];
+    bits[60] = false;
+    assert!(rt; takes_the_ones(Bitmap::from_bools(rt.alloc(), &bits)?));
+    let mut all = Bitmap::new_with_value(rt.alloc(), true, 130)?;
+    assert!(rt; all.take_leading_ones() == 130 && all.is_empty());
+    let mut none = Bitmap::new(rt.alloc())?;
+    assert!(rt; none.take_leading_ones() == 0);
+    Ok(())
+}
+
 /// How many of 130 bits are true, bit by bit.
 fn counted_bits(bits: &Bitmap) -> usize
     requires { length bits.now.bits ≡ 130 }

@@ -1,20 +1,43 @@
 -- The places that a mask keeps.
-use Rattle.std.proofs.Common.{◌≡◌, ℕ, zero, suc, ◌+◌, ◌≤◌, ◌<◌, Bool, true, false, List, [], ◌∷◌, length, map, drop, get_or, refl, ap, sym, ◌∙◌, arith, add-one, drop-cons}
-use Rattle.std.proofs.lemmas.List.{drop_all}
+use Rattle.std.proofs.Common.{◌≡◌, ℕ, zero, suc, ◌+◌, ◌≤◌, ◌<◌, Bool, true, false, List, [], ◌∷◌, ◌++◌, length, map, drop, get_or, Option, refl, ap, sym, ◌∙◌, arith, add-one, append_assoc}
+use Rattle.std.specs.List.{range_with_len}
+use Rattle.std.proofs.lemmas.List.{map-append}
+use Rattle.sel_bits.specs.Bits.{leading_ones, leading_zeros}
+use Rattle.sel_runs.specs.Runs.{picks_of}
+use Rattle.sel_runs.proofs.KeptBlocks.{Passes}
+use Rattle.polars_compute.specs.Pick.{place_pick}
 use Rattle.polars_compute.specs.Select.{select, kept, kept_from}
 
--- ---- one bit more
+-- ---- as many bits more as are equal
 
-pub kept_step : (ms : List Bool) (i : ℕ) → i < length ms → get_or ms i false ≡ true → kept_from i (drop i ms) ≡ i ∷ kept_from (i + 1) (drop (i + 1) ms)
-kept_step ms i h is = rw (add-one, drop-cons ms i false h, is) (rw add-one refl)
+zeros_step : (l : List Bool) (at : ℕ) → kept_from at l ≡ kept_from (at + leading_zeros l) (drop (leading_zeros l) l)
+zeros_step [] at = refl
+zeros_step (true ∷ l) at = let none : at + 0 ≡ at = omega arith in rw none refl
+zeros_step (false ∷ l) at =
+    let next : at + 1 + leading_zeros l ≡ at + (leading_zeros l + 1) = omega arith in
+    zeros_step l (at + 1) ∙ ap (λ n. kept_from n (drop (leading_zeros l) l)) next ∙ ap (λ k. kept_from (at + (leading_zeros l + 1)) (drop k (false ∷ l))) (sym (add-one (leading_zeros l)))
 
-pub passed_step : (ms : List Bool) (i : ℕ) → i < length ms → get_or ms i false ≡ false → kept_from i (drop i ms) ≡ kept_from (i + 1) (drop (i + 1) ms)
-passed_step ms i h is = rw (add-one, drop-cons ms i false h, is) (ap (λ n. kept_from n (drop (suc i) ms)) (add-one i))
+ones_step : (l : List Bool) (at : ℕ) → kept_from at l ≡ range_with_len at (leading_ones l) ++ kept_from (at + leading_ones l) (drop (leading_ones l) l)
+ones_step [] at = refl
+ones_step (false ∷ l) at = let none : at + 0 ≡ at = omega arith in rw none refl
+ones_step (true ∷ l) at =
+    let n = leading_ones l in
+    let next : at + 1 + n ≡ at + (n + 1) = omega arith in
+    ap (λ k. at ∷ k) (ones_step l (at + 1) ∙ ap (λ k. range_with_len (at + 1) n ++ kept_from k (drop n l)) next)
+    ∙ ap (λ k. range_with_len at k ++ kept_from (at + (n + 1)) (drop k (true ∷ l))) (sym (add-one n))
 
-pub kept_end : (ms : List Bool) (i : ℕ) → length ms ≤ i → kept_from i (drop i ms) ≡ []
-kept_end ms i past = ap (kept_from i) (drop_all i ms past)
-
-pub ruleset place_steps = (kept_step, passed_step, kept_end)
+-- a run of places more
+pub places_more : (l after rest all : List Bool) (z n : ℕ) → Passes l after rest z n → (at : ℕ) (so_far new : List (Option (ℕ × ℕ))) → so_far ++ map place_pick (kept_from at l) ≡ map place_pick (kept all) →
+    new ≡ so_far ++ picks_of 0 (at + z) n → new ++ map place_pick (kept_from (at + z + n) rest) ≡ map place_pick (kept all)
+places_more l after rest all z n passes at so_far new before is =
+    let zeros : kept_from at l ≡ kept_from (at + z) after = zeros_step l at ∙ ap (λ k. kept_from (at + k) (drop k l)) (sym passes.zeros) ∙ ap (kept_from (at + z)) (sym passes.cut) in
+    let ones : kept_from (at + z) after ≡ range_with_len (at + z) n ++ kept_from (at + z + n) rest =
+    ones_step after (at + z) ∙ ap (λ k. range_with_len (at + z) k ++ kept_from (at + z + k) (drop k after)) (sym passes.ones) ∙ ap (λ r. range_with_len (at + z) n ++ kept_from (at + z + n) r) (sym passes.left)
+    in
+    ap (λ k. k ++ map place_pick (kept_from (at + z + n) rest)) is
+    ∙ append_assoc so_far (picks_of 0 (at + z) n) (map place_pick (kept_from (at + z + n) rest))
+    ∙ ap (λ k. so_far ++ k) (sym (ap (map place_pick) (zeros ∙ ones) ∙ map-append place_pick (range_with_len (at + z) n) (kept_from (at + z + n) rest)))
+    ∙ before
 
 -- ---- each place is one of a row
 

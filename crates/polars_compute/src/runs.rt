@@ -1,11 +1,11 @@
 //! Runs of rows of one column, from a mask and from indices.
 
-ghost use Rattle.std.specs.Prelude.{◌≡◌, ◌≤◌, ◌<◌, ◌+◌, ◌++◌, slice_index_or, length, map, drop, IfOk, IfErr, OnOk};
+ghost use Rattle.std.specs.Prelude.{◌≡◌, ◌≤◌, ◌<◌, slice_index_or, length, map, IfOk, IfErr};
 ghost use Rattle.sel_arrow.specs.Columns.{primitive_rows};
 ghost use Rattle.sel_arrow.specs.Value.{Null};
 ghost use Rattle.sel_runs.specs.Runs.{expand};
 ghost use Rattle.polars_compute.specs.Pick.{pick_of, place_pick};
-ghost use Rattle.polars_compute.specs.Select.{kept, kept_from};
+ghost use Rattle.polars_compute.specs.Select.{kept};
 
 use sel_arrow::array::Array;
 use sel_arrow::primitive::IdxArr;
@@ -14,33 +14,23 @@ use sel_bits::faults::{PolarsError, PolarsResult};
 use sel_runs::run::{Run, push_run, run_of_pick};
 use std::alloc::Global;
 
-/// The runs of the places where the bit is true. Refuses only for want of memory.
+/// The runs of the places where the bit is true, one for all that stand together. Refuses only for want of memory.
 pub(crate) fn runs_of_mask(alloc: Global, mask: &Bitmap) -> PolarsResult<Vec<Run>>
     requires { length mask.now.bits ≤ 4294967295 }
     ensures picks { IfOk result (λ runs. expand runs.items ≡ map place_pick (kept mask.now.bits)) }
     ensures refusal { IfErr result (λ fault. fault ≡ PolarsError.OutOfMemory) }
 {
     let mut runs = Vec::new(alloc);
-    for i in 0..mask.len() {
-        push_kept(&mut runs, mask, i)?;
+    let mut rest = mask.try_clone()?;
+    let mut start = 0;
+    while !rest.is_empty() {
+        start += rest.take_leading_zeros() as u32;
+        let len = rest.take_leading_ones() as u32;
+        let source = Some(0);
+        push_run(&mut runs, Run { source, start, len })?;
+        start += len;
     }
     Ok(runs)
-}
-
-// Puts place `i` behind the others where its bit is true. Refuses only for want of memory.
-fn push_kept(runs: &mut Vec<Run>, mask: &Bitmap, i: usize) -> PolarsResult<()>
-    requires inside { i < length mask.now.bits }
-    requires few { length mask.now.bits ≤ 4294967295 }
-    requires room { length (expand runs.old.items) ≤ i }
-    ensures picks { OnOk result (expand runs.new.items ++ map place_pick (kept_from (i + 1) (drop (i + 1) mask.now.bits)) ≡ expand runs.old.items ++ map place_pick (kept_from i (drop i mask.now.bits))) }
-    ensures len { OnOk result (length (expand runs.new.items) ≤ i + 1) }
-    ensures refusal { IfErr result (λ fault. fault ≡ PolarsError.OutOfMemory) }
-{
-    if !mask.get_bit(i) {
-        return Ok(());
-    }
-    push_run(runs, run_of_pick(Some((0, i as u32))))?;
-    Ok(())
 }
 
 /// The runs of the rows that indices name, nulls for null indices. Refuses only for want of memory.

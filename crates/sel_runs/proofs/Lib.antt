@@ -5,6 +5,7 @@ pub mod Fits
 pub mod Grown
 pub mod ItemRuns
 pub mod JoinedRows
+pub mod KeptBlocks
 pub mod NullItems
 pub mod NullPicks
 pub mod OneSource

@@ -1,14 +1,14 @@
 -- Lists of nulls: the rows that they hold are nulls.
-use Rattle.std.proofs.Common.{◌≡◌, All, Bor, ℕ, zero, suc, ◌+◌, ◌-◌, ◌*◌, ◌<◌, Bool, true, false, List, [], ◌∷◌, ◌++◌, length, take, drop, map, replicate, Option, Some, None, refl, ap, sym, subst, ◌∙◌, arith, get_or}
+use Rattle.std.proofs.Common.{◌≡◌, All, Bor, ℕ, zero, suc, ◌+◌, ◌-◌, ◌*◌, ◌<◌, Bool, true, false, List, [], ◌∷◌, length, drop, map, replicate, Option, Some, None, refl, ap, sym, subst, ◌∙◌, arith, get_or}
 use Rattle.std.specs.List.{slice_range}
 use Rattle.std.proofs.lemmas.List.{get_or-replicate, length-replicate}
 use Rattle.std.proofs.lemmas.List.FromFn.{get_or-map-range_with_len}
-use Rattle.std.proofs.lemmas.List.Elements.{All-append, All-head, All-tail, All-take, All-drop}
+use Rattle.std.proofs.lemmas.List.Elements.{All-append, All-take, All-drop}
 use Rattle.sel_bits.specs.Bits.{Bits}
 use Rattle.sel_arrow.specs.Masked.{Covers, masked, valid_at}
 use Rattle.sel_arrow.specs.Nested.{list_of, blocks}
 use Rattle.sel_arrow.specs.Pieces.{pieces, rows_between}
-use Rattle.sel_arrow.specs.Rows.{rows, row_count, type_of, well_formed, IsWellFormed}
+use Rattle.sel_arrow.specs.Rows.{rows, type_of, well_formed, IsWellFormed}
 use Rattle.sel_arrow.specs.Shape.{of_null}
 use Rattle.sel_arrow.specs.Value.{Value, Null}
 use Rattle.sel_arrow.specs.declared.column.Column.{Column}

@@ -1,6 +1,6 @@
 -- Runs, the picks that they stand for, and what these find.
 use Rattle.std.proofs.Common.{◌≡◌, ◌-◌, All, subst, ℕ, ◌<◌, ◌≤◌, ◌+◌, List, [], ◌∷◌, ◌++◌, map, length, replicate, get_or, take, drop, refl, sym, ap, ◌∙◌, arith, append_assoc, length-append, Option, Some, None, suc, zero, zero-add}
-use Rattle.std.proofs.lemmas.List.{length-map, take-append-le, drop-append-le, take_all, drop_all, take_more, drop_more, take-append-drop, replicate-append-replicate, map-append, length-replicate, append-nil, nil_from_length}
+use Rattle.std.proofs.lemmas.List.{length-map, take-append-le, drop-append-le, take_all, drop_all, take_more, drop_more, take-append-drop, replicate-append-replicate, map-append, length-replicate, append-nil}
 use Rattle.std.proofs.lemmas.List.FromFn.{length-map-range_with_len, get_or-map-range_with_len}
 use Rattle.std.proofs.lemmas.List.Elements.{All-get_or, All-take, All-drop}
 use Rattle.std.specs.List.{range_with_len}
@@ -20,7 +20,7 @@ expand-one r = append-nil (unrolled r)
 pub expand-push : (a : List Run) (r : Run) → expand (a ++ r ∷ []) ≡ expand a ++ unrolled r
 expand-push a r = expand-append a (r ∷ []) ∙ ap (λ l. expand a ++ l) (expand-one r)
 
-length-unrolled_from : (s : Option ℕ) (a n : ℕ) → length (unrolled_from s a n) ≡ n
+pub length-unrolled_from : (s : Option ℕ) (a n : ℕ) → length (unrolled_from s a n) ≡ n
 length-unrolled_from None a n = length-replicate n None
 length-unrolled_from (Some s) a n = length-map-range_with_len (λ i. Some (s, i)) a n
 
@@ -42,6 +42,10 @@ picks_of-append s a b n m e =
 
 nulls-append : (n m : ℕ) → replicate (n + m) (let none : Option (ℕ × ℕ) = None in none) ≡ replicate n None ++ replicate m None
 nulls-append n m = sym (replicate-append-replicate n m None)
+
+pub unrolled_from-append : (o : Option ℕ) (a n m : ℕ) → unrolled_from o a (n + m) ≡ unrolled_from o a n ++ unrolled_from o (a + n) m
+unrolled_from-append None a n m = nulls-append n m
+unrolled_from-append (Some s) a n m = picks_of-append s a (a + n) n m refl
 
 pub joined_nulls : (r s : Run) → r.source ≡ None → s.source ≡ None → unrolled_from r.source r.start (r.len + s.len) ≡ unrolled r ++ unrolled s
 joined_nulls r s e f = rw (e, f) (nulls-append r.len s.len)

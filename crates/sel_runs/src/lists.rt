@@ -9,7 +9,7 @@ ghost use Rattle.sel_runs.specs.Picks.{pick, PickFits};
 ghost use Rattle.sel_runs.specs.Runs.{expand, unrolled};
 ghost use Rattle.sel_runs.specs.Ends.{item_ends};
 
-use crate::run::{Run, push_run};
+use crate::run::{Run, nulls_of, push_run};
 use sel_arrow::column::Column;
 use sel_arrow::validity::is_valid_at;
 use sel_bits::faults::{PolarsError, PolarsResult};
@@ -81,27 +81,16 @@ fn run_of_row(sources: &[&Column], run: Run, i: u32, width: u32) -> Run
     ensures small { result.len ≤ 4294967295 }
 {
     let Some(source) = run.source else {
-        return nulls(width);
+        return nulls_of(width);
     };
     let row = run.start as usize + i as usize;
     match part_of_row(sources[source as usize], row) {
-        None => nulls(width),
+        None => nulls_of(width),
         Some((start, len)) => Run {
             source: Some(source),
             start,
             len,
         },
-    }
-}
-
-// So many nulls.
-fn nulls(len: u32) -> Run
-    ensures { result ≡ (record { source = None; start = 0; len = len }) }
-{
-    Run {
-        source: None,
-        start: 0,
-        len,
     }
 }
 

@@ -1,6 +1,6 @@
 //! Rows that stand together.
 
-ghost use Rattle.std.specs.Prelude.{◌≡◌, ◌≤◌, ◌+◌, ◌++◌, ◌∷◌, [], length, IfSome, IfOk, IfErr, OnOk};
+ghost use Rattle.std.specs.Prelude.{◌≡◌, ◌≤◌, ◌+◌, ◌++◌, ◌∷◌, [], None, length, IfSome, IfOk, IfErr, OnOk};
 ghost use Rattle.sel_runs.specs.Runs.{expand, unrolled};
 
 use sel_bits::faults::{PolarsError, PolarsResult};
@@ -35,6 +35,17 @@ pub fn push_run(runs: &mut Vec<Run>, run: Run) -> PolarsResult<()>
         },
     }
     Ok(())
+}
+
+/// So many nulls.
+pub fn nulls_of(len: u32) -> Run
+    ensures { result ≡ (record { source = None; start = 0; len = len }) }
+{
+    Run {
+        source: None,
+        start: 0,
+        len,
+    }
 }
 
 // The two as one run, where the second goes on where the first ends.

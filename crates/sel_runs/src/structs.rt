@@ -4,11 +4,11 @@ ghost use Rattle.std.specs.Prelude.{◌≡◌, ◌≢◌, ◌≤◌, ◌<◌, �
 ghost use Rattle.sel_arrow.specs.Rows.{rows, type_of, IsWellFormed};
 ghost use Rattle.sel_arrow.specs.Shape.{of_null};
 ghost use Rattle.sel_runs.specs.Children.{field};
-ghost use Rattle.sel_runs.specs.Cleared.{cleared, kept_by, row_pick};
+ghost use Rattle.sel_runs.specs.Cleared.{cleared, kept_by};
 ghost use Rattle.sel_runs.specs.Picks.{PickFits};
 ghost use Rattle.sel_runs.specs.Runs.{expand, unrolled};
 
-use crate::run::{Run, push_run};
+use crate::run::{Run, nulls_of, push_run};
 use sel_arrow::column::Column;
 use sel_bits::bitmap::Bitmap;
 use sel_bits::faults::{PolarsError, PolarsResult};
@@ -87,7 +87,8 @@ fn push_split(split: &mut Vec<Run>, sources: &[&Column], run: Run) -> PolarsResu
     }
 }
 
-// Puts the rows of a run behind the others whose bit is true, and nulls for the others. Refuses only for want of memory.
+// Puts the rows of a run behind the others whose bit is true, and nulls for the others: as many at a time as stand
+// together. Refuses only for want of memory.
 fn push_kept(split: &mut Vec<Run>, bits: &Bitmap, run: Run) -> PolarsResult<()>
     requires inside { run.start + run.len ≤ length bits.now.bits }
     requires few { length bits.now.bits ≤ 4294967295 }
@@ -95,28 +96,17 @@ fn push_kept(split: &mut Vec<Run>, bits: &Bitmap, run: Run) -> PolarsResult<()>
     ensures picks { OnOk result (expand split.new.items ≡ expand split.old.items ++ map (kept_by bits.now.bits) (unrolled run)) }
     ensures refusal { IfErr result (λ fault. fault ≡ PolarsError.OutOfMemory) }
 {
-    for i in 0..run.len {
-        push_run(split, kept_row(bits, run.source, run.start + i))?;
+    let mut rest = bits
+        .try_clone()?
+        .sliced(run.start as usize, run.len as usize);
+    let mut start = run.start;
+    while !rest.is_empty() {
+        let nulls = rest.take_leading_zeros() as u32;
+        push_run(split, nulls_of(nulls))?;
+        start += nulls;
+        let len = rest.take_leading_ones() as u32;
+        push_run(split, Run { start, len, ..run })?;
+        start += len;
     }
     Ok(())
-}
-
-// The run of one row, of a null where its bit is false.
-fn kept_row(bits: &Bitmap, source: Option<u32>, row: u32) -> Run
-    requires { row < length bits.now.bits }
-    ensures picks { unrolled result ≡ kept_by bits.now.bits (row_pick source row) ∷ [] }
-    ensures len { result.len ≡ 1 }
-{
-    if bits.get_bit(row as usize) {
-        return Run {
-            source,
-            start: row,
-            len: 1,
-        };
-    }
-    Run {
-        source: None,
-        start: 0,
-        len: 1,
-    }
 }

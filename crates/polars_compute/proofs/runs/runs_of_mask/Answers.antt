@@ -1,19 +1,82 @@
-use Rattle.std.proofs.Common.{◌∙◌, ◌++◌, ap, sym, arith, length, map}
-use Rattle.std.proofs.lemmas.List.{append-nil}
-use Rattle.sel_runs.specs.Runs.{expand}
+use Rattle.std.proofs.Common.{◌≡◌, ℕ, ◌+◌, ◌++◌, ◌∙◌, [], refl, ap, sym, arith, length, map, Option, Some, length-append, true≢false}
+use Rattle.std.proofs.lemmas.List.{append-nil, nil_from_length}
+use Rattle.std.proofs.lemmas.List.FromFn.{length-map-range_with_len}
+use Rattle.sel_bits.specs.Bits.{Bits}
+use Rattle.sel_runs.specs.Runs.{expand, picks_of}
+use Rattle.sel_runs.proofs.KeptBlocks.{Passes, zeros_within, ones_within, passed_left, passed_some}
 use Rattle.polars_compute.specs.Pick.{place_pick}
-use Rattle.polars_compute.specs.Select.{kept}
-use Rattle.polars_compute.proofs.Places.{kept_end}
+use Rattle.polars_compute.specs.Select.{kept, kept_from}
+use Rattle.polars_compute.proofs.Places.{places_more}
 use Rattle.polars_compute.proofs.runs.runs_of_mask.Goals as goal
 
-pub loop-i-init : goal.loop-i-init
-loop-i-init c =
+pub loop-rest-init : goal.loop-rest-init
+loop-rest-init c =
     let none = c.new-runs.ensures.items in
-    (ap (λ l. expand l ++ map place_pick (kept c.args.mask.now.bits)) none, omega (arith, ap (λ l. length (expand l)) none))
+    let same = ap (λ (b : Bits). b.bits) c.in_ok-rest.ensures.value in
+    record {
+      left = omega (arith, ap length same);
+      room = omega (arith, ap (λ l. length (expand l)) none);
+      picks = ap (λ l. expand l ++ map place_pick (kept c.in_ok-rest.rest.bits)) none ∙ ap (λ l. map place_pick (kept l)) same;
+    }
 
-pub loop-i-preserved : goal.loop-i-preserved
-loop-i-preserved c = (c.in_ok-push_kept.ensures.picks ∙ c.loop-i.invariant.0, c.in_ok-push_kept.ensures.len)
+pub overflow_cast-start : goal.overflow_cast-start
+overflow_cast-start c =
+    record { fits = omega (arith, zeros_within c.loop-rest.rest.bits c.take_leading_zeros.result c.take_leading_zeros.ensures.count, c.loop-rest.invariant.left, c.requires) }
+
+pub overflow_add-start : goal.overflow_add-start
+overflow_add-start c =
+    record { fits = omega (arith, zeros_within c.loop-rest.rest.bits c.take_leading_zeros.result c.take_leading_zeros.ensures.count, c.loop-rest.invariant.left, c.requires) }
+
+pub overflow_cast-len : goal.overflow_cast-len
+overflow_cast-len c =
+    let cut = ap (λ (b : Bits). b.bits) c.take_leading_zeros.ensures.rest in
+    let both = ones_within c.loop-rest.rest.bits c.take_leading_zeros.new.self.bits c.take_leading_zeros.result c.take_leading_ones-len.result c.take_leading_zeros.ensures.count cut c.take_leading_ones-len.ensures.count in
+    record { fits = omega (arith, both, c.loop-rest.invariant.left, c.requires) }
+
+pub push_run-requires : goal.push_run-requires
+push_run-requires c =
+    let cut = ap (λ (b : Bits). b.bits) c.take_leading_zeros.ensures.rest in
+    let both = ones_within c.loop-rest.rest.bits c.take_leading_zeros.new.self.bits c.take_leading_zeros.result c.take_leading_ones-len.result c.take_leading_zeros.ensures.count cut c.take_leading_ones-len.ensures.count in
+    omega (arith, both, c.loop-rest.invariant.left, c.loop-rest.invariant.room, c.requires)
+
+pub overflow_add-start-in-loop-rest : goal.overflow_add-start-in-loop-rest
+overflow_add-start-in-loop-rest c =
+    let cut = ap (λ (b : Bits). b.bits) c.take_leading_zeros.ensures.rest in
+    let both = ones_within c.loop-rest.rest.bits c.take_leading_zeros.new.self.bits c.take_leading_zeros.result c.take_leading_ones-len.result c.take_leading_zeros.ensures.count cut c.take_leading_ones-len.ensures.count in
+    record { fits = omega (arith, both, c.loop-rest.invariant.left, c.requires) }
+
+pub loop-rest-smaller : goal.loop-rest-smaller
+loop-rest-smaller c =
+    let passes : Passes c.loop-rest.rest.bits c.take_leading_zeros.new.self.bits c.take_leading_ones-len.new.self.bits c.take_leading_zeros.result c.take_leading_ones-len.result = record {
+      zeros = c.take_leading_zeros.ensures.count;
+      cut = ap (λ (b : Bits). b.bits) c.take_leading_zeros.ensures.rest;
+      ones = c.take_leading_ones-len.ensures.count;
+      left = ap (λ (b : Bits). b.bits) c.take_leading_ones-len.ensures.rest;
+    }
+    in
+    let some : length c.loop-rest.rest.bits ≡ 0 → ⊥ = λ none. true≢false (sym (c.loop-rest-test.ensures.1 none)) in
+    passed_some c.args.mask.now.bits _ _ _ _ _ passes (omega (arith, some))
+
+pub loop-rest-preserved : goal.loop-rest-preserved
+loop-rest-preserved c =
+    let mask = c.args.mask.now.bits in
+    let passes : Passes c.loop-rest.rest.bits c.take_leading_zeros.new.self.bits c.take_leading_ones-len.new.self.bits c.take_leading_zeros.result c.take_leading_ones-len.result = record {
+      zeros = c.take_leading_zeros.ensures.count;
+      cut = ap (λ (b : Bits). b.bits) c.take_leading_zeros.ensures.rest;
+      ones = c.take_leading_ones-len.ensures.count;
+      left = ap (λ (b : Bits). b.bits) c.take_leading_ones-len.ensures.rest;
+    }
+    in
+    let start = c.loop-rest.start + c.take_leading_zeros.result in
+    let run = picks_of 0 start c.take_leading_ones-len.result in
+    let more = ap length c.in_ok-push_run.ensures.picks ∙ length-append (expand c.loop-rest.runs.items) run in
+    record {
+      left = passed_left mask _ _ _ _ _ passes c.loop-rest.start (length mask) c.loop-rest.invariant.left;
+      room = omega (arith, more, length-map-range_with_len (λ i. let p : Option (ℕ × ℕ) = Some (0, i) in p) start c.take_leading_ones-len.result, c.loop-rest.invariant.room);
+      picks = places_more _ _ _ mask _ _ passes c.loop-rest.start (expand c.loop-rest.runs.items) (expand c.push_run.new.runs.items) c.loop-rest.invariant.picks c.in_ok-push_run.ensures.picks;
+    }
 
 pub returns-clause-picks : goal.returns-clause-picks
 returns-clause-picks c =
-    sym (append-nil (expand c.loop-i.runs.items)) ∙ ap (λ l. expand c.loop-i.runs.items ++ map place_pick l) (sym (kept_end c.args.mask.now.bits c.loop-i.i (omega (arith, c.loop-i-test.false, c.len-i-end.ensures)))) ∙ c.loop-i.invariant.0
+    let none : c.loop-rest.rest.bits ≡ [] = nil_from_length c.loop-rest.rest.bits (c.loop-rest-test.ensures.0 refl) in
+    sym (append-nil (expand c.loop-rest.runs.items)) ∙ ap (λ l. expand c.loop-rest.runs.items ++ map place_pick (kept_from c.loop-rest.start l)) (sym none) ∙ c.loop-rest.invariant.picks

@@ -9,12 +9,12 @@ use Rattle.sel_runs.proofs.lists.run_of_row.Goals as goal
 
 pub returns-in_default-clause-items : goal.returns-in_default-clause-items
 returns-in_default-clause-items c =
-    ap (λ r. pick Null (below_of c.args.sources.now) (unrolled r)) c.nulls.ensures
+    ap (λ r. pick Null (below_of c.args.sources.now) (unrolled r)) c.nulls_of.ensures
     ∙ null_items Null (below_of c.args.sources.now) c.args.width _ (run_null c.args.sources.now c.args.run c.args.i c.in_default.is)
 
 pub returns-in_default-clause-fits : goal.returns-in_default-clause-fits
 returns-in_default-clause-fits c =
-    subst (λ r. All (PickFits (below_of c.args.sources.now)) (unrolled r)) (sym c.nulls.ensures) (nulls_fit (below_of c.args.sources.now) c.args.width)
+    subst (λ r. All (PickFits (below_of c.args.sources.now)) (unrolled r)) (sym c.nulls_of.ensures) (nulls_fit (below_of c.args.sources.now) c.args.width)
 
 pub bounds-sources-source : goal.bounds-sources-source
 bounds-sources-source c = source_there c.args.sources.now c.args.run c.in-Some.source c.args.i c.in-Some.is c.requires.fits c.requires.inside
@@ -33,13 +33,13 @@ part_of_row-requires-clause-inside c =
 
 pub returns-in-None-clause-items : goal.returns-in-None-clause-items
 returns-in-None-clause-items c =
-    ap (λ r. pick Null (below_of c.args.sources.now) (unrolled r)) c.nulls-in-None.ensures
+    ap (λ r. pick Null (below_of c.args.sources.now) (unrolled r)) c.nulls_of-in-None.ensures
     ∙ null_items Null (below_of c.args.sources.now) c.args.width _
     (row_null c.args.sources.now c.args.run c.in-Some.source c.args.i c.index-sources-source.result c.in-Some.is c.requires.fits c.requires.inside c.index-sources-source.is c.in-None.ensures.null)
 
 pub returns-in-None-clause-fits : goal.returns-in-None-clause-fits
 returns-in-None-clause-fits c =
-    subst (λ r. All (PickFits (below_of c.args.sources.now)) (unrolled r)) (sym c.nulls-in-None.ensures) (nulls_fit (below_of c.args.sources.now) c.args.width)
+    subst (λ r. All (PickFits (below_of c.args.sources.now)) (unrolled r)) (sym c.nulls_of-in-None.ensures) (nulls_fit (below_of c.args.sources.now) c.args.width)
 
 pub returns-in-Some-part_of_row-clause-items : goal.returns-in-Some-part_of_row-clause-items
 returns-in-Some-part_of_row-clause-items c =

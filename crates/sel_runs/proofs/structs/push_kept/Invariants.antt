@@ -1,8 +1,17 @@
--- The rows so far stand behind those that were there.
-use Rattle.std.proofs.Common.{◌≡◌, ◌++◌, map, take}
+-- The rows so far stand behind those that were there; the bits that are left are those from the next row on.
+use Rattle.std.proofs.Common.{◌≡◌, ◌≤◌, ◌+◌, ◌-◌, ◌++◌, length, map}
 use Rattle.sel_runs.specs.Cleared.{kept_by}
-use Rattle.sel_runs.specs.Runs.{expand, unrolled}
+use Rattle.sel_runs.specs.Runs.{expand, unrolled_from}
+use Rattle.sel_runs.proofs.KeptBlocks.{IsRest}
 use Rattle.sel_runs.proofs.structs.push_kept.Given as goal
 
-abbrev pub invariant-loop-i : goal.invariant-loop-i
-invariant-loop-i l = expand l.split.items ≡ expand l.initial.split.items ++ map (kept_by l.bits.bits) (take l.i (unrolled l.run))
+abbrev pub invariant-loop-run : goal.invariant-loop-run
+invariant-loop-run l = record {
+  from : l.run.start ≤ l.start;
+  left : l.start + length l.rest.bits ≡ l.run.start + l.run.len;
+  rest : IsRest l.bits.bits l.start l.rest.bits;
+  picks : expand l.split.items ≡ expand l.initial.split.items ++ map (kept_by l.bits.bits) (unrolled_from l.run.source l.run.start (l.start - l.run.start));
+}
+
+abbrev pub decreases-loop-run : goal.decreases-loop-run
+decreases-loop-run l = length l.rest.bits
