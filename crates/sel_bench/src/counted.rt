@@ -17,6 +17,7 @@ pub struct Counted<T> {
 impl<T> Counted<T> {
     ghost use Rattle.sel_bench.specs.Counted.{inner_of, failures_of, counted_up};
 
+    /// This reader or writer, of which nothing has failed yet.
     pub fn new(inner: T) -> Counted<T>
         ensures inner { inner_of result ≡ inner }
         ensures none_yet { failures_of result ≡ 0 }
@@ -24,12 +25,14 @@ impl<T> Counted<T> {
         Counted { inner, failures: 0 }
     }
 
+    /// How many of its calls failed.
     pub fn failures(&self) -> u64
         ensures { result ≡ failures_of self.now }
     {
         self.failures
     }
 
+    /// The reader or writer itself.
     pub fn into_inner(self) -> T
         ensures { result ≡ inner_of self }
     {

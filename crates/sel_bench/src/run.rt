@@ -14,14 +14,17 @@ use crate::writing::{flush, send};
 use std::alloc::{AllocError, AllocFailed, Global};
 use std::io::{Read, Write};
 
+/// The greatest number of a line.
 pub const LAST_LINE: u64 = 4_294_967_295;
 
+/// How a run ended: with the last line, or at a bad one.
 #[derive(Debug, Clone, Copy, PartialEq, Eq)]
 pub enum Done {
     End,
     BadLine(u64),
 }
 
+/// What broke a run off: want of memory, or an error of the input or the output.
 #[derive(Debug, Clone, Copy, PartialEq, Eq)]
 pub enum RunError {
     OutOfMemory,

@@ -28,6 +28,7 @@ pub fn send<W: Write>(writer: &mut Counted<W>, text: &[u8]) -> Result<(), RunErr
     Ok(())
 }
 
+/// Flushes the writer. Refuses with an error of the output.
 pub fn flush<W: Write>(writer: &mut Counted<W>) -> Result<(), RunError>
     ensures bytes { Keeps (W.contents (inner_of writer.old)) (W.contents (inner_of writer.new)) }
     ensures fault { IfErr result (λ e. e ≡ RunError.Output) }

@@ -27,8 +27,9 @@ use sel_arrow::utf8view::Utf8ViewArray;
 use sel_bits::faults::{Limit, PolarsError, PolarsResult};
 use std::alloc::Global;
 
-/// Row k is null where pick k is none, else the row that it names of one of the sources. Refuses for want of memory,
-/// and where the rows need more bytes, or the sources have more data buffers, than a column may have.
+/// Row k is null where pick k is none, else the row that it names of one of the sources. Refuses for want of memory, and
+/// where at some depth the rows need more rows or more bytes, or the sources have more data buffers, than a column may
+/// have.
 pub fn collect_rows<'a>(
     alloc: Global,
     sources: &'a [&'a Column],
