@@ -1,8 +1,7 @@
 //! Lists of one length.
 
-use crate::shared::{has_too_many_rows, nulls_in, taken};
+use crate::shared::{has_too_many_rows, kept, nulls_in, taken};
 use checks_columns::fixtures::{are_numbers, is_valid, nulls, numbers, validity};
-use polars_compute::filter::filter_with_bitmap;
 use sel_arrow::array::Array;
 use sel_arrow::array_ref::ArrayRef;
 use sel_arrow::column::Column;
@@ -206,22 +205,6 @@ fn broken_columns_are_handed_back(rt: HostRuntime) -> Result<(), Fail> {
     Ok(())
 }
 
-/// The first of two rows, by a mask.
-fn first_kept(alloc: Global, column: &ArrayRef) -> Result<ArrayRef, Fail> {
-    let mask = Bitmap::from_bools(alloc, &[true, false])?;
-    if column.len() != mask.len() {
-        return Err(Fail::from("another length"));
-    }
-    Ok(filter_with_bitmap(alloc, column, &mask)?)
-}
-
-/// The same of a column that is needed no more.
-fn kept(alloc: Global, column: ArrayRef) -> Result<ArrayRef, Fail> {
-    let kept = first_kept(alloc, &column);
-    drop(column);
-    kept
-}
-
 /// Whether this is the one list of 1 and 2.
 fn is_first_pair(rows: ArrayRef) -> bool {
     let column = rows.as_column();
@@ -232,7 +215,39 @@ fn is_first_pair(rows: ArrayRef) -> bool {
 
 #[test]
 fn a_filter_of_lists_of_one_length_is_a_take(rt: HostRuntime) -> Result<(), Fail> {
-    assert!(rt; is_first_pair(kept(rt.alloc(), pair_and_null(rt.alloc())?)?));
+    assert!(rt; is_first_pair(kept(rt.alloc(), pair_and_null(rt.alloc())?, &[true, false])?));
     assert!(rt; is_first_pair(taken(rt.alloc(), pair_and_null(rt.alloc())?, &[Some(0)])?));
+    Ok(())
+}
+
+/// The rows `[1, 2]`, `[3, 4]` and null, which hides `5` and `6`.
+fn two_pairs_and_null(alloc: Global) -> Result<ArrayRef, Fail> {
+    let bits = validity(alloc, &[true, true, false])?;
+    let child = numbers(
+        alloc,
+        &[1i64, 2, 3, 4, 5, 6],
+        &[true, true, true, true, true, true],
+    )?;
+    blocks(alloc, 2, 3, child.into_ref(), bits)
+}
+
+/// Whether these are `[1, 2]` and null.
+fn are_pair_and_null(rows: ArrayRef) -> bool {
+    let column = rows.as_column();
+    let are_these = are_blocks(column, 2, 2)
+        && is_pair_at(column, 0, 0, &[Some(1), Some(2)])
+        && is_null_at(column, 1);
+    drop(rows);
+    are_these
+}
+
+#[test]
+fn lists_of_one_length_under_a_mask_with_a_gap(rt: HostRuntime) -> Result<(), Fail> {
+    let rows = kept(
+        rt.alloc(),
+        two_pairs_and_null(rt.alloc())?,
+        &[true, false, true],
+    )?;
+    assert!(rt; are_pair_and_null(rows));
     Ok(())
 }

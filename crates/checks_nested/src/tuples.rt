@@ -1,7 +1,7 @@
 //! Tuples.
 
-use crate::shared::taken;
-use checks_columns::fixtures::{is_valid, number_at, numbers, truth_at, truths};
+use crate::shared::{kept, taken};
+use checks_columns::fixtures::{is_valid, number_at, numbers, truth_at, truths, validity};
 use sel_arrow::array::Array;
 use sel_arrow::array_ref::ArrayRef;
 use sel_arrow::column::Column;
@@ -83,5 +83,46 @@ fn takes_pairs(alloc: Global) -> Result<bool, Fail> {
 #[test]
 fn pairs_at_indices(rt: HostRuntime) -> Result<(), Fail> {
     assert!(rt; takes_pairs(rt.alloc())?);
+    Ok(())
+}
+
+/// The rows `(1, true)`, `(2, null)` and null, which hides `3` and `false`.
+fn two_pairs_and_null(alloc: Global) -> Result<ArrayRef, Fail> {
+    let bits = validity(alloc, &[true, true, false])?;
+    let first = numbers(alloc, &[1i64, 2, 3], &[true, true, true])?;
+    let second = truths(alloc, &[true, true, false], &[true, false, true])?;
+    let fields = vec![in alloc; first.into_ref(), second.into_ref()]?;
+    Ok(StructArray::try_new(alloc, 3, fields, bits)?.into_ref())
+}
+
+/// Whether these are `(1, true)` and null.
+fn are_pair_and_null(rows: ArrayRef) -> bool {
+    let are_these = match rows.as_column() {
+        Column::Struct {
+            len,
+            fields,
+            validity,
+        } => {
+            *len == 2
+                && is_valid(validity, 0)
+                && !is_valid(validity, 1)
+                && fields.len() == 2
+                && number_at(&fields[0], 0) == Some(Some(1))
+                && truth_at(&fields[1], 0) == Some(Some(true))
+        }
+        _ => false,
+    };
+    drop(rows);
+    are_these
+}
+
+#[test]
+fn tuples_under_a_mask_with_a_gap(rt: HostRuntime) -> Result<(), Fail> {
+    let rows = kept(
+        rt.alloc(),
+        two_pairs_and_null(rt.alloc())?,
+        &[true, false, true],
+    )?;
+    assert!(rt; are_pair_and_null(rows));
     Ok(())
 }
