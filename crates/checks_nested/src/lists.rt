@@ -101,11 +101,16 @@ fn lists_of_lists_at_indices(rt: HostRuntime) -> Result<(), Fail> {
 }
 
 /// The rows `[1, 2]`, null and `[3]`.
-pub fn three_lists(alloc: Global) -> Result<ArrayRef, Fail> {
+pub fn number_lists(alloc: Global) -> Result<ListArray<i64>, Fail> {
     let offsets = offsets(alloc, &[0, 2, 2, 3])?;
     let bits = validity(alloc, &[true, false, true])?;
     let child = numbers(alloc, &[1i64, 2, 3], &[true, true, true])?;
-    lists(alloc, offsets, child.into_ref(), bits)
+    Ok(ListArray::try_new(alloc, offsets, child.into_ref(), bits)?)
+}
+
+/// The same as a column of any type.
+pub fn three_lists(alloc: Global) -> Result<ArrayRef, Fail> {
+    Ok(number_lists(alloc)?.into_ref())
 }
 
 /// The two rows behind the first of three.
