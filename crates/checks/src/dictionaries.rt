@@ -46,6 +46,17 @@ fn are_outer_texts(alloc: Global, values: &Utf8ViewArray) -> PolarsResult<bool> 
     )
 }
 
+// Whether these are all three texts, without a validity.
+fn are_all_texts(alloc: Global, values: &Utf8ViewArray) -> PolarsResult<bool> {
+    Ok(
+        values.len() == 3
+            && values.validity().is_none()
+            && has_text(alloc, values, 0, Some("a"))?
+            && has_text(alloc, values, 1, Some("b"))?
+            && has_text(alloc, values, 2, Some("c"))?,
+    )
+}
+
 #[test]
 fn keys_of_a_null_value(rt: HostRuntime) -> Result<(), Fail> {
     let keys = column(rt.alloc(), &[Some(0), Some(1), Some(2), None], u32::MAX)?;
@@ -62,7 +73,7 @@ fn keys_of_valid_values(rt: HostRuntime) -> Result<(), Fail> {
     let values = three_texts(rt.alloc(), true)?;
     let (keys, values) = propagated(rt.alloc(), &keys, &values)?;
     assert!(rt; has_numbers(&keys, &[Some(2), Some(1), None]));
-    assert!(rt; values.len() == 3 && values.validity().is_none());
+    assert!(rt; are_all_texts(rt.alloc(), &values) == Ok(true));
     Ok(())
 }
 

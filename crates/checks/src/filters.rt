@@ -1,3 +1,5 @@
+//! Bits of words under masks, filters of the bits of many words, of values by bytes of bits, and of texts.
+
 ghost use Rattle.std.specs.Prelude.{◌≡◌, ◌≤◌, length, IfOk};
 
 use crate::kernels::{filtered_by, many_values};

@@ -1,3 +1,5 @@
+//! Filters and takes of columns without children, and the kernels of bits, numbers and bytes beneath them.
+
 use checks_columns::fixtures::{
     begins_with, column, has_bytes, has_numbers, is_bytes, is_numbers, is_truths, numbers, truths,
     validity_of,
@@ -101,7 +103,7 @@ fn rows_kept(alloc: Global, array: &ArrayRef, mask: &Bitmap) -> Result<ArrayRef,
     Ok(filter_with_bitmap(alloc, array, mask)?)
 }
 
-// The rows of any column under the mask, where they are as many.
+/// The rows of any column under the mask, where they are as many.
 pub fn filtered_by(alloc: Global, array: ArrayRef, mask: &BooleanArray) -> Result<ArrayRef, Fail> {
     let kept = rows_filtered(alloc, &array, mask);
     drop(array);
@@ -250,7 +252,7 @@ fn kept_bits_with_their_validity(rt: HostRuntime) -> Result<(), Fail> {
     Ok(())
 }
 
-// The numbers from 0 to 64.
+/// The numbers from 0 to 64.
 pub fn many_values(alloc: Global) -> PolarsResult<Vec<u64>> {
     let mut values = Vec::new(alloc);
     for i in 0..65u64 {

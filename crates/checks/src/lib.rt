@@ -1,4 +1,5 @@
-//! The worked rows of the libraries below, and each of their public calls once, as tests.
+//! The worked rows of filters, of takes, of dictionaries, of rows of several columns and of the laws, as tests, and the
+//! pieces by which runs are copied, each called by itself.
 #![tactic(auto)]
 
 #[cfg(test)]
@@ -11,5 +12,7 @@ mod kernels;
 mod laws;
 #[cfg(test)]
 mod rows;
+#[cfg(test)]
+mod runs;
 #[cfg(test)]
 mod takes;

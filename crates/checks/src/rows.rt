@@ -1,7 +1,8 @@
 //! Rows of several columns, by picks and by runs.
 
 use checks_columns::fixtures::{
-    buffer, has_bytes, has_bytes_at, has_text, is_bytes, is_numbers, is_truths, one_buffer, truths,
+    buffer, has_bytes, has_bytes_at, has_numbers, has_text, is_bytes, is_numbers, is_truths,
+    one_buffer, truths,
 };
 use polars_compute::gather::{collect_rows, picks_in_bounds};
 use sel_arrow::array::Array;
@@ -130,8 +131,8 @@ fn bytes_beneath_nulls_are_not_copied(rt: HostRuntime) -> Result<(), Fail> {
     Ok(())
 }
 
-// A short text, and then a long one in the data buffer.
-fn views(alloc: Global, long: &[u8]) -> Result<BinaryViewArray, Fail> {
+/// A short text, and then a long one in the data buffer.
+pub fn views(alloc: Global, long: &[u8]) -> Result<BinaryViewArray, Fail> {
     if long.len() > 100 {
         return Err(Fail::from("too long"));
     }
@@ -145,13 +146,14 @@ fn views(alloc: Global, long: &[u8]) -> Result<BinaryViewArray, Fail> {
 
 const LONG_PICKS: [Option<(u32, u32)>; 3] = [Some((1, 1)), None, Some((0, 0))];
 
-// Whether there are three rows over two data buffers, the first the long text of the second column, then a null.
+// Whether there are three rows over two data buffers, the long text of the second column, a null and the short text of the first.
 fn are_long_rows(alloc: Global, rows: &BinaryViewArray) -> PolarsResult<bool> {
     Ok(
         rows.len() == 3
             && rows.data_buffers().len() == 2
             && has_bytes_at(alloc, rows, 0, Some(b"nopqrstuvwxyz"))?
-            && has_bytes_at(alloc, rows, 1, None)?,
+            && has_bytes_at(alloc, rows, 1, None)?
+            && has_bytes_at(alloc, rows, 2, Some(b"ab"))?,
     )
 }
 
@@ -176,6 +178,17 @@ fn texts(alloc: Global, long: &[u8]) -> Result<Utf8ViewArray, Fail> {
     Ok(Utf8ViewArray::try_new(views, buffers, validity)?)
 }
 
+// The same of texts.
+fn are_long_texts(alloc: Global, rows: &Utf8ViewArray) -> PolarsResult<bool> {
+    Ok(
+        rows.len() == 3
+            && rows.data_buffers().len() == 2
+            && has_text(alloc, rows, 0, Some("nopqrstuvwxyz"))?
+            && has_text(alloc, rows, 1, None)?
+            && has_text(alloc, rows, 2, Some("ab"))?,
+    )
+}
+
 #[test]
 fn rows_of_two_columns_of_texts(rt: HostRuntime) -> Result<(), Fail> {
     let alloc = rt.alloc();
@@ -183,7 +196,7 @@ fn rows_of_two_columns_of_texts(rt: HostRuntime) -> Result<(), Fail> {
     let second = texts(alloc, b"nopqrstuvwxyz")?;
     let rows = collected_of_two(alloc, first.into_ref(), second.into_ref(), &LONG_PICKS)?;
     let rows = rows.into_utf8view().ok().ok_or("another type")?;
-    assert!(rt; rows.len() == 3 && has_text(alloc, &rows, 2, Some("ab")) == Ok(true));
+    assert!(rt; are_long_texts(alloc, &rows) == Ok(true));
     Ok(())
 }
 
@@ -222,13 +235,10 @@ fn picked_numbers<'a>(
     Ok(rows.into_primitive::<u8>().ok().ok_or("another type")?)
 }
 
-// Whether runs pick the second and the third row, and then nulls.
+// Whether runs pick the second and the third row, and then two nulls.
 fn picks_the_last(alloc: Global, column: &Column, runs: &[Run]) -> Result<bool, Fail> {
     let rows = picked_numbers(alloc, &[column], runs)?;
-    if rows.len() != 4 {
-        return Ok(false);
-    }
-    Ok(rows.get(0) == Some(2) && rows.get(1) == Some(3) && rows.get(2).is_none())
+    Ok(has_numbers(&rows, &[Some(2), Some(3), None, None]))
 }
 
 // The same of these runs of one column, which is dropped by a call.

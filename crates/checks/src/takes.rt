@@ -1,3 +1,5 @@
+//! Takes of bits, of truth values and of columns of any type at indices, null where an index is.
+
 use checks_columns::fixtures::{
     buffer, column, has_bits, has_text, has_truths, is_bytes, is_numbers, numbers, truths,
 };

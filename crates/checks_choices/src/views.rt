@@ -103,14 +103,18 @@ fn two_texts(alloc: Global, first: &[u8; 1], second: &[u8; 1]) -> Result<Utf8Vie
     Ok(Utf8ViewArray::try_new(buffer(alloc, &[first, second])?, none, None)?)
 }
 
-// Whether these are the two texts.
+// Whether these are the two texts alone.
 fn are_texts(
     alloc: Global,
     column: &Utf8ViewArray,
     first: &str,
     second: &str,
 ) -> Result<bool, Fail> {
-    Ok(has_text(alloc, column, 0, Some(first))? && has_text(alloc, column, 1, Some(second))?)
+    Ok(
+        column.len() == 2
+            && has_text(alloc, column, 0, Some(first))?
+            && has_text(alloc, column, 1, Some(second))?,
+    )
 }
 
 #[test]

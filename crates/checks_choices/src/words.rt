@@ -30,21 +30,24 @@ fn values_by_the_bits_of_a_word(rt: HostRuntime) -> Result<(), Fail> {
     Ok(())
 }
 
-// Whether the first values and the last one of 64 are these.
-fn begins_and_ends(values: &[u8; 64], first: [u8; 2], last: u8) -> bool {
-    values[0] == first[0] && values[1] == first[1] && values[63] == last
+// 64 values: the first, the last, and another in each place between.
+fn ends_and_middle<T: Copy>(first: T, middle: T, last: T) -> [T; 64] {
+    let mut values = [middle; 64];
+    values[0] = first;
+    values[63] = last;
+    values
 }
 
 #[test]
 fn values_by_all_bits_of_a_word(rt: HostRuntime) -> Result<(), Fail> {
     let mask = 1 | (1 << 63);
-    let mut out = [0; 64];
+    let mut out = [0u8; 64];
     if_then_else_scalar_64(mask, &[1; 64], &[2; 64], &mut out);
-    assert!(rt; begins_and_ends(&out, [1, 2], 1));
+    assert!(rt; out == ends_and_middle(1, 2, 1));
     if_then_else_broadcast_false_scalar_64(mask, &[3; 64], 4, &mut out);
-    assert!(rt; begins_and_ends(&out, [3, 4], 3));
+    assert!(rt; out == ends_and_middle(3, 4, 3));
     if_then_else_broadcast_both_scalar_64(mask, 5, 6, &mut out);
-    assert!(rt; begins_and_ends(&out, [5, 6], 5));
+    assert!(rt; out == ends_and_middle(5, 6, 5));
     Ok(())
 }
 
@@ -115,9 +118,9 @@ fn views_by_all_bits_of_a_word(rt: HostRuntime) -> Result<(), Fail> {
     if views_can_rise(&falses, 1) {
         if_then_else_view_64(1, &[LONG; 64], &falses, &mut out, 1);
     }
-    assert!(rt; out[0] == LONG && out[1] == in_second(OTHER) && out[63] == in_second(OTHER));
+    assert!(rt; out == ends_and_middle(LONG, in_second(OTHER), in_second(OTHER)));
     if_then_else_broadcast_false_view_64(1 << 63, &[LONG; 64], SHORT, &mut out);
-    assert!(rt; out[0] == SHORT && out[62] == SHORT && out[63] == LONG);
+    assert!(rt; out == ends_and_middle(SHORT, SHORT, LONG));
     Ok(())
 }
 

@@ -4,7 +4,8 @@ ghost use Rattle.sel_arrow.specs.Masked.{Covers};
 ghost use Rattle.sel_arrow.specs.Rows.{IsWellFormed};
 
 use crate::fixtures::{
-    buffer, has_bytes, has_bytes_at, has_text, has_truths, numbers, one_buffer, truths, validity,
+    buffer, copy_tells, has_bytes, has_bytes_at, has_own_dtype, has_text, has_truths, numbers,
+    one_buffer, part_tells, tells, truths, validity,
 };
 use sel_arrow::array::Array;
 use sel_arrow::array_ref::ArrayRef;
@@ -206,44 +207,6 @@ fn views_hold_up_to_twelve_bytes(rt: HostRuntime) -> Result<(), Fail> {
     let column = short_views(rt.alloc())?;
     assert!(rt; are_letters(rt.alloc(), &column) == Ok(true));
     Ok(())
-}
-
-/// Whether a column tells of itself that it has three rows, how many of them are null, and its type.
-fn tells<A: Array>(column: &A, dtype: &ArrowDataType, nulls: usize) -> bool {
-    column.len() == 3
-        && !column.is_empty()
-        && column.null_count() == nulls
-        && column.has_nulls() == (nulls > 0)
-        && column.validity().is_some() == (nulls == 1)
-        && column.has_dtype(dtype)
-}
-
-/// Whether the type that is read off a column is its type.
-fn has_own_dtype<A: Array>(alloc: Global, column: &A) -> PolarsResult<bool> {
-    let dtype = column.dtype(alloc)?;
-    let is_own = column.has_dtype(&dtype);
-    drop(dtype);
-    Ok(is_own)
-}
-
-/// Whether so many of the two rows behind the first are null.
-fn part_tells<A: Array + Drop>(alloc: Global, column: &A, nulls: usize) -> PolarsResult<bool> {
-    if column.len() != 3 {
-        return Ok(false);
-    }
-    let part = column.sliced(alloc, 1, 2)?;
-    Ok(part.len() == 2 && part.null_count() == nulls)
-}
-
-/// Whether a copy tells the same.
-fn copy_tells<A: Array + Drop>(
-    alloc: Global,
-    column: &A,
-    dtype: &ArrowDataType,
-    nulls: usize,
-) -> PolarsResult<bool> {
-    let copy = column.try_clone(alloc)?;
-    Ok(tells(&copy, dtype, nulls) && copy.same_dtype(column))
 }
 
 /// What the column, its part and its copy tell of themselves, and the copy as a column of any type.

@@ -9,6 +9,7 @@ use sel_arrow::binary::BinaryArray;
 use sel_arrow::binview::BinaryViewArray;
 use sel_arrow::boolean::BooleanArray;
 use sel_arrow::column::Column;
+use sel_arrow::datatype::ArrowDataType;
 use sel_arrow::null::NullArray;
 use sel_arrow::primitive::{ArrowPrimitive, PrimitiveArray};
 use sel_arrow::utf8view::Utf8ViewArray;
@@ -116,10 +117,12 @@ pub fn begins_with(bitmap: &Bitmap, bits: &[bool]) -> bool {
     true
 }
 
+/// Whether the bitmap is these bits.
 pub fn has_bits(bitmap: &Bitmap, bits: &[bool]) -> bool {
     bitmap.len() == bits.len() && begins_with(bitmap, bits)
 }
 
+/// Whether the column is these truth values; none is null.
 pub fn has_truths(column: &BooleanArray, rows: &[Option<bool>]) -> bool {
     if column.len() != rows.len() {
         return false;
@@ -138,6 +141,7 @@ pub fn is_truths(column: ArrayRef, rows: &[Option<bool>]) -> Result<bool, Fail> 
     Ok(has_truths(&column, rows))
 }
 
+/// Whether the column is these numbers; none is null.
 pub fn has_numbers<T: ArrowPrimitive + PartialEq>(
     column: &PrimitiveArray<T>,
     rows: &[Option<T>],
@@ -205,6 +209,7 @@ pub fn are_numbers(column: &Column, start: usize, end: usize, rows: &[Option<i64
     true
 }
 
+/// Whether the column is these bytes, row by row; none is null.
 pub fn has_bytes<O: Offset>(column: &BinaryArray<O>, rows: &[Option<&[u8]>]) -> bool {
     if column.len() != rows.len() {
         return false;
@@ -253,4 +258,42 @@ pub fn has_text(
         Some(row) => text == Some(row.as_str()),
         None => text.is_none(),
     })
+}
+
+/// Whether a column tells of itself that it has three rows, how many of them are null, and its type.
+pub fn tells<A: Array>(column: &A, dtype: &ArrowDataType, nulls: usize) -> bool {
+    column.len() == 3
+        && !column.is_empty()
+        && column.null_count() == nulls
+        && column.has_nulls() == (nulls > 0)
+        && column.validity().is_some() == (nulls == 1)
+        && column.has_dtype(dtype)
+}
+
+/// Whether the type that is read off a column is its type.
+pub fn has_own_dtype<A: Array>(alloc: Global, column: &A) -> PolarsResult<bool> {
+    let dtype = column.dtype(alloc)?;
+    let is_own = column.has_dtype(&dtype);
+    drop(dtype);
+    Ok(is_own)
+}
+
+/// Whether so many of the two rows behind the first are null.
+pub fn part_tells<A: Array + Drop>(alloc: Global, column: &A, nulls: usize) -> PolarsResult<bool> {
+    if column.len() != 3 {
+        return Ok(false);
+    }
+    let part = column.sliced(alloc, 1, 2)?;
+    Ok(part.len() == 2 && part.null_count() == nulls)
+}
+
+/// Whether a copy tells the same.
+pub fn copy_tells<A: Array + Drop>(
+    alloc: Global,
+    column: &A,
+    dtype: &ArrowDataType,
+    nulls: usize,
+) -> PolarsResult<bool> {
+    let copy = column.try_clone(alloc)?;
+    Ok(tells(&copy, dtype, nulls) && copy.same_dtype(column))
 }

@@ -51,7 +51,18 @@ fn no_height_is_no_rows(rt: HostRuntime) -> Result<(), Fail> {
     Ok(())
 }
 
-/// How many rows a column of nulls has, side by side with none other; or what refuses it.
+/// How many rows a column of nulls has, if it is one.
+fn count_nulls(column: ArrayRef) -> Result<usize, Fail> {
+    match column.into_null() {
+        Ok(nulls) => Ok(nulls.len()),
+        Err(back) => {
+            drop(back);
+            Err(Fail::from("another type"))
+        }
+    }
+}
+
+/// How many nulls a column of nulls is, side by side with none other; or what refuses it.
 fn nulls_flat(
     alloc: Global,
     rows: usize,
@@ -59,11 +70,7 @@ fn nulls_flat(
 ) -> Result<Result<usize, PolarsError>, Fail> {
     let arrays = vec![in alloc; NullArray::try_new(rows)?.into_ref()]?;
     match flattened(alloc, arrays, &[rows], height)? {
-        Ok(flat) => {
-            let len = flat.len();
-            drop(flat);
-            Ok(Ok(len))
-        }
+        Ok(flat) => Ok(Ok(count_nulls(flat)?)),
         Err(fault) => Ok(Err(fault)),
     }
 }
@@ -92,5 +99,22 @@ fn what_may_stand_side_by_side(rt: HostRuntime) -> Result<(), Fail> {
     // (9,223,372,036,854,775,809 times 2 is 2, if numbers of 64 bits wrap)
     assert!(rt; !may_flatten(rt.alloc(), &[1, 9_223_372_036_854_775_809], 2)?);
     assert!(rt; !flatten_is_safe(&[], &[], 2));
+    Ok(())
+}
+
+/// Whether one number and such a column of one row may be put side by side.
+fn may_stand_by_number(alloc: Global, other: ArrayRef) -> Result<bool, Fail> {
+    let arrays = vec![in alloc; numbers(alloc, &[1i64], &[true])?.into_ref(), other]?;
+    let safe = flatten_is_safe(&arrays, &[1, 1], 1);
+    drop(arrays);
+    Ok(safe)
+}
+
+#[test]
+fn columns_side_by_side_are_of_one_type(rt: HostRuntime) -> Result<(), Fail> {
+    let alloc = rt.alloc();
+    assert!(rt; may_stand_by_number(alloc, numbers(alloc, &[2i64], &[true])?.into_ref())?);
+    assert!(rt; !may_stand_by_number(alloc, numbers(alloc, &[2i32], &[true])?.into_ref())?);
+    assert!(rt; !may_stand_by_number(alloc, NullArray::try_new(1)?.into_ref())?);
     Ok(())
 }

@@ -110,17 +110,29 @@ fn pairs_side_by_side(rt: HostRuntime) -> Result<(), Fail> {
     Ok(())
 }
 
-/// How many tuples two empty ones are, in two rows.
-fn empty_tuples_flat(alloc: Global) -> Result<usize, Fail> {
+/// Whether these are two tuples of no fields, neither of them null.
+fn are_two_empty(rows: ArrayRef) -> bool {
+    let are_these = match rows.as_column() {
+        Column::Struct {
+            len,
+            fields,
+            validity,
+        } => *len == 2 && fields.is_empty() && is_valid(validity, 0) && is_valid(validity, 1),
+        _ => false,
+    };
+    let nulls = rows.null_count();
+    drop(rows);
+    are_these && nulls == 0
+}
+
+/// What two empty tuples are, in two rows.
+fn empty_tuples_flat(alloc: Global) -> Result<ArrayRef, Fail> {
     let empty = StructArray::try_new(alloc, 2, Vec::new(alloc), None)?.into_ref();
-    let flat = flattened(alloc, vec![in alloc; empty]?, &[1], 2)??;
-    let len = flat.len();
-    drop(flat);
-    Ok(len)
+    Ok(flattened(alloc, vec![in alloc; empty]?, &[1], 2)??)
 }
 
 #[test]
 fn empty_tuples_side_by_side(rt: HostRuntime) -> Result<(), Fail> {
-    assert!(rt; empty_tuples_flat(rt.alloc())? == 2);
+    assert!(rt; are_two_empty(empty_tuples_flat(rt.alloc())?));
     Ok(())
 }

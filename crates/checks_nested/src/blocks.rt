@@ -1,8 +1,7 @@
 //! Lists of one length.
 
-use crate::shared::{has_too_many_rows, nulls_in, taken};
-use checks_columns::fixtures::{are_numbers, is_valid, nulls, numbers, validity};
-use polars_compute::filter::filter_with_bitmap;
+use crate::shared::{has_too_many_rows, kept, nulls_in, taken};
+use checks_columns::fixtures::{are_numbers, is_valid, nulls, number_at, numbers, validity};
 use sel_arrow::array::Array;
 use sel_arrow::array_ref::ArrayRef;
 use sel_arrow::column::Column;
@@ -68,7 +67,8 @@ fn takes_pair_and_null(alloc: Global) -> Result<bool, Fail> {
     let column = rows.as_column();
     let are_same = are_blocks(column, 2, 2)
         && is_pair_at(column, 0, 0, &[Some(1), Some(2)])
-        && is_null_at(column, 1);
+        && is_null_at(column, 1)
+        && rows.null_count() == 1;
     drop(rows);
     Ok(are_same)
 }
@@ -85,7 +85,8 @@ fn takes_pairs_of_nulls(alloc: Global) -> Result<bool, Fail> {
     let column = rows.as_column();
     let are_same = are_blocks(column, 2, 2)
         && is_pair_at(column, 0, 0, &[None, None])
-        && is_pair_at(column, 1, 2, &[None, None]);
+        && is_pair_at(column, 1, 2, &[None, None])
+        && rows.null_count() == 0;
     drop(rows);
     Ok(are_same)
 }
@@ -162,9 +163,9 @@ fn lists_of_one_length_have_their_entries(rt: HostRuntime) -> Result<(), Fail> {
     Ok(())
 }
 
-/// Two lists of two entries each over three numbers, which is no column.
-fn broken_blocks(alloc: Global) -> Result<Column, Fail> {
-    let child = numbers(alloc, &[1i64, 2, 3], &[true, true, true])?;
+/// Two lists of two entries each over these numbers, which is a column where they are four.
+fn raw_blocks(alloc: Global, values: &[i64], bits: &[bool]) -> Result<Column, Fail> {
+    let child = numbers(alloc, values, bits)?;
     let values = Box::new(alloc, Column::Int64(child))?;
     Ok(Column::FixedSizeList {
         size: 2,
@@ -174,25 +175,33 @@ fn broken_blocks(alloc: Global) -> Result<Column, Fail> {
     })
 }
 
-/// Whether this is the column above.
+/// Whether this is such a column over 1, 2 and 3.
 fn are_broken_blocks(column: &Column) -> bool {
     match column {
-        Column::FixedSizeList { values, .. } => {
-            are_blocks(column, 2, 2) && are_numbers(values, 0, 3, &[Some(1), Some(2), Some(3)])
+        Column::FixedSizeList {
+            values,
+            validity,
+            ..
+        } => {
+            are_blocks(column, 2, 2)
+                && validity.is_none()
+                && are_numbers(values, 0, 3, &[Some(1), Some(2), Some(3)])
+                && number_at(values, 3).is_none()
         }
         _ => false,
     }
 }
 
-/// Whether what is no column is handed back as it was.
+/// Whether what is over three numbers is told to be no column, and is handed back as it was.
 fn is_handed_back(broken: Column) -> bool {
+    let is_formed = broken.is_well_formed();
     match ArrayRef::try_new(broken) {
         Ok(array) => {
             drop(array);
             false
         }
         Err(back) => {
-            let is_same = are_broken_blocks(&back);
+            let is_same = !is_formed && are_broken_blocks(&back);
             drop(back);
             is_same
         }
@@ -201,25 +210,38 @@ fn is_handed_back(broken: Column) -> bool {
 
 #[test]
 fn broken_columns_are_handed_back(rt: HostRuntime) -> Result<(), Fail> {
-    let broken = broken_blocks(rt.alloc())?;
+    let broken = raw_blocks(rt.alloc(), &[1, 2, 3], &[true, true, true])?;
     assert!(rt; is_handed_back(broken));
     Ok(())
 }
 
-/// The first of two rows, by a mask.
-fn first_kept(alloc: Global, column: &ArrayRef) -> Result<ArrayRef, Fail> {
-    let mask = Bitmap::from_bools(alloc, &[true, false])?;
-    if column.len() != mask.len() {
-        return Err(Fail::from("another length"));
-    }
-    Ok(filter_with_bitmap(alloc, column, &mask)?)
+/// Whether these are `[1, 2]` and `[3, 4]`.
+pub fn are_two_pairs(rows: ArrayRef) -> bool {
+    let column = rows.as_column();
+    let are_these = are_blocks(column, 2, 2)
+        && is_pair_at(column, 0, 0, &[Some(1), Some(2)])
+        && is_pair_at(column, 1, 2, &[Some(3), Some(4)]);
+    drop(rows);
+    are_these
 }
 
-/// The same of a column that is needed no more.
-fn kept(alloc: Global, column: ArrayRef) -> Result<ArrayRef, Fail> {
-    let kept = first_kept(alloc, &column);
-    drop(column);
-    kept
+/// Whether what is over four numbers is told to be a column, and is taken as it is.
+fn is_accepted(whole: Column) -> bool {
+    let is_formed = whole.is_well_formed();
+    match ArrayRef::try_new(whole) {
+        Ok(array) => are_two_pairs(array) && is_formed,
+        Err(back) => {
+            drop(back);
+            false
+        }
+    }
+}
+
+#[test]
+fn whole_columns_are_taken(rt: HostRuntime) -> Result<(), Fail> {
+    let whole = raw_blocks(rt.alloc(), &[1, 2, 3, 4], &[true, true, true, true])?;
+    assert!(rt; is_accepted(whole));
+    Ok(())
 }
 
 /// Whether this is the one list of 1 and 2.
@@ -232,7 +254,40 @@ fn is_first_pair(rows: ArrayRef) -> bool {
 
 #[test]
 fn a_filter_of_lists_of_one_length_is_a_take(rt: HostRuntime) -> Result<(), Fail> {
-    assert!(rt; is_first_pair(kept(rt.alloc(), pair_and_null(rt.alloc())?)?));
+    assert!(rt; is_first_pair(kept(rt.alloc(), pair_and_null(rt.alloc())?, &[true, false])?));
     assert!(rt; is_first_pair(taken(rt.alloc(), pair_and_null(rt.alloc())?, &[Some(0)])?));
+    Ok(())
+}
+
+/// The rows `[1, 2]`, `[3, 4]` and null, which hides `5` and `6`.
+pub fn number_blocks(alloc: Global) -> Result<FixedSizeListArray, Fail> {
+    let bits = validity(alloc, &[true, true, false])?;
+    let child = numbers(
+        alloc,
+        &[1i64, 2, 3, 4, 5, 6],
+        &[true, true, true, true, true, true],
+    )?;
+    Ok(FixedSizeListArray::try_new(alloc, 2, 3, child.into_ref(), bits)?)
+}
+
+/// The same as a column of any type.
+pub fn three_blocks(alloc: Global) -> Result<ArrayRef, Fail> {
+    Ok(number_blocks(alloc)?.into_ref())
+}
+
+/// Whether these are `[1, 2]` and null.
+pub fn are_pair_and_null(rows: ArrayRef) -> bool {
+    let column = rows.as_column();
+    let are_these = are_blocks(column, 2, 2)
+        && is_pair_at(column, 0, 0, &[Some(1), Some(2)])
+        && is_null_at(column, 1);
+    drop(rows);
+    are_these
+}
+
+#[test]
+fn lists_of_one_length_under_a_mask_with_a_gap(rt: HostRuntime) -> Result<(), Fail> {
+    let rows = kept(rt.alloc(), three_blocks(rt.alloc())?, &[true, false, true])?;
+    assert!(rt; are_pair_and_null(rows));
     Ok(())
 }

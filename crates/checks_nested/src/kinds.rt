@@ -1,8 +1,9 @@
 //! Columns with children as lists, as lists of one length and as tuples, under other validities.
 
-use crate::blocks::{are_blocks, is_pair_at, pair_and_null};
+use crate::arrays::{are_all_lists, are_all_tuples};
+use crate::blocks::{are_pair_and_null, are_two_pairs, pair_and_null};
 use crate::lists::{are_lists, bounds_at, is_list_at, three_lists};
-use crate::tuples::two_pairs;
+use crate::tuples::{three_tuples, two_pairs};
 use checks_columns::fixtures::{is_valid, number_at, numbers, truths};
 use sel_arrow::array::Array;
 use sel_arrow::array_ref::ArrayRef;
@@ -49,16 +50,6 @@ fn are_other_lists(rows: ArrayRef) -> bool {
     are_these
 }
 
-/// Whether these are `[1, 2]` and `[3, 4]`.
-fn are_other_blocks(rows: ArrayRef) -> bool {
-    let column = rows.as_column();
-    let are_these = are_blocks(column, 2, 2)
-        && is_pair_at(column, 0, 0, &[Some(1), Some(2)])
-        && is_pair_at(column, 1, 2, &[Some(3), Some(4)]);
-    drop(rows);
-    are_these
-}
-
 /// Whether these are a null over 1 and a tuple of 2.
 fn are_other_tuples(rows: ArrayRef) -> bool {
     let are_these = match rows.as_column() {
@@ -96,7 +87,7 @@ fn masks_lists(alloc: Global) -> Result<bool, Fail> {
 fn masks_blocks(alloc: Global) -> Result<bool, Fail> {
     let bits = Bitmap::from_bools(alloc, &[true, true])?;
     match blocks_under(pair_and_null(alloc)?, bits) {
-        Ok(rows) => Ok(are_other_blocks(rows)),
+        Ok(rows) => Ok(are_two_pairs(rows)),
         Err(back) => {
             drop(back);
             Ok(false)
@@ -131,17 +122,37 @@ fn lists_come_back(alloc: Global) -> Result<bool, Fail> {
             drop(tuples);
             Ok(false)
         }
-        Err(back) => {
-            let are_same = are_lists(back.as_column(), 3);
-            drop(back);
-            Ok(are_same)
+        Err(back) => Ok(are_all_lists(back)),
+    }
+}
+
+/// Whether lists of one length that are taken for lists between offsets come back.
+fn blocks_come_back(alloc: Global) -> Result<bool, Fail> {
+    match pair_and_null(alloc)?.into_list() {
+        Ok(lists) => {
+            drop(lists);
+            Ok(false)
         }
+        Err(back) => Ok(are_pair_and_null(back)),
+    }
+}
+
+/// Whether tuples that are taken for lists of one length come back.
+fn tuples_come_back(alloc: Global) -> Result<bool, Fail> {
+    match three_tuples(alloc)?.into_fixed_size_list() {
+        Ok(blocks) => {
+            drop(blocks);
+            Ok(false)
+        }
+        Err(back) => Ok(are_all_tuples(back)),
     }
 }
 
 #[test]
 fn columns_of_another_kind_come_back(rt: HostRuntime) -> Result<(), Fail> {
     assert!(rt; lists_come_back(rt.alloc())?);
+    assert!(rt; blocks_come_back(rt.alloc())?);
+    assert!(rt; tuples_come_back(rt.alloc())?);
     Ok(())
 }
 

@@ -1,6 +1,6 @@
 //! Lists between offsets.
 
-use crate::shared::{has_too_many_rows, taken};
+use crate::shared::{has_too_many_rows, kept, taken};
 use checks_columns::fixtures::{are_numbers, is_valid, nulls, numbers, offsets, validity};
 use polars_compute::filter::filter;
 use sel_arrow::array::Array;
@@ -101,11 +101,16 @@ fn lists_of_lists_at_indices(rt: HostRuntime) -> Result<(), Fail> {
 }
 
 /// The rows `[1, 2]`, null and `[3]`.
-pub fn three_lists(alloc: Global) -> Result<ArrayRef, Fail> {
+pub fn number_lists(alloc: Global) -> Result<ListArray<i64>, Fail> {
     let offsets = offsets(alloc, &[0, 2, 2, 3])?;
     let bits = validity(alloc, &[true, false, true])?;
     let child = numbers(alloc, &[1i64, 2, 3], &[true, true, true])?;
-    lists(alloc, offsets, child.into_ref(), bits)
+    Ok(ListArray::try_new(alloc, offsets, child.into_ref(), bits)?)
+}
+
+/// The same as a column of any type.
+pub fn three_lists(alloc: Global) -> Result<ArrayRef, Fail> {
+    Ok(number_lists(alloc)?.into_ref())
 }
 
 /// The two rows behind the first of three.
@@ -154,6 +159,47 @@ fn keeps_last_lists(alloc: Global) -> Result<bool, Fail> {
 #[test]
 fn parts_of_lists_under_masks(rt: HostRuntime) -> Result<(), Fail> {
     assert!(rt; keeps_last_lists(rt.alloc())?);
+    Ok(())
+}
+
+/// Whether these are `[1, 2]` and `[3]`.
+fn are_outer_lists(rows: ArrayRef) -> bool {
+    let column = rows.as_column();
+    let are_these = are_lists(column, 2)
+        && is_list_at(column, 0, &[Some(1), Some(2)])
+        && is_list_at(column, 1, &[Some(3)]);
+    drop(rows);
+    are_these
+}
+
+/// The rows `[1]`, `[2, 3]` and null.
+fn two_lists_and_null(alloc: Global) -> Result<ArrayRef, Fail> {
+    let offsets = offsets(alloc, &[0, 1, 3, 3])?;
+    let bits = validity(alloc, &[true, true, false])?;
+    let child = numbers(alloc, &[1i64, 2, 3], &[true, true, true])?;
+    lists(alloc, offsets, child.into_ref(), bits)
+}
+
+/// Whether these are `[1]` and null.
+fn are_list_and_null(rows: ArrayRef) -> bool {
+    let column = rows.as_column();
+    let are_these = are_lists(column, 2)
+        && is_list_at(column, 0, &[Some(1)])
+        && bounds_at(column, 1).is_none();
+    drop(rows);
+    are_these
+}
+
+#[test]
+fn lists_under_a_mask_with_a_gap(rt: HostRuntime) -> Result<(), Fail> {
+    let rows = kept(rt.alloc(), three_lists(rt.alloc())?, &[true, false, true])?;
+    assert!(rt; are_outer_lists(rows));
+    let rows = kept(
+        rt.alloc(),
+        two_lists_and_null(rt.alloc())?,
+        &[true, false, true],
+    )?;
+    assert!(rt; are_list_and_null(rows));
     Ok(())
 }
 

@@ -1,7 +1,7 @@
 //! Tuples.
 
-use crate::shared::taken;
-use checks_columns::fixtures::{is_valid, number_at, numbers, truth_at, truths};
+use crate::shared::{kept, taken};
+use checks_columns::fixtures::{is_valid, number_at, numbers, truth_at, truths, validity};
 use sel_arrow::array::Array;
 use sel_arrow::array_ref::ArrayRef;
 use sel_arrow::column::Column;
@@ -83,5 +83,69 @@ fn takes_pairs(alloc: Global) -> Result<bool, Fail> {
 #[test]
 fn pairs_at_indices(rt: HostRuntime) -> Result<(), Fail> {
     assert!(rt; takes_pairs(rt.alloc())?);
+    Ok(())
+}
+
+/// The rows `(1, true)`, `(2, null)` and null, which hides `3` and `false`.
+pub fn mixed_tuples(alloc: Global) -> Result<StructArray, Fail> {
+    let bits = validity(alloc, &[true, true, false])?;
+    let first = numbers(alloc, &[1i64, 2, 3], &[true, true, true])?;
+    let second = truths(alloc, &[true, true, false], &[true, false, true])?;
+    let fields = vec![in alloc; first.into_ref(), second.into_ref()]?;
+    Ok(StructArray::try_new(alloc, 3, fields, bits)?)
+}
+
+/// The same as a column of any type.
+pub fn three_tuples(alloc: Global) -> Result<ArrayRef, Fail> {
+    Ok(mixed_tuples(alloc)?.into_ref())
+}
+
+/// Whether these are so many tuples of two fields.
+pub fn are_tuples(column: &Column, count: usize) -> bool {
+    match column {
+        Column::Struct { len, fields, .. } => *len == count && fields.len() == 2,
+        _ => false,
+    }
+}
+
+/// Whether the tuple is null.
+pub fn is_null_tuple(column: &Column, at: usize) -> bool {
+    match column {
+        Column::Struct { validity, .. } => !is_valid(validity, at),
+        _ => false,
+    }
+}
+
+/// Whether the tuple has this number and this truth value.
+pub fn is_tuple_at(column: &Column, at: usize, row: (Option<i64>, Option<bool>)) -> bool {
+    match column {
+        Column::Struct {
+            fields,
+            validity,
+            ..
+        } => {
+            is_valid(validity, at)
+                && fields.len() == 2
+                && number_at(&fields[0], at) == Some(row.0)
+                && truth_at(&fields[1], at) == Some(row.1)
+        }
+        _ => false,
+    }
+}
+
+/// Whether these are `(1, true)` and null.
+fn are_pair_and_null(rows: ArrayRef) -> bool {
+    let column = rows.as_column();
+    let are_these = are_tuples(column, 2)
+        && is_tuple_at(column, 0, (Some(1), Some(true)))
+        && is_null_tuple(column, 1);
+    drop(rows);
+    are_these
+}
+
+#[test]
+fn tuples_under_a_mask_with_a_gap(rt: HostRuntime) -> Result<(), Fail> {
+    let rows = kept(rt.alloc(), three_tuples(rt.alloc())?, &[true, false, true])?;
+    assert!(rt; are_pair_and_null(rows));
     Ok(())
 }
