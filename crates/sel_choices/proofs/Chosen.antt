@@ -1,8 +1,11 @@
 -- Choices between lists, part by part.
-use Rattle.std.proofs.Common.{◌≡◌, ℕ, zero, suc, ◌+◌, ◌<◌, ◌≤◌, ◌∙◌, sym, refl, ap, arith, List, [], ◌∷◌, ◌++◌, length, get_or, take, drop, replicate, map, Bool}
+use Rattle.std.proofs.Common.{◌≡◌, ◌≢◌, ℕ, zero, suc, ◌+◌, ◌/◌, ◌^◌, ◌<◌, ◌≤◌, ◌∙◌, bit_and, sym, refl, ap, arith, List, [], ◌∷◌, ◌++◌, length, get_or, take, drop, replicate, map, Bool}
+use Rattle.std.specs.Int.{bit_at}
 use Rattle.std.specs.Prelude.{if◌then◌else◌}
 use Rattle.std.proofs.Math.ListN.{set, drop_of_length-le, get_or-map}
 use Rattle.std.proofs.Math.Seq.{take-add, drop-cons, drop-append-add}
+use Rattle.std.proofs.lemmas.Bool.{eq-eqb, ne_eqb}
+use Rattle.std.proofs.lemmas.Nat.Bits.{shr_and_one}
 use Rattle.std.proofs.lemmas.List.{append_assoc, append-nil, drop-drop, length-take, length-replicate, get_or-replicate, set_split, take-append-le, take_all}
 use Rattle.sel_bits.specs.Words.{bits, is_set}
 use Rattle.sel_bits.proofs.Packs.{length_bits, get_bits}
@@ -109,6 +112,13 @@ chosen_row n mask ts fs base out i t f x rows lt was t_is f_is x_is =
     let next : suc i ≡ i + 1 = omega arith in
     chosen_block n (bits n mask) ts fs base (record { mask = many; trues = trues; falses = falses }) i out was 1 (set out i x) (omega arith)
     (set_split out i x (omega arith) ∙ ap (λ k. take i out ++ (x ∷ drop k out)) next ∙ ap (λ l. take i out ++ (l ++ drop (i + 1) out)) (sym block))
+
+-- what a bit chooses that a shift brings to the front of its word
+pub bit_takes_first : {A : Type 0} → (mask i : ℕ) (t f x : A) → bit_and (mask / 2 ^ i) 1 ≡ 1 → x ≡ t → x ≡ (if is_set mask i then t else f)
+bit_takes_first mask i t f x is e = e ∙ ap (λ b. if b then t else f) (sym (eq-eqb (bit_at mask i) 1 (sym (shr_and_one mask i) ∙ is)))
+
+pub bit_takes_second : {A : Type 0} → (mask i : ℕ) (t f x : A) → bit_and (mask / 2 ^ i) 1 ≢ 1 → x ≡ f → x ≡ (if is_set mask i then t else f)
+bit_takes_second mask i t f x is e = e ∙ ap (λ b. if b then t else f) (sym (ne_eqb (bit_at mask i) 1 (λ one. is (shr_and_one mask i ∙ one))))
 
 -- a value that repeats, at a place
 pub repeated_at : {A : Type 0} → (n i : ℕ) (x : A) → i < n → x ≡ get_or (replicate n x) i x

@@ -22,7 +22,8 @@ use sel_bits::faults::{Limit, PolarsError, PolarsResult};
 use std::alloc::Global;
 
 /// The data buffers of a choice are those of the true side and then those of the false side; a scalar of more than 12 bytes has one,
-/// behind those of a column. Refused are more than 4,294,967,295 of them, and a scalar of more bytes than that.
+/// behind those of a column. Refused are more than 4,294,967,295 of them, a scalar of more bytes than that, and two scalars that are to
+/// stand in more rows than that (`SizeLimit(Rows)`).
 impl IfThenElseKernel for BinaryViewArray {
     ghost use Rattle.std.specs.Prelude.{◌≡◌, ⊤};
 

@@ -1,7 +1,7 @@
 //! The choice of up to 64 values by the bits of one word, and of any number of them by the words of a reader.
 
-ghost use Rattle.std.specs.Prelude.{◌≡◌, ◌≤◌, ◌<◌, length, if◌then◌else◌};
-ghost use Rattle.sel_bits.specs.Words.{bits, is_set};
+ghost use Rattle.std.specs.Prelude.{◌≡◌, ◌≤◌, length};
+ghost use Rattle.sel_bits.specs.Words.{bits};
 ghost use Rattle.sel_choices.specs.Choose.{choose, choose_of_two, choose_or_one};
 
 pub use crate::if_then_else::loops::if_then_else_words;
@@ -15,7 +15,8 @@ pub fn if_then_else_scalar_rest<T: Copy>(mask: u64, if_true: &[T], if_false: &[T
     ensures { out.new ≡ choose (bits (length out.old) mask) if_true.now if_false.now }
 {
     for i in 0..out.len() {
-        out[i] = chosen(mask, i, if_true[i], if_false[i]);
+        let (one, other) = (if_true[i], if_false[i]);
+        out[i] = if (mask >> i) & 1 == 1 { one } else { other };
     }
 }
 
@@ -31,7 +32,8 @@ pub fn if_then_else_broadcast_false_scalar_rest<T: Copy>(
     ensures { out.new ≡ choose_or_one (bits (length out.old) mask) if_true.now if_false }
 {
     for i in 0..out.len() {
-        out[i] = chosen(mask, i, if_true[i], if_false);
+        let one = if_true[i];
+        out[i] = if (mask >> i) & 1 == 1 { one } else { if_false };
     }
 }
 
@@ -46,7 +48,11 @@ pub fn if_then_else_broadcast_both_scalar_rest<T: Copy>(
     ensures { out.new ≡ choose_of_two (bits (length out.old) mask) if_true if_false }
 {
     for i in 0..out.len() {
-        out[i] = chosen(mask, i, if_true, if_false);
+        out[i] = if (mask >> i) & 1 == 1 {
+            if_true
+        } else {
+            if_false
+        };
     }
 }
 
@@ -84,16 +90,4 @@ pub fn if_then_else_broadcast_both_scalar_64<T: Copy>(
     ensures { out.new ≡ choose_of_two (bits 64 mask) if_true if_false }
 {
     if_then_else_broadcast_both_scalar_rest(mask, if_true, if_false, out)
-}
-
-/// The one value where bit `i` of the mask is set, else the other.
-fn chosen<T: Copy>(mask: u64, i: usize, if_true: T, if_false: T) -> T
-    requires { i < 64 }
-    ensures { result ≡ (if is_set mask i then if_true else if_false) }
-{
-    if (mask >> i) & 1 == 1 {
-        if_true
-    } else {
-        if_false
-    }
 }

@@ -1,7 +1,7 @@
 //! The choice of up to 64 views by the bits of one word, and of any number of them.
 
-ghost use Rattle.std.specs.Prelude.{◌≡◌, ◌≤◌, ◌<◌, length, map, IfOk, IfErr, IsTrue, if◌then◌else◌};
-ghost use Rattle.sel_bits.specs.Words.{bits, is_set};
+ghost use Rattle.std.specs.Prelude.{◌≡◌, ◌≤◌, length, map, IfOk, IfErr, IsTrue};
+ghost use Rattle.sel_bits.specs.Words.{bits};
 ghost use Rattle.sel_choices.specs.Choose.{choose, choose_or_one};
 ghost use Rattle.sel_choices.specs.ViewSides.{all_rise, can_rise, raised};
 
@@ -11,7 +11,6 @@ use sel_arrow::view::{INLINE_BYTES, View};
 use sel_bits::aligned_words::AlignedWords;
 use sel_bits::bitmap::Bitmap;
 use sel_bits::faults::{PolarsError, PolarsResult};
-use sel_runs::view::raised_view;
 use std::alloc::Global;
 
 /// Writes place `i` of `out`, for each of its at most 64 places: the view of `if_true` there where bit `i` of the mask is set, else that of
@@ -30,7 +29,18 @@ pub fn if_then_else_view_rest(
     ensures { out.new ≡ choose (bits (length out.old) mask) if_true.now (map (λ view. raised view false_buffer_idx_offset) if_false.now) }
 {
     for i in 0..out.len() {
-        out[i] = chosen_view(mask, i, if_true[i], if_false[i], false_buffer_idx_offset);
+        let (one, other) = (if_true[i], if_false[i]);
+        out[i] = if (mask >> i) & 1 == 1 {
+            one
+        } else if other.length <= INLINE_BYTES {
+            other
+        } else {
+            let buffer_idx = other.buffer_idx + false_buffer_idx_offset;
+            View {
+                buffer_idx,
+                ..other
+            }
+        };
     }
 }
 
@@ -78,19 +88,6 @@ fn can_rise(view: View, by: u32) -> bool
     ensures { result ≡ can_rise by view }
 {
     view.length <= INLINE_BYTES || view.buffer_idx <= u32::MAX - by
-}
-
-/// The one view where bit `i` of the mask is set, else the other, raised by the offset.
-fn chosen_view(mask: u64, i: usize, if_true: View, if_false: View, offset: u32) -> View
-    requires place { i < 64 }
-    requires rises { IsTrue (can_rise offset if_false) }
-    ensures { result ≡ (if is_set mask i then if_true else raised if_false offset) }
-{
-    if (mask >> i) & 1 == 1 {
-        if_true
-    } else {
-        raised_view(if_false, offset)
-    }
 }
 
 /// Two lists of views, the second over data buffers that stand behind others.
