@@ -88,11 +88,7 @@ pub fn run_of_pick(pick: Option<(u32, u32)>) -> Run
     ensures len { result.len ≡ 1 }
 {
     match pick {
-        None => Run {
-            source: None,
-            start: 0,
-            len: 1,
-        },
+        None => nulls_of(1),
         Some((source, start)) => Run {
             source: Some(source),
             start,
