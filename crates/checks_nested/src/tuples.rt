@@ -1,7 +1,9 @@
 //! Tuples.
 
 use crate::shared::{kept, taken};
-use checks_columns::fixtures::{is_valid, number_at, numbers, truth_at, truths, validity};
+use checks_columns::fixtures::{
+    are_numbers, is_valid, number_at, numbers, truth_at, truths, validity,
+};
 use sel_arrow::array::Array;
 use sel_arrow::array_ref::ArrayRef;
 use sel_arrow::column::Column;
@@ -93,6 +95,25 @@ pub fn mixed_tuples(alloc: Global) -> Result<StructArray, Fail> {
     let second = truths(alloc, &[true, true, false], &[true, false, true])?;
     let fields = vec![in alloc; first.into_ref(), second.into_ref()]?;
     Ok(StructArray::try_new(alloc, 3, fields, bits)?)
+}
+
+/// Whether two fields are lent with all of their rows, the ones too that a null tuple hides.
+fn lends_fields(tuples: &StructArray) -> bool {
+    let fields = tuples.values();
+    fields.len() == 2
+        && are_numbers(&fields[0], 0, 3, &[Some(1), Some(2), Some(3)])
+        && truth_at(&fields[1], 0) == Some(Some(true))
+        && truth_at(&fields[1], 1) == Some(None)
+        && truth_at(&fields[1], 2) == Some(Some(false))
+}
+
+#[test]
+fn tuples_lend_their_fields(rt: HostRuntime) -> Result<(), Fail> {
+    let tuples = mixed_tuples(rt.alloc())?;
+    let lent = lends_fields(&tuples);
+    drop(tuples);
+    assert!(rt; lent);
+    Ok(())
 }
 
 /// The same as a column of any type.
