@@ -1,97 +1,24 @@
--- Rows that hold parts of columns, and choices between them.
-use Rattle.std.proofs.Common.{◌≡◌, All, ℕ, zero, suc, ◌+◌, ◌≤◌, ◌<◌, Bool, true, false, List, [], ◌∷◌, ◌++◌, length, get_or, take, map, replicate, Option, Some, None, refl, ap, sym, subst, ◌∙◌, arith, length-append, ℤ, pos}
+-- What chosen lists hold, and choices between rows by their places.
+use Rattle.std.proofs.Common.{◌≡◌, All, ℕ, zero, suc, ◌+◌, ◌≤◌, ◌<◌, Bool, true, false, List, [], ◌∷◌, ◌++◌, length, get_or, take, drop, map, replicate, Some, None, refl, ap, sym, subst, ◌∙◌, arith, length-append, ℤ, pos}
 use Rattle.std.specs.Prelude.{if◌then◌else◌, is_some}
-use Rattle.std.proofs.lemmas.List.{length-replicate, length-take, get_or-replicate, map-append, take_more}
-use Rattle.std.proofs.lemmas.List.Elements.{All-append}
-use Rattle.sel_arrow.specs.Value.{Value, Null, is_valid, validities}
+use Rattle.std.proofs.lemmas.List.{length-replicate, get_or-replicate, map-append, take_more}
+use Rattle.std.proofs.lemmas.List.Elements.{All-append, All-replicate}
+use Rattle.sel_arrow.specs.Nested.{list_of}
+use Rattle.sel_arrow.specs.Value.{Value, Null, Items, is_valid, validities}
 use Rattle.sel_runs.specs.Children.{items_in, joined_items}
 use Rattle.sel_runs.specs.Ends.{item_ends}
 use Rattle.sel_runs.specs.Picks.{found, pick, PickFits}
-use Rattle.sel_runs.specs.Runs.{expand, unrolled, unrolled_from, picks_of}
+use Rattle.sel_runs.specs.Runs.{expand, unrolled}
 use Rattle.sel_runs.specs.declared.run.Run.{Run}
-use Rattle.sel_runs.proofs.ItemRuns.{listed_values}
-use Rattle.sel_runs.proofs.Rebuilt.{IsListed, IsBlock}
-use Rattle.sel_runs.proofs.RunLists.{map_nulls, length-pick, length-unrolled, expand-push, room_at, run_at}
+use Rattle.sel_runs.proofs.Fits.{rows_fit}
+use Rattle.sel_runs.proofs.ItemRuns.{ends-append, joined_more, joined_part, listed_values}
+use Rattle.sel_runs.proofs.Rebuilt.{IsBlock, IsListed as IsNullOrList}
+use Rattle.sel_runs.proofs.RunLists.{length-pick, length-unrolled, map_nulls, pick_rows}
 use Rattle.sel_choices.specs.Choose.{choose, choose_one, choose_or_one, choose_of_two}
-use Rattle.sel_choices.specs.ListSides.{chosen_from, row_from, row_of_part, rows_of_parts, run_ends, IsNullsOf}
+use Rattle.sel_choices.specs.ListSides.{chosen_from, AreHeld, IsListed, IsPart}
 use Rattle.sel_choices.proofs.Chosen.{repeated_then, repeated_otherwise, repeated_both}
 
--- ---- what a part holds
-
-held_from : (w : ℕ) (xss : List (List Value)) (s : Option ℕ) (a n : ℕ) → (s ≡ None → n ≡ w) → pick Null xss (unrolled_from s a n) ≡ items_in w (row_from xss s a n)
-held_from w xss None a n nulls = map_nulls Null xss n ∙ ap (λ k. replicate k Null) (nulls refl)
-held_from w xss (Some s) a n nulls = sym (listed_values (pick Null xss (picks_of s a n)))
-
-pub held_part : (w : ℕ) (xss : List (List Value)) (r : Run) → IsNullsOf w r → pick Null xss (unrolled r) ≡ items_in w (row_of_part xss r)
-held_part w xss r nulls = held_from w xss r.source r.start r.len nulls
-
-pub held_parts : (w : ℕ) (xss : List (List Value)) (rs : List Run) → All (IsNullsOf w) rs → pick Null xss (expand rs) ≡ joined_items w (rows_of_parts xss rs)
-held_parts w xss [] nulls = refl
-held_parts w xss (r ∷ rs) nulls =
-    map-append (found Null xss) (unrolled r) (expand rs)
-    ∙ ap (λ l. l ++ pick Null xss (expand rs)) (held_part w xss r (nulls 0 r (omega arith)))
-    ∙ ap (λ l. items_in w (row_of_part xss r) ++ l) (held_parts w xss rs (λ k d h. nulls (suc k) d (omega (arith, h))))
-
-pub items_count : (w : ℕ) (xss : List (List Value)) (r : Run) → IsNullsOf w r → length (items_in w (row_of_part xss r)) ≡ r.len
-items_count w xss r nulls = ap length (sym (held_part w xss r nulls)) ∙ length-pick Null xss (unrolled r) ∙ length-unrolled r
-
-listed_from : (xss : List (List Value)) (s : Option ℕ) (a n : ℕ) → IsListed (row_from xss s a n)
-listed_from xss None a n = tt
-listed_from xss (Some s) a n = tt
-
-pub listed_parts : (xss : List (List Value)) (rs : List Run) (k : ℕ) → IsListed (get_or (rows_of_parts xss rs) k Null)
-listed_parts xss [] k = tt
-listed_parts xss (r ∷ rs) zero = listed_from xss r.source r.start r.len
-listed_parts xss (r ∷ rs) (suc k) = listed_parts xss rs k
-
-block_from : (w : ℕ) (xss : List (List Value)) (s : Option ℕ) (a n : ℕ) → length (items_in w (row_from xss s a n)) ≡ w → IsBlock w (row_from xss s a n)
-block_from w xss None a n size = tt
-block_from w xss (Some s) a n size = size
-
-pub block_parts : (w : ℕ) (xss : List (List Value)) (rs : List Run) → All (λ r. r.len ≡ w) rs → (k : ℕ) → IsBlock w (get_or (rows_of_parts xss rs) k Null)
-block_parts w xss [] sizes k = tt
-block_parts w xss (r ∷ rs) sizes zero = let size = sizes 0 r (omega arith) in block_from w xss r.source r.start r.len (items_count w xss r (λ e. size) ∙ size)
-block_parts w xss (r ∷ rs) sizes (suc k) = block_parts w xss rs (λ i d h. sizes (suc i) d (omega (arith, h))) k
-
--- parts of rows of one length have it
-pub sized_parts : (w : ℕ) (xss : List (List Value)) (rs : List Run) → All (IsNullsOf w) rs → ((k : ℕ) → length (items_in w (get_or (rows_of_parts xss rs) k Null)) ≡ w) → All (λ r. r.len ≡ w) rs
-sized_parts w xss [] nulls sizes k d h = absurd (omega (arith, h))
-sized_parts w xss (r ∷ rs) nulls sizes zero d h = sym (items_count w xss r (nulls 0 r (omega arith))) ∙ sizes 0
-sized_parts w xss (r ∷ rs) nulls sizes (suc k) d h = sized_parts w xss rs (λ i e below. nulls (suc i) e (omega (arith, below))) (λ i. sizes (suc i)) k d (omega (arith, h))
-
-pub part_ends : (start : ℕ) (xss : List (List Value)) (rs : List Run) → All (IsNullsOf 0) rs → run_ends start rs ≡ item_ends start (rows_of_parts xss rs)
-part_ends start xss [] nulls = refl
-part_ends start xss (r ∷ rs) nulls =
-    let size : start + r.len ≡ start + length (items_in 0 (row_of_part xss r)) = ap (λ n. start + n) (sym (items_count 0 xss r (nulls 0 r (omega arith)))) in
-    ap (λ n. n ∷ run_ends n rs) size
-    ∙ ap (λ l. (start + length (items_in 0 (row_of_part xss r))) ∷ l) (part_ends (start + length (items_in 0 (row_of_part xss r))) xss rs (λ k d h. nulls (suc k) d (omega (arith, h))))
-
-valid_from : (xss : List (List Value)) (s : Option ℕ) (a n : ℕ) → is_some s ≡ is_valid (row_from xss s a n)
-valid_from xss None a n = refl
-valid_from xss (Some s) a n = refl
-
-pub valid_parts : (xss : List (List Value)) (rs : List Run) → map (λ (r : Run). is_some r.source) rs ≡ validities (rows_of_parts xss rs)
-valid_parts xss [] = refl
-valid_parts xss (r ∷ rs) = ap (λ b. b ∷ map (λ (x : Run). is_some x.source) rs) (valid_from xss r.source r.start r.len) ∙ ap (λ l. is_valid (row_of_part xss r) ∷ l) (valid_parts xss rs)
-
-pub ends_more : (start : ℕ) (rs : List Run) (r : Run) → run_ends start (rs ++ r ∷ []) ≡ run_ends start rs ++ (start + length (expand (rs ++ r ∷ []))) ∷ []
-ends_more start [] r =
-    let size : start + r.len ≡ start + length (expand (r ∷ [])) = ap (λ n. start + n) (sym (ap length (expand-push [] r) ∙ length-unrolled r)) in
-    ap (λ n. n ∷ []) size
-ends_more start (q ∷ rs) r =
-    let size = length-append (unrolled q) (expand (rs ++ r ∷ [])) in
-    let same : start + q.len + length (expand (rs ++ r ∷ [])) ≡ start + length (expand (q ∷ rs ++ r ∷ [])) = omega (arith, size, length-unrolled q) in
-    ap (λ l. (start + q.len) ∷ l) (ends_more (start + q.len) rs r ∙ ap (λ n. run_ends (start + q.len) rs ++ n ∷ []) same)
-
 -- ---- rows that are chosen by their places
-
-pub chosen_more : {A : Type 0} (i : ℕ) (ms : List Bool) (m : Bool) (ts fs : ℕ → A) → chosen_from i (ms ++ m ∷ []) ts fs ≡ chosen_from i ms ts fs ++ (if m then ts (i + length ms) else fs (i + length ms)) ∷ []
-chosen_more i [] m ts fs =
-    let same : i ≡ i + 0 = omega arith in
-    ap (λ k. (if m then ts k else fs k) ∷ []) same
-chosen_more i (b ∷ ms) m ts fs =
-    let same : (i + 1) + length ms ≡ i + length (b ∷ ms) = omega arith in
-    ap (λ l. (if b then ts i else fs i) ∷ l) (chosen_more (i + 1) ms m ts fs ∙ ap (λ k. chosen_from (i + 1) ms ts fs ++ (if m then ts k else fs k) ∷ []) same)
 
 pub length-chosen : {A : Type 0} (i : ℕ) (ms : List Bool) (ts fs : ℕ → A) → length (chosen_from i ms ts fs) ≡ length ms
 length-chosen i [] ts fs = refl
@@ -150,49 +77,107 @@ chosen_all P d none i (m ∷ ms) ts fs t f (suc k) =
     let next : (j : ℕ) → i + suc j ≡ (i + 1) + j = λ j. omega arith in
     chosen_all P d none (i + 1) ms ts fs (λ j h. subst (λ n. P (ts n)) (next j) (t (suc j) (omega (arith, h)))) (λ j h. subst (λ n. P (fs n)) (next j) (f (suc j) (omega (arith, h)))) k
 
--- ---- one part more
+-- ---- the row that a bit chooses
 
-all_one : {A : Type 0} (P : A → Type 0) (x : A) → P x → All P (x ∷ [])
-all_one P x p zero d h = p
-all_one P x p (suc k) d h = absurd (omega (arith, h))
+chosen_at : {A : Type 0} (i : ℕ) (ms : List Bool) (ts fs : ℕ → A) (k : ℕ) (d : A) → k < length ms → get_or (chosen_from i ms ts fs) k d ≡ (if get_or ms k false then ts (i + k) else fs (i + k))
+chosen_at i [] ts fs k d h = absurd (omega (arith, h))
+chosen_at i (m ∷ ms) ts fs zero d h =
+    let here : i ≡ i + 0 = omega arith in
+    ap (λ n. if m then ts n else fs n) here
+chosen_at i (m ∷ ms) ts fs (suc k) d h =
+    let next : (i + 1) + k ≡ i + suc k = omega arith in
+    chosen_at (i + 1) ms ts fs k d (omega (arith, h)) ∙ ap (λ n. if get_or ms k false then ts n else fs n) next
 
--- the part of a row
-pub record IsPart (xss : List (List Value)) (w : ℕ) (row : Value) (part : Run) : Type 0 where
-  pub row_is : row_of_part xss part ≡ row
-  pub fits : All (PickFits xss) (unrolled part)
-  pub nulls : IsNullsOf w part
+-- what holds of the row on the side that the bit chooses holds of the one that is chosen
+pub chosen_row_if : {A : Type 0} (P : A → Type 0) (ms : List Bool) (ts fs : ℕ → A) (k : ℕ) (d : A) (b : Bool) → k < length ms → get_or ms k false ≡ b → P (if b then ts k else fs k) → P (get_or (chosen_from 0 ms ts fs) k d)
+chosen_row_if P ms ts fs k d b h is p =
+    subst P (sym (chosen_at 0 ms ts fs k d h ∙ (λ i. if is i then ts (plain k i) else fs (plain k i)))) p
 
--- that of the row that a bit chooses
-pub part_if : (xss : List (List Value)) (w : ℕ) (m b : Bool) (t f : Value) (part chosen : Run) → m ≡ b → part ≡ chosen → IsPart xss w (if b then t else f) chosen → IsPart xss w (if m then t else f) part
-part_if xss w m b t f part chosen e p is = subst (λ x. IsPart xss w (if x then t else f) part) (sym e) (subst (IsPart xss w (if b then t else f)) (sym p) is)
+-- ---- the part of a row
 
-module _ (xss : List (List Value)) (w : ℕ) (old new : List Run) (part : Run) (grew : new ≡ old ++ part ∷ []) where
-  pub more_rows : (ms : List Bool) (ts fs : ℕ → Value) (i : ℕ) → i < length ms → rows_of_parts xss old ≡ chosen_from 0 (take i ms) ts fs → IsPart xss w (if get_or ms i false then ts i else fs i) part →
-      rows_of_parts xss new ≡ chosen_from 0 (take (i + 1) ms) ts fs
-  more_rows ms ts fs i h so_far is =
-      let m = get_or ms i false in
-      let place : i ≡ 0 + length (take i ms) = omega (arith, h, length-take i ms) in
-      ap (rows_of_parts xss) grew ∙ map-append (row_of_part xss) old (part ∷ []) ∙ ap (λ l. l ++ row_of_part xss part ∷ []) so_far
-      ∙ ap (λ v. chosen_from 0 (take i ms) ts fs ++ v ∷ []) (is.row_is ∙ ap (λ k. if m then ts k else fs k) place)
-      ∙ sym (chosen_more 0 (take i ms) m ts fs) ∙ ap (λ l. chosen_from 0 l ts fs) (sym (take_more ms i false h))
+pub null_part : (xss : List (List Value)) (w : ℕ) (row : Value) → row ≡ Null → IsPart xss w row (record { source = None; start = 0; len = w })
+null_part xss w row is =
+    subst (λ v. IsPart xss w v (record { source = None; start = 0; len = w })) (sym is) (record { items = map_nulls Null xss w; fits = All-replicate (PickFits xss) w None tt; valid = refl; listed = tt })
 
-  pub more_fits : All (PickFits xss) (expand old) → All (PickFits xss) (unrolled part) → All (PickFits xss) (expand new)
-  more_fits so_far fits = subst (All (PickFits xss)) (sym (ap expand grew ∙ expand-push old part)) (All-append (PickFits xss) (expand old) (unrolled part) so_far fits)
+pub list_part : (xss : List (List Value)) (w : ℕ) (row : Value) (s start n : ℕ) (vs : List Value) → get_or xss s [] ≡ vs → start + n ≤ length vs → row ≡ list_of (take n (drop start vs)) → IsPart xss w row (record { source = Some s; start = start; len = n })
+list_part xss w row s start n vs there inside is =
+    let room : start + n ≤ length (get_or xss s []) = omega (arith, inside, ap length there) in
+    let part = take n (drop start vs) in
+    subst (λ v. IsPart xss w v (record { source = Some s; start = start; len = n })) (sym is)
+    (record { items = pick_rows Null xss s start n room ∙ ap (λ l. take n (drop start l)) there ∙ sym (listed_values part); fits = rows_fit xss s start n room; valid = refl; listed = tt })
 
-  pub more_nulls : All (IsNullsOf w) old → IsNullsOf w part → All (IsNullsOf w) new
-  more_nulls so_far nulls = subst (All (IsNullsOf w)) (sym grew) (All-append (IsNullsOf w) old (part ∷ []) so_far (all_one (IsNullsOf w) part nulls))
+-- ---- one list more
 
-pub ends_step : (rs : List Run) (i end : ℕ) (so_far new : List ℤ) (last : ℤ) → i < length rs → end ≡ length (expand (take (i + 1) rs)) → last ≡ pos end →
-    so_far ≡ map pos (0 ∷ run_ends 0 (take i rs)) → new ≡ so_far ++ last ∷ [] → new ≡ map pos (0 ∷ run_ends 0 (take (i + 1) rs))
-ends_step rs i end so_far new last h is shown e f =
-    let before = take i rs in
-    let part = run_at rs i in
-    let split : take (i + 1) rs ≡ before ++ part ∷ [] = take_more rs i _ h in
-    let there : end ≡ 0 + length (expand (before ++ part ∷ [])) = omega (arith, is, ap (λ l. length (expand l)) split) in
-    f ∙ ap (λ l. l ++ last ∷ []) e ∙ ap (λ x. map pos (0 ∷ run_ends 0 before) ++ x ∷ []) (shown ∙ ap pos there)
-    ∙ sym (map-append pos (0 ∷ run_ends 0 before) ((0 + length (expand (before ++ part ∷ []))) ∷ []))
-    ∙ ap (λ l. map pos (0 ∷ l)) (sym (ends_more 0 before part) ∙ ap (run_ends 0) (sym split))
+module _ (xss : List (List Value)) (w : ℕ) (row : Value) (part : Run) (is : IsPart xss w row part) where
+  pub part_len : length (items_in w row) ≡ part.len
+  part_len = sym (ap length is.items) ∙ length-pick Null xss (unrolled part) ∙ length-unrolled part
 
--- no more than all parts together
-pub joined_room : (rs : List Run) (i count : ℕ) → i < length rs → count ≡ length (expand (take i rs)) → count + (run_at rs i).len ≤ length (expand rs)
-joined_room rs i count h is = omega (arith, is, room_at rs i h)
+  pub held_more : (vs : List Value) (i : ℕ) (old new : List Run) (count : ℕ) → i < length vs → row ≡ get_or vs i Null → AreHeld xss w (take i vs) old count → expand new ≡ expand old ++ unrolled part →
+      AreHeld xss w (take (i + 1) vs) new (count + part.len)
+  held_more vs i old new count h here held grew =
+      let more = joined_more w vs i h in
+      let size = ap length more ∙ length-append (joined_items w (take i vs)) (items_in w (get_or vs i Null)) in
+      let same = ap (λ v. length (items_in w v)) here in
+      record {
+        items = ap (pick Null xss) grew ∙ map-append (found Null xss) (expand old) (unrolled part) ∙ (λ j. held.items j ++ (is.items ∙ ap (items_in w) here) j) ∙ sym more;
+        fits = subst (All (PickFits xss)) (sym grew) (All-append (PickFits xss) (expand old) (unrolled part) held.fits is.fits);
+        many = omega (arith, held.many, size, same, part_len);
+      }
+
+  -- the rows of this list and of those before it are no more than those of all
+  pub count_room : (vs : List Value) (i : ℕ) (old : List Run) (count : ℕ) → i < length vs → row ≡ get_or vs i Null → AreHeld xss w (take i vs) old count → count + part.len ≤ length (joined_items w vs)
+  count_room vs i old count h here held =
+      let more = joined_more w vs i h in
+      let size = ap length more ∙ length-append (joined_items w (take i vs)) (items_in w (get_or vs i Null)) in
+      let same = ap (λ v. length (items_in w v)) here in
+      omega (arith, held.many, size, same, part_len, joined_part w vs (i + 1))
+
+  pub valid_more : (vs : List Value) (i : ℕ) (old new : List Bool) → i < length vs → row ≡ get_or vs i Null → old ≡ validities (take i vs) → new ≡ old ++ is_some part.source ∷ [] → new ≡ validities (take (i + 1) vs)
+  valid_more vs i old new h here so_far grew =
+      grew ∙ (λ j. so_far j ++ (is.valid ∙ ap is_valid here) j ∷ []) ∙ sym (map-append is_valid (take i vs) (get_or vs i Null ∷ [])) ∙ ap validities (sym (take_more vs i Null h))
+
+  pub listed_more : (vs : List Value) (i : ℕ) → i < length vs → row ≡ get_or vs i Null → All IsListed (take i vs) → All IsListed (take (i + 1) vs)
+  listed_more vs i h here so_far =
+      subst (All IsListed) (sym (take_more vs i Null h)) (All-append IsListed (take i vs) (get_or vs i Null ∷ []) so_far (all_one IsListed (get_or vs i Null) (subst IsListed here is.listed)))
+    where
+      all_one : {A : Type 0} (P : A → Type 0) (x : A) → P x → All P (x ∷ [])
+      all_one P x p zero d h = p
+      all_one P x p (suc k) d h = absurd (omega (arith, h))
+
+pub ends_step : (vs : List Value) (i count : ℕ) (so_far new : List ℤ) (last : ℤ) → i < length vs → count ≡ length (joined_items 0 (take (i + 1) vs)) → last ≡ pos count →
+    so_far ≡ map pos (0 ∷ item_ends 0 (take i vs)) → new ≡ so_far ++ last ∷ [] → new ≡ map pos (0 ∷ item_ends 0 (take (i + 1) vs))
+ends_step vs i count so_far new last h is shown e grew =
+    let before = take i vs in
+    let row = get_or vs i Null in
+    let size = ap length (joined_more 0 vs i h) ∙ length-append (joined_items 0 before) (items_in 0 row) in
+    let there : count ≡ (0 + length (joined_items 0 before)) + length (items_in 0 row) = omega (arith, is, size) in
+    let split = ap (item_ends 0) (take_more vs i Null h) ∙ ends-append 0 before (row ∷ []) in
+    grew ∙ ap (λ l. l ++ last ∷ []) e ∙ ap (λ x. map pos (0 ∷ item_ends 0 before) ++ x ∷ []) (shown ∙ ap pos there)
+    ∙ sym (map-append pos (0 ∷ item_ends 0 before) (((0 + length (joined_items 0 before)) + length (items_in 0 row)) ∷ []))
+    ∙ ap (λ l. map pos (0 ∷ l)) (sym split)
+
+-- ---- all lists
+
+null_or_list : (v : Value) → IsListed v → IsNullOrList v
+null_or_list v = elim v as (λ x. IsListed x → IsNullOrList x) [
+  | Null ↦ λ h. tt
+  | Items listed ↦ λ h. tt
+  | _ ↦ λ h. absurd h
+]
+
+pub all_listed : (vs : List Value) → All IsListed vs → (k : ℕ) → IsNullOrList (get_or vs k Null)
+all_listed [] all k = tt
+all_listed (v ∷ vs) all zero = null_or_list v (all 0 v (omega arith))
+all_listed (v ∷ vs) all (suc k) = all_listed vs (λ i d h. all (suc i) d (omega (arith, h))) k
+
+block_of : (w : ℕ) (v : Value) → IsListed v → length (items_in w v) ≡ w → IsBlock w v
+block_of w v = elim v as (λ x. IsListed x → length (items_in w x) ≡ w → IsBlock w x) [
+  | Null ↦ λ h e. tt
+  | Items listed ↦ λ h e. e
+  | _ ↦ λ h e. absurd h
+]
+
+pub all_blocks : (w : ℕ) (vs : List Value) → All IsListed vs → ((k : ℕ) → length (items_in w (get_or vs k Null)) ≡ w) → (k : ℕ) → IsBlock w (get_or vs k Null)
+all_blocks w [] all sizes k = tt
+all_blocks w (v ∷ vs) all sizes zero = block_of w v (all 0 v (omega arith)) (sizes 0)
+all_blocks w (v ∷ vs) all sizes (suc k) = all_blocks w vs (λ i d h. all (suc i) d (omega (arith, h))) (λ i. sizes (suc i)) k

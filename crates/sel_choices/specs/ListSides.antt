@@ -1,18 +1,17 @@
 -- Sides of choices between lists, and the parts of their children that the chosen rows hold.
-use Rattle.std.specs.Prelude.{◌≡◌, ℕ, ◌+◌, Bool, List, [], ◌∷◌, map, length, Option, Some, None, if◌then◌else◌, ◌⊎◌}
+use Rattle.std.specs.Prelude.{◌≡◌, ⊤, ℕ, ◌+◌, Bool, All, List, [], ◌∷◌, length, is_some, if◌then◌else◌, ◌⊎◌}
 use Rattle.sel_bits.specs.declared.faults.Limit.{Limit}
 use Rattle.sel_bits.specs.declared.native.NativeType.{Ghosts}
-use Rattle.sel_arrow.specs.Nested.{list_of}
 use Rattle.sel_arrow.specs.Shape.{Shape, of_large_list, of_fixed_size_list}
-use Rattle.sel_arrow.specs.Value.{Value, Null}
+use Rattle.sel_arrow.specs.Value.{Value, Null, Items, is_valid}
 use Rattle.sel_arrow.specs.declared.array_ref.ArrayRef.{ArrayRef}
 use Rattle.sel_arrow.specs.declared.column.Column.{Column}
 use Rattle.sel_arrow.specs.declared.fixed_size_list.FixedSizeListArray.{FixedSizeListArray}
 use Rattle.sel_arrow.specs.declared.list.ListArray.{ListArray}
-use Rattle.sel_runs.specs.Children.{joined_items}
+use Rattle.sel_runs.specs.Children.{items_in, joined_items}
 use Rattle.sel_runs.specs.Need.{IsPastRows, past_taken}
-use Rattle.sel_runs.specs.Picks.{pick}
-use Rattle.sel_runs.specs.Runs.{picks_of}
+use Rattle.sel_runs.specs.Picks.{pick, PickFits}
+use Rattle.sel_runs.specs.Runs.{expand, unrolled}
 use Rattle.sel_runs.specs.declared.run.Run.{Run}
 use Rattle.sel_choices.specs.Sides.{Side, column, scalar, past_flat}
 
@@ -48,24 +47,21 @@ abbrev pub chosen_from : {A : Type 0} → ℕ → List Bool → (ℕ → A) → 
 chosen_from i [] ts fs = []
 chosen_from i (m ∷ ms) ts fs = (if m then ts i else fs i) ∷ chosen_from (i + 1) ms ts fs
 
--- the list of n rows of source s from `start` on; null where there is no source (Arrow columnar format: list layouts)
-abbrev pub row_from : List (List Value) → Option ℕ → ℕ → ℕ → Value
-row_from xss None start n = Null
-row_from xss (Some s) start n = list_of (pick Null xss (picks_of s start n))
+-- null, or a list (own)
+abbrev pub IsListed : Value → Type 0
+IsListed Null = ⊤
+IsListed (Items listed) = ⊤
+IsListed v = ⊥
 
--- the row that holds the rows of a run; null where the run has no source (own)
-abbrev pub row_of_part : List (List Value) → Run → Value
-row_of_part xss part = row_from xss part.source part.start part.len
+-- that a run picks the values in a row, so many nulls where it is null, and has a source where it is not (own)
+pub record IsPart (xss : List (List Value)) (width : ℕ) (row : Value) (part : Run) : Type 0 where
+  pub items : pick Null xss (unrolled part) ≡ items_in width row
+  pub fits : All (PickFits xss) (unrolled part)
+  pub valid : is_some part.source ≡ is_valid row
+  pub listed : IsListed row
 
--- the rows that hold those of the runs, one row a run (own)
-abbrev pub rows_of_parts : List (List Value) → List Run → List Value
-rows_of_parts xss parts = map (row_of_part xss) parts
-
--- a run without a source is of so many nulls (own)
-abbrev pub IsNullsOf : ℕ → Run → Type 0
-IsNullsOf width part = part.source ≡ None → part.len ≡ width
-
--- where each run ends, if they stand behind one another from `start` on (Arrow columnar format: variable-size list layout)
-abbrev pub run_ends : ℕ → List Run → List ℕ
-run_ends start [] = []
-run_ends start (part ∷ parts) = (start + part.len) ∷ run_ends (start + part.len) parts
+-- that runs pick the values in all rows, behind one another, and that there are so many of them (own)
+pub record AreHeld (xss : List (List Value)) (width : ℕ) (rows : List Value) (runs : List Run) (count : ℕ) : Type 0 where
+  pub items : pick Null xss (expand runs) ≡ joined_items width rows
+  pub fits : All (PickFits xss) (expand runs)
+  pub many : count ≡ length (joined_items width rows)

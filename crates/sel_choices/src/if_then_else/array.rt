@@ -9,8 +9,8 @@ ghost use Rattle.sel_choices.specs.ListSides.{chosen_from, past_below};
 ghost use Rattle.sel_choices.specs.Sides.{IsRefusal};
 
 use crate::if_then_else::IfThenElseKernel;
-use crate::if_then_else::list_parts::blocks_of_parts;
-use crate::if_then_else::list_sides::{ListSide, chosen_parts};
+use crate::if_then_else::list_parts::{HeldRows, held_by_blocks, held_column};
+use crate::if_then_else::list_sides::ListSide;
 use sel_arrow::array_ref::ArrayRef;
 use sel_arrow::datatype::ArrowDataType;
 use sel_arrow::fixed_size_list::FixedSizeListArray;
@@ -99,6 +99,18 @@ fn choose_sized_lists<T: ListSide, F: ListSide>(
     ensures dtype { IfOk result (λ lists. type_of (block_column lists) ≡ of_fixed_size_list (type_of (T.held if_true.now)) size) }
     ensures refusal { IfErr result (IsRefusal (past_below (of_fixed_size_list (type_of (T.held if_true.now)) size) (T.held if_true.now ∷ F.held if_false.now ∷ []) (chosen_from 0 mask.now.bits (T.row_at if_true.now) (F.row_at if_false.now)))) }
 {
-    let parts = chosen_parts(alloc, mask, if_true, if_false, size as u32)?;
-    blocks_of_parts(alloc, size, if_true.child(), if_false.child(), &parts)
+    let held = held_by_blocks(alloc, mask, if_true, if_false, size as u32)?;
+    let HeldRows {
+        runs,
+        count,
+        validity,
+    } = held;
+    let values = held_column(alloc, if_true.child(), if_false.child(), &runs, count)?;
+    let values = Box::new(alloc, values)?;
+    Ok(FixedSizeListArray {
+        size,
+        len: mask.len(),
+        values,
+        validity,
+    })
 }

@@ -8,14 +8,15 @@ ghost use Rattle.sel_choices.specs.ListSides.{chosen_from, past_below};
 ghost use Rattle.sel_choices.specs.Sides.{IsRefusal};
 
 use crate::if_then_else::IfThenElseKernel;
-use crate::if_then_else::list_parts::lists_of_parts;
-use crate::if_then_else::list_sides::{ListSide, chosen_parts};
+use crate::if_then_else::list_parts::{HeldRows, held_by_lists, held_column};
+use crate::if_then_else::list_sides::ListSide;
 use sel_arrow::array_ref::ArrayRef;
 use sel_arrow::datatype::ArrowDataType;
 use sel_arrow::list::ListArray;
 use sel_arrow::validity::MOST_ROWS;
 use sel_bits::bitmap::Bitmap;
 use sel_bits::faults::{Limit, PolarsError, PolarsResult};
+use sel_bits::offsets::OffsetsBuffer;
 use std::alloc::Global;
 
 /// A scalar is the rows of one list.
@@ -93,6 +94,18 @@ fn choose_lists<T: ListSide, F: ListSide>(
     ensures dtype { IfOk result (λ lists. type_of (list_column lists) ≡ of_large_list (type_of (T.held if_true.now))) }
     ensures refusal { IfErr result (IsRefusal (past_below (of_large_list (type_of (T.held if_true.now))) (T.held if_true.now ∷ F.held if_false.now ∷ []) (chosen_from 0 mask.now.bits (T.row_at if_true.now) (F.row_at if_false.now)))) }
 {
-    let parts = chosen_parts(alloc, mask, if_true, if_false, 0)?;
-    lists_of_parts(alloc, if_true.child(), if_false.child(), &parts)
+    let (held, ends) = held_by_lists(alloc, mask, if_true, if_false)?;
+    let HeldRows {
+        runs,
+        count,
+        validity,
+    } = held;
+    let values = held_column(alloc, if_true.child(), if_false.child(), &runs, count)?;
+    let values = Box::new(alloc, values)?;
+    let offsets = OffsetsBuffer::of_rising(ends)?;
+    Ok(ListArray {
+        offsets,
+        values,
+        validity,
+    })
 }

@@ -1,167 +1,135 @@
-//! Lists over rows of two columns, one part of a column for each list.
+//! The rows of two columns that chosen lists hold.
 
-ghost use Rattle.std.specs.Prelude.{◌≡◌, ◌≤◌, ◌∷◌, [], All, map, pos, length, is_some, IfOk, IfErr};
+ghost use Rattle.std.specs.Prelude.{◌≡◌, ◌≤◌, ◌<◌, ◌∷◌, [], ℕ, All, map, pos, length, IfOk, IfErr};
 ghost use Rattle.sel_arrow.specs.Masked.{Covers};
-ghost use Rattle.sel_arrow.specs.NestedArrays.{block_column, list_column};
 ghost use Rattle.sel_arrow.specs.Rows.{rows, type_of, IsWellFormed};
-ghost use Rattle.sel_arrow.specs.Shape.{of_large_list, of_fixed_size_list};
-ghost use Rattle.sel_arrow.specs.Value.{Null};
-ghost use Rattle.sel_runs.specs.Need.{IsRefusal};
+ghost use Rattle.sel_arrow.specs.Value.{Null, validities};
+ghost use Rattle.sel_runs.specs.Children.{joined_items};
+ghost use Rattle.sel_runs.specs.Ends.{item_ends};
+ghost use Rattle.sel_runs.specs.Need.{past_taken, IsPastRows, IsRefusal};
 ghost use Rattle.sel_runs.specs.Picks.{pick, PickFits};
 ghost use Rattle.sel_runs.specs.Runs.{expand};
 ghost use Rattle.sel_runs.specs.Validity.{bits_for};
-ghost use Rattle.sel_choices.specs.ListSides.{past_below, past_held, rows_of_parts, run_ends, IsNullsOf};
+ghost use Rattle.sel_choices.specs.ListSides.{chosen_from, AreHeld, IsListed};
 
+use crate::if_then_else::list_sides::{ListSide, chosen_part};
 use sel_arrow::column::Column;
-use sel_arrow::fixed_size_list::FixedSizeListArray;
-use sel_arrow::list::ListArray;
 use sel_arrow::validity::MOST_ROWS;
 use sel_bits::bitmap::Bitmap;
 use sel_bits::faults::{Limit, PolarsError, PolarsResult};
-use sel_bits::offsets::OffsetsBuffer;
 use sel_bits::packer::BitPacker;
 use sel_runs::bits::validity_from;
 use sel_runs::collect::collect_runs;
 use sel_runs::run::{Run, push_run};
 use std::alloc::Global;
 
-/// The lists that hold these parts of two columns of one type. Refuses for want of memory, and where the rows that they hold pass a limit.
-pub(crate) fn lists_of_parts(
+/// The rows of two columns that chosen lists hold, as runs, neighbours joined; how many these are; and which of the lists are not null.
+#[derive(Drop)]
+pub(crate) struct HeldRows {
+    pub(crate) runs: Vec<Run>,
+    pub(crate) count: usize,
+    pub(crate) validity: Option<Bitmap>,
+}
+
+/// What the chosen lists hold, a null one nothing, with a 0 and where each of them ends. Refuses for want of memory, and where they hold
+/// more rows than a column may have.
+pub(crate) fn held_by_lists<T: ListSide, F: ListSide>(
     alloc: Global,
-    if_true: &Column,
-    if_false: &Column,
-    parts: &[Run],
-) -> PolarsResult<ListArray<i64>>
-    requires true_formed { IsWellFormed if_true.now }
-    requires false_formed { IsWellFormed if_false.now }
-    requires alike { type_of if_false.now ≡ type_of if_true.now }
-    requires fits { All (PickFits (rows if_true.now ∷ rows if_false.now ∷ [])) (expand parts.now) }
-    requires nulls { All (IsNullsOf 0) parts.now }
-    requires few { length parts.now ≤ 4294967295 }
-    ensures rows { IfOk result (λ lists. rows (list_column lists) ≡ rows_of_parts (rows if_true.now ∷ rows if_false.now ∷ []) parts.now) }
-    ensures dtype { IfOk result (λ lists. type_of (list_column lists) ≡ of_large_list (type_of if_true.now)) }
-    ensures refusal { IfErr result (IsRefusal (past_below (of_large_list (type_of if_true.now)) (if_true.now ∷ if_false.now ∷ []) (rows_of_parts (rows if_true.now ∷ rows if_false.now ∷ []) parts.now))) }
+    mask: &Bitmap,
+    if_true: &T,
+    if_false: &F,
+) -> PolarsResult<(HeldRows, Vec<i64>)>
+    requires true_side { (i : ℕ) → i < length mask.now.bits → T.is_row if_true.now i }
+    requires false_side { (i : ℕ) → i < length mask.now.bits → F.is_row if_false.now i }
+    requires few { length mask.now.bits ≤ 4294967295 }
+    ensures held { IfOk result (λ held. AreHeld (rows (T.held if_true.now) ∷ rows (F.held if_false.now) ∷ []) 0 (chosen_from 0 mask.now.bits (T.row_at if_true.now) (F.row_at if_false.now)) held.0.runs.items held.0.count) }
+    ensures room { IfOk result (λ held. held.0.count ≤ 4294967295) }
+    ensures listed { IfOk result (λ _. All IsListed (chosen_from 0 mask.now.bits (T.row_at if_true.now) (F.row_at if_false.now))) }
+    ensures bits { IfOk result (λ held. bits_for (length mask.now.bits) held.0.validity ≡ validities (chosen_from 0 mask.now.bits (T.row_at if_true.now) (F.row_at if_false.now))) }
+    ensures covers { IfOk result (λ held. Covers held.0.validity (length mask.now.bits)) }
+    ensures ends { IfOk result (λ held. held.1.items ≡ map pos (0 ∷ item_ends 0 (chosen_from 0 mask.now.bits (T.row_at if_true.now) (F.row_at if_false.now)))) }
+    ensures refusal { IfErr result (IsRefusal (IsPastRows (length (joined_items 0 (chosen_from 0 mask.now.bits (T.row_at if_true.now) (F.row_at if_false.now)))))) }
 {
-    let values = held_rows(alloc, if_true, if_false, parts)?;
-    let values = Box::new(alloc, values)?;
-    let ends = ends_of(alloc, parts)?;
-    let offsets = OffsetsBuffer::of_rising(ends)?;
-    let validity = validity_of(alloc, parts)?;
-    Ok(ListArray {
-        offsets,
-        values,
+    let mut runs = Vec::new(alloc);
+    let mut ends = Vec::with_capacity(alloc, mask.len() + 1)?;
+    ends.push(0)?;
+    let mut valid = BitPacker::with_capacity(alloc, mask.len())?;
+    let mut count = 0;
+    for i in 0..mask.len() {
+        let part = chosen_part(mask, if_true, if_false, i, 0);
+        count += part.len as usize;
+        if count > MOST_ROWS {
+            return Err(PolarsError::SizeLimit(Limit::Rows));
+        }
+        push_run(&mut runs, part)?;
+        ends.push(count as i64)?;
+        valid.push(part.source.is_some())?;
+    }
+    let validity = validity_from(valid, mask.len())?;
+    let held = HeldRows {
+        runs,
+        count,
+        validity,
+    };
+    Ok((held, ends))
+}
+
+/// What the chosen lists hold, a null one `width` nulls. Refuses for want of memory, and where they hold more rows than a column may have.
+pub(crate) fn held_by_blocks<T: ListSide, F: ListSide>(
+    alloc: Global,
+    mask: &Bitmap,
+    if_true: &T,
+    if_false: &F,
+    width: u32,
+) -> PolarsResult<HeldRows>
+    requires true_side { (i : ℕ) → i < length mask.now.bits → T.is_row if_true.now i }
+    requires false_side { (i : ℕ) → i < length mask.now.bits → F.is_row if_false.now i }
+    requires few { length mask.now.bits ≤ 4294967295 }
+    ensures held { IfOk result (λ held. AreHeld (rows (T.held if_true.now) ∷ rows (F.held if_false.now) ∷ []) width (chosen_from 0 mask.now.bits (T.row_at if_true.now) (F.row_at if_false.now)) held.runs.items held.count) }
+    ensures room { IfOk result (λ held. held.count ≤ 4294967295) }
+    ensures listed { IfOk result (λ _. All IsListed (chosen_from 0 mask.now.bits (T.row_at if_true.now) (F.row_at if_false.now))) }
+    ensures bits { IfOk result (λ held. bits_for (length mask.now.bits) held.validity ≡ validities (chosen_from 0 mask.now.bits (T.row_at if_true.now) (F.row_at if_false.now))) }
+    ensures covers { IfOk result (λ held. Covers held.validity (length mask.now.bits)) }
+    ensures refusal { IfErr result (IsRefusal (IsPastRows (length (joined_items width (chosen_from 0 mask.now.bits (T.row_at if_true.now) (F.row_at if_false.now)))))) }
+{
+    let mut runs = Vec::new(alloc);
+    let mut valid = BitPacker::with_capacity(alloc, mask.len())?;
+    let mut count = 0;
+    for i in 0..mask.len() {
+        let part = chosen_part(mask, if_true, if_false, i, width);
+        count += part.len as usize;
+        if count > MOST_ROWS {
+            return Err(PolarsError::SizeLimit(Limit::Rows));
+        }
+        push_run(&mut runs, part)?;
+        valid.push(part.source.is_some())?;
+    }
+    let validity = validity_from(valid, mask.len())?;
+    Ok(HeldRows {
+        runs,
+        count,
         validity,
     })
 }
 
-/// The lists of `size` rows that hold these parts of two columns of one type. Refuses for want of memory, and where the rows that they
-/// hold pass a limit.
-pub(crate) fn blocks_of_parts(
-    alloc: Global,
-    size: usize,
-    if_true: &Column,
-    if_false: &Column,
-    parts: &[Run],
-) -> PolarsResult<FixedSizeListArray>
-    requires true_formed { IsWellFormed if_true.now }
-    requires false_formed { IsWellFormed if_false.now }
-    requires alike { type_of if_false.now ≡ type_of if_true.now }
-    requires fits { All (PickFits (rows if_true.now ∷ rows if_false.now ∷ [])) (expand parts.now) }
-    requires sizes { All (λ part. part.len ≡ size) parts.now }
-    requires narrow { size ≤ 4294967295 }
-    requires few { length parts.now ≤ 4294967295 }
-    ensures rows { IfOk result (λ lists. rows (block_column lists) ≡ rows_of_parts (rows if_true.now ∷ rows if_false.now ∷ []) parts.now) }
-    ensures dtype { IfOk result (λ lists. type_of (block_column lists) ≡ of_fixed_size_list (type_of if_true.now) size) }
-    ensures refusal { IfErr result (IsRefusal (past_below (of_fixed_size_list (type_of if_true.now) size) (if_true.now ∷ if_false.now ∷ []) (rows_of_parts (rows if_true.now ∷ rows if_false.now ∷ []) parts.now))) }
-{
-    let values = held_rows(alloc, if_true, if_false, parts)?;
-    let values = Box::new(alloc, values)?;
-    let validity = validity_of(alloc, parts)?;
-    Ok(FixedSizeListArray {
-        size,
-        len: parts.len(),
-        values,
-        validity,
-    })
-}
-
-// The rows of the parts, one part after the other. Refuses for want of memory, and where they pass a limit.
-fn held_rows(
+/// The rows of the runs, `count` in all. Refuses for want of memory, and where the rows need more than a limit lets them.
+pub(crate) fn held_column(
     alloc: Global,
     if_true: &Column,
     if_false: &Column,
-    parts: &[Run],
+    runs: &[Run],
+    count: usize,
 ) -> PolarsResult<Column>
     requires true_formed { IsWellFormed if_true.now }
     requires false_formed { IsWellFormed if_false.now }
     requires alike { type_of if_false.now ≡ type_of if_true.now }
-    requires fits { All (PickFits (rows if_true.now ∷ rows if_false.now ∷ [])) (expand parts.now) }
-    requires few { length parts.now ≤ 4294967295 }
-    ensures rows { IfOk result (λ column. rows column ≡ pick Null (rows if_true.now ∷ rows if_false.now ∷ []) (expand parts.now)) }
+    requires fits { All (PickFits (rows if_true.now ∷ rows if_false.now ∷ [])) (expand runs.now) }
+    requires many { length (expand runs.now) ≡ count }
+    requires room { count ≤ 4294967295 }
+    ensures rows { IfOk result (λ column. rows column ≡ pick Null (rows if_true.now ∷ rows if_false.now ∷ []) (expand runs.now)) }
     ensures dtype { IfOk result (λ column. type_of column ≡ type_of if_true.now) }
     ensures formed { IfOk result (λ column. IsWellFormed column) }
-    ensures refusal { IfErr result (IsRefusal (past_held (type_of if_true.now) (if_true.now ∷ if_false.now ∷ []) (pick Null (rows if_true.now ∷ rows if_false.now ∷ []) (expand parts.now)))) }
+    ensures refusal { IfErr result (IsRefusal (past_taken (type_of if_true.now) (if_true.now ∷ if_false.now ∷ []) (pick Null (rows if_true.now ∷ rows if_false.now ∷ []) (expand runs.now)))) }
 {
-    let need = count_rows(parts);
-    if need > MOST_ROWS as u128 {
-        return Err(PolarsError::SizeLimit(Limit::Rows));
-    }
-    let runs = joined_parts(alloc, parts)?;
-    let column = collect_runs(alloc, &[if_true, if_false], &runs, need as usize)?;
-    Ok(column)
-}
-
-// How many rows the parts have together.
-fn count_rows(parts: &[Run]) -> u128
-    requires { length parts.now ≤ 4294967295 }
-    ensures { result ≡ length (expand parts.now) }
-{
-    let mut total: u128 = 0;
-    for part in parts {
-        total += part.len as u128;
-    }
-    total
-}
-
-// The parts as runs, neighbours joined. Refuses only for want of memory.
-fn joined_parts(alloc: Global, parts: &[Run]) -> PolarsResult<Vec<Run>>
-    requires { length (expand parts.now) ≤ 4294967295 }
-    ensures picks { IfOk result (λ runs. expand runs.items ≡ expand parts.now) }
-    ensures refusal { IfErr result (λ fault. fault ≡ PolarsError.OutOfMemory) }
-{
-    let mut runs = Vec::new(alloc);
-    for part in parts {
-        push_run(&mut runs, *part)?;
-    }
-    Ok(runs)
-}
-
-// A 0 and where each part ends. Refuses only for want of memory.
-fn ends_of(alloc: Global, parts: &[Run]) -> PolarsResult<Vec<i64>>
-    requires room { length (expand parts.now) ≤ 4294967295 }
-    requires few { length parts.now ≤ 4294967295 }
-    ensures ends { IfOk result (λ ends. ends.items ≡ map pos (0 ∷ run_ends 0 parts.now)) }
-    ensures refusal { IfErr result (λ fault. fault ≡ PolarsError.OutOfMemory) }
-{
-    let mut ends = Vec::with_capacity(alloc, parts.len() + 1)?;
-    ends.push(0)?;
-    let mut end: u32 = 0;
-    for part in parts {
-        end += part.len;
-        ends.push(end as i64)?;
-    }
-    Ok(ends)
-}
-
-// The validity of the rows that hold the parts: a part without a source is of a null row. Refuses only for want of memory.
-fn validity_of(alloc: Global, parts: &[Run]) -> PolarsResult<Option<Bitmap>>
-    ensures bits { IfOk result (λ validity. bits_for (length parts.now) validity ≡ map (λ part. is_some part.source) parts.now) }
-    ensures covers { IfOk result (λ validity. Covers validity (length parts.now)) }
-    ensures refusal { IfErr result (λ fault. fault ≡ PolarsError.OutOfMemory) }
-{
-    let mut bits = BitPacker::with_capacity(alloc, parts.len())?;
-    for part in parts {
-        bits.push(part.source.is_some())?;
-    }
-    validity_from(bits, parts.len())
+    collect_runs(alloc, &[if_true, if_false], runs, count)
 }

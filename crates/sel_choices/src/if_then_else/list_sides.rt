@@ -1,13 +1,11 @@
 //! Sides of choices between lists: which part of a child each row holds.
 
-ghost use Rattle.std.specs.Prelude.{◌≡◌, ◌≤◌, ◌<◌, ◌+◌, ◌∷◌, [], ℕ, List, All, None, length, take, drop, slice_index_or, IfSome, IfNone, IfOk, IfErr};
+ghost use Rattle.std.specs.Prelude.{◌≡◌, ◌≤◌, ◌<◌, ◌+◌, ◌∷◌, [], ℕ, List, length, take, drop, slice_index_or, IfSome, IfNone};
 ghost use Rattle.sel_arrow.specs.Nested.{list_of};
 ghost use Rattle.sel_arrow.specs.Rows.{rows, IsWellFormed};
 ghost use Rattle.sel_arrow.specs.Value.{Value, Null};
 ghost use Rattle.sel_arrow.specs.declared.column.Column.{Column};
-ghost use Rattle.sel_runs.specs.Picks.{PickFits};
-ghost use Rattle.sel_runs.specs.Runs.{expand, unrolled};
-ghost use Rattle.sel_choices.specs.ListSides.{chosen_from, row_of_part, rows_of_parts, IsNullsOf};
+ghost use Rattle.sel_choices.specs.ListSides.{chosen_from, IsPart};
 
 use sel_arrow::array_ref::ArrayRef;
 use sel_arrow::column::Column;
@@ -15,9 +13,7 @@ use sel_arrow::fixed_size_list::FixedSizeListArray;
 use sel_arrow::list::ListArray;
 use sel_arrow::validity::is_valid_at;
 use sel_bits::bitmap::Bitmap;
-use sel_bits::faults::{PolarsError, PolarsResult};
 use sel_runs::run::Run;
-use std::alloc::Global;
 
 /// A side of a choice between lists, each of which holds rows of one column that stand together.
 pub(crate) trait ListSide {
@@ -113,40 +109,31 @@ impl ListSide for ArrayRef {
     }
 }
 
-/// The part of a child that each chosen row holds, source 0 the child of the true bits' side and source 1 the other; `width` nulls for
-/// a null row. Refuses only for want of memory.
-pub(crate) fn chosen_parts<T: ListSide, F: ListSide>(
-    alloc: Global,
+/// The part of a child that the row holds which bit `i` chooses, source 0 the child of the true bits' side and source 1 the other; `width`
+/// nulls for a null row.
+pub(crate) fn chosen_part<T: ListSide, F: ListSide>(
     mask: &Bitmap,
     if_true: &T,
     if_false: &F,
+    i: usize,
     width: u32,
-) -> PolarsResult<Vec<Run>>
-    requires true_side { (i : ℕ) → i < length mask.now.bits → T.is_row if_true.now i }
-    requires false_side { (i : ℕ) → i < length mask.now.bits → F.is_row if_false.now i }
-    ensures rows { IfOk result (λ parts. rows_of_parts (rows (T.held if_true.now) ∷ rows (F.held if_false.now) ∷ []) parts.items ≡ chosen_from 0 mask.now.bits (T.row_at if_true.now) (F.row_at if_false.now)) }
-    ensures fits { IfOk result (λ parts. All (PickFits (rows (T.held if_true.now) ∷ rows (F.held if_false.now) ∷ [])) (expand parts.items)) }
-    ensures nulls { IfOk result (λ parts. All (IsNullsOf width) parts.items) }
-    ensures refusal { IfErr result (λ fault. fault ≡ PolarsError.OutOfMemory) }
+) -> Run
+    requires inside { i < length mask.now.bits }
+    requires true_side { T.is_row if_true.now i }
+    requires false_side { F.is_row if_false.now i }
+    ensures { IsPart (rows (T.held if_true.now) ∷ rows (F.held if_false.now) ∷ []) width (slice_index_or (chosen_from 0 mask.now.bits (T.row_at if_true.now) (F.row_at if_false.now)) i Null) result }
 {
-    let mut parts = Vec::with_capacity(alloc, mask.len())?;
-    for i in 0..mask.len() {
-        let part = if mask.get_bit(i) {
-            run_of_part(if_true, i, 0, width)
-        } else {
-            run_of_part(if_false, i, 1, width)
-        };
-        parts.push(part)?;
+    if mask.get_bit(i) {
+        run_of_part(if_true, i, 0, width)
+    } else {
+        run_of_part(if_false, i, 1, width)
     }
-    Ok(parts)
 }
 
 // The part of the child that row `i` holds, as rows of that source; `width` nulls where the row is null.
 fn run_of_part<S: ListSide>(side: &S, i: usize, source: u32, width: u32) -> Run
     requires { S.is_row side.now i }
-    ensures row { (xss : List (List Value)) → slice_index_or xss source [] ≡ rows (S.held side.now) → row_of_part xss result ≡ S.row_at side.now i }
-    ensures fits { (xss : List (List Value)) → slice_index_or xss source [] ≡ rows (S.held side.now) → All (PickFits xss) (unrolled result) }
-    ensures nulls { IsNullsOf width result }
+    ensures { (xss : List (List Value)) → slice_index_or xss source [] ≡ rows (S.held side.now) → IsPart xss width (S.row_at side.now i) result }
 {
     match side.part(i) {
         None => Run {

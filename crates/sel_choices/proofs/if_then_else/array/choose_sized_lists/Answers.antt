@@ -1,47 +1,84 @@
-use Rattle.std.proofs.Common.{◌≡◌, ◌∷◌, [], ℕ, List, All, ap, subst, sym, arith, length, get_or}
-use Rattle.std.specs.Prelude.{IfErr}
-use Rattle.std.proofs.lemmas.List.{length-map, length-replicate}
-use Rattle.sel_arrow.specs.Rows.{rows, type_of}
+use Rattle.std.proofs.Common.{◌≡◌, ℕ, ◌∙◌, ◌∷◌, [], List, ap, subst, sym, arith, get_or, inr, length, true}
+use Rattle.std.proofs.lemmas.Result.{err_from_is_err_and}
+use Rattle.sel_arrow.specs.Masked.{Covers}
+use Rattle.sel_arrow.specs.Rows.{rows, type_of, well_formed}
 use Rattle.sel_arrow.specs.Shape.{of_fixed_size_list}
-use Rattle.sel_arrow.specs.Value.{Value, Null}
+use Rattle.sel_arrow.specs.Value.{Value, Null, validities}
+use Rattle.std.proofs.lemmas.List.{length-replicate}
 use Rattle.sel_arrow.specs.declared.column.Column.{Column}
-use Rattle.sel_runs.specs.Children.{items_in}
-use Rattle.sel_runs.specs.declared.run.Run.{Run}
-use Rattle.sel_choices.specs.ListSides.{past_below, rows_of_parts, row_of_part}
+use Rattle.sel_arrow.proofs.NestedRows.{blocks_formed}
+use Rattle.sel_runs.specs.Children.{items_in, joined_items}
+use Rattle.sel_runs.specs.Need.{past_taken}
+use Rattle.sel_runs.specs.Picks.{pick}
+use Rattle.sel_runs.specs.Runs.{expand}
+use Rattle.sel_runs.specs.Validity.{bits_for}
+use Rattle.sel_runs.proofs.Below.{refused_more}
+use Rattle.sel_runs.proofs.Rebuilt.{IsBlock, blocks_rebuilt, blocks_fit}
+use Rattle.sel_choices.specs.ListSides.{chosen_from, past_below}
 use Rattle.sel_choices.specs.Sides.{IsRefusal}
-use Rattle.sel_choices.proofs.ListRuns.{chosen_all, length-chosen, plain, sized_parts}
+use Rattle.sel_choices.proofs.ListRuns.{all_blocks, chosen_all, length-chosen, plain}
 use Rattle.sel_choices.proofs.if_then_else.array.choose_sized_lists.Goals as goal
 
-pub blocks_of_parts-requires-clause-sizes : goal.blocks_of_parts-requires-clause-sizes
-blocks_of_parts-requires-clause-sizes g c =
+pub returns-in_err-values-clause-refusal : goal.returns-in_err-values-clause-refusal
+returns-in_err-values-clause-refusal g c =
     let t = c.args.if_true.now in
     let f = c.args.if_false.now in
-    let xss = rows (g.T.ListSide.held t) ∷ rows (g.F.ListSide.held f) ∷ [] in
+    let ts = g.T.ListSide.held t in
+    let fs = g.F.ListSide.held f in
+    let vs = chosen_from 0 c.args.mask.now.bits (g.T.ListSide.row_at t) (g.F.ListSide.row_at f) in
+    let fault = c.in_err-values.field-0.0 in
+    let p = err_from_is_err_and c.from_residual-in_err-values.result c.from_residual-in_err-values.ensures.1 in
+    let given = λ (a b : Column) (values : List Value). IsRefusal (past_taken (type_of a) (a ∷ b ∷ []) values) fault in
+    let picked = λ (a b : Column). pick Null (rows a ∷ rows b ∷ []) (expand c.deref.result.now) in
+    let first = subst (λ a. given a c.child-2.result.now (picked a c.child-2.result.now)) c.child.ensures.column c.in_err-values.ensures.refusal in
+    let second = subst (λ b. given ts b (picked ts b)) c.child-2.ensures.column first in
+    let items : picked ts fs ≡ joined_items c.args.size vs = ap (λ rs. pick Null (rows ts ∷ rows fs ∷ []) (expand rs)) c.deref.ensures.value ∙ c.in_ok-held.ensures.held.items in
+    let taken = subst (given ts fs) items second in
+    let here = refused_more (past_taken (type_of ts) (ts ∷ fs ∷ []) (joined_items c.args.size vs)) (past_below (of_fixed_size_list (type_of ts) c.args.size) (ts ∷ fs ∷ []) vs) fault (λ limit past. inr past) taken in
+    rw (p.1, p.2) here
+
+pub invariant_of-result : goal.invariant_of-result
+invariant_of-result g c =
+    let t = c.args.if_true.now in
+    let f = c.args.if_false.now in
+    let vs = chosen_from 0 c.args.mask.now.bits (g.T.ListSide.row_at t) (g.F.ListSide.row_at f) in
+    let below : rows c.in_ok-values-2.values.value ≡ joined_items c.args.size vs =
+    ap rows c.in_ok-values-2.ensures.ok ∙ c.in_ok-values.ensures.rows
+    ∙ (λ i. pick Null (rows (c.child.ensures.column i) ∷ rows (c.child-2.ensures.column i) ∷ []) (expand (c.deref.ensures.value i)))
+    ∙ c.in_ok-held.ensures.held.items
+    in
     let size = c.args.size in
-    let parts = c.in_ok-parts.parts.items in
     let holds : Value → Type 0 = λ v. length (items_in size v) ≡ size in
     let ms = c.args.mask.now.bits in
-    let all = chosen_all holds Null (length-replicate size Null) 0 ms (g.T.ListSide.row_at t) (g.F.ListSide.row_at f)
-    (λ k h. subst (λ i. holds (g.T.ListSide.row_at t i)) (sym (plain k)) (c.requires.true_sizes k h)) (λ k h. subst (λ i. holds (g.F.ListSide.row_at f i)) (sym (plain k)) (c.requires.false_sizes k h)) in
-    let rows_hold : (k : ℕ) → holds (get_or (rows_of_parts xss parts) k Null) = λ k. subst (λ vs. holds (get_or vs k Null)) (sym c.in_ok-parts.ensures.rows) (all k) in
-    subst (All (λ (r : Run). r.len ≡ size)) (sym c.deref.ensures.value) (sized_parts size xss parts c.in_ok-parts.ensures.nulls rows_hold)
+    let sizes : (k : ℕ) → holds (get_or vs k Null) =
+    chosen_all holds Null (length-replicate size Null) 0 ms (g.T.ListSide.row_at t) (g.F.ListSide.row_at f)
+    (λ k h. subst (λ i. holds (g.T.ListSide.row_at t i)) (sym (plain k)) (c.requires.true_sizes k h)) (λ k h. subst (λ i. holds (g.F.ListSide.row_at f i)) (sym (plain k)) (c.requires.false_sizes k h))
+    in
+    let blocks : (k : ℕ) → IsBlock size (get_or vs k Null) = all_blocks size vs c.in_ok-held.ensures.listed sizes in
+    let long : length vs ≡ c.len.result = length-chosen 0 ms (g.T.ListSide.row_at t) (g.F.ListSide.row_at f) ∙ sym c.len.ensures in
+    let values = c.in_ok-values-2.values.value in
+    let formed : well_formed values ≡ true = ap well_formed c.in_ok-values-2.ensures.ok ∙ c.in_ok-values.ensures.formed in
+    let covers : Covers c.in_ok-held.held.validity c.len.result = λ b there. c.in_ok-held.ensures.covers b there ∙ sym c.len.ensures in
+    record { formed = blocks_formed size c.len.result values c.in_ok-held.held.validity (blocks_fit size vs values c.in_ok-held.held.validity c.len.result blocks long (omega (arith, c.len.ensures, c.requires.few)) c.requires.narrow below covers formed) }
 
-pub blocks_of_parts-requires-clause-few : goal.blocks_of_parts-requires-clause-few
-blocks_of_parts-requires-clause-few g c =
+pub returns-clause-rows : goal.returns-clause-rows
+returns-clause-rows g c =
     let t = c.args.if_true.now in
     let f = c.args.if_false.now in
-    let xss = rows (g.T.ListSide.held t) ∷ rows (g.F.ListSide.held f) ∷ [] in
-    let parts = c.in_ok-parts.parts.items in
-    let same : length c.deref.result.now ≡ length parts = ap length c.deref.ensures.value in
-    omega (arith, same, length-map parts (row_of_part xss), ap length c.in_ok-parts.ensures.rows, length-chosen 0 c.args.mask.now.bits (g.T.ListSide.row_at t) (g.F.ListSide.row_at f), c.requires.few)
-
-pub returns-clause-refusal : goal.returns-clause-refusal
-returns-clause-refusal g c =
-    let ts = g.T.ListSide.held c.args.if_true.now in
-    let fs = g.F.ListSide.held c.args.if_false.now in
+    let vs = chosen_from 0 c.args.mask.now.bits (g.T.ListSide.row_at t) (g.F.ListSide.row_at f) in
+    let below : rows c.in_ok-values-2.values.value ≡ joined_items c.args.size vs =
+    ap rows c.in_ok-values-2.ensures.ok ∙ c.in_ok-values.ensures.rows
+    ∙ (λ i. pick Null (rows (c.child.ensures.column i) ∷ rows (c.child-2.ensures.column i) ∷ []) (expand (c.deref.ensures.value i)))
+    ∙ c.in_ok-held.ensures.held.items
+    in
     let size = c.args.size in
-    let given = λ (a b : Column) (parts : List Run). IfErr c.blocks_of_parts.result (IsRefusal (past_below (of_fixed_size_list (type_of a) size) (a ∷ b ∷ []) (rows_of_parts (rows a ∷ rows b ∷ []) parts))) in
-    let first = subst (λ a. given a c.child-2.result.now c.deref.result.now) c.child.ensures.column c.blocks_of_parts.ensures.refusal in
-    let second = subst (λ b. given ts b c.deref.result.now) c.child-2.ensures.column first in
-    let parts = subst (given ts fs) c.deref.ensures.value second in
-    subst (λ vs. IfErr c.blocks_of_parts.result (IsRefusal (past_below (of_fixed_size_list (type_of ts) size) (ts ∷ fs ∷ []) vs))) c.in_ok-parts.ensures.rows parts
+    let holds : Value → Type 0 = λ v. length (items_in size v) ≡ size in
+    let ms = c.args.mask.now.bits in
+    let sizes : (k : ℕ) → holds (get_or vs k Null) =
+    chosen_all holds Null (length-replicate size Null) 0 ms (g.T.ListSide.row_at t) (g.F.ListSide.row_at f)
+    (λ k h. subst (λ i. holds (g.T.ListSide.row_at t i)) (sym (plain k)) (c.requires.true_sizes k h)) (λ k h. subst (λ i. holds (g.F.ListSide.row_at f i)) (sym (plain k)) (c.requires.false_sizes k h))
+    in
+    let blocks : (k : ℕ) → IsBlock size (get_or vs k Null) = all_blocks size vs c.in_ok-held.ensures.listed sizes in
+    let long : length vs ≡ c.len.result = length-chosen 0 ms (g.T.ListSide.row_at t) (g.F.ListSide.row_at f) ∙ sym c.len.ensures in
+    let valid : bits_for c.len.result c.in_ok-held.held.validity ≡ validities vs = ap (λ n. bits_for n c.in_ok-held.held.validity) c.len.ensures ∙ c.in_ok-held.ensures.bits in
+    blocks_rebuilt size vs (rows c.in_ok-values-2.values.value) c.in_ok-held.held.validity c.len.result blocks long below valid

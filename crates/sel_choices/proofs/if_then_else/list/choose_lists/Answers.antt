@@ -1,32 +1,80 @@
-use Rattle.std.proofs.Common.{◌≡◌, ◌∷◌, [], List, ap, subst, arith, length}
-use Rattle.std.specs.Prelude.{IfErr}
-use Rattle.std.proofs.lemmas.List.{length-map}
-use Rattle.sel_arrow.specs.Rows.{rows, type_of}
+use Rattle.std.proofs.Common.{◌≡◌, ◌∙◌, ◌∷◌, [], List, ap, subst, sym, inr, length, true}
+use Rattle.std.specs.Prelude.{ℤ}
+use Rattle.std.proofs.lemmas.Result.{err_from_is_err_and}
+use Rattle.sel_arrow.specs.Rows.{rows, type_of, well_formed}
 use Rattle.sel_arrow.specs.Shape.{of_large_list}
+use Rattle.sel_arrow.specs.Value.{Value, Null}
 use Rattle.sel_arrow.specs.declared.column.Column.{Column}
-use Rattle.sel_runs.specs.declared.run.Run.{Run}
-use Rattle.sel_choices.specs.ListSides.{past_below, rows_of_parts, row_of_part}
+use Rattle.sel_arrow.proofs.NestedRows.{lists_formed}
+use Rattle.sel_runs.specs.Children.{joined_items}
+use Rattle.sel_runs.specs.Ends.{item_ends}
+use Rattle.sel_runs.specs.Need.{past_taken}
+use Rattle.sel_runs.specs.Picks.{pick}
+use Rattle.sel_runs.specs.Runs.{expand}
+use Rattle.sel_runs.proofs.Below.{refused_more}
+use Rattle.sel_runs.proofs.JoinedRows.{offsets_of, same_numbers, map_same}
+use Rattle.sel_runs.proofs.Rebuilt.{rising_ends, lists_rebuilt, lists_fit}
+use Rattle.sel_choices.specs.ListSides.{chosen_from, past_below}
 use Rattle.sel_choices.specs.Sides.{IsRefusal}
-use Rattle.sel_choices.proofs.ListRuns.{length-chosen}
+use Rattle.sel_choices.proofs.ListRuns.{all_listed, length-chosen}
 use Rattle.sel_choices.proofs.if_then_else.list.choose_lists.Goals as goal
 
-pub lists_of_parts-requires-clause-few : goal.lists_of_parts-requires-clause-few
-lists_of_parts-requires-clause-few g c =
-    let t = c.args.if_true.now in
-    let f = c.args.if_false.now in
-    let xss = rows (g.T.ListSide.held t) ∷ rows (g.F.ListSide.held f) ∷ [] in
-    let parts = c.in_ok-parts.parts.items in
-    let same : length c.deref.result.now ≡ length parts = ap length c.deref.ensures.value in
-    omega (arith, same, length-map parts (row_of_part xss), ap length c.in_ok-parts.ensures.rows, length-chosen 0 c.args.mask.now.bits (g.T.ListSide.row_at t) (g.F.ListSide.row_at f), c.requires.few)
-
-pub returns-clause-refusal : goal.returns-clause-refusal
-returns-clause-refusal g c =
+pub returns-in_err-values-clause-refusal : goal.returns-in_err-values-clause-refusal
+returns-in_err-values-clause-refusal g c =
     let t = c.args.if_true.now in
     let f = c.args.if_false.now in
     let ts = g.T.ListSide.held t in
     let fs = g.F.ListSide.held f in
-    let given = λ (a b : Column) (parts : List Run). IfErr c.lists_of_parts.result (IsRefusal (past_below (of_large_list (type_of a)) (a ∷ b ∷ []) (rows_of_parts (rows a ∷ rows b ∷ []) parts))) in
-    let first = subst (λ a. given a c.child-2.result.now c.deref.result.now) c.child.ensures.column c.lists_of_parts.ensures.refusal in
-    let second = subst (λ b. given ts b c.deref.result.now) c.child-2.ensures.column first in
-    let parts = subst (given ts fs) c.deref.ensures.value second in
-    subst (λ vs. IfErr c.lists_of_parts.result (IsRefusal (past_below (of_large_list (type_of ts)) (ts ∷ fs ∷ []) vs))) c.in_ok-parts.ensures.rows parts
+    let vs = chosen_from 0 c.args.mask.now.bits (g.T.ListSide.row_at t) (g.F.ListSide.row_at f) in
+    let fault = c.in_err-values.field-0.0 in
+    let p = err_from_is_err_and c.from_residual-in_err-values.result c.from_residual-in_err-values.ensures.1 in
+    let given = λ (a b : Column) (values : List Value). IsRefusal (past_taken (type_of a) (a ∷ b ∷ []) values) fault in
+    let picked = λ (a b : Column). pick Null (rows a ∷ rows b ∷ []) (expand c.deref.result.now) in
+    let first = subst (λ a. given a c.child-2.result.now (picked a c.child-2.result.now)) c.child.ensures.column c.in_err-values.ensures.refusal in
+    let second = subst (λ b. given ts b (picked ts b)) c.child-2.ensures.column first in
+    let items : picked ts fs ≡ joined_items 0 vs = ap (λ rs. pick Null (rows ts ∷ rows fs ∷ []) (expand rs)) c.deref.ensures.value ∙ c.in_ok-held.ensures.held.items in
+    let taken = subst (given ts fs) items second in
+    let here = refused_more (past_taken (type_of ts) (ts ∷ fs ∷ []) (joined_items 0 vs)) (past_below (of_large_list (type_of ts)) (ts ∷ fs ∷ []) vs) fault (λ limit past. inr past) taken in
+    rw (p.1, p.2) here
+
+pub of_rising-requires : goal.of_rising-requires
+of_rising-requires g c =
+    let t = c.args.if_true.now in
+    let f = c.args.if_false.now in
+    let vs = chosen_from 0 c.args.mask.now.bits (g.T.ListSide.row_at t) (g.F.ListSide.row_at f) in
+    offsets_of (λ (x : ℤ). x) c.in_ok-held.ends.items (0 ∷ item_ends 0 vs) (map_same c.in_ok-held.ends.items ∙ c.in_ok-held.ensures.ends) (rising_ends vs)
+
+pub invariant_of-result : goal.invariant_of-result
+invariant_of-result g c =
+    let t = c.args.if_true.now in
+    let f = c.args.if_false.now in
+    let vs = chosen_from 0 c.args.mask.now.bits (g.T.ListSide.row_at t) (g.F.ListSide.row_at f) in
+    let below : rows c.in_ok-values-2.values.value ≡ joined_items 0 vs =
+    ap rows c.in_ok-values-2.ensures.ok ∙ c.in_ok-values.ensures.rows
+    ∙ (λ i. pick Null (rows (c.child.ensures.column i) ∷ rows (c.child-2.ensures.column i) ∷ []) (expand (c.deref.ensures.value i)))
+    ∙ c.in_ok-held.ensures.held.items
+    in
+    let offsets : c.in_ok-offsets.offsets ≡ 0 ∷ item_ends 0 vs =
+    same_numbers c.in_ok-offsets.offsets (0 ∷ item_ends 0 vs) (sym c.in_ok-offsets.ensures.value ∙ map_same c.in_ok-held.ends.items ∙ c.in_ok-held.ensures.ends) in
+    let values = c.in_ok-values-2.values.value in
+    let n = length c.args.mask.now.bits in
+    let formed : well_formed values ≡ true = ap well_formed c.in_ok-values-2.ensures.ok ∙ c.in_ok-values.ensures.formed in
+    record {
+      formed = lists_formed c.in_ok-offsets.offsets values c.in_ok-held.held.validity
+          (lists_fit vs c.in_ok-offsets.offsets values c.in_ok-held.held.validity n (length-chosen 0 c.args.mask.now.bits (g.T.ListSide.row_at t) (g.F.ListSide.row_at f)) c.requires.few offsets below c.in_ok-held.ensures.covers formed);
+    }
+
+pub returns-clause-rows : goal.returns-clause-rows
+returns-clause-rows g c =
+    let t = c.args.if_true.now in
+    let f = c.args.if_false.now in
+    let vs = chosen_from 0 c.args.mask.now.bits (g.T.ListSide.row_at t) (g.F.ListSide.row_at f) in
+    let below : rows c.in_ok-values-2.values.value ≡ joined_items 0 vs =
+    ap rows c.in_ok-values-2.ensures.ok ∙ c.in_ok-values.ensures.rows
+    ∙ (λ i. pick Null (rows (c.child.ensures.column i) ∷ rows (c.child-2.ensures.column i) ∷ []) (expand (c.deref.ensures.value i)))
+    ∙ c.in_ok-held.ensures.held.items
+    in
+    let offsets : c.in_ok-offsets.offsets ≡ 0 ∷ item_ends 0 vs =
+    same_numbers c.in_ok-offsets.offsets (0 ∷ item_ends 0 vs) (sym c.in_ok-offsets.ensures.value ∙ map_same c.in_ok-held.ends.items ∙ c.in_ok-held.ensures.ends) in
+    lists_rebuilt vs c.in_ok-offsets.offsets (rows c.in_ok-values-2.values.value) c.in_ok-held.held.validity (length c.args.mask.now.bits) (all_listed vs c.in_ok-held.ensures.listed)
+    (length-chosen 0 c.args.mask.now.bits (g.T.ListSide.row_at t) (g.F.ListSide.row_at f)) offsets below c.in_ok-held.ensures.bits

@@ -1,15 +1,11 @@
-use Rattle.std.proofs.Common.{◌≤◌, ◌+◌, [], get_or, ◌∙◌, ap, sym, arith, length, take, drop}
-use Rattle.sel_arrow.specs.Nested.{list_of}
-use Rattle.sel_arrow.specs.Value.{Null}
-use Rattle.sel_runs.proofs.Fits.{rows_fit}
-use Rattle.sel_runs.proofs.RunLists.{pick_rows}
+use Rattle.sel_arrow.specs.Rows.{rows}
+use Rattle.sel_choices.proofs.ListRuns.{list_part, null_part}
 use Rattle.sel_choices.proofs.if_then_else.list_sides.run_of_part.Goals as goal
 
-pub returns-in-Some-clause-row : goal.returns-in-Some-clause-row
-returns-in-Some-clause-row g c =
-    λ xss is.
-    let inside : c.in-Some.start + c.in-Some.len ≤ length (get_or xss c.args.source []) = omega (arith, c.in-Some.ensures.inside, ap length is) in
-    ap list_of (pick_rows Null xss c.args.source c.in-Some.start c.in-Some.len inside ∙ ap (λ l. take c.in-Some.len (drop c.in-Some.start l)) is) ∙ sym c.in-Some.ensures.row
+pub returns-in-None : goal.returns-in-None
+returns-in-None g c = λ xss there. null_part xss c.args.width (g.S.ListSide.row_at c.args.side.now c.args.i) c.in-None.ensures.null
 
-pub returns-in-Some-clause-fits : goal.returns-in-Some-clause-fits
-returns-in-Some-clause-fits g c = λ xss is. rows_fit xss c.args.source c.in-Some.start c.in-Some.len (omega (arith, c.in-Some.ensures.inside, ap length is))
+pub returns-in-Some : goal.returns-in-Some
+returns-in-Some g c =
+    λ xss there.
+    list_part xss c.args.width (g.S.ListSide.row_at c.args.side.now c.args.i) c.args.source c.in-Some.start c.in-Some.len (rows (g.S.ListSide.held c.args.side.now)) there c.in-Some.ensures.inside c.in-Some.ensures.row
