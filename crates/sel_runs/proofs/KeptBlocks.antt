@@ -1,7 +1,7 @@
 -- The rows of a run that bits keep, as many at a time as stand together.
 use Rattle.std.proofs.Common.{◌≡◌, ℕ, zero, suc, ◌+◌, ◌-◌, ◌≤◌, ◌<◌, Bool, true, false, not, List, [], ◌∷◌, ◌++◌, length, drop, map, replicate, Option, Some, None, refl, ap, sym, subst, ◌∙◌, arith, get_or, length-append, append_assoc}
 use Rattle.std.specs.Prelude.{if◌then◌else◌}
-use Rattle.std.proofs.lemmas.List.{length-drop, length-map, get_or-drop, map-append, append-nil}
+use Rattle.std.proofs.lemmas.List.{length-drop, length-map, get_or-drop, map-append}
 use Rattle.sel_bits.specs.Bits.{leading_ones, leading_zeros}
 use Rattle.sel_bits.proofs.Zeros.{leading_le}
 use Rattle.sel_runs.specs.Cleared.{kept_by}
@@ -126,13 +126,3 @@ pub kept_count : (bits : List Bool) (o : Option ℕ) (start at : ℕ) (old so_fa
 kept_count bits o start at old so_far is =
     ap length is ∙ length-append old (map (kept_by bits) (unrolled_from o start (at - start)))
     ∙ ap (λ n. length old + n) (length-map (unrolled_from o start (at - start)) (kept_by bits) ∙ length-unrolled_from o start (at - start))
-
--- none so far
-pub kept_none : (bits : List Bool) (o : Option ℕ) (start : ℕ) (old : List (Option (ℕ × ℕ))) → old ≡ old ++ map (kept_by bits) (unrolled_from o start (start - start))
-kept_none bits o start old =
-    let none : start - start ≡ 0 = omega arith in
-    sym (ap (λ n. old ++ map (kept_by bits) (unrolled_from o start n)) none ∙ zero_rows o)
-  where
-    zero_rows : (o : Option ℕ) → old ++ map (kept_by bits) (unrolled_from o start 0) ≡ old
-    zero_rows None = append-nil old
-    zero_rows (Some s) = append-nil old

@@ -1,8 +1,7 @@
 -- Bits of picked rows, and picks of null rows.
-use Rattle.std.proofs.Common.{◌≡◌, ◌≢◌, All, Bor, ℕ, zero, suc, ◌+◌, ◌≤◌, ◌<◌, Bool, true, false, List, [], ◌∷◌, ◌++◌, length, take, drop, map, replicate, Option, Some, None, refl, ap, sym, ◌∙◌, arith, get_or, length-append, length-take, append_assoc}
+use Rattle.std.proofs.Common.{◌≡◌, ◌≢◌, All, Bor, ℕ, zero, suc, ◌+◌, ◌≤◌, ◌<◌, Bool, true, false, List, [], ◌∷◌, length, take, drop, map, replicate, Option, Some, None, refl, ap, sym, ◌∙◌, arith, get_or}
 use Rattle.std.specs.Prelude.{if◌then◌else◌}
-use Rattle.std.proofs.lemmas.List.{length-map, get_or-map, take_more, take_all, map-append, take-map, drop-map}
-use Rattle.std.proofs.lemmas.List.FromFn.{get_or-map-range_with_len}
+use Rattle.std.proofs.lemmas.List.{length-map, get_or-map, take-map, drop-map}
 use Rattle.sel_bits.specs.Bits.{Bits}
 use Rattle.sel_arrow.specs.Nulls.{TellsNulls}
 use Rattle.sel_arrow.specs.Rows.{rows}
@@ -10,13 +9,13 @@ use Rattle.sel_arrow.specs.Shape.{Shape, of_null}
 use Rattle.sel_arrow.specs.Value.{Value, Null, is_valid, validities}
 use Rattle.sel_arrow.specs.declared.column.Column.{Column}
 use Rattle.sel_arrow.proofs.Rows.{part-replicate}
-use Rattle.sel_runs.specs.Cleared.{cleared, kept_by, row_pick}
+use Rattle.sel_runs.specs.Cleared.{cleared, kept_by}
 use Rattle.sel_runs.specs.Picks.{found, pick, PickFits}
-use Rattle.sel_runs.specs.Runs.{unrolled, unrolled_from, picks_of}
+use Rattle.sel_runs.specs.Runs.{unrolled, picks_of}
 use Rattle.sel_runs.specs.Validity.{part_bits}
 use Rattle.sel_runs.specs.declared.run.Run.{Run}
 use Rattle.sel_runs.proofs.ItemRuns.{rows_of, source_there}
-use Rattle.sel_runs.proofs.RunLists.{run_there, pick_run, pick_nulls, length-unrolled}
+use Rattle.sel_runs.proofs.RunLists.{run_there, pick_run, pick_nulls}
 
 -- ---- what a validity tells of a part of the rows
 
@@ -129,37 +128,3 @@ null_picks xss r is = rw is (each r.len)
     each : (n : ℕ) → replicate n (let none : Option (ℕ × ℕ) = None in none) ≡ map (cleared xss) (replicate n None)
     each zero = refl
     each (suc n) = ap (λ (l : List (Option (ℕ × ℕ))). None ∷ l) (each n)
-
--- ---- a loop over the rows of a run
-
-pick_at : (r : Run) (i : ℕ) → i < r.len → get_or (unrolled r) i None ≡ row_pick r.source (r.start + i)
-pick_at r i h = from r.source r.start r.len i h
-  where
-    nulls : (n i : ℕ) → get_or (replicate n (let none : Option (ℕ × ℕ) = None in none)) i None ≡ None
-    nulls zero i = refl
-    nulls (suc n) zero = refl
-    nulls (suc n) (suc i) = nulls n i
-
-    from : (o : Option ℕ) (a n i : ℕ) → i < n → get_or (unrolled_from o a n) i None ≡ row_pick o (a + i)
-    from None a n i h = nulls n i
-    from (Some s) a n i h = get_or-map-range_with_len (λ k. let p : Option (ℕ × ℕ) = Some (s, k) in p) a n i (a + i) None h refl
-
-pub kept_more : (bits : List Bool) (old so_far new : List (Option (ℕ × ℕ))) (r one : Run) (i : ℕ) → i < r.len → so_far ≡ old ++ map (kept_by bits) (take i (unrolled r)) →
-    unrolled one ≡ kept_by bits (row_pick r.source (r.start + i)) ∷ [] → new ≡ so_far ++ unrolled one → new ≡ old ++ map (kept_by bits) (take (i + 1) (unrolled r))
-kept_more bits old so_far new r one i h e f g =
-    let inside : i < length (unrolled r) = omega (arith, length-unrolled r, h) in
-    let last = kept_by bits (row_pick r.source (r.start + i)) in
-    let more = ap (map (kept_by bits)) (take_more (unrolled r) i None inside) ∙ map-append (kept_by bits) (take i (unrolled r)) (get_or (unrolled r) i None ∷ []) in
-    g ∙ ap (λ l. l ++ unrolled one) e ∙ ap (λ l. (old ++ map (kept_by bits) (take i (unrolled r))) ++ l) f
-    ∙ append_assoc old (map (kept_by bits) (take i (unrolled r))) (last ∷ [])
-    ∙ ap (λ p. old ++ (map (kept_by bits) (take i (unrolled r)) ++ kept_by bits p ∷ [])) (sym (pick_at r i h))
-    ∙ ap (λ l. old ++ l) (sym more)
-
-pub kept_all : (bits : List Bool) (r : Run) (i : ℕ) → r.len ≤ i → map (kept_by bits) (take i (unrolled r)) ≡ map (kept_by bits) (unrolled r)
-kept_all bits r i h = ap (map (kept_by bits)) (take_all i (unrolled r) (omega (arith, length-unrolled r, h)))
-
-pub kept_length : (bits : List Bool) (old so_far : List (Option (ℕ × ℕ))) (r : Run) (i : ℕ) → i ≤ r.len → so_far ≡ old ++ map (kept_by bits) (take i (unrolled r)) → length so_far ≤ length old + i
-kept_length bits old so_far r i h e =
-    let long = ap length e ∙ length-append old (map (kept_by bits) (take i (unrolled r))) in
-    let part = length-map (take i (unrolled r)) (kept_by bits) in
-    omega (arith, long, part, length-take i (unrolled r))

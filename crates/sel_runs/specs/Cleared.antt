@@ -12,11 +12,6 @@ abbrev pub kept_by : List Bool → Option (ℕ × ℕ) → Option (ℕ × ℕ)
 kept_by bits None = None
 kept_by bits (Some p) = if slice_index_or bits p.1 false then Some p else None
 
--- the pick of one row of a source; none where there is no source (own)
-abbrev pub row_pick : Option ℕ → ℕ → Option (ℕ × ℕ)
-row_pick None row = None
-row_pick (Some source) row = Some (source, row)
-
 -- a pick that is not none names a row that is not null (own)
 abbrev pub IsLive : List (List Value) → Option (ℕ × ℕ) → Type 0
 IsLive xss None = ⊤
