@@ -74,7 +74,7 @@ fn picked(alloc: Global, column: ArrayRef, runs: &[Run]) -> Result<ArrayRef, Fai
 }
 
 // So many rows of a source from this row on.
-fn run(source: u32, start: u32, len: u32) -> Run {
+fn run_of_rows(source: u32, start: u32, len: u32) -> Run {
     Run {
         source: Some(source),
         start,
@@ -94,7 +94,7 @@ fn run_of_nulls(len: u32) -> Run {
 #[test]
 fn rows_of_one_column_by_runs(rt: HostRuntime) -> Result<(), Fail> {
     let column = number_column(rt.alloc(), &[Some(1), None, Some(3)])?;
-    let runs = [run(0, 1, 2), run_of_nulls(1), run(0, 0, 1)];
+    let runs = [run_of_rows(0, 1, 2), run_of_nulls(1), run_of_rows(0, 0, 1)];
     let rows = picked(rt.alloc(), column, &runs)?;
     assert!(rt; is_numbers(rows, &[None, Some(3i64), None, Some(1)])?);
     Ok(())
@@ -211,7 +211,7 @@ fn views_of_two_columns_by_runs(rt: HostRuntime) -> Result<(), Fail> {
         views(alloc, b"abcdefghijklm")?,
         views(alloc, b"nopqrstuvwxyz")?,
     );
-    let runs = [run(1, 1, 1), run_of_nulls(1), run(0, 0, 2)];
+    let runs = [run_of_rows(1, 1, 1), run_of_nulls(1), run_of_rows(0, 0, 2)];
     let rows = collected_views(alloc, first, second, &runs)?;
     assert!(rt; are_picked_views(alloc, &rows) == Ok(true));
     Ok(())
