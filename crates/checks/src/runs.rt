@@ -14,7 +14,7 @@ use sel_bits::buffer::Buffer;
 use sel_bits::faults::PolarsResult;
 use sel_bits::packer::BitPacker;
 use sel_runs::bits::{push_validity, validity_from};
-use sel_runs::run::{Run, run_of_pick, runs_of_picks};
+use sel_runs::run::{Run, nulls_of, run_of_pick, runs_of_picks};
 use sel_runs::single::collect_one;
 use sel_runs::sources::{picked_rows, runs_fit};
 use sel_runs::view::{collect_views, push_buffers, raised_view};
@@ -35,6 +35,7 @@ fn is_run_of_nulls(run: &Run, len: u32) -> bool {
 fn a_pick_is_a_run_of_one(rt: HostRuntime) {
     assert!(rt; is_run(&run_of_pick(Some((2, 7))), 2, 7, 1));
     assert!(rt; is_run_of_nulls(&run_of_pick(None), 1));
+    assert!(rt; is_run_of_nulls(&nulls_of(3), 3));
 }
 
 #[test]
@@ -82,19 +83,10 @@ fn run_of_rows(source: u32, start: u32, len: u32) -> Run {
     }
 }
 
-// So many nulls.
-fn run_of_nulls(len: u32) -> Run {
-    Run {
-        source: None,
-        start: 0,
-        len,
-    }
-}
-
 #[test]
 fn rows_of_one_column_by_runs(rt: HostRuntime) -> Result<(), Fail> {
     let column = number_column(rt.alloc(), &[Some(1), None, Some(3)])?;
-    let runs = [run_of_rows(0, 1, 2), run_of_nulls(1), run_of_rows(0, 0, 1)];
+    let runs = [run_of_rows(0, 1, 2), nulls_of(1), run_of_rows(0, 0, 1)];
     let rows = picked(rt.alloc(), column, &runs)?;
     assert!(rt; is_numbers(rows, &[None, Some(3i64), None, Some(1)])?);
     Ok(())
@@ -211,7 +203,7 @@ fn views_of_two_columns_by_runs(rt: HostRuntime) -> Result<(), Fail> {
         views(alloc, b"abcdefghijklm")?,
         views(alloc, b"nopqrstuvwxyz")?,
     );
-    let runs = [run_of_rows(1, 1, 1), run_of_nulls(1), run_of_rows(0, 0, 2)];
+    let runs = [run_of_rows(1, 1, 1), nulls_of(1), run_of_rows(0, 0, 2)];
     let rows = collected_views(alloc, first, second, &runs)?;
     assert!(rt; are_picked_views(alloc, &rows) == Ok(true));
     Ok(())

@@ -14,7 +14,7 @@ use crate::writing::{flush, send};
 use std::alloc::{AllocError, AllocFailed, Global};
 use std::io::{Read, Write};
 
-/// The greatest number of a line.
+/// The greatest number that a line may have.
 pub const LAST_LINE: u64 = 4_294_967_295;
 
 /// How a run ended: with the last line, or at a bad one.

@@ -75,7 +75,7 @@ impl BitPacker {
     }
 
     /// Puts the `len` bits of a bitmap from bit `start` on behind the others, many at a time. Refuses only for want of
-    /// memory, and then keeps the bits that stood here.
+    /// memory; the bits that stood before are kept then, but some of the new ones may stand behind them.
     pub fn extend_from_bitmap(
         &mut self,
         bits: &Bitmap,
@@ -99,8 +99,8 @@ impl BitPacker {
         Ok(())
     }
 
-    /// Puts the same bit `len` times behind the others, many at a time. Refuses only for want of memory, and then keeps
-    /// the bits that stood here.
+    /// Puts the same bit `len` times behind the others, many at a time. Refuses only for want of memory; the bits that
+    /// stood before are kept then, but some of the new ones may stand behind them.
     pub fn extend_constant(&mut self, len: usize, value: bool) -> PolarsResult<()>
         ensures extended { OnOk result (self.new ≡ self.old ++ replicate len value) }
         ensures len { OnOk result (length self.new ≡ length self.old + len) }

@@ -176,7 +176,7 @@ fn collect_blocks<'a>(
 }
 
 // The rows that lists hold which runs pick, `need` in all, `width` nulls for each null; they are of the type of `first`.
-// Nulls are counted alone.
+// Where that is the type of nulls, nothing is listed for them: as many nulls as are needed are all there is to know.
 #[cycle(collecting)]
 fn collect_items<'a>(
     alloc: Global,

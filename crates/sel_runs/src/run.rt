@@ -37,7 +37,7 @@ pub fn push_run(runs: &mut Vec<Run>, run: Run) -> PolarsResult<()>
     Ok(())
 }
 
-/// So many nulls.
+/// The run of so many nulls.
 pub fn nulls_of(len: u32) -> Run
     ensures { result ≡ (record { source = None; start = 0; len = len }) }
 {
