@@ -8,6 +8,10 @@ pub record Bits : Type 0 where
   pub bits : List Bool
   pub offset : ℕ
 
+-- these truth values, the first one at the first bit (own)
+abbrev pub unsliced : List Bool → Bits
+unsliced values = record { bits = values; offset = 0 }
+
 -- bit j of the bytes, each byte from its lowest bit (Arrow columnar format: bitmaps are least significant bit first)
 abbrev pub bit_in : List ℕ → ℕ → Bool
 bit_in bytes j = is_set (slice_index bytes (j / 8)) (j % 8)

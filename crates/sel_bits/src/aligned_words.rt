@@ -25,7 +25,8 @@ impl<'a> Model for AlignedWords<'a> {
 
     ghost view = { λ r. record { source = r.bitmap.now; words_read = r.words } };
 
-    ghost invariant = { λ r. (r.at ≡ bits_in r.bitmap.now r.words) × (r.words ≤ length r.bitmap.now.bits / 64 + 2) };
+    ghost invariant = { λ r. (r.at ≡ bits_in r.bitmap.now r.words) ×
+        (r.words ≤ length r.bitmap.now.bits / 64 + 2) };
 }
 
 impl<'a> AlignedWords<'a> {
@@ -63,7 +64,8 @@ impl<'a> AlignedWords<'a> {
         ensures end { IfNone result (reached self.old ≡ length self.old.source.bits) }
         ensures word { IfSome result (λ part. part.0 ≡ word_of (next_bits self.old)) }
         ensures count { IfSome result (λ part. part.1 ≡ next_count self.old) }
-        ensures after { MatchOption result (self.new ≡ self.old) (λ _. self.new ≡ after_word self.old) }
+        ensures after { MatchOption result (self.new ≡ self.old)
+            (λ _. self.new ≡ after_word self.old) }
         ensures bound { self.new.words_read ≤ length self.new.source.bits / 64 + 2 }
     {
         let bitmap = self.bitmap;

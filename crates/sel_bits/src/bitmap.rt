@@ -2,7 +2,7 @@
 #![tactic(auto, using(crate::proofs::BitLists::length_bits_from))]
 
 ghost use Rattle.std.specs.Prelude.{◌≡◌, ℕ, ◌+◌, ◌-◌, ◌*◌, ◌/◌, ◌%◌, ◌^◌, ◌<◌, ◌≤◌, [], ◌∷◌, ◌++◌, Bool, false, length, take, drop, slice_index_or, replicate, IfOk, IfErr, IsTrue, ◌↔◌, vec_len, if◌then◌else◌};
-ghost use Rattle.sel_bits.specs.Bits.{bits_from, count_true, count_false, leading_ones, leading_zeros, trailing_zeros};
+ghost use Rattle.sel_bits.specs.Bits.{bits_from, count_true, count_false, leading_ones, leading_zeros, trailing_zeros, unsliced};
 ghost use Rattle.sel_bits.specs.Words.{word_of};
 
 use crate::faults::{PolarsError, PolarsResult};
@@ -30,15 +30,19 @@ impl Model for Bitmap {
 
     ghost Value = { Bits };
 
-    ghost view = { λ b. record { bits = bits_from (rc_slice_items b.bytes) b.offset b.len; offset = b.offset } };
+    ghost view = { λ b. record {
+      bits = bits_from (rc_slice_items b.bytes) b.offset b.len;
+      offset = b.offset;
+    } };
 
-    ghost invariant = { λ b. (b.offset + b.len ≤ 8 * length (rc_slice_items b.bytes)) × (b.offset + b.len < 2 ^ 64) };
+    ghost invariant = { λ b. (b.offset + b.len ≤ 8 * length (rc_slice_items b.bytes)) ×
+        (b.offset + b.len < 2 ^ 64) };
 }
 
 impl Bitmap {
     /// No bits. Refuses only for want of memory.
     pub fn new(alloc: Global) -> PolarsResult<Bitmap>
-        ensures value { IfOk result (λ bitmap. bitmap ≡ record { bits = []; offset = 0 }) }
+        ensures value { IfOk result (λ bitmap. bitmap ≡ unsliced []) }
         ensures refusal { IfErr result (λ fault. fault ≡ PolarsError.OutOfMemory) }
     {
         Bitmap::from_u8_vec(Vec::new(alloc), 0)
@@ -46,7 +50,7 @@ impl Bitmap {
 
     /// `len` bits, each of them `value`. Refuses only for want of memory.
     pub fn new_with_value(alloc: Global, value: bool, len: usize) -> PolarsResult<Bitmap>
-        ensures value { IfOk result (λ bitmap. bitmap ≡ record { bits = replicate len value; offset = 0 }) }
+        ensures value { IfOk result (λ bitmap. bitmap ≡ unsliced (replicate len value)) }
         ensures refusal { IfErr result (λ fault. fault ≡ PolarsError.OutOfMemory) }
     {
         let bytes = vec![in alloc; byte_of(value); len.div_ceil(8)]?;
@@ -55,7 +59,7 @@ impl Bitmap {
 
     /// `len` bits, each of them false. Refuses only for want of memory.
     pub fn new_zeroed(alloc: Global, len: usize) -> PolarsResult<Bitmap>
-        ensures value { IfOk result (λ bitmap. bitmap ≡ record { bits = replicate len false; offset = 0 }) }
+        ensures value { IfOk result (λ bitmap. bitmap ≡ unsliced (replicate len false)) }
         ensures refusal { IfErr result (λ fault. fault ≡ PolarsError.OutOfMemory) }
     {
         Bitmap::new_with_value(alloc, false, len)
@@ -64,7 +68,7 @@ impl Bitmap {
     /// The first `len` bits of the bytes. Refuses only for want of memory.
     pub fn from_u8_vec(bytes: Vec<u8>, len: usize) -> PolarsResult<Bitmap>
         requires { len ≤ 8 * vec_len bytes }
-        ensures value { IfOk result (λ bitmap. bitmap ≡ record { bits = bits_from bytes.items 0 len; offset = 0 }) }
+        ensures value { IfOk result (λ bitmap. bitmap ≡ unsliced (bits_from bytes.items 0 len)) }
         ensures len { IfOk result (λ bitmap. length bitmap.bits ≡ len) }
         ensures refusal { IfErr result (λ fault. fault ≡ PolarsError.OutOfMemory) }
     {
@@ -78,7 +82,7 @@ impl Bitmap {
 
     /// These bits. Refuses only for want of memory.
     pub fn from_bools(alloc: Global, values: &[bool]) -> PolarsResult<Bitmap>
-        ensures value { IfOk result (λ bitmap. bitmap ≡ record { bits = values.now; offset = 0 }) }
+        ensures value { IfOk result (λ bitmap. bitmap ≡ unsliced values.now) }
         ensures refusal { IfErr result (λ fault. fault ≡ PolarsError.OutOfMemory) }
     {
         let mut packer = BitPacker::with_capacity(alloc, values.len())?;
@@ -162,7 +166,10 @@ impl Bitmap {
     /// The `len` bits from bit `off` on, of the same shared bytes.
     pub fn sliced(self, off: usize, len: usize) -> Bitmap
         requires { off + len ≤ length self.bits }
-        ensures value { result ≡ record { bits = take len (drop off self.bits); offset = self.offset + off } }
+        ensures value { result ≡ record {
+          bits = take len (drop off self.bits);
+          offset = self.offset + off;
+        } }
         ensures len { length result.bits ≡ len }
     {
         Bitmap {
@@ -175,7 +182,8 @@ impl Bitmap {
     /// Removes the false bits before the first true one, and answers how many there were.
     pub fn take_leading_zeros(&mut self) -> usize
         ensures count { result ≡ leading_zeros self.old.bits }
-        ensures rest { self.new ≡ record { bits = drop result self.old.bits; offset = self.old.offset + result } }
+        ensures rest { self.new ≡
+            record { bits = drop result self.old.bits; offset = self.old.offset + result } }
     {
         let count = self.leading_zeros();
         self.drop_front(count);
@@ -185,7 +193,8 @@ impl Bitmap {
     /// Removes the true bits before the first false one, and answers how many there were.
     pub fn take_leading_ones(&mut self) -> usize
         ensures count { result ≡ leading_ones self.old.bits }
-        ensures rest { self.new ≡ record { bits = drop result self.old.bits; offset = self.old.offset + result } }
+        ensures rest { self.new ≡
+            record { bits = drop result self.old.bits; offset = self.old.offset + result } }
     {
         let count = self.leading_ones();
         self.drop_front(count);
@@ -195,7 +204,10 @@ impl Bitmap {
     /// Removes the false bits behind the last true one, and answers how many there were.
     pub fn take_trailing_zeros(&mut self) -> usize
         ensures count { result ≡ trailing_zeros self.old.bits }
-        ensures rest { self.new ≡ record { bits = take (length self.old.bits - result) self.old.bits; offset = self.old.offset } }
+        ensures rest { self.new ≡ record {
+          bits = take (length self.old.bits - result) self.old.bits;
+          offset = self.old.offset;
+        } }
     {
         let count = self.trailing_zeros();
         self.len -= count;
@@ -205,7 +217,10 @@ impl Bitmap {
     /// Removes the first `count` bits.
     fn drop_front(&mut self, count: usize)
         requires { count ≤ length self.old.bits }
-        ensures { self.new ≡ record { bits = drop count self.old.bits; offset = self.old.offset + count } }
+        ensures { self.new ≡ record {
+          bits = drop count self.old.bits;
+          offset = self.old.offset + count;
+        } }
     {
         self.offset += count;
         self.len -= count;

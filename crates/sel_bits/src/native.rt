@@ -1,6 +1,6 @@
 //! The number types that a column can hold.
 
-ghost use Rattle.std.specs.Prelude.{◌≡◌, ℕ, ℤ, pos, negsuc, ◌≤ℤ◌, ◌<ℤ◌, ◌^◌, ◌-◌, MatchOption, IfSome};
+ghost use Rattle.std.specs.Prelude.{◌≡◌, ℕ, ℤ, pos, negsuc, ◌≤ℤ◌, ◌<ℤ◌, ◌^◌, ◌-◌, Some, MatchOption, IfSome};
 ghost use Rattle.sel_bits.specs.Ranges.{IsWithin, IsOutside};
 ghost use Rattle.sel_bits.specs.Signs.{is_negative, is_below};
 
@@ -21,7 +21,8 @@ pub trait NativeType: Copy {
 
     /// The number as a `usize`, or None where it does not fit.
     fn try_usize(self) -> Option<usize>
-        ensures { MatchOption result (IsOutside (pos 0) (pos 18446744073709551615) (number self)) (λ n. pos n ≡ number self) };
+        ensures { MatchOption result (IsOutside (pos 0) (pos 18446744073709551615) (number self))
+            (λ n. pos n ≡ number self) };
 
     /// The number as a `usize`.
     fn to_usize(self) -> usize
@@ -34,10 +35,14 @@ pub trait NativeType: Copy {
         }
     }
 
-    /// The value that shows a number, or None where no value of the type does.
+    /// The value that shows a number, or None where no value of the type does. So a value that fits comes back as it was from its
+    /// number as a `usize`.
     fn from_usize(n: usize) -> Option<Self>
-        ensures value { MatchOption result (number GREATEST <ℤ pos n) (λ value. number value ≡ pos n) }
-        ensures fits { IfSome result (λ _. pos n ≤ℤ number GREATEST) };
+        ensures value { MatchOption result (number GREATEST <ℤ pos n)
+            (λ value. number value ≡ pos n) }
+        ensures fits { IfSome result (λ _. pos n ≤ℤ number GREATEST) }
+        ensures back { (x : Self) → number x ≤ℤ number GREATEST →
+            number x ≡ pos n → result ≡ Some x };
 
     /// A value is the number that it shows.
     ghost shown: { (x y : Self) → number x ≡ number y → x ≡ y };

@@ -2,7 +2,7 @@
 #![tactic(auto, using(crate::proofs::Combining::combining))]
 
 ghost use Rattle.std.specs.Prelude.{◌≡◌, ℕ, ◌+◌, ◌<◌, ◌≤◌, ◌&&◌, ◌||◌, Bool, not, map, length, take, drop, IfOk, IfErr, if◌then◌else◌};
-ghost use Rattle.sel_bits.specs.Bits.{zip_with, zip_three};
+ghost use Rattle.sel_bits.specs.Bits.{unsliced, zip_with, zip_three};
 ghost use Rattle.sel_bits.specs.Choose.{choose};
 ghost use Rattle.sel_bits.specs.Words.{is_set, word_of};
 
@@ -15,7 +15,8 @@ impl Bitmap {
     /// True where both bits are. Refuses only for want of memory.
     pub fn and(&self, alloc: Global, other: &Bitmap) -> PolarsResult<Bitmap>
         requires { length self.now.bits ≡ length other.now.bits }
-        ensures value { IfOk result (λ bitmap. bitmap ≡ record { bits = zip_with (λ x y. x && y) self.now.bits other.now.bits; offset = 0 }) }
+        ensures value { IfOk result (λ bitmap. bitmap ≡
+            unsliced (zip_with (λ x y. x && y) self.now.bits other.now.bits)) }
         ensures refusal { IfErr result (λ fault. fault ≡ PolarsError.OutOfMemory) }
     {
         combine::<And>(alloc, self, other, other)
@@ -24,7 +25,8 @@ impl Bitmap {
     /// True where one bit is, or both. Refuses only for want of memory.
     pub fn or(&self, alloc: Global, other: &Bitmap) -> PolarsResult<Bitmap>
         requires { length self.now.bits ≡ length other.now.bits }
-        ensures value { IfOk result (λ bitmap. bitmap ≡ record { bits = zip_with (λ x y. x || y) self.now.bits other.now.bits; offset = 0 }) }
+        ensures value { IfOk result (λ bitmap. bitmap ≡
+            unsliced (zip_with (λ x y. x || y) self.now.bits other.now.bits)) }
         ensures refusal { IfErr result (λ fault. fault ≡ PolarsError.OutOfMemory) }
     {
         combine::<Or>(alloc, self, other, other)
@@ -33,7 +35,8 @@ impl Bitmap {
     /// True where this bit is and the other is not. Refuses only for want of memory.
     pub fn and_not(&self, alloc: Global, other: &Bitmap) -> PolarsResult<Bitmap>
         requires { length self.now.bits ≡ length other.now.bits }
-        ensures value { IfOk result (λ bitmap. bitmap ≡ record { bits = zip_with (λ x y. x && not y) self.now.bits other.now.bits; offset = 0 }) }
+        ensures value { IfOk result (λ bitmap. bitmap ≡
+            unsliced (zip_with (λ x y. x && not y) self.now.bits other.now.bits)) }
         ensures refusal { IfErr result (λ fault. fault ≡ PolarsError.OutOfMemory) }
     {
         combine::<AndNot>(alloc, self, other, other)
@@ -42,7 +45,8 @@ impl Bitmap {
     /// True where this bit is or the other is not. Refuses only for want of memory.
     pub fn or_not(&self, alloc: Global, other: &Bitmap) -> PolarsResult<Bitmap>
         requires { length self.now.bits ≡ length other.now.bits }
-        ensures value { IfOk result (λ bitmap. bitmap ≡ record { bits = zip_with (λ x y. x || not y) self.now.bits other.now.bits; offset = 0 }) }
+        ensures value { IfOk result (λ bitmap. bitmap ≡
+            unsliced (zip_with (λ x y. x || not y) self.now.bits other.now.bits)) }
         ensures refusal { IfErr result (λ fault. fault ≡ PolarsError.OutOfMemory) }
     {
         combine::<OrNot>(alloc, self, other, other)
@@ -50,7 +54,7 @@ impl Bitmap {
 
     /// True where the bit is not. Refuses only for want of memory.
     pub fn not(&self, alloc: Global) -> PolarsResult<Bitmap>
-        ensures value { IfOk result (λ bitmap. bitmap ≡ record { bits = map not self.now.bits; offset = 0 }) }
+        ensures value { IfOk result (λ bitmap. bitmap ≡ unsliced (map not self.now.bits)) }
         ensures refusal { IfErr result (λ fault. fault ≡ PolarsError.OutOfMemory) }
     {
         combine::<Not>(alloc, self, self, self)
@@ -65,7 +69,8 @@ impl Bitmap {
     ) -> PolarsResult<Bitmap>
         requires true_side { length mask.now.bits ≡ length if_true.now.bits }
         requires false_side { length mask.now.bits ≡ length if_false.now.bits }
-        ensures value { IfOk result (λ bitmap. bitmap ≡ record { bits = choose mask.now.bits if_true.now.bits if_false.now.bits; offset = 0 }) }
+        ensures value { IfOk result (λ bitmap. bitmap ≡
+            unsliced (choose mask.now.bits if_true.now.bits if_false.now.bits)) }
         ensures refusal { IfErr result (λ fault. fault ≡ PolarsError.OutOfMemory) }
     {
         combine::<Choose>(alloc, mask, if_true, if_false)
@@ -77,7 +82,8 @@ pub(crate) trait BitRule {
     ghost on_bits: { Bool → Bool → Bool → Bool };
 
     fn on_words(x: u64, y: u64, z: u64) -> u64
-        ensures { (i : ℕ) → i < 64 → is_set result i ≡ on_bits (is_set x i) (is_set y i) (is_set z i) };
+        ensures { (i : ℕ) → i < 64 →
+            is_set result i ≡ on_bits (is_set x i) (is_set y i) (is_set z i) };
 }
 
 pub(crate) struct And;
@@ -156,7 +162,8 @@ impl BitRule for Choose {
 fn combine<R: BitRule>(alloc: Global, x: &Bitmap, y: &Bitmap, z: &Bitmap) -> PolarsResult<Bitmap>
     requires second { length x.now.bits ≡ length y.now.bits }
     requires third { length x.now.bits ≡ length z.now.bits }
-    ensures value { IfOk result (λ bitmap. bitmap ≡ record { bits = zip_three R.on_bits x.now.bits y.now.bits z.now.bits; offset = 0 }) }
+    ensures value { IfOk result (λ bitmap. bitmap ≡
+        unsliced (zip_three R.on_bits x.now.bits y.now.bits z.now.bits)) }
     ensures refusal { IfErr result (λ fault. fault ≡ PolarsError.OutOfMemory) }
 {
     let count = x.len();
@@ -176,7 +183,8 @@ pub(crate) fn word_by<R: BitRule>(x: &Bitmap, y: &Bitmap, z: &Bitmap, at: usize,
     requires third { length x.now.bits ≡ length z.now.bits }
     requires within { at + len ≤ length x.now.bits }
     requires few { len ≤ 56 }
-    ensures { result ≡ word_of (take len (drop at (zip_three R.on_bits x.now.bits y.now.bits z.now.bits))) }
+    ensures { result ≡ word_of
+        (take len (drop at (zip_three R.on_bits x.now.bits y.now.bits z.now.bits))) }
 {
     let word = R::on_words(x.word_at(at, len), y.word_at(at, len), z.word_at(at, len));
     word & ((1 << len) - 1)

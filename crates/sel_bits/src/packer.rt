@@ -2,6 +2,7 @@
 #![tactic(auto, using(crate::proofs::BitLists::length_bits_from))]
 
 ghost use Rattle.std.specs.Prelude.{◌≡◌, ℕ, ◌+◌, ◌-◌, ◌*◌, ◌^◌, ◌<◌, ◌≤◌, [], ◌∷◌, ◌++◌, length, take, drop, replicate, IfOk, IfErr, OnOk};
+ghost use Rattle.sel_bits.specs.Bits.{unsliced};
 ghost use Rattle.sel_bits.specs.Words.{bits, word_of};
 
 use crate::bitmap::Bitmap;
@@ -83,7 +84,8 @@ impl BitPacker {
         len: usize,
     ) -> PolarsResult<()>
         requires { start + len ≤ length bits.now.bits }
-        ensures extended { OnOk result (self.new ≡ self.old ++ take len (drop start bits.now.bits)) }
+        ensures extended { OnOk result (self.new ≡
+            self.old ++ take len (drop start bits.now.bits)) }
         ensures len { OnOk result (length self.new ≡ length self.old + len) }
         ensures kept { IfErr result (λ _. take (length self.old) self.new ≡ self.old) }
         ensures refusal { IfErr result (λ fault. fault ≡ PolarsError.OutOfMemory) }
@@ -119,7 +121,7 @@ impl BitPacker {
     /// The bits, `len` in number, as a bitmap. Refuses only for want of memory.
     pub fn into_bitmap(mut self, len: usize) -> PolarsResult<Bitmap>
         requires { length self ≡ len }
-        ensures value { IfOk result (λ bitmap. bitmap ≡ record { bits = self; offset = 0 }) }
+        ensures value { IfOk result (λ bitmap. bitmap ≡ unsliced self) }
         ensures refusal { IfErr result (λ fault. fault ≡ PolarsError.OutOfMemory) }
     {
         if self.held == 0 {
