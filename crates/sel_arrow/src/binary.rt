@@ -87,7 +87,8 @@ impl<O: Offset> BinaryArray<O> {
     /// The bytes of row `i`: none where it is null.
     pub fn get(&self, i: usize) -> Option<&[u8]>
         requires { i < length (binary_rows self.now) }
-        ensures { bytes_value (option_copied result) ≡ slice_index_or (binary_rows self.now) i Null }
+        ensures { bytes_value (option_copied result) ≡
+            slice_index_or (binary_rows self.now) i Null }
     {
         if is_valid_at(&self.validity, i) {
             Some(&self.values.as_slice()[self.offsets.at(i)..self.offsets.at(i + 1)])

@@ -91,7 +91,8 @@ impl BinaryViewArray {
     /// The bytes of row `i`: none where it is null. Refuses only for want of memory.
     pub fn get(&self, alloc: Global, i: usize) -> PolarsResult<Option<Vec<u8>>>
         requires { i < length (binview_rows self.now) }
-        ensures row { IfOk result (λ row. bytes_value (option_map (λ bytes. bytes.items) row) ≡ slice_index_or (binview_rows self.now) i Null) }
+        ensures row { IfOk result (λ row. bytes_value (option_map (λ bytes. bytes.items) row) ≡
+            slice_index_or (binview_rows self.now) i Null) }
         ensures refusal { IfErr result (λ fault. fault ≡ PolarsError.OutOfMemory) }
     {
         if is_valid_at(&self.validity, i) {

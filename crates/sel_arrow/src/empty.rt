@@ -114,7 +114,8 @@ fn no_blocks(alloc: Global, size: usize, child: Column) -> PolarsResult<Column>
     requires formed { IsWellFormed child }
     requires empty { rows child ≡ [] }
     ensures rows { IfOk result (λ column. rows column ≡ []) }
-    ensures dtype { IfOk result (λ column. type_of column ≡ of_fixed_size_list (type_of child) size) }
+    ensures dtype { IfOk result (λ column. type_of column ≡
+        of_fixed_size_list (type_of child) size) }
     ensures formed { IfOk result (λ column. IsWellFormed column) }
     ensures refusal { IfErr result (λ fault. fault ≡ PolarsError.OutOfMemory) }
 {

@@ -46,8 +46,10 @@ impl FixedSizeListArray {
         ensures len { IfOk result (λ array. array.len ≡ len) }
         ensures values { IfOk result (λ array. array.values.value ≡ values.column) }
         ensures validity { IfOk result (λ array. array.validity ≡ validity) }
-        ensures accepted { IfOk result (λ _. block_fault size len (row_count values.column) validity ≡ None) }
-        ensures refused { IfErr result (IsFaultOrMemory (block_fault size len (row_count values.column) validity)) }
+        ensures accepted { IfOk result (λ _. block_fault size len
+            (row_count values.column) validity ≡ None) }
+        ensures refused { IfErr result (IsFaultOrMemory
+            (block_fault size len (row_count values.column) validity)) }
     {
         let ArrayRef { column } = values;
         if let Some(fault) = fault_of_blocks(size, len, column.len(), &validity) {
@@ -83,7 +85,8 @@ impl FixedSizeListArray {
     /// The same lists under another validity of the same length.
     pub fn with_validity(self, validity: Option<Bitmap>) -> FixedSizeListArray
         requires { Covers validity (length (rows (block_column self))) }
-        ensures rows { rows (block_column result) ≡ block_rows self.size self.len (rows self.values.value) validity }
+        ensures rows { rows (block_column result) ≡
+            block_rows self.size self.len (rows self.values.value) validity }
         ensures dtype { type_of (block_column result) ≡ type_of (block_column self) }
         ensures validity { result.validity ≡ validity }
     {
@@ -103,7 +106,8 @@ impl FixedSizeListArray {
 
     /// Whether the scalar's rows can be one list of this column: they are of the child's type, and as many as a list has.
     pub fn scalar_fits(&self, scalar: &ArrayRef) -> bool
-        ensures { IsTrue result ↔ ((type_of scalar.now.column ≡ type_of self.now.values.value) × (length (rows scalar.now.column) ≡ self.now.size)) }
+        ensures { IsTrue result ↔ ((type_of scalar.now.column ≡ type_of self.now.values.value) ×
+            (length (rows scalar.now.column) ≡ self.now.size)) }
     {
         scalar.column.len() == self.size && scalar.column.same_dtype(&self.values)
     }
@@ -139,9 +143,12 @@ impl FixedSizeListArray {
         len: usize,
     ) -> PolarsResult<FixedSizeListArray>
         requires formed { IsWellFormed (FixedSizeList size _count values.now validity.now) }
-        requires inside { off + len ≤ length (rows (FixedSizeList size _count values.now validity.now)) }
-        ensures rows { IfOk result (λ part. rows (block_column part) ≡ take len (drop off (rows (FixedSizeList size _count values.now validity.now)))) }
-        ensures dtype { IfOk result (λ part. type_of (block_column part) ≡ type_of (FixedSizeList size _count values.now validity.now)) }
+        requires inside { off + len ≤ length
+            (rows (FixedSizeList size _count values.now validity.now)) }
+        ensures rows { IfOk result (λ part. rows (block_column part) ≡
+            take len (drop off (rows (FixedSizeList size _count values.now validity.now)))) }
+        ensures dtype { IfOk result (λ part. type_of (block_column part) ≡
+            type_of (FixedSizeList size _count values.now validity.now)) }
         ensures refusal { IfErr result (λ fault. fault ≡ PolarsError.OutOfMemory) }
     {
         let values = values.sliced(alloc, off * size, len * size)?;
@@ -165,8 +172,10 @@ impl FixedSizeListArray {
         alloc: Global,
     ) -> PolarsResult<FixedSizeListArray>
         requires { IsWellFormed (FixedSizeList size len values.now validity.now) }
-        ensures rows { IfOk result (λ copy. rows (block_column copy) ≡ rows (FixedSizeList size len values.now validity.now)) }
-        ensures dtype { IfOk result (λ copy. type_of (block_column copy) ≡ type_of (FixedSizeList size len values.now validity.now)) }
+        ensures rows { IfOk result (λ copy. rows (block_column copy) ≡
+            rows (FixedSizeList size len values.now validity.now)) }
+        ensures dtype { IfOk result (λ copy. type_of (block_column copy) ≡
+            type_of (FixedSizeList size len values.now validity.now)) }
         ensures refusal { IfErr result (λ fault. fault ≡ PolarsError.OutOfMemory) }
     {
         let values = Box::new(alloc, values.try_clone(alloc)?)?;

@@ -44,8 +44,10 @@ impl ListArray<i64> {
         ensures offsets { IfOk result (λ array. array.offsets ≡ offsets) }
         ensures values { IfOk result (λ array. array.values.value ≡ values.column) }
         ensures validity { IfOk result (λ array. array.validity ≡ validity) }
-        ensures accepted { IfOk result (λ _. list_fault offsets (row_count values.column) validity ≡ None) }
-        ensures refused { IfErr result (IsFaultOrMemory (list_fault offsets (row_count values.column) validity)) }
+        ensures accepted { IfOk result (λ _. list_fault offsets (row_count values.column) validity ≡
+            None) }
+        ensures refused { IfErr result (IsFaultOrMemory
+            (list_fault offsets (row_count values.column) validity)) }
     {
         let ArrayRef { column } = values;
         if let Some(fault) = fault_of_lists(&offsets, column.len(), &validity) {
@@ -79,7 +81,8 @@ impl ListArray<i64> {
     /// The same lists under another validity of the same length.
     pub fn with_validity(self, validity: Option<Bitmap>) -> ListArray<i64>
         requires { Covers validity (length (rows (list_column self))) }
-        ensures rows { rows (list_column result) ≡ list_rows self.offsets (rows self.values.value) validity }
+        ensures rows { rows (list_column result) ≡
+            list_rows self.offsets (rows self.values.value) validity }
         ensures dtype { type_of (list_column result) ≡ type_of (list_column self) }
         ensures validity { result.validity ≡ validity }
     {
@@ -129,9 +132,12 @@ impl ListArray<i64> {
         len: usize,
     ) -> PolarsResult<ListArray<i64>>
         requires formed { IsWellFormed (LargeList offsets.now values.now validity.now) }
-        requires inside { off + len ≤ length (rows (LargeList offsets.now values.now validity.now)) }
-        ensures rows { IfOk result (λ part. rows (list_column part) ≡ take len (drop off (rows (LargeList offsets.now values.now validity.now)))) }
-        ensures dtype { IfOk result (λ part. type_of (list_column part) ≡ type_of (LargeList offsets.now values.now validity.now)) }
+        requires inside { off + len ≤ length
+            (rows (LargeList offsets.now values.now validity.now)) }
+        ensures rows { IfOk result (λ part. rows (list_column part) ≡
+            take len (drop off (rows (LargeList offsets.now values.now validity.now)))) }
+        ensures dtype { IfOk result (λ part. type_of (list_column part) ≡
+            type_of (LargeList offsets.now values.now validity.now)) }
         ensures refusal { IfErr result (λ fault. fault ≡ PolarsError.OutOfMemory) }
     {
         let offsets = offsets.try_clone()?.sliced(off, len);
@@ -153,8 +159,10 @@ impl ListArray<i64> {
         alloc: Global,
     ) -> PolarsResult<ListArray<i64>>
         requires { IsWellFormed (LargeList offsets.now values.now validity.now) }
-        ensures rows { IfOk result (λ copy. rows (list_column copy) ≡ rows (LargeList offsets.now values.now validity.now)) }
-        ensures dtype { IfOk result (λ copy. type_of (list_column copy) ≡ type_of (LargeList offsets.now values.now validity.now)) }
+        ensures rows { IfOk result (λ copy. rows (list_column copy) ≡
+            rows (LargeList offsets.now values.now validity.now)) }
+        ensures dtype { IfOk result (λ copy. type_of (list_column copy) ≡
+            type_of (LargeList offsets.now values.now validity.now)) }
         ensures refusal { IfErr result (λ fault. fault ≡ PolarsError.OutOfMemory) }
     {
         let offsets = offsets.try_clone()?;

@@ -113,13 +113,16 @@ pub trait ArrowPrimitive: NativeType {
 
     /// The values and the validity, lent; none where the column is of another type.
     fn of_column(column: &Column) -> Option<(&[Self], Option<&Bitmap>)>
-        ensures rows { IfSome result (λ parts. number_rows Self.number parts.0.now (option_copied parts.1) ≡ rows column.now) }
-        ensures covers { IfSome result (λ parts. Covers (option_copied parts.1) (length parts.0.now)) }
+        ensures rows { IfSome result (λ parts. number_rows Self.number parts.0.now
+            (option_copied parts.1) ≡ rows column.now) }
+        ensures covers { IfSome result (λ parts. Covers
+            (option_copied parts.1) (length parts.0.now)) }
         ensures other { IfNone result (type_of column.now ≢ shape) };
 
     /// The values and the validity, or the column back where it is of another type.
     fn from_column(column: Column) -> Result<(Buffer<Self>, Option<Bitmap>), Column>
-        ensures rows { IfOk result (λ parts. number_rows Self.number parts.0 parts.1 ≡ rows column) }
+        ensures rows { IfOk result (λ parts. number_rows Self.number parts.0 parts.1 ≡
+            rows column) }
         ensures few { IfOk result (λ parts. length parts.0 ≤ 4294967295) }
         ensures covers { IfOk result (λ parts. Covers parts.1 (length parts.0)) }
         ensures dtype { IfOk result (λ _. type_of column ≡ shape) }

@@ -41,10 +41,13 @@ impl StructArray {
         validity: Option<Bitmap>,
     ) -> Result<StructArray, MakeError>
         ensures len { IfOk result (λ array. array.len ≡ len) }
-        ensures fields { IfOk result (λ array. array.fields.items ≡ map (λ field. field.column) fields.items) }
+        ensures fields { IfOk result (λ array. array.fields.items ≡
+            map (λ field. field.column) fields.items) }
         ensures validity { IfOk result (λ array. array.validity ≡ validity) }
-        ensures accepted { IfOk result (λ _. struct_fault len (map (λ field. row_count field.column) fields.items) validity ≡ None) }
-        ensures refused { IfErr result (IsFaultOrMemory (struct_fault len (map (λ field. row_count field.column) fields.items) validity)) }
+        ensures accepted { IfOk result (λ _. struct_fault len
+            (map (λ field. row_count field.column) fields.items) validity ≡ None) }
+        ensures refused { IfErr result (IsFaultOrMemory
+            (struct_fault len (map (λ field. row_count field.column) fields.items) validity)) }
     {
         let fit = have_rows(&fields, len);
         if let Some(fault) = fault_of_tuples(len, fit, &validity) {
@@ -71,7 +74,8 @@ impl StructArray {
     /// The same tuples under another validity of the same length.
     pub fn with_validity(self, validity: Option<Bitmap>) -> StructArray
         requires { Covers validity (length (rows (tuple_column self))) }
-        ensures rows { rows (tuple_column result) ≡ tuple_rows self.len (map rows self.fields.items) validity }
+        ensures rows { rows (tuple_column result) ≡
+            tuple_rows self.len (map rows self.fields.items) validity }
         ensures dtype { type_of (tuple_column result) ≡ type_of (tuple_column self) }
         ensures validity { result.validity ≡ validity }
     {
@@ -116,8 +120,10 @@ impl StructArray {
     ) -> PolarsResult<StructArray>
         requires formed { IsWellFormed (Struct _count fields.now validity.now) }
         requires inside { off + len ≤ length (rows (Struct _count fields.now validity.now)) }
-        ensures rows { IfOk result (λ part. rows (tuple_column part) ≡ take len (drop off (rows (Struct _count fields.now validity.now)))) }
-        ensures dtype { IfOk result (λ part. type_of (tuple_column part) ≡ type_of (Struct _count fields.now validity.now)) }
+        ensures rows { IfOk result (λ part. rows (tuple_column part) ≡
+            take len (drop off (rows (Struct _count fields.now validity.now)))) }
+        ensures dtype { IfOk result (λ part. type_of (tuple_column part) ≡
+            type_of (Struct _count fields.now validity.now)) }
         ensures refusal { IfErr result (λ fault. fault ≡ PolarsError.OutOfMemory) }
     {
         let fields = parts_of(fields, alloc, off, len)?;
@@ -138,8 +144,10 @@ impl StructArray {
         alloc: Global,
     ) -> PolarsResult<StructArray>
         requires { IsWellFormed (Struct len fields.now validity.now) }
-        ensures rows { IfOk result (λ copy. rows (tuple_column copy) ≡ rows (Struct len fields.now validity.now)) }
-        ensures dtype { IfOk result (λ copy. type_of (tuple_column copy) ≡ type_of (Struct len fields.now validity.now)) }
+        ensures rows { IfOk result (λ copy. rows (tuple_column copy) ≡
+            rows (Struct len fields.now validity.now)) }
+        ensures dtype { IfOk result (λ copy. type_of (tuple_column copy) ≡
+            type_of (Struct len fields.now validity.now)) }
         ensures refusal { IfErr result (λ fault. fault ≡ PolarsError.OutOfMemory) }
     {
         let fields = copies_of(fields, alloc)?;
@@ -214,7 +222,8 @@ fn have_rows(columns: &[ArrayRef], len: usize) -> bool
 
 /// The columns, each known to be well-formed. Refuses only for want of memory.
 fn columns_of(alloc: Global, arrays: Vec<ArrayRef>) -> PolarsResult<Vec<Column>>
-    ensures columns { IfOk result (λ columns. columns.items ≡ map (λ array. array.column) arrays.items) }
+    ensures columns { IfOk result (λ columns. columns.items ≡
+        map (λ array. array.column) arrays.items) }
     ensures formed { IfOk result (λ columns. All IsWellFormed columns.items) }
     ensures refusal { IfErr result (λ fault. fault ≡ PolarsError.OutOfMemory) }
 {
@@ -229,8 +238,10 @@ fn columns_of(alloc: Global, arrays: Vec<ArrayRef>) -> PolarsResult<Vec<Column>>
 /// The `len` rows from row `off` on of each column. Refuses only for want of memory.
 #[cycle(slicing)]
 fn parts_of(columns: &[Column], alloc: Global, off: usize, len: usize) -> PolarsResult<Vec<Column>>
-    requires within { All (λ column. IsWellFormed column × (off + len ≤ length (rows column))) columns.now }
-    ensures rows { IfOk result (λ parts. map rows parts.items ≡ map (λ column. take len (drop off (rows column))) columns.now) }
+    requires within { All (λ column. IsWellFormed column ×
+        (off + len ≤ length (rows column))) columns.now }
+    ensures rows { IfOk result (λ parts. map rows parts.items ≡
+        map (λ column. take len (drop off (rows column))) columns.now) }
     ensures dtype { IfOk result (λ parts. map type_of parts.items ≡ map type_of columns.now) }
     ensures formed { IfOk result (λ parts. All (IsField len) parts.items) }
     ensures refusal { IfErr result (λ fault. fault ≡ PolarsError.OutOfMemory) }

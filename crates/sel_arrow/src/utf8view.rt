@@ -73,7 +73,8 @@ impl Utf8ViewArray {
     /// The text of row `i`: none where it is null. Refuses only for want of memory.
     pub fn get(&self, alloc: Global, i: usize) -> PolarsResult<Option<String>>
         requires { i < length (utf8view_rows self.now) }
-        ensures row { IfOk result (λ row. bytes_value (option_map string_bytes row) ≡ slice_index_or (utf8view_rows self.now) i Null) }
+        ensures row { IfOk result (λ row. bytes_value (option_map string_bytes row) ≡
+            slice_index_or (utf8view_rows self.now) i Null) }
         ensures refusal { IfErr result (λ fault. fault ≡ PolarsError.OutOfMemory) }
     {
         match self.bytes.get(alloc, i)? {

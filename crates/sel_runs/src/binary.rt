@@ -8,6 +8,7 @@ ghost use Rattle.sel_runs.specs.JoinedBytes.{ends_from, joined_bytes, GrewBy};
 ghost use Rattle.sel_runs.specs.Need.{bytes_needed, IsRefusal, IsPastBytes};
 ghost use Rattle.sel_runs.specs.Picks.{pick, PickFits};
 ghost use Rattle.sel_runs.specs.Runs.{expand, unrolled};
+ghost use Rattle.sel_runs.specs.Sources.{binaries, picked_bytes, run_bytes};
 
 use crate::bits::validity_from;
 use crate::run::Run;
@@ -35,12 +36,13 @@ pub fn collect_binary<'a>(
     runs: &[Run],
     len: usize,
 ) -> PolarsResult<BinaryArray<i64>>
-    requires fits { All (PickFits (map (λ s. binary_rows s.now) sources.now)) (expand runs.now) }
-    requires live { All (IsLive (map (λ s. binary_rows s.now) sources.now)) (expand runs.now) }
+    requires fits { All (PickFits (binaries sources.now)) (expand runs.now) }
+    requires live { All (IsLive (binaries sources.now)) (expand runs.now) }
     requires len { length (expand runs.now) ≡ len }
     requires few { len ≤ 4294967295 }
-    ensures rows { IfOk result (λ array. binary_rows array ≡ pick Null (map (λ s. binary_rows s.now) sources.now) (expand runs.now)) }
-    ensures refusal { IfErr result (IsRefusal (IsPastBytes (pos 9223372036854775807) (pick Null (map (λ s. binary_rows s.now) sources.now) (expand runs.now)))) }
+    ensures rows { IfOk result (λ array. binary_rows array ≡ picked_bytes sources.now runs.now) }
+    ensures refusal { IfErr result (IsRefusal
+        (IsPastBytes (pos 9223372036854775807) (picked_bytes sources.now runs.now))) }
 {
     let need = count_bytes(sources, runs);
     if need > i64::MAX as u128 {
@@ -65,10 +67,10 @@ pub fn collect_binary<'a>(
 
 // How many bytes the rows need that runs pick.
 fn count_bytes(sources: &[&BinaryArray<i64>], runs: &[Run]) -> u128
-    requires fits { All (PickFits (map (λ s. binary_rows s.now) sources.now)) (expand runs.now) }
-    requires live { All (IsLive (map (λ s. binary_rows s.now) sources.now)) (expand runs.now) }
+    requires fits { All (PickFits (binaries sources.now)) (expand runs.now) }
+    requires live { All (IsLive (binaries sources.now)) (expand runs.now) }
     requires few { length (expand runs.now) ≤ 4294967295 }
-    ensures { result ≡ bytes_needed (pick Null (map (λ s. binary_rows s.now) sources.now) (expand runs.now)) }
+    ensures { result ≡ bytes_needed (picked_bytes sources.now runs.now) }
 {
     let mut total: u128 = 0;
     for run in runs {
@@ -79,9 +81,9 @@ fn count_bytes(sources: &[&BinaryArray<i64>], runs: &[Run]) -> u128
 
 // How many bytes the rows of one run need.
 fn count_run(sources: &[&BinaryArray<i64>], run: Run) -> u128
-    requires fits { All (PickFits (map (λ s. binary_rows s.now) sources.now)) (unrolled run) }
-    requires live { All (IsLive (map (λ s. binary_rows s.now) sources.now)) (unrolled run) }
-    ensures count { result ≡ bytes_needed (pick Null (map (λ s. binary_rows s.now) sources.now) (unrolled run)) }
+    requires fits { All (PickFits (binaries sources.now)) (unrolled run) }
+    requires live { All (IsLive (binaries sources.now)) (unrolled run) }
+    ensures count { result ≡ bytes_needed (run_bytes sources.now run) }
     ensures small { result ≤ 18446744073709551615 * run.len }
 {
     if run.len == 0 {
@@ -92,9 +94,9 @@ fn count_run(sources: &[&BinaryArray<i64>], run: Run) -> u128
 
 // The bytes of the rows of one run, which stand together; none of nulls.
 fn bytes_of<'a>(sources: &[&'a BinaryArray<i64>], run: Run) -> &'a [u8]
-    requires fits { All (PickFits (map (λ s. binary_rows s.now) sources.now)) (unrolled run) }
-    requires live { All (IsLive (map (λ s. binary_rows s.now) sources.now)) (unrolled run) }
-    ensures { result.now ≡ joined_bytes (pick Null (map (λ s. binary_rows s.now) sources.now) (unrolled run)) }
+    requires fits { All (PickFits (binaries sources.now)) (unrolled run) }
+    requires live { All (IsLive (binaries sources.now)) (unrolled run) }
+    ensures { result.now ≡ joined_bytes (run_bytes sources.now run) }
 {
     if run.len == 0 {
         return &[];
@@ -112,7 +114,8 @@ fn bytes_of<'a>(sources: &[&'a BinaryArray<i64>], run: Run) -> &'a [u8]
 // The bytes of the `len` rows from `start` on, of which none is null.
 fn part_of(array: &BinaryArray<i64>, start: usize, len: usize) -> &[u8]
     requires inside { start + len ≤ length (binary_rows array.now) }
-    requires live { validities (take len (drop start (binary_rows array.now))) ≡ replicate len true }
+    requires live { validities (take len (drop start (binary_rows array.now))) ≡
+        replicate len true }
     ensures { result.now ≡ joined_bytes (take len (drop start (binary_rows array.now))) }
 {
     let end = array.offsets.at(start + len);
@@ -138,10 +141,11 @@ fn with_room(alloc: Global, len: usize, need: usize) -> PolarsResult<Joined>
 
 // Puts the rows that runs pick behind the others. Refuses only for want of memory.
 fn push_runs(joined: &mut Joined, sources: &[&BinaryArray<i64>], runs: &[Run]) -> PolarsResult<()>
-    requires fits { All (PickFits (map (λ s. binary_rows s.now) sources.now)) (expand runs.now) }
-    requires live { All (IsLive (map (λ s. binary_rows s.now) sources.now)) (expand runs.now) }
-    requires room { length joined.old.bytes.items + bytes_needed (pick Null (map (λ s. binary_rows s.now) sources.now) (expand runs.now)) ≤ 9223372036854775807 }
-    ensures rows { OnOk result (GrewBy (pick Null (map (λ s. binary_rows s.now) sources.now) (expand runs.now)) joined.old joined.new) }
+    requires fits { All (PickFits (binaries sources.now)) (expand runs.now) }
+    requires live { All (IsLive (binaries sources.now)) (expand runs.now) }
+    requires room { length joined.old.bytes.items + bytes_needed
+        (picked_bytes sources.now runs.now) ≤ 9223372036854775807 }
+    ensures rows { OnOk result (GrewBy (picked_bytes sources.now runs.now) joined.old joined.new) }
     ensures refusal { IfErr result (λ fault. fault ≡ PolarsError.OutOfMemory) }
 {
     for run in runs {
@@ -152,10 +156,11 @@ fn push_runs(joined: &mut Joined, sources: &[&BinaryArray<i64>], runs: &[Run]) -
 
 // Puts the rows of one run behind the others, their bytes at once. Refuses only for want of memory.
 fn push_run(joined: &mut Joined, sources: &[&BinaryArray<i64>], run: Run) -> PolarsResult<()>
-    requires fits { All (PickFits (map (λ s. binary_rows s.now) sources.now)) (unrolled run) }
-    requires live { All (IsLive (map (λ s. binary_rows s.now) sources.now)) (unrolled run) }
-    requires room { length joined.old.bytes.items + bytes_needed (pick Null (map (λ s. binary_rows s.now) sources.now) (unrolled run)) ≤ 9223372036854775807 }
-    ensures rows { OnOk result (GrewBy (pick Null (map (λ s. binary_rows s.now) sources.now) (unrolled run)) joined.old joined.new) }
+    requires fits { All (PickFits (binaries sources.now)) (unrolled run) }
+    requires live { All (IsLive (binaries sources.now)) (unrolled run) }
+    requires room { length joined.old.bytes.items + bytes_needed
+        (run_bytes sources.now run) ≤ 9223372036854775807 }
+    ensures rows { OnOk result (GrewBy (run_bytes sources.now run) joined.old joined.new) }
     ensures refusal { IfErr result (λ fault. fault ≡ PolarsError.OutOfMemory) }
 {
     let before = joined.bytes.len();
@@ -175,10 +180,11 @@ fn push_ends(
     run: Run,
     before: usize,
 ) -> PolarsResult<()>
-    requires fits { All (PickFits (map (λ s. binary_rows s.now) sources.now)) (unrolled run) }
-    requires live { All (IsLive (map (λ s. binary_rows s.now) sources.now)) (unrolled run) }
-    requires room { before + bytes_needed (pick Null (map (λ s. binary_rows s.now) sources.now) (unrolled run)) ≤ 9223372036854775807 }
-    ensures ends { OnOk result (ends.new.items ≡ ends.old.items ++ map pos (ends_from before (pick Null (map (λ s. binary_rows s.now) sources.now) (unrolled run)))) }
+    requires fits { All (PickFits (binaries sources.now)) (unrolled run) }
+    requires live { All (IsLive (binaries sources.now)) (unrolled run) }
+    requires room { before + bytes_needed (run_bytes sources.now run) ≤ 9223372036854775807 }
+    ensures ends { OnOk result (ends.new.items ≡
+        ends.old.items ++ map pos (ends_from before (run_bytes sources.now run))) }
     ensures refusal { IfErr result (λ fault. fault ≡ PolarsError.OutOfMemory) }
 {
     if run.len == 0 {
@@ -218,9 +224,12 @@ fn push_row_ends(
     before: usize,
 ) -> PolarsResult<()>
     requires inside { start + len ≤ length (binary_rows array.now) }
-    requires live { validities (take len (drop start (binary_rows array.now))) ≡ replicate len true }
-    requires room { before + bytes_needed (take len (drop start (binary_rows array.now))) ≤ 9223372036854775807 }
-    ensures ends { OnOk result (ends.new.items ≡ ends.old.items ++ map pos (ends_from before (take len (drop start (binary_rows array.now))))) }
+    requires live { validities (take len (drop start (binary_rows array.now))) ≡
+        replicate len true }
+    requires room { before + bytes_needed
+        (take len (drop start (binary_rows array.now))) ≤ 9223372036854775807 }
+    ensures ends { OnOk result (ends.new.items ≡ ends.old.items ++ map pos
+        (ends_from before (take len (drop start (binary_rows array.now))))) }
     ensures refusal { IfErr result (λ fault. fault ≡ PolarsError.OutOfMemory) }
 {
     let first = array.offsets.at(start);

@@ -17,7 +17,8 @@ pub fn push_validity(
     len: usize,
 ) -> PolarsResult<()>
     requires { ForSome (option_copied validity) (λ v. start + len ≤ length v.bits) }
-    ensures bits { OnOk result (packer.new ≡ packer.old ++ part_bits start len (option_copied validity.entry)) }
+    ensures bits { OnOk result (packer.new ≡
+        packer.old ++ part_bits start len (option_copied validity.entry)) }
     ensures refusal { IfErr result (λ fault. fault ≡ PolarsError.OutOfMemory) }
 {
     match validity {

@@ -9,6 +9,7 @@ ghost use Rattle.sel_arrow.specs.Value.{Null, Truth};
 ghost use Rattle.sel_runs.specs.Picks.{pick, PickFits};
 ghost use Rattle.sel_runs.specs.Runs.{expand};
 ghost use Rattle.sel_runs.specs.Validity.{part_bits};
+ghost use Rattle.sel_runs.specs.Sources.{picked, rows_of};
 
 use crate::bits::{push_validity, validity_from};
 use crate::growable::{Growable, extend_runs};
@@ -74,8 +75,10 @@ fn push_part(
     len: usize,
 ) -> PolarsResult<()>
     requires { start + len ≤ length from.now.values.bits }
-    ensures values { OnOk result (values.new ≡ values.old ++ take len (drop start from.now.values.bits)) }
-    ensures bits { OnOk result (validity.new ≡ validity.old ++ part_bits start len from.now.validity) }
+    ensures values { OnOk result (values.new ≡
+        values.old ++ take len (drop start from.now.values.bits)) }
+    ensures bits { OnOk result (validity.new ≡
+        validity.old ++ part_bits start len from.now.validity) }
     ensures refusal { IfErr result (λ fault. fault ≡ PolarsError.OutOfMemory) }
 {
     values.extend_from_bitmap(&from.values, start, len)?;
@@ -85,7 +88,8 @@ fn push_part(
 /// The columns by their layout. Refuses only for want of memory.
 fn booleans_of<'a>(alloc: Global, sources: &'a [&'a Column]) -> PolarsResult<Vec<&'a BooleanArray>>
     requires { All (λ c. type_of c.now ≡ of_boolean) sources.now }
-    ensures rows { IfOk result (λ found. map (λ s. boolean_rows s.now) found.items ≡ map (λ c. rows c.now) sources.now) }
+    ensures rows { IfOk result (λ found. map (λ s. boolean_rows s.now) found.items ≡
+        rows_of sources.now) }
     ensures refusal { IfErr result (λ fault. fault ≡ PolarsError.OutOfMemory) }
 {
     let mut found = Vec::with_capacity(alloc, sources.len())?;
@@ -106,10 +110,10 @@ pub fn collect_boolean<'a>(
     len: usize,
 ) -> PolarsResult<Column>
     requires alike { All (λ c. type_of c.now ≡ of_boolean) sources.now }
-    requires fits { All (PickFits (map (λ c. rows c.now) sources.now)) (expand runs.now) }
+    requires fits { All (PickFits (rows_of sources.now)) (expand runs.now) }
     requires len { length (expand runs.now) ≡ len }
     requires few { len ≤ 4294967295 }
-    ensures rows { IfOk result (λ column. rows column ≡ pick Null (map (λ c. rows c.now) sources.now) (expand runs.now)) }
+    ensures rows { IfOk result (λ column. rows column ≡ picked sources.now runs.now) }
     ensures dtype { IfOk result (λ column. type_of column ≡ of_boolean) }
     ensures formed { IfOk result (λ column. IsWellFormed column) }
     ensures refusal { IfErr result (λ fault. fault ≡ PolarsError.OutOfMemory) }

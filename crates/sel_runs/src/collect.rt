@@ -8,7 +8,7 @@ ghost use Rattle.sel_runs.specs.Children.{child, is_listing, joined_items, parts
 ghost use Rattle.sel_runs.specs.Need.{IsPastBuffers, IsPastBytes, IsRefusal, buffers_joined, past_fields, past_taken};
 ghost use Rattle.sel_runs.specs.Picks.{pick, PickFits};
 ghost use Rattle.sel_runs.specs.Runs.{expand};
-ghost use Rattle.sel_runs.specs.Sources.{first_type};
+ghost use Rattle.sel_runs.specs.Sources.{columns_of, first_type, picked, rows_of};
 
 use crate::binary::collect_binary;
 use crate::boolean::collect_boolean;
@@ -36,13 +36,16 @@ pub fn collect_rows<'a>(
     picks: &[Option<(u32, u32)>],
 ) -> PolarsResult<ArrayRef>
     requires some { 0 < length sources.now }
-    requires alike { All (λ c. type_of c.now ≡ first_type (map (λ c. c.now) sources.now)) sources.now }
+    requires alike { All (λ c. type_of c.now ≡ first_type (columns_of sources.now)) sources.now }
     requires formed { All (λ c. IsWellFormed c.now) sources.now }
-    requires fits { All (PickFits (map (λ c. rows c.now) sources.now)) picks.now }
+    requires fits { All (PickFits (rows_of sources.now)) picks.now }
     requires few { length picks.now ≤ 4294967295 }
-    ensures rows { IfOk result (λ array. rows array.column ≡ pick Null (map (λ c. rows c.now) sources.now) picks.now) }
-    ensures dtype { IfOk result (λ array. type_of array.column ≡ first_type (map (λ c. c.now) sources.now)) }
-    ensures refusal { IfErr result (IsRefusal (past_taken (first_type (map (λ c. c.now) sources.now)) (map (λ c. c.now) sources.now) (pick Null (map (λ c. rows c.now) sources.now) picks.now))) }
+    ensures rows { IfOk result (λ array. rows array.column ≡
+        pick Null (rows_of sources.now) picks.now) }
+    ensures dtype { IfOk result (λ array. type_of array.column ≡
+        first_type (columns_of sources.now)) }
+    ensures refusal { IfErr result (IsRefusal (past_taken (first_type (columns_of sources.now))
+        (columns_of sources.now) (pick Null (rows_of sources.now) picks.now))) }
 {
     let runs = runs_of_picks(alloc, picks)?;
     let column = collect_runs(alloc, sources, &runs, picks.len())?;
@@ -57,15 +60,16 @@ pub fn collect_runs<'a>(
     len: usize,
 ) -> PolarsResult<Column>
     requires some { 0 < length sources.now }
-    requires alike { All (λ c. type_of c.now ≡ first_type (map (λ c. c.now) sources.now)) sources.now }
+    requires alike { All (λ c. type_of c.now ≡ first_type (columns_of sources.now)) sources.now }
     requires formed { All (λ c. IsWellFormed c.now) sources.now }
-    requires fits { All (PickFits (map (λ c. rows c.now) sources.now)) (expand runs.now) }
+    requires fits { All (PickFits (rows_of sources.now)) (expand runs.now) }
     requires len { length (expand runs.now) ≡ len }
     requires few { len ≤ 4294967295 }
-    ensures rows { IfOk result (λ column. rows column ≡ pick Null (map (λ c. rows c.now) sources.now) (expand runs.now)) }
-    ensures dtype { IfOk result (λ column. type_of column ≡ first_type (map (λ c. c.now) sources.now)) }
+    ensures rows { IfOk result (λ column. rows column ≡ picked sources.now runs.now) }
+    ensures dtype { IfOk result (λ column. type_of column ≡ first_type (columns_of sources.now)) }
     ensures formed { IfOk result (λ column. IsWellFormed column) }
-    ensures refusal { IfErr result (IsRefusal (past_taken (first_type (map (λ c. c.now) sources.now)) (map (λ c. c.now) sources.now) (pick Null (map (λ c. rows c.now) sources.now) (expand runs.now)))) }
+    ensures refusal { IfErr result (IsRefusal (past_taken (first_type (columns_of sources.now))
+        (columns_of sources.now) (picked sources.now runs.now))) }
 {
     let first: &Column = sources[0];
     collect_like(alloc, first, sources, runs, len)
@@ -83,13 +87,14 @@ fn collect_like<'a>(
     requires first { IsWellFormed first.now }
     requires alike { All (λ c. type_of c.now ≡ type_of first.now) sources.now }
     requires formed { All (λ c. IsWellFormed c.now) sources.now }
-    requires fits { All (PickFits (map (λ c. rows c.now) sources.now)) (expand runs.now) }
+    requires fits { All (PickFits (rows_of sources.now)) (expand runs.now) }
     requires len { length (expand runs.now) ≡ len }
     requires few { len ≤ 4294967295 }
-    ensures rows { IfOk result (λ column. rows column ≡ pick Null (map (λ c. rows c.now) sources.now) (expand runs.now)) }
+    ensures rows { IfOk result (λ column. rows column ≡ picked sources.now runs.now) }
     ensures dtype { IfOk result (λ column. type_of column ≡ type_of first.now) }
     ensures formed { IfOk result (λ column. IsWellFormed column) }
-    ensures refusal { IfErr result (IsRefusal (past_taken (type_of first.now) (map (λ c. c.now) sources.now) (pick Null (map (λ c. rows c.now) sources.now) (expand runs.now)))) }
+    ensures refusal { IfErr result (IsRefusal
+        (past_taken (type_of first.now) (columns_of sources.now) (picked sources.now runs.now))) }
 {
     match first {
         Column::Null(_) => Ok(collect_null(sources, runs, len)),
@@ -127,13 +132,14 @@ fn collect_lists<'a>(
     requires child { IsWellFormed child.now }
     requires alike { All (λ c. type_of c.now ≡ of_large_list (type_of child.now)) sources.now }
     requires formed { All (λ c. IsWellFormed c.now) sources.now }
-    requires fits { All (PickFits (map (λ c. rows c.now) sources.now)) (expand runs.now) }
+    requires fits { All (PickFits (rows_of sources.now)) (expand runs.now) }
     requires len { length (expand runs.now) ≡ len }
     requires few { len ≤ 4294967295 }
-    ensures rows { IfOk result (λ column. rows column ≡ pick Null (map (λ c. rows c.now) sources.now) (expand runs.now)) }
+    ensures rows { IfOk result (λ column. rows column ≡ picked sources.now runs.now) }
     ensures dtype { IfOk result (λ column. type_of column ≡ of_large_list (type_of child.now)) }
     ensures formed { IfOk result (λ column. IsWellFormed column) }
-    ensures refusal { IfErr result (IsRefusal (past_taken (of_large_list (type_of child.now)) (map (λ c. c.now) sources.now) (pick Null (map (λ c. rows c.now) sources.now) (expand runs.now)))) }
+    ensures refusal { IfErr result (IsRefusal (past_taken (of_large_list (type_of child.now))
+        (columns_of sources.now) (picked sources.now runs.now))) }
 {
     let need = count_items(sources, runs, 0);
     if need > u32::MAX as u128 {
@@ -156,15 +162,18 @@ fn collect_blocks<'a>(
 ) -> PolarsResult<Column>
     requires narrow { size ≤ 4294967295 }
     requires child { IsWellFormed child.now }
-    requires alike { All (λ c. type_of c.now ≡ of_fixed_size_list (type_of child.now) size) sources.now }
+    requires alike { All (λ c. type_of c.now ≡
+        of_fixed_size_list (type_of child.now) size) sources.now }
     requires formed { All (λ c. IsWellFormed c.now) sources.now }
-    requires fits { All (PickFits (map (λ c. rows c.now) sources.now)) (expand runs.now) }
+    requires fits { All (PickFits (rows_of sources.now)) (expand runs.now) }
     requires len { length (expand runs.now) ≡ len }
     requires few { len ≤ 4294967295 }
-    ensures rows { IfOk result (λ column. rows column ≡ pick Null (map (λ c. rows c.now) sources.now) (expand runs.now)) }
-    ensures dtype { IfOk result (λ column. type_of column ≡ of_fixed_size_list (type_of child.now) size) }
+    ensures rows { IfOk result (λ column. rows column ≡ picked sources.now runs.now) }
+    ensures dtype { IfOk result (λ column. type_of column ≡
+        of_fixed_size_list (type_of child.now) size) }
     ensures formed { IfOk result (λ column. IsWellFormed column) }
-    ensures refusal { IfErr result (IsRefusal (past_taken (of_fixed_size_list (type_of child.now) size) (map (λ c. c.now) sources.now) (pick Null (map (λ c. rows c.now) sources.now) (expand runs.now)))) }
+    ensures refusal { IfErr result (IsRefusal (past_taken (of_fixed_size_list
+        (type_of child.now) size) (columns_of sources.now) (picked sources.now runs.now))) }
 {
     let need = count_items(sources, runs, size as u32);
     if need > u32::MAX as u128 {
@@ -190,13 +199,15 @@ fn collect_items<'a>(
     requires lists { All (λ c. is_listing (type_of c.now) ≡ true) sources.now }
     requires alike { All (λ c. type_of (child c.now) ≡ type_of first.now) sources.now }
     requires formed { All (λ c. IsWellFormed c.now) sources.now }
-    requires fits { All (PickFits (map (λ c. rows c.now) sources.now)) (expand runs.now) }
-    requires need { need ≡ length (joined_items width (pick Null (map (λ c. rows c.now) sources.now) (expand runs.now))) }
+    requires fits { All (PickFits (rows_of sources.now)) (expand runs.now) }
+    requires need { need ≡ length (joined_items width (picked sources.now runs.now)) }
     requires few { need ≤ 4294967295 }
-    ensures rows { IfOk result (λ column. rows column ≡ joined_items width (pick Null (map (λ c. rows c.now) sources.now) (expand runs.now))) }
+    ensures rows { IfOk result (λ column. rows column ≡
+        joined_items width (picked sources.now runs.now)) }
     ensures dtype { IfOk result (λ column. type_of column ≡ type_of first.now) }
     ensures formed { IfOk result (λ column. IsWellFormed column) }
-    ensures refusal { IfErr result (IsRefusal (past_taken (type_of first.now) (map (λ c. child c.now) sources.now) (joined_items width (pick Null (map (λ c. rows c.now) sources.now) (expand runs.now))))) }
+    ensures refusal { IfErr result (IsRefusal (past_taken (type_of first.now)
+        (map (λ c. child c.now) sources.now) (joined_items width (picked sources.now runs.now)))) }
 {
     if let Column::Null(_) = first {
         return Ok(Column::Null(NullArray { length: need }));
@@ -217,15 +228,18 @@ fn collect_tuples<'a>(
     len: usize,
 ) -> PolarsResult<Column>
     requires firsts { All (λ c. IsWellFormed c) firsts.now }
-    requires alike { All (λ c. type_of c.now ≡ of_struct (shapes_of (map type_of firsts.now))) sources.now }
+    requires alike { All (λ c. type_of c.now ≡
+        of_struct (shapes_of (map type_of firsts.now))) sources.now }
     requires formed { All (λ c. IsWellFormed c.now) sources.now }
-    requires fits { All (PickFits (map (λ c. rows c.now) sources.now)) (expand runs.now) }
+    requires fits { All (PickFits (rows_of sources.now)) (expand runs.now) }
     requires len { length (expand runs.now) ≡ len }
     requires few { len ≤ 4294967295 }
-    ensures rows { IfOk result (λ column. rows column ≡ pick Null (map (λ c. rows c.now) sources.now) (expand runs.now)) }
-    ensures dtype { IfOk result (λ column. type_of column ≡ of_struct (shapes_of (map type_of firsts.now))) }
+    ensures rows { IfOk result (λ column. rows column ≡ picked sources.now runs.now) }
+    ensures dtype { IfOk result (λ column. type_of column ≡
+        of_struct (shapes_of (map type_of firsts.now))) }
     ensures formed { IfOk result (λ column. IsWellFormed column) }
-    ensures refusal { IfErr result (IsRefusal (past_taken (of_struct (shapes_of (map type_of firsts.now))) (map (λ c. c.now) sources.now) (pick Null (map (λ c. rows c.now) sources.now) (expand runs.now)))) }
+    ensures refusal { IfErr result (IsRefusal (past_taken (of_struct (shapes_of
+        (map type_of firsts.now))) (columns_of sources.now) (picked sources.now runs.now))) }
 {
     let fields = collect_fields(alloc, firsts, sources, runs, len)?;
     let column = tuples_over(alloc, fields, sources, runs, len)?;
@@ -242,15 +256,18 @@ fn collect_fields<'a>(
     len: usize,
 ) -> PolarsResult<Vec<Column>>
     requires firsts { All (λ c. IsWellFormed c) firsts.now }
-    requires alike { All (λ c. type_of c.now ≡ of_struct (shapes_of (map type_of firsts.now))) sources.now }
+    requires alike { All (λ c. type_of c.now ≡
+        of_struct (shapes_of (map type_of firsts.now))) sources.now }
     requires formed { All (λ c. IsWellFormed c.now) sources.now }
-    requires fits { All (PickFits (map (λ c. rows c.now) sources.now)) (expand runs.now) }
+    requires fits { All (PickFits (rows_of sources.now)) (expand runs.now) }
     requires len { length (expand runs.now) ≡ len }
     requires few { len ≤ 4294967295 }
-    ensures parts { IfOk result (λ fields. map rows fields.items ≡ parts_of (length firsts.now) (pick Null (map (λ c. rows c.now) sources.now) (expand runs.now))) }
+    ensures parts { IfOk result (λ fields. map rows fields.items ≡
+        parts_of (length firsts.now) (picked sources.now runs.now)) }
     ensures dtypes { IfOk result (λ fields. map type_of fields.items ≡ map type_of firsts.now) }
     ensures formed { IfOk result (λ fields. All (IsField len) fields.items) }
-    ensures refusal { IfErr result (IsRefusal (past_fields (shapes_of (map type_of firsts.now)) 0 (map (λ c. c.now) sources.now) (pick Null (map (λ c. rows c.now) sources.now) (expand runs.now)))) }
+    ensures refusal { IfErr result (IsRefusal (past_fields (shapes_of (map type_of firsts.now)) 0
+        (columns_of sources.now) (picked sources.now runs.now))) }
 {
     let split = split_runs(alloc, sources, runs)?;
     let count = firsts.len();
@@ -272,13 +289,14 @@ fn collect_large_binary<'a>(
 ) -> PolarsResult<Column>
     requires alike { All (λ c. type_of c.now ≡ of_large_binary) sources.now }
     requires formed { All (λ c. IsWellFormed c.now) sources.now }
-    requires fits { All (PickFits (map (λ c. rows c.now) sources.now)) (expand runs.now) }
+    requires fits { All (PickFits (rows_of sources.now)) (expand runs.now) }
     requires len { length (expand runs.now) ≡ len }
     requires few { len ≤ 4294967295 }
-    ensures rows { IfOk result (λ column. rows column ≡ pick Null (map (λ c. rows c.now) sources.now) (expand runs.now)) }
+    ensures rows { IfOk result (λ column. rows column ≡ picked sources.now runs.now) }
     ensures dtype { IfOk result (λ column. type_of column ≡ of_large_binary) }
     ensures formed { IfOk result (λ column. IsWellFormed column) }
-    ensures refusal { IfErr result (IsRefusal (IsPastBytes (pos 9223372036854775807) (pick Null (map (λ c. rows c.now) sources.now) (expand runs.now)))) }
+    ensures refusal { IfErr result (IsRefusal
+        (IsPastBytes (pos 9223372036854775807) (picked sources.now runs.now))) }
 {
     let live = split_runs(alloc, sources, runs)?;
     let found = binaries_of(alloc, sources)?;
@@ -294,13 +312,14 @@ fn collect_binview<'a>(
     len: usize,
 ) -> PolarsResult<Column>
     requires alike { All (λ c. type_of c.now ≡ of_binary_view) sources.now }
-    requires fits { All (PickFits (map (λ c. rows c.now) sources.now)) (expand runs.now) }
+    requires fits { All (PickFits (rows_of sources.now)) (expand runs.now) }
     requires len { length (expand runs.now) ≡ len }
     requires few { len ≤ 4294967295 }
-    ensures rows { IfOk result (λ column. rows column ≡ pick Null (map (λ c. rows c.now) sources.now) (expand runs.now)) }
+    ensures rows { IfOk result (λ column. rows column ≡ picked sources.now runs.now) }
     ensures dtype { IfOk result (λ column. type_of column ≡ of_binary_view) }
     ensures formed { IfOk result (λ column. IsWellFormed column) }
-    ensures refusal { IfErr result (IsRefusal (IsPastBuffers (buffers_joined (map (λ c. c.now) sources.now)))) }
+    ensures refusal { IfErr result (IsRefusal
+        (IsPastBuffers (buffers_joined (columns_of sources.now)))) }
 {
     let found = views_of(alloc, sources)?;
     let array = collect_views(alloc, &found, runs, len)?;
@@ -315,13 +334,14 @@ fn collect_utf8view<'a>(
     len: usize,
 ) -> PolarsResult<Column>
     requires alike { All (λ c. type_of c.now ≡ of_utf8_view) sources.now }
-    requires fits { All (PickFits (map (λ c. rows c.now) sources.now)) (expand runs.now) }
+    requires fits { All (PickFits (rows_of sources.now)) (expand runs.now) }
     requires len { length (expand runs.now) ≡ len }
     requires few { len ≤ 4294967295 }
-    ensures rows { IfOk result (λ column. rows column ≡ pick Null (map (λ c. rows c.now) sources.now) (expand runs.now)) }
+    ensures rows { IfOk result (λ column. rows column ≡ picked sources.now runs.now) }
     ensures dtype { IfOk result (λ column. type_of column ≡ of_utf8_view) }
     ensures formed { IfOk result (λ column. IsWellFormed column) }
-    ensures refusal { IfErr result (IsRefusal (IsPastBuffers (buffers_joined (map (λ c. c.now) sources.now)))) }
+    ensures refusal { IfErr result (IsRefusal
+        (IsPastBuffers (buffers_joined (columns_of sources.now)))) }
 {
     let found = texts_of(alloc, sources)?;
     let bytes = collect_views(alloc, &found, runs, len)?;

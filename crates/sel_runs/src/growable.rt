@@ -21,7 +21,8 @@ pub trait Growable: Sized {
         requires source { source < length (sources self) }
         requires inside { start + len ≤ length (slice_index_or (sources self) source []) }
         requires room { length (grown self) + len ≤ 4294967295 }
-        ensures rows { IfOk result (λ longer. grown longer ≡ grown self ++ take len (drop start (slice_index_or (sources self) source []))) }
+        ensures rows { IfOk result (λ longer. grown longer ≡
+            grown self ++ take len (drop start (slice_index_or (sources self) source []))) }
         ensures sources { IfOk result (λ longer. sources longer ≡ sources self) }
         ensures refusal { IfErr result (λ fault. fault ≡ PolarsError.OutOfMemory) };
 
@@ -37,7 +38,8 @@ pub trait Growable: Sized {
 pub fn extend_runs<G: Growable>(mut growable: G, runs: &[Run]) -> PolarsResult<G>
     requires fits { All (PickFits (G.sources growable)) (expand runs.now) }
     requires room { length (G.grown growable) + length (expand runs.now) ≤ 4294967295 }
-    ensures rows { IfOk result (λ longer. G.grown longer ≡ G.grown growable ++ pick Null (G.sources growable) (expand runs.now)) }
+    ensures rows { IfOk result (λ longer. G.grown longer ≡
+        G.grown growable ++ pick Null (G.sources growable) (expand runs.now)) }
     ensures sources { IfOk result (λ longer. G.sources longer ≡ G.sources growable) }
     ensures refusal { IfErr result (λ fault. fault ≡ PolarsError.OutOfMemory) }
 {
@@ -50,7 +52,8 @@ pub fn extend_runs<G: Growable>(mut growable: G, runs: &[Run]) -> PolarsResult<G
 fn extend_run<G: Growable>(growable: G, run: Run) -> PolarsResult<G>
     requires fits { All (PickFits (G.sources growable)) (unrolled run) }
     requires room { length (G.grown growable) + run.len ≤ 4294967295 }
-    ensures rows { IfOk result (λ longer. G.grown longer ≡ G.grown growable ++ pick Null (G.sources growable) (unrolled run)) }
+    ensures rows { IfOk result (λ longer. G.grown longer ≡
+        G.grown growable ++ pick Null (G.sources growable) (unrolled run)) }
     ensures sources { IfOk result (λ longer. G.sources longer ≡ G.sources growable) }
     ensures refusal { IfErr result (λ fault. fault ≡ PolarsError.OutOfMemory) }
 {

@@ -6,6 +6,7 @@ ghost use Rattle.sel_arrow.specs.Rows.{rows, type_of};
 ghost use Rattle.sel_arrow.specs.Shape.{of_large_binary, of_binary_view, of_utf8_view};
 ghost use Rattle.sel_arrow.specs.Texts.{all_text};
 ghost use Rattle.sel_runs.specs.Need.{buffer_count};
+ghost use Rattle.sel_runs.specs.Sources.{rows_of};
 
 use sel_arrow::binary::BinaryArray;
 use sel_arrow::binview::BinaryViewArray;
@@ -19,7 +20,8 @@ pub fn binaries_of<'a>(
     sources: &'a [&'a Column],
 ) -> PolarsResult<Vec<&'a BinaryArray<i64>>>
     requires { All (λ c. type_of c.now ≡ of_large_binary) sources.now }
-    ensures rows { IfOk result (λ found. map (λ s. binary_rows s.now) found.items ≡ map (λ c. rows c.now) sources.now) }
+    ensures rows { IfOk result (λ found. map (λ s. binary_rows s.now) found.items ≡
+        rows_of sources.now) }
     ensures refusal { IfErr result (λ fault. fault ≡ PolarsError.OutOfMemory) }
 {
     let mut found = Vec::with_capacity(alloc, sources.len())?;
@@ -38,8 +40,10 @@ pub fn views_of<'a>(
     sources: &'a [&'a Column],
 ) -> PolarsResult<Vec<&'a BinaryViewArray>>
     requires { All (λ c. type_of c.now ≡ of_binary_view) sources.now }
-    ensures rows { IfOk result (λ found. map (λ s. binview_rows s.now) found.items ≡ map (λ c. rows c.now) sources.now) }
-    ensures buffers { IfOk result (λ found. map (λ s. length s.now.buffers) found.items ≡ map (λ c. buffer_count c.now) sources.now) }
+    ensures rows { IfOk result (λ found. map (λ s. binview_rows s.now) found.items ≡
+        rows_of sources.now) }
+    ensures buffers { IfOk result (λ found. map (λ s. length s.now.buffers) found.items ≡
+        map (λ c. buffer_count c.now) sources.now) }
     ensures refusal { IfErr result (λ fault. fault ≡ PolarsError.OutOfMemory) }
 {
     let mut found = Vec::with_capacity(alloc, sources.len())?;
@@ -58,9 +62,12 @@ pub fn texts_of<'a>(
     sources: &'a [&'a Column],
 ) -> PolarsResult<Vec<&'a BinaryViewArray>>
     requires { All (λ c. type_of c.now ≡ of_utf8_view) sources.now }
-    ensures rows { IfOk result (λ found. map (λ s. binview_rows s.now) found.items ≡ map (λ c. rows c.now) sources.now) }
-    ensures texts { IfOk result (λ found. All (λ s. IsTrue (all_text (binview_rows s.now))) found.items) }
-    ensures buffers { IfOk result (λ found. map (λ s. length s.now.buffers) found.items ≡ map (λ c. buffer_count c.now) sources.now) }
+    ensures rows { IfOk result (λ found. map (λ s. binview_rows s.now) found.items ≡
+        rows_of sources.now) }
+    ensures texts { IfOk result (λ found. All
+        (λ s. IsTrue (all_text (binview_rows s.now))) found.items) }
+    ensures buffers { IfOk result (λ found. map (λ s. length s.now.buffers) found.items ≡
+        map (λ c. buffer_count c.now) sources.now) }
     ensures refusal { IfErr result (λ fault. fault ≡ PolarsError.OutOfMemory) }
 {
     let mut found = Vec::with_capacity(alloc, sources.len())?;

@@ -8,6 +8,7 @@ ghost use Rattle.sel_runs.specs.Children.{child, is_listing, items_in, joined_it
 ghost use Rattle.sel_runs.specs.Picks.{pick, PickFits};
 ghost use Rattle.sel_runs.specs.Runs.{expand, unrolled};
 ghost use Rattle.sel_runs.specs.Ends.{item_ends};
+ghost use Rattle.sel_runs.specs.Sources.{child_rows, picked, rows_of, run_rows};
 
 use crate::run::{Run, nulls_of, push_run};
 use sel_arrow::column::Column;
@@ -18,7 +19,8 @@ use std::alloc::Global;
 /// The children of columns of lists. Refuses only for want of memory.
 pub fn children_of<'a>(alloc: Global, sources: &[&'a Column]) -> PolarsResult<Vec<&'a Column>>
     requires lists { All (λ c. is_listing (type_of c.now) ≡ true) sources.now }
-    ensures children { IfOk result (λ found. map (λ c. c.now) found.items ≡ map (λ c. child c.now) sources.now) }
+    ensures children { IfOk result (λ found. map (λ c. c.now) found.items ≡
+        map (λ c. child c.now) sources.now) }
     ensures refusal { IfErr result (λ fault. fault ≡ PolarsError.OutOfMemory) }
 {
     let mut found = Vec::with_capacity(alloc, sources.len())?;
@@ -45,7 +47,8 @@ fn part_of_row(column: &Column, i: usize) -> Option<(u32, u32)>
     requires formed { IsWellFormed column.now }
     requires inside { i < length (rows column.now) }
     ensures null { IfNone result (slice_index_or (rows column.now) i Null ≡ Null) }
-    ensures row { IfSome result (λ part. slice_index_or (rows column.now) i Null ≡ list_of (take part.1 (drop part.0 (rows (child column.now))))) }
+    ensures row { IfSome result (λ part. slice_index_or (rows column.now) i Null ≡
+        list_of (take part.1 (drop part.0 (rows (child column.now))))) }
     ensures inside { IfSome result (λ part. part.0 + part.1 ≤ length (rows (child column.now))) }
 {
     match column {
@@ -74,10 +77,11 @@ fn part_of_row(column: &Column, i: usize) -> Option<(u32, u32)>
 fn run_of_row(sources: &[&Column], run: Run, i: u32, width: u32) -> Run
     requires lists { All (λ c. is_listing (type_of c.now) ≡ true) sources.now }
     requires formed { All (λ c. IsWellFormed c.now) sources.now }
-    requires fits { All (PickFits (map (λ c. rows c.now) sources.now)) (unrolled run) }
+    requires fits { All (PickFits (rows_of sources.now)) (unrolled run) }
     requires inside { i < run.len }
-    ensures items { pick Null (map (λ c. rows (child c.now)) sources.now) (unrolled result) ≡ items_in width (slice_index_or (pick Null (map (λ c. rows c.now) sources.now) (unrolled run)) i Null) }
-    ensures fits { All (PickFits (map (λ c. rows (child c.now)) sources.now)) (unrolled result) }
+    ensures items { pick Null (child_rows sources.now) (unrolled result) ≡
+        items_in width (slice_index_or (run_rows sources.now run) i Null) }
+    ensures fits { All (PickFits (child_rows sources.now)) (unrolled result) }
     ensures small { result.len ≤ 4294967295 }
 {
     let Some(source) = run.source else {
@@ -98,9 +102,9 @@ fn run_of_row(sources: &[&Column], run: Run, i: u32, width: u32) -> Run
 pub fn count_items(sources: &[&Column], runs: &[Run], width: u32) -> u128
     requires lists { All (λ c. is_listing (type_of c.now) ≡ true) sources.now }
     requires formed { All (λ c. IsWellFormed c.now) sources.now }
-    requires fits { All (PickFits (map (λ c. rows c.now) sources.now)) (expand runs.now) }
+    requires fits { All (PickFits (rows_of sources.now)) (expand runs.now) }
     requires few { length (expand runs.now) ≤ 4294967295 }
-    ensures { result ≡ length (joined_items width (pick Null (map (λ c. rows c.now) sources.now) (expand runs.now))) }
+    ensures { result ≡ length (joined_items width (picked sources.now runs.now)) }
 {
     let mut total: u128 = 0;
     for run in runs {
@@ -113,8 +117,8 @@ pub fn count_items(sources: &[&Column], runs: &[Run], width: u32) -> u128
 fn count_run(sources: &[&Column], run: Run, width: u32) -> u128
     requires lists { All (λ c. is_listing (type_of c.now) ≡ true) sources.now }
     requires formed { All (λ c. IsWellFormed c.now) sources.now }
-    requires fits { All (PickFits (map (λ c. rows c.now) sources.now)) (unrolled run) }
-    ensures count { result ≡ length (joined_items width (pick Null (map (λ c. rows c.now) sources.now) (unrolled run))) }
+    requires fits { All (PickFits (rows_of sources.now)) (unrolled run) }
+    ensures count { result ≡ length (joined_items width (run_rows sources.now run)) }
     ensures small { result ≤ 4294967295 * run.len }
 {
     let mut total: u128 = 0;
@@ -134,10 +138,12 @@ pub fn child_runs(
 ) -> PolarsResult<Vec<Run>>
     requires lists { All (λ c. is_listing (type_of c.now) ≡ true) sources.now }
     requires formed { All (λ c. IsWellFormed c.now) sources.now }
-    requires fits { All (PickFits (map (λ c. rows c.now) sources.now)) (expand runs.now) }
-    requires room { length (joined_items width (pick Null (map (λ c. rows c.now) sources.now) (expand runs.now))) ≤ 4294967295 }
-    ensures items { IfOk result (λ below. pick Null (map (λ c. rows (child c.now)) sources.now) (expand below.items) ≡ joined_items width (pick Null (map (λ c. rows c.now) sources.now) (expand runs.now))) }
-    ensures fits { IfOk result (λ below. All (PickFits (map (λ c. rows (child c.now)) sources.now)) (expand below.items)) }
+    requires fits { All (PickFits (rows_of sources.now)) (expand runs.now) }
+    requires room { length (joined_items width (picked sources.now runs.now)) ≤ 4294967295 }
+    ensures items { IfOk result (λ below. pick Null (child_rows sources.now) (expand below.items) ≡
+        joined_items width (picked sources.now runs.now)) }
+    ensures fits { IfOk result (λ below. All
+        (PickFits (child_rows sources.now)) (expand below.items)) }
     ensures refusal { IfErr result (λ fault. fault ≡ PolarsError.OutOfMemory) }
 {
     let mut below = Vec::new(alloc);
@@ -151,11 +157,14 @@ pub fn child_runs(
 fn push_items(below: &mut Vec<Run>, sources: &[&Column], run: Run, width: u32) -> PolarsResult<()>
     requires lists { All (λ c. is_listing (type_of c.now) ≡ true) sources.now }
     requires formed { All (λ c. IsWellFormed c.now) sources.now }
-    requires fits { All (PickFits (map (λ c. rows c.now) sources.now)) (unrolled run) }
-    requires sound { All (PickFits (map (λ c. rows (child c.now)) sources.now)) (expand below.old.items) }
-    requires room { length (expand below.old.items) + length (joined_items width (pick Null (map (λ c. rows c.now) sources.now) (unrolled run))) ≤ 4294967295 }
-    ensures items { OnOk result (pick Null (map (λ c. rows (child c.now)) sources.now) (expand below.new.items) ≡ pick Null (map (λ c. rows (child c.now)) sources.now) (expand below.old.items) ++ joined_items width (pick Null (map (λ c. rows c.now) sources.now) (unrolled run))) }
-    ensures sound { OnOk result (All (PickFits (map (λ c. rows (child c.now)) sources.now)) (expand below.new.items)) }
+    requires fits { All (PickFits (rows_of sources.now)) (unrolled run) }
+    requires sound { All (PickFits (child_rows sources.now)) (expand below.old.items) }
+    requires room { length (expand below.old.items) + length
+        (joined_items width (run_rows sources.now run)) ≤ 4294967295 }
+    ensures items { OnOk result (pick Null (child_rows sources.now) (expand below.new.items) ≡
+        pick Null (child_rows sources.now) (expand below.old.items) ++ joined_items width
+        (run_rows sources.now run)) }
+    ensures sound { OnOk result (All (PickFits (child_rows sources.now)) (expand below.new.items)) }
     ensures refusal { IfErr result (λ fault. fault ≡ PolarsError.OutOfMemory) }
 {
     for i in 0..run.len {
@@ -173,11 +182,12 @@ pub fn ends_of(
 ) -> PolarsResult<Vec<i64>>
     requires lists { All (λ c. is_listing (type_of c.now) ≡ true) sources.now }
     requires formed { All (λ c. IsWellFormed c.now) sources.now }
-    requires fits { All (PickFits (map (λ c. rows c.now) sources.now)) (expand runs.now) }
+    requires fits { All (PickFits (rows_of sources.now)) (expand runs.now) }
     requires len { length (expand runs.now) ≡ len }
     requires few { len ≤ 4294967295 }
-    requires room { length (joined_items 0 (pick Null (map (λ c. rows c.now) sources.now) (expand runs.now))) ≤ 4294967295 }
-    ensures ends { IfOk result (λ ends. ends.items ≡ map pos (0 ∷ item_ends 0 (pick Null (map (λ c. rows c.now) sources.now) (expand runs.now)))) }
+    requires room { length (joined_items 0 (picked sources.now runs.now)) ≤ 4294967295 }
+    ensures ends { IfOk result (λ ends. ends.items ≡
+        map pos (0 ∷ item_ends 0 (picked sources.now runs.now))) }
     ensures refusal { IfErr result (λ fault. fault ≡ PolarsError.OutOfMemory) }
 {
     let mut ends = Vec::with_capacity(alloc, len + 1)?;
@@ -193,10 +203,12 @@ pub fn ends_of(
 fn push_ends(ends: &mut Vec<i64>, sources: &[&Column], run: Run, start: u32) -> PolarsResult<u32>
     requires lists { All (λ c. is_listing (type_of c.now) ≡ true) sources.now }
     requires formed { All (λ c. IsWellFormed c.now) sources.now }
-    requires fits { All (PickFits (map (λ c. rows c.now) sources.now)) (unrolled run) }
-    requires room { start + length (joined_items 0 (pick Null (map (λ c. rows c.now) sources.now) (unrolled run))) ≤ 4294967295 }
-    ensures ends { OnOk result (ends.new.items ≡ ends.old.items ++ map pos (item_ends start (pick Null (map (λ c. rows c.now) sources.now) (unrolled run)))) }
-    ensures last { IfOk result (λ end. end ≡ start + length (joined_items 0 (pick Null (map (λ c. rows c.now) sources.now) (unrolled run)))) }
+    requires fits { All (PickFits (rows_of sources.now)) (unrolled run) }
+    requires room { start + length (joined_items 0 (run_rows sources.now run)) ≤ 4294967295 }
+    ensures ends { OnOk result (ends.new.items ≡
+        ends.old.items ++ map pos (item_ends start (run_rows sources.now run))) }
+    ensures last { IfOk result (λ end. end ≡
+        start + length (joined_items 0 (run_rows sources.now run))) }
     ensures refusal { IfErr result (λ fault. fault ≡ PolarsError.OutOfMemory) }
 {
     let mut end = start;

@@ -7,6 +7,7 @@ ghost use Rattle.sel_arrow.specs.Value.{Null};
 ghost use Rattle.sel_runs.specs.Children.{joined_items, parts_of};
 ghost use Rattle.sel_runs.specs.Picks.{pick, PickFits};
 ghost use Rattle.sel_runs.specs.Runs.{expand};
+ghost use Rattle.sel_runs.specs.Sources.{picked, rows_of};
 
 use crate::lists::ends_of;
 use crate::run::Run;
@@ -27,12 +28,12 @@ pub fn lists_over(
 ) -> PolarsResult<Column>
     requires lists { All (λ c. type_of c.now ≡ of_large_list (type_of values)) sources.now }
     requires formed { All (λ c. IsWellFormed c.now) sources.now }
-    requires fits { All (PickFits (map (λ c. rows c.now) sources.now)) (expand runs.now) }
+    requires fits { All (PickFits (rows_of sources.now)) (expand runs.now) }
     requires len { length (expand runs.now) ≡ len }
     requires few { len ≤ 4294967295 }
-    requires below { rows values ≡ joined_items 0 (pick Null (map (λ c. rows c.now) sources.now) (expand runs.now)) }
+    requires below { rows values ≡ joined_items 0 (picked sources.now runs.now) }
     requires child { IsWellFormed values }
-    ensures rows { IfOk result (λ column. rows column ≡ pick Null (map (λ c. rows c.now) sources.now) (expand runs.now)) }
+    ensures rows { IfOk result (λ column. rows column ≡ picked sources.now runs.now) }
     ensures dtype { IfOk result (λ column. type_of column ≡ of_large_list (type_of values)) }
     ensures formed { IfOk result (λ column. IsWellFormed column) }
     ensures refusal { IfErr result (λ fault. fault ≡ PolarsError.OutOfMemory) }
@@ -58,16 +59,18 @@ pub fn blocks_over(
     runs: &[Run],
     len: usize,
 ) -> PolarsResult<Column>
-    requires lists { All (λ c. type_of c.now ≡ of_fixed_size_list (type_of values) size) sources.now }
+    requires lists { All (λ c. type_of c.now ≡
+        of_fixed_size_list (type_of values) size) sources.now }
     requires formed { All (λ c. IsWellFormed c.now) sources.now }
-    requires fits { All (PickFits (map (λ c. rows c.now) sources.now)) (expand runs.now) }
+    requires fits { All (PickFits (rows_of sources.now)) (expand runs.now) }
     requires len { length (expand runs.now) ≡ len }
     requires few { len ≤ 4294967295 }
     requires narrow { size ≤ 4294967295 }
-    requires below { rows values ≡ joined_items size (pick Null (map (λ c. rows c.now) sources.now) (expand runs.now)) }
+    requires below { rows values ≡ joined_items size (picked sources.now runs.now) }
     requires child { IsWellFormed values }
-    ensures rows { IfOk result (λ column. rows column ≡ pick Null (map (λ c. rows c.now) sources.now) (expand runs.now)) }
-    ensures dtype { IfOk result (λ column. type_of column ≡ of_fixed_size_list (type_of values) size) }
+    ensures rows { IfOk result (λ column. rows column ≡ picked sources.now runs.now) }
+    ensures dtype { IfOk result (λ column. type_of column ≡
+        of_fixed_size_list (type_of values) size) }
     ensures formed { IfOk result (λ column. IsWellFormed column) }
     ensures refusal { IfErr result (λ fault. fault ≡ PolarsError.OutOfMemory) }
 {
@@ -89,15 +92,18 @@ pub fn tuples_over(
     runs: &[Run],
     len: usize,
 ) -> PolarsResult<Column>
-    requires tuples { All (λ c. type_of c.now ≡ of_struct (shapes_of (map type_of fields.items))) sources.now }
+    requires tuples { All (λ c. type_of c.now ≡
+        of_struct (shapes_of (map type_of fields.items))) sources.now }
     requires formed { All (λ c. IsWellFormed c.now) sources.now }
-    requires fits { All (PickFits (map (λ c. rows c.now) sources.now)) (expand runs.now) }
+    requires fits { All (PickFits (rows_of sources.now)) (expand runs.now) }
     requires len { length (expand runs.now) ≡ len }
     requires few { len ≤ 4294967295 }
-    requires parts { map rows fields.items ≡ parts_of (length fields.items) (pick Null (map (λ c. rows c.now) sources.now) (expand runs.now)) }
+    requires parts { map rows fields.items ≡
+        parts_of (length fields.items) (picked sources.now runs.now) }
     requires fields { All (IsField len) fields.items }
-    ensures rows { IfOk result (λ column. rows column ≡ pick Null (map (λ c. rows c.now) sources.now) (expand runs.now)) }
-    ensures dtype { IfOk result (λ column. type_of column ≡ of_struct (shapes_of (map type_of fields.items))) }
+    ensures rows { IfOk result (λ column. rows column ≡ picked sources.now runs.now) }
+    ensures dtype { IfOk result (λ column. type_of column ≡
+        of_struct (shapes_of (map type_of fields.items))) }
     ensures formed { IfOk result (λ column. IsWellFormed column) }
     ensures refusal { IfErr result (λ fault. fault ≡ PolarsError.OutOfMemory) }
 {

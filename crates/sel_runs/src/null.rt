@@ -6,6 +6,7 @@ ghost use Rattle.sel_arrow.specs.Shape.{of_null};
 ghost use Rattle.sel_arrow.specs.Value.{Null};
 ghost use Rattle.sel_runs.specs.Picks.{pick};
 ghost use Rattle.sel_runs.specs.Runs.{expand};
+ghost use Rattle.sel_runs.specs.Sources.{picked};
 
 use crate::run::Run;
 use sel_arrow::column::Column;
@@ -16,7 +17,7 @@ pub fn collect_null(sources: &[&Column], runs: &[Run], len: usize) -> Column
     requires alike { All (λ c. type_of c.now ≡ of_null) sources.now }
     requires len { length (expand runs.now) ≡ len }
     requires few { len ≤ 4294967295 }
-    ensures rows { rows result ≡ pick Null (map (λ c. rows c.now) sources.now) (expand runs.now) }
+    ensures rows { rows result ≡ picked sources.now runs.now }
     ensures dtype { type_of result ≡ of_null }
     ensures formed { IsWellFormed result }
 {

@@ -8,6 +8,7 @@ ghost use Rattle.sel_arrow.specs.Value.{Null, Number};
 ghost use Rattle.sel_runs.specs.Picks.{pick, PickFits};
 ghost use Rattle.sel_runs.specs.Runs.{expand};
 ghost use Rattle.sel_runs.specs.Validity.{part_bits};
+ghost use Rattle.sel_runs.specs.Sources.{picked, rows_of};
 
 use crate::bits::{push_validity, validity_from};
 use crate::fill::push_values;
@@ -39,7 +40,8 @@ struct GrowablePrimitive<'a, T: ArrowPrimitive> {
 }
 
 impl<T: ArrowPrimitive + Drop> Growable for GrowablePrimitive<'_, T> {
-    ghost sources = { λ g. map (λ s. number_rows T.number s.values.now (option_copied s.validity)) g.sources.now };
+    ghost sources = { λ g. map
+        (λ s. number_rows T.number s.values.now (option_copied s.validity)) g.sources.now };
 
     ghost grown = { λ g. hidden g.validity (map (λ x. Number (T.number x)) g.values.items) };
 
@@ -84,8 +86,10 @@ fn push_part<T: ArrowPrimitive>(
     len: usize,
 ) -> PolarsResult<()>
     requires { start + len ≤ length from.now.values.now }
-    ensures values { OnOk result (values.new.items ≡ values.old.items ++ take len (drop start from.now.values.now)) }
-    ensures bits { OnOk result (validity.new ≡ validity.old ++ part_bits start len (option_copied from.now.validity)) }
+    ensures values { OnOk result (values.new.items ≡
+        values.old.items ++ take len (drop start from.now.values.now)) }
+    ensures bits { OnOk result (validity.new ≡
+        validity.old ++ part_bits start len (option_copied from.now.validity)) }
     ensures refusal { IfErr result (λ fault. fault ≡ PolarsError.OutOfMemory) }
 {
     values.extend_from_slice(&from.values[start..start + len])?;
@@ -98,7 +102,8 @@ fn numbers_of<'a, T: ArrowPrimitive>(
     sources: &'a [&'a Column],
 ) -> PolarsResult<Vec<Numbers<'a, T>>>
     requires { All (λ c. type_of c.now ≡ T.shape) sources.now }
-    ensures rows { IfOk result (λ found. map (λ s. number_rows T.number s.values.now (option_copied s.validity)) found.items ≡ map (λ c. rows c.now) sources.now) }
+    ensures rows { IfOk result (λ found. map (λ s. number_rows T.number s.values.now
+        (option_copied s.validity)) found.items ≡ rows_of sources.now) }
     ensures refusal { IfErr result (λ fault. fault ≡ PolarsError.OutOfMemory) }
 {
     let mut found = Vec::with_capacity(alloc, sources.len())?;
@@ -119,10 +124,10 @@ pub fn collect_primitive<'a, T: ArrowPrimitive + Drop>(
     len: usize,
 ) -> PolarsResult<Column>
     requires alike { All (λ c. type_of c.now ≡ T.shape) sources.now }
-    requires fits { All (PickFits (map (λ c. rows c.now) sources.now)) (expand runs.now) }
+    requires fits { All (PickFits (rows_of sources.now)) (expand runs.now) }
     requires len { length (expand runs.now) ≡ len }
     requires few { len ≤ 4294967295 }
-    ensures rows { IfOk result (λ column. rows column ≡ pick Null (map (λ c. rows c.now) sources.now) (expand runs.now)) }
+    ensures rows { IfOk result (λ column. rows column ≡ picked sources.now runs.now) }
     ensures dtype { IfOk result (λ column. type_of column ≡ T.shape) }
     ensures formed { IfOk result (λ column. IsWellFormed column) }
     ensures refusal { IfErr result (λ fault. fault ≡ PolarsError.OutOfMemory) }

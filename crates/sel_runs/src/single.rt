@@ -25,9 +25,11 @@ pub fn collect_one(
     requires fits { All (PickFits (rows column.now ∷ [])) (expand runs.now) }
     requires len { length (expand runs.now) ≡ len }
     requires few { len ≤ 4294967295 }
-    ensures rows { IfOk result (λ array. rows array.column ≡ pick Null (rows column.now ∷ []) (expand runs.now)) }
+    ensures rows { IfOk result (λ array. rows array.column ≡
+        pick Null (rows column.now ∷ []) (expand runs.now)) }
     ensures dtype { IfOk result (λ array. type_of array.column ≡ type_of column.now) }
-    ensures refusal { IfErr result (IsRefusal (past (type_of column.now) (pick Null (rows column.now ∷ []) (expand runs.now)))) }
+    ensures refusal { IfErr result (IsRefusal
+        (past (type_of column.now) (pick Null (rows column.now ∷ []) (expand runs.now)))) }
 {
     let sources = [column];
     let column = collect_runs(alloc, &sources, runs, len)?;

@@ -4,14 +4,15 @@ ghost use Rattle.std.specs.Prelude.{◌≡◌, ◌≤◌, ◌↔◌, All, length
 ghost use Rattle.sel_arrow.specs.Rows.{rows, type_of, IsWellFormed};
 ghost use Rattle.sel_runs.specs.Picks.{PickFits};
 ghost use Rattle.sel_runs.specs.Runs.{expand, unrolled};
-ghost use Rattle.sel_runs.specs.Sources.{first_type};
+ghost use Rattle.sel_runs.specs.Sources.{columns_of, first_type, rows_of};
 
 use crate::run::Run;
 use sel_arrow::column::Column;
 
 /// Whether each column is of the type of the first.
 pub fn are_alike(sources: &[&Column]) -> bool
-    ensures { IsTrue result ↔ All (λ c. type_of c.now ≡ first_type (map (λ c. c.now) sources.now)) sources.now }
+    ensures { IsTrue result ↔
+        All (λ c. type_of c.now ≡ first_type (columns_of sources.now)) sources.now }
 {
     let Some(first) = sources.first() else {
         return true;
@@ -39,7 +40,7 @@ pub fn are_well_formed(sources: &[&Column]) -> bool
 /// Whether each run names rows that its source has.
 pub fn runs_fit(sources: &[&Column], runs: &[Run]) -> bool
     requires { All (λ c. IsWellFormed c.now) sources.now }
-    ensures { IsTrue result ↔ All (PickFits (map (λ c. rows c.now) sources.now)) (expand runs.now) }
+    ensures { IsTrue result ↔ All (PickFits (rows_of sources.now)) (expand runs.now) }
 {
     for run in runs {
         if !run_fits(sources, *run) {
@@ -52,7 +53,7 @@ pub fn runs_fit(sources: &[&Column], runs: &[Run]) -> bool
 // Whether a run names rows that its source has.
 fn run_fits(sources: &[&Column], run: Run) -> bool
     requires { All (λ c. IsWellFormed c.now) sources.now }
-    ensures { IsTrue result ↔ All (PickFits (map (λ c. rows c.now) sources.now)) (unrolled run) }
+    ensures { IsTrue result ↔ All (PickFits (rows_of sources.now)) (unrolled run) }
 {
     if run.len == 0 {
         return true;
@@ -82,7 +83,8 @@ pub fn picked_rows(runs: &[Run]) -> u128
 /// Whether each pick names a row that its source has, and there are at most 4,294,967,295 of them.
 pub fn picks_in_bounds(sources: &[&Column], picks: &[Option<(u32, u32)>]) -> bool
     requires { All (λ c. IsWellFormed c.now) sources.now }
-    ensures { IsTrue result ↔ (All (PickFits (map (λ c. rows c.now) sources.now)) picks.now × (length picks.now ≤ 4294967295)) }
+    ensures { IsTrue result ↔
+        (All (PickFits (rows_of sources.now)) picks.now × (length picks.now ≤ 4294967295)) }
 {
     if picks.len() > u32::MAX as usize {
         return false;
@@ -98,7 +100,7 @@ pub fn picks_in_bounds(sources: &[&Column], picks: &[Option<(u32, u32)>]) -> boo
 // Whether a pick names a row that its source has.
 fn pick_fits(sources: &[&Column], pick: Option<(u32, u32)>) -> bool
     requires { All (λ c. IsWellFormed c.now) sources.now }
-    ensures { IsTrue result ↔ PickFits (map (λ c. rows c.now) sources.now) pick }
+    ensures { IsTrue result ↔ PickFits (rows_of sources.now) pick }
 {
     match pick {
         None => true,

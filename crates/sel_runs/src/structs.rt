@@ -7,6 +7,7 @@ ghost use Rattle.sel_runs.specs.Children.{field};
 ghost use Rattle.sel_runs.specs.Cleared.{cleared, kept_by};
 ghost use Rattle.sel_runs.specs.Picks.{PickFits};
 ghost use Rattle.sel_runs.specs.Runs.{expand, unrolled};
+ghost use Rattle.sel_runs.specs.Sources.{rows_of};
 
 use crate::run::{Run, nulls_of, push_run};
 use sel_arrow::column::Column;
@@ -20,7 +21,8 @@ pub fn fields_at<'a>(
     sources: &[&'a Column],
     j: usize,
 ) -> PolarsResult<Vec<&'a Column>>
-    ensures fields { IfOk result (λ found. map (λ c. c.now) found.items ≡ map (λ c. field j c.now) sources.now) }
+    ensures fields { IfOk result (λ found. map (λ c. c.now) found.items ≡
+        map (λ c. field j c.now) sources.now) }
     ensures refusal { IfErr result (λ fault. fault ≡ PolarsError.OutOfMemory) }
 {
     let mut found = Vec::with_capacity(alloc, sources.len())?;
@@ -47,9 +49,10 @@ fn field_of<'a>(column: &'a Column, j: usize) -> &'a Column
 pub fn split_runs(alloc: Global, sources: &[&Column], runs: &[Run]) -> PolarsResult<Vec<Run>>
     requires known { All (λ c. type_of c.now ≢ of_null) sources.now }
     requires formed { All (λ c. IsWellFormed c.now) sources.now }
-    requires fits { All (PickFits (map (λ c. rows c.now) sources.now)) (expand runs.now) }
+    requires fits { All (PickFits (rows_of sources.now)) (expand runs.now) }
     requires few { length (expand runs.now) ≤ 4294967295 }
-    ensures picks { IfOk result (λ split. expand split.items ≡ map (cleared (map (λ c. rows c.now) sources.now)) (expand runs.now)) }
+    ensures picks { IfOk result (λ split. expand split.items ≡
+        map (cleared (rows_of sources.now)) (expand runs.now)) }
     ensures refusal { IfErr result (λ fault. fault ≡ PolarsError.OutOfMemory) }
 {
     let mut split = Vec::new(alloc);
@@ -63,9 +66,10 @@ pub fn split_runs(alloc: Global, sources: &[&Column], runs: &[Run]) -> PolarsRes
 fn push_split(split: &mut Vec<Run>, sources: &[&Column], run: Run) -> PolarsResult<()>
     requires known { All (λ c. type_of c.now ≢ of_null) sources.now }
     requires formed { All (λ c. IsWellFormed c.now) sources.now }
-    requires fits { All (PickFits (map (λ c. rows c.now) sources.now)) (unrolled run) }
+    requires fits { All (PickFits (rows_of sources.now)) (unrolled run) }
     requires room { length (expand split.old.items) + run.len ≤ 4294967295 }
-    ensures picks { OnOk result (expand split.new.items ≡ expand split.old.items ++ map (cleared (map (λ c. rows c.now) sources.now)) (unrolled run)) }
+    ensures picks { OnOk result (expand split.new.items ≡
+        expand split.old.items ++ map (cleared (rows_of sources.now)) (unrolled run)) }
     ensures refusal { IfErr result (λ fault. fault ≡ PolarsError.OutOfMemory) }
 {
     if run.len == 0 {
@@ -93,7 +97,8 @@ fn push_kept(split: &mut Vec<Run>, bits: &Bitmap, run: Run) -> PolarsResult<()>
     requires inside { run.start + run.len ≤ length bits.now.bits }
     requires few { length bits.now.bits ≤ 4294967295 }
     requires room { length (expand split.old.items) + run.len ≤ 4294967295 }
-    ensures picks { OnOk result (expand split.new.items ≡ expand split.old.items ++ map (kept_by bits.now.bits) (unrolled run)) }
+    ensures picks { OnOk result (expand split.new.items ≡
+        expand split.old.items ++ map (kept_by bits.now.bits) (unrolled run)) }
     ensures refusal { IfErr result (λ fault. fault ≡ PolarsError.OutOfMemory) }
 {
     let mut rest = bits

@@ -8,6 +8,7 @@ ghost use Rattle.sel_arrow.specs.Value.{Null, validities};
 ghost use Rattle.sel_runs.specs.Picks.{pick, PickFits};
 ghost use Rattle.sel_runs.specs.Runs.{expand, unrolled};
 ghost use Rattle.sel_runs.specs.Validity.{bits_for};
+ghost use Rattle.sel_runs.specs.Sources.{picked, rows_of, run_rows};
 
 use crate::bits::{push_validity, validity_from};
 use crate::run::Run;
@@ -27,9 +28,10 @@ pub fn collect_validity(
 ) -> PolarsResult<Option<Bitmap>>
     requires known { All (λ c. type_of c.now ≢ of_null) sources.now }
     requires formed { All (λ c. IsWellFormed c.now) sources.now }
-    requires fits { All (PickFits (map (λ c. rows c.now) sources.now)) (expand runs.now) }
+    requires fits { All (PickFits (rows_of sources.now)) (expand runs.now) }
     requires len { length (expand runs.now) ≡ len }
-    ensures bits { IfOk result (λ validity. bits_for len validity ≡ validities (pick Null (map (λ c. rows c.now) sources.now) (expand runs.now))) }
+    ensures bits { IfOk result (λ validity. bits_for len validity ≡
+        validities (picked sources.now runs.now)) }
     ensures covers { IfOk result (λ validity. Covers validity len) }
     ensures refusal { IfErr result (λ fault. fault ≡ PolarsError.OutOfMemory) }
 {
@@ -45,8 +47,8 @@ pub fn collect_validity(
 fn push_valid_rows(bits: &mut BitPacker, sources: &[&Column], run: Run) -> PolarsResult<()>
     requires known { All (λ c. type_of c.now ≢ of_null) sources.now }
     requires formed { All (λ c. IsWellFormed c.now) sources.now }
-    requires fits { All (PickFits (map (λ c. rows c.now) sources.now)) (unrolled run) }
-    ensures bits { OnOk result (bits.new ≡ bits.old ++ validities (pick Null (map (λ c. rows c.now) sources.now) (unrolled run))) }
+    requires fits { All (PickFits (rows_of sources.now)) (unrolled run) }
+    ensures bits { OnOk result (bits.new ≡ bits.old ++ validities (run_rows sources.now run)) }
     ensures refusal { IfErr result (λ fault. fault ≡ PolarsError.OutOfMemory) }
 {
     if run.len == 0 {

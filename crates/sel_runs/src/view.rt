@@ -11,6 +11,7 @@ ghost use Rattle.sel_runs.specs.Picks.{pick, PickFits};
 ghost use Rattle.sel_runs.specs.Raised.{raised, starts_of, IsRefusalAt};
 ghost use Rattle.sel_runs.specs.Runs.{expand};
 ghost use Rattle.sel_runs.specs.Validity.{part_bits};
+ghost use Rattle.sel_runs.specs.Sources.{binviews};
 
 use crate::bits::{push_validity, validity_from};
 use crate::fill::push_values;
@@ -117,8 +118,10 @@ fn push_part(
 ) -> PolarsResult<()>
     requires inside { start + len ≤ length from.now.views }
     requires room { before + length from.now.buffers ≤ 4294967295 }
-    ensures views { OnOk result (views.new.items ≡ views.old.items ++ map (λ v. raised v before) (take len (drop start from.now.views))) }
-    ensures bits { OnOk result (validity.new ≡ validity.old ++ part_bits start len from.now.validity) }
+    ensures views { OnOk result (views.new.items ≡
+        views.old.items ++ map (λ v. raised v before) (take len (drop start from.now.views))) }
+    ensures bits { OnOk result (validity.new ≡
+        validity.old ++ part_bits start len from.now.validity) }
     ensures refusal { IfErr result (λ fault. fault ≡ PolarsError.OutOfMemory) }
 {
     push_raised(views, from, start, len, before)?;
@@ -136,7 +139,8 @@ fn push_raised(
 ) -> PolarsResult<()>
     requires inside { start + len ≤ length from.now.views }
     requires room { before + length from.now.buffers ≤ 4294967295 }
-    ensures views { OnOk result (views.new.items ≡ views.old.items ++ map (λ v. raised v before) (take len (drop start from.now.views))) }
+    ensures views { OnOk result (views.new.items ≡
+        views.old.items ++ map (λ v. raised v before) (take len (drop start from.now.views))) }
     ensures refusal { IfErr result (λ fault. fault ≡ PolarsError.OutOfMemory) }
 {
     let all = from.views.as_slice();
@@ -166,8 +170,10 @@ pub fn raised_view(view: View, before: u32) -> View
 
 // Refuses where the sources have more than 4,294,967,295 data buffers in all.
 fn check_buffers(sources: &[&BinaryViewArray]) -> PolarsResult<()>
-    ensures few { IfOk result (λ _. length (flat_map (λ s. s.now.buffers) sources.now) ≤ 4294967295) }
-    ensures refusal { IfErr result (λ fault. (fault ≡ PolarsError.SizeLimit BufferLimit) × (4294967295 < length (flat_map (λ s. s.now.buffers) sources.now))) }
+    ensures few { IfOk result (λ _. length
+        (flat_map (λ s. s.now.buffers) sources.now) ≤ 4294967295) }
+    ensures refusal { IfErr result (λ fault. (fault ≡ PolarsError.SizeLimit BufferLimit) ×
+        (4294967295 < length (flat_map (λ s. s.now.buffers) sources.now))) }
 {
     let mut count = 0;
     for source in sources {
@@ -182,7 +188,8 @@ fn check_buffers(sources: &[&BinaryViewArray]) -> PolarsResult<()>
 // How many data buffers stand before those of each source. Refuses only for want of memory.
 fn starts_of_buffers(alloc: Global, sources: &[&BinaryViewArray]) -> PolarsResult<Vec<u32>>
     requires { length (flat_map (λ s. s.now.buffers) sources.now) ≤ 4294967295 }
-    ensures starts { IfOk result (λ starts. starts.items ≡ starts_of (λ s. s.now.buffers) sources.now) }
+    ensures starts { IfOk result (λ starts. starts.items ≡
+        starts_of (λ s. s.now.buffers) sources.now) }
     ensures refusal { IfErr result (λ fault. fault ≡ PolarsError.OutOfMemory) }
 {
     let mut starts = Vec::with_capacity(alloc, sources.len())?;
@@ -225,12 +232,15 @@ pub fn collect_views<'a>(
     runs: &[Run],
     len: usize,
 ) -> PolarsResult<BinaryViewArray>
-    requires fits { All (PickFits (map (λ s. binview_rows s.now) sources.now)) (expand runs.now) }
+    requires fits { All (PickFits (binviews sources.now)) (expand runs.now) }
     requires len { length (expand runs.now) ≡ len }
     requires few { len ≤ 4294967295 }
-    ensures rows { IfOk result (λ array. binview_rows array ≡ pick Null (map (λ s. binview_rows s.now) sources.now) (expand runs.now)) }
-    ensures buffers { IfOk result (λ array. array.buffers ≡ flat_map (λ s. s.now.buffers) sources.now) }
-    ensures refusal { IfErr result (IsRefusalAt (length (flat_map (λ s. s.now.buffers) sources.now))) }
+    ensures rows { IfOk result (λ array. binview_rows array ≡
+        pick Null (binviews sources.now) (expand runs.now)) }
+    ensures buffers { IfOk result (λ array. array.buffers ≡
+        flat_map (λ s. s.now.buffers) sources.now) }
+    ensures refusal { IfErr result (IsRefusalAt
+        (length (flat_map (λ s. s.now.buffers) sources.now))) }
 {
     check_buffers(sources)?;
     collect_few::<Brand>(alloc, sources, runs, len)
@@ -245,11 +255,13 @@ fn collect_few<'a, B: Beneath>(
 ) -> PolarsResult<BinaryViewArray>
     requires joined { flat_map (λ s. s.now.buffers) sources.now ≡ B.buffers }
     requires few { length B.buffers ≤ 4294967295 }
-    requires fits { All (PickFits (map (λ s. binview_rows s.now) sources.now)) (expand runs.now) }
+    requires fits { All (PickFits (binviews sources.now)) (expand runs.now) }
     requires len { length (expand runs.now) ≡ len }
     requires room { len ≤ 4294967295 }
-    ensures rows { IfOk result (λ array. binview_rows array ≡ pick Null (map (λ s. binview_rows s.now) sources.now) (expand runs.now)) }
-    ensures buffers { IfOk result (λ array. array.buffers ≡ flat_map (λ s. s.now.buffers) sources.now) }
+    ensures rows { IfOk result (λ array. binview_rows array ≡
+        pick Null (binviews sources.now) (expand runs.now)) }
+    ensures buffers { IfOk result (λ array. array.buffers ≡
+        flat_map (λ s. s.now.buffers) sources.now) }
     ensures refusal { IfErr result (λ fault. fault ≡ PolarsError.OutOfMemory) }
 {
     let starts = starts_of_buffers(alloc, sources)?;
