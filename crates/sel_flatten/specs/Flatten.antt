@@ -1,11 +1,20 @@
 -- Columns side by side: what a flatten answers, when its columns fit together, and which limits it passes.
-use Rattle.std.specs.Prelude.{ℕ, ◌+◌, ◌*◌, ◌<◌, Bool, true, false, ◌&&◌, ◌||◌, ◌==◌, nat_lt, ◌⊎◌, List, [], ◌∷◌, ◌++◌, length, take, drop, if◌then◌else◌}
+use Rattle.std.specs.Prelude.{ℕ, ◌+◌, ◌*◌, ◌<◌, Bool, true, false, ◌&&◌, ◌||◌, ◌==◌, nat_lt, ◌⊎◌, List, [], ◌∷◌, ◌++◌, length, map, take, drop, if◌then◌else◌}
 use Rattle.std.specs.List.{flat_map, range_with_len}
 use Rattle.sel_bits.specs.declared.faults.Limit.{Limit}
+use Rattle.sel_arrow.specs.Rows.{rows}
 use Rattle.sel_arrow.specs.Shape.{Shape}
 use Rattle.sel_arrow.specs.Value.{Value}
+use Rattle.sel_arrow.specs.declared.array_ref.ArrayRef.{ArrayRef}
 use Rattle.sel_arrow.specs.declared.column.Column.{Column}
 use Rattle.sel_runs.specs.Need.{IsPastRows, past_taken}
+
+-- the columns that are given, and the rows of each of them (own)
+abbrev pub array_columns : List ArrayRef → List Column
+array_columns arrays = map (λ a. a.column) arrays
+
+abbrev pub array_rows : List ArrayRef → List (List Value)
+array_rows arrays = map (λ a. rows a.column) arrays
 
 -- the entries of a list that stand in row r: w of them from r * w on, or its only w entries (own)
 abbrev pub row_part : {A : Type 0} → ℕ → List A → ℕ → List A

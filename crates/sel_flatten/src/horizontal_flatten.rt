@@ -7,7 +7,7 @@ ghost use Rattle.sel_runs.specs.Need.{IsRefusal};
 ghost use Rattle.sel_runs.specs.Picks.{pick, PickFits};
 ghost use Rattle.sel_runs.specs.Runs.{expand};
 ghost use Rattle.sel_runs.specs.Sources.{first_type};
-ghost use Rattle.sel_flatten.specs.Flatten.{flatten, flat_row, row_part, row_width, part_fits, parts_fit, past_flattened};
+ghost use Rattle.sel_flatten.specs.Flatten.{array_columns, array_rows, flatten, flat_row, row_part, row_width, part_fits, parts_fit, past_flattened};
 
 use sel_arrow::array::Array;
 use sel_arrow::array_ref::ArrayRef;
@@ -29,11 +29,16 @@ pub fn horizontal_flatten_unchecked(
     output_height: usize,
 ) -> PolarsResult<ArrayRef>
     requires some { 0 < length arrays.now }
-    requires alike { All (λ a. type_of a.column ≡ first_type (map (λ a. a.column) arrays.now)) arrays.now }
-    requires fit { IsTrue (parts_fit output_height (map (λ a. rows a.column) arrays.now) widths.now) }
-    ensures rows { IfOk result (λ flat. rows flat.column ≡ flatten (map (λ a. rows a.column) arrays.now) widths.now output_height) }
-    ensures dtype { IfOk result (λ flat. type_of flat.column ≡ first_type (map (λ a. a.column) arrays.now)) }
-    ensures refusal { IfErr result (IsRefusal (past_flattened output_height (first_type (map (λ a. a.column) arrays.now)) (map (λ a. a.column) arrays.now) (flatten (map (λ a. rows a.column) arrays.now) widths.now output_height))) }
+    requires alike { All (λ a. type_of a.column ≡
+        first_type (array_columns arrays.now)) arrays.now }
+    requires fit { IsTrue (parts_fit output_height (array_rows arrays.now) widths.now) }
+    ensures rows { IfOk result (λ flat. rows flat.column ≡
+        flatten (array_rows arrays.now) widths.now output_height) }
+    ensures dtype { IfOk result (λ flat. type_of flat.column ≡
+        first_type (array_columns arrays.now)) }
+    ensures refusal { IfErr result (IsRefusal
+        (past_flattened output_height (first_type (array_columns arrays.now))
+        (array_columns arrays.now) (flatten (array_rows arrays.now) widths.now output_height))) }
 {
     if output_height == 0 {
         return arrays[0].sliced(alloc, 0, 0);
@@ -47,7 +52,10 @@ pub fn horizontal_flatten_unchecked(
 /// Whether `horizontal_flatten_unchecked` may be called: there are columns, all of one type, and for each a width other
 /// than 0 and so many rows for each row of the answer, or for one alone. It multiplies in wide numbers.
 pub fn flatten_is_safe(arrays: &[ArrayRef], widths: &[usize], output_height: usize) -> bool
-    ensures { IsTrue result ↔ ((0 < length arrays.now) × All (λ a. type_of a.column ≡ first_type (map (λ a. a.column) arrays.now)) arrays.now × IsTrue (parts_fit output_height (map (λ a. rows a.column) arrays.now) widths.now)) }
+    ensures { IsTrue result ↔
+        ((0 < length arrays.now) ×
+        All (λ a. type_of a.column ≡ first_type (array_columns arrays.now)) arrays.now ×
+        IsTrue (parts_fit output_height (array_rows arrays.now) widths.now)) }
 {
     if arrays.is_empty() {
         return false;
@@ -58,7 +66,8 @@ pub fn flatten_is_safe(arrays: &[ArrayRef], widths: &[usize], output_height: usi
 // Whether each column is of the type of the first.
 fn are_of_one_type(arrays: &[ArrayRef]) -> bool
     requires { 0 < length arrays.now }
-    ensures { IsTrue result ↔ All (λ a. type_of a.column ≡ first_type (map (λ a. a.column) arrays.now)) arrays.now }
+    ensures { IsTrue result ↔
+        All (λ a. type_of a.column ≡ first_type (array_columns arrays.now)) arrays.now }
 {
     let first = &arrays[0];
     for array in arrays {
@@ -71,7 +80,7 @@ fn are_of_one_type(arrays: &[ArrayRef]) -> bool
 
 // Whether there is a width for each column, other than 0, and so many rows for each of `height` rows, or for one alone.
 fn do_parts_fit(arrays: &[ArrayRef], widths: &[usize], height: usize) -> bool
-    ensures { result ≡ parts_fit height (map (λ a. rows a.column) arrays.now) widths.now }
+    ensures { result ≡ parts_fit height (array_rows arrays.now) widths.now }
 {
     if arrays.len() != widths.len() {
         return false;
@@ -131,14 +140,19 @@ fn collect_flat(
     len: usize,
 ) -> PolarsResult<ArrayRef>
     requires some { 0 < length arrays.now }
-    requires alike { All (λ a. type_of a.column ≡ first_type (map (λ a. a.column) arrays.now)) arrays.now }
-    requires fit { IsTrue (parts_fit height (map (λ a. rows a.column) arrays.now) widths.now) }
+    requires alike { All (λ a. type_of a.column ≡
+        first_type (array_columns arrays.now)) arrays.now }
+    requires fit { IsTrue (parts_fit height (array_rows arrays.now) widths.now) }
     requires high { 0 < height }
     requires len { len ≡ height * row_width widths.now }
     requires few { len ≤ 4294967295 }
-    ensures rows { IfOk result (λ flat. rows flat.column ≡ flatten (map (λ a. rows a.column) arrays.now) widths.now height) }
-    ensures dtype { IfOk result (λ flat. type_of flat.column ≡ first_type (map (λ a. a.column) arrays.now)) }
-    ensures refusal { IfErr result (IsRefusal (past_flattened height (first_type (map (λ a. a.column) arrays.now)) (map (λ a. a.column) arrays.now) (flatten (map (λ a. rows a.column) arrays.now) widths.now height))) }
+    ensures rows { IfOk result (λ flat. rows flat.column ≡
+        flatten (array_rows arrays.now) widths.now height) }
+    ensures dtype { IfOk result (λ flat. type_of flat.column ≡
+        first_type (array_columns arrays.now)) }
+    ensures refusal { IfErr result (IsRefusal
+        (past_flattened height (first_type (array_columns arrays.now))
+        (array_columns arrays.now) (flatten (array_rows arrays.now) widths.now height))) }
 {
     let runs = runs_of_parts(alloc, arrays, widths, height)?;
     let sources = columns_of(alloc, arrays)?;
@@ -148,7 +162,8 @@ fn collect_flat(
 
 // The columns themselves. Refuses only for want of memory.
 fn columns_of<'a>(alloc: Global, arrays: &'a [ArrayRef]) -> PolarsResult<Vec<&'a Column>>
-    ensures columns { IfOk result (λ found. map (λ c. c.now) found.items ≡ map (λ a. a.column) arrays.now) }
+    ensures columns { IfOk result (λ found. map (λ c. c.now) found.items ≡
+        array_columns arrays.now) }
     ensures refusal { IfErr result (λ fault. fault ≡ PolarsError.OutOfMemory) }
 {
     let mut found = Vec::with_capacity(alloc, arrays.len())?;
@@ -165,10 +180,12 @@ fn runs_of_parts(
     widths: &[usize],
     height: usize,
 ) -> PolarsResult<Vec<Run>>
-    requires fit { IsTrue (parts_fit height (map (λ a. rows a.column) arrays.now) widths.now) }
+    requires fit { IsTrue (parts_fit height (array_rows arrays.now) widths.now) }
     requires few { height * row_width widths.now ≤ 4294967295 }
-    ensures rows { IfOk result (λ runs. pick Null (map (λ a. rows a.column) arrays.now) (expand runs.items) ≡ flatten (map (λ a. rows a.column) arrays.now) widths.now height) }
-    ensures fits { IfOk result (λ runs. All (PickFits (map (λ a. rows a.column) arrays.now)) (expand runs.items)) }
+    ensures rows { IfOk result (λ runs. pick Null (array_rows arrays.now) (expand runs.items) ≡
+        flatten (array_rows arrays.now) widths.now height) }
+    ensures fits { IfOk result (λ runs. All (PickFits (array_rows arrays.now))
+        (expand runs.items)) }
     ensures refusal { IfErr result (λ fault. fault ≡ PolarsError.OutOfMemory) }
 {
     let mut runs = Vec::new(alloc);
@@ -186,12 +203,14 @@ fn push_row(
     height: usize,
     r: usize,
 ) -> PolarsResult<()>
-    requires fit { IsTrue (parts_fit height (map (λ a. rows a.column) arrays.now) widths.now) }
+    requires fit { IsTrue (parts_fit height (array_rows arrays.now) widths.now) }
     requires inside { r < height }
-    requires fits { All (PickFits (map (λ a. rows a.column) arrays.now)) (expand runs.old.items) }
+    requires fits { All (PickFits (array_rows arrays.now)) (expand runs.old.items) }
     requires room { length (expand runs.old.items) + row_width widths.now ≤ 4294967295 }
-    ensures rows { OnOk result (pick Null (map (λ a. rows a.column) arrays.now) (expand runs.new.items) ≡ pick Null (map (λ a. rows a.column) arrays.now) (expand runs.old.items) ++ flat_row r (map (λ a. rows a.column) arrays.now) widths.now) }
-    ensures fits { OnOk result (All (PickFits (map (λ a. rows a.column) arrays.now)) (expand runs.new.items)) }
+    ensures rows { OnOk result (pick Null (array_rows arrays.now) (expand runs.new.items) ≡
+        pick Null (array_rows arrays.now) (expand runs.old.items) ++ flat_row r
+        (array_rows arrays.now) widths.now) }
+    ensures fits { OnOk result (All (PickFits (array_rows arrays.now)) (expand runs.new.items)) }
     ensures refusal { IfErr result (λ fault. fault ≡ PolarsError.OutOfMemory) }
 {
     for (s, array) in arrays.iter().enumerate() {
@@ -207,7 +226,8 @@ fn run_of_part(array: &ArrayRef, s: usize, width: usize, height: usize, r: usize
     requires fit { IsTrue (part_fits height (length (rows array.now.column)) width) }
     ensures source { result.source ≡ Some s }
     ensures len { result.len ≡ width }
-    ensures part { take result.len (drop result.start (rows array.now.column)) ≡ row_part r (rows array.now.column) width }
+    ensures part { take result.len (drop result.start (rows array.now.column)) ≡
+        row_part r (rows array.now.column) width }
     ensures inside { result.start + result.len ≤ length (rows array.now.column) }
 {
     let start = if array.len() == width { 0 } else { r * width };

@@ -31,11 +31,13 @@ impl IfThenElseKernel for FixedSizeListArray {
 
     ghost scalar_row = { λ scalar. list_of (rows scalar.column) };
 
-    ghost fits = { λ scalar type. type ≡ of_fixed_size_list (type_of scalar.column) (length (rows scalar.column)) };
+    ghost fits = { λ scalar type. type ≡ of_fixed_size_list
+        (type_of scalar.column) (length (rows scalar.column)) };
 
     ghost is_own = { λ type. is_block_shape type ≡ true };
 
-    ghost past = { λ type if_true if_false chosen limit. past_lists block_child type if_true if_false chosen limit };
+    ghost past = { λ type if_true if_false chosen limit.
+        past_lists block_child type if_true if_false chosen limit };
 
     fn if_then_else(
         alloc: Global,
@@ -90,14 +92,21 @@ fn choose_sized_lists<T: ListSide, F: ListSide>(
 ) -> PolarsResult<FixedSizeListArray>
     requires true_side { (i : ℕ) → i < length mask.now.bits → T.is_row if_true.now i }
     requires false_side { (i : ℕ) → i < length mask.now.bits → F.is_row if_false.now i }
-    requires true_sizes { (i : ℕ) → i < length mask.now.bits → length (items_in size (T.row_at if_true.now i)) ≡ size }
-    requires false_sizes { (i : ℕ) → i < length mask.now.bits → length (items_in size (F.row_at if_false.now i)) ≡ size }
+    requires true_sizes { (i : ℕ) → i < length mask.now.bits →
+        length (items_in size (T.row_at if_true.now i)) ≡ size }
+    requires false_sizes { (i : ℕ) → i < length mask.now.bits →
+        length (items_in size (F.row_at if_false.now i)) ≡ size }
     requires alike { type_of (F.held if_false.now) ≡ type_of (T.held if_true.now) }
     requires narrow { size ≤ 4294967295 }
     requires few { length mask.now.bits ≤ 4294967295 }
-    ensures rows { IfOk result (λ lists. rows (block_column lists) ≡ chosen_from 0 mask.now.bits (T.row_at if_true.now) (F.row_at if_false.now)) }
-    ensures dtype { IfOk result (λ lists. type_of (block_column lists) ≡ of_fixed_size_list (type_of (T.held if_true.now)) size) }
-    ensures refusal { IfErr result (IsRefusal (past_below (of_fixed_size_list (type_of (T.held if_true.now)) size) (T.held if_true.now ∷ F.held if_false.now ∷ []) (chosen_from 0 mask.now.bits (T.row_at if_true.now) (F.row_at if_false.now)))) }
+    ensures rows { IfOk result (λ lists. rows (block_column lists) ≡
+        chosen_from 0 mask.now.bits (T.row_at if_true.now) (F.row_at if_false.now)) }
+    ensures dtype { IfOk result (λ lists. type_of (block_column lists) ≡
+        of_fixed_size_list (type_of (T.held if_true.now)) size) }
+    ensures refusal { IfErr result (IsRefusal
+        (past_below (of_fixed_size_list (type_of (T.held if_true.now)) size)
+        (T.held if_true.now ∷ F.held if_false.now ∷ [])
+        (chosen_from 0 mask.now.bits (T.row_at if_true.now) (F.row_at if_false.now)))) }
 {
     let held = held_by_blocks(alloc, mask, if_true, if_false, size as u32)?;
     let HeldRows {

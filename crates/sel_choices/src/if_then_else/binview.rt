@@ -45,9 +45,13 @@ impl IfThenElseKernel for BinaryViewArray {
     ) -> PolarsResult<BinaryViewArray>
         requires true_side { length (binview_rows if_true.now) ≡ length mask.now.bits }
         requires false_side { length (binview_rows if_false.now) ≡ length mask.now.bits }
-        ensures rows { IfOk result (λ chosen. binview_rows chosen ≡ choose mask.now.bits (binview_rows if_true.now) (binview_rows if_false.now)) }
-        ensures buffers { IfOk result (λ chosen. binview_buffers chosen ≡ binview_buffers if_true.now ++ binview_buffers if_false.now) }
-        ensures refusal { IfErr result (IsRefusal (past_binview (column if_true.now) (column if_false.now) (choose mask.now.bits (binview_rows if_true.now) (binview_rows if_false.now)))) }
+        ensures rows { IfOk result (λ chosen. binview_rows chosen ≡
+            choose mask.now.bits (binview_rows if_true.now) (binview_rows if_false.now)) }
+        ensures buffers { IfOk result (λ chosen. binview_buffers chosen ≡
+            binview_buffers if_true.now ++ binview_buffers if_false.now) }
+        ensures refusal { IfErr result (IsRefusal
+            (past_binview (column if_true.now) (column if_false.now)
+            (choose mask.now.bits (binview_rows if_true.now) (binview_rows if_false.now)))) }
     {
         choose_columns(alloc, mask, if_true, if_false)
     }
@@ -59,10 +63,14 @@ impl IfThenElseKernel for BinaryViewArray {
         if_false: &BinaryViewArray,
     ) -> PolarsResult<BinaryViewArray>
         requires { length (binview_rows if_false.now) ≡ length mask.now.bits }
-        ensures rows { IfOk result (λ chosen. binview_rows chosen ≡ choose_one mask.now.bits (Bytes (vec_items if_true.now)) (binview_rows if_false.now)) }
-        ensures buffers { IfOk result (λ chosen. binview_buffers chosen ≡ binview_buffers if_false.now ++ scalar_buffers (vec_items if_true.now)) }
+        ensures rows { IfOk result (λ chosen. binview_rows chosen ≡
+            choose_one mask.now.bits (Bytes (vec_items if_true.now)) (binview_rows if_false.now)) }
+        ensures buffers { IfOk result (λ chosen. binview_buffers chosen ≡
+            binview_buffers if_false.now ++ scalar_buffers (vec_items if_true.now)) }
         ensures bytes { IfOk result (λ _. length (vec_items if_true.now) ≤ 4294967295) }
-        ensures refusal { IfErr result (IsRefusal (past_binview (scalar if_true.now) (column if_false.now) (choose_one mask.now.bits (Bytes (vec_items if_true.now)) (binview_rows if_false.now)))) }
+        ensures refusal { IfErr result (IsRefusal
+            (past_binview (scalar if_true.now) (column if_false.now) (choose_one mask.now.bits
+            (Bytes (vec_items if_true.now)) (binview_rows if_false.now)))) }
     {
         choose_bytes_true(alloc, mask, if_true.as_slice(), if_false)
     }
@@ -74,10 +82,14 @@ impl IfThenElseKernel for BinaryViewArray {
         if_false: &Vec<u8>,
     ) -> PolarsResult<BinaryViewArray>
         requires { length (binview_rows if_true.now) ≡ length mask.now.bits }
-        ensures rows { IfOk result (λ chosen. binview_rows chosen ≡ choose_or_one mask.now.bits (binview_rows if_true.now) (Bytes (vec_items if_false.now))) }
-        ensures buffers { IfOk result (λ chosen. binview_buffers chosen ≡ binview_buffers if_true.now ++ scalar_buffers (vec_items if_false.now)) }
+        ensures rows { IfOk result (λ chosen. binview_rows chosen ≡ choose_or_one mask.now.bits
+            (binview_rows if_true.now) (Bytes (vec_items if_false.now))) }
+        ensures buffers { IfOk result (λ chosen. binview_buffers chosen ≡
+            binview_buffers if_true.now ++ scalar_buffers (vec_items if_false.now)) }
         ensures bytes { IfOk result (λ _. length (vec_items if_false.now) ≤ 4294967295) }
-        ensures refusal { IfErr result (IsRefusal (past_binview (column if_true.now) (scalar if_false.now) (choose_or_one mask.now.bits (binview_rows if_true.now) (Bytes (vec_items if_false.now))))) }
+        ensures refusal { IfErr result (IsRefusal
+            (past_binview (column if_true.now) (scalar if_false.now) (choose_or_one mask.now.bits
+            (binview_rows if_true.now) (Bytes (vec_items if_false.now))))) }
     {
         choose_bytes_false(alloc, mask, if_true, if_false.as_slice())
     }
@@ -90,11 +102,16 @@ impl IfThenElseKernel for BinaryViewArray {
         if_false: &Vec<u8>,
     ) -> PolarsResult<BinaryViewArray>
         requires { shape_of dtype ≡ of_binary_view }
-        ensures rows { IfOk result (λ chosen. binview_rows chosen ≡ choose_of_two mask.now.bits (Bytes (vec_items if_true.now)) (Bytes (vec_items if_false.now))) }
+        ensures rows { IfOk result (λ chosen. binview_rows chosen ≡ choose_of_two mask.now.bits
+            (Bytes (vec_items if_true.now)) (Bytes (vec_items if_false.now))) }
         ensures dtype { IfOk result (λ _. shape_of dtype ≡ of_binary_view) }
-        ensures buffers { IfOk result (λ chosen. binview_buffers chosen ≡ scalar_buffers (vec_items if_true.now) ++ scalar_buffers (vec_items if_false.now)) }
-        ensures bytes { IfOk result (λ _. max (length (vec_items if_true.now)) (length (vec_items if_false.now)) ≤ 4294967295) }
-        ensures refusal { IfErr result (IsRefusal (past_binview (scalar if_true.now) (scalar if_false.now) (choose_of_two mask.now.bits (Bytes (vec_items if_true.now)) (Bytes (vec_items if_false.now))))) }
+        ensures buffers { IfOk result (λ chosen. binview_buffers chosen ≡
+            scalar_buffers (vec_items if_true.now) ++ scalar_buffers (vec_items if_false.now)) }
+        ensures bytes { IfOk result (λ _. max (length (vec_items if_true.now))
+            (length (vec_items if_false.now)) ≤ 4294967295) }
+        ensures refusal { IfErr result (IsRefusal
+            (past_binview (scalar if_true.now) (scalar if_false.now) (choose_of_two mask.now.bits
+            (Bytes (vec_items if_true.now)) (Bytes (vec_items if_false.now))))) }
     {
         drop(dtype);
         if mask.len() > MOST_ROWS {

@@ -93,7 +93,8 @@ fn value_or_bits(
     if_false: &Bitmap,
 ) -> PolarsResult<Bitmap>
     requires { length if_false.now.bits ≡ length mask.now.bits }
-    ensures bits { IfOk result (λ chosen. chosen.bits ≡ choose_one mask.now.bits if_true if_false.now.bits) }
+    ensures bits { IfOk result (λ chosen. chosen.bits ≡
+        choose_one mask.now.bits if_true if_false.now.bits) }
     ensures refusal { IfErr result (λ fault. fault ≡ PolarsError.OutOfMemory) }
 {
     if if_true {
@@ -112,7 +113,8 @@ fn bits_or_value(
     if_false: bool,
 ) -> PolarsResult<Bitmap>
     requires { length if_true.now.bits ≡ length mask.now.bits }
-    ensures bits { IfOk result (λ chosen. chosen.bits ≡ choose_or_one mask.now.bits if_true.now.bits if_false) }
+    ensures bits { IfOk result (λ chosen. chosen.bits ≡
+        choose_or_one mask.now.bits if_true.now.bits if_false) }
     ensures refusal { IfErr result (λ fault. fault ≡ PolarsError.OutOfMemory) }
 {
     if if_false {
@@ -130,7 +132,8 @@ fn one_of_values(
     if_true: bool,
     if_false: bool,
 ) -> PolarsResult<Bitmap>
-    ensures bits { IfOk result (λ chosen. chosen.bits ≡ choose_of_two mask.now.bits if_true if_false) }
+    ensures bits { IfOk result (λ chosen. chosen.bits ≡
+        choose_of_two mask.now.bits if_true if_false) }
     ensures refusal { IfErr result (λ fault. fault ≡ PolarsError.OutOfMemory) }
 {
     match (if_true, if_false) {

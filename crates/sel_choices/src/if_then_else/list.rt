@@ -35,7 +35,8 @@ impl IfThenElseKernel for ListArray<i64> {
 
     ghost is_own = { λ type. is_list_shape type ≡ true };
 
-    ghost past = { λ type if_true if_false chosen limit. past_lists list_child type if_true if_false chosen limit };
+    ghost past = { λ type if_true if_false chosen limit.
+        past_lists list_child type if_true if_false chosen limit };
 
     fn if_then_else(
         alloc: Global,
@@ -90,9 +91,14 @@ fn choose_lists<T: ListSide, F: ListSide>(
     requires false_side { (i : ℕ) → i < length mask.now.bits → F.is_row if_false.now i }
     requires alike { type_of (F.held if_false.now) ≡ type_of (T.held if_true.now) }
     requires few { length mask.now.bits ≤ 4294967295 }
-    ensures rows { IfOk result (λ lists. rows (list_column lists) ≡ chosen_from 0 mask.now.bits (T.row_at if_true.now) (F.row_at if_false.now)) }
-    ensures dtype { IfOk result (λ lists. type_of (list_column lists) ≡ of_large_list (type_of (T.held if_true.now))) }
-    ensures refusal { IfErr result (IsRefusal (past_below (of_large_list (type_of (T.held if_true.now))) (T.held if_true.now ∷ F.held if_false.now ∷ []) (chosen_from 0 mask.now.bits (T.row_at if_true.now) (F.row_at if_false.now)))) }
+    ensures rows { IfOk result (λ lists. rows (list_column lists) ≡
+        chosen_from 0 mask.now.bits (T.row_at if_true.now) (F.row_at if_false.now)) }
+    ensures dtype { IfOk result (λ lists. type_of (list_column lists) ≡
+        of_large_list (type_of (T.held if_true.now))) }
+    ensures refusal { IfErr result (IsRefusal
+        (past_below (of_large_list (type_of (T.held if_true.now)))
+        (T.held if_true.now ∷ F.held if_false.now ∷ [])
+        (chosen_from 0 mask.now.bits (T.row_at if_true.now) (F.row_at if_false.now)))) }
 {
     let (held, ends) = held_by_lists(alloc, mask, if_true, if_false)?;
     let HeldRows {

@@ -42,13 +42,19 @@ pub(crate) fn held_by_lists<T: ListSide, F: ListSide>(
     requires true_side { (i : ℕ) → i < length mask.now.bits → T.is_row if_true.now i }
     requires false_side { (i : ℕ) → i < length mask.now.bits → F.is_row if_false.now i }
     requires few { length mask.now.bits ≤ 4294967295 }
-    ensures held { IfOk result (λ held. AreHeld (rows (T.held if_true.now) ∷ rows (F.held if_false.now) ∷ []) 0 (chosen_from 0 mask.now.bits (T.row_at if_true.now) (F.row_at if_false.now)) held.0.runs.items held.0.count) }
+    ensures held { IfOk result (λ held. AreHeld
+        (rows (T.held if_true.now) ∷ rows (F.held if_false.now) ∷ []) 0 (chosen_from 0 mask.now.bits
+        (T.row_at if_true.now) (F.row_at if_false.now)) held.0.runs.items held.0.count) }
     ensures room { IfOk result (λ held. held.0.count ≤ 4294967295) }
-    ensures listed { IfOk result (λ _. All IsListed (chosen_from 0 mask.now.bits (T.row_at if_true.now) (F.row_at if_false.now))) }
-    ensures bits { IfOk result (λ held. bits_for (length mask.now.bits) held.0.validity ≡ validities (chosen_from 0 mask.now.bits (T.row_at if_true.now) (F.row_at if_false.now))) }
+    ensures listed { IfOk result (λ _. All IsListed
+        (chosen_from 0 mask.now.bits (T.row_at if_true.now) (F.row_at if_false.now))) }
+    ensures bits { IfOk result (λ held. bits_for (length mask.now.bits) held.0.validity ≡
+        validities (chosen_from 0 mask.now.bits (T.row_at if_true.now) (F.row_at if_false.now))) }
     ensures covers { IfOk result (λ held. Covers held.0.validity (length mask.now.bits)) }
-    ensures ends { IfOk result (λ held. held.1.items ≡ map pos (0 ∷ item_ends 0 (chosen_from 0 mask.now.bits (T.row_at if_true.now) (F.row_at if_false.now)))) }
-    ensures refusal { IfErr result (IsRefusal (IsPastRows (length (joined_items 0 (chosen_from 0 mask.now.bits (T.row_at if_true.now) (F.row_at if_false.now)))))) }
+    ensures ends { IfOk result (λ held. held.1.items ≡ map pos (0 ∷ item_ends 0
+        (chosen_from 0 mask.now.bits (T.row_at if_true.now) (F.row_at if_false.now)))) }
+    ensures refusal { IfErr result (IsRefusal (IsPastRows (length (joined_items 0
+        (chosen_from 0 mask.now.bits (T.row_at if_true.now) (F.row_at if_false.now)))))) }
 {
     let mut runs = Vec::new(alloc);
     let mut ends = Vec::with_capacity(alloc, mask.len() + 1)?;
@@ -85,12 +91,17 @@ pub(crate) fn held_by_blocks<T: ListSide, F: ListSide>(
     requires true_side { (i : ℕ) → i < length mask.now.bits → T.is_row if_true.now i }
     requires false_side { (i : ℕ) → i < length mask.now.bits → F.is_row if_false.now i }
     requires few { length mask.now.bits ≤ 4294967295 }
-    ensures held { IfOk result (λ held. AreHeld (rows (T.held if_true.now) ∷ rows (F.held if_false.now) ∷ []) width (chosen_from 0 mask.now.bits (T.row_at if_true.now) (F.row_at if_false.now)) held.runs.items held.count) }
+    ensures held { IfOk result (λ held. AreHeld
+        (rows (T.held if_true.now) ∷ rows (F.held if_false.now) ∷ []) width (chosen_from 0
+        mask.now.bits (T.row_at if_true.now) (F.row_at if_false.now)) held.runs.items held.count) }
     ensures room { IfOk result (λ held. held.count ≤ 4294967295) }
-    ensures listed { IfOk result (λ _. All IsListed (chosen_from 0 mask.now.bits (T.row_at if_true.now) (F.row_at if_false.now))) }
-    ensures bits { IfOk result (λ held. bits_for (length mask.now.bits) held.validity ≡ validities (chosen_from 0 mask.now.bits (T.row_at if_true.now) (F.row_at if_false.now))) }
+    ensures listed { IfOk result (λ _. All IsListed
+        (chosen_from 0 mask.now.bits (T.row_at if_true.now) (F.row_at if_false.now))) }
+    ensures bits { IfOk result (λ held. bits_for (length mask.now.bits) held.validity ≡
+        validities (chosen_from 0 mask.now.bits (T.row_at if_true.now) (F.row_at if_false.now))) }
     ensures covers { IfOk result (λ held. Covers held.validity (length mask.now.bits)) }
-    ensures refusal { IfErr result (IsRefusal (IsPastRows (length (joined_items width (chosen_from 0 mask.now.bits (T.row_at if_true.now) (F.row_at if_false.now)))))) }
+    ensures refusal { IfErr result (IsRefusal (IsPastRows (length (joined_items width
+        (chosen_from 0 mask.now.bits (T.row_at if_true.now) (F.row_at if_false.now)))))) }
 {
     let mut runs = Vec::new(alloc);
     let mut valid = BitPacker::with_capacity(alloc, mask.len())?;
@@ -126,10 +137,13 @@ pub(crate) fn held_column(
     requires fits { All (PickFits (rows if_true.now ∷ rows if_false.now ∷ [])) (expand runs.now) }
     requires many { length (expand runs.now) ≡ count }
     requires room { count ≤ 4294967295 }
-    ensures rows { IfOk result (λ column. rows column ≡ pick Null (rows if_true.now ∷ rows if_false.now ∷ []) (expand runs.now)) }
+    ensures rows { IfOk result (λ column. rows column ≡
+        pick Null (rows if_true.now ∷ rows if_false.now ∷ []) (expand runs.now)) }
     ensures dtype { IfOk result (λ column. type_of column ≡ type_of if_true.now) }
     ensures formed { IfOk result (λ column. IsWellFormed column) }
-    ensures refusal { IfErr result (IsRefusal (past_taken (type_of if_true.now) (if_true.now ∷ if_false.now ∷ []) (pick Null (rows if_true.now ∷ rows if_false.now ∷ []) (expand runs.now)))) }
+    ensures refusal { IfErr result (IsRefusal
+        (past_taken (type_of if_true.now) (if_true.now ∷ if_false.now ∷ [])
+        (pick Null (rows if_true.now ∷ rows if_false.now ∷ []) (expand runs.now)))) }
 {
     collect_runs(alloc, &[if_true, if_false], runs, count)
 }

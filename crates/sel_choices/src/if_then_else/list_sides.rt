@@ -35,7 +35,8 @@ pub(crate) trait ListSide {
     fn part(&self, i: usize) -> Option<(u32, u32)>
         requires { is_row self.now i }
         ensures null { IfNone result (row_at self.now i ≡ Null) }
-        ensures row { IfSome result (λ part. row_at self.now i ≡ list_of (take part.1 (drop part.0 (rows (held self.now))))) }
+        ensures row { IfSome result (λ part. row_at self.now i ≡
+            list_of (take part.1 (drop part.0 (rows (held self.now))))) }
         ensures inside { IfSome result (λ part. part.0 + part.1 ≤ length (rows (held self.now))) };
 }
 
@@ -121,7 +122,9 @@ pub(crate) fn chosen_part<T: ListSide, F: ListSide>(
     requires inside { i < length mask.now.bits }
     requires true_side { T.is_row if_true.now i }
     requires false_side { F.is_row if_false.now i }
-    ensures { IsPart (rows (T.held if_true.now) ∷ rows (F.held if_false.now) ∷ []) width (slice_index_or (chosen_from 0 mask.now.bits (T.row_at if_true.now) (F.row_at if_false.now)) i Null) result }
+    ensures { IsPart (rows (T.held if_true.now) ∷ rows (F.held if_false.now) ∷ []) width
+        (slice_index_or (chosen_from 0 mask.now.bits
+        (T.row_at if_true.now) (F.row_at if_false.now)) i Null) result }
 {
     if mask.get_bit(i) {
         run_of_part(if_true, i, 0, width)
@@ -133,7 +136,8 @@ pub(crate) fn chosen_part<T: ListSide, F: ListSide>(
 // The part of the child that row `i` holds, as rows of that source; `width` nulls where the row is null.
 fn run_of_part<S: ListSide>(side: &S, i: usize, source: u32, width: u32) -> Run
     requires { S.is_row side.now i }
-    ensures { (xss : List (List Value)) → slice_index_or xss source [] ≡ rows (S.held side.now) → IsPart xss width (S.row_at side.now i) result }
+    ensures { (xss : List (List Value)) → slice_index_or xss source [] ≡ rows (S.held side.now) →
+        IsPart xss width (S.row_at side.now i) result }
 {
     match side.part(i) {
         None => Run {

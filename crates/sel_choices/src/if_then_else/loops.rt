@@ -28,7 +28,8 @@ pub(crate) trait BlockChoice {
         requires few { length out.old ≤ 64 }
         requires true_side { at + length out.old ≤ length (trues self.now) }
         requires false_side { at + length out.old ≤ length (falses self.now) }
-        ensures { out.new ≡ choose (bits (length out.old) mask) (take (length out.old) (drop at (trues self.now))) (take (length out.old) (drop at (falses self.now))) };
+        ensures { out.new ≡ choose (bits (length out.old) mask) (take (length out.old)
+            (drop at (trues self.now))) (take (length out.old) (drop at (falses self.now))) };
 }
 
 /// Two lists, row by row.
@@ -128,7 +129,8 @@ pub(crate) fn choose_blocks<C: BlockChoice>(
     requires mask_side { length mask.old.source.bits ≡ length out.old }
     requires true_side { length (C.trues choice.now) ≡ length out.old }
     requires false_side { length (C.falses choice.now) ≡ length out.old }
-    ensures items { out.new ≡ choose mask.old.source.bits (C.trues choice.now) (C.falses choice.now) }
+    ensures items { out.new ≡ choose mask.old.source.bits
+        (C.trues choice.now) (C.falses choice.now) }
     ensures words { mask.new.words_read ≤ length mask.old.source.bits / 64 + 2 }
 {
     let mut at = 0;
@@ -149,7 +151,8 @@ pub fn if_then_else_words<T: Copy>(
     requires unread { mask.old.words_read ≡ 0 }
     requires true_side { length if_true.now ≡ length mask.old.source.bits }
     requires false_side { length if_false.now ≡ length mask.old.source.bits }
-    ensures items { IfOk result (λ out. out.items ≡ choose mask.old.source.bits if_true.now if_false.now) }
+    ensures items { IfOk result (λ out. out.items ≡
+        choose mask.old.source.bits if_true.now if_false.now) }
     ensures words { OnOk result (mask.new.words_read ≤ length mask.old.source.bits / 64 + 2) }
     ensures refusal { IfErr result (λ fault. fault ≡ PolarsError.OutOfMemory) }
 {
@@ -184,7 +187,8 @@ pub(crate) fn choose_one_false<T: Copy>(
     if_false: T,
 ) -> PolarsResult<Vec<T>>
     requires { length if_true.now ≡ length mask.now.bits }
-    ensures items { IfOk result (λ out. out.items ≡ choose_or_one mask.now.bits if_true.now if_false) }
+    ensures items { IfOk result (λ out. out.items ≡
+        choose_or_one mask.now.bits if_true.now if_false) }
     ensures refusal { IfErr result (λ fault. fault ≡ PolarsError.OutOfMemory) }
 {
     let mut out = Vec::from_slice(alloc, if_true)?;

@@ -60,9 +60,12 @@ pub trait IfThenElseKernel: Sized + Array {
         requires true_side { length (Self.rows if_true.now) ≡ length mask.now.bits }
         requires false_side { length (Self.rows if_false.now) ≡ length mask.now.bits }
         requires alike { Self.shape if_true.now ≡ Self.shape if_false.now }
-        ensures rows { IfOk result (λ chosen. Self.rows chosen ≡ choose mask.now.bits (Self.rows if_true.now) (Self.rows if_false.now)) }
+        ensures rows { IfOk result (λ chosen. Self.rows chosen ≡
+            choose mask.now.bits (Self.rows if_true.now) (Self.rows if_false.now)) }
         ensures dtype { IfOk result (λ chosen. Self.shape chosen ≡ Self.shape if_true.now) }
-        ensures refusal { IfErr result (IsRefusal (past (Self.shape if_true.now) (column if_true.now) (column if_false.now) (choose mask.now.bits (Self.rows if_true.now) (Self.rows if_false.now)))) };
+        ensures refusal { IfErr result (IsRefusal
+            (past (Self.shape if_true.now) (column if_true.now) (column if_false.now)
+            (choose mask.now.bits (Self.rows if_true.now) (Self.rows if_false.now)))) };
 
     /// The choice between a scalar and a column.
     fn if_then_else_broadcast_true(
@@ -73,9 +76,12 @@ pub trait IfThenElseKernel: Sized + Array {
     ) -> PolarsResult<Self>
         requires false_side { length (Self.rows if_false.now) ≡ length mask.now.bits }
         requires fits { fits if_true.now (Self.shape if_false.now) }
-        ensures rows { IfOk result (λ chosen. Self.rows chosen ≡ choose_one mask.now.bits (scalar_row if_true.now) (Self.rows if_false.now)) }
+        ensures rows { IfOk result (λ chosen. Self.rows chosen ≡
+            choose_one mask.now.bits (scalar_row if_true.now) (Self.rows if_false.now)) }
         ensures dtype { IfOk result (λ chosen. Self.shape chosen ≡ Self.shape if_false.now) }
-        ensures refusal { IfErr result (IsRefusal (past (Self.shape if_false.now) (scalar if_true.now) (column if_false.now) (choose_one mask.now.bits (scalar_row if_true.now) (Self.rows if_false.now)))) };
+        ensures refusal { IfErr result (IsRefusal
+            (past (Self.shape if_false.now) (scalar if_true.now) (column if_false.now)
+            (choose_one mask.now.bits (scalar_row if_true.now) (Self.rows if_false.now)))) };
 
     /// The choice between a column and a scalar.
     fn if_then_else_broadcast_false(
@@ -86,9 +92,12 @@ pub trait IfThenElseKernel: Sized + Array {
     ) -> PolarsResult<Self>
         requires true_side { length (Self.rows if_true.now) ≡ length mask.now.bits }
         requires fits { fits if_false.now (Self.shape if_true.now) }
-        ensures rows { IfOk result (λ chosen. Self.rows chosen ≡ choose_or_one mask.now.bits (Self.rows if_true.now) (scalar_row if_false.now)) }
+        ensures rows { IfOk result (λ chosen. Self.rows chosen ≡
+            choose_or_one mask.now.bits (Self.rows if_true.now) (scalar_row if_false.now)) }
         ensures dtype { IfOk result (λ chosen. Self.shape chosen ≡ Self.shape if_true.now) }
-        ensures refusal { IfErr result (IsRefusal (past (Self.shape if_true.now) (column if_true.now) (scalar if_false.now) (choose_or_one mask.now.bits (Self.rows if_true.now) (scalar_row if_false.now)))) };
+        ensures refusal { IfErr result (IsRefusal
+            (past (Self.shape if_true.now) (column if_true.now) (scalar if_false.now)
+            (choose_or_one mask.now.bits (Self.rows if_true.now) (scalar_row if_false.now)))) };
 
     /// The choice between two scalars, as a column of this type with a row for each bit of the mask.
     fn if_then_else_broadcast_both(
@@ -101,7 +110,10 @@ pub trait IfThenElseKernel: Sized + Array {
         requires own { is_own (shape_of dtype) }
         requires true_fits { fits if_true.now (shape_of dtype) }
         requires false_fits { fits if_false.now (shape_of dtype) }
-        ensures rows { IfOk result (λ chosen. Self.rows chosen ≡ choose_of_two mask.now.bits (scalar_row if_true.now) (scalar_row if_false.now)) }
+        ensures rows { IfOk result (λ chosen. Self.rows chosen ≡
+            choose_of_two mask.now.bits (scalar_row if_true.now) (scalar_row if_false.now)) }
         ensures dtype { IfOk result (λ chosen. Self.shape chosen ≡ shape_of dtype) }
-        ensures refusal { IfErr result (IsRefusal (past (shape_of dtype) (scalar if_true.now) (scalar if_false.now) (choose_of_two mask.now.bits (scalar_row if_true.now) (scalar_row if_false.now)))) };
+        ensures refusal { IfErr result (IsRefusal
+            (past (shape_of dtype) (scalar if_true.now) (scalar if_false.now)
+            (choose_of_two mask.now.bits (scalar_row if_true.now) (scalar_row if_false.now)))) };
 }

@@ -44,9 +44,13 @@ impl IfThenElseKernel for Utf8ViewArray {
     ) -> PolarsResult<Utf8ViewArray>
         requires true_side { length (utf8view_rows if_true.now) ≡ length mask.now.bits }
         requires false_side { length (utf8view_rows if_false.now) ≡ length mask.now.bits }
-        ensures rows { IfOk result (λ chosen. utf8view_rows chosen ≡ choose mask.now.bits (utf8view_rows if_true.now) (utf8view_rows if_false.now)) }
-        ensures buffers { IfOk result (λ chosen. utf8view_buffers chosen ≡ utf8view_buffers if_true.now ++ utf8view_buffers if_false.now) }
-        ensures refusal { IfErr result (IsRefusal (past_utf8view (column if_true.now) (column if_false.now) (choose mask.now.bits (utf8view_rows if_true.now) (utf8view_rows if_false.now)))) }
+        ensures rows { IfOk result (λ chosen. utf8view_rows chosen ≡
+            choose mask.now.bits (utf8view_rows if_true.now) (utf8view_rows if_false.now)) }
+        ensures buffers { IfOk result (λ chosen. utf8view_buffers chosen ≡
+            utf8view_buffers if_true.now ++ utf8view_buffers if_false.now) }
+        ensures refusal { IfErr result (IsRefusal
+            (past_utf8view (column if_true.now) (column if_false.now)
+            (choose mask.now.bits (utf8view_rows if_true.now) (utf8view_rows if_false.now)))) }
     {
         let bytes = choose_columns(alloc, mask, &if_true.bytes, &if_false.bytes)?;
         Ok(Utf8ViewArray { bytes })
@@ -59,10 +63,14 @@ impl IfThenElseKernel for Utf8ViewArray {
         if_false: &Utf8ViewArray,
     ) -> PolarsResult<Utf8ViewArray>
         requires { length (utf8view_rows if_false.now) ≡ length mask.now.bits }
-        ensures rows { IfOk result (λ chosen. utf8view_rows chosen ≡ choose_one mask.now.bits (Bytes (string_bytes if_true.now)) (utf8view_rows if_false.now)) }
-        ensures buffers { IfOk result (λ chosen. utf8view_buffers chosen ≡ utf8view_buffers if_false.now ++ scalar_buffers (string_bytes if_true.now)) }
+        ensures rows { IfOk result (λ chosen. utf8view_rows chosen ≡ choose_one mask.now.bits
+            (Bytes (string_bytes if_true.now)) (utf8view_rows if_false.now)) }
+        ensures buffers { IfOk result (λ chosen. utf8view_buffers chosen ≡
+            utf8view_buffers if_false.now ++ scalar_buffers (string_bytes if_true.now)) }
         ensures bytes { IfOk result (λ _. length (string_bytes if_true.now) ≤ 4294967295) }
-        ensures refusal { IfErr result (IsRefusal (past_utf8view (scalar if_true.now) (column if_false.now) (choose_one mask.now.bits (Bytes (string_bytes if_true.now)) (utf8view_rows if_false.now)))) }
+        ensures refusal { IfErr result (IsRefusal
+            (past_utf8view (scalar if_true.now) (column if_false.now) (choose_one mask.now.bits
+            (Bytes (string_bytes if_true.now)) (utf8view_rows if_false.now)))) }
     {
         let scalar = if_true.as_str().as_bytes();
         let bytes = choose_bytes_true(alloc, mask, scalar, &if_false.bytes)?;
@@ -76,10 +84,14 @@ impl IfThenElseKernel for Utf8ViewArray {
         if_false: &String,
     ) -> PolarsResult<Utf8ViewArray>
         requires { length (utf8view_rows if_true.now) ≡ length mask.now.bits }
-        ensures rows { IfOk result (λ chosen. utf8view_rows chosen ≡ choose_or_one mask.now.bits (utf8view_rows if_true.now) (Bytes (string_bytes if_false.now))) }
-        ensures buffers { IfOk result (λ chosen. utf8view_buffers chosen ≡ utf8view_buffers if_true.now ++ scalar_buffers (string_bytes if_false.now)) }
+        ensures rows { IfOk result (λ chosen. utf8view_rows chosen ≡ choose_or_one mask.now.bits
+            (utf8view_rows if_true.now) (Bytes (string_bytes if_false.now))) }
+        ensures buffers { IfOk result (λ chosen. utf8view_buffers chosen ≡
+            utf8view_buffers if_true.now ++ scalar_buffers (string_bytes if_false.now)) }
         ensures bytes { IfOk result (λ _. length (string_bytes if_false.now) ≤ 4294967295) }
-        ensures refusal { IfErr result (IsRefusal (past_utf8view (column if_true.now) (scalar if_false.now) (choose_or_one mask.now.bits (utf8view_rows if_true.now) (Bytes (string_bytes if_false.now))))) }
+        ensures refusal { IfErr result (IsRefusal
+            (past_utf8view (column if_true.now) (scalar if_false.now) (choose_or_one mask.now.bits
+            (utf8view_rows if_true.now) (Bytes (string_bytes if_false.now))))) }
     {
         let scalar = if_false.as_str().as_bytes();
         let bytes = choose_bytes_false(alloc, mask, &if_true.bytes, scalar)?;
@@ -94,11 +106,16 @@ impl IfThenElseKernel for Utf8ViewArray {
         if_false: &String,
     ) -> PolarsResult<Utf8ViewArray>
         requires { shape_of dtype ≡ of_utf8_view }
-        ensures rows { IfOk result (λ chosen. utf8view_rows chosen ≡ choose_of_two mask.now.bits (Bytes (string_bytes if_true.now)) (Bytes (string_bytes if_false.now))) }
+        ensures rows { IfOk result (λ chosen. utf8view_rows chosen ≡ choose_of_two mask.now.bits
+            (Bytes (string_bytes if_true.now)) (Bytes (string_bytes if_false.now))) }
         ensures dtype { IfOk result (λ _. shape_of dtype ≡ of_utf8_view) }
-        ensures buffers { IfOk result (λ chosen. utf8view_buffers chosen ≡ scalar_buffers (string_bytes if_true.now) ++ scalar_buffers (string_bytes if_false.now)) }
-        ensures bytes { IfOk result (λ _. max (length (string_bytes if_true.now)) (length (string_bytes if_false.now)) ≤ 4294967295) }
-        ensures refusal { IfErr result (IsRefusal (past_utf8view (scalar if_true.now) (scalar if_false.now) (choose_of_two mask.now.bits (Bytes (string_bytes if_true.now)) (Bytes (string_bytes if_false.now))))) }
+        ensures buffers { IfOk result (λ chosen. utf8view_buffers chosen ≡ scalar_buffers
+            (string_bytes if_true.now) ++ scalar_buffers (string_bytes if_false.now)) }
+        ensures bytes { IfOk result (λ _. max (length (string_bytes if_true.now))
+            (length (string_bytes if_false.now)) ≤ 4294967295) }
+        ensures refusal { IfErr result (IsRefusal
+            (past_utf8view (scalar if_true.now) (scalar if_false.now) (choose_of_two mask.now.bits
+            (Bytes (string_bytes if_true.now)) (Bytes (string_bytes if_false.now))))) }
     {
         drop(dtype);
         if mask.len() > MOST_ROWS {

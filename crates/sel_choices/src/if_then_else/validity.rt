@@ -20,7 +20,8 @@ pub fn if_then_else_validity(
 ) -> PolarsResult<Option<Bitmap>>
     requires true_side { Covers (option_copied if_true) (length mask.now.bits) }
     requires false_side { Covers (option_copied if_false) (length mask.now.bits) }
-    ensures value { IfOk result (λ chosen. option_map (λ b. b.bits) chosen ≡ chosen_validity mask.now.bits (option_copied if_true.entry) (option_copied if_false.entry)) }
+    ensures value { IfOk result (λ chosen. option_map (λ b. b.bits) chosen ≡ chosen_validity
+        mask.now.bits (option_copied if_true.entry) (option_copied if_false.entry)) }
     ensures refusal { IfErr result (λ fault. fault ≡ PolarsError.OutOfMemory) }
 {
     match (if_true, if_false) {

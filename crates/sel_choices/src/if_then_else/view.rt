@@ -26,7 +26,8 @@ pub fn if_then_else_view_rest(
     requires true_side { length if_true.now ≡ length out.old }
     requires false_side { length if_false.now ≡ length out.old }
     requires rises { IsTrue (all_rise false_buffer_idx_offset if_false.now) }
-    ensures { out.new ≡ choose (bits (length out.old) mask) if_true.now (map (λ view. raised view false_buffer_idx_offset) if_false.now) }
+    ensures { out.new ≡ choose (bits (length out.old) mask) if_true.now
+        (map (λ view. raised view false_buffer_idx_offset) if_false.now) }
 {
     for i in 0..out.len() {
         let (one, other) = (if_true[i], if_false[i]);
@@ -53,7 +54,8 @@ pub fn if_then_else_view_64(
     false_buffer_idx_offset: u32,
 )
     requires { IsTrue (all_rise false_buffer_idx_offset if_false.now) }
-    ensures { out.new ≡ choose (bits 64 mask) if_true.now (map (λ view. raised view false_buffer_idx_offset) if_false.now) }
+    ensures { out.new ≡ choose (bits 64 mask) if_true.now
+        (map (λ view. raised view false_buffer_idx_offset) if_false.now) }
 {
     if_then_else_view_rest(mask, if_true, if_false, out, false_buffer_idx_offset)
 }
@@ -128,7 +130,8 @@ pub(crate) fn choose_views(
     requires true_side { length if_true.now ≡ length mask.now.bits }
     requires false_side { length if_false.now ≡ length mask.now.bits }
     requires rises { IsTrue (all_rise offset if_false.now) }
-    ensures items { IfOk result (λ out. out.items ≡ choose mask.now.bits if_true.now (map (λ view. raised view offset) if_false.now)) }
+    ensures items { IfOk result (λ out. out.items ≡
+        choose mask.now.bits if_true.now (map (λ view. raised view offset) if_false.now)) }
     ensures refusal { IfErr result (λ fault. fault ≡ PolarsError.OutOfMemory) }
 {
     let mut out = Vec::from_slice(alloc, if_false)?;

@@ -30,9 +30,12 @@ pub(crate) fn choose_columns(
 ) -> PolarsResult<BinaryViewArray>
     requires true_side { length (binview_rows if_true.now) ≡ length mask.now.bits }
     requires false_side { length (binview_rows if_false.now) ≡ length mask.now.bits }
-    ensures rows { IfOk result (λ chosen. binview_rows chosen ≡ choose mask.now.bits (binview_rows if_true.now) (binview_rows if_false.now)) }
-    ensures buffers { IfOk result (λ chosen. chosen.buffers ≡ if_true.now.buffers ++ if_false.now.buffers) }
-    ensures refusal { IfErr result (IsRefusal (IsPastViews (length if_true.now.buffers + length if_false.now.buffers) 0)) }
+    ensures rows { IfOk result (λ chosen. binview_rows chosen ≡
+        choose mask.now.bits (binview_rows if_true.now) (binview_rows if_false.now)) }
+    ensures buffers { IfOk result (λ chosen. chosen.buffers ≡
+        if_true.now.buffers ++ if_false.now.buffers) }
+    ensures refusal { IfErr result (IsRefusal
+        (IsPastViews (length if_true.now.buffers + length if_false.now.buffers) 0)) }
 {
     let before = if_true.buffers.len();
     check_limits(before + if_false.buffers.len(), 0)?;
@@ -65,10 +68,13 @@ pub(crate) fn choose_bytes_true(
     if_false: &BinaryViewArray,
 ) -> PolarsResult<BinaryViewArray>
     requires { length (binview_rows if_false.now) ≡ length mask.now.bits }
-    ensures rows { IfOk result (λ chosen. binview_rows chosen ≡ choose_one mask.now.bits (Bytes if_true.now) (binview_rows if_false.now)) }
-    ensures buffers { IfOk result (λ chosen. chosen.buffers ≡ if_false.now.buffers ++ scalar_buffers if_true.now) }
+    ensures rows { IfOk result (λ chosen. binview_rows chosen ≡
+        choose_one mask.now.bits (Bytes if_true.now) (binview_rows if_false.now)) }
+    ensures buffers { IfOk result (λ chosen. chosen.buffers ≡
+        if_false.now.buffers ++ scalar_buffers if_true.now) }
     ensures bytes { IfOk result (λ _. length if_true.now ≤ 4294967295) }
-    ensures refusal { IfErr result (IsRefusal (IsPastViews (length (scalar_buffers if_true.now) + length if_false.now.buffers) (length if_true.now))) }
+    ensures refusal { IfErr result (IsRefusal (IsPastViews
+        (length (scalar_buffers if_true.now) + length if_false.now.buffers) (length if_true.now))) }
 {
     let before = if_false.buffers.len();
     check_limits(count_of_scalar(if_true) + before, if_true.len())?;
@@ -93,10 +99,13 @@ pub(crate) fn choose_bytes_false(
     if_false: &[u8],
 ) -> PolarsResult<BinaryViewArray>
     requires { length (binview_rows if_true.now) ≡ length mask.now.bits }
-    ensures rows { IfOk result (λ chosen. binview_rows chosen ≡ choose_or_one mask.now.bits (binview_rows if_true.now) (Bytes if_false.now)) }
-    ensures buffers { IfOk result (λ chosen. chosen.buffers ≡ if_true.now.buffers ++ scalar_buffers if_false.now) }
+    ensures rows { IfOk result (λ chosen. binview_rows chosen ≡
+        choose_or_one mask.now.bits (binview_rows if_true.now) (Bytes if_false.now)) }
+    ensures buffers { IfOk result (λ chosen. chosen.buffers ≡
+        if_true.now.buffers ++ scalar_buffers if_false.now) }
     ensures bytes { IfOk result (λ _. length if_false.now ≤ 4294967295) }
-    ensures refusal { IfErr result (IsRefusal (IsPastViews (length if_true.now.buffers + length (scalar_buffers if_false.now)) (length if_false.now))) }
+    ensures refusal { IfErr result (IsRefusal (IsPastViews (length if_true.now.buffers + length
+        (scalar_buffers if_false.now)) (length if_false.now))) }
 {
     let before = if_true.buffers.len();
     check_limits(before + count_of_scalar(if_false), if_false.len())?;
@@ -121,10 +130,14 @@ pub(crate) fn choose_bytes(
     if_false: &[u8],
 ) -> PolarsResult<BinaryViewArray>
     requires { length mask.now.bits ≤ 4294967295 }
-    ensures rows { IfOk result (λ chosen. binview_rows chosen ≡ choose_of_two mask.now.bits (Bytes if_true.now) (Bytes if_false.now)) }
-    ensures buffers { IfOk result (λ chosen. chosen.buffers ≡ scalar_buffers if_true.now ++ scalar_buffers if_false.now) }
+    ensures rows { IfOk result (λ chosen. binview_rows chosen ≡
+        choose_of_two mask.now.bits (Bytes if_true.now) (Bytes if_false.now)) }
+    ensures buffers { IfOk result (λ chosen. chosen.buffers ≡
+        scalar_buffers if_true.now ++ scalar_buffers if_false.now) }
     ensures bytes { IfOk result (λ _. max (length if_true.now) (length if_false.now) ≤ 4294967295) }
-    ensures refusal { IfErr result (IsRefusal (IsPastViews (length (scalar_buffers if_true.now) + length (scalar_buffers if_false.now)) (max (length if_true.now) (length if_false.now)))) }
+    ensures refusal { IfErr result (IsRefusal
+        (IsPastViews (length (scalar_buffers if_true.now) + length (scalar_buffers if_false.now))
+        (max (length if_true.now) (length if_false.now)))) }
 {
     let before = count_of_scalar(if_true);
     check_limits(
