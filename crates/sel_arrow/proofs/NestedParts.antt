@@ -1,6 +1,6 @@
 -- Parts of columns with children.
 use Rattle.std.proofs.Common.{◌≡◌, ℕ, ◌+◌, ◌-◌, ◌*◌, ◌≤◌, ◌<◌, true, List, [], ◌∷◌, ◌++◌, length, take, drop, map, get_or, Option, All, Vec, Box, Global, refl, ap, sym, subst, ◌∙◌, arith, suc, suc-mul, add-mul}
-use Rattle.std.specs.List.{range_with_len, slice_range}
+use Rattle.std.specs.List.{flat_map, range_with_len, slice_range}
 use Rattle.std.specs.Option.{ForSome, option_map}
 use Rattle.std.proofs.lemmas.List.{map_more, map_push, get_or-take, get_or-drop, take-take, drop-drop, drop-take}
 use Rattle.std.proofs.lemmas.List.Elements.{All-weaker, All-nil, All-cons, All-head, All-tail}
@@ -10,7 +10,7 @@ use Rattle.sel_bits.specs.Bits.{Bits}
 use Rattle.sel_arrow.specs.Masked.{masked, part_of, Covers}
 use Rattle.sel_arrow.specs.Nested.{list_of, list_rows, blocks, block_rows, tuple_at, tuple_rows}
 use Rattle.sel_arrow.specs.Pieces.{pieces, rows_between}
-use Rattle.sel_arrow.specs.Rows.{rows, row_count, type_of, well_formed, IsField, IsWellFormed}
+use Rattle.sel_arrow.specs.Rows.{rows, row_count, buffers_held, type_of, well_formed, IsField, IsWellFormed}
 use Rattle.sel_arrow.specs.Shape.{of_struct, shapes_of}
 use Rattle.sel_arrow.specs.Value.{Value, Null, Tuple, values_of}
 use Rattle.sel_arrow.specs.declared.column.Column.{Column, LargeList, FixedSizeList, Struct}
@@ -18,7 +18,7 @@ use Rattle.sel_arrow.proofs.ByteRows.{part-pieces, part_rising, part_few, part_l
 use Rattle.sel_arrow.proofs.NestedRows.{length-rows, length-list_rows, length-block_rows, length-tuple_rows, has_lists, lists_formed, has_blocks, blocks_formed}
 use Rattle.sel_arrow.proofs.Rows.{part-mapped, part-masked, length-part, part_covers, part_within}
 use Rattle.sel_arrow.proofs.Trees.{rows-Struct, has_fields, fields_make}
-use Rattle.sel_arrow.proofs.Types.{type_of-Struct}
+use Rattle.sel_arrow.proofs.Types.{type_of-Struct, buffers_held-Struct}
 
 -- a part of a list by place is a list by place
 part_by_place : {A : Type 0} (f g : ℕ → A) (n off len : ℕ) (d : A) → off + len ≤ n → ((i : ℕ) → i < len → g i ≡ f (off + i)) → map g (range_with_len 0 len) ≡ take len (drop off (map f (range_with_len 0 n)))
@@ -207,6 +207,9 @@ tuples_part_rows n fields parts validity seen off len inside part is =
 
 pub tuples_type : (n len : ℕ) (fields parts : Vec Column Global) (validity seen : Option Bits) → map type_of parts.items ≡ map type_of fields.items → type_of (Struct len parts seen) ≡ type_of (Struct n fields validity)
 tuples_type n len fields parts validity seen same = type_of-Struct len parts seen ∙ ap (λ ss. of_struct (shapes_of ss)) same ∙ sym (type_of-Struct n fields validity)
+
+pub tuples_held : (n len : ℕ) (fields parts : Vec Column Global) (validity seen : Option Bits) → map buffers_held parts.items ≡ map buffers_held fields.items → buffers_held (Struct len parts seen) ≡ buffers_held (Struct n fields validity)
+tuples_held n len fields parts validity seen same = buffers_held-Struct len parts seen ∙ ap (flat_map (λ held. held)) same ∙ sym (buffers_held-Struct n fields validity)
 
 fields_copied : (n : ℕ) (cs ds : List Column) → map rows ds ≡ map rows cs → All IsWellFormed ds → All (IsField n) cs → All (IsField n) ds
 fields_copied n cs [] same formed all = All-nil (IsField n)

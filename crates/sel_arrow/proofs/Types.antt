@@ -1,12 +1,12 @@
 -- The types of columns that have children.
-use Rattle.std.proofs.Common.{◌≡◌, ℕ, ◌+◌, ◌<◌, ◌&&◌, List, [], ◌∷◌, length, take, map, Option, Vec, Global, refl, sym, ap, ◌∙◌, arith, get_or}
+use Rattle.std.proofs.Common.{◌≡◌, ℕ, ◌+◌, ◌<◌, ◌&&◌, List, [], ◌∷◌, ◌++◌, length, take, map, Option, Vec, Global, refl, sym, ap, ◌∙◌, arith, get_or}
 use Rattle.std.specs.Prelude.{◌↔◌}
-use Rattle.std.specs.List.{list_all}
+use Rattle.std.specs.List.{flat_map, list_all}
 use Rattle.std.proofs.lemmas.List.{length-map, get_or-map, map_more, take_all}
 use mathlib.Core.Former.{Count}
 use Rattle.sel_bits.specs.Bits.{Bits}
 use Rattle.sel_arrow.specs.DataType.{shape_of, shapes_of_each, widths_fit, all_widths_fit}
-use Rattle.sel_arrow.specs.Rows.{type_of, types_of_each}
+use Rattle.sel_arrow.specs.Rows.{type_of, types_of_each, buffers_held, buffers_of_each}
 use Rattle.sel_arrow.specs.Shape.{Shape, next_shape, of_struct, shapes_of, shape_list}
 use Rattle.sel_arrow.specs.declared.column.Column.{Column, Struct as StructColumn, Row_of-Column, end_of-Column, more_of-Column, items-the_row-Column, items_hidden-the_row-Column-0}
 use Rattle.sel_arrow.specs.declared.column.Column.TheVariants.{Struct' as StructColumn'}
@@ -27,6 +27,15 @@ pub type_of-Struct : (len : ℕ) (fields : Vec Column Global) (validity : Option
 type_of-Struct len fields validity =
     let row = columns_in (StructColumn len fields validity) in
     ap of_struct (each_type row.0 row.1 ∙ ap (λ l. shapes_of (map type_of l)) (items_hidden-the_row-Column-0 fields))
+
+each_held : (n : _) (row : Row_of-Column n) → buffers_of_each row ≡ flat_map (λ held. held) (map buffers_held (items-the_row-Column n row))
+each_held n end_of-Column = refl
+each_held n (more_of-Column column columns) = ap (λ l. buffers_held column ++ l) (each_held _ columns)
+
+pub buffers_held-Struct : (len : ℕ) (fields : Vec Column Global) (validity : Option Bits) → buffers_held (StructColumn len fields validity) ≡ flat_map (λ held. held) (map buffers_held fields.items)
+buffers_held-Struct len fields validity =
+    let row = columns_in (StructColumn len fields validity) in
+    each_held row.0 row.1 ∙ ap (λ l. flat_map (λ held. held) (map buffers_held l)) (items_hidden-the_row-Column-0 fields)
 
 abbrev pub dtypes_in : ArrowDataType → (n : Count) × Row_of-ArrowDataType n
 dtypes_in (Struct' n fields) = (_, fields)

@@ -1,5 +1,5 @@
 -- What a column of any type means: its rows, its type, and when it is well-formed.
-use Rattle.std.specs.Prelude.{◌≡◌, ℕ, ◌*◌, Bool, true, ◌&&◌, nat_le, ◌==◌, List, [], ◌∷◌, length, IsTrue}
+use Rattle.std.specs.Prelude.{◌≡◌, ℕ, ◌*◌, Bool, true, ◌&&◌, nat_le, ◌==◌, List, [], ◌∷◌, ◌++◌, length, IsTrue}
 use Rattle.sel_arrow.specs.Value.{Value}
 use Rattle.sel_arrow.specs.Masked.{covers, is_few}
 use Rattle.sel_arrow.specs.Nested.{list_rows, block_rows, tuple_rows}
@@ -83,6 +83,21 @@ abbrev mutual
   pub types_of_each : {n : _} → Row_of-Column n → Shapes
   types_of_each end_of-Column = no_shapes
   types_of_each (more_of-Column column columns) = next_shape (type_of column) (types_of_each columns)
+
+abbrev mutual
+  -- the data buffers of each column of views in a tree, in order (Arrow columnar format: variable-size binary view layout)
+  pub buffers_held : Column → List (List (List ℕ))
+  buffers_held (LargeList' offsets p values validity) = buffers_held values
+  buffers_held (FixedSizeList' size len p values validity) = buffers_held values
+  buffers_held (Struct' len n fields validity) = buffers_of_each fields
+  buffers_held (BinaryView column) = column.buffers ∷ []
+  buffers_held (Utf8View column) = column.bytes.buffers ∷ []
+  buffers_held column = []
+
+  -- those of columns, behind one another (own)
+  pub buffers_of_each : {n : _} → Row_of-Column n → List (List (List ℕ))
+  buffers_of_each end_of-Column = []
+  buffers_of_each (more_of-Column column columns) = buffers_held column ++ buffers_of_each columns
 
 abbrev mutual
   -- whether a column's parts fit together, at every depth; a leaf's do by its type (Arrow columnar format: physical memory layouts; own: the limits)

@@ -1,6 +1,6 @@
 //! What all columns have in common.
 
-ghost use Rattle.std.specs.Prelude.{◌≡◌, ◌≤◌, ◌+◌, ◌<◌, ◌↔◌, List, length, take, drop, count_by, IfOk, IfErr, IsTrue};
+ghost use Rattle.std.specs.Prelude.{◌≡◌, ◌≤◌, ◌+◌, ◌<◌, ◌↔◌, ℕ, List, length, take, drop, count_by, IfOk, IfErr, IsTrue};
 ghost use Rattle.std.specs.Option.{option_copied};
 ghost use Rattle.sel_arrow.specs.Value.{Value, is_null};
 ghost use Rattle.sel_arrow.specs.Shape.{Shape};
@@ -17,13 +17,16 @@ use std::alloc::Global;
 /// A part of a column is a column of that part of the rows; it copies no element.
 pub trait Array: Sized {
     ghost use Rattle.sel_arrow.specs.DataType.{shape_of};
-    ghost use Rattle.sel_arrow.specs.Rows.{rows as column_rows, type_of};
+    ghost use Rattle.sel_arrow.specs.Rows.{rows as column_rows, buffers_held, type_of};
 
     /// The rows.
     ghost rows: { Self → List Value };
 
     /// The type.
     ghost shape: { Self → Shape };
+
+    /// The data buffers of each column of views in it.
+    ghost held: { Self → List (List (List ℕ)) };
 
     /// How many rows there are: at most 4,294,967,295.
     fn len(&self) -> usize
@@ -74,23 +77,27 @@ pub trait Array: Sized {
     /// The column as one of any type.
     fn into_ref(self) -> ArrayRef
         ensures rows { column_rows result.column ≡ rows self }
-        ensures dtype { type_of result.column ≡ shape self };
+        ensures dtype { type_of result.column ≡ shape self }
+        ensures buffers { buffers_held result.column ≡ held self };
 
     /// The type, read off the column. Refuses only for want of memory.
     fn dtype(&self, alloc: Global) -> PolarsResult<ArrowDataType>
         ensures dtype { IfOk result (λ dtype. shape_of dtype ≡ shape self.now) }
         ensures refusal { IfErr result (λ fault. fault ≡ PolarsError.OutOfMemory) };
 
-    /// The `len` rows from row `off` on. Refuses only for want of memory.
+    /// The `len` rows from row `off` on. The data buffers stay, also those that no row uses any more. Refuses only for
+    /// want of memory.
     fn sliced(&self, alloc: Global, off: usize, len: usize) -> PolarsResult<Self>
         requires { off + len ≤ length (rows self.now) }
         ensures rows { IfOk result (λ part. rows part ≡ take len (drop off (rows self.now))) }
         ensures dtype { IfOk result (λ part. shape part ≡ shape self.now) }
+        ensures buffers { IfOk result (λ part. held part ≡ held self.now) }
         ensures refusal { IfErr result (λ fault. fault ≡ PolarsError.OutOfMemory) };
 
     /// The same column. Refuses only for want of memory.
     fn try_clone(&self, alloc: Global) -> PolarsResult<Self>
         ensures rows { IfOk result (λ copy. rows copy ≡ rows self.now) }
         ensures dtype { IfOk result (λ copy. shape copy ≡ shape self.now) }
+        ensures buffers { IfOk result (λ copy. held copy ≡ held self.now) }
         ensures refusal { IfErr result (λ fault. fault ≡ PolarsError.OutOfMemory) };
 }

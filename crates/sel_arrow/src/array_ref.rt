@@ -1,7 +1,7 @@
 //! A column of any type that is well-formed at every depth.
 
-ghost use Rattle.std.specs.Prelude.{◌≡◌, ◌≢◌, true, false, IfOk, IfErr};
-ghost use Rattle.sel_arrow.specs.Rows.{rows, type_of, well_formed, IsWellFormed};
+ghost use Rattle.std.specs.Prelude.{◌≡◌, ◌≢◌, true, false, IfOk, IfErr, [], ◌∷◌};
+ghost use Rattle.sel_arrow.specs.Rows.{rows, type_of, well_formed, IsWellFormed, buffers_held};
 ghost use Rattle.sel_arrow.specs.Columns.{null_rows, boolean_rows, primitive_rows, binary_rows, binview_rows, utf8view_rows};
 ghost use Rattle.sel_arrow.specs.Shape.{of_null, of_boolean, of_large_binary, of_binary_view, of_utf8_view};
 
@@ -114,6 +114,7 @@ impl ArrayRef {
     pub fn into_binview(self) -> Result<BinaryViewArray, ArrayRef>
         ensures rows { IfOk result (λ array. binview_rows array ≡ rows self.column) }
         ensures dtype { IfOk result (λ _. type_of self.column ≡ of_binary_view) }
+        ensures buffers { IfOk result (λ array. array.buffers ∷ [] ≡ buffers_held self.column) }
         ensures back { IfErr result (λ back. back.column ≡ self.column) }
         ensures other { IfErr result (λ _. type_of self.column ≢ of_binary_view) }
     {
@@ -128,6 +129,7 @@ impl ArrayRef {
     pub fn into_utf8view(self) -> Result<Utf8ViewArray, ArrayRef>
         ensures rows { IfOk result (λ array. utf8view_rows array ≡ rows self.column) }
         ensures dtype { IfOk result (λ _. type_of self.column ≡ of_utf8_view) }
+        ensures buffers { IfOk result (λ array. array.bytes.buffers ∷ [] ≡ buffers_held self.column) }
         ensures back { IfErr result (λ back. back.column ≡ self.column) }
         ensures other { IfErr result (λ _. type_of self.column ≢ of_utf8_view) }
     {
@@ -142,6 +144,7 @@ impl ArrayRef {
     pub fn into_list(self) -> Result<ListArray<i64>, ArrayRef>
         ensures rows { IfOk result (λ array. rows (list_column array) ≡ rows self.column) }
         ensures dtype { IfOk result (λ array. type_of (list_column array) ≡ type_of self.column) }
+        ensures buffers { IfOk result (λ array. buffers_held (list_column array) ≡ buffers_held self.column) }
         ensures back { IfErr result (λ back. back.column ≡ self.column) }
         ensures other { IfErr result (λ _. is_list_shape (type_of self.column) ≡ false) }
     {
@@ -167,6 +170,7 @@ impl ArrayRef {
     pub fn into_fixed_size_list(self) -> Result<FixedSizeListArray, ArrayRef>
         ensures rows { IfOk result (λ array. rows (block_column array) ≡ rows self.column) }
         ensures dtype { IfOk result (λ array. type_of (block_column array) ≡ type_of self.column) }
+        ensures buffers { IfOk result (λ array. buffers_held (block_column array) ≡ buffers_held self.column) }
         ensures back { IfErr result (λ back. back.column ≡ self.column) }
         ensures other { IfErr result (λ _. is_block_shape (type_of self.column) ≡ false) }
     {
@@ -194,6 +198,7 @@ impl ArrayRef {
     pub fn into_struct(self) -> Result<StructArray, ArrayRef>
         ensures rows { IfOk result (λ array. rows (tuple_column array) ≡ rows self.column) }
         ensures dtype { IfOk result (λ array. type_of (tuple_column array) ≡ type_of self.column) }
+        ensures buffers { IfOk result (λ array. buffers_held (tuple_column array) ≡ buffers_held self.column) }
         ensures back { IfErr result (λ back. back.column ≡ self.column) }
         ensures other { IfErr result (λ _. is_struct_shape (type_of self.column) ≡ false) }
     {
@@ -222,6 +227,8 @@ impl Array for ArrayRef {
     ghost rows = { λ array. column_rows array.column };
 
     ghost shape = { λ array. type_of array.column };
+
+    ghost held = { λ array. buffers_held array.column };
 
     fn len(&self) -> usize {
         self.column.len()

@@ -1,6 +1,6 @@
 //! A column of bytes between offsets.
 
-ghost use Rattle.std.specs.Prelude.{◌≡◌, ◌≤◌, ◌<◌, ◌+◌, ◌↔◌, length, count_by, slice_index_or, None, IfOk, IfErr, IsTrue};
+ghost use Rattle.std.specs.Prelude.{◌≡◌, ◌≤◌, ◌<◌, ◌+◌, ◌↔◌, length, count_by, slice_index_or, None, IfOk, IfErr, IsTrue, []};
 ghost use Rattle.std.specs.Option.{option_copied};
 ghost use Rattle.sel_bits.specs.Faults.{IsFault};
 ghost use Rattle.sel_bits.specs.Offsets.{IsRising};
@@ -162,6 +162,8 @@ impl Array for BinaryArray<i64> {
     ghost rows = { λ column. binary_rows column };
 
     ghost shape = { λ _. of_large_binary };
+
+    ghost held = { λ _. [] };
 
     fn len(&self) -> usize {
         BinaryArray::len(self)

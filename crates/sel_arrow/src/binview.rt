@@ -1,6 +1,6 @@
 //! A column of bytes that views name.
 
-ghost use Rattle.std.specs.Prelude.{◌≡◌, ◌≤◌, ◌<◌, ◌+◌, length, slice_index_or, None, IfOk, IfErr, IsTrue};
+ghost use Rattle.std.specs.Prelude.{◌≡◌, ◌≤◌, ◌<◌, ◌+◌, length, slice_index_or, None, IfOk, IfErr, IsTrue, [], ◌∷◌};
 ghost use Rattle.std.specs.Option.{option_copied, option_map};
 ghost use Rattle.std.specs.Str.{is_utf8};
 ghost use Rattle.sel_bits.specs.Faults.{IsFault};
@@ -135,6 +135,7 @@ impl BinaryViewArray {
     pub fn to_utf8view_unchecked(&self, alloc: Global) -> PolarsResult<Utf8ViewArray>
         requires { IsTrue (all_text (binview_rows self.now)) }
         ensures rows { IfOk result (λ column. utf8view_rows column ≡ binview_rows self.now) }
+        ensures buffers { IfOk result (λ column. column.bytes.buffers ≡ self.now.buffers) }
         ensures refusal { IfErr result (λ fault. fault ≡ PolarsError.OutOfMemory) }
     {
         let bytes = self.try_clone(alloc)?;
@@ -145,6 +146,7 @@ impl BinaryViewArray {
     pub fn with_validity(self, validity: Option<Bitmap>) -> BinaryViewArray
         requires { Covers validity (length (binview_rows self)) }
         ensures rows { binview_rows result ≡ view_rows self.views self.buffers validity }
+        ensures buffers { result.buffers ≡ self.buffers }
         ensures validity { result.validity ≡ validity }
     {
         let BinaryViewArray {
@@ -168,6 +170,8 @@ impl Array for BinaryViewArray {
     ghost rows = { binview_rows };
 
     ghost shape = { λ _. of_binary_view };
+
+    ghost held = { λ column. column.buffers ∷ [] };
 
     fn len(&self) -> usize {
         self.views.len()

@@ -1,6 +1,6 @@
 //! A column of truth values.
 
-ghost use Rattle.std.specs.Prelude.{◌≡◌, ◌≤◌, ◌<◌, length, slice_index_or, None, IfOk, IfErr};
+ghost use Rattle.std.specs.Prelude.{◌≡◌, ◌≤◌, ◌<◌, length, slice_index_or, None, IfOk, IfErr, []};
 ghost use Rattle.std.specs.Option.{option_copied};
 ghost use Rattle.sel_bits.specs.Faults.{IsFault};
 ghost use Rattle.sel_arrow.specs.Makers.{flat_fault};
@@ -86,6 +86,8 @@ impl Array for BooleanArray {
     ghost rows = { boolean_rows };
 
     ghost shape = { λ _. of_boolean };
+
+    ghost held = { λ _. [] };
 
     fn len(&self) -> usize {
         self.values.len()

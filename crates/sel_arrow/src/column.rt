@@ -4,7 +4,7 @@ ghost use Rattle.std.specs.Prelude.{◌≡◌, ◌≤◌, ◌+◌, ◌↔◌, le
 ghost use Rattle.std.specs.Option.{option_copied};
 ghost use Rattle.sel_arrow.specs.DataType.{shape_of};
 ghost use Rattle.sel_arrow.specs.Nulls.{TellsNulls};
-ghost use Rattle.sel_arrow.specs.Rows.{rows, type_of, well_formed, IsField, IsWellFormed};
+ghost use Rattle.sel_arrow.specs.Rows.{rows, type_of, well_formed, IsField, IsWellFormed, buffers_held};
 
 use crate::array::Array;
 use crate::array_ref::ArrayRef;
@@ -61,11 +61,10 @@ pub enum Column {
 }
 
 impl Column {
-    /// How many rows there are: at most 4,294,967,295.
+    /// How many rows there are: at most 4,294,967,295 where the column is well-formed.
     pub fn len(&self) -> usize
-        requires { IsWellFormed self.now }
         ensures len { result ≡ length (rows self.now) }
-        ensures few { result ≤ 4294967295 }
+        ensures few { IsWellFormed self.now → result ≤ 4294967295 }
     {
         match self {
             Column::Null(column) => column.len(),
@@ -268,6 +267,7 @@ impl Column {
         requires inside { off + len ≤ length (rows self.now) }
         ensures rows { IfOk result (λ part. rows part ≡ take len (drop off (rows self.now))) }
         ensures dtype { IfOk result (λ part. type_of part ≡ type_of self.now) }
+        ensures buffers { IfOk result (λ part. buffers_held part ≡ buffers_held self.now) }
         ensures formed { IfOk result (λ part. IsWellFormed part) }
         ensures refusal { IfErr result (λ fault. fault ≡ PolarsError.OutOfMemory) }
     {
@@ -323,6 +323,7 @@ impl Column {
         requires { IsWellFormed self.now }
         ensures rows { IfOk result (λ copy. rows copy ≡ rows self.now) }
         ensures dtype { IfOk result (λ copy. type_of copy ≡ type_of self.now) }
+        ensures buffers { IfOk result (λ copy. buffers_held copy ≡ buffers_held self.now) }
         ensures formed { IfOk result (λ copy. IsWellFormed copy) }
         ensures refusal { IfErr result (λ fault. fault ≡ PolarsError.OutOfMemory) }
     {
@@ -421,6 +422,7 @@ fn part_of<A: Array + Drop>(
     requires inside { off + len ≤ length (A.rows column.now) }
     ensures rows { IfOk result (λ part. rows part ≡ take len (drop off (A.rows column.now))) }
     ensures dtype { IfOk result (λ part. type_of part ≡ A.shape column.now) }
+    ensures buffers { IfOk result (λ part. buffers_held part ≡ A.held column.now) }
     ensures formed { IfOk result (λ part. IsWellFormed part) }
     ensures refusal { IfErr result (λ fault. fault ≡ PolarsError.OutOfMemory) }
 {
@@ -432,6 +434,7 @@ fn part_of<A: Array + Drop>(
 fn copy_of<A: Array + Drop>(column: &A, alloc: Global) -> PolarsResult<Column>
     ensures rows { IfOk result (λ copy. rows copy ≡ A.rows column.now) }
     ensures dtype { IfOk result (λ copy. type_of copy ≡ A.shape column.now) }
+    ensures buffers { IfOk result (λ copy. buffers_held copy ≡ A.held column.now) }
     ensures formed { IfOk result (λ copy. IsWellFormed copy) }
     ensures refusal { IfErr result (λ fault. fault ≡ PolarsError.OutOfMemory) }
 {

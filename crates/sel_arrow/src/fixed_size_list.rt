@@ -5,7 +5,7 @@ ghost use Rattle.sel_bits.specs.Faults.{IsFaultOrMemory};
 ghost use Rattle.sel_arrow.specs.Makers.{block_fault};
 ghost use Rattle.sel_arrow.specs.Masked.{Covers};
 ghost use Rattle.sel_arrow.specs.Nested.{block_rows};
-ghost use Rattle.sel_arrow.specs.Rows.{rows, row_count, type_of, IsWellFormed};
+ghost use Rattle.sel_arrow.specs.Rows.{rows, row_count, type_of, IsWellFormed, buffers_held};
 ghost use Rattle.sel_arrow.specs.declared.column.Column.{FixedSizeList};
 
 use crate::array::Array;
@@ -88,6 +88,7 @@ impl FixedSizeListArray {
         ensures rows { rows (block_column result) ≡
             block_rows self.size self.len (rows self.values.value) validity }
         ensures dtype { type_of (block_column result) ≡ type_of (block_column self) }
+        ensures buffers { buffers_held (block_column result) ≡ buffers_held (block_column self) }
         ensures validity { result.validity ≡ validity }
     {
         let FixedSizeListArray {
@@ -149,6 +150,8 @@ impl FixedSizeListArray {
             take len (drop off (rows (FixedSizeList size _count values.now validity.now)))) }
         ensures dtype { IfOk result (λ part. type_of (block_column part) ≡
             type_of (FixedSizeList size _count values.now validity.now)) }
+        ensures buffers { IfOk result (λ part. buffers_held (block_column part) ≡
+            buffers_held (FixedSizeList size _count values.now validity.now)) }
         ensures refusal { IfErr result (λ fault. fault ≡ PolarsError.OutOfMemory) }
     {
         let values = values.sliced(alloc, off * size, len * size)?;
@@ -176,6 +179,8 @@ impl FixedSizeListArray {
             rows (FixedSizeList size len values.now validity.now)) }
         ensures dtype { IfOk result (λ copy. type_of (block_column copy) ≡
             type_of (FixedSizeList size len values.now validity.now)) }
+        ensures buffers { IfOk result (λ copy. buffers_held (block_column copy) ≡
+            buffers_held (FixedSizeList size len values.now validity.now)) }
         ensures refusal { IfErr result (λ fault. fault ≡ PolarsError.OutOfMemory) }
     {
         let values = Box::new(alloc, values.try_clone(alloc)?)?;
@@ -196,6 +201,8 @@ impl Array for FixedSizeListArray {
     ghost rows = { λ array. rows (block_column array) };
 
     ghost shape = { λ array. type_of (block_column array) };
+
+    ghost held = { λ array. buffers_held (block_column array) };
 
     fn len(&self) -> usize {
         self.len

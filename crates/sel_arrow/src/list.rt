@@ -5,7 +5,7 @@ ghost use Rattle.sel_bits.specs.Faults.{IsFaultOrMemory};
 ghost use Rattle.sel_arrow.specs.Makers.{list_fault};
 ghost use Rattle.sel_arrow.specs.Masked.{Covers};
 ghost use Rattle.sel_arrow.specs.Nested.{list_rows};
-ghost use Rattle.sel_arrow.specs.Rows.{rows, row_count, type_of, IsWellFormed};
+ghost use Rattle.sel_arrow.specs.Rows.{rows, row_count, type_of, IsWellFormed, buffers_held};
 ghost use Rattle.sel_arrow.specs.declared.column.Column.{LargeList};
 
 use crate::array::Array;
@@ -84,6 +84,7 @@ impl ListArray<i64> {
         ensures rows { rows (list_column result) ≡
             list_rows self.offsets (rows self.values.value) validity }
         ensures dtype { type_of (list_column result) ≡ type_of (list_column self) }
+        ensures buffers { buffers_held (list_column result) ≡ buffers_held (list_column self) }
         ensures validity { result.validity ≡ validity }
     {
         let ListArray {
@@ -138,6 +139,8 @@ impl ListArray<i64> {
             take len (drop off (rows (LargeList offsets.now values.now validity.now)))) }
         ensures dtype { IfOk result (λ part. type_of (list_column part) ≡
             type_of (LargeList offsets.now values.now validity.now)) }
+        ensures buffers { IfOk result (λ part. buffers_held (list_column part) ≡
+            buffers_held (LargeList offsets.now values.now validity.now)) }
         ensures refusal { IfErr result (λ fault. fault ≡ PolarsError.OutOfMemory) }
     {
         let offsets = offsets.try_clone()?.sliced(off, len);
@@ -163,6 +166,8 @@ impl ListArray<i64> {
             rows (LargeList offsets.now values.now validity.now)) }
         ensures dtype { IfOk result (λ copy. type_of (list_column copy) ≡
             type_of (LargeList offsets.now values.now validity.now)) }
+        ensures buffers { IfOk result (λ copy. buffers_held (list_column copy) ≡
+            buffers_held (LargeList offsets.now values.now validity.now)) }
         ensures refusal { IfErr result (λ fault. fault ≡ PolarsError.OutOfMemory) }
     {
         let offsets = offsets.try_clone()?;
@@ -183,6 +188,8 @@ impl Array for ListArray<i64> {
     ghost rows = { λ array. rows (list_column array) };
 
     ghost shape = { λ array. type_of (list_column array) };
+
+    ghost held = { λ array. buffers_held (list_column array) };
 
     fn len(&self) -> usize {
         self.offsets.len_proxy()

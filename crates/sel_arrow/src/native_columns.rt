@@ -1,6 +1,6 @@
 //! The number types whose columns are a kind of `Column`.
 
-ghost use Rattle.std.specs.Prelude.{◌≡◌, ◌≤◌, length, pos};
+ghost use Rattle.std.specs.Prelude.{◌≡◌, ◌≤◌, [], length, pos};
 ghost use Rattle.sel_arrow.specs.Masked.{Covers, number_rows};
 
 use crate::column::Column;
@@ -10,7 +10,7 @@ use sel_bits::bitmap::Bitmap;
 use sel_bits::buffer::Buffer;
 
 impl ArrowPrimitive for i8 {
-    ghost use Rattle.sel_arrow.specs.Rows.{rows, type_of, IsWellFormed};
+    ghost use Rattle.sel_arrow.specs.Rows.{rows, buffers_held, type_of, IsWellFormed};
     ghost use Rattle.sel_arrow.specs.Shape.{of_int8};
 
     ghost shape = { of_int8 };
@@ -30,6 +30,7 @@ impl ArrowPrimitive for i8 {
         requires covers { Covers validity (length values) }
         ensures rows { rows result ≡ number_rows (λ x. x) values validity }
         ensures dtype { type_of result ≡ of_int8 }
+        ensures buffers { buffers_held result ≡ [] }
         ensures formed { IsWellFormed result }
     {
         Column::Int8(PrimitiveArray { values, validity })
@@ -54,7 +55,7 @@ impl ArrowPrimitive for i8 {
 }
 
 impl ArrowPrimitive for i16 {
-    ghost use Rattle.sel_arrow.specs.Rows.{rows, type_of, IsWellFormed};
+    ghost use Rattle.sel_arrow.specs.Rows.{rows, buffers_held, type_of, IsWellFormed};
     ghost use Rattle.sel_arrow.specs.Shape.{of_int16};
 
     ghost shape = { of_int16 };
@@ -74,6 +75,7 @@ impl ArrowPrimitive for i16 {
         requires covers { Covers validity (length values) }
         ensures rows { rows result ≡ number_rows (λ x. x) values validity }
         ensures dtype { type_of result ≡ of_int16 }
+        ensures buffers { buffers_held result ≡ [] }
         ensures formed { IsWellFormed result }
     {
         Column::Int16(PrimitiveArray { values, validity })
@@ -98,7 +100,7 @@ impl ArrowPrimitive for i16 {
 }
 
 impl ArrowPrimitive for i32 {
-    ghost use Rattle.sel_arrow.specs.Rows.{rows, type_of, IsWellFormed};
+    ghost use Rattle.sel_arrow.specs.Rows.{rows, buffers_held, type_of, IsWellFormed};
     ghost use Rattle.sel_arrow.specs.Shape.{of_int32};
 
     ghost shape = { of_int32 };
@@ -118,6 +120,7 @@ impl ArrowPrimitive for i32 {
         requires covers { Covers validity (length values) }
         ensures rows { rows result ≡ number_rows (λ x. x) values validity }
         ensures dtype { type_of result ≡ of_int32 }
+        ensures buffers { buffers_held result ≡ [] }
         ensures formed { IsWellFormed result }
     {
         Column::Int32(PrimitiveArray { values, validity })
@@ -142,7 +145,7 @@ impl ArrowPrimitive for i32 {
 }
 
 impl ArrowPrimitive for i64 {
-    ghost use Rattle.sel_arrow.specs.Rows.{rows, type_of, IsWellFormed};
+    ghost use Rattle.sel_arrow.specs.Rows.{rows, buffers_held, type_of, IsWellFormed};
     ghost use Rattle.sel_arrow.specs.Shape.{of_int64};
 
     ghost shape = { of_int64 };
@@ -162,6 +165,7 @@ impl ArrowPrimitive for i64 {
         requires covers { Covers validity (length values) }
         ensures rows { rows result ≡ number_rows (λ x. x) values validity }
         ensures dtype { type_of result ≡ of_int64 }
+        ensures buffers { buffers_held result ≡ [] }
         ensures formed { IsWellFormed result }
     {
         Column::Int64(PrimitiveArray { values, validity })
@@ -186,7 +190,7 @@ impl ArrowPrimitive for i64 {
 }
 
 impl ArrowPrimitive for i128 {
-    ghost use Rattle.sel_arrow.specs.Rows.{rows, type_of, IsWellFormed};
+    ghost use Rattle.sel_arrow.specs.Rows.{rows, buffers_held, type_of, IsWellFormed};
     ghost use Rattle.sel_arrow.specs.Shape.{of_int128};
 
     ghost shape = { of_int128 };
@@ -206,6 +210,7 @@ impl ArrowPrimitive for i128 {
         requires covers { Covers validity (length values) }
         ensures rows { rows result ≡ number_rows (λ x. x) values validity }
         ensures dtype { type_of result ≡ of_int128 }
+        ensures buffers { buffers_held result ≡ [] }
         ensures formed { IsWellFormed result }
     {
         Column::Int128(PrimitiveArray { values, validity })
@@ -230,7 +235,7 @@ impl ArrowPrimitive for i128 {
 }
 
 impl ArrowPrimitive for u8 {
-    ghost use Rattle.sel_arrow.specs.Rows.{rows, type_of, IsWellFormed};
+    ghost use Rattle.sel_arrow.specs.Rows.{rows, buffers_held, type_of, IsWellFormed};
     ghost use Rattle.sel_arrow.specs.Shape.{of_uint8};
 
     ghost shape = { of_uint8 };
@@ -250,6 +255,7 @@ impl ArrowPrimitive for u8 {
         requires covers { Covers validity (length values) }
         ensures rows { rows result ≡ number_rows pos values validity }
         ensures dtype { type_of result ≡ of_uint8 }
+        ensures buffers { buffers_held result ≡ [] }
         ensures formed { IsWellFormed result }
     {
         Column::UInt8(PrimitiveArray { values, validity })
@@ -274,7 +280,7 @@ impl ArrowPrimitive for u8 {
 }
 
 impl ArrowPrimitive for u16 {
-    ghost use Rattle.sel_arrow.specs.Rows.{rows, type_of, IsWellFormed};
+    ghost use Rattle.sel_arrow.specs.Rows.{rows, buffers_held, type_of, IsWellFormed};
     ghost use Rattle.sel_arrow.specs.Shape.{of_uint16};
 
     ghost shape = { of_uint16 };
@@ -294,6 +300,7 @@ impl ArrowPrimitive for u16 {
         requires covers { Covers validity (length values) }
         ensures rows { rows result ≡ number_rows pos values validity }
         ensures dtype { type_of result ≡ of_uint16 }
+        ensures buffers { buffers_held result ≡ [] }
         ensures formed { IsWellFormed result }
     {
         Column::UInt16(PrimitiveArray { values, validity })
@@ -318,7 +325,7 @@ impl ArrowPrimitive for u16 {
 }
 
 impl ArrowPrimitive for u32 {
-    ghost use Rattle.sel_arrow.specs.Rows.{rows, type_of, IsWellFormed};
+    ghost use Rattle.sel_arrow.specs.Rows.{rows, buffers_held, type_of, IsWellFormed};
     ghost use Rattle.sel_arrow.specs.Shape.{of_uint32};
 
     ghost shape = { of_uint32 };
@@ -338,6 +345,7 @@ impl ArrowPrimitive for u32 {
         requires covers { Covers validity (length values) }
         ensures rows { rows result ≡ number_rows pos values validity }
         ensures dtype { type_of result ≡ of_uint32 }
+        ensures buffers { buffers_held result ≡ [] }
         ensures formed { IsWellFormed result }
     {
         Column::UInt32(PrimitiveArray { values, validity })
@@ -362,7 +370,7 @@ impl ArrowPrimitive for u32 {
 }
 
 impl ArrowPrimitive for u64 {
-    ghost use Rattle.sel_arrow.specs.Rows.{rows, type_of, IsWellFormed};
+    ghost use Rattle.sel_arrow.specs.Rows.{rows, buffers_held, type_of, IsWellFormed};
     ghost use Rattle.sel_arrow.specs.Shape.{of_uint64};
 
     ghost shape = { of_uint64 };
@@ -382,6 +390,7 @@ impl ArrowPrimitive for u64 {
         requires covers { Covers validity (length values) }
         ensures rows { rows result ≡ number_rows pos values validity }
         ensures dtype { type_of result ≡ of_uint64 }
+        ensures buffers { buffers_held result ≡ [] }
         ensures formed { IsWellFormed result }
     {
         Column::UInt64(PrimitiveArray { values, validity })
@@ -406,7 +415,7 @@ impl ArrowPrimitive for u64 {
 }
 
 impl ArrowPrimitive for u128 {
-    ghost use Rattle.sel_arrow.specs.Rows.{rows, type_of, IsWellFormed};
+    ghost use Rattle.sel_arrow.specs.Rows.{rows, buffers_held, type_of, IsWellFormed};
     ghost use Rattle.sel_arrow.specs.Shape.{of_uint128};
 
     ghost shape = { of_uint128 };
@@ -426,6 +435,7 @@ impl ArrowPrimitive for u128 {
         requires covers { Covers validity (length values) }
         ensures rows { rows result ≡ number_rows pos values validity }
         ensures dtype { type_of result ≡ of_uint128 }
+        ensures buffers { buffers_held result ≡ [] }
         ensures formed { IsWellFormed result }
     {
         Column::UInt128(PrimitiveArray { values, validity })

@@ -1,6 +1,6 @@
 //! A column of nulls.
 
-ghost use Rattle.std.specs.Prelude.{◌≡◌, ◌≤◌, None, IfOk, IfErr};
+ghost use Rattle.std.specs.Prelude.{◌≡◌, ◌≤◌, None, IfOk, IfErr, []};
 ghost use Rattle.sel_bits.specs.Faults.{IsFault};
 ghost use Rattle.sel_arrow.specs.Makers.{null_fault};
 
@@ -42,6 +42,8 @@ impl Array for NullArray {
     ghost rows = { null_rows };
 
     ghost shape = { λ _. of_null };
+
+    ghost held = { λ _. [] };
 
     fn len(&self) -> usize {
         self.length

@@ -1,6 +1,6 @@
 //! A column of numbers.
 
-ghost use Rattle.std.specs.Prelude.{◌≡◌, ◌≢◌, ◌≤◌, ◌<◌, ◌↔◌, length, slice_index_or, None, IfOk, IfErr, IfSome, IfNone, IsTrue};
+ghost use Rattle.std.specs.Prelude.{◌≡◌, ◌≢◌, ◌≤◌, ◌<◌, ◌↔◌, length, slice_index_or, None, IfOk, IfErr, IfSome, IfNone, IsTrue, []};
 ghost use Rattle.std.specs.Option.{option_copied};
 ghost use Rattle.sel_bits.specs.Faults.{IsFault};
 ghost use Rattle.sel_arrow.specs.Makers.{flat_fault};
@@ -90,7 +90,7 @@ impl<T: NativeType> PrimitiveArray<T> {
 /// A number type whose columns are a kind of `Column`.
 pub trait ArrowPrimitive: NativeType {
     ghost use Rattle.sel_arrow.specs.DataType.{shape_of};
-    ghost use Rattle.sel_arrow.specs.Rows.{rows, type_of, IsWellFormed};
+    ghost use Rattle.sel_arrow.specs.Rows.{rows, buffers_held, type_of, IsWellFormed};
 
     /// The type of such a column.
     ghost shape: { Shape };
@@ -109,6 +109,7 @@ pub trait ArrowPrimitive: NativeType {
         requires covers { Covers validity (length values) }
         ensures rows { rows result ≡ number_rows Self.number values validity }
         ensures dtype { type_of result ≡ shape }
+        ensures buffers { buffers_held result ≡ [] }
         ensures formed { IsWellFormed result };
 
     /// The values and the validity, lent; none where the column is of another type.
@@ -140,6 +141,8 @@ impl<T: ArrowPrimitive> Array for PrimitiveArray<T> {
     ghost rows = { λ column. primitive_rows column };
 
     ghost shape = { λ _. T.shape };
+
+    ghost held = { λ _. [] };
 
     fn len(&self) -> usize {
         self.values.len()

@@ -6,7 +6,7 @@ ghost use Rattle.sel_bits.specs.Faults.{IsFaultOrMemory};
 ghost use Rattle.sel_arrow.specs.Makers.{struct_fault};
 ghost use Rattle.sel_arrow.specs.Masked.{Covers};
 ghost use Rattle.sel_arrow.specs.Nested.{tuple_rows};
-ghost use Rattle.sel_arrow.specs.Rows.{rows, row_count, type_of, IsField, IsWellFormed};
+ghost use Rattle.sel_arrow.specs.Rows.{rows, row_count, type_of, IsField, IsWellFormed, buffers_held};
 ghost use Rattle.sel_arrow.specs.declared.column.Column.{Struct};
 
 use crate::array::Array;
@@ -77,6 +77,7 @@ impl StructArray {
         ensures rows { rows (tuple_column result) ≡
             tuple_rows self.len (map rows self.fields.items) validity }
         ensures dtype { type_of (tuple_column result) ≡ type_of (tuple_column self) }
+        ensures buffers { buffers_held (tuple_column result) ≡ buffers_held (tuple_column self) }
         ensures validity { result.validity ≡ validity }
     {
         let StructArray {
@@ -124,6 +125,8 @@ impl StructArray {
             take len (drop off (rows (Struct _count fields.now validity.now)))) }
         ensures dtype { IfOk result (λ part. type_of (tuple_column part) ≡
             type_of (Struct _count fields.now validity.now)) }
+        ensures buffers { IfOk result (λ part. buffers_held (tuple_column part) ≡
+            buffers_held (Struct _count fields.now validity.now)) }
         ensures refusal { IfErr result (λ fault. fault ≡ PolarsError.OutOfMemory) }
     {
         let fields = parts_of(fields, alloc, off, len)?;
@@ -148,6 +151,8 @@ impl StructArray {
             rows (Struct len fields.now validity.now)) }
         ensures dtype { IfOk result (λ copy. type_of (tuple_column copy) ≡
             type_of (Struct len fields.now validity.now)) }
+        ensures buffers { IfOk result (λ copy. buffers_held (tuple_column copy) ≡
+            buffers_held (Struct len fields.now validity.now)) }
         ensures refusal { IfErr result (λ fault. fault ≡ PolarsError.OutOfMemory) }
     {
         let fields = copies_of(fields, alloc)?;
@@ -167,6 +172,8 @@ impl Array for StructArray {
     ghost rows = { λ array. rows (tuple_column array) };
 
     ghost shape = { λ array. type_of (tuple_column array) };
+
+    ghost held = { λ array. buffers_held (tuple_column array) };
 
     fn len(&self) -> usize {
         self.len
@@ -243,6 +250,8 @@ fn parts_of(columns: &[Column], alloc: Global, off: usize, len: usize) -> Polars
     ensures rows { IfOk result (λ parts. map rows parts.items ≡
         map (λ column. take len (drop off (rows column))) columns.now) }
     ensures dtype { IfOk result (λ parts. map type_of parts.items ≡ map type_of columns.now) }
+    ensures buffers { IfOk result (λ parts. map buffers_held parts.items ≡
+        map buffers_held columns.now) }
     ensures formed { IfOk result (λ parts. All (IsField len) parts.items) }
     ensures refusal { IfErr result (λ fault. fault ≡ PolarsError.OutOfMemory) }
 {
@@ -259,6 +268,8 @@ fn copies_of(columns: &[Column], alloc: Global) -> PolarsResult<Vec<Column>>
     requires formed { All IsWellFormed columns.now }
     ensures rows { IfOk result (λ copies. map rows copies.items ≡ map rows columns.now) }
     ensures dtype { IfOk result (λ copies. map type_of copies.items ≡ map type_of columns.now) }
+    ensures buffers { IfOk result (λ copies. map buffers_held copies.items ≡
+        map buffers_held columns.now) }
     ensures formed { IfOk result (λ copies. All IsWellFormed copies.items) }
     ensures refusal { IfErr result (λ fault. fault ≡ PolarsError.OutOfMemory) }
 {

@@ -1,6 +1,6 @@
 //! A column of texts that views name.
 
-ghost use Rattle.std.specs.Prelude.{◌≡◌, ◌≤◌, ◌<◌, ◌+◌, length, slice_index_or, None, IfOk, IfErr, IsTrue, string_bytes};
+ghost use Rattle.std.specs.Prelude.{◌≡◌, ◌≤◌, ◌<◌, ◌+◌, length, slice_index_or, None, IfOk, IfErr, IsTrue, string_bytes, [], ◌∷◌};
 ghost use Rattle.std.specs.Option.{option_copied, option_map};
 ghost use Rattle.sel_bits.specs.Faults.{IsFault};
 ghost use Rattle.sel_arrow.specs.Makers.{utf8view_fault};
@@ -86,6 +86,7 @@ impl Utf8ViewArray {
     /// The same rows as bytes. Refuses only for want of memory.
     pub fn to_binview(&self, alloc: Global) -> PolarsResult<BinaryViewArray>
         ensures rows { IfOk result (λ column. binview_rows column ≡ utf8view_rows self.now) }
+        ensures buffers { IfOk result (λ column. column.buffers ≡ self.now.bytes.buffers) }
         ensures refusal { IfErr result (λ fault. fault ≡ PolarsError.OutOfMemory) }
     {
         Ok(self.bytes.try_clone(alloc)?)
@@ -100,6 +101,8 @@ impl Array for Utf8ViewArray {
     ghost rows = { utf8view_rows };
 
     ghost shape = { λ _. of_utf8_view };
+
+    ghost held = { λ column. column.bytes.buffers ∷ [] };
 
     fn len(&self) -> usize {
         self.bytes.len()

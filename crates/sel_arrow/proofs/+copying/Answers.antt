@@ -1,6 +1,6 @@
 use Rattle.std.proofs.Common.{ap, sym, subst, map, All, ◌∙◌, rules}
-use Rattle.sel_arrow.specs.Rows.{rows, type_of, well_formed, IsWellFormed}
-use Rattle.sel_arrow.proofs.NestedParts.{lists_copied, blocks_copied, tuples_copied, tuples_copied_rows, tuples_type, fields_formed_each}
+use Rattle.sel_arrow.specs.Rows.{rows, buffers_held, type_of, well_formed, IsWellFormed}
+use Rattle.sel_arrow.proofs.NestedParts.{lists_copied, blocks_copied, tuples_copied, tuples_copied_rows, tuples_type, tuples_held, fields_formed_each}
 use Rattle.sel_arrow.proofs.+copying.Goals as goal
 
 pub list::ListArray+i64::copy_of-invariant_of-result : goal.list::ListArray+i64::copy_of-invariant_of-result
@@ -32,6 +32,10 @@ structure::StructArray::copy_of-returns-clause-rows t c =
 pub structure::StructArray::copy_of-returns-clause-dtype : goal.structure::StructArray::copy_of-returns-clause-dtype
 structure::StructArray::copy_of-returns-clause-dtype t c =
     tuples_type c.args.len c.args.len c.args.fields.now c.in_ok-fields.fields c.args.validity.now c.in_ok-validity.validity (c.in_ok-fields.ensures.dtype ∙ ap (λ cs. map type_of cs) c.deref.ensures.value)
+
+pub structure::StructArray::copy_of-returns-clause-buffers : goal.structure::StructArray::copy_of-returns-clause-buffers
+structure::StructArray::copy_of-returns-clause-buffers t c =
+    tuples_held c.args.len c.args.len c.args.fields.now c.in_ok-fields.fields c.args.validity.now c.in_ok-validity.validity (c.in_ok-fields.ensures.buffers ∙ ap (λ cs. map buffers_held cs) c.deref.ensures.value)
 
 pub structure::StructArray::copy_of-copies_of-requires : goal.structure::StructArray::copy_of-copies_of-requires
 structure::StructArray::copy_of-copies_of-requires t c =

@@ -1,8 +1,8 @@
 use Rattle.std.proofs.Common.{◌≤◌, ◌+◌, ◌*◌, ◌∙◌, ap, sym, subst, map, length, All, rules, arith}
 use Rattle.std.proofs.lemmas.List.Elements.{All-get_or, All-push}
-use Rattle.sel_arrow.specs.Rows.{rows, type_of, well_formed, IsField, IsWellFormed}
+use Rattle.sel_arrow.specs.Rows.{rows, buffers_held, type_of, well_formed, IsField, IsWellFormed}
 use Rattle.sel_arrow.specs.declared.column.Column.{Column}
-use Rattle.sel_arrow.proofs.NestedParts.{blocks_inside, blocks_fit, blocks_cover, blocks_within, blocks_part, blocks_part_rows, tuples_inside, fields_cover, fields_within, tuples_part, tuples_part_rows, tuples_type, part_rows, mapped_more, part_is_field}
+use Rattle.sel_arrow.proofs.NestedParts.{blocks_inside, blocks_fit, blocks_cover, blocks_within, blocks_part, blocks_part_rows, tuples_inside, fields_cover, fields_within, tuples_part, tuples_part_rows, tuples_type, tuples_held, part_rows, mapped_more, part_is_field}
 use Rattle.sel_arrow.proofs.NestedRows.{has_blocks}
 use Rattle.sel_arrow.proofs.+slicing.Goals as goal
 
@@ -54,6 +54,10 @@ pub structure::StructArray::part_of-returns-clause-dtype : goal.structure::Struc
 structure::StructArray::part_of-returns-clause-dtype t c =
     tuples_type c.args._count c.args.len c.args.fields.now c.in_ok-fields.fields c.args.validity.now c.in_ok-validity.validity (c.in_ok-fields.ensures.dtype ∙ ap (map type_of) c.deref.ensures.value)
 
+pub structure::StructArray::part_of-returns-clause-buffers : goal.structure::StructArray::part_of-returns-clause-buffers
+structure::StructArray::part_of-returns-clause-buffers t c =
+    tuples_held c.args._count c.args.len c.args.fields.now c.in_ok-fields.fields c.args.validity.now c.in_ok-validity.validity (c.in_ok-fields.ensures.buffers ∙ ap (map buffers_held) c.deref.ensures.value)
+
 pub structure::parts_of-loop-column-preserved : goal.structure::parts_of-loop-column-preserved
 structure::parts_of-loop-column-preserved t c =
     let lt = c.loop-column-test.true in
@@ -65,6 +69,7 @@ structure::parts_of-loop-column-preserved t c =
     record {
       rows = mapped_more rows (part_rows c.args.off c.args.len) c.args.columns.now c.loop-column.parts.items _ c.loop-column.column-index c.column-item.result part.field-0 lt is pushed part.ensures.rows c.loop-column.invariant.rows;
       dtype = mapped_more type_of type_of c.args.columns.now c.loop-column.parts.items _ c.loop-column.column-index c.column-item.result part.field-0 lt is pushed part.ensures.dtype c.loop-column.invariant.dtype;
+      buffers = mapped_more buffers_held buffers_held c.args.columns.now c.loop-column.parts.items _ c.loop-column.column-index c.column-item.result part.field-0 lt is pushed part.ensures.buffers c.loop-column.invariant.buffers;
       formed =
           subst (All (IsField c.args.len)) (sym pushed)
           (All-push (IsField c.args.len) c.loop-column.parts.items part.field-0 c.loop-column.invariant.formed (part_is_field c.args.off c.args.len c.column-item.result part.field-0 part.ensures.rows within.1 part.ensures.formed));
