@@ -26,6 +26,10 @@ IsRefusal past OutOfMemory = ⊤
 IsRefusal past (SizeLimit limit) = past limit
 IsRefusal past ComputeError = ⊥
 
+-- no limit is passed (own)
+abbrev pub PassesNone : (Limit → Type 0) → Type 0
+PassesNone past = (limit : Limit) → ¬ past limit
+
 -- the one limit that rows of bytes can pass: they need more bytes than the greatest offset shows (own)
 abbrev pub IsPastBytes : ℤ → List Value → Limit → Type 0
 IsPastBytes greatest rows ByteLimit = greatest <ℤ pos (bytes_needed rows)

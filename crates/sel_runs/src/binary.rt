@@ -5,7 +5,7 @@ ghost use Rattle.sel_arrow.specs.Columns.{binary_rows};
 ghost use Rattle.sel_arrow.specs.Value.{Null, validities};
 ghost use Rattle.sel_runs.specs.Cleared.{IsLive};
 ghost use Rattle.sel_runs.specs.JoinedBytes.{ends_from, joined_bytes, GrewBy};
-ghost use Rattle.sel_runs.specs.Need.{bytes_needed, IsRefusal, IsPastBytes};
+ghost use Rattle.sel_runs.specs.Need.{IsPastBytes, IsRefusal, PassesNone, bytes_needed};
 ghost use Rattle.sel_runs.specs.Picks.{pick, PickFits};
 ghost use Rattle.sel_runs.specs.Runs.{expand, unrolled};
 ghost use Rattle.sel_runs.specs.Sources.{binaries, picked_bytes, run_bytes};
@@ -41,6 +41,8 @@ pub fn collect_binary<'a>(
     requires len { length (expand runs.now) ≡ len }
     requires few { len ≤ 4294967295 }
     ensures rows { IfOk result (λ array. binary_rows array ≡ picked_bytes sources.now runs.now) }
+    ensures within { IfOk result (λ _. PassesNone
+        (IsPastBytes (pos 9223372036854775807) (picked_bytes sources.now runs.now))) }
     ensures refusal { IfErr result (IsRefusal
         (IsPastBytes (pos 9223372036854775807) (picked_bytes sources.now runs.now))) }
 {

@@ -5,7 +5,7 @@ ghost use Rattle.sel_arrow.specs.Rows.{rows, type_of, IsField, IsWellFormed};
 ghost use Rattle.sel_arrow.specs.Shape.{of_large_binary, of_binary_view, of_utf8_view, of_large_list, of_fixed_size_list, of_struct, shapes_of};
 ghost use Rattle.sel_arrow.specs.Value.{Null};
 ghost use Rattle.sel_runs.specs.Children.{child, is_listing, joined_items, parts_of};
-ghost use Rattle.sel_runs.specs.Need.{IsPastBuffers, IsPastBytes, IsRefusal, buffers_joined, past_fields, past_taken};
+ghost use Rattle.sel_runs.specs.Need.{IsPastBuffers, IsPastBytes, IsRefusal, PassesNone, buffers_joined, past_fields, past_taken};
 ghost use Rattle.sel_runs.specs.Picks.{pick, PickFits};
 ghost use Rattle.sel_runs.specs.Runs.{expand};
 ghost use Rattle.sel_runs.specs.Sources.{columns_of, first_type, picked, rows_of};
@@ -44,6 +44,8 @@ pub fn collect_rows<'a>(
         pick Null (rows_of sources.now) picks.now) }
     ensures dtype { IfOk result (λ array. type_of array.column ≡
         first_type (columns_of sources.now)) }
+    ensures within { IfOk result (λ _. PassesNone (past_taken (first_type (columns_of sources.now))
+        (columns_of sources.now) (pick Null (rows_of sources.now) picks.now))) }
     ensures refusal { IfErr result (IsRefusal (past_taken (first_type (columns_of sources.now))
         (columns_of sources.now) (pick Null (rows_of sources.now) picks.now))) }
 {
@@ -68,6 +70,8 @@ pub fn collect_runs<'a>(
     ensures rows { IfOk result (λ column. rows column ≡ picked sources.now runs.now) }
     ensures dtype { IfOk result (λ column. type_of column ≡ first_type (columns_of sources.now)) }
     ensures formed { IfOk result (λ column. IsWellFormed column) }
+    ensures within { IfOk result (λ _. PassesNone (past_taken (first_type (columns_of sources.now))
+        (columns_of sources.now) (picked sources.now runs.now))) }
     ensures refusal { IfErr result (IsRefusal (past_taken (first_type (columns_of sources.now))
         (columns_of sources.now) (picked sources.now runs.now))) }
 {
@@ -93,6 +97,8 @@ fn collect_like<'a>(
     ensures rows { IfOk result (λ column. rows column ≡ picked sources.now runs.now) }
     ensures dtype { IfOk result (λ column. type_of column ≡ type_of first.now) }
     ensures formed { IfOk result (λ column. IsWellFormed column) }
+    ensures within { IfOk result (λ _. PassesNone
+        (past_taken (type_of first.now) (columns_of sources.now) (picked sources.now runs.now))) }
     ensures refusal { IfErr result (IsRefusal
         (past_taken (type_of first.now) (columns_of sources.now) (picked sources.now runs.now))) }
 {
@@ -138,6 +144,8 @@ fn collect_lists<'a>(
     ensures rows { IfOk result (λ column. rows column ≡ picked sources.now runs.now) }
     ensures dtype { IfOk result (λ column. type_of column ≡ of_large_list (type_of child.now)) }
     ensures formed { IfOk result (λ column. IsWellFormed column) }
+    ensures within { IfOk result (λ _. PassesNone (past_taken (of_large_list (type_of child.now))
+        (columns_of sources.now) (picked sources.now runs.now))) }
     ensures refusal { IfErr result (IsRefusal (past_taken (of_large_list (type_of child.now))
         (columns_of sources.now) (picked sources.now runs.now))) }
 {
@@ -172,6 +180,8 @@ fn collect_blocks<'a>(
     ensures dtype { IfOk result (λ column. type_of column ≡
         of_fixed_size_list (type_of child.now) size) }
     ensures formed { IfOk result (λ column. IsWellFormed column) }
+    ensures within { IfOk result (λ _. PassesNone (past_taken (of_fixed_size_list
+        (type_of child.now) size) (columns_of sources.now) (picked sources.now runs.now))) }
     ensures refusal { IfErr result (IsRefusal (past_taken (of_fixed_size_list
         (type_of child.now) size) (columns_of sources.now) (picked sources.now runs.now))) }
 {
@@ -206,6 +216,8 @@ fn collect_items<'a>(
         joined_items width (picked sources.now runs.now)) }
     ensures dtype { IfOk result (λ column. type_of column ≡ type_of first.now) }
     ensures formed { IfOk result (λ column. IsWellFormed column) }
+    ensures within { IfOk result (λ _. PassesNone (past_taken (type_of first.now)
+        (map (λ c. child c.now) sources.now) (joined_items width (picked sources.now runs.now)))) }
     ensures refusal { IfErr result (IsRefusal (past_taken (type_of first.now)
         (map (λ c. child c.now) sources.now) (joined_items width (picked sources.now runs.now)))) }
 {
@@ -238,6 +250,8 @@ fn collect_tuples<'a>(
     ensures dtype { IfOk result (λ column. type_of column ≡
         of_struct (shapes_of (map type_of firsts.now))) }
     ensures formed { IfOk result (λ column. IsWellFormed column) }
+    ensures within { IfOk result (λ _. PassesNone (past_taken (of_struct (shapes_of
+        (map type_of firsts.now))) (columns_of sources.now) (picked sources.now runs.now))) }
     ensures refusal { IfErr result (IsRefusal (past_taken (of_struct (shapes_of
         (map type_of firsts.now))) (columns_of sources.now) (picked sources.now runs.now))) }
 {
@@ -266,6 +280,8 @@ fn collect_fields<'a>(
         parts_of (length firsts.now) (picked sources.now runs.now)) }
     ensures dtypes { IfOk result (λ fields. map type_of fields.items ≡ map type_of firsts.now) }
     ensures formed { IfOk result (λ fields. All (IsField len) fields.items) }
+    ensures within { IfOk result (λ _. PassesNone (past_fields (shapes_of (map type_of firsts.now)) 0
+        (columns_of sources.now) (picked sources.now runs.now))) }
     ensures refusal { IfErr result (IsRefusal (past_fields (shapes_of (map type_of firsts.now)) 0
         (columns_of sources.now) (picked sources.now runs.now))) }
 {
@@ -295,6 +311,8 @@ fn collect_large_binary<'a>(
     ensures rows { IfOk result (λ column. rows column ≡ picked sources.now runs.now) }
     ensures dtype { IfOk result (λ column. type_of column ≡ of_large_binary) }
     ensures formed { IfOk result (λ column. IsWellFormed column) }
+    ensures within { IfOk result (λ _. PassesNone
+        (IsPastBytes (pos 9223372036854775807) (picked sources.now runs.now))) }
     ensures refusal { IfErr result (IsRefusal
         (IsPastBytes (pos 9223372036854775807) (picked sources.now runs.now))) }
 {
@@ -318,6 +336,8 @@ fn collect_binview<'a>(
     ensures rows { IfOk result (λ column. rows column ≡ picked sources.now runs.now) }
     ensures dtype { IfOk result (λ column. type_of column ≡ of_binary_view) }
     ensures formed { IfOk result (λ column. IsWellFormed column) }
+    ensures within { IfOk result (λ _. PassesNone
+        (IsPastBuffers (buffers_joined (columns_of sources.now)))) }
     ensures refusal { IfErr result (IsRefusal
         (IsPastBuffers (buffers_joined (columns_of sources.now)))) }
 {
@@ -340,6 +360,8 @@ fn collect_utf8view<'a>(
     ensures rows { IfOk result (λ column. rows column ≡ picked sources.now runs.now) }
     ensures dtype { IfOk result (λ column. type_of column ≡ of_utf8_view) }
     ensures formed { IfOk result (λ column. IsWellFormed column) }
+    ensures within { IfOk result (λ _. PassesNone
+        (IsPastBuffers (buffers_joined (columns_of sources.now)))) }
     ensures refusal { IfErr result (IsRefusal
         (IsPastBuffers (buffers_joined (columns_of sources.now)))) }
 {

@@ -3,7 +3,7 @@
 ghost use Rattle.std.specs.Prelude.{◌≡◌, ◌≤◌, ◌∷◌, [], All, length, IfOk, IfErr};
 ghost use Rattle.sel_arrow.specs.Rows.{rows, type_of, IsWellFormed};
 ghost use Rattle.sel_arrow.specs.Value.{Null};
-ghost use Rattle.sel_runs.specs.Need.{IsRefusal, past};
+ghost use Rattle.sel_runs.specs.Need.{IsRefusal, PassesNone, past};
 ghost use Rattle.sel_runs.specs.Picks.{pick, PickFits};
 ghost use Rattle.sel_runs.specs.Runs.{expand};
 
@@ -28,6 +28,8 @@ pub fn collect_one(
     ensures rows { IfOk result (λ array. rows array.column ≡
         pick Null (rows column.now ∷ []) (expand runs.now)) }
     ensures dtype { IfOk result (λ array. type_of array.column ≡ type_of column.now) }
+    ensures within { IfOk result (λ _. PassesNone
+        (past (type_of column.now) (pick Null (rows column.now ∷ []) (expand runs.now)))) }
     ensures refusal { IfErr result (IsRefusal
         (past (type_of column.now) (pick Null (rows column.now ∷ []) (expand runs.now)))) }
 {

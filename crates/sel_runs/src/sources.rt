@@ -37,9 +37,8 @@ pub fn are_well_formed(sources: &[&Column]) -> bool
     true
 }
 
-/// Whether each run names rows that its source has.
+/// Whether each run names rows that its source has. The sources may be put together wrongly.
 pub fn runs_fit(sources: &[&Column], runs: &[Run]) -> bool
-    requires { All (λ c. IsWellFormed c.now) sources.now }
     ensures { IsTrue result ↔ All (PickFits (rows_of sources.now)) (expand runs.now) }
 {
     for run in runs {
@@ -52,7 +51,6 @@ pub fn runs_fit(sources: &[&Column], runs: &[Run]) -> bool
 
 // Whether a run names rows that its source has.
 fn run_fits(sources: &[&Column], run: Run) -> bool
-    requires { All (λ c. IsWellFormed c.now) sources.now }
     ensures { IsTrue result ↔ All (PickFits (rows_of sources.now)) (unrolled run) }
 {
     if run.len == 0 {
@@ -80,9 +78,9 @@ pub fn picked_rows(runs: &[Run]) -> u128
     count
 }
 
-/// Whether each pick names a row that its source has, and there are at most 4,294,967,295 of them.
+/// Whether each pick names a row that its source has, and there are at most 4,294,967,295 of them. The sources may be put
+/// together wrongly.
 pub fn picks_in_bounds(sources: &[&Column], picks: &[Option<(u32, u32)>]) -> bool
-    requires { All (λ c. IsWellFormed c.now) sources.now }
     ensures { IsTrue result ↔
         (All (PickFits (rows_of sources.now)) picks.now × (length picks.now ≤ 4294967295)) }
 {
@@ -99,7 +97,6 @@ pub fn picks_in_bounds(sources: &[&Column], picks: &[Option<(u32, u32)>]) -> boo
 
 // Whether a pick names a row that its source has.
 fn pick_fits(sources: &[&Column], pick: Option<(u32, u32)>) -> bool
-    requires { All (λ c. IsWellFormed c.now) sources.now }
     ensures { IsTrue result ↔ PickFits (rows_of sources.now) pick }
 {
     match pick {
