@@ -20,3 +20,4 @@ pub mod Thinned
 pub mod TupleRows
 pub mod ValidBytes
 pub mod Windows
+pub mod Within

@@ -10,7 +10,7 @@ use Rattle.sel_arrow.proofs.Trees.{has_fields}
 use Rattle.sel_arrow.proofs.Types.{type_of-Struct}
 use Rattle.sel_runs.specs.Children.{child, field, is_listing, joined_items, part_at, parts_of}
 use Rattle.sel_runs.specs.Cleared.{cleared}
-use Rattle.sel_runs.specs.Need.{IsRefusal, past_taken}
+use Rattle.sel_runs.specs.Need.{IsPastRows, IsRefusal, PassesNone, past_taken}
 use Rattle.sel_runs.specs.Picks.{pick, PickFits}
 use Rattle.sel_runs.specs.Runs.{expand}
 use Rattle.sel_runs.proofs.Below.{child_type, block_child_type, items_recurse, found_all, found_map, mapped_now, listed_shapes, refused_more, past_at, parts_more, field_kind}
@@ -19,6 +19,8 @@ use Rattle.sel_runs.proofs.ItemRuns.{rows_of, below_of}
 use Rattle.sel_runs.proofs.NullItems.{null_items_in}
 use Rattle.sel_runs.proofs.RunLists.{length-pick}
 use Rattle.sel_runs.proofs.TupleRows.{field_rows, field_type, field_formed, picked_parts, parts_fit}
+use Rattle.sel_runs.specs.Sources.{columns_of, picked}
+use Rattle.sel_runs.proofs.Within.{few_rows_pass, fields_pass, one_more_passes, passes_neither}
 use Rattle.sel_runs.proofs.collect.+collecting.Goals as goal
 
 -- ---- lists
@@ -128,7 +130,7 @@ collect_like-returns-in_ok-collect_tuples-in-Struct-clause-dtype t c =
 pub collect_fields-loop-j-init : goal.collect_fields-loop-j-init
 collect_fields-loop-j-init t c =
     let none : c.in_ok-fields.fields.items ≡ [] = c.in_ok-fields.ensures.items in
-    record { parts = ap (map rows) none; dtypes = ap (map type_of) none; formed = subst (All (IsField c.args.len)) (sym none) (λ k d h. absurd (omega (arith, h))) }
+    record { parts = ap (map rows) none; dtypes = ap (map type_of) none; formed = subst (All (IsField c.args.len)) (sym none) (λ k d h. absurd (omega (arith, h))); within = λ k h limit past. absurd (omega (arith, h)) }
 
 pub collect_fields-collect_like-requires : goal.collect_fields-collect_like-requires
 collect_fields-collect_like-requires t c =
@@ -195,12 +197,20 @@ collect_fields-loop-j-preserved t c =
     in
     let long : row_count one ≡ c.args.len = sym (length-rows one) ∙ ap length part ∙ length-map vs (part_at j) ∙ length-pick Null (rows_of c.args.sources.now) (expand c.args.runs.now) ∙ c.requires.len in
     let new : c.push.new.self.items ≡ old ++ one ∷ [] = c.in_ok-push.ensures.items in
+    let firsts = map type_of c.args.firsts.now in
+    let columns = columns_of cs in
+    let f = c.index-firsts-j.result in
+    let kind : get_or (shape_list ss) j of_null ≡ type_of f = field_kind c.args.firsts.now j f c.loop-j-test.true c.index-firsts-j.is in
+    let taken = subst (λ l. PassesNone (past_taken (type_of f) l (map (part_at j) vs))) (found ∙ mapped_now (field j) cs)
+    (subst (λ l. PassesNone (past_taken (type_of f) (map (λ x. x.now) xs) l)) (sym c.in_ok-field.ensures.rows ∙ part) c.in_ok-field.ensures.within) in
+    let here = subst (λ s. PassesNone (past_taken s (map (field j) columns) (map (part_at j) vs))) (sym kind ∙ ap (λ l. get_or l j of_null) shapes) taken in
     record {
       parts = parts_more j vs (map rows old) (map rows c.push.new.self.items) (rows one) c.loop-j.invariant.parts (ap (map rows) new ∙ map-append rows old (one ∷ [])) part;
       dtypes = ap (map type_of) new ∙ map-append type_of old (one ∷ []) ∙ ap (λ l. l ++ type_of one ∷ []) c.loop-j.invariant.dtypes
           ∙ ap (λ s. map type_of (take j c.args.firsts.now) ++ s ∷ []) (c.in_ok-field.ensures.dtype ∙ ap type_of c.index-firsts-j.is)
           ∙ sym (map_more type_of c.args.firsts.now j _ c.loop-j-test.true);
       formed = subst (All (IsField c.args.len)) (sym new) (All-push (IsField c.args.len) old one c.loop-j.invariant.formed (long, c.in_ok-field.ensures.formed));
+      within = one_more_passes firsts j columns vs c.loop-j.invariant.within here;
     }
 
 pub collect_fields-returns-clause-parts : goal.collect_fields-returns-clause-parts
@@ -213,3 +223,63 @@ collect_fields-returns-clause-dtypes t c = c.loop-j.invariant.dtypes ∙ ap (map
 
 pub collect_fields-returns-clause-formed : goal.collect_fields-returns-clause-formed
 collect_fields-returns-clause-formed t c = c.loop-j.invariant.formed
+
+-- ---- an answer passes no limit
+
+pub collect_like-returns-in_ok-collect_binview-in-BinaryView-clause-within : goal.collect_like-returns-in_ok-collect_binview-in-BinaryView-clause-within
+collect_like-returns-in_ok-collect_binview-in-BinaryView-clause-within t c =
+    let vs = picked c.args.sources.now c.args.runs.now in
+    subst (λ s. PassesNone (past_taken s (columns_of c.args.sources.now) vs)) (sym (ap type_of c.in-BinaryView.is)) c.in_ok-collect_binview-in-BinaryView.ensures.within
+
+pub collect_like-returns-in_ok-collect_utf8view-in-Utf8View-clause-within : goal.collect_like-returns-in_ok-collect_utf8view-in-Utf8View-clause-within
+collect_like-returns-in_ok-collect_utf8view-in-Utf8View-clause-within t c =
+    let vs = picked c.args.sources.now c.args.runs.now in
+    subst (λ s. PassesNone (past_taken s (columns_of c.args.sources.now) vs)) (sym (ap type_of c.in-Utf8View.is)) c.in_ok-collect_utf8view-in-Utf8View.ensures.within
+
+pub collect_like-returns-in_ok-collect_blocks-in-FixedSizeList-clause-within : goal.collect_like-returns-in_ok-collect_blocks-in-FixedSizeList-clause-within
+collect_like-returns-in_ok-collect_blocks-in-FixedSizeList-clause-within t c = rw (c.in-FixedSizeList.is, sym c.deref-in-FixedSizeList.ensures) c.in_ok-collect_blocks-in-FixedSizeList.ensures.within
+
+pub collect_like-returns-in_ok-collect_tuples-in-Struct-clause-within : goal.collect_like-returns-in_ok-collect_tuples-in-Struct-clause-within
+collect_like-returns-in_ok-collect_tuples-in-Struct-clause-within t c =
+    let vs = picked c.args.sources.now c.args.runs.now in
+    let kind : type_of c.args.first.now ≡ of_struct (shapes_of (map type_of c.deref-in-Struct.result.now)) =
+    ap type_of c.in-Struct.is ∙ type_of-Struct c.in-Struct.len c.in-Struct.fields c.in-Struct.validity ∙ ap (λ l. of_struct (shapes_of (map type_of l))) (sym c.deref-in-Struct.ensures.value)
+    in
+    subst (λ s. PassesNone (past_taken s (columns_of c.args.sources.now) vs)) (sym kind) c.in_ok-collect_tuples-in-Struct.ensures.within
+
+pub collect_lists-returns-clause-within : goal.collect_lists-returns-clause-within
+collect_lists-returns-clause-within t c =
+    let items = joined_items 0 (picked c.args.sources.now c.args.runs.now) in
+    let s = type_of c.args.child.now in
+    let columns = columns_of c.args.sources.now in
+    let below = subst (λ l. PassesNone (past_taken s l items)) (mapped_now child c.args.sources.now) c.in_ok-values.ensures.within in
+    passes_neither (IsPastRows (length items)) (past_taken s (map child columns) items) (few_rows_pass (length items) (omega (arith, c.count_items-need.ensures, c.if-need.false))) below
+
+pub collect_blocks-returns-clause-within : goal.collect_blocks-returns-clause-within
+collect_blocks-returns-clause-within t c =
+    let items = joined_items c.args.size (picked c.args.sources.now c.args.runs.now) in
+    let s = type_of c.args.child.now in
+    let columns = columns_of c.args.sources.now in
+    let below = subst (λ l. PassesNone (past_taken s l items)) (mapped_now child c.args.sources.now) c.in_ok-values.ensures.within in
+    passes_neither (IsPastRows (length items)) (past_taken s (map child columns) items) (few_rows_pass (length items) (omega (arith, c.count_items-need.ensures, c.if-need.false))) below
+
+pub collect_items-returns-clause-within : goal.collect_items-returns-clause-within
+collect_items-returns-clause-within t c =
+    let cs = c.args.sources.now in
+    let xs = c.deref.result.now in
+    let s = type_of c.args.first.now in
+    let found = ap (map (λ x. x.now)) c.deref.ensures.value ∙ c.in_ok-children.ensures.children in
+    let below = items_recurse s xs cs found c.requires.lists c.requires.alike c.requires.formed in
+    let items = ap (λ xss. pick Null xss (expand c.deref-2.result.now)) below.rows ∙ ap (λ ps. pick Null (below_of cs) ps) (ap expand c.deref-2.ensures.value) ∙ c.in_ok-below.ensures.items in
+    subst (λ l. PassesNone (past_taken s l (joined_items c.args.width (picked cs c.args.runs.now)))) found
+    (subst (λ l. PassesNone (past_taken s (map (λ x. x.now) xs) l)) items c.in_ok-values.ensures.within)
+
+pub collect_fields-returns-clause-within : goal.collect_fields-returns-clause-within
+collect_fields-returns-clause-within t c =
+    let firsts = map type_of c.args.firsts.now in
+    let columns = columns_of c.args.sources.now in
+    let vs = picked c.args.sources.now c.args.runs.now in
+    fields_pass firsts 0 columns vs
+    (λ k below. let place : k ≡ 0 + k = omega arith in
+    subst (λ n. PassesNone (past_taken (get_or firsts k of_null) (map (field n) columns) (map (part_at n) vs))) place
+    (c.loop-j.invariant.within k (omega (arith, below, length-map c.args.firsts.now type_of, c.loop-j-test.false))))

@@ -1,11 +1,13 @@
 -- Each call goes on at a smaller type; the fields so far.
-use Rattle.std.proofs.Common.{◌≡◌, ◌+◌, ◌*◌, All, map, take}
+use Rattle.std.proofs.Common.{◌≡◌, ℕ, ◌+◌, ◌*◌, ◌<◌, All, map, take, get_or}
 use Rattle.sel_arrow.specs.Rows.{rows, type_of, IsField}
-use Rattle.sel_arrow.specs.Shape.{shapes_of}
+use Rattle.sel_arrow.specs.Shape.{of_null, shapes_of}
 use Rattle.sel_arrow.specs.Value.{Null}
-use Rattle.sel_runs.specs.Children.{parts_of}
+use Rattle.sel_runs.specs.Children.{field, part_at, parts_of}
 use Rattle.sel_runs.specs.Picks.{pick}
+use Rattle.sel_runs.specs.Need.{PassesNone, past_taken}
 use Rattle.sel_runs.specs.Runs.{expand}
+use Rattle.sel_runs.specs.Sources.{columns_of, picked}
 use Rattle.sel_runs.proofs.Depths.{size_of, sizes_of}
 use Rattle.sel_runs.proofs.ItemRuns.{rows_of}
 use Rattle.sel_runs.proofs.collect.+collecting.Given as goal
@@ -33,4 +35,5 @@ invariant-collect_fields-loop-j l = record {
   parts : map rows l.fields.items ≡ parts_of l.j (pick Null (rows_of l.sources) (expand l.runs));
   dtypes : map type_of l.fields.items ≡ map type_of (take l.j l.firsts);
   formed : All (IsField l.len) l.fields.items;
+  within : (k : ℕ) → k < l.j → PassesNone (past_taken (get_or (map type_of l.firsts) k of_null) (map (field k) (columns_of l.sources)) (map (part_at k) (picked l.sources l.runs)));
 }

@@ -1,11 +1,12 @@
 use Rattle.std.proofs.Common.{◌∷◌, []}
 use Rattle.std.proofs.lemmas.Result.{err_from_is_err_and}
-use Rattle.sel_arrow.specs.Rows.{rows}
+use Rattle.sel_arrow.specs.Rows.{rows, type_of}
 use Rattle.sel_arrow.specs.Value.{Null}
 use Rattle.sel_runs.specs.Picks.{pick}
 use Rattle.sel_runs.specs.Runs.{expand}
 use Rattle.sel_runs.proofs.Below.{refused_more}
 use Rattle.sel_runs.proofs.OneSource.{one_source}
+use Rattle.sel_runs.proofs.Within.{rows_pass}
 use Rattle.sel_runs.proofs.single.collect_one.Goals as goal
 
 pub returns-in_err-column-clause-refusal : goal.returns-in_err-column-clause-refusal
@@ -14,3 +15,9 @@ returns-in_err-column-clause-refusal c =
     let column = c.args.column.now in
     let vs = pick Null (rows column ∷ []) (expand c.args.runs.now) in
     rw (p.1, p.2) (refused_more _ _ c.in_err-column.field-0.0 (λ limit h. one_source column c.requires.formed vs limit h) c.in_err-column.ensures.refusal)
+
+pub returns-clause-within : goal.returns-clause-within
+returns-clause-within c =
+    let column = c.args.column.now in
+    let vs = pick Null (rows column ∷ []) (expand c.args.runs.now) in
+    rows_pass c.in_ok-column.column (type_of column) vs c.in_ok-column.ensures.formed c.in_ok-column.ensures.dtype c.in_ok-column.ensures.rows
