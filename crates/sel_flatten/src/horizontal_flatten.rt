@@ -3,7 +3,7 @@
 ghost use Rattle.std.specs.Prelude.{◌≡◌, ◌≤◌, ◌<◌, ◌+◌, ◌*◌, ◌++◌, ◌↔◌, Some, All, length, map, take, drop, IsTrue, IfSome, IfNone, IfOk, IfErr, OnOk};
 ghost use Rattle.sel_arrow.specs.Rows.{rows, type_of};
 ghost use Rattle.sel_arrow.specs.Value.{Null};
-ghost use Rattle.sel_runs.specs.Need.{IsRefusal};
+ghost use Rattle.sel_runs.specs.Need.{IsRefusal, PassesNone};
 ghost use Rattle.sel_runs.specs.Picks.{pick, PickFits};
 ghost use Rattle.sel_runs.specs.Runs.{expand};
 ghost use Rattle.sel_runs.specs.Sources.{first_type};
@@ -36,6 +36,9 @@ pub fn horizontal_flatten_unchecked(
         flatten (array_rows arrays.now) widths.now output_height) }
     ensures dtype { IfOk result (λ flat. type_of flat.column ≡
         first_type (array_columns arrays.now)) }
+    ensures within { IfOk result (λ _. PassesNone
+        (past_flattened output_height (first_type (array_columns arrays.now))
+        (array_columns arrays.now) (flatten (array_rows arrays.now) widths.now output_height))) }
     ensures refusal { IfErr result (IsRefusal
         (past_flattened output_height (first_type (array_columns arrays.now))
         (array_columns arrays.now) (flatten (array_rows arrays.now) widths.now output_height))) }
@@ -150,6 +153,9 @@ fn collect_flat(
         flatten (array_rows arrays.now) widths.now height) }
     ensures dtype { IfOk result (λ flat. type_of flat.column ≡
         first_type (array_columns arrays.now)) }
+    ensures within { IfOk result (λ _. PassesNone
+        (past_flattened height (first_type (array_columns arrays.now))
+        (array_columns arrays.now) (flatten (array_rows arrays.now) widths.now height))) }
     ensures refusal { IfErr result (IsRefusal
         (past_flattened height (first_type (array_columns arrays.now))
         (array_columns arrays.now) (flatten (array_rows arrays.now) widths.now height))) }
