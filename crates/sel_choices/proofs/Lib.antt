@@ -1,3 +1,4 @@
+pub mod Answered
 pub mod BitChoices
 pub mod Blocks
 pub mod Chosen

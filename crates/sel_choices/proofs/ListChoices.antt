@@ -1,6 +1,6 @@
 -- Choices between columns of lists, as the trait promises them.
 use Rattle.std.proofs.Common.{◌≡◌, ℕ, ◌≤◌, true, List, [], ◌∷◌, length, get_or, Result, Ok, Err, inr, ap, subst, ◌∙◌, arith}
-use Rattle.std.specs.Prelude.{IfErr}
+use Rattle.std.specs.Prelude.{IfErr, IfOk}
 use Rattle.std.proofs.lemmas.List.{length-replicate}
 use Rattle.sel_bits.specs.declared.faults.PolarsError.{PolarsError}
 use Rattle.sel_arrow.specs.Nested.{list_of}
@@ -16,8 +16,9 @@ use Rattle.sel_runs.proofs.ItemRuns.{listed_values}
 use Rattle.sel_runs.proofs.Layouts.{rows_blocks}
 use Rattle.sel_runs.proofs.ListParts.{few_rows}
 use Rattle.sel_runs.proofs.Rebuilt.{IsBlock}
+use Rattle.sel_runs.proofs.Within.{passes_neither}
 use Rattle.sel_choices.specs.ListSides.{below, past_below, past_lists}
-use Rattle.sel_choices.specs.Sides.{Side, IsRefusal}
+use Rattle.sel_choices.specs.Sides.{Side, IsRefusal, PassesNone, past_flat}
 
 -- a mask that is as long as a column has few bits
 pub few_bits : (c : Column) (n : ℕ) → well_formed c ≡ true → length (rows c) ≡ n → n ≤ 4294967295
@@ -51,3 +52,12 @@ refused_choice (Err fault) child type given t f vs ws is same h =
     let typed = subst (λ s. IsRefusal (past_below s columns vs) fault) is h in
     let here = subst (λ l. IsRefusal (past_below type columns l) fault) same typed in
     refused_more (past_below type columns ws) (past_lists child type t f ws) fault (λ limit past. inr past) here
+
+-- and an answer passes none, where the rows themselves don't
+pub answered_choice : {A C : Type 0} (result : Result A PolarsError) (child : C → Column) (type given : Shape) (t f : Side C ArrayRef) (vs ws : List Value) → given ≡ type → vs ≡ ws → PassesNone (past_flat t f ws) →
+    IfOk result (λ _. PassesNone (past_below given (below child t ∷ below child f ∷ []) vs)) → IfOk result (λ _. PassesNone (past_lists child type t f ws))
+answered_choice (Err fault) child type given t f vs ws is same flat h = tt
+answered_choice (Ok x) child type given t f vs ws is same flat h =
+    let columns = below child t ∷ below child f ∷ [] in
+    let typed = subst (λ s. PassesNone (past_below s columns vs)) is h in
+    passes_neither (past_flat t f ws) (past_below type columns ws) flat (subst (λ l. PassesNone (past_below type columns l)) same typed)

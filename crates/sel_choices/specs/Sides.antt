@@ -2,7 +2,7 @@
 use Rattle.std.specs.Prelude.{List, length}
 use Rattle.sel_bits.specs.declared.faults.Limit.{Limit}
 use Rattle.sel_arrow.specs.Value.{Value}
-pub use Rattle.sel_runs.specs.Need.{IsRefusal, IsPastRows}
+pub use Rattle.sel_runs.specs.Need.{IsRefusal, IsPastRows, PassesNone}
 
 -- A side: a column, or a scalar, which stands at every position. (when-then-otherwise) (own)
 pub data Side (C S : Type 0) : Type 0 where

@@ -6,7 +6,7 @@ ghost use Rattle.sel_arrow.specs.Rows.{rows, type_of};
 ghost use Rattle.sel_arrow.specs.Shape.{of_fixed_size_list};
 ghost use Rattle.sel_runs.specs.Children.{items_in};
 ghost use Rattle.sel_choices.specs.ListSides.{chosen_from, past_below};
-ghost use Rattle.sel_choices.specs.Sides.{IsRefusal};
+ghost use Rattle.sel_choices.specs.Sides.{IsRefusal, PassesNone};
 
 use crate::if_then_else::IfThenElseKernel;
 use crate::if_then_else::list_parts::{HeldRows, held_by_blocks, held_column};
@@ -103,6 +103,10 @@ fn choose_sized_lists<T: ListSide, F: ListSide>(
         chosen_from 0 mask.now.bits (T.row_at if_true.now) (F.row_at if_false.now)) }
     ensures dtype { IfOk result (λ lists. type_of (block_column lists) ≡
         of_fixed_size_list (type_of (T.held if_true.now)) size) }
+    ensures within { IfOk result (λ _. PassesNone
+        (past_below (of_fixed_size_list (type_of (T.held if_true.now)) size)
+        (T.held if_true.now ∷ F.held if_false.now ∷ [])
+        (chosen_from 0 mask.now.bits (T.row_at if_true.now) (F.row_at if_false.now)))) }
     ensures refusal { IfErr result (IsRefusal
         (past_below (of_fixed_size_list (type_of (T.held if_true.now)) size)
         (T.held if_true.now ∷ F.held if_false.now ∷ [])

@@ -7,7 +7,7 @@ ghost use Rattle.sel_arrow.specs.DataType.{shape_of};
 ghost use Rattle.sel_arrow.specs.Shape.{of_binary_view};
 ghost use Rattle.sel_arrow.specs.Value.{Bytes};
 ghost use Rattle.sel_choices.specs.Choose.{choose, choose_of_two, choose_one, choose_or_one};
-ghost use Rattle.sel_choices.specs.Sides.{IsRefusal, column, scalar};
+ghost use Rattle.sel_choices.specs.Sides.{IsRefusal, PassesNone, column, scalar};
 ghost use Rattle.sel_choices.specs.ViewSides.{binview_buffers, past_binview, scalar_buffers};
 
 use crate::if_then_else::IfThenElseKernel;
@@ -49,6 +49,9 @@ impl IfThenElseKernel for BinaryViewArray {
             choose mask.now.bits (binview_rows if_true.now) (binview_rows if_false.now)) }
         ensures buffers { IfOk result (λ chosen. binview_buffers chosen ≡
             binview_buffers if_true.now ++ binview_buffers if_false.now) }
+        ensures within { IfOk result (λ _. PassesNone
+            (past_binview (column if_true.now) (column if_false.now)
+            (choose mask.now.bits (binview_rows if_true.now) (binview_rows if_false.now)))) }
         ensures refusal { IfErr result (IsRefusal
             (past_binview (column if_true.now) (column if_false.now)
             (choose mask.now.bits (binview_rows if_true.now) (binview_rows if_false.now)))) }
@@ -68,6 +71,9 @@ impl IfThenElseKernel for BinaryViewArray {
         ensures buffers { IfOk result (λ chosen. binview_buffers chosen ≡
             binview_buffers if_false.now ++ scalar_buffers (vec_items if_true.now)) }
         ensures bytes { IfOk result (λ _. length (vec_items if_true.now) ≤ 4294967295) }
+        ensures within { IfOk result (λ _. PassesNone
+            (past_binview (scalar if_true.now) (column if_false.now) (choose_one mask.now.bits
+            (Bytes (vec_items if_true.now)) (binview_rows if_false.now)))) }
         ensures refusal { IfErr result (IsRefusal
             (past_binview (scalar if_true.now) (column if_false.now) (choose_one mask.now.bits
             (Bytes (vec_items if_true.now)) (binview_rows if_false.now)))) }
@@ -87,6 +93,9 @@ impl IfThenElseKernel for BinaryViewArray {
         ensures buffers { IfOk result (λ chosen. binview_buffers chosen ≡
             binview_buffers if_true.now ++ scalar_buffers (vec_items if_false.now)) }
         ensures bytes { IfOk result (λ _. length (vec_items if_false.now) ≤ 4294967295) }
+        ensures within { IfOk result (λ _. PassesNone
+            (past_binview (column if_true.now) (scalar if_false.now) (choose_or_one mask.now.bits
+            (binview_rows if_true.now) (Bytes (vec_items if_false.now))))) }
         ensures refusal { IfErr result (IsRefusal
             (past_binview (column if_true.now) (scalar if_false.now) (choose_or_one mask.now.bits
             (binview_rows if_true.now) (Bytes (vec_items if_false.now))))) }
@@ -109,6 +118,9 @@ impl IfThenElseKernel for BinaryViewArray {
             scalar_buffers (vec_items if_true.now) ++ scalar_buffers (vec_items if_false.now)) }
         ensures bytes { IfOk result (λ _. max (length (vec_items if_true.now))
             (length (vec_items if_false.now)) ≤ 4294967295) }
+        ensures within { IfOk result (λ _. PassesNone
+            (past_binview (scalar if_true.now) (scalar if_false.now) (choose_of_two mask.now.bits
+            (Bytes (vec_items if_true.now)) (Bytes (vec_items if_false.now))))) }
         ensures refusal { IfErr result (IsRefusal
             (past_binview (scalar if_true.now) (scalar if_false.now) (choose_of_two mask.now.bits
             (Bytes (vec_items if_true.now)) (Bytes (vec_items if_false.now))))) }

@@ -5,7 +5,7 @@ ghost use Rattle.sel_arrow.specs.NestedArrays.{list_column};
 ghost use Rattle.sel_arrow.specs.Rows.{rows, type_of};
 ghost use Rattle.sel_arrow.specs.Shape.{of_large_list};
 ghost use Rattle.sel_choices.specs.ListSides.{chosen_from, past_below};
-ghost use Rattle.sel_choices.specs.Sides.{IsRefusal};
+ghost use Rattle.sel_choices.specs.Sides.{IsRefusal, PassesNone};
 
 use crate::if_then_else::IfThenElseKernel;
 use crate::if_then_else::list_parts::{HeldRows, held_by_lists, held_column};
@@ -95,6 +95,10 @@ fn choose_lists<T: ListSide, F: ListSide>(
         chosen_from 0 mask.now.bits (T.row_at if_true.now) (F.row_at if_false.now)) }
     ensures dtype { IfOk result (λ lists. type_of (list_column lists) ≡
         of_large_list (type_of (T.held if_true.now))) }
+    ensures within { IfOk result (λ _. PassesNone
+        (past_below (of_large_list (type_of (T.held if_true.now)))
+        (T.held if_true.now ∷ F.held if_false.now ∷ [])
+        (chosen_from 0 mask.now.bits (T.row_at if_true.now) (F.row_at if_false.now)))) }
     ensures refusal { IfErr result (IsRefusal
         (past_below (of_large_list (type_of (T.held if_true.now)))
         (T.held if_true.now ∷ F.held if_false.now ∷ [])

@@ -6,7 +6,7 @@ ghost use Rattle.sel_arrow.specs.Rows.{rows, type_of, IsWellFormed};
 ghost use Rattle.sel_arrow.specs.Value.{Null, validities};
 ghost use Rattle.sel_runs.specs.Children.{joined_items};
 ghost use Rattle.sel_runs.specs.Ends.{item_ends};
-ghost use Rattle.sel_runs.specs.Need.{past_taken, IsPastRows, IsRefusal};
+ghost use Rattle.sel_runs.specs.Need.{past_taken, IsPastRows, IsRefusal, PassesNone};
 ghost use Rattle.sel_runs.specs.Picks.{pick, PickFits};
 ghost use Rattle.sel_runs.specs.Runs.{expand};
 ghost use Rattle.sel_runs.specs.Validity.{bits_for};
@@ -141,6 +141,9 @@ pub(crate) fn held_column(
         pick Null (rows if_true.now ∷ rows if_false.now ∷ []) (expand runs.now)) }
     ensures dtype { IfOk result (λ column. type_of column ≡ type_of if_true.now) }
     ensures formed { IfOk result (λ column. IsWellFormed column) }
+    ensures within { IfOk result (λ _. PassesNone
+        (past_taken (type_of if_true.now) (if_true.now ∷ if_false.now ∷ [])
+        (pick Null (rows if_true.now ∷ rows if_false.now ∷ []) (expand runs.now)))) }
     ensures refusal { IfErr result (IsRefusal
         (past_taken (type_of if_true.now) (if_true.now ∷ if_false.now ∷ [])
         (pick Null (rows if_true.now ∷ rows if_false.now ∷ []) (expand runs.now)))) }

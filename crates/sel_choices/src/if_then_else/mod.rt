@@ -5,7 +5,7 @@ ghost use Rattle.sel_bits.specs.declared.faults.Limit.{Limit};
 ghost use Rattle.sel_arrow.specs.Shape.{Shape};
 ghost use Rattle.sel_arrow.specs.Value.{Value};
 ghost use Rattle.sel_choices.specs.Choose.{choose, choose_of_two, choose_one, choose_or_one};
-ghost use Rattle.sel_choices.specs.Sides.{Side, column, scalar, IsRefusal};
+ghost use Rattle.sel_choices.specs.Sides.{Side, column, scalar, IsRefusal, PassesNone};
 
 use sel_arrow::array::Array;
 use sel_arrow::datatype::ArrowDataType;
@@ -63,6 +63,9 @@ pub trait IfThenElseKernel: Sized + Array {
         ensures rows { IfOk result (λ chosen. Self.rows chosen ≡
             choose mask.now.bits (Self.rows if_true.now) (Self.rows if_false.now)) }
         ensures dtype { IfOk result (λ chosen. Self.shape chosen ≡ Self.shape if_true.now) }
+        ensures within { IfOk result (λ _. PassesNone
+            (past (Self.shape if_true.now) (column if_true.now) (column if_false.now)
+            (choose mask.now.bits (Self.rows if_true.now) (Self.rows if_false.now)))) }
         ensures refusal { IfErr result (IsRefusal
             (past (Self.shape if_true.now) (column if_true.now) (column if_false.now)
             (choose mask.now.bits (Self.rows if_true.now) (Self.rows if_false.now)))) };
@@ -79,6 +82,9 @@ pub trait IfThenElseKernel: Sized + Array {
         ensures rows { IfOk result (λ chosen. Self.rows chosen ≡
             choose_one mask.now.bits (scalar_row if_true.now) (Self.rows if_false.now)) }
         ensures dtype { IfOk result (λ chosen. Self.shape chosen ≡ Self.shape if_false.now) }
+        ensures within { IfOk result (λ _. PassesNone
+            (past (Self.shape if_false.now) (scalar if_true.now) (column if_false.now)
+            (choose_one mask.now.bits (scalar_row if_true.now) (Self.rows if_false.now)))) }
         ensures refusal { IfErr result (IsRefusal
             (past (Self.shape if_false.now) (scalar if_true.now) (column if_false.now)
             (choose_one mask.now.bits (scalar_row if_true.now) (Self.rows if_false.now)))) };
@@ -95,6 +101,9 @@ pub trait IfThenElseKernel: Sized + Array {
         ensures rows { IfOk result (λ chosen. Self.rows chosen ≡
             choose_or_one mask.now.bits (Self.rows if_true.now) (scalar_row if_false.now)) }
         ensures dtype { IfOk result (λ chosen. Self.shape chosen ≡ Self.shape if_true.now) }
+        ensures within { IfOk result (λ _. PassesNone
+            (past (Self.shape if_true.now) (column if_true.now) (scalar if_false.now)
+            (choose_or_one mask.now.bits (Self.rows if_true.now) (scalar_row if_false.now)))) }
         ensures refusal { IfErr result (IsRefusal
             (past (Self.shape if_true.now) (column if_true.now) (scalar if_false.now)
             (choose_or_one mask.now.bits (Self.rows if_true.now) (scalar_row if_false.now)))) };
@@ -113,6 +122,9 @@ pub trait IfThenElseKernel: Sized + Array {
         ensures rows { IfOk result (λ chosen. Self.rows chosen ≡
             choose_of_two mask.now.bits (scalar_row if_true.now) (scalar_row if_false.now)) }
         ensures dtype { IfOk result (λ chosen. Self.shape chosen ≡ shape_of dtype) }
+        ensures within { IfOk result (λ _. PassesNone
+            (past (shape_of dtype) (scalar if_true.now) (scalar if_false.now)
+            (choose_of_two mask.now.bits (scalar_row if_true.now) (scalar_row if_false.now)))) }
         ensures refusal { IfErr result (IsRefusal
             (past (shape_of dtype) (scalar if_true.now) (scalar if_false.now)
             (choose_of_two mask.now.bits (scalar_row if_true.now) (scalar_row if_false.now)))) };

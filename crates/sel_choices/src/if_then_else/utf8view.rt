@@ -6,7 +6,7 @@ ghost use Rattle.sel_arrow.specs.DataType.{shape_of};
 ghost use Rattle.sel_arrow.specs.Shape.{of_utf8_view};
 ghost use Rattle.sel_arrow.specs.Value.{Bytes};
 ghost use Rattle.sel_choices.specs.Choose.{choose, choose_of_two, choose_one, choose_or_one};
-ghost use Rattle.sel_choices.specs.Sides.{IsRefusal, column, scalar};
+ghost use Rattle.sel_choices.specs.Sides.{IsRefusal, PassesNone, column, scalar};
 ghost use Rattle.sel_choices.specs.ViewSides.{utf8view_buffers, past_utf8view, scalar_buffers};
 
 use crate::if_then_else::IfThenElseKernel;
@@ -48,6 +48,9 @@ impl IfThenElseKernel for Utf8ViewArray {
             choose mask.now.bits (utf8view_rows if_true.now) (utf8view_rows if_false.now)) }
         ensures buffers { IfOk result (λ chosen. utf8view_buffers chosen ≡
             utf8view_buffers if_true.now ++ utf8view_buffers if_false.now) }
+        ensures within { IfOk result (λ _. PassesNone
+            (past_utf8view (column if_true.now) (column if_false.now)
+            (choose mask.now.bits (utf8view_rows if_true.now) (utf8view_rows if_false.now)))) }
         ensures refusal { IfErr result (IsRefusal
             (past_utf8view (column if_true.now) (column if_false.now)
             (choose mask.now.bits (utf8view_rows if_true.now) (utf8view_rows if_false.now)))) }
@@ -68,6 +71,9 @@ impl IfThenElseKernel for Utf8ViewArray {
         ensures buffers { IfOk result (λ chosen. utf8view_buffers chosen ≡
             utf8view_buffers if_false.now ++ scalar_buffers (string_bytes if_true.now)) }
         ensures bytes { IfOk result (λ _. length (string_bytes if_true.now) ≤ 4294967295) }
+        ensures within { IfOk result (λ _. PassesNone
+            (past_utf8view (scalar if_true.now) (column if_false.now) (choose_one mask.now.bits
+            (Bytes (string_bytes if_true.now)) (utf8view_rows if_false.now)))) }
         ensures refusal { IfErr result (IsRefusal
             (past_utf8view (scalar if_true.now) (column if_false.now) (choose_one mask.now.bits
             (Bytes (string_bytes if_true.now)) (utf8view_rows if_false.now)))) }
@@ -89,6 +95,9 @@ impl IfThenElseKernel for Utf8ViewArray {
         ensures buffers { IfOk result (λ chosen. utf8view_buffers chosen ≡
             utf8view_buffers if_true.now ++ scalar_buffers (string_bytes if_false.now)) }
         ensures bytes { IfOk result (λ _. length (string_bytes if_false.now) ≤ 4294967295) }
+        ensures within { IfOk result (λ _. PassesNone
+            (past_utf8view (column if_true.now) (scalar if_false.now) (choose_or_one mask.now.bits
+            (utf8view_rows if_true.now) (Bytes (string_bytes if_false.now))))) }
         ensures refusal { IfErr result (IsRefusal
             (past_utf8view (column if_true.now) (scalar if_false.now) (choose_or_one mask.now.bits
             (utf8view_rows if_true.now) (Bytes (string_bytes if_false.now))))) }
@@ -113,6 +122,9 @@ impl IfThenElseKernel for Utf8ViewArray {
             (string_bytes if_true.now) ++ scalar_buffers (string_bytes if_false.now)) }
         ensures bytes { IfOk result (λ _. max (length (string_bytes if_true.now))
             (length (string_bytes if_false.now)) ≤ 4294967295) }
+        ensures within { IfOk result (λ _. PassesNone
+            (past_utf8view (scalar if_true.now) (scalar if_false.now) (choose_of_two mask.now.bits
+            (Bytes (string_bytes if_true.now)) (Bytes (string_bytes if_false.now))))) }
         ensures refusal { IfErr result (IsRefusal
             (past_utf8view (scalar if_true.now) (scalar if_false.now) (choose_of_two mask.now.bits
             (Bytes (string_bytes if_true.now)) (Bytes (string_bytes if_false.now))))) }

@@ -4,7 +4,7 @@ ghost use Rattle.std.specs.Prelude.{◌≡◌, ◌≤◌, ◌+◌, ◌++◌, len
 ghost use Rattle.sel_arrow.specs.Columns.{binview_rows};
 ghost use Rattle.sel_arrow.specs.Value.{Bytes};
 ghost use Rattle.sel_choices.specs.Choose.{choose, choose_of_two, choose_one, choose_or_one};
-ghost use Rattle.sel_choices.specs.Sides.{IsRefusal};
+ghost use Rattle.sel_choices.specs.Sides.{IsRefusal, PassesNone};
 ghost use Rattle.sel_choices.specs.ViewSides.{scalar_buffers, IsPastViews};
 
 use crate::if_then_else::loops::{choose_one_false, choose_one_true, choose_two};
@@ -34,6 +34,8 @@ pub(crate) fn choose_columns(
         choose mask.now.bits (binview_rows if_true.now) (binview_rows if_false.now)) }
     ensures buffers { IfOk result (λ chosen. chosen.buffers ≡
         if_true.now.buffers ++ if_false.now.buffers) }
+    ensures within { IfOk result (λ _. PassesNone
+        (IsPastViews (length if_true.now.buffers + length if_false.now.buffers) 0)) }
     ensures refusal { IfErr result (IsRefusal
         (IsPastViews (length if_true.now.buffers + length if_false.now.buffers) 0)) }
 {
@@ -73,6 +75,8 @@ pub(crate) fn choose_bytes_true(
     ensures buffers { IfOk result (λ chosen. chosen.buffers ≡
         if_false.now.buffers ++ scalar_buffers if_true.now) }
     ensures bytes { IfOk result (λ _. length if_true.now ≤ 4294967295) }
+    ensures within { IfOk result (λ _. PassesNone (IsPastViews
+        (length (scalar_buffers if_true.now) + length if_false.now.buffers) (length if_true.now))) }
     ensures refusal { IfErr result (IsRefusal (IsPastViews
         (length (scalar_buffers if_true.now) + length if_false.now.buffers) (length if_true.now))) }
 {
@@ -104,6 +108,8 @@ pub(crate) fn choose_bytes_false(
     ensures buffers { IfOk result (λ chosen. chosen.buffers ≡
         if_true.now.buffers ++ scalar_buffers if_false.now) }
     ensures bytes { IfOk result (λ _. length if_false.now ≤ 4294967295) }
+    ensures within { IfOk result (λ _. PassesNone (IsPastViews (length if_true.now.buffers + length
+        (scalar_buffers if_false.now)) (length if_false.now))) }
     ensures refusal { IfErr result (IsRefusal (IsPastViews (length if_true.now.buffers + length
         (scalar_buffers if_false.now)) (length if_false.now))) }
 {
@@ -135,6 +141,9 @@ pub(crate) fn choose_bytes(
     ensures buffers { IfOk result (λ chosen. chosen.buffers ≡
         scalar_buffers if_true.now ++ scalar_buffers if_false.now) }
     ensures bytes { IfOk result (λ _. max (length if_true.now) (length if_false.now) ≤ 4294967295) }
+    ensures within { IfOk result (λ _. PassesNone
+        (IsPastViews (length (scalar_buffers if_true.now) + length (scalar_buffers if_false.now))
+        (max (length if_true.now) (length if_false.now)))) }
     ensures refusal { IfErr result (IsRefusal
         (IsPastViews (length (scalar_buffers if_true.now) + length (scalar_buffers if_false.now))
         (max (length if_true.now) (length if_false.now)))) }
@@ -161,6 +170,7 @@ pub(crate) fn choose_bytes(
 fn check_limits(buffers: usize, bytes: usize) -> PolarsResult<()>
     ensures buffers { IfOk result (λ _. buffers ≤ 4294967295) }
     ensures bytes { IfOk result (λ _. bytes ≤ 4294967295) }
+    ensures within { IfOk result (λ _. PassesNone (IsPastViews buffers bytes)) }
     ensures refusal { IfErr result (IsRefusal (IsPastViews buffers bytes)) }
 {
     if buffers > MOST_BUFFERS {

@@ -8,12 +8,13 @@ use Rattle.std.proofs.lemmas.List.{length-replicate}
 use Rattle.sel_arrow.specs.declared.column.Column.{Column}
 use Rattle.sel_arrow.proofs.NestedRows.{blocks_formed}
 use Rattle.sel_runs.specs.Children.{items_in, joined_items}
-use Rattle.sel_runs.specs.Need.{past_taken}
+use Rattle.sel_runs.specs.Need.{IsPastRows, PassesNone, past_taken}
 use Rattle.sel_runs.specs.Picks.{pick}
 use Rattle.sel_runs.specs.Runs.{expand}
 use Rattle.sel_runs.specs.Validity.{bits_for}
 use Rattle.sel_runs.proofs.Below.{refused_more}
 use Rattle.sel_runs.proofs.Rebuilt.{IsBlock, blocks_rebuilt, blocks_fit}
+use Rattle.sel_runs.proofs.Within.{few_rows_pass, passes_neither}
 use Rattle.sel_choices.specs.ListSides.{chosen_from, past_below}
 use Rattle.sel_choices.specs.Sides.{IsRefusal}
 use Rattle.sel_choices.proofs.ListRuns.{all_blocks, chosen_all, length-chosen, plain}
@@ -82,3 +83,19 @@ returns-clause-rows g c =
     let long : length vs ≡ c.len.result = length-chosen 0 ms (g.T.ListSide.row_at t) (g.F.ListSide.row_at f) ∙ sym c.len.ensures in
     let valid : bits_for c.len.result c.in_ok-held.held.validity ≡ validities vs = ap (λ n. bits_for n c.in_ok-held.held.validity) c.len.ensures ∙ c.in_ok-held.ensures.bits in
     blocks_rebuilt size vs (rows c.in_ok-values-2.values.value) c.in_ok-held.held.validity c.len.result blocks long below valid
+
+pub returns-clause-within : goal.returns-clause-within
+returns-clause-within g c =
+    let t = c.args.if_true.now in
+    let f = c.args.if_false.now in
+    let ts = g.T.ListSide.held t in
+    let fs = g.F.ListSide.held f in
+    let vs = chosen_from 0 c.args.mask.now.bits (g.T.ListSide.row_at t) (g.F.ListSide.row_at f) in
+    let given = λ (a b : Column) (values : List Value). PassesNone (past_taken (type_of a) (a ∷ b ∷ []) values) in
+    let picked = λ (a b : Column). pick Null (rows a ∷ rows b ∷ []) (expand c.deref.result.now) in
+    let first = subst (λ a. given a c.child-2.result.now (picked a c.child-2.result.now)) c.child.ensures.column c.in_ok-values.ensures.within in
+    let second = subst (λ b. given ts b (picked ts b)) c.child-2.ensures.column first in
+    let items : picked ts fs ≡ joined_items c.args.size vs = ap (λ rs. pick Null (rows ts ∷ rows fs ∷ []) (expand rs)) c.deref.ensures.value ∙ c.in_ok-held.ensures.held.items in
+    let taken = subst (given ts fs) items second in
+    let few = few_rows_pass (length (joined_items c.args.size vs)) (omega (arith, c.in_ok-held.ensures.held.many, c.in_ok-held.ensures.room)) in
+    passes_neither (IsPastRows (length (joined_items c.args.size vs))) (past_taken (type_of ts) (ts ∷ fs ∷ []) (joined_items c.args.size vs)) few taken

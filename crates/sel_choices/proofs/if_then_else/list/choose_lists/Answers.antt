@@ -1,4 +1,4 @@
-use Rattle.std.proofs.Common.{◌≡◌, ◌∙◌, ◌∷◌, [], List, ap, subst, sym, inr, length, true}
+use Rattle.std.proofs.Common.{◌≡◌, ◌∙◌, ◌∷◌, [], List, ap, subst, sym, inr, length, true, arith}
 use Rattle.std.specs.Prelude.{ℤ}
 use Rattle.std.proofs.lemmas.Result.{err_from_is_err_and}
 use Rattle.sel_arrow.specs.Rows.{rows, type_of, well_formed}
@@ -8,12 +8,13 @@ use Rattle.sel_arrow.specs.declared.column.Column.{Column}
 use Rattle.sel_arrow.proofs.NestedRows.{lists_formed}
 use Rattle.sel_runs.specs.Children.{joined_items}
 use Rattle.sel_runs.specs.Ends.{item_ends}
-use Rattle.sel_runs.specs.Need.{past_taken}
+use Rattle.sel_runs.specs.Need.{IsPastRows, PassesNone, past_taken}
 use Rattle.sel_runs.specs.Picks.{pick}
 use Rattle.sel_runs.specs.Runs.{expand}
 use Rattle.sel_runs.proofs.Below.{refused_more}
 use Rattle.sel_runs.proofs.JoinedRows.{offsets_of, same_numbers, map_same}
 use Rattle.sel_runs.proofs.Rebuilt.{rising_ends, lists_rebuilt, lists_fit}
+use Rattle.sel_runs.proofs.Within.{few_rows_pass, passes_neither}
 use Rattle.sel_choices.specs.ListSides.{chosen_from, past_below}
 use Rattle.sel_choices.specs.Sides.{IsRefusal}
 use Rattle.sel_choices.proofs.ListRuns.{all_listed, length-chosen}
@@ -78,3 +79,19 @@ returns-clause-rows g c =
     same_numbers c.in_ok-offsets.offsets (0 ∷ item_ends 0 vs) (sym c.in_ok-offsets.ensures.value ∙ map_same c.in_ok-held.ends.items ∙ c.in_ok-held.ensures.ends) in
     lists_rebuilt vs c.in_ok-offsets.offsets (rows c.in_ok-values-2.values.value) c.in_ok-held.held.validity (length c.args.mask.now.bits) (all_listed vs c.in_ok-held.ensures.listed)
     (length-chosen 0 c.args.mask.now.bits (g.T.ListSide.row_at t) (g.F.ListSide.row_at f)) offsets below c.in_ok-held.ensures.bits
+
+pub returns-clause-within : goal.returns-clause-within
+returns-clause-within g c =
+    let t = c.args.if_true.now in
+    let f = c.args.if_false.now in
+    let ts = g.T.ListSide.held t in
+    let fs = g.F.ListSide.held f in
+    let vs = chosen_from 0 c.args.mask.now.bits (g.T.ListSide.row_at t) (g.F.ListSide.row_at f) in
+    let given = λ (a b : Column) (values : List Value). PassesNone (past_taken (type_of a) (a ∷ b ∷ []) values) in
+    let picked = λ (a b : Column). pick Null (rows a ∷ rows b ∷ []) (expand c.deref.result.now) in
+    let first = subst (λ a. given a c.child-2.result.now (picked a c.child-2.result.now)) c.child.ensures.column c.in_ok-values.ensures.within in
+    let second = subst (λ b. given ts b (picked ts b)) c.child-2.ensures.column first in
+    let items : picked ts fs ≡ joined_items 0 vs = ap (λ rs. pick Null (rows ts ∷ rows fs ∷ []) (expand rs)) c.deref.ensures.value ∙ c.in_ok-held.ensures.held.items in
+    let taken = subst (given ts fs) items second in
+    let few = few_rows_pass (length (joined_items 0 vs)) (omega (arith, c.in_ok-held.ensures.held.many, c.in_ok-held.ensures.room)) in
+    passes_neither (IsPastRows (length (joined_items 0 vs))) (past_taken (type_of ts) (ts ∷ fs ∷ []) (joined_items 0 vs)) few taken

@@ -8,7 +8,7 @@ use Rattle.sel_arrow.specs.Value.{Null}
 use Rattle.sel_choices.specs.Choose.{choose_or_one}
 use Rattle.sel_choices.specs.ListSides.{block_child, chosen_from}
 use Rattle.sel_choices.specs.Sides.{column, scalar}
-use Rattle.sel_choices.proofs.ListChoices.{few_bits, held_blocks, held_scalar, refused_choice, same_width}
+use Rattle.sel_choices.proofs.ListChoices.{answered_choice, few_bits, held_blocks, held_scalar, refused_choice, same_width}
 use Rattle.sel_choices.proofs.ListRuns.{chosen_false}
 use Rattle.sel_choices.proofs.if_then_else.array.FixedSizeListArrayIfThenElseKernel.if_then_else_broadcast_false.Goals as goal
 
@@ -42,3 +42,16 @@ returns-clause-refusal c =
     let wanted = choose_or_one ms (rows (block_column t)) (list_of (rows f.column)) in
     let same : chosen ≡ wanted = chosen_false ms (rows (block_column t)) (list_of (rows f.column)) c.requires.true_side in
     refused_choice c.choose_sized_lists.result block_child type given (column t) (scalar f) chosen wanted is same c.choose_sized_lists.ensures.refusal
+
+pub returns-clause-within : goal.returns-clause-within
+returns-clause-within c =
+    let t = c.args.if_true.now in
+    let f = c.args.if_false.now in
+    let ms = c.args.mask.now.bits in
+    let given = of_fixed_size_list (type_of c.args.if_true.now.values.value) c.size.result in
+    let type = type_of (block_column c.args.if_true.now) in
+    let is : given ≡ type = ap (of_fixed_size_list (type_of c.args.if_true.now.values.value)) c.size.ensures.size in
+    let chosen = chosen_from 0 ms (λ i. get_or (rows (block_column t)) i Null) (λ i. list_of (rows f.column)) in
+    let wanted = choose_or_one ms (rows (block_column t)) (list_of (rows f.column)) in
+    let same : chosen ≡ wanted = chosen_false ms (rows (block_column t)) (list_of (rows f.column)) c.requires.true_side in
+    answered_choice c.choose_sized_lists.result block_child type given (column t) (scalar f) chosen wanted is same (λ limit past. past) c.choose_sized_lists.ensures.within

@@ -1,4 +1,4 @@
-use Rattle.std.proofs.Common.{◌≡◌, inl, sym, subst, arith}
+use Rattle.std.proofs.Common.{◌≡◌, inl, sym, subst, arith, length}
 use Rattle.std.specs.Prelude.{IfOk}
 use Rattle.sel_arrow.specs.DataType.{shape_of}
 use Rattle.sel_arrow.specs.Nested.{list_of}
@@ -6,10 +6,11 @@ use Rattle.sel_arrow.specs.NestedArrays.{list_column}
 use Rattle.sel_arrow.specs.Rows.{rows, type_of}
 use Rattle.sel_arrow.specs.Shape.{of_large_list}
 use Rattle.sel_arrow.specs.declared.column.Column.{Column}
+use Rattle.sel_runs.proofs.Within.{few_rows_pass}
 use Rattle.sel_choices.specs.Choose.{choose_of_two}
 use Rattle.sel_choices.specs.ListSides.{chosen_from}
 use Rattle.sel_choices.specs.Sides.{scalar}
-use Rattle.sel_choices.proofs.ListChoices.{refused_choice}
+use Rattle.sel_choices.proofs.ListChoices.{answered_choice, refused_choice}
 use Rattle.sel_choices.proofs.ListRuns.{chosen_both}
 use Rattle.sel_choices.proofs.Validities.{length-choose_of_two}
 use Rattle.sel_choices.proofs.if_then_else.list.ListArrayI64IfThenElseKernel.if_then_else_broadcast_both.Goals as goal
@@ -34,3 +35,16 @@ returns-clause-refusal c =
     let wanted = choose_of_two ms (list_of (rows t.column)) (list_of (rows f.column)) in
     let same : chosen ≡ wanted = chosen_both ms (list_of (rows t.column)) (list_of (rows f.column)) in
     refused_choice c.choose_lists.result (λ (child : Column). child) type given (scalar t) (scalar f) chosen wanted is same c.choose_lists.ensures.refusal
+
+pub returns-clause-within : goal.returns-clause-within
+returns-clause-within c =
+    let t = c.args.if_true.now in
+    let f = c.args.if_false.now in
+    let ms = c.args.mask.now.bits in
+    let given = of_large_list (type_of c.args.if_true.now.column) in
+    let type = shape_of c.args._dtype in
+    let is : given ≡ type = sym c.requires.true_fits in
+    let chosen = chosen_from 0 ms (λ i. list_of (rows t.column)) (λ i. list_of (rows f.column)) in
+    let wanted = choose_of_two ms (list_of (rows t.column)) (list_of (rows f.column)) in
+    let same : chosen ≡ wanted = chosen_both ms (list_of (rows t.column)) (list_of (rows f.column)) in
+    answered_choice c.choose_lists.result (λ (child : Column). child) type given (scalar t) (scalar f) chosen wanted is same (few_rows_pass (length wanted) (omega (arith, length-choose_of_two ms (list_of (rows t.column)) (list_of (rows f.column)), c.len.ensures, c.if-len-gt-MOST_ROWS.false))) c.choose_lists.ensures.within

@@ -8,7 +8,7 @@ use Rattle.sel_arrow.specs.Value.{Null}
 use Rattle.sel_choices.specs.Choose.{choose_or_one}
 use Rattle.sel_choices.specs.ListSides.{chosen_from, list_child}
 use Rattle.sel_choices.specs.Sides.{column, scalar}
-use Rattle.sel_choices.proofs.ListChoices.{few_bits, refused_choice}
+use Rattle.sel_choices.proofs.ListChoices.{answered_choice, few_bits, refused_choice}
 use Rattle.sel_choices.proofs.ListRuns.{chosen_false}
 use Rattle.sel_choices.proofs.if_then_else.list.ListArrayI64IfThenElseKernel.if_then_else_broadcast_false.Goals as goal
 
@@ -31,3 +31,16 @@ returns-clause-refusal c =
     let wanted = choose_or_one ms (rows (list_column t)) (list_of (rows f.column)) in
     let same : chosen ≡ wanted = chosen_false ms (rows (list_column t)) (list_of (rows f.column)) c.requires.true_side in
     refused_choice c.choose_lists.result list_child type given (column t) (scalar f) chosen wanted is same c.choose_lists.ensures.refusal
+
+pub returns-clause-within : goal.returns-clause-within
+returns-clause-within c =
+    let t = c.args.if_true.now in
+    let f = c.args.if_false.now in
+    let ms = c.args.mask.now.bits in
+    let given = of_large_list (type_of c.args.if_true.now.values.value) in
+    let type = type_of (list_column c.args.if_true.now) in
+    let is : given ≡ type = refl in
+    let chosen = chosen_from 0 ms (λ i. get_or (rows (list_column t)) i Null) (λ i. list_of (rows f.column)) in
+    let wanted = choose_or_one ms (rows (list_column t)) (list_of (rows f.column)) in
+    let same : chosen ≡ wanted = chosen_false ms (rows (list_column t)) (list_of (rows f.column)) c.requires.true_side in
+    answered_choice c.choose_lists.result list_child type given (column t) (scalar f) chosen wanted is same (λ limit past. past) c.choose_lists.ensures.within

@@ -8,7 +8,7 @@ use Rattle.sel_arrow.specs.Value.{Null}
 use Rattle.sel_choices.specs.Choose.{choose_one}
 use Rattle.sel_choices.specs.ListSides.{chosen_from, list_child}
 use Rattle.sel_choices.specs.Sides.{column, scalar}
-use Rattle.sel_choices.proofs.ListChoices.{few_bits, refused_choice}
+use Rattle.sel_choices.proofs.ListChoices.{answered_choice, few_bits, refused_choice}
 use Rattle.sel_choices.proofs.ListRuns.{chosen_true}
 use Rattle.sel_choices.proofs.if_then_else.list.ListArrayI64IfThenElseKernel.if_then_else_broadcast_true.Goals as goal
 
@@ -31,3 +31,16 @@ returns-clause-refusal c =
     let wanted = choose_one ms (list_of (rows t.column)) (rows (list_column f)) in
     let same : chosen ≡ wanted = chosen_true ms (list_of (rows t.column)) (rows (list_column f)) c.requires.false_side in
     refused_choice c.choose_lists.result list_child type given (scalar t) (column f) chosen wanted is same c.choose_lists.ensures.refusal
+
+pub returns-clause-within : goal.returns-clause-within
+returns-clause-within c =
+    let t = c.args.if_true.now in
+    let f = c.args.if_false.now in
+    let ms = c.args.mask.now.bits in
+    let given = of_large_list (type_of c.args.if_true.now.column) in
+    let type = type_of (list_column c.args.if_false.now) in
+    let is : given ≡ type = sym c.requires.fits in
+    let chosen = chosen_from 0 ms (λ i. list_of (rows t.column)) (λ i. get_or (rows (list_column f)) i Null) in
+    let wanted = choose_one ms (list_of (rows t.column)) (rows (list_column f)) in
+    let same : chosen ≡ wanted = chosen_true ms (list_of (rows t.column)) (rows (list_column f)) c.requires.false_side in
+    answered_choice c.choose_lists.result list_child type given (scalar t) (column f) chosen wanted is same (λ limit past. past) c.choose_lists.ensures.within

@@ -1,0 +1,7 @@
+-- What an answer says, said otherwise.
+use Rattle.std.proofs.Common.{Result, Ok, Err}
+use Rattle.std.specs.Prelude.{IfOk}
+
+pub answered_more : {A E P Q : Type 0} (result : Result A E) → (P → Q) → IfOk result (λ _. P) → IfOk result (λ _. Q)
+answered_more (Ok x) more h = more h
+answered_more (Err e) more h = tt
