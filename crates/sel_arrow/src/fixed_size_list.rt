@@ -1,6 +1,6 @@
 //! A column of lists of one length.
 
-ghost use Rattle.std.specs.Prelude.{◌≡◌, ◌+◌, ◌≤◌, ◌↔◌, length, take, drop, None, IfOk, IfErr, IsTrue};
+ghost use Rattle.std.specs.Prelude.{◌≡◌, ◌*◌, ◌+◌, ◌≤◌, ◌↔◌, length, take, drop, None, IfOk, IfErr, IsTrue};
 ghost use Rattle.sel_bits.specs.Faults.{IsFaultOrMemory};
 ghost use Rattle.sel_arrow.specs.Makers.{block_fault};
 ghost use Rattle.sel_arrow.specs.Masked.{Covers};
@@ -152,6 +152,8 @@ impl FixedSizeListArray {
             type_of (FixedSizeList size _count values.now validity.now)) }
         ensures buffers { IfOk result (λ part. buffers_held (block_column part) ≡
             buffers_held (FixedSizeList size _count values.now validity.now)) }
+        ensures child { IfOk result (λ part. rows part.values.value ≡
+            take (len * size) (drop (off * size) (rows values.now.value))) }
         ensures refusal { IfErr result (λ fault. fault ≡ PolarsError.OutOfMemory) }
     {
         let values = values.sliced(alloc, off * size, len * size)?;
@@ -236,7 +238,19 @@ impl Array for FixedSizeListArray {
         Ok(ArrowDataType::FixedSizeList(child, self.size))
     }
 
-    fn sliced(&self, alloc: Global, off: usize, len: usize) -> PolarsResult<FixedSizeListArray> {
+    /// The `len` lists from list `off` on, over the same part of the child. Refuses only for want of memory.
+    fn sliced(&self, alloc: Global, off: usize, len: usize) -> PolarsResult<FixedSizeListArray>
+        requires { off + len ≤ length (rows (block_column self.now)) }
+        ensures rows { IfOk result (λ part. rows (block_column part) ≡
+            take len (drop off (rows (block_column self.now)))) }
+        ensures dtype { IfOk result (λ part. type_of (block_column part) ≡
+            type_of (block_column self.now)) }
+        ensures buffers { IfOk result (λ part. buffers_held (block_column part) ≡
+            buffers_held (block_column self.now)) }
+        ensures child { IfOk result (λ part. rows part.values.value ≡
+            take (len * self.now.size) (drop (off * self.now.size) (rows self.now.values.value))) }
+        ensures refusal { IfErr result (λ fault. fault ≡ PolarsError.OutOfMemory) }
+    {
         FixedSizeListArray::part_of(
             self.size,
             self.len,

@@ -20,9 +20,14 @@ use sel_bits::native::Offset;
 use sel_bits::offsets::OffsetsBuffer;
 use std::alloc::Global;
 
+/// A type of offsets that a column of lists can have: that of 64 bits alone, since only those lists are a kind of `Column`.
+pub trait ListOffset: Offset {}
+
+impl ListOffset for i64 {}
+
 /// Lists, of which list i holds the child's rows between offsets i and i + 1, under a validity.
 #[derive(Drop)]
-pub struct ListArray<O: Offset> {
+pub struct ListArray<O: ListOffset> {
     pub offsets: OffsetsBuffer<O>,
     pub values: Box<Column>,
     pub validity: Option<Bitmap>,

@@ -29,6 +29,10 @@ fixed_size_list::FixedSizeListArray::part_of-returns-clause-rows t c =
     blocks_part_rows c.args.size c.args._count c.args.values.now c.in_ok-values-2.values c.args.validity.now c.in_ok-validity.validity c.args.off c.args.len inside
     (ap rows c.in_ok-values-2.ensures.ok ∙ c.in_ok-values.ensures.rows ∙ ap (part_rows (c.args.off * c.args.size) (c.args.len * c.args.size)) c.deref.ensures) c.in_ok-validity.ensures.value
 
+pub fixed_size_list::FixedSizeListArray::part_of-returns-clause-child : goal.fixed_size_list::FixedSizeListArray::part_of-returns-clause-child
+fixed_size_list::FixedSizeListArray::part_of-returns-clause-child t c =
+    ap rows c.in_ok-values-2.ensures.ok ∙ c.in_ok-values.ensures.rows ∙ ap (part_rows (c.args.off * c.args.size) (c.args.len * c.args.size)) c.deref.ensures
+
 pub structure::StructArray::part_of-parts_of-requires : goal.structure::StructArray::part_of-parts_of-requires
 structure::StructArray::part_of-parts_of-requires t c =
     let inside = tuples_inside c.args._count c.args.fields.now c.args.validity.now c.args.off c.args.len c.requires.inside in
