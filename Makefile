@@ -1,10 +1,15 @@
-# `make run` proves and builds the program and runs it on the stored input; `make test` is the whole gate;
-# `make edits` tries every edit that must fail, those beside the gate's too.
+# `make run` runs the program on the stored input, or on another: make run INPUT=file; `make build` proves and builds it;
+# `make test` is the whole gate; `make edits` tries every edit that must fail, those beside the gate's too.
 
-.PHONY: run test edits
+INPUT ?= crates/sel_bench/stdin
+
+.PHONY: run build test edits
 
 run:
-	@cd crates/sel_bench && rt run < stdin
+	@tools/run $(INPUT)
+
+build:
+	cd crates/sel_bench && rt run < /dev/null
 
 test:
 	rt ci
