@@ -1,0 +1,3 @@
+pub mod Compressing
+pub mod Scalars
+pub mod Selects
