@@ -2,5 +2,6 @@
 #![tactic(auto)]
 
 pub mod boolean;
+mod pext;
 pub mod primitive;
 pub mod scalar;

@@ -7,7 +7,10 @@ ghost use Rattle.polars_compute.specs.Select.{select};
 
 use sel_bits::bitmap::Bitmap;
 use sel_bits::faults::{PolarsError, PolarsResult};
-pub use sel_filter::boolean::{filter_boolean_kernel, pext64_polyfill};
+pub use sel_filter::boolean::{
+    filter_boolean_kernel, filter_boolean_kernel_pext, filter_boolean_kernel_sparse,
+    pext64_polyfill, pext64_rounds,
+};
 use std::alloc::Global;
 
 /// Both filtered; a validity is answered exactly where one is given. Refuses only for want of memory.
