@@ -58,6 +58,7 @@ impl<'a> U56Blocks<'a> {
     }
 
     /// The next block as a word, with zeros above its bits; none behind the last bit.
+    #[inline]
     pub fn next(&mut self) -> Option<u64>
         ensures some { IfSome result (λ _. 56 * self.old.blocks_read < length self.old.source.bits) }
         ensures end { IfNone result (length self.old.source.bits ≤ 56 * self.old.blocks_read) }

@@ -47,6 +47,7 @@ impl<'a> CountedBits<'a> {
     }
 
     /// Bit `i`; one more is read.
+    #[inline]
     pub fn get(&mut self, i: usize) -> bool
         requires within { i < length self.old.source.bits }
         requires counted { self.old.bits_read < 18446744073709551615 }
