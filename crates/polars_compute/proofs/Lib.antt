@@ -1,12 +1,10 @@
 pub mod Collects
-pub mod Compressing
 pub mod Dictionaries
 pub mod KeptRuns
 pub mod LawProofs
 pub mod Meanings
 pub mod Needs
 pub mod Places
-pub mod Scalars
 pub mod Selects
 pub mod Takes
 pub mod Withins
