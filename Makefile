@@ -1,9 +1,9 @@
 # `make run` runs the program on the stored input, or on another: make run INPUT=file; `make build` proves and builds it;
-# `make test` is the whole gate; `make edits` tries every edit that must fail, those beside the gate's too.
+# `make test` is the whole gate; `make api` writes the reference anew; `make edits` tries every edit that must fail, those beside the gate's too.
 
 INPUT ?= crates/sel_bench/stdin
 
-.PHONY: run build test edits
+.PHONY: run build test edits api
 
 run:
 	@tools/run $(INPUT)
@@ -12,7 +12,11 @@ build:
 	cd crates/sel_bench && rt run < /dev/null
 
 test:
+	tools/api --check
 	rt ci
 
 edits:
 	tools/edits
+
+api:
+	tools/api
