@@ -37,6 +37,13 @@ impl<'a, T: Copy> BlockCopy<'a, T> {
         }
     }
 
+    /// How many items the source has.
+    pub fn source_len(&self) -> usize
+        ensures { result ≡ length self.now.source }
+    {
+        self.values.len()
+    }
+
     /// How many copies and fills there were.
     pub fn copies(&self) -> u64
         ensures { result ≡ self.now.copies }
