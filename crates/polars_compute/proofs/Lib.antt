@@ -1,3 +1,6 @@
+pub mod BlockNeeds
+pub mod BlockTakes
+pub mod BlockTests
 pub mod Collects
 pub mod Dictionaries
 pub mod KeptRuns

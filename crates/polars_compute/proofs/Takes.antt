@@ -22,7 +22,7 @@ by_validity : (b : Bool) (validity : Option Bits) (vs : List Value) (i : ℕ) (v
 by_validity true validity vs i v e inside covers is = is ∙ sym (masked_valid validity vs i e inside covers)
 by_validity false validity vs i v e inside covers is = sym (masked_null validity vs i e inside covers)
 
-row_taken : {A : Type 0} (f : A → Value) → (validity : Option Bits) (xs : List A) (d : A) (index : Value) → Covers validity (length xs) → is_within (length xs) index ≡ true
+pub row_taken : {A : Type 0} (f : A → Value) → (validity : Option Bits) (xs : List A) (d : A) (index : Value) → Covers validity (length xs) → is_within (length xs) index ≡ true
     → (if valid_pick validity (pick_of index) then f (found d (xs ∷ []) (pick_of index)) else Null) ≡ found Null (masked validity (map f xs) ∷ []) (pick_of index)
 row_taken f validity xs d (Number (pos i)) covers within =
     let inside : i < length xs = ltb-true i (length xs) within in

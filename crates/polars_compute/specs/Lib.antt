@@ -1,3 +1,4 @@
+pub mod Blocks
 pub mod Compress
 pub mod Dictionary
 pub mod JoinedBytes

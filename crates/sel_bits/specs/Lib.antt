@@ -1,5 +1,6 @@
 pub mod Bits
 pub mod Choose
+pub mod Copying
 pub mod Faults
 pub mod Moving
 pub mod Offsets

@@ -3,6 +3,7 @@
 
 pub mod aligned_words;
 pub mod bitmap;
+pub mod block_copy;
 pub mod blocks;
 pub mod buffer;
 pub mod counted_bits;

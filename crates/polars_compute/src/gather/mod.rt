@@ -3,6 +3,7 @@
 ghost use Rattle.std.specs.Prelude.{◌≡◌, ◌≤◌, length, IsTrue, IfOk, IfErr};
 ghost use Rattle.sel_arrow.specs.Columns.{null_rows, primitive_rows};
 ghost use Rattle.sel_arrow.specs.Rows.{rows, type_of, IsWellFormed};
+ghost use Rattle.polars_compute.specs.Blocks.{blocks_within};
 ghost use Rattle.polars_compute.specs.Need.{IsRefusal, past};
 ghost use Rattle.sel_arrow.specs.Masked.{number_value};
 ghost use Rattle.polars_compute.specs.Pick.{is_within, all_within, all_below, take_rows};
@@ -11,12 +12,14 @@ pub mod binary;
 mod binview;
 pub mod bitmap;
 pub mod boolean;
+pub mod fixed_size_list;
 pub(crate) mod generic_binary;
 pub mod primitive;
 mod validity;
 
 use crate::runs::runs_of_indices;
 use binview::{take_texts, take_views};
+pub use fixed_size_list::take_blocks;
 use primitive::take_primitive_unchecked;
 use sel_arrow::array::Array;
 use sel_arrow::array_ref::ArrayRef;
@@ -71,6 +74,9 @@ fn take_nested(alloc: Global, values: &Column, indices: &IdxArr) -> PolarsResult
     ensures dtype { IfOk result (λ taken. type_of taken.column ≡ type_of values.now) }
     ensures refusal { IfErr result (IsRefusal (past (type_of values.now) (take_rows (rows values.now) (primitive_rows indices.now)))) }
 {
+    if fixed_size_list::holds_numbers(values) {
+        return fixed_size_list::take_unchecked(alloc, values, indices);
+    }
     let runs = runs_of_indices(alloc, indices)?;
     let taken = collect_one(alloc, values, &runs, indices.len())?;
     Ok(taken)
@@ -125,6 +131,16 @@ pub fn idx_slice_in_bounds(indices: &[u32], len: usize) -> bool
     ensures { result ≡ all_below len indices.now }
 {
     indices.iter().all(|place| (*place as usize) < len)
+}
+
+/// Whether each index that is not null names one of the blocks of `size` that stand in `len` items.
+pub fn blocks_in_bounds(indices: &IdxArr, size: usize, len: usize) -> bool
+    ensures { result ≡ blocks_within size len (primitive_rows indices.now) }
+{
+    if size == 0 {
+        return true;
+    }
+    indices_in_bounds(indices, len / size)
 }
 
 /// How many rows a column of numbers has: at most 4,294,967,295.

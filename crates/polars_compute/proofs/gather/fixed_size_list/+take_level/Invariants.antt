@@ -1,0 +1,7 @@
+-- Each call goes on at a smaller type.
+use Rattle.sel_arrow.specs.Rows.{type_of}
+use Rattle.sel_runs.proofs.Depths.{size_of}
+use Rattle.polars_compute.proofs.gather.fixed_size_list.+take_level.Given as goal
+
+abbrev pub decreases-take_level : goal.decreases-take_level
+decreases-take_level l = size_of (type_of l.column.now)

@@ -1,0 +1,12 @@
+-- The blocks so far.
+use Rattle.std.proofs.Common.{◌≡◌, ◌++◌, take}
+use Rattle.sel_arrow.specs.Columns.{primitive_rows}
+use Rattle.polars_compute.specs.Blocks.{block_items}
+use Rattle.polars_compute.proofs.gather.fixed_size_list.take_blocks.Given as goal
+
+abbrev pub invariant-loop-k : goal.invariant-loop-k
+invariant-loop-k g l = record {
+  source : l.out.source ≡ l.fn.out.source;
+  items : l.out.items ≡ l.fn.out.items ++ block_items l.size l.zero l.fn.out.source (take l.k (primitive_rows l.indices));
+  copies : l.out.copies ≡ l.k;
+}

@@ -1,0 +1,68 @@
+use Rattle.std.proofs.Common.{◌≡◌, ◌*◌, ◌∙◌, inl, inr, sym, ap, subst, length, map, true}
+use Rattle.std.proofs.lemmas.Result.{err_from_is_err_and}
+use Rattle.sel_arrow.specs.Columns.{primitive_rows}
+use Rattle.sel_arrow.specs.Masked.{hidden}
+use Rattle.sel_arrow.specs.Nested.{blocks, list_of}
+use Rattle.sel_arrow.specs.Rows.{rows, row_count, type_of, well_formed}
+use Rattle.sel_runs.proofs.Below.{refused_more}
+use Rattle.polars_compute.specs.Blocks.{blocks_within, past_blocks, HoldsBlocks}
+use Rattle.polars_compute.specs.Need.{IsPastRows}
+use Rattle.polars_compute.proofs.BlockNeeds.{past_taken_blocks}
+use Rattle.polars_compute.proofs.BlockTakes.{blocks_taken, whole_has, whole_validity, whole_within}
+use Rattle.polars_compute.proofs.gather.fixed_size_list.take_unchecked.Goals as goal
+
+pub take_level-requires-clause-formed : goal.take_level-requires-clause-formed
+take_level-requires-clause-formed c =
+    let list = c.in-FixedSizeList in
+    ap well_formed c.deref.ensures
+    ∙ (whole_has c.args.values.now list.size list.len list.child list.validity (primitive_rows c.args.indices.now) list.is c.requires.formed c.requires.inside).child
+
+pub take_level-requires-clause-inside : goal.take_level-requires-clause-inside
+take_level-requires-clause-inside c =
+    let list = c.in-FixedSizeList in
+    let indices = primitive_rows c.args.indices.now in
+    subst (λ (d : _). blocks_within list.size (row_count d) indices ≡ true) (sym c.deref.ensures)
+    (whole_within c.args.values.now list.size list.len list.child list.validity indices list.is c.requires.formed c.requires.inside)
+
+pub take_validity-requires : goal.take_validity-requires
+take_validity-requires c =
+    let list = c.in-FixedSizeList in
+    whole_validity c.args.values.now list.size list.len list.child list.validity (primitive_rows c.args.indices.now) list.is c.requires.formed c.requires.inside
+
+pub returns-in_err-count-clause-refusal : goal.returns-in_err-count-clause-refusal
+returns-in_err-count-clause-refusal c =
+    let list = c.in-FixedSizeList in
+    let indices = primitive_rows c.args.indices.now in
+    let fault = c.in_err-count.field-0.0 in
+    let p = err_from_is_err_and c.from_residual-in_err-count.result c.from_residual-in_err-count.ensures.1 in
+    rw (p.1, p.2)
+    (refused_more _ _ fault
+    (λ limit h.
+    past_taken_blocks c.args.values.now list.size list.len list.child list.validity list.is c.requires.formed indices limit
+    (inl (subst (λ n. IsPastRows (n * list.size) limit) c.len.ensures.len h)))
+    c.in_err-count.ensures.refusal)
+
+pub returns-in_err-below-clause-refusal : goal.returns-in_err-below-clause-refusal
+returns-in_err-below-clause-refusal c =
+    let list = c.in-FixedSizeList in
+    let indices = primitive_rows c.args.indices.now in
+    let fault = c.in_err-below.field-0.0 in
+    let p = err_from_is_err_and c.from_residual-in_err-below.result c.from_residual-in_err-below.ensures.1 in
+    let count = c.in_ok-count.ensures.below ∙ ap (λ n. n * list.size) c.len.ensures.len in
+    rw (p.1, p.2)
+    (refused_more _ _ fault
+    (λ limit h.
+    past_taken_blocks c.args.values.now list.size list.len list.child list.validity list.is c.requires.formed indices limit
+    (inr (subst (λ (d : _). past_blocks (type_of d) (length indices * list.size) limit) c.deref.ensures (subst (λ n. past_blocks (type_of c.deref.result.now) n limit) count h))))
+    c.in_err-below.ensures.refusal)
+
+pub returns-clause-rows : goal.returns-clause-rows
+returns-clause-rows c =
+    let list = c.in-FixedSizeList in
+    let indices = primitive_rows c.args.indices.now in
+    let bits = c.in_ok-validity.validity in
+    let taken = rows c.in_ok-values.values.value in
+    let boxed = subst (λ (v : _). HoldsBlocks list.size (rows c.deref.result.now) indices (rows v)) (sym c.in_ok-values.ensures.ok) c.in_ok-below.ensures.blocks in
+    let holds = subst (λ (v : _). HoldsBlocks list.size (rows v) indices taken) c.deref.ensures boxed in
+    ap (λ n. hidden bits.bits (map list_of (blocks list.size n taken))) c.len-2.ensures.len
+    ∙ blocks_taken c.args.values.now list.size list.len list.child list.validity list.is c.requires.formed indices c.requires.inside bits c.in_ok-validity.ensures.bits taken holds
