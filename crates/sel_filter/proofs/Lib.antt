@@ -1,8 +1,10 @@
 pub mod BlockSelects
+pub mod ByFours
 pub mod Clears
 pub mod Few
 pub mod Filtering
 pub mod Firsts
+pub mod FourBits
 pub mod Marking
 pub mod Ranks
 pub mod RoundState

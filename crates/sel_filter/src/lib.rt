@@ -2,6 +2,7 @@
 #![tactic(auto)]
 
 pub mod boolean;
+mod nibbles;
 mod pext;
 pub mod primitive;
 pub mod scalar;
