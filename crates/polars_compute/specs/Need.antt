@@ -3,7 +3,7 @@ use Rattle.std.specs.Prelude.{ℕ, ◌+◌, ◌≤◌, ⊤, List, [], ◌∷◌,
 use Rattle.sel_arrow.specs.Shape.{Shape, Shapes, no_shapes, next_shape, of_large_binary, of_large_list, of_fixed_size_list, of_struct}
 use Rattle.sel_arrow.specs.Value.{Value}
 use Rattle.sel_runs.specs.Children.{joined_items, part_at}
-pub use Rattle.sel_runs.specs.Need.{byte_count, bytes_needed, IsRefusal, IsPastBytes, IsPastRows, past, past_parts}
+pub use Rattle.sel_runs.specs.Need.{byte_count, bytes_needed, IsRefusal, PassesNone, IsPastBytes, IsPastRows, past, past_parts}
 
 -- What one column needs: so many rows, or so many bytes. (own)
 pub data Needed : Type 0 where

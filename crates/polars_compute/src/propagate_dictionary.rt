@@ -29,10 +29,13 @@ pub fn propagate_dictionary_value_nulls(
     values: &Utf8ViewArray,
 ) -> PolarsResult<(PrimitiveArray<u32>, Utf8ViewArray)>
     requires { IsTrue (all_within (length (utf8view_rows values.now)) (primitive_rows keys.now)) }
-    ensures keys { IfOk result (λ both. primitive_rows both.0 ≡ propagated_keys (primitive_rows keys.now) (utf8view_rows values.now)) }
-    ensures values { IfOk result (λ both. utf8view_rows both.1 ≡ valid_values (utf8view_rows values.now)) }
+    ensures keys { IfOk result (λ both. primitive_rows both.0 ≡
+        propagated_keys (primitive_rows keys.now) (utf8view_rows values.now)) }
+    ensures values { IfOk result (λ both. utf8view_rows both.1 ≡
+        valid_values (utf8view_rows values.now)) }
     ensures bare { IfOk result (λ both. both.1.bytes.validity ≡ None) }
-    ensures same { IfOk result (λ both. count_by is_null (utf8view_rows values.now) ≡ 0 → primitive_rows both.0 ≡ primitive_rows keys.now) }
+    ensures same { IfOk result (λ both. count_by is_null (utf8view_rows values.now) ≡ 0 →
+        primitive_rows both.0 ≡ primitive_rows keys.now) }
     ensures refusal { IfErr result (λ fault. fault ≡ PolarsError.OutOfMemory) }
 {
     match validity_of_nulls(values) {
@@ -92,7 +95,8 @@ fn without_validity(values: Utf8ViewArray) -> Utf8ViewArray
 // At each true bit how many true bits stand before it, and null at the others. Refuses only for want of memory.
 fn ranks_of(alloc: Global, validity: &Bitmap) -> PolarsResult<PrimitiveArray<u32>>
     requires { length validity.now.bits ≤ 4294967295 }
-    ensures values { IfOk result (λ ranks. ranks.values ≡ map (λ i. count_true (take i validity.now.bits)) (range_with_len 0 (length validity.now.bits))) }
+    ensures values { IfOk result (λ ranks. ranks.values ≡ map (λ i. count_true
+        (take i validity.now.bits)) (range_with_len 0 (length validity.now.bits))) }
     ensures validity { IfOk result (λ ranks. ranks.validity ≡ Some validity.now) }
     ensures refusal { IfErr result (λ fault. fault ≡ PolarsError.OutOfMemory) }
 {
@@ -108,7 +112,8 @@ fn ranks_of(alloc: Global, validity: &Bitmap) -> PolarsResult<PrimitiveArray<u32
 // How many true bits stand before each bit. Refuses only for want of memory.
 fn counts_before(alloc: Global, bits: &Bitmap) -> PolarsResult<Vec<u32>>
     requires { length bits.now.bits ≤ 4294967295 }
-    ensures counts { IfOk result (λ counts. counts.items ≡ map (λ i. count_true (take i bits.now.bits)) (range_with_len 0 (length bits.now.bits))) }
+    ensures counts { IfOk result (λ counts. counts.items ≡
+        map (λ i. count_true (take i bits.now.bits)) (range_with_len 0 (length bits.now.bits))) }
     ensures refusal { IfErr result (λ fault. fault ≡ PolarsError.OutOfMemory) }
 {
     let mut counts = Vec::with_capacity(alloc, bits.len())?;

@@ -35,7 +35,8 @@ pub(crate) fn runs_of_mask(alloc: Global, mask: &Bitmap) -> PolarsResult<Vec<Run
 
 /// The runs of the rows that indices name, nulls for null indices. Refuses only for want of memory.
 pub(crate) fn runs_of_indices(alloc: Global, indices: &IdxArr) -> PolarsResult<Vec<Run>>
-    ensures picks { IfOk result (λ runs. expand runs.items ≡ map pick_of (primitive_rows indices.now)) }
+    ensures picks { IfOk result (λ runs. expand runs.items ≡
+        map pick_of (primitive_rows indices.now)) }
     ensures refusal { IfErr result (λ fault. fault ≡ PolarsError.OutOfMemory) }
 {
     let mut runs = Vec::new(alloc);

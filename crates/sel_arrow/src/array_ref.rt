@@ -129,7 +129,8 @@ impl ArrayRef {
     pub fn into_utf8view(self) -> Result<Utf8ViewArray, ArrayRef>
         ensures rows { IfOk result (λ array. utf8view_rows array ≡ rows self.column) }
         ensures dtype { IfOk result (λ _. type_of self.column ≡ of_utf8_view) }
-        ensures buffers { IfOk result (λ array. array.bytes.buffers ∷ [] ≡ buffers_held self.column) }
+        ensures buffers { IfOk result (λ array. array.bytes.buffers ∷ [] ≡
+            buffers_held self.column) }
         ensures back { IfErr result (λ back. back.column ≡ self.column) }
         ensures other { IfErr result (λ _. type_of self.column ≢ of_utf8_view) }
     {
@@ -144,7 +145,8 @@ impl ArrayRef {
     pub fn into_list(self) -> Result<ListArray<i64>, ArrayRef>
         ensures rows { IfOk result (λ array. rows (list_column array) ≡ rows self.column) }
         ensures dtype { IfOk result (λ array. type_of (list_column array) ≡ type_of self.column) }
-        ensures buffers { IfOk result (λ array. buffers_held (list_column array) ≡ buffers_held self.column) }
+        ensures buffers { IfOk result (λ array. buffers_held (list_column array) ≡
+            buffers_held self.column) }
         ensures back { IfErr result (λ back. back.column ≡ self.column) }
         ensures other { IfErr result (λ _. is_list_shape (type_of self.column) ≡ false) }
     {
@@ -170,7 +172,8 @@ impl ArrayRef {
     pub fn into_fixed_size_list(self) -> Result<FixedSizeListArray, ArrayRef>
         ensures rows { IfOk result (λ array. rows (block_column array) ≡ rows self.column) }
         ensures dtype { IfOk result (λ array. type_of (block_column array) ≡ type_of self.column) }
-        ensures buffers { IfOk result (λ array. buffers_held (block_column array) ≡ buffers_held self.column) }
+        ensures buffers { IfOk result (λ array. buffers_held (block_column array) ≡
+            buffers_held self.column) }
         ensures back { IfErr result (λ back. back.column ≡ self.column) }
         ensures other { IfErr result (λ _. is_block_shape (type_of self.column) ≡ false) }
     {
@@ -198,7 +201,8 @@ impl ArrayRef {
     pub fn into_struct(self) -> Result<StructArray, ArrayRef>
         ensures rows { IfOk result (λ array. rows (tuple_column array) ≡ rows self.column) }
         ensures dtype { IfOk result (λ array. type_of (tuple_column array) ≡ type_of self.column) }
-        ensures buffers { IfOk result (λ array. buffers_held (tuple_column array) ≡ buffers_held self.column) }
+        ensures buffers { IfOk result (λ array. buffers_held (tuple_column array) ≡
+            buffers_held self.column) }
         ensures back { IfErr result (λ back. back.column ≡ self.column) }
         ensures other { IfErr result (λ _. is_struct_shape (type_of self.column) ≡ false) }
     {

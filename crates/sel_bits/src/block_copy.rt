@@ -22,7 +22,11 @@ impl<'a, T: Copy> Model for BlockCopy<'a, T> {
 
     ghost Value = { Copying T };
 
-    ghost view = { λ b. record { source = b.values.now; items = b.items.items; copies = b.copies } };
+    ghost view = { λ b. record {
+      source = b.values.now;
+      items = b.items.items;
+      copies = b.copies;
+    } };
 }
 
 impl<'a, T: Copy> BlockCopy<'a, T> {

@@ -26,7 +26,8 @@ impl<'a> Model for U56Blocks<'a> {
 
     ghost view = { λ r. record { source = r.bitmap.now; blocks_read = r.blocks } };
 
-    ghost invariant = { λ r. (r.at ≡ min (length r.bitmap.now.bits) (56 * r.blocks)) × (56 * r.blocks ≤ length r.bitmap.now.bits + 55) };
+    ghost invariant = { λ r. (r.at ≡ min (length r.bitmap.now.bits) (56 * r.blocks)) ×
+        (56 * r.blocks ≤ length r.bitmap.now.bits + 55) };
 }
 
 impl<'a> U56Blocks<'a> {
@@ -60,10 +61,12 @@ impl<'a> U56Blocks<'a> {
     /// The next block as a word, with zeros above its bits; none behind the last bit.
     #[inline]
     pub fn next(&mut self) -> Option<u64>
-        ensures some { IfSome result (λ _. 56 * self.old.blocks_read < length self.old.source.bits) }
+        ensures some { IfSome result
+            (λ _. 56 * self.old.blocks_read < length self.old.source.bits) }
         ensures end { IfNone result (length self.old.source.bits ≤ 56 * self.old.blocks_read) }
         ensures block { IfSome result (λ block. block ≡ word_of (block_bits self.old)) }
-        ensures after { MatchOption result (self.new ≡ self.old) (λ _. self.new ≡ after_block self.old) }
+        ensures after { MatchOption result (self.new ≡ self.old)
+            (λ _. self.new ≡ after_block self.old) }
         ensures bound { self.new.blocks_read ≤ (length self.new.source.bits + 55) / 56 }
     {
         let bitmap = self.bitmap;

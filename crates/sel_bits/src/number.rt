@@ -21,7 +21,8 @@ pub fn load_padded_le_u64(bytes: &[u8]) -> u64
 /// The same of bytes that may be fewer than eight.
 fn load_few(bytes: &[u8]) -> u64
     ensures value { result ≡ padded_word bytes.now }
-    ensures bits { (i : ℕ) → i < 64 → bit_at result i ≡ bit_at (get_or bytes.now (i / 8) 0) (i % 8) }
+    ensures bits { (i : ℕ) → i < 64 →
+        bit_at result i ≡ bit_at (get_or bytes.now (i / 8) 0) (i % 8) }
 {
     let mut eight = [0u8; 8];
     let count = bytes.len().min(8);

@@ -56,7 +56,8 @@ pub fn filter_boolean_kernel_sparse(
     requires values_unread { values.old.bits_read ≡ 0 }
     requires mask_unread { mask.old.words_read ≡ 0 }
     requires long { length values.old.source.bits ≡ length mask.old.source.bits }
-    ensures bits { IfOk result (λ kept. kept.bits ≡ select values.old.source.bits mask.old.source.bits) }
+    ensures bits { IfOk result (λ kept. kept.bits ≡
+        select values.old.source.bits mask.old.source.bits) }
     ensures reads { IfOk result (λ _. values.new.bits_read ≡ count_true mask.old.source.bits) }
     ensures words { mask.new.words_read ≤ length mask.old.source.bits / 64 + 2 }
     ensures values_source { values.new.source ≡ values.old.source }
@@ -77,7 +78,8 @@ fn keep_marked(
     requires values_unread { values.old.bits_read ≡ 0 }
     requires mask_unread { mask.old.words_read ≡ 0 }
     requires long { length values.old.source.bits ≡ length mask.old.source.bits }
-    ensures bits { IfOk result (λ kept. kept.bits ≡ select values.old.source.bits mask.old.source.bits) }
+    ensures bits { IfOk result (λ kept. kept.bits ≡
+        select values.old.source.bits mask.old.source.bits) }
     ensures reads { IfOk result (λ _. values.new.bits_read ≡ count_true mask.old.source.bits) }
     ensures words { mask.new.words_read ≤ length mask.old.source.bits / 64 + 2 }
     ensures values_source { values.new.source ≡ values.old.source }
@@ -104,9 +106,12 @@ fn append_marked(
 ) -> PolarsResult<()>
     requires fits { length values.old.source.bits < 2 ^ 64 }
     requires within { word < 2 ^ (length values.old.source.bits - start) }
-    requires reads { values.old.bits_read + count_true (bits (length values.old.source.bits - start) word) < 2 ^ 64 }
-    ensures appended { OnOk result (kept.new ≡ kept.old ++ select (drop start values.old.source.bits) (bits (length values.old.source.bits - start) word)) }
-    ensures reads { OnOk result (values.new.bits_read ≡ values.old.bits_read + count_true (bits (length values.old.source.bits - start) word)) }
+    requires reads { values.old.bits_read + count_true
+        (bits (length values.old.source.bits - start) word) < 2 ^ 64 }
+    ensures appended { OnOk result (kept.new ≡ kept.old ++ select
+        (drop start values.old.source.bits) (bits (length values.old.source.bits - start) word)) }
+    ensures reads { OnOk result (values.new.bits_read ≡
+        values.old.bits_read + count_true (bits (length values.old.source.bits - start) word)) }
     ensures source { values.new.source ≡ values.old.source }
     ensures refusal { IfErr result (λ fault. fault ≡ PolarsError.OutOfMemory) }
 {
@@ -129,7 +134,8 @@ pub fn filter_boolean_kernel_pext(
     requires values_unread { values.old.blocks_read ≡ 0 }
     requires mask_unread { mask.old.blocks_read ≡ 0 }
     requires long { length values.old.source.bits ≡ length mask.old.source.bits }
-    ensures bits { IfOk result (λ kept. kept.bits ≡ select values.old.source.bits mask.old.source.bits) }
+    ensures bits { IfOk result (λ kept. kept.bits ≡
+        select values.old.source.bits mask.old.source.bits) }
     ensures values_blocks { values.new.blocks_read ≤ (length values.old.source.bits + 55) / 56 }
     ensures mask_blocks { mask.new.blocks_read ≤ (length mask.old.source.bits + 55) / 56 }
     ensures values_source { values.new.source ≡ values.old.source }
@@ -150,7 +156,8 @@ fn keep_blocks(
     requires values_unread { values.old.blocks_read ≡ 0 }
     requires mask_unread { mask.old.blocks_read ≡ 0 }
     requires long { length values.old.source.bits ≡ length mask.old.source.bits }
-    ensures bits { IfOk result (λ kept. kept.bits ≡ select values.old.source.bits mask.old.source.bits) }
+    ensures bits { IfOk result (λ kept. kept.bits ≡
+        select values.old.source.bits mask.old.source.bits) }
     ensures values_blocks { values.new.blocks_read ≤ (length values.old.source.bits + 55) / 56 }
     ensures mask_blocks { mask.new.blocks_read ≤ (length mask.old.source.bits + 55) / 56 }
     ensures values_source { values.new.source ≡ values.old.source }

@@ -18,9 +18,12 @@ pub fn scalar_filter_offset<'a, T: Copy>(
     out: &mut Vec<T>,
 ) -> PolarsResult<(&'a [T], &'a [u8])>
     requires { length values.now ≡ length mask.now.bits }
-    ensures appended { let n = rows_to_boundary mask.now in OnOk result (out.new.items ≡ out.old.items ++ select (take n values.entry.now) (take n mask.entry.now.bits)) }
-    ensures values { IfOk result (λ rest. rest.0.now ≡ drop (rows_to_boundary mask.entry.now) values.entry.now) }
-    ensures bits { IfOk result (λ rest. bits_from rest.1.now 0 (length rest.0.now) ≡ drop (rows_to_boundary mask.entry.now) mask.entry.now.bits) }
+    ensures appended { let n = rows_to_boundary mask.now in OnOk result (out.new.items ≡
+        out.old.items ++ select (take n values.entry.now) (take n mask.entry.now.bits)) }
+    ensures values { IfOk result (λ rest. rest.0.now ≡
+        drop (rows_to_boundary mask.entry.now) values.entry.now) }
+    ensures bits { IfOk result (λ rest. bits_from rest.1.now 0 (length rest.0.now) ≡
+        drop (rows_to_boundary mask.entry.now) mask.entry.now.bits) }
     ensures bytes { IfOk result (λ rest. length rest.1.now ≡ (length rest.0.now + 7) / 8) }
     ensures unchanged { OnErr result (out.new.items ≡ out.old.items) }
     ensures refusal { IfErr result (λ fault. fault ≡ PolarsError.OutOfMemory) }
@@ -40,7 +43,8 @@ pub fn scalar_filter_offset<'a, T: Copy>(
 /// Refuses only for want of memory, and then the vector is unchanged.
 pub fn scalar_filter<T: Copy>(values: &[T], mask_bytes: &[u8], out: &mut Vec<T>) -> PolarsResult<()>
     requires { length values.now ≤ 8 * length mask_bytes.now }
-    ensures appended { OnOk result (out.new.items ≡ out.old.items ++ select values.now (bits_from mask_bytes.now 0 (length values.now))) }
+    ensures appended { OnOk result (out.new.items ≡
+        out.old.items ++ select values.now (bits_from mask_bytes.now 0 (length values.now))) }
     ensures unchanged { OnErr result (out.new.items ≡ out.old.items) }
     ensures refusal { IfErr result (λ fault. fault ≡ PolarsError.OutOfMemory) }
 {

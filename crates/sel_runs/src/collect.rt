@@ -280,7 +280,8 @@ fn collect_fields<'a>(
         parts_of (length firsts.now) (picked sources.now runs.now)) }
     ensures dtypes { IfOk result (λ fields. map type_of fields.items ≡ map type_of firsts.now) }
     ensures formed { IfOk result (λ fields. All (IsField len) fields.items) }
-    ensures within { IfOk result (λ _. PassesNone (past_fields (shapes_of (map type_of firsts.now)) 0
+    ensures within { IfOk result (λ _. PassesNone
+        (past_fields (shapes_of (map type_of firsts.now)) 0
         (columns_of sources.now) (picked sources.now runs.now))) }
     ensures refusal { IfErr result (IsRefusal (past_fields (shapes_of (map type_of firsts.now)) 0
         (columns_of sources.now) (picked sources.now runs.now))) }

@@ -23,7 +23,8 @@ pub fn filter_bitmap_and_validity(
     requires values { length values.now.bits ≡ length mask.now.bits }
     requires validity { Covers (option_copied validity) (length mask.now.bits) }
     ensures values { IfOk result (λ kept. kept.0.bits ≡ select values.now.bits mask.now.bits) }
-    ensures validity { IfOk result (λ kept. option_map (λ v. v.bits) kept.1 ≡ option_map (λ v. select v.bits mask.now.bits) (option_copied validity.entry)) }
+    ensures validity { IfOk result (λ kept. option_map (λ v. v.bits) kept.1 ≡
+        option_map (λ v. select v.bits mask.now.bits) (option_copied validity.entry)) }
     ensures refusal { IfErr result (λ fault. fault ≡ PolarsError.OutOfMemory) }
 {
     let kept = filter_boolean_kernel(alloc, values, mask)?;
@@ -38,7 +39,8 @@ pub(crate) fn filter_validity(
     mask: &Bitmap,
 ) -> PolarsResult<Option<Bitmap>>
     requires { Covers (option_copied validity) (length mask.now.bits) }
-    ensures validity { IfOk result (λ kept. option_map (λ v. v.bits) kept ≡ option_map (λ v. select v.bits mask.now.bits) (option_copied validity.entry)) }
+    ensures validity { IfOk result (λ kept. option_map (λ v. v.bits) kept ≡
+        option_map (λ v. select v.bits mask.now.bits) (option_copied validity.entry)) }
     ensures refusal { IfErr result (λ fault. fault ≡ PolarsError.OutOfMemory) }
 {
     match validity {

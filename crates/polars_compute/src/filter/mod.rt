@@ -32,7 +32,8 @@ use std::alloc::Global;
 /// Refuses only for want of memory.
 pub fn filter(alloc: Global, array: &ArrayRef, mask: &BooleanArray) -> PolarsResult<ArrayRef>
     requires { length (rows array.now.column) ≡ length (boolean_rows mask.now) }
-    ensures rows { IfOk result (λ kept. rows kept.column ≡ select (rows array.now.column) (in_force (boolean_rows mask.now))) }
+    ensures rows { IfOk result (λ kept. rows kept.column ≡
+        select (rows array.now.column) (in_force (boolean_rows mask.now))) }
     ensures dtype { IfOk result (λ kept. type_of kept.column ≡ type_of array.now.column) }
     ensures refusal { IfErr result (λ fault. fault ≡ PolarsError.OutOfMemory) }
 {
@@ -45,7 +46,8 @@ pub fn filter(alloc: Global, array: &ArrayRef, mask: &BooleanArray) -> PolarsRes
 /// The rows under leading and trailing false bits are dropped first, and what is left is answered at once where all of it is kept.
 pub fn filter_with_bitmap(alloc: Global, array: &ArrayRef, mask: &Bitmap) -> PolarsResult<ArrayRef>
     requires { length (rows array.now.column) ≡ length mask.now.bits }
-    ensures rows { IfOk result (λ kept. rows kept.column ≡ select (rows array.now.column) mask.now.bits) }
+    ensures rows { IfOk result (λ kept. rows kept.column ≡
+        select (rows array.now.column) mask.now.bits) }
     ensures dtype { IfOk result (λ kept. type_of kept.column ≡ type_of array.now.column) }
     ensures refusal { IfErr result (λ fault. fault ≡ PolarsError.OutOfMemory) }
 {
@@ -69,7 +71,8 @@ fn trimmed(mask: &Bitmap) -> PolarsResult<(usize, Bitmap)>
 /// The rows where the bit is true, answered at once where each of them is.
 fn filter_trimmed(alloc: Global, array: ArrayRef, mask: &Bitmap) -> PolarsResult<ArrayRef>
     requires { length (rows array.column) ≡ length mask.now.bits }
-    ensures rows { IfOk result (λ kept. rows kept.column ≡ select (rows array.column) mask.now.bits) }
+    ensures rows { IfOk result (λ kept. rows kept.column ≡
+        select (rows array.column) mask.now.bits) }
     ensures dtype { IfOk result (λ kept. type_of kept.column ≡ type_of array.column) }
     ensures refusal { IfErr result (λ fault. fault ≡ PolarsError.OutOfMemory) }
 {
@@ -116,7 +119,8 @@ fn filter_numbers<T: ArrowPrimitive>(
     mask: &Bitmap,
 ) -> PolarsResult<ArrayRef>
     requires { length (primitive_rows column.now) ≡ length mask.now.bits }
-    ensures rows { IfOk result (λ kept. rows kept.column ≡ select (primitive_rows column.now) mask.now.bits) }
+    ensures rows { IfOk result (λ kept. rows kept.column ≡
+        select (primitive_rows column.now) mask.now.bits) }
     ensures dtype { IfOk result (λ kept. type_of kept.column ≡ T.shape) }
     ensures refusal { IfErr result (λ fault. fault ≡ PolarsError.OutOfMemory) }
 {
@@ -164,7 +168,8 @@ fn filter_null(array: &NullArray, mask: &Bitmap) -> NullArray
 #[tactic(auto, using(crate::proofs::Selects::kept_columns))]
 fn filter_boolean(alloc: Global, array: &BooleanArray, mask: &Bitmap) -> PolarsResult<BooleanArray>
     requires { length (boolean_rows array.now) ≡ length mask.now.bits }
-    ensures rows { IfOk result (λ kept. boolean_rows kept ≡ select (boolean_rows array.now) mask.now.bits) }
+    ensures rows { IfOk result (λ kept. boolean_rows kept ≡
+        select (boolean_rows array.now) mask.now.bits) }
     ensures refusal { IfErr result (λ fault. fault ≡ PolarsError.OutOfMemory) }
 {
     let (values, validity) = filter_bitmap_and_validity(
@@ -184,7 +189,8 @@ fn filter_primitive<T: ArrowPrimitive>(
     mask: &Bitmap,
 ) -> PolarsResult<PrimitiveArray<T>>
     requires { length (primitive_rows array.now) ≡ length mask.now.bits }
-    ensures rows { IfOk result (λ kept. primitive_rows kept ≡ select (primitive_rows array.now) mask.now.bits) }
+    ensures rows { IfOk result (λ kept. primitive_rows kept ≡
+        select (primitive_rows array.now) mask.now.bits) }
     ensures refusal { IfErr result (λ fault. fault ≡ PolarsError.OutOfMemory) }
 {
     let (values, validity) = filter_values_and_validity(
@@ -205,7 +211,8 @@ fn filter_views(
     mask: &Bitmap,
 ) -> PolarsResult<BinaryViewArray>
     requires { length (binview_rows array.now) ≡ length mask.now.bits }
-    ensures rows { IfOk result (λ kept. binview_rows kept ≡ select (binview_rows array.now) mask.now.bits) }
+    ensures rows { IfOk result (λ kept. binview_rows kept ≡
+        select (binview_rows array.now) mask.now.bits) }
     ensures refusal { IfErr result (λ fault. fault ≡ PolarsError.OutOfMemory) }
 {
     let (views, validity) = filter_values_and_validity(
@@ -231,7 +238,8 @@ pub(crate) fn filter_texts(
     mask: &Bitmap,
 ) -> PolarsResult<Utf8ViewArray>
     requires { length (utf8view_rows array.now) ≡ length mask.now.bits }
-    ensures rows { IfOk result (λ kept. utf8view_rows kept ≡ select (utf8view_rows array.now) mask.now.bits) }
+    ensures rows { IfOk result (λ kept. utf8view_rows kept ≡
+        select (utf8view_rows array.now) mask.now.bits) }
     ensures refusal { IfErr result (λ fault. fault ≡ PolarsError.OutOfMemory) }
 {
     let bytes = filter_views(alloc, &array.bytes, mask)?;

@@ -21,7 +21,8 @@ pub fn filter_values_and_validity<T: Copy>(
     requires values { length values.now ≡ length mask.now.bits }
     requires validity { Covers (option_copied validity) (length mask.now.bits) }
     ensures values { IfOk result (λ kept. kept.0.items ≡ select values.now mask.now.bits) }
-    ensures validity { IfOk result (λ kept. option_map (λ v. v.bits) kept.1 ≡ option_map (λ v. select v.bits mask.now.bits) (option_copied validity.entry)) }
+    ensures validity { IfOk result (λ kept. option_map (λ v. v.bits) kept.1 ≡
+        option_map (λ v. select v.bits mask.now.bits) (option_copied validity.entry)) }
     ensures refusal { IfErr result (λ fault. fault ≡ PolarsError.OutOfMemory) }
 {
     let kept = filter_values(alloc, values, mask)?;

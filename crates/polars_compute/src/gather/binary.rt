@@ -22,9 +22,12 @@ pub fn take_unchecked<O: Offset, I: Index>(
     indices: &PrimitiveArray<I>,
 ) -> PolarsResult<BinaryArray<O>>
     requires { IsTrue (all_within (length (binary_rows values.now)) (primitive_rows indices.now)) }
-    ensures rows { IfOk result (λ taken. binary_rows taken ≡ take_rows (binary_rows values.now) (primitive_rows indices.now)) }
-    ensures fits { IfOk result (λ _. pos (bytes_needed (take_rows (binary_rows values.now) (primitive_rows indices.now))) ≤ℤ O.number O.GREATEST) }
-    ensures refusal { IfErr result (IsRefusal (IsPastBytes (O.number O.GREATEST) (take_rows (binary_rows values.now) (primitive_rows indices.now)))) }
+    ensures rows { IfOk result (λ taken. binary_rows taken ≡
+        take_rows (binary_rows values.now) (primitive_rows indices.now)) }
+    ensures fits { IfOk result (λ _. pos (bytes_needed
+        (take_rows (binary_rows values.now) (primitive_rows indices.now))) ≤ℤ O.number O.GREATEST) }
+    ensures refusal { IfErr result (IsRefusal (IsPastBytes
+        (O.number O.GREATEST) (take_rows (binary_rows values.now) (primitive_rows indices.now)))) }
 {
     collect_bytes(alloc, &TakenRows { values, indices })
 }

@@ -29,7 +29,8 @@ pub(crate) fn take_views(
     indices: &IdxArr,
 ) -> PolarsResult<BinaryViewArray>
     requires { IsTrue (all_within (length (binview_rows values.now)) (primitive_rows indices.now)) }
-    ensures rows { IfOk result (λ taken. binview_rows taken ≡ take_rows (binview_rows values.now) (primitive_rows indices.now)) }
+    ensures rows { IfOk result (λ taken. binview_rows taken ≡
+        take_rows (binview_rows values.now) (primitive_rows indices.now)) }
     ensures refusal { IfErr result (λ fault. fault ≡ PolarsError.OutOfMemory) }
 {
     let views = take_values(alloc, values.views.as_slice(), indices, NO_BYTES)?;
@@ -49,8 +50,10 @@ pub(crate) fn take_texts(
     values: &Utf8ViewArray,
     indices: &IdxArr,
 ) -> PolarsResult<Utf8ViewArray>
-    requires { IsTrue (all_within (length (utf8view_rows values.now)) (primitive_rows indices.now)) }
-    ensures rows { IfOk result (λ taken. utf8view_rows taken ≡ take_rows (utf8view_rows values.now) (primitive_rows indices.now)) }
+    requires { IsTrue (all_within (length (utf8view_rows values.now))
+        (primitive_rows indices.now)) }
+    ensures rows { IfOk result (λ taken. utf8view_rows taken ≡
+        take_rows (utf8view_rows values.now) (primitive_rows indices.now)) }
     ensures refusal { IfErr result (λ fault. fault ≡ PolarsError.OutOfMemory) }
 {
     let bytes = take_views(alloc, &values.bytes, indices)?;

@@ -19,7 +19,8 @@ pub fn take_bitmap_unchecked(
     indices: &[u32],
 ) -> PolarsResult<Bitmap>
     requires { IsTrue (all_below (length values.now.bits) indices.now) }
-    ensures bits { IfOk result (λ taken. taken.bits ≡ pick false (values.now.bits ∷ []) (map place_pick indices.now)) }
+    ensures bits { IfOk result (λ taken. taken.bits ≡
+        pick false (values.now.bits ∷ []) (map place_pick indices.now)) }
     ensures refusal { IfErr result (λ fault. fault ≡ PolarsError.OutOfMemory) }
 {
     let mut taken = BitPacker::with_capacity(alloc, indices.len())?;
@@ -37,7 +38,8 @@ pub fn take_bitmap_nulls_unchecked(
     indices: &IdxArr,
 ) -> PolarsResult<Bitmap>
     requires { IsTrue (all_within (length values.now.bits) (primitive_rows indices.now)) }
-    ensures bits { IfOk result (λ taken. taken.bits ≡ pick (slice_index_or values.now.bits 0 false) (values.now.bits ∷ []) (map pick_of (primitive_rows indices.now))) }
+    ensures bits { IfOk result (λ taken. taken.bits ≡ pick (slice_index_or values.now.bits 0 false)
+        (values.now.bits ∷ []) (map pick_of (primitive_rows indices.now))) }
     ensures refusal { IfErr result (λ fault. fault ≡ PolarsError.OutOfMemory) }
 {
     let count = indices.len();

@@ -19,7 +19,8 @@ pub fn take_unchecked(
     indices: &IdxArr,
 ) -> PolarsResult<BooleanArray>
     requires { IsTrue (all_within (length (boolean_rows values.now)) (primitive_rows indices.now)) }
-    ensures rows { IfOk result (λ taken. boolean_rows taken ≡ take_rows (boolean_rows values.now) (primitive_rows indices.now)) }
+    ensures rows { IfOk result (λ taken. boolean_rows taken ≡
+        take_rows (boolean_rows values.now) (primitive_rows indices.now)) }
     ensures refusal { IfErr result (λ fault. fault ≡ PolarsError.OutOfMemory) }
 {
     let bits = take_bitmap_nulls_unchecked(alloc, &values.values, indices)?;

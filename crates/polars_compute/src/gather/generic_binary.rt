@@ -63,8 +63,10 @@ pub fn collect_bytes<O: Offset, S: ByteRows>(
 ) -> PolarsResult<BinaryArray<O>>
     ensures rows { IfOk result (λ column. binary_rows column ≡ S.rows source.now) }
     ensures offsets { IfOk result (λ column. column.offsets ≡ 0 ∷ ends_from 0 (S.rows source.now)) }
-    ensures fits { IfOk result (λ _. pos (bytes_needed (S.rows source.now)) ≤ℤ O.number O.GREATEST) }
-    ensures refusal { IfErr result (IsRefusal (IsPastBytes (O.number O.GREATEST) (S.rows source.now))) }
+    ensures fits { IfOk result (λ _. pos
+        (bytes_needed (S.rows source.now)) ≤ℤ O.number O.GREATEST) }
+    ensures refusal { IfErr result (IsRefusal
+        (IsPastBytes (O.number O.GREATEST) (S.rows source.now))) }
 {
     let need = count_bytes(source);
     if need > most_bytes::<O>() as u128 {
@@ -105,7 +107,8 @@ fn most_bytes<O: Offset>() -> usize
 #[tactic(auto, using(crate::proofs::Collects::end_steps))]
 fn collect_offsets<O: Offset, S: ByteRows>(alloc: Global, source: &S) -> PolarsResult<Vec<O>>
     requires { pos (bytes_needed (S.rows source.now)) ≤ℤ O.number O.GREATEST }
-    ensures offsets { IfOk result (λ offsets. map O.number offsets.items ≡ map pos (0 ∷ ends_from 0 (S.rows source.now))) }
+    ensures offsets { IfOk result (λ offsets. map O.number offsets.items ≡
+        map pos (0 ∷ ends_from 0 (S.rows source.now))) }
     ensures refusal { IfErr result (λ fault. fault ≡ PolarsError.OutOfMemory) }
 {
     let mut end: usize = 0;

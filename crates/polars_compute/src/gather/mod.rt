@@ -4,7 +4,7 @@ ghost use Rattle.std.specs.Prelude.{◌≡◌, ◌≤◌, length, IsTrue, IfOk, 
 ghost use Rattle.sel_arrow.specs.Columns.{null_rows, primitive_rows};
 ghost use Rattle.sel_arrow.specs.Rows.{rows, type_of, IsWellFormed};
 ghost use Rattle.polars_compute.specs.Blocks.{blocks_within};
-ghost use Rattle.polars_compute.specs.Need.{IsRefusal, past};
+ghost use Rattle.polars_compute.specs.Need.{IsRefusal, PassesNone, past};
 ghost use Rattle.sel_arrow.specs.Masked.{number_value};
 ghost use Rattle.polars_compute.specs.Pick.{is_within, all_within, all_below, take_rows};
 
@@ -38,9 +38,26 @@ use std::alloc::Global;
 /// Refuses for want of memory, and where a limit is passed by the rows that are asked for.
 pub fn take_unchecked(alloc: Global, values: &ArrayRef, indices: &IdxArr) -> PolarsResult<ArrayRef>
     requires { IsTrue (all_within (length (rows values.now.column)) (primitive_rows indices.now)) }
-    ensures rows { IfOk result (λ taken. rows taken.column ≡ take_rows (rows values.now.column) (primitive_rows indices.now)) }
+    ensures rows { IfOk result (λ taken. rows taken.column ≡
+        take_rows (rows values.now.column) (primitive_rows indices.now)) }
     ensures dtype { IfOk result (λ taken. type_of taken.column ≡ type_of values.now.column) }
-    ensures refusal { IfErr result (IsRefusal (past (type_of values.now.column) (take_rows (rows values.now.column) (primitive_rows indices.now)))) }
+    ensures within { IfOk result (λ _. PassesNone (past (type_of values.now.column)
+        (take_rows (rows values.now.column) (primitive_rows indices.now)))) }
+    ensures refusal { IfErr result (IsRefusal (past (type_of values.now.column)
+        (take_rows (rows values.now.column) (primitive_rows indices.now)))) }
+{
+    let taken = take_any(alloc, values, indices)?;
+    Ok(taken)
+}
+
+/// The rows of a column of any kind at the indices.
+fn take_any(alloc: Global, values: &ArrayRef, indices: &IdxArr) -> PolarsResult<ArrayRef>
+    requires { IsTrue (all_within (length (rows values.now.column)) (primitive_rows indices.now)) }
+    ensures rows { IfOk result (λ taken. rows taken.column ≡
+        take_rows (rows values.now.column) (primitive_rows indices.now)) }
+    ensures dtype { IfOk result (λ taken. type_of taken.column ≡ type_of values.now.column) }
+    ensures refusal { IfErr result (IsRefusal (past (type_of values.now.column)
+        (take_rows (rows values.now.column) (primitive_rows indices.now)))) }
 {
     match values.as_column() {
         Column::Null(column) => Ok(take_nulls(column, indices).into_ref()),
@@ -70,9 +87,11 @@ pub fn take_unchecked(alloc: Global, values: &ArrayRef, indices: &IdxArr) -> Pol
 fn take_nested(alloc: Global, values: &Column, indices: &IdxArr) -> PolarsResult<ArrayRef>
     requires formed { IsWellFormed values.now }
     requires inside { IsTrue (all_within (length (rows values.now)) (primitive_rows indices.now)) }
-    ensures rows { IfOk result (λ taken. rows taken.column ≡ take_rows (rows values.now) (primitive_rows indices.now)) }
+    ensures rows { IfOk result (λ taken. rows taken.column ≡
+        take_rows (rows values.now) (primitive_rows indices.now)) }
     ensures dtype { IfOk result (λ taken. type_of taken.column ≡ type_of values.now) }
-    ensures refusal { IfErr result (IsRefusal (past (type_of values.now) (take_rows (rows values.now) (primitive_rows indices.now)))) }
+    ensures refusal { IfErr result (IsRefusal
+        (past (type_of values.now) (take_rows (rows values.now) (primitive_rows indices.now)))) }
 {
     if fixed_size_list::holds_numbers(values) {
         return fixed_size_list::take_unchecked(alloc, values, indices);
@@ -88,10 +107,13 @@ fn take_numbers<T: ArrowPrimitive>(
     values: &PrimitiveArray<T>,
     indices: &IdxArr,
 ) -> PolarsResult<ArrayRef>
-    requires { IsTrue (all_within (length (primitive_rows values.now)) (primitive_rows indices.now)) }
-    ensures rows { IfOk result (λ taken. rows taken.column ≡ take_rows (primitive_rows values.now) (primitive_rows indices.now)) }
+    requires { IsTrue (all_within (length (primitive_rows values.now))
+        (primitive_rows indices.now)) }
+    ensures rows { IfOk result (λ taken. rows taken.column ≡
+        take_rows (primitive_rows values.now) (primitive_rows indices.now)) }
     ensures dtype { IfOk result (λ taken. type_of taken.column ≡ T.shape) }
-    ensures refusal { IfErr result (IsRefusal (past T.shape (take_rows (primitive_rows values.now) (primitive_rows indices.now)))) }
+    ensures refusal { IfErr result (IsRefusal
+        (past T.shape (take_rows (primitive_rows values.now) (primitive_rows indices.now)))) }
 {
     Ok(take_primitive_unchecked(alloc, values, indices)?.into_ref())
 }

@@ -21,7 +21,8 @@ pub fn take_primitive_unchecked<T: NativeType>(
     indices: &IdxArr,
 ) -> PolarsResult<PrimitiveArray<T>>
     requires { IsTrue (all_within (length (primitive_rows arr.now)) (primitive_rows indices.now)) }
-    ensures rows { IfOk result (λ taken. primitive_rows taken ≡ take_rows (primitive_rows arr.now) (primitive_rows indices.now)) }
+    ensures rows { IfOk result (λ taken. primitive_rows taken ≡
+        take_rows (primitive_rows arr.now) (primitive_rows indices.now)) }
     ensures refusal { IfErr result (λ fault. fault ≡ PolarsError.OutOfMemory) }
 {
     let values = take_values(alloc, arr.values.as_slice(), indices, T::LEAST)?;
@@ -41,7 +42,8 @@ pub(crate) fn take_values<T: Copy>(
     filler: T,
 ) -> PolarsResult<Vec<T>>
     requires { IsTrue (all_within (length values.now) (primitive_rows indices.now)) }
-    ensures items { IfOk result (λ taken. taken.items ≡ pick filler (values.now ∷ []) (map pick_of (primitive_rows indices.now))) }
+    ensures items { IfOk result (λ taken. taken.items ≡
+        pick filler (values.now ∷ []) (map pick_of (primitive_rows indices.now))) }
     ensures refusal { IfErr result (λ fault. fault ≡ PolarsError.OutOfMemory) }
 {
     let mut taken = Vec::with_capacity(alloc, indices.len())?;

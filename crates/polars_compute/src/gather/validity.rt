@@ -20,8 +20,10 @@ pub(crate) fn take_validity(
     validity: &Option<Bitmap>,
     indices: &IdxArr,
 ) -> PolarsResult<Bitmap>
-    requires { ForSome validity.now (λ v. IsTrue (all_within (length v.bits) (primitive_rows indices.now))) }
-    ensures bits { IfOk result (λ taken. taken.bits ≡ map (valid_pick validity.now) (map pick_of (primitive_rows indices.now))) }
+    requires { ForSome validity.now
+        (λ v. IsTrue (all_within (length v.bits) (primitive_rows indices.now))) }
+    ensures bits { IfOk result (λ taken. taken.bits ≡
+        map (valid_pick validity.now) (map pick_of (primitive_rows indices.now))) }
     ensures refusal { IfErr result (λ fault. fault ≡ PolarsError.OutOfMemory) }
 {
     let count = indices.len();
@@ -34,7 +36,8 @@ pub(crate) fn take_validity(
 
 /// Whether an index is not null and its row is valid.
 fn is_valid_pick(validity: &Option<Bitmap>, index: Option<u32>) -> bool
-    requires { ForSome validity.now (λ v. IsTrue (is_within (length v.bits) (number_value pos index))) }
+    requires { ForSome validity.now
+        (λ v. IsTrue (is_within (length v.bits) (number_value pos index))) }
     ensures { result ≡ valid_pick validity.now (pick_of (number_value pos index)) }
 {
     match index {
