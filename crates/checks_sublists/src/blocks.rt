@@ -54,13 +54,30 @@ fn refusal_of(
 fn entries_at_one_index(rt: HostRuntime) -> Result<(), Fail> {
     let outside = Some(PolarsError::ComputeError);
     let lists = pair_and_null(rt.alloc())?;
-    assert!(rt; has_entries(rt.alloc(), lists, 1, false, &[Some(2), Some(4)])?);
+    assert!(rt; has_entries(rt.alloc(), lists, 1, false, &[Some(2), None])?);
     let lists = pair_and_null(rt.alloc())?;
     assert!(rt; refusal_of(rt.alloc(), lists, 2, false) == outside);
     let lists = pair_and_null(rt.alloc())?;
     assert!(rt; has_entries(rt.alloc(), lists, 2, true, &[None, None])?);
     let lists = pairs(rt.alloc(), 0, &[])?;
     assert!(rt; has_entries(rt.alloc(), lists, 9, false, &[])?);
+    Ok(())
+}
+
+/// Two null lists of three numbers each.
+fn two_nulls(alloc: Global) -> Result<FixedSizeListArray, Fail> {
+    let bits = validity(alloc, &[false, false])?;
+    let rows = [Some(1), Some(2), Some(3), Some(4), None, Some(6)];
+    let child = number_column(alloc, &rows)?;
+    Ok(FixedSizeListArray::try_new(alloc, 3, 2, child, bits)?)
+}
+
+#[test]
+fn no_index_is_out_of_bounds_of_null_lists(rt: HostRuntime) -> Result<(), Fail> {
+    let lists = two_nulls(rt.alloc())?;
+    assert!(rt; has_entries(rt.alloc(), lists, 9, false, &[None, None])?);
+    let lists = two_nulls(rt.alloc())?;
+    assert!(rt; has_entries(rt.alloc(), lists, -1, false, &[None, None])?);
     Ok(())
 }
 
@@ -122,6 +139,29 @@ fn refusal_of_null_index(alloc: Global) -> Result<Option<PolarsError>, Fail> {
 fn entries_at_an_index_for_each_list(rt: HostRuntime) -> Result<(), Fail> {
     assert!(rt; takes_one_and_null(rt.alloc())?);
     assert!(rt; refusal_of_null_index(rt.alloc())? == Some(PolarsError::ComputeError));
+    Ok(())
+}
+
+/// Whether the entries of `[1, 2]` and null at 0 and at 5 are 1 and null, where null is no answer to an index out of bounds.
+fn passes_over_a_null_list(alloc: Global) -> Result<bool, Fail> {
+    let lists = pair_and_null(alloc)?;
+    let taken = entries_at(alloc, &lists, &[Some(0), Some(5)], false);
+    drop(lists);
+    is_numbers(taken?, &[Some(1i64), None])
+}
+
+/// Why those at no index and at 0 are refused, or nothing.
+fn refusal_of_a_valid_list(alloc: Global) -> Result<Option<PolarsError>, Fail> {
+    let lists = pair_and_null(alloc)?;
+    let refusal = refusal_at(alloc, &lists, &[None, Some(0)], false);
+    drop(lists);
+    refusal
+}
+
+#[test]
+fn indices_count_at_valid_lists_alone(rt: HostRuntime) -> Result<(), Fail> {
+    assert!(rt; passes_over_a_null_list(rt.alloc())?);
+    assert!(rt; refusal_of_a_valid_list(rt.alloc())? == Some(PolarsError::ComputeError));
     Ok(())
 }
 

@@ -1,8 +1,11 @@
 -- What filters, takes and choices have to do with one another.
-use Rattle.std.proofs.Common.{◌≡◌, ℕ, zero, suc, true, false, List, [], ◌∷◌, map, get_or, Option, Some, None, refl, ap, ◌∙◌, arith}
-use Rattle.polars_compute.specs.Select.{kept}
-use Rattle.polars_compute.specs.Pick.{found, pick, place_pick}
-use Rattle.polars_compute.specs.Laws.{FilterIsTake, TakesCompose, KeepsThen, KeepsOtherwise}
+use Rattle.std.proofs.Common.{◌≡◌, ℕ, zero, suc, pos, negsuc, true, false, List, [], ◌∷◌, map, get_or, Option, Some, None, refl, ap, sym, ◌∙◌, arith}
+use Rattle.std.specs.Prelude.{slice_get, option_and_then}
+use Rattle.std.proofs.lemmas.List.{length-map}
+use Rattle.sel_arrow.specs.Value.{Value, Null, Truth, Number, Bytes, Items, Tuple}
+use Rattle.polars_compute.specs.Select.{in_force, is_true, kept}
+use Rattle.polars_compute.specs.Pick.{found, pick, pick_of, place_pick}
+use Rattle.polars_compute.specs.Laws.{composed, source_pick, SelectedRowsAreTaken, FilterIsTake, TakesCompose, KeepsThen, KeepsOtherwise}
 use Rattle.polars_compute.proofs.Places.{selected}
 
 -- ---- filters and takes
@@ -28,6 +31,32 @@ found_again d xss ps (Some (suc s, i)) = refl
 pub takes_compose : (A : Type 0) → TakesCompose A
 takes_compose A d xss ps [] = refl
 takes_compose A d xss ps (q ∷ qs) = (λ i. found_again d xss ps q i ∷ takes_compose A d xss ps qs i)
+
+-- a place of those that are kept, as a pick
+place_at : (places : List ℕ) (i : ℕ) → get_or (map place_pick places) i None ≡ option_and_then place_pick (slice_get places i)
+place_at [] i = refl
+place_at (place ∷ places) zero = refl
+place_at (place ∷ places) (suc i) = place_at places i
+
+source_of : (places : List ℕ) (index : Value) → found None (map place_pick places ∷ []) (pick_of index) ≡ source_pick places index
+source_of places (Number (pos i)) = place_at places i
+source_of places (Number (negsuc i)) = refl
+source_of places Null = refl
+source_of places (Truth b) = refl
+source_of places (Bytes bytes) = refl
+source_of places (Items items) = refl
+source_of places (Tuple parts) = refl
+
+sources_of : (places : List ℕ) (indices : List Value) → composed (map place_pick places) (map pick_of indices) ≡ map (source_pick places) indices
+sources_of places [] = refl
+sources_of places (index ∷ indices) = (λ i. source_of places index i ∷ sources_of places indices i)
+
+pub selected_rows : SelectedRowsAreTaken
+selected_rows xs mask indices long =
+    let ms = in_force mask in
+    ap (λ l. pick Null (l ∷ []) (map pick_of indices)) (filter_is_take Value Null xs ms (long ∙ sym (length-map mask is_true)))
+    ∙ takes_compose Value Null (xs ∷ []) (map place_pick (kept ms)) (map pick_of indices)
+    ∙ ap (pick Null (xs ∷ [])) (sources_of (kept ms) indices)
 
 -- ---- filters of choices
 

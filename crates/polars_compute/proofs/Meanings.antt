@@ -15,6 +15,7 @@ use Rattle.sel_flatten.specs.Flatten.{flatten}
 use Rattle.sel_runs.specs.Children.{items_in, joined_items, part_at}
 use Rattle.sel_runs.proofs.ListParts.{few_rows}
 use Rattle.sel_runs.proofs.Thinned.{whole_fits}
+use Rattle.sel_sublists.specs.Entries.{fixed_get, short}
 use Rattle.sel_sublists.specs.Lists.{list_get, oob}
 use Rattle.polars_compute.specs.Dictionary.{decode}
 use Rattle.polars_compute.specs.Meaning.{MeansTheSame, Alike}
@@ -37,6 +38,8 @@ alike c d same = record {
   flattens = (λ before after ws h. ap (λ vs. flatten (before ++ vs ∷ after) ws h) same.1);
   gets = (λ index. ap (λ vs. list_get vs index) same.1);
   lacks = (λ index. ap (λ vs. oob vs index) same.1);
+  gets_entries = (λ width indices. ap (λ vs. fixed_get vs width indices) same.1);
+  falls_short = (λ width indices. ap (λ vs. short vs width indices) same.1);
   decodes = (λ values. ap (λ vs. decode vs values) same.1);
   is_decoded = (λ keys. ap (decode keys) same.1);
 }

@@ -1,11 +1,11 @@
 -- What filters, takes and choices have to do with one another, for all lists whose elements are of one type, and what
 -- becomes of dictionaries.
-use Rattle.std.specs.Prelude.{◌≡◌, ℕ, Bool, true, List, [], ◌∷◌, length, map, replicate, Option, None, not, count_by}
-use Rattle.sel_arrow.specs.Value.{Value, is_null}
+use Rattle.std.specs.Prelude.{◌≡◌, ℕ, pos, Bool, true, List, [], ◌∷◌, length, map, replicate, Option, None, not, count_by, slice_get, option_and_then}
+use Rattle.sel_arrow.specs.Value.{Value, Null, Number, is_null}
 use Rattle.sel_choices.specs.Choose.{choose, choose_one, choose_or_one, choose_of_two}
 use Rattle.polars_compute.specs.Dictionary.{decode, propagated_keys, valid_values}
-use Rattle.polars_compute.specs.Select.{select, kept}
-use Rattle.polars_compute.specs.Pick.{pick, place_pick, all_within}
+use Rattle.polars_compute.specs.Select.{select, in_force, kept}
+use Rattle.polars_compute.specs.Pick.{pick, place_pick, take_rows, all_within}
 
 -- ---- filters and takes
 
@@ -20,6 +20,16 @@ composed ps qs = pick None (ps ∷ []) qs
 -- the take by qs of what a take by ps gave is the one take by the composed picks (own)
 abbrev pub TakesCompose : Type 0 → Type 0
 TakesCompose A = (d : A) (xss : List (List A)) (ps qs : List (Option (ℕ × ℕ))) → pick d (pick d xss ps ∷ []) qs ≡ pick d xss (composed ps qs)
+
+-- the row that an index names of those at these places: none where the index is null or names no place (own)
+abbrev pub source_pick : List ℕ → Value → Option (ℕ × ℕ)
+source_pick places (Number (pos i)) = option_and_then place_pick (slice_get places i)
+source_pick places _ = None
+
+-- the rows at indices among those that a mask keeps are the take of the rows that these are, for each list as long as the mask (own)
+abbrev pub SelectedRowsAreTaken : Type 0
+SelectedRowsAreTaken = (xs mask indices : List Value) → length xs ≡ length mask →
+    take_rows (select xs (in_force mask)) indices ≡ pick Null (xs ∷ []) (map (source_pick (kept (in_force mask))) indices)
 
 -- ---- filters of choices
 

@@ -6,6 +6,7 @@ use Rattle.sel_arrow.specs.Value.{Value, Null}
 use Rattle.sel_arrow.specs.declared.column.Column.{Column}
 use Rattle.sel_choices.specs.Choose.{choose}
 use Rattle.sel_flatten.specs.Flatten.{flatten}
+use Rattle.sel_sublists.specs.Entries.{fixed_get, short}
 use Rattle.sel_sublists.specs.Lists.{list_get, oob}
 use Rattle.polars_compute.specs.Dictionary.{decode}
 use Rattle.polars_compute.specs.Need.{need, NoneGreater, NoneAbove}
@@ -27,6 +28,8 @@ pub record Alike (c d : Column) : Type 0 where
   pub flattens : (before after : List (List Value)) (ws : List ℕ) (h : ℕ) → flatten (before ++ rows c ∷ after) ws h ≡ flatten (before ++ rows d ∷ after) ws h
   pub gets : (index : ℤ) → list_get (rows c) index ≡ list_get (rows d) index
   pub lacks : (index : ℤ) → oob (rows c) index ≡ oob (rows d) index
+  pub gets_entries : (width : ℕ) (indices : List Value) → fixed_get (rows c) width indices ≡ fixed_get (rows d) width indices
+  pub falls_short : (width : ℕ) (indices : List Value) → short (rows c) width indices ≡ short (rows d) width indices
   pub decodes : (values : List Value) → decode (rows c) values ≡ decode (rows d) values
   pub is_decoded : (keys : List Value) → decode keys (rows c) ≡ decode keys (rows d)
 

@@ -2,7 +2,7 @@
 
 ghost use Rattle.sel_arrow.specs.Value.{Value};
 ghost use Rattle.polars_compute.specs.Meaning.{EqualMeaning, KeptNeedsNoMore, NeedsWithinLimits};
-ghost use Rattle.polars_compute.specs.Laws.{FilterIsTake, TakesCompose, KeepsThen, KeepsOtherwise, RepeatsThen, RepeatsOtherwise, RepeatsBoth, PropagationDecodes, PropagationLeavesNoNull};
+ghost use Rattle.polars_compute.specs.Laws.{FilterIsTake, TakesCompose, KeepsThen, KeepsOtherwise, RepeatsThen, RepeatsOtherwise, RepeatsBoth, SelectedRowsAreTaken, PropagationDecodes, PropagationLeavesNoNull};
 
 /// A filter is the take of the places that its mask keeps. Filters and joins rely on it.
 pub fn law_filter_is_take()
@@ -12,6 +12,13 @@ pub fn law_filter_is_take()
 /// A take of a take is one take, by the composed picks. Filters and joins rely on it.
 pub fn law_take_of_take()
     ensures { TakesCompose Value }
+{}
+
+/// The rows at indices among those that a mask keeps are a take of the source's rows, by picks that do not depend on the
+/// column. So row k of all columns that one mask and the same indices select comes from one source row. Executors over batches
+/// rely on it.
+pub fn law_select_rows()
+    ensures { SelectedRowsAreTaken }
 {}
 
 /// A choice filtered by its own mask is its first list filtered so, and by the mask's complement its second.

@@ -5,6 +5,7 @@ pub mod Hex
 pub mod Pieces
 pub mod Printed
 pub mod Progress
+pub mod ReadBlocks
 pub mod ReadLists
 pub mod RowLemmas
 pub mod Steps

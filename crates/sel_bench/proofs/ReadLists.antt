@@ -1,5 +1,5 @@
 -- Lists that are read one by one.
-use Rattle.std.proofs.Common.{◌≡◌, ℕ, ℤ, zero, suc, pos, ◌+◌, Bool, true, false, Bor, cond, List, [], ◌∷◌, ◌++◌, length, length-append, get_or, map, Some, arith, refl, ap, sym, ◌∙◌}
+use Rattle.std.proofs.Common.{◌≡◌, ℕ, ℤ, zero, suc, pos, ◌+◌, Bool, true, false, Bor, cond, List, [], ◌∷◌, ◌++◌, length, length-append, get_or, map, Option, Some, arith, refl, ap, sym, ◌∙◌}
 use Rattle.std.specs.Prelude.{codes, bytes_eq, ◌==◌}
 use Rattle.std.specs.List.{slice_split}
 use Rattle.std.proofs.lemmas.List.{map-append, append-nil, length-map}
@@ -14,7 +14,7 @@ use Rattle.sel_runs.proofs.JoinedRows.{same_numbers}
 use Rattle.sel_runs.proofs.Rebuilt.{IsListed, lists_rebuilt}
 use Rattle.sel_bench.specs.declared.lists.Lists.{Lists}
 use Rattle.sel_bench.specs.Columns.{all_some}
-use Rattle.sel_bench.specs.Lists.{HasRead, IsListRow, list_of_word, lists_of}
+use Rattle.sel_bench.specs.Lists.{HasRead, IsListRow, rows_of_bars}
 use Rattle.sel_bench.proofs.RowLemmas.{map_now}
 
 pub hidden-append : (a b : List Bool) (xs ys : List Value) → length a ≡ length xs → hidden (a ++ b) (xs ++ ys) ≡ hidden a xs ++ hidden b ys
@@ -24,7 +24,7 @@ hidden-append (v ∷ a) b [] ys same = absurd (omega (arith, same))
 hidden-append (true ∷ a) b (x ∷ xs) ys same = ap (λ l. x ∷ l) (hidden-append a b xs ys (omega (arith, same)))
 hidden-append (false ∷ a) b (x ∷ xs) ys same = ap (λ l. Null ∷ l) (hidden-append a b xs ys (omega (arith, same)))
 
-length-hidden : (a : List Bool) (xs : List Value) → length a ≡ length xs → length (hidden a xs) ≡ length xs
+pub length-hidden : (a : List Bool) (xs : List Value) → length a ≡ length xs → length (hidden a xs) ≡ length xs
 length-hidden [] [] same = refl
 length-hidden [] (x ∷ xs) same = absurd (omega (arith, same))
 length-hidden (v ∷ a) [] same = absurd (omega (arith, same))
@@ -88,8 +88,11 @@ lists_made read lists offsets child validity has ends items valid =
     lists_rebuilt read offsets child (Some validity) (length read) (λ k. listed_row (get_or read k Null) (has.listed k)) refl
     (same_numbers offsets (0 ∷ item_ends 0 read) (ends ∙ has.ends)) (items ∙ has.items) (valid ∙ has.valid)
 
--- the rows of the words between bars are the lists
-pub lists_from_rows : (word : List ℕ) (words : List (Bor (List ℕ))) → false ≡ bytes_eq word (codes ".") → map (λ part. part.now) words ≡ slice_split (λ b. b == 124) word →
-    all_some (map (λ part. list_of_word part.now) words) ≡ lists_of word
-lists_from_rows word words long cut =
-    ap all_some (map_now list_of_word words ∙ ap (map list_of_word) cut) ∙ ap (λ b. cond b (Some []) (all_some (map list_of_word (slice_split (λ b. b == 124) word)))) long
+-- the rows of the words between bars are the rows of the whole
+pub rows_from_bars : (row_of : List ℕ → Option Value) (word : List ℕ) (words : List (Bor (List ℕ))) → false ≡ bytes_eq word (codes ".") → map (λ part. part.now) words ≡ slice_split (λ b. b == 124) word →
+    all_some (map (λ part. row_of part.now) words) ≡ rows_of_bars row_of word
+rows_from_bars row_of word words long cut =
+    ap all_some (map_now row_of words ∙ ap (map row_of) cut) ∙ ap (λ b. cond b (Some []) (all_some (map row_of (slice_split (λ b. b == 124) word)))) long
+
+pub no_bars : (row_of : List ℕ → Option Value) (word : List ℕ) → true ≡ bytes_eq word (codes ".") → rows_of_bars row_of word ≡ Some []
+no_bars row_of word none = ap (λ b. cond b (Some []) (all_some (map row_of (slice_split (λ b. b == 124) word)))) (sym none)

@@ -5,6 +5,7 @@ use Rattle.std.specs.Str.{is_utf8}
 use Rattle.sel_bench.specs.Choose.{choose_words}
 use Rattle.sel_bench.specs.Dict.{dict_words}
 use Rattle.sel_bench.specs.Filter.{filter_words}
+use Rattle.sel_bench.specs.Fixed.{fixed_words}
 use Rattle.sel_bench.specs.Flatten.{flatten_words}
 use Rattle.sel_bench.specs.Get.{get_words}
 use Rattle.sel_bench.specs.Lines.{longest_line}
@@ -21,6 +22,7 @@ answer_of_command name words =
     else if bytes_eq name (codes "choose") then choose_words words
     else if bytes_eq name (codes "flatten") then flatten_words words
     else if bytes_eq name (codes "dict") then dict_words words
+    else if bytes_eq name (codes "fixed") then fixed_words words
     else None
 
 -- the answer to a line of these words, of which the first is the command (own)

@@ -1,9 +1,11 @@
+pub mod Blocks
 pub mod Choose
 pub mod Columns
 pub mod Commands
 pub mod Counted
 pub mod Dict
 pub mod Filter
+pub mod Fixed
 pub mod Flatten
 pub mod Get
 pub mod Lines

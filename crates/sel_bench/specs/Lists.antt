@@ -16,9 +16,13 @@ use Rattle.sel_bench.specs.Rows.{rows_of}
 abbrev pub list_of_word : List ℕ → Option Value
 list_of_word word = if bytes_eq word (codes "_") then Some Null else option_map list_of (column_of number_of word)
 
--- lists as a word: `.` for no rows, or rows with `|` between them (own)
+-- rows of lists as a word: `.` for no rows, or rows with `|` between them (own)
+abbrev pub rows_of_bars : (List ℕ → Option Value) → List ℕ → Option (List Value)
+rows_of_bars row_of word = if bytes_eq word (codes ".") then Some [] else all_some (map row_of (slice_split (λ b. b == 124) word))
+
+-- lists as a word (own)
 abbrev pub lists_of : List ℕ → Option (List Value)
-lists_of word = if bytes_eq word (codes ".") then Some [] else all_some (map list_of_word (slice_split (λ b. b == 124) word))
+lists_of word = rows_of_bars list_of_word word
 
 -- the items of a list or none, as a row (own)
 abbrev pub shown_list : Option (Rows ℤ) → Value

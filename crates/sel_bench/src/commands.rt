@@ -6,6 +6,7 @@ ghost use Rattle.sel_bench.specs.Lines.{longest_line};
 use crate::choose::answer_choose;
 use crate::dict::answer_dict;
 use crate::filter::answer_filter;
+use crate::fixed::answer_fixed;
 use crate::flatten::answer_flatten;
 use crate::get::answer_get;
 use crate::pext::answer_pext;
@@ -66,6 +67,9 @@ fn answer_command(alloc: Global, name: &str, words: &[&str]) -> Result<Option<St
     }
     if name == "dict" {
         return answer_dict(alloc, words);
+    }
+    if name == "fixed" {
+        return answer_fixed(alloc, words);
     }
     Ok(None)
 }

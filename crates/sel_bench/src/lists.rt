@@ -68,8 +68,8 @@ fn no_lists(alloc: Global) -> Result<Lists, AllocError>
     })
 }
 
-// A list, which may be null, of `_` or the items' printing.
-fn parse_row(alloc: Global, word: &str) -> Result<Option<Option<Rows<i64>>>, AllocError>
+/// A list, which may be null, of `_` or the items' printing.
+pub fn parse_row(alloc: Global, word: &str) -> Result<Option<Option<Rows<i64>>>, AllocError>
     requires { length word.now ≤ longest_line }
     ensures { IfOk result (λ row. option_map shown_list row ≡ list_of_word word.now) }
 {
@@ -137,8 +137,8 @@ impl Lists {
     }
 }
 
-// The column of the items.
-fn items_of(alloc: Global, values: Vec<i64>, flags: &[bool]) -> Result<ArrayRef, AllocError>
+/// The column of items, and of which of them are valid.
+pub fn items_of(alloc: Global, values: Vec<i64>, flags: &[bool]) -> Result<ArrayRef, AllocError>
     ensures rows { IfOk result (λ items. rows items.column ≡ hidden flags.now (map Number values.items)) }
     ensures dtype { IfOk result (λ items. type_of items.column ≡ of_int64) }
 {

@@ -1,12 +1,14 @@
 //! Reads lines such as `take 5,n,7 2,n,1` and answers each by a line.
 #![tactic(auto)]
 
+mod blocks;
 mod choose;
 mod columns;
 mod commands;
 mod counted;
 mod dict;
 mod filter;
+mod fixed;
 mod flatten;
 mod get;
 mod lists;

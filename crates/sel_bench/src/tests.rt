@@ -241,6 +241,30 @@ fn dict_lines(rt: HostRuntime) -> Result<(), Fail> {
     Ok(())
 }
 
+#[test]
+fn fixed_lines(rt: HostRuntime) -> Result<(), Fail> {
+    let rows: [(&[u8], &[u8]); 10] = [
+        (b"fixed 2 1,2|_ 1 f\n", b"2,n\n"),
+        (b"fixed 2 1,2|_ 2 t\n", b"n,n\n"),
+        (b"fixed 2 _|_ 9 f\n", b"n,n\n"),
+        (b"fixed 0 -|_ 0 t\n", b"n,n\n"),
+        (b"fixed 0 _ 0 f\n", b"n\n"),
+        (b"fixed 3 . 9 f\n", b"-\n"),
+        (b"fixed 2 _|1,n|3,4 -1 f\n", b"n,n,4\n"),
+        (b"fixed 1 7|_ -9223372036854775808 t\n", b"n,n\n"),
+        (
+            b"fixed 16 _|1,2,3,4,5,6,7,8,9,10,11,12,13,14,15,16 15 f\n",
+            b"n,16\n",
+        ),
+        (
+            b"fixed 2 1,2|_ 2 f\ntake 5 0\n",
+            b"get index is out of bounds\n5\n",
+        ),
+    ];
+    assert!(rt; all_run(rt.alloc(), &rows));
+    Ok(())
+}
+
 // Whether a run ends at each of these lines before a good one.
 fn are_bad(alloc: Global, lines: &[&[u8]]) -> Result<bool, AllocError> {
     for line in lines {
@@ -362,6 +386,23 @@ fn bad_dict_lines(rt: HostRuntime) -> Result<(), Fail> {
         b"dict 0 a",
         b"dict 0 =a,",
         b"dict -1 =a",
+    ];
+    assert!(rt; are_bad(rt.alloc(), &lines)?);
+    Ok(())
+}
+
+#[test]
+fn bad_fixed_lines(rt: HostRuntime) -> Result<(), Fail> {
+    let lines: [&[u8]; 9] = [
+        b"fixed 2 1,2,3 0 t",
+        b"fixed 17 . 0 t",
+        b"fixed 02 . 0 t",
+        b"fixed 2 1,2 0 T",
+        b"fixed 2 1,2 -0 t",
+        b"fixed 2 1,2 0 n",
+        b"fixed 2 1,2 n t",
+        b"fixed 2 1,2||3,4 0 t",
+        b"fixed 2 1,2 0",
     ];
     assert!(rt; are_bad(rt.alloc(), &lines)?);
     Ok(())

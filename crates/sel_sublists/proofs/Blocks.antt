@@ -1,25 +1,28 @@
 -- Entries of lists of one length.
-use Rattle.std.proofs.Common.{◌≡◌, ◌<◌, ◌≤◌, ◌+◌, ◌*◌, ℕ, zero, suc, ℤ, Bool, true, false, All, List, [], ◌∷◌, ◌||◌, length, map, replicate, get_or, Option, Some, None, Box, Global, refl, ap, sym, ◌∙◌, arith}
-use Rattle.std.specs.Prelude.{IfSome}
-use Rattle.std.specs.List.{list_any}
+use Rattle.std.proofs.Common.{◌≡◌, ◌<◌, ◌≤◌, ◌+◌, ◌*◌, ℕ, ℤ, Bool, true, false, All, List, [], ◌∷◌, length, map, take, drop, get_or, None, refl, ap, sym, subst, ◌∙◌, arith}
+use Rattle.std.specs.Prelude.{◌&&◌, not, if◌then◌else◌}
+use Rattle.std.specs.List.{list_any, range_with_len}
 use Rattle.std.specs.Option.{option_map, is_none}
-use Rattle.std.proofs.lemmas.List.{get_or-replicate, length-replicate}
-use Rattle.sel_bits.specs.Place.{place}
-use Rattle.sel_bits.specs.Bits.{Bits}
-use Rattle.sel_bits.specs.declared.faults.Limit.{Limit}
+use Rattle.std.proofs.lemmas.List.{get_or-replicate}
+use Rattle.std.proofs.lemmas.List.Folds.{list_any_at, list_any_none}
+use Rattle.std.proofs.lemmas.List.FromFn.{fill_by_all, get_or-range_with_len, get_or-map-range_with_len, length-range_with_len, length-map-range_with_len}
 use Rattle.sel_bits.specs.declared.faults.PolarsError.{PolarsError}
 use Rattle.sel_bits.specs.declared.faults.PolarsError.TheVariants.{OutOfMemory, SizeLimit, ComputeError}
-use Rattle.sel_arrow.specs.Rows.{rows, well_formed}
-use Rattle.sel_arrow.specs.declared.column.Column.{Column, FixedSizeList}
+use Rattle.sel_arrow.specs.Masked.{Covers, valid_at}
+use Rattle.sel_arrow.specs.NestedArrays.{block_column}
+use Rattle.sel_arrow.specs.Rows.{rows, type_of}
+use Rattle.sel_arrow.specs.Value.{Value, Null, Truth, Number, Bytes, Items, Tuple, is_null}
+use Rattle.sel_arrow.specs.declared.column.Column.{Column}
+use Rattle.sel_arrow.specs.declared.fixed_size_list.FixedSizeListArray.{FixedSizeListArray}
 use Rattle.sel_arrow.proofs.NestedRows.{has_blocks, length-rows}
-use Rattle.sel_arrow.specs.Value.{Value, Null, Truth, Number, Bytes, Items, Tuple}
-use Rattle.sel_runs.specs.Need.{IsRefusal}
+use Rattle.sel_runs.specs.Need.{past, IsRefusal}
 use Rattle.sel_runs.specs.Picks.{pick, PickFits}
-use Rattle.sel_runs.proofs.ListParts.{few_rows}
-use Rattle.sel_sublists.specs.Elements.{child_pick}
-use Rattle.sel_sublists.specs.Entries.{place_of, entry_place, entry_places, fixed_get, short, IsGetRefusal}
-use Rattle.sel_sublists.proofs.Offsets.{below_shifted}
-use Rattle.sel_sublists.proofs.Places.{picked, places_fit, place_below, PlaceBelow}
+use Rattle.sel_runs.proofs.ItemRuns.{listed_values}
+use Rattle.sel_runs.proofs.ListParts.{OfBlock, block_null, block_row}
+use Rattle.sel_sublists.specs.Elements.{element_at, child_pick}
+use Rattle.sel_sublists.specs.Entries.{place_of, entry_of, lacks_entry, entry_place, entry_places, fixed_get, out_of_bounds, at_each, IsGetRefusal}
+use Rattle.sel_sublists.proofs.Offsets.{below_shifted, map_map, shifted}
+use Rattle.sel_sublists.proofs.Places.{mapped_count, picked, places_fit, place_below, PlaceBelow}
 
 pub place_of_below : (w : ℕ) (v : Value) → PlaceBelow w (place_of w v)
 place_of_below w (Number index) = place_below index w
@@ -29,60 +32,116 @@ place_of_below w (Bytes bytes) = tt
 place_of_below w (Items items) = tt
 place_of_below w (Tuple parts) = tt
 
--- a list is inside of all of them
-pub block_inside : (k n w : ℕ) → k < n → k * w + w ≤ n * w
-block_inside k zero w h = absurd (omega arith)
-block_inside zero (suc n) w h = omega arith
-block_inside (suc k) (suc n) w h = let rest = block_inside k n w (omega arith) in omega (arith, rest)
+-- ---- a test of each of n places
 
--- a row of the child that is there
-pub entry_small : (o : Option ℕ) (k n w : ℕ) → PlaceBelow w o → k < n → n * w ≤ 4294967295 → IfSome o (λ i. k * w + i ≤ 4294967295)
-entry_small None k n w below h room = tt
-entry_small (Some i) k n w below h room = omega (arith, below, room, block_inside k n w h)
+any_at : (p : ℕ → Bool) (n k : ℕ) → k < n → p k ≡ true → list_any p (range_with_len 0 n) ≡ true
+any_at p n k h e =
+    let at : get_or (range_with_len 0 n) k 0 ≡ k = omega (arith, get_or-range_with_len 0 n k 0 h) in
+    list_any_at p (range_with_len 0 n) k 0 (omega (arith, h, length-range_with_len 0 n)) (ap p at ∙ e)
 
-pub entries_fit : (ys : List Value) (w : ℕ) (is : List Value) → length ys ≡ length is * w → All (PickFits (ys ∷ [])) (map child_pick (entry_places w is))
-entries_fit ys w is fills =
-    places_fit ys (entry_place w is) (length is)
-    (λ k h. below_shifted (k * w) w (length ys) (place_of w (get_or is k Null)) (omega (arith, fills, block_inside k (length is) w h)) (place_of_below w (get_or is k Null)))
+none_at : (p : ℕ → Bool) (n : ℕ) → ((k : ℕ) → k < n → p k ≡ false) → list_any p (range_with_len 0 n) ≡ false
+none_at p n h =
+    list_any_none p (range_with_len 0 n)
+    (λ k d lt. let inside : k < n = omega (arith, lt, length-range_with_len 0 n) in let at : get_or (range_with_len 0 n) k d ≡ k = omega (arith, get_or-range_with_len 0 n k d inside) in ap p at ∙ h k inside)
 
-pub entries_got : (ys : List Value) (w : ℕ) (is : List Value) → pick Null (ys ∷ []) (map child_pick (entry_places w is)) ≡ fixed_get ys w is
-entries_got ys w is = picked ys (entry_places w is)
+module _ (arr : FixedSizeListArray) where
+  abbrev column : Column
+  column = block_column arr
 
--- one index for all lists
-pub literal_at : (n w : ℕ) (index : ℤ) (k : ℕ) → k < n → option_map (λ i. k * w + i) (place index w) ≡ entry_place w (replicate n (Number index)) k
-literal_at n w index k h = ap (λ v. option_map (λ i. k * w + i) (place_of w v)) (sym (get_or-replicate n k (Number index) Null h))
+  abbrev below : List Value
+  below = rows arr.values.value
 
-pub long_literal : (n : ℕ) (index : ℤ) → length (replicate n (Number index)) ≡ n
-long_literal n index = length-replicate n (Number index)
+  pub inside_rows : (k : ℕ) → k < arr.len → k < length (rows column)
+  inside_rows k h = omega (arith, h, length-rows column)
 
-none_of : {A : Type 0} (p : A → Bool) (n : ℕ) (x : A) → p x ≡ false → list_any p (replicate n x) ≡ false
-none_of p zero x e = refl
-none_of p (suc n) x e = rw e (none_of p n x e)
+  -- as many rows as lists
+  pub long_rows : length (rows column) ≡ arr.len
+  long_rows = length-rows column
 
-pub short_literal : (n w : ℕ) (index : ℤ) (b : Bool) → 0 < n → is_none (place index w) ≡ b → b ≡ short w (replicate n (Number index))
-short_literal zero w index b some e = absurd (omega arith)
-short_literal (suc n) w index true some e = sym (ap (λ b. b || short w (replicate n (Number index))) e)
-short_literal (suc n) w index false some e = sym (none_of (λ v. is_none (place_of w v)) (suc n) (Number index) e)
+  pub lists_few : arr.len ≤ 4294967295
+  lists_few = (has_blocks arr.size arr.len arr.values.value arr.validity arr.formed).few
 
--- ---- the column
+  pub covered : Covers arr.validity arr.len
+  covered = (has_blocks arr.size arr.len arr.values.value arr.validity arr.formed).covered
 
-pub filled : (size len : ℕ) (values : Box Column Global) (validity : Option Bits) → well_formed (FixedSizeList size len values validity) ≡ true → length (rows values.value) ≡ len * size
-filled size len values validity formed = length-rows values.value ∙ (has_blocks size len values.value validity formed).fills
+  null_row : (k : ℕ) → k < arr.len → valid_at arr.validity k ≡ false → get_or (rows column) k Null ≡ Null
+  null_row k h e = block_null column arr.size arr.len arr.values arr.validity refl arr.formed k (inside_rows k h) e
 
-pub filled_few : (size len : ℕ) (values : Box Column Global) (validity : Option Bits) → well_formed (FixedSizeList size len values validity) ≡ true → len * size ≤ 4294967295
-filled_few size len values validity formed =
-    let has = has_blocks size len values.value validity formed in
-    omega (arith, has.fills, few_rows values.value has.child)
+  valid_row : (k : ℕ) → k < arr.len → valid_at arr.validity k ≡ true → OfBlock arr.size column k
+  valid_row k h e = block_row column arr.size arr.len arr.values arr.validity refl arr.formed k (inside_rows k h) e
 
-pub lists_few : (size len : ℕ) (values : Box Column Global) (validity : Option Bits) → well_formed (FixedSizeList size len values validity) ≡ true → len ≤ 4294967295
-lists_few size len values validity formed = (has_blocks size len values.value validity formed).few
+  -- a row of the child that is there
+  pub entry_small : (k i : ℕ) → k < arr.len → valid_at arr.validity k ≡ true → i < arr.size → k * arr.size + i < 4294967296
+  entry_small k i h e inside = let has = valid_row k h e in omega (arith, inside, has.inside, has.few)
 
--- as many rows as lists
-pub long_rows : (size len : ℕ) (values : Box Column Global) (validity : Option Bits) → length (rows (FixedSizeList size len values validity)) ≡ len
-long_rows size len values validity = length-rows (FixedSizeList size len values validity)
+  entry_is : (index : Value) (k : ℕ) → k < arr.len → element_at below (entry_place arr k (place_of arr.size index)) ≡ entry_of arr.size (get_or (rows column) k Null) index
+  entry_is index k h = by (valid_at arr.validity k) refl
+    where
+      by : (b : Bool) → valid_at arr.validity k ≡ b → element_at below (entry_place arr k (place_of arr.size index)) ≡ entry_of arr.size (get_or (rows column) k Null) index
+      by false e =
+          ap (λ b. element_at below (if b then option_map (λ i. k * arr.size + i) (place_of arr.size index) else None)) e
+          ∙ sym (ap (λ row. entry_of arr.size row index) (null_row k h e))
+      by true e =
+          ap (λ b. element_at below (if b then option_map (λ i. k * arr.size + i) (place_of arr.size index) else None)) e
+          ∙ shifted below (k * arr.size) arr.size (place_of arr.size index) (place_of_below arr.size index)
+          ∙ ap (λ l. element_at l (place_of arr.size index)) (sym (listed_values (take arr.size (drop (k * arr.size) below))))
+          ∙ sym (ap (λ row. entry_of arr.size row index) (valid_row k h e).row)
 
--- a refusal of the rows, where no index is out of bounds
-pub refused_so : (outside : Bool) (past : Limit → Type 0) (fault : PolarsError) → outside ≡ false → IsRefusal past fault → IsGetRefusal outside past fault
-refused_so outside past OutOfMemory e h = (e, h)
-refused_so outside past (SizeLimit limit) e h = (e, h)
-refused_so outside past ComputeError e h = absurd h
+  entry_below : (index : Value) (k : ℕ) → k < arr.len → PlaceBelow (length below) (entry_place arr k (place_of arr.size index))
+  entry_below index k h = by (valid_at arr.validity k) refl
+    where
+      by : (b : Bool) → valid_at arr.validity k ≡ b → PlaceBelow (length below) (entry_place arr k (place_of arr.size index))
+      by false e = subst (λ b. PlaceBelow (length below) (if b then option_map (λ i. k * arr.size + i) (place_of arr.size index) else None)) (sym e) tt
+      by true e =
+          subst (λ b. PlaceBelow (length below) (if b then option_map (λ i. k * arr.size + i) (place_of arr.size index) else None)) (sym e)
+          (below_shifted (k * arr.size) arr.size (length below) (place_of arr.size index) (valid_row k h e).inside (place_of_below arr.size index))
+
+  pub entries_fit : (indices : List Value) → All (PickFits (below ∷ [])) (map child_pick (entry_places arr indices))
+  entries_fit indices = places_fit below (λ k. entry_place arr k (place_of arr.size (get_or indices k Null))) arr.len (λ k h. entry_below (get_or indices k Null) k h)
+
+  pub entries_long : (indices : List Value) → length (map child_pick (entry_places arr indices)) ≡ arr.len
+  entries_long indices = mapped_count child_pick (λ k. entry_place arr k (place_of arr.size (get_or indices k Null))) arr.len
+
+  pub entries_got : (indices : List Value) → pick Null (below ∷ []) (map child_pick (entry_places arr indices)) ≡ fixed_get (rows column) arr.size indices
+  entries_got indices =
+      let f = λ (k : ℕ). entry_place arr k (place_of arr.size (get_or indices k Null)) in
+      let g = λ (k : ℕ). entry_of arr.size (get_or (rows column) k Null) (get_or indices k Null) in
+      picked below (entry_places arr indices) ∙ map_map (element_at below) f (range_with_len 0 arr.len)
+      ∙ sym (fill_by_all (λ k. element_at below (f k)) (fixed_get (rows column) arr.size indices) arr.len Null
+      (length-map-range_with_len g 0 (length (rows column)) ∙ long_rows)
+      (λ k h. get_or-map-range_with_len g 0 (length (rows column)) k k Null (inside_rows k h) (omega arith) ∙ sym (entry_is (get_or indices k Null) k h)))
+
+  -- ---- out of bounds
+
+  abbrev lacks : List Value → ℕ → Bool
+  lacks indices k = lacks_entry arr.size (get_or (rows column) k Null) (get_or indices k Null)
+
+  pub outside_at : (indices : List Value) (null_on_oob : Bool) (k : ℕ) → null_on_oob ≡ false → k < arr.len → valid_at arr.validity k ≡ true → is_none (place_of arr.size (get_or indices k Null)) ≡ true
+      → true ≡ out_of_bounds null_on_oob arr indices
+  outside_at indices null_on_oob k asked h e none =
+      let here : lacks indices k ≡ true = ap (λ row. not (is_null row) && is_none (place_of arr.size (get_or indices k Null))) (valid_row k h e).row ∙ none in
+      sym (ap (λ b. not b && list_any (lacks indices) (range_with_len 0 (length (rows column)))) asked ∙ any_at (lacks indices) (length (rows column)) k (inside_rows k h) here)
+
+  lacks_not : (indices : List Value) (k : ℕ) → k < arr.len → (valid_at arr.validity k ≡ true → is_none (place_of arr.size (get_or indices k Null)) ≡ false) → lacks indices k ≡ false
+  lacks_not indices k h there = by (valid_at arr.validity k) refl
+    where
+      by : (b : Bool) → valid_at arr.validity k ≡ b → lacks indices k ≡ false
+      by false e = ap (λ row. not (is_null row) && is_none (place_of arr.size (get_or indices k Null))) (null_row k h e)
+      by true e = ap (λ row. not (is_null row) && is_none (place_of arr.size (get_or indices k Null))) (valid_row k h e).row ∙ there e
+
+  pub all_inside : (indices : List Value) (null_on_oob : Bool) → null_on_oob ≡ false → ((k : ℕ) → k < arr.len → valid_at arr.validity k ≡ true → is_none (place_of arr.size (get_or indices k Null)) ≡ false)
+      → false ≡ out_of_bounds null_on_oob arr indices
+  all_inside indices null_on_oob asked there =
+      sym (ap (λ b. not b && list_any (lacks indices) (range_with_len 0 (length (rows column)))) asked
+      ∙ none_at (lacks indices) (length (rows column)) (λ k h. let inside : k < arr.len = omega (arith, h, long_rows) in lacks_not indices k inside (there k inside)))
+
+  -- one index for all lists
+  pub each_place : (index : ℤ) (k : ℕ) → k < arr.len → place_of arr.size (get_or (at_each arr index) k Null) ≡ place_of arr.size (Number index)
+  each_place index k h = ap (place_of arr.size) (get_or-replicate arr.len k (Number index) Null h)
+
+  -- a refusal of the rows, where no index is out of bounds
+  pub refused_so : (indices : List Value) (null_on_oob : Bool) (fault : PolarsError) → out_of_bounds null_on_oob arr indices ≡ false
+      → IsRefusal (past (type_of arr.values.value) (fixed_get (rows column) arr.size indices)) fault → IsGetRefusal null_on_oob arr indices fault
+  refused_so indices null_on_oob OutOfMemory e h = (e, h)
+  refused_so indices null_on_oob (SizeLimit limit) e h = (e, h)
+  refused_so indices null_on_oob ComputeError e h = absurd h

@@ -21,7 +21,7 @@ use Rattle.sel_sublists.specs.Lists.{element_of, list_get, lacks_place, child_pl
 use Rattle.sel_sublists.proofs.Places.{picked, places_fit, place_below, PlaceBelow}
 
 -- an element of a part
-shifted : (ys : List Value) (s n : ℕ) (o : Option ℕ) → PlaceBelow n o → element_at ys (option_map (λ i. s + i) o) ≡ element_at (take n (drop s ys)) o
+pub shifted : (ys : List Value) (s n : ℕ) (o : Option ℕ) → PlaceBelow n o → element_at ys (option_map (λ i. s + i) o) ≡ element_at (take n (drop s ys)) o
 shifted ys s n None h = refl
 shifted ys s n (Some i) h = sym (get_or-take n (drop s ys) i Null h ∙ get_or-drop s ys i Null)
 
@@ -36,7 +36,7 @@ places_shown (None ∷ ps) = ap (λ l. Null ∷ l) (places_shown ps)
 places_shown (Some i ∷ ps) = ap (λ l. Number (pos i) ∷ l) (places_shown ps)
 
 -- map after map
-map_map : {A B C : Type 0} (g : B → C) (f : A → B) (xs : List A) → map g (map f xs) ≡ map (λ x. g (f x)) xs
+pub map_map : {A B C : Type 0} (g : B → C) (f : A → B) (xs : List A) → map g (map f xs) ≡ map (λ x. g (f x)) xs
 map_map g f [] = refl
 map_map g f (x ∷ xs) = ap (λ l. g (f x) ∷ l) (map_map g f xs)
 

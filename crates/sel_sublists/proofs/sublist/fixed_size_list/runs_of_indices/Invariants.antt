@@ -1,11 +1,15 @@
 -- The picks of the lists so far.
 use Rattle.std.proofs.Common.{◌≡◌, map}
+use Rattle.std.specs.Prelude.{slice_index_or}
 use Rattle.std.specs.List.{range_with_len}
 use Rattle.sel_arrow.specs.Columns.{primitive_rows}
+use Rattle.sel_arrow.specs.Value.{Null}
 use Rattle.sel_runs.specs.Runs.{expand}
 use Rattle.sel_sublists.specs.Elements.{child_pick}
-use Rattle.sel_sublists.specs.Entries.{entry_place}
+use Rattle.sel_sublists.specs.Entries.{entry_place, place_of}
 use Rattle.sel_sublists.proofs.sublist.fixed_size_list.runs_of_indices.Given as goal
 
 abbrev pub invariant-loop-k : goal.invariant-loop-k
-invariant-loop-k l = expand l.runs.items ≡ map child_pick (map (entry_place l.size (primitive_rows l.index)) (range_with_len 0 l.k))
+invariant-loop-k l =
+    expand l.runs.items
+    ≡ map child_pick (map (λ k. entry_place l.arr k (place_of l.arr.size (slice_index_or (primitive_rows l.index) k Null))) (range_with_len 0 l.k))

@@ -1,29 +1,26 @@
-use Rattle.std.proofs.Common.{◌+◌, ◌*◌, ◌++◌, ◌∙◌, ap, sym, subst, arith, length, replicate, w64, to_z, of_z}
-use Rattle.std.specs.Option.{option_map}
-use Rattle.sel_arrow.specs.Value.{Number}
+use Rattle.std.proofs.Common.{◌++◌, ◌∙◌, ap, sym, arith, length, w64, to_z, of_z, ℕ}
+use Rattle.std.specs.Prelude.{slice_index_or}
+use Rattle.sel_arrow.specs.Value.{Null}
 use Rattle.sel_runs.specs.Runs.{expand}
 use Rattle.sel_sublists.specs.Elements.{child_pick}
-use Rattle.sel_sublists.specs.Entries.{entry_place}
-use Rattle.sel_sublists.proofs.Blocks.{entry_small, literal_at}
-use Rattle.sel_sublists.proofs.Places.{mapped_count, mapped_more, place_below, PlaceBelow}
+use Rattle.sel_sublists.specs.Entries.{at_each, entry_place, place_of}
+use Rattle.sel_sublists.proofs.Blocks.{each_place, lists_few}
+use Rattle.sel_sublists.proofs.Places.{mapped_count, mapped_more}
 use Rattle.sel_sublists.proofs.sublist.fixed_size_list.runs_of_literal.Goals as goal
-
-pub entry_at-requires : goal.entry_at-requires
-entry_at-requires c =
-    entry_small c.negative_to_usize-place.result c.loop-k.k c.args.len c.args.size
-    (subst (PlaceBelow c.args.size) (sym c.negative_to_usize-place.ensures) (place_below (to_z w64 (of_z w64 c.args.index)) c.args.size)) c.loop-k-test.true c.requires.inside
 
 pub push_run-requires : goal.push_run-requires
 push_run-requires c =
-    let places = entry_place c.args.size (replicate c.args.len (Number (to_z w64 (of_z w64 c.args.index)))) in
-    let long = ap length c.loop-k.invariant ∙ mapped_count child_pick places c.loop-k.k in
-    omega (arith, long, c.run_of_place.ensures.len, c.loop-k-test.true, c.requires.few)
+    let arr = c.args.arr.now in
+    let indices = at_each arr (to_z w64 (of_z w64 c.args.index)) in
+    let long = ap length c.loop-k.invariant ∙ mapped_count child_pick (λ (k : ℕ). entry_place arr k (place_of arr.size (slice_index_or indices k Null))) c.loop-k.k in
+    omega (arith, long, c.run_of_place.ensures.len, c.loop-k-test.true, lists_few arr)
 
 pub loop-k-preserved : goal.loop-k-preserved
 loop-k-preserved c =
+    let arr = c.args.arr.now in
     let index = to_z w64 (of_z w64 c.args.index) in
-    let places = entry_place c.args.size (replicate c.args.len (Number index)) in
+    let places = λ (k : ℕ). entry_place arr k (place_of arr.size (slice_index_or (at_each arr index) k Null)) in
     let k = c.loop-k.k in
-    let here = c.entry_at.ensures ∙ ap (option_map (λ i. k * c.args.size + i)) c.negative_to_usize-place.ensures ∙ literal_at c.args.len c.args.size index k c.loop-k-test.true in
+    let here = c.entry_at.ensures ∙ ap (entry_place arr k) (c.negative_to_usize-place.ensures ∙ sym (each_place arr index k c.loop-k-test.true)) in
     mapped_more child_pick places (expand c.loop-k.runs.items) (expand c.push_run.new.runs.items) k (child_pick c.entry_at.result)
     (c.in_ok-push_run.ensures.picks ∙ ap (λ l. expand c.loop-k.runs.items ++ l) c.run_of_place.ensures.picks) (ap child_pick here) c.loop-k.invariant

@@ -1,39 +1,25 @@
-use Rattle.std.proofs.Common.{◌*◌, ◌∷◌, [], All, ◌∙◌, ap, sym, subst, arith, length}
+use Rattle.std.proofs.Common.{◌∷◌, [], All, ◌∙◌, ap, sym, subst, length}
 use Rattle.std.proofs.lemmas.Result.{err_from_is_err_and}
 use Rattle.sel_arrow.specs.Columns.{primitive_rows}
-use Rattle.sel_arrow.specs.Rows.{rows, type_of}
+use Rattle.sel_arrow.specs.Rows.{rows}
 use Rattle.sel_arrow.specs.Value.{Null}
-use Rattle.sel_runs.specs.Need.{past}
 use Rattle.sel_runs.specs.Picks.{pick, PickFits}
 use Rattle.sel_runs.specs.Runs.{expand}
-use Rattle.sel_sublists.specs.Elements.{child_pick}
-use Rattle.sel_sublists.specs.Entries.{entry_place, fixed_get, out_of_bounds}
-use Rattle.sel_sublists.proofs.Blocks.{entries_fit, entries_got, filled, filled_few, long_rows, refused_so}
-use Rattle.sel_sublists.proofs.Places.{mapped_count}
+use Rattle.sel_sublists.proofs.Blocks.{entries_fit, entries_got, entries_long, refused_so}
 use Rattle.sel_sublists.proofs.sublist.fixed_size_list.sub_fixed_size_list_get.Goals as goal
-
-pub runs_of_indices-requires : goal.runs_of_indices-requires
-runs_of_indices-requires c =
-    let arr = c.args.arr.now in
-    let long = c.requires ∙ long_rows arr.size arr.len arr.values arr.validity in
-    omega (arith, ap (λ n. n * arr.size) long, filled_few arr.size arr.len arr.values arr.validity arr.formed)
 
 pub collect_one-requires-clause-fits : goal.collect_one-requires-clause-fits
 collect_one-requires-clause-fits c =
     let arr = c.args.arr.now in
-    let indices = primitive_rows c.args.index.now in
-    let long = c.requires ∙ long_rows arr.size arr.len arr.values arr.validity in
     let runs = ap expand c.deref.ensures.value ∙ c.in_ok-runs.ensures.picks in
-    let fills = filled arr.size arr.len arr.values arr.validity arr.formed ∙ sym (ap (λ n. n * arr.size) long) in
-    let fit = subst (All (PickFits (rows arr.values.value ∷ []))) (sym runs) (entries_fit (rows arr.values.value) arr.size indices fills) in
+    let fit = subst (All (PickFits (rows arr.values.value ∷ []))) (sym runs) (entries_fit arr (primitive_rows c.args.index.now)) in
     subst (λ column. All (PickFits (rows column ∷ [])) (expand c.deref.result.now)) (sym c.values.ensures.column) fit
 
 pub collect_one-requires-clause-len : goal.collect_one-requires-clause-len
 collect_one-requires-clause-len c =
     let arr = c.args.arr.now in
-    let indices = primitive_rows c.args.index.now in
     let runs = ap expand c.deref.ensures.value ∙ c.in_ok-runs.ensures.picks in
-    ap length runs ∙ mapped_count child_pick (entry_place arr.size indices) (length indices) ∙ c.requires ∙ long_rows arr.size arr.len arr.values arr.validity
+    ap length runs ∙ entries_long arr (primitive_rows c.args.index.now)
 
 pub returns-in_err-taken-clause-refusal : goal.returns-in_err-taken-clause-refusal
 returns-in_err-taken-clause-refusal c =
@@ -41,15 +27,15 @@ returns-in_err-taken-clause-refusal c =
     let arr = c.args.arr.now in
     let indices = primitive_rows c.args.index.now in
     let runs = ap expand c.deref.ensures.value ∙ c.in_ok-runs.ensures.picks in
-    let picked = ap (pick Null (rows arr.values.value ∷ [])) runs ∙ entries_got (rows arr.values.value) arr.size indices in
+    let picked = ap (pick Null (rows arr.values.value ∷ [])) runs ∙ entries_got arr indices in
     let refusal = rw (c.values.ensures.column, picked) at c.in_err-taken.ensures.refusal in
-    rw (p.1, p.2) (refused_so (out_of_bounds c.args.null_on_oob arr.size indices) (past (type_of arr.values.value) (fixed_get (rows arr.values.value) arr.size indices)) c.in_err-taken.field-0.0
-    (sym c.is_refused.ensures ∙ c.if-is_refused.false) refusal)
+    let asked = sym c.is_refused.ensures ∙ c.if-is_refused.false in
+    rw (p.1, p.2) (refused_so arr indices c.args.null_on_oob c.in_err-taken.field-0.0 asked refusal)
 
 pub returns-clause-rows : goal.returns-clause-rows
 returns-clause-rows c =
     let arr = c.args.arr.now in
     let indices = primitive_rows c.args.index.now in
     let runs = ap expand c.deref.ensures.value ∙ c.in_ok-runs.ensures.picks in
-    let picked = ap (pick Null (rows arr.values.value ∷ [])) runs ∙ entries_got (rows arr.values.value) arr.size indices in
+    let picked = ap (pick Null (rows arr.values.value ∷ [])) runs ∙ entries_got arr indices in
     c.in_ok-taken.ensures.rows ∙ ap (λ column. pick Null (rows column ∷ []) (expand c.deref.result.now)) c.values.ensures.column ∙ picked
