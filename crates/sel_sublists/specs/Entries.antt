@@ -3,6 +3,7 @@ use Rattle.std.specs.Prelude.{◌≡◌, ℕ, ◌+◌, ◌*◌, ℤ, Bool, true,
 use Rattle.std.specs.List.{list_any, range_with_len}
 use Rattle.std.specs.Option.{option_map, is_none}
 use Rattle.sel_bits.specs.Place.{place}
+use Rattle.sel_bits.specs.declared.faults.Limit.{Limit}
 use Rattle.sel_bits.specs.declared.faults.PolarsError.{PolarsError}
 use Rattle.sel_bits.specs.declared.faults.PolarsError.TheVariants.{ComputeError}
 use Rattle.sel_arrow.specs.Masked.{valid_at}
@@ -45,11 +46,15 @@ at_each arr index = replicate arr.len (Number index)
 abbrev pub out_of_bounds : Bool → FixedSizeListArray → List Value → Bool
 out_of_bounds null_on_oob arr indices = not null_on_oob && short (rows (block_column arr)) arr.size indices
 
+-- which limits the entries pass (own)
+abbrev pub past_entries : FixedSizeListArray → List Value → Limit → Type 0
+past_entries arr indices limit = past (type_of arr.values.value) (fixed_get (rows (block_column arr)) arr.size indices) limit
+
 -- out of bounds where that is so, and else want of memory or a limit that the entries pass (own)
 abbrev pub IsGetRefusal : Bool → FixedSizeListArray → List Value → PolarsError → Type 0
 IsGetRefusal null_on_oob arr indices ComputeError = out_of_bounds null_on_oob arr indices ≡ true
 IsGetRefusal null_on_oob arr indices fault = (out_of_bounds null_on_oob arr indices ≡ false)
-    × IsRefusal (past (type_of arr.values.value) (fixed_get (rows (block_column arr)) arr.size indices)) fault
+    × IsRefusal (past_entries arr indices) fault
 
 -- which of the child's rows is the entry of list k at a place: none where the list is null or there is no place (Arrow columnar format: fixed-size list layout)
 abbrev pub entry_place : FixedSizeListArray → ℕ → Option ℕ → Option ℕ

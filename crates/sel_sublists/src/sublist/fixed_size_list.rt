@@ -7,7 +7,8 @@ ghost use Rattle.sel_arrow.specs.NestedArrays.{block_column};
 ghost use Rattle.sel_arrow.specs.Rows.{rows, type_of};
 ghost use Rattle.sel_runs.specs.Runs.{expand};
 ghost use Rattle.sel_sublists.specs.Elements.{child_pick};
-ghost use Rattle.sel_sublists.specs.Entries.{fixed_get, at_each, entry_place, entry_places, out_of_bounds, place_of, IsGetRefusal};
+ghost use Rattle.sel_runs.specs.Need.{PassesNone};
+ghost use Rattle.sel_sublists.specs.Entries.{fixed_get, at_each, entry_place, entry_places, out_of_bounds, place_of, IsGetRefusal, past_entries};
 
 use crate::sublist::run_of_place;
 use sel_arrow::array::Array;
@@ -34,8 +35,9 @@ pub fn sub_fixed_size_list_get_literal(
     ensures rows { IfOk result (λ taken. rows taken.column
         ≡ fixed_get (rows (block_column arr.now)) arr.now.size (at_each arr.now index)) }
     ensures dtype { IfOk result (λ taken. type_of taken.column ≡ type_of arr.now.values.value) }
-    ensures within { IfOk result (λ _.
+    ensures inside { IfOk result (λ _.
         out_of_bounds null_on_oob arr.now (at_each arr.now index) ≡ false) }
+    ensures within { IfOk result (λ _. PassesNone (past_entries arr.now (at_each arr.now index))) }
     ensures refusal { IfErr result (IsGetRefusal null_on_oob arr.now (at_each arr.now index)) }
 {
     if is_literal_refused(arr, index, null_on_oob) {
@@ -60,8 +62,9 @@ pub fn sub_fixed_size_list_get(
     ensures rows { IfOk result (λ taken. rows taken.column
         ≡ fixed_get (rows (block_column arr.now)) arr.now.size (primitive_rows index.now)) }
     ensures dtype { IfOk result (λ taken. type_of taken.column ≡ type_of arr.now.values.value) }
-    ensures within { IfOk result (λ _.
+    ensures inside { IfOk result (λ _.
         out_of_bounds null_on_oob arr.now (primitive_rows index.now) ≡ false) }
+    ensures within { IfOk result (λ _. PassesNone (past_entries arr.now (primitive_rows index.now))) }
     ensures refusal { IfErr result (IsGetRefusal null_on_oob arr.now (primitive_rows index.now)) }
 {
     if is_refused(arr, index, null_on_oob) {

@@ -9,7 +9,7 @@ ghost use Rattle.sel_arrow.specs.Pieces.{rows_between};
 ghost use Rattle.sel_arrow.specs.Rows.{rows, type_of};
 ghost use Rattle.sel_arrow.specs.Shape.{of_large_list};
 ghost use Rattle.sel_arrow.specs.Value.{Null};
-ghost use Rattle.sel_runs.specs.Need.{IsRefusal, past};
+ghost use Rattle.sel_runs.specs.Need.{IsRefusal, PassesNone, past};
 ghost use Rattle.sel_runs.specs.Runs.{expand};
 ghost use Rattle.sel_sublists.specs.Elements.{child_pick};
 ghost use Rattle.sel_sublists.specs.Lists.{list_get, lacks_place, oob, child_place, places_in, unit_lists};
@@ -33,9 +33,13 @@ use std::alloc::Global;
 /// A negative index counts from the end. The answer has the child's type. Refuses for want of memory, and where a limit is
 /// passed by the rows that are asked for.
 pub fn sublist_get(alloc: Global, arr: &ListArray<i64>, index: i64) -> PolarsResult<ArrayRef>
-    ensures rows { IfOk result (λ taken. rows taken.column ≡ list_get (rows (list_column arr.now)) index) }
+    ensures rows { IfOk result (λ taken. rows taken.column ≡
+        list_get (rows (list_column arr.now)) index) }
     ensures dtype { IfOk result (λ taken. type_of taken.column ≡ type_of arr.now.values.value) }
-    ensures refusal { IfErr result (IsRefusal (past (type_of arr.now.values.value) (list_get (rows (list_column arr.now)) index))) }
+    ensures within { IfOk result (λ _. PassesNone
+        (past (type_of arr.now.values.value) (list_get (rows (list_column arr.now)) index))) }
+    ensures refusal { IfErr result (IsRefusal
+        (past (type_of arr.now.values.value) (list_get (rows (list_column arr.now)) index))) }
 {
     let runs = runs_of_places(alloc, arr, index)?;
     let taken = collect_one(alloc, arr.values(), &runs, arr.offsets.len_proxy())?;
@@ -45,7 +49,8 @@ pub fn sublist_get(alloc: Global, arr: &ListArray<i64>, index: i64) -> PolarsRes
 /// Row k is null where list k is null or the index has no place in it, else it says which of the child's rows is the element
 /// at that place. Refuses only for want of memory.
 pub fn sublist_get_indexes(alloc: Global, arr: &ListArray<i64>, index: i64) -> PolarsResult<IdxArr>
-    ensures rows { IfOk result (λ indices. primitive_rows indices ≡ map (number_value pos) (places_in arr.now.offsets arr.now.validity index)) }
+    ensures rows { IfOk result (λ indices. primitive_rows indices ≡
+        map (number_value pos) (places_in arr.now.offsets arr.now.validity index)) }
     ensures refusal { IfErr result (λ fault. fault ≡ PolarsError.OutOfMemory) }
 {
     let len = arr.offsets.len_proxy();
@@ -81,8 +86,10 @@ pub fn array_to_unit_list(
     alloc: Global,
     array: ArrayRef,
 ) -> Result<ListArray<i64>, (ArrayRef, PolarsError)>
-    ensures rows { IfOk result (λ lists. rows (list_column lists) ≡ unit_lists (rows array.column)) }
-    ensures dtype { IfOk result (λ lists. type_of (list_column lists) ≡ of_large_list (type_of array.column)) }
+    ensures rows { IfOk result (λ lists. rows (list_column lists) ≡
+        unit_lists (rows array.column)) }
+    ensures dtype { IfOk result (λ lists. type_of (list_column lists) ≡
+        of_large_list (type_of array.column)) }
     ensures back { IfErr result (λ refused. refused.0.column ≡ array.column) }
     ensures refusal { IfErr result (λ refused. refused.1 ≡ PolarsError.OutOfMemory) }
 {
@@ -99,8 +106,10 @@ fn unit_column(
     array: ArrayRef,
 ) -> Result<ListArray<i64>, (ArrayRef, PolarsError)>
     requires { offsets ≡ range_with_len 0 (length (rows array.column) + 1) }
-    ensures rows { IfOk result (λ lists. rows (list_column lists) ≡ unit_lists (rows array.column)) }
-    ensures dtype { IfOk result (λ lists. type_of (list_column lists) ≡ of_large_list (type_of array.column)) }
+    ensures rows { IfOk result (λ lists. rows (list_column lists) ≡
+        unit_lists (rows array.column)) }
+    ensures dtype { IfOk result (λ lists. type_of (list_column lists) ≡
+        of_large_list (type_of array.column)) }
     ensures back { IfErr result (λ refused. refused.0.column ≡ array.column) }
     ensures refusal { IfErr result (λ refused. refused.1 ≡ PolarsError.OutOfMemory) }
 {
@@ -135,7 +144,8 @@ fn unit_offsets(alloc: Global, len: usize) -> PolarsResult<OffsetsBuffer<i64>>
 
 // The runs of the elements at the places of the index. Refuses only for want of memory.
 fn runs_of_places(alloc: Global, arr: &ListArray<i64>, index: i64) -> PolarsResult<Vec<Run>>
-    ensures picks { IfOk result (λ runs. expand runs.items ≡ map child_pick (places_in arr.now.offsets arr.now.validity index)) }
+    ensures picks { IfOk result (λ runs. expand runs.items ≡
+        map child_pick (places_in arr.now.offsets arr.now.validity index)) }
     ensures refusal { IfErr result (λ fault. fault ≡ PolarsError.OutOfMemory) }
 {
     let mut runs = Vec::new(alloc);

@@ -1,10 +1,11 @@
 use Rattle.std.proofs.Common.{◌∷◌, [], All, ◌∙◌, ap, sym, subst, length}
 use Rattle.std.proofs.lemmas.Result.{err_from_is_err_and}
 use Rattle.sel_arrow.specs.Columns.{primitive_rows}
-use Rattle.sel_arrow.specs.Rows.{rows}
+use Rattle.sel_arrow.specs.Rows.{rows, type_of}
 use Rattle.sel_arrow.specs.Value.{Null}
 use Rattle.sel_runs.specs.Picks.{pick, PickFits}
 use Rattle.sel_runs.specs.Runs.{expand}
+use Rattle.sel_runs.proofs.Within.{rows_pass}
 use Rattle.sel_sublists.proofs.Blocks.{entries_fit, entries_got, entries_long, refused_so}
 use Rattle.sel_sublists.proofs.sublist.fixed_size_list.sub_fixed_size_list_get.Goals as goal
 
@@ -39,3 +40,8 @@ returns-clause-rows c =
     let runs = ap expand c.deref.ensures.value ∙ c.in_ok-runs.ensures.picks in
     let picked = ap (pick Null (rows arr.values.value ∷ [])) runs ∙ entries_got arr indices in
     c.in_ok-taken.ensures.rows ∙ ap (λ column. pick Null (rows column ∷ []) (expand c.deref.result.now)) c.values.ensures.column ∙ picked
+
+pub returns-clause-within : goal.returns-clause-within
+returns-clause-within c =
+    let taken = c.in_ok-taken.taken in
+    rows_pass taken.column (type_of c.args.arr.now.values.value) _ taken.formed (c.in_ok-taken.ensures.dtype ∙ ap type_of c.values.ensures.column) (returns-clause-rows c)

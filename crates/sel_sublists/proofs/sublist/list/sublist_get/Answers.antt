@@ -2,10 +2,11 @@ use Rattle.std.proofs.Common.{◌∷◌, [], All, map, ◌∙◌, ap, sym, subst
 use Rattle.std.proofs.lemmas.Int.{to_z-of_z}
 use Rattle.std.proofs.lemmas.Result.{err_from_is_err_and}
 use Rattle.sel_arrow.specs.Pieces.{rows_between}
-use Rattle.sel_arrow.specs.Rows.{rows}
+use Rattle.sel_arrow.specs.Rows.{rows, type_of}
 use Rattle.sel_arrow.specs.Value.{Null}
 use Rattle.sel_runs.specs.Picks.{pick, PickFits}
 use Rattle.sel_runs.specs.Runs.{expand}
+use Rattle.sel_runs.proofs.Within.{rows_pass}
 use Rattle.sel_sublists.specs.Elements.{child_pick}
 use Rattle.sel_sublists.specs.Lists.{child_place, places_in}
 use Rattle.sel_sublists.proofs.Offsets.{lists_fit, lists_got}
@@ -45,3 +46,8 @@ returns-clause-rows c =
     let runs = ap expand c.deref.ensures.value ∙ c.in_ok-runs.ensures.picks ∙ ap (λ z. map child_pick (places_in arr.offsets arr.validity z)) shown in
     let picked = ap (pick Null (rows arr.values.value ∷ [])) runs ∙ lists_got arr.offsets arr.values arr.validity arr.formed c.args.index in
     c.in_ok-taken.ensures.rows ∙ ap (λ column. pick Null (rows column ∷ []) (expand c.deref.result.now)) c.values.ensures.column ∙ picked
+
+pub returns-clause-within : goal.returns-clause-within
+returns-clause-within c =
+    let taken = c.in_ok-taken.taken in
+    rows_pass taken.column (type_of c.args.arr.now.values.value) _ taken.formed (c.in_ok-taken.ensures.dtype ∙ ap type_of c.values.ensures.column) (returns-clause-rows c)
