@@ -5,19 +5,20 @@ use Rattle.std.proofs.lemmas.Int.{ints}
 use Rattle.std.proofs.lemmas.List.{length-map}
 use Rattle.sel_bits.specs.declared.faults.Limit.{Limit}
 use Rattle.sel_bits.specs.declared.faults.Limit.TheVariants.{Rows as RowLimit, Bytes as ByteLimit}
+use Rattle.sel_arrow.specs.Nested.{list_of}
 use Rattle.sel_arrow.specs.Rows.{rows, type_of, well_formed}
 use Rattle.sel_arrow.specs.Shape.{Shape, Shapes, no_shapes, next_shape, of_large_binary, of_large_list, of_fixed_size_list, of_struct}
 use Rattle.sel_arrow.specs.Value.{Value, Null}
 use Rattle.sel_arrow.specs.declared.column.Column.{Column}
 use Rattle.sel_arrow.proofs.NestedRows.{length-rows}
-use Rattle.sel_choices.specs.Choose.{choose}
+use Rattle.sel_choices.specs.Choose.{choose, choose_one, choose_or_one, choose_of_two}
 use Rattle.sel_flatten.specs.Flatten.{flatten}
 use Rattle.sel_runs.specs.Children.{items_in, joined_items, part_at}
 use Rattle.sel_runs.proofs.ListParts.{few_rows}
 use Rattle.sel_runs.proofs.Thinned.{whole_fits}
 use Rattle.sel_sublists.specs.Entries.{fixed_get, short}
 use Rattle.sel_sublists.specs.Lists.{list_get, oob}
-use Rattle.polars_compute.specs.Dictionary.{decode}
+use Rattle.polars_compute.specs.Dictionary.{decode, propagated_keys, rank, valid_values}
 use Rattle.polars_compute.specs.Meaning.{MeansTheSame, Alike}
 use Rattle.polars_compute.specs.Need.{bytes_needed, past, past_parts, Needed, so_many_rows, so_many_bytes, need, need_of_parts, NoneGreater, NoneAbove}
 use Rattle.polars_compute.specs.Pick.{pick}
@@ -35,6 +36,11 @@ alike c d same = record {
   picks = (λ before after ps. ap (λ vs. pick Null (before ++ vs ∷ after) ps) same.1);
   chooses = (λ ms others. ap (λ vs. choose ms vs others) same.1);
   chooses_otherwise = (λ ms others. ap (choose ms others) same.1);
+  chooses_one = (λ ms other. ap (choose_one ms other) same.1);
+  chooses_or_one = (λ ms other. ap (λ vs. choose_or_one ms vs other) same.1);
+  is_one_list = ap list_of same.1;
+  chooses_of_two = (λ ms other. ap (λ vs. choose_of_two ms (list_of vs) other) same.1);
+  chooses_of_two_otherwise = (λ ms other. ap (λ vs. choose_of_two ms other (list_of vs)) same.1);
   flattens = (λ before after ws h. ap (λ vs. flatten (before ++ vs ∷ after) ws h) same.1);
   gets = (λ index. ap (λ vs. list_get vs index) same.1);
   lacks = (λ index. ap (λ vs. oob vs index) same.1);
@@ -42,6 +48,10 @@ alike c d same = record {
   falls_short = (λ width indices. ap (λ vs. short vs width indices) same.1);
   decodes = (λ values. ap (λ vs. decode vs values) same.1);
   is_decoded = (λ keys. ap (decode keys) same.1);
+  ranks = (λ k. ap (λ vs. rank vs k) same.1);
+  propagates = (λ values. ap (λ vs. propagated_keys vs values) same.1);
+  is_propagated = (λ keys. ap (propagated_keys keys) same.1);
+  keeps_valid = ap valid_values same.1;
 }
 
 -- ---- kept rows and what they hold

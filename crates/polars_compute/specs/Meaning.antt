@@ -1,14 +1,15 @@
 -- What columns of one type with the same rows have alike, whatever their layout.
 use Rattle.std.specs.Prelude.{◌≡◌, ℕ, ℤ, Bool, List, ◌∷◌, ◌++◌, Option}
+use Rattle.sel_arrow.specs.Nested.{list_of}
 use Rattle.sel_arrow.specs.Rows.{rows, type_of, IsWellFormed}
 use Rattle.sel_arrow.specs.Shape.{Shape}
 use Rattle.sel_arrow.specs.Value.{Value, Null}
 use Rattle.sel_arrow.specs.declared.column.Column.{Column}
-use Rattle.sel_choices.specs.Choose.{choose}
+use Rattle.sel_choices.specs.Choose.{choose, choose_one, choose_or_one, choose_of_two}
 use Rattle.sel_flatten.specs.Flatten.{flatten}
 use Rattle.sel_sublists.specs.Entries.{fixed_get, short}
 use Rattle.sel_sublists.specs.Lists.{list_get, oob}
-use Rattle.polars_compute.specs.Dictionary.{decode}
+use Rattle.polars_compute.specs.Dictionary.{decode, propagated_keys, rank, valid_values}
 use Rattle.polars_compute.specs.Need.{need, NoneGreater, NoneAbove}
 use Rattle.polars_compute.specs.Pick.{pick}
 use Rattle.polars_compute.specs.Select.{select, in_force}
@@ -25,6 +26,11 @@ pub record Alike (c d : Column) : Type 0 where
   pub picks : (before after : List (List Value)) (ps : List (Option (ℕ × ℕ))) → pick Null (before ++ rows c ∷ after) ps ≡ pick Null (before ++ rows d ∷ after) ps
   pub chooses : (ms : List Bool) (others : List Value) → choose ms (rows c) others ≡ choose ms (rows d) others
   pub chooses_otherwise : (ms : List Bool) (others : List Value) → choose ms others (rows c) ≡ choose ms others (rows d)
+  pub chooses_one : (ms : List Bool) (other : Value) → choose_one ms other (rows c) ≡ choose_one ms other (rows d)
+  pub chooses_or_one : (ms : List Bool) (other : Value) → choose_or_one ms (rows c) other ≡ choose_or_one ms (rows d) other
+  pub is_one_list : list_of (rows c) ≡ list_of (rows d)
+  pub chooses_of_two : (ms : List Bool) (other : Value) → choose_of_two ms (list_of (rows c)) other ≡ choose_of_two ms (list_of (rows d)) other
+  pub chooses_of_two_otherwise : (ms : List Bool) (other : Value) → choose_of_two ms other (list_of (rows c)) ≡ choose_of_two ms other (list_of (rows d))
   pub flattens : (before after : List (List Value)) (ws : List ℕ) (h : ℕ) → flatten (before ++ rows c ∷ after) ws h ≡ flatten (before ++ rows d ∷ after) ws h
   pub gets : (index : ℤ) → list_get (rows c) index ≡ list_get (rows d) index
   pub lacks : (index : ℤ) → oob (rows c) index ≡ oob (rows d) index
@@ -32,6 +38,10 @@ pub record Alike (c d : Column) : Type 0 where
   pub falls_short : (width : ℕ) (indices : List Value) → short (rows c) width indices ≡ short (rows d) width indices
   pub decodes : (values : List Value) → decode (rows c) values ≡ decode (rows d) values
   pub is_decoded : (keys : List Value) → decode keys (rows c) ≡ decode keys (rows d)
+  pub ranks : (k : ℕ) → rank (rows c) k ≡ rank (rows d) k
+  pub propagates : (values : List Value) → propagated_keys (rows c) values ≡ propagated_keys (rows d) values
+  pub is_propagated : (keys : List Value) → propagated_keys keys (rows c) ≡ propagated_keys keys (rows d)
+  pub keeps_valid : valid_values (rows c) ≡ valid_values (rows d)
 
 -- columns that mean the same are alike in all of this (own)
 abbrev pub EqualMeaning : Type 0
