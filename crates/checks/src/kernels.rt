@@ -1,8 +1,8 @@
 //! Filters and takes of columns without children, and the kernels of bits, numbers and bytes beneath them.
 
 use checks_columns::fixtures::{
-    begins_with, column, has_bytes, has_numbers, is_bytes, is_numbers, is_truths, numbers, truths,
-    validity_of,
+    begins_with, column, has_bits, has_bytes, has_numbers, is_bytes, is_numbers, is_truths,
+    numbers, truths, validity_of,
 };
 use polars_compute::filter::boolean::filter_bitmap_and_validity;
 use polars_compute::filter::primitive::{filter_values, filter_values_and_validity};
@@ -241,7 +241,47 @@ fn keeps_validity(alloc: Global, values: &Bitmap, mask: &Bitmap) -> PolarsResult
         return Ok(false);
     }
     let (bits, validity) = filter_bitmap_and_validity(alloc, values, Some(mask), mask)?;
-    Ok(bits.set_bits() == 30 && validity.is_some_and(|validity| validity.set_bits() == 59))
+    let Some(validity) = validity else {
+        return Ok(false);
+    };
+    let (again, missing) = filter_bitmap_and_validity(alloc, values, None, mask)?;
+    Ok(
+        are_kept_evens(&bits)
+            && are_kept_evens(&again)
+            && validity.len() == 59
+            && validity.unset_bits() == 0
+            && missing.is_none(),
+    )
+}
+
+// Whether the bits are those at even places, of which the mask keeps the first three and all from place 56 on.
+fn are_kept_evens(bits: &Bitmap) -> bool {
+    for k in 0..bits.len() {
+        let place = if k < 3 { k } else { k - 3 };
+        if bits.get_bit(k) != (place % 2 == 0) {
+            return false;
+        }
+    }
+    bits.len() == 59
+}
+
+// Whether of the values that are kept under a validity of 65 bits, true at 2 and 64 alone, those two are valid.
+fn keeps_few_valid(alloc: Global, values: &[u64], mask: &Bitmap) -> PolarsResult<bool> {
+    let mut valid = [false; 65];
+    valid[2] = true;
+    valid[64] = true;
+    let valid = Bitmap::from_bools(alloc, &valid)?;
+    if values.len() != mask.len() || valid.len() != mask.len() {
+        return Ok(false);
+    }
+    let (kept, validity) = filter_values_and_validity(alloc, values, Some(&valid), mask)?;
+    let Some(validity) = validity else {
+        return Ok(false);
+    };
+    Ok(
+        kept.as_slice() == [0, 2, 5, 64].as_slice()
+            && has_bits(&validity, &[false, true, false, true]),
+    )
 }
 
 #[test]
@@ -290,6 +330,7 @@ fn kept_values(rt: HostRuntime) -> Result<(), Fail> {
     let values = many_values(rt.alloc())?;
     let mask = few_bits(rt.alloc())?;
     assert!(rt; keeps_few(rt.alloc(), &values, &mask) == Ok(true));
+    assert!(rt; keeps_few_valid(rt.alloc(), &values, &mask) == Ok(true));
     Ok(())
 }
 

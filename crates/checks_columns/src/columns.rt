@@ -578,10 +578,16 @@ fn has_texts(alloc: Global, texts: &Utf8ViewArray) -> PolarsResult<bool> {
     )
 }
 
-/// Whether the bytes of the texts are as many rows, as many of them null.
+/// Whether the bytes of the texts are the same three rows, over the same data buffers.
 fn has_bytes_of_texts(alloc: Global, texts: &Utf8ViewArray) -> PolarsResult<bool> {
     let bytes = texts.to_binview(alloc)?;
-    Ok(bytes.len() == 3 && bytes.null_count() == 1)
+    Ok(
+        bytes.len() == 3
+            && bytes.data_buffers().len() == 1
+            && has_bytes_at(alloc, &bytes, 0, Some(b"abcdefghijklm"))?
+            && has_bytes_at(alloc, &bytes, 1, Some(b"abcd"))?
+            && has_bytes_at(alloc, &bytes, 2, None)?,
+    )
 }
 
 #[test]
