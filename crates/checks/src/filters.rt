@@ -162,8 +162,8 @@ fn no_values_behind_an_offset(rt: HostRuntime) -> Result<(), Fail> {
     Ok(())
 }
 
-// One short text, one of 13 bytes and one that is null.
-fn three_texts(alloc: Global) -> Result<Utf8ViewArray, Fail> {
+/// One short text, one of 13 bytes and one that is null.
+pub fn three_texts(alloc: Global) -> Result<Utf8ViewArray, Fail> {
     let long = b"abcdefghijklm";
     let views = vec![in alloc;
         View::new_from_bytes(b"a", 0, 0),
@@ -176,8 +176,8 @@ fn three_texts(alloc: Global) -> Result<Utf8ViewArray, Fail> {
     Ok(Utf8ViewArray::try_new(Buffer::from_vec(views)?, buffers, Some(validity))?)
 }
 
-// Whether the rows are the long text and a null.
-fn are_last_texts(alloc: Global, kept: &Utf8ViewArray) -> PolarsResult<bool> {
+/// Whether the rows are the long text and a null.
+pub fn are_last_texts(alloc: Global, kept: &Utf8ViewArray) -> PolarsResult<bool> {
     Ok(
         kept.len() == 2
             && has_text(alloc, kept, 0, Some("abcdefghijklm"))?

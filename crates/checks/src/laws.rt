@@ -1,12 +1,15 @@
 //! The laws, on worked rows: what they say of the definitions is what the kernels answer.
 
-use checks_columns::fixtures::{column, is_numbers, numbers};
+use crate::filters::{are_last_texts, three_texts};
+use checks_columns::fixtures::{column, has_bytes_at, is_numbers, numbers};
 use polars_compute::filter::filter_with_bitmap;
 use polars_compute::gather::{indices_in_bounds, take_unchecked};
 use polars_compute::if_then_else::IfThenElseKernel;
 use sel_arrow::array::Array;
 use sel_arrow::array_ref::ArrayRef;
+use sel_arrow::binview::BinaryViewArray;
 use sel_arrow::primitive::{IdxArr, PrimitiveArray};
+use sel_arrow::utf8view::Utf8ViewArray;
 use sel_bits::bitmap::Bitmap;
 use std::alloc::Global;
 use std::test::Fail;
@@ -42,6 +45,97 @@ fn a_filter_is_a_take(rt: HostRuntime) -> Result<(), Fail> {
     let places = column(rt.alloc(), &[Some(0u32), Some(3)], 0)?;
     assert!(rt; is_numbers(kept(rt.alloc(), tens(rt.alloc())?, &mask)?, &rows)?);
     assert!(rt; is_numbers(taken(rt.alloc(), tens(rt.alloc())?, &places)?, &rows)?);
+    Ok(())
+}
+
+// The rows 1, null, 3 and null.
+fn some_null(alloc: Global) -> Result<ArrayRef, Fail> {
+    Ok(column(alloc, &[Some(1i64), None, Some(3), None], 9)?.into_ref())
+}
+
+#[test]
+fn a_filter_of_nulls_is_a_take(rt: HostRuntime) -> Result<(), Fail> {
+    let rows = [None, Some(3i64), None];
+    let mask = Bitmap::from_bools(rt.alloc(), &[false, true, true, true])?;
+    let places = column(rt.alloc(), &[Some(1u32), Some(2), Some(3)], 0)?;
+    assert!(rt; is_numbers(kept(rt.alloc(), some_null(rt.alloc())?, &mask)?, &rows)?);
+    assert!(rt; is_numbers(taken(rt.alloc(), some_null(rt.alloc())?, &places)?, &rows)?);
+    Ok(())
+}
+
+#[test]
+fn a_filter_of_no_rows_is_a_take(rt: HostRuntime) -> Result<(), Fail> {
+    let rows: [Option<i64>; 0] = [];
+    let mask = Bitmap::new(rt.alloc())?;
+    let places: [Option<u32>; 0] = [];
+    let places = column(rt.alloc(), &places, 0)?;
+    let none = column(rt.alloc(), &rows, 0)?.into_ref();
+    assert!(rt; is_numbers(kept(rt.alloc(), none, &mask)?, &rows)?);
+    let none = column(rt.alloc(), &rows, 0)?.into_ref();
+    assert!(rt; is_numbers(taken(rt.alloc(), none, &places)?, &rows)?);
+    Ok(())
+}
+
+// Whether the rows are the long text and a null.
+fn is_last_texts(alloc: Global, rows: ArrayRef) -> Result<bool, Fail> {
+    let rows = rows.into_utf8view().ok().ok_or("another type")?;
+    Ok(are_last_texts(alloc, &rows)?)
+}
+
+#[test]
+fn a_filter_of_texts_is_a_take(rt: HostRuntime) -> Result<(), Fail> {
+    let mask = Bitmap::from_bools(rt.alloc(), &[false, true, true])?;
+    let places = column(rt.alloc(), &[Some(1u32), Some(2)], 0)?;
+    let texts = three_texts(rt.alloc())?.into_ref();
+    assert!(rt; is_last_texts(rt.alloc(), kept(rt.alloc(), texts, &mask)?)?);
+    let texts = three_texts(rt.alloc())?.into_ref();
+    assert!(rt; is_last_texts(rt.alloc(), taken(rt.alloc(), texts, &places)?)?);
+    Ok(())
+}
+
+// The choice between the three texts and one text at each position.
+fn chosen_texts(alloc: Global, mask: &Bitmap) -> Result<ArrayRef, Fail> {
+    let texts = three_texts(alloc)?;
+    if texts.len() != mask.len() {
+        return Err(Fail::from("another length"));
+    }
+    let other = String::from_str(alloc, "other")?;
+    Ok(Utf8ViewArray::if_then_else_broadcast_false(alloc, mask, &texts, &other)?.into_ref())
+}
+
+#[test]
+fn a_choice_of_texts_under_its_mask_is_its_first_side(rt: HostRuntime) -> Result<(), Fail> {
+    let mask = Bitmap::from_bools(rt.alloc(), &[false, true, true])?;
+    let chosen = chosen_texts(rt.alloc(), &mask)?;
+    assert!(rt; is_last_texts(rt.alloc(), kept(rt.alloc(), chosen, &mask)?)?);
+    Ok(())
+}
+
+// The same between their bytes.
+fn chosen_views(alloc: Global, mask: &Bitmap) -> Result<ArrayRef, Fail> {
+    let views = three_texts(alloc)?.to_binview(alloc)?;
+    if views.len() != mask.len() {
+        return Err(Fail::from("another length"));
+    }
+    let other = Vec::from_slice(alloc, b"other")?;
+    Ok(BinaryViewArray::if_then_else_broadcast_false(alloc, mask, &views, &other)?.into_ref())
+}
+
+// Whether the rows are the bytes of the long text and a null.
+fn is_last_views(alloc: Global, rows: ArrayRef) -> Result<bool, Fail> {
+    let rows = rows.into_binview().ok().ok_or("another type")?;
+    Ok(
+        rows.len() == 2
+            && has_bytes_at(alloc, &rows, 0, Some(b"abcdefghijklm"))?
+            && has_bytes_at(alloc, &rows, 1, None)?,
+    )
+}
+
+#[test]
+fn a_choice_of_views_under_its_mask_is_its_first_side(rt: HostRuntime) -> Result<(), Fail> {
+    let mask = Bitmap::from_bools(rt.alloc(), &[false, true, true])?;
+    let chosen = chosen_views(rt.alloc(), &mask)?;
+    assert!(rt; is_last_views(rt.alloc(), kept(rt.alloc(), chosen, &mask)?)?);
     Ok(())
 }
 

@@ -74,7 +74,7 @@ fn takes_pair_and_null(alloc: Global) -> Result<bool, Fail> {
 }
 
 /// Two lists of two nulls each.
-fn pairs_of_nulls(alloc: Global) -> Result<ArrayRef, Fail> {
+pub fn pairs_of_nulls(alloc: Global) -> Result<ArrayRef, Fail> {
     let child = numbers(alloc, &[5i64, 6, 7, 8], &[false, false, false, false])?;
     blocks(alloc, 2, 2, child.into_ref(), None)
 }
@@ -91,11 +91,15 @@ fn takes_pairs_of_nulls(alloc: Global) -> Result<bool, Fail> {
     Ok(are_same)
 }
 
+/// Three lists of no entries.
+pub fn empty_blocks(alloc: Global) -> Result<ArrayRef, Fail> {
+    let empty = nulls(0)?;
+    blocks(alloc, 0, 3, empty, None)
+}
+
 /// Whether lists of no entries at places are two such lists.
 fn takes_empty_blocks(alloc: Global) -> Result<bool, Fail> {
-    let empty = nulls(0)?;
-    let column = blocks(alloc, 0, 3, empty, None)?;
-    let rows = taken(alloc, column, &[Some(2), Some(0)])?;
+    let rows = taken(alloc, empty_blocks(alloc)?, &[Some(2), Some(0)])?;
     let column = rows.as_column();
     let are_empty = are_blocks(column, 0, 2) && !is_null_at(column, 0) && !is_null_at(column, 1);
     drop(rows);
