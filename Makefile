@@ -13,6 +13,7 @@ build:
 
 test:
 	tools/api --check
+	tools/picture --check
 	rt ci
 
 edits:
@@ -20,3 +21,4 @@ edits:
 
 api:
 	tools/api
+	tools/picture

@@ -8,6 +8,7 @@ use sel_arrow::array::Array;
 use sel_arrow::array_ref::ArrayRef;
 use sel_arrow::column::Column;
 use sel_arrow::structure::StructArray;
+use sel_bits::faults::{MakeError, Malformed};
 use std::alloc::Global;
 use std::test::Fail;
 
@@ -168,5 +169,19 @@ fn are_pair_and_null(rows: ArrayRef) -> bool {
 fn tuples_under_a_mask_with_a_gap(rt: HostRuntime) -> Result<(), Fail> {
     let rows = kept(rt.alloc(), three_tuples(rt.alloc())?, &[true, false, true])?;
     assert!(rt; are_pair_and_null(rows));
+    Ok(())
+}
+
+/// Why tuples over a field of another length are refused.
+fn fault_of_length(alloc: Global) -> Result<Option<MakeError>, Fail> {
+    let three = numbers(alloc, &[1i64, 2, 3], &[true, true, true])?;
+    let fields = vec![in alloc; three.into_ref()]?;
+    Ok(StructArray::try_new(alloc, 2, fields, None).err())
+}
+
+#[test]
+fn fields_are_as_long_as_the_tuples(rt: HostRuntime) -> Result<(), Fail> {
+    let fault = fault_of_length(rt.alloc())?;
+    assert!(rt; fault == Some(MakeError::Malformed(Malformed::FieldLength)));
     Ok(())
 }
