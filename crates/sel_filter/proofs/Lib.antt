@@ -1,0 +1,15 @@
+pub mod BlockSelects
+pub mod Clears
+pub mod Few
+pub mod Filtering
+pub mod Firsts
+pub mod Marking
+pub mod Ranks
+pub mod RoundState
+pub mod Rounds
+pub mod Scalars
+pub mod Selects
+pub mod Shortcuts
+pub mod Single
+pub mod Spots
+pub mod WordLists

@@ -1,0 +1,3 @@
+pub mod Compress
+pub mod Scalar
+pub mod Select

@@ -1,0 +1,76 @@
+//! Values that the bits of bytes keep, appended to a vector.
+
+ghost use Rattle.std.specs.Prelude.{◌≡◌, ℕ, ◌+◌, ◌-◌, ◌*◌, ◌/◌, ◌<◌, ◌≤◌, ◌++◌, length, take, drop, OnOk, IfOk, IfErr, OnErr};
+ghost use Rattle.sel_bits.specs.Bits.{bits_from, bit_in, count_true};
+ghost use Rattle.sel_filter.specs.Select.{select};
+ghost use Rattle.sel_filter.specs.Scalar.{rows_to_boundary};
+
+use sel_bits::bitmap::Bitmap;
+use sel_bits::faults::{PolarsError, PolarsResult};
+
+/// Appends the kept ones of the rows before the mask's next byte boundary; none where it begins at one.
+/// Answers the other values, and the bytes whose bits are their mask.
+///
+/// Refuses only for want of memory, and then the vector is unchanged.
+pub fn scalar_filter_offset<'a, T: Copy>(
+    values: &'a [T],
+    mask: &'a Bitmap,
+    out: &mut Vec<T>,
+) -> PolarsResult<(&'a [T], &'a [u8])>
+    requires { length values.now ≡ length mask.now.bits }
+    ensures appended { let n = rows_to_boundary mask.now in OnOk result (out.new.items ≡ out.old.items ++ select (take n values.entry.now) (take n mask.entry.now.bits)) }
+    ensures values { IfOk result (λ rest. rest.0.now ≡ drop (rows_to_boundary mask.entry.now) values.entry.now) }
+    ensures bits { IfOk result (λ rest. bits_from rest.1.now 0 (length rest.0.now) ≡ drop (rows_to_boundary mask.entry.now) mask.entry.now.bits) }
+    ensures bytes { IfOk result (λ rest. length rest.1.now ≡ (length rest.0.now + 7) / 8) }
+    ensures unchanged { OnErr result (out.new.items ≡ out.old.items) }
+    ensures refusal { IfErr result (λ fault. fault ≡ PolarsError.OutOfMemory) }
+{
+    let (bytes, offset, len) = mask.as_slice();
+    if offset == 0 {
+        return Ok((values, bytes));
+    }
+    let count = len.min(8 - offset);
+    let first = [bytes[0] >> offset];
+    scalar_filter(&values[..count], &first, out)?;
+    Ok((&values[count..], &bytes[1..]))
+}
+
+/// Appends the values whose bit is set; bit i of the bytes is that of value i, and bits past the last value are not looked at.
+///
+/// Refuses only for want of memory, and then the vector is unchanged.
+pub fn scalar_filter<T: Copy>(values: &[T], mask_bytes: &[u8], out: &mut Vec<T>) -> PolarsResult<()>
+    requires { length values.now ≤ 8 * length mask_bytes.now }
+    ensures appended { OnOk result (out.new.items ≡ out.old.items ++ select values.now (bits_from mask_bytes.now 0 (length values.now))) }
+    ensures unchanged { OnErr result (out.new.items ≡ out.old.items) }
+    ensures refusal { IfErr result (λ fault. fault ≡ PolarsError.OutOfMemory) }
+{
+    out.reserve(count_set(mask_bytes, values.len()))?;
+    for (i, value) in values.iter().enumerate() {
+        if is_set(mask_bytes, i) {
+            out.push(*value)?;
+        }
+    }
+    Ok(())
+}
+
+/// How many of the first `len` bits of the bytes are set.
+fn count_set(bytes: &[u8], len: usize) -> usize
+    requires { len ≤ 8 * length bytes.now }
+    ensures { result ≡ count_true (bits_from bytes.now 0 len) }
+{
+    let mut count = 0;
+    for i in 0..len {
+        if is_set(bytes, i) {
+            count += 1;
+        }
+    }
+    count
+}
+
+/// Bit `i` of the bytes, each from its lowest bit on.
+fn is_set(bytes: &[u8], i: usize) -> bool
+    requires { i < 8 * length bytes.now }
+    ensures { result ≡ bit_in bytes.now i }
+{
+    (bytes[i / 8] >> (i % 8)) & 1 == 1
+}
