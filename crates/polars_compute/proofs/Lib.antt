@@ -2,14 +2,12 @@ pub mod BlockNeeds
 pub mod BlockTakes
 pub mod BlockTests
 pub mod Collects
-pub mod Compressing
 pub mod Dictionaries
 pub mod KeptRuns
 pub mod LawProofs
 pub mod Meanings
 pub mod Needs
 pub mod Places
-pub mod Scalars
 pub mod Selects
 pub mod Takes
 pub mod Withins

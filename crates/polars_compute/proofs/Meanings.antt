@@ -21,7 +21,8 @@ use Rattle.polars_compute.specs.Meaning.{MeansTheSame, Alike}
 use Rattle.polars_compute.specs.Need.{bytes_needed, past, past_parts, Needed, so_many_rows, so_many_bytes, need, need_of_parts, NoneGreater, NoneAbove}
 use Rattle.polars_compute.specs.Pick.{pick}
 use Rattle.polars_compute.specs.Select.{select, in_force}
-use Rattle.polars_compute.proofs.Selects.{few_kept, select-map}
+use Rattle.sel_filter.proofs.Selects.{few_kept}
+use Rattle.polars_compute.proofs.Selects.{select-map}
 
 -- ---- columns that mean the same
 

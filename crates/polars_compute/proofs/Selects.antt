@@ -1,5 +1,5 @@
 -- What a mask keeps.
-use Rattle.std.proofs.Common.{◌≡◌, ℕ, zero, suc, ◌+◌, ◌≤◌, ◌<◌, ℤ, Bool, true, false, List, [], ◌∷◌, ◌++◌, length, map, drop, get_or, replicate, Option, Some, None, refl, ap, sym, ◌∙◌, arith, ◌-◌, take, ⊎_elim, drop-cons, add-one, append_assoc, cond, ◌&&◌}
+use Rattle.std.proofs.Common.{◌≡◌, ℕ, zero, suc, ◌+◌, ◌≤◌, ◌<◌, ℤ, Bool, true, false, List, [], ◌∷◌, length, map, drop, get_or, replicate, Option, Some, None, refl, ap, sym, ◌∙◌, arith, ◌-◌, take, ⊎_elim, add-one, cond, ◌&&◌}
 use Rattle.std.specs.Prelude.{if◌then◌else◌, count_by, reverse}
 use Rattle.std.proofs.lemmas.Bool.{cases_lt}
 use Rattle.std.specs.List.{list_all}
@@ -16,65 +16,8 @@ use Rattle.sel_arrow.specs.declared.view.View.{View}
 use Rattle.sel_arrow.specs.declared.null.NullArray.{NullArray}
 use Rattle.sel_arrow.proofs.Rows.{length-number_rows, length-truth_rows}
 use Rattle.sel_arrow.proofs.ViewRows.{length-view_rows}
+use Rattle.sel_filter.proofs.Selects.{few_kept, as_many_kept}
 use Rattle.polars_compute.specs.Select.{select, in_force, is_true}
-
--- ---- one step of a selection
-
-pub select_kept : {A : Type 0} → (xs : List A) (ms : List Bool) (i : ℕ) (x : A) → i < length xs → i < length ms → get_or ms i false ≡ true → x ≡ get_or xs i x
-    → select (drop i xs) (drop i ms) ≡ x ∷ select (drop (i + 1) xs) (drop (i + 1) ms)
-select_kept xs ms i x h below e is = rw (add-one, drop-cons xs i x h, drop-cons ms i false below, e, ← is) refl
-
-pub select_dropped : {A : Type 0} → (xs : List A) (ms : List Bool) (i : ℕ) (x : A) → i < length xs → i < length ms → get_or ms i false ≡ false
-    → select (drop i xs) (drop i ms) ≡ select (drop (i + 1) xs) (drop (i + 1) ms)
-select_dropped xs ms i x h below e = rw (add-one, drop-cons xs i x h, drop-cons ms i false below, e) refl
-
--- one element more is kept
-pub kept_more : {A : Type 0} → (xs : List A) (ms : List Bool) (i : ℕ) (x d : A) (kept all : List A) → i < length xs → i < length ms → get_or ms i false ≡ true → x ≡ get_or xs i d
-    → kept ++ select (drop i xs) (drop i ms) ≡ all → (kept ++ x ∷ []) ++ select (drop (i + 1) xs) (drop (i + 1) ms) ≡ all
-kept_more xs ms i x d kept all h below e is before =
-    append_assoc kept (x ∷ []) (select (drop (i + 1) xs) (drop (i + 1) ms))
-    ∙ ap (λ l. kept ++ l) (sym (select_kept xs ms i x h below e (is ∙ get_or_default xs i d x h))) ∙ before
-
--- one is passed over
-pub kept_same : {A : Type 0} → (xs : List A) (ms : List Bool) (i : ℕ) (d : A) (kept all : List A) → i < length xs → i < length ms → get_or ms i false ≡ false
-    → kept ++ select (drop i xs) (drop i ms) ≡ all → kept ++ select (drop (i + 1) xs) (drop (i + 1) ms) ≡ all
-kept_same xs ms i d kept all h below e before =
-    ap (λ l. kept ++ l) (sym (select_dropped xs ms i d h below e)) ∙ before
-
--- past the end all is kept that is
-pub kept_all : {A : Type 0} → (xs : List A) (ms : List Bool) (i : ℕ) (kept all : List A) → length xs ≤ i → kept ++ select (drop i xs) (drop i ms) ≡ all → kept ≡ all
-kept_all xs ms i kept all past before =
-    sym (append-nil kept) ∙ ap (λ l. kept ++ select l (drop i ms)) (sym (drop_all i xs past)) ∙ before
-
--- ---- how many are kept
-
-pub length-select : {A : Type 0} → (xs : List A) (ms : List Bool) → length xs ≡ length ms → length (select xs ms) ≡ count_by (λ b. b) ms
-length-select [] [] h = refl
-length-select [] (m ∷ ms) h = absurd (omega arith)
-length-select (x ∷ xs) [] h = absurd (omega arith)
-length-select (x ∷ xs) (true ∷ ms) h =
-    let rest = length-select xs ms (omega arith) in
-    omega (arith, rest, sum_by-cons (λ b. cond b 1 0) true ms)
-length-select (x ∷ xs) (false ∷ ms) h =
-    let rest = length-select xs ms (omega arith) in
-    omega (arith, rest, sum_by-cons (λ b. cond b 1 0) false ms)
-
-pub few_kept : {A : Type 0} → (xs : List A) (ms : List Bool) → length (select xs ms) ≤ length xs
-few_kept [] ms = omega arith
-few_kept (x ∷ xs) [] = omega arith
-few_kept (x ∷ xs) (true ∷ ms) = let rest = few_kept xs ms in omega (arith, rest)
-few_kept (x ∷ xs) (false ∷ ms) = let rest = few_kept xs ms in omega (arith, rest)
-
--- lists of one length keep as many
-as_many_kept : {A B : Type 0} → (xs : List A) (ys : List B) (ms : List Bool) → length xs ≡ length ys → length (select xs ms) ≡ length (select ys ms)
-as_many_kept [] [] ms h = refl
-as_many_kept [] (y ∷ ys) ms h = absurd (omega arith)
-as_many_kept (x ∷ xs) [] ms h = absurd (omega arith)
-as_many_kept (x ∷ xs) (y ∷ ys) [] h = refl
-as_many_kept (x ∷ xs) (y ∷ ys) (true ∷ ms) h = ap suc (as_many_kept xs ys ms (omega arith))
-as_many_kept (x ∷ xs) (y ∷ ys) (false ∷ ms) h = as_many_kept xs ys ms (omega arith)
-
-pub ruleset select_steps = (select_kept, select_dropped, length-select)
 
 both : (a b : Bool) → (a && b) ≡ true → (a ≡ true) × (b ≡ true)
 both true b e = (refl, e)
@@ -222,13 +165,6 @@ trimmed_kept {A} xs ms first rest leading trailing count long t =
     ∙ ap (select (drop leading xs)) (t.first-is ∙ ap (λ n. drop n ms) t.leads)
     ∙ ap (λ n. select (drop n xs) (drop (leading_zeros ms) ms)) t.leads
     ∙ front_dropped xs ms long
-
--- where each row is kept, they all are
-pub all_kept : {A : Type 0} → (xs : List A) (ms : List Bool) → length xs ≡ length ms → count_by (λ b. b) ms ≡ length ms → select xs ms ≡ xs
-all_kept [] ms h count = refl
-all_kept (x ∷ xs) [] h count = absurd (omega arith)
-all_kept (x ∷ xs) (true ∷ ms) h count = ap (λ l. x ∷ l) (all_kept xs ms (omega arith) (omega (arith, count, sum_by-cons (λ b. cond b 1 0) true ms)))
-all_kept (x ∷ xs) (false ∷ ms) h count = absurd (omega (arith, count, sum_by-cons (λ b. cond b 1 0) false ms, count_by-le-length (λ (b : Bool). b) ms))
 
 -- ---- nulls
 

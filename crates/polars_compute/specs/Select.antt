@@ -1,13 +1,7 @@
 -- The entries that a mask keeps.
 use Rattle.std.specs.Prelude.{ℕ, ◌+◌, Bool, true, false, List, [], ◌∷◌, map}
 use Rattle.sel_arrow.specs.Value.{Value, Truth}
-
--- the elements of the first list at the places where the second is true, in order (own: the meaning of a filter)
-abbrev pub select : {A : Type 0} → List A → List Bool → List A
-select [] ms = []
-select (x ∷ xs) [] = []
-select (x ∷ xs) (true ∷ ms) = x ∷ select xs ms
-select (x ∷ xs) (false ∷ ms) = select xs ms
+pub use Rattle.sel_filter.specs.Select.{select}
 
 -- whether a mask row is the valid value true (own: a null counts as false)
 abbrev pub is_true : Value → Bool

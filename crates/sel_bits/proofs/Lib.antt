@@ -1,4 +1,5 @@
 pub mod BitLists
+pub mod BlockParts
 pub mod Combining
 pub mod Counts
 pub mod Extended

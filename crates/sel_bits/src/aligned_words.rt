@@ -58,6 +58,7 @@ impl<'a> AlignedWords<'a> {
 
     /// The next word, with zeros above its bits, and how many bits it has; none behind the last bit. The first word has the bits up
     /// to a boundary of 64 in the shared bytes, the others 64 bits, the last one those that are left.
+    #[inline]
     pub fn next(&mut self) -> Option<(u64, usize)>
         ensures some { IfSome result (λ _. reached self.old < length self.old.source.bits) }
         ensures end { IfNone result (reached self.old ≡ length self.old.source.bits) }

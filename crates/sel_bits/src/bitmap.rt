@@ -114,6 +114,7 @@ impl Bitmap {
     }
 
     /// Bit `i`.
+    #[inline]
     pub fn get_bit(&self, i: usize) -> bool
         requires { i < length self.now.bits }
         ensures { result ≡ slice_index_or self.now.bits i false }
@@ -123,6 +124,7 @@ impl Bitmap {
     }
 
     /// The word of the `len` bits from bit `at` on, with zeros above them.
+    #[inline]
     pub(crate) fn word_at(&self, at: usize, len: usize) -> u64
         requires within { at + len ≤ length self.now.bits }
         requires one_load { (self.now.offset + at) % 8 + len ≤ 64 }

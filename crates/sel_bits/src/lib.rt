@@ -4,8 +4,11 @@
 pub mod aligned_words;
 pub mod bitmap;
 pub mod block_copy;
+pub mod blocks;
 pub mod buffer;
+pub mod counted_bits;
 pub mod faults;
+pub mod moving_word;
 pub mod native;
 pub mod number;
 pub mod offsets;

@@ -6,7 +6,19 @@ ghost use Rattle.sel_bits.specs.Place.{place};
 ghost use Rattle.sel_bits.specs.Words.{padded_word, ones_below};
 
 /// The first eight bytes as a little-endian number; bytes that are missing count as 0.
+#[inline]
 pub fn load_padded_le_u64(bytes: &[u8]) -> u64
+    ensures value { result ≡ padded_word bytes.now }
+    ensures bits { (i : ℕ) → i < 64 → bit_at result i ≡ bit_at (get_or bytes.now (i / 8) 0) (i % 8) }
+{
+    match bytes.split_first_chunk::<8>() {
+        Some((eight, _)) => u64::from_le_bytes(*eight),
+        None => load_few(bytes),
+    }
+}
+
+/// The same of bytes that may be fewer than eight.
+fn load_few(bytes: &[u8]) -> u64
     ensures value { result ≡ padded_word bytes.now }
     ensures bits { (i : ℕ) → i < 64 → bit_at result i ≡ bit_at (get_or bytes.now (i / 8) 0) (i % 8) }
 {

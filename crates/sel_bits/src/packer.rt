@@ -39,7 +39,8 @@ impl BitPacker {
         ensures value { IfOk result (λ packer. packer ≡ []) }
         ensures refusal { IfErr result (λ fault. fault ≡ PolarsError.OutOfMemory) }
     {
-        let bytes = Vec::with_capacity(alloc, count.div_ceil(8))?;
+        // (a word may be written behind the last byte)
+        let bytes = Vec::with_capacity(alloc, count.div_ceil(8) + 8)?;
         Ok(BitPacker {
             bytes,
             pending: 0,
@@ -48,6 +49,7 @@ impl BitPacker {
     }
 
     /// Puts the `count` lowest bits of `word` behind the others. Refuses only for want of memory, and then changes nothing.
+    #[inline]
     pub fn append(&mut self, word: u64, count: u32) -> PolarsResult<()>
         requires count { count ≤ 56 }
         requires fits { word < 2 ^ count }
@@ -58,8 +60,9 @@ impl BitPacker {
         let full = self.pending | (word << self.held);
         let held = self.held + count;
         let whole = held / 8;
-        self.bytes
-            .extend_from_slice(&full.to_le_bytes()[..whole as usize])?;
+        // (eight bytes at once, of which those stay that are whole)
+        self.bytes.extend_from_slice(&full.to_le_bytes())?;
+        self.bytes.truncate(self.bytes.len() - (8 - whole as usize));
         self.pending = full >> (8 * whole);
         self.held = held % 8;
         Ok(())

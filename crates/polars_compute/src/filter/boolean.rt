@@ -3,31 +3,15 @@
 ghost use Rattle.std.specs.Prelude.{◌≡◌, length, IfOk, IfErr};
 ghost use Rattle.std.specs.Option.{option_copied, option_map};
 ghost use Rattle.sel_arrow.specs.Masked.{Covers};
-ghost use Rattle.std.specs.Prelude.{count_ones};
-ghost use Rattle.polars_compute.specs.Compress.{compress};
 ghost use Rattle.polars_compute.specs.Select.{select};
 
 use sel_bits::bitmap::Bitmap;
 use sel_bits::faults::{PolarsError, PolarsResult};
-use sel_bits::packer::BitPacker;
+pub use sel_filter::boolean::{
+    filter_boolean_kernel, filter_boolean_kernel_pext, filter_boolean_kernel_sparse,
+    pext64_polyfill, pext64_rounds,
+};
 use std::alloc::Global;
-
-/// The bits where the mask is true, in order. Refuses only for want of memory.
-#[tactic(auto, using(crate::proofs::Selects::select_steps))]
-pub fn filter_boolean_kernel(alloc: Global, values: &Bitmap, mask: &Bitmap) -> PolarsResult<Bitmap>
-    requires { length values.now.bits ≡ length mask.now.bits }
-    ensures bits { IfOk result (λ kept. kept.bits ≡ select values.now.bits mask.now.bits) }
-    ensures refusal { IfErr result (λ fault. fault ≡ PolarsError.OutOfMemory) }
-{
-    let count = mask.set_bits();
-    let mut kept = BitPacker::with_capacity(alloc, count)?;
-    for i in 0..mask.len() {
-        if mask.get_bit(i) {
-            kept.push(values.get_bit(i))?;
-        }
-    }
-    kept.into_bitmap(count)
-}
 
 /// Both filtered; a validity is answered exactly where one is given. Refuses only for want of memory.
 pub fn filter_bitmap_and_validity(
@@ -61,21 +45,4 @@ pub(crate) fn filter_validity(
         None => Ok(None),
         Some(bits) => Ok(Some(filter_boolean_kernel(alloc, bits, mask)?)),
     }
-}
-
-/// The bits of `v` where `m` has a set bit, packed from the lowest on, and then zeros; `m_popcnt` is the number of set bits of `m`.
-pub fn pext64_polyfill(v: u64, m: u64, m_popcnt: u32) -> u64
-    requires { m_popcnt ≡ count_ones m }
-    ensures { result ≡ compress v m }
-{
-    let _ = m_popcnt;
-    let mut packed = 0;
-    let mut place = 0u32;
-    for i in 0..64u32 {
-        if (m >> i) & 1 == 1 {
-            packed += ((v >> i) & 1) << place;
-            place += 1;
-        }
-    }
-    packed
 }

@@ -1,5 +1,6 @@
 use Rattle.std.proofs.Common.{length, ap, arith}
-use Rattle.polars_compute.proofs.Selects.{few_kept, kept_covers}
+use Rattle.sel_filter.proofs.Selects.{few_kept}
+use Rattle.polars_compute.proofs.Selects.{kept_covers}
 use Rattle.polars_compute.proofs.filter.filter_boolean.Goals as goal
 
 pub invariant_of-result : goal.invariant_of-result

@@ -1,6 +1,6 @@
 use Rattle.std.proofs.Common.{◌∙◌, sym}
 use Rattle.sel_arrow.specs.Rows.{rows}
-use Rattle.polars_compute.proofs.Selects.{all_kept}
+use Rattle.sel_filter.proofs.Selects.{all_kept}
 use Rattle.polars_compute.proofs.filter.filter_trimmed.Goals as goal
 
 pub returns-then-set_bits-len-clause-rows : goal.returns-then-set_bits-len-clause-rows

@@ -1,7 +1,8 @@
 use Rattle.std.proofs.Common.{◌≡◌, ◌∙◌, length, ap, arith}
 use Rattle.sel_arrow.specs.Views.{is_placed}
 use Rattle.polars_compute.specs.Select.{select}
-use Rattle.polars_compute.proofs.Selects.{few_kept, kept_covers, passed_kept}
+use Rattle.sel_filter.proofs.Selects.{few_kept}
+use Rattle.polars_compute.proofs.Selects.{kept_covers, passed_kept}
 use Rattle.polars_compute.proofs.filter.filter_views.Goals as goal
 
 pub invariant_of-result : goal.invariant_of-result

@@ -1,0 +1,85 @@
+//! What the readers give out, and how they count it.
+
+ghost use Rattle.std.specs.Prelude.{◌≡◌, length};
+
+use crate::made::three_words;
+use sel_bits::aligned_words::AlignedWords;
+use sel_bits::bitmap::Bitmap;
+use sel_bits::blocks::U56Blocks;
+use sel_bits::counted_bits::CountedBits;
+use std::test::Fail;
+
+/// Whether 113 bits are two blocks of 56 and one with a single bit, and are counted as three.
+fn gives_blocks(bitmap: &Bitmap) -> bool {
+    let mut blocks = U56Blocks::new(bitmap);
+    blocks.len() == 113
+        && blocks.blocks_read() == 0
+        && blocks.next() == Some(0x23_4567_89AB_CDEF)
+        && blocks.next() == Some(0xBA_9876_5432_1DB1)
+        && blocks.next() == Some(1)
+        && blocks.next() == None
+        && blocks.blocks_read() == 3
+}
+
+#[test]
+fn blocks_of_a_bitmap(rt: HostRuntime) -> Result<(), Fail> {
+    let bitmap = three_words(rt.alloc())?.sliced(0, 113);
+    assert!(rt; gives_blocks(&bitmap));
+    Ok(())
+}
+
+/// Whether 130 bits from the fourth one of the shared bytes on are words of 61, 64 and 5 bits.
+fn gives_three_words(bitmap: &Bitmap) -> bool {
+    let mut words = AlignedWords::new(bitmap);
+    words.len() == 130
+        && words.next() == Some((0x1624_68AC_F135_79BD, 61))
+        && words.next() == Some((0xFEDD_BA98_7654_321D, 64))
+        && words.next() == Some((0x18, 5))
+        && words.next() == None
+        && words.words_read() == 3
+}
+
+/// Whether ten bits from the 61st one on are words of 4 and 6 bits.
+fn gives_two_words(bitmap: &Bitmap) -> bool {
+    let mut words = AlignedWords::new(bitmap);
+    words.next() == Some((0xB, 4))
+        && words.next() == Some((0x1D, 6))
+        && words.next() == None
+        && words.words_read() == 2
+}
+
+/// Whether no bits are no words.
+fn gives_no_words(bitmap: &Bitmap) -> bool {
+    let mut words = AlignedWords::new(bitmap);
+    words.next() == None && words.words_read() == 0
+}
+
+#[test]
+fn words_of_a_bitmap(rt: HostRuntime) -> Result<(), Fail> {
+    let bitmap = three_words(rt.alloc())?;
+    assert!(rt; gives_three_words(&bitmap.try_clone()?.sliced(3, 130)));
+    assert!(rt; gives_two_words(&bitmap.try_clone()?.sliced(60, 10)));
+    assert!(rt; gives_no_words(&bitmap.sliced(3, 0)));
+    Ok(())
+}
+
+/// Whether the first two of these bits are true and the fifth is not, each is counted, and so is one that is read again.
+fn gives_bits(bitmap: &Bitmap) -> bool
+    requires { length bitmap.now.bits ≡ 192 }
+{
+    let mut bits = CountedBits::new(bitmap);
+    bits.len() == 192
+        && bits.bits_read() == 0
+        && bits.get(0)
+        && bits.get(1)
+        && !bits.get(4)
+        && bits.get(0)
+        && bits.bits_read() == 4
+}
+
+#[test]
+fn bits_of_a_bitmap(rt: HostRuntime) -> Result<(), Fail> {
+    let bitmap = three_words(rt.alloc())?;
+    assert!(rt; gives_bits(&bitmap));
+    Ok(())
+}

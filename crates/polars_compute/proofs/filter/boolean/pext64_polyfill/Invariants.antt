@@ -1,6 +1,0 @@
--- The bits so far are packed.
-use Rattle.polars_compute.proofs.Compressing.{IsPacked}
-use Rattle.polars_compute.proofs.filter.boolean.pext64_polyfill.Given as goal
-
-abbrev pub invariant-loop-i : goal.invariant-loop-i
-invariant-loop-i l = IsPacked l.v l.m l.i l.packed l.place

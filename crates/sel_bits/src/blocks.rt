@@ -1,0 +1,79 @@
+//! A reader that gives the bits of a bitmap out in blocks of 56, and counts them.
+
+ghost use Rattle.std.specs.Prelude.{◌≡◌, ◌+◌, ◌*◌, ◌/◌, ◌<◌, ◌≤◌, length, IfSome, IfNone, MatchOption};
+ghost use Rattle.sel_bits.specs.Reading.{after_block, block_bits};
+ghost use Rattle.sel_bits.specs.Words.{word_of};
+
+use crate::bitmap::Bitmap;
+use crate::packer::MOST_BITS;
+use std::marker::Model;
+
+/// The bits of a bitmap in blocks of 56, of which the last one may have fewer.
+///
+/// Contracts see the bitmap and how many blocks were given out.
+#[derive(Drop)]
+pub struct U56Blocks<'a> {
+    bitmap: &'a Bitmap,
+    at: usize,
+    blocks: u64,
+}
+
+impl<'a> Model for U56Blocks<'a> {
+    ghost use Rattle.std.specs.Prelude.{◌≡◌, ◌+◌, ◌*◌, ◌≤◌, length, min};
+    ghost use Rattle.sel_bits.specs.Reading.{BlockReading};
+
+    ghost Value = { BlockReading };
+
+    ghost view = { λ r. record { source = r.bitmap.now; blocks_read = r.blocks } };
+
+    ghost invariant = { λ r. (r.at ≡ min (length r.bitmap.now.bits) (56 * r.blocks)) × (56 * r.blocks ≤ length r.bitmap.now.bits + 55) };
+}
+
+impl<'a> U56Blocks<'a> {
+    /// A reader of this bitmap, unread.
+    pub fn new(bitmap: &'a Bitmap) -> U56Blocks<'a>
+        ensures { result ≡ record { source = bitmap.now; blocks_read = 0 } }
+    {
+        U56Blocks {
+            bitmap,
+            at: 0,
+            blocks: 0,
+        }
+    }
+
+    /// How many bits the bitmap has.
+    pub fn len(&self) -> usize
+        ensures { result ≡ length self.now.source.bits }
+    {
+        let source = self.bitmap;
+        source.len()
+    }
+
+    /// How many blocks were given out: at most as many as the bitmap has, the last part of one counted whole.
+    pub fn blocks_read(&self) -> u64
+        ensures count { result ≡ self.now.blocks_read }
+        ensures bound { result ≤ (length self.now.source.bits + 55) / 56 }
+    {
+        self.blocks
+    }
+
+    /// The next block as a word, with zeros above its bits; none behind the last bit.
+    #[inline]
+    pub fn next(&mut self) -> Option<u64>
+        ensures some { IfSome result (λ _. 56 * self.old.blocks_read < length self.old.source.bits) }
+        ensures end { IfNone result (length self.old.source.bits ≤ 56 * self.old.blocks_read) }
+        ensures block { IfSome result (λ block. block ≡ word_of (block_bits self.old)) }
+        ensures after { MatchOption result (self.new ≡ self.old) (λ _. self.new ≡ after_block self.old) }
+        ensures bound { self.new.blocks_read ≤ (length self.new.source.bits + 55) / 56 }
+    {
+        let bitmap = self.bitmap;
+        let count = (bitmap.len() - self.at).min(MOST_BITS);
+        if count == 0 {
+            return None;
+        }
+        let block = bitmap.word_at(self.at, count);
+        self.at += count;
+        self.blocks += 1;
+        Some(block)
+    }
+}

@@ -1,0 +1,177 @@
+-- What a block of 56 bits selects.
+use Rattle.std.proofs.Common.{◌≡◌, ℕ, zero, suc, ◌+◌, ◌-◌, ◌*◌, ◌^◌, ◌<◌, ◌≤◌, ◌∙◌, sym, refl, ap, subst, arith, List, [], ◌∷◌, ◌++◌, length, take, drop, replicate, Bool, true, false, append-nil}
+use Rattle.std.specs.Prelude.{count_ones}
+use Rattle.std.proofs.Math.Nat.{div-eq_of_lt}
+use Rattle.std.proofs.lemmas.List.{take_all, length-take, length-drop}
+use Rattle.std.proofs.lemmas.List.Sums.{count_by-le-length}
+use Rattle.std.proofs.Math.Seq.{take-add}
+use lib.Pow.{pow_mono}
+use Rattle.sel_bits.specs.Words.{bits, word_of}
+use Rattle.sel_filter.specs.Compress.{compress}
+use Rattle.sel_filter.specs.Select.{select}
+use Rattle.sel_bits.specs.Bits.{Bits, count_true}
+use Rattle.sel_bits.specs.Reading.{BlockReading, after_block, block_bits}
+use Rattle.sel_bits.proofs.Padded.{word_of_lt}
+use Rattle.sel_bits.proofs.Packs.{length_bits, bits_split}
+use Rattle.sel_filter.proofs.WordLists.{bits_of_zero, bits_of_ones, bits_word_of, ones_is}
+use Rattle.sel_filter.proofs.Selects.{select-append, select_none, length-select, count_true-append, count_true_none}
+
+-- what is the same on both sides and false in the mask selects nothing
+select_padded : (xs : List Bool) (ms : List Bool) (k : ℕ) → length xs ≡ length ms → select (xs ++ replicate k false) (ms ++ replicate k false) ≡ select xs ms
+select_padded xs ms k long =
+    select-append xs ms (replicate k false) (replicate k false) long ∙ ap (λ l. select xs ms ++ l) (select_none (replicate k false) k) ∙ append-nil (select xs ms)
+
+wide : (v : ℕ) → v < 2 ^ 56 → bits 64 v ≡ bits 56 v ++ replicate 8 false
+wide v fits = bits_split 56 8 v ∙ ap (λ x. bits 56 v ++ bits 8 x) (div-eq_of_lt fits) ∙ ap (λ l. bits 56 v ++ l) (bits_of_zero 8)
+
+module _ (v m : ℕ) (v_fits : v < 2 ^ 56) (m_fits : m < 2 ^ 56) where
+  both : select (bits 64 v) (bits 64 m) ≡ select (bits 56 v) (bits 56 m)
+  both =
+      ap (λ l. select l (bits 64 m)) (wide v v_fits)
+      ∙ ap (select (bits 56 v ++ replicate 8 false)) (wide m m_fits)
+      ∙ select_padded (bits 56 v) (bits 56 m) 8 (length_bits 56 v ∙ sym (length_bits 56 m))
+
+  compress_is : compress v m ≡ word_of (select (bits 56 v) (bits 56 m))
+  unfolding compress
+  compress_is = ap word_of both
+
+  long : length (select (bits 56 v) (bits 56 m)) ≡ count_ones m
+  long = length-select (bits 56 v) (bits 56 m) (length_bits 56 v ∙ sym (length_bits 56 m)) ∙ sym (ones_is 56 m m_fits)
+
+  pub few_ones : count_ones m ≤ 56
+  few_ones = omega (arith, ones_is 56 m m_fits, count_by-le-length (λ b. b) (bits 56 m), length_bits 56 m)
+
+  pub compress_fits : compress v m < 2 ^ count_ones m
+  compress_fits = rw compress_is (subst (λ k. word_of (select (bits 56 v) (bits 56 m)) < 2 ^ k) long (word_of_lt (select (bits 56 v) (bits 56 m))))
+
+  pub compress_bits : bits (count_ones m) (compress v m) ≡ select (bits 56 v) (bits 56 m)
+  compress_bits =
+      let s = select (bits 56 v) (bits 56 m) in
+      let none : count_ones m - length s ≡ 0 = omega (arith, long) in
+      ap (bits (count_ones m)) compress_is ∙ bits_word_of s (count_ones m) (omega (arith, long)) ∙ ap (λ k. s ++ replicate k false) none ∙ append-nil s
+
+pub select_empty : (v m : ℕ) → m ≡ 0 → select (bits 56 v) (bits 56 m) ≡ []
+select_empty v m none = ap (λ x. select (bits 56 v) (bits 56 x)) none ∙ ap (select (bits 56 v)) (bits_of_zero 56) ∙ select_none (bits 56 v) 56
+
+select_all : (xs : List Bool) (n : ℕ) → length xs ≡ n → select xs (replicate n true) ≡ xs
+select_all [] n long = refl
+select_all (x ∷ xs) zero long = absurd (omega arith)
+select_all (x ∷ xs) (suc n) long = ap (λ l. x ∷ l) (select_all xs n (omega arith))
+
+pub select_full : (v m : ℕ) → m ≡ 2 ^ 56 - 1 → select (bits 56 v) (bits 56 m) ≡ bits 56 v
+select_full v m full = ap (λ x. select (bits 56 v) (bits 56 x)) full ∙ ap (select (bits 56 v)) (bits_of_ones 56) ∙ select_all (bits 56 v) 56 (length_bits 56 v)
+
+-- ---- from block to block
+
+-- a block's word holds the block's part, and falses above it
+padded_block : (l : List Bool) → length l ≤ 56 → bits 56 (word_of l) ≡ l ++ replicate (56 - length l) false
+padded_block l le = bits_word_of l 56 le
+
+pub block_fits : (l : List Bool) (k : ℕ) → word_of (take 56 (drop k l)) < 2 ^ 56
+block_fits l k = omega (arith, word_of_lt (take 56 (drop k l)), pow_mono {i = length (take 56 (drop k l))} {j = 56} (omega (arith, length-take 56 (drop k l))))
+
+module _ (vs ms : List Bool) (same : length vs ≡ length ms) (k : ℕ) where
+  equal_parts : length (take 56 (drop (56 * k) vs)) ≡ length (take 56 (drop (56 * k) ms))
+  equal_parts = omega (arith, length-take 56 (drop (56 * k) vs), length-take 56 (drop (56 * k) ms), length-drop (56 * k) vs, length-drop (56 * k) ms)
+
+  short : length (take 56 (drop (56 * k) ms)) ≤ 56
+  short = omega (arith, length-take 56 (drop (56 * k) ms))
+
+  pub block_selects : select (bits 56 (word_of (take 56 (drop (56 * k) vs)))) (bits 56 (word_of (take 56 (drop (56 * k) ms)))) ≡ select (take 56 (drop (56 * k) vs)) (take 56 (drop (56 * k) ms))
+  block_selects =
+      let v = take 56 (drop (56 * k) vs) in
+      let m = take 56 (drop (56 * k) ms) in
+      ap (λ l. select l (bits 56 (word_of m))) (padded_block v (omega (arith, equal_parts, short)) ∙ ap (λ n. v ++ replicate (56 - n) false) equal_parts)
+      ∙ ap (select (v ++ replicate (56 - length m) false)) (padded_block m short)
+      ∙ select_padded v m (56 - length m) equal_parts
+
+  pub block_counts : count_true (bits 56 (word_of (take 56 (drop (56 * k) ms)))) ≡ count_true (take 56 (drop (56 * k) ms))
+  block_counts =
+      let m = take 56 (drop (56 * k) ms) in
+      omega (arith, ap count_true (padded_block m short), count_true-append m (replicate (56 - length m) false), count_true_none (56 - length m))
+
+  next_at : 56 * (k + 1) ≡ 56 * k + 56
+  next_at = omega arith
+
+  pub blocks_select : select (take (56 * (k + 1)) vs) (take (56 * (k + 1)) ms) ≡ select (take (56 * k) vs) (take (56 * k) ms) ++ select (take 56 (drop (56 * k) vs)) (take 56 (drop (56 * k) ms))
+  blocks_select =
+      ap (λ n. select (take n vs) (take n ms)) next_at
+      ∙ ap (λ l. select l (take (56 * k + 56) ms)) (take-add (56 * k) 56 vs)
+      ∙ ap (select (take (56 * k) vs ++ take 56 (drop (56 * k) vs))) (take-add (56 * k) 56 ms)
+      ∙ select-append (take (56 * k) vs) (take (56 * k) ms) (take 56 (drop (56 * k) vs)) (take 56 (drop (56 * k) ms)) (omega (arith, length-take (56 * k) vs, length-take (56 * k) ms))
+
+  pub blocks_count : count_true (take (56 * (k + 1)) ms) ≡ count_true (take (56 * k) ms) + count_true (take 56 (drop (56 * k) ms))
+  blocks_count = ap (λ n. count_true (take n ms)) next_at ∙ ap count_true (take-add (56 * k) 56 ms) ∙ count_true-append (take (56 * k) ms) (take 56 (drop (56 * k) ms))
+
+-- the kernel has come as far as its readers
+pub record IsKept (vs ms : Bits) (out : List Bool) (kept : ℕ) (values mask : BlockReading) : Type 0 where
+  pub values_source : values.source ≡ vs
+  pub mask_source : mask.source ≡ ms
+  pub lengths : length vs.bits ≡ length ms.bits
+  pub in_step : values.blocks_read ≡ mask.blocks_read
+  pub gives : out ≡ select (take (56 * mask.blocks_read) vs.bits) (take (56 * mask.blocks_read) ms.bits)
+  pub counts : kept ≡ count_true (take (56 * mask.blocks_read) ms.bits)
+
+module _ (vs ms : Bits) (out : List Bool) (kept : ℕ) (values mask : BlockReading) (was : IsKept vs ms out kept values mask) where
+  pub kept_is : length out ≡ kept
+  kept_is =
+      let k = 56 * mask.blocks_read in
+      ap length was.gives
+      ∙ length-select (take k vs.bits) (take k ms.bits) (omega (arith, length-take k vs.bits, length-take k ms.bits, was.lengths))
+      ∙ sym was.counts
+
+  module _ (v m : ℕ) (is_v : v ≡ word_of (block_bits values)) (is_m : m ≡ word_of (block_bits mask)) where
+    v_is : v ≡ word_of (take 56 (drop (56 * mask.blocks_read) vs.bits))
+    v_is = is_v ∙ ap (λ (s : Bits). word_of (take 56 (drop (56 * values.blocks_read) s.bits))) was.values_source ∙ ap (λ k. word_of (take 56 (drop (56 * k) vs.bits))) was.in_step
+
+    m_is : m ≡ word_of (take 56 (drop (56 * mask.blocks_read) ms.bits))
+    m_is = is_m ∙ ap (λ (s : Bits). word_of (take 56 (drop (56 * mask.blocks_read) s.bits))) was.mask_source
+
+    pub v_fits : v < 2 ^ 56
+    v_fits = rw v_is (block_fits vs.bits (56 * mask.blocks_read))
+
+    pub m_fits : m < 2 ^ 56
+    m_fits = rw m_is (block_fits ms.bits (56 * mask.blocks_read))
+
+    counted : count_ones m ≡ count_true (take 56 (drop (56 * mask.blocks_read) ms.bits))
+    counted = ones_is 56 m m_fits ∙ ap (λ w. count_true (bits 56 w)) m_is ∙ block_counts vs.bits ms.bits was.lengths mask.blocks_read
+
+    pub more_kept : kept + count_ones m ≤ length ms.bits
+    more_kept =
+        let n = 56 * (mask.blocks_read + 1) in
+        omega (arith, was.counts, counted, blocks_count vs.bits ms.bits was.lengths mask.blocks_read, count_by-le-length (λ b. b) (take n ms.bits), length-take n ms.bits)
+
+    selected : select (bits 56 v) (bits 56 m) ≡ select (take 56 (drop (56 * mask.blocks_read) vs.bits)) (take 56 (drop (56 * mask.blocks_read) ms.bits))
+    selected = (λ i. select (bits 56 (v_is i)) (bits 56 (m_is i))) ∙ block_selects vs.bits ms.bits was.lengths mask.blocks_read
+
+    pub kept_more : IsKept vs ms (out ++ select (bits 56 v) (bits 56 m)) (kept + count_ones m) (after_block values) (after_block mask)
+    kept_more = record {
+      values_source = was.values_source;
+      mask_source = was.mask_source;
+      lengths = was.lengths;
+      in_step = omega (arith, was.in_step);
+      gives = (λ i. was.gives i ++ selected i) ∙ sym (blocks_select vs.bits ms.bits was.lengths mask.blocks_read);
+      counts = omega (arith, was.counts, counted, blocks_count vs.bits ms.bits was.lengths mask.blocks_read);
+    }
+
+-- before the first block nothing is kept
+pub kept_first : (values mask : BlockReading) → values.blocks_read ≡ 0 → mask.blocks_read ≡ 0 → length values.source.bits ≡ length mask.source.bits → IsKept values.source mask.source [] 0 values mask
+kept_first values mask unread unread_mask long = record {
+  values_source = refl;
+  mask_source = refl;
+  lengths = long;
+  in_step = unread ∙ sym unread_mask;
+  gives = sym (ap (λ n. select (take (56 * n) values.source.bits) (take (56 * n) mask.source.bits)) unread_mask);
+  counts = sym (ap (λ n. count_true (take (56 * n) mask.source.bits)) unread_mask);
+}
+
+-- behind the last one everything is
+pub kept_all : (vs ms : Bits) (out : List Bool) (kept : ℕ) (values mask : BlockReading) → IsKept vs ms out kept values mask → length mask.source.bits ≤ 56 * mask.blocks_read → out ≡ select vs.bits ms.bits
+kept_all vs ms out kept values mask was end =
+    let past : length ms.bits ≤ 56 * mask.blocks_read = omega (arith, end, ap (λ (s : Bits). length s.bits) was.mask_source) in
+    was.gives ∙ (λ i. select (take_all (56 * mask.blocks_read) vs.bits (omega (arith, past, was.lengths)) i) (take_all (56 * mask.blocks_read) ms.bits past i))
+
+-- there is a block of values beside each one of the mask
+pub block_beside : (vs ms : Bits) (out : List Bool) (kept : ℕ) (values mask : BlockReading) → IsKept vs ms out kept values mask → 56 * mask.blocks_read < length mask.source.bits → 56 * values.blocks_read < length values.source.bits
+block_beside vs ms out kept values mask was more =
+    omega (arith, more, was.in_step, was.lengths, ap (λ (s : Bits). length s.bits) was.mask_source, ap (λ (s : Bits). length s.bits) was.values_source)

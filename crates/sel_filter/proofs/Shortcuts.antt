@@ -1,0 +1,59 @@
+-- The masks under which every kept bit is alike.
+use Rattle.std.proofs.Common.{◌≡◌, ℕ, zero, suc, ◌-◌, ◌/◌, ◌^◌, ◌<◌, ◌≤◌, ◌∙◌, sym, refl, ap, arith, List, [], ◌∷◌, replicate, Bool, true, false}
+use Rattle.std.specs.Prelude.{bit_and, count_ones}
+use Rattle.std.specs.Int.{bit_at}
+use Rattle.std.proofs.Math.Nat.{pow-suc}
+use Rattle.std.proofs.lemmas.Nat.{pow_pos}
+use Rattle.std.proofs.lemmas.Nat.Bits.{bit_at-lt, bit_at_and, bit_at-zero, ones_shr}
+use Rattle.std.proofs.lemmas.List.Sums.{count_by-le-length}
+use Rattle.sel_bits.specs.Words.{bits, word_of}
+use Rattle.sel_filter.specs.Compress.{compress}
+use Rattle.sel_filter.specs.Select.{select}
+use Rattle.sel_bits.specs.Bits.{count_true}
+use Rattle.sel_filter.proofs.Rounds.{one_standing}
+use Rattle.sel_filter.proofs.Ranks.{compress_standing}
+use Rattle.sel_filter.proofs.Selects.{count_cons}
+use Rattle.sel_filter.proofs.WordLists.{ones_is}
+use Rattle.sel_bits.proofs.Packs.{length_bits}
+
+-- only the bits under the mask count
+compress_masked : (v m : ℕ) → compress v m ≡ compress (bit_and v m) m
+compress_masked v m =
+    let s = compress_standing m (bit_and v m) in
+    one_standing m v 6 _ _ (compress_standing m v)
+    (record {
+      at_spots = λ q kept. s.at_spots q kept ∙ omega (arith, bit_at_and v m q, kept.1, bit_at-lt v q);
+      from_kept = s.from_kept;
+    })
+
+-- no kept bit is set
+pub compress_none : (v m : ℕ) → bit_and v m ≡ 0 → 0 ≡ compress v m
+compress_none v m none =
+    one_standing m v 6 _ _
+    (record {
+      at_spots = λ q kept. bit_at-zero _ ∙ sym (omega (arith, bit_at_and v m q, kept.1, bit_at-lt v q, ap (λ x. bit_at x q) none, bit_at-zero q));
+      from_kept = λ s set. absurd (omega (arith, bit_at-zero s, set));
+    })
+    (compress_standing m v)
+
+select_self : (ms : List Bool) → select ms ms ≡ replicate (count_true ms) true
+select_self [] = refl
+select_self (true ∷ ms) = ap (λ l. true ∷ l) (select_self ms) ∙ ap (λ n. replicate n true) more
+  where
+    more : suc (count_true ms) ≡ count_true (true ∷ ms)
+    more = omega (arith, count_cons true ms)
+select_self (false ∷ ms) = select_self ms
+
+word_of_ones : (n : ℕ) → word_of (replicate n true) ≡ 2 ^ n - 1
+word_of_ones zero = refl
+word_of_ones (suc n) = omega (arith, word_of_ones n, pow-suc 2 n, pow_pos n)
+
+-- every kept bit is set
+pub compress_all : (v m n : ℕ) → m < 2 ^ 64 → n ≡ count_ones m → bit_and v m ≡ m → (2 ^ 64 - 1) / 2 ^ (64 - n) ≡ compress v m
+unfolding compress
+compress_all v m n fits count all =
+    let few : n ≤ 64 = omega (arith, count, ones_is 64 m fits, count_by-le-length (λ b. b) (bits 64 m), length_bits 64 m) in
+    let back : 64 - (64 - n) ≡ n = omega arith in
+    ones_shr 64 (64 - n) (omega arith)
+    ∙ ap (λ k. 2 ^ k - 1) (back ∙ count ∙ ones_is 64 m fits)
+    ∙ sym (compress_masked v m ∙ ap (λ x. compress x m) all ∙ ap word_of (select_self (bits 64 m)) ∙ word_of_ones (count_true (bits 64 m)))

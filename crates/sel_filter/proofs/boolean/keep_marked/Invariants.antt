@@ -1,0 +1,10 @@
+-- What was kept is what is kept of the bits that the mask has given out.
+use Rattle.std.proofs.Common.{◌+◌, ◌-◌, ◌/◌, length}
+use Rattle.sel_filter.proofs.Filtering.{IsFiltered}
+use Rattle.sel_filter.proofs.boolean.keep_marked.Given as goal
+
+abbrev pub invariant-loop-word : goal.invariant-loop-word
+invariant-loop-word l = IsFiltered l.fn.values.source l.fn.mask.source l.kept l.start l.values l.mask
+
+abbrev pub decreases-loop-word : goal.decreases-loop-word
+decreases-loop-word l = length l.mask.source.bits / 64 + 2 - l.mask.words_read

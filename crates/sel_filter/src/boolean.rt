@@ -1,0 +1,186 @@
+//! Bits that a mask keeps.
+
+ghost use Rattle.std.specs.Prelude.{◌≡◌, ◌+◌, ◌-◌, ◌/◌, ◌^◌, ◌<◌, ◌≤◌, ◌++◌, length, drop, IfOk, IfErr, OnOk};
+ghost use Rattle.sel_bits.specs.Bits.{count_true};
+ghost use Rattle.sel_bits.specs.Words.{bits};
+ghost use Rattle.sel_filter.specs.Select.{select};
+
+pub use crate::pext::{pext64_polyfill, pext64_rounds};
+use sel_bits::aligned_words::AlignedWords;
+use sel_bits::bitmap::Bitmap;
+use sel_bits::blocks::U56Blocks;
+use sel_bits::counted_bits::CountedBits;
+use sel_bits::faults::{PolarsError, PolarsResult};
+use sel_bits::packer::BitPacker;
+use std::alloc::Global;
+
+/// A mask is gone over by its true bits where it has no more than one in so many.
+const SPARSE: usize = 256;
+
+/// A mask block that keeps all of its 56 bits.
+const FULL_BLOCK: u64 = (1 << 56) - 1;
+
+/// The bits where the mask is true, in order. Refuses only for want of memory.
+///
+/// A mask that keeps at most one bit in 256 is gone over by its true bits, another one by blocks.
+pub fn filter_boolean_kernel(alloc: Global, values: &Bitmap, mask: &Bitmap) -> PolarsResult<Bitmap>
+    requires { length values.now.bits ≡ length mask.now.bits }
+    ensures bits { IfOk result (λ kept. kept.bits ≡ select values.now.bits mask.now.bits) }
+    ensures refusal { IfErr result (λ fault. fault ≡ PolarsError.OutOfMemory) }
+{
+    let count = mask.set_bits();
+    if count == 0 {
+        return Bitmap::new(alloc);
+    }
+    if count == mask.len() {
+        return values.try_clone();
+    }
+    if count <= mask.len() / SPARSE {
+        let mut bits = CountedBits::new(values);
+        let mut words = AlignedWords::new(mask);
+        return keep_marked(alloc, count, &mut bits, &mut words);
+    }
+    let mut blocks = U56Blocks::new(values);
+    let mut marks = U56Blocks::new(mask);
+    keep_blocks(alloc, count, &mut blocks, &mut marks)
+}
+
+/// The bits of `values` where `mask` is true, in order: each of them is read once, and no other. Refuses only for want of memory, and
+/// then both have been read in part.
+pub fn filter_boolean_kernel_sparse(
+    alloc: Global,
+    values: &mut CountedBits<'_>,
+    mask: &mut AlignedWords<'_>,
+) -> PolarsResult<Bitmap>
+    requires values_unread { values.old.bits_read ≡ 0 }
+    requires mask_unread { mask.old.words_read ≡ 0 }
+    requires long { length values.old.source.bits ≡ length mask.old.source.bits }
+    ensures bits { IfOk result (λ kept. kept.bits ≡ select values.old.source.bits mask.old.source.bits) }
+    ensures reads { IfOk result (λ _. values.new.bits_read ≡ count_true mask.old.source.bits) }
+    ensures words { mask.new.words_read ≤ length mask.old.source.bits / 64 + 2 }
+    ensures values_source { values.new.source ≡ values.old.source }
+    ensures mask_source { mask.new.source ≡ mask.old.source }
+    ensures refusal { IfErr result (λ fault. fault ≡ PolarsError.OutOfMemory) }
+{
+    let room = mask.len();
+    keep_marked(alloc, room, values, mask)
+}
+
+/// The same, with room for so many bits from the start.
+fn keep_marked(
+    alloc: Global,
+    room: usize,
+    values: &mut CountedBits<'_>,
+    mask: &mut AlignedWords<'_>,
+) -> PolarsResult<Bitmap>
+    requires values_unread { values.old.bits_read ≡ 0 }
+    requires mask_unread { mask.old.words_read ≡ 0 }
+    requires long { length values.old.source.bits ≡ length mask.old.source.bits }
+    ensures bits { IfOk result (λ kept. kept.bits ≡ select values.old.source.bits mask.old.source.bits) }
+    ensures reads { IfOk result (λ _. values.new.bits_read ≡ count_true mask.old.source.bits) }
+    ensures words { mask.new.words_read ≤ length mask.old.source.bits / 64 + 2 }
+    ensures values_source { values.new.source ≡ values.old.source }
+    ensures mask_source { mask.new.source ≡ mask.old.source }
+    ensures refusal { IfErr result (λ fault. fault ≡ PolarsError.OutOfMemory) }
+{
+    // (a bitmap has no more bits than a place can show)
+    let _whole = mask.len();
+    let mut kept = BitPacker::with_capacity(alloc, room)?;
+    let mut start = 0;
+    while let Some((word, count)) = mask.next() {
+        append_marked(values, start, word, &mut kept)?;
+        start += count;
+    }
+    kept.into_bitmap(values.bits_read() as usize)
+}
+
+/// Puts the bits at the set places of `word`, counted from `start` on, behind the others.
+fn append_marked(
+    values: &mut CountedBits<'_>,
+    start: usize,
+    word: u64,
+    kept: &mut BitPacker,
+) -> PolarsResult<()>
+    requires fits { length values.old.source.bits < 2 ^ 64 }
+    requires within { word < 2 ^ (length values.old.source.bits - start) }
+    requires reads { values.old.bits_read + count_true (bits (length values.old.source.bits - start) word) < 2 ^ 64 }
+    ensures appended { OnOk result (kept.new ≡ kept.old ++ select (drop start values.old.source.bits) (bits (length values.old.source.bits - start) word)) }
+    ensures reads { OnOk result (values.new.bits_read ≡ values.old.bits_read + count_true (bits (length values.old.source.bits - start) word)) }
+    ensures source { values.new.source ≡ values.old.source }
+    ensures refusal { IfErr result (λ fault. fault ≡ PolarsError.OutOfMemory) }
+{
+    let mut marks = word;
+    while marks != 0 {
+        let at = start + marks.trailing_zeros() as usize;
+        kept.push(values.get(at))?;
+        marks &= marks - 1;
+    }
+    Ok(())
+}
+
+/// The bits of `values` where `mask` is true, in order, 56 at a time. Refuses only for want of memory, and then both have been read in
+/// part.
+pub fn filter_boolean_kernel_pext(
+    alloc: Global,
+    values: &mut U56Blocks<'_>,
+    mask: &mut U56Blocks<'_>,
+) -> PolarsResult<Bitmap>
+    requires values_unread { values.old.blocks_read ≡ 0 }
+    requires mask_unread { mask.old.blocks_read ≡ 0 }
+    requires long { length values.old.source.bits ≡ length mask.old.source.bits }
+    ensures bits { IfOk result (λ kept. kept.bits ≡ select values.old.source.bits mask.old.source.bits) }
+    ensures values_blocks { values.new.blocks_read ≤ (length values.old.source.bits + 55) / 56 }
+    ensures mask_blocks { mask.new.blocks_read ≤ (length mask.old.source.bits + 55) / 56 }
+    ensures values_source { values.new.source ≡ values.old.source }
+    ensures mask_source { mask.new.source ≡ mask.old.source }
+    ensures refusal { IfErr result (λ fault. fault ≡ PolarsError.OutOfMemory) }
+{
+    let room = mask.len();
+    keep_blocks(alloc, room, values, mask)
+}
+
+/// The same, with room for so many bits from the start.
+fn keep_blocks(
+    alloc: Global,
+    room: usize,
+    values: &mut U56Blocks<'_>,
+    mask: &mut U56Blocks<'_>,
+) -> PolarsResult<Bitmap>
+    requires values_unread { values.old.blocks_read ≡ 0 }
+    requires mask_unread { mask.old.blocks_read ≡ 0 }
+    requires long { length values.old.source.bits ≡ length mask.old.source.bits }
+    ensures bits { IfOk result (λ kept. kept.bits ≡ select values.old.source.bits mask.old.source.bits) }
+    ensures values_blocks { values.new.blocks_read ≤ (length values.old.source.bits + 55) / 56 }
+    ensures mask_blocks { mask.new.blocks_read ≤ (length mask.old.source.bits + 55) / 56 }
+    ensures values_source { values.new.source ≡ values.old.source }
+    ensures mask_source { mask.new.source ≡ mask.old.source }
+    ensures refusal { IfErr result (λ fault. fault ≡ PolarsError.OutOfMemory) }
+{
+    // (a bitmap has no more bits than a place can show)
+    let _whole = mask.len();
+    let mut kept = BitPacker::with_capacity(alloc, room)?;
+    let mut count = 0;
+    while let Some(marks) = mask.next() {
+        let block = values.next().unwrap();
+        append_kept(&mut kept, block, marks)?;
+        count += marks.count_ones() as usize;
+    }
+    kept.into_bitmap(count)
+}
+
+/// Puts the bits of `block` where `marks` has a set bit behind the others.
+fn append_kept(kept: &mut BitPacker, block: u64, marks: u64) -> PolarsResult<()>
+    requires block { block < 2 ^ 56 }
+    requires marks { marks < 2 ^ 56 }
+    ensures appended { OnOk result (kept.new ≡ kept.old ++ select (bits 56 block) (bits 56 marks)) }
+    ensures refusal { IfErr result (λ fault. fault ≡ PolarsError.OutOfMemory) }
+{
+    if marks == 0 {
+        return Ok(());
+    }
+    if marks == FULL_BLOCK {
+        return kept.append(block, 56);
+    }
+    let count = marks.count_ones();
+    kept.append(pext64_polyfill(block, marks, count), count)
+}

@@ -1,0 +1,8 @@
+//! What a mask keeps: of bits, of values, and of the bits of one word.
+#![tactic(auto)]
+
+mod block;
+pub mod boolean;
+mod pext;
+pub mod primitive;
+pub mod scalar;
