@@ -154,24 +154,8 @@ module _ (vs ms : Bits) (out : List Bool) (kept : ℕ) (values mask : BlockReadi
       counts = omega (arith, was.counts, counted, blocks_count vs.bits ms.bits was.lengths mask.blocks_read);
     }
 
--- before the first block nothing is kept
-pub kept_first : (values mask : BlockReading) → values.blocks_read ≡ 0 → mask.blocks_read ≡ 0 → length values.source.bits ≡ length mask.source.bits → IsKept values.source mask.source [] 0 values mask
-kept_first values mask unread unread_mask long = record {
-  values_source = refl;
-  mask_source = refl;
-  lengths = long;
-  in_step = unread ∙ sym unread_mask;
-  gives = sym (ap (λ n. select (take (56 * n) values.source.bits) (take (56 * n) mask.source.bits)) unread_mask);
-  counts = sym (ap (λ n. count_true (take (56 * n) mask.source.bits)) unread_mask);
-}
-
 -- behind the last one everything is
 pub kept_all : (vs ms : Bits) (out : List Bool) (kept : ℕ) (values mask : BlockReading) → IsKept vs ms out kept values mask → length mask.source.bits ≤ 56 * mask.blocks_read → out ≡ select vs.bits ms.bits
 kept_all vs ms out kept values mask was end =
     let past : length ms.bits ≤ 56 * mask.blocks_read = omega (arith, end, ap (λ (s : Bits). length s.bits) was.mask_source) in
     was.gives ∙ (λ i. select (take_all (56 * mask.blocks_read) vs.bits (omega (arith, past, was.lengths)) i) (take_all (56 * mask.blocks_read) ms.bits past i))
-
--- there is a block of values beside each one of the mask
-pub block_beside : (vs ms : Bits) (out : List Bool) (kept : ℕ) (values mask : BlockReading) → IsKept vs ms out kept values mask → 56 * mask.blocks_read < length mask.source.bits → 56 * values.blocks_read < length values.source.bits
-block_beside vs ms out kept values mask was more =
-    omega (arith, more, was.in_step, was.lengths, ap (λ (s : Bits). length s.bits) was.mask_source, ap (λ (s : Bits). length s.bits) was.values_source)

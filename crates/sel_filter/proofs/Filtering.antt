@@ -1,5 +1,5 @@
 -- What a filter keeps from word to word of its mask, over plain variables.
-use Rattle.std.proofs.Common.{◌≡◌, ℕ, ◌+◌, ◌-◌, ◌^◌, ◌<◌, ◌≤◌, ◌∙◌, sym, refl, ap, arith, List, [], ◌++◌, length, take, drop, replicate, Bool, false, append-nil}
+use Rattle.std.proofs.Common.{◌≡◌, ℕ, ◌+◌, ◌-◌, ◌^◌, ◌<◌, ◌≤◌, ◌∙◌, sym, ap, arith, List, ◌++◌, length, take, drop, replicate, Bool, false, append-nil}
 use Rattle.std.proofs.lemmas.List.{take-append-drop, take_all, length-take, length-drop}
 use Rattle.std.proofs.lemmas.List.Sums.{count_by-le-length}
 use Rattle.std.proofs.Math.Seq.{take-add}
@@ -39,10 +39,6 @@ module _ {A : Type 0} (vs : List A) (ms : List Bool) (at count : ℕ) (same : le
       ∙ select-append (take count (drop at vs)) part (drop count (drop at vs)) (replicate (length vs - at - length part) false) (long_values ∙ sym long)
       ∙ ap (λ l. select (take count (drop at vs)) part ++ l) (select_none (drop count (drop at vs)) (length vs - at - length part))
       ∙ append-nil (select (take count (drop at vs)) part)
-
-  pub word_bits : bits (length vs - at) (word_of (take count (drop at ms))) ≡ take count (drop at ms) ++ replicate (length vs - at - length (take count (drop at ms))) false
-  unfolding part
-  word_bits = padded
 
   pub word_counts : count_true (bits (length vs - at) (word_of (take count (drop at ms)))) ≡ count_true (take count (drop at ms))
   unfolding part
@@ -113,20 +109,6 @@ module _ (vs ms : Bits) (out : List Bool) (start : ℕ) (values : BitReading) (m
     gives = (λ i. was.gives i ++ marked_selects i) ∙ sym (select_more vs.bits ms.bits start count was.lengths within);
     reads = omega (arith, more-reads, was.reads, marked_counts, count_more vs.bits ms.bits start count was.lengths within);
   }
-
--- before the first word nothing is kept
-pub filtered_first : (values : BitReading) (mask : WordReading) → values.bits_read ≡ 0 → mask.words_read ≡ 0 → length values.source.bits ≡ length mask.source.bits → IsFiltered values.source mask.source [] 0 values mask
-filtered_first values mask unread unread_mask long = record {
-  values_source = refl;
-  mask_source = refl;
-  lengths = long;
-  here = omega (arith, unread_mask);
-  gives = sym (ap (λ l. select l (take 0 mask.source.bits)) take-zero);
-  reads = unread;
-}
-  where
-    take-zero : take 0 values.source.bits ≡ []
-    take-zero = refl
 
 -- behind the last one everything is
 module _ (vs ms : Bits) (out : List Bool) (start : ℕ) (values : BitReading) (mask : WordReading) (was : IsFiltered vs ms out start values mask) (end : reached mask ≡ length mask.source.bits) where

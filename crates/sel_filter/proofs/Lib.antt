@@ -1,10 +1,12 @@
 pub mod BlockSelects
+pub mod ByFours
 pub mod ByteWords
 pub mod Clears
 pub mod Dense
 pub mod Few
 pub mod Filtering
 pub mod Firsts
+pub mod FourBits
 pub mod Marking
 pub mod Ranks
 pub mod RoundState

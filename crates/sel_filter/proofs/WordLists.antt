@@ -1,5 +1,5 @@
 -- The bits of a word, as a list, from the list that it was made of.
-use Rattle.std.proofs.Common.{◌≡◌, ℕ, zero, suc, ◌-◌, ◌/◌, ◌^◌, ◌<◌, ◌≤◌, ◌∙◌, sym, refl, ap, arith, List, [], ◌∷◌, ◌++◌, length, replicate, Bool, true, false, cond}
+use Rattle.std.proofs.Common.{◌≡◌, ℕ, zero, suc, ◌+◌, ◌-◌, ◌*◌, ◌/◌, ◌^◌, ◌<◌, ◌≤◌, ◌∙◌, sym, refl, ap, arith, List, [], ◌∷◌, ◌++◌, length, replicate, Bool, true, false, cond}
 use Rattle.std.specs.Prelude.{count_ones, ◌==◌}
 use Rattle.std.specs.Int.{bit_at}
 use Rattle.std.proofs.Math.Nat.{pow-suc}
@@ -60,3 +60,9 @@ bits_of_ones (suc n) =
     let half : (2 ^ suc n - 1) / 2 ≡ 2 ^ n - 1 = omega (arith, pow-suc 2 n) in
     let low : bit_at (2 ^ suc n - 1) 0 ≡ 1 = omega (arith, bit_at_lowest (2 ^ suc n - 1), pow-suc 2 n, pow_pos n) in
     bits_suc n (2 ^ suc n - 1) ∙ ap (λ x. (x == 1) ∷ bits n ((2 ^ suc n - 1) / 2)) low ∙ ap (λ h. true ∷ bits n h) half ∙ ap (λ l. true ∷ l) (bits_of_ones n)
+
+-- the word of bits behind bits
+pub word_of-append : (a b : List Bool) → word_of (a ++ b) ≡ word_of b * 2 ^ length a + word_of a
+word_of-append [] b = omega arith
+word_of-append (true ∷ a) b = omega (arith, word_of-append a b, ap (λ p. word_of b * p) (pow-suc 2 (length a)))
+word_of-append (false ∷ a) b = omega (arith, word_of-append a b, ap (λ p. word_of b * p) (pow-suc 2 (length a)))

@@ -5,6 +5,7 @@ ghost use Rattle.sel_bits.specs.Bits.{count_true};
 ghost use Rattle.sel_bits.specs.Words.{bits};
 ghost use Rattle.sel_filter.specs.Select.{select};
 
+use crate::nibbles::compress_by_fours;
 pub use crate::pext::{pext64_polyfill, pext64_rounds};
 use sel_bits::aligned_words::AlignedWords;
 use sel_bits::bitmap::Bitmap;
@@ -181,6 +182,5 @@ fn append_kept(kept: &mut BitPacker, block: u64, marks: u64) -> PolarsResult<()>
     if marks == FULL_BLOCK {
         return kept.append(block, 56);
     }
-    let count = marks.count_ones();
-    kept.append(pext64_polyfill(block, marks, count), count)
+    kept.append(compress_by_fours(block, marks), marks.count_ones())
 }

@@ -3,6 +3,7 @@
 
 mod block;
 pub mod boolean;
+mod nibbles;
 mod pext;
 pub mod primitive;
 pub mod scalar;

@@ -15,9 +15,9 @@ pub append-requires-2-clause-count : goal.append-requires-2-clause-count
 append-requires-2-clause-count c = few_ones c.args.block c.args.marks c.requires.block c.requires.marks
 
 pub append-requires-2-clause-fits : goal.append-requires-2-clause-fits
-append-requires-2-clause-fits c = rw c.pext64_polyfill.ensures (compress_fits c.args.block c.args.marks c.requires.block c.requires.marks)
+append-requires-2-clause-fits c = rw c.compress_by_fours.ensures (compress_fits c.args.block c.args.marks c.requires.block c.requires.marks)
 
 pub returns-clause-appended : goal.returns-clause-appended
 returns-clause-appended c =
-    let same = ap (bits (count_ones c.args.marks)) c.pext64_polyfill.ensures ∙ compress_bits c.args.block c.args.marks c.requires.block c.requires.marks in
+    let same = ap (bits (count_ones c.args.marks)) c.compress_by_fours.ensures ∙ compress_bits c.args.block c.args.marks c.requires.block c.requires.marks in
     subst (λ (l : List Bool). OnOk c.append-2.result (c.append-2.new.self ≡ c.args.kept.now ++ l)) same c.append-2.ensures.appended

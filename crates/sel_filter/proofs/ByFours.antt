@@ -1,0 +1,93 @@
+-- Four bits of a word under another, and then the next four.
+use Rattle.std.proofs.Common.{◌≡◌, ℕ, ◌+◌, ◌*◌, ◌/◌, ◌%◌, ◌^◌, ◌<◌, ◌≤◌, List, [], Bool, ◌++◌, length, get_or, ap, sym, ◌∙◌, arith, length-append}
+use Rattle.std.specs.Prelude.{bit_or, count_ones}
+use Rattle.std.proofs.Math.Nat.{div-one}
+use Rattle.std.proofs.lemmas.Nat.{shl_whole, shr-shr, or_comm, or_shifted}
+use lib.Pow.{pow_mono}
+use Rattle.sel_bits.specs.Words.{bits, word_of}
+use Rattle.sel_bits.proofs.Lists.{bits_zero}
+use Rattle.sel_bits.proofs.Packs.{length_bits, bits_same, bits_split}
+use Rattle.sel_bits.proofs.Padded.{word_of_lt}
+use Rattle.sel_bits.proofs.Shifts.{bit_at_mod}
+use Rattle.sel_filter.specs.Select.{select}
+use Rattle.sel_filter.specs.Compress.{compress}
+use Rattle.sel_filter.specs.declared.nibbles.TheConstants.{NIBBLES}
+use Rattle.sel_filter.proofs.Selects.{select-append, few_kept}
+use Rattle.sel_filter.proofs.WordLists.{word_of-append}
+use Rattle.sel_filter.proofs.FourBits.{kept_four, entry_is, count_is}
+
+-- the bits of v that are kept of the first n
+abbrev pub kept_bits : ℕ → ℕ → ℕ → List Bool
+kept_bits v m n = select (bits n v) (bits n m)
+
+pub few_bits : (v m n : ℕ) → length (kept_bits v m n) ≤ n
+few_bits v m n = omega (arith, few_kept (bits n v) (bits n m), length_bits n v)
+
+-- what is left of both words after i rounds, the word so far, and how many bits it has
+pub record IsPacked (v m i values mask packed place : ℕ) : Type 0 where
+  pub values-left : values ≡ v / 2 ^ (4 * i)
+  pub mask-left : mask ≡ m / 2 ^ (4 * i)
+  pub word : packed ≡ word_of (kept_bits v m (4 * i))
+  pub count : place ≡ length (kept_bits v m (4 * i))
+
+pub packed_first : (v m : ℕ) → IsPacked v m 0 v m 0 0
+packed_first v m = record {
+  values-left = sym (div-one v);
+  mask-left = sym (div-one m);
+  word = ap word_of none;
+  count = ap (λ (l : List Bool). length l) none;
+}
+  where
+    none : [] ≡ kept_bits v m 0
+    none = (λ j. select (sym (bits_zero v) j) (sym (bits_zero m) j))
+
+four_bits : (x : ℕ) → bits 4 (x % 16) ≡ bits 4 x
+four_bits x = bits_same 4 (x % 16) x (λ i lt. bit_at_mod x 4 i lt)
+
+module _ (v m i values mask packed place : ℕ) (below : i < 16) (was : IsPacked v m i values mask packed place) where
+  abbrev pub four : List Bool
+  four = kept_four (values % 16) (mask % 16)
+
+  pub grown : kept_bits v m (4 * (i + 1)) ≡ kept_bits v m (4 * i) ++ four
+  grown =
+      let e : 4 * (i + 1) ≡ 4 * i + 4 = omega arith in
+      ap (kept_bits v m) e
+      ∙ (λ j. select (split v values was.values-left j) (split m mask was.mask-left j))
+      ∙ select-append (bits (4 * i) v) (bits (4 * i) m) (bits 4 (values % 16)) (bits 4 (mask % 16)) (length_bits (4 * i) v ∙ sym (length_bits (4 * i) m))
+    where
+      split : (x left : ℕ) → left ≡ x / 2 ^ (4 * i) → bits (4 * i + 4) x ≡ bits (4 * i) x ++ bits 4 (left % 16)
+      split x left is = bits_split (4 * i) 4 x ∙ ap (λ l. bits (4 * i) x ++ l) (ap (bits 4) (sym is) ∙ sym (four_bits left))
+
+  pub place_few : place < 64
+  place_few = omega (arith, was.count, few_bits v m (4 * i))
+
+  pub packed_next : IsPacked v m (i + 1) (values / 16) (mask / 16) (bit_or packed (get_or NIBBLES (16 * (mask % 16) + values % 16) 0 * 2 ^ place % 2 ^ 64)) (place + count_ones (mask % 16))
+  packed_next = record {
+    values-left = left v values was.values-left;
+    mask-left = left m mask was.mask-left;
+    word = ap (λ t. bit_or packed (t * 2 ^ place % 2 ^ 64)) entry
+        ∙ ap (bit_or packed) (shl_whole (word_of four) 4 place 64 small (omega (arith, was.count, few_bits v m (4 * i))))
+        ∙ or_comm packed (word_of four * 2 ^ place)
+        ∙ or_shifted (word_of four) place packed fits
+        ∙ (λ j. word_of four * 2 ^ was.count j + was.word j)
+        ∙ sym (ap word_of grown ∙ word_of-append (kept_bits v m (4 * i)) four);
+    count = omega (arith, was.count, count_is (values % 16) (mask % 16) (omega arith) (omega arith), ap (λ (l : List Bool). length l) grown, length-append (kept_bits v m (4 * i)) four);
+  }
+    where
+      left : (x now : ℕ) → now ≡ x / 2 ^ (4 * i) → now / 16 ≡ x / 2 ^ (4 * (i + 1))
+      left x now is = let e : 4 * i + 4 ≡ 4 * (i + 1) = omega arith in ap (λ n. n / 16) is ∙ shr-shr x (4 * i) 4 ∙ ap (λ n. x / 2 ^ n) e
+
+      entry : get_or NIBBLES (16 * (mask % 16) + values % 16) 0 ≡ word_of four
+      entry = entry_is (values % 16) (mask % 16) (omega arith) (omega arith)
+
+      small : word_of four < 2 ^ 4
+      small =
+          let up : 2 ^ length four ≤ 2 ^ 4 = pow_mono {j = 4} (omega (arith, few_bits (values % 16) (mask % 16) 4)) in
+          omega (arith, word_of_lt four, up)
+
+      fits : packed < 2 ^ place
+      fits = rw (was.word, was.count) (word_of_lt (kept_bits v m (4 * i)))
+
+pub packed_last : (v m values mask packed place : ℕ) → IsPacked v m 16 values mask packed place → packed ≡ compress v m
+unfolding compress
+packed_last v m values mask packed place was = was.word
