@@ -8,4 +8,6 @@ mod made;
 #[cfg(test)]
 mod readers;
 #[cfg(test)]
+mod values;
+#[cfg(test)]
 mod words;

@@ -2,6 +2,7 @@
 use Rattle.std.specs.Prelude.{◌≡◌, ℕ, ◌+◌, ◌*◌, ◌<◌, pos, negsuc, Bool, true, false, ◌&&◌, nat_le, List, length, take, drop, replicate, ◌++◌, slice_index_or, is_none, ◌⊎◌}
 use Rattle.std.specs.List.{flat_map, list_all, slice_range}
 use Rattle.sel_bits.specs.Copying.{Copying}
+pub use Rattle.sel_bits.specs.Copying.{IsBeginning}
 use Rattle.sel_bits.specs.declared.faults.Limit.{Limit}
 use Rattle.sel_arrow.specs.Shape.{Shape, of_fixed_size_list}
 use Rattle.sel_arrow.specs.Value.{Value, Null, Number}
@@ -27,10 +28,6 @@ is_block_within size n _ = true
 -- each index that is not null names a block of n entries (own)
 abbrev pub blocks_within : ℕ → ℕ → List Value → Bool
 blocks_within size n indices = list_all (is_block_within size n) indices
-
--- a list is the beginning of another (own)
-abbrev pub IsBeginning : {A : Type 0} → List A → List A → Type 0
-IsBeginning xs ys = xs ≡ take (length xs) ys
 
 -- with the block at an index behind the others (own)
 abbrev pub after_block : {A : Type 0} → ℕ → A → Copying A → Value → Copying A

@@ -1,6 +1,8 @@
 pub mod BlockSelects
 pub mod ByFours
+pub mod ByteWords
 pub mod Clears
+pub mod Dense
 pub mod Few
 pub mod Filtering
 pub mod Firsts
@@ -9,9 +11,12 @@ pub mod Marking
 pub mod Ranks
 pub mod RoundState
 pub mod Rounds
+pub mod RunFiltering
+pub mod Running
 pub mod Scalars
 pub mod Selects
 pub mod Shortcuts
 pub mod Single
 pub mod Spots
 pub mod WordLists
+pub mod WordRuns

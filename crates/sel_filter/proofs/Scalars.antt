@@ -10,24 +10,6 @@ use Rattle.sel_bits.proofs.BitLists.{length_bits_from, get_bits_from}
 use Rattle.sel_bits.proofs.Shifts.{bit_at_shr}
 use Rattle.sel_filter.specs.Scalar.{up_to_boundary}
 
--- ---- how many are left to keep
-
--- a bit that is true is one of those that are left
-pub one_left : (bits : List Bool) (i : ℕ) → i < length bits → get_or bits i false ≡ true → count_true (drop i bits) ≡ count_true (drop (i + 1) bits) + 1
-one_left bits i inside bit =
-    let cut : drop i bits ≡ true ∷ drop (i + 1) bits = rw (add-one) (drop-cons bits i false inside ∙ ap (λ b. b ∷ drop (suc i) bits) bit) in
-    ap count_true cut ∙ sum_by-cons (λ b. cond b 1 0) true (drop (i + 1) bits) ∙ omega arith
-
--- another is not
-pub none_left : (bits : List Bool) (i : ℕ) → i < length bits → get_or bits i false ≡ false → count_true (drop i bits) ≡ count_true (drop (i + 1) bits)
-none_left bits i inside bit =
-    let cut : drop i bits ≡ false ∷ drop (i + 1) bits = rw (add-one) (drop-cons bits i false inside ∙ ap (λ b. b ∷ drop (suc i) bits) bit) in
-    ap count_true cut ∙ sum_by-cons (λ b. cond b 1 0) false (drop (i + 1) bits) ∙ omega arith
-
--- bit i of the bytes is entry i of their bits
-pub bit_of : (bytes : List ℕ) (n i : ℕ) → i < n → bit_in bytes i ≡ get_or (bits_from bytes 0 n) i false
-bit_of bytes n i inside = let e : 0 + i ≡ i = omega arith in ap (bit_in bytes) (sym e) ∙ sym (get_bits_from bytes 0 n i false inside)
-
 -- ---- the first byte
 
 abbrev first_byte : List ℕ → ℕ → List ℕ

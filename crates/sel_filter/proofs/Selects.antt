@@ -6,34 +6,6 @@ use Rattle.std.proofs.lemmas.List.Sums.{sum_by-cons, sum_by-append, count_by-le-
 use Rattle.sel_bits.specs.Bits.{count_true}
 use Rattle.sel_filter.specs.Select.{select}
 
--- ---- one step of a selection
-
-pub select_kept : {A : Type 0} → (xs : List A) (ms : List Bool) (i : ℕ) (x : A) → i < length xs → i < length ms → get_or ms i false ≡ true → x ≡ get_or xs i x
-    → select (drop i xs) (drop i ms) ≡ x ∷ select (drop (i + 1) xs) (drop (i + 1) ms)
-select_kept xs ms i x h below e is = rw (add-one, drop-cons xs i x h, drop-cons ms i false below, e, ← is) refl
-
-pub select_dropped : {A : Type 0} → (xs : List A) (ms : List Bool) (i : ℕ) (x : A) → i < length xs → i < length ms → get_or ms i false ≡ false
-    → select (drop i xs) (drop i ms) ≡ select (drop (i + 1) xs) (drop (i + 1) ms)
-select_dropped xs ms i x h below e = rw (add-one, drop-cons xs i x h, drop-cons ms i false below, e) refl
-
--- one element more is kept
-pub kept_more : {A : Type 0} → (xs : List A) (ms : List Bool) (i : ℕ) (x d : A) (kept all : List A) → i < length xs → i < length ms → get_or ms i false ≡ true → x ≡ get_or xs i d
-    → kept ++ select (drop i xs) (drop i ms) ≡ all → (kept ++ x ∷ []) ++ select (drop (i + 1) xs) (drop (i + 1) ms) ≡ all
-kept_more xs ms i x d kept all h below e is before =
-    append_assoc kept (x ∷ []) (select (drop (i + 1) xs) (drop (i + 1) ms))
-    ∙ ap (λ l. kept ++ l) (sym (select_kept xs ms i x h below e (is ∙ get_or_default xs i d x h))) ∙ before
-
--- one is passed over
-pub kept_same : {A : Type 0} → (xs : List A) (ms : List Bool) (i : ℕ) (d : A) (kept all : List A) → i < length xs → i < length ms → get_or ms i false ≡ false
-    → kept ++ select (drop i xs) (drop i ms) ≡ all → kept ++ select (drop (i + 1) xs) (drop (i + 1) ms) ≡ all
-kept_same xs ms i d kept all h below e before =
-    ap (λ l. kept ++ l) (sym (select_dropped xs ms i d h below e)) ∙ before
-
--- past the end all is kept that is
-pub kept_all : {A : Type 0} → (xs : List A) (ms : List Bool) (i : ℕ) (kept all : List A) → length xs ≤ i → kept ++ select (drop i xs) (drop i ms) ≡ all → kept ≡ all
-kept_all xs ms i kept all past before =
-    sym (append-nil kept) ∙ ap (λ l. kept ++ select l (drop i ms)) (sym (drop_all i xs past)) ∙ before
-
 -- ---- how many are kept
 
 pub length-select : {A : Type 0} → (xs : List A) (ms : List Bool) → length xs ≡ length ms → length (select xs ms) ≡ count_by (λ b. b) ms
@@ -61,8 +33,6 @@ as_many_kept (x ∷ xs) [] ms h = absurd (omega arith)
 as_many_kept (x ∷ xs) (y ∷ ys) [] h = refl
 as_many_kept (x ∷ xs) (y ∷ ys) (true ∷ ms) h = ap suc (as_many_kept xs ys ms (omega arith))
 as_many_kept (x ∷ xs) (y ∷ ys) (false ∷ ms) h = as_many_kept xs ys ms (omega arith)
-
-pub ruleset select_steps = (select_kept, select_dropped, length-select)
 
 -- where each row is kept, they all are
 pub all_kept : {A : Type 0} → (xs : List A) (ms : List Bool) → length xs ≡ length ms → count_by (λ b. b) ms ≡ length ms → select xs ms ≡ xs

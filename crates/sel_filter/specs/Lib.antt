@@ -1,3 +1,4 @@
 pub mod Compress
+pub mod Runs
 pub mod Scalar
 pub mod Select

@@ -1,24 +1,143 @@
 //! Values that a mask keeps.
 
-ghost use Rattle.std.specs.Prelude.{◌≡◌, length, IfOk, IfErr};
+ghost use Rattle.std.specs.Prelude.{◌≡◌, ◌+◌, ◌-◌, ◌/◌, ◌^◌, ◌<◌, ◌≤◌, ◌++◌, length, drop, false, IfOk, IfErr, OnOk};
+ghost use Rattle.sel_bits.specs.Copying.{IsBeginning};
+ghost use Rattle.sel_bits.specs.Words.{bits};
+ghost use Rattle.sel_filter.specs.Runs.{run_starts, starts_after};
 ghost use Rattle.sel_filter.specs.Select.{select};
 
+use crate::block::filter_block;
+use sel_bits::aligned_words::AlignedWords;
 use sel_bits::bitmap::Bitmap;
+use sel_bits::block_copy::BlockCopy;
 use sel_bits::faults::{PolarsError, PolarsResult};
 use std::alloc::Global;
 
+/// Kept values are copied run by run where a run has so many of them on average.
+const LONG_RUN: usize = 32;
+
 /// The values where the mask is true, in order. Refuses only for want of memory.
-#[tactic(auto, using(crate::proofs::Selects::select_steps))]
 pub fn filter_values<T: Copy>(alloc: Global, values: &[T], mask: &Bitmap) -> PolarsResult<Vec<T>>
     requires { length values.now ≡ length mask.now.bits }
     ensures items { IfOk result (λ kept. kept.items ≡ select values.now mask.now.bits) }
     ensures refusal { IfErr result (λ fault. fault ≡ PolarsError.OutOfMemory) }
 {
-    let mut kept = Vec::with_capacity(alloc, mask.set_bits())?;
-    for (i, value) in values.iter().enumerate() {
-        if mask.get_bit(i) {
-            kept.push(*value)?;
-        }
+    let count = mask.set_bits();
+    if count / LONG_RUN >= count_runs(mask) {
+        return filter_by_runs(alloc, values, mask, count);
+    }
+    filter_by_blocks(alloc, values, mask, count)
+}
+
+/// How many runs of true bits there are, each cut where words of the mask meet. Only speed rests on it.
+fn count_runs(mask: &Bitmap) -> usize {
+    let mut words = AlignedWords::new(mask);
+    let mut runs: usize = 0;
+    while let Some((word, _)) = words.next() {
+        runs = runs.saturating_add((word & !(word << 1)).count_ones() as usize);
+    }
+    runs
+}
+
+/// The values where the mask is true, each run of them by one copy, with room for `count`.
+fn filter_by_runs<T: Copy>(
+    alloc: Global,
+    values: &[T],
+    mask: &Bitmap,
+    count: usize,
+) -> PolarsResult<Vec<T>>
+    requires { length values.now ≡ length mask.now.bits }
+    ensures items { IfOk result (λ kept. kept.items ≡ select values.now mask.now.bits) }
+    ensures refusal { IfErr result (λ fault. fault ≡ PolarsError.OutOfMemory) }
+{
+    let mut out = BlockCopy::new(alloc, values);
+    out.reserve(count)?;
+    let mut words = AlignedWords::new(mask);
+    filter_runs(&mut out, &mut words)?;
+    Ok(out.into_vec())
+}
+
+/// The values where the mask is true, one block for each word of the mask, with room for `count`, and for a block that is
+/// put behind them before its values are moved together.
+fn filter_by_blocks<T: Copy>(
+    alloc: Global,
+    values: &[T],
+    mask: &Bitmap,
+    count: usize,
+) -> PolarsResult<Vec<T>>
+    requires { length values.now ≡ length mask.now.bits }
+    ensures items { IfOk result (λ kept. kept.items ≡ select values.now mask.now.bits) }
+    ensures refusal { IfErr result (λ fault. fault ≡ PolarsError.OutOfMemory) }
+{
+    let mut kept = Vec::with_capacity(alloc, count.saturating_add(64))?;
+    let mut words = AlignedWords::new(mask);
+    let mut at = 0;
+    while let Some((word, len)) = words.next() {
+        filter_block(&values[at..at + len], word, &mut kept)?;
+        at += len;
     }
     Ok(kept)
+}
+
+/// Puts the items of the source where the mask is true behind the others, each run of them by one copy; a run that crosses
+/// words is cut there. The reader is read to its end.
+///
+/// Refuses only for want of memory, and then the items are a beginning of that.
+pub fn filter_runs<T: Copy>(
+    out: &mut BlockCopy<'_, T>,
+    mask: &mut AlignedWords<'_>,
+) -> PolarsResult<()>
+    requires fresh { out.old.copies ≡ 0 }
+    requires unread { mask.old.words_read ≡ 0 }
+    requires lengths { length out.old.source ≡ length mask.old.source.bits }
+    ensures items { OnOk result
+        (out.new.items ≡ out.old.items ++ select out.old.source mask.old.source.bits) }
+    ensures words { mask.new.words_read ≤ length mask.old.source.bits / 64 + 2 }
+    ensures copies { OnOk result
+        (out.new.copies ≤ mask.new.words_read + run_starts mask.old.source.bits) }
+    ensures source { out.new.source ≡ out.old.source }
+    ensures mask_source { mask.new.source ≡ mask.old.source }
+    ensures beginning { IsBeginning out.new.items
+        (out.old.items ++ select out.old.source mask.old.source.bits) }
+    ensures refusal { IfErr result (λ fault. fault ≡ PolarsError.OutOfMemory) }
+{
+    // (a bitmap has no more bits than a place can show)
+    let _whole = mask.len();
+    let mut start = 0;
+    while let Some((word, count)) = mask.next() {
+        copy_runs(out, start, word)?;
+        start += count;
+    }
+    Ok(())
+}
+
+/// Puts the items at the set bits of a word behind the others, each run of them by one copy; its lowest bit is that of item
+/// `start`.
+fn copy_runs<T: Copy>(out: &mut BlockCopy<'_, T>, start: usize, word: u64) -> PolarsResult<()>
+    requires fits { length out.old.source < 2 ^ 64 }
+    requires start { start ≤ length out.old.source }
+    requires within { word < 2 ^ (length out.old.source - start) }
+    requires counted { out.old.copies + starts_after false (bits (length out.old.source - start) word) < 2 ^ 64 }
+    ensures appended { OnOk result
+        (out.new.items
+        ≡ out.old.items ++ select (drop start out.old.source) (bits (length out.old.source - start) word)) }
+    ensures source { out.new.source ≡ out.old.source }
+    ensures counted { OnOk result
+        (out.new.copies
+        ≡ out.old.copies + starts_after false (bits (length out.old.source - start) word)) }
+    ensures beginning { IsBeginning out.new.items
+        (out.old.items ++ select (drop start out.old.source) (bits (length out.old.source - start) word)) }
+    ensures refusal { IfErr result (λ fault. fault ≡ PolarsError.OutOfMemory) }
+{
+    let mut at = start;
+    let mut rest = word;
+    while rest != 0 {
+        let skip = rest.trailing_zeros();
+        let run = (rest >> skip).trailing_ones();
+        at += skip as usize;
+        out.copy(at, run as usize)?;
+        at += run as usize;
+        rest = ((rest >> skip) >> (run - 1)) >> 1;
+    }
+    Ok(())
 }

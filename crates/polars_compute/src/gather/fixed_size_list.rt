@@ -30,10 +30,11 @@ pub fn take_blocks<T: Copy>(
     zero: T,
 ) -> PolarsResult<()>
     requires fresh { out.old.copies ≡ 0 }
-    requires inside { IsTrue (blocks_within size
-        (length out.old.source) (primitive_rows indices.now)) }
-    ensures items { OnOk result (out.new.items ≡
-        out.old.items ++ block_items size zero out.old.source (primitive_rows indices.now)) }
+    requires inside { IsTrue
+        (blocks_within size (length out.old.source) (primitive_rows indices.now)) }
+    ensures items { OnOk result
+        (out.new.items
+        ≡ out.old.items ++ block_items size zero out.old.source (primitive_rows indices.now)) }
     ensures copies { OnOk result (out.new.copies ≡ length (primitive_rows indices.now)) }
     ensures source { out.new.source ≡ out.old.source }
     ensures beginning { IsBeginning out.new.items
@@ -60,10 +61,10 @@ fn take_block<T: Copy>(
     index: Option<u32>,
     zero: T,
 ) -> PolarsResult<()>
-    requires inside { IsTrue (is_block_within size
-        (length out.old.source) (number_value pos index)) }
+    requires inside { IsTrue
+        (is_block_within size (length out.old.source) (number_value pos index)) }
     requires short { length out.old.source < 2 ^ 64 }
-    requires countable { out.old.copies + 1 < 2 ^ 64 }
+    requires countable { out.old.copies ≤ 4294967295 }
     ensures block { OnOk result (out.new ≡ after_block size zero out.old (number_value pos index)) }
     ensures unchanged { IfErr result (λ _. out.new ≡ out.old) }
     ensures refusal { IfErr result (λ fault. fault ≡ PolarsError.OutOfMemory) }
@@ -119,11 +120,13 @@ pub(crate) fn take_unchecked(
     requires formed { IsWellFormed values.now }
     requires bare { IsTrue (holds_bare values.now) }
     requires inside { IsTrue (all_within (length (rows values.now)) (primitive_rows indices.now)) }
-    ensures rows { IfOk result (λ taken. rows taken.column ≡
-        take_rows (rows values.now) (primitive_rows indices.now)) }
+    ensures rows { IfOk result
+        (λ taken. rows taken.column ≡ take_rows (rows values.now) (primitive_rows indices.now)) }
     ensures dtype { IfOk result (λ taken. type_of taken.column ≡ type_of values.now) }
-    ensures refusal { IfErr result (IsRefusal
-        (past (type_of values.now) (take_rows (rows values.now) (primitive_rows indices.now)))) }
+    ensures refusal { IfErr result
+        (IsRefusal
+        (past (type_of values.now)
+        (take_rows (rows values.now) (primitive_rows indices.now)))) }
 {
     let Column::FixedSizeList {
         size,
@@ -179,13 +182,13 @@ fn take_level(
 ) -> PolarsResult<Column>
     requires formed { IsWellFormed column.now }
     requires bare { IsTrue (is_bare column.now) }
-    requires inside { IsTrue (blocks_within size
-        (row_count column.now) (primitive_rows indices.now)) }
+    requires inside { IsTrue
+        (blocks_within size (row_count column.now) (primitive_rows indices.now)) }
     requires some { 0 < length (primitive_rows indices.now) }
     requires count { count ≡ length (primitive_rows indices.now) * size }
     requires few { count ≤ 4294967295 }
-    ensures blocks { IfOk result (λ taken. HoldsBlocks size
-        (rows column.now) (primitive_rows indices.now) (rows taken)) }
+    ensures blocks { IfOk result
+        (λ taken. HoldsBlocks size (rows column.now) (primitive_rows indices.now) (rows taken)) }
     ensures count { IfOk result (λ taken. row_count taken ≡ count) }
     ensures dtype { IfOk result (λ taken. type_of taken ≡ type_of column.now) }
     ensures formed { IfOk result (λ taken. IsWellFormed taken) }
@@ -230,13 +233,15 @@ fn take_leaf<T: ArrowPrimitive>(
     indices: &IdxArr,
 ) -> PolarsResult<Column>
     requires bare { numbers.now.validity ≡ None }
-    requires inside { IsTrue (blocks_within size
-        (length (primitive_rows numbers.now)) (primitive_rows indices.now)) }
+    requires inside { IsTrue
+        (blocks_within size (length (primitive_rows numbers.now)) (primitive_rows indices.now)) }
     requires few { length (primitive_rows indices.now) * size ≤ 4294967295 }
-    ensures blocks { IfOk result (λ taken. HoldsBlocks size
-        (primitive_rows numbers.now) (primitive_rows indices.now) (rows taken)) }
-    ensures count { IfOk result (λ taken. row_count taken ≡
-        length (primitive_rows indices.now) * size) }
+    ensures blocks { IfOk result
+        (λ taken.
+        HoldsBlocks size (primitive_rows numbers.now) (primitive_rows indices.now)
+        (rows taken)) }
+    ensures count { IfOk result
+        (λ taken. row_count taken ≡ length (primitive_rows indices.now) * size) }
     ensures dtype { IfOk result (λ taken. type_of taken ≡ T.shape) }
     ensures formed { IfOk result (λ taken. IsWellFormed taken) }
     ensures refusal { IfErr result (λ fault. fault ≡ PolarsError.OutOfMemory) }

@@ -1,0 +1,186 @@
+-- What the bits of a word keep of a block.
+use Rattle.std.proofs.Common.{◌≡◌, ℕ, zero, suc, ◌+◌, ◌-◌, ◌/◌, ◌%◌, ◌^◌, ◌<◌, ◌≤◌, ◌∙◌, sym, refl, ap, arith, List, [], ◌∷◌, ◌++◌, length, take, drop, get_or, set, Bool, true, false, cond, add-zero, zero-add, append-nil, ⊎_elim, append_assoc, subst}
+use Rattle.std.specs.Prelude.{bit_and, count_ones, ◌==◌}
+use Rattle.std.specs.Int.{bit_at, trailing_zeros, w64}
+use Rattle.std.specs.Int.Bits.{and_step, and_self}
+use Rattle.std.specs.Int.Count.{count_trailing_zeros, ones, under}
+use Rattle.std.proofs.Math.Nat.{pow-suc}
+use Rattle.std.proofs.lemmas.Bool.{cases_lt}
+use Rattle.std.proofs.lemmas.Nat.{pow_pos}
+use Rattle.std.proofs.Math.Seq.{take-add, take-append-add, take-append_seam}
+use Rattle.std.proofs.lemmas.Nat.Bits.{bit_at-lt, bit_at_lowest, shr_and_one}
+use Rattle.std.proofs.lemmas.List.{same_lists, length-take, length-drop, take-set, take_more, take_more_set, length-set, take-take, take-append-le, take_all, nil_from_length, get_or_default}
+use Rattle.sel_bits.specs.Bits.{Bits, count_true}
+use Rattle.sel_bits.specs.Reading.{WordReading, reached, next_bits, next_count}
+use Rattle.sel_bits.specs.Words.{is_set, bits, word_of}
+use Rattle.sel_bits.proofs.Lists.{bits_suc, bits_zero}
+use Rattle.sel_bits.proofs.Packs.{length_bits, get_bits, bits_split}
+use Rattle.sel_bits.proofs.Padded.{bit_at_word_of, word_of_lt}
+use Rattle.sel_bits.proofs.Shifts.{bit_at_shr}
+use Rattle.sel_filter.specs.Select.{select}
+use Rattle.sel_filter.proofs.Selects.{all_kept, length-select, select-append}
+use Rattle.sel_filter.proofs.WordLists.{ones_is}
+
+-- ---- words of bits
+
+test_of_cond : (b : Bool) → (cond b 1 0 == 1) ≡ b
+test_of_cond true = refl
+test_of_cond false = refl
+
+-- the word of a list has the list's bits
+pub bits_of_word : (l : List Bool) → bits (length l) (word_of l) ≡ l
+bits_of_word l =
+    same_lists (bits (length l) (word_of l)) l (length_bits (length l) (word_of l))
+    (λ i d lt.
+    let low : i < length l = omega (arith, length_bits (length l) (word_of l), lt) in
+    get_bits (length l) (word_of l) i d low ∙ ap (λ x. x == 1) (bit_at_word_of l i) ∙ test_of_cond (get_or l i false) ∙ sym (get_or_default l i d false low))
+
+-- as many as there are set bits
+kept_count : {A : Type 0} → (xs : List A) (m : ℕ) → m < 2 ^ length xs → length (select xs (bits (length xs) m)) ≡ count_ones m
+kept_count xs m fits = length-select xs (bits (length xs) m) (sym (length_bits (length xs) m)) ∙ sym (ones_is (length xs) m fits)
+
+pub none_more : {A : Type 0} → (xs kept : List A) (m : ℕ) → m ≡ 0 → kept ≡ kept ++ select xs (bits (length xs) m)
+unfolding ones
+none_more xs kept m none =
+    let empty = kept_count xs m (omega (arith, pow_pos (length xs))) ∙ ap count_ones none in
+    sym (append-nil kept) ∙ ap (λ l. kept ++ l) (sym (nil_from_length (select xs (bits (length xs) m)) empty))
+
+pub all_set : {A : Type 0} → (xs : List A) (m : ℕ) → m < 2 ^ length xs → count_ones m ≡ length xs → select xs (bits (length xs) m) ≡ xs
+all_set xs m fits all = all_kept xs (bits (length xs) m) (sym (length_bits (length xs) m)) (sym (ones_is (length xs) m fits) ∙ all ∙ sym (length_bits (length xs) m))
+
+-- ---- the lowest set bit
+
+bits_first : (n w b half : ℕ) → w % 2 ≡ b → w / 2 ≡ half → bits (suc n) w ≡ (b == 1) ∷ bits n half
+bits_first n w b half low rest = bits_suc n w ∙ (λ i. ((bit_at_lowest w ∙ low) i == 1) ∷ bits n (rest i))
+
+-- the value at the lowest set bit is the first that is kept; the others are those of the other bits
+abbrev pub LowestKept : {A : Type 0} → List A → ℕ → ℕ → A → Type 0
+LowestKept xs t m d = (t < length xs) × (select xs (bits (length xs) m) ≡ get_or xs t d ∷ select xs (bits (length xs) (bit_and m (m - 1))))
+
+lowest_kept : {A : Type 0} → (xs : List A) (k m : ℕ) (d : A) → 0 < m → m < 2 ^ length xs → length xs ≤ k → LowestKept xs (count_trailing_zeros k m) m d
+unfolding count_trailing_zeros
+lowest_kept [] k m d some fits le = absurd (omega arith)
+lowest_kept (x ∷ xs) zero m d some fits le = absurd (omega arith)
+lowest_kept {A} (x ∷ xs) (suc k) m d some fits le =
+    let n = length xs in
+    let step = and_step m (m - 1) in
+    ⊎_elim
+    (λ (even : m % 2 < 1).
+    let none : m % 2 ≡ 0 = omega arith in
+    let half : (m - 1) / 2 ≡ m / 2 - 1 = omega arith in
+    let h = lowest_kept xs k (m / 2) d (omega arith) (omega (arith, pow-suc 2 n)) (omega arith) in
+    let place : suc (count_trailing_zeros k (m / 2)) ≡ count_trailing_zeros (suc k) m = ap (λ p. under p (count_trailing_zeros k (m / 2))) (sym none) in
+    let rest = bits_first n (bit_and m (m - 1)) 0 (bit_and (m / 2) (m / 2 - 1)) (omega (arith, step)) (omega (arith, step, ap (bit_and (m / 2)) half)) in
+    subst (λ t. LowestKept (x ∷ xs) t m d) place (omega (arith, h.0), ap (select (x ∷ xs)) (bits_first n m 0 (m / 2) none refl) ∙ h.1 ∙ ap (λ l. get_or xs (count_trailing_zeros k (m / 2)) d ∷ l) (sym (ap (select (x ∷ xs)) rest))))
+    (λ (odd : 1 ≤ m % 2).
+    let one : m % 2 ≡ 1 = omega arith in
+    let half : (m - 1) / 2 ≡ m / 2 = omega arith in
+    let place : 0 ≡ count_trailing_zeros (suc k) m = ap (λ p. under p (count_trailing_zeros k (m / 2))) (sym one) in
+    let rest = bits_first n (bit_and m (m - 1)) 0 (m / 2) (omega (arith, step)) (omega (arith, step, ap (bit_and (m / 2)) half, and_self (m / 2))) in
+    subst (λ t. LowestKept (x ∷ xs) t m d) place (omega arith, ap (select (x ∷ xs)) (bits_first n m 1 (m / 2) one refl) ∙ ap (λ l. x ∷ l) (sym (ap (select (x ∷ xs)) rest))))
+    (cases_lt (m % 2) 1)
+
+-- one set bit more is done
+pub few_step : {A : Type 0} → (xs kept all : List A) (m : ℕ) (x : A) → 0 < m → m < 2 ^ length xs → length xs ≤ 64 → x ≡ get_or xs (trailing_zeros w64 m) x
+    → kept ++ select xs (bits (length xs) m) ≡ all → (kept ++ x ∷ []) ++ select xs (bits (length xs) (bit_and m (m - 1))) ≡ all
+few_step xs kept all m x some fits le is before =
+    append_assoc kept (x ∷ []) _ ∙ ap (λ l. kept ++ l) (ap (λ y. y ∷ select xs (bits (length xs) (bit_and m (m - 1)))) is ∙ sym (lowest_kept xs 64 m x some fits le).1) ∙ before
+
+pub few_within : {A : Type 0} → (xs : List A) (m : ℕ) → 0 < m → m < 2 ^ length xs → length xs ≤ 64 → trailing_zeros w64 m < length xs
+few_within [] m some fits le = absurd (omega arith)
+few_within (x ∷ xs) m some fits le = (lowest_kept (x ∷ xs) 64 m x some fits le).0
+
+-- ---- one more place
+
+bits_more : (i m : ℕ) → bits (i + 1) m ≡ bits i m ++ is_set m i ∷ []
+bits_more i m =
+    bits_split i 1 m
+    ∙ ap (λ l. bits i m ++ l) (bits_suc 0 (m / 2 ^ i) ∙ ap (λ l. is_set (m / 2 ^ i) 0 ∷ l) (bits_zero (m / 2 ^ i / 2)) ∙ ap (λ x. (x == 1) ∷ []) (bit_at_shr m i 0 ∙ ap (bit_at m) (zero-add i)))
+
+select_more : {A : Type 0} → (xs : List A) (m i b : ℕ) (x : A) → i < length xs → bit_at m i ≡ b → x ≡ get_or xs i x → select (take (i + 1) xs) (bits (i + 1) m) ≡ select (take i xs) (bits i m) ++ select (x ∷ []) ((b == 1) ∷ [])
+select_more xs m i b x lt bit is =
+    ap (λ l. select l (bits (i + 1) m)) (take_more xs i x lt ∙ ap (λ y. take i xs ++ y ∷ []) (sym is))
+    ∙ ap (select (take i xs ++ x ∷ [])) (bits_more i m)
+    ∙ select-append (take i xs) (bits i m) (x ∷ []) (is_set m i ∷ []) (omega (arith, length-take i xs, length_bits i m))
+    ∙ ap (λ y. select (take i xs) (bits i m) ++ select (x ∷ []) ((y == 1) ∷ [])) bit
+
+-- a value is put behind those that are kept, and stays where its bit is set
+dense_step : {A : Type 0} → (xs buf : List A) (m i k b : ℕ) (x : A) → i < length xs → k < length buf → bit_at m i ≡ b → b < 2 → x ≡ get_or xs i x
+    → take k buf ≡ select (take i xs) (bits i m) → take (k + b) (set buf k x) ≡ select (take (i + 1) xs) (bits (i + 1) m)
+dense_step xs buf m i k zero x lt room bit small is was = ap (λ n. take n (set buf k x)) (add-zero k) ∙ take-set buf k x ∙ was ∙ sym (select_more xs m i 0 x lt bit is ∙ append-nil _)
+dense_step xs buf m i k (suc zero) x lt room bit small is was = take_more_set buf k x room ∙ ap (λ l. l ++ x ∷ []) was ∙ sym (select_more xs m i 1 x lt bit is)
+dense_step xs buf m i k (suc (suc b)) x lt room bit small is was = absurd (omega arith)
+
+-- so far the values below place i
+pub record IsDense {A : Type 0} (xs : List A) (m : ℕ) (buf : List A) (i k : ℕ) : Type 0 where
+  pub room : length xs ≤ length buf
+  pub few : k ≤ i
+  pub kept : take k buf ≡ select (take i xs) (bits i m)
+
+pub dense_next : {A : Type 0} → (xs : List A) (m : ℕ) (buf : List A) (i k b next : ℕ) (x : A) → i < length xs → bit_at m i ≡ b → x ≡ get_or xs i x → next ≡ i + 1 → IsDense xs m buf i k → IsDense xs m (set buf k x) next (k + b)
+dense_next xs m buf i k b next x lt bit is e was = record {
+  room = omega (arith, was.room, length-set buf k x);
+  few = omega (arith, was.few, bit, bit_at-lt m i, e);
+  kept = rw e (dense_step xs buf m i k b x lt (omega (arith, was.room, was.few)) bit (omega (arith, bit, bit_at-lt m i)) is was.kept);
+}
+
+-- after the last place
+pub dense_count : {A : Type 0} → (xs : List A) (m : ℕ) (buf : List A) (k : ℕ) → m < 2 ^ length xs → IsDense xs m buf (length xs) k → k ≡ count_ones m
+dense_count xs m buf k fits was =
+    let all = ap length was.kept ∙ ap (λ l. length (select l (bits (length xs) m))) (take_all (length xs) xs (omega arith)) ∙ kept_count xs m fits in
+    omega (arith, all, was.few, was.room, length-take k buf)
+
+-- bit j of a word that was moved down by i places
+pub moved_bit : (m w i j n : ℕ) → w ≡ m / 2 ^ i → n ≡ i + j → bit_at m n ≡ bit_and (w / 2 ^ j) 1
+moved_bit m w i j n is e = let f : i + j ≡ j + i = omega arith in ap (bit_at m) (e ∙ f) ∙ sym (shr_and_one w j ∙ ap (λ v. bit_at v j) is ∙ bit_at_shr m i j)
+
+-- ---- a part of a mask, as a word
+
+module _ {A : Type 0} (xs : List A) (ms : List Bool) (at count word : ℕ) (same : length xs ≡ length ms) (within : at + count ≤ length xs) (word_is : word ≡ word_of (take count (drop at ms))) where
+  part : List Bool
+  part = take count (drop at ms)
+
+  block : List A
+  block = take (at + count - at) (drop at xs)
+
+  long : length block ≡ length part
+  unfolding block part
+  long = omega (arith, within, same, length-take (at + count - at) (drop at xs), length-drop at xs, length-take count (drop at ms), length-drop at ms)
+
+  pub part_fits : word < 2 ^ length (take (at + count - at) (drop at xs))
+  unfolding block part
+  part_fits = rw (word_is, long) (word_of_lt part)
+
+  pub part_kept : (front old new : List A) → old ≡ front ++ select (take at xs) (take at ms) → new ≡ old ++ select (take (at + count - at) (drop at xs)) (bits (length (take (at + count - at) (drop at xs))) word)
+      → new ≡ front ++ select (take (at + count) xs) (take (at + count) ms)
+  unfolding block part
+  part_kept front old new was appended =
+      let back : at + count - at ≡ count = omega arith in
+      appended
+      ∙ (λ i. was i ++ select (take (back i) (drop at xs)) (bits (long i) (word_is i)))
+      ∙ ap (λ l. (front ++ select (take at xs) (take at ms)) ++ select (take count (drop at xs)) l) (bits_of_word part)
+      ∙ append_assoc front (select (take at xs) (take at ms)) (select (take count (drop at xs)) part)
+      ∙ ap (λ l. front ++ l)
+      (sym (select-append (take at xs) (take at ms) (take count (drop at xs)) part (omega (arith, same, length-take at xs, length-take at ms)))
+      ∙ sym (λ i. select (take-add at count xs i) (take-add at count ms i)))
+
+-- the word of a reader is that of the bits behind those that it has given out
+pub read_word : (mask : Bits) (r : WordReading) (at count word : ℕ) → r.source ≡ mask → at ≡ reached r → word ≡ word_of (next_bits r) → count ≡ next_count r → word ≡ word_of (take count (drop at mask.bits))
+read_word mask r at count word source place is_word is_count = is_word ∙ (λ i. word_of (take (sym is_count i) (drop (sym place i) (source i).bits)))
+
+pub read_within : (mask : Bits) (r : WordReading) (at count n : ℕ) → r.source ≡ mask → at ≡ reached r → reached r < length r.source.bits → count ≡ next_count r → n ≡ length mask.bits → at + count ≤ n
+read_within mask r at count n source place more is_count same = omega (arith, ap (λ (b : Bits). length b.bits) source, place, more, is_count, same)
+
+pub ruleset kept_steps = (few_within, none_more, all_set)
+
+-- ---- values that are put into the end of a list
+
+pub tail_kept : {A : Type 0} → (old block now new rest more kept : List A) (start k len : ℕ) → start ≡ length old → now ≡ old ++ block → k ≤ length new → start + k ≤ len → take k new ≡ kept
+    → take (start + k) (take len ((take start now ++ (new ++ rest)) ++ more)) ≡ old ++ kept
+tail_kept old block now new rest more kept start k len is_start is_now within room is_kept =
+    let front : take start now ≡ old = ap (λ n. take n now) is_start ∙ ap (take (length old)) is_now ∙ take-append_seam old block in
+    take-take (start + k) len ((take start now ++ (new ++ rest)) ++ more) room
+    ∙ (λ i. take (is_start i + k) ((front i ++ (new ++ rest)) ++ more))
+    ∙ ap (take (length old + k)) (append_assoc old (new ++ rest) more ∙ ap (λ l. old ++ l) (append_assoc new rest more))
+    ∙ take-append-add old (new ++ (rest ++ more)) k
+    ∙ ap (λ l. old ++ l) (take-append-le k new (rest ++ more) within ∙ is_kept)

@@ -1,0 +1,125 @@
+-- What the loop over the runs of a word keeps, over plain variables.
+use Rattle.std.proofs.Common.{◌≡◌, ℕ, zero, suc, ◌+◌, ◌-◌, ◌*◌, ◌/◌, ◌%◌, ◌^◌, ◌<◌, ◌≤◌, ◌∙◌, sym, refl, ap, subst, ⊎_elim, arith, List, [], ◌∷◌, ◌++◌, length, take, drop, replicate, Bool, true, false, append_assoc, append-nil, zero-add}
+use Rattle.std.specs.Int.{bit_at, trailing_zeros, trailing_ones, bit_not, w64}
+use Rattle.std.proofs.Math.Seq.{take-append_seam}
+use Rattle.std.proofs.lemmas.Bool.{cases_lt}
+use Rattle.std.proofs.lemmas.Nat.{shr-shr, shr_below, shr_le}
+use lib.Count.{trailing_of_zero}
+use Rattle.std.proofs.lemmas.Nat.Bits.{bit_at-lt, bit_at_above, bit_at-zero, bit_at-trailing_zeros, bit_at-trailing_ones, bit_at_ones}
+use Rattle.std.proofs.lemmas.List.{length-drop, drop-drop}
+use Rattle.sel_bits.specs.Words.{bits}
+use Rattle.sel_filter.specs.Select.{select}
+use Rattle.sel_filter.specs.Runs.{starts_after}
+use Rattle.sel_bits.proofs.Shifts.{bit_at_shr}
+use Rattle.sel_filter.proofs.Selects.{select_none}
+use Rattle.sel_filter.proofs.WordLists.{bits_of_zero}
+use Rattle.sel_filter.proofs.WordRuns.{bits_after, select_skip, select_run, starts_skip, starts_more, starts_false, starts_of_zero}
+
+-- the bits that are left of the word give the rest of the target, and the copies that are left
+pub record IsRunning {A : Type 0} (source target : List A) (total : ℕ) (items : List A) (copies at rest : ℕ) : Type 0 where
+  pub within : at ≤ length source
+  pub small : rest < 2 ^ (length source - at)
+  pub gives : items ++ select (drop at source) (bits (length source - at) rest) ≡ target
+  pub counts : copies + starts_after false (bits (length source - at) rest) ≡ total
+
+-- t zeros and then r ones, at the low end of a word
+pub record IsRun (rest t r : ℕ) : Type 0 where
+  pub zeros : (i : ℕ) → i < t → bit_at rest i ≡ 0
+  pub ones : (i : ℕ) → i < r → bit_at (rest / 2 ^ t) i ≡ 1
+  pub some : 0 < r
+  pub ends : bit_at (rest / 2 ^ t / 2 ^ r) 0 ≡ 0
+
+module _ {A : Type 0} (source target : List A) (total : ℕ) (items : List A) (copies at rest t r : ℕ) (run : IsRun rest t r) (was : IsRunning source target total items copies at rest) where
+  n : ℕ
+  n = length source - at
+
+  pub run_within : at + t + r ≤ length source
+  run_within =
+      ⊎_elim
+      (λ past.
+      let last : bit_at rest (r - 1 + t) ≡ 1 = sym (bit_at_shr rest t (r - 1)) ∙ run.ones (r - 1) (omega (arith, run.some)) in
+      absurd (omega (arith, last, run.some, bit_at_above rest (length source - at) (r - 1 + t) was.small (omega (arith, run.some, was.within)))))
+      (λ le. le)
+      (cases_lt (length source) (at + t + r))
+
+  left : ℕ
+  left = rest / 2 ^ t / 2 ^ r
+
+  bits_are : bits (length source - at) rest ≡ replicate t false ++ (replicate r true ++ bits (length source - (at + t + r)) (rest / 2 ^ t / 2 ^ r))
+  bits_are =
+      let e : length source - at - t - r ≡ length source - (at + t + r) = omega arith in
+      bits_after 0 t (length source - at) rest (omega (arith, run_within)) run.zeros
+      ∙ ap (λ l. replicate t false ++ l) (bits_after 1 r (length source - at - t) (rest / 2 ^ t) (omega (arith, run_within)) run.ones ∙ ap (λ k. replicate r true ++ bits k (rest / 2 ^ t / 2 ^ r)) e)
+
+  pub starts_one : starts_after false (bits (length source - at) rest) ≡ 1 + starts_after false (bits (length source - (at + t + r)) (rest / 2 ^ t / 2 ^ r))
+  starts_one =
+      let B = bits (length source - (at + t + r)) (rest / 2 ^ t / 2 ^ r) in
+      ap (starts_after false) bits_are
+      ∙ starts_skip t (replicate r true ++ B)
+      ∙ starts_more r B run.some
+      ∙ ap (λ k. 1 + k) (starts_false (length source - (at + t + r)) (rest / 2 ^ t / 2 ^ r) run.ends)
+
+  selects : select (drop at source) (bits (length source - at) rest) ≡ take r (drop (at + t) source) ++ select (drop (at + t + r) source) (bits (length source - (at + t + r)) (rest / 2 ^ t / 2 ^ r))
+  selects =
+      let B = bits (length source - (at + t + r)) (rest / 2 ^ t / 2 ^ r) in
+      ap (select (drop at source)) bits_are
+      ∙ select_skip (drop at source) t (replicate r true ++ B)
+      ∙ ap (λ l. select l (replicate r true ++ B)) (twice at t)
+      ∙ select_run (drop (at + t) source) r B (omega (arith, length-drop (at + t) source, run_within))
+      ∙ ap (λ l. take r (drop (at + t) source) ++ select l B) (twice (at + t) r)
+    where
+      twice : (a b : ℕ) → drop b (drop a source) ≡ drop (a + b) source
+      twice a b = drop-drop b a source
+
+  pub running_next : IsRunning source target total (items ++ take r (drop (at + t) source)) (copies + 1) (at + t + r) (rest / 2 ^ t / 2 ^ r)
+  running_next =
+      let B = bits (length source - (at + t + r)) (rest / 2 ^ t / 2 ^ r) in
+      let wide : length source - at ≡ length source - (at + t + r) + r + t = omega (arith, run_within) in
+      record {
+        within = run_within;
+        small = shr_below (rest / 2 ^ t) (length source - (at + t + r)) r (shr_below rest (length source - (at + t + r) + r) t (rw wide at was.small));
+        gives = append_assoc items (take r (drop (at + t) source)) (select (drop (at + t + r) source) B) ∙ ap (λ l. items ++ l) (sym selects) ∙ was.gives;
+        counts = omega (arith, was.counts, starts_one);
+      }
+
+pub running_last : {A : Type 0} (source target : List A) (total : ℕ) (items : List A) (copies at rest : ℕ) → rest ≡ 0 → IsRunning source target total items copies at rest → (items ≡ target) × (copies ≡ total)
+running_last source target total items copies at rest none was =
+    let e : bits (length source - at) rest ≡ replicate (length source - at) false = ap (bits (length source - at)) none ∙ bits_of_zero (length source - at) in (
+      sym (append-nil items) ∙ ap (λ l. items ++ l) (sym (ap (select (drop at source)) e ∙ select_none (drop at source) (length source - at))) ∙ was.gives,
+      omega (arith, was.counts, ap (λ w. starts_after false (bits (length source - at) w)) none, starts_of_zero (length source - at)),
+    )
+
+-- the lowest run of a word that is not 0
+pub lowest_run : (rest : ℕ) → 0 < rest → rest < 2 ^ 64 → IsRun rest (trailing_zeros w64 rest) (trailing_ones w64 (rest / 2 ^ trailing_zeros w64 rest))
+lowest_run rest some fits =
+    let z = bit_at-trailing_zeros w64 rest some fits in
+    let t = trailing_zeros w64 rest in
+    let x = rest / 2 ^ t in
+    let first : bit_at x 0 ≡ 1 = bit_at_shr rest t 0 ∙ ap (bit_at rest) (zero-add t) ∙ z.1 in
+    let here : bit_at x 0 ≡ 1 → (r : ℕ) → ((i : ℕ) → i < r → bit_at x i ≡ 1) → 0 < r → bit_at (x / 2 ^ r) 0 ≡ 0 → IsRun rest t r =
+    λ low r ones some ends. record { zeros = z.2; ones = ones; some = some; ends = ends } in
+    ⊎_elim
+    (λ less.
+    let o = bit_at-trailing_ones w64 x less in
+    let r = trailing_ones w64 x in
+    let positive : 0 < r = ⊎_elim (λ lt. lt) (λ le. let e : r ≡ 0 = omega arith in absurd (omega (arith, ap (bit_at x) e, o.1, first))) (cases_lt 0 r) in
+    here first r o.2 positive (bit_at_shr x r 0 ∙ ap (bit_at x) (zero-add r) ∙ o.1))
+    (λ all.
+    let full : x ≡ 2 ^ 64 - 1 = omega (arith, shr_le rest t) in
+    let none : 2 ^ 64 - 1 - x ≡ 0 = omega arith in
+    let long : trailing_ones w64 x ≡ 64 = ap (trailing_zeros w64) none ∙ trailing_of_zero 64 in
+    subst (λ r. IsRun rest t r) (sym long)
+    (here first 64 (λ i lt. ap (λ y. bit_at y i) full ∙ bit_at_ones 64 i lt) (omega arith) (ap (λ y. bit_at (y / 2 ^ 64) 0) full)))
+    (cases_lt (x + 1) (2 ^ 64))
+
+-- the code shifts a run away in two steps, since it may have 64 bits
+pub shifted_away : (x r : ℕ) → 0 < r → x / 2 ^ (r - 1) / 2 ^ 1 ≡ x / 2 ^ r
+shifted_away x r some = let e : r - 1 + 1 ≡ r = omega arith in shr-shr x (r - 1) 1 ∙ ap (λ j. x / 2 ^ j) e
+
+pub copies_left : {A : Type 0} (source target : List A) (total : ℕ) (items : List A) (copies at rest t r : ℕ) → IsRun rest t r → IsRunning source target total items copies at rest → copies < total
+copies_left source target total items copies at rest t r run was = omega (arith, was.counts, starts_one source target total items copies at rest t r run was)
+
+-- what was copied so far is a beginning of the target
+pub running_begun : {A : Type 0} (source target : List A) (total : ℕ) (items : List A) (copies at rest : ℕ) → IsRunning source target total items copies at rest → items ≡ take (length items) target
+running_begun source target total items copies at rest was =
+    sym (ap (take (length items)) (sym was.gives) ∙ take-append_seam items (select (drop at source) (bits (length source - at) rest)))

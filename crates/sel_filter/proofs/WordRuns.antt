@@ -1,0 +1,103 @@
+-- Runs of true bits in a word.
+use Rattle.std.proofs.Common.{◌≡◌, ◌≢◌, ℕ, zero, suc, ◌+◌, ◌-◌, ◌*◌, ◌/◌, ◌%◌, ◌^◌, ◌<◌, ◌≤◌, ◌∙◌, sym, refl, ap, subst, ⊎_elim, arith, List, [], ◌∷◌, ◌++◌, length, take, drop, replicate, Bool, true, false, cond, append_assoc, append-nil, length-append}
+use Rattle.std.specs.Prelude.{◌==◌, not, ◌&&◌}
+use Rattle.std.specs.Int.{bit_at, trailing_zeros, trailing_ones, w64}
+use Rattle.std.proofs.Math.Nat.{pow-suc, div-one}
+use Rattle.std.proofs.lemmas.Bool.{cases_lt}
+use Rattle.std.proofs.lemmas.Nat.{shr-shr, shr_below}
+use Rattle.std.proofs.lemmas.Nat.Bits.{bit_at-lt, bit_at-suc, bit_at-zero, bit_at_lowest, bit_at_above, bit_at-trailing_zeros, bit_at-trailing_ones}
+use Rattle.std.proofs.lemmas.List.{length-drop, take_all}
+use Rattle.sel_bits.specs.Words.{is_set, bits, word_of}
+use Rattle.sel_filter.specs.Select.{select}
+use Rattle.sel_filter.specs.Runs.{starts_after}
+use Rattle.sel_bits.proofs.Lists.{bits_suc, bits_zero}
+use Rattle.sel_bits.proofs.Shifts.{bit_at_shr}
+use Rattle.sel_filter.proofs.Selects.{select_none}
+use Rattle.sel_filter.proofs.WordLists.{bits_of_zero}
+use Rattle.sel_bits.proofs.Packs.{bits_split, length_bits}
+
+-- a word whose t lowest bits are all b
+bits_equal : (b t w : ℕ) → ((i : ℕ) → i < t → bit_at w i ≡ b) → bits t w ≡ replicate t (b == 1)
+bits_equal b zero w same = bits_zero w
+bits_equal b (suc t) w same =
+    bits_suc t w
+    ∙ ap (λ x. (x == 1) ∷ bits t (w / 2)) (same 0 (omega arith))
+    ∙ ap (λ l. (b == 1) ∷ l) (bits_equal b t (w / 2) (λ i lt. sym (bit_at-suc w i) ∙ same (suc i) (omega arith)))
+
+pub bits_after : (b t n w : ℕ) → t ≤ n → ((i : ℕ) → i < t → bit_at w i ≡ b) → bits n w ≡ replicate t (b == 1) ++ bits (n - t) (w / 2 ^ t)
+bits_after b t n w le same =
+    let e : n ≡ t + (n - t) = omega arith in
+    ap (λ k. bits k w) e ∙ bits_split t (n - t) w ∙ ap (λ l. l ++ bits (n - t) (w / 2 ^ t)) (bits_equal b t w same)
+
+module _ {A : Type 0} where
+  pub select_skip : (xs : List A) (t : ℕ) (ms : List Bool) → select xs (replicate t false ++ ms) ≡ select (drop t xs) ms
+  select_skip xs zero ms = refl
+  select_skip [] (suc t) ms = refl
+  select_skip (x ∷ xs) (suc t) ms = select_skip xs t ms
+
+  pub select_run : (xs : List A) (r : ℕ) (ms : List Bool) → r ≤ length xs → select xs (replicate r true ++ ms) ≡ take r xs ++ select (drop r xs) ms
+  select_run xs zero ms le = refl
+  select_run [] (suc r) ms le = absurd (omega arith)
+  select_run (x ∷ xs) (suc r) ms le = ap (λ l. x ∷ l) (select_run xs r ms (omega arith))
+
+pub starts_skip : (t : ℕ) (ms : List Bool) → starts_after false (replicate t false ++ ms) ≡ starts_after false ms
+starts_skip zero ms = refl
+starts_skip (suc t) ms = starts_skip t ms
+
+starts_run : (r : ℕ) (ms : List Bool) → starts_after true (replicate r true ++ ms) ≡ starts_after true ms
+starts_run zero ms = refl
+starts_run (suc r) ms = starts_run r ms
+
+-- a run that starts is one start, however long it is
+pub starts_more : (r : ℕ) (ms : List Bool) → 0 < r → starts_after false (replicate r true ++ ms) ≡ 1 + starts_after true ms
+starts_more zero ms some = absurd (omega arith)
+starts_more (suc r) ms some = ap (λ n. 1 + n) (starts_run r ms)
+
+-- before a false bit, or at the end, it does not matter what came before
+pub starts_false : (n w : ℕ) → bit_at w 0 ≡ 0 → starts_after true (bits n w) ≡ starts_after false (bits n w)
+starts_false zero w low = ap (starts_after true) (bits_zero w) ∙ sym (ap (starts_after false) (bits_zero w))
+starts_false (suc n) w low =
+    let e : bits (suc n) w ≡ false ∷ bits n (w / 2) = bits_suc n w ∙ ap (λ x. (x == 1) ∷ bits n (w / 2)) low in
+    ap (starts_after true) e ∙ sym (ap (starts_after false) e)
+
+pub starts_of_zero : (n : ℕ) → starts_after false (bits n 0) ≡ 0
+starts_of_zero n = ap (starts_after false) (bits_of_zero n) ∙ none n
+  where
+    none : (k : ℕ) → starts_after false (replicate k false) ≡ 0
+    none zero = refl
+    none (suc k) = none k
+
+-- a run can be cut at a boundary at the cost of one start
+pub starts_cut : (ms : List Bool) → starts_after false ms ≤ starts_after true ms + 1
+starts_cut [] = omega arith
+starts_cut (true ∷ ms) = omega arith
+starts_cut (false ∷ ms) = omega arith
+
+pub starts_le : (b : Bool) (ms : List Bool) → starts_after true ms ≤ starts_after b ms
+starts_le true ms = omega arith
+starts_le false [] = omega arith
+starts_le false (true ∷ ms) = omega arith
+starts_le false (false ∷ ms) = omega arith
+
+-- two lists have no fewer starts together than one after another, but for a start at the seam
+pub starts_append : (b : Bool) (xs ys : List Bool) → starts_after b xs + starts_after true ys ≤ starts_after b (xs ++ ys)
+starts_append b [] ys = omega (arith, starts_le b ys)
+starts_append b (false ∷ xs) ys = starts_append false xs ys
+starts_append true (true ∷ xs) ys = starts_append true xs ys
+starts_append false (true ∷ xs) ys = omega (arith, starts_append true xs ys)
+
+pub starts_padded : (b : Bool) (xs : List Bool) (k : ℕ) → starts_after b (xs ++ replicate k false) ≡ starts_after b xs
+starts_padded b [] k = none b k
+  where
+    none : (b : Bool) (k : ℕ) → starts_after b (replicate k false) ≡ 0
+    none b zero = refl
+    none b (suc k) = none false k
+starts_padded b (false ∷ xs) k = starts_padded false xs k
+starts_padded true (true ∷ xs) k = starts_padded true xs k
+starts_padded false (true ∷ xs) k = ap (λ n. 1 + n) (starts_padded true xs k)
+
+-- at most every second entry starts a run
+pub starts_half : (xs : List Bool) → (2 * starts_after false xs ≤ length xs + 1) × (2 * starts_after true xs ≤ length xs)
+starts_half [] = (omega arith, omega arith)
+starts_half (true ∷ xs) = let h = starts_half xs in (omega (arith, h.1), omega (arith, h.1))
+starts_half (false ∷ xs) = let h = starts_half xs in (omega (arith, h.0), omega (arith, h.0))

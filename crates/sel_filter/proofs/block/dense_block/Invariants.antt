@@ -1,0 +1,10 @@
+-- The kept ones of the values so far.
+use Rattle.std.proofs.Common.{◌≡◌, ◌*◌, ◌/◌, ◌^◌}
+use Rattle.sel_filter.proofs.Dense.{IsDense}
+use Rattle.sel_filter.proofs.block.dense_block.Given as goal
+
+abbrev pub invariant-loop-round : goal.invariant-loop-round
+invariant-loop-round g l = record {
+  left : l.word ≡ l.mask / 2 ^ (4 * l.round);
+  dense : IsDense l.block l.mask l.buf (4 * l.round) l.k;
+}

@@ -1,0 +1,9 @@
+-- The kept ones of the values so far, behind what stood there before.
+use Rattle.std.proofs.Common.{◌≡◌, ◌*◌, ◌++◌, length, take}
+use Rattle.sel_bits.specs.Bits.{bits_from}
+use Rattle.sel_filter.specs.Select.{select}
+use Rattle.sel_filter.proofs.scalar.append_blocks.Given as goal
+
+abbrev pub invariant-loop-block : goal.invariant-loop-block
+invariant-loop-block g l =
+    l.out.items ≡ l.fn.out.items ++ select (take (64 * l.block) l.values) (take (64 * l.block) (bits_from l.mask_bytes 0 (length l.values)))
