@@ -117,7 +117,8 @@ fn copy_runs<T: Copy>(out: &mut BlockCopy<'_, T>, start: usize, word: u64) -> Po
     requires fits { length out.old.source < 2 ^ 64 }
     requires start { start ≤ length out.old.source }
     requires within { word < 2 ^ (length out.old.source - start) }
-    requires counted { out.old.copies + starts_after false (bits (length out.old.source - start) word) < 2 ^ 64 }
+    requires counted { out.old.copies + starts_after false
+        (bits (length out.old.source - start) word) < 2 ^ 64 }
     ensures appended { OnOk result
         (out.new.items
         ≡ out.old.items ++ select (drop start out.old.source) (bits (length out.old.source - start) word)) }

@@ -64,7 +64,8 @@ pub fn sub_fixed_size_list_get(
     ensures dtype { IfOk result (λ taken. type_of taken.column ≡ type_of arr.now.values.value) }
     ensures inside { IfOk result (λ _.
         out_of_bounds null_on_oob arr.now (primitive_rows index.now) ≡ false) }
-    ensures within { IfOk result (λ _. PassesNone (past_entries arr.now (primitive_rows index.now))) }
+    ensures within { IfOk result (λ _. PassesNone
+        (past_entries arr.now (primitive_rows index.now))) }
     ensures refusal { IfErr result (IsGetRefusal null_on_oob arr.now (primitive_rows index.now)) }
 {
     if is_refused(arr, index, null_on_oob) {
