@@ -40,6 +40,10 @@ module _ {A : Type 0} (vs : List A) (ms : List Bool) (at count : ℕ) (same : le
       ∙ ap (λ l. select (take count (drop at vs)) part ++ l) (select_none (drop count (drop at vs)) (length vs - at - length part))
       ∙ append-nil (select (take count (drop at vs)) part)
 
+  pub word_bits : bits (length vs - at) (word_of (take count (drop at ms))) ≡ take count (drop at ms) ++ replicate (length vs - at - length (take count (drop at ms))) false
+  unfolding part
+  word_bits = padded
+
   pub word_counts : count_true (bits (length vs - at) (word_of (take count (drop at ms)))) ≡ count_true (take count (drop at ms))
   unfolding part
   word_counts = omega (arith, ap count_true padded, count_true-append part (replicate (length vs - at - length part) false), count_true_none (length vs - at - length part))
