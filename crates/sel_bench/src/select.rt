@@ -27,9 +27,10 @@ pub fn select_rows(
 ) -> PolarsResult<Vec<ArrayRef>>
     requires { IsTrue (selection_fits
         (rows_of_each columns.now) (boolean_rows mask.now) (primitive_rows indices.now)) }
-    ensures rows { IfOk result (λ selected. rows_of_each selected.items
-        ≡ select_rows_of (rows_of_each columns.now) (boolean_rows mask.now) (primitive_rows indices.now)) }
-    ensures types { IfOk result (λ selected. type_of_each selected.items ≡ type_of_each columns.now) }
+    ensures rows { IfOk result (λ selected. rows_of_each selected.items ≡ select_rows_of
+        (rows_of_each columns.now) (boolean_rows mask.now) (primitive_rows indices.now)) }
+    ensures types { IfOk result (λ selected.
+        type_of_each selected.items ≡ type_of_each columns.now) }
     ensures refusal { IfErr result (IsRefusal
         (past_selected columns.now (boolean_rows mask.now) (primitive_rows indices.now))) }
 {
@@ -48,12 +49,15 @@ fn select_column(
     indices: &IdxArr,
 ) -> PolarsResult<ArrayRef>
     requires long { length (rows column.now.column) ≡ length (boolean_rows mask.now) }
-    requires inside { IsTrue (all_within (count_by is_true (boolean_rows mask.now)) (primitive_rows indices.now)) }
-    ensures rows { IfOk result (λ taken. rows taken.column
-        ≡ take_rows (select (rows column.now.column) (in_force (boolean_rows mask.now))) (primitive_rows indices.now)) }
+    requires inside { IsTrue (all_within
+        (count_by is_true (boolean_rows mask.now)) (primitive_rows indices.now)) }
+    ensures rows { IfOk result (λ taken. rows taken.column ≡ take_rows
+        (select (rows column.now.column) (in_force (boolean_rows mask.now)))
+        (primitive_rows indices.now)) }
     ensures dtype { IfOk result (λ taken. type_of taken.column ≡ type_of column.now.column) }
     ensures refusal { IfErr result (IsRefusal (past (type_of column.now.column)
-        (take_rows (select (rows column.now.column) (in_force (boolean_rows mask.now))) (primitive_rows indices.now)))) }
+        (take_rows (select (rows column.now.column) (in_force (boolean_rows mask.now)))
+        (primitive_rows indices.now)))) }
 {
     let kept = filter(alloc, column, mask)?;
     let taken = take_unchecked(alloc, &kept, indices);

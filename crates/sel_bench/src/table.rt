@@ -9,7 +9,7 @@ ghost use Rattle.sel_bench.specs.Lines.{longest_line};
 ghost use Rattle.sel_bench.specs.Numbers.{number_of};
 ghost use Rattle.sel_bench.specs.Rows.{rows_of};
 ghost use Rattle.sel_bench.specs.SelectRows.{rows_of_each};
-ghost use Rattle.sel_bench.specs.Table.{columns_text, selected_rows, table_answer, table_words};
+ghost use Rattle.sel_bench.specs.Table.{AreNumbers, columns_text, selected_rows, table_answer, table_words};
 
 use crate::columns::{parse_column, print_column};
 use crate::refusals::want_of_memory;
@@ -47,9 +47,10 @@ pub fn answer_table(alloc: Global, words: &[&str]) -> Result<Option<String>, All
 // The columns that the words are the printing of.
 fn parse_columns(alloc: Global, words: &[&str]) -> Result<Option<Vec<ArrayRef>>, AllocError>
     requires { All (λ word. length word.now ≤ longest_line) words.now }
-    ensures rows { IfOk result (λ columns. option_map (λ columns. rows_of_each columns.items) columns
+    ensures rows { IfOk result (λ columns.
+        option_map (λ columns. rows_of_each columns.items) columns
         ≡ all_some (map (λ word. column_of number_of word.now) words.now)) }
-    ensures dtype { IfOk result (λ columns. IfSome columns (λ columns. All (λ c. type_of c.column ≡ of_int64) columns.items)) }
+    ensures dtype { IfOk result (λ columns. IfSome columns (λ columns. AreNumbers columns.items)) }
 {
     let mut columns = Vec::with_capacity(alloc, words.len())?;
     for word in words {
@@ -63,8 +64,10 @@ fn parse_columns(alloc: Global, words: &[&str]) -> Result<Option<Vec<ArrayRef>>,
 
 fn parse_array(alloc: Global, word: &str) -> Result<Option<ArrayRef>, AllocError>
     requires { length word.now ≤ longest_line }
-    ensures rows { IfOk result (λ column. option_map (λ column. rows column.column) column ≡ column_of number_of word.now) }
-    ensures dtype { IfOk result (λ column. IfSome column (λ column. type_of column.column ≡ of_int64)) }
+    ensures rows { IfOk result (λ column.
+        option_map (λ column. rows column.column) column ≡ column_of number_of word.now) }
+    ensures dtype { IfOk result (λ column.
+        IfSome column (λ column. type_of column.column ≡ of_int64)) }
 {
     let Some(rows) = parse_column::<i64>(alloc, word)? else {
         return Ok(None);
@@ -81,9 +84,10 @@ fn answer_columns(
     indices: Rows<u32>,
     columns: &[ArrayRef],
 ) -> Result<Option<String>, AllocError>
-    requires { All (λ c. type_of c.column ≡ of_int64) columns.now }
+    requires { AreNumbers columns.now }
     ensures { IfOk result (λ answer. option_map string_bytes answer
-        ≡ table_answer (rows_of Truth mask) (rows_of (λ n. Number (pos n)) indices) (rows_of_each columns.now)) }
+        ≡ table_answer (rows_of Truth mask) (rows_of (λ n. Number (pos n)) indices)
+        (rows_of_each columns.now)) }
 {
     match select_read(alloc, mask, indices, columns) {
         Ok(Some(selected)) => Ok(Some(print_columns(alloc, &selected)?)),
@@ -98,10 +102,12 @@ fn select_read(
     indices: Rows<u32>,
     columns: &[ArrayRef],
 ) -> PolarsResult<Option<Vec<ArrayRef>>>
-    requires { All (λ c. type_of c.column ≡ of_int64) columns.now }
-    ensures rows { IfOk result (λ selected. option_map (λ selected. rows_of_each selected.items) selected
-        ≡ selected_rows (rows_of Truth mask) (rows_of (λ n. Number (pos n)) indices) (rows_of_each columns.now)) }
-    ensures dtype { IfOk result (λ selected. IfSome selected (λ selected. All (λ c. type_of c.column ≡ of_int64) selected.items)) }
+    requires { AreNumbers columns.now }
+    ensures rows { IfOk result (λ selected.
+        option_map (λ selected. rows_of_each selected.items) selected
+        ≡ selected_rows (rows_of Truth mask) (rows_of (λ n. Number (pos n)) indices)
+        (rows_of_each columns.now)) }
+    ensures dtype { IfOk result (λ selected. IfSome selected (λ selected. AreNumbers selected.items)) }
     ensures refusal { IfErr result (λ fault. fault ≡ PolarsError.OutOfMemory) }
 {
     let mask = mask.into_boolean(alloc)?;
@@ -116,10 +122,12 @@ fn select_columns(
     indices: &IdxArr,
     columns: &[ArrayRef],
 ) -> PolarsResult<Option<Vec<ArrayRef>>>
-    requires { All (λ c. type_of c.column ≡ of_int64) columns.now }
-    ensures rows { IfOk result (λ selected. option_map (λ selected. rows_of_each selected.items) selected
-        ≡ selected_rows (boolean_rows mask.now) (primitive_rows indices.now) (rows_of_each columns.now)) }
-    ensures dtype { IfOk result (λ selected. IfSome selected (λ selected. All (λ c. type_of c.column ≡ of_int64) selected.items)) }
+    requires { AreNumbers columns.now }
+    ensures rows { IfOk result (λ selected.
+        option_map (λ selected. rows_of_each selected.items) selected
+        ≡ selected_rows (boolean_rows mask.now) (primitive_rows indices.now)
+        (rows_of_each columns.now)) }
+    ensures dtype { IfOk result (λ selected. IfSome selected (λ selected. AreNumbers selected.items)) }
     ensures refusal { IfErr result (λ fault. fault ≡ PolarsError.OutOfMemory) }
 {
     if !select_is_safe(columns, mask, indices) {
@@ -130,7 +138,7 @@ fn select_columns(
 
 // The columns of numbers, with a space between them.
 fn print_columns(alloc: Global, columns: &[ArrayRef]) -> Result<String, AllocError>
-    requires { All (λ c. type_of c.column ≡ of_int64) columns.now }
+    requires { AreNumbers columns.now }
     ensures { IfOk result (λ text. string_bytes text ≡ columns_text (rows_of_each columns.now)) }
 {
     let mut text = String::new(alloc);
