@@ -8,5 +8,6 @@ pub mod Progress
 pub mod ReadBlocks
 pub mod ReadLists
 pub mod RowLemmas
+pub mod SelectedRows
 pub mod Steps
 pub mod TextViews

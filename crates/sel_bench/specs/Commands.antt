@@ -10,6 +10,7 @@ use Rattle.sel_bench.specs.Flatten.{flatten_words}
 use Rattle.sel_bench.specs.Get.{get_words}
 use Rattle.sel_bench.specs.Lines.{longest_line}
 use Rattle.sel_bench.specs.Pext.{pext_words}
+use Rattle.sel_bench.specs.Table.{table_words}
 use Rattle.sel_bench.specs.Take.{take_words}
 
 -- the answer to a command with the words behind it, or None where the line is bad (own)
@@ -23,6 +24,7 @@ answer_of_command name words =
     else if bytes_eq name (codes "flatten") then flatten_words words
     else if bytes_eq name (codes "dict") then dict_words words
     else if bytes_eq name (codes "fixed") then fixed_words words
+    else if bytes_eq name (codes "table") then table_words words
     else None
 
 -- the answer to a line of these words, of which the first is the command (own)

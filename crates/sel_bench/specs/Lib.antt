@@ -16,7 +16,9 @@ pub mod Pext
 pub mod Rows
 pub mod Run
 pub mod RunError
+pub mod SelectRows
 pub mod Step
+pub mod Table
 pub mod Take
 pub mod Texts
 pub mod ViewedTexts

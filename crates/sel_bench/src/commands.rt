@@ -10,6 +10,7 @@ use crate::fixed::answer_fixed;
 use crate::flatten::answer_flatten;
 use crate::get::answer_get;
 use crate::pext::answer_pext;
+use crate::table::answer_table;
 use crate::take::answer_take;
 use crate::words::split_at_each;
 use std::alloc::{AllocError, Global};
@@ -70,6 +71,9 @@ fn answer_command(alloc: Global, name: &str, words: &[&str]) -> Result<Option<St
     }
     if name == "fixed" {
         return answer_fixed(alloc, words);
+    }
+    if name == "table" {
+        return answer_table(alloc, words);
     }
     Ok(None)
 }

@@ -18,6 +18,10 @@ mod reading;
 mod refusals;
 mod rows;
 mod run;
+mod select;
+#[cfg(test)]
+mod select_tests;
+mod table;
 mod take;
 #[cfg(test)]
 mod tests;

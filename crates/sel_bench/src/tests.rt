@@ -265,6 +265,21 @@ fn fixed_lines(rt: HostRuntime) -> Result<(), Fail> {
     Ok(())
 }
 
+#[test]
+fn table_lines(rt: HostRuntime) -> Result<(), Fail> {
+    let rows: [(&[u8], &[u8]); 4] = [
+        (
+            b"table t,n,f,t 1,0,n 10,20,30,40 1,n,3,4\n",
+            b"40,10,n 4,1,n\n",
+        ),
+        (b"table f,f n 5,6\n", b"n\n"),
+        (b"table - - -\n", b"-\n"),
+        (b"table t,t 1,0 5,6 n,7 8,9\n", b"6,5 7,n 9,8\n"),
+    ];
+    assert!(rt; all_run(rt.alloc(), &rows));
+    Ok(())
+}
+
 // Whether a run ends at each of these lines before a good one.
 fn are_bad(alloc: Global, lines: &[&[u8]]) -> Result<bool, AllocError> {
     for line in lines {
@@ -403,6 +418,22 @@ fn bad_fixed_lines(rt: HostRuntime) -> Result<(), Fail> {
         b"fixed 2 1,2 n t",
         b"fixed 2 1,2||3,4 0 t",
         b"fixed 2 1,2 0",
+    ];
+    assert!(rt; are_bad(rt.alloc(), &lines)?);
+    Ok(())
+}
+
+#[test]
+fn bad_table_lines(rt: HostRuntime) -> Result<(), Fail> {
+    let lines: [&[u8]; 8] = [
+        b"table t,f 1 5,6",
+        b"table t,f 0",
+        b"table t 0 5,6",
+        b"table t 0 5  6",
+        b"table t 0 5 6,7",
+        b"table t,n 1 5,6",
+        b"table t 0 =a",
+        b"table",
     ];
     assert!(rt; are_bad(rt.alloc(), &lines)?);
     Ok(())
