@@ -19,7 +19,8 @@ use std::alloc::{AllocError, Global};
 /// The column that a word is the printing of.
 pub fn parse_column<T: Item>(alloc: Global, word: &str) -> Result<Option<Rows<T>>, AllocError>
     requires { length word.now ≤ longest_line }
-    ensures { IfOk result (λ column. option_map (rows_of T.shown) column ≡ column_of T.value_of word.now) }
+    ensures { IfOk result (λ column. option_map (rows_of T.shown) column ≡
+        column_of T.value_of word.now) }
 {
     if word == "-" {
         return Ok(Some(Rows {
@@ -72,7 +73,8 @@ pub fn print_column<C: Printed>(alloc: Global, column: &C) -> Result<String, All
 }
 
 fn print_rows<C: Printed>(alloc: Global, column: &C) -> Result<String, AllocError>
-    ensures { IfOk result (λ text. string_bytes text ≡ join_with_byte 44 (map row_text (C.rows column.now))) }
+    ensures { IfOk result (λ text. string_bytes text ≡
+        join_with_byte 44 (map row_text (C.rows column.now))) }
 {
     let mut text = String::new(alloc);
     for place in 0..column.len() {
@@ -89,7 +91,8 @@ pub trait Printed: Array {
     /// Puts the printing of row `place` behind the text.
     fn push_row(&self, alloc: Global, place: usize, text: &mut String) -> Result<(), AllocError>
         requires { place < length (Self.rows self.now) }
-        ensures { OnOk result (string_bytes text.new ≡ string_bytes text.old ++ row_text (slice_index_or (Self.rows self.now) place Null)) };
+        ensures { OnOk result (string_bytes text.new ≡
+            string_bytes text.old ++ row_text (slice_index_or (Self.rows self.now) place Null)) };
 }
 
 impl Printed for PrimitiveArray<i64> {

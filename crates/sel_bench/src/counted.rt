@@ -57,8 +57,10 @@ impl<R: Read> Read for Counted<R> {
 
     fn read(&mut self, buf: &mut [u8]) -> io::Result<usize>
         ensures bound { ReadsAtMost result buf.new }
-        ensures bytes { ReadConsumes (R.remaining (inner_of self.old)) (R.remaining (inner_of self.new)) result buf.new }
-        ensures failures { failures_of self.new ≡ counted_up (is_err result) (failures_of self.old) }
+        ensures bytes { ReadConsumes (R.remaining (inner_of self.old))
+            (R.remaining (inner_of self.new)) result buf.new }
+        ensures failures { failures_of self.new ≡
+            counted_up (is_err result) (failures_of self.old) }
     {
         let result = self.inner.read(buf);
         self.count(result.is_err());
@@ -73,8 +75,10 @@ impl<W: Write> Write for Counted<W> {
 
     fn write(&mut self, buf: &[u8]) -> io::Result<usize>
         ensures bound { WritesAtMost result buf.now }
-        ensures bytes { WriteAppends (W.contents (inner_of self.old)) (W.contents (inner_of self.new)) result buf.now }
-        ensures failures { failures_of self.new ≡ counted_up (has_write_failed result buf.now) (failures_of self.old) }
+        ensures bytes { WriteAppends (W.contents (inner_of self.old))
+            (W.contents (inner_of self.new)) result buf.now }
+        ensures failures { failures_of self.new ≡
+            counted_up (has_write_failed result buf.now) (failures_of self.old) }
     {
         let result = self.inner.write(buf);
         let has_failed = match &result {
@@ -87,7 +91,8 @@ impl<W: Write> Write for Counted<W> {
 
     fn flush(&mut self) -> io::Result<()>
         ensures bytes { Keeps (W.contents (inner_of self.old)) (W.contents (inner_of self.new)) }
-        ensures failures { failures_of self.new ≡ counted_up (is_err result) (failures_of self.old) }
+        ensures failures { failures_of self.new ≡
+            counted_up (is_err result) (failures_of self.old) }
     {
         let result = self.inner.flush();
         self.count(result.is_err());

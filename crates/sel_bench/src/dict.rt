@@ -56,7 +56,8 @@ fn print_both(
     keys: &PrimitiveArray<u32>,
     values: &Utf8ViewArray,
 ) -> Result<String, AllocError>
-    ensures { IfOk result (λ text. string_bytes text ≡ both_text (primitive_rows keys.now, utf8view_rows values.now)) }
+    ensures { IfOk result (λ text. string_bytes text ≡
+        both_text (primitive_rows keys.now, utf8view_rows values.now)) }
 {
     let mut text = print_column(alloc, keys)?;
     let behind = print_column(alloc, values)?;
@@ -71,7 +72,8 @@ fn propagate_rows(
     keys: Rows<u32>,
     values: &Utf8ViewArray,
 ) -> PolarsResult<Option<(PrimitiveArray<u32>, Utf8ViewArray)>>
-    ensures rows { IfOk result (λ both. option_map (λ both. (primitive_rows both.0, utf8view_rows both.1)) both
+    ensures rows { IfOk result (λ both. option_map
+        (λ both. (primitive_rows both.0, utf8view_rows both.1)) both
         ≡ without_nulls (rows_of (λ n. Number (pos n)) keys) (utf8view_rows values.now)) }
     ensures refusal { IfErr result (λ fault. fault ≡ PolarsError.OutOfMemory) }
 {

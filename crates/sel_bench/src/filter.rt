@@ -60,7 +60,8 @@ fn filter_rows(
     column: Rows<i64>,
     mask: Rows<bool>,
 ) -> PolarsResult<Option<PrimitiveArray<i64>>>
-    ensures rows { IfOk result (λ kept. option_map (λ column. column_text (primitive_rows column)) kept
+    ensures rows { IfOk result (λ kept. option_map
+        (λ column. column_text (primitive_rows column)) kept
         ≡ filter_answer (rows_of Number column) (rows_of Truth mask)) }
     ensures refusal { IfErr result (λ fault. fault ≡ PolarsError.OutOfMemory) }
 {
@@ -79,7 +80,8 @@ fn filter_column(
     mask: &BooleanArray,
 ) -> PolarsResult<PrimitiveArray<i64>>
     requires { length (primitive_rows column) ≡ length (boolean_rows mask.now) }
-    ensures rows { IfOk result (λ kept. primitive_rows kept ≡ select (primitive_rows column) (in_force (boolean_rows mask.now))) }
+    ensures rows { IfOk result (λ kept. primitive_rows kept ≡
+        select (primitive_rows column) (in_force (boolean_rows mask.now))) }
     ensures refusal { IfErr result (λ fault. fault ≡ PolarsError.OutOfMemory) }
 {
     let array = column.into_ref();

@@ -70,7 +70,8 @@ fn parse_part(alloc: Global, word: &str) -> Result<Option<Part>, AllocError>
 
 fn parse_halves(alloc: Global, halves: &[&str]) -> Result<Option<Part>, AllocError>
     requires { All (λ half. length half.now ≤ longest_line) halves.now }
-    ensures { IfOk result (λ part. option_map read_part part ≡ part_of_halves (map (λ half. half.now) halves.now)) }
+    ensures { IfOk result (λ part. option_map read_part part ≡
+        part_of_halves (map (λ half. half.now) halves.now)) }
 {
     if halves.len() != 2 {
         return Ok(None);
@@ -134,7 +135,8 @@ fn widths_of(alloc: Global, parts: &[Part]) -> PolarsResult<Vec<usize>>
 }
 
 fn arrays_of(alloc: Global, parts: Vec<Part>) -> PolarsResult<Vec<ArrayRef>>
-    ensures rows { IfOk result (λ arrays. map (λ a. rows a.column) arrays.items ≡ map (λ part. primitive_rows part.column) parts.items) }
+    ensures rows { IfOk result (λ arrays. map (λ a. rows a.column) arrays.items ≡
+        map (λ part. primitive_rows part.column) parts.items) }
     ensures dtype { IfOk result (λ arrays. All (λ a. type_of a.column ≡ of_int64) arrays.items) }
     ensures refusal { IfErr result (λ fault. fault ≡ PolarsError.OutOfMemory) }
 {

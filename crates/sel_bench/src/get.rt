@@ -34,7 +34,8 @@ pub fn answer_get(alloc: Global, words: &[&str]) -> Result<Option<String>, Alloc
 }
 
 fn answer_lists(alloc: Global, lists: Lists, index: i64) -> Result<String, AllocError>
-    ensures { IfOk result (λ text. (read : List Value) → HasRead read lists → string_bytes text ≡ column_text (list_get read index)) }
+    ensures { IfOk result (λ text. (read : List Value) →
+        HasRead read lists → string_bytes text ≡ column_text (list_get read index)) }
 {
     let array = lists.into_array(alloc)?;
     let taken = sublist_get(alloc, &array, index);

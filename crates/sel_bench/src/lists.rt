@@ -83,7 +83,8 @@ pub fn parse_row(alloc: Global, word: &str) -> Result<Option<Option<Rows<i64>>>,
 }
 
 fn push_row(lists: &mut Lists, row: Option<Rows<i64>>) -> Result<(), AllocError>
-    ensures { (read : List Value) → HasRead read lists.old → OnOk result (HasRead (read ++ shown_list row ∷ []) lists.new) }
+    ensures { (read : List Value) → HasRead read lists.old →
+        OnOk result (HasRead (read ++ shown_list row ∷ []) lists.new) }
 {
     match row {
         None => push_null(lists),
@@ -92,7 +93,8 @@ fn push_row(lists: &mut Lists, row: Option<Rows<i64>>) -> Result<(), AllocError>
 }
 
 fn push_null(lists: &mut Lists) -> Result<(), AllocError>
-    ensures { (read : List Value) → HasRead read lists.old → OnOk result (HasRead (read ++ shown_list None ∷ []) lists.new) }
+    ensures { (read : List Value) → HasRead read lists.old →
+        OnOk result (HasRead (read ++ shown_list None ∷ []) lists.new) }
 {
     lists.ends.push(lists.values.len() as i64)?;
     lists.validity.push(false)?;
@@ -100,7 +102,8 @@ fn push_null(lists: &mut Lists) -> Result<(), AllocError>
 }
 
 fn push_list(lists: &mut Lists, items: Rows<i64>) -> Result<(), AllocError>
-    ensures { (read : List Value) → HasRead read lists.old → OnOk result (HasRead (read ++ shown_list (Some items) ∷ []) lists.new) }
+    ensures { (read : List Value) → HasRead read lists.old →
+        OnOk result (HasRead (read ++ shown_list (Some items) ∷ []) lists.new) }
 {
     let Rows { values, validity } = items;
     lists.values.extend_from_slice(&values)?;
@@ -114,7 +117,8 @@ impl Lists {
     /// The column of these lists. They came from one line, so that they are never more than a column may have; then the one
     /// refusal of its makers is want of memory.
     pub fn into_array(self, alloc: Global) -> Result<ListArray<i64>, AllocError>
-        ensures rows { IfOk result (λ array. (read : List Value) → HasRead read self → rows (list_column array) ≡ read) }
+        ensures rows { IfOk result (λ array. (read : List Value) →
+            HasRead read self → rows (list_column array) ≡ read) }
         ensures dtype { IfOk result (λ array. type_of array.values.value ≡ of_int64) }
     {
         let Lists {
@@ -139,7 +143,8 @@ impl Lists {
 
 /// The column of items, and of which of them are valid.
 pub fn items_of(alloc: Global, values: Vec<i64>, flags: &[bool]) -> Result<ArrayRef, AllocError>
-    ensures rows { IfOk result (λ items. rows items.column ≡ hidden flags.now (map Number values.items)) }
+    ensures rows { IfOk result (λ items. rows items.column ≡
+        hidden flags.now (map Number values.items)) }
     ensures dtype { IfOk result (λ items. type_of items.column ≡ of_int64) }
 {
     let Ok(flags) = Bitmap::from_bools(alloc, flags) else {

@@ -31,7 +31,8 @@ pub fn read_line<R: Read>(reader: &mut Counted<R>, line: &mut Vec<u8>) -> Result
     ensures err { OnErr result ((rest : List ℕ) × HasNoFeed rest
         × Consumes (R.remaining (inner_of reader.old)) (R.remaining (inner_of reader.new)) rest) }
     ensures fault { IfErr result (λ e. e ≢ RunError.Output) }
-    ensures failures { failures_of reader.new ≡ counted_up (is_input_fault result) (failures_of reader.old) }
+    ensures failures { failures_of reader.new ≡
+        counted_up (is_input_fault result) (failures_of reader.old) }
 {
     line.clear();
     for _ in 0..LONGEST_LINE + 1 {
@@ -49,9 +50,11 @@ fn read_byte<R: Read>(reader: &mut Counted<R>) -> Result<Option<u8>, RunError>
     ensures ok { IfOk result (λ byte.
         Consumes (R.remaining (inner_of reader.old)) (R.remaining (inner_of reader.new)) (option_to_list byte)) }
     ensures end { IfOk result (λ byte. IfNone byte (IsAtEnd (R.remaining (inner_of reader.new)))) }
-    ensures err { OnErr result (Keeps (R.remaining (inner_of reader.old)) (R.remaining (inner_of reader.new))) }
+    ensures err { OnErr result (Keeps (R.remaining (inner_of reader.old))
+        (R.remaining (inner_of reader.new))) }
     ensures fault { IfErr result (λ e. e ≡ RunError.Input) }
-    ensures failures { failures_of reader.new ≡ counted_up (is_err result) (failures_of reader.old) }
+    ensures failures { failures_of reader.new ≡
+        counted_up (is_err result) (failures_of reader.old) }
 {
     let mut byte = [0];
     match reader.read(&mut byte) {

@@ -26,7 +26,8 @@ impl<T: NativeType> Rows<T> {
 
     /// The column of these numbers. Refuses only for want of memory.
     pub fn into_primitive(self, alloc: Global) -> PolarsResult<PrimitiveArray<T>>
-        ensures rows { IfOk result (λ column. primitive_rows column ≡ rows_of (λ x. Number (T.number x)) self) }
+        ensures rows { IfOk result (λ column. primitive_rows column ≡
+            rows_of (λ x. Number (T.number x)) self) }
         ensures refusal { IfErr result (λ fault. fault ≡ PolarsError.OutOfMemory) }
     {
         let Rows { values, validity } = self;

@@ -57,7 +57,8 @@ pub fn run<R: Read, W: Write>(
 ) -> Result<Done, RunError>
     requires reader_whole { failures_of reader.old ≡ 0 }
     requires writer_whole { failures_of writer.old ≡ 0 }
-    ensures runs { Runs result (R.remaining (inner_of reader.old)) (R.remaining (inner_of reader.new))
+    ensures runs { Runs result (R.remaining (inner_of reader.old))
+        (R.remaining (inner_of reader.new))
         (W.contents (inner_of writer.old)) (W.contents (inner_of writer.new)) }
     ensures input { failures_of reader.new ≡ (if is_input_fault result then 1 else 0) }
     ensures output { failures_of writer.new ≡ (if is_output_fault result then 1 else 0) }
@@ -80,10 +81,13 @@ fn serve_line<R: Read, W: Write>(
     reader: &mut Counted<R>,
     writer: &mut Counted<W>,
 ) -> Result<Option<Done>, RunError>
-    ensures step { Step number result (R.remaining (inner_of reader.old)) (R.remaining (inner_of reader.new))
+    ensures step { Step number result (R.remaining (inner_of reader.old))
+        (R.remaining (inner_of reader.new))
         (W.contents (inner_of writer.old)) (W.contents (inner_of writer.new)) }
-    ensures input { failures_of reader.new ≡ counted_up (is_input_fault result) (failures_of reader.old) }
-    ensures output { failures_of writer.new ≡ counted_up (is_output_fault result) (failures_of writer.old) }
+    ensures input { failures_of reader.new ≡
+        counted_up (is_input_fault result) (failures_of reader.old) }
+    ensures output { failures_of writer.new ≡
+        counted_up (is_output_fault result) (failures_of writer.old) }
 {
     let end = read_line(reader, line)?;
     let Reply { text, is_good } = reply_to(alloc, number, line, end)?;
@@ -111,7 +115,8 @@ struct Reply {
 // What is written for the bytes that were read, which have one line or none.
 #[tactic(auto, unfolding(crate::specs::Output::output_from, crate::specs::Output::first_bad_from))]
 fn reply_to(alloc: Global, number: u64, line: &[u8], end: LineEnd) -> Result<Reply, AllocError>
-    ensures text { IfOk result (λ reply. string_bytes reply.text ≡ output_from number (lines_in end line.now)) }
+    ensures text { IfOk result (λ reply. string_bytes reply.text ≡
+        output_from number (lines_in end line.now)) }
     ensures good { IfOk result (λ reply.
         first_bad_from number (lines_in end line.now) ≡ (if reply.is_good then None else Some number)) }
 {
@@ -126,7 +131,8 @@ fn reply_to(alloc: Global, number: u64, line: &[u8], end: LineEnd) -> Result<Rep
 
 #[tactic(auto, unfolding(crate::specs::Output::output_from, crate::specs::Output::first_bad_from))]
 fn reply_to_line(alloc: Global, number: u64, line: &[u8]) -> Result<Reply, AllocError>
-    ensures text { IfOk result (λ reply. string_bytes reply.text ≡ output_from number (line.now ∷ [])) }
+    ensures text { IfOk result (λ reply. string_bytes reply.text ≡
+        output_from number (line.now ∷ [])) }
     ensures good { IfOk result (λ reply.
         first_bad_from number (line.now ∷ []) ≡ (if reply.is_good then None else Some number)) }
 {

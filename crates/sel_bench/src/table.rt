@@ -107,7 +107,8 @@ fn select_read(
         option_map (λ selected. rows_of_each selected.items) selected
         ≡ selected_rows (rows_of Truth mask) (rows_of (λ n. Number (pos n)) indices)
         (rows_of_each columns.now)) }
-    ensures dtype { IfOk result (λ selected. IfSome selected (λ selected. AreNumbers selected.items)) }
+    ensures dtype { IfOk result (λ selected. IfSome selected
+        (λ selected. AreNumbers selected.items)) }
     ensures refusal { IfErr result (λ fault. fault ≡ PolarsError.OutOfMemory) }
 {
     let mask = mask.into_boolean(alloc)?;
@@ -127,7 +128,8 @@ fn select_columns(
         option_map (λ selected. rows_of_each selected.items) selected
         ≡ selected_rows (boolean_rows mask.now) (primitive_rows indices.now)
         (rows_of_each columns.now)) }
-    ensures dtype { IfOk result (λ selected. IfSome selected (λ selected. AreNumbers selected.items)) }
+    ensures dtype { IfOk result (λ selected. IfSome selected
+        (λ selected. AreNumbers selected.items)) }
     ensures refusal { IfErr result (λ fault. fault ≡ PolarsError.OutOfMemory) }
 {
     if !select_is_safe(columns, mask, indices) {

@@ -56,7 +56,8 @@ fn take_rows(
     column: Rows<i64>,
     indices: Rows<u32>,
 ) -> PolarsResult<Option<PrimitiveArray<i64>>>
-    ensures rows { IfOk result (λ taken. option_map (λ column. column_text (primitive_rows column)) taken
+    ensures rows { IfOk result (λ taken. option_map
+        (λ column. column_text (primitive_rows column)) taken
         ≡ take_answer (rows_of Number column) (rows_of (λ n. Number (pos n)) indices)) }
     ensures refusal { IfErr result (λ fault. fault ≡ PolarsError.OutOfMemory) }
 {
@@ -74,7 +75,8 @@ fn take_column(
     column: &PrimitiveArray<i64>,
     indices: &IdxArr,
 ) -> PolarsResult<Option<PrimitiveArray<i64>>>
-    ensures rows { IfOk result (λ taken. option_map (λ rows. column_text (primitive_rows rows)) taken
+    ensures rows { IfOk result (λ taken. option_map
+        (λ rows. column_text (primitive_rows rows)) taken
         ≡ take_answer (primitive_rows column.now) (primitive_rows indices.now)) }
     ensures refusal { IfErr result (λ fault. fault ≡ PolarsError.OutOfMemory) }
 {

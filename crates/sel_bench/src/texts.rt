@@ -36,7 +36,8 @@ pub fn parse_texts(alloc: Global, word: &str) -> Result<Option<Utf8ViewArray>, A
 
 fn parse_rows(alloc: Global, word: &str) -> Result<Option<Vec<Option<&str>>>, AllocError>
     requires { length word.now ≤ longest_line }
-    ensures { IfOk result (λ rows. option_map (λ rows. map text_row rows.items) rows ≡ column_of text_of word.now) }
+    ensures { IfOk result (λ rows. option_map (λ rows. map text_row rows.items) rows ≡
+        column_of text_of word.now) }
 {
     if word == "-" {
         return Ok(Some(Vec::new(alloc)));

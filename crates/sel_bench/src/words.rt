@@ -7,9 +7,11 @@ use std::alloc::{AllocError, Global};
 /// The parts of a text between its separators, at least one.
 pub fn split_at_each(alloc: Global, text: &str, separator: char) -> Result<Vec<&str>, AllocError>
     requires { separator < 128 }
-    ensures parts { IfOk result (λ parts. map (λ part. part.now) parts.items ≡ slice_split (λ b. b == separator) text.now) }
+    ensures parts { IfOk result (λ parts. map (λ part. part.now) parts.items ≡
+        slice_split (λ b. b == separator) text.now) }
     ensures count { IfOk result (λ parts. length parts.items ≤ length text.now + 1) }
-    ensures lengths { IfOk result (λ parts. All (λ part. length part.now ≤ length text.now) parts.items) }
+    ensures lengths { IfOk result (λ parts. All
+        (λ part. length part.now ≤ length text.now) parts.items) }
 {
     let mut parts = Vec::new(alloc);
     for part in text.split(separator) {

@@ -9,11 +9,13 @@ use std::io::Write;
 
 /// Writes all of the text. A write that takes nothing is a fault, and so is one that fails.
 pub fn send<W: Write>(writer: &mut Counted<W>, text: &[u8]) -> Result<(), RunError>
-    ensures ok { OnOk result (Appends (W.contents (inner_of writer.old)) (W.contents (inner_of writer.new)) text.now) }
+    ensures ok { OnOk result (Appends (W.contents (inner_of writer.old))
+        (W.contents (inner_of writer.new)) text.now) }
     ensures err { OnErr result ((sent : ℕ)
         × Appends (W.contents (inner_of writer.old)) (W.contents (inner_of writer.new)) (take sent text.now)) }
     ensures fault { IfErr result (λ e. e ≡ RunError.Output) }
-    ensures failures { failures_of writer.new ≡ counted_up (is_err result) (failures_of writer.old) }
+    ensures failures { failures_of writer.new ≡
+        counted_up (is_err result) (failures_of writer.old) }
 {
     let mut sent = 0;
     while sent < text.len() {
@@ -32,7 +34,8 @@ pub fn send<W: Write>(writer: &mut Counted<W>, text: &[u8]) -> Result<(), RunErr
 pub fn flush<W: Write>(writer: &mut Counted<W>) -> Result<(), RunError>
     ensures bytes { Keeps (W.contents (inner_of writer.old)) (W.contents (inner_of writer.new)) }
     ensures fault { IfErr result (λ e. e ≡ RunError.Output) }
-    ensures failures { failures_of writer.new ≡ counted_up (is_err result) (failures_of writer.old) }
+    ensures failures { failures_of writer.new ≡
+        counted_up (is_err result) (failures_of writer.old) }
 {
     match writer.flush() {
         Ok(()) => Ok(()),
