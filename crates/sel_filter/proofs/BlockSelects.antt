@@ -31,9 +31,9 @@ module _ (v m : ℕ) (v_fits : v < 2 ^ 56) (m_fits : m < 2 ^ 56) where
       ∙ ap (select (bits 56 v ++ replicate 8 false)) (wide m m_fits)
       ∙ select_padded (bits 56 v) (bits 56 m) 8 (length_bits 56 v ∙ sym (length_bits 56 m))
 
-  compress_is : compress v m ≡ word_of (select (bits 56 v) (bits 56 m))
+  pub compress_block : compress v m ≡ word_of (select (bits 56 v) (bits 56 m))
   unfolding compress
-  compress_is = ap word_of both
+  compress_block = ap word_of both
 
   long : length (select (bits 56 v) (bits 56 m)) ≡ count_ones m
   long = length-select (bits 56 v) (bits 56 m) (length_bits 56 v ∙ sym (length_bits 56 m)) ∙ sym (ones_is 56 m m_fits)
@@ -42,13 +42,13 @@ module _ (v m : ℕ) (v_fits : v < 2 ^ 56) (m_fits : m < 2 ^ 56) where
   few_ones = omega (arith, ones_is 56 m m_fits, count_by-le-length (λ b. b) (bits 56 m), length_bits 56 m)
 
   pub compress_fits : compress v m < 2 ^ count_ones m
-  compress_fits = rw compress_is (subst (λ k. word_of (select (bits 56 v) (bits 56 m)) < 2 ^ k) long (word_of_lt (select (bits 56 v) (bits 56 m))))
+  compress_fits = rw compress_block (subst (λ k. word_of (select (bits 56 v) (bits 56 m)) < 2 ^ k) long (word_of_lt (select (bits 56 v) (bits 56 m))))
 
   pub compress_bits : bits (count_ones m) (compress v m) ≡ select (bits 56 v) (bits 56 m)
   compress_bits =
       let s = select (bits 56 v) (bits 56 m) in
       let none : count_ones m - length s ≡ 0 = omega (arith, long) in
-      ap (bits (count_ones m)) compress_is ∙ bits_word_of s (count_ones m) (omega (arith, long)) ∙ ap (λ k. s ++ replicate k false) none ∙ append-nil s
+      ap (bits (count_ones m)) compress_block ∙ bits_word_of s (count_ones m) (omega (arith, long)) ∙ ap (λ k. s ++ replicate k false) none ∙ append-nil s
 
 pub select_empty : (v m : ℕ) → m ≡ 0 → select (bits 56 v) (bits 56 m) ≡ []
 select_empty v m none = ap (λ x. select (bits 56 v) (bits 56 x)) none ∙ ap (select (bits 56 v)) (bits_of_zero 56) ∙ select_none (bits 56 v) 56
