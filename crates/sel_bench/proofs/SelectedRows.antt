@@ -18,7 +18,7 @@ use Rattle.sel_arrow.proofs.Lists.{all_at, and_first, and_second}
 use Rattle.polars_compute.specs.Need.{IsRefusal, past}
 use Rattle.polars_compute.specs.Pick.{take_rows, all_within}
 use Rattle.polars_compute.specs.Select.{select, in_force, is_true}
-use Rattle.polars_compute.proofs.Selects.{length-select}
+use Rattle.sel_filter.proofs.Selects.{length-select}
 use Rattle.sel_bench.specs.Columns.{all_some, column_of}
 use Rattle.sel_bench.specs.Numbers.{index_of, number_of, truth_of}
 use Rattle.sel_bench.specs.SelectRows.{rows_of_each, type_of_each, select_rows_of, selection_fits, past_selected}

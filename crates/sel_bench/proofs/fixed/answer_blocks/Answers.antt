@@ -15,7 +15,7 @@ returns-in-Ok c =
     IfOk-weaker c.print_column.result _ _
     (λ text made read has.
     made ∙ ap column_text (c.numbers_of.ensures ∙ c.in-Ok.ensures.rows)
-    ∙ entries_printed arr c.args.width read index c.args.null_on_oob (c.in_ok-array.ensures.rows read has) c.in_ok-array.ensures.size c.in-Ok.ensures.within
+    ∙ entries_printed arr c.args.width read index c.args.null_on_oob (c.in_ok-array.ensures.rows read has) c.in_ok-array.ensures.size c.in-Ok.ensures.inside
     ∙ ap (λ z. entries_text c.args.width read (replicate (length read) (Number z)) c.args.null_on_oob) (to_z-of_z w64 c.args.index c.ranges.index))
     c.print_column.ensures
 
