@@ -77,7 +77,8 @@ fn choose_columns(
     if_false: &PrimitiveArray<i64>,
 ) -> PolarsResult<Option<PrimitiveArray<i64>>>
     ensures rows { IfOk result (λ chosen. option_map (λ column. primitive_rows column) chosen
-        ≡ chosen_rows (boolean_rows mask.now) (primitive_rows if_true.now) (primitive_rows if_false.now)) }
+        ≡ chosen_rows (boolean_rows mask.now)
+        (primitive_rows if_true.now) (primitive_rows if_false.now)) }
     ensures refusal { IfErr result (λ fault. fault ≡ PolarsError.OutOfMemory) }
 {
     if mask.has_nulls() {

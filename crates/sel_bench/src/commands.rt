@@ -46,7 +46,8 @@ fn answer_words(alloc: Global, words: &[&str]) -> Result<Option<String>, AllocEr
 fn answer_command(alloc: Global, name: &str, words: &[&str]) -> Result<Option<String>, AllocError>
     requires { All (λ word. length word.now ≤ longest_line) words.now }
     ensures { IfOk result (λ answer.
-        option_map string_bytes answer ≡ answer_of_command name.now (map (λ word. word.now) words.now)) }
+        option_map string_bytes answer ≡
+        answer_of_command name.now (map (λ word. word.now) words.now)) }
 {
     if name == "filter" {
         return answer_filter(alloc, words);

@@ -112,9 +112,12 @@ fn flatten_parts(
     height: usize,
 ) -> PolarsResult<Option<PrimitiveArray<i64>>>
     ensures rows { IfOk result (λ flat. option_map (λ column. primitive_rows column) flat
-        ≡ side_by_side height (map (λ part. primitive_rows part.column) parts.items) (map (λ part. part.width) parts.items)) }
+        ≡ side_by_side height (map (λ part. primitive_rows part.column) parts.items)
+        (map (λ part. part.width) parts.items)) }
     ensures refusal { IfErr result (IsRefusal (λ _.
-        option_map flat_text (side_by_side height (map (λ part. primitive_rows part.column) parts.items) (map (λ part. part.width) parts.items)) ≡ Some (codes "size limit rows"))) }
+        option_map flat_text (side_by_side height
+        (map (λ part. primitive_rows part.column) parts.items)
+        (map (λ part. part.width) parts.items)) ≡ Some (codes "size limit rows"))) }
 {
     let widths = widths_of(alloc, &parts)?;
     let arrays = arrays_of(alloc, parts)?;
@@ -158,7 +161,8 @@ fn flatten_columns(
     ensures rows { IfOk result (λ flat. option_map (λ column. primitive_rows column) flat
         ≡ side_by_side height (map (λ a. rows a.column) arrays.now) widths.now) }
     ensures refusal { IfErr result (IsRefusal (λ _.
-        option_map flat_text (side_by_side height (map (λ a. rows a.column) arrays.now) widths.now) ≡ Some (codes "size limit rows"))) }
+        option_map flat_text (side_by_side height (map (λ a. rows a.column) arrays.now)
+        widths.now) ≡ Some (codes "size limit rows"))) }
 {
     if !flatten_is_safe(arrays, widths, height) {
         return Ok(None);

@@ -118,7 +118,8 @@ fn reply_to(alloc: Global, number: u64, line: &[u8], end: LineEnd) -> Result<Rep
     ensures text { IfOk result (λ reply. string_bytes reply.text ≡
         output_from number (lines_in end line.now)) }
     ensures good { IfOk result (λ reply.
-        first_bad_from number (lines_in end line.now) ≡ (if reply.is_good then None else Some number)) }
+        first_bad_from number (lines_in end line.now) ≡
+        (if reply.is_good then None else Some number)) }
 {
     if line.is_empty() && end != LineEnd::Feed {
         return Ok(Reply {

@@ -121,7 +121,8 @@ fn copy_runs<T: Copy>(out: &mut BlockCopy<'_, T>, start: usize, word: u64) -> Po
         (bits (length out.old.source - start) word) < 2 ^ 64 }
     ensures appended { OnOk result
         (out.new.items
-        ≡ out.old.items ++ select (drop start out.old.source) (bits (length out.old.source - start) word)) }
+        ≡ out.old.items ++ select (drop start out.old.source)
+        (bits (length out.old.source - start) word)) }
     ensures source { out.new.source ≡ out.old.source }
     ensures counted { OnOk result
         (out.new.copies

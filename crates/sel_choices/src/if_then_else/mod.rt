@@ -48,7 +48,8 @@ pub trait IfThenElseKernel: Sized + Array {
     ghost is_own: { Shape → Type 0 };
 
     /// Which limits a choice between the two sides passes that is of this type and has these rows.
-    ghost past: { Shape → Side Self Self.Scalar → Side Self Self.Scalar → List Value → Limit → Type 0 };
+    ghost past: { Shape → Side Self Self.Scalar → Side Self Self.Scalar → List Value →
+        Limit → Type 0 };
 
     /// The choice between two columns of one type.
     fn if_then_else(
