@@ -9,6 +9,7 @@ use crate::faults::{PolarsError, PolarsResult};
 use crate::number::load_padded_le_u64;
 use crate::operations::{Not, word_by};
 use crate::packer::{BitPacker, MOST_BITS};
+use crate::words::count_set;
 use std::alloc::Global;
 use std::marker::Model;
 use std::rc::RcSlice;
@@ -144,14 +145,8 @@ impl Bitmap {
     pub fn set_bits(&self) -> usize
         ensures { result ≡ count_true self.now.bits }
     {
-        let mut count = 0;
-        let mut at = 0;
-        while at < self.len() {
-            let len = (self.len() - at).min(MOST_BITS);
-            count += self.word_at(at, len).count_ones() as usize;
-            at += len;
-        }
-        count
+        let (bytes, shift, len) = self.as_slice();
+        count_set(bytes, shift, len)
     }
 
     /// How many bits are false.

@@ -13,3 +13,4 @@ pub mod number;
 pub mod offsets;
 pub mod operations;
 pub mod packer;
+mod words;
