@@ -9,7 +9,7 @@ use crate::faults::{PolarsError, PolarsResult};
 use crate::number::load_padded_le_u64;
 use crate::operations::{Not, word_by};
 use crate::packer::{BitPacker, MOST_BITS};
-use crate::words::count_set;
+use crate::words::{count_set, whole_word};
 use std::alloc::Global;
 use std::marker::Model;
 use std::rc::RcSlice;
@@ -139,6 +139,16 @@ impl Bitmap {
         } else {
             word & ((1 << len) - 1)
         }
+    }
+
+    /// The word of the 64 bits from bit `at` on.
+    #[inline]
+    pub(crate) fn whole_word_at(&self, at: usize) -> u64
+        requires { at + 64 ≤ length self.now.bits }
+        ensures { result ≡ word_of (take 64 (drop at self.now.bits)) }
+    {
+        let first = self.offset + at;
+        whole_word(&self.bytes, first / 8, first % 8)
     }
 
     /// How many bits are true.

@@ -22,7 +22,7 @@ pub(crate) fn count_set(bytes: &[u8], shift: usize, len: usize) -> usize
 
 /// The word of the 64 bits from bit `shift` of byte `at` on. No test of a length is left in it.
 #[inline]
-fn whole_word(bytes: &[u8], at: usize, shift: usize) -> u64
+pub(crate) fn whole_word(bytes: &[u8], at: usize, shift: usize) -> u64
     requires shift { shift < 8 }
     requires within { 8 * at + shift + 64 ≤ 8 * length bytes.now }
     ensures { result ≡ word_of (bits_from (drop at bytes.now) shift 64) }
