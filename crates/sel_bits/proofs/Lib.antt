@@ -4,6 +4,7 @@ pub mod Combining
 pub mod Counts
 pub mod Extended
 pub mod Lists
+pub mod Loads
 pub mod OffsetLemmas
 pub mod Packed
 pub mod Packs

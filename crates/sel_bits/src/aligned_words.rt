@@ -76,9 +76,15 @@ impl<'a> AlignedWords<'a> {
         }
         let room = 64 - (bitmap.offset() + self.at) % 64;
         let count = left.min(room);
+        self.words += 1;
+        // (whole words in the middle, of which nothing is cut off)
+        if count == 64 {
+            let word = bitmap.whole_word_at(self.at);
+            self.at += 64;
+            return Some((word, 64));
+        }
         let word = bitmap.word_at(self.at, count);
         self.at += count;
-        self.words += 1;
         Some((word, count))
     }
 }

@@ -9,6 +9,7 @@ use crate::faults::{PolarsError, PolarsResult};
 use crate::number::load_padded_le_u64;
 use crate::operations::{Not, word_by};
 use crate::packer::{BitPacker, MOST_BITS};
+use crate::words::{count_set, whole_word};
 use std::alloc::Global;
 use std::marker::Model;
 use std::rc::RcSlice;
@@ -144,18 +145,22 @@ impl Bitmap {
         }
     }
 
+    /// The word of the 64 bits from bit `at` on.
+    #[inline]
+    pub(crate) fn whole_word_at(&self, at: usize) -> u64
+        requires { at + 64 ≤ length self.now.bits }
+        ensures { result ≡ word_of (take 64 (drop at self.now.bits)) }
+    {
+        let first = self.offset + at;
+        whole_word(&self.bytes, first / 8, first % 8)
+    }
+
     /// How many bits are true.
     pub fn set_bits(&self) -> usize
         ensures { result ≡ count_true self.now.bits }
     {
-        let mut count = 0;
-        let mut at = 0;
-        while at < self.len() {
-            let len = (self.len() - at).min(MOST_BITS);
-            count += self.word_at(at, len).count_ones() as usize;
-            at += len;
-        }
-        count
+        let (bytes, shift, len) = self.as_slice();
+        count_set(bytes, shift, len)
     }
 
     /// How many bits are false.
