@@ -1,0 +1,181 @@
+"""Columns in and out, and each kernel beside its definition over plain lists."""
+
+from __future__ import annotations
+
+import random
+import unittest
+
+import model
+import sel
+from sel import Column, Type
+
+CASES = 1000
+
+
+class Columns(unittest.TestCase):
+    def test_every_kind_in_and_out(self) -> None:
+        for text, rows in (
+            ("null", [None, None]), ("bool", [True, None, False]), ("i8", [-128, None, 127]), ("u16", [65535, 0]),
+            ("i128", [-(2**127), None, 2**127 - 1]), ("u128", [2**128 - 1]), ("binary", [b"", None, b"a\0b"]),
+            ("binview", [b"twelve bytes", b"thirteen byte", None]), ("utf8", ["", "é√", None, "longer than twelve"]),
+            ("list<i64>", [[1, None], None, []]), ("fixed<2,bool>", [[True, None], None]), ("struct<i64,utf8>", [(1, "a"), None, (None, None)]),
+            ("list<struct<fixed<1,i8>,list<utf8>>>", [[([1], ["x"]), None], None, [(None, None)]]),
+        ):
+            column = Column.from_pylist(rows, text)
+            self.assertEqual(str(column.type), text)
+            self.assertEqual(column.to_pylist(), rows)
+            self.assertEqual(len(column), len(rows))
+            self.assertEqual(column.null_count, sum(row is None for row in rows))
+
+    def test_random_columns_in_and_out(self) -> None:
+        rng = random.Random(1)
+        for _ in range(CASES):
+            wanted = model.random_type(rng, 3)
+            rows = model.random_rows(rng, wanted, rng.randrange(12))
+            column = Column.from_pylist(rows, wanted)
+            self.assertEqual(column.to_pylist(), rows)
+            self.assertEqual(column.type, wanted)
+            start = rng.randrange(len(rows) + 1)
+            self.assertEqual(column[start:].to_pylist(), rows[start:])
+
+    def test_random_columns_through_arrow(self) -> None:
+        rng = random.Random(2)
+        for _ in range(CASES):
+            wanted = model.random_type(rng, 3, but=("u128",))
+            rows = model.random_rows(rng, wanted, rng.randrange(12))
+            start = rng.randrange(len(rows) + 1)
+            part = Column.from_pylist(rows, wanted)[start:]
+            again = Column.from_arrow(part)
+            self.assertEqual(again.to_pylist(), rows[start:])
+            self.assertEqual(again.type, wanted)
+            self.assertTrue(again.equals(part))
+
+    def test_shown(self) -> None:
+        self.assertEqual(repr(Column.from_pylist([1, None])), "Column(i64, [1, None])")
+        self.assertEqual(repr(Column.from_pylist(list(range(13)), "u8")), "Column(u8, [0, 1, 2, 3, 4, 5, 6, 7, 8, 9, 10, 11, ... 1 more])")
+        self.assertEqual(Column.from_pylist(["a", "b"])[-1], "b")
+
+    def test_types_are_read(self) -> None:
+        self.assertEqual(sel.parse_type(" fixed< 2 , list<i8> > "), Type("fixed", (Type("list", (Type("i8"),)),), 2))
+        for text in ("", "i7", "list", "list<", "list<i8", "list<i8,i8>", "fixed<i8>", "fixed<2>", "i8>", "struct<i8"):
+            with self.assertRaises(ValueError, msg=text):
+                sel.parse_type(text)
+
+
+class Kernels(unittest.TestCase):
+    def test_of_columns_that_came_through_arrow(self) -> None:
+        rng = random.Random(3)
+        for _ in range(CASES):
+            wanted = model.random_type(rng, 3, but=("u128",))
+            rows = model.random_rows(rng, wanted, rng.randrange(1, 12))
+            other = model.random_rows(rng, wanted, len(rows))
+            column = Column.from_arrow(Column.from_pylist(rows, wanted))
+            mask = [rng.choice((True, False, None)) for _ in rows]
+            indices = [rng.choice((None, rng.randrange(len(rows)))) for _ in range(rng.randrange(8))]
+            self.assertEqual(column.filter(mask).to_pylist(), model.kept(rows, mask))
+            self.assertEqual(column.take(indices).to_pylist(), model.taken(rows, indices))
+            answer = sel.choose(mask, column, Column.from_pylist(other, wanted))
+            self.assertEqual(answer.to_pylist(), model.chosen(mask, rows, other))
+            self.assertEqual(column.unit_list().to_pylist(), [[row] for row in rows])
+
+    def test_getters(self) -> None:
+        rng = random.Random(4)
+        for _ in range(CASES):
+            below, index = model.random_type(rng, 2), rng.randrange(-4, 4)
+            rows = model.random_rows(rng, Type("list", (below,)), rng.randrange(1, 10))
+            lists = Column.from_pylist(rows, Type("list", (below,)))
+            self.assertEqual(lists.sublist_get(index).to_pylist(), [model.element(row, index) for row in rows])
+            self.assertEqual(lists.index_is_oob(index), model.is_outside(rows, index))
+            wanted = Type("fixed", (below,), rng.randrange(4))
+            rows = model.random_rows(rng, wanted, rng.randrange(1, 10))
+            blocks = Column.from_pylist(rows, wanted)
+            self.assertEqual(blocks.fixed_get(index).to_pylist(), [model.element(row, index) for row in rows])
+            each = [rng.choice((None, rng.randrange(-4, 4))) for _ in rows]
+            expected = [None if at is None else model.element(row, at) for row, at in zip(rows, each)]
+            self.assertEqual(blocks.fixed_get(Column.from_pylist(each, "i64")).to_pylist(), expected)
+
+    def test_several_columns(self) -> None:
+        rng = random.Random(5)
+        for _ in range(CASES // 4):
+            wanted, height = model.random_type(rng, 2), rng.randrange(1, 5)
+            widths = [rng.randrange(1, 4) for _ in range(rng.randrange(1, 4))]
+            rows = [model.random_rows(rng, wanted, width * rng.choice((1, height))) for width in widths]
+            columns = [Column.from_pylist(each, wanted) for each in rows]
+            self.assertEqual(sel.flatten(columns, widths, height).to_pylist(), model.side_by_side(rows, widths, height))
+            places = [(source, row) for source, each in enumerate(rows) for row in range(len(each))]
+            picks = [rng.choice((None, rng.choice(places))) for _ in range(rng.randrange(9))]
+            expected = [None if pick is None else rows[pick[0]][pick[1]] for pick in picks]
+            self.assertEqual(sel.collect_rows(columns, picks).to_pylist(), expected)
+
+    def test_one_value_for_all_rows(self) -> None:
+        column = Column.from_pylist([1, None, 3])
+        mask = [True, False, None]
+        self.assertEqual(sel.choose(mask, 7, column).to_pylist(), [7, None, 3])
+        self.assertEqual(sel.choose(mask, column, 8).to_pylist(), [1, 8, 8])
+        self.assertEqual(sel.choose(mask, 7, 8).to_pylist(), [7, 8, 8])
+        self.assertEqual(sel.choose(mask, column, column).to_pylist(), [1, None, 3])
+
+    def test_dictionaries(self) -> None:
+        keys, values = Column.from_pylist([0, 1, 2, None], "u32"), Column.from_pylist(["a", None, "c"])
+        new_keys, new_values = sel.propagate_dictionary(keys, values)
+        self.assertEqual(new_keys.to_pylist(), [0, None, 1, None])
+        self.assertEqual(new_values.to_pylist(), ["a", "c"])
+
+
+class Refusals(unittest.TestCase):
+    def test_each_has_its_text(self) -> None:
+        column = Column.from_pylist([1, 2])
+        for error, call in (
+            (sel.WrongArgument, lambda: column.filter([True])),
+            (sel.WrongArgument, lambda: column.sublist_get(0)),
+            (sel.WrongArgument, lambda: sel.choose([True, True], column, Column.from_pylist(["a", "b"]))),
+            (sel.OutOfBounds, lambda: column.take([2])),
+            (sel.OutOfBounds, lambda: column.sliced(1, 2)),
+            (sel.OutOfBounds, lambda: Column.from_pylist([[1]], "fixed<1,i64>").fixed_get(1, null_on_oob=False)),
+            (sel.LimitPassed, lambda: sel.flatten([Column.from_pylist([None] * 65537)], [65537], 65536)),
+            (sel.BrokenRule, lambda: Column.from_pylist([2**127 - 1], "i128").__arrow_c_array__()),
+            (sel.BrokenRule, lambda: Column.from_pylist([1], "u128").__arrow_c_array__()),
+        ):
+            with self.assertRaises(error) as caught:
+                call()
+            self.assertTrue(caught.exception.text)
+        self.assertEqual(column.to_pylist(), [1, 2])
+
+    def test_values_of_another_type(self) -> None:
+        for rows, wanted in (([1.5], "i64"), ([True], "i8"), (["a"], "binary"), ([b"a"], "utf8"), ([1], "list<i64>"), ([(1,)], "list<i64>"), ([1], "null"), ([1], "bool")):
+            with self.assertRaises(TypeError):
+                Column.from_pylist(rows, wanted)
+        for rows, wanted in (([[1]], "fixed<2,i64>"), ([(1, 2)], "struct<i64>")):
+            with self.assertRaises(ValueError):
+                Column.from_pylist(rows, wanted)
+        with self.assertRaises(OverflowError):
+            Column.from_pylist([128], "i8")
+        with self.assertRaises(TypeError):
+            Column.from_arrow([1])
+
+
+try:
+    import numpy
+except ImportError:
+    numpy = None
+
+
+@unittest.skipIf(numpy is None, "numpy is not there")
+class Numpy(unittest.TestCase):
+    def test_in_and_out(self) -> None:
+        for name in ("int8", "int16", "int32", "int64", "uint8", "uint16", "uint32", "uint64", "bool"):
+            values = numpy.array([1, 0, 1, 1, 0, 1, 0, 0, 1], dtype=name)
+            column = Column.from_numpy(values)
+            numpy.testing.assert_array_equal(column.to_numpy(), values)
+            masked = Column.from_numpy(values, valid=values == 1)
+            self.assertEqual(masked.to_pylist(), [value if value == 1 else None for value in values.tolist()])
+            numpy.testing.assert_array_equal(masked.to_numpy().mask, values != 1)
+            numpy.testing.assert_array_equal(column.filter(values == 1).to_numpy(), values[values == 1])
+            numpy.testing.assert_array_equal(Column.from_numpy(values[::2]).to_numpy(), values[::2])
+        self.assertEqual(Column.from_numpy(numpy.array([], dtype="int64")).to_pylist(), [])
+        with self.assertRaises(TypeError):
+            Column.from_numpy(numpy.array([1.5]))
+
+
+if __name__ == "__main__":
+    unittest.main()

@@ -1,0 +1,51 @@
+//! What a call refuses.
+
+use crate::raw;
+use std::fmt;
+
+/// A refusal, by the number that `include/sel.h` gives it.
+#[derive(Clone, Copy, Debug, PartialEq, Eq)]
+#[non_exhaustive]
+pub enum Error {
+    /// Memory was wanting.
+    OutOfMemory,
+    /// A column of another kind, type or length than the call takes.
+    WrongArgument(u32),
+    /// An index, a key or a part names a row that there is not.
+    OutOfBounds(u32),
+    /// The answer would be more than a column may have.
+    Limit(u32),
+    /// The parts of a column break a rule.
+    Malformed(u32),
+}
+
+impl Error {
+    pub(crate) fn of(status: u32) -> Error {
+        match status {
+            1 => Error::OutOfMemory,
+            2..=5 => Error::WrongArgument(status),
+            6 | 7 => Error::OutOfBounds(status),
+            8..=11 => Error::Limit(status),
+            _ => Error::Malformed(status),
+        }
+    }
+
+    /// The library's number for it.
+    pub fn status(self) -> u32 {
+        match self {
+            Error::OutOfMemory => 1,
+            Error::WrongArgument(status) | Error::OutOfBounds(status) | Error::Limit(status) | Error::Malformed(status) => status,
+        }
+    }
+}
+
+impl fmt::Display for Error {
+    fn fmt(&self, f: &mut fmt::Formatter<'_>) -> fmt::Result {
+        let mut text = [0u8; 128];
+        // SAFETY: the pointer is valid for the length that is given.
+        let len = unsafe { raw::sel_status_text(self.status(), text.as_mut_ptr(), text.len()) };
+        f.write_str(&String::from_utf8_lossy(&text[..len.min(text.len())]))
+    }
+}
+
+impl std::error::Error for Error {}

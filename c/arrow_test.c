@@ -1,0 +1,283 @@
+/* Arrays in and out: each format, slices at every depth, and what is refused. Run under a checker of memory. */
+#include "sel_arrow.h"
+
+#include <stdio.h>
+#include <stdlib.h>
+#include <string.h>
+
+static int failures, released;
+
+#define CHECK(holds)                                                                                                    \
+    do {                                                                                                                \
+        if (!(holds)) {                                                                                                 \
+            printf("arrow_test.c:%d: %s\n", __LINE__, #holds);                                                          \
+            failures++;                                                                                                 \
+        }                                                                                                               \
+    } while (0)
+
+static void release_array(struct ArrowArray *array) {
+    released++;
+    array->release = NULL;
+}
+static void release_schema(struct ArrowSchema *schema) { schema->release = NULL; }
+static void keep_array(struct ArrowArray *array) { array->release = NULL; }
+
+static struct ArrowSchema type(const char *format) {
+    return (struct ArrowSchema){.format = format, .name = "", .flags = ARROW_FLAG_NULLABLE, .release = release_schema};
+}
+
+/* What an import of one level answers; the column, if there is one, goes to `out`. */
+static uint32_t import(const char *format, int64_t length, int64_t offset, int64_t n_buffers, const void **buffers, sel_column *out) {
+    struct ArrowArray array = {.length = length, .null_count = -1, .offset = offset, .n_buffers = n_buffers, .buffers = buffers, .release = release_array};
+    struct ArrowSchema schema = type(format);
+    released = 0;
+    uint32_t status = sel_import(&array, &schema, out);
+    CHECK(released == 1 && !array.release);
+    return status;
+}
+
+/* An import that is refused so, and leaves `out` as it was. */
+static void refuses(uint32_t status, const char *format, int64_t length, int64_t offset, int64_t n_buffers, const void **buffers) {
+    sel_column out = {0};
+    uint32_t answer = import(format, length, offset, n_buffers, buffers, &out);
+    if (answer != status) printf("format %s: %u, not %u\n", format, answer, status);
+    CHECK(answer == status && !out.at);
+    sel_free(&out);
+}
+
+static const uint8_t some_bits[2] = {0x6d, 0x01}; /* true at 0, 2, 3, 5, 6 and 8 */
+static const uint8_t some_text[] = "abcdefgh";
+
+static void numbers_come_in(void) {
+    const int32_t values[4] = {7, 8, -9, 10};
+    const void *buffers[2] = {some_bits, values};
+    int32_t rows[3];
+    uint8_t bits = 0;
+    bool has = false;
+    sel_column column = {0};
+    CHECK(import("i", 3, 1, 2, buffers, &column) == SEL_DONE);
+    CHECK(sel_kind(&column) == SEL_INT32 && sel_len(&column) == 3 && sel_null_count(&column) == 1);
+    CHECK(sel_int32_values(&column, rows, 3) == SEL_DONE && rows[1] == -9 && rows[2] == 10);
+    CHECK(sel_validity(&column, &bits, 1, &has) == SEL_DONE && has && (bits & 7) == 6);
+    sel_free(&column);
+    CHECK(import("i", 0, 0, 2, buffers, &column) == SEL_DONE && sel_len(&column) == 0);
+    sel_free(&column);
+}
+
+static void numbers_that_are_not_aligned_come_in(void) {
+    char room[33];
+    const int64_t values[4] = {1, 2, 3, 4};
+    int64_t rows[4];
+    memcpy(room + 1, values, sizeof values);
+    const void *buffers[2] = {NULL, room + 1};
+    sel_column column = {0};
+    CHECK(import("l", 4, 0, 2, buffers, &column) == SEL_DONE);
+    CHECK(sel_int64_values(&column, rows, 4) == SEL_DONE && !memcmp(rows, values, sizeof rows));
+    sel_free(&column);
+}
+
+static void truth_values_come_in(void) {
+    const void *buffers[2] = {NULL, some_bits};
+    uint8_t bits = 0;
+    sel_column column = {0};
+    CHECK(import("b", 6, 3, 2, buffers, &column) == SEL_DONE && sel_kind(&column) == SEL_BOOLEAN);
+    CHECK(sel_boolean_values(&column, &bits, 1) == SEL_DONE && (bits & 0x3f) == 0x2d);
+    sel_free(&column);
+}
+
+static void bytes_and_texts_come_in(void) {
+    const int32_t narrow[4] = {2, 4, 4, 8};
+    const int64_t wide[4] = {2, 4, 4, 8};
+    const void *short_ones[3] = {NULL, narrow, some_text}, *long_ones[3] = {NULL, wide, some_text};
+    int64_t offsets[3];
+    uint8_t bytes[8];
+    size_t len = 0;
+    for (int i = 0; i < 2; i++) {
+        sel_column column = {0};
+        CHECK(import(i ? "Z" : "z", 2, 1, 3, i ? long_ones : short_ones, &column) == SEL_DONE && sel_kind(&column) == SEL_LARGE_BINARY);
+        CHECK(sel_offsets(&column, offsets, 3) == SEL_DONE && offsets[2] - offsets[1] == 4);
+        CHECK(sel_bytes_len(&column, &len) == SEL_DONE && len <= sizeof bytes && sel_bytes(&column, bytes, len) == SEL_DONE);
+        CHECK(!memcmp(bytes + offsets[1], "efgh", 4));
+        sel_free(&column);
+        CHECK(import(i ? "U" : "u", 2, 1, 3, i ? long_ones : short_ones, &column) == SEL_DONE && sel_kind(&column) == SEL_UTF8_VIEW);
+        sel_view views[2];
+        CHECK(sel_views(&column, views, 2) == SEL_DONE && views[1].length == 4 && !memcmp(&views[1].prefix, "efgh", 4));
+        sel_free(&column);
+    }
+}
+
+static void leaves_are_refused(void) {
+    const int64_t values[4] = {1, 2, 3, 4}, falling[4] = {0, 4, 2, 8}, below[4] = {-1, 0, 1, 2};
+    const void *two[2] = {NULL, values}, *missing[2] = {NULL, NULL};
+    const void *fall[3] = {NULL, falling, some_text}, *negative[3] = {NULL, below, some_text}, *no_bytes[3] = {NULL, values, NULL};
+    const char *const unknown[] = {"", "x", "d:38,2", "d:38,0,256", "tdD", "tsu:", "w:4", "+x", "+m", "+us:0", "+vl", "vx", "ll", "e"};
+    for (size_t i = 0; i < sizeof unknown / sizeof *unknown; i++) refuses(SEL_ARROW_FORMAT, unknown[i], 2, 0, 2, two);
+    refuses(SEL_ARROW_LENGTH, "l", -1, 0, 2, two);
+    refuses(SEL_ARROW_LENGTH, "l", 1, -1, 2, two);
+    refuses(SEL_ARROW_LENGTH, "l", INT64_MAX, INT64_MAX, 2, two);
+    refuses(SEL_ARROW_BUFFERS, "l", 2, 0, 1, two);
+    refuses(SEL_ARROW_BUFFERS, "l", 2, 0, 3, two);
+    refuses(SEL_ARROW_BUFFERS, "l", 2, 0, 2, missing);
+    refuses(SEL_ARROW_BUFFERS, "l", 2, 0, 2, NULL);
+    refuses(SEL_OFFSET_ORDER, "Z", 3, 0, 3, fall);
+    refuses(SEL_OFFSET_ORDER, "U", 3, 0, 3, fall);
+    refuses(SEL_OFFSET_NEGATIVE, "Z", 3, 0, 3, negative);
+    refuses(SEL_ARROW_BUFFERS, "Z", 3, 0, 3, no_bytes);
+    refuses(SEL_ARROW_BUFFERS, "vz", 0, 0, 2, two);
+    struct ArrowSchema schema = type("l");
+    struct ArrowArray gone = {.release = NULL};
+    sel_column out = {0};
+    CHECK(sel_import(&gone, &schema, &out) == SEL_ARROW_RELEASED && !out.at);
+}
+
+static void views_are_refused(void) {
+    const sel_view beyond = {13, 0x64636261, 0, 1}, other = {13, 0x64636261, 1, 0}, prefix = {13, 0, 0, 0};
+    const int64_t lengths = 13, negative = -1;
+    const uint8_t not_text[13] = {0xff};
+    const sel_view bad_text = {1, 0xff, 0, 0};
+    const void *buffers[4] = {NULL, &beyond, "abcdefghijklm", &lengths};
+    refuses(SEL_VIEW_RANGE, "vz", 1, 0, 4, buffers);
+    buffers[1] = &other;
+    refuses(SEL_VIEW_RANGE, "vz", 1, 0, 4, buffers);
+    buffers[1] = &prefix;
+    refuses(SEL_VIEW_PREFIX, "vz", 1, 0, 4, buffers);
+    buffers[1] = &bad_text;
+    refuses(SEL_UTF8, "vu", 1, 0, 4, buffers);
+    buffers[3] = &negative;
+    refuses(SEL_ARROW_LENGTH, "vz", 1, 0, 4, buffers);
+    buffers[3] = NULL;
+    refuses(SEL_ARROW_BUFFERS, "vz", 1, 0, 4, buffers);
+    const int32_t offsets[2] = {0, 1};
+    const void *text[3] = {NULL, offsets, not_text};
+    refuses(SEL_UTF8, "u", 1, 0, 3, text);
+}
+
+/* A level with one child of four numbers, and what an import of it answers. */
+static uint32_t import_over(const char *format, const char *below, int64_t length, int64_t offset, const void *own, sel_column *out) {
+    static const int64_t values[4] = {10, 11, 12, 13};
+    const void *child_buffers[2] = {NULL, values}, *buffers[2] = {NULL, own};
+    struct ArrowArray child = {.length = 4, .n_buffers = 2, .buffers = child_buffers, .release = keep_array}, *children[1] = {&child};
+    struct ArrowSchema child_type = type(below), *types[1] = {&child_type};
+    struct ArrowArray array = {.length = length, .offset = offset, .n_buffers = own ? 2 : 1, .n_children = 1, .buffers = buffers, .children = children, .release = release_array};
+    struct ArrowSchema schema = type(format);
+    schema.n_children = 1;
+    schema.children = types;
+    return sel_import(&array, &schema, out);
+}
+
+static void trees_come_in(void) {
+    const int32_t narrow[4] = {0, 1, 1, 3};
+    const int64_t wide[4] = {0, 1, 1, 3};
+    int64_t rows[4];
+    sel_column out = {0}, below = {0};
+    for (int i = 0; i < 2; i++) {
+        CHECK(import_over(i ? "+L" : "+l", "l", 2, 1, i ? (const void *)wide : narrow, &out) == SEL_DONE && sel_kind(&out) == SEL_LARGE_LIST);
+        CHECK(sel_offsets(&out, rows, 3) == SEL_DONE && rows[0] == 0 && rows[1] == 0 && rows[2] == 2);
+        CHECK(sel_child(&out, &below) == SEL_DONE && sel_int64_values(&below, rows, 2) == SEL_DONE && rows[0] == 11 && rows[1] == 12);
+        sel_free(&below);
+        sel_free(&out);
+    }
+    CHECK(import_over("+w:2", "l", 1, 1, NULL, &out) == SEL_DONE);
+    CHECK(sel_child(&out, &below) == SEL_DONE && sel_int64_values(&below, rows, 2) == SEL_DONE && rows[0] == 12);
+    sel_free(&below);
+    sel_free(&out);
+    CHECK(import_over("+s", "l", 2, 2, NULL, &out) == SEL_DONE);
+    CHECK(sel_field(&out, 0, &below) == SEL_DONE && sel_int64_values(&below, rows, 2) == SEL_DONE && rows[1] == 13);
+    sel_free(&below);
+    sel_free(&out);
+}
+
+static void trees_are_refused(void) {
+    const int32_t past[4] = {0, 1, 1, 5}, fall[4] = {0, 2, 1, 3};
+    sel_column out = {0};
+    CHECK(import_over("+l", "l", 3, 0, past, &out) == SEL_OFFSET_RANGE);
+    CHECK(import_over("+l", "l", 3, 0, fall, &out) == SEL_OFFSET_ORDER);
+    CHECK(import_over("+l", "tdD", 3, 0, past, &out) == SEL_ARROW_FORMAT);
+    CHECK(import_over("+w:2", "l", 3, 0, NULL, &out) == SEL_ARROW_LENGTH);
+    CHECK(import_over("+w:", "l", 1, 0, NULL, &out) == SEL_ARROW_FORMAT);
+    CHECK(import_over("+w:-1", "l", 1, 0, NULL, &out) == SEL_ARROW_FORMAT);
+    CHECK(import_over("+w:4294967296", "l", 0, 0, NULL, &out) == SEL_WIDTH);
+    CHECK(import_over("+s", "l", 5, 0, NULL, &out) == SEL_ARROW_LENGTH);
+    CHECK(import_over("l", "l", 1, 0, past, &out) == SEL_ARROW_CHILDREN);
+    struct ArrowArray none = {.n_buffers = 1, .release = release_array};
+    struct ArrowSchema list = type("+w:1");
+    const void *buffers[1] = {NULL};
+    none.buffers = buffers;
+    CHECK(sel_import(&none, &list, &out) == SEL_ARROW_CHILDREN && !none.release);
+    struct ArrowArray keyed = {.n_buffers = 1, .buffers = buffers, .dictionary = &none, .release = release_array};
+    CHECK(sel_import(&keyed, &list, &out) == SEL_ARROW_DICTIONARY && !out.at);
+}
+
+/* Lists of lists, 300 deep, over no rows. */
+static void depth_has_an_end(void) {
+    enum { LEVELS = 300 };
+    static struct ArrowArray arrays[LEVELS], *below[LEVELS];
+    static struct ArrowSchema types[LEVELS], *types_below[LEVELS];
+    static const void *buffers[2];
+    sel_column out = {0};
+    for (int i = 0; i < LEVELS; i++) {
+        bool last = i + 1 == LEVELS;
+        arrays[i] = (struct ArrowArray){.n_buffers = last ? 0 : 1, .n_children = !last, .buffers = buffers, .children = &below[i], .release = keep_array};
+        types[i] = type(last ? "n" : "+w:1");
+        types[i].n_children = !last;
+        types[i].children = &types_below[i];
+        if (!last) below[i] = &arrays[i + 1], types_below[i] = &types[i + 1];
+    }
+    CHECK(sel_import(&arrays[0], &types[0], &out) == SEL_ARROW_DEPTH && !out.at);
+    arrays[200].release = arrays[299].release = keep_array;
+    CHECK(sel_import(&arrays[200], &types[200], &out) == SEL_DONE && sel_kind(&out) == SEL_FIXED_SIZE_LIST);
+    sel_free(&out);
+}
+
+static void exports_are_released(void) {
+    const int64_t offsets[3] = {0, 1, 3};
+    const sel_wide most = {UINT64_MAX, INT64_MAX}, ten = {10, 0};
+    sel_column column = {0}, list = {0}, again = {0};
+    struct ArrowArray array;
+    struct ArrowSchema schema;
+    CHECK(sel_export(&column, &array, &schema) == SEL_NO_COLUMN && !array.release && !schema.release);
+    const int64_t values[3] = {1, 2, 3};
+    CHECK(sel_int64_new(values, 3, some_bits, 1, true, &column) == SEL_DONE);
+    CHECK(sel_list_new(offsets, 3, some_bits, 1, true, &column, &list) == SEL_DONE);
+    CHECK(sel_export(&list, &array, &schema) == SEL_DONE && !strcmp(schema.format, "+L") && array.null_count == 1);
+    CHECK(!strcmp(schema.children[0]->format, "l") && array.children[0]->length == 3);
+    CHECK(sel_import(&array, &schema, &again) == SEL_DONE && !array.release && schema.release);
+    schema.release(&schema);
+    bool equal = false;
+    CHECK(sel_equal_rows(&list, &again, &equal) == SEL_DONE && equal);
+    sel_free(&again);
+    sel_free(&list);
+    CHECK(sel_int128_new(&most, 1, some_bits, 0, false, &column) == SEL_DONE);
+    CHECK(sel_export(&column, &array, &schema) == SEL_ARROW_RANGE && !array.release && !schema.release);
+    CHECK(sel_int128_new(&ten, 1, some_bits, 0, false, &column) == SEL_DONE);
+    CHECK(sel_export(&column, &array, &schema) == SEL_DONE && !strcmp(schema.format, "d:38,0,128"));
+    array.release(&array);
+    schema.release(&schema);
+    CHECK(sel_uint128_new(&ten, 1, some_bits, 0, false, &column) == SEL_DONE);
+    CHECK(sel_export(&column, &array, &schema) == SEL_ARROW_FORMAT && !array.release);
+    sel_free(&column);
+}
+
+static void texts_of_statuses(void) {
+    uint8_t text[128];
+    for (uint32_t status = SEL_ARROW_RELEASED; status <= SEL_ARROW_RANGE; status++) CHECK(sel_arrow_text(status, text, sizeof text) > 10);
+    size_t len = sel_arrow_text(SEL_ARROW_FORMAT, text, 8);
+    CHECK(len > 8 && !memcmp(text, "a format", 8));
+    CHECK(sel_arrow_text(SEL_NO_MEMORY, text, sizeof text) > 5);
+}
+
+int main(void) {
+    numbers_come_in();
+    numbers_that_are_not_aligned_come_in();
+    truth_values_come_in();
+    bytes_and_texts_come_in();
+    leaves_are_refused();
+    views_are_refused();
+    trees_come_in();
+    trees_are_refused();
+    depth_has_an_end();
+    exports_are_released();
+    texts_of_statuses();
+    printf("arrow: %d failed\n", failures);
+    return failures != 0;
+}

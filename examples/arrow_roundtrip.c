@@ -1,0 +1,37 @@
+/* A column from an Arrow array, filtered, and out again.  cc arrow_roundtrip.c -I../include -L../build -lsel */
+#include "sel_arrow.h"
+
+#include <stdio.h>
+
+/* Arrays of constants have nothing to free. */
+static void release_array(struct ArrowArray *array) { array->release = NULL; }
+static void release_schema(struct ArrowSchema *schema) { schema->release = NULL; }
+
+int main(void) {
+    /* The texts "one", null, "three", "four": offsets of 32 bits, a validity, and a slice that begins at the second row. */
+    static const int32_t offsets[] = {0, 3, 3, 8, 12};
+    static const uint8_t valid = 0x0d;
+    const void *buffers[] = {&valid, offsets, "onethreefour"};
+    struct ArrowArray array = {.length = 3, .null_count = -1, .offset = 1, .n_buffers = 3, .buffers = buffers, .release = release_array};
+    struct ArrowSchema schema = {.format = "u", .name = "words", .flags = ARROW_FLAG_NULLABLE, .release = release_schema};
+
+    sel_column column = {0}, kept = {0};
+    const uint8_t keep = 0x05; /* the first and the third row */
+    uint32_t status = sel_import(&array, &schema, &column);
+    schema.release(&schema);
+    if (status == SEL_DONE) status = sel_filter_bits(&column, &keep, 1, 3, &kept);
+    sel_free(&column);
+
+    struct ArrowArray out;
+    struct ArrowSchema type;
+    if (status == SEL_DONE) status = sel_export(&kept, &out, &type);
+    sel_free(&kept);
+    if (status != SEL_DONE) return (int)status;
+
+    printf("%s: %d rows, %d null\n", type.format, (int)out.length, (int)out.null_count);
+    const sel_view *views = out.buffers[1];
+    printf("%.*s\n", (int)views[1].length, (const char *)&views[1].prefix);
+    out.release(&out);
+    type.release(&type);
+    return 0;
+}

@@ -1,0 +1,36 @@
+"""A table of many partitions, filtered and taken by two worker processes of a local Dask cluster, beside numpy."""
+
+import numpy
+from dask.distributed import Client, LocalCluster
+
+import sel
+
+ROWS, PARTITIONS = 20_000, 8
+
+
+def partition(seed: int) -> tuple[numpy.ndarray, numpy.ndarray]:
+    """Numbers, and which of them are wanted."""
+    rng = numpy.random.default_rng(seed)
+    return rng.integers(-(2**40), 2**40, ROWS), rng.random(ROWS) < 0.3
+
+
+def every_second_kept(seed: int) -> numpy.ndarray:
+    """Through the library: the wanted rows, and every second one of these."""
+    values, wanted = partition(seed)
+    kept = sel.Column.from_numpy(values).filter(sel.Column.from_numpy(wanted))
+    places = sel.Column.from_numpy(numpy.arange(0, len(kept), 2, dtype="uint32"))
+    return kept.take(places).to_numpy()
+
+
+def main() -> None:
+    # A column stays on its thread: each worker has one.
+    with LocalCluster(n_workers=2, threads_per_worker=1, processes=True, dashboard_address=None) as cluster, Client(cluster) as client:
+        parts = client.gather(client.map(every_second_kept, range(PARTITIONS)))
+    for seed, part in enumerate(parts):
+        values, wanted = partition(seed)
+        numpy.testing.assert_array_equal(part, values[wanted][::2])
+    print(f"{PARTITIONS} partitions of {ROWS} rows: {sum(map(len, parts))} rows, as numpy has them")
+
+
+if __name__ == "__main__":
+    main()
