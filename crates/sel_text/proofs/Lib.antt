@@ -1,0 +1,2 @@
+pub mod CellRows
+pub mod Equalities
