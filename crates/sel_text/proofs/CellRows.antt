@@ -1,5 +1,5 @@
 -- One row of a column with children.
-use Rattle.std.proofs.Common.{◌≡◌, ℕ, ◌+◌, ◌-◌, ◌*◌, ◌≤◌, ◌<◌, true, false, All, List, [], length, map, Option, Vec, Box, Global, Bor, refl, ap, sym, subst, ◌∙◌, arith, get_or}
+use Rattle.std.proofs.Common.{◌≡◌, ℕ, ◌+◌, ◌-◌, ◌*◌, ◌≤◌, ◌<◌, true, false, All, List, [], length, map, Option, Vec, Box, Global, ap, sym, ◌∙◌, arith, get_or}
 use Rattle.std.specs.List.{slice_range, range_with_len}
 use Rattle.std.specs.Option.{ForSome}
 use Rattle.std.specs.Prelude.{IsTrue}
@@ -10,10 +10,10 @@ use Rattle.std.proofs.Math.Nat.{mul-le-mul_right}
 use Rattle.sel_bits.specs.Bits.{Bits}
 use Rattle.sel_arrow.specs.Masked.{Covers, valid_at}
 use Rattle.sel_arrow.specs.Nested.{list_of, tuple_at, blocks}
-use Rattle.sel_arrow.specs.Pieces.{pieces, rows_between, last_offset}
+use Rattle.sel_arrow.specs.Pieces.{pieces, rows_between}
 use Rattle.sel_arrow.specs.Rows.{rows, row_count, type_of, well_formed, IsWellFormed, IsField}
 use Rattle.sel_arrow.specs.Shape.{shapes_of}
-use Rattle.sel_arrow.specs.Value.{Value, Null}
+use Rattle.sel_arrow.specs.Value.{Null}
 use Rattle.sel_arrow.specs.declared.column.Column.{Column, LargeList, FixedSizeList, Struct}
 use Rattle.sel_arrow.proofs.ByteRows.{length-pieces, get_or-pieces}
 use Rattle.sel_arrow.proofs.NestedRows.{HasLists, HasBlocks, has_lists, has_blocks, length-rows, length-blocks}

@@ -1,5 +1,5 @@
 -- When rows are one.
-use Rattle.std.proofs.Common.{◌≡◌, ◌≢◌, ℕ, zero, suc, ◌+◌, ◌-◌, ◌≤◌, ◌<◌, Bool, true, false, List, [], ◌∷◌, ◌++◌, length, take, drop, map, refl, ap, sym, ◌∙◌, arith, get_or, length-take, length-drop}
+use Rattle.std.proofs.Common.{◌≡◌, ◌≢◌, ℕ, ◌+◌, ◌-◌, ◌≤◌, ◌<◌, Bool, List, [], ◌∷◌, ◌++◌, length, take, drop, map, refl, ap, sym, ◌∙◌, arith, get_or, length-take, length-drop}
 use Rattle.std.specs.Prelude.{◌↔◌, IsTrue, bytes_eq}
 use Rattle.std.proofs.lemmas.Slice.Eq.{bytes_eq-Decides}
 use Rattle.std.specs.List.{slice_range}
@@ -7,7 +7,7 @@ use Rattle.std.proofs.lemmas.List.{take_more, get_or-drop, get_or-take, take_all
 use Rattle.sel_arrow.specs.Rows.{rows}
 use Rattle.sel_arrow.specs.declared.column.Column.{Column}
 use Rattle.sel_arrow.specs.Nested.{list_of, tuple_at}
-use Rattle.sel_arrow.specs.Value.{Value, Null, Bytes, Items, Tuple, Values, no_values, next_value, values_of, listed}
+use Rattle.sel_arrow.specs.Value.{Value, Null, Bytes, Items, Tuple, values_of, listed}
 
 -- what tells whether bytes are those that lie there tells whether the rows are one
 pub bytes_told : (r : Bool) (bytes seen named : List ℕ) (v : Value) → r ≡ bytes_eq bytes seen → seen ≡ named → v ≡ Bytes named → (IsTrue r ↔ (Bytes bytes ≡ v))

@@ -1,10 +1,12 @@
 -- The text of a column's rows.
-use Rattle.std.specs.Prelude.{ℕ, ◌/◌, ◌%◌, Bool, true, false, List, [], ◌∷◌, ◌++◌, map, codes, if◌then◌else◌, ◌==◌, nat_lt}
+use Rattle.std.specs.Prelude.{ℕ, ◌/◌, ◌%◌, Bool, true, false, List, [], ◌∷◌, ◌++◌, map, codes, if◌then◌else◌, ◌==◌, nat_lt, slice_index_or}
 use Rattle.std.specs.Char.{digit_char}
 use Rattle.std.specs.Fmt.{signed_decimal}
 use Rattle.std.specs.List.{flat_map, join_with_byte}
+use Rattle.sel_arrow.specs.Rows.{rows, type_of}
 use Rattle.sel_arrow.specs.Shape.{Shape, Shapes, no_shapes, next_shape, of_large_list, of_fixed_size_list, of_struct, of_utf8_view}
 use Rattle.sel_arrow.specs.Value.{Value, Null, Truth, Number, Bytes, Items, Tuple, Values, no_values, next_value}
+use Rattle.sel_arrow.specs.declared.column.Column.{Column}
 
 -- a byte in two hexadecimal digits, in lower case (own)
 abbrev pub hex_byte : ℕ → List ℕ
@@ -86,3 +88,7 @@ abbrev mutual
 -- the rows of a column of this type, as in `[1,null,-3]` (own: the notation that the documents write)
 abbrev pub text_of : Shape → List Value → List ℕ
 text_of shape rows = bracketed (map (value_text shape) rows)
+
+-- the row of a field at a place (own)
+abbrev pub field_text : ℕ → Column → List ℕ
+field_text place field = value_text (type_of field) (slice_index_or (rows field) place Null)

@@ -3,3 +3,5 @@
 
 mod cell;
 pub mod equal;
+pub mod print;
+pub mod types;

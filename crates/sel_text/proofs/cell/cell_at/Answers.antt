@@ -1,4 +1,4 @@
-use Rattle.std.proofs.Common.{◌≡◌, ap, sym, subst, ◌∙◌, arith, All}
+use Rattle.std.proofs.Common.{ap, sym, subst, ◌∙◌, arith, All}
 use Rattle.sel_arrow.specs.Rows.{type_of}
 use Rattle.sel_text.specs.Cells.{HasRow}
 use Rattle.sel_text.specs.Texts.{is_text_shape}

@@ -1,5 +1,4 @@
-use Rattle.std.proofs.Common.{arith, refl, sym, ap, subst, ◌∙◌, ◌≡◌, true≢false, get_or}
-use Rattle.sel_arrow.specs.Rows.{rows}
+use Rattle.std.proofs.Common.{arith, refl, sym, ap, subst, ◌∙◌, true≢false}
 use Rattle.sel_arrow.specs.Value.{Null}
 use Rattle.sel_arrow.proofs.Types.{same_lengths, same_at, same_more, same_all}
 use Rattle.sel_text.specs.Cells.{cell_value, CellFits}
