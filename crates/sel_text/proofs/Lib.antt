@@ -1,0 +1,5 @@
+pub mod CellRows
+pub mod Equalities
+pub mod Escapes
+pub mod Printed
+pub mod TypeTexts
