@@ -8,4 +8,6 @@ mod made;
 #[cfg(test)]
 mod named;
 #[cfg(test)]
+mod parts;
+#[cfg(test)]
 mod printed;
