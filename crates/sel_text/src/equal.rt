@@ -45,7 +45,8 @@ fn equal_items(column: &Column, start: usize, end: usize, twin: Cell) -> bool
     requires order { start ≤ end }
     requires inside { end ≤ length (rows column.now) }
     requires fits { CellFits twin }
-    ensures { IsTrue result ↔ (list_of (slice_range (rows column.now) start end) ≡ cell_value twin.entry) }
+    ensures { IsTrue result ↔
+        (list_of (slice_range (rows column.now) start end) ≡ cell_value twin.entry) }
 {
     let Cell::Items(other, from, to) = twin else {
         return false;
