@@ -40,17 +40,19 @@ fn bitmap_of_equal_bits(rt: HostRuntime) {
     assert!(rt; are_bits(answer, &[false; 3]));
 }
 
-#[test]
-fn bitmap_of_bytes(rt: HostRuntime) -> Result<(), Fail> {
-    let alloc = rt.alloc();
-    let bytes = vec![in alloc; 0b101u8]?;
+fn takes_bytes(alloc: Global, bytes: Vec<u8>) -> bool {
     if bytes.len() != 1 {
-        return Err(Fail::from("another length"));
+        return false;
     }
     begins(alloc);
     let answer = Bitmap::from_u8_vec(bytes, 4);
     ends_by(alloc, &answer);
-    assert!(rt; are_bits(answer, &[true, false, true, false]));
+    are_bits(answer, &[true, false, true, false])
+}
+
+#[test]
+fn bitmap_of_bytes(rt: HostRuntime) -> Result<(), Fail> {
+    assert!(rt; takes_bytes(rt.alloc(), vec![in rt.alloc(); 0b101u8]?));
     Ok(())
 }
 
@@ -182,7 +184,7 @@ fn offsets_that_are_known_to_rise(rt: HostRuntime) -> Result<(), Fail> {
     Ok(())
 }
 
-/// Whether a copy of each is made without memory.
+/// Whether copies of a bitmap and of a buffer are made without memory.
 fn copies_freely(alloc: Global, bitmap: &Bitmap, buffer: &Buffer<u16>) -> bool {
     begins_free(alloc);
     let bits = bitmap.try_clone();
@@ -191,16 +193,29 @@ fn copies_freely(alloc: Global, bitmap: &Bitmap, buffer: &Buffer<u16>) -> bool {
     bits.is_ok() && values.is_ok() && are_bits(bits, &FIRST) && are_values(values, &[7, 8])
 }
 
+/// The same of offsets.
+fn copies_offsets(alloc: Global, offsets: &OffsetsBuffer<i64>) -> bool {
+    begins_free(alloc);
+    let copy = offsets.try_clone();
+    ends_answered(alloc);
+    match copy {
+        Ok(copy) => copy.as_slice() == [0, 2].as_slice(),
+        Err(_) => false,
+    }
+}
+
 #[test]
 fn no_memory_for_copies_of_shared_parts(rt: HostRuntime) -> Result<(), Fail> {
     let bitmap = Bitmap::from_bools(rt.alloc(), &FIRST)?;
     let buffer = Buffer::from_vec(vec![in rt.alloc(); 7u16, 8]?)?;
     assert!(rt; copies_freely(rt.alloc(), &bitmap, &buffer));
+    Ok(())
+}
+
+#[test]
+fn no_memory_for_copies_of_offsets(rt: HostRuntime) -> Result<(), Fail> {
     let offsets = OffsetsBuffer::try_from(vec![in rt.alloc(); 0i64, 2]?)?;
-    begins_free(rt.alloc());
-    let copy = offsets.try_clone();
-    ends_answered(rt.alloc());
-    assert!(rt; copy?.as_slice() == [0, 2].as_slice());
+    assert!(rt; copies_offsets(rt.alloc(), &offsets));
     Ok(())
 }
 
@@ -260,16 +275,20 @@ fn words_and_bits_packed(rt: HostRuntime) {
 }
 
 #[test]
-fn parts_and_copies_packed(rt: HostRuntime) -> Result<(), Fail> {
+fn copies_packed(rt: HostRuntime) {
     let alloc = rt.alloc();
     begins(alloc);
     let answer = packs_copies(alloc);
     ends_by(alloc, &answer);
     assert!(rt; are_counted(answer, 70, 70));
-    let source = Bitmap::from_bools(alloc, &FIRST)?;
-    begins(alloc);
-    let answer = packs_part(alloc, &source);
-    ends_by(alloc, &answer);
+}
+
+#[test]
+fn parts_packed(rt: HostRuntime) -> Result<(), Fail> {
+    let source = Bitmap::from_bools(rt.alloc(), &FIRST)?;
+    begins(rt.alloc());
+    let answer = packs_part(rt.alloc(), &source);
+    ends_by(rt.alloc(), &answer);
     assert!(rt; are_bits(answer, &[true, false, false]) && has_bits(&source, &FIRST));
     Ok(())
 }

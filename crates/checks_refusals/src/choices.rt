@@ -240,22 +240,33 @@ const THREE: &str = "dddddddddddddd";
 
 const ONE: &str = "bbbbbbbbbbbbbb";
 
+/// Both of columns without children, of this kind.
+fn chooses_flat(alloc: Global, kind: Kind) -> Result<bool, Fail> {
+    match kind {
+        Kind::Truths => chooses_truth(alloc),
+        Kind::Int8 => chooses_number::<i8>(alloc, kind),
+        Kind::Int16 => chooses_number::<i16>(alloc, kind),
+        Kind::Int32 => chooses_number::<i32>(alloc, kind),
+        Kind::Int64 => chooses_number::<i64>(alloc, kind),
+        Kind::Int128 => chooses_number::<i128>(alloc, kind),
+        Kind::UInt8 => chooses_number::<u8>(alloc, kind),
+        Kind::UInt16 => chooses_number::<u16>(alloc, kind),
+        Kind::UInt32 => chooses_number::<u32>(alloc, kind),
+        Kind::UInt64 => chooses_number::<u64>(alloc, kind),
+        Kind::UInt128 => chooses_number::<u128>(alloc, kind),
+        Kind::ByteViews => chooses_bytes(alloc),
+        Kind::Texts => chooses_texts(alloc),
+        _ => Err(Fail::from("no scalars")),
+    }
+}
+
 #[test]
 fn choice_of_scalars_without_children(rt: HostRuntime) -> Result<(), Fail> {
-    let alloc = rt.alloc();
-    assert!(rt; chooses_truth(alloc)?);
-    assert!(rt; chooses_number::<i8>(alloc, Kind::Int8)?);
-    assert!(rt; chooses_number::<i16>(alloc, Kind::Int16)?);
-    assert!(rt; chooses_number::<i32>(alloc, Kind::Int32)?);
-    assert!(rt; chooses_number::<i64>(alloc, Kind::Int64)?);
-    assert!(rt; chooses_number::<i128>(alloc, Kind::Int128)?);
-    assert!(rt; chooses_number::<u8>(alloc, Kind::UInt8)?);
-    assert!(rt; chooses_number::<u16>(alloc, Kind::UInt16)?);
-    assert!(rt; chooses_number::<u32>(alloc, Kind::UInt32)?);
-    assert!(rt; chooses_number::<u64>(alloc, Kind::UInt64)?);
-    assert!(rt; chooses_number::<u128>(alloc, Kind::UInt128)?);
-    assert!(rt; chooses_bytes(alloc)?);
-    assert!(rt; chooses_texts(alloc)?);
+    for kind in CHOSEN {
+        if !kind.has_children() {
+            assert!(rt; chooses_flat(rt.alloc(), kind)?, "{kind:?}");
+        }
+    }
     Ok(())
 }
 

@@ -1,7 +1,7 @@
 //! Filters, takes and rows of several columns, on every kind of column.
 
 use crate::kinds::{Kind, ROWS, failing_kind};
-use crate::marks::{begins, ends_by};
+use crate::marks::{begins, begins_on, ends_by};
 use crate::same::{has_rows, is_answer};
 use checks_columns::fixtures::{column, truths};
 use polars_compute::filter::{filter, filter_with_bitmap};
@@ -37,7 +37,7 @@ fn filters_by_bits(alloc: Global, kind: Kind, column: &ArrayRef) -> Result<bool,
     if column.len() != mask.len() {
         return Err(Fail::from("another length"));
     }
-    begins(alloc);
+    begins_on(alloc, kind);
     let answer = filter_with_bitmap(alloc, column, &mask);
     ends_by(alloc, &answer);
     let is_answered = is_answer(alloc, answer, kind, &[None, Some(7), Some(4)])?;
@@ -60,7 +60,7 @@ fn takes(alloc: Global, kind: Kind, column: &ArrayRef) -> Result<bool, Fail> {
     if !indices_in_bounds(&places, column.len()) {
         return Err(Fail::from("out of bounds"));
     }
-    begins(alloc);
+    begins_on(alloc, kind);
     let answer = take_unchecked(alloc, column, &places);
     ends_by(alloc, &answer);
     let is_answered = is_answer(

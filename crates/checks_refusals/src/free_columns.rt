@@ -119,31 +119,49 @@ fn makes_flat(alloc: Global) -> Result<bool, Fail> {
     Ok(nulls.len() == 2 && first == (Some(true), Some(false)) && second == (Some(7), None))
 }
 
-/// Whether columns of bytes and of texts are made.
+/// Whether a column of bytes is made, and its row read.
 fn makes_bytes(alloc: Global) -> Result<bool, Fail> {
     let ends = offsets(alloc, &[0, 2])?;
     let values = buffer(alloc, b"ab")?;
-    let views = buffer(alloc, &[View::new_from_bytes(b"ab", 0, 0)])?;
-    let others = views.try_clone()?;
-    let data = one_buffer(alloc, b"")?;
-    let other_data = data.try_clone()?;
     begins_free(alloc);
     let bytes = BinaryArray::<i64>::try_new(ends, values, None);
-    let views = BinaryViewArray::try_new(views, data, None);
-    let texts = Utf8ViewArray::try_new(others, other_data, None);
     ends_answered(alloc);
-    let (bytes, views, texts) = (bytes?, views?, texts?);
-    let is_utf8 = views.is_utf8();
+    let bytes = bytes?;
     if bytes.len() != 1 {
         return Ok(false);
     }
-    Ok(is_utf8 && texts.len() == 1 && bytes.get(0) == Some(b"ab".as_slice()))
+    begins_free(alloc);
+    let row = bytes.get(0);
+    ends_answered(alloc);
+    Ok(row == Some(b"ab".as_slice()))
+}
+
+/// Whether a column of bytes that views name is made.
+fn makes_views(alloc: Global) -> Result<bool, Fail> {
+    let views = buffer(alloc, &[View::new_from_bytes(b"ab", 0, 0)])?;
+    let data = one_buffer(alloc, b"")?;
+    begins_free(alloc);
+    let made = BinaryViewArray::try_new(views, data, None);
+    ends_answered(alloc);
+    Ok(made?.len() == 1)
+}
+
+/// The same of texts.
+fn makes_texts(alloc: Global) -> Result<bool, Fail> {
+    let views = buffer(alloc, &[View::new_from_bytes(b"ab", 0, 0)])?;
+    let data = one_buffer(alloc, b"")?;
+    begins_free(alloc);
+    let made = Utf8ViewArray::try_new(views, data, None);
+    ends_answered(alloc);
+    Ok(made?.len() == 1)
 }
 
 #[test]
 fn no_memory_for_columns_of_parts(rt: HostRuntime) -> Result<(), Fail> {
     assert!(rt; makes_flat(rt.alloc())?);
     assert!(rt; makes_bytes(rt.alloc())?);
+    assert!(rt; makes_views(rt.alloc())?);
+    assert!(rt; makes_texts(rt.alloc())?);
     Ok(())
 }
 

@@ -12,6 +12,10 @@ use polars_compute::if_then_else::view::{
     if_then_else_broadcast_false_view_64, if_then_else_view_64, if_then_else_view_rest,
     views_can_rise,
 };
+use polars_compute::laws::{
+    law_broadcast_is_repeat, law_choice_filtered, law_equal_meaning, law_filter_is_take,
+    law_propagate, law_select_rows, law_take_of_take,
+};
 use sel_arrow::view::View;
 use sel_bits::aligned_words::AlignedWords;
 use sel_bits::bitmap::Bitmap;
@@ -20,7 +24,7 @@ use sel_bits::blocks::U56Blocks;
 use sel_bits::buffer::Buffer;
 use sel_bits::counted_bits::CountedBits;
 use sel_bits::moving_word::MovingWord;
-use sel_bits::native::NativeType;
+use sel_bits::native::{NativeType, Offset};
 use sel_bits::number::{load_padded_le_u64, negative_to_usize, prefix_xorsum};
 use sel_bits::offsets::OffsetsBuffer;
 use sel_filter::boolean::pext64_rounds;
@@ -93,19 +97,18 @@ fn no_memory_for_parts_of_buffers(rt: HostRuntime) -> Result<(), Fail> {
     Ok(())
 }
 
-/// Whether the readers give the bits of a bitmap.
+/// Whether the readers give the bits of a bitmap, and count what they gave.
 fn reads(alloc: Global, bits: &Bitmap) -> bool {
     if bits.len() != 6 {
         return false;
     }
     begins_free(alloc);
-    let block = U56Blocks::new(bits).next();
-    let word = AlignedWords::new(bits).next();
-    let mut counted = CountedBits::new(bits);
-    let bit = counted.get(1);
-    let count = counted.bits_read();
+    let (mut blocks, mut words) = (U56Blocks::new(bits), AlignedWords::new(bits));
+    let mut single = CountedBits::new(bits);
+    let given = (blocks.next(), words.next(), single.get(1));
+    let counts = (blocks.blocks_read(), words.words_read(), single.bits_read());
     ends_answered(alloc);
-    block == Some(0b10110) && word == Some((0b10110, 6)) && bit && count == 1
+    given == (Some(0b10110), Some((0b10110, 6)), true) && counts == (1, 1, 1)
 }
 
 #[test]
@@ -148,6 +151,28 @@ fn moves_a_word(alloc: Global) -> bool {
     told == (0b1101_0110, 0b1000_1010, 1)
 }
 
+/// Whether offsets and numbers are told.
+fn tells_numbers(alloc: Global) -> bool {
+    begins_free(alloc);
+    let signs = ((-1i64).is_negative(), 3i32.is_below(5));
+    let places = (5i64.to_position(), 7u8.to_usize());
+    ends_answered(alloc);
+    signs == (true, true) && places == (5, 7)
+}
+
+/// States the laws.
+fn states_laws(alloc: Global) {
+    begins_free(alloc);
+    law_filter_is_take();
+    law_take_of_take();
+    law_select_rows();
+    law_choice_filtered();
+    law_broadcast_is_repeat();
+    law_propagate();
+    law_equal_meaning();
+    ends_answered(alloc);
+}
+
 /// Whether a copy of items begins and ends.
 fn copies_nothing(alloc: Global) -> bool {
     let source = [1u8, 2, 3];
@@ -163,7 +188,9 @@ fn copies_nothing(alloc: Global) -> bool {
 fn no_memory_for_words_and_numbers(rt: HostRuntime) {
     assert!(rt; works_on_words(rt.alloc()));
     assert!(rt; moves_a_word(rt.alloc()));
+    assert!(rt; tells_numbers(rt.alloc()));
     assert!(rt; copies_nothing(rt.alloc()));
+    states_laws(rt.alloc());
 }
 
 /// Whether values are chosen by a few bits of a word.

@@ -316,7 +316,7 @@ fn list_block_rows(alloc: Global, rows: &[Option<u8>]) -> Result<ArrayRef, Fail>
     Ok(FixedSizeListArray::try_new(alloc, 2, rows.len(), child, Some(validity))?.into_ref())
 }
 
-/// The fields of tuples: numbers and texts, of which none is null beneath a tuple that is there.
+/// The fields of tuples: numbers and texts.
 fn fields_of(alloc: Global, rows: &[Option<u8>]) -> Result<Vec<ArrayRef>, Fail> {
     let numbers = number_rows::<i64>(alloc, rows)?;
     with_texts(alloc, numbers, rows)

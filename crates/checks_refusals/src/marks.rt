@@ -1,6 +1,7 @@
 //! Where a call begins and ends, for `tools/refuse`, which refuses growths of memory between the two alone: each mark is a
 //! growth by so many bytes as nothing else here asks for. The numbers stand in `tools/refuse/growths.c` too.
 
+use crate::kinds::Kind;
 use sel_bits::faults::{PolarsError, PolarsResult};
 use std::alloc::Global;
 
@@ -28,6 +29,16 @@ pub fn begins(alloc: Global) {
 /// Behind this a call begins that takes no memory: each growth is refused in it.
 pub fn begins_free(alloc: Global) {
     mark(alloc, BEGINS_FREE);
+}
+
+/// Behind this a call begins on a column of this kind, which takes memory but where the kind is that of nulls: such a column is its
+/// length alone.
+pub fn begins_on(alloc: Global, kind: Kind) {
+    if kind == Kind::Nulls {
+        begins_free(alloc);
+    } else {
+        begins(alloc);
+    }
 }
 
 /// The call ended: it was refused its memory, or it answered.

@@ -3,7 +3,7 @@
 ghost use Rattle.sel_arrow.specs.Rows.{IsWellFormed};
 
 use crate::kinds::{KINDS, Kind, ROWS, failing_kind, made};
-use crate::marks::{begins, begins_free, ends_by, ends_limited};
+use crate::marks::{begins, begins_on, ends_by, ends_limited};
 use crate::same::{has_rows, is_answer, is_column};
 use checks_columns::fixtures::{column, nulls};
 use polars_compute::gather::{collect_rows, indices_in_bounds, picks_in_bounds, take_unchecked};
@@ -116,11 +116,7 @@ fn collects_runs_from(
     if !runs_fit(&sources, &runs) || picked_rows(&runs) != 6 {
         return Err(Fail::from("out of bounds"));
     }
-    if kind == Kind::Nulls {
-        begins_free(alloc);
-    } else {
-        begins(alloc);
-    }
+    begins_on(alloc, kind);
     let answer = collect_runs(alloc, &sources, &runs, 6);
     ends_by(alloc, &answer);
     let is_answered = is_collected(alloc, answer, kind)?;
@@ -152,11 +148,7 @@ fn collects_one_of(alloc: Global, kind: Kind, column: &Column) -> Result<bool, F
     if !runs_fit(&[column], &runs) || picked_rows(&runs) != 4 {
         return Err(Fail::from("another argument"));
     }
-    if kind == Kind::Nulls {
-        begins_free(alloc);
-    } else {
-        begins(alloc);
-    }
+    begins_on(alloc, kind);
     let answer = collect_one(alloc, column, &runs, 4);
     ends_by(alloc, &answer);
     is_answer(alloc, answer, kind, &[None, Some(2), None, Some(1)])

@@ -1,7 +1,7 @@
 //! Parts, copies and types of columns, columns without rows, and columns over others, on every kind of column.
 
 use crate::kinds::{KINDS, Kind, ROWS, failing_kind, made};
-use crate::marks::{begins, begins_free, ends, ends_by};
+use crate::marks::{begins, begins_free, begins_on, ends, ends_by};
 use crate::same::{has_rows, is_answer, same_rows};
 use checks_columns::fixtures::{offsets, validity};
 use sel_arrow::array::Array;
@@ -86,11 +86,7 @@ fn has_none(alloc: Global, kind: Kind, dtype: &ArrowDataType) -> Result<bool, Fa
     if !dtype.widths_fit() {
         return Err(Fail::from("too wide"));
     }
-    if kind == Kind::Nulls {
-        begins_free(alloc);
-    } else {
-        begins(alloc);
-    }
+    begins_on(alloc, kind);
     let answer = new_empty_array(alloc, dtype);
     ends_by(alloc, &answer);
     is_answer(alloc, answer, kind, &[])

@@ -61,20 +61,26 @@ fn takes_numbers<T: ArrowPrimitive + Drop>(
     Ok(is_so && still_has(alloc, &values, kind, &ROWS)?)
 }
 
+/// Of numbers of every type.
+fn takes_all_numbers(alloc: Global, places: &IdxArr) -> Result<bool, Fail> {
+    Ok(
+        takes_numbers::<i8>(alloc, Kind::Int8, places)?
+            && takes_numbers::<i16>(alloc, Kind::Int16, places)?
+            && takes_numbers::<i32>(alloc, Kind::Int32, places)?
+            && takes_numbers::<i64>(alloc, Kind::Int64, places)?
+            && takes_numbers::<i128>(alloc, Kind::Int128, places)?
+            && takes_numbers::<u8>(alloc, Kind::UInt8, places)?
+            && takes_numbers::<u16>(alloc, Kind::UInt16, places)?
+            && takes_numbers::<u32>(alloc, Kind::UInt32, places)?
+            && takes_numbers::<u64>(alloc, Kind::UInt64, places)?
+            && takes_numbers::<u128>(alloc, Kind::UInt128, places)?,
+    )
+}
+
 #[test]
 fn take_of_numbers_of_every_type(rt: HostRuntime) -> Result<(), Fail> {
-    let alloc = rt.alloc();
-    let places = indices(alloc)?;
-    assert!(rt; takes_numbers::<i8>(alloc, Kind::Int8, &places)?);
-    assert!(rt; takes_numbers::<i16>(alloc, Kind::Int16, &places)?);
-    assert!(rt; takes_numbers::<i32>(alloc, Kind::Int32, &places)?);
-    assert!(rt; takes_numbers::<i64>(alloc, Kind::Int64, &places)?);
-    assert!(rt; takes_numbers::<i128>(alloc, Kind::Int128, &places)?);
-    assert!(rt; takes_numbers::<u8>(alloc, Kind::UInt8, &places)?);
-    assert!(rt; takes_numbers::<u16>(alloc, Kind::UInt16, &places)?);
-    assert!(rt; takes_numbers::<u32>(alloc, Kind::UInt32, &places)?);
-    assert!(rt; takes_numbers::<u64>(alloc, Kind::UInt64, &places)?);
-    assert!(rt; takes_numbers::<u128>(alloc, Kind::UInt128, &places)?);
+    let places = indices(rt.alloc())?;
+    assert!(rt; takes_all_numbers(rt.alloc(), &places)?);
     Ok(())
 }
 

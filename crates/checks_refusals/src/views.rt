@@ -81,7 +81,10 @@ fn there_and_back(alloc: Global) -> Result<bool, Fail> {
     let bytes = texts.to_binview(alloc);
     ends_answered(alloc);
     let bytes = bytes?;
-    if !bytes.is_utf8() {
+    begins_free(alloc);
+    let counts = (bytes.views().len(), bytes.data_buffers().len());
+    ends_answered(alloc);
+    if !bytes.is_utf8() || counts != (5, 1) {
         return Err(Fail::from("no texts"));
     }
     begins_free(alloc);
