@@ -8,6 +8,13 @@ use crate::marks::{begins_free, ends_answered};
 use crate::same::is_column;
 use checks_columns::fixtures::has_bits;
 use sel_arrow::array::Array;
+use sel_arrow::binary::BinaryArray;
+use sel_arrow::binview::BinaryViewArray;
+use sel_arrow::boolean::BooleanArray;
+use sel_arrow::fixed_size_list::FixedSizeListArray;
+use sel_arrow::list::ListArray;
+use sel_arrow::primitive::PrimitiveArray;
+use sel_arrow::structure::StructArray;
 use sel_arrow::validity::{clone_validity, has_other_length, is_valid_at, sliced_validity};
 use sel_bits::bitmap::Bitmap;
 use sel_bits::faults::PolarsResult;
@@ -19,102 +26,129 @@ const BITS: [bool; 5] = [true, false, true, true, false];
 
 const MASKED: [Option<u8>; 5] = [Some(1), None, Some(2), Some(7), None];
 
-fn masks_truths(alloc: Global) -> Result<bool, Fail> {
-    let bits = Bitmap::from_bools(alloc, &BITS)?;
-    let column = truth_array(alloc, &ROWS)?;
-    if column.len() != bits.len() {
-        return Err(Fail::from("another length"));
+fn masked_truths(column: BooleanArray, bits: Option<Bitmap>) -> BooleanArray {
+    if has_other_length(&bits, column.len()) {
+        return column;
     }
-    begins_free(alloc);
-    let masked = column.with_validity(Some(bits));
-    ends_answered(alloc);
-    is_column(alloc, masked.into_ref(), Kind::Truths, &MASKED)
+    column.with_validity(bits)
 }
 
-fn masks_numbers(alloc: Global) -> Result<bool, Fail> {
-    let bits = Bitmap::from_bools(alloc, &BITS)?;
-    let column = number_array::<i64>(alloc, &ROWS)?;
-    if column.len() != bits.len() {
-        return Err(Fail::from("another length"));
+fn masked_numbers(column: PrimitiveArray<i64>, bits: Option<Bitmap>) -> PrimitiveArray<i64> {
+    if has_other_length(&bits, column.len()) {
+        return column;
     }
-    begins_free(alloc);
-    let masked = column.with_validity(Some(bits));
-    ends_answered(alloc);
-    is_column(alloc, masked.into_ref(), Kind::Int64, &MASKED)
+    column.with_validity(bits)
 }
 
-fn masks_bytes(alloc: Global) -> Result<bool, Fail> {
-    let bits = Bitmap::from_bools(alloc, &BITS)?;
-    let column = byte_array::<i64>(alloc, &ROWS)?;
-    if column.len() != bits.len() {
-        return Err(Fail::from("another length"));
+fn masked_bytes(column: BinaryArray<i64>, bits: Option<Bitmap>) -> BinaryArray<i64> {
+    if has_other_length(&bits, column.len()) {
+        return column;
     }
-    begins_free(alloc);
-    let masked = column.with_validity(Some(bits));
-    ends_answered(alloc);
-    is_column(alloc, masked.into_ref(), Kind::Bytes, &MASKED)
+    column.with_validity(bits)
 }
 
-fn masks_views(alloc: Global) -> Result<bool, Fail> {
-    let bits = Bitmap::from_bools(alloc, &BITS)?;
-    let column = byte_view_array(alloc, &ROWS)?;
-    if column.len() != bits.len() {
-        return Err(Fail::from("another length"));
+fn masked_views(column: BinaryViewArray, bits: Option<Bitmap>) -> BinaryViewArray {
+    if has_other_length(&bits, column.len()) {
+        return column;
     }
-    begins_free(alloc);
-    let masked = column.with_validity(Some(bits));
-    ends_answered(alloc);
-    is_column(alloc, masked.into_ref(), Kind::ByteViews, &MASKED)
+    column.with_validity(bits)
 }
 
-fn masks_lists(alloc: Global) -> Result<bool, Fail> {
-    let bits = Bitmap::from_bools(alloc, &BITS)?;
-    let column = list_array(alloc, &ROWS)?;
-    if column.len() != bits.len() {
-        drop(column);
-        return Err(Fail::from("another length"));
+fn masked_lists(column: ListArray<i64>, bits: Option<Bitmap>) -> ListArray<i64> {
+    if has_other_length(&bits, column.len()) {
+        return column;
     }
-    begins_free(alloc);
-    let masked = column.with_validity(Some(bits));
-    ends_answered(alloc);
-    is_column(alloc, masked.into_ref(), Kind::Lists, &MASKED)
+    column.with_validity(bits)
 }
 
-fn masks_blocks(alloc: Global) -> Result<bool, Fail> {
-    let bits = Bitmap::from_bools(alloc, &BITS)?;
-    let column = block_array(alloc, &ROWS)?;
-    if column.len() != bits.len() {
-        drop(column);
-        return Err(Fail::from("another length"));
+fn masked_blocks(column: FixedSizeListArray, bits: Option<Bitmap>) -> FixedSizeListArray {
+    if has_other_length(&bits, column.len()) {
+        return column;
     }
-    begins_free(alloc);
-    let masked = column.with_validity(Some(bits));
-    ends_answered(alloc);
-    is_column(alloc, masked.into_ref(), Kind::Blocks, &MASKED)
+    column.with_validity(bits)
 }
 
-fn masks_tuples(alloc: Global) -> Result<bool, Fail> {
-    let bits = Bitmap::from_bools(alloc, &BITS)?;
-    let column = tuple_array(alloc, &ROWS)?;
-    if column.len() != bits.len() {
-        drop(column);
-        return Err(Fail::from("another length"));
+fn masked_tuples(column: StructArray, bits: Option<Bitmap>) -> StructArray {
+    if has_other_length(&bits, column.len()) {
+        return column;
     }
+    column.with_validity(bits)
+}
+
+/// Whether a column takes another validity without memory.
+fn masks<A: Array + Drop, F: FnOnce(A, Option<Bitmap>) -> A + Drop>(
+    alloc: Global,
+    kind: Kind,
+    column: A,
+    mask: F,
+) -> Result<bool, Fail>
+    requires { F.IsAlwaysCallable mask }
+{
+    let bits = Bitmap::from_bools(alloc, &BITS)?;
     begins_free(alloc);
-    let masked = column.with_validity(Some(bits));
+    let masked = mask(column, Some(bits));
     ends_answered(alloc);
-    is_column(alloc, masked.into_ref(), Kind::Tuples, &MASKED)
+    is_column(alloc, masked.into_ref(), kind, &MASKED)
 }
 
 #[test]
 fn no_memory_for_another_validity(rt: HostRuntime) -> Result<(), Fail> {
-    assert!(rt; masks_truths(rt.alloc())?);
-    assert!(rt; masks_numbers(rt.alloc())?);
-    assert!(rt; masks_bytes(rt.alloc())?);
-    assert!(rt; masks_views(rt.alloc())?);
-    assert!(rt; masks_lists(rt.alloc())?);
-    assert!(rt; masks_blocks(rt.alloc())?);
-    assert!(rt; masks_tuples(rt.alloc())?);
+    let alloc = rt.alloc();
+    assert!(rt;
+        masks(
+            alloc,
+            Kind::Truths,
+            truth_array(alloc, &ROWS)?,
+            masked_truths
+        )?
+    );
+    assert!(rt;
+        masks(
+            alloc,
+            Kind::Int64,
+            number_array::<i64>(alloc, &ROWS)?,
+            masked_numbers
+        )?
+    );
+    assert!(rt;
+        masks(
+            alloc,
+            Kind::Bytes,
+            byte_array::<i64>(alloc, &ROWS)?,
+            masked_bytes
+        )?
+    );
+    assert!(rt;
+        masks(
+            alloc,
+            Kind::ByteViews,
+            byte_view_array(alloc, &ROWS)?,
+            masked_views
+        )?
+    );
+    Ok(())
+}
+
+#[test]
+fn no_memory_for_another_validity_of_lists(rt: HostRuntime) -> Result<(), Fail> {
+    let alloc = rt.alloc();
+    assert!(rt; masks(alloc, Kind::Lists, list_array(alloc, &ROWS)?, masked_lists)?);
+    assert!(rt;
+        masks(
+            alloc,
+            Kind::Blocks,
+            block_array(alloc, &ROWS)?,
+            masked_blocks
+        )?
+    );
+    assert!(rt;
+        masks(
+            alloc,
+            Kind::Tuples,
+            tuple_array(alloc, &ROWS)?,
+            masked_tuples
+        )?
+    );
     Ok(())
 }
 

@@ -183,67 +183,101 @@ fn same_nested_row(
             offsets,
             values,
             validity,
-        } => {
-            let part = bounds(offsets, validity, at);
-            match other {
-                Column::LargeList {
-                    offsets: ends,
-                    values: others,
-                    validity: bits,
-                } => same_rows_between(alloc, values, part, others, bounds(ends, bits, there)),
-                _ => Ok(false),
-            }
-        }
+        } => same_list(alloc, values, bounds(offsets, validity, at), other, there),
         Column::FixedSizeList {
             size,
             values,
             validity,
             ..
-        } => {
-            let part = block_bounds(*size, validity, at);
-            match other {
-                Column::FixedSizeList {
-                    size: width,
-                    values: others,
-                    validity: bits,
-                    ..
-                } => same_rows_between(
-                    alloc,
-                    values,
-                    part,
-                    others,
-                    block_bounds(*width, bits, there),
-                ),
-                _ => Ok(false),
-            }
-        }
+        } => same_block(
+            alloc,
+            values,
+            block_bounds(*size, validity, at),
+            other,
+            there,
+        ),
         Column::Struct {
             fields,
             validity,
             ..
+        } => same_tuple(alloc, fields, is_valid(validity, at), at, other, there),
+        _ => Ok(false),
+    }
+}
+
+/// Whether a part of a child is list `there` of a column.
+#[cycle(same)]
+fn same_list(
+    alloc: Global,
+    child: &Column,
+    part: Option<(usize, usize)>,
+    other: &Column,
+    there: usize,
+) -> PolarsResult<bool> {
+    match other {
+        Column::LargeList {
+            offsets,
+            values,
+            validity,
+        } => same_rows_between(alloc, child, part, values, bounds(offsets, validity, there)),
+        _ => Ok(false),
+    }
+}
+
+/// The same of lists of one length.
+#[cycle(same)]
+fn same_block(
+    alloc: Global,
+    child: &Column,
+    part: Option<(usize, usize)>,
+    other: &Column,
+    there: usize,
+) -> PolarsResult<bool> {
+    match other {
+        Column::FixedSizeList {
+            size,
+            values,
+            validity,
+            ..
+        } => same_rows_between(
+            alloc,
+            child,
+            part,
+            values,
+            block_bounds(*size, validity, there),
+        ),
+        _ => Ok(false),
+    }
+}
+
+/// Whether rows `at` of fields, or null where there is no tuple, are tuple `there` of a column.
+#[cycle(same)]
+fn same_tuple(
+    alloc: Global,
+    fields: &[Column],
+    is_there: bool,
+    at: usize,
+    other: &Column,
+    there: usize,
+) -> PolarsResult<bool> {
+    match other {
+        Column::Struct {
+            fields: others,
+            validity,
+            ..
         } => {
-            let is_there = is_valid(validity, at);
-            match other {
-                Column::Struct {
-                    fields: others,
-                    validity: bits,
-                    ..
-                } => {
-                    if !is_there || !is_valid(bits, there) {
-                        return Ok(!is_there && !is_valid(bits, there));
-                    }
-                    same_fields(alloc, fields, at, others, there)
-                }
-                _ => Ok(false),
+            if !is_there || !is_valid(validity, there) {
+                return Ok(!is_there && !is_valid(validity, there));
             }
+            same_fields(alloc, fields, at, others, there)
         }
         _ => Ok(false),
     }
 }
 
-/// Whether the columns have the same rows.
+/// Whether the columns are of one type and have the same rows.
 pub fn same_rows(alloc: Global, one: &Column, other: &Column) -> PolarsResult<bool> {
-    if one.len() != other.len() {
+    if one.len() != other.len() || !one.same_dtype(other) {
         return Ok(false);
     }
     for i in 0..one.len() {
