@@ -57,8 +57,8 @@ kind Null = 0
 kind (Truth truth) = 1
 kind (Number number) = 2
 kind (Bytes bytes) = 3
-kind (Items values) = 4
-kind (Tuple values) = 5
+kind (Items vs) = 4
+kind (Tuple vs) = 5
 
 abbrev kind_of : ℕ → ℕ
 kind_of b =
@@ -117,8 +117,8 @@ starts s (Bytes bytes) r fit = go (is_text_shape s)
     go : (t : Bool) → kind_of (get_or ((if t then quoted bytes else hex_text bytes) ++ r) 0 0) ≡ 3
     go true = refl
     go false = refl
-starts s (Items values) r fit = refl
-starts s (Tuple values) r fit = refl
+starts s (Items vs) r fit = refl
+starts s (Tuple vs) r fit = refl
 
 same_kind : (s : Shape) (v w : Value) (r t : List ℕ) → fits s v ≡ true → fits s w ≡ true → value_text s v ++ r ≡ value_text s w ++ t → kind v ≡ kind w
 same_kind s v w r t fv fw e = sym (starts s v r fv) ∙ ap (λ l. kind_of (get_or l 0 0)) e ∙ starts s w t fw

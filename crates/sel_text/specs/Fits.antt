@@ -51,17 +51,17 @@ abbrev mutual
   fits shape (Truth truth) = is_truth_shape shape
   fits shape (Number number) = fits_number shape number
   fits shape (Bytes bytes) = fits_bytes shape bytes
-  fits shape (Items values) = fits_count shape (length (listed values)) && all_fit (item_shape shape) values
-  fits shape (Tuple values) = is_struct_shape shape && parts_fit (part_shapes shape) values
+  fits shape (Items entries) = fits_count shape (length (listed entries)) && all_fit (item_shape shape) entries
+  fits shape (Tuple entries) = is_struct_shape shape && parts_fit (part_shapes shape) entries
 
   -- each of a list's values does (own)
   pub all_fit : Shape → Values → Bool
   all_fit shape no_values = true
-  all_fit shape (next_value value values) = fits shape value && all_fit shape values
+  all_fit shape (next_value value entries) = fits shape value && all_fit shape entries
 
   -- there is a value for each of a tuple's types, and each fits its own (Arrow columnar format: struct layout)
   pub parts_fit : Shapes → Values → Bool
   parts_fit no_shapes no_values = true
-  parts_fit no_shapes (next_value value values) = false
-  parts_fit (next_shape shape shapes) no_values = false
-  parts_fit (next_shape shape shapes) (next_value value values) = fits shape value && parts_fit shapes values
+  parts_fit no_shapes (next_value value entries) = false
+  parts_fit (next_shape shape types) no_values = false
+  parts_fit (next_shape shape types) (next_value value entries) = fits shape value && parts_fit types entries
