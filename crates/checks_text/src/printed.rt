@@ -4,6 +4,8 @@ use crate::made::{blocks, bytes, lists, pairs, texts, units, views};
 use checks_columns::fixtures::{column, nulls, number_column, truths};
 use sel_arrow::array::Array;
 use sel_arrow::array_ref::ArrayRef;
+use sel_arrow::binview::bytes_at;
+use sel_arrow::view::View;
 use sel_text::print::{print_rows, row_at};
 use std::alloc::Global;
 use std::test::Fail;
@@ -147,5 +149,13 @@ fn one_row(rt: HostRuntime) -> Result<(), Fail> {
     assert!(rt; row_prints(alloc, listed, 1, "[null,-3]")?);
     let numbers = number_column(alloc, &[Some(1), None])?;
     assert!(rt; row_prints(alloc, numbers, 1, "null")?);
+    Ok(())
+}
+
+#[test]
+fn bytes_of_a_view_without_a_copy(rt: HostRuntime) -> Result<(), Fail> {
+    let view = View::new_from_bytes(b"hello", 0, 0);
+    let space = view.inline_space();
+    assert!(rt; bytes_at(&[], view, &space) == b"hello".as_slice());
     Ok(())
 }

@@ -3,3 +3,5 @@ pub mod Equalities
 pub mod Escapes
 pub mod Printed
 pub mod TypeTexts
+pub mod Decoded
+pub mod Told

@@ -61,7 +61,7 @@ item_shape shape = shape
 
 -- the types of the values in a tuple of a type of tuples (Arrow columnar format: struct layout)
 abbrev pub part_shapes : Shape → Shapes
-part_shapes (of_struct shapes) = shapes
+part_shapes (of_struct types) = types
 part_shapes shape = no_shapes
 
 abbrev mutual
@@ -71,19 +71,19 @@ abbrev mutual
   value_text shape (Truth truth) = truth_text truth
   value_text shape (Number number) = signed_decimal number
   value_text shape (Bytes bytes) = bytes_text shape bytes
-  value_text shape (Items values) = bracketed (item_texts (item_shape shape) values)
-  value_text shape (Tuple values) = parenthesized (part_texts (part_shapes shape) values)
+  value_text shape (Items entries) = bracketed (item_texts (item_shape shape) entries)
+  value_text shape (Tuple entries) = parenthesized (part_texts (part_shapes shape) entries)
 
   -- values of one type, each as a text (own)
   pub item_texts : Shape → Values → List (List ℕ)
   item_texts shape no_values = []
-  item_texts shape (next_value value values) = value_text shape value ∷ item_texts shape values
+  item_texts shape (next_value value entries) = value_text shape value ∷ item_texts shape entries
 
   -- values of a type each, each as a text (own)
   pub part_texts : Shapes → Values → List (List ℕ)
-  part_texts shapes no_values = []
-  part_texts no_shapes (next_value value values) = []
-  part_texts (next_shape shape shapes) (next_value value values) = value_text shape value ∷ part_texts shapes values
+  part_texts types no_values = []
+  part_texts no_shapes (next_value value entries) = []
+  part_texts (next_shape shape types) (next_value value entries) = value_text shape value ∷ part_texts types entries
 
 -- the rows of a column of this type, as in `[1,null,-3]` (own: the notation that the documents write)
 abbrev pub text_of : Shape → List Value → List ℕ

@@ -109,7 +109,7 @@ fn equal_flat(cell: Cell, twin: Cell) -> bool
             let space = view.inline_space();
             equal_bytes(bytes_at(buffers, view, &space), twin)
         }
-        Cell::Items(..) | Cell::Parts(..) => false,
+        Cell::Items(..) | Cell::Parts(..) => unreachable!(),
     }
 }
 

@@ -3,5 +3,6 @@
 
 mod cell;
 pub mod equal;
+pub mod laws;
 pub mod print;
 pub mod types;

@@ -122,7 +122,7 @@ fn push_flat(cell: Cell, text: &mut String) -> Result<(), AllocError>
             let space = view.inline_space();
             push_quoted(bytes_at(buffers, view, &space), text)
         }
-        Cell::Items(..) | Cell::Parts(..) => Ok(()),
+        Cell::Items(..) | Cell::Parts(..) => unreachable!(),
     }
 }
 
