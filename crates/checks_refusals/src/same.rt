@@ -9,7 +9,6 @@ use sel_arrow::binview::BinaryViewArray;
 use sel_arrow::boolean::BooleanArray;
 use sel_arrow::column::Column;
 use sel_arrow::primitive::{ArrowPrimitive, PrimitiveArray};
-use sel_arrow::utf8view::Utf8ViewArray;
 use sel_bits::bitmap::Bitmap;
 use sel_bits::faults::{PolarsError, PolarsResult};
 use sel_bits::offsets::OffsetsBuffer;
@@ -36,7 +35,7 @@ fn same_bytes(one: &BinaryArray<i64>, at: usize, other: &BinaryArray<i64>, there
     at < one.len() && there < other.len() && one.get(at) == other.get(there)
 }
 
-/// The same of bytes that views name.
+/// The same of bytes, or of a text's bytes, that views name.
 fn same_view(
     alloc: Global,
     one: &BinaryViewArray,
@@ -52,26 +51,6 @@ fn same_view(
     Ok(match (&first, &second) {
         (None, None) => true,
         (Some(first), Some(second)) => first.as_slice() == second.as_slice(),
-        _ => false,
-    })
-}
-
-/// The same of texts.
-fn same_text(
-    alloc: Global,
-    one: &Utf8ViewArray,
-    at: usize,
-    other: &Utf8ViewArray,
-    there: usize,
-) -> PolarsResult<bool> {
-    if at >= one.len() || there >= other.len() {
-        return Ok(false);
-    }
-    let first = one.get(alloc, at)?;
-    let second = other.get(alloc, there)?;
-    Ok(match (&first, &second) {
-        (None, None) => true,
-        (Some(first), Some(second)) => first.as_str() == second.as_str(),
         _ => false,
     })
 }
@@ -164,7 +143,9 @@ fn same_row(
         (Column::UInt128(a), Column::UInt128(b)) => Ok(same_number(a, at, b, there)),
         (Column::LargeBinary(a), Column::LargeBinary(b)) => Ok(same_bytes(a, at, b, there)),
         (Column::BinaryView(a), Column::BinaryView(b)) => same_view(alloc, a, at, b, there),
-        (Column::Utf8View(a), Column::Utf8View(b)) => same_text(alloc, a, at, b, there),
+        (Column::Utf8View(a), Column::Utf8View(b)) => {
+            same_view(alloc, &a.bytes, at, &b.bytes, there)
+        }
         _ => same_nested_row(alloc, one, at, other, there),
     }
 }
