@@ -1,0 +1,2 @@
+pub mod HandleSteps
+pub mod LooseSteps
