@@ -1,2 +1,3 @@
 pub mod HandleSteps
 pub mod LooseSteps
+pub mod Shown

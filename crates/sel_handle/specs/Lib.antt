@@ -1,1 +1,4 @@
 pub mod Held
+pub mod Inputs
+pub mod Outputs
+pub mod Status

@@ -1,5 +1,8 @@
-//! Columns for callers outside: the handle of a column, and the numbers that calls answer.
+//! Columns for callers outside: the handle of a column, the numbers that calls answer, and columns made of slices.
 #![tactic(auto)]
 
 pub mod handle;
+pub mod inputs;
 mod loose;
+pub mod outputs;
+pub mod status;
