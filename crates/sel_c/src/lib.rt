@@ -1,5 +1,7 @@
 //! The calls of the library for C, and for all that can call C.
 #![tactic(auto)]
 
-pub mod makers;
-pub mod readers;
+mod filters;
+mod makers;
+mod readers;
+mod whole;

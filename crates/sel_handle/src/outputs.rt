@@ -27,6 +27,7 @@ pub fn numbers_into<T: ArrowPrimitive>(alloc: Global, column: &ArrayRef, out: &m
         (length out.old ≡ length (rows column.now.column)) }
     ensures status { IsOneOf result
         (done ∷ no_memory ∷ no_column ∷ other_kind ∷ other_length ∷ []) }
+    ensures column { result ≢ no_column }
 {
     let Ok(copy) = column.try_clone(alloc) else {
         return NO_MEMORY;
@@ -81,6 +82,7 @@ pub fn validity_into(alloc: Global, column: &ArrayRef, out: &mut [u8], has: &mut
     ensures length { result ≡ other_length →
         length out.old ≢ (length (rows column.now.column) + 7) / 8 }
     ensures status { IsOneOf result (done ∷ no_memory ∷ no_column ∷ other_length ∷ []) }
+    ensures column { result ≢ no_column }
 {
     match column.validity() {
         None => {
@@ -104,6 +106,7 @@ pub fn booleans_into(alloc: Global, column: &ArrayRef, out: &mut [u8]) -> u32
         (length out.old ≡ (length (rows column.now.column) + 7) / 8) }
     ensures status { IsOneOf result
         (done ∷ no_memory ∷ no_column ∷ other_kind ∷ other_length ∷ []) }
+    ensures column { result ≢ no_column }
 {
     let Ok(copy) = column.try_clone(alloc) else {
         return NO_MEMORY;
