@@ -3,5 +3,6 @@
 
 mod filters;
 mod makers;
+mod nested_makers;
 mod readers;
 mod whole;

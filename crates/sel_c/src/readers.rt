@@ -6,11 +6,13 @@ ghost use Rattle.sel_arrow.specs.Nulls.{TellsNulls};
 ghost use Rattle.sel_arrow.specs.Shape.{of_boolean, of_int8, of_int16, of_int32, of_int64, of_uint8, of_uint16, of_uint32, of_uint64};
 ghost use Rattle.sel_arrow.specs.Value.{is_null};
 ghost use Rattle.sel_handle.specs.Inputs.{validity_in};
+ghost use Rattle.sel_handle.specs.Kinds.{held_kind};
 ghost use Rattle.sel_handle.specs.Outputs.{Shows, numbers, truths};
 ghost use Rattle.sel_handle.specs.Status.{done, no_memory, no_column, other_kind, other_length, held_rows, held_type, Demands, HasColumn, IsOneOf};
 
 use sel_arrow::array::Array;
 use sel_handle::handle::Handle;
+use sel_handle::kinds::{NO_KIND, kind_of};
 use sel_handle::outputs::{booleans_into, numbers_into, validity_into};
 use sel_handle::status::NO_COLUMN;
 use std::alloc::Global;
@@ -43,6 +45,22 @@ pub extern "C" fn sel_null_count(alloc: Global, of: &mut Handle) -> usize
             let count = column.null_count();
             *of = Handle::of(column);
             count
+        }
+    }
+}
+
+/// The number of the column's kind (`enum sel_kind_number`), SEL_NO_KIND where there is no column.
+#[unsafe(no_mangle)]
+pub extern "C" fn sel_kind(alloc: Global, of: &mut Handle) -> u32
+    ensures kind { result ≡ held_kind of.old.tree }
+    ensures unchanged { of.new.tree ≡ of.old.tree }
+{
+    match of.take(alloc) {
+        None => NO_KIND,
+        Some(column) => {
+            let kind = kind_of(column.as_column());
+            *of = Handle::of(column);
+            kind
         }
     }
 }

@@ -1,3 +1,5 @@
 pub mod HandleSteps
 pub mod LooseSteps
+pub mod Positions
 pub mod Shown
+pub mod Tuples

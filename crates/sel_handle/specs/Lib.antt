@@ -1,4 +1,5 @@
 pub mod Held
 pub mod Inputs
+pub mod Kinds
 pub mod Outputs
 pub mod Status

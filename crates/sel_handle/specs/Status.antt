@@ -10,7 +10,7 @@ use Rattle.sel_bits.specs.declared.faults.MakeError.{MakeError}
 use Rattle.sel_bits.specs.declared.faults.MakeError.TheVariants as make
 use Rattle.sel_bits.specs.declared.faults.PolarsError.{PolarsError}
 use Rattle.sel_bits.specs.declared.faults.PolarsError.TheVariants as error
-use Rattle.sel_arrow.specs.Rows.{rows, type_of}
+use Rattle.sel_arrow.specs.Rows.{rows, row_count, type_of}
 use Rattle.sel_arrow.specs.Shape.{Shape, of_null}
 use Rattle.sel_arrow.specs.Value.{Value}
 use Rattle.sel_arrow.specs.declared.array_ref.ArrayRef.{ArrayRef}
@@ -120,3 +120,13 @@ IsOwnError status = (status ≢ done) × (status ≢ no_column) × (status ≢ o
 -- a limit is told of only where it is passed (own)
 abbrev pub TellsLimits : ℕ → (Limit → Type 0) → Type 0
 TellsLimits status Past = (limit : Limit) → status ≡ limit_status limit → Past limit
+
+-- the number of the first broken rule, and none where none is broken, if no growth was refused (own)
+abbrev pub Names : ℕ → Option Malformed → Type 0
+Names status None = status ≤ no_memory
+Names status (Some rule) = status ≢ no_memory → status ≡ rule_status rule
+
+-- how many rows the column that a handle has is laid out for (own)
+abbrev pub held_count : Held → ℕ
+held_count None = 0
+held_count (Some column) = row_count column.column

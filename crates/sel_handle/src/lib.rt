@@ -3,6 +3,8 @@
 
 pub mod handle;
 pub mod inputs;
+pub mod kinds;
 mod loose;
+pub mod nested;
 pub mod outputs;
 pub mod status;

@@ -29,6 +29,60 @@ pub const OTHER_LENGTH: u32 = 5;
 /// An index, a key or a part names a row that there is not.
 pub const OUT_OF_BOUNDS: u32 = 6;
 
+/// A list that is not null has no element at the index.
+pub const GET_OUT_OF_BOUNDS: u32 = 7;
+
+/// The result would have, at some depth, more than 4,294,967,295 rows.
+pub const LIMIT_ROWS: u32 = 8;
+
+/// A column of bytes in the result would have more bytes than an offset can show.
+pub const LIMIT_BYTES: u32 = 9;
+
+/// A column of views in the result would have more than 4,294,967,295 data buffers.
+pub const LIMIT_BUFFERS: u32 = 10;
+
+/// A view, or a scalar that stands at every row, would have more than 4,294,967,295 bytes.
+pub const LIMIT_VIEW_BYTES: u32 = 11;
+
+/// There is no offset.
+pub const OFFSET_COUNT: u32 = 16;
+
+/// An offset is negative.
+pub const OFFSET_NEGATIVE: u32 = 17;
+
+/// An offset is less than the one before.
+pub const OFFSET_ORDER: u32 = 18;
+
+/// More rows than 4,294,967,295.
+pub const TOO_MANY_ROWS: u32 = 19;
+
+/// More data buffers than 4,294,967,295.
+pub const TOO_MANY_BUFFERS: u32 = 20;
+
+/// Lists of one length are longer than 4,294,967,295.
+pub const WIDTH: u32 = 21;
+
+/// The last offset is past the end of what it points into.
+pub const OFFSET_RANGE: u32 = 22;
+
+/// The child of lists of one length has not a row for each entry.
+pub const CHILD_LENGTH: u32 = 23;
+
+/// A field has another number of rows than its struct.
+pub const FIELD_LENGTH: u32 = 24;
+
+/// The bytes of the validity have fewer bits than there are rows.
+pub const VALIDITY_LENGTH: u32 = 25;
+
+/// A view names bytes that its buffers do not have.
+pub const VIEW_RANGE: u32 = 26;
+
+/// A view's prefix is not the first four bytes that it names.
+pub const VIEW_PREFIX: u32 = 27;
+
+/// A valid row of a column of texts is not UTF-8.
+pub const UTF8: u32 = 28;
+
 /// The number of a kernel's error.
 pub fn status_of(error: PolarsError) -> u32
     ensures number { result ≡ error_status error }
@@ -36,12 +90,12 @@ pub fn status_of(error: PolarsError) -> u32
 {
     match error {
         PolarsError::OutOfMemory => NO_MEMORY,
-        PolarsError::ComputeError => 7,
+        PolarsError::ComputeError => GET_OUT_OF_BOUNDS,
         PolarsError::SizeLimit(limit) => match limit {
-            Limit::Rows => 8,
-            Limit::Bytes => 9,
-            Limit::Buffers => 10,
-            Limit::ViewBytes => 11,
+            Limit::Rows => LIMIT_ROWS,
+            Limit::Bytes => LIMIT_BYTES,
+            Limit::Buffers => LIMIT_BUFFERS,
+            Limit::ViewBytes => LIMIT_VIEW_BYTES,
         },
     }
 }
@@ -54,19 +108,19 @@ pub fn status_of_maker(error: MakeError) -> u32
     match error {
         MakeError::OutOfMemory => NO_MEMORY,
         MakeError::Malformed(rule) => match rule {
-            Malformed::OffsetCount => 16,
-            Malformed::OffsetNegative => 17,
-            Malformed::OffsetOrder => 18,
-            Malformed::TooManyRows => 19,
-            Malformed::TooManyBuffers => 20,
-            Malformed::Width => 21,
-            Malformed::OffsetRange => 22,
-            Malformed::ChildLength => 23,
-            Malformed::FieldLength => 24,
-            Malformed::ValidityLength => 25,
-            Malformed::ViewRange => 26,
-            Malformed::ViewPrefix => 27,
-            Malformed::Utf8 => 28,
+            Malformed::OffsetCount => OFFSET_COUNT,
+            Malformed::OffsetNegative => OFFSET_NEGATIVE,
+            Malformed::OffsetOrder => OFFSET_ORDER,
+            Malformed::TooManyRows => TOO_MANY_ROWS,
+            Malformed::TooManyBuffers => TOO_MANY_BUFFERS,
+            Malformed::Width => WIDTH,
+            Malformed::OffsetRange => OFFSET_RANGE,
+            Malformed::ChildLength => CHILD_LENGTH,
+            Malformed::FieldLength => FIELD_LENGTH,
+            Malformed::ValidityLength => VALIDITY_LENGTH,
+            Malformed::ViewRange => VIEW_RANGE,
+            Malformed::ViewPrefix => VIEW_PREFIX,
+            Malformed::Utf8 => UTF8,
         },
     }
 }
