@@ -368,6 +368,22 @@ uint32_t sel_filter(sel_column *of, sel_column *mask, sel_column *out);
  * column; SEL_OTHER_LENGTH: it has not `len` rows, or `mask` has fewer bytes than `len` bits need. */
 uint32_t sel_filter_bits(sel_column *of, const uint8_t *mask, size_t mask_len, size_t len, sel_column *out);
 
+/* ---- The rows at indices. ---- */
+
+/* Makes the column whose row k is the row of `of` at index k, or null where index k is null. SEL_NO_COLUMN: `of` or
+ * `indices` has no column; SEL_OTHER_KIND: `indices` is not of unsigned numbers of 32 bits; SEL_OUT_OF_BOUNDS: an
+ * index that is not null names no row; SEL_LIMIT_ROWS, SEL_LIMIT_BYTES: the rows that are asked for need more. */
+uint32_t sel_take(sel_column *of, sel_column *indices, sel_column *out);
+
+/* ---- Elements of lists. ---- */
+
+/* Writes whether the index has no place in some list that is not null. SEL_NO_COLUMN: `of` has no column;
+ * SEL_OTHER_KIND: it is not of lists between offsets. */
+uint32_t sel_index_is_oob(sel_column *of, int64_t index, bool *out);
+
+/* Makes the column whose row k is the list of row k alone. SEL_NO_COLUMN: `of` has no column. */
+uint32_t sel_unit_list(sel_column *of, sel_column *out);
+
 #ifdef __cplusplus
 }
 #endif

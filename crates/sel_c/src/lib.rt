@@ -2,7 +2,9 @@
 #![tactic(auto)]
 
 mod filters;
+mod lists;
 mod makers;
 mod nested_makers;
 mod readers;
+mod takes;
 mod whole;

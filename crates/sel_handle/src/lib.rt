@@ -7,4 +7,5 @@ pub mod kinds;
 mod loose;
 pub mod nested;
 pub mod outputs;
+pub mod parts;
 pub mod status;
