@@ -5,6 +5,7 @@ mod filters;
 mod lists;
 mod makers;
 mod nested_makers;
+mod nested_readers;
 mod readers;
 mod takes;
 mod whole;
