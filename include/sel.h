@@ -357,6 +357,22 @@ uint32_t sel_uint32_values(sel_column *of, uint32_t *out, size_t out_len);
  * no column; SEL_OTHER_KIND: it is of another kind; SEL_OTHER_LENGTH: `out` is of another length. */
 uint32_t sel_uint64_values(sel_column *of, uint64_t *out, size_t out_len);
 
+/* ---- What is read of columns of bytes between offsets and of lists. ---- */
+
+/* Writes the offsets of a column of bytes or lists into `out`, which has one place more than there are rows; the
+ * first one is above 0 where rows were cut off before. SEL_NO_COLUMN: there is no column; SEL_OTHER_KIND: it has no
+ * offsets; SEL_OTHER_LENGTH: `out` is of another length. */
+uint32_t sel_offsets(sel_column *of, int64_t *out, size_t out_len);
+
+/* Writes how many bytes a column of bytes between offsets has. SEL_NO_COLUMN: there is no column; SEL_OTHER_KIND: it
+ * is of another kind. */
+uint32_t sel_bytes_len(sel_column *of, size_t *len);
+
+/* Writes the bytes of a column of bytes between offsets, those outside of the rows too, into `out`, which has a
+ * place for each. SEL_NO_COLUMN: there is no column; SEL_OTHER_KIND: it is of another kind; SEL_OTHER_LENGTH: `out`
+ * is of another length. */
+uint32_t sel_bytes(sel_column *of, uint8_t *out, size_t out_len);
+
 /* ---- The rows that a mask keeps. ---- */
 
 /* Makes the column of the rows where the mask, a column of truth values, is the valid value true; a null in it
@@ -383,6 +399,25 @@ uint32_t sel_index_is_oob(sel_column *of, int64_t index, bool *out);
 
 /* Makes the column whose row k is the list of row k alone. SEL_NO_COLUMN: `of` has no column. */
 uint32_t sel_unit_list(sel_column *of, sel_column *out);
+
+/* ---- The children of lists and the fields of tuples, which share buffers with their column. ---- */
+
+/* Makes the column of the child of a column of lists, those rows too that are in no list; it shares the buffers of
+ * `of`. SEL_NO_COLUMN: `of` has no column; SEL_OTHER_KIND: it is not of lists. */
+uint32_t sel_child(sel_column *of, sel_column *out);
+
+/* Writes how many entries each list of a column of lists of one length has. SEL_NO_COLUMN: there is no column;
+ * SEL_OTHER_KIND: it is of another kind. */
+uint32_t sel_width(sel_column *of, size_t *width);
+
+/* Writes how many fields a column of tuples has. SEL_NO_COLUMN: there is no column; SEL_OTHER_KIND: it is of another
+ * kind. */
+uint32_t sel_field_count(sel_column *of, size_t *count);
+
+/* Makes the column of field `i` of a column of tuples, counted from 0; it shares the buffers of `of`. Rows of the
+ * field at null tuples are as they are laid out. SEL_NO_COLUMN: `of` has no column; SEL_OUT_OF_BOUNDS: it has no
+ * such field. */
+uint32_t sel_field(sel_column *of, size_t i, sel_column *out);
 
 #ifdef __cplusplus
 }

@@ -1,6 +1,7 @@
 //! The calls of the library for C, and for all that can call C.
 #![tactic(auto)]
 
+mod children;
 mod filters;
 mod lists;
 mod makers;
