@@ -1,12 +1,14 @@
 -- What callers pass beside values.
-use Rattle.std.specs.Prelude.{◌≡◌, ℕ, ℤ, ◌+◌, ◌*◌, Bool, true, false, List, length, Option, None, Some, nat_lt, ◌&&◌, [], ◌∷◌}
+use Rattle.std.specs.Prelude.{◌≡◌, ℕ, ℤ, ◌+◌, ◌*◌, Bool, true, false, List, length, Option, None, Some, nat_lt, ◌&&◌, [], ◌∷◌, map}
+use Rattle.sel_handle.specs.declared.views.ViewWords.{ViewWords}
 use Rattle.sel_bits.specs.Faults.{first_broken}
 use Rattle.sel_bits.specs.declared.faults.Malformed.{Malformed}
 use Rattle.sel_bits.specs.declared.faults.Malformed.TheVariants.{TooManyRows, ValidityLength}
 use Rattle.sel_bits.specs.Offsets.{offsets_fault, magnitudes}
 use Rattle.sel_bits.specs.declared.faults.MakeError.{MakeError}
 use Rattle.sel_bits.specs.declared.faults.MakeError.TheVariants as make
-use Rattle.sel_arrow.specs.Makers.{or_else, binary_fault, list_fault, block_fault, struct_fault}
+use Rattle.sel_arrow.specs.Makers.{or_else, binary_fault, list_fault, block_fault, struct_fault, binview_fault, utf8view_fault}
+use Rattle.sel_arrow.specs.declared.view.View.{View}
 use Rattle.sel_arrow.specs.Masked.{too_many}
 use Rattle.sel_arrow.specs.Pieces.{rows_between}
 use Rattle.sel_bits.specs.Bits.{Bits, unsliced, bits_from}
@@ -56,3 +58,21 @@ struct_rules n fields bytes has = or_else (validity_rule bytes has n) (struct_fa
 abbrev pub IsRuleOrMemory : Option Malformed → MakeError → Type 0
 IsRuleOrMemory fault (make.Malformed rule) = fault ≡ Some rule
 IsRuleOrMemory fault make.OutOfMemory = Unit {0}
+
+-- the rules of bytes that views name, in order, and the first broken one (own)
+abbrev pub binview_rules : List View → List (List ℕ) → List ℕ → Bool → Option Malformed
+binview_rules views buffers bytes has =
+    or_else (validity_rule bytes has (length views)) (binview_fault views buffers (validity_in bytes has (length views)))
+
+-- of texts that views name (own)
+abbrev pub utf8view_rules : List View → List (List ℕ) → List ℕ → Bool → Option Malformed
+utf8view_rules views buffers bytes has =
+    or_else (validity_rule bytes has (length views)) (utf8view_fault views buffers (validity_in bytes has (length views)))
+
+-- a view of four words (Arrow columnar format: variable-size binary view layout)
+abbrev pub view_in : ViewWords → View
+view_in words = record { length = words.length; prefix = words.prefix; buffer_idx = words.buffer; offset = words.offset }
+
+-- the views, and the data buffers, that callers pass (own)
+abbrev pub views_in : List ViewWords → List View
+views_in words = map view_in words

@@ -9,3 +9,4 @@ pub mod nested;
 pub mod outputs;
 pub mod parts;
 pub mod status;
+pub mod views;
