@@ -304,6 +304,51 @@ uint32_t sel_fixed_list_new(
     sel_column *child,
     sel_column *out);
 
+/* ---- Columns of bytes and texts that views name. ---- */
+
+/* Makes the column of the bytes that views name, in themselves up to 12 bytes and else in a data buffer. The first
+ * rule of these, in this order, that is broken: SEL_VALIDITY_LENGTH, SEL_TOO_MANY_ROWS, SEL_TOO_MANY_BUFFERS, and
+ * then, view by view, beneath nulls too, SEL_VIEW_RANGE, SEL_VIEW_PREFIX. */
+uint32_t sel_binview_new(
+    const sel_view *views,
+    size_t views_len,
+    const sel_slice *buffers,
+    size_t buffers_len,
+    const uint8_t *bits,
+    size_t bits_len,
+    bool has_bits,
+    sel_column *out);
+
+/* Makes the column of the UTF-8 texts that views name, in themselves up to 12 bytes and else in a data buffer. The
+ * first rule of these, in this order, that is broken: SEL_VALIDITY_LENGTH, SEL_TOO_MANY_ROWS, SEL_TOO_MANY_BUFFERS,
+ * and then, view by view, beneath nulls too, SEL_VIEW_RANGE, SEL_VIEW_PREFIX, SEL_UTF8. */
+uint32_t sel_utf8view_new(
+    const sel_view *views,
+    size_t views_len,
+    const sel_slice *buffers,
+    size_t buffers_len,
+    const uint8_t *bits,
+    size_t bits_len,
+    bool has_bits,
+    sel_column *out);
+
+/* Writes the views, those beneath nulls too, into `out`, which has a place for each row. SEL_NO_COLUMN: there is no
+ * column; SEL_OTHER_KIND: it is not of views; SEL_OTHER_LENGTH: `out` is of another length. */
+uint32_t sel_views(sel_column *of, sel_view *out, size_t out_len);
+
+/* Writes how many data buffers a column of views has. SEL_NO_COLUMN: there is no column; SEL_OTHER_KIND: it is not
+ * of views. */
+uint32_t sel_buffer_count(sel_column *of, size_t *count);
+
+/* Writes how many bytes data buffer `i` has, counted from 0. SEL_NO_COLUMN: there is no column; SEL_OTHER_KIND: it
+ * is not of views; SEL_OUT_OF_BOUNDS: it has no such buffer. */
+uint32_t sel_buffer_len(sel_column *of, size_t i, size_t *len);
+
+/* Writes the bytes of data buffer `i` into `out`, which has a place for each. SEL_NO_COLUMN: there is no column;
+ * SEL_OTHER_KIND: it is not of views; SEL_OUT_OF_BOUNDS: it has no such buffer; SEL_OTHER_LENGTH: `out` is of
+ * another length. */
+uint32_t sel_buffer(sel_column *of, size_t i, uint8_t *out, size_t out_len);
+
 /* ---- What is read of a column, which stays where it is. ---- */
 
 /* How many rows there are, 0 where there is no column. */

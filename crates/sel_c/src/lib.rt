@@ -9,4 +9,5 @@ mod nested_makers;
 mod nested_readers;
 mod readers;
 mod takes;
+mod views;
 mod whole;

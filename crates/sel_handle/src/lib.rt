@@ -9,4 +9,5 @@ pub mod nested;
 pub mod outputs;
 pub mod parts;
 pub mod status;
+pub mod view_parts;
 pub mod views;
