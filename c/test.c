@@ -254,7 +254,16 @@ static void test_bytes(void) {
     IS(sel_binary_new(offsets, 4, text, 3, no_bits, 0, true, &column) == SEL_VALIDITY_LENGTH || refused);
     DONE(sel_binary_new(offsets, 4, text, 3, bits, 1, true, &column));
     if (column.at != NULL) {
+        int64_t places[4] = {9, 9, 9, 9};
+        uint8_t read[3] = {0, 0, 0};
+        size_t len = 0;
         IS(sel_kind(&column) == SEL_LARGE_BINARY && sel_len(&column) == 3 && sel_null_count(&column) == 1);
+        IS(sel_offsets(&column, places, 3) == SEL_OTHER_LENGTH);
+        IS(sel_offsets(&column, places, 4) == SEL_DONE && memcmp(places, offsets, sizeof offsets) == 0);
+        IS(sel_bytes_len(&column, &len) == SEL_DONE && len == 3);
+        IS(sel_bytes(&column, read, 2) == SEL_OTHER_LENGTH);
+        IS(sel_bytes(&column, read, 3) == SEL_DONE && memcmp(read, text, 3) == 0);
+        IS(sel_views(&column, &(sel_view){0, 0, 0, 0}, 1) == SEL_OTHER_KIND);
     }
     sel_free(&column);
 }
@@ -282,6 +291,19 @@ static void test_lists(void) {
         DONE(sel_list_new(offsets, 3, no_bits, 0, false, &child, &lists));
         IS(child.at == NULL);
         IS(lists.at == NULL || (sel_len(&lists) == 2 && sel_kind(&lists) == SEL_LARGE_LIST));
+        if (lists.at != NULL) {
+            const int64_t all[4] = {10, 20, 30, 40};
+            int64_t places[3];
+            size_t width = 7;
+            IS(sel_offsets(&lists, places, 3) == SEL_DONE && memcmp(places, offsets, sizeof offsets) == 0);
+            IS(sel_bytes_len(&lists, &width) == SEL_OTHER_KIND && sel_bytes(&lists, (uint8_t *)places, 3) == SEL_OTHER_KIND);
+            IS(sel_width(&lists, &width) == SEL_OTHER_KIND && sel_field_count(&lists, &width) == SEL_OTHER_KIND && width == 7);
+            IS(sel_field(&lists, 0, &child) == SEL_OUT_OF_BOUNDS);
+            DONE(sel_child(&lists, &child));
+            IS(child.at == NULL || holds(&child, all, 4) || refused);
+            IS(child.at == NULL || sel_child(&child, &units) == SEL_OTHER_KIND);
+            sel_free(&child);
+        }
     }
     child = tens();
     if (child.at != NULL) {
@@ -293,14 +315,74 @@ static void test_lists(void) {
         uint32_t status = sel_fixed_list_new(2, 2, no_bits, 0, false, &child, &lists);
         IS(done(status) && (status != SEL_DONE || (sel_len(&lists) == 2 && sel_kind(&lists) == SEL_FIXED_SIZE_LIST)));
     }
+    if (lists.at != NULL && sel_kind(&lists) == SEL_FIXED_SIZE_LIST) {
+        size_t width = 0;
+        IS(sel_width(&lists, &width) == SEL_DONE && width == 2);
+        IS(sel_offsets(&lists, (int64_t[3]){0, 0, 0}, 3) == SEL_OTHER_KIND);
+    }
     IS(sel_fixed_list_new(2, 2, no_bits, 0, false, &child, &lists) == SEL_NO_COLUMN);
     sel_free(&lists);
     sel_free(&units);
 }
 
+/* ---- views ---- */
+
+/* The view of up to 12 bytes, and one of more of them in a data buffer. */
+static sel_view view_of(const char *text, uint32_t len, uint32_t offset) {
+    sel_view view = {len, 0, 0, 0};
+    if (len <= 12) {
+        memcpy(&view.prefix, text, len);
+    } else {
+        memcpy(&view.prefix, text, 4);
+        view.offset = offset;
+    }
+    return view;
+}
+
+static void test_views(void) {
+    const char *far = "..thirteen bytes and more";
+    const sel_slice buffers[1] = {{(const uint8_t *)far, 25}};
+    sel_view views[2] = {view_of("near", 4, 0), view_of(far + 2, 23, 2)}, read[2];
+    sel_column column = {0}, texts = {0};
+    size_t count = 9;
+    uint8_t bytes[25] = {0};
+    IS(sel_views(&column, read, 2) == SEL_NO_COLUMN && sel_buffer_count(&column, &count) == SEL_NO_COLUMN);
+    IS(sel_buffer_len(&column, 0, &count) == SEL_NO_COLUMN && sel_buffer(&column, 0, bytes, 25) == SEL_NO_COLUMN);
+    IS(sel_offsets(&column, (int64_t[1]){0}, 1) == SEL_NO_COLUMN && sel_bytes_len(&column, &count) == SEL_NO_COLUMN);
+    IS(sel_bytes(&column, bytes, 0) == SEL_NO_COLUMN && sel_child(&column, &texts) == SEL_NO_COLUMN);
+    IS(sel_width(&column, &count) == SEL_NO_COLUMN && sel_field_count(&column, &count) == SEL_NO_COLUMN);
+    IS(sel_field(&column, 0, &texts) == SEL_NO_COLUMN && count == 9);
+    DONE(sel_binview_new(views, 2, buffers, 1, no_bits, 0, false, &column));
+    DONE(sel_utf8view_new(views, 2, buffers, 1, no_bits, 0, false, &texts));
+    if (column.at != NULL) {
+        IS(sel_kind(&column) == SEL_BINARY_VIEW && sel_len(&column) == 2);
+        IS(sel_views(&column, read, 1) == SEL_OTHER_LENGTH);
+        IS(sel_views(&column, read, 2) == SEL_DONE && memcmp(read, views, sizeof views) == 0);
+        IS(sel_buffer_count(&column, &count) == SEL_DONE && count == 1);
+        IS(sel_buffer_len(&column, 1, &count) == SEL_OUT_OF_BOUNDS && sel_buffer(&column, 1, bytes, 25) == SEL_OUT_OF_BOUNDS);
+        IS(sel_buffer_len(&column, 0, &count) == SEL_DONE && count == 25);
+        IS(sel_buffer(&column, 0, bytes, 24) == SEL_OTHER_LENGTH);
+        IS(sel_buffer(&column, 0, bytes, 25) == SEL_DONE && memcmp(bytes, far, 25) == 0);
+        IS(sel_binary_new((int64_t[1]){0}, 1, bytes, 0, no_bits, 0, false, &column) == SEL_DONE || refused);
+    }
+    if (texts.at != NULL) {
+        IS(sel_kind(&texts) == SEL_UTF8_VIEW && sel_len(&texts) == 2);
+        IS(sel_views(&texts, read, 2) == SEL_DONE && memcmp(read, views, sizeof views) == 0);
+    }
+    views[1].offset = 3;
+    IS(sel_binview_new(views, 2, buffers, 1, no_bits, 0, false, &column) == SEL_VIEW_RANGE || refused);
+    views[1].offset = 1;
+    IS(sel_binview_new(views, 2, buffers, 1, no_bits, 0, false, &column) == SEL_VIEW_PREFIX || refused);
+    IS(sel_utf8view_new(views, 2, buffers, 1, no_bits, 0, true, &column) == SEL_VALIDITY_LENGTH || refused);
+    views[0] = view_of("\xFF", 1, 0);
+    IS(sel_utf8view_new(views, 1, buffers, 1, no_bits, 0, false, &column) == SEL_UTF8 || refused);
+    sel_free(&column);
+    sel_free(&texts);
+}
+
 static void (*const tests[])(void) = {
     test_nulls, test_booleans, test_int8, test_int16, test_int32, test_int64, test_uint8, test_uint16, test_uint32,
-    test_uint64, test_whole, test_filters, test_takes, test_bytes, test_lists,
+    test_uint64, test_whole, test_filters, test_takes, test_bytes, test_lists, test_views,
 };
 
 int main(void) {
