@@ -325,6 +325,36 @@ static void test_lists(void) {
     sel_free(&units);
 }
 
+static void test_structs(void) {
+    const int64_t all[4] = {10, 20, 30, 40};
+    const uint8_t bits[1] = {13};
+    sel_column fields[2] = {{0}, {0}}, column = {0}, field = {0};
+    fields[0] = tens();
+    IS(sel_struct_new(4, no_bits, 0, false, fields, 2, &column) == SEL_NO_COLUMN || refused);
+    sel_free(&fields[0]);
+    fields[0] = tens();
+    DONE(sel_null_new(4, &fields[1]));
+    if (fields[0].at != NULL && fields[1].at != NULL) {
+        uint32_t status = sel_struct_new(4, bits, 1, true, fields, 2, &column);
+        IS(done(status) && (status != SEL_DONE || (fields[0].at == NULL && fields[1].at == NULL)));
+        if (status == SEL_DONE) {
+            size_t count = 0;
+            IS(sel_kind(&column) == SEL_STRUCT && sel_len(&column) == 4 && sel_null_count(&column) == 1);
+            IS(sel_field_count(&column, &count) == SEL_DONE && count == 2);
+            IS(sel_field(&column, 2, &field) == SEL_OUT_OF_BOUNDS);
+            DONE(sel_field(&column, 0, &field));
+            IS(field.at == NULL || holds(&field, all, 4) || refused);
+        }
+    }
+    sel_free(&fields[0]);
+    sel_free(&fields[1]);
+    fields[0] = tens();
+    IS(sel_struct_new(3, no_bits, 0, false, fields, 1, &column) == SEL_FIELD_LENGTH || refused);
+    sel_free(&fields[0]);
+    sel_free(&field);
+    sel_free(&column);
+}
+
 /* ---- views ---- */
 
 /* The view of up to 12 bytes, and one of more of them in a data buffer. */
@@ -382,7 +412,7 @@ static void test_views(void) {
 
 static void (*const tests[])(void) = {
     test_nulls, test_booleans, test_int8, test_int16, test_int32, test_int64, test_uint8, test_uint16, test_uint32,
-    test_uint64, test_whole, test_filters, test_takes, test_bytes, test_lists, test_views,
+    test_uint64, test_whole, test_filters, test_takes, test_bytes, test_lists, test_structs, test_views,
 };
 
 int main(void) {

@@ -304,6 +304,18 @@ uint32_t sel_fixed_list_new(
     sel_column *child,
     sel_column *out);
 
+/* Makes the column of `len` tuples of the fields, in order. It takes `fields`: where it answers SEL_DONE each of
+ * them is `{0}`; else some may be, and the others still have to be freed. SEL_NO_COLUMN: a field has no column;
+ * SEL_VALIDITY_LENGTH, SEL_TOO_MANY_ROWS, SEL_FIELD_LENGTH: the first rule of these, in this order, that is broken. */
+uint32_t sel_struct_new(
+    size_t len,
+    const uint8_t *bits,
+    size_t bits_len,
+    bool has_bits,
+    sel_column *fields,
+    size_t fields_len,
+    sel_column *out);
+
 /* ---- Columns of bytes and texts that views name. ---- */
 
 /* Makes the column of the bytes that views name, in themselves up to 12 bytes and else in a data buffer. The first

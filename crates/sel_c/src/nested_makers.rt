@@ -1,6 +1,6 @@
 //! Columns of bytes, lists and tuples, made of slices and of columns that the calls take.
 
-ghost use Rattle.std.specs.Prelude.{◌≡◌, None, map, length};
+ghost use Rattle.std.specs.Prelude.{◌≡◌, ◌≢◌, None, map, length};
 ghost use Rattle.sel_arrow.specs.Nested.{list_rows, block_rows, tuple_rows};
 ghost use Rattle.sel_arrow.specs.Pieces.{byte_rows, rows_between};
 ghost use Rattle.sel_arrow.specs.Rows.{rows, type_of};
@@ -9,8 +9,9 @@ ghost use Rattle.sel_handle.specs.Inputs.{positions, validity_in, binary_rules, 
 ghost use Rattle.sel_handle.specs.Status.{no_column, held_count, held_rows, held_type, Demands, HasColumn, Makes, Names};
 
 use sel_handle::handle::Handle;
-use sel_handle::nested::{binary_of, blocks_of, lists_of};
-use sel_handle::status::{NO_COLUMN, put, status_of_maker};
+use sel_handle::nested::{binary_of, blocks_of, lists_of, tuples_of};
+use sel_handle::several::take_all;
+use sel_handle::status::{NO_COLUMN, NO_MEMORY, put, status_of_maker};
 use std::alloc::Global;
 
 /// Makes the column whose row i is the bytes from `offsets[i]` up to `offsets[i + 1]`. SEL_OFFSET_COUNT,
@@ -96,6 +97,36 @@ pub extern "C" fn sel_fixed_list_new(
         return NO_COLUMN;
     };
     match blocks_of(alloc, width, len, bits, has_bits, Box::into_inner(entries)) {
+        Ok(column) => put(alloc, column, out),
+        Err(fault) => status_of_maker(fault),
+    }
+}
+
+/// Makes the column of `len` tuples of the fields, in order. It takes `fields`: where it answers SEL_DONE each of them is
+/// `{0}`; else some may be, and the others still have to be freed. SEL_NO_COLUMN: a field has no column;
+/// SEL_VALIDITY_LENGTH, SEL_TOO_MANY_ROWS, SEL_FIELD_LENGTH: the first rule of these, in this order, that is broken.
+#[unsafe(no_mangle)]
+pub extern "C" fn sel_struct_new(
+    alloc: Global,
+    len: usize,
+    bits: &[u8],
+    has_bits: bool,
+    fields: &mut [Handle],
+    out: &mut Handle,
+) -> u32
+    ensures rows { Makes result out.old.tree out.new.tree (λ made. rows made.column ≡ tuple_rows len
+        (map (λ field. held_rows field.tree) fields.old) (validity_in bits.now has_bits len)) }
+    ensures dtype { Makes result out.old.tree out.new.tree (λ made. type_of made.column ≡
+        of_struct (shapes_of (map (λ field. held_type field.tree) fields.old))) }
+    ensures status { result ≢ no_column → Names result
+        (struct_rules len (map (λ field. held_count field.tree) fields.old) bits.now has_bits) }
+{
+    let taken = match take_all(alloc, fields) {
+        Ok(taken) => taken,
+        Err(NO_COLUMN) => return NO_COLUMN,
+        Err(_) => return NO_MEMORY,
+    };
+    match tuples_of(alloc, len, bits, has_bits, taken) {
         Ok(column) => put(alloc, column, out),
         Err(fault) => status_of_maker(fault),
     }

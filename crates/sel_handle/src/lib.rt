@@ -8,6 +8,7 @@ mod loose;
 pub mod nested;
 pub mod outputs;
 pub mod parts;
+pub mod several;
 pub mod status;
 pub mod view_parts;
 pub mod views;
