@@ -222,6 +222,7 @@ static void test_takes(void) {
     const uint8_t bits[1] = {5};
     sel_column column = tens(), indices = {0}, out = {0};
     IS(sel_take(&column, &indices, &out) == SEL_NO_COLUMN);
+    IS(sel_take_rows(&indices, at, 1, bits, 0, false, &out) == SEL_NO_COLUMN);
     DONE(sel_uint32_new(at, 3, bits, 1, true, &indices));
     if (column.at != NULL && indices.at != NULL) {
         int64_t read[3];
@@ -235,6 +236,10 @@ static void test_takes(void) {
         IS(sel_take(&column, &indices, &out) == SEL_OUT_OF_BOUNDS || refused);
         DONE(sel_share(&column, &indices));
         IS(sel_take(&column, &indices, &out) == SEL_OTHER_KIND || refused);
+        status = sel_take_rows(&column, at, 3, bits, 1, true, &out);
+        IS(done(status) && (status != SEL_DONE || (sel_len(&out) == 3 && sel_null_count(&out) == 1)));
+        IS(sel_take_rows(&column, at, 3, bits, 0, true, &out) == SEL_VALIDITY_LENGTH || refused);
+        IS(sel_take_rows(&column, at, 2, bits, 0, false, &out) == SEL_OUT_OF_BOUNDS || refused);
     }
     sel_free(&column);
     sel_free(&indices);

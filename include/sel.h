@@ -448,6 +448,19 @@ uint32_t sel_filter_bits(sel_column *of, const uint8_t *mask, size_t mask_len, s
  * index that is not null names no row; SEL_LIMIT_ROWS, SEL_LIMIT_BYTES: the rows that are asked for need more. */
 uint32_t sel_take(sel_column *of, sel_column *indices, sel_column *out);
 
+/* Makes the column whose row k is the row of `of` at `indices[k]`, or null where bit k of the validity is 0.
+ * SEL_NO_COLUMN: `of` has no column; SEL_TOO_MANY_ROWS: there are more than 4,294,967,295 indices;
+ * SEL_VALIDITY_LENGTH: fewer bytes of validity than the indices need; SEL_OUT_OF_BOUNDS: an index that is not null
+ * names no row; SEL_LIMIT_ROWS, SEL_LIMIT_BYTES: the rows that are asked for need more. */
+uint32_t sel_take_rows(
+    sel_column *of,
+    const uint32_t *indices,
+    size_t indices_len,
+    const uint8_t *bits,
+    size_t bits_len,
+    bool has_bits,
+    sel_column *out);
+
 /* ---- Elements of lists. ---- */
 
 /* Writes whether the index has no place in some list that is not null. SEL_NO_COLUMN: `of` has no column;
