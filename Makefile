@@ -1,9 +1,11 @@
 # `make run` runs the program on the stored input, or on another: make run INPUT=file; `make build` proves and builds it;
-# `make test` is the whole gate; `make api` writes the reference anew; `make edits` tries every edit that must fail, those beside the gate's too.
+# `make lib` builds the library for C into build/, `make install PREFIX=folder` puts it and its header there;
+# `make test` is the whole gate: `rt ci`, then what it built with each growth of memory refused, and on stored runs; `make api` writes the reference anew; `make edits` tries every edit that must fail, those beside the gate's too.
 
 INPUT ?= crates/sel_bench/stdin
+PREFIX ?= /usr/local
 
-.PHONY: run build test edits api
+.PHONY: run build lib install test edits api
 
 run:
 	@tools/run $(INPUT)
@@ -11,10 +13,20 @@ run:
 build:
 	cd crates/sel_bench && rt run < /dev/null
 
+lib:
+	tools/clib
+
+install:
+	tools/clib --install $(PREFIX)
+
 test:
 	tools/api --check
 	tools/picture --check
+	tools/header --check
 	rt ci
+	tools/refuse/run
+	tools/runs
+	tools/clib --check
 
 edits:
 	tools/edits
@@ -22,3 +34,4 @@ edits:
 api:
 	tools/api
 	tools/picture
+	tools/header

@@ -10,7 +10,7 @@ use sel_arrow::array_ref::ArrayRef;
 use sel_arrow::binary::BinaryArray;
 use sel_arrow::boolean::BooleanArray;
 use sel_arrow::null::NullArray;
-use sel_arrow::primitive::IdxArr;
+use sel_arrow::primitive::{IdxArr, PrimitiveArray};
 use sel_arrow::utf8view::Utf8ViewArray;
 use sel_arrow::view::View;
 use sel_bits::bitmap::Bitmap;
@@ -168,5 +168,41 @@ fn bytes_of_any_column_at_indices(rt: HostRuntime) -> Result<(), Fail> {
     let column = pieces(alloc, &[0, 1, 3], b"abc")?;
     let rows = taken(alloc, column.into_ref(), &[Some(1), None, Some(0)])?;
     assert!(rt; is_bytes(rows, &[Some(b"bc"), None, Some(b"a")])?);
+    Ok(())
+}
+
+// The rows at places, none of which is null, of a column that is needed no more.
+fn taken_at(alloc: Global, rows: ArrayRef, places: &[u32]) -> Result<ArrayRef, Fail> {
+    let places = IdxArr::try_new(buffer(alloc, places)?, None)?;
+    if !indices_in_bounds(&places, rows.len()) {
+        return Err(Fail::from("out of bounds"));
+    }
+    let taken = take_unchecked(alloc, &rows, &places);
+    drop(rows);
+    Ok(taken?)
+}
+
+// The numbers 10, 20 and 30, without a validity.
+fn three_tens(alloc: Global) -> Result<ArrayRef, Fail> {
+    Ok(PrimitiveArray::try_new(buffer(alloc, &[10i64, 20, 30])?, None)?.into_ref())
+}
+
+// The same, of which the second is null.
+fn two_tens(alloc: Global) -> Result<ArrayRef, Fail> {
+    Ok(numbers(alloc, &[10i64, 20, 30], &[true, false, true])?.into_ref())
+}
+
+#[test]
+fn numbers_at_indices_without_a_validity(rt: HostRuntime) -> Result<(), Fail> {
+    let places = [2, 1, 0, 2];
+    let rows = [Some(30i64), Some(20), Some(10), Some(30)];
+    assert!(rt;
+        is_numbers(
+            taken_at(rt.alloc(), three_tens(rt.alloc())?, &places)?,
+            &rows
+        )?
+    );
+    let rows = [Some(30i64), None, Some(10), Some(30)];
+    assert!(rt; is_numbers(taken_at(rt.alloc(), two_tens(rt.alloc())?, &places)?, &rows)?);
     Ok(())
 }

@@ -210,12 +210,13 @@ fn of_two_lists(
     if_true: &ArrayRef,
     if_false: &ArrayRef,
 ) -> Result<ListArray<i64>, Fail> {
-    if !if_false.as_column().same_dtype(if_true.as_column()) {
-        return Err(Fail::from("another type"));
-    }
     let mask = Bitmap::from_bools(alloc, mask)?;
     let child = Box::new(alloc, if_true.as_column().dtype(alloc)?)?;
     let dtype = ArrowDataType::LargeList(child);
+    if !dtype.scalar_fits(if_true) || !dtype.scalar_fits(if_false) {
+        drop(dtype);
+        return Err(Fail::from("another type"));
+    }
     Ok(ListArray::if_then_else_broadcast_both(alloc, dtype, &mask, if_true, if_false)?)
 }
 
@@ -370,15 +371,13 @@ fn of_two_pairs(
     if_true: &ArrayRef,
     if_false: &ArrayRef,
 ) -> Result<FixedSizeListArray, Fail> {
-    if !if_false.as_column().same_dtype(if_true.as_column()) {
-        return Err(Fail::from("another type"));
-    }
-    if if_true.len() != 2 || if_false.len() != 2 {
-        return Err(Fail::from("another length"));
-    }
     let mask = Bitmap::from_bools(alloc, mask)?;
     let child = Box::new(alloc, if_true.as_column().dtype(alloc)?)?;
     let dtype = ArrowDataType::FixedSizeList(child, 2);
+    if !dtype.scalar_fits(if_true) || !dtype.scalar_fits(if_false) {
+        drop(dtype);
+        return Err(Fail::from("another type or length"));
+    }
     Ok(FixedSizeListArray::if_then_else_broadcast_both(alloc, dtype, &mask, if_true, if_false)?)
 }
 

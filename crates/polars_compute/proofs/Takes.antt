@@ -1,5 +1,5 @@
 -- Rows at indices.
-use Rattle.std.proofs.Common.{◌≡◌, ℕ, zero, suc, ◌<◌, pos, Bool, true, false, ◌&&◌, List, [], ◌∷◌, length, map, get_or, replicate, Option, Some, refl, ap, sym, ◌∙◌, subst}
+use Rattle.std.proofs.Common.{◌≡◌, All, ℕ, zero, suc, ◌<◌, pos, Bool, true, false, ◌&&◌, List, [], ◌∷◌, length, map, get_or, replicate, Option, Some, None, is_some, refl, ap, sym, ◌∙◌, subst}
 use Rattle.std.specs.Prelude.{if◌then◌else◌}
 use Rattle.std.specs.List.{list_all}
 use Rattle.std.specs.Option.{ForSome}
@@ -8,7 +8,9 @@ use Rattle.std.proofs.lemmas.Bool.{ltb-true}
 use Rattle.sel_bits.specs.Bits.{Bits}
 use Rattle.sel_arrow.specs.Value.{Value, Null, Number}
 use Rattle.sel_arrow.specs.Masked.{hidden, masked, Covers, valid_at}
+use Rattle.sel_arrow.proofs.Lists.{all_at}
 use Rattle.sel_arrow.proofs.Rows.{masked_null, masked_valid}
+use Rattle.sel_runs.specs.Validity.{bits_for}
 use Rattle.polars_compute.specs.Pick.{found, pick, pick_of, take_rows, is_within, all_within, valid_pick}
 
 both : (a b : Bool) → (a && b) ≡ true → (a ≡ true) × (b ≡ true)
@@ -45,6 +47,28 @@ pub taken_rows : {A : Type 0} (f : A → Value) → (validity : Option Bits) (bi
 taken_rows f validity bits xs ys d indices covers within values valid =
     (λ i. hidden (valid i) (map f (values i))) ∙ taken_list f validity xs d indices covers within
 
+hidden_trues : (n : ℕ) (vs : List Value) → hidden (replicate n true) vs ≡ vs
+hidden_trues zero vs = refl
+hidden_trues (suc n) [] = refl
+hidden_trues (suc n) (v ∷ vs) = ap (λ l. v ∷ l) (hidden_trues n vs)
+
+-- the same under a validity that is not there where each row is valid
+pub taken_rows_for : {A : Type 0} (f : A → Value) → (validity taken : Option Bits) (xs ys : List A) (d : A) (indices : List Value) → Covers validity (length xs) → all_within (length xs) indices ≡ true
+    → ys ≡ pick d (xs ∷ []) (map pick_of indices) → bits_for (length indices) taken ≡ map (valid_pick validity) (map pick_of indices)
+    → masked taken (map f ys) ≡ take_rows (masked validity (map f xs)) indices
+taken_rows_for f validity (Some bits) xs ys d indices covers within values valid = taken_rows f validity bits xs ys d indices covers within values valid
+taken_rows_for f validity None xs ys d indices covers within values valid =
+    sym (hidden_trues (length indices) (map f ys)) ∙ (λ i. hidden (valid i) (map f (values i))) ∙ taken_list f validity xs d indices covers within
+
+-- indices without a validity, of rows without one
+pub none_null : (places : List ℕ) → replicate (length (map (λ x. Number (pos x)) places)) true ≡ map (valid_pick None) (map pick_of (map (λ x. Number (pos x)) places))
+none_null [] = refl
+none_null (place ∷ places) = ap (λ l. true ∷ l) (none_null places)
+
+pub is_nothing : {A : Type 0} (x : Option A) → false ≡ is_some x → x ≡ None
+is_nothing None h = refl
+is_nothing (Some a) h = absurd cc
+
 pub length-pick : {A : Type 0} (d : A) → (xss : List (List A)) (indices : List Value) → length (pick d xss (map pick_of indices)) ≡ length indices
 length-pick d xss indices = length-map (map pick_of indices) (found d xss) ∙ length-map indices pick_of
 
@@ -75,11 +99,9 @@ pub validity_within : (validity : Option Bits) (n : ℕ) (indices : List Value) 
 validity_within validity n indices covers within = λ v there. within_as n (length v.bits) indices (sym (covers v there)) within
 
 -- the validity of as many rows
-pub covers_as : {A : Type 0} → (bits v : Bits) (xs : List A) (indices : List Value) (validity : Option Bits) → bits.bits ≡ map (valid_pick validity) (map pick_of indices) → length xs ≡ length indices → Some bits ≡ Some v
-    → length v.bits ≡ length xs
-covers_as bits v xs indices validity valid count there =
-    let is : bits ≡ v = cc in
-    ap (λ (b : Bits). length b.bits) (sym is) ∙ ap (λ (l : List Bool). length l) valid ∙ length-valid validity indices ∙ sym count
+pub covers_for : {A : Type 0} → (taken : Option Bits) (xs : List A) (indices : List Value) (validity : Option Bits) → bits_for (length indices) taken ≡ map (valid_pick validity) (map pick_of indices) → length xs ≡ length indices → Covers taken (length xs)
+covers_for taken xs indices validity valid count =
+    λ v there. sym (ap (λ o. length (bits_for (length indices) o)) there) ∙ ap (λ (l : List Bool). length l) valid ∙ length-valid validity indices ∙ sym count
 
 -- as many as there are indices
 pub count_taken : {A : Type 0} → (ys : List A) (d : A) (xss : List (List A)) (indices : List Value) → ys ≡ pick d xss (map pick_of indices) → length ys ≡ length indices
@@ -102,3 +124,16 @@ null_found n index = refl
 pub taken_nulls : (n : ℕ) (indices : List Value) → replicate (length indices) Null ≡ take_rows (replicate n Null) indices
 taken_nulls n [] = refl
 taken_nulls n (index ∷ indices) = (λ i. null_found n index i ∷ taken_nulls n indices i)
+
+-- ---- indices without nulls
+
+pub places_within : (n : ℕ) (places : List ℕ) → all_within n (map (λ x. Number (pos x)) places) ≡ true → All (λ place. place < n) places
+places_within n places within =
+    λ k d h.
+    let number = λ (x : ℕ). Number (pos x) in
+    let there : k < length (map number places) = rw length-map h in
+    ltb-true (get_or places k d) n (ap (is_within n) (sym (get_or-map number places k d (number d) h)) ∙ all_at (is_within n) (map number places) k (number d) within there)
+
+pub picked_places : {A : Type 0} (values : List A) (filler : A) (places : List ℕ) → map (λ place. get_or values place filler) places ≡ pick filler (values ∷ []) (map pick_of (map (λ x. Number (pos x)) places))
+picked_places values filler [] = refl
+picked_places values filler (place ∷ places) = ap (λ l. get_or values place filler ∷ l) (picked_places values filler places)

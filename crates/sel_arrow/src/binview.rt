@@ -258,9 +258,9 @@ fn fault_of_view(buffers: &[Buffer<u8>], view: View) -> Option<Malformed>
     None
 }
 
-/// The bytes that a view names; `space` is what lies in it.
+/// The bytes that a view names, without a copy; `space` is what lies in it (`View::inline_space`).
 #[tactic(auto, using(crate::proofs::ViewRows::placing))]
-fn bytes_at<'a>(buffers: &'a [Buffer<u8>], view: View, space: &'a [u8; 12]) -> &'a [u8]
+pub fn bytes_at<'a>(buffers: &'a [Buffer<u8>], view: View, space: &'a [u8; 12]) -> &'a [u8]
     requires placed { IsTrue (is_placed buffers.now view) }
     requires space { space.now ≡ inline_space view }
     ensures { result.now ≡ view_bytes buffers.now view }

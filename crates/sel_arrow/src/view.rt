@@ -48,7 +48,7 @@ impl View {
     }
 
     /// The bytes of the last three numbers.
-    pub(crate) fn inline_space(self) -> [u8; 12]
+    pub fn inline_space(self) -> [u8; 12]
         ensures { result ≡ inline_space self }
     {
         let [a, b, c, d] = self.prefix.to_le_bytes();

@@ -20,7 +20,8 @@ use Rattle.sel_runs.specs.Need.{IsRefusal, IsPastRows}
 use Rattle.sel_runs.specs.Sources.{first_type}
 use Rattle.sel_flatten.specs.Flatten.{flatten, parts_fit, past_flattened}
 use Rattle.sel_bench.specs.Columns.{all_some, column_text}
-use Rattle.sel_bench.specs.Flatten.{part_of, read_part, side_by_side, flat_text, flatten_answer, flatten_words}
+use Rattle.sel_bench.specs.Flatten.{part_of, side_by_side, flat_text, flatten_answer, flatten_words}
+use Rattle.sel_bench.specs.Parts.{read_part}
 use Rattle.sel_bench.specs.Numbers.{size_of}
 use Rattle.sel_bench.specs.Words.{if_both}
 use Rattle.sel_bench.specs.declared.flatten.Part.{Part}

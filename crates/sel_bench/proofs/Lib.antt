@@ -1,7 +1,9 @@
 pub mod Answered
 pub mod Chosen
+pub mod FewItems
 pub mod Flattened
 pub mod Hex
+pub mod MadeColumns
 pub mod Pieces
 pub mod Printed
 pub mod Progress

@@ -12,7 +12,8 @@ use mathlib.Core.Logic.{⊎_elim}
 use Rattle.std.proofs.lemmas.Slice.Eq.{bytes_eq-Decides}
 use Rattle.std.proofs.lemmas.Fmt.{decimal_is_IsNumeral, first_decimal, decimal_digit, decimal-digits_value, parse-decimal, parse-signed_decimal}
 use Rattle.std.proofs.lemmas.Str.Parse.{parse_plain, parse_signed_plain, parse_signed_minus, numerals_by_value, tells_digits, digit_at, IsNumeralModel}
-use Rattle.sel_bench.specs.Numbers.{integer_of, unsigned_of, HasOneSpelling}
+use Rattle.sel_bench.specs.Numbers.{integer_of, unsigned_of}
+use Rattle.sel_bench.specs.Parts.{HasOneSpelling}
 
 cond_true : {A : Type 0} (b : Bool) (x y : A) → b ≡ true → cond b x y ≡ x
 cond_true b x y e = rw e refl

@@ -1,5 +1,5 @@
 -- Lists of one length that are read one by one.
-use Rattle.std.proofs.Common.{◌≡◌, ℕ, ℤ, zero, suc, pos, Bool, true, false, cond, List, [], ◌∷◌, ◌++◌, length, length-append, get_or, map, replicate, Bor, Some, None, arith, refl, ap, sym, ◌∙◌}
+use Rattle.std.proofs.Common.{◌≡◌, ℕ, ℤ, zero, suc, pos, ◌*◌, Bool, true, false, cond, List, [], ◌∷◌, ◌++◌, length, length-append, get_or, map, replicate, Bor, Some, None, arith, refl, ap, sym, ◌∙◌}
 use Rattle.std.specs.Prelude.{◌==◌, ◌&&◌, option_and_then}
 use Rattle.std.specs.List.{list_all}
 use Rattle.std.proofs.lemmas.Bool.Decides.{Decides-eqb}
@@ -17,15 +17,16 @@ use Rattle.sel_arrow.specs.declared.fixed_size_list.FixedSizeListArray.{FixedSiz
 use Rattle.sel_arrow.proofs.Lists.{both, and_first, and_second}
 use Rattle.sel_runs.specs.Children.{items_in, joined_items}
 use Rattle.sel_runs.proofs.ItemRuns.{joined-append, listed_values}
-use Rattle.sel_runs.proofs.Rebuilt.{IsBlock, blocks_rebuilt}
+use Rattle.sel_runs.proofs.Rebuilt.{IsBlock, blocks_length, blocks_rebuilt}
 use Rattle.sel_bench.specs.declared.blocks.Blocks.{Blocks}
 use Rattle.sel_sublists.specs.Entries.{fixed_get, at_each, out_of_bounds}
 use Rattle.sel_sublists.proofs.Blocks.{long_rows}
 use Rattle.sel_bench.specs.declared.rows.Rows.{Rows}
-use Rattle.sel_bench.specs.Blocks.{HasBlocks, blocks_of, is_block, standing_for, width_of}
+use Rattle.sel_bench.specs.Blocks.{blocks_of, is_block, width_of}
+use Rattle.sel_bench.specs.BlockParts.{HasBlocks, standing_for}
 use Rattle.sel_bench.specs.Columns.{column_text}
 use Rattle.sel_bench.specs.Fixed.{entries_text, fixed_answer, fixed_read, fixed_words}
-use Rattle.sel_bench.specs.Lists.{shown_list}
+use Rattle.sel_bench.specs.ListParts.{shown_list}
 use Rattle.sel_bench.specs.Numbers.{number_of, truth_of}
 use Rattle.sel_bench.specs.Words.{if_both}
 use Rattle.sel_bench.proofs.ReadLists.{hidden-append, length-hidden}
@@ -44,6 +45,10 @@ lists_stand : (w : ℕ) (read : List Value) → list_all (is_block w) read ≡ t
 lists_stand w [] all k = tt
 lists_stand w (v ∷ read) all zero = list_stands w v (and_first (is_block w v) (list_all (is_block w) read) all)
 lists_stand w (v ∷ read) all (suc k) = lists_stand w read (and_second (is_block w v) (list_all (is_block w) read) all) k
+
+-- so many rows have as many items each
+pub standing_length : (w : ℕ) (read : List Value) → list_all (is_block w) read ≡ true → length (joined_items w (map (standing_for w) read)) ≡ length read * w
+standing_length w read all = blocks_length w (map (standing_for w) read) (lists_stand w read all) ∙ ap (λ n. n * w) (length-map read (standing_for w))
 
 is_there : (w : ℕ) (v : Value) → is_block w v ≡ true → is_valid (standing_for w v) ≡ true
 is_there w Null h = refl

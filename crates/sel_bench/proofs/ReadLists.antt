@@ -14,7 +14,8 @@ use Rattle.sel_runs.proofs.JoinedRows.{same_numbers}
 use Rattle.sel_runs.proofs.Rebuilt.{IsListed, lists_rebuilt}
 use Rattle.sel_bench.specs.declared.lists.Lists.{Lists}
 use Rattle.sel_bench.specs.Columns.{all_some}
-use Rattle.sel_bench.specs.Lists.{HasRead, IsListRow, rows_of_bars}
+use Rattle.sel_bench.specs.Lists.{rows_of_bars}
+use Rattle.sel_bench.specs.ListParts.{HasRead, IsListRow}
 use Rattle.sel_bench.proofs.RowLemmas.{map_now}
 
 pub hidden-append : (a b : List Bool) (xs ys : List Value) → length a ≡ length xs → hidden (a ++ b) (xs ++ ys) ≡ hidden a xs ++ hidden b ys

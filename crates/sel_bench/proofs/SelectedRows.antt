@@ -15,7 +15,8 @@ use Rattle.sel_arrow.specs.Shape.{of_int64}
 use Rattle.sel_arrow.specs.Value.{Value}
 use Rattle.sel_arrow.specs.declared.array_ref.ArrayRef.{ArrayRef}
 use Rattle.sel_arrow.proofs.Lists.{all_at, and_first, and_second}
-use Rattle.polars_compute.specs.Need.{IsRefusal, past}
+use Rattle.sel_runs.proofs.Within.{rows_pass}
+use Rattle.polars_compute.specs.Need.{IsRefusal, PassesNone, past}
 use Rattle.polars_compute.specs.Pick.{take_rows, all_within}
 use Rattle.polars_compute.specs.Select.{select, in_force, is_true}
 use Rattle.sel_filter.proofs.Selects.{length-select}
@@ -121,3 +122,18 @@ table_words_read words rest d mask indices columns h is masked indexed read =
 
 pub rest_is : (words : List (Bor (List ℕ))) (n : ℕ) → take (length words - n) (drop n words) ≡ drop n words
 rest_is words n = take_all (length words - n) (drop n words) (omega (arith, length-drop n words))
+
+-- an answer passes no limit
+pub none_past : (columns selected : List ArrayRef) (mask indices : List Value) → rows_of_each selected ≡ map (λ c. take_rows (select (rows c.column) (in_force mask)) indices) columns → type_of_each selected ≡ type_of_each columns →
+    PassesNone (past_selected columns mask indices)
+none_past columns selected mask indices same types limit past =
+    let taken = λ (c : ArrayRef). take_rows (select (rows c.column) (in_force mask)) indices in
+    let shown = λ (c : ArrayRef). rows c.column in
+    let type = λ (c : ArrayRef). type_of c.column in
+    let i = past.0 in
+    let x = past.1 in
+    let s = get_or selected i x in
+    let there : i < length selected = omega (arith, past.2, length-map selected shown, length-map columns taken, ap length same) in
+    let is_rows : rows s.column ≡ taken x = sym (get_or-map shown selected i x [] there) ∙ ap (λ l. get_or l i []) same ∙ get_or-map taken columns i x [] past.2 ∙ ap taken past.3 in
+    let is_type : type_of s.column ≡ type_of x.column = sym (get_or-map type selected i x of_int64 there) ∙ ap (λ l. get_or l i of_int64) types ∙ get_or-map type columns i x of_int64 past.2 ∙ ap type past.3 in
+    rows_pass s.column (type_of x.column) (taken x) s.formed is_type is_rows limit past.4

@@ -17,7 +17,8 @@ use Rattle.sel_arrow.proofs.Lists.{both, and_first, and_second}
 use Rattle.sel_runs.specs.Need.{byte_count, bytes_needed}
 use Rattle.sel_runs.proofs.JoinedRows.{needed-append}
 use Rattle.sel_bench.specs.Columns.{all_some, column_of, row_of}
-use Rattle.sel_bench.specs.Texts.{text_of, text_row}
+use Rattle.sel_bench.specs.Texts.{text_of}
+use Rattle.sel_bench.specs.Parts.{text_row}
 use Rattle.sel_bench.proofs.RowLemmas.{hidden_push}
 
 -- ---- a text behind `=`

@@ -1,13 +1,11 @@
 -- The answers to `flatten H W:COL ...`.
 use Rattle.std.specs.Prelude.{ℕ, ◌==◌, ◌&&◌, nat_lt, List, [], ◌∷◌, map, length, Option, None, Some, option_map, if◌then◌else◌, codes}
 use Rattle.std.specs.List.{slice_split}
-use Rattle.sel_arrow.specs.Columns.{primitive_rows}
 use Rattle.sel_arrow.specs.Value.{Value}
 use Rattle.sel_flatten.specs.Flatten.{flatten, parts_fit}
 use Rattle.sel_bench.specs.Columns.{all_some, column_of, column_text}
 use Rattle.sel_bench.specs.Numbers.{number_of, size_of}
 use Rattle.sel_bench.specs.Words.{if_both}
-use Rattle.sel_bench.specs.declared.flatten.Part.{Part}
 
 -- the most rows that a column has (own)
 abbrev pub most_rows : ℕ
@@ -21,10 +19,6 @@ part_of_halves _ = None
 -- the same of a word (own)
 abbrev pub part_of : List ℕ → Option (ℕ × List Value)
 part_of word = part_of_halves (slice_split (λ b. b == 58) word)
-
--- a part that was read (own)
-abbrev pub read_part : Part → ℕ × List Value
-read_part part = (part.width, primitive_rows part.column)
 
 -- the rows of all columns side by side, where there are some, and each has so many of them (own)
 abbrev pub side_by_side : ℕ → List (List Value) → List ℕ → Option (List Value)

@@ -1,3 +1,4 @@
+pub mod BlockParts
 pub mod Blocks
 pub mod Choose
 pub mod Columns
@@ -9,9 +10,11 @@ pub mod Fixed
 pub mod Flatten
 pub mod Get
 pub mod Lines
+pub mod ListParts
 pub mod Lists
 pub mod Numbers
 pub mod Output
+pub mod Parts
 pub mod Pext
 pub mod Rows
 pub mod Run

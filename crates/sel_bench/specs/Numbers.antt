@@ -1,5 +1,5 @@
 -- Numbers and truth values as words.
-use Rattle.std.specs.Prelude.{ℕ, ◌≡◌, ◌≢◌, ◌^◌, ◌&&◌, ℤ, pos, List, length, slice_index, Option, None, Some, true, false, if◌then◌else◌, codes, nat_lt, bytes_eq, option_map}
+use Rattle.std.specs.Prelude.{ℕ, ◌^◌, ◌&&◌, ℤ, pos, List, Option, None, Some, true, false, if◌then◌else◌, codes, nat_lt, bytes_eq, option_map}
 use Rattle.std.specs.Str.Parse.{digits_value, signed_digits_value}
 use Rattle.std.specs.Fmt.{decimal, signed_decimal}
 use Rattle.std.specs.Int.Signed.{mag}
@@ -34,7 +34,3 @@ index_of word = option_map (λ n. Number (pos n)) (natural_of word)
 -- a word as a row of a mask: `t` or `f` (own)
 unfoldable pub truth_of : List ℕ → Option Value
 truth_of word = if bytes_eq word (codes "t") then Some (Truth true) else if bytes_eq word (codes "f") then Some (Truth false) else None
-
--- no plus, no `-0` and no leading zero: what printing never writes (own)
-abbrev pub HasOneSpelling : List ℕ → Type 0
-HasOneSpelling word = (slice_index word 0 ≢ 43) × (slice_index word 0 ≡ 45 → slice_index word 1 ≢ 48) × (slice_index word 0 ≡ 48 → length word ≡ 1)

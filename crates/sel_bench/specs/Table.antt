@@ -1,10 +1,7 @@
 -- The answers to `table MASK IDX COL ...`.
-use Rattle.std.specs.Prelude.{◌≡◌, ℕ, All, List, ◌∷◌, map, Option, None, Some, option_map, if◌then◌else◌}
+use Rattle.std.specs.Prelude.{ℕ, List, ◌∷◌, map, Option, None, Some, option_map, if◌then◌else◌}
 use Rattle.std.specs.List.{join_with_byte}
-use Rattle.sel_arrow.specs.Rows.{type_of}
-use Rattle.sel_arrow.specs.Shape.{of_int64}
 use Rattle.sel_arrow.specs.Value.{Value}
-use Rattle.sel_arrow.specs.declared.array_ref.ArrayRef.{ArrayRef}
 use Rattle.sel_bench.specs.Columns.{all_some, column_of, column_text}
 use Rattle.sel_bench.specs.Numbers.{index_of, number_of, truth_of}
 use Rattle.sel_bench.specs.SelectRows.{select_rows_of, selection_fits}
@@ -13,10 +10,6 @@ use Rattle.sel_bench.specs.Words.{if_both}
 -- of each column the rows at the indices among those that the mask keeps, where the columns and the indices fit (own)
 abbrev pub selected_rows : List Value → List Value → List (List Value) → Option (List (List Value))
 selected_rows mask indices columns = if selection_fits columns mask indices then Some (select_rows_of columns mask indices) else None
-
--- each column is one of numbers of 64 bits with a sign (own)
-abbrev pub AreNumbers : List ArrayRef → Type 0
-AreNumbers columns = All (λ c. type_of c.column ≡ of_int64) columns
 
 -- columns, printed, with a space between them (own)
 abbrev pub columns_text : List (List Value) → List ℕ

@@ -4,17 +4,18 @@ ghost use Rattle.sel_arrow.specs.NestedArrays.{block_column};
 ghost use Rattle.sel_arrow.specs.Rows.{rows, type_of};
 ghost use Rattle.sel_arrow.specs.Shape.{of_int64};
 ghost use Rattle.sel_arrow.specs.Value.{Value};
-ghost use Rattle.sel_bench.specs.Blocks.{blocks_of, block_of, is_block, width_of, widest, HasBlocks, IsReadingBlocks};
+ghost use Rattle.sel_bench.specs.BlockParts.{AreKeptBlocks, HasBlocks, IsReadingBlocks};
+ghost use Rattle.sel_bench.specs.Blocks.{blocks_of, block_of, is_block, width_of, widest};
 ghost use Rattle.sel_bench.specs.Columns.{all_some};
 ghost use Rattle.sel_bench.specs.Lines.{longest_line};
-ghost use Rattle.sel_bench.specs.Lists.{shown_list};
+ghost use Rattle.sel_bench.specs.ListParts.{shown_list};
 
-use crate::lists::{items_of, parse_row};
+use crate::lists::{bits_of, items_of, parse_row};
 use crate::numbers::parse_size;
+use crate::refusals::want_of_parts;
 use crate::rows::Rows;
 use crate::words::split_at_each;
 use sel_arrow::fixed_size_list::FixedSizeListArray;
-use sel_bits::bitmap::Bitmap;
 use std::alloc::{AllocError, Global};
 
 /// The most items of a list.
@@ -144,9 +145,10 @@ fn push_list(blocks: &mut Blocks, items: Rows<i64>, width: usize) -> Result<(), 
 }
 
 impl Blocks {
-    /// The column of these lists. They came from one line, so that they are never more than a column may have; then the one
-    /// refusal of its makers is want of memory.
+    /// The column of these lists, which break no rule of its makers.
     pub fn into_array(self, alloc: Global, width: usize) -> Result<FixedSizeListArray, AllocError>
+        requires narrow { width ≤ widest }
+        requires kept { AreKeptBlocks width self }
         ensures rows { IfOk result (λ array.
             (read : List Value) → HasBlocks width read self → rows (block_column array) ≡ read) }
         ensures size { IfOk result (λ array. array.size ≡ width) }
@@ -158,13 +160,11 @@ impl Blocks {
             validity,
         } = self;
         let len = validity.len();
-        let Ok(validity) = Bitmap::from_bools(alloc, &validity) else {
-            return Err(AllocError);
-        };
+        let validity = bits_of(alloc, &validity)?;
         let items = items_of(alloc, values, &flags)?;
         match FixedSizeListArray::try_new(alloc, width, len, items, Some(validity)) {
             Ok(array) => Ok(array),
-            Err(_) => Err(AllocError),
+            Err(fault) => Err(want_of_parts(fault)),
         }
     }
 }

@@ -1,7 +1,8 @@
 //! The command `fixed W LISTS INDEX OOB`.
 ghost use Rattle.std.specs.Prelude.{◌≡◌, ◌≤◌, IfOk, All, List, length, map, replicate, option_map, string_bytes};
 ghost use Rattle.sel_arrow.specs.Value.{Value, Number};
-ghost use Rattle.sel_bench.specs.Blocks.{HasBlocks};
+ghost use Rattle.sel_bench.specs.BlockParts.{AreKeptBlocks, HasBlocks};
+ghost use Rattle.sel_bench.specs.Blocks.{widest};
 ghost use Rattle.sel_bench.specs.Fixed.{entries_text, fixed_words};
 ghost use Rattle.sel_bench.specs.Lines.{longest_line};
 
@@ -46,6 +47,8 @@ fn answer_blocks(
     index: i64,
     null_on_oob: bool,
 ) -> Result<String, AllocError>
+    requires narrow { width ≤ widest }
+    requires kept { AreKeptBlocks width blocks }
     ensures { IfOk result (λ text. (read : List Value) → HasBlocks width read blocks →
         string_bytes text
         ≡ entries_text width read (replicate (length read) (Number index)) null_on_oob) }

@@ -5,7 +5,8 @@ ghost use Rattle.sel_arrow.specs.Rows.{rows, type_of};
 ghost use Rattle.sel_arrow.specs.Shape.{of_int64};
 ghost use Rattle.sel_runs.specs.Need.{IsRefusal};
 ghost use Rattle.sel_bench.specs.Columns.{all_some};
-ghost use Rattle.sel_bench.specs.Flatten.{part_of, part_of_halves, read_part, side_by_side, flat_text, flatten_answer, flatten_words};
+ghost use Rattle.sel_bench.specs.Flatten.{part_of, part_of_halves, side_by_side, flat_text, flatten_answer, flatten_words};
+ghost use Rattle.sel_bench.specs.Parts.{read_part};
 ghost use Rattle.sel_bench.specs.Lines.{longest_line};
 
 use crate::columns::{parse_column, print_column};

@@ -4,7 +4,7 @@ ghost use Rattle.sel_arrow.specs.Value.{Value};
 ghost use Rattle.sel_bench.specs.Columns.{column_text};
 ghost use Rattle.sel_bench.specs.Get.{get_words};
 ghost use Rattle.sel_bench.specs.Lines.{longest_line};
-ghost use Rattle.sel_bench.specs.Lists.{HasRead};
+ghost use Rattle.sel_bench.specs.ListParts.{AreKept, HasRead};
 ghost use Rattle.sel_sublists.specs.Lists.{list_get};
 
 use crate::columns::print_column;
@@ -34,6 +34,7 @@ pub fn answer_get(alloc: Global, words: &[&str]) -> Result<Option<String>, Alloc
 }
 
 fn answer_lists(alloc: Global, lists: Lists, index: i64) -> Result<String, AllocError>
+    requires { AreKept lists }
     ensures { IfOk result (λ text. (read : List Value) →
         HasRead read lists → string_bytes text ≡ column_text (list_get read index)) }
 {

@@ -1,15 +1,19 @@
 //! Lists as words, and the columns of lists that are made of them.
 ghost use Rattle.std.specs.Prelude.{◌≡◌, ◌≤◌, ◌+◌, ◌++◌, ◌∷◌, [], List, All, length, map, option_map, IfOk, OnOk};
+ghost use Rattle.sel_bits.specs.Bits.{unsliced};
 ghost use Rattle.sel_arrow.specs.Masked.{hidden};
 ghost use Rattle.sel_arrow.specs.NestedArrays.{list_column};
 ghost use Rattle.sel_arrow.specs.Rows.{rows, type_of};
 ghost use Rattle.sel_arrow.specs.Shape.{of_int64};
 ghost use Rattle.sel_arrow.specs.Value.{Value, Number};
 ghost use Rattle.sel_bench.specs.Columns.{all_some};
+ghost use Rattle.sel_bench.specs.Flatten.{most_rows};
 ghost use Rattle.sel_bench.specs.Lines.{longest_line};
-ghost use Rattle.sel_bench.specs.Lists.{list_of_word, lists_of, shown_list, HasRead, IsReading};
+ghost use Rattle.sel_bench.specs.ListParts.{shown_list, AreKept, HasRead, IsReading};
+ghost use Rattle.sel_bench.specs.Lists.{list_of_word, lists_of};
 
 use crate::columns::parse_column;
+use crate::refusals::{want_of_memory, want_of_parts};
 use crate::rows::Rows;
 use crate::words::split_at_each;
 use sel_arrow::array::Array;
@@ -114,9 +118,9 @@ fn push_list(lists: &mut Lists, items: Rows<i64>) -> Result<(), AllocError>
 }
 
 impl Lists {
-    /// The column of these lists. They came from one line, so that they are never more than a column may have; then the one
-    /// refusal of its makers is want of memory.
+    /// The column of these lists, which break no rule of its makers.
     pub fn into_array(self, alloc: Global) -> Result<ListArray<i64>, AllocError>
+        requires { AreKept self }
         ensures rows { IfOk result (λ array. (read : List Value) →
             HasRead read self → rows (list_column array) ≡ read) }
         ensures dtype { IfOk result (λ array. type_of array.values.value ≡ of_int64) }
@@ -127,34 +131,44 @@ impl Lists {
             ends,
             validity,
         } = self;
-        let Ok(offsets) = OffsetsBuffer::try_from(ends) else {
-            return Err(AllocError);
+        let offsets = match OffsetsBuffer::of_rising(ends) {
+            Ok(offsets) => offsets,
+            Err(fault) => return Err(want_of_memory(fault)),
         };
-        let Ok(validity) = Bitmap::from_bools(alloc, &validity) else {
-            return Err(AllocError);
-        };
+        let validity = bits_of(alloc, &validity)?;
         let items = items_of(alloc, values, &flags)?;
         match ListArray::try_new(alloc, offsets, items, Some(validity)) {
             Ok(array) => Ok(array),
-            Err(_) => Err(AllocError),
+            Err(fault) => Err(want_of_parts(fault)),
         }
+    }
+}
+
+/// The bitmap of truth values.
+pub fn bits_of(alloc: Global, values: &[bool]) -> Result<Bitmap, AllocError>
+    ensures { IfOk result (λ bitmap. bitmap ≡ unsliced values.now) }
+{
+    match Bitmap::from_bools(alloc, values) {
+        Ok(bitmap) => Ok(bitmap),
+        Err(fault) => Err(want_of_memory(fault)),
     }
 }
 
 /// The column of items, and of which of them are valid.
 pub fn items_of(alloc: Global, values: Vec<i64>, flags: &[bool]) -> Result<ArrayRef, AllocError>
+    requires paired { length flags.now ≡ length values.items }
+    requires few { length values.items ≤ most_rows }
     ensures rows { IfOk result (λ items. rows items.column ≡
         hidden flags.now (map Number values.items)) }
     ensures dtype { IfOk result (λ items. type_of items.column ≡ of_int64) }
 {
-    let Ok(flags) = Bitmap::from_bools(alloc, flags) else {
-        return Err(AllocError);
-    };
-    let Ok(values) = Buffer::from_vec(values) else {
-        return Err(AllocError);
+    let flags = bits_of(alloc, flags)?;
+    let values = match Buffer::from_vec(values) {
+        Ok(values) => values,
+        Err(fault) => return Err(want_of_memory(fault)),
     };
     match PrimitiveArray::try_new(values, Some(flags)) {
         Ok(items) => Ok(items.into_ref()),
-        Err(_) => Err(AllocError),
+        Err(_) => unreachable!(),
     }
 }

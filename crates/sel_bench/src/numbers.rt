@@ -1,7 +1,8 @@
 //! Numbers and truth values as words.
 ghost use Rattle.std.specs.Prelude.{◌≡◌, ℕ, pos, List, Option, option_map, Decides};
 ghost use Rattle.sel_arrow.specs.Value.{Value, Number, Truth};
-ghost use Rattle.sel_bench.specs.Numbers.{number_of, index_of, size_of, truth_of, HasOneSpelling};
+ghost use Rattle.sel_bench.specs.Numbers.{number_of, index_of, size_of, truth_of};
+ghost use Rattle.sel_bench.specs.Parts.{HasOneSpelling};
 
 /// What a column has in a row that is not null.
 pub trait Item: Copy {

@@ -33,10 +33,10 @@ impl<T: NativeType> Rows<T> {
         let Rows { values, validity } = self;
         let validity = Bitmap::from_bools(alloc, &validity)?;
         let values = Buffer::from_vec(values)?;
-        Ok(PrimitiveArray {
-            values,
-            validity: Some(validity),
-        })
+        match PrimitiveArray::try_new(values, Some(validity)) {
+            Ok(column) => Ok(column),
+            Err(_) => unreachable!(),
+        }
     }
 }
 
@@ -51,9 +51,9 @@ impl Rows<bool> {
         let Rows { values, validity } = self;
         let validity = Bitmap::from_bools(alloc, &validity)?;
         let values = Bitmap::from_bools(alloc, &values)?;
-        Ok(BooleanArray {
-            values,
-            validity: Some(validity),
-        })
+        match BooleanArray::try_new(values, Some(validity)) {
+            Ok(column) => Ok(column),
+            Err(_) => unreachable!(),
+        }
     }
 }

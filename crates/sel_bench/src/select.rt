@@ -2,7 +2,7 @@
 ghost use Rattle.std.specs.Prelude.{◌≡◌, IsTrue, IfOk, IfErr, count_by, length};
 ghost use Rattle.sel_arrow.specs.Columns.{boolean_rows, primitive_rows};
 ghost use Rattle.sel_arrow.specs.Rows.{rows, type_of};
-ghost use Rattle.polars_compute.specs.Need.{IsRefusal, past};
+ghost use Rattle.polars_compute.specs.Need.{IsRefusal, PassesNone, past};
 ghost use Rattle.polars_compute.specs.Pick.{all_within, take_rows};
 ghost use Rattle.polars_compute.specs.Select.{select, in_force, is_true};
 ghost use Rattle.sel_bench.specs.SelectRows.{rows_of_each, type_of_each, select_rows_of, selection_fits, past_selected};
@@ -31,6 +31,8 @@ pub fn select_rows(
         (rows_of_each columns.now) (boolean_rows mask.now) (primitive_rows indices.now)) }
     ensures types { IfOk result (λ selected.
         type_of_each selected.items ≡ type_of_each columns.now) }
+    ensures within { IfOk result (λ _. PassesNone
+        (past_selected columns.now (boolean_rows mask.now) (primitive_rows indices.now))) }
     ensures refusal { IfErr result (IsRefusal
         (past_selected columns.now (boolean_rows mask.now) (primitive_rows indices.now))) }
 {

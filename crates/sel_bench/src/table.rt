@@ -9,7 +9,8 @@ ghost use Rattle.sel_bench.specs.Lines.{longest_line};
 ghost use Rattle.sel_bench.specs.Numbers.{number_of};
 ghost use Rattle.sel_bench.specs.Rows.{rows_of};
 ghost use Rattle.sel_bench.specs.SelectRows.{rows_of_each};
-ghost use Rattle.sel_bench.specs.Table.{AreNumbers, columns_text, selected_rows, table_answer, table_words};
+ghost use Rattle.sel_bench.specs.Table.{columns_text, selected_rows, table_answer, table_words};
+ghost use Rattle.sel_bench.specs.Parts.{AreNumbers};
 
 use crate::columns::{parse_column, print_column};
 use crate::refusals::want_of_memory;

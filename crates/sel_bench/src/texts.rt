@@ -7,11 +7,11 @@ ghost use Rattle.sel_arrow.specs.Views.{all_placed, view_value};
 ghost use Rattle.sel_runs.specs.Need.{bytes_needed};
 ghost use Rattle.sel_bench.specs.Columns.{all_some, column_of, row_of};
 ghost use Rattle.sel_bench.specs.Lines.{longest_line};
-ghost use Rattle.sel_bench.specs.Texts.{text_of, text_row};
+ghost use Rattle.sel_bench.specs.Texts.{text_of};
+ghost use Rattle.sel_bench.specs.Parts.{text_row};
 
 use crate::refusals::want_of_memory;
 use crate::words::split_at_each;
-use sel_arrow::binview::BinaryViewArray;
 use sel_arrow::utf8view::Utf8ViewArray;
 use sel_arrow::view::View;
 use sel_bits::bitmap::Bitmap;
@@ -127,11 +127,9 @@ impl Texts {
         let bytes = Buffer::from_vec(bytes)?;
         let buffers = Buffer::from_vec(vec![in alloc; bytes]?)?;
         let views = Buffer::from_vec(views)?;
-        let bytes = BinaryViewArray {
-            views,
-            buffers,
-            validity: Some(validity),
-        };
-        Ok(Utf8ViewArray { bytes })
+        match Utf8ViewArray::try_new(views, buffers, Some(validity)) {
+            Ok(column) => Ok(column),
+            Err(_) => unreachable!(),
+        }
     }
 }

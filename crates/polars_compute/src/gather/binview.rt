@@ -40,7 +40,7 @@ pub(crate) fn take_views(
     Ok(BinaryViewArray {
         views,
         buffers,
-        validity: Some(validity),
+        validity,
     })
 }
 

@@ -27,6 +27,6 @@ pub fn take_unchecked(
     let validity = take_validity(alloc, &values.validity, indices)?;
     Ok(BooleanArray {
         values: bits,
-        validity: Some(validity),
+        validity,
     })
 }

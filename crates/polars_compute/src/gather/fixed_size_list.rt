@@ -8,7 +8,7 @@ ghost use Rattle.polars_compute.specs.Blocks.{after_block, block_items, blocks_w
 ghost use Rattle.polars_compute.specs.Need.{IsPastRows, IsRefusal, past};
 ghost use Rattle.polars_compute.specs.Pick.{all_within, take_rows};
 
-use crate::gather::validity::take_validity;
+use crate::gather::validity::take_bits;
 use sel_arrow::array::Array;
 use sel_arrow::array_ref::ArrayRef;
 use sel_arrow::column::Column;
@@ -143,7 +143,7 @@ pub(crate) fn take_unchecked(
     }
     let count = rows_below(indices.len(), *size)?;
     let below = take_level(alloc, child, *size, count, indices)?;
-    let validity = take_validity(alloc, validity, indices)?;
+    let validity = take_bits(alloc, validity, indices)?;
     let values = Box::new(alloc, below)?;
     Ok(ArrayRef {
         column: Column::FixedSizeList {

@@ -1,6 +1,6 @@
 //! Numbers at indices.
 
-ghost use Rattle.std.specs.Prelude.{◌≡◌, IsTrue, length, pos, [], ◌∷◌, map, IfOk, IfErr};
+ghost use Rattle.std.specs.Prelude.{◌≡◌, ◌<◌, All, IsTrue, length, pos, [], ◌∷◌, map, slice_index_or, IfOk, IfErr};
 ghost use Rattle.sel_arrow.specs.Columns.{primitive_rows};
 ghost use Rattle.sel_arrow.specs.Masked.{number_value};
 ghost use Rattle.polars_compute.specs.Pick.{all_within, is_within, take_rows, pick, found, pick_of};
@@ -28,10 +28,7 @@ pub fn take_primitive_unchecked<T: NativeType>(
     let values = take_values(alloc, arr.values.as_slice(), indices, T::LEAST)?;
     let validity = take_validity(alloc, &arr.validity, indices)?;
     let values = Buffer::from_vec(values)?;
-    Ok(PrimitiveArray {
-        values,
-        validity: Some(validity),
-    })
+    Ok(PrimitiveArray { values, validity })
 }
 
 /// The value at each index, and the filler for a null one. Refuses only for want of memory.
@@ -46,9 +43,31 @@ pub(crate) fn take_values<T: Copy>(
         pick filler (values.now ∷ []) (map pick_of (primitive_rows indices.now))) }
     ensures refusal { IfErr result (λ fault. fault ≡ PolarsError.OutOfMemory) }
 {
+    if indices.validity.is_none() {
+        return take_places(alloc, values, indices.values.as_slice(), filler);
+    }
     let mut taken = Vec::with_capacity(alloc, indices.len())?;
     for k in 0..indices.len() {
         taken.push(value_at(values, indices.get(k), filler))?;
+    }
+    Ok(taken)
+}
+
+/// The value at each place. Refuses only for want of memory.
+fn take_places<T: Copy>(
+    alloc: Global,
+    values: &[T],
+    places: &[u32],
+    filler: T,
+) -> PolarsResult<Vec<T>>
+    requires { All (λ place. place < length values.now) places.now }
+    ensures items { IfOk result (λ taken. taken.items ≡
+        map (λ place. slice_index_or values.now place filler) places.now) }
+    ensures refusal { IfErr result (λ fault. fault ≡ PolarsError.OutOfMemory) }
+{
+    let mut taken = Vec::with_capacity(alloc, places.len())?;
+    for place in places {
+        taken.push_reserved(values[*place as usize]);
     }
     Ok(taken)
 }

@@ -4,6 +4,7 @@ ghost use Rattle.std.specs.Prelude.{◌≡◌, IsTrue, length, pos, map, IfOk, I
 ghost use Rattle.std.specs.Option.{ForSome};
 ghost use Rattle.sel_arrow.specs.Columns.{primitive_rows};
 ghost use Rattle.sel_arrow.specs.Masked.{number_value};
+ghost use Rattle.sel_runs.specs.Validity.{bits_for};
 ghost use Rattle.polars_compute.specs.Pick.{all_within, is_within, valid_pick, pick_of};
 
 use sel_arrow::array::Array;
@@ -14,8 +15,30 @@ use sel_bits::faults::{PolarsError, PolarsResult};
 use sel_bits::packer::BitPacker;
 use std::alloc::Global;
 
-/// Of each index whether it is not null and its row is valid. Refuses only for want of memory.
+/// The validity of the rows at the indices: of each index whether it is not null and its row is valid. There is none where
+/// neither the rows nor the indices have one. Refuses only for want of memory.
 pub(crate) fn take_validity(
+    alloc: Global,
+    validity: &Option<Bitmap>,
+    indices: &IdxArr,
+) -> PolarsResult<Option<Bitmap>>
+    requires { ForSome validity.now
+        (λ v. IsTrue (all_within (length v.bits) (primitive_rows indices.now))) }
+    ensures bits { IfOk result (λ taken. bits_for (length (primitive_rows indices.now)) taken ≡
+        map (valid_pick validity.now) (map pick_of (primitive_rows indices.now))) }
+    ensures refusal { IfErr result (λ fault. fault ≡ PolarsError.OutOfMemory) }
+{
+    if validity.is_none() {
+        if indices.validity.is_none() {
+            return Ok(None);
+        }
+    }
+    let taken = take_bits(alloc, validity, indices)?;
+    Ok(Some(taken))
+}
+
+/// Of each index whether it is not null and its row is valid. Refuses only for want of memory.
+pub(crate) fn take_bits(
     alloc: Global,
     validity: &Option<Bitmap>,
     indices: &IdxArr,

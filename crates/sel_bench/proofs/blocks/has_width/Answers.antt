@@ -1,6 +1,6 @@
 use Rattle.std.proofs.Common.{◌∙◌, ap, sym, arith}
 use Rattle.sel_bench.specs.Blocks.{is_block}
-use Rattle.sel_bench.specs.Lists.{shown_list}
+use Rattle.sel_bench.specs.ListParts.{shown_list}
 use Rattle.sel_bench.proofs.ReadBlocks.{width_is}
 use Rattle.sel_bench.proofs.blocks.has_width.Goals as goal
 

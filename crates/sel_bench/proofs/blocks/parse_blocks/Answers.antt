@@ -1,6 +1,7 @@
 use Rattle.std.proofs.Common.{[], ◌∙◌, ap, map, subst}
 use Rattle.std.proofs.lemmas.Result.{IfOk-weaker}
-use Rattle.sel_bench.specs.Blocks.{block_of, IsReadingBlocks}
+use Rattle.sel_bench.specs.Blocks.{block_of}
+use Rattle.sel_bench.specs.BlockParts.{IsReadingBlocks}
 use Rattle.sel_bench.proofs.ReadLists.{no_bars, rows_from_bars}
 use Rattle.sel_bench.proofs.blocks.parse_blocks.Goals as goal
 

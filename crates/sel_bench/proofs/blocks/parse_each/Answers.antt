@@ -1,7 +1,7 @@
 use Rattle.std.proofs.Common.{◌++◌, ◌∷◌, [], ◌∙◌, ap, refl, sym}
 use Rattle.std.specs.Prelude.{option_map}
 use Rattle.sel_bench.specs.Blocks.{block_of}
-use Rattle.sel_bench.specs.Lists.{shown_list}
+use Rattle.sel_bench.specs.ListParts.{shown_list}
 use Rattle.sel_bench.proofs.RowLemmas.{rows_none, rows_step}
 use Rattle.sel_bench.proofs.blocks.parse_each.Goals as goal
 

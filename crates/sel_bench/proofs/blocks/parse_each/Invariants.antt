@@ -1,7 +1,8 @@
 -- The rows so far, and the parts that they are kept in.
 use Rattle.std.proofs.Common.{◌≡◌, List, map, take, Some}
 use Rattle.sel_arrow.specs.Value.{Value}
-use Rattle.sel_bench.specs.Blocks.{block_of, HasBlocks}
+use Rattle.sel_bench.specs.Blocks.{block_of}
+use Rattle.sel_bench.specs.BlockParts.{HasBlocks}
 use Rattle.sel_bench.specs.Columns.{all_some}
 use Rattle.sel_bench.proofs.blocks.parse_each.Given as goal
 

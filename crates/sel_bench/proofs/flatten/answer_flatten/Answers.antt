@@ -1,7 +1,7 @@
 use Rattle.std.proofs.Common.{◌∙◌, Some, None, ap, sym, map}
 use Rattle.std.specs.Prelude.{option_map}
 use Rattle.std.proofs.lemmas.Result.{IfOk-weaker}
-use Rattle.sel_bench.specs.Flatten.{read_part}
+use Rattle.sel_bench.specs.Parts.{read_part}
 use Rattle.sel_bench.proofs.Flattened.{words_read}
 use Rattle.sel_bench.proofs.flatten.answer_flatten.Goals as goal
 

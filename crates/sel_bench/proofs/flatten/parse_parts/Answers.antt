@@ -1,7 +1,8 @@
 use Rattle.std.proofs.Common.{Bor, List, ℕ, ◌∙◌, Some, arith, ap, map, sym}
 use Rattle.std.specs.Prelude.{option_map}
 use Rattle.std.proofs.lemmas.List.{map-append}
-use Rattle.sel_bench.specs.Flatten.{part_of, read_part}
+use Rattle.sel_bench.specs.Flatten.{part_of}
+use Rattle.sel_bench.specs.Parts.{read_part}
 use Rattle.sel_bench.proofs.RowLemmas.{rows_step, rows_none}
 use Rattle.sel_bench.proofs.flatten.parse_parts.Goals as goal
 

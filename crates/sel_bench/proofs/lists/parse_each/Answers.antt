@@ -1,6 +1,7 @@
 use Rattle.std.proofs.Common.{◌++◌, ◌∷◌, [], ◌∙◌, ap, sym}
 use Rattle.std.specs.Prelude.{option_map}
-use Rattle.sel_bench.specs.Lists.{list_of_word, shown_list}
+use Rattle.sel_bench.specs.Lists.{list_of_word}
+use Rattle.sel_bench.specs.ListParts.{shown_list}
 use Rattle.sel_bench.proofs.RowLemmas.{rows_none, rows_step}
 use Rattle.sel_bench.proofs.lists.parse_each.Goals as goal
 

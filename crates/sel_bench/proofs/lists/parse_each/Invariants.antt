@@ -2,7 +2,8 @@
 use Rattle.std.proofs.Common.{◌≡◌, List, map, take, Some}
 use Rattle.sel_arrow.specs.Value.{Value}
 use Rattle.sel_bench.specs.Columns.{all_some}
-use Rattle.sel_bench.specs.Lists.{list_of_word, HasRead}
+use Rattle.sel_bench.specs.Lists.{list_of_word}
+use Rattle.sel_bench.specs.ListParts.{HasRead}
 use Rattle.sel_bench.proofs.lists.parse_each.Given as goal
 
 abbrev pub invariant-loop-word : goal.invariant-loop-word

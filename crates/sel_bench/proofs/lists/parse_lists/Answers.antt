@@ -1,6 +1,7 @@
 use Rattle.std.proofs.Common.{◌∙◌, ap, map, subst}
 use Rattle.std.proofs.lemmas.Result.{IfOk-weaker}
-use Rattle.sel_bench.specs.Lists.{list_of_word, IsReading}
+use Rattle.sel_bench.specs.Lists.{list_of_word}
+use Rattle.sel_bench.specs.ListParts.{IsReading}
 use Rattle.sel_bench.proofs.ReadLists.{rows_from_bars}
 use Rattle.sel_bench.proofs.lists.parse_lists.Goals as goal
 

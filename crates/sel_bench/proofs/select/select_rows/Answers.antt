@@ -6,7 +6,7 @@ use Rattle.sel_arrow.specs.Rows.{rows, type_of}
 use Rattle.sel_arrow.specs.declared.array_ref.ArrayRef.{ArrayRef}
 use Rattle.polars_compute.specs.Pick.{take_rows}
 use Rattle.polars_compute.specs.Select.{select, in_force}
-use Rattle.sel_bench.proofs.SelectedRows.{long_at, mapped_step, refused_some, rows_mapped}
+use Rattle.sel_bench.proofs.SelectedRows.{long_at, mapped_step, none_past, refused_some, rows_mapped}
 use Rattle.sel_bench.proofs.select.select_rows.Goals as goal
 
 pub select_column-requires-clause-long : goal.select_column-requires-clause-long
@@ -42,3 +42,14 @@ returns-clause-rows c =
     let indices = primitive_rows c.args.indices.now in
     let all : length columns ≤ c.loop-column.column-index = omega (arith, c.loop-column-test.false) in
     c.loop-column.invariant.taken ∙ ap (map (λ (a : ArrayRef). take_rows (select (rows a.column) (in_force mask)) indices)) (take_all c.loop-column.column-index columns all) ∙ rows_mapped mask indices columns
+
+pub returns-clause-within : goal.returns-clause-within
+returns-clause-within c =
+    let columns = c.args.columns.now in
+    let mask = boolean_rows c.args.mask.now in
+    let indices = primitive_rows c.args.indices.now in
+    let all : length columns ≤ c.loop-column.column-index = omega (arith, c.loop-column-test.false) in
+    let whole = take_all c.loop-column.column-index columns all in
+    none_past columns c.loop-column.selected.items mask indices
+    (c.loop-column.invariant.taken ∙ ap (map (λ (a : ArrayRef). take_rows (select (rows a.column) (in_force mask)) indices)) whole)
+    (c.loop-column.invariant.types ∙ ap (map (λ (a : ArrayRef). type_of a.column)) whole)

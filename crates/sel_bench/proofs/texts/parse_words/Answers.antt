@@ -2,7 +2,8 @@ use Rattle.std.proofs.Common.{Bor, List, ℕ, ◌∙◌, Some, arith, ap, map, s
 use Rattle.std.specs.Prelude.{option_map}
 use Rattle.std.proofs.lemmas.List.{map-append}
 use Rattle.sel_bench.specs.Columns.{row_of}
-use Rattle.sel_bench.specs.Texts.{text_of, text_row}
+use Rattle.sel_bench.specs.Texts.{text_of}
+use Rattle.sel_bench.specs.Parts.{text_row}
 use Rattle.sel_bench.proofs.RowLemmas.{rows_step, rows_none}
 use Rattle.sel_bench.proofs.texts.parse_words.Goals as goal
 

@@ -1,6 +1,7 @@
 use Rattle.std.proofs.Common.{◌≡◌, Some, map, take}
 use Rattle.sel_bench.specs.Columns.{all_some, row_of}
-use Rattle.sel_bench.specs.Texts.{text_of, text_row}
+use Rattle.sel_bench.specs.Texts.{text_of}
+use Rattle.sel_bench.specs.Parts.{text_row}
 use Rattle.sel_bench.proofs.texts.parse_words.Given as goal
 
 abbrev pub invariant-loop-word : goal.invariant-loop-word

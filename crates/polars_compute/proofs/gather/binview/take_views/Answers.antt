@@ -4,7 +4,7 @@ use Rattle.sel_arrow.specs.Views.{view_value, is_placed}
 use Rattle.sel_arrow.specs.declared.view.View.{View}
 use Rattle.sel_arrow.proofs.Rows.{length-number_rows}
 use Rattle.sel_arrow.proofs.ViewRows.{length-view_rows}
-use Rattle.polars_compute.proofs.Takes.{within_as, validity_within, covers_as, taken_rows, count_taken, passed_by}
+use Rattle.polars_compute.proofs.Takes.{within_as, validity_within, covers_for, taken_rows_for, count_taken, passed_by}
 use Rattle.polars_compute.proofs.gather.binview.take_views.Goals as goal
 
 abbrev no_bytes : View
@@ -31,7 +31,7 @@ invariant_of-result c =
     record {
       rows_fit = omega (arith, count, length-number_rows pos c.args.indices.now.values c.args.indices.now.validity, c.args.indices.now.rows_fit);
       buffers_fit = rw same values.buffers_fit;
-      validity_fits = λ v there. covers_as c.in_ok-validity.validity v c.in_ok-views-2.views indices values.validity c.in_ok-validity.ensures.bits count there;
+      validity_fits = covers_for c.in_ok-validity.validity c.in_ok-views-2.views indices values.validity c.in_ok-validity.ensures.bits count;
       placed = rw same (passed_by (is_placed values.buffers) values.views c.in_ok-views-2.views no_bytes indices items values.placed refl);
     }
 
@@ -40,5 +40,5 @@ returns-clause-rows c =
     let values = c.args.values.now in
     let indices = primitive_rows c.args.indices.now in
     let items = rw c.as_slice.ensures at (c.in_ok-views-2.ensures.items ∙ c.in_ok-views.ensures.items) in
-    rw c.in_ok-buffers.ensures.items (taken_rows (view_value values.buffers) values.validity c.in_ok-validity.validity values.views c.in_ok-views-2.views no_bytes indices values.validity_fits
+    rw c.in_ok-buffers.ensures.items (taken_rows_for (view_value values.buffers) values.validity c.in_ok-validity.validity values.views c.in_ok-views-2.views no_bytes indices values.validity_fits
     (within_as _ (length values.views) indices (length-view_rows values.views values.buffers values.validity) c.requires) items c.in_ok-validity.ensures.bits)

@@ -3,7 +3,7 @@ use Rattle.std.specs.Prelude.{slice_index_or}
 use Rattle.sel_arrow.specs.Columns.{primitive_rows}
 use Rattle.sel_arrow.specs.Value.{Truth}
 use Rattle.sel_arrow.proofs.Rows.{length-truth_rows, length-number_rows}
-use Rattle.polars_compute.proofs.Takes.{within_as, validity_within, covers_as, taken_rows, length-pick}
+use Rattle.polars_compute.proofs.Takes.{within_as, validity_within, covers_for, taken_rows_for, length-pick}
 use Rattle.polars_compute.proofs.gather.boolean.take_unchecked.Goals as goal
 
 pub take_bitmap_nulls_unchecked-requires : goal.take_bitmap_nulls_unchecked-requires
@@ -23,12 +23,12 @@ invariant_of-result c =
     let count : length c.in_ok-bits.bits.bits ≡ length indices = ap (λ (l : List Bool). length l) c.in_ok-bits.ensures.bits ∙ length-pick (slice_index_or values.values.bits 0 false) (values.values.bits ∷ []) indices in
     record {
       rows_fit = omega (arith, count, length-number_rows pos c.args.indices.now.values c.args.indices.now.validity, c.args.indices.now.rows_fit);
-      validity_fits = λ v there. covers_as c.in_ok-validity.validity v c.in_ok-bits.bits.bits indices values.validity c.in_ok-validity.ensures.bits count there;
+      validity_fits = covers_for c.in_ok-validity.validity c.in_ok-bits.bits.bits indices values.validity c.in_ok-validity.ensures.bits count;
     }
 
 pub returns-clause-rows : goal.returns-clause-rows
 returns-clause-rows c =
     let values = c.args.values.now in
     let indices = primitive_rows c.args.indices.now in
-    taken_rows Truth values.validity c.in_ok-validity.validity values.values.bits c.in_ok-bits.bits.bits (slice_index_or values.values.bits 0 false) indices values.validity_fits
+    taken_rows_for Truth values.validity c.in_ok-validity.validity values.values.bits c.in_ok-bits.bits.bits (slice_index_or values.values.bits 0 false) indices values.validity_fits
     (within_as _ _ indices (length-truth_rows values.values.bits values.validity) c.requires) c.in_ok-bits.ensures.bits c.in_ok-validity.ensures.bits

@@ -24,8 +24,8 @@ take_level-requires-clause-inside c =
     subst (λ (d : _). blocks_within list.size (row_count d) indices ≡ true) (sym c.deref.ensures)
     (whole_within c.args.values.now list.size list.len list.child list.validity indices list.is c.requires.formed c.requires.inside)
 
-pub take_validity-requires : goal.take_validity-requires
-take_validity-requires c =
+pub take_bits-requires : goal.take_bits-requires
+take_bits-requires c =
     let list = c.in-FixedSizeList in
     whole_validity c.args.values.now list.size list.len list.child list.validity (primitive_rows c.args.indices.now) list.is c.requires.formed c.requires.inside
 

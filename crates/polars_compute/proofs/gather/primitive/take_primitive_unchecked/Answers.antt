@@ -2,7 +2,7 @@ use Rattle.std.proofs.Common.{◌≡◌, ◌∙◌, [], ◌∷◌, length, pos, 
 use Rattle.sel_arrow.specs.Columns.{primitive_rows}
 use Rattle.sel_arrow.specs.Value.{Number}
 use Rattle.sel_arrow.proofs.Rows.{length-number_rows}
-use Rattle.polars_compute.proofs.Takes.{within_as, validity_within, covers_as, taken_rows, count_taken}
+use Rattle.polars_compute.proofs.Takes.{within_as, validity_within, covers_for, taken_rows_for, count_taken}
 use Rattle.polars_compute.proofs.gather.primitive.take_primitive_unchecked.Goals as goal
 
 pub take_values-requires : goal.take_values-requires
@@ -24,7 +24,7 @@ invariant_of-result g c =
     let count : length c.in_ok-values-2.values ≡ length indices = count_taken c.in_ok-values-2.values c.LEAST.result (c.as_slice.result.now ∷ []) indices items in
     record {
       rows_fit = omega (arith, count, length-number_rows pos c.args.indices.now.values c.args.indices.now.validity, c.args.indices.now.rows_fit);
-      validity_fits = λ v there. covers_as c.in_ok-validity.validity v c.in_ok-values-2.values indices arr.validity c.in_ok-validity.ensures.bits count there;
+      validity_fits = covers_for c.in_ok-validity.validity c.in_ok-values-2.values indices arr.validity c.in_ok-validity.ensures.bits count;
     }
 
 pub returns-clause-rows : goal.returns-clause-rows
@@ -32,5 +32,5 @@ returns-clause-rows g c =
     let arr = c.args.arr.now in
     let indices = primitive_rows c.args.indices.now in
     let items = rw c.as_slice.ensures at (c.in_ok-values-2.ensures.items ∙ c.in_ok-values.ensures.items) in
-    taken_rows (λ x. Number (g.T.NativeType.number x)) arr.validity c.in_ok-validity.validity arr.values c.in_ok-values-2.values c.LEAST.result indices arr.validity_fits
+    taken_rows_for (λ x. Number (g.T.NativeType.number x)) arr.validity c.in_ok-validity.validity arr.values c.in_ok-values-2.values c.LEAST.result indices arr.validity_fits
     (within_as _ (length arr.values) indices (length-number_rows g.T.NativeType.number arr.values arr.validity) c.requires) items c.in_ok-validity.ensures.bits

@@ -1,5 +1,5 @@
 use Rattle.std.proofs.Common.{map, take}
-use Rattle.sel_bench.specs.Texts.{text_row}
+use Rattle.sel_bench.specs.Parts.{text_row}
 use Rattle.sel_bench.proofs.TextViews.{Growing}
 use Rattle.sel_bench.proofs.texts.Texts.of_rows.Given as goal
 

@@ -1,0 +1,445 @@
+/* Each call of sel.h: what it makes, each status, and that nothing leaks, also where an allocation is refused. */
+
+#include "sel.h"
+
+#include <stdio.h>
+#include <stdlib.h>
+#include <string.h>
+
+/* ---- the allocator, which counts blocks and refuses where it is told to ---- */
+
+void *__real_malloc(size_t size);
+void *__real_realloc(void *block, size_t size);
+void __real_free(void *block);
+void *__wrap_malloc(size_t size);
+void *__wrap_realloc(void *block, size_t size);
+void __wrap_free(void *block);
+
+static long blocks = 0;
+static long until_refused = -1;
+static bool refused = false;
+
+static bool refuses(void) {
+    if (until_refused < 0) {
+        return false;
+    }
+    if (until_refused == 0) {
+        refused = true;
+        until_refused = -1;
+        return true;
+    }
+    until_refused -= 1;
+    return false;
+}
+
+void *__wrap_malloc(size_t size) {
+    if (refuses()) {
+        return NULL;
+    }
+    blocks += 1;
+    return __real_malloc(size);
+}
+
+void *__wrap_realloc(void *block, size_t size) {
+    if (refuses()) {
+        return NULL;
+    }
+    blocks += block == NULL;
+    return __real_realloc(block, size);
+}
+
+void __wrap_free(void *block) {
+    blocks -= block != NULL;
+    __real_free(block);
+}
+
+/* ---- what a test says ---- */
+
+static int failures = 0;
+
+static void is(bool holds, const char *what, int line) {
+    if (!holds) {
+        printf("line %d: %s\n", line, what);
+        failures += 1;
+    }
+}
+
+#define IS(holds) is((holds), #holds, __LINE__)
+
+/* A status that stands for want of memory only where an allocation was refused. */
+static bool done(uint32_t status) {
+    return status == SEL_DONE || (refused && status == SEL_NO_MEMORY);
+}
+
+#define DONE(call) is(done(call), #call, __LINE__)
+
+static const uint8_t no_bits[1] = {0};
+
+/* ---- makers and readers ---- */
+
+static void test_nulls(void) {
+    sel_column column = {0};
+    IS(sel_len(&column) == 0 && sel_null_count(&column) == 0 && sel_kind(&column) == SEL_NO_KIND);
+    IS(sel_null_new((size_t)4294967296, &column) == SEL_TOO_MANY_ROWS);
+    IS(column.at == NULL);
+    DONE(sel_null_new(3, &column));
+    if (column.at != NULL) {
+        uint8_t bits[1] = {9};
+        bool has = true;
+        IS(sel_len(&column) == 3 && sel_null_count(&column) == 3 && sel_kind(&column) == SEL_NULL);
+        IS(sel_validity(&column, bits, 1, &has) == SEL_DONE && !has && bits[0] == 9);
+    }
+    sel_free(&column);
+    IS(column.at == NULL);
+    sel_free(&column);
+}
+
+static void test_booleans(void) {
+    const uint8_t values[2] = {0xA5, 0x01};
+    const uint8_t bits[2] = {0xFE, 0x01};
+    uint8_t read[2] = {0, 0};
+    bool has = false;
+    sel_column column = {0};
+    IS(sel_boolean_values(&column, read, 2) == SEL_NO_COLUMN);
+    IS(sel_validity(&column, read, 2, &has) == SEL_NO_COLUMN);
+    IS(sel_boolean_new(values, 1, 9, bits, 2, true, &column) == SEL_OTHER_LENGTH);
+    IS(sel_boolean_new(values, 2, 9, bits, 1, true, &column) == SEL_VALIDITY_LENGTH || refused);
+    DONE(sel_boolean_new(values, 2, 9, bits, 2, true, &column));
+    if (column.at != NULL) {
+        IS(sel_len(&column) == 9 && sel_null_count(&column) == 1 && sel_kind(&column) == SEL_BOOLEAN);
+        IS(sel_boolean_values(&column, read, 1) == SEL_OTHER_LENGTH);
+        IS(sel_boolean_values(&column, read, 2) == SEL_DONE && read[0] == 0xA5 && (read[1] & 1) == 1);
+        IS(sel_validity(&column, read, 1, &has) == SEL_OTHER_LENGTH);
+        IS(sel_validity(&column, read, 2, &has) == SEL_DONE && has && read[0] == 0xFE && (read[1] & 1) == 1);
+        int8_t numbers[9];
+        IS(sel_int8_values(&column, numbers, 9) == SEL_OTHER_KIND);
+    }
+    /* a slice begins within a byte */
+    sel_column part = {0};
+    if (column.at != NULL && done(sel_sliced(&column, 2, 5, &part)) && part.at != NULL) {
+        uint32_t status = sel_boolean_values(&part, read, 1);
+        IS(done(status));
+        IS(status != SEL_DONE || (read[0] & 31) == 9);
+    }
+    sel_free(&part);
+    sel_free(&column);
+}
+
+#define NUMBERS(name, type, kind)                                                                       \
+    static void test_##name(void) {                                                                     \
+        const type values[3] = {1, (type)-2, 3};                                                        \
+        const uint8_t bits[1] = {5};                                                                    \
+        type read[3] = {0, 0, 0};                                                                       \
+        uint8_t flags[1] = {0};                                                                         \
+        bool has = false;                                                                               \
+        sel_column column = {0};                                                                        \
+        IS(sel_##name##_values(&column, read, 3) == SEL_NO_COLUMN);                                     \
+        IS(sel_##name##_new(values, 3, no_bits, 0, true, &column) == SEL_VALIDITY_LENGTH || refused);   \
+        DONE(sel_##name##_new(values, 3, bits, 1, true, &column));                                      \
+        if (column.at != NULL) {                                                                        \
+            IS(sel_kind(&column) == kind && sel_len(&column) == 3 && sel_null_count(&column) == 1);     \
+            IS(sel_##name##_values(&column, read, 2) == SEL_OTHER_LENGTH);                              \
+            IS(sel_##name##_values(&column, read, 3) == SEL_DONE);                                      \
+            IS(read[0] == 1 && read[1] == (type)-2 && read[2] == 3);                                    \
+            IS(sel_boolean_values(&column, flags, 1) == SEL_OTHER_KIND);                                \
+            IS(sel_validity(&column, flags, 1, &has) == SEL_DONE && has && (flags[0] & 7) == 5);        \
+        }                                                                                               \
+        sel_free(&column);                                                                              \
+    }
+
+NUMBERS(int8, int8_t, SEL_INT8)
+NUMBERS(int16, int16_t, SEL_INT16)
+NUMBERS(int32, int32_t, SEL_INT32)
+NUMBERS(int64, int64_t, SEL_INT64)
+NUMBERS(uint8, uint8_t, SEL_UINT8)
+NUMBERS(uint16, uint16_t, SEL_UINT16)
+NUMBERS(uint32, uint32_t, SEL_UINT32)
+NUMBERS(uint64, uint64_t, SEL_UINT64)
+
+/* The column 10 20 30 40. */
+static sel_column tens(void) {
+    const int64_t values[4] = {10, 20, 30, 40};
+    sel_column column = {0};
+    DONE(sel_int64_new(values, 4, no_bits, 0, false, &column));
+    return column;
+}
+
+static bool holds(sel_column *column, const int64_t *wanted, size_t len) {
+    int64_t read[8];
+    return sel_int64_values(column, read, len) == SEL_DONE && memcmp(read, wanted, len * sizeof *wanted) == 0;
+}
+
+static void test_whole(void) {
+    const int64_t all[4] = {10, 20, 30, 40};
+    sel_column column = {0}, other = {0};
+    IS(sel_share(&column, &other) == SEL_NO_COLUMN && sel_sliced(&column, 0, 0, &other) == SEL_NO_COLUMN);
+    column = tens();
+    if (column.at != NULL) {
+        IS(sel_sliced(&column, 2, 3, &other) == SEL_OUT_OF_BOUNDS && sel_sliced(&column, 5, 0, &other) == SEL_OUT_OF_BOUNDS);
+        IS(sel_sliced(&column, SIZE_MAX, 2, &other) == SEL_OUT_OF_BOUNDS);
+        DONE(sel_sliced(&column, 1, 2, &other));
+        IS(other.at == NULL || holds(&other, all + 1, 2));
+        /* the old column of `other` is freed */
+        DONE(sel_share(&column, &other));
+    }
+    sel_free(&column);
+    if (other.at != NULL && sel_len(&other) == 4) {
+        IS(holds(&other, all, 4));
+    }
+    sel_free(&other);
+}
+
+/* ---- kernels ---- */
+
+static void test_filters(void) {
+    const uint8_t values[1] = {13}, bits[1] = {11};
+    const int64_t kept[2] = {10, 40}, by_bits[3] = {10, 30, 40};
+    sel_column column = {0}, mask = {0}, out = {0};
+    IS(sel_filter(&column, &mask, &out) == SEL_NO_COLUMN);
+    IS(sel_filter_bits(&column, values, 1, 4, &out) == SEL_NO_COLUMN);
+    column = tens();
+    IS(sel_filter(&column, &mask, &out) == SEL_NO_COLUMN);
+    DONE(sel_boolean_new(values, 1, 4, bits, 1, true, &mask));
+    if (column.at != NULL && mask.at != NULL) {
+        DONE(sel_filter(&column, &mask, &out));
+        IS(out.at == NULL || holds(&out, kept, 2));
+        IS(sel_filter(&column, &out, &mask) == SEL_OTHER_KIND || refused);
+        IS(sel_filter_bits(&column, values, 1, 3, &out) == SEL_OTHER_LENGTH);
+        IS(sel_filter_bits(&column, values, 0, 4, &out) == SEL_OTHER_LENGTH);
+        DONE(sel_boolean_new(values, 1, 3, bits, 1, true, &mask));
+        IS(sel_filter(&column, &mask, &out) == SEL_OTHER_LENGTH || refused);
+        uint32_t status = sel_filter_bits(&column, values, 1, 4, &out);
+        IS(done(status) && (status != SEL_DONE || holds(&out, by_bits, 3)));
+        IS(sel_len(&column) == 4);
+    }
+    sel_free(&column);
+    sel_free(&mask);
+    sel_free(&out);
+}
+
+static void test_takes(void) {
+    const uint32_t at[3] = {3, 9, 0};
+    const uint8_t bits[1] = {5};
+    sel_column column = tens(), indices = {0}, out = {0};
+    IS(sel_take(&column, &indices, &out) == SEL_NO_COLUMN);
+    IS(sel_take_rows(&indices, at, 1, bits, 0, false, &out) == SEL_NO_COLUMN);
+    DONE(sel_uint32_new(at, 3, bits, 1, true, &indices));
+    if (column.at != NULL && indices.at != NULL) {
+        int64_t read[3];
+        uint32_t status = sel_take(&column, &indices, &out);
+        IS(done(status));
+        if (status == SEL_DONE) {
+            IS(sel_len(&out) == 3 && sel_null_count(&out) == 1);
+            IS(sel_int64_values(&out, read, 3) == SEL_DONE && read[0] == 40 && read[2] == 10);
+        }
+        DONE(sel_uint32_new(at, 3, no_bits, 0, false, &indices));
+        IS(sel_take(&column, &indices, &out) == SEL_OUT_OF_BOUNDS || refused);
+        DONE(sel_share(&column, &indices));
+        IS(sel_take(&column, &indices, &out) == SEL_OTHER_KIND || refused);
+        status = sel_take_rows(&column, at, 3, bits, 1, true, &out);
+        IS(done(status) && (status != SEL_DONE || (sel_len(&out) == 3 && sel_null_count(&out) == 1)));
+        IS(sel_take_rows(&column, at, 3, bits, 0, true, &out) == SEL_VALIDITY_LENGTH || refused);
+        IS(sel_take_rows(&column, at, 2, bits, 0, false, &out) == SEL_OUT_OF_BOUNDS || refused);
+    }
+    sel_free(&column);
+    sel_free(&indices);
+    sel_free(&out);
+}
+
+/* ---- nested ---- */
+
+static void test_bytes(void) {
+    const int64_t offsets[4] = {0, 1, 1, 3}, falls[2] = {2, 1}, negative[2] = {-1, 1}, far[2] = {0, 4};
+    const uint8_t text[3] = {'a', 'b', 'c'}, bits[1] = {5};
+    sel_column column = {0};
+    IS(sel_binary_new(offsets, 0, text, 3, no_bits, 0, false, &column) == SEL_OFFSET_COUNT || refused);
+    IS(sel_binary_new(negative, 2, text, 3, no_bits, 0, false, &column) == SEL_OFFSET_NEGATIVE || refused);
+    IS(sel_binary_new(falls, 2, text, 3, no_bits, 0, false, &column) == SEL_OFFSET_ORDER || refused);
+    IS(sel_binary_new(far, 2, text, 3, no_bits, 0, false, &column) == SEL_OFFSET_RANGE || refused);
+    IS(sel_binary_new(offsets, 4, text, 3, no_bits, 0, true, &column) == SEL_VALIDITY_LENGTH || refused);
+    DONE(sel_binary_new(offsets, 4, text, 3, bits, 1, true, &column));
+    if (column.at != NULL) {
+        int64_t places[4] = {9, 9, 9, 9};
+        uint8_t read[3] = {0, 0, 0};
+        size_t len = 0;
+        IS(sel_kind(&column) == SEL_LARGE_BINARY && sel_len(&column) == 3 && sel_null_count(&column) == 1);
+        IS(sel_offsets(&column, places, 3) == SEL_OTHER_LENGTH);
+        IS(sel_offsets(&column, places, 4) == SEL_DONE && memcmp(places, offsets, sizeof offsets) == 0);
+        IS(sel_bytes_len(&column, &len) == SEL_DONE && len == 3);
+        IS(sel_bytes(&column, read, 2) == SEL_OTHER_LENGTH);
+        IS(sel_bytes(&column, read, 3) == SEL_DONE && memcmp(read, text, 3) == 0);
+        IS(sel_views(&column, &(sel_view){0, 0, 0, 0}, 1) == SEL_OTHER_KIND);
+    }
+    sel_free(&column);
+}
+
+static void test_lists(void) {
+    const int64_t offsets[3] = {0, 1, 4}, far[2] = {0, 5};
+    sel_column child = {0}, lists = {0}, units = {0};
+    bool lacks = false;
+    IS(sel_list_new(offsets, 3, no_bits, 0, false, &child, &lists) == SEL_NO_COLUMN);
+    IS(sel_index_is_oob(&child, 0, &lacks) == SEL_NO_COLUMN && sel_unit_list(&child, &lists) == SEL_NO_COLUMN);
+    child = tens();
+    if (child.at != NULL) {
+        IS(sel_index_is_oob(&child, 0, &lacks) == SEL_OTHER_KIND || refused);
+        DONE(sel_unit_list(&child, &units));
+        if (units.at != NULL) {
+            IS(sel_len(&units) == 4 && sel_kind(&units) == SEL_LARGE_LIST);
+            IS(done(sel_index_is_oob(&units, 1, &lacks)));
+            IS(lacks || refused);
+        }
+        IS(sel_list_new(far, 2, no_bits, 0, false, &child, &lists) == SEL_OFFSET_RANGE || refused);
+        IS(child.at == NULL);
+    }
+    child = tens();
+    if (child.at != NULL) {
+        DONE(sel_list_new(offsets, 3, no_bits, 0, false, &child, &lists));
+        IS(child.at == NULL);
+        IS(lists.at == NULL || (sel_len(&lists) == 2 && sel_kind(&lists) == SEL_LARGE_LIST));
+        if (lists.at != NULL) {
+            const int64_t all[4] = {10, 20, 30, 40};
+            int64_t places[3];
+            size_t width = 7;
+            IS(sel_offsets(&lists, places, 3) == SEL_DONE && memcmp(places, offsets, sizeof offsets) == 0);
+            IS(sel_bytes_len(&lists, &width) == SEL_OTHER_KIND && sel_bytes(&lists, (uint8_t *)places, 3) == SEL_OTHER_KIND);
+            IS(sel_width(&lists, &width) == SEL_OTHER_KIND && sel_field_count(&lists, &width) == SEL_OTHER_KIND && width == 7);
+            IS(sel_field(&lists, 0, &child) == SEL_OUT_OF_BOUNDS);
+            DONE(sel_child(&lists, &child));
+            IS(child.at == NULL || holds(&child, all, 4) || refused);
+            IS(child.at == NULL || sel_child(&child, &units) == SEL_OTHER_KIND);
+            sel_free(&child);
+        }
+    }
+    child = tens();
+    if (child.at != NULL) {
+        IS(sel_fixed_list_new(3, 2, no_bits, 0, false, &child, &lists) == SEL_CHILD_LENGTH || refused);
+        IS(child.at == NULL);
+    }
+    child = tens();
+    if (child.at != NULL) {
+        uint32_t status = sel_fixed_list_new(2, 2, no_bits, 0, false, &child, &lists);
+        IS(done(status) && (status != SEL_DONE || (sel_len(&lists) == 2 && sel_kind(&lists) == SEL_FIXED_SIZE_LIST)));
+    }
+    if (lists.at != NULL && sel_kind(&lists) == SEL_FIXED_SIZE_LIST) {
+        size_t width = 0;
+        IS(sel_width(&lists, &width) == SEL_DONE && width == 2);
+        IS(sel_offsets(&lists, (int64_t[3]){0, 0, 0}, 3) == SEL_OTHER_KIND);
+    }
+    IS(sel_fixed_list_new(2, 2, no_bits, 0, false, &child, &lists) == SEL_NO_COLUMN);
+    sel_free(&lists);
+    sel_free(&units);
+}
+
+static void test_structs(void) {
+    const int64_t all[4] = {10, 20, 30, 40};
+    const uint8_t bits[1] = {13};
+    sel_column fields[2] = {{0}, {0}}, column = {0}, field = {0};
+    fields[0] = tens();
+    IS(sel_struct_new(4, no_bits, 0, false, fields, 2, &column) == SEL_NO_COLUMN || refused);
+    sel_free(&fields[0]);
+    fields[0] = tens();
+    DONE(sel_null_new(4, &fields[1]));
+    if (fields[0].at != NULL && fields[1].at != NULL) {
+        uint32_t status = sel_struct_new(4, bits, 1, true, fields, 2, &column);
+        IS(done(status) && (status != SEL_DONE || (fields[0].at == NULL && fields[1].at == NULL)));
+        if (status == SEL_DONE) {
+            size_t count = 0;
+            IS(sel_kind(&column) == SEL_STRUCT && sel_len(&column) == 4 && sel_null_count(&column) == 1);
+            IS(sel_field_count(&column, &count) == SEL_DONE && count == 2);
+            IS(sel_field(&column, 2, &field) == SEL_OUT_OF_BOUNDS);
+            DONE(sel_field(&column, 0, &field));
+            IS(field.at == NULL || holds(&field, all, 4) || refused);
+        }
+    }
+    sel_free(&fields[0]);
+    sel_free(&fields[1]);
+    fields[0] = tens();
+    IS(sel_struct_new(3, no_bits, 0, false, fields, 1, &column) == SEL_FIELD_LENGTH || refused);
+    sel_free(&fields[0]);
+    sel_free(&field);
+    sel_free(&column);
+}
+
+/* ---- views ---- */
+
+/* The view of up to 12 bytes, and one of more of them in a data buffer. */
+static sel_view view_of(const char *text, uint32_t len, uint32_t offset) {
+    sel_view view = {len, 0, 0, 0};
+    if (len <= 12) {
+        memcpy(&view.prefix, text, len);
+    } else {
+        memcpy(&view.prefix, text, 4);
+        view.offset = offset;
+    }
+    return view;
+}
+
+static void test_views(void) {
+    const char *far = "..thirteen bytes and more";
+    const sel_slice buffers[1] = {{(const uint8_t *)far, 25}};
+    sel_view views[2] = {view_of("near", 4, 0), view_of(far + 2, 23, 2)}, read[2];
+    sel_column column = {0}, texts = {0};
+    size_t count = 9;
+    uint8_t bytes[25] = {0};
+    IS(sel_views(&column, read, 2) == SEL_NO_COLUMN && sel_buffer_count(&column, &count) == SEL_NO_COLUMN);
+    IS(sel_buffer_len(&column, 0, &count) == SEL_NO_COLUMN && sel_buffer(&column, 0, bytes, 25) == SEL_NO_COLUMN);
+    IS(sel_offsets(&column, (int64_t[1]){0}, 1) == SEL_NO_COLUMN && sel_bytes_len(&column, &count) == SEL_NO_COLUMN);
+    IS(sel_bytes(&column, bytes, 0) == SEL_NO_COLUMN && sel_child(&column, &texts) == SEL_NO_COLUMN);
+    IS(sel_width(&column, &count) == SEL_NO_COLUMN && sel_field_count(&column, &count) == SEL_NO_COLUMN);
+    IS(sel_field(&column, 0, &texts) == SEL_NO_COLUMN && count == 9);
+    DONE(sel_binview_new(views, 2, buffers, 1, no_bits, 0, false, &column));
+    DONE(sel_utf8view_new(views, 2, buffers, 1, no_bits, 0, false, &texts));
+    if (column.at != NULL) {
+        IS(sel_kind(&column) == SEL_BINARY_VIEW && sel_len(&column) == 2);
+        IS(sel_views(&column, read, 1) == SEL_OTHER_LENGTH);
+        IS(sel_views(&column, read, 2) == SEL_DONE && memcmp(read, views, sizeof views) == 0);
+        IS(sel_buffer_count(&column, &count) == SEL_DONE && count == 1);
+        IS(sel_buffer_len(&column, 1, &count) == SEL_OUT_OF_BOUNDS && sel_buffer(&column, 1, bytes, 25) == SEL_OUT_OF_BOUNDS);
+        IS(sel_buffer_len(&column, 0, &count) == SEL_DONE && count == 25);
+        IS(sel_buffer(&column, 0, bytes, 24) == SEL_OTHER_LENGTH);
+        IS(sel_buffer(&column, 0, bytes, 25) == SEL_DONE && memcmp(bytes, far, 25) == 0);
+        IS(sel_binary_new((int64_t[1]){0}, 1, bytes, 0, no_bits, 0, false, &column) == SEL_DONE || refused);
+    }
+    if (texts.at != NULL) {
+        IS(sel_kind(&texts) == SEL_UTF8_VIEW && sel_len(&texts) == 2);
+        IS(sel_views(&texts, read, 2) == SEL_DONE && memcmp(read, views, sizeof views) == 0);
+    }
+    views[1].offset = 3;
+    IS(sel_binview_new(views, 2, buffers, 1, no_bits, 0, false, &column) == SEL_VIEW_RANGE || refused);
+    views[1].offset = 1;
+    IS(sel_binview_new(views, 2, buffers, 1, no_bits, 0, false, &column) == SEL_VIEW_PREFIX || refused);
+    IS(sel_utf8view_new(views, 2, buffers, 1, no_bits, 0, true, &column) == SEL_VALIDITY_LENGTH || refused);
+    views[0] = view_of("\xFF", 1, 0);
+    IS(sel_utf8view_new(views, 1, buffers, 1, no_bits, 0, false, &column) == SEL_UTF8 || refused);
+    sel_free(&column);
+    sel_free(&texts);
+}
+
+static void (*const tests[])(void) = {
+    test_nulls, test_booleans, test_int8, test_int16, test_int32, test_int64, test_uint8, test_uint16, test_uint32,
+    test_uint64, test_whole, test_filters, test_takes, test_bytes, test_lists, test_structs, test_views,
+};
+
+int main(void) {
+    const size_t count = sizeof tests / sizeof tests[0];
+    long refusals = 0;
+    for (size_t i = 0; i < count; i += 1) {
+        tests[i]();
+        IS(blocks == 0);
+        /* again, with the first allocation refused, then the second, and so on */
+        for (long n = 0;; n += 1) {
+            until_refused = n;
+            refused = false;
+            tests[i]();
+            until_refused = -1;
+            IS(blocks == 0);
+            if (!refused) {
+                break;
+            }
+            refusals += 1;
+        }
+        refused = false;
+    }
+    printf("%zu tests, %ld refused allocations, %d failures\n", count, refusals, failures);
+    return failures == 0 ? 0 : 1;
+}

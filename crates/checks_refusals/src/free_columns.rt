@@ -1,0 +1,274 @@
+//! The calls on columns that take no memory, with every growth refused.
+
+use crate::kinds::{
+    KINDS, Kind, ROWS, block_array, block_entries, byte_view_array, failing_kind, list_array,
+    list_entries, made, number_array,
+};
+use crate::marks::{begins_free, ends_answered};
+use crate::same::{has_rows, is_column};
+use checks_columns::fixtures::{buffer, column, offsets, one_buffer, validity};
+use polars_compute::gather::{
+    idx_slice_in_bounds, indices_in_bounds, indices_in_bounds_of, picks_in_bounds,
+};
+use polars_compute::horizontal_flatten::flatten_is_safe;
+use polars_compute::propagate_dictionary::keys_in_bounds;
+use sel_arrow::array::Array;
+use sel_arrow::array_ref::ArrayRef;
+use sel_arrow::binary::BinaryArray;
+use sel_arrow::binview::BinaryViewArray;
+use sel_arrow::boolean::BooleanArray;
+use sel_arrow::column::Column;
+use sel_arrow::datatype::ArrowDataType;
+use sel_arrow::null::NullArray;
+use sel_arrow::primitive::PrimitiveArray;
+use sel_arrow::utf8view::Utf8ViewArray;
+use sel_arrow::view::View;
+use sel_bits::bitmap::Bitmap;
+use std::alloc::Global;
+use std::test::Fail;
+
+/// What a column tells of itself.
+fn tells(alloc: Global, kind: Kind, column: &ArrayRef) -> Result<bool, Fail> {
+    begins_free(alloc);
+    let len = column.len();
+    let is_empty = column.is_empty();
+    let nulls = column.null_count();
+    let has_nulls = column.has_nulls();
+    let has_validity = column.validity().is_some();
+    let is_same = column.same_dtype(column);
+    let is_null = column.has_dtype(&ArrowDataType::Null);
+    let is_formed = column.as_column().is_well_formed();
+    ends_answered(alloc);
+    let is_of_nulls = kind == Kind::Nulls;
+    let is_told = len == 5 && !is_empty && is_same && is_formed && has_nulls;
+    let are_told = nulls == if is_of_nulls { 5 } else { 1 };
+    let is_typed = is_null == is_of_nulls && has_validity != is_of_nulls;
+    Ok(is_told && are_told && is_typed && has_rows(alloc, column, kind, &ROWS)?)
+}
+
+#[test]
+fn no_memory_for_what_a_column_tells(rt: HostRuntime) -> Result<(), Fail> {
+    assert_eq!(rt; failing_kind(rt.alloc(), tells)?, None);
+    Ok(())
+}
+
+/// A column as one of its own kind, and that as one of any type.
+fn turned(column: ArrayRef, kind: Kind) -> Result<ArrayRef, ArrayRef> {
+    match kind {
+        Kind::Nulls => Ok(column.into_null()?.into_ref()),
+        Kind::Truths => Ok(column.into_boolean()?.into_ref()),
+        Kind::Int8 => Ok(column.into_primitive::<i8>()?.into_ref()),
+        Kind::Int16 => Ok(column.into_primitive::<i16>()?.into_ref()),
+        Kind::Int32 => Ok(column.into_primitive::<i32>()?.into_ref()),
+        Kind::Int64 => Ok(column.into_primitive::<i64>()?.into_ref()),
+        Kind::Int128 => Ok(column.into_primitive::<i128>()?.into_ref()),
+        Kind::UInt8 => Ok(column.into_primitive::<u8>()?.into_ref()),
+        Kind::UInt16 => Ok(column.into_primitive::<u16>()?.into_ref()),
+        Kind::UInt32 => Ok(column.into_primitive::<u32>()?.into_ref()),
+        Kind::UInt64 => Ok(column.into_primitive::<u64>()?.into_ref()),
+        Kind::UInt128 => Ok(column.into_primitive::<u128>()?.into_ref()),
+        Kind::Bytes => Ok(column.into_binary()?.into_ref()),
+        Kind::ByteViews => Ok(column.into_binview()?.into_ref()),
+        Kind::Texts => Ok(column.into_utf8view()?.into_ref()),
+        Kind::Lists => Ok(column.into_list()?.into_ref()),
+        Kind::Blocks | Kind::BlocksOfLists => Ok(column.into_fixed_size_list()?.into_ref()),
+        Kind::Tuples => Ok(column.into_struct()?.into_ref()),
+    }
+}
+
+fn turns(alloc: Global, kind: Kind) -> Result<bool, Fail> {
+    let column = made(alloc, kind, &ROWS)?;
+    begins_free(alloc);
+    let back = turned(column, kind);
+    ends_answered(alloc);
+    match back {
+        Ok(column) => is_column(alloc, column, kind, &ROWS),
+        Err(column) => {
+            drop(column);
+            Ok(false)
+        }
+    }
+}
+
+#[test]
+fn no_memory_for_another_view_of_a_column(rt: HostRuntime) -> Result<(), Fail> {
+    for kind in KINDS {
+        assert!(rt; turns(rt.alloc(), kind)?, "{kind:?}");
+    }
+    Ok(())
+}
+
+/// Whether columns of nulls, of truth values and of numbers are made, and their rows read.
+fn makes_flat(alloc: Global) -> Result<bool, Fail> {
+    let bits = Bitmap::from_bools(alloc, &[true, false])?;
+    let values = buffer(alloc, &[7i64, 8])?;
+    let valid = validity(alloc, &[true, false])?;
+    begins_free(alloc);
+    let nulls = NullArray::try_new(2);
+    let truths = BooleanArray::try_new(bits, None);
+    let numbers = PrimitiveArray::try_new(values, valid);
+    ends_answered(alloc);
+    let (nulls, truths, numbers) = (nulls?, truths?, numbers?);
+    if truths.len() != 2 || numbers.len() != 2 {
+        return Ok(false);
+    }
+    begins_free(alloc);
+    let first = (truths.get(0), truths.get(1));
+    let second = (numbers.get(0), numbers.get(1));
+    ends_answered(alloc);
+    Ok(nulls.len() == 2 && first == (Some(true), Some(false)) && second == (Some(7), None))
+}
+
+/// Whether a column of bytes is made, and its row read.
+fn makes_bytes(alloc: Global) -> Result<bool, Fail> {
+    let ends = offsets(alloc, &[0, 2])?;
+    let values = buffer(alloc, b"ab")?;
+    begins_free(alloc);
+    let bytes = BinaryArray::<i64>::try_new(ends, values, None);
+    ends_answered(alloc);
+    let bytes = bytes?;
+    if bytes.len() != 1 {
+        return Ok(false);
+    }
+    begins_free(alloc);
+    let row = bytes.get(0);
+    ends_answered(alloc);
+    Ok(row == Some(b"ab".as_slice()))
+}
+
+/// Whether a column of bytes that views name is made.
+fn makes_views(alloc: Global) -> Result<bool, Fail> {
+    let views = buffer(alloc, &[View::new_from_bytes(b"ab", 0, 0)])?;
+    let data = one_buffer(alloc, b"")?;
+    begins_free(alloc);
+    let made = BinaryViewArray::try_new(views, data, None);
+    ends_answered(alloc);
+    Ok(made?.len() == 1)
+}
+
+/// The same of texts.
+fn makes_texts(alloc: Global) -> Result<bool, Fail> {
+    let views = buffer(alloc, &[View::new_from_bytes(b"ab", 0, 0)])?;
+    let data = one_buffer(alloc, b"")?;
+    begins_free(alloc);
+    let made = Utf8ViewArray::try_new(views, data, None);
+    ends_answered(alloc);
+    Ok(made?.len() == 1)
+}
+
+#[test]
+fn no_memory_for_columns_of_parts(rt: HostRuntime) -> Result<(), Fail> {
+    assert!(rt; makes_flat(rt.alloc())?);
+    assert!(rt; makes_bytes(rt.alloc())?);
+    assert!(rt; makes_views(rt.alloc())?);
+    assert!(rt; makes_texts(rt.alloc())?);
+    Ok(())
+}
+
+/// Whether the offered tests on indices answer, and rightly.
+fn tests_indices(alloc: Global, wide: &PrimitiveArray<i64>) -> Result<bool, Fail> {
+    let places = column(alloc, &[Some(4u32), None], 9)?;
+    begins_free(alloc);
+    let inside = indices_in_bounds(&places, 5) && keys_in_bounds(&places, 5);
+    let outside = indices_in_bounds(&places, 4) || keys_in_bounds(&places, 4);
+    let slices = idx_slice_in_bounds(&[4], 5) && !idx_slice_in_bounds(&[4], 4);
+    let others = indices_in_bounds_of(wide, 8) && !indices_in_bounds_of(wide, 7);
+    ends_answered(alloc);
+    Ok(inside && !outside && slices && others)
+}
+
+/// Whether the offered tests on several columns answer, and rightly.
+fn tests_columns(alloc: Global, columns: &[ArrayRef], source: &Column) -> bool {
+    begins_free(alloc);
+    let fits = flatten_is_safe(columns, &[1], 5) && !flatten_is_safe(columns, &[2], 5);
+    let inside = picks_in_bounds(&[source], &[Some((0, 4))]);
+    let outside = picks_in_bounds(&[source], &[Some((0, 5))]);
+    ends_answered(alloc);
+    fits && inside && !outside
+}
+
+#[test]
+fn no_memory_for_tests_of_indices(rt: HostRuntime) -> Result<(), Fail> {
+    let wide = number_array::<i64>(rt.alloc(), &ROWS)?;
+    assert!(rt; tests_indices(rt.alloc(), &wide)?);
+    Ok(())
+}
+
+/// One column of numbers.
+fn one_column(alloc: Global) -> Result<Vec<ArrayRef>, Fail> {
+    let mut columns = Vec::with_capacity(alloc, 1)?;
+    columns.push(made(alloc, Kind::Int64, &ROWS)?)?;
+    Ok(columns)
+}
+
+fn tests_columns_of(alloc: Global, source: &Column) -> Result<bool, Fail> {
+    let columns = one_column(alloc)?;
+    let are_tested = tests_columns(alloc, &columns, source);
+    drop(columns);
+    Ok(are_tested)
+}
+
+#[test]
+fn no_memory_for_tests_of_columns(rt: HostRuntime) -> Result<(), Fail> {
+    let source = made(rt.alloc(), Kind::Int64, &ROWS)?;
+    let are_tested = tests_columns_of(rt.alloc(), source.as_column());
+    drop(source);
+    assert!(rt; are_tested?);
+    Ok(())
+}
+
+/// Whether the type of lists of numbers tells that it is narrow enough and that one list fits it.
+fn type_fits(alloc: Global, scalar: &ArrayRef) -> Result<bool, Fail> {
+    let dtype = ArrowDataType::LargeList(Box::new(alloc, ArrowDataType::Int64)?);
+    begins_free(alloc);
+    let fits = dtype.widths_fit() && dtype.scalar_fits(scalar);
+    ends_answered(alloc);
+    drop(dtype);
+    Ok(fits)
+}
+
+/// Whether lists, and their type, tell that one list fits them.
+fn lists_fit(alloc: Global, scalar: &ArrayRef) -> Result<bool, Fail> {
+    if !type_fits(alloc, scalar)? {
+        return Ok(false);
+    }
+    let lists = list_array(alloc, &ROWS)?;
+    begins_free(alloc);
+    let fits = lists.scalar_fits(scalar);
+    ends_answered(alloc);
+    drop(lists);
+    Ok(fits)
+}
+
+/// The same of lists of one length.
+fn blocks_fit(alloc: Global, scalar: &ArrayRef) -> Result<bool, Fail> {
+    let blocks = block_array(alloc, &ROWS)?;
+    begins_free(alloc);
+    let fits = blocks.scalar_fits(scalar);
+    ends_answered(alloc);
+    drop(blocks);
+    Ok(fits)
+}
+
+#[test]
+fn no_memory_for_tests_of_scalars(rt: HostRuntime) -> Result<(), Fail> {
+    let scalar = list_entries(rt.alloc(), 3)?;
+    let are_lists = lists_fit(rt.alloc(), &scalar);
+    drop(scalar);
+    assert!(rt; are_lists?);
+    let scalar = block_entries(rt.alloc(), 3)?;
+    let are_blocks = blocks_fit(rt.alloc(), &scalar);
+    drop(scalar);
+    assert!(rt; are_blocks?);
+    Ok(())
+}
+
+#[test]
+fn no_memory_for_a_test_of_bytes(rt: HostRuntime) -> Result<(), Fail> {
+    let bytes = byte_view_array(rt.alloc(), &ROWS)?;
+    begins_free(rt.alloc());
+    let is_utf8 = bytes.is_utf8();
+    ends_answered(rt.alloc());
+    assert!(rt; is_utf8);
+    Ok(())
+}

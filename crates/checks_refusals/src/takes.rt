@@ -1,0 +1,185 @@
+//! The takes of columns without children, beneath the take of any column.
+
+use crate::bitmaps::are_bits;
+use crate::kinds::{Kind, ROWS, byte_array, number_array, truth_array};
+use crate::marks::{begins, ends_by};
+use crate::same::{is_answer_of, still_has};
+use checks_columns::fixtures::{column, has_bits, has_bytes};
+use polars_compute::gather::bitmap::{take_bitmap_nulls_unchecked, take_bitmap_unchecked};
+use polars_compute::gather::primitive::take_primitive_unchecked;
+use polars_compute::gather::{
+    binary, blocks_in_bounds, boolean, idx_slice_in_bounds, indices_in_bounds,
+    indices_in_bounds_of, take_blocks,
+};
+use sel_arrow::array::Array;
+use sel_arrow::binary::BinaryArray;
+use sel_arrow::boolean::BooleanArray;
+use sel_arrow::primitive::{ArrowPrimitive, IdxArr};
+use sel_bits::bitmap::Bitmap;
+use sel_bits::block_copy::BlockCopy;
+use sel_bits::faults::{PolarsError, PolarsResult};
+use sel_bits::native::{Index, Offset};
+use std::alloc::Global;
+use std::test::Fail;
+
+/// The indices of all takes here; none is null over the greatest number.
+fn indices(alloc: Global) -> Result<IdxArr, Fail> {
+    column(alloc, &[Some(4u32), None, Some(0), Some(1)], u32::MAX)
+}
+
+fn takes_truths(alloc: Global, values: &BooleanArray, places: &IdxArr) -> Result<bool, Fail> {
+    if !indices_in_bounds(places, values.len()) {
+        return Err(Fail::from("out of bounds"));
+    }
+    begins(alloc);
+    let answer = boolean::take_unchecked(alloc, values, places);
+    ends_by(alloc, &answer);
+    let is_so = is_answer_of(alloc, answer, Kind::Truths, &[Some(4), None, Some(1), None])?;
+    Ok(is_so && still_has(alloc, values, Kind::Truths, &ROWS)?)
+}
+
+#[test]
+fn take_of_truth_values(rt: HostRuntime) -> Result<(), Fail> {
+    let values = truth_array(rt.alloc(), &ROWS)?;
+    assert!(rt; takes_truths(rt.alloc(), &values, &indices(rt.alloc())?)?);
+    Ok(())
+}
+
+fn takes_numbers<T: ArrowPrimitive + Drop>(
+    alloc: Global,
+    kind: Kind,
+    places: &IdxArr,
+) -> Result<bool, Fail> {
+    let values = number_array::<T>(alloc, &ROWS)?;
+    if !indices_in_bounds(places, values.len()) {
+        return Err(Fail::from("out of bounds"));
+    }
+    begins(alloc);
+    let answer = take_primitive_unchecked(alloc, &values, places);
+    ends_by(alloc, &answer);
+    let is_so = is_answer_of(alloc, answer, kind, &[Some(4), None, Some(1), None])?;
+    Ok(is_so && still_has(alloc, &values, kind, &ROWS)?)
+}
+
+/// Of numbers of every type.
+fn takes_all_numbers(alloc: Global, places: &IdxArr) -> Result<bool, Fail> {
+    Ok(
+        takes_numbers::<i8>(alloc, Kind::Int8, places)?
+            && takes_numbers::<i16>(alloc, Kind::Int16, places)?
+            && takes_numbers::<i32>(alloc, Kind::Int32, places)?
+            && takes_numbers::<i64>(alloc, Kind::Int64, places)?
+            && takes_numbers::<i128>(alloc, Kind::Int128, places)?
+            && takes_numbers::<u8>(alloc, Kind::UInt8, places)?
+            && takes_numbers::<u16>(alloc, Kind::UInt16, places)?
+            && takes_numbers::<u32>(alloc, Kind::UInt32, places)?
+            && takes_numbers::<u64>(alloc, Kind::UInt64, places)?
+            && takes_numbers::<u128>(alloc, Kind::UInt128, places)?,
+    )
+}
+
+#[test]
+fn take_of_numbers_of_every_type(rt: HostRuntime) -> Result<(), Fail> {
+    let places = indices(rt.alloc())?;
+    assert!(rt; takes_all_numbers(rt.alloc(), &places)?);
+    Ok(())
+}
+
+/// Whether a call answered these bytes, or want of memory.
+fn are_bytes<O: Offset + Drop>(
+    answer: PolarsResult<BinaryArray<O>>,
+    rows: &[Option<&[u8]>],
+) -> bool {
+    match answer {
+        Ok(taken) => has_bytes(&taken, rows),
+        Err(fault) => fault == PolarsError::OutOfMemory,
+    }
+}
+
+fn takes_bytes<O: Offset + Drop, I: Index + Drop>(alloc: Global) -> Result<bool, Fail> {
+    let values = byte_array::<O>(alloc, &[Some(2), None, Some(1)])?;
+    let places = number_array::<I>(alloc, &[Some(2), None, Some(0), Some(1)])?;
+    if !indices_in_bounds_of(&places, values.len()) {
+        return Err(Fail::from("out of bounds"));
+    }
+    begins(alloc);
+    let answer = binary::take_unchecked(alloc, &values, &places);
+    ends_by(alloc, &answer);
+    let are_taken = are_bytes(answer, &[Some(&[1]), None, Some(&[2, 2]), None]);
+    Ok(are_taken && has_bytes(&values, &[Some(&[2, 2]), None, Some(&[1])]))
+}
+
+/// By indices of every type.
+fn takes_bytes_by_all<O: Offset + Drop>(alloc: Global) -> Result<bool, Fail> {
+    Ok(
+        takes_bytes::<O, i8>(alloc)?
+            && takes_bytes::<O, i16>(alloc)?
+            && takes_bytes::<O, i32>(alloc)?
+            && takes_bytes::<O, i64>(alloc)?
+            && takes_bytes::<O, u8>(alloc)?
+            && takes_bytes::<O, u16>(alloc)?
+            && takes_bytes::<O, u32>(alloc)?
+            && takes_bytes::<O, u64>(alloc)?,
+    )
+}
+
+#[test]
+fn take_of_bytes_by_indices_of_every_type(rt: HostRuntime) -> Result<(), Fail> {
+    assert!(rt; takes_bytes_by_all::<i32>(rt.alloc())?);
+    assert!(rt; takes_bytes_by_all::<i64>(rt.alloc())?);
+    Ok(())
+}
+
+const BITS: [bool; 5] = [true, true, false, true, false];
+
+fn takes_bits(alloc: Global, values: &Bitmap, places: &IdxArr) -> Result<bool, Fail> {
+    if !indices_in_bounds(places, values.len()) || !idx_slice_in_bounds(&[4, 0, 1], values.len()) {
+        return Err(Fail::from("out of bounds"));
+    }
+    begins(alloc);
+    let answer = take_bitmap_unchecked(alloc, values, &[4, 0, 1]);
+    ends_by(alloc, &answer);
+    begins(alloc);
+    let others = take_bitmap_nulls_unchecked(alloc, values, places);
+    ends_by(alloc, &others);
+    let are_taken = are_bits(answer, &[false, true, true]);
+    Ok(are_taken && are_bits(others, &[false, true, true, true]) && has_bits(values, &BITS))
+}
+
+#[test]
+fn take_of_bits(rt: HostRuntime) -> Result<(), Fail> {
+    let values = Bitmap::from_bools(rt.alloc(), &BITS)?;
+    assert!(rt; takes_bits(rt.alloc(), &values, &indices(rt.alloc())?)?);
+    Ok(())
+}
+
+/// What the take of blocks below gives.
+const ITEMS: [i64; 6] = [4, 5, 6, 0, 0, 0];
+
+/// Whether blocks of a source are copied, or a beginning of them where memory was wanting.
+fn takes_blocks(alloc: Global) -> Result<bool, Fail> {
+    let source = [1i64, 2, 3, 4, 5, 6];
+    let places = column(alloc, &[Some(1u32), None], 9)?;
+    if !blocks_in_bounds(&places, 3, source.len()) {
+        return Err(Fail::from("out of bounds"));
+    }
+    let mut out = BlockCopy::new(alloc, source.as_slice());
+    begins(alloc);
+    let answer = take_blocks(&mut out, 3, &places, 0);
+    ends_by(alloc, &answer);
+    let items = out.into_vec();
+    Ok(match answer {
+        Ok(()) => items.as_slice() == ITEMS.as_slice(),
+        Err(fault) => fault == PolarsError::OutOfMemory && begins_items(&items),
+    })
+}
+
+/// Whether these are fewer items, as those above begin.
+fn begins_items(items: &[i64]) -> bool {
+    items.len() < ITEMS.len() && items == &ITEMS[..items.len()]
+}
+
+#[test]
+fn take_of_blocks(rt: HostRuntime) -> Result<(), Fail> {
+    assert!(rt; takes_blocks(rt.alloc())?);
+    Ok(())
+}

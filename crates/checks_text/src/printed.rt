@@ -1,0 +1,161 @@
+//! Columns as texts, beside texts written by hand.
+
+use crate::made::{blocks, bytes, lists, pairs, texts, units, views};
+use checks_columns::fixtures::{column, nulls, number_column, truths};
+use sel_arrow::array::Array;
+use sel_arrow::array_ref::ArrayRef;
+use sel_arrow::binview::bytes_at;
+use sel_arrow::view::View;
+use sel_text::print::{print_rows, row_at};
+use std::alloc::Global;
+use std::test::Fail;
+
+/// Whether a column that is needed no more has this text.
+fn prints(alloc: Global, column: ArrayRef, text: &str) -> Result<bool, Fail> {
+    let printed = print_rows(alloc, column.as_column());
+    drop(column);
+    Ok(printed?.as_str() == text)
+}
+
+#[test]
+fn numbers_and_truth_values(rt: HostRuntime) -> Result<(), Fail> {
+    let alloc = rt.alloc();
+    let numbers = column(alloc, &[Some(1i64), None, Some(-3)], 7)?;
+    assert!(rt; prints(alloc, numbers.into_ref(), "[1,null,-3]")?);
+    let least = column(alloc, &[Some(i128::MIN), Some(i128::MAX)], 7)?;
+    assert!(rt;
+        prints(
+            alloc,
+            least.into_ref(),
+            "[-170141183460469231731687303715884105728,170141183460469231731687303715884105727]"
+        )?
+    );
+    let greatest = column(alloc, &[Some(u128::MAX)], 7)?;
+    assert!(rt;
+        prints(
+            alloc,
+            greatest.into_ref(),
+            "[340282366920938463463374607431768211455]"
+        )?
+    );
+    let truths = truths(alloc, &[true, true, false], &[true, false, true])?;
+    assert!(rt; prints(alloc, truths.into_ref(), "[true,null,false]")?);
+    assert!(rt; prints(alloc, nulls(2)?, "[null,null]")?);
+    assert!(rt; prints(alloc, nulls(0)?, "[]")?);
+    Ok(())
+}
+
+#[test]
+fn bytes_and_texts(rt: HostRuntime) -> Result<(), Fail> {
+    let alloc = rt.alloc();
+    let pieces = bytes(alloc, &[0, 2, 3, 3], &[0, 255, 7], &[true, false, true])?;
+    assert!(rt; prints(alloc, pieces, "[h\"00ff\",null,h\"\"]")?);
+    let views = views(
+        alloc,
+        &[
+            (&[171, 1], 0),
+            (&[1, 2, 3, 4, 5, 6, 7, 8, 9, 10, 11, 12, 13], 1),
+        ],
+        &[0, 1, 2, 3, 4, 5, 6, 7, 8, 9, 10, 11, 12, 13],
+        &[true, true],
+    )?;
+    assert!(rt;
+        prints(
+            alloc,
+            views.into_ref(),
+            "[h\"ab01\",h\"0102030405060708090a0b0c0d\"]"
+        )?
+    );
+    let plain = texts(alloc, &["a", "x\"y\n", "z"], &[], &[true, true, false])?;
+    assert!(rt; prints(alloc, plain, "[\"a\",\"x\\\"y\\n\",null]")?);
+    let odd = texts(
+        alloc,
+        &["\\\r\t\u{8}\u{c}", "\0\u{1f} \u{7f}", "é€😀"],
+        &[],
+        &[true, true, true],
+    )?;
+    assert!(rt;
+        prints(
+            alloc,
+            odd,
+            "[\"\\\\\\r\\t\\b\\f\",\"\\u0000\\u001f \u{7f}\",\"é€😀\"]"
+        )?
+    );
+    Ok(())
+}
+
+#[test]
+fn lists_three_deep(rt: HostRuntime) -> Result<(), Fail> {
+    let alloc = rt.alloc();
+    let numbers = number_column(alloc, &[Some(1), None, Some(3)])?;
+    let inner = lists(alloc, &[0, 1, 1, 2, 3], numbers, &[true, false, true, true])?;
+    let outer = lists(alloc, &[0, 3, 3, 4], inner, &[true, true, false])?;
+    assert!(rt; prints(alloc, outer, "[[[1],null,[null]],[],null]")?);
+    let truths = truths(
+        alloc,
+        &[true, false, true, false],
+        &[true, true, false, true],
+    )?;
+    let pairs = blocks(alloc, 2, truths.into_ref(), &[true, true])?;
+    let listed = lists(alloc, &[0, 0, 2], pairs, &[true, true])?;
+    assert!(rt; prints(alloc, listed, "[[],[[true,false],[null,false]]]")?);
+    Ok(())
+}
+
+#[test]
+fn blocks_three_deep(rt: HostRuntime) -> Result<(), Fail> {
+    let alloc = rt.alloc();
+    let pieces = bytes(
+        alloc,
+        &[0, 1, 3, 3, 4],
+        &[1, 2, 3, 255],
+        &[true, true, true, false],
+    )?;
+    let inner = blocks(alloc, 1, pieces, &[true, true, false, true])?;
+    let outer = blocks(alloc, 2, inner, &[true, true])?;
+    assert!(rt; prints(alloc, outer, "[[[h\"01\"],[h\"0203\"]],[null,[null]]]")?);
+    let empty = blocks(alloc, 0, nulls(0)?, &[true, false])?;
+    assert!(rt; prints(alloc, empty, "[[],null]")?);
+    Ok(())
+}
+
+#[test]
+fn tuples_three_deep(rt: HostRuntime) -> Result<(), Fail> {
+    let alloc = rt.alloc();
+    let words = texts(alloc, &["a,b", "(", ")"], &[], &[true, true, true])?;
+    let listed = lists(alloc, &[0, 2, 3], words, &[true, true])?;
+    let numbers = column(alloc, &[Some(7u8), Some(9)], 1)?;
+    let inner = pairs(alloc, numbers.into_ref(), listed, &[true, false])?;
+    let outer = pairs(alloc, inner, units(alloc, &[false, true])?, &[true, true])?;
+    assert!(rt; prints(alloc, outer, "[((7,[\"a,b\",\"(\"]),null),(null,())]")?);
+    Ok(())
+}
+
+/// The text of a row of a column that is needed no more.
+fn row_prints(alloc: Global, column: ArrayRef, i: usize, text: &str) -> Result<bool, Fail> {
+    if i >= column.len() {
+        return Err(Fail::from("out of bounds"));
+    }
+    let printed = row_at(alloc, column.as_column(), i);
+    drop(column);
+    Ok(printed?.as_str() == text)
+}
+
+#[test]
+fn one_row(rt: HostRuntime) -> Result<(), Fail> {
+    let alloc = rt.alloc();
+    let numbers = number_column(alloc, &[Some(1), None, Some(-3)])?;
+    let listed = lists(alloc, &[0, 1, 3], numbers, &[true, true])?;
+    assert!(rt; row_prints(alloc, listed, 1, "[null,-3]")?);
+    let numbers = number_column(alloc, &[Some(1), None])?;
+    assert!(rt; row_prints(alloc, numbers, 1, "null")?);
+    Ok(())
+}
+
+#[test]
+fn bytes_of_a_view_without_a_copy(rt: HostRuntime) -> Result<(), Fail> {
+    let view = View::new_from_bytes(b"hello", 0, 0);
+    let space = view.inline_space();
+    assert!(rt; bytes_at(&[], view, &space) == b"hello".as_slice());
+    Ok(())
+}

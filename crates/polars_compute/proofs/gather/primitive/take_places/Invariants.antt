@@ -1,0 +1,11 @@
+-- What was taken so far, and that there is room for the rest.
+use Rattle.std.proofs.Common.{◌≡◌, ◌≤◌, length, map, slice_index_or, take}
+use Rattle.std.specs.Vec.{vec_len, vec_capacity}
+use Rattle.polars_compute.proofs.gather.primitive.take_places.Given as goal
+
+abbrev pub invariant-loop-place : goal.invariant-loop-place
+invariant-loop-place g l = record {
+  items : l.taken.items ≡ map (λ place. slice_index_or l.values place l.fn.filler) (take l.place-index l.places);
+  count : vec_len l.taken ≡ l.place-index;
+  room : length l.places ≤ vec_capacity l.taken;
+}

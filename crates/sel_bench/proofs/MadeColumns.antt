@@ -1,0 +1,79 @@
+-- Parts that were read break no rule of the makers.
+use Rattle.std.proofs.Common.{◌≡◌, ◌≤◌, ℕ, ◌*◌, Bool, true, false, List, [], ◌∷◌, length, map, Option, Some, None, arith, refl, ap, sym, ◌∙◌}
+use Rattle.std.specs.Prelude.{IsTrue, not, nat_lt, ◌&&◌, ◌==◌}
+use Rattle.std.proofs.lemmas.Bool.Decides.{nat_tests}
+use Rattle.std.proofs.lemmas.List.{length-map}
+use Rattle.sel_bits.specs.Bits.{Bits}
+use Rattle.sel_bits.specs.Faults.{first_broken, IsFault, IsFaultOrMemory}
+use Rattle.sel_bits.specs.declared.faults.MakeError.{MakeError}
+use Rattle.sel_bits.specs.declared.faults.MakeError.TheVariants.{Malformed as Broken, OutOfMemory as WantOfMemory}
+use Rattle.sel_bits.specs.declared.faults.Malformed.{Malformed}
+use Rattle.sel_bits.specs.declared.faults.Malformed.TheVariants.{ViewRange, ViewPrefix}
+use Rattle.sel_arrow.specs.Makers.{flat_fault, list_fault, block_fault, views_fault, utf8view_fault}
+use Rattle.sel_arrow.specs.Masked.{hidden, too_many}
+use Rattle.sel_arrow.specs.Pieces.{rows_between, last_offset}
+use Rattle.sel_arrow.specs.Texts.{all_text}
+use Rattle.sel_arrow.specs.Value.{Value, is_valid, validities}
+use Rattle.sel_arrow.specs.Views.{all_placed, has_prefix, is_in_range, is_placed, view_value}
+use Rattle.sel_arrow.specs.declared.view.View.{View}
+use Rattle.sel_arrow.proofs.Lists.{and_first, and_second}
+use Rattle.sel_runs.specs.Children.{joined_items}
+use Rattle.sel_runs.specs.Ends.{item_ends}
+use Rattle.sel_runs.proofs.Rebuilt.{ends_between, ends_last}
+
+-- ---- errors where no rule is broken
+
+pub never_fault : (fault : Option Malformed) (e : MakeError) → fault ≡ None → IsFault fault e → ⊥
+never_fault fault (Broken rule) none is = absurd cc
+never_fault fault WantOfMemory none is = is
+
+pub memory_alone : (fault : Option Malformed) (e : MakeError) → fault ≡ None → IsFaultOrMemory fault e → e ≡ WantOfMemory
+memory_alone fault (Broken rule) none is = absurd cc
+memory_alone fault WantOfMemory none is = refl
+
+-- ---- leaves
+
+few : (n : ℕ) → n ≤ 4294967295 → too_many n ≡ false
+few n le = grind (arith, nat_tests, le)
+
+within : (n last : ℕ) → last ≤ n → nat_lt n last ≡ false
+within n last le = grind (arith, nat_tests, le)
+
+alike : (m n : ℕ) → m ≡ n → not (m == n) ≡ false
+alike m n e = grind (arith, nat_tests, e)
+
+pub flat_sound : (n : ℕ) (validity : Bits) → n ≤ 4294967295 → length validity.bits ≡ n → flat_fault n (Some validity) ≡ None
+flat_sound n validity le same = rw (few n le, alike (length validity.bits) n same) refl
+
+two_sound : (range prefix : Bool) → (range && prefix) ≡ true → first_broken ((ViewRange, not range) ∷ (ViewPrefix, not prefix) ∷ []) ≡ None
+two_sound true true h = refl
+two_sound true false h = absurd cc
+two_sound false prefix h = absurd cc
+
+views_sound : (buffers : List (List ℕ)) (views : List View) → IsTrue (all_placed buffers views) → views_fault buffers views ≡ None
+views_sound buffers [] placed = refl
+views_sound buffers (v ∷ views) placed =
+    rw (
+      two_sound (is_in_range buffers v) (has_prefix buffers v) (and_first (is_placed buffers v) (all_placed buffers views) placed),
+      views_sound buffers views (and_second (is_placed buffers v) (all_placed buffers views) placed),
+    ) refl
+
+pub texts_sound : (views : List View) (buffers : List (List ℕ)) (validity : Bits) (flags : List Bool) → length views ≤ 4294967295 → length buffers ≤ 4294967295 → validity.bits ≡ flags → length flags ≡ length views →
+    IsTrue (all_placed buffers views) → IsTrue (all_text (hidden flags (map (view_value buffers) views))) → utf8view_fault views buffers (Some validity) ≡ None
+texts_sound views buffers validity flags rows few_buffers shown same placed texts =
+    let long : length validity.bits ≡ length views = ap length shown ∙ same in
+    let utf8 : all_text (hidden validity.bits (map (view_value buffers) views)) ≡ true = ap (λ bs. all_text (hidden bs (map (view_value buffers) views))) shown ∙ texts in
+    rw (few (length views) rows, few (length buffers) few_buffers, alike (length validity.bits) (length views) long, views_sound buffers views placed, utf8) refl
+
+-- ---- columns with children
+
+pub list_sound : (read : List Value) (offsets : List ℕ) (n : ℕ) (validity : Bits) → offsets ≡ 0 ∷ item_ends 0 read → n ≡ length (joined_items 0 read) → validity.bits ≡ validities read → length read ≤ 4294967295 →
+    list_fault offsets n (Some validity) ≡ None
+list_sound read offsets n validity ends count valid le =
+    let between : rows_between offsets ≡ length read = ap rows_between ends ∙ ends_between read in
+    let last : last_offset offsets ≡ length (joined_items 0 read) = ap last_offset ends ∙ ends_last read in
+    let long : length validity.bits ≡ rows_between offsets = ap length valid ∙ length-map read is_valid ∙ sym between in
+    rw (few (rows_between offsets) (omega (arith, between, le)), within n (last_offset offsets) (omega (arith, last, count)), alike (length validity.bits) (rows_between offsets) long) refl
+
+pub block_sound : (w len n : ℕ) (validity : Bits) → len ≤ 4294967295 → w ≤ 4294967295 → n ≡ len * w → length validity.bits ≡ len → block_fault w len n (Some validity) ≡ None
+block_sound w len n validity rows narrow fills long = rw (few len rows, few w narrow, alike n (len * w) fills, alike (length validity.bits) len long) refl

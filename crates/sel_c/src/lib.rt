@@ -1,0 +1,13 @@
+//! The calls of the library for C, and for all that can call C.
+#![tactic(auto)]
+
+mod children;
+mod filters;
+mod lists;
+mod makers;
+mod nested_makers;
+mod nested_readers;
+mod readers;
+mod takes;
+mod views;
+mod whole;

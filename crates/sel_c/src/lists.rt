@@ -1,0 +1,75 @@
+//! Elements of lists.
+
+ghost use Rattle.std.specs.Prelude.{◌≡◌, ◌≢◌, IsTrue};
+ghost use Rattle.sel_arrow.specs.Rows.{rows, type_of};
+ghost use Rattle.sel_arrow.specs.Shape.{of_large_list, is_list_shape};
+ghost use Rattle.sel_handle.specs.Status.{done, no_column, other_kind, held_rows, held_type, Demands, HasColumn, Makes};
+ghost use Rattle.sel_sublists.specs.Lists.{oob, unit_lists};
+
+use sel_arrow::array::Array;
+use sel_arrow::array_ref::ArrayRef;
+use sel_handle::handle::Handle;
+use sel_handle::status::{DONE, NO_COLUMN, NO_MEMORY, OTHER_KIND, put};
+use sel_sublists::sublist::list::{array_to_unit_list, index_is_oob};
+use std::alloc::Global;
+
+/// Writes whether the index has no place in some list that is not null. SEL_NO_COLUMN: `of` has no column;
+/// SEL_OTHER_KIND: it is not of lists between offsets.
+#[unsafe(no_mangle)]
+pub extern "C" fn sel_index_is_oob(
+    alloc: Global,
+    of: &mut Handle,
+    index: i64,
+    out: &mut bool,
+) -> u32
+    ensures told { result ≡ done → out.new ≡ oob (held_rows of.old.tree) index }
+    ensures column { Demands result no_column (HasColumn of.old.tree) }
+    ensures kind { Demands result other_kind (IsTrue (is_list_shape (held_type of.old.tree))) }
+    ensures unchanged { of.new.tree ≡ of.old.tree }
+{
+    let Some(column) = of.take(alloc) else {
+        return NO_COLUMN;
+    };
+    let status = index_is_oob_into(alloc, &column, index, out);
+    *of = Handle::of(column);
+    status
+}
+
+fn index_is_oob_into(alloc: Global, column: &ArrayRef, index: i64, out: &mut bool) -> u32
+    ensures told { result ≡ done → out.new ≡ oob (rows column.now.column) index }
+    ensures column { result ≢ no_column }
+    ensures kind { Demands result other_kind (IsTrue (is_list_shape (type_of column.now.column))) }
+{
+    let Ok(copy) = column.try_clone(alloc) else {
+        return NO_MEMORY;
+    };
+    let Ok(lists) = copy.into_list() else {
+        return OTHER_KIND;
+    };
+    *out = index_is_oob(&lists, index);
+    DONE
+}
+
+/// Makes the column whose row k is the list of row k alone. SEL_NO_COLUMN: `of` has no column.
+#[unsafe(no_mangle)]
+pub extern "C" fn sel_unit_list(alloc: Global, of: &mut Handle, out: &mut Handle) -> u32
+    ensures rows { Makes result out.old.tree out.new.tree
+        (λ made. rows made.column ≡ unit_lists (held_rows of.old.tree)) }
+    ensures dtype { Makes result out.old.tree out.new.tree
+        (λ made. type_of made.column ≡ of_large_list (held_type of.old.tree)) }
+    ensures column { Demands result no_column (HasColumn of.old.tree) }
+    ensures unchanged { of.new.tree ≡ of.old.tree }
+{
+    let Some(column) = of.take(alloc) else {
+        return NO_COLUMN;
+    };
+    let copy = column.try_clone(alloc);
+    *of = Handle::of(column);
+    let Ok(copy) = copy else {
+        return NO_MEMORY;
+    };
+    match array_to_unit_list(alloc, copy) {
+        Ok(lists) => put(alloc, lists.into_ref(), out),
+        Err(_) => NO_MEMORY,
+    }
+}

@@ -1,0 +1,235 @@
+//! Columns made of slices, which are copied.
+
+ghost use Rattle.std.specs.Prelude.{◌≡◌, ◌≤◌, ◌*◌, length, pos, replicate};
+ghost use Rattle.sel_bits.specs.Bits.{bits_from};
+ghost use Rattle.sel_arrow.specs.Makers.{null_fault};
+ghost use Rattle.sel_arrow.specs.Masked.{number_rows, truth_rows};
+ghost use Rattle.sel_arrow.specs.Rows.{rows, type_of};
+ghost use Rattle.sel_arrow.specs.Shape.{of_null, of_boolean, of_int8, of_int16, of_int32, of_int64, of_uint8, of_uint16, of_uint32, of_uint64};
+ghost use Rattle.sel_arrow.specs.Value.{Null};
+ghost use Rattle.sel_handle.specs.Inputs.{validity_in, flat_rules};
+ghost use Rattle.sel_handle.specs.Status.{other_length, Demands, Makes, Tells};
+
+use sel_arrow::array::Array;
+use sel_arrow::null::NullArray;
+use sel_handle::handle::Handle;
+use sel_handle::inputs::{booleans_of, numbers_of};
+use sel_handle::status::{OTHER_LENGTH, put, status_of_maker};
+use std::alloc::Global;
+
+/// Makes a column of `len` nulls. SEL_TOO_MANY_ROWS: more than 4,294,967,295.
+#[unsafe(no_mangle)]
+pub extern "C" fn sel_null_new(alloc: Global, len: usize, out: &mut Handle) -> u32
+    ensures rows { Makes result out.old.tree out.new.tree
+        (λ made. rows made.column ≡ replicate len Null) }
+    ensures dtype { Makes result out.old.tree out.new.tree (λ made. type_of made.column ≡ of_null) }
+    ensures status { Tells result (null_fault len) }
+{
+    match NullArray::try_new(len) {
+        Ok(array) => put(alloc, array.into_ref(), out),
+        Err(fault) => status_of_maker(fault),
+    }
+}
+
+/// Makes the column of `len` truth values, packed in `values`. SEL_OTHER_LENGTH: fewer bytes than `len` bits need;
+/// SEL_TOO_MANY_ROWS: more than 4,294,967,295 rows; SEL_VALIDITY_LENGTH: fewer bytes of validity than the rows need.
+#[unsafe(no_mangle)]
+pub extern "C" fn sel_boolean_new(
+    alloc: Global,
+    values: &[u8],
+    len: usize,
+    bits: &[u8],
+    has_bits: bool,
+    out: &mut Handle,
+) -> u32
+    ensures rows { Makes result out.old.tree out.new.tree (λ made. rows made.column ≡
+        truth_rows (bits_from values.now 0 len) (validity_in bits.now has_bits len)) }
+    ensures dtype { Makes result out.old.tree out.new.tree
+        (λ made. type_of made.column ≡ of_boolean) }
+    ensures length { Demands result other_length (len ≤ 8 * length values.now) }
+    ensures status { len ≤ 8 * length values.now → Tells result (flat_rules len bits.now has_bits) }
+{
+    if values.len() < len.div_ceil(8) {
+        return OTHER_LENGTH;
+    }
+    match booleans_of(alloc, values, len, bits, has_bits) {
+        Ok(column) => put(alloc, column, out),
+        Err(fault) => status_of_maker(fault),
+    }
+}
+
+/// Makes the column of these numbers. SEL_TOO_MANY_ROWS: more than 4,294,967,295; SEL_VALIDITY_LENGTH: fewer bytes of
+/// validity than the rows need.
+#[unsafe(no_mangle)]
+pub extern "C" fn sel_int8_new(
+    alloc: Global,
+    values: &[i8],
+    bits: &[u8],
+    has_bits: bool,
+    out: &mut Handle,
+) -> u32
+    ensures rows { Makes result out.old.tree out.new.tree (λ made. rows made.column ≡
+        number_rows (λ x. x) values.now (validity_in bits.now has_bits (length values.now))) }
+    ensures dtype { Makes result out.old.tree out.new.tree
+        (λ made. type_of made.column ≡ of_int8) }
+    ensures status { Tells result (flat_rules (length values.now) bits.now has_bits) }
+{
+    match numbers_of(alloc, values, bits, has_bits) {
+        Ok(column) => put(alloc, column, out),
+        Err(fault) => status_of_maker(fault),
+    }
+}
+
+/// Makes the column of these numbers. SEL_TOO_MANY_ROWS: more than 4,294,967,295; SEL_VALIDITY_LENGTH: fewer bytes of
+/// validity than the rows need.
+#[unsafe(no_mangle)]
+pub extern "C" fn sel_int16_new(
+    alloc: Global,
+    values: &[i16],
+    bits: &[u8],
+    has_bits: bool,
+    out: &mut Handle,
+) -> u32
+    ensures rows { Makes result out.old.tree out.new.tree (λ made. rows made.column ≡
+        number_rows (λ x. x) values.now (validity_in bits.now has_bits (length values.now))) }
+    ensures dtype { Makes result out.old.tree out.new.tree
+        (λ made. type_of made.column ≡ of_int16) }
+    ensures status { Tells result (flat_rules (length values.now) bits.now has_bits) }
+{
+    match numbers_of(alloc, values, bits, has_bits) {
+        Ok(column) => put(alloc, column, out),
+        Err(fault) => status_of_maker(fault),
+    }
+}
+
+/// Makes the column of these numbers. SEL_TOO_MANY_ROWS: more than 4,294,967,295; SEL_VALIDITY_LENGTH: fewer bytes of
+/// validity than the rows need.
+#[unsafe(no_mangle)]
+pub extern "C" fn sel_int32_new(
+    alloc: Global,
+    values: &[i32],
+    bits: &[u8],
+    has_bits: bool,
+    out: &mut Handle,
+) -> u32
+    ensures rows { Makes result out.old.tree out.new.tree (λ made. rows made.column ≡
+        number_rows (λ x. x) values.now (validity_in bits.now has_bits (length values.now))) }
+    ensures dtype { Makes result out.old.tree out.new.tree
+        (λ made. type_of made.column ≡ of_int32) }
+    ensures status { Tells result (flat_rules (length values.now) bits.now has_bits) }
+{
+    match numbers_of(alloc, values, bits, has_bits) {
+        Ok(column) => put(alloc, column, out),
+        Err(fault) => status_of_maker(fault),
+    }
+}
+
+/// Makes the column of these numbers. SEL_TOO_MANY_ROWS: more than 4,294,967,295; SEL_VALIDITY_LENGTH: fewer bytes of
+/// validity than the rows need.
+#[unsafe(no_mangle)]
+pub extern "C" fn sel_int64_new(
+    alloc: Global,
+    values: &[i64],
+    bits: &[u8],
+    has_bits: bool,
+    out: &mut Handle,
+) -> u32
+    ensures rows { Makes result out.old.tree out.new.tree (λ made. rows made.column ≡
+        number_rows (λ x. x) values.now (validity_in bits.now has_bits (length values.now))) }
+    ensures dtype { Makes result out.old.tree out.new.tree
+        (λ made. type_of made.column ≡ of_int64) }
+    ensures status { Tells result (flat_rules (length values.now) bits.now has_bits) }
+{
+    match numbers_of(alloc, values, bits, has_bits) {
+        Ok(column) => put(alloc, column, out),
+        Err(fault) => status_of_maker(fault),
+    }
+}
+
+/// Makes the column of these numbers. SEL_TOO_MANY_ROWS: more than 4,294,967,295; SEL_VALIDITY_LENGTH: fewer bytes of
+/// validity than the rows need.
+#[unsafe(no_mangle)]
+pub extern "C" fn sel_uint8_new(
+    alloc: Global,
+    values: &[u8],
+    bits: &[u8],
+    has_bits: bool,
+    out: &mut Handle,
+) -> u32
+    ensures rows { Makes result out.old.tree out.new.tree (λ made. rows made.column ≡
+        number_rows pos values.now (validity_in bits.now has_bits (length values.now))) }
+    ensures dtype { Makes result out.old.tree out.new.tree
+        (λ made. type_of made.column ≡ of_uint8) }
+    ensures status { Tells result (flat_rules (length values.now) bits.now has_bits) }
+{
+    match numbers_of(alloc, values, bits, has_bits) {
+        Ok(column) => put(alloc, column, out),
+        Err(fault) => status_of_maker(fault),
+    }
+}
+
+/// Makes the column of these numbers. SEL_TOO_MANY_ROWS: more than 4,294,967,295; SEL_VALIDITY_LENGTH: fewer bytes of
+/// validity than the rows need.
+#[unsafe(no_mangle)]
+pub extern "C" fn sel_uint16_new(
+    alloc: Global,
+    values: &[u16],
+    bits: &[u8],
+    has_bits: bool,
+    out: &mut Handle,
+) -> u32
+    ensures rows { Makes result out.old.tree out.new.tree (λ made. rows made.column ≡
+        number_rows pos values.now (validity_in bits.now has_bits (length values.now))) }
+    ensures dtype { Makes result out.old.tree out.new.tree
+        (λ made. type_of made.column ≡ of_uint16) }
+    ensures status { Tells result (flat_rules (length values.now) bits.now has_bits) }
+{
+    match numbers_of(alloc, values, bits, has_bits) {
+        Ok(column) => put(alloc, column, out),
+        Err(fault) => status_of_maker(fault),
+    }
+}
+
+/// Makes the column of these numbers. SEL_TOO_MANY_ROWS: more than 4,294,967,295; SEL_VALIDITY_LENGTH: fewer bytes of
+/// validity than the rows need.
+#[unsafe(no_mangle)]
+pub extern "C" fn sel_uint32_new(
+    alloc: Global,
+    values: &[u32],
+    bits: &[u8],
+    has_bits: bool,
+    out: &mut Handle,
+) -> u32
+    ensures rows { Makes result out.old.tree out.new.tree (λ made. rows made.column ≡
+        number_rows pos values.now (validity_in bits.now has_bits (length values.now))) }
+    ensures dtype { Makes result out.old.tree out.new.tree
+        (λ made. type_of made.column ≡ of_uint32) }
+    ensures status { Tells result (flat_rules (length values.now) bits.now has_bits) }
+{
+    match numbers_of(alloc, values, bits, has_bits) {
+        Ok(column) => put(alloc, column, out),
+        Err(fault) => status_of_maker(fault),
+    }
+}
+
+/// Makes the column of these numbers. SEL_TOO_MANY_ROWS: more than 4,294,967,295; SEL_VALIDITY_LENGTH: fewer bytes of
+/// validity than the rows need.
+#[unsafe(no_mangle)]
+pub extern "C" fn sel_uint64_new(
+    alloc: Global,
+    values: &[u64],
+    bits: &[u8],
+    has_bits: bool,
+    out: &mut Handle,
+) -> u32
+    ensures rows { Makes result out.old.tree out.new.tree (λ made. rows made.column ≡
+        number_rows pos values.now (validity_in bits.now has_bits (length values.now))) }
+    ensures dtype { Makes result out.old.tree out.new.tree
+        (λ made. type_of made.column ≡ of_uint64) }
+    ensures status { Tells result (flat_rules (length values.now) bits.now has_bits) }
+{
+    match numbers_of(alloc, values, bits, has_bits) {
+        Ok(column) => put(alloc, column, out),
+        Err(fault) => status_of_maker(fault),
+    }
+}

@@ -1,0 +1,274 @@
+//! What is read of a column, which stays where it is.
+
+ghost use Rattle.std.specs.Prelude.{◌≡◌, ◌≢◌, ◌+◌, ◌/◌, [], ◌∷◌, length, pos, count_by};
+ghost use Rattle.sel_bits.specs.Bits.{bits_from};
+ghost use Rattle.sel_arrow.specs.Nulls.{TellsNulls};
+ghost use Rattle.sel_arrow.specs.Shape.{of_boolean, of_int8, of_int16, of_int32, of_int64, of_uint8, of_uint16, of_uint32, of_uint64};
+ghost use Rattle.sel_arrow.specs.Value.{is_null};
+ghost use Rattle.sel_handle.specs.Inputs.{validity_in};
+ghost use Rattle.sel_handle.specs.Kinds.{held_kind};
+ghost use Rattle.sel_handle.specs.Outputs.{Shows, numbers, truths};
+ghost use Rattle.sel_handle.specs.Status.{done, no_memory, no_column, other_kind, other_length, held_rows, held_type, Demands, HasColumn, IsOneOf};
+
+use sel_arrow::array::Array;
+use sel_handle::handle::Handle;
+use sel_handle::kinds::{NO_KIND, kind_of};
+use sel_handle::outputs::{booleans_into, numbers_into, validity_into};
+use sel_handle::status::NO_COLUMN;
+use std::alloc::Global;
+
+/// How many rows there are, 0 where there is no column.
+#[unsafe(no_mangle)]
+pub extern "C" fn sel_len(alloc: Global, of: &mut Handle) -> usize
+    ensures rows { result ≡ length (held_rows of.old.tree) }
+    ensures unchanged { of.new.tree ≡ of.old.tree }
+{
+    match of.take(alloc) {
+        None => 0,
+        Some(column) => {
+            let len = column.len();
+            *of = Handle::of(column);
+            len
+        }
+    }
+}
+
+/// How many rows are null, 0 where there is no column.
+#[unsafe(no_mangle)]
+pub extern "C" fn sel_null_count(alloc: Global, of: &mut Handle) -> usize
+    ensures rows { result ≡ count_by is_null (held_rows of.old.tree) }
+    ensures unchanged { of.new.tree ≡ of.old.tree }
+{
+    match of.take(alloc) {
+        None => 0,
+        Some(column) => {
+            let count = column.null_count();
+            *of = Handle::of(column);
+            count
+        }
+    }
+}
+
+/// The number of the column's kind (`enum sel_kind_number`), SEL_NO_KIND where there is no column.
+#[unsafe(no_mangle)]
+pub extern "C" fn sel_kind(alloc: Global, of: &mut Handle) -> u32
+    ensures kind { result ≡ held_kind of.old.tree }
+    ensures unchanged { of.new.tree ≡ of.old.tree }
+{
+    match of.take(alloc) {
+        None => NO_KIND,
+        Some(column) => {
+            let kind = kind_of(column.as_column());
+            *of = Handle::of(column);
+            kind
+        }
+    }
+}
+
+/// Writes the bits of the validity into `out`, which has (rows + 7) / 8 bytes, and into `has` whether there is a
+/// validity; without one `out` may be of any length and stays as it is: each row is valid then, or in a column of nulls
+/// none. SEL_NO_COLUMN: there is no column; SEL_OTHER_LENGTH: `out` is of another length.
+#[unsafe(no_mangle)]
+pub extern "C" fn sel_validity(
+    alloc: Global,
+    of: &mut Handle,
+    out: &mut [u8],
+    has: &mut bool,
+) -> u32
+    ensures validity { result ≡ done → TellsNulls (held_type of.old.tree)
+        (validity_in out.new has.new (length (held_rows of.old.tree))) (held_rows of.old.tree) }
+    ensures column { Demands result no_column (HasColumn of.old.tree) }
+    ensures length { result ≡ other_length →
+        length out.old ≢ (length (held_rows of.old.tree) + 7) / 8 }
+    ensures status { IsOneOf result (done ∷ no_memory ∷ no_column ∷ other_length ∷ []) }
+    ensures unchanged { of.new.tree ≡ of.old.tree }
+{
+    let Some(column) = of.take(alloc) else {
+        return NO_COLUMN;
+    };
+    let status = validity_into(alloc, &column, out, has);
+    *of = Handle::of(column);
+    status
+}
+
+/// Writes the truth values, those beneath nulls too, packed into `out`, which has (rows + 7) / 8 bytes. SEL_NO_COLUMN:
+/// there is no column; SEL_OTHER_KIND: it is not of truth values; SEL_OTHER_LENGTH: `out` is of another length.
+#[unsafe(no_mangle)]
+pub extern "C" fn sel_boolean_values(alloc: Global, of: &mut Handle, out: &mut [u8]) -> u32
+    ensures values { result ≡ done → Shows
+        (truths (bits_from out.new 0 (length (held_rows of.old.tree)))) (held_rows of.old.tree) }
+    ensures column { Demands result no_column (HasColumn of.old.tree) }
+    ensures kind { Demands result other_kind (held_type of.old.tree ≡ of_boolean) }
+    ensures length { Demands result other_length
+        (length out.old ≡ (length (held_rows of.old.tree) + 7) / 8) }
+    ensures status { IsOneOf result
+        (done ∷ no_memory ∷ no_column ∷ other_kind ∷ other_length ∷ []) }
+    ensures unchanged { of.new.tree ≡ of.old.tree }
+{
+    let Some(column) = of.take(alloc) else {
+        return NO_COLUMN;
+    };
+    let status = booleans_into(alloc, &column, out);
+    *of = Handle::of(column);
+    status
+}
+
+/// Writes the numbers, those beneath nulls too, into `out`, which has a place for each row. SEL_NO_COLUMN: there is no
+/// column; SEL_OTHER_KIND: it is of another kind; SEL_OTHER_LENGTH: `out` is of another length.
+#[unsafe(no_mangle)]
+pub extern "C" fn sel_int8_values(alloc: Global, of: &mut Handle, out: &mut [i8]) -> u32
+    ensures values { result ≡ done → Shows (numbers (λ x. x) out.new) (held_rows of.old.tree) }
+    ensures column { Demands result no_column (HasColumn of.old.tree) }
+    ensures kind { Demands result other_kind (held_type of.old.tree ≡ of_int8) }
+    ensures length { Demands result other_length (length out.old ≡ length (held_rows of.old.tree)) }
+    ensures status { IsOneOf result
+        (done ∷ no_memory ∷ no_column ∷ other_kind ∷ other_length ∷ []) }
+    ensures unchanged { of.new.tree ≡ of.old.tree }
+{
+    let Some(column) = of.take(alloc) else {
+        return NO_COLUMN;
+    };
+    let status = numbers_into(alloc, &column, out);
+    *of = Handle::of(column);
+    status
+}
+
+/// Writes the numbers, those beneath nulls too, into `out`, which has a place for each row. SEL_NO_COLUMN: there is no
+/// column; SEL_OTHER_KIND: it is of another kind; SEL_OTHER_LENGTH: `out` is of another length.
+#[unsafe(no_mangle)]
+pub extern "C" fn sel_int16_values(alloc: Global, of: &mut Handle, out: &mut [i16]) -> u32
+    ensures values { result ≡ done → Shows (numbers (λ x. x) out.new) (held_rows of.old.tree) }
+    ensures column { Demands result no_column (HasColumn of.old.tree) }
+    ensures kind { Demands result other_kind (held_type of.old.tree ≡ of_int16) }
+    ensures length { Demands result other_length (length out.old ≡ length (held_rows of.old.tree)) }
+    ensures status { IsOneOf result
+        (done ∷ no_memory ∷ no_column ∷ other_kind ∷ other_length ∷ []) }
+    ensures unchanged { of.new.tree ≡ of.old.tree }
+{
+    let Some(column) = of.take(alloc) else {
+        return NO_COLUMN;
+    };
+    let status = numbers_into(alloc, &column, out);
+    *of = Handle::of(column);
+    status
+}
+
+/// Writes the numbers, those beneath nulls too, into `out`, which has a place for each row. SEL_NO_COLUMN: there is no
+/// column; SEL_OTHER_KIND: it is of another kind; SEL_OTHER_LENGTH: `out` is of another length.
+#[unsafe(no_mangle)]
+pub extern "C" fn sel_int32_values(alloc: Global, of: &mut Handle, out: &mut [i32]) -> u32
+    ensures values { result ≡ done → Shows (numbers (λ x. x) out.new) (held_rows of.old.tree) }
+    ensures column { Demands result no_column (HasColumn of.old.tree) }
+    ensures kind { Demands result other_kind (held_type of.old.tree ≡ of_int32) }
+    ensures length { Demands result other_length (length out.old ≡ length (held_rows of.old.tree)) }
+    ensures status { IsOneOf result
+        (done ∷ no_memory ∷ no_column ∷ other_kind ∷ other_length ∷ []) }
+    ensures unchanged { of.new.tree ≡ of.old.tree }
+{
+    let Some(column) = of.take(alloc) else {
+        return NO_COLUMN;
+    };
+    let status = numbers_into(alloc, &column, out);
+    *of = Handle::of(column);
+    status
+}
+
+/// Writes the numbers, those beneath nulls too, into `out`, which has a place for each row. SEL_NO_COLUMN: there is no
+/// column; SEL_OTHER_KIND: it is of another kind; SEL_OTHER_LENGTH: `out` is of another length.
+#[unsafe(no_mangle)]
+pub extern "C" fn sel_int64_values(alloc: Global, of: &mut Handle, out: &mut [i64]) -> u32
+    ensures values { result ≡ done → Shows (numbers (λ x. x) out.new) (held_rows of.old.tree) }
+    ensures column { Demands result no_column (HasColumn of.old.tree) }
+    ensures kind { Demands result other_kind (held_type of.old.tree ≡ of_int64) }
+    ensures length { Demands result other_length (length out.old ≡ length (held_rows of.old.tree)) }
+    ensures status { IsOneOf result
+        (done ∷ no_memory ∷ no_column ∷ other_kind ∷ other_length ∷ []) }
+    ensures unchanged { of.new.tree ≡ of.old.tree }
+{
+    let Some(column) = of.take(alloc) else {
+        return NO_COLUMN;
+    };
+    let status = numbers_into(alloc, &column, out);
+    *of = Handle::of(column);
+    status
+}
+
+/// Writes the numbers, those beneath nulls too, into `out`, which has a place for each row. SEL_NO_COLUMN: there is no
+/// column; SEL_OTHER_KIND: it is of another kind; SEL_OTHER_LENGTH: `out` is of another length.
+#[unsafe(no_mangle)]
+pub extern "C" fn sel_uint8_values(alloc: Global, of: &mut Handle, out: &mut [u8]) -> u32
+    ensures values { result ≡ done → Shows (numbers pos out.new) (held_rows of.old.tree) }
+    ensures column { Demands result no_column (HasColumn of.old.tree) }
+    ensures kind { Demands result other_kind (held_type of.old.tree ≡ of_uint8) }
+    ensures length { Demands result other_length (length out.old ≡ length (held_rows of.old.tree)) }
+    ensures status { IsOneOf result
+        (done ∷ no_memory ∷ no_column ∷ other_kind ∷ other_length ∷ []) }
+    ensures unchanged { of.new.tree ≡ of.old.tree }
+{
+    let Some(column) = of.take(alloc) else {
+        return NO_COLUMN;
+    };
+    let status = numbers_into(alloc, &column, out);
+    *of = Handle::of(column);
+    status
+}
+
+/// Writes the numbers, those beneath nulls too, into `out`, which has a place for each row. SEL_NO_COLUMN: there is no
+/// column; SEL_OTHER_KIND: it is of another kind; SEL_OTHER_LENGTH: `out` is of another length.
+#[unsafe(no_mangle)]
+pub extern "C" fn sel_uint16_values(alloc: Global, of: &mut Handle, out: &mut [u16]) -> u32
+    ensures values { result ≡ done → Shows (numbers pos out.new) (held_rows of.old.tree) }
+    ensures column { Demands result no_column (HasColumn of.old.tree) }
+    ensures kind { Demands result other_kind (held_type of.old.tree ≡ of_uint16) }
+    ensures length { Demands result other_length (length out.old ≡ length (held_rows of.old.tree)) }
+    ensures status { IsOneOf result
+        (done ∷ no_memory ∷ no_column ∷ other_kind ∷ other_length ∷ []) }
+    ensures unchanged { of.new.tree ≡ of.old.tree }
+{
+    let Some(column) = of.take(alloc) else {
+        return NO_COLUMN;
+    };
+    let status = numbers_into(alloc, &column, out);
+    *of = Handle::of(column);
+    status
+}
+
+/// Writes the numbers, those beneath nulls too, into `out`, which has a place for each row. SEL_NO_COLUMN: there is no
+/// column; SEL_OTHER_KIND: it is of another kind; SEL_OTHER_LENGTH: `out` is of another length.
+#[unsafe(no_mangle)]
+pub extern "C" fn sel_uint32_values(alloc: Global, of: &mut Handle, out: &mut [u32]) -> u32
+    ensures values { result ≡ done → Shows (numbers pos out.new) (held_rows of.old.tree) }
+    ensures column { Demands result no_column (HasColumn of.old.tree) }
+    ensures kind { Demands result other_kind (held_type of.old.tree ≡ of_uint32) }
+    ensures length { Demands result other_length (length out.old ≡ length (held_rows of.old.tree)) }
+    ensures status { IsOneOf result
+        (done ∷ no_memory ∷ no_column ∷ other_kind ∷ other_length ∷ []) }
+    ensures unchanged { of.new.tree ≡ of.old.tree }
+{
+    let Some(column) = of.take(alloc) else {
+        return NO_COLUMN;
+    };
+    let status = numbers_into(alloc, &column, out);
+    *of = Handle::of(column);
+    status
+}
+
+/// Writes the numbers, those beneath nulls too, into `out`, which has a place for each row. SEL_NO_COLUMN: there is no
+/// column; SEL_OTHER_KIND: it is of another kind; SEL_OTHER_LENGTH: `out` is of another length.
+#[unsafe(no_mangle)]
+pub extern "C" fn sel_uint64_values(alloc: Global, of: &mut Handle, out: &mut [u64]) -> u32
+    ensures values { result ≡ done → Shows (numbers pos out.new) (held_rows of.old.tree) }
+    ensures column { Demands result no_column (HasColumn of.old.tree) }
+    ensures kind { Demands result other_kind (held_type of.old.tree ≡ of_uint64) }
+    ensures length { Demands result other_length (length out.old ≡ length (held_rows of.old.tree)) }
+    ensures status { IsOneOf result
+        (done ∷ no_memory ∷ no_column ∷ other_kind ∷ other_length ∷ []) }
+    ensures unchanged { of.new.tree ≡ of.old.tree }
+{
+    let Some(column) = of.take(alloc) else {
+        return NO_COLUMN;
+    };
+    let status = numbers_into(alloc, &column, out);
+    *of = Handle::of(column);
+    status
+}

@@ -1,0 +1,75 @@
+//! Columns as a whole: shared, sliced and freed.
+
+ghost use Rattle.std.specs.Prelude.{◌≡◌, ◌≤◌, ◌+◌, [], ◌∷◌, length, take, drop, None};
+ghost use Rattle.sel_arrow.specs.Rows.{rows, type_of};
+ghost use Rattle.sel_handle.specs.Status.{done, no_memory, no_column, out_of_bounds, held_rows, held_type, Demands, HasColumn, IsOneOf, Makes};
+
+use sel_arrow::array::Array;
+use sel_handle::handle::Handle;
+use sel_handle::status::{NO_COLUMN, NO_MEMORY, OUT_OF_BOUNDS, put};
+use std::alloc::Global;
+
+/// Makes the column of the `len` rows from row `off` on; it shares the buffers of `of`. SEL_NO_COLUMN: `of` has no
+/// column; SEL_OUT_OF_BOUNDS: it has fewer than `off + len` rows.
+#[unsafe(no_mangle)]
+pub extern "C" fn sel_sliced(
+    alloc: Global,
+    of: &mut Handle,
+    off: usize,
+    len: usize,
+    out: &mut Handle,
+) -> u32
+    ensures rows { Makes result out.old.tree out.new.tree
+        (λ made. rows made.column ≡ take len (drop off (held_rows of.old.tree))) }
+    ensures dtype { Makes result out.old.tree out.new.tree
+        (λ made. type_of made.column ≡ held_type of.old.tree) }
+    ensures column { Demands result no_column (HasColumn of.old.tree) }
+    ensures bounds { Demands result out_of_bounds (off + len ≤ length (held_rows of.old.tree)) }
+    ensures status { IsOneOf result (done ∷ no_memory ∷ no_column ∷ out_of_bounds ∷ []) }
+    ensures unchanged { of.new.tree ≡ of.old.tree }
+{
+    let Some(column) = of.take(alloc) else {
+        return NO_COLUMN;
+    };
+    let all = column.len();
+    if off > all || len > all - off {
+        *of = Handle::of(column);
+        return OUT_OF_BOUNDS;
+    }
+    let part = column.sliced(alloc, off, len);
+    *of = Handle::of(column);
+    match part {
+        Ok(part) => put(alloc, part, out),
+        Err(_) => NO_MEMORY,
+    }
+}
+
+/// Makes a second column of the same rows; it shares the buffers of `of`. SEL_NO_COLUMN: `of` has no column.
+#[unsafe(no_mangle)]
+pub extern "C" fn sel_share(alloc: Global, of: &mut Handle, out: &mut Handle) -> u32
+    ensures rows { Makes result out.old.tree out.new.tree
+        (λ made. rows made.column ≡ held_rows of.old.tree) }
+    ensures dtype { Makes result out.old.tree out.new.tree
+        (λ made. type_of made.column ≡ held_type of.old.tree) }
+    ensures column { Demands result no_column (HasColumn of.old.tree) }
+    ensures status { IsOneOf result (done ∷ no_memory ∷ no_column ∷ []) }
+    ensures unchanged { of.new.tree ≡ of.old.tree }
+{
+    let Some(column) = of.take(alloc) else {
+        return NO_COLUMN;
+    };
+    let copy = column.try_clone(alloc);
+    *of = Handle::of(column);
+    match copy {
+        Ok(copy) => put(alloc, copy, out),
+        Err(_) => NO_MEMORY,
+    }
+}
+
+/// Frees the column, if there is one; the handle is `{0}` afterwards.
+#[unsafe(no_mangle)]
+pub extern "C" fn sel_free(alloc: Global, of: &mut Handle)
+    ensures { of.new.tree ≡ None }
+{
+    *of = Handle::empty(alloc);
+}

@@ -1,0 +1,6 @@
+pub mod HandleSteps
+pub mod LooseSteps
+pub mod Positions
+pub mod Shown
+pub mod Taken
+pub mod Tuples

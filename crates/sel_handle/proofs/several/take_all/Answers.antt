@@ -1,0 +1,20 @@
+use Rattle.std.proofs.Common.{rules, arith, Some, ◌≡◌, get_or, sym, ap, ◌∙◌}
+use Rattle.std.proofs.lemmas.Grind.{common_steps}
+use Rattle.sel_handle.proofs.Taken.{taken_more, left_more, rows_taken, types_taken, counts_taken}
+use Rattle.sel_handle.proofs.several.take_all.Goals as goal
+
+pub loop-i-preserved : goal.loop-i-preserved
+loop-i-preserved c =
+    let l = c.loop-i in
+    let found : (get_or l.handles l.i c.index-handles-i.result).tree ≡ Some c.into_inner.result = grind (arith, common_steps) in
+    let more = taken_more (λ h. h.tree) (λ x. Some x) c.args.handles.now l.handles l.i l.taken.items c.into_inner.result c.index-handles-i.result (grind (arith, common_steps)) l.invariant.2 l.invariant.3 found in
+    (grind (arith, common_steps), grind (arith, common_steps), search (rules, more), left_more c.args.handles.now l.handles l.i c.take.new.self l.invariant.3)
+
+pub returns-clause-rows : goal.returns-clause-rows
+returns-clause-rows c = rows_taken c.loop-i.taken.items c.args.handles.now (grind (arith, common_steps))
+
+pub returns-clause-dtypes : goal.returns-clause-dtypes
+returns-clause-dtypes c = types_taken c.loop-i.taken.items c.args.handles.now (grind (arith, common_steps))
+
+pub returns-clause-counts : goal.returns-clause-counts
+returns-clause-counts c = counts_taken c.loop-i.taken.items c.args.handles.now (grind (arith, common_steps))

@@ -1,0 +1,23 @@
+-- What a handle owns.
+use base.Fml.{Fml, feq}
+use base.Stored.{Coded}
+use denote.RawPtr.{Ptr, null_ptr}
+use Rattle.std.specs.Box.Ownership.{box_owns}
+use Rattle.std.specs.declared.alloc.Global.{Global}
+use Rattle.std.specs.declared.option.Option.{Option}
+use Rattle.std.specs.declared.option.Option.TheVariants.{None, Some}
+use Rattle.std.specs.contracts.option.Option as option
+use Rattle.std.specs.contracts.impls.GlobalAllocator.TheImpl.{ghosts}
+use Rattle.sel_arrow.specs.contracts.array_ref.ArrayRef.{the_row}
+
+-- a well-formed column, or none (own)
+abbrev pub Held : Type 0
+Held = Option the_row.Denot
+
+abbrev pub held_coded : Coded Held
+held_coded = (option.the_row the_row).coded
+
+-- nothing at null, else the column's box (own)
+abbrev pub held_owns : Global → Ptr → Held → Fml
+held_owns alloc p None = feq Ptr p null_ptr
+held_owns alloc p (Some column) = box_owns (ghosts.dealloc_token alloc) the_row p column

@@ -1,0 +1,6 @@
+pub mod Held
+pub mod Inputs
+pub mod Kinds
+pub mod Layout
+pub mod Outputs
+pub mod Status

@@ -1,0 +1,15 @@
+-- What callers are given of columns.
+use Rattle.std.specs.Prelude.{◌≡◌, ℤ, Bool, List, map}
+use Rattle.sel_arrow.specs.Masked.{hidden}
+use Rattle.sel_arrow.specs.Value.{Value, Number, Truth, validities}
+
+-- these values stand at the rows that are not null (own)
+abbrev pub Shows : List Value → List Value → Type 0
+Shows values rows = rows ≡ hidden (validities rows) values
+
+-- numbers, and truth values, as values (own)
+abbrev pub numbers : {T : Type 0} → (T → ℤ) → List T → List Value
+numbers number xs = map (λ x. Number (number x)) xs
+
+abbrev pub truths : List Bool → List Value
+truths bits = map Truth bits

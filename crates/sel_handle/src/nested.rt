@@ -1,0 +1,139 @@
+//! Columns of bytes, lists and tuples, of the parts that callers pass.
+
+ghost use Rattle.std.specs.Prelude.{◌≡◌, None, IfOk, IfErr, length, map, pos};
+ghost use Rattle.sel_bits.specs.Faults.{IsFaultOrMemory};
+ghost use Rattle.sel_bits.specs.Offsets.{offsets_fault};
+ghost use Rattle.sel_arrow.specs.Nested.{list_rows, block_rows, tuple_rows};
+ghost use Rattle.sel_arrow.specs.Pieces.{byte_rows, rows_between};
+ghost use Rattle.sel_arrow.specs.Rows.{rows, row_count, type_of};
+ghost use Rattle.sel_arrow.specs.Shape.{of_large_binary, of_large_list, of_fixed_size_list, of_struct, shapes_of};
+ghost use Rattle.sel_handle.specs.Inputs.{positions, validity_in, validity_rule, binary_rules, list_rules, block_rules, struct_rules, IsRuleOrMemory};
+
+use crate::inputs::validity_of;
+use sel_arrow::array::Array;
+use sel_arrow::array_ref::ArrayRef;
+use sel_arrow::binary::BinaryArray;
+use sel_arrow::fixed_size_list::FixedSizeListArray;
+use sel_arrow::list::ListArray;
+use sel_arrow::structure::StructArray;
+use sel_bits::buffer::Buffer;
+use sel_bits::faults::MakeError;
+use sel_bits::offsets::OffsetsBuffer;
+use std::alloc::Global;
+
+/// The offsets, copied. Refuses the first broken rule, or for want of memory.
+#[tactic(auto, using(crate::proofs::Positions::shown))]
+pub fn offsets_of(alloc: Global, offsets: &[i64]) -> Result<OffsetsBuffer<i64>, MakeError>
+    ensures value { IfOk result (λ buffer. buffer ≡ positions offsets.now) }
+    ensures accepted { IfOk result (λ _. offsets_fault (λ x. x) offsets.now ≡ None) }
+    ensures refused { IfErr result (IsRuleOrMemory (offsets_fault (λ x. x) offsets.now)) }
+{
+    let Ok(copied) = Vec::from_slice(alloc, offsets) else {
+        return Err(MakeError::OutOfMemory);
+    };
+    OffsetsBuffer::try_from(copied)
+}
+
+/// The column of the bytes between offsets. Refuses the first broken rule, or for want of memory.
+pub fn binary_of(
+    alloc: Global,
+    offsets: &[i64],
+    values: &[u8],
+    bytes: &[u8],
+    has: bool,
+) -> Result<ArrayRef, MakeError>
+    ensures rows { IfOk result (λ made. rows made.column ≡ byte_rows (positions offsets.now)
+        values.now (validity_in bytes.now has (rows_between (positions offsets.now)))) }
+    ensures dtype { IfOk result (λ made. type_of made.column ≡ of_large_binary) }
+    ensures accepted { IfOk result (λ _. binary_rules offsets.now values.now bytes.now has ≡ None) }
+    ensures refused { IfErr result
+        (IsRuleOrMemory (binary_rules offsets.now values.now bytes.now has)) }
+{
+    let offsets = offsets_of(alloc, offsets)?;
+    let validity = validity_of(alloc, bytes, has, offsets.len_proxy())?;
+    let Ok(copied) = Vec::from_slice(alloc, values) else {
+        return Err(MakeError::OutOfMemory);
+    };
+    let Ok(values) = Buffer::from_vec(copied) else {
+        return Err(MakeError::OutOfMemory);
+    };
+    match BinaryArray::<i64>::try_new(offsets, values, validity) {
+        Ok(array) => Ok(array.into_ref()),
+        Err(fault) => Err(fault),
+    }
+}
+
+/// The column of the lists between offsets over the child. Refuses the first broken rule, or for want of memory.
+pub fn lists_of(
+    alloc: Global,
+    offsets: &[i64],
+    bytes: &[u8],
+    has: bool,
+    child: ArrayRef,
+) -> Result<ArrayRef, MakeError>
+    ensures rows { IfOk result (λ made. rows made.column ≡ list_rows (positions offsets.now)
+        (rows child.column) (validity_in bytes.now has (rows_between (positions offsets.now)))) }
+    ensures dtype { IfOk result (λ made. type_of made.column ≡
+        of_large_list (type_of child.column)) }
+    ensures accepted { IfOk result (λ _.
+        list_rules offsets.now (row_count child.column) bytes.now has ≡ None) }
+    ensures refused { IfErr result
+        (IsRuleOrMemory (list_rules offsets.now (row_count child.column) bytes.now has)) }
+{
+    let offsets = offsets_of(alloc, offsets)?;
+    let validity = validity_of(alloc, bytes, has, offsets.len_proxy())?;
+    match ListArray::<i64>::try_new(alloc, offsets, child, validity) {
+        Ok(array) => Ok(array.into_ref()),
+        Err(fault) => Err(fault),
+    }
+}
+
+/// The column of `len` lists of `width` rows of the child each. Refuses the first broken rule, or for want of memory.
+pub fn blocks_of(
+    alloc: Global,
+    width: usize,
+    len: usize,
+    bytes: &[u8],
+    has: bool,
+    child: ArrayRef,
+) -> Result<ArrayRef, MakeError>
+    ensures rows { IfOk result (λ made. rows made.column ≡
+        block_rows width len (rows child.column) (validity_in bytes.now has len)) }
+    ensures dtype { IfOk result (λ made. type_of made.column ≡
+        of_fixed_size_list (type_of child.column) width) }
+    ensures accepted { IfOk result (λ _.
+        block_rules width len (row_count child.column) bytes.now has ≡ None) }
+    ensures refused { IfErr result
+        (IsRuleOrMemory (block_rules width len (row_count child.column) bytes.now has)) }
+{
+    let validity = validity_of(alloc, bytes, has, len)?;
+    match FixedSizeListArray::try_new(alloc, width, len, child, validity) {
+        Ok(array) => Ok(array.into_ref()),
+        Err(fault) => Err(fault),
+    }
+}
+
+/// The column of `len` tuples of the fields. Refuses the first broken rule, or for want of memory.
+#[tactic(auto, using(crate::proofs::Tuples::tuples))]
+pub fn tuples_of(
+    alloc: Global,
+    len: usize,
+    bytes: &[u8],
+    has: bool,
+    fields: Vec<ArrayRef>,
+) -> Result<ArrayRef, MakeError>
+    ensures rows { IfOk result (λ made. rows made.column ≡ tuple_rows len
+        (map (λ field. rows field.column) fields.items) (validity_in bytes.now has len)) }
+    ensures dtype { IfOk result (λ made. type_of made.column ≡
+        of_struct (shapes_of (map (λ field. type_of field.column) fields.items))) }
+    ensures accepted { IfOk result (λ _. struct_rules len
+        (map (λ field. row_count field.column) fields.items) bytes.now has ≡ None) }
+    ensures refused { IfErr result (IsRuleOrMemory (struct_rules len
+        (map (λ field. row_count field.column) fields.items) bytes.now has)) }
+{
+    let validity = validity_of(alloc, bytes, has, len)?;
+    match StructArray::try_new(alloc, len, fields, validity) {
+        Ok(array) => Ok(array.into_ref()),
+        Err(fault) => Err(fault),
+    }
+}

@@ -1,0 +1,118 @@
+//! What is written of columns into slices of callers.
+
+ghost use Rattle.std.specs.Prelude.{◌≡◌, ◌≢◌, ◌+◌, ◌/◌, ◌%◌, length, [], ◌∷◌, IfOk};
+ghost use Rattle.sel_bits.specs.Bits.{bits_from};
+ghost use Rattle.sel_arrow.specs.Nulls.{TellsNulls};
+ghost use Rattle.sel_arrow.specs.Rows.{rows, type_of};
+ghost use Rattle.sel_arrow.specs.Shape.{of_boolean};
+ghost use Rattle.sel_handle.specs.Inputs.{validity_in};
+ghost use Rattle.sel_handle.specs.Outputs.{Shows, numbers, truths};
+ghost use Rattle.sel_handle.specs.Status.{done, no_memory, no_column, other_kind, other_length, IsOneOf, Demands};
+
+use crate::status::{DONE, NO_MEMORY, OTHER_KIND, OTHER_LENGTH};
+use sel_arrow::array::Array;
+use sel_arrow::array_ref::ArrayRef;
+use sel_arrow::primitive::ArrowPrimitive;
+use sel_bits::bitmap::Bitmap;
+use sel_bits::faults::PolarsResult;
+use sel_bits::packer::BitPacker;
+use std::alloc::Global;
+
+/// Writes the numbers, those beneath nulls too, into a slice of as many.
+#[tactic(auto, using(crate::proofs::Shown::shows))]
+pub fn numbers_into<T: ArrowPrimitive>(alloc: Global, column: &ArrayRef, out: &mut [T]) -> u32
+    ensures values { result ≡ done → Shows (numbers T.number out.new) (rows column.now.column) }
+    ensures kind { Demands result other_kind (type_of column.now.column ≡ T.shape) }
+    ensures length { Demands result other_length
+        (length out.old ≡ length (rows column.now.column)) }
+    ensures status { IsOneOf result
+        (done ∷ no_memory ∷ no_column ∷ other_kind ∷ other_length ∷ []) }
+    ensures column { result ≢ no_column }
+{
+    let Ok(copy) = column.try_clone(alloc) else {
+        return NO_MEMORY;
+    };
+    let Ok(array) = copy.into_primitive::<T>() else {
+        return OTHER_KIND;
+    };
+    let values = array.values().as_slice();
+    if out.len() != values.len() {
+        return OTHER_LENGTH;
+    }
+    out.copy_from_slice(values);
+    DONE
+}
+
+/// Writes the bits into as many bytes as they need, the first bit lowest; bits behind the last one are of any value.
+pub fn bits_into(alloc: Global, bits: &Bitmap, out: &mut [u8]) -> u32
+    ensures bits { result ≡ done → bits_from out.new 0 (length bits.now.bits) ≡ bits.now.bits }
+    ensures length { Demands result other_length
+        (length out.old ≡ (length bits.now.bits + 7) / 8) }
+    ensures status { IsOneOf result (done ∷ no_memory ∷ other_length ∷ []) }
+{
+    if out.len() != bits.len().div_ceil(8) {
+        return OTHER_LENGTH;
+    }
+    let Ok(aligned) = moved_to_front(alloc, bits) else {
+        return NO_MEMORY;
+    };
+    let (bytes, _, _) = aligned.as_slice();
+    out.copy_from_slice(bytes);
+    DONE
+}
+
+/// The same bits, from the first bit of a byte on. Refuses only for want of memory.
+fn moved_to_front(alloc: Global, bits: &Bitmap) -> PolarsResult<Bitmap>
+    ensures bits { IfOk result (λ moved. moved.bits ≡ bits.now.bits) }
+    ensures place { IfOk result (λ moved. moved.offset % 8 ≡ 0) }
+{
+    let (_, place, len) = bits.as_slice();
+    if place == 0 {
+        return bits.try_clone();
+    }
+    let mut packer = BitPacker::with_capacity(alloc, len)?;
+    packer.extend_from_bitmap(bits, 0, len)?;
+    packer.into_bitmap(len)
+}
+
+/// Writes the bits of the validity into as many bytes as they need, and whether there is one; without one the bytes stay.
+pub fn validity_into(alloc: Global, column: &ArrayRef, out: &mut [u8], has: &mut bool) -> u32
+    ensures validity { result ≡ done → TellsNulls (type_of column.now.column)
+        (validity_in out.new has.new (length (rows column.now.column))) (rows column.now.column) }
+    ensures length { result ≡ other_length →
+        length out.old ≢ (length (rows column.now.column) + 7) / 8 }
+    ensures status { IsOneOf result (done ∷ no_memory ∷ no_column ∷ other_length ∷ []) }
+    ensures column { result ≢ no_column }
+{
+    match column.validity() {
+        None => {
+            *has = false;
+            DONE
+        }
+        Some(bits) => {
+            *has = true;
+            bits_into(alloc, bits, out)
+        }
+    }
+}
+
+/// Writes the truth values, those beneath nulls too, into as many bytes as they need.
+#[tactic(auto, using(crate::proofs::Shown::shows))]
+pub fn booleans_into(alloc: Global, column: &ArrayRef, out: &mut [u8]) -> u32
+    ensures values { result ≡ done → Shows
+        (truths (bits_from out.new 0 (length (rows column.now.column)))) (rows column.now.column) }
+    ensures kind { Demands result other_kind (type_of column.now.column ≡ of_boolean) }
+    ensures length { Demands result other_length
+        (length out.old ≡ (length (rows column.now.column) + 7) / 8) }
+    ensures status { IsOneOf result
+        (done ∷ no_memory ∷ no_column ∷ other_kind ∷ other_length ∷ []) }
+    ensures column { result ≢ no_column }
+{
+    let Ok(copy) = column.try_clone(alloc) else {
+        return NO_MEMORY;
+    };
+    let Ok(array) = copy.into_boolean() else {
+        return OTHER_KIND;
+    };
+    bits_into(alloc, array.values(), out)
+}

@@ -1,0 +1,79 @@
+//! The parts of columns that are not values, as they are laid out.
+
+ghost use Rattle.std.specs.Prelude.{◌≡◌, ◌≢◌, length, Some, None};
+ghost use Rattle.std.specs.Option.{option_copied, option_map};
+ghost use Rattle.sel_handle.specs.Layout.{offsets_in, bytes_in};
+ghost use Rattle.sel_handle.specs.Inputs.{positions};
+ghost use Rattle.sel_handle.specs.Status.{done, no_column, other_kind, Demands};
+
+use crate::status::{DONE, OTHER_KIND, OTHER_LENGTH};
+use sel_arrow::column::Column;
+use sel_bits::offsets::OffsetsBuffer;
+
+/// The offsets of a column of bytes or lists between offsets.
+fn offsets_of_column(column: &Column) -> Option<&OffsetsBuffer<i64>>
+    ensures { option_copied result ≡ offsets_in column.now }
+{
+    match column {
+        Column::LargeBinary(array) => Some(array.offsets()),
+        Column::LargeList { offsets, .. } => Some(offsets),
+        _ => None,
+    }
+}
+
+/// The bytes of a column of bytes between offsets.
+fn bytes_of_column(column: &Column) -> Option<&[u8]>
+    ensures { option_copied result ≡ bytes_in column.now }
+{
+    match column {
+        Column::LargeBinary(array) => Some(array.values().as_slice()),
+        _ => None,
+    }
+}
+
+/// Writes the offsets into a slice of as many.
+#[tactic(auto, using(crate::proofs::Positions::shown))]
+pub fn offsets_into(column: &Column, out: &mut [i64]) -> u32
+    ensures offsets { result ≡ done → Some (positions out.new) ≡ offsets_in column.now }
+    ensures column { result ≢ no_column }
+    ensures kind { Demands result other_kind (offsets_in column.now ≢ None) }
+{
+    let Some(offsets) = offsets_of_column(column) else {
+        return OTHER_KIND;
+    };
+    let numbers = offsets.as_slice();
+    if out.len() != numbers.len() {
+        return OTHER_LENGTH;
+    }
+    out.copy_from_slice(numbers);
+    DONE
+}
+
+/// Writes the bytes, those outside of the rows too, into a slice of as many.
+pub fn bytes_into(column: &Column, out: &mut [u8]) -> u32
+    ensures bytes { result ≡ done → Some out.new ≡ bytes_in column.now }
+    ensures column { result ≢ no_column }
+    ensures kind { Demands result other_kind (bytes_in column.now ≢ None) }
+{
+    let Some(bytes) = bytes_of_column(column) else {
+        return OTHER_KIND;
+    };
+    if out.len() != bytes.len() {
+        return OTHER_LENGTH;
+    }
+    out.copy_from_slice(bytes);
+    DONE
+}
+
+/// Writes how many bytes there are.
+pub fn bytes_len_into(column: &Column, out: &mut usize) -> u32
+    ensures bytes { result ≡ done → Some out.new ≡ option_map length (bytes_in column.now) }
+    ensures column { result ≢ no_column }
+    ensures kind { Demands result other_kind (bytes_in column.now ≢ None) }
+{
+    let Some(bytes) = bytes_of_column(column) else {
+        return OTHER_KIND;
+    };
+    *out = bytes.len();
+    DONE
+}

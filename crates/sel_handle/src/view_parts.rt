@@ -1,0 +1,113 @@
+//! What is written of columns of views into slices of callers.
+
+ghost use Rattle.std.specs.Prelude.{◌≡◌, ◌≢◌, ◌<◌, None, Some, length, slice_get, take, map};
+ghost use Rattle.std.specs.Option.{option_copied, option_map};
+ghost use Rattle.sel_handle.specs.Inputs.{views_in};
+ghost use Rattle.sel_handle.specs.Layout.{views_of};
+ghost use Rattle.sel_handle.specs.Status.{done, no_column, other_kind, other_length, out_of_bounds, Demands};
+
+use crate::status::{DONE, OTHER_KIND, OTHER_LENGTH, OUT_OF_BOUNDS};
+use crate::views::ViewWords;
+use sel_arrow::binview::BinaryViewArray;
+use sel_arrow::column::Column;
+use sel_arrow::view::View;
+
+/// The column of views that holds bytes or texts.
+fn views_lent(column: &Column) -> Option<&BinaryViewArray>
+    ensures { option_copied result ≡ views_of column.now }
+{
+    match column {
+        Column::BinaryView(array) => Some(array),
+        Column::Utf8View(array) => Some(&array.bytes),
+        _ => None,
+    }
+}
+
+/// Writes the views into a slice of as many.
+pub fn views_into(column: &Column, out: &mut [ViewWords]) -> u32
+    ensures views { result ≡ done →
+        Some (views_in out.new) ≡ option_map (λ array. array.views) (views_of column.now) }
+    ensures column { result ≢ no_column }
+    ensures kind { Demands result other_kind (views_of column.now ≢ None) }
+{
+    let Some(array) = views_lent(column) else {
+        return OTHER_KIND;
+    };
+    let views = array.views.as_slice();
+    if out.len() != views.len() {
+        return OTHER_LENGTH;
+    }
+    write_views(views, out);
+    DONE
+}
+
+fn write_views(views: &[View], out: &mut [ViewWords])
+    requires { length out.old ≡ length views.now }
+    ensures { views_in out.new ≡ views.now }
+{
+    let mut i = 0;
+    while i < views.len() {
+        let view = views[i];
+        out[i] = ViewWords {
+            length: view.length,
+            prefix: view.prefix,
+            buffer: view.buffer_idx,
+            offset: view.offset,
+        };
+        i += 1;
+    }
+}
+
+/// Writes how many data buffers there are.
+pub fn buffer_count_into(column: &Column, count: &mut usize) -> u32
+    ensures count { result ≡ done →
+        Some count.new ≡ option_map (λ array. length array.buffers) (views_of column.now) }
+    ensures column { result ≢ no_column }
+    ensures kind { Demands result other_kind (views_of column.now ≢ None) }
+{
+    let Some(array) = views_lent(column) else {
+        return OTHER_KIND;
+    };
+    *count = array.buffers.len();
+    DONE
+}
+
+/// Writes how many bytes data buffer `i` has.
+pub fn buffer_len_into(column: &Column, i: usize, len: &mut usize) -> u32
+    ensures len { result ≡ done → option_map (λ array. option_map length
+        (slice_get array.buffers i)) (views_of column.now) ≡ Some (Some len.new) }
+    ensures column { result ≢ no_column }
+    ensures kind { Demands result other_kind (views_of column.now ≢ None) }
+{
+    let Some(array) = views_lent(column) else {
+        return OTHER_KIND;
+    };
+    let buffers = array.buffers.as_slice();
+    if i >= buffers.len() {
+        return OUT_OF_BOUNDS;
+    }
+    *len = buffers[i].len();
+    DONE
+}
+
+/// Writes the bytes of data buffer `i` into a slice of as many.
+pub fn buffer_into(column: &Column, i: usize, out: &mut [u8]) -> u32
+    ensures bytes { result ≡ done → option_map (λ array. slice_get array.buffers i)
+        (views_of column.now) ≡ Some (Some out.new) }
+    ensures column { result ≢ no_column }
+    ensures kind { Demands result other_kind (views_of column.now ≢ None) }
+{
+    let Some(array) = views_lent(column) else {
+        return OTHER_KIND;
+    };
+    let buffers = array.buffers.as_slice();
+    if i >= buffers.len() {
+        return OUT_OF_BOUNDS;
+    }
+    let bytes = buffers[i].as_slice();
+    if out.len() != bytes.len() {
+        return OTHER_LENGTH;
+    }
+    out.copy_from_slice(bytes);
+    DONE
+}

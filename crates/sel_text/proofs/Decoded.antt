@@ -1,0 +1,177 @@
+-- What was written is read back: digits, and bytes between quotes.
+use Rattle.std.proofs.Common.{◌≡◌, ◌≢◌, ℕ, ℤ, pos, negsuc, suc, ◌+◌, ◌-◌, ◌*◌, ◌^◌, ◌/◌, ◌%◌, ◌≤◌, ◌<◌, Bool, true, false, List, [], ◌∷◌, ◌++◌, length, refl, ap, sym, ◌∙◌, arith, append_assoc, lit<}
+use Rattle.std.specs.Prelude.{⊤, nat_lt, ◌==◌, if◌then◌else◌}
+use Rattle.std.specs.Char.{digit_char, digit_value}
+use Rattle.std.specs.Fmt.{decimal, signed_decimal}
+use Rattle.std.specs.Int.Signed.{mag}
+use Rattle.std.specs.List.{flat_map}
+use Rattle.std.specs.Str.Parse.{AllDigits, digits_value}
+use Rattle.std.proofs.lemmas.Bool.Decides.{nat_tests}
+use Rattle.std.proofs.lemmas.Fmt.{decimal_is_IsNumeral_wide}
+use Rattle.sel_text.specs.Texts.{escaped, hex_byte}
+
+-- ---- numbers
+
+-- a text does not go on with a digit
+abbrev pub NoDigit : List ℕ → Type 0
+NoDigit [] = ⊤
+NoDigit (c ∷ rest) = 10 ≤ digit_value c
+
+pub digits_apart : (a b r t : List ℕ) → AllDigits 10 a → AllDigits 10 b → NoDigit r → NoDigit t → a ++ r ≡ b ++ t → (a ≡ b) × (r ≡ t)
+digits_apart [] [] r t da db nr nt e = (refl, e)
+digits_apart [] (y ∷ b) [] t da db nr nt e = cc
+digits_apart [] (y ∷ b) (c ∷ r) t da db nr nt e =
+    let same : c ≡ y = cc in
+    let one = ap digit_value same in
+    absurd (omega (arith, one, nr, db.0))
+digits_apart (x ∷ a) [] r [] da db nr nt e = cc
+digits_apart (x ∷ a) [] r (c ∷ t) da db nr nt e =
+    let same : x ≡ c = cc in
+    let one = ap digit_value same in
+    absurd (omega (arith, one, nt, da.0))
+digits_apart (x ∷ a) (y ∷ b) r t da db nr nt e =
+    let same : x ≡ y = cc in
+    let rest : a ++ r ≡ b ++ t = cc in
+    let parts = digits_apart a b r t da.1 db.1 nr nt rest in
+    (ap (λ c. c ∷ a) same ∙ ap (λ l. y ∷ l) parts.0, parts.1)
+
+-- so many bits take less than 64 digits
+pub few_digits : (n : ℕ) → n < 2 ^ 129 → n < 10 ^ 64
+few_digits n small = let big : 2 ^ 129 < 10 ^ 64 = lit< tt in omega (arith, big)
+
+decimal_apart : (m n : ℕ) (r t : List ℕ) → m < 2 ^ 129 → n < 2 ^ 129 → NoDigit r → NoDigit t → decimal m ++ r ≡ decimal n ++ t → (m ≡ n) × (r ≡ t)
+decimal_apart m n r t sm sn nr nt e =
+    let dm = decimal_is_IsNumeral_wide m (few_digits m sm) in
+    let dn = decimal_is_IsNumeral_wide n (few_digits n sn) in
+    let parts = digits_apart (decimal m) (decimal n) r t dm.0.1 dn.0.1 nr nt e in
+    (sym dm.1 ∙ ap (digits_value 10) parts.0 ∙ dn.1, parts.1)
+
+-- digits never begin with a minus
+no_minus : (a r t : List ℕ) → 0 < length a → AllDigits 10 a → a ++ r ≡ 45 ∷ t → ⊥
+no_minus [] r t some da e = omega arith
+no_minus (x ∷ a) r t some da e =
+    let same : x ≡ 45 = cc in
+    let one = ap digit_value same in
+    omega (arith, one, da.0)
+
+pub signed_apart : (y z : ℤ) (r t : List ℕ) → mag y < 2 ^ 128 → mag z < 2 ^ 128 → NoDigit r → NoDigit t → signed_decimal y ++ r ≡ signed_decimal z ++ t → (y ≡ z) × (r ≡ t)
+signed_apart (pos m) (pos n) r t sm sn nr nt e = let parts = decimal_apart m n r t (omega arith) (omega arith) nr nt e in (ap pos parts.0, parts.1)
+signed_apart (pos m) (negsuc n) r t sm sn nr nt e =
+    let dm = decimal_is_IsNumeral_wide m (few_digits m (omega arith)) in
+    absurd (no_minus (decimal m) r (decimal (suc n) ++ t) dm.0.0 dm.0.1 e)
+signed_apart (negsuc m) (pos n) r t sm sn nr nt e =
+    let dn = decimal_is_IsNumeral_wide n (few_digits n (omega arith)) in
+    absurd (no_minus (decimal n) t (decimal (suc m) ++ r) dn.0.0 dn.0.1 (sym e))
+signed_apart (negsuc m) (negsuc n) r t sm sn nr nt e =
+    let rest : decimal (suc m) ++ r ≡ decimal (suc n) ++ t = cc in
+    let parts = decimal_apart (suc m) (suc n) r t (omega arith) (omega arith) nr nt rest in
+    let same : m ≡ n = omega (arith, parts.0) in
+    (ap negsuc same, parts.1)
+
+-- ---- bytes in hexadecimal
+
+digit_char_same : (x y : ℕ) → digit_char x ≡ digit_char y → x ≡ y
+digit_char_same x y e = grind (arith, nat_tests)
+
+no_quote : (x : ℕ) → digit_char x ≢ 34
+no_quote x e = grind (arith, nat_tests)
+
+pub hex_apart : (bs cs r t : List ℕ) → flat_map hex_byte bs ++ (34 ∷ r) ≡ flat_map hex_byte cs ++ (34 ∷ t) → (bs ≡ cs) × (r ≡ t)
+hex_apart [] [] r t e = (refl, cc)
+hex_apart [] (c ∷ cs) r t e = let same : digit_char (c / 16) ≡ 34 = cc in absurd (no_quote (c / 16) same)
+hex_apart (b ∷ bs) [] r t e = let same : digit_char (b / 16) ≡ 34 = cc in absurd (no_quote (b / 16) same)
+hex_apart (b ∷ bs) (c ∷ cs) r t e =
+    let high : digit_char (b / 16) ≡ digit_char (c / 16) = cc in
+    let low : digit_char (b % 16) ≡ digit_char (c % 16) = cc in
+    let rest : flat_map hex_byte bs ++ (34 ∷ r) ≡ flat_map hex_byte cs ++ (34 ∷ t) = cc in
+    let h = digit_char_same (b / 16) (c / 16) high in
+    let l = digit_char_same (b % 16) (c % 16) low in
+    let same : b ≡ c = omega (arith, h, l) in
+    let parts = hex_apart bs cs r t rest in
+    (ap (λ x. x ∷ bs) same ∙ ap (λ x. c ∷ x) parts.0, parts.1)
+
+-- ---- texts between quotes
+
+-- the value of a hexadecimal digit
+abbrev hex_value : ℕ → ℕ
+hex_value c = if nat_lt c 58 then c - 48 else c - 87
+
+hex_value_back : (d : ℕ) → d < 16 → hex_value (digit_char d) ≡ d
+hex_value_back d small = grind (arith, nat_tests)
+
+-- four digits behind `\u` as a byte
+abbrev read_hex : List ℕ → ℕ × List ℕ
+read_hex (a ∷ b ∷ c ∷ d ∷ rest) = (16 * hex_value c + hex_value d, rest)
+read_hex text = (0, text)
+
+-- what stands behind a backslash
+abbrev read_escape : ℕ → List ℕ → ℕ × List ℕ
+read_escape c rest =
+    if c == 110 then (10, rest) else
+    if c == 114 then (13, rest) else
+    if c == 116 then (9, rest) else
+    if c == 98 then (8, rest) else
+    if c == 102 then (12, rest) else
+    if c == 117 then read_hex rest else (c, rest)
+
+-- the first byte of what stands between quotes, and the rest
+abbrev read_one : List ℕ → ℕ × List ℕ
+read_one [] = (0, [])
+read_one (c ∷ []) = (c, [])
+read_one (c ∷ d ∷ rest) = if c == 92 then read_escape d rest else (c, d ∷ rest)
+
+-- a byte and the rest
+abbrev one_then : ℕ → List ℕ → ℕ × List ℕ
+one_then a r = (a, r)
+
+pick : (P : List ℕ → Type 0) (b : Bool) (x y : List ℕ) → (b ≡ true → P x) → (b ≡ false → P y) → P (if b then x else y)
+pick P true x y f g = f refl
+pick P false x y f g = g refl
+
+plain_read : (a : ℕ) (r : List ℕ) → (a == 92) ≡ false → read_one (a ∷ r) ≡ one_then a r
+plain_read a [] is = refl
+plain_read a (d ∷ r) is = ap (λ t. if t then read_escape d r else (a, d ∷ r)) is
+
+-- an escape is read back as the byte
+read_escaped : (a : ℕ) (r : List ℕ) → read_one (escaped a ++ r) ≡ one_then a r
+read_escaped a r =
+    let P = λ (l : List ℕ). read_one (l ++ r) ≡ one_then a r in
+    let back : (n : ℕ) → (a == n) ≡ true → one_then n r ≡ one_then a r = λ n is. (let same : n ≡ a = grind (arith, nat_tests, is) in ap (λ x. one_then x r) same) in
+    pick P (a == 34) _ _ (back 34) (λ n34.
+    pick P (a == 92) _ _ (back 92) (λ n92.
+    pick P (a == 10) _ _ (back 10) (λ n10.
+    pick P (a == 13) _ _ (back 13) (λ n13.
+    pick P (a == 9) _ _ (back 9) (λ n9.
+    pick P (a == 8) _ _ (back 8) (λ n8.
+    pick P (a == 12) _ _ (back 12) (λ n12.
+    pick P (nat_lt a 32) _ _
+    (λ low. let value : 16 * hex_value (digit_char (a / 16)) + hex_value (digit_char (a % 16)) ≡ a = low_value a low in ap (λ x. one_then x r) value)
+    (λ high. plain_read a r n92))))))))
+  where
+    low_value : (a : ℕ) → nat_lt a 32 ≡ true → 16 * hex_value (digit_char (a / 16)) + hex_value (digit_char (a % 16)) ≡ a
+    low_value a low =
+        let small : a < 32 = grind (arith, nat_tests, low) in
+        let h = hex_value_back (a / 16) (omega arith) in
+        let l = hex_value_back (a % 16) (omega arith) in
+        omega (arith, h, l)
+
+-- no escape begins with a quote
+unquoted : (a : ℕ) (r t : List ℕ) → escaped a ++ r ≡ 34 ∷ t → ⊥
+unquoted a r t e =
+    let read : one_then a r ≡ read_one (34 ∷ t) = sym (read_escaped a r) ∙ ap read_one e in
+    let same : a ≡ 34 = ap (λ p. p.0) (read ∙ plain_read 34 t refl) in
+    let head : escaped 34 ++ r ≡ 34 ∷ t = ap (λ x. escaped x ++ r) (sym same) ∙ e in
+    cc
+
+pub escaped_apart : (bs cs r t : List ℕ) → flat_map escaped bs ++ (34 ∷ r) ≡ flat_map escaped cs ++ (34 ∷ t) → (bs ≡ cs) × (r ≡ t)
+escaped_apart [] [] r t e = (refl, cc)
+escaped_apart [] (c ∷ cs) r t e =
+    absurd (unquoted c (flat_map escaped cs ++ (34 ∷ t)) r (sym (append_assoc (escaped c) (flat_map escaped cs) (34 ∷ t)) ∙ sym e))
+escaped_apart (b ∷ bs) [] r t e =
+    absurd (unquoted b (flat_map escaped bs ++ (34 ∷ r)) t (sym (append_assoc (escaped b) (flat_map escaped bs) (34 ∷ r)) ∙ e))
+escaped_apart (b ∷ bs) (c ∷ cs) r t e =
+    let apart = sym (append_assoc (escaped b) (flat_map escaped bs) (34 ∷ r)) ∙ e ∙ append_assoc (escaped c) (flat_map escaped cs) (34 ∷ t) in
+    let read : one_then b (flat_map escaped bs ++ (34 ∷ r)) ≡ one_then c (flat_map escaped cs ++ (34 ∷ t)) = sym (read_escaped b _) ∙ ap read_one apart ∙ read_escaped c _ in
+    let same : b ≡ c = ap (λ p. p.0) read in
+    let parts = escaped_apart bs cs r t (ap (λ p. p.1) read) in
+    (ap (λ x. x ∷ bs) same ∙ ap (λ x. c ∷ x) parts.0, parts.1)

@@ -1,0 +1,314 @@
+-- A text tells its value.
+use Rattle.std.proofs.Common.{◌≡◌, ◌≢◌, ℕ, ℤ, pos, negsuc, ◌^◌, ◌≤◌, ◌<◌, Bool, true, false, List, [], ◌∷◌, ◌++◌, length, get_or, drop, refl, ap, sym, ◌∙◌, arith, append_assoc}
+use Rattle.std.specs.Prelude.{◌==◌, nat_lt, if◌then◌else◌}
+use Rattle.std.specs.Char.{digit_value}
+use Rattle.std.specs.Fmt.{decimal}
+use Rattle.std.specs.Int.Signed.{mag}
+use Rattle.std.specs.List.{flat_map, join_with_byte, list_all}
+use Rattle.std.specs.Str.Parse.{AllDigits}
+use Rattle.std.proofs.lemmas.Bool.{false≢true}
+use Rattle.std.proofs.lemmas.Bool.Decides.{nat_tests, Decides-ltb}
+use Rattle.std.proofs.lemmas.Fmt.{decimal_is_IsNumeral_wide}
+use Rattle.sel_arrow.specs.Shape.{Shape, Shapes, no_shapes, next_shape, is_struct_shape, of_null, of_boolean, of_int8, of_int16, of_int32, of_int64, of_int128, of_uint8, of_uint16, of_uint32, of_uint64, of_uint128, of_large_binary, of_binary_view, of_utf8_view, of_large_list, of_fixed_size_list, of_struct}
+use Rattle.sel_arrow.specs.Value.{Value, Null, Truth, Number, Bytes, Items, Tuple, Values, no_values, next_value, values_of, listed}
+use Rattle.sel_arrow.proofs.Lists.{both, and_first, and_second}
+use Rattle.sel_text.specs.Fits.{fits, all_fit, parts_fit, fits_count, fits_number, fits_unsigned}
+use Rattle.sel_text.specs.Laws.{TextsTellRows}
+use Rattle.sel_text.specs.Texts.{bracketed, hex_byte, escaped, hex_text, quoted, is_text_shape, bytes_text, item_shape, part_shapes, item_texts, part_texts, value_text, text_of}
+use Rattle.sel_text.proofs.Decoded.{NoDigit, few_digits, signed_apart, hex_apart, escaped_apart}
+use Rattle.sel_text.proofs.Equalities.{list_of_back}
+use Rattle.sel_text.proofs.Printed.{listed_texts}
+
+-- ---- texts behind an opening bracket
+
+-- the texts from the second on, each behind a comma, the closing bracket, and a rest
+abbrev after : ℕ → List (List ℕ) → List ℕ → List ℕ
+after close [] r = close ∷ r
+after close (x ∷ xs) r = 44 ∷ x ++ after close xs r
+
+-- all of them
+abbrev inside : ℕ → List (List ℕ) → List ℕ → List ℕ
+inside close [] r = close ∷ r
+inside close (x ∷ xs) r = x ++ after close xs r
+
+joined_after : (close : ℕ) (x : List ℕ) (xs : List (List ℕ)) (r : List ℕ) → (join_with_byte 44 (x ∷ xs) ++ close ∷ []) ++ r ≡ x ++ after close xs r
+joined_after close x [] r = append_assoc x (close ∷ []) r
+joined_after close x (y ∷ xs) r =
+    append_assoc (x ++ (44 ∷ join_with_byte 44 (y ∷ xs))) (close ∷ []) r
+    ∙ append_assoc x (44 ∷ join_with_byte 44 (y ∷ xs)) (close ∷ r)
+    ∙ ap (λ l. x ++ (44 ∷ l)) (sym (append_assoc (join_with_byte 44 (y ∷ xs)) (close ∷ []) r) ∙ joined_after close y xs r)
+
+joined_inside : (close : ℕ) (xs : List (List ℕ)) (r : List ℕ) → (join_with_byte 44 xs ++ close ∷ []) ++ r ≡ inside close xs r
+joined_inside close [] r = refl
+joined_inside close (x ∷ xs) r = joined_after close x xs r
+
+after_no_digit : (close : ℕ) (xs : List (List ℕ)) (r : List ℕ) → 10 ≤ digit_value close → NoDigit (after close xs r)
+after_no_digit close [] r past = past
+after_no_digit close (x ∷ xs) r past = comma_past
+  where
+    comma_past : 10 ≤ digit_value 44
+    comma_past = omega arith
+
+-- ---- the first byte tells the kind of value
+
+-- the kind of a value: null, a truth value, a number, bytes, a list or a tuple
+abbrev kind : Value → ℕ
+kind Null = 0
+kind (Truth truth) = 1
+kind (Number number) = 2
+kind (Bytes bytes) = 3
+kind (Items vs) = 4
+kind (Tuple vs) = 5
+
+abbrev kind_of : ℕ → ℕ
+kind_of b =
+    if b == 110 then 0 else if b == 116 then 1 else if b == 102 then 1 else if b == 45 then 2 else if nat_lt (digit_value b) 10 then 2 else
+    if b == 34 then 3 else if b == 104 then 3 else if b == 91 then 4 else if b == 40 then 5 else 6
+
+digit_kind : (b : ℕ) → digit_value b < 10 → kind_of b ≡ 2
+digit_kind b digit = grind (arith, nat_tests)
+
+first_digit : (ds r : List ℕ) → 0 < length ds → AllDigits 10 ds → kind_of (get_or (ds ++ r) 0 0) ≡ 2
+first_digit [] r some digits = absurd (omega arith)
+first_digit (d ∷ ds) r some digits = digit_kind d digits.0
+
+below : (n k : ℕ) → nat_lt n k ≡ true → n < k
+below n k e = (Decides-ltb n k).0 e
+
+small_unsigned : (bits : ℕ) (z : ℤ) → 2 ^ bits ≤ 2 ^ 128 → fits_unsigned bits z ≡ true → mag z < 2 ^ 128
+small_unsigned bits (pos n) few fit = let small = below n (2 ^ bits) fit in omega (arith, small, few)
+small_unsigned bits (negsuc n) few fit = absurd cc
+
+small_signed : (bits : ℕ) (z : ℤ) → 2 ^ bits ≤ 2 ^ 128 → nat_lt (mag z) (2 ^ bits) ≡ true → mag z < 2 ^ 128
+small_signed bits z few fit = let small = below (mag z) (2 ^ bits) fit in omega (arith, small, few)
+
+-- a number of a type has at most 128 bits
+small_number : (s : Shape) (z : ℤ) → fits_number s z ≡ true → mag z < 2 ^ 128
+small_number of_int8 z fit = small_signed 7 z (omega arith) fit
+small_number of_int16 z fit = small_signed 15 z (omega arith) fit
+small_number of_int32 z fit = small_signed 31 z (omega arith) fit
+small_number of_int64 z fit = small_signed 63 z (omega arith) fit
+small_number of_int128 z fit = small_signed 127 z (omega arith) fit
+small_number of_uint8 z fit = small_unsigned 8 z (omega arith) fit
+small_number of_uint16 z fit = small_unsigned 16 z (omega arith) fit
+small_number of_uint32 z fit = small_unsigned 32 z (omega arith) fit
+small_number of_uint64 z fit = small_unsigned 64 z (omega arith) fit
+small_number of_uint128 z fit = small_unsigned 128 z (omega arith) fit
+small_number of_null z fit = absurd cc
+small_number of_boolean z fit = absurd cc
+small_number of_large_binary z fit = absurd cc
+small_number of_binary_view z fit = absurd cc
+small_number of_utf8_view z fit = absurd cc
+small_number (of_large_list s) z fit = absurd cc
+small_number (of_fixed_size_list s size) z fit = absurd cc
+small_number (of_struct ss) z fit = absurd cc
+
+starts : (s : Shape) (v : Value) (r : List ℕ) → fits s v ≡ true → kind_of (get_or (value_text s v ++ r) 0 0) ≡ kind v
+starts s Null r fit = refl
+starts s (Truth true) r fit = refl
+starts s (Truth false) r fit = refl
+starts s (Number (pos n)) r fit =
+    let small = small_number s (pos n) fit in
+    let is = decimal_is_IsNumeral_wide n (few_digits n (omega (arith, small))) in
+    first_digit (decimal n) r is.0.0 is.0.1
+starts s (Number (negsuc n)) r fit = refl
+starts s (Bytes bytes) r fit = go (is_text_shape s)
+  where
+    go : (t : Bool) → kind_of (get_or ((if t then quoted bytes else hex_text bytes) ++ r) 0 0) ≡ 3
+    go true = refl
+    go false = refl
+starts s (Items vs) r fit = refl
+starts s (Tuple vs) r fit = refl
+
+same_kind : (s : Shape) (v w : Value) (r t : List ℕ) → fits s v ≡ true → fits s w ≡ true → value_text s v ++ r ≡ value_text s w ++ t → kind v ≡ kind w
+same_kind s v w r t fv fw e = sym (starts s v r fv) ∙ ap (λ l. kind_of (get_or l 0 0)) e ∙ starts s w t fw
+
+bytes_apart : (s : Shape) (bs cs r t : List ℕ) → bytes_text s bs ++ r ≡ bytes_text s cs ++ t → (bs ≡ cs) × (r ≡ t)
+bytes_apart s bs cs r t e = go (is_text_shape s) e
+  where
+    go : (b : Bool) → (if b then quoted bs else hex_text bs) ++ r ≡ (if b then quoted cs else hex_text cs) ++ t → (bs ≡ cs) × (r ≡ t)
+    go true e =
+        let body : (flat_map escaped bs ++ 34 ∷ []) ++ r ≡ (flat_map escaped cs ++ 34 ∷ []) ++ t = cc in
+        escaped_apart bs cs r t (sym (append_assoc (flat_map escaped bs) (34 ∷ []) r) ∙ body ∙ append_assoc (flat_map escaped cs) (34 ∷ []) t)
+    go false e =
+        let body : (flat_map hex_byte bs ++ 34 ∷ []) ++ r ≡ (flat_map hex_byte cs ++ 34 ∷ []) ++ t = cc in
+        hex_apart bs cs r t (sym (append_assoc (flat_map hex_byte bs) (34 ∷ []) r) ∙ body ∙ append_assoc (flat_map hex_byte cs) (34 ∷ []) t)
+
+-- values of two kinds have no text in common
+unlike : (s : Shape) (v w : Value) (r t : List ℕ) → fits s v ≡ true → fits s w ≡ true → value_text s v ++ r ≡ value_text s w ++ t → (kind v == kind w) ≡ false → ⊥
+unlike s v w r t fv fw e differ =
+    let same = same_kind s v w r t fv fw e in
+    let apart : kind v ≢ kind w = grind (arith, nat_tests, differ) in
+    apart same
+
+-- a closing bracket begins no value
+no_value : (s : Shape) (v : Value) (close : ℕ) (r t : List ℕ) → fits s v ≡ true → kind_of close ≡ 6 → close ∷ r ≡ value_text s v ++ t → ⊥
+no_value s v close r t fit none e =
+    let one : kind v ≡ 6 = sym (starts s v t fit) ∙ ap (λ l. kind_of (get_or l 0 0)) (sym e) ∙ none in
+    never v one
+  where
+    never : (v : Value) → kind v ≡ 6 → ⊥
+    never Null one = cc
+    never (Truth x) one = cc
+    never (Number x) one = cc
+    never (Bytes x) one = cc
+    never (Items x) one = cc
+    never (Tuple x) one = cc
+
+-- ---- values by their texts
+
+-- a value of a type is told by its text before any rest that does not go on with a digit
+record Tells (s : Shape) (v : Value) : Type 0 where
+  told : (w : Value) (r t : List ℕ) → fits s v ≡ true → fits s w ≡ true → NoDigit r → NoDigit t → value_text s v ++ r ≡ value_text s w ++ t → (v ≡ w) × (r ≡ t)
+
+-- the values of a list, each behind a comma, and those of a tuple
+record TellsItems (s : Shape) (vs : Values) : Type 0 where
+  told : (ws : Values) (r t : List ℕ) → all_fit s vs ≡ true → all_fit s ws ≡ true → after 93 (item_texts s vs) r ≡ after 93 (item_texts s ws) t → (vs ≡ ws) × (r ≡ t)
+
+record TellsParts (ss : Shapes) (vs : Values) : Type 0 where
+  told : (ws : Values) (r t : List ℕ) → parts_fit ss vs ≡ true → parts_fit ss ws ≡ true → after 41 (part_texts ss vs) r ≡ after 41 (part_texts ss ws) t → (vs ≡ ws) × (r ≡ t)
+
+null_told : (s : Shape) (w : Value) (r t : List ℕ) → fits s Null ≡ true → fits s w ≡ true → NoDigit r → NoDigit t → value_text s Null ++ r ≡ value_text s w ++ t → (Null ≡ w) × (r ≡ t)
+null_told s Null r t fv fw nr nt e = (refl, cc)
+null_told s (Truth y) r t fv fw nr nt e = absurd (unlike s Null (Truth y) r t fv fw e refl)
+null_told s (Number y) r t fv fw nr nt e = absurd (unlike s Null (Number y) r t fv fw e refl)
+null_told s (Bytes y) r t fv fw nr nt e = absurd (unlike s Null (Bytes y) r t fv fw e refl)
+null_told s (Items y) r t fv fw nr nt e = absurd (unlike s Null (Items y) r t fv fw e refl)
+null_told s (Tuple y) r t fv fw nr nt e = absurd (unlike s Null (Tuple y) r t fv fw e refl)
+
+truth_told : (s : Shape) (b : Bool) (w : Value) (r t : List ℕ) → fits s (Truth b) ≡ true → fits s w ≡ true → NoDigit r → NoDigit t → value_text s (Truth b) ++ r ≡ value_text s w ++ t → (Truth b ≡ w) × (r ≡ t)
+truth_told s true (Truth true) r t fv fw nr nt e = (refl, cc)
+truth_told s true (Truth false) r t fv fw nr nt e = let first : 116 ≡ 102 = ap (λ l. get_or l 0 0) e in absurd (omega (arith, first))
+truth_told s false (Truth true) r t fv fw nr nt e = let first : 102 ≡ 116 = ap (λ l. get_or l 0 0) e in absurd (omega (arith, first))
+truth_told s false (Truth false) r t fv fw nr nt e = (refl, cc)
+truth_told s b Null r t fv fw nr nt e = absurd (unlike s (Truth b) Null r t fv fw e refl)
+truth_told s b (Number y) r t fv fw nr nt e = absurd (unlike s (Truth b) (Number y) r t fv fw e refl)
+truth_told s b (Bytes y) r t fv fw nr nt e = absurd (unlike s (Truth b) (Bytes y) r t fv fw e refl)
+truth_told s b (Items y) r t fv fw nr nt e = absurd (unlike s (Truth b) (Items y) r t fv fw e refl)
+truth_told s b (Tuple y) r t fv fw nr nt e = absurd (unlike s (Truth b) (Tuple y) r t fv fw e refl)
+
+number_told : (s : Shape) (z : ℤ) (w : Value) (r t : List ℕ) → fits s (Number z) ≡ true → fits s w ≡ true → NoDigit r → NoDigit t → value_text s (Number z) ++ r ≡ value_text s w ++ t → (Number z ≡ w) × (r ≡ t)
+number_told s z (Number y) r t fv fw nr nt e =
+    let parts = signed_apart z y r t (small_number s z fv) (small_number s y fw) nr nt e in
+    (ap Number parts.0, parts.1)
+number_told s z Null r t fv fw nr nt e = absurd (unlike s (Number z) Null r t fv fw e refl)
+number_told s z (Truth y) r t fv fw nr nt e = absurd (unlike s (Number z) (Truth y) r t fv fw e refl)
+number_told s z (Bytes y) r t fv fw nr nt e = absurd (unlike s (Number z) (Bytes y) r t fv fw e refl)
+number_told s z (Items y) r t fv fw nr nt e = absurd (unlike s (Number z) (Items y) r t fv fw e refl)
+number_told s z (Tuple y) r t fv fw nr nt e = absurd (unlike s (Number z) (Tuple y) r t fv fw e refl)
+
+bytes_told : (s : Shape) (bs : List ℕ) (w : Value) (r t : List ℕ) → fits s (Bytes bs) ≡ true → fits s w ≡ true → NoDigit r → NoDigit t → value_text s (Bytes bs) ++ r ≡ value_text s w ++ t → (Bytes bs ≡ w) × (r ≡ t)
+bytes_told s bs (Bytes y) r t fv fw nr nt e = let parts = bytes_apart s bs y r t e in (ap Bytes parts.0, parts.1)
+bytes_told s bs Null r t fv fw nr nt e = absurd (unlike s (Bytes bs) Null r t fv fw e refl)
+bytes_told s bs (Truth y) r t fv fw nr nt e = absurd (unlike s (Bytes bs) (Truth y) r t fv fw e refl)
+bytes_told s bs (Number y) r t fv fw nr nt e = absurd (unlike s (Bytes bs) (Number y) r t fv fw e refl)
+bytes_told s bs (Items y) r t fv fw nr nt e = absurd (unlike s (Bytes bs) (Items y) r t fv fw e refl)
+bytes_told s bs (Tuple y) r t fv fw nr nt e = absurd (unlike s (Bytes bs) (Tuple y) r t fv fw e refl)
+
+-- what tells values behind commas tells those behind the bracket
+items_inside : (s : Shape) (vs ws : Values) (r t : List ℕ) → TellsItems s vs → all_fit s vs ≡ true → all_fit s ws ≡ true → inside 93 (item_texts s vs) r ≡ inside 93 (item_texts s ws) t → (vs ≡ ws) × (r ≡ t)
+items_inside s no_values no_values r t tells fv fw e = (refl, cc)
+items_inside s no_values (next_value w ws) r t tells fv fw e = absurd (no_value s w 93 r (after 93 (item_texts s ws) t) (and_first (fits s w) (all_fit s ws) fw) refl e)
+items_inside s (next_value v vs) no_values r t tells fv fw e = absurd (no_value s v 93 t (after 93 (item_texts s vs) r) (and_first (fits s v) (all_fit s vs) fv) refl (sym e))
+items_inside s (next_value v vs) (next_value w ws) r t tells fv fw e = tells.told (next_value w ws) r t fv fw (ap (λ l. 44 ∷ l) e)
+
+parts_inside : (ss : Shapes) (vs ws : Values) (r t : List ℕ) → TellsParts ss vs → parts_fit ss vs ≡ true → parts_fit ss ws ≡ true → inside 41 (part_texts ss vs) r ≡ inside 41 (part_texts ss ws) t → (vs ≡ ws) × (r ≡ t)
+parts_inside no_shapes no_values no_values r t tells fv fw e = (refl, cc)
+parts_inside no_shapes no_values (next_value w ws) r t tells fv fw e = absurd (false≢true fw)
+parts_inside no_shapes (next_value v vs) ws r t tells fv fw e = absurd (false≢true fv)
+parts_inside (next_shape s ss) no_values ws r t tells fv fw e = absurd (false≢true fv)
+parts_inside (next_shape s ss) (next_value v vs) no_values r t tells fv fw e = absurd (false≢true fw)
+parts_inside (next_shape s ss) (next_value v vs) (next_value w ws) r t tells fv fw e = tells.told (next_value w ws) r t fv fw (ap (λ l. 44 ∷ l) e)
+
+-- the texts behind an opening bracket
+unbracket : (first close : ℕ) (xs ys : List (List ℕ)) (r t : List ℕ) → (first ∷ join_with_byte 44 xs ++ close ∷ []) ++ r ≡ (first ∷ join_with_byte 44 ys ++ close ∷ []) ++ t → inside close xs r ≡ inside close ys t
+unbracket first close xs ys r t e = sym (joined_inside close xs r) ∙ ap (drop 1) e ∙ joined_inside close ys t
+
+items_told : (s : Shape) (vs : Values) (tells : TellsItems (item_shape s) vs) (w : Value) (r t : List ℕ) → fits s (Items vs) ≡ true → fits s w ≡ true → NoDigit r → NoDigit t → value_text s (Items vs) ++ r ≡ value_text s w ++ t → (Items vs ≡ w) × (r ≡ t)
+items_told s vs tells (Items ws) r t fv fw nr nt e =
+    let child = item_shape s in
+    let parts = items_inside child vs ws r t tells (and_second (fits_count s (length (listed vs))) (all_fit child vs) fv) (and_second (fits_count s (length (listed ws))) (all_fit child ws) fw)
+    (unbracket 91 93 (item_texts child vs) (item_texts child ws) r t e) in
+    (ap Items parts.0, parts.1)
+items_told s vs tells Null r t fv fw nr nt e = absurd (unlike s (Items vs) Null r t fv fw e refl)
+items_told s vs tells (Truth y) r t fv fw nr nt e = absurd (unlike s (Items vs) (Truth y) r t fv fw e refl)
+items_told s vs tells (Number y) r t fv fw nr nt e = absurd (unlike s (Items vs) (Number y) r t fv fw e refl)
+items_told s vs tells (Bytes y) r t fv fw nr nt e = absurd (unlike s (Items vs) (Bytes y) r t fv fw e refl)
+items_told s vs tells (Tuple y) r t fv fw nr nt e = absurd (unlike s (Items vs) (Tuple y) r t fv fw e refl)
+
+tuple_told : (s : Shape) (vs : Values) (tells : TellsParts (part_shapes s) vs) (w : Value) (r t : List ℕ) → fits s (Tuple vs) ≡ true → fits s w ≡ true → NoDigit r → NoDigit t → value_text s (Tuple vs) ++ r ≡ value_text s w ++ t → (Tuple vs ≡ w) × (r ≡ t)
+tuple_told s vs tells (Tuple ws) r t fv fw nr nt e =
+    let shapes = part_shapes s in
+    let parts = parts_inside shapes vs ws r t tells (and_second (is_struct_shape s) (parts_fit shapes vs) fv) (and_second (is_struct_shape s) (parts_fit shapes ws) fw)
+    (unbracket 40 41 (part_texts shapes vs) (part_texts shapes ws) r t e) in
+    (ap Tuple parts.0, parts.1)
+tuple_told s vs tells Null r t fv fw nr nt e = absurd (unlike s (Tuple vs) Null r t fv fw e refl)
+tuple_told s vs tells (Truth y) r t fv fw nr nt e = absurd (unlike s (Tuple vs) (Truth y) r t fv fw e refl)
+tuple_told s vs tells (Number y) r t fv fw nr nt e = absurd (unlike s (Tuple vs) (Number y) r t fv fw e refl)
+tuple_told s vs tells (Bytes y) r t fv fw nr nt e = absurd (unlike s (Tuple vs) (Bytes y) r t fv fw e refl)
+tuple_told s vs tells (Items y) r t fv fw nr nt e = absurd (unlike s (Tuple vs) (Items y) r t fv fw e refl)
+
+none_told : (s : Shape) (ws : Values) (r t : List ℕ) → all_fit s no_values ≡ true → all_fit s ws ≡ true → after 93 (item_texts s no_values) r ≡ after 93 (item_texts s ws) t → (no_values ≡ ws) × (r ≡ t)
+none_told s no_values r t fv fw e = (refl, ap (drop 1) e)
+none_told s (next_value w ws) r t fv fw e = let first : 93 ≡ 44 = ap (λ l. get_or l 0 0) e in absurd (omega (arith, first))
+
+next_told : (s : Shape) (v : Value) (vs : Values) → Tells s v → TellsItems s vs →
+    (ws : Values) (r t : List ℕ) → all_fit s (next_value v vs) ≡ true → all_fit s ws ≡ true → after 93 (item_texts s (next_value v vs)) r ≡ after 93 (item_texts s ws) t → (next_value v vs ≡ ws) × (r ≡ t)
+next_told s v vs tells more no_values r t fv fw e = let first : 44 ≡ 93 = ap (λ l. get_or l 0 0) e in absurd (omega (arith, first))
+next_told s v vs tells more (next_value w ws) r t fv fw e =
+    let one = tells.told w (after 93 (item_texts s vs) r) (after 93 (item_texts s ws) t) (and_first (fits s v) (all_fit s vs) fv) (and_first (fits s w) (all_fit s ws) fw)
+    (after_no_digit 93 (item_texts s vs) r (omega arith)) (after_no_digit 93 (item_texts s ws) t (omega arith)) (ap (drop 1) e) in
+    let rest = more.told ws r t (and_second (fits s v) (all_fit s vs) fv) (and_second (fits s w) (all_fit s ws) fw) one.1 in
+    (ap (λ x. next_value x vs) one.0 ∙ ap (next_value w) rest.0, rest.1)
+
+no_parts_told : (ss : Shapes) (ws : Values) (r t : List ℕ) → parts_fit ss no_values ≡ true → parts_fit ss ws ≡ true → after 41 (part_texts ss no_values) r ≡ after 41 (part_texts ss ws) t → (no_values ≡ ws) × (r ≡ t)
+no_parts_told no_shapes no_values r t fv fw e = (refl, ap (drop 1) e)
+no_parts_told no_shapes (next_value w ws) r t fv fw e = absurd (false≢true fw)
+no_parts_told (next_shape s ss) ws r t fv fw e = absurd (false≢true fv)
+
+next_part_told : (ss : Shapes) (v : Value) (vs : Values) → ((s : Shape) → Tells s v) → ((rest : Shapes) → TellsParts rest vs) →
+    (ws : Values) (r t : List ℕ) → parts_fit ss (next_value v vs) ≡ true → parts_fit ss ws ≡ true → after 41 (part_texts ss (next_value v vs)) r ≡ after 41 (part_texts ss ws) t → (next_value v vs ≡ ws) × (r ≡ t)
+next_part_told no_shapes v vs tells more ws r t fv fw e = absurd (false≢true fv)
+next_part_told (next_shape s ss) v vs tells more no_values r t fv fw e = absurd (false≢true fw)
+next_part_told (next_shape s ss) v vs tells more (next_value w ws) r t fv fw e =
+    let one = (tells s).told w (after 41 (part_texts ss vs) r) (after 41 (part_texts ss ws) t) (and_first (fits s v) (parts_fit ss vs) fv) (and_first (fits s w) (parts_fit ss ws) fw)
+    (after_no_digit 41 (part_texts ss vs) r (omega arith)) (after_no_digit 41 (part_texts ss ws) t (omega arith)) (ap (drop 1) e) in
+    let rest = (more ss).told ws r t (and_second (fits s v) (parts_fit ss vs) fv) (and_second (fits s w) (parts_fit ss ws) fw) one.1 in
+    (ap (λ x. next_value x vs) one.0 ∙ ap (next_value w) rest.0, rest.1)
+
+mutual
+  tells : (v : Value) (s : Shape) → Tells s v
+  tells Null s = record { told = null_told s }
+  tells (Truth b) s = record { told = truth_told s b }
+  tells (Number z) s = record { told = number_told s z }
+  tells (Bytes bs) s = record { told = bytes_told s bs }
+  tells (Items vs) s = record { told = items_told s vs (tells_items vs (item_shape s)) }
+  tells (Tuple vs) s = record { told = tuple_told s vs (tells_parts vs (part_shapes s)) }
+
+  tells_items : (vs : Values) (s : Shape) → TellsItems s vs
+  tells_items no_values s = record { told = none_told s }
+  tells_items (next_value v vs) s = record { told = next_told s v vs (tells v s) (tells_items vs s) }
+
+  tells_parts : (vs : Values) (ss : Shapes) → TellsParts ss vs
+  tells_parts no_values ss = record { told = no_parts_told ss }
+  tells_parts (next_value v vs) ss = record { told = next_part_told ss v vs (tells v) (tells_parts vs) }
+
+-- ---- lists of values
+
+all_fits : (s : Shape) (vs : List Value) → list_all (fits s) vs ≡ true → all_fit s (values_of vs) ≡ true
+all_fits s [] fit = refl
+all_fits s (v ∷ vs) fit = both (fits s v) (all_fit s (values_of vs)) (and_first _ _ fit) (all_fits s vs (and_second _ _ fit))
+
+text_inside : (s : Shape) (vs : List Value) → text_of s vs ++ [] ≡ 91 ∷ inside 93 (item_texts s (values_of vs)) []
+text_inside s vs =
+    ap (λ l. bracketed l ++ []) (sym (listed_texts s vs)) ∙ ap (λ l. 91 ∷ l) (joined_inside 93 (item_texts s (values_of vs)) [])
+
+pub texts_tell : TextsTellRows
+texts_tell shape rows others fit fitted same =
+    let texts : 91 ∷ inside 93 (item_texts shape (values_of rows)) [] ≡ 91 ∷ inside 93 (item_texts shape (values_of others)) [] =
+    sym (text_inside shape rows) ∙ ap (λ l. l ++ []) same ∙ text_inside shape others in
+    let body : inside 93 (item_texts shape (values_of rows)) [] ≡ inside 93 (item_texts shape (values_of others)) [] = cc in
+    let fv = all_fits shape rows fit in
+    let fw = all_fits shape others fitted in
+    let told = items_inside shape (values_of rows) (values_of others) [] [] (tells_items (values_of rows) shape) fv fw body in
+    list_of_back rows others (ap Items told.0)

@@ -1,0 +1,18 @@
+-- The texts of types with children.
+use Rattle.std.proofs.Common.{◌≡◌, ℕ, List, [], ◌∷◌, ◌++◌, map, Vec, Global, refl, ap, sym, ◌∙◌}
+use Rattle.std.specs.Prelude.{codes}
+use Rattle.sel_arrow.specs.DataType.{shape_of}
+use Rattle.sel_arrow.specs.Shape.{shapes_of}
+use Rattle.sel_arrow.specs.declared.datatype.ArrowDataType.{ArrowDataType, Struct}
+use Rattle.sel_arrow.proofs.Types.{struct_shape}
+use Rattle.sel_text.specs.Types.{angled, type_text, type_texts}
+
+abbrev pub text_of_type : ArrowDataType → List ℕ
+text_of_type dtype = type_text (shape_of dtype)
+
+each_text : (dtypes : List ArrowDataType) → type_texts (shapes_of (map shape_of dtypes)) ≡ map text_of_type dtypes
+each_text [] = refl
+each_text (dtype ∷ dtypes) = ap (λ l. text_of_type dtype ∷ l) (each_text dtypes)
+
+pub struct_text : (dtype : ArrowDataType) (fields : Vec ArrowDataType Global) → dtype ≡ Struct fields → codes "struct" ++ angled (map text_of_type fields.items) ≡ text_of_type dtype
+struct_text dtype fields is = sym (ap type_text (struct_shape dtype fields is) ∙ ap (λ l. codes "struct" ++ angled l) (each_text fields.items))

@@ -1,0 +1,11 @@
+use Rattle.std.proofs.Common.{◌∙◌, ap, sym}
+use Rattle.sel_arrow.specs.Value.{Bytes}
+use Rattle.sel_text.specs.Cells.{cell_value}
+use Rattle.sel_text.proofs.Equalities.{bytes_shown}
+use Rattle.sel_text.proofs.equal.equal_flat.Goals as goal
+
+pub returns-in-View : goal.returns-in-View
+returns-in-View c = bytes_shown _ _ _ c.equal_bytes-in-View.ensures (ap Bytes c.bytes_at.ensures ∙ sym (ap cell_value c.in-View.is))
+
+pub returns-in-Text : goal.returns-in-Text
+returns-in-Text c = bytes_shown _ _ _ c.equal_bytes-in-Text.ensures (ap Bytes c.bytes_at-in-Text.ensures ∙ sym (ap cell_value c.in-Text.is))

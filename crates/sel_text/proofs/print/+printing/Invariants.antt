@@ -1,0 +1,14 @@
+-- What was put behind the text so far.
+use Rattle.std.proofs.Common.{◌≡◌, map, take}
+use Rattle.std.specs.Prelude.{string_bytes}
+use Rattle.std.specs.List.{slice_range}
+use Rattle.sel_arrow.specs.Rows.{rows, type_of}
+use Rattle.sel_text.specs.Texts.{field_text, value_text}
+use Rattle.sel_text.proofs.Printed.{opened}
+use Rattle.sel_text.proofs.print.+printing.Given as goal
+
+abbrev pub invariant-push_items-loop-i : goal.invariant-push_items-loop-i
+invariant-push_items-loop-i l = string_bytes l.text ≡ opened (string_bytes l.fn.text) 91 (map (value_text (type_of l.column)) (slice_range (rows l.column) l.start l.i))
+
+abbrev pub invariant-push_parts-loop-k : goal.invariant-push_parts-loop-k
+invariant-push_parts-loop-k l = string_bytes l.text ≡ opened (string_bytes l.fn.text) 40 (map (field_text l.place) (take l.k l.fields))

@@ -1,0 +1,9 @@
+-- The bytes so far were put behind the text.
+use Rattle.std.proofs.Common.{◌≡◌, ◌++◌, take}
+use Rattle.std.specs.Prelude.{string_bytes, codes}
+use Rattle.std.specs.List.{flat_map}
+use Rattle.sel_text.specs.Texts.{hex_byte}
+use Rattle.sel_text.proofs.print.push_hex.Given as goal
+
+abbrev pub invariant-loop-byte : goal.invariant-loop-byte
+invariant-loop-byte l = string_bytes l.text ≡ string_bytes l.fn.text ++ (codes "h\"" ++ flat_map hex_byte (take l.byte-index l.bytes))

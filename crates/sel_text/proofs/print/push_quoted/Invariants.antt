@@ -1,0 +1,10 @@
+-- The characters so far were put behind the text.
+use Rattle.std.proofs.Common.{◌≡◌, ◌∷◌, ◌++◌}
+use Rattle.std.specs.Prelude.{string_bytes}
+use Rattle.std.specs.List.{flat_map}
+use Rattle.std.proofs.Math.Utf8.{encodes}
+use Rattle.sel_text.specs.Texts.{escaped}
+use Rattle.sel_text.proofs.print.push_quoted.Given as goal
+
+abbrev pub invariant-loop-letter : goal.invariant-loop-letter
+invariant-loop-letter l = string_bytes l.text ≡ string_bytes l.fn.text ++ (34 ∷ flat_map escaped (encodes l.yielded))

@@ -1,0 +1,10 @@
+-- What was put behind the text so far.
+use Rattle.std.proofs.Common.{◌≡◌, map, take}
+use Rattle.std.specs.Prelude.{string_bytes}
+use Rattle.sel_arrow.specs.DataType.{shape_of}
+use Rattle.sel_text.specs.Types.{type_text}
+use Rattle.sel_text.proofs.Printed.{opened}
+use Rattle.sel_text.proofs.types.+naming.Given as goal
+
+abbrev pub invariant-push_dtypes-loop-k : goal.invariant-push_dtypes-loop-k
+invariant-push_dtypes-loop-k l = string_bytes l.text ≡ opened (string_bytes l.fn.text) 60 (map (λ dtype. type_text (shape_of dtype)) (take l.k l.dtypes))

@@ -1,0 +1,67 @@
+-- Which values a column of a type can have.
+use Rattle.std.specs.Prelude.{ℕ, ℤ, ◌^◌, pos, negsuc, Bool, true, false, ◌&&◌, ◌==◌, nat_lt, List, length}
+use Rattle.std.specs.Int.Signed.{mag}
+use Rattle.std.specs.List.{list_all}
+use Rattle.std.specs.Str.{is_utf8}
+use Rattle.sel_arrow.specs.Shape.{Shape, Shapes, no_shapes, next_shape, of_boolean, of_int8, of_int16, of_int32, of_int64, of_int128, of_uint8, of_uint16, of_uint32, of_uint64, of_uint128, of_large_binary, of_binary_view, of_utf8_view, of_large_list, of_fixed_size_list, is_struct_shape}
+use Rattle.sel_arrow.specs.Value.{Value, Null, Truth, Number, Bytes, Items, Tuple, Values, no_values, next_value, listed}
+use Rattle.sel_text.specs.Texts.{item_shape, part_shapes}
+
+-- a number can be stored in so many bits, without a sign (own)
+abbrev pub fits_unsigned : ℕ → ℤ → Bool
+fits_unsigned bits (pos n) = nat_lt n (2 ^ bits)
+fits_unsigned bits (negsuc n) = false
+
+-- a number fits its type: one with a sign has a bit less for its size (Arrow columnar format: data types)
+abbrev pub fits_number : Shape → ℤ → Bool
+fits_number of_int8 z = nat_lt (mag z) (2 ^ 7)
+fits_number of_int16 z = nat_lt (mag z) (2 ^ 15)
+fits_number of_int32 z = nat_lt (mag z) (2 ^ 31)
+fits_number of_int64 z = nat_lt (mag z) (2 ^ 63)
+fits_number of_int128 z = nat_lt (mag z) (2 ^ 127)
+fits_number of_uint8 z = fits_unsigned 8 z
+fits_number of_uint16 z = fits_unsigned 16 z
+fits_number of_uint32 z = fits_unsigned 32 z
+fits_number of_uint64 z = fits_unsigned 64 z
+fits_number of_uint128 z = fits_unsigned 128 z
+fits_number shape z = false
+
+-- bytes fit a type of bytes, and one of texts where they are UTF-8 (Arrow columnar format: data types)
+abbrev pub fits_bytes : Shape → List ℕ → Bool
+fits_bytes of_large_binary bytes = list_all (λ byte. nat_lt byte 256) bytes
+fits_bytes of_binary_view bytes = list_all (λ byte. nat_lt byte 256) bytes
+fits_bytes of_utf8_view bytes = is_utf8 bytes
+fits_bytes shape bytes = false
+
+-- as many values fit a type of lists (Arrow columnar format: list layouts)
+abbrev pub fits_count : Shape → ℕ → Bool
+fits_count (of_large_list shape) n = true
+fits_count (of_fixed_size_list shape size) n = n == size
+fits_count shape n = false
+
+-- a type is one of truth values (Arrow columnar format: data types)
+abbrev pub is_truth_shape : Shape → Bool
+is_truth_shape of_boolean = true
+is_truth_shape shape = false
+
+abbrev mutual
+  -- a value can be a row of a column of this type; a null always can (Arrow columnar format: data types)
+  pub fits : Shape → Value → Bool
+  fits shape Null = true
+  fits shape (Truth truth) = is_truth_shape shape
+  fits shape (Number number) = fits_number shape number
+  fits shape (Bytes bytes) = fits_bytes shape bytes
+  fits shape (Items entries) = fits_count shape (length (listed entries)) && all_fit (item_shape shape) entries
+  fits shape (Tuple entries) = is_struct_shape shape && parts_fit (part_shapes shape) entries
+
+  -- each of a list's values does (own)
+  pub all_fit : Shape → Values → Bool
+  all_fit shape no_values = true
+  all_fit shape (next_value value entries) = fits shape value && all_fit shape entries
+
+  -- there is a value for each of a tuple's types, and each fits its own (Arrow columnar format: struct layout)
+  pub parts_fit : Shapes → Values → Bool
+  parts_fit no_shapes no_values = true
+  parts_fit no_shapes (next_value value entries) = false
+  parts_fit (next_shape shape types) no_values = false
+  parts_fit (next_shape shape types) (next_value value entries) = fits shape value && parts_fit types entries

@@ -1,0 +1,94 @@
+-- The text of a column's rows.
+use Rattle.std.specs.Prelude.{ℕ, ◌/◌, ◌%◌, Bool, true, false, List, [], ◌∷◌, ◌++◌, map, codes, if◌then◌else◌, ◌==◌, nat_lt, slice_index_or}
+use Rattle.std.specs.Char.{digit_char}
+use Rattle.std.specs.Fmt.{signed_decimal}
+use Rattle.std.specs.List.{flat_map, join_with_byte}
+use Rattle.sel_arrow.specs.Rows.{rows, type_of}
+use Rattle.sel_arrow.specs.Shape.{Shape, Shapes, no_shapes, next_shape, of_large_list, of_fixed_size_list, of_struct, of_utf8_view}
+use Rattle.sel_arrow.specs.Value.{Value, Null, Truth, Number, Bytes, Items, Tuple, Values, no_values, next_value}
+use Rattle.sel_arrow.specs.declared.column.Column.{Column}
+
+-- a byte in two hexadecimal digits, in lower case (own)
+abbrev pub hex_byte : ℕ → List ℕ
+hex_byte byte = digit_char (byte / 16) ∷ digit_char (byte % 16) ∷ []
+
+-- bytes, as in `h"00ff"` (own)
+abbrev pub hex_text : List ℕ → List ℕ
+hex_text bytes = codes "h\"" ++ flat_map hex_byte bytes ++ 34 ∷ []
+
+-- a byte of a text as it stands between quotes; all but `"`, `\` and those below a space stand for themselves (JSON: strings)
+abbrev pub escaped : ℕ → List ℕ
+escaped byte =
+    if byte == 34 then codes "\\\"" else
+    if byte == 92 then codes "\\\\" else
+    if byte == 10 then codes "\\n" else
+    if byte == 13 then codes "\\r" else
+    if byte == 9 then codes "\\t" else
+    if byte == 8 then codes "\\b" else
+    if byte == 12 then codes "\\f" else
+    if nat_lt byte 32 then codes "\\u00" ++ hex_byte byte else byte ∷ []
+
+-- a text between quotes, as in `"x\n"` (JSON: strings)
+abbrev pub quoted : List ℕ → List ℕ
+quoted text = 34 ∷ flat_map escaped text ++ 34 ∷ []
+
+-- whether it is a type of texts (Arrow columnar format: Utf8)
+abbrev pub is_text_shape : Shape → Bool
+is_text_shape of_utf8_view = true
+is_text_shape shape = false
+
+-- bytes of a column of texts, or of another one (own)
+abbrev pub bytes_text : Shape → List ℕ → List ℕ
+bytes_text shape bytes = if is_text_shape shape then quoted bytes else hex_text bytes
+
+-- a truth value (JSON: literals)
+abbrev pub truth_text : Bool → List ℕ
+truth_text truth = if truth then codes "true" else codes "false"
+
+-- texts between brackets, with commas between them, as in `[1,2]` (JSON: arrays)
+abbrev pub bracketed : List (List ℕ) → List ℕ
+bracketed texts = 91 ∷ join_with_byte 44 texts ++ 93 ∷ []
+
+-- the same between parentheses, as in `(1,2)` (own)
+abbrev pub parenthesized : List (List ℕ) → List ℕ
+parenthesized texts = 40 ∷ join_with_byte 44 texts ++ 41 ∷ []
+
+-- the type of the values in a list of a type of lists (Arrow columnar format: list layouts)
+abbrev pub item_shape : Shape → Shape
+item_shape (of_large_list shape) = shape
+item_shape (of_fixed_size_list shape size) = shape
+item_shape shape = shape
+
+-- the types of the values in a tuple of a type of tuples (Arrow columnar format: struct layout)
+abbrev pub part_shapes : Shape → Shapes
+part_shapes (of_struct types) = types
+part_shapes shape = no_shapes
+
+abbrev mutual
+  -- a value of a column of this type (own: the notation that the documents write)
+  pub value_text : Shape → Value → List ℕ
+  value_text shape Null = codes "null"
+  value_text shape (Truth truth) = truth_text truth
+  value_text shape (Number number) = signed_decimal number
+  value_text shape (Bytes bytes) = bytes_text shape bytes
+  value_text shape (Items entries) = bracketed (item_texts (item_shape shape) entries)
+  value_text shape (Tuple entries) = parenthesized (part_texts (part_shapes shape) entries)
+
+  -- values of one type, each as a text (own)
+  pub item_texts : Shape → Values → List (List ℕ)
+  item_texts shape no_values = []
+  item_texts shape (next_value value entries) = value_text shape value ∷ item_texts shape entries
+
+  -- values of a type each, each as a text (own)
+  pub part_texts : Shapes → Values → List (List ℕ)
+  part_texts types no_values = []
+  part_texts no_shapes (next_value value entries) = []
+  part_texts (next_shape shape types) (next_value value entries) = value_text shape value ∷ part_texts types entries
+
+-- the rows of a column of this type, as in `[1,null,-3]` (own: the notation that the documents write)
+abbrev pub text_of : Shape → List Value → List ℕ
+text_of shape rows = bracketed (map (value_text shape) rows)
+
+-- the row of a field at a place (own)
+abbrev pub field_text : ℕ → Column → List ℕ
+field_text place field = value_text (type_of field) (slice_index_or (rows field) place Null)
