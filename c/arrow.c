@@ -101,8 +101,7 @@ static uint32_t import_numbers(level *l, char format, sel_column *out) {
     case 'i': IMPORT_NUMBERS(int32_t, sel_int32_new);
     case 'I': IMPORT_NUMBERS(uint32_t, sel_uint32_new);
     case 'l': IMPORT_NUMBERS(int64_t, sel_int64_new);
-    case 'L': IMPORT_NUMBERS(uint64_t, sel_uint64_new);
-    default: IMPORT_NUMBERS(sel_wide, sel_int128_new);
+    default: IMPORT_NUMBERS(uint64_t, sel_uint64_new);
     }
 }
 
@@ -266,14 +265,6 @@ static uint32_t import_struct(level *l, sel_column *out) {
     return status;
 }
 
-/* Whether a format is that of whole numbers of 128 bits: d:P,0 or d:P,0,128. */
-static bool is_wide_number(const char *format) {
-    unsigned precision;
-    int read = 0;
-    if (sscanf(format, "d:%2u,0%n", &precision, &read) != 1 || read == 0) return false;
-    return !format[read] || !strcmp(format + read, ",128");
-}
-
 /* How many children a format has; -1: any number. */
 static int64_t children_of(const char *format) { return format[0] != '+' ? 0 : format[1] == 's' ? -1 : 1; }
 
@@ -281,7 +272,7 @@ static uint32_t import_format(level *l, const char *f, sel_column *out) {
     uint32_t status = SEL_DONE;
     bool one = f[0] && !f[1];
     if (!strcmp(f, "n")) return sel_null_new(l->len, out);
-    if ((one && strchr("bcCsSiIlL", f[0])) || is_wide_number(f)) {
+    if (one && strchr("bcCsSiIlL", f[0])) {
         if ((status = buffers_missing(l, 2)) != SEL_DONE) return status;
         return f[0] == 'b' ? import_bits(l, out) : import_numbers(l, f[0], out);
     }
@@ -298,7 +289,7 @@ static uint32_t import_format(level *l, const char *f, sel_column *out) {
 
 static bool is_known(const char *f) {
     bool one = f[0] && !f[1] && strchr("nbcCsSiIlLzZuU", f[0]);
-    return one || is_wide_number(f) || !strcmp(f, "vz") || !strcmp(f, "vu") || !strcmp(f, "+l") || !strcmp(f, "+L")
+    return one || !strcmp(f, "vz") || !strcmp(f, "vu") || !strcmp(f, "+l") || !strcmp(f, "+L")
         || !strcmp(f, "+s") || !strncmp(f, "+w:", 3);
 }
 
@@ -406,26 +397,6 @@ static uint32_t export_bits(target *t) {
         return values ? read(t->of, values, t->len) : SEL_NO_MEMORY;                                                    \
     } while (0)
 
-/* Whether a number of 128 bits with a sign has at most 38 digits: its size is below 10 to the 38th. */
-static bool has_38_digits(sel_wide number) {
-    bool negative = number.high >> 63;
-    uint64_t high = negative ? ~number.high + (number.low == 0) : number.high;
-    uint64_t low = negative ? ~number.low + 1 : number.low;
-    const uint64_t most_high = 0x4b3b4ca85a86c47aU, most_low = 0x098a224000000000U;
-    return high < most_high || (high == most_high && low < most_low);
-}
-
-static uint32_t export_wide(target *t) {
-    sel_wide *values = buffer(t, 1, t->len, sizeof *values);
-    if (!values) return SEL_NO_MEMORY;
-    uint32_t status = sel_int128_values(t->of, values, t->len);
-    for (size_t i = 0; status == SEL_DONE && i < t->len; i++) {
-        if (!row_is_valid(t, i)) values[i] = (sel_wide){0, 0};
-        else if (!has_38_digits(values[i])) status = SEL_ARROW_RANGE;
-    }
-    return status;
-}
-
 static uint32_t export_numbers(target *t, uint32_t kind) {
     switch (kind) {
     case SEL_BOOLEAN: return export_bits(t);
@@ -436,8 +407,7 @@ static uint32_t export_numbers(target *t, uint32_t kind) {
     case SEL_UINT8: EXPORT_NUMBERS(uint8_t, sel_uint8_values);
     case SEL_UINT16: EXPORT_NUMBERS(uint16_t, sel_uint16_values);
     case SEL_UINT32: EXPORT_NUMBERS(uint32_t, sel_uint32_values);
-    case SEL_UINT64: EXPORT_NUMBERS(uint64_t, sel_uint64_values);
-    default: return export_wide(t);
+    default: EXPORT_NUMBERS(uint64_t, sel_uint64_values);
     }
 }
 
@@ -549,7 +519,7 @@ static uint32_t export_struct(target *t) {
     return status;
 }
 
-static const char *const formats[] = {"n", "b", "c", "s", "i", "l", "d:38,0,128", "C", "S", "I", "L", NULL, "Z", "vz", "vu", "+L", "+w:", "+s"};
+static const char *const formats[] = {"n", "b", "c", "s", "i", "l", NULL, "C", "S", "I", "L", NULL, "Z", "vz", "vu", "+L", "+w:", "+s"};
 
 static uint32_t export_level(target *t, uint32_t kind) {
     size_t count = 0;
@@ -593,18 +563,45 @@ uint32_t sel_export(sel_column *of, struct ArrowArray *array, struct ArrowSchema
 }
 
 size_t sel_arrow_text(uint32_t status, uint8_t *out, size_t out_len) {
-    static const char *const texts[] = {
-        "the array or the schema was released",
-        "a format that has no kind of column here",
-        "a buffer is missing, or there are others than the format has",
-        "a child is missing, or there are others than the format has",
-        "a length or an offset is below zero, or a child is too short",
-        "an array of keys into a dictionary",
-        "more than 256 levels of children",
-        "a value or a place that the format cannot show",
+    static const struct { uint32_t status; const char *text; } texts[] = {
+        {SEL_DONE, "done"},
+        {SEL_NO_MEMORY, "out of memory"},
+        {SEL_NO_COLUMN, "a handle has no column"},
+        {SEL_OTHER_KIND, "the column is of a kind that the call is not for"},
+        {SEL_OTHER_TYPE, "the columns are of several types"},
+        {SEL_OTHER_LENGTH, "a slice, a mask or a column is of another length than it has to be"},
+        {SEL_OUT_OF_BOUNDS, "an index, a key or a part names a row that there is not"},
+        {SEL_GET_OUT_OF_BOUNDS, "get index is out of bounds"},
+        {SEL_LIMIT_ROWS, "size limit rows"},
+        {SEL_LIMIT_BYTES, "size limit bytes"},
+        {SEL_LIMIT_BUFFERS, "size limit buffers"},
+        {SEL_LIMIT_VIEW_BYTES, "size limit view bytes"},
+        {SEL_OFFSET_COUNT, "there is no offset"},
+        {SEL_OFFSET_NEGATIVE, "an offset is negative"},
+        {SEL_OFFSET_ORDER, "an offset is less than the one before"},
+        {SEL_TOO_MANY_ROWS, "there are more rows than a column may have"},
+        {SEL_TOO_MANY_BUFFERS, "there are more data buffers than a column may have"},
+        {SEL_WIDTH, "lists of one length are longer than they may be"},
+        {SEL_OFFSET_RANGE, "the last offset is past the end of what it points into"},
+        {SEL_CHILD_LENGTH, "the child has not a row for each entry"},
+        {SEL_FIELD_LENGTH, "a field has another number of rows than its struct"},
+        {SEL_VALIDITY_LENGTH, "the validity has another length than the rows"},
+        {SEL_VIEW_RANGE, "a view names bytes that its buffers do not have"},
+        {SEL_VIEW_PREFIX, "a view has another prefix than its bytes"},
+        {SEL_UTF8, "a text is no UTF-8"},
+        {SEL_ARROW_RELEASED, "the array or the schema was released"},
+        {SEL_ARROW_FORMAT, "a format that has no kind of column here"},
+        {SEL_ARROW_BUFFERS, "a buffer is missing, or there are others than the format has"},
+        {SEL_ARROW_CHILDREN, "a child is missing, or there are others than the format has"},
+        {SEL_ARROW_LENGTH, "a length or an offset is below zero, or a child is too short"},
+        {SEL_ARROW_DICTIONARY, "an array of keys into a dictionary"},
+        {SEL_ARROW_DEPTH, "more than 256 levels of children"},
+        {SEL_ARROW_RANGE, "a value or a place that the format cannot show"},
     };
-    if (status < SEL_ARROW_RELEASED || status > SEL_ARROW_RANGE) return sel_status_text(status, out, out_len);
-    size_t len = strlen(texts[status - SEL_ARROW_RELEASED]);
-    memcpy(out, texts[status - SEL_ARROW_RELEASED], len < out_len ? len : out_len);
+    const char *text = "no status of these calls";
+    for (size_t i = 0; i < sizeof texts / sizeof *texts; i++)
+        if (texts[i].status == status) text = texts[i].text;
+    size_t len = strlen(text);
+    memcpy(out, text, len < out_len ? len : out_len);
     return len;
 }

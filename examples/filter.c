@@ -1,12 +1,12 @@
 /* Keeps the rows of a column that a mask names.  cc filter.c -I../include -L../build -lsel */
-#include "sel.h"
+#include "sel_arrow.h"
 
 #include <inttypes.h>
 #include <stdio.h>
 
 static int refused(const char *call, uint32_t status) {
     uint8_t text[64];
-    size_t len = sel_status_text(status, text, sizeof text);
+    size_t len = sel_arrow_text(status, text, sizeof text);
     fprintf(stderr, "%s: %.*s\n", call, (int)(len < sizeof text ? len : sizeof text), (const char *)text);
     return 1;
 }

@@ -1,4 +1,4 @@
-"""Proved selection kernels over Arrow columns: filter, take, choose, getters of lists, flatten.
+"""Proved selection kernels over Arrow columns: filter and take.
 
 >>> import sel
 >>> ages = sel.Column.from_pylist([31, None, 27, 45])
@@ -6,12 +6,12 @@
 Column(i64, [31, None, 45])
 """
 
-from ._column import Column, choose, collect_rows, flatten, propagate_dictionary
+from ._column import Column
 from ._errors import BrokenRule, LimitPassed, OutOfBounds, OutOfMemory, SelError, WrongArgument
 from ._types import Type, parse_type
 
 __all__ = [
     "BrokenRule", "Column", "LimitPassed", "OutOfBounds", "OutOfMemory", "SelError", "Type", "WrongArgument",
-    "choose", "collect_rows", "flatten", "parse_type", "propagate_dictionary",
+    "parse_type",
 ]
 __version__ = "0.2.0"

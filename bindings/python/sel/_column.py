@@ -9,13 +9,13 @@ from ctypes import addressof, byref, c_bool, c_size_t, c_uint8, create_string_bu
 from typing import TYPE_CHECKING, Any
 
 from ._errors import OutOfBounds
-from ._library import Handle, Pick, Slice, View, Wide, call, lib
+from ._library import Handle, Slice, View, call, lib
 from ._types import KINDS, NUMBERS, Type, parse_type, type_of_values
 
 if TYPE_CHECKING:
     import numpy
 
-__all__ = ["Column", "choose", "collect_rows", "flatten", "propagate_dictionary"]
+__all__ = ["Column"]
 
 # Where a slice without items points to.
 _NOTHING = (c_uint8 * 16)()
@@ -171,12 +171,6 @@ class Column:
         more = f", ... {len(self) - most} more" if len(self) > most else ""
         return f"Column({self.type}, [{rows}{more}])"
 
-    def equals(self, other: Column) -> bool:
-        """Whether both have the same rows, of whatever types."""
-        answer, second = c_bool(), self._other(other)
-        call("sel_equal_rows", self._at(), second._at(), byref(answer))
-        return answer.value
-
     # ---- kernels
 
     def filter(self, mask: Column | Iterable[bool | None]) -> Column:
@@ -187,21 +181,11 @@ class Column:
         """The rows at the indices, null where an index is null."""
         return self._new("sel_take", self._other(_as_column(indices, "u32")))
 
-    def sublist_get(self, index: int) -> Column:
-        """Of each list the element at the index, counted from the end where it is negative; null where there is none."""
-        return self._new("sel_sublist_get", index)
-
     def index_is_oob(self, index: int) -> bool:
         """Whether a list that is not null has no element at the index."""
         answer = c_bool()
         call("sel_index_is_oob", self._at(), index, byref(answer))
         return answer.value
-
-    def fixed_get(self, index: int | Column, null_on_oob: bool = True) -> Column:
-        """Of each list of one length the element at the index, or at its row of a column of indices of 64 bits."""
-        if isinstance(index, Column):
-            return self._new("sel_fixed_get_each", self._other(index), null_on_oob)
-        return self._new("sel_fixed_get", index, null_on_oob)
 
     def unit_list(self) -> Column:
         """Each row in a list of its own."""
@@ -300,12 +284,8 @@ def _make_numbers(values: Sequence[Any], wanted: Type) -> Column:
             raise TypeError(f"{number!r} is no whole number")
         if not least <= number <= most:
             raise OverflowError(f"{number} is none of {wanted}")
-    if abs(bits) == 128:
-        low = (1 << 64) - 1
-        items: Any = (Wide * max(1, count))(*[Wide(number & low, number >> 64 & low) for number in numbers])
-    else:
-        items = array(_CODES[name], numbers)
-        items = (c_uint8 * max(8, len(items) * items.itemsize)).from_buffer_copy(items.tobytes().ljust(8, b"\0"))
+    plain = array(_CODES[name], numbers)
+    items = (c_uint8 * max(8, len(plain) * plain.itemsize)).from_buffer_copy(plain.tobytes().ljust(8, b"\0"))
     call(f"sel_{name}_new", items, count, *_validity([value is not None for value in values]), byref(column._handle))
     return column
 
@@ -411,7 +391,7 @@ def _with_handles(columns: Sequence[Column], make: Any) -> Column:
         make(handles, made)
     finally:
         for place in range(len(handles)):
-            lib.sel_free(byref(handles, place * 8))
+            lib.sel_free(byref(handles[place]))
     return made
 
 
@@ -429,11 +409,6 @@ def _read_null(column: Column) -> list[Any]:
 def _read_numbers(column: Column) -> list[Any]:
     name, bits = NUMBERS[KINDS[lib.sel_kind(column._at())]]
     count = len(column)
-    if abs(bits) == 128:
-        wide = (Wide * max(1, count))()
-        call(f"sel_{name}_values", column._at(), wide, count)
-        numbers = [item.high << 64 | item.low for item in wide[:count]]
-        return [number - (1 << 128) if bits < 0 and number >> 127 else number for number in numbers]
     items = array(_CODES[name], bytes(count * abs(bits) // 8) or bytes(8))
     call(f"sel_{name}_values", column._at(), items.buffer_info()[0], count)
     return items.tolist()[:count]
@@ -500,42 +475,3 @@ def _read_structs(column: Column) -> list[Any]:
 
 _READERS = {"null": _read_null, "bool": _read_bools, "binary": _read_bytes, "binview": _read_views, "utf8": _read_views,
             "list": _read_lists, "fixed": _read_fixed_lists, "struct": _read_structs}
-
-
-# ---- kernels over several columns
-
-
-def choose(mask: Column | Iterable[bool | None], if_true: Column | Any, if_false: Column | Any) -> Column:
-    """The rows of `if_true` where the mask is true, else those of `if_false`; both are of one type.
-
-    A side that is no column is one value for all rows; a mask's null is false.
-    """
-    wanted = if_true.type if isinstance(if_true, Column) else if_false.type if isinstance(if_false, Column) else type_of_values([if_true, if_false])
-    first, second = (side if isinstance(side, Column) else Column.from_pylist([side], wanted) for side in (if_true, if_false))
-    second = first._other(second)
-    name = {(True, True): "sel_choose", (False, True): "sel_choose_one", (True, False): "sel_choose_or_one", (False, False): "sel_choose_of_two"}[
-        isinstance(if_true, Column), isinstance(if_false, Column)]
-    flags = first._other(second._other(_as_column(mask, "bool")))
-    return flags._new(name, first, second)
-
-
-def flatten(columns: Sequence[Column], widths: Sequence[int], height: int) -> Column:
-    """`height` rows with so many items of each column, column by column, behind one another."""
-    sizes = (c_size_t * max(1, len(widths)))(*widths)
-    return _with_handles(columns, lambda handles, made: call(
-        "sel_flatten", handles, len(columns), sizes, len(widths), height, byref(made._handle)))
-
-
-def collect_rows(columns: Sequence[Column], picks: Sequence[tuple[int, int] | None]) -> Column:
-    """The rows that the picks name, each a column's place and a row's; null where a pick is `None`."""
-    places = (Pick * max(1, len(picks)))(*[Pick(*(pick or (0, 0))) for pick in picks])
-    valid = _validity([pick is not None for pick in picks])
-    return _with_handles(columns, lambda handles, made: call(
-        "sel_collect_rows", handles, len(columns), places, len(picks), *valid, byref(made._handle)))
-
-
-def propagate_dictionary(keys: Column, values: Column) -> tuple[Column, Column]:
-    """Keys of 32 bits and texts without the null ones: a key of a null text becomes null."""
-    new_keys, new_values = Column(), Column()
-    call("sel_propagate_dictionary", keys._at(), values._at(), byref(new_keys._handle), byref(new_values._handle))
-    return new_keys, new_values

@@ -16,7 +16,7 @@ class Columns(unittest.TestCase):
     def test_every_kind_in_and_out(self) -> None:
         for text, rows in (
             ("null", [None, None]), ("bool", [True, None, False]), ("i8", [-128, None, 127]), ("u16", [65535, 0]),
-            ("i128", [-(2**127), None, 2**127 - 1]), ("u128", [2**128 - 1]), ("binary", [b"", None, b"a\0b"]),
+            ("i64", [-(2**63), None, 2**63 - 1]), ("u64", [2**64 - 1]), ("binary", [b"", None, b"a\0b"]),
             ("binview", [b"twelve bytes", b"thirteen byte", None]), ("utf8", ["", "é√", None, "longer than twelve"]),
             ("list<i64>", [[1, None], None, []]), ("fixed<2,bool>", [[True, None], None]), ("struct<i64,utf8>", [(1, "a"), None, (None, None)]),
             ("list<struct<fixed<1,i8>,list<utf8>>>", [[([1], ["x"]), None], None, [(None, None)]]),
@@ -41,14 +41,13 @@ class Columns(unittest.TestCase):
     def test_random_columns_through_arrow(self) -> None:
         rng = random.Random(2)
         for _ in range(CASES):
-            wanted = model.random_type(rng, 3, but=("u128",))
+            wanted = model.random_type(rng, 3)
             rows = model.random_rows(rng, wanted, rng.randrange(12))
             start = rng.randrange(len(rows) + 1)
             part = Column.from_pylist(rows, wanted)[start:]
             again = Column.from_arrow(part)
             self.assertEqual(again.to_pylist(), rows[start:])
             self.assertEqual(again.type, wanted)
-            self.assertTrue(again.equals(part))
 
     def test_shown(self) -> None:
         self.assertEqual(repr(Column.from_pylist([1, None])), "Column(i64, [1, None])")
@@ -66,60 +65,21 @@ class Kernels(unittest.TestCase):
     def test_of_columns_that_came_through_arrow(self) -> None:
         rng = random.Random(3)
         for _ in range(CASES):
-            wanted = model.random_type(rng, 3, but=("u128",))
+            wanted = model.random_type(rng, 3)
             rows = model.random_rows(rng, wanted, rng.randrange(1, 12))
-            other = model.random_rows(rng, wanted, len(rows))
             column = Column.from_arrow(Column.from_pylist(rows, wanted))
             mask = [rng.choice((True, False, None)) for _ in rows]
             indices = [rng.choice((None, rng.randrange(len(rows)))) for _ in range(rng.randrange(8))]
             self.assertEqual(column.filter(mask).to_pylist(), model.kept(rows, mask))
             self.assertEqual(column.take(indices).to_pylist(), model.taken(rows, indices))
-            answer = sel.choose(mask, column, Column.from_pylist(other, wanted))
-            self.assertEqual(answer.to_pylist(), model.chosen(mask, rows, other))
             self.assertEqual(column.unit_list().to_pylist(), [[row] for row in rows])
 
-    def test_getters(self) -> None:
+    def test_out_of_bounds(self) -> None:
         rng = random.Random(4)
         for _ in range(CASES):
-            below, index = model.random_type(rng, 2), rng.randrange(-4, 4)
-            rows = model.random_rows(rng, Type("list", (below,)), rng.randrange(1, 10))
-            lists = Column.from_pylist(rows, Type("list", (below,)))
-            self.assertEqual(lists.sublist_get(index).to_pylist(), [model.element(row, index) for row in rows])
-            self.assertEqual(lists.index_is_oob(index), model.is_outside(rows, index))
-            wanted = Type("fixed", (below,), rng.randrange(4))
+            wanted, index = Type("list", (model.random_type(rng, 2),)), rng.randrange(-4, 4)
             rows = model.random_rows(rng, wanted, rng.randrange(1, 10))
-            blocks = Column.from_pylist(rows, wanted)
-            self.assertEqual(blocks.fixed_get(index).to_pylist(), [model.element(row, index) for row in rows])
-            each = [rng.choice((None, rng.randrange(-4, 4))) for _ in rows]
-            expected = [None if at is None else model.element(row, at) for row, at in zip(rows, each)]
-            self.assertEqual(blocks.fixed_get(Column.from_pylist(each, "i64")).to_pylist(), expected)
-
-    def test_several_columns(self) -> None:
-        rng = random.Random(5)
-        for _ in range(CASES // 4):
-            wanted, height = model.random_type(rng, 2), rng.randrange(1, 5)
-            widths = [rng.randrange(1, 4) for _ in range(rng.randrange(1, 4))]
-            rows = [model.random_rows(rng, wanted, width * rng.choice((1, height))) for width in widths]
-            columns = [Column.from_pylist(each, wanted) for each in rows]
-            self.assertEqual(sel.flatten(columns, widths, height).to_pylist(), model.side_by_side(rows, widths, height))
-            places = [(source, row) for source, each in enumerate(rows) for row in range(len(each))]
-            picks = [rng.choice((None, rng.choice(places))) for _ in range(rng.randrange(9))]
-            expected = [None if pick is None else rows[pick[0]][pick[1]] for pick in picks]
-            self.assertEqual(sel.collect_rows(columns, picks).to_pylist(), expected)
-
-    def test_one_value_for_all_rows(self) -> None:
-        column = Column.from_pylist([1, None, 3])
-        mask = [True, False, None]
-        self.assertEqual(sel.choose(mask, 7, column).to_pylist(), [7, None, 3])
-        self.assertEqual(sel.choose(mask, column, 8).to_pylist(), [1, 8, 8])
-        self.assertEqual(sel.choose(mask, 7, 8).to_pylist(), [7, 8, 8])
-        self.assertEqual(sel.choose(mask, column, column).to_pylist(), [1, None, 3])
-
-    def test_dictionaries(self) -> None:
-        keys, values = Column.from_pylist([0, 1, 2, None], "u32"), Column.from_pylist(["a", None, "c"])
-        new_keys, new_values = sel.propagate_dictionary(keys, values)
-        self.assertEqual(new_keys.to_pylist(), [0, None, 1, None])
-        self.assertEqual(new_values.to_pylist(), ["a", "c"])
+            self.assertEqual(Column.from_pylist(rows, wanted).index_is_oob(index), model.is_outside(rows, index))
 
 
 class Refusals(unittest.TestCase):
@@ -127,14 +87,9 @@ class Refusals(unittest.TestCase):
         column = Column.from_pylist([1, 2])
         for error, call in (
             (sel.WrongArgument, lambda: column.filter([True])),
-            (sel.WrongArgument, lambda: column.sublist_get(0)),
-            (sel.WrongArgument, lambda: sel.choose([True, True], column, Column.from_pylist(["a", "b"]))),
             (sel.OutOfBounds, lambda: column.take([2])),
+            (sel.WrongArgument, lambda: column.index_is_oob(0)),
             (sel.OutOfBounds, lambda: column.sliced(1, 2)),
-            (sel.OutOfBounds, lambda: Column.from_pylist([[1]], "fixed<1,i64>").fixed_get(1, null_on_oob=False)),
-            (sel.LimitPassed, lambda: sel.flatten([Column.from_pylist([None] * 65537)], [65537], 65536)),
-            (sel.BrokenRule, lambda: Column.from_pylist([2**127 - 1], "i128").__arrow_c_array__()),
-            (sel.BrokenRule, lambda: Column.from_pylist([1], "u128").__arrow_c_array__()),
         ):
             with self.assertRaises(error) as caught:
                 call()

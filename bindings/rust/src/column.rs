@@ -2,7 +2,7 @@
 
 use crate::error::Error;
 use crate::number::Number;
-use crate::raw::{self, Handle, RawPick, RawSlice, RawView};
+use crate::raw::{self, Handle, RawSlice, RawView};
 use std::cell::UnsafeCell;
 use std::ptr;
 
@@ -235,24 +235,12 @@ impl Column {
         Column::made(|out| unsafe { raw::sel_take(of.at(), indices.at(), out) })
     }
 
-    /// Of each list the element at the index, counted from the end where it is negative; null where there is none.
-    pub fn sublist_get(&self, index: i64) -> Result<Column, Error> {
-        // SAFETY: as in `child`.
-        Column::made(|out| unsafe { raw::sel_sublist_get(self.at(), index, out) })
-    }
-
     /// Whether a list that is not null has no element at the index.
     pub fn index_is_oob(&self, index: i64) -> Result<bool, Error> {
         let mut is_oob = false;
         // SAFETY: as in `len`.
         checked(unsafe { raw::sel_index_is_oob(self.at(), index, &mut is_oob) })?;
         Ok(is_oob)
-    }
-
-    /// Of each list of one length the element at the index; null where there is none, or else the out of bounds refusal.
-    pub fn fixed_get(&self, index: i64, null_on_oob: bool) -> Result<Column, Error> {
-        // SAFETY: as in `child`.
-        Column::made(|out| unsafe { raw::sel_fixed_get(self.at(), index, null_on_oob, out) })
     }
 
     /// Each row in a list of its own.
@@ -271,14 +259,6 @@ impl Column {
     pub fn share(&self) -> Result<Column, Error> {
         // SAFETY: as in `child`.
         Column::made(|out| unsafe { raw::sel_share(self.at(), out) })
-    }
-
-    /// Whether both have the same rows, of whatever types.
-    pub fn equals(&self, other: &Column) -> Result<bool, Error> {
-        let (other, mut equal) = (other.share()?, false);
-        // SAFETY: two distinct handles.
-        checked(unsafe { raw::sel_equal_rows(self.at(), other.at(), &mut equal) })?;
-        Ok(equal)
     }
 }
 
@@ -319,42 +299,4 @@ fn with_handles(columns: Vec<Column>, call: impl FnOnce(*mut Handle, usize, *mut
         unsafe { raw::sel_free(handle) }
     }
     made
-}
-
-fn shares(columns: &[&Column]) -> Result<Vec<Column>, Error> {
-    columns.iter().map(|column| column.share()).collect()
-}
-
-/// The rows of `if_true` where the mask is true, else those of `if_false`; both are of one type and of the mask's length.
-pub fn choose(mask: &Column, if_true: &Column, if_false: &Column) -> Result<Column, Error> {
-    let (mask, first, second) = (mask.share()?, if_true.share()?, if_false.share()?);
-    // SAFETY: four distinct handles.
-    Column::made(|out| unsafe { raw::sel_choose(mask.at(), first.at(), second.at(), out) })
-}
-
-/// `height` rows with so many items of each column, column by column, behind one another.
-pub fn flatten(columns: &[&Column], widths: &[usize], height: usize) -> Result<Column, Error> {
-    with_handles(shares(columns)?, |at, count, out| {
-        // SAFETY: the handles stand behind one another; the widths are as many as are told.
-        unsafe { raw::sel_flatten(at, count, widths.as_ptr(), widths.len(), height, out) }
-    })
-}
-
-/// The rows that the picks name, each a column's place and a row's; null where there is no pick.
-pub fn collect_rows(columns: &[&Column], picks: &[Option<(u32, u32)>]) -> Result<Column, Error> {
-    let bits = packed(picks.iter().map(Option::is_some));
-    let picks: Vec<RawPick> = picks.iter().map(|pick| pick.unwrap_or_default()).map(|(source, row)| RawPick { source, row }).collect();
-    with_handles(shares(columns)?, |at, count, out| {
-        // SAFETY: as in `flatten`; the bits are as many bytes as are told.
-        unsafe { raw::sel_collect_rows(at, count, picks.as_ptr(), picks.len(), bits.as_ptr(), bits.len(), true, out) }
-    })
-}
-
-/// Keys of 32 bits and texts without the null ones: a key of a null text becomes null.
-pub fn propagate_dictionary(keys: &Column, values: &Column) -> Result<(Column, Column), Error> {
-    let (new_keys, new_values) = (Column::empty(), Column::empty());
-    // SAFETY: four distinct handles, since a column of keys is none of texts: one that is both is refused by its kind.
-    let values = values.share()?;
-    checked(unsafe { raw::sel_propagate_dictionary(keys.at(), values.at(), new_keys.at(), new_values.at()) })?;
-    Ok((new_keys, new_values))
 }

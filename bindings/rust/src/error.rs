@@ -43,7 +43,7 @@ impl fmt::Display for Error {
     fn fmt(&self, f: &mut fmt::Formatter<'_>) -> fmt::Result {
         let mut text = [0u8; 128];
         // SAFETY: the pointer is valid for the length that is given.
-        let len = unsafe { raw::sel_status_text(self.status(), text.as_mut_ptr(), text.len()) };
+        let len = unsafe { raw::sel_arrow_text(self.status(), text.as_mut_ptr(), text.len()) };
         f.write_str(&String::from_utf8_lossy(&text[..len.min(text.len())]))
     }
 }

@@ -1,5 +1,5 @@
-//! Selection kernels over Arrow columns that are proved to pick the rows of their definition: filter, take,
-//! when-then-otherwise, getters of lists, flatten, dictionaries. Safe types over the C library `libsel`.
+//! Selection kernels over Arrow columns that are proved to pick the rows of their definition: filter and take. Safe types
+//! over the C library `libsel`.
 //!
 //! ```
 //! use sel::Column;
@@ -18,6 +18,6 @@ mod error;
 mod number;
 mod raw;
 
-pub use column::{choose, collect_rows, flatten, propagate_dictionary, Column, Kind};
+pub use column::{Column, Kind};
 pub use error::Error;
 pub use number::Number;

@@ -8,13 +8,6 @@ pub struct Handle {
 }
 
 #[repr(C)]
-#[derive(Clone, Copy)]
-pub struct RawPick {
-    pub source: u32,
-    pub row: u32,
-}
-
-#[repr(C)]
 #[derive(Clone, Copy, Default)]
 pub struct RawView {
     pub length: u32,
@@ -56,7 +49,7 @@ number_calls! {
 }
 
 calls! {
-    fn sel_status_text(status: u32, out: *mut u8, out_len: usize) -> usize;
+    fn sel_arrow_text(status: u32, out: *mut u8, out_len: usize) -> usize;
     fn sel_boolean_new(values: *const u8, values_len: usize, len: usize, bits: *const u8, bits_len: usize, has_bits: bool, out: *mut Handle) -> u32;
     fn sel_utf8view_new(views: *const RawView, views_len: usize, buffers: *const RawSlice, buffers_len: usize, bits: *const u8, bits_len: usize, has_bits: bool, out: *mut Handle) -> u32;
     fn sel_list_new(offsets: *const i64, offsets_len: usize, bits: *const u8, bits_len: usize, has_bits: bool, child: *mut Handle, out: *mut Handle) -> u32;
@@ -76,16 +69,9 @@ calls! {
     fn sel_field(of: *mut Handle, i: usize, out: *mut Handle) -> u32;
     fn sel_filter(of: *mut Handle, mask: *mut Handle, out: *mut Handle) -> u32;
     fn sel_take(of: *mut Handle, indices: *mut Handle, out: *mut Handle) -> u32;
-    fn sel_choose(mask: *mut Handle, if_true: *mut Handle, if_false: *mut Handle, out: *mut Handle) -> u32;
-    fn sel_sublist_get(of: *mut Handle, index: i64, out: *mut Handle) -> u32;
     fn sel_index_is_oob(of: *mut Handle, index: i64, out: *mut bool) -> u32;
     fn sel_unit_list(of: *mut Handle, out: *mut Handle) -> u32;
-    fn sel_fixed_get(of: *mut Handle, index: i64, null_on_oob: bool, out: *mut Handle) -> u32;
-    fn sel_flatten(columns: *mut Handle, columns_len: usize, widths: *const usize, widths_len: usize, height: usize, out: *mut Handle) -> u32;
-    fn sel_propagate_dictionary(keys: *mut Handle, values: *mut Handle, out_keys: *mut Handle, out_values: *mut Handle) -> u32;
-    fn sel_collect_rows(sources: *mut Handle, sources_len: usize, picks: *const RawPick, picks_len: usize, bits: *const u8, bits_len: usize, has_bits: bool, out: *mut Handle) -> u32;
     fn sel_sliced(of: *mut Handle, offset: usize, len: usize, out: *mut Handle) -> u32;
     fn sel_share(of: *mut Handle, out: *mut Handle) -> u32;
-    fn sel_equal_rows(a: *mut Handle, b: *mut Handle, out: *mut bool) -> u32;
     fn sel_free(of: *mut Handle);
 }
