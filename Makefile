@@ -27,6 +27,7 @@ test:
 	tools/refuse/run
 	tools/runs
 	tools/clib --check
+	tools/bindings
 
 edits:
 	tools/edits
