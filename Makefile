@@ -23,6 +23,7 @@ test:
 	tools/api --check
 	tools/picture --check
 	tools/header --check
+	tools/links
 	rt ci
 	tools/refuse/run
 	tools/runs
