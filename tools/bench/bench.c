@@ -1,6 +1,6 @@
 /* Times kernels of libsel beside plain C loops and a copy of the bytes, in one process, in turn. It prints one line a row:
  * the kernel, the rows, what was varied, and for each contender the best and the median time in ns a row.
- * Every answer is compared with the loop's before it is timed. */
+ * Every answer is compared with a loop over the rows before it is timed. */
 #define _POSIX_C_SOURCE 200809L
 #include "sel.h"
 
@@ -231,10 +231,46 @@ static void with_mask(job *j, double density) {
     must(sel_boolean_new(j->mask, (j->rows + 7) / 8, j->rows, &none, 0, false, &j->mask_column) == SEL_DONE, "a mask");
 }
 
-static void check_filter(job *j) {
+/* The library's answer beside a loop over the mask's bits. */
+static void check_bits(job *j) {
     sel_column out = {0};
-    must(sel_filter(&j->column, &j->mask_column, &out) == SEL_DONE && sel_len(&out) == j->kept, "the count of a filter");
+    uint8_t *kept = room(j->kept / 8 + 1);
+    must(sel_filter(&j->column, &j->mask_column, &out) == SEL_DONE && sel_len(&out) == j->kept, "how many bits are kept");
+    must(sel_boolean_values(&out, kept, (j->kept + 7) / 8) == SEL_DONE, "the bits");
+    for (size_t i = 0, k = 0; i < j->rows; i++)
+        if (bit(j->mask, i)) must(bit(kept, k++) == bit(j->bits, i), "a bit of a filter");
     sel_free(&out);
+    free(kept);
+}
+
+static uint32_t read_numbers(size_t size, sel_column *of, void *out, size_t rows) {
+    switch (size) {
+    case 1: return sel_uint8_values(of, out, rows);
+    case 2: return sel_uint16_values(of, out, rows);
+    case 4: return sel_uint32_values(of, out, rows);
+    default: return sel_uint64_values(of, out, rows);
+    }
+}
+
+static void check_numbers(job *j) {
+    sel_column out = {0};
+    char *kept = room(j->kept * j->size), *values = (char *)j->numbers;
+    must(sel_filter(&j->column, &j->mask_column, &out) == SEL_DONE && sel_len(&out) == j->kept, "how many numbers are kept");
+    must(read_numbers(j->size, &out, kept, j->kept) == SEL_DONE, "the numbers");
+    for (size_t i = 0, k = 0; i < j->rows; i++)
+        if (bit(j->mask, i)) must(!memcmp(kept + k++ * j->size, values + i * j->size, j->size), "a number of a filter");
+    sel_free(&out);
+    free(kept);
+}
+
+static void check_take(job *j) {
+    sel_column out = {0};
+    uint64_t *taken = room(j->rows * 8);
+    must(sel_take(&j->column, &j->index_column, &out) == SEL_DONE, "a take");
+    must(sel_uint64_values(&out, taken, j->rows) == SEL_DONE, "the numbers of a take");
+    for (size_t i = 0; i < j->rows; i++) must(taken[i] == j->numbers[j->indices[i]], "a number of a take");
+    sel_free(&out);
+    free(taken);
 }
 
 static void filters_of_bits(job *j, int rounds) {
@@ -248,7 +284,7 @@ static void filters_of_bits(job *j, int rounds) {
         char varied[16];
         snprintf(varied, sizeof varied, "%g", densities[d]);
         with_mask(j, densities[d]);
-        check_filter(j);
+        check_bits(j);
         measure("filter of bits", varied, j, names, jobs, 3, rounds);
     }
 }
@@ -267,7 +303,7 @@ static void filters_of_numbers(job *j, size_t size, int rounds) {
         char varied[16];
         snprintf(varied, sizeof varied, "%g", densities[d]);
         with_mask(j, densities[d]);
-        check_filter(j);
+        check_numbers(j);
         measure(what, varied, j, names, jobs, 3, rounds);
     }
 }
@@ -281,6 +317,7 @@ static void takes_of_numbers(job *j, int rounds) {
         sel_free(&j->index_column);
         must(sel_uint32_new(j->indices, j->rows, &none, 0, false, &j->index_column) == SEL_DONE, "indices");
         j->kept = j->rows;
+        check_take(j);
         measure("take of 8 bytes", sorted ? "sorted" : "random", j, names, jobs, 3, rounds);
     }
 }
