@@ -7,6 +7,38 @@
 
 static int failures, released;
 
+/* Linked with --wrap: one allocation is refused, and what is not given back is counted. */
+static long until_refused = -1, held;
+
+void *__real_malloc(size_t size);
+void *__real_calloc(size_t count, size_t size);
+void *__real_realloc(void *at, size_t size);
+void __real_free(void *at);
+void *__wrap_malloc(size_t size);
+void *__wrap_calloc(size_t count, size_t size);
+void *__wrap_realloc(void *at, size_t size);
+void __wrap_free(void *at);
+
+static bool is_refused(void) { return until_refused >= 0 && until_refused-- == 0; }
+
+static void *counted(void *at) {
+    held += at != NULL;
+    return at;
+}
+
+void *__wrap_malloc(size_t size) { return is_refused() ? NULL : counted(__real_malloc(size)); }
+void *__wrap_calloc(size_t count, size_t size) { return is_refused() ? NULL : counted(__real_calloc(count, size)); }
+void *__wrap_realloc(void *at, size_t size) {
+    if (is_refused()) return NULL;
+    void *moved = __real_realloc(at, size);
+    held += !at && moved;
+    return moved;
+}
+void __wrap_free(void *at) {
+    held -= at != NULL;
+    __real_free(at);
+}
+
 #define CHECK(holds)                                                                                                    \
     do {                                                                                                                \
         if (!(holds)) {                                                                                                 \
@@ -248,6 +280,61 @@ static void exports_are_released(void) {
     sel_free(&column);
 }
 
+/* Tuples of a list of texts and a list of two numbers each. */
+static void make_tree(sel_column *out) {
+    const sel_view views[3] = {{1, 'a', 0, 0}, {13, 0x64636261, 0, 0}, {0, 0, 0, 0}};
+    const sel_slice slice = {(const uint8_t *)"abcdefghijklm", 13};
+    const int64_t offsets[3] = {0, 2, 3}, numbers[4] = {1, 2, 3, 4};
+    sel_column texts = {0}, values = {0}, fields[2] = {{0}, {0}};
+    CHECK(sel_utf8view_new(views, 3, &slice, 1, some_bits, 1, true, &texts) == SEL_DONE);
+    CHECK(sel_list_new(offsets, 3, some_bits, 1, true, &texts, &fields[0]) == SEL_DONE);
+    CHECK(sel_int64_new(numbers, 4, some_bits, 0, false, &values) == SEL_DONE);
+    CHECK(sel_fixed_list_new(2, 2, some_bits, 1, true, &values, &fields[1]) == SEL_DONE);
+    CHECK(sel_struct_new(2, some_bits, 0, false, fields, 2, out) == SEL_DONE);
+}
+
+/* An export and an import of it, the allocation with this number refused; whether none was left to refuse. */
+static bool passes_refused(sel_column *tree, long number, bool refuse_import) {
+    struct ArrowArray array;
+    struct ArrowSchema schema;
+    sel_column again = {0};
+    if (!refuse_import) until_refused = number;
+    uint32_t status = sel_export(tree, &array, &schema);
+    bool is_over = until_refused >= 0;
+    until_refused = refuse_import ? number : -1;
+    if (status == SEL_DONE) {
+        uint32_t answer = sel_import(&array, &schema, &again);
+        is_over = refuse_import ? until_refused >= 0 : is_over;
+        until_refused = -1;
+        CHECK(answer == SEL_DONE || (refuse_import && !is_over && answer == SEL_NO_MEMORY));
+        CHECK((answer == SEL_DONE) == (again.at != NULL) && !array.release);
+        schema.release(&schema);
+    } else {
+        until_refused = -1;
+        CHECK(status == SEL_NO_MEMORY && !refuse_import && !is_over && !array.release && !schema.release);
+    }
+    sel_free(&again);
+    until_refused = -1;
+    return is_over;
+}
+
+/* Each allocation refused in turn: want of memory is told, and nothing is lost. */
+static void each_allocation_is_refused(void) {
+    sel_column tree = {0};
+    make_tree(&tree);
+    for (int refuse_import = 0; refuse_import < 2; refuse_import++) {
+        long number = 0, before = held;
+        while (number < 1000 && !passes_refused(&tree, number, refuse_import)) {
+            CHECK(held == before);
+            number++;
+        }
+        CHECK(number > 10 && number < 1000 && held == before);
+        printf("arrow: %ld allocations refused in an %s\n", number, refuse_import ? "import" : "export");
+    }
+    CHECK(sel_len(&tree) == 2);
+    sel_free(&tree);
+}
+
 static void texts_of_statuses(void) {
     uint8_t text[128];
     for (uint32_t status = SEL_ARROW_RELEASED; status <= SEL_ARROW_RANGE; status++) CHECK(sel_arrow_text(status, text, sizeof text) > 10);
@@ -267,6 +354,7 @@ int main(void) {
     trees_are_refused();
     depth_has_an_end();
     exports_are_released();
+    each_allocation_is_refused();
     texts_of_statuses();
     printf("arrow: %d failed\n", failures);
     return failures != 0;
