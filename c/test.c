@@ -156,6 +156,33 @@ NUMBERS(uint16, uint16_t, SEL_UINT16)
 NUMBERS(uint32, uint32_t, SEL_UINT32)
 NUMBERS(uint64, uint64_t, SEL_UINT64)
 
+#define WIDES(name, kind)                                                                               \
+    static void test_##name(void) {                                                                     \
+        const sel_wide values[3] = {{1, 0}, {7, UINT64_MAX}, {0, 3}};                                   \
+        const uint8_t bits[1] = {6};                                                                    \
+        sel_wide read[3] = {{0, 0}, {0, 0}, {0, 0}};                                                    \
+        sel_column column = {0};                                                                        \
+        IS(sel_##name##_values(&column, read, 3) == SEL_NO_COLUMN);                                     \
+        IS(sel_##name##_new(values, 3, no_bits, 0, true, &column) == SEL_VALIDITY_LENGTH || refused);   \
+        DONE(sel_##name##_new(values, 3, bits, 1, true, &column));                                      \
+        if (column.at != NULL) {                                                                        \
+            int8_t small[3];                                                                            \
+            IS(sel_kind(&column) == kind && sel_len(&column) == 3 && sel_null_count(&column) == 1);     \
+            IS(sel_##name##_values(&column, read, 2) == SEL_OTHER_LENGTH);                              \
+            IS(sel_##name##_values(&column, read, 3) == SEL_DONE);                                      \
+            IS(read[0].low == 1 && read[0].high == 0 && read[1].low == 7);                              \
+            IS(read[1].high == UINT64_MAX && read[2].low == 0 && read[2].high == 3);                    \
+            IS(sel_int8_values(&column, small, 3) == SEL_OTHER_KIND);                                   \
+        }                                                                                               \
+        sel_free(&column);                                                                              \
+        DONE(sel_int8_new((const int8_t[1]){5}, 1, no_bits, 0, false, &column));                        \
+        IS(column.at == NULL || sel_##name##_values(&column, read, 1) == SEL_OTHER_KIND);               \
+        sel_free(&column);                                                                              \
+    }
+
+WIDES(int128, SEL_INT128)
+WIDES(uint128, SEL_UINT128)
+
 /* The column 10 20 30 40. */
 static sel_column tens(void) {
     const int64_t values[4] = {10, 20, 30, 40};
@@ -279,6 +306,7 @@ static void test_lists(void) {
     bool lacks = false;
     IS(sel_list_new(offsets, 3, no_bits, 0, false, &child, &lists) == SEL_NO_COLUMN);
     IS(sel_index_is_oob(&child, 0, &lacks) == SEL_NO_COLUMN && sel_unit_list(&child, &lists) == SEL_NO_COLUMN);
+    IS(sel_sublist_get(&child, 0, &lists) == SEL_NO_COLUMN);
     child = tens();
     if (child.at != NULL) {
         IS(sel_index_is_oob(&child, 0, &lacks) == SEL_OTHER_KIND || refused);
@@ -288,6 +316,7 @@ static void test_lists(void) {
             IS(done(sel_index_is_oob(&units, 1, &lacks)));
             IS(lacks || refused);
         }
+        IS(sel_sublist_get(&child, 0, &lists) == SEL_OTHER_KIND || refused);
         IS(sel_list_new(far, 2, no_bits, 0, false, &child, &lists) == SEL_OFFSET_RANGE || refused);
         IS(child.at == NULL);
     }
@@ -304,6 +333,12 @@ static void test_lists(void) {
             IS(sel_bytes_len(&lists, &width) == SEL_OTHER_KIND && sel_bytes(&lists, (uint8_t *)places, 3) == SEL_OTHER_KIND);
             IS(sel_width(&lists, &width) == SEL_OTHER_KIND && sel_field_count(&lists, &width) == SEL_OTHER_KIND && width == 7);
             IS(sel_field(&lists, 0, &child) == SEL_OUT_OF_BOUNDS);
+            /* the last element of each list, then the second one, which the first list lacks */
+            const int64_t last[2] = {10, 40};
+            DONE(sel_sublist_get(&lists, -1, &child));
+            IS(child.at == NULL || holds(&child, last, 2) || refused);
+            DONE(sel_sublist_get(&lists, 1, &child));
+            IS(child.at == NULL || (sel_len(&child) == 2 && sel_null_count(&child) == 1) || refused);
             DONE(sel_child(&lists, &child));
             IS(child.at == NULL || holds(&child, all, 4) || refused);
             IS(child.at == NULL || sel_child(&child, &units) == SEL_OTHER_KIND);
@@ -417,7 +452,7 @@ static void test_views(void) {
 
 static void (*const tests[])(void) = {
     test_nulls, test_booleans, test_int8, test_int16, test_int32, test_int64, test_uint8, test_uint16, test_uint32,
-    test_uint64, test_whole, test_filters, test_takes, test_bytes, test_lists, test_structs, test_views,
+    test_uint64, test_int128, test_uint128, test_whole, test_filters, test_takes, test_bytes, test_lists, test_structs, test_views,
 };
 
 int main(void) {

@@ -264,6 +264,36 @@ uint32_t sel_uint64_new(
     bool has_bits,
     sel_column *out);
 
+/* ---- Columns of numbers of 128 bits, which pass as two words each. ---- */
+
+/* Makes the column of the numbers, each in two's complement. The first rule of these, in this order, that is broken:
+ * SEL_TOO_MANY_ROWS, more than 4,294,967,295; SEL_VALIDITY_LENGTH, fewer bytes of validity than the rows need. */
+uint32_t sel_int128_new(
+    const sel_wide *values,
+    size_t values_len,
+    const uint8_t *bits,
+    size_t bits_len,
+    bool has_bits,
+    sel_column *out);
+
+/* Writes the numbers, those beneath nulls too, into `out`, which has a place for each row. SEL_NO_COLUMN: there is
+ * no column; SEL_OTHER_KIND: it is of another kind; SEL_OTHER_LENGTH: `out` is of another length. */
+uint32_t sel_int128_values(sel_column *of, sel_wide *out, size_t out_len);
+
+/* Makes the column of the numbers, each unsigned. The first rule of these, in this order, that is broken:
+ * SEL_TOO_MANY_ROWS, more than 4,294,967,295; SEL_VALIDITY_LENGTH, fewer bytes of validity than the rows need. */
+uint32_t sel_uint128_new(
+    const sel_wide *values,
+    size_t values_len,
+    const uint8_t *bits,
+    size_t bits_len,
+    bool has_bits,
+    sel_column *out);
+
+/* Writes the numbers, those beneath nulls too, into `out`, which has a place for each row. SEL_NO_COLUMN: there is
+ * no column; SEL_OTHER_KIND: it is of another kind; SEL_OTHER_LENGTH: `out` is of another length. */
+uint32_t sel_uint128_values(sel_column *of, sel_wide *out, size_t out_len);
+
 /* ---- Columns of bytes, lists and tuples, made of slices and of columns that the calls take. ---- */
 
 /* Makes the column whose row i is the bytes from `offsets[i]` up to `offsets[i + 1]`. SEL_OFFSET_COUNT,
@@ -462,6 +492,11 @@ uint32_t sel_take_rows(
     sel_column *out);
 
 /* ---- Elements of lists. ---- */
+
+/* Makes the column whose row k is the element of list k at the index, or null where the list is null or has no such
+ * place; a negative index counts from the end. SEL_NO_COLUMN: `of` has no column; SEL_OTHER_KIND: it is not of lists
+ * between offsets; SEL_LIMIT_ROWS, SEL_LIMIT_BYTES: the elements need more. */
+uint32_t sel_sublist_get(sel_column *of, int64_t index, sel_column *out);
 
 /* Writes whether the index has no place in some list that is not null. SEL_NO_COLUMN: `of` has no column;
  * SEL_OTHER_KIND: it is not of lists between offsets. */

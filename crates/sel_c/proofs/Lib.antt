@@ -1,1 +1,4 @@
 pub mod Below
+pub mod Limits
+pub mod Made
+pub mod Shown

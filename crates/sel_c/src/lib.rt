@@ -11,3 +11,4 @@ mod readers;
 mod takes;
 mod views;
 mod whole;
+mod wides;
