@@ -359,6 +359,16 @@ static void test_lists(void) {
         size_t width = 0;
         IS(sel_width(&lists, &width) == SEL_DONE && width == 2);
         IS(sel_offsets(&lists, (int64_t[3]){0, 0, 0}, 3) == SEL_OTHER_KIND);
+        /* the last entry of each list, then one that lists of two have not */
+        const int64_t last[2] = {20, 40};
+        DONE(sel_fixed_get(&lists, -1, false, &child));
+        IS(child.at == NULL || holds(&child, last, 2) || refused);
+        IS(child.at == NULL || sel_fixed_get(&child, 0, false, &units) == SEL_OTHER_KIND || refused);
+        IS(sel_fixed_get(&lists, 2, false, &child) == SEL_GET_OUT_OF_BOUNDS || refused);
+        DONE(sel_fixed_get(&lists, 2, true, &child));
+        IS(child.at == NULL || (sel_len(&child) == 2 && sel_null_count(&child) == 2) || refused);
+        sel_free(&child);
+        IS(sel_fixed_get(&child, 0, false, &units) == SEL_NO_COLUMN);
     }
     IS(sel_fixed_list_new(2, 2, no_bits, 0, false, &child, &lists) == SEL_NO_COLUMN);
     sel_free(&lists);

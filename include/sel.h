@@ -505,6 +505,14 @@ uint32_t sel_index_is_oob(sel_column *of, int64_t index, bool *out);
 /* Makes the column whose row k is the list of row k alone. SEL_NO_COLUMN: `of` has no column. */
 uint32_t sel_unit_list(sel_column *of, sel_column *out);
 
+/* ---- Entries of lists of one length. ---- */
+
+/* Makes the column whose row k is the entry of list k at the index, or null where the list is null or, with
+ * `null_on_oob`, the lists have no such place; a negative index counts from the end. SEL_NO_COLUMN: `of` has no
+ * column; SEL_OTHER_KIND: it is not of lists of one length; SEL_GET_OUT_OF_BOUNDS: without `null_on_oob`, the index
+ * has no place and some list is not null; SEL_LIMIT_ROWS, SEL_LIMIT_BYTES: the entries need more. */
+uint32_t sel_fixed_get(sel_column *of, int64_t index, bool null_on_oob, sel_column *out);
+
 /* ---- The children of lists and the fields of tuples, which share buffers with their column. ---- */
 
 /* Makes the column of the child of a column of lists, those rows too that are in no list; it shares the buffers of

@@ -7,7 +7,7 @@ use Rattle.sel_bits.specs.declared.faults.PolarsError.TheVariants.{OutOfMemory, 
 use Rattle.sel_handle.specs.Status.{error_status, limit_status, TellsLimits}
 use Rattle.sel_runs.specs.Need.{IsRefusal}
 
-limit_high : (limit : Limit) → 8 ≤ limit_status limit
+pub limit_high : (limit : Limit) → 8 ≤ limit_status limit
 limit_high Rows = omega arith
 limit_high Bytes = omega arith
 limit_high Buffers = omega arith

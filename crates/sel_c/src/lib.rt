@@ -3,6 +3,7 @@
 
 mod children;
 mod filters;
+mod fixed;
 mod lists;
 mod makers;
 mod nested_makers;
