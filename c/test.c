@@ -300,6 +300,36 @@ static void test_bytes(void) {
     sel_free(&column);
 }
 
+/* An index for each of the lists 10 20, 30 40. */
+static void test_each(sel_column *lists) {
+    const int64_t places[2] = {1, -2}, far[2] = {0, 2}, wanted[2] = {20, 30};
+    sel_column at = {0}, out = {0};
+    IS(sel_fixed_get_each(lists, &at, false, &out) == SEL_NO_COLUMN);
+    IS(sel_fixed_get_each(&out, lists, false, &at) == SEL_NO_COLUMN);
+    DONE(sel_int64_new(places, 2, no_bits, 0, false, &at));
+    if (at.at != NULL) {
+        DONE(sel_fixed_get_each(lists, &at, false, &out));
+        IS(out.at == NULL || holds(&out, wanted, 2) || refused);
+    }
+    DONE(sel_int64_new(places, 1, no_bits, 0, false, &at));
+    if (at.at != NULL && sel_len(&at) == 1) {
+        IS(sel_fixed_get_each(lists, &at, false, &out) == SEL_OTHER_LENGTH || refused);
+    }
+    sel_free(&at);
+    DONE(sel_int64_new(far, 2, no_bits, 0, false, &at));
+    if (at.at != NULL) {
+        IS(sel_fixed_get_each(lists, &at, false, &out) == SEL_GET_OUT_OF_BOUNDS || refused);
+        sel_free(&out);
+        DONE(sel_fixed_get_each(lists, &at, true, &out));
+        IS(out.at == NULL || (sel_len(&out) == 2 && sel_null_count(&out) == 1));
+    }
+    sel_free(&at);
+    DONE(sel_int8_new((const int8_t[2]){0, 0}, 2, no_bits, 0, false, &at));
+    IS(at.at == NULL || sel_fixed_get_each(lists, &at, true, &out) == SEL_OTHER_KIND || refused);
+    sel_free(&at);
+    sel_free(&out);
+}
+
 static void test_lists(void) {
     const int64_t offsets[3] = {0, 1, 4}, far[2] = {0, 5};
     sel_column child = {0}, lists = {0}, units = {0};
@@ -369,6 +399,7 @@ static void test_lists(void) {
         IS(child.at == NULL || (sel_len(&child) == 2 && sel_null_count(&child) == 2) || refused);
         sel_free(&child);
         IS(sel_fixed_get(&child, 0, false, &units) == SEL_NO_COLUMN);
+        test_each(&lists);
     }
     IS(sel_fixed_list_new(2, 2, no_bits, 0, false, &child, &lists) == SEL_NO_COLUMN);
     sel_free(&lists);

@@ -513,6 +513,15 @@ uint32_t sel_unit_list(sel_column *of, sel_column *out);
  * has no place and some list is not null; SEL_LIMIT_ROWS, SEL_LIMIT_BYTES: the entries need more. */
 uint32_t sel_fixed_get(sel_column *of, int64_t index, bool null_on_oob, sel_column *out);
 
+/* ---- Entries of lists of one length, at an index for each of them. ---- */
+
+/* Makes the column whose row k is the entry of list k at index k, or null where the list is null or, with
+ * `null_on_oob`, the index is null or has no place; a negative index counts from the end. SEL_NO_COLUMN: `of` or
+ * `indices` has no column; SEL_OTHER_KIND: `of` is not of lists of one length, or `indices` not of numbers of 64
+ * bits; SEL_OTHER_LENGTH: there are not as many indices as lists; SEL_GET_OUT_OF_BOUNDS: without `null_on_oob`, an
+ * index is null or has no place and its list is not null; SEL_LIMIT_ROWS, SEL_LIMIT_BYTES: the entries need more. */
+uint32_t sel_fixed_get_each(sel_column *of, sel_column *indices, bool null_on_oob, sel_column *out);
+
 /* ---- The children of lists and the fields of tuples, which share buffers with their column. ---- */
 
 /* Makes the column of the child of a column of lists, those rows too that are in no list; it shares the buffers of

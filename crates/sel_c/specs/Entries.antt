@@ -11,6 +11,18 @@ use Rattle.sel_sublists.specs.Entries.{fixed_get, short}
 abbrev pub entries_at : List Value → Shape → ℤ → List Value
 entries_at rows shape index = fixed_get rows (width_of shape) (replicate (length rows) (Number index))
 
+-- the entry of each list at an index of its own (own: the getters of fixed-size lists, by rows)
+abbrev pub entries_at_each : List Value → Shape → List Value → List Value
+entries_at_each rows shape indices = fixed_get rows (width_of shape) indices
+
+-- some index is refused: it is not to give a null, and is null or has no place in its list, which is not null (own)
+abbrev pub refuses_some : Bool → List Value → Shape → List Value → Bool
+refuses_some null_on_oob rows shape indices = not null_on_oob && short rows (width_of shape) indices
+
+-- which limits these entries pass (own)
+abbrev pub past_entries_at_each : List Value → Shape → List Value → Limit → Type 0
+past_entries_at_each rows shape indices limit = past (entry_type shape) (entries_at_each rows shape indices) limit
+
 -- the index is refused: it is not to give nulls, and has no place in some list that is not null (own)
 abbrev pub refuses_index : Bool → List Value → Shape → ℤ → Bool
 refuses_index null_on_oob rows shape index = not null_on_oob && short rows (width_of shape) (replicate (length rows) (Number index))

@@ -4,6 +4,7 @@
 mod children;
 mod filters;
 mod fixed;
+mod fixed_each;
 mod lists;
 mod makers;
 mod nested_makers;
