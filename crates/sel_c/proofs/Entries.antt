@@ -1,14 +1,14 @@
 -- What a getter of lists of one length answers, by the rows and the type of the lists.
-use Rattle.std.proofs.Common.{◌≡◌, ℕ, ℤ, ◌≤◌, Bool, true, false, length, List, replicate, w64, FitsSigned, to_z, of_z, ap, sym, ◌∙◌, subst, arith}
+use Rattle.std.proofs.Common.{◌≡◌, ℕ, ℤ, Bool, false, length, List, replicate, w64, FitsSigned, to_z, of_z, ap, sym, ◌∙◌, arith}
 use Rattle.std.proofs.lemmas.Int.{to_z-of_z}
 use Rattle.sel_bits.specs.declared.faults.PolarsError.{PolarsError}
 use Rattle.sel_bits.specs.declared.faults.PolarsError.TheVariants.{OutOfMemory, SizeLimit, ComputeError}
 use Rattle.sel_arrow.specs.NestedArrays.{block_column}
-use Rattle.sel_arrow.specs.Rows.{rows, type_of}
+use Rattle.sel_arrow.specs.Rows.{rows}
 use Rattle.sel_arrow.specs.Value.{Value, Number}
 use Rattle.sel_arrow.specs.declared.fixed_size_list.FixedSizeListArray.{FixedSizeListArray}
 use Rattle.sel_arrow.proofs.NestedRows.{length-rows}
-use Rattle.sel_handle.specs.Status.{error_status, limit_status, get_out_of_bounds, done, TellsLimits}
+use Rattle.sel_handle.specs.Status.{error_status, get_out_of_bounds, TellsLimits}
 use Rattle.sel_sublists.specs.Entries.{at_each, out_of_bounds, past_entries, IsGetRefusal}
 use Rattle.sel_c.proofs.Limits.{limit_high, tells-none, tells-passed}
 

@@ -1,5 +1,5 @@
 -- What holds of the column that a call puts into a handle.
-use Rattle.std.proofs.Common.{◌≡◌, ℕ, Bool, true, false, ◌==◌, cond, Option, None, Some, subst, sym}
+use Rattle.std.proofs.Common.{◌≡◌, ℕ, Bool, true, false, ◌==◌, cond, None, Some, subst, sym}
 use Rattle.std.specs.Option.{IsSomeAnd}
 use Rattle.sel_arrow.specs.declared.array_ref.ArrayRef.{ArrayRef}
 use Rattle.sel_handle.specs.Held.{Held}

@@ -1,7 +1,7 @@
-use Rattle.std.proofs.Common.{arith, ◌≡◌, ◌∙◌, ap, sym, subst, false, List, w64, ℤ, to_z, of_z, replicate, length}
+use Rattle.std.proofs.Common.{arith, ◌≡◌, ◌∙◌, ap, sym, subst, false, List, w64, to_z, of_z}
 use Rattle.sel_arrow.specs.NestedArrays.{block_column}
 use Rattle.sel_arrow.specs.Rows.{rows, type_of}
-use Rattle.sel_arrow.specs.Value.{Value, Number}
+use Rattle.sel_arrow.specs.Value.{Value}
 use Rattle.sel_c.specs.Entries.{entries_at}
 use Rattle.sel_handle.specs.Status.{TellsLimits}
 use Rattle.sel_sublists.specs.Entries.{fixed_get, at_each, out_of_bounds, past_entries}
