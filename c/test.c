@@ -156,6 +156,33 @@ NUMBERS(uint16, uint16_t, SEL_UINT16)
 NUMBERS(uint32, uint32_t, SEL_UINT32)
 NUMBERS(uint64, uint64_t, SEL_UINT64)
 
+#define WIDES(name, kind)                                                                               \
+    static void test_##name(void) {                                                                     \
+        const sel_wide values[3] = {{1, 0}, {7, UINT64_MAX}, {0, 3}};                                   \
+        const uint8_t bits[1] = {6};                                                                    \
+        sel_wide read[3] = {{0, 0}, {0, 0}, {0, 0}};                                                    \
+        sel_column column = {0};                                                                        \
+        IS(sel_##name##_values(&column, read, 3) == SEL_NO_COLUMN);                                     \
+        IS(sel_##name##_new(values, 3, no_bits, 0, true, &column) == SEL_VALIDITY_LENGTH || refused);   \
+        DONE(sel_##name##_new(values, 3, bits, 1, true, &column));                                      \
+        if (column.at != NULL) {                                                                        \
+            int8_t small[3];                                                                            \
+            IS(sel_kind(&column) == kind && sel_len(&column) == 3 && sel_null_count(&column) == 1);     \
+            IS(sel_##name##_values(&column, read, 2) == SEL_OTHER_LENGTH);                              \
+            IS(sel_##name##_values(&column, read, 3) == SEL_DONE);                                      \
+            IS(read[0].low == 1 && read[0].high == 0 && read[1].low == 7);                              \
+            IS(read[1].high == UINT64_MAX && read[2].low == 0 && read[2].high == 3);                    \
+            IS(sel_int8_values(&column, small, 3) == SEL_OTHER_KIND);                                   \
+        }                                                                                               \
+        sel_free(&column);                                                                              \
+        DONE(sel_int8_new((const int8_t[1]){5}, 1, no_bits, 0, false, &column));                        \
+        IS(column.at == NULL || sel_##name##_values(&column, read, 1) == SEL_OTHER_KIND);               \
+        sel_free(&column);                                                                              \
+    }
+
+WIDES(int128, SEL_INT128)
+WIDES(uint128, SEL_UINT128)
+
 /* The column 10 20 30 40. */
 static sel_column tens(void) {
     const int64_t values[4] = {10, 20, 30, 40};
@@ -273,12 +300,43 @@ static void test_bytes(void) {
     sel_free(&column);
 }
 
+/* An index for each of the lists 10 20, 30 40. */
+static void test_each(sel_column *lists) {
+    const int64_t places[2] = {1, -2}, far[2] = {0, 2}, wanted[2] = {20, 30};
+    sel_column at = {0}, out = {0};
+    IS(sel_fixed_get_each(lists, &at, false, &out) == SEL_NO_COLUMN);
+    IS(sel_fixed_get_each(&out, lists, false, &at) == SEL_NO_COLUMN);
+    DONE(sel_int64_new(places, 2, no_bits, 0, false, &at));
+    if (at.at != NULL) {
+        DONE(sel_fixed_get_each(lists, &at, false, &out));
+        IS(out.at == NULL || holds(&out, wanted, 2) || refused);
+    }
+    DONE(sel_int64_new(places, 1, no_bits, 0, false, &at));
+    if (at.at != NULL && sel_len(&at) == 1) {
+        IS(sel_fixed_get_each(lists, &at, false, &out) == SEL_OTHER_LENGTH || refused);
+    }
+    sel_free(&at);
+    DONE(sel_int64_new(far, 2, no_bits, 0, false, &at));
+    if (at.at != NULL) {
+        IS(sel_fixed_get_each(lists, &at, false, &out) == SEL_GET_OUT_OF_BOUNDS || refused);
+        sel_free(&out);
+        DONE(sel_fixed_get_each(lists, &at, true, &out));
+        IS(out.at == NULL || (sel_len(&out) == 2 && sel_null_count(&out) == 1));
+    }
+    sel_free(&at);
+    DONE(sel_int8_new((const int8_t[2]){0, 0}, 2, no_bits, 0, false, &at));
+    IS(at.at == NULL || sel_fixed_get_each(lists, &at, true, &out) == SEL_OTHER_KIND || refused);
+    sel_free(&at);
+    sel_free(&out);
+}
+
 static void test_lists(void) {
     const int64_t offsets[3] = {0, 1, 4}, far[2] = {0, 5};
     sel_column child = {0}, lists = {0}, units = {0};
     bool lacks = false;
     IS(sel_list_new(offsets, 3, no_bits, 0, false, &child, &lists) == SEL_NO_COLUMN);
     IS(sel_index_is_oob(&child, 0, &lacks) == SEL_NO_COLUMN && sel_unit_list(&child, &lists) == SEL_NO_COLUMN);
+    IS(sel_sublist_get(&child, 0, &lists) == SEL_NO_COLUMN);
     child = tens();
     if (child.at != NULL) {
         IS(sel_index_is_oob(&child, 0, &lacks) == SEL_OTHER_KIND || refused);
@@ -288,6 +346,7 @@ static void test_lists(void) {
             IS(done(sel_index_is_oob(&units, 1, &lacks)));
             IS(lacks || refused);
         }
+        IS(sel_sublist_get(&child, 0, &lists) == SEL_OTHER_KIND || refused);
         IS(sel_list_new(far, 2, no_bits, 0, false, &child, &lists) == SEL_OFFSET_RANGE || refused);
         IS(child.at == NULL);
     }
@@ -304,6 +363,12 @@ static void test_lists(void) {
             IS(sel_bytes_len(&lists, &width) == SEL_OTHER_KIND && sel_bytes(&lists, (uint8_t *)places, 3) == SEL_OTHER_KIND);
             IS(sel_width(&lists, &width) == SEL_OTHER_KIND && sel_field_count(&lists, &width) == SEL_OTHER_KIND && width == 7);
             IS(sel_field(&lists, 0, &child) == SEL_OUT_OF_BOUNDS);
+            /* the last element of each list, then the second one, which the first list lacks */
+            const int64_t last[2] = {10, 40};
+            DONE(sel_sublist_get(&lists, -1, &child));
+            IS(child.at == NULL || holds(&child, last, 2) || refused);
+            DONE(sel_sublist_get(&lists, 1, &child));
+            IS(child.at == NULL || (sel_len(&child) == 2 && sel_null_count(&child) == 1) || refused);
             DONE(sel_child(&lists, &child));
             IS(child.at == NULL || holds(&child, all, 4) || refused);
             IS(child.at == NULL || sel_child(&child, &units) == SEL_OTHER_KIND);
@@ -324,6 +389,17 @@ static void test_lists(void) {
         size_t width = 0;
         IS(sel_width(&lists, &width) == SEL_DONE && width == 2);
         IS(sel_offsets(&lists, (int64_t[3]){0, 0, 0}, 3) == SEL_OTHER_KIND);
+        /* the last entry of each list, then one that lists of two have not */
+        const int64_t last[2] = {20, 40};
+        DONE(sel_fixed_get(&lists, -1, false, &child));
+        IS(child.at == NULL || holds(&child, last, 2) || refused);
+        IS(child.at == NULL || sel_fixed_get(&child, 0, false, &units) == SEL_OTHER_KIND || refused);
+        IS(sel_fixed_get(&lists, 2, false, &child) == SEL_GET_OUT_OF_BOUNDS || refused);
+        DONE(sel_fixed_get(&lists, 2, true, &child));
+        IS(child.at == NULL || (sel_len(&child) == 2 && sel_null_count(&child) == 2) || refused);
+        sel_free(&child);
+        IS(sel_fixed_get(&child, 0, false, &units) == SEL_NO_COLUMN);
+        test_each(&lists);
     }
     IS(sel_fixed_list_new(2, 2, no_bits, 0, false, &child, &lists) == SEL_NO_COLUMN);
     sel_free(&lists);
@@ -417,7 +493,7 @@ static void test_views(void) {
 
 static void (*const tests[])(void) = {
     test_nulls, test_booleans, test_int8, test_int16, test_int32, test_int64, test_uint8, test_uint16, test_uint32,
-    test_uint64, test_whole, test_filters, test_takes, test_bytes, test_lists, test_structs, test_views,
+    test_uint64, test_int128, test_uint128, test_whole, test_filters, test_takes, test_bytes, test_lists, test_structs, test_views,
 };
 
 int main(void) {

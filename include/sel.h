@@ -264,6 +264,36 @@ uint32_t sel_uint64_new(
     bool has_bits,
     sel_column *out);
 
+/* ---- Columns of numbers of 128 bits, which pass as two words each. ---- */
+
+/* Makes the column of the numbers, each in two's complement. The first rule of these, in this order, that is broken:
+ * SEL_TOO_MANY_ROWS, more than 4,294,967,295; SEL_VALIDITY_LENGTH, fewer bytes of validity than the rows need. */
+uint32_t sel_int128_new(
+    const sel_wide *values,
+    size_t values_len,
+    const uint8_t *bits,
+    size_t bits_len,
+    bool has_bits,
+    sel_column *out);
+
+/* Writes the numbers, those beneath nulls too, into `out`, which has a place for each row. SEL_NO_COLUMN: there is
+ * no column; SEL_OTHER_KIND: it is of another kind; SEL_OTHER_LENGTH: `out` is of another length. */
+uint32_t sel_int128_values(sel_column *of, sel_wide *out, size_t out_len);
+
+/* Makes the column of the numbers, each unsigned. The first rule of these, in this order, that is broken:
+ * SEL_TOO_MANY_ROWS, more than 4,294,967,295; SEL_VALIDITY_LENGTH, fewer bytes of validity than the rows need. */
+uint32_t sel_uint128_new(
+    const sel_wide *values,
+    size_t values_len,
+    const uint8_t *bits,
+    size_t bits_len,
+    bool has_bits,
+    sel_column *out);
+
+/* Writes the numbers, those beneath nulls too, into `out`, which has a place for each row. SEL_NO_COLUMN: there is
+ * no column; SEL_OTHER_KIND: it is of another kind; SEL_OTHER_LENGTH: `out` is of another length. */
+uint32_t sel_uint128_values(sel_column *of, sel_wide *out, size_t out_len);
+
 /* ---- Columns of bytes, lists and tuples, made of slices and of columns that the calls take. ---- */
 
 /* Makes the column whose row i is the bytes from `offsets[i]` up to `offsets[i + 1]`. SEL_OFFSET_COUNT,
@@ -463,12 +493,34 @@ uint32_t sel_take_rows(
 
 /* ---- Elements of lists. ---- */
 
+/* Makes the column whose row k is the element of list k at the index, or null where the list is null or has no such
+ * place; a negative index counts from the end. SEL_NO_COLUMN: `of` has no column; SEL_OTHER_KIND: it is not of lists
+ * between offsets; SEL_LIMIT_ROWS, SEL_LIMIT_BYTES: the elements need more. */
+uint32_t sel_sublist_get(sel_column *of, int64_t index, sel_column *out);
+
 /* Writes whether the index has no place in some list that is not null. SEL_NO_COLUMN: `of` has no column;
  * SEL_OTHER_KIND: it is not of lists between offsets. */
 uint32_t sel_index_is_oob(sel_column *of, int64_t index, bool *out);
 
 /* Makes the column whose row k is the list of row k alone. SEL_NO_COLUMN: `of` has no column. */
 uint32_t sel_unit_list(sel_column *of, sel_column *out);
+
+/* ---- Entries of lists of one length. ---- */
+
+/* Makes the column whose row k is the entry of list k at the index, or null where the list is null or, with
+ * `null_on_oob`, the lists have no such place; a negative index counts from the end. SEL_NO_COLUMN: `of` has no
+ * column; SEL_OTHER_KIND: it is not of lists of one length; SEL_GET_OUT_OF_BOUNDS: without `null_on_oob`, the index
+ * has no place and some list is not null; SEL_LIMIT_ROWS, SEL_LIMIT_BYTES: the entries need more. */
+uint32_t sel_fixed_get(sel_column *of, int64_t index, bool null_on_oob, sel_column *out);
+
+/* ---- Entries of lists of one length, at an index for each of them. ---- */
+
+/* Makes the column whose row k is the entry of list k at index k, or null where the list is null or, with
+ * `null_on_oob`, the index is null or has no place; a negative index counts from the end. SEL_NO_COLUMN: `of` or
+ * `indices` has no column; SEL_OTHER_KIND: `of` is not of lists of one length, or `indices` not of numbers of 64
+ * bits; SEL_OTHER_LENGTH: there are not as many indices as lists; SEL_GET_OUT_OF_BOUNDS: without `null_on_oob`, an
+ * index is null or has no place and its list is not null; SEL_LIMIT_ROWS, SEL_LIMIT_BYTES: the entries need more. */
+uint32_t sel_fixed_get_each(sel_column *of, sel_column *indices, bool null_on_oob, sel_column *out);
 
 /* ---- The children of lists and the fields of tuples, which share buffers with their column. ---- */
 

@@ -1,1 +1,5 @@
 pub mod Below
+pub mod Entries
+pub mod Limits
+pub mod Made
+pub mod Shown

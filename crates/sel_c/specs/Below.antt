@@ -1,5 +1,5 @@
 -- What lies below the column that a handle has.
-use Rattle.std.specs.Prelude.{ℕ, List, [], Option, None, Some, Bool, false}
+use Rattle.std.specs.Prelude.{ℕ, List, [], None, Some}
 use Rattle.sel_arrow.specs.Rows.{rows, type_of}
 use Rattle.sel_arrow.specs.Shape.{Shape, of_null}
 use Rattle.sel_arrow.specs.Value.{Value}

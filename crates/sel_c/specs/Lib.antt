@@ -1,2 +1,4 @@
 pub mod Below
+pub mod Entries
 pub mod Types
+pub mod Wides

@@ -3,6 +3,8 @@
 
 mod children;
 mod filters;
+mod fixed;
+mod fixed_each;
 mod lists;
 mod makers;
 mod nested_makers;
@@ -11,3 +13,4 @@ mod readers;
 mod takes;
 mod views;
 mod whole;
+mod wides;

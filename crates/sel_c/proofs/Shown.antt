@@ -1,0 +1,43 @@
+-- Lists that show the same numbers have the same rows.
+use Rattle.std.proofs.Common.{◌≡◌, ℕ, ℤ, Bool, List, [], ◌∷◌, length, map, Option, Result, Ok, Err, IfOk, refl, ap, sym, ◌∙◌}
+use Rattle.std.proofs.lemmas.List.{length-map}
+use Rattle.sel_bits.specs.Bits.{Bits}
+use Rattle.sel_arrow.specs.Masked.{masked, number_rows, Covers}
+use Rattle.sel_arrow.proofs.Rows.{length-number_rows}
+use Rattle.sel_handle.proofs.Shown.{shows-numbers}
+use Rattle.sel_arrow.specs.Value.{Value, Number}
+use Rattle.sel_arrow.specs.Rows.{rows}
+use Rattle.sel_arrow.specs.declared.array_ref.ArrayRef.{ArrayRef}
+use Rattle.sel_handle.specs.Inputs.{validity_in}
+use Rattle.sel_handle.specs.Outputs.{Shows, numbers}
+
+same-numbers : {A B : Type 0} → (f : A → ℤ) (g : B → ℤ) (xs : List A) (ys : List B) → map f xs ≡ map g ys → map (λ x. Number (f x)) xs ≡ map (λ y. Number (g y)) ys
+same-numbers f g [] [] same = refl
+same-numbers f g [] (y ∷ ys) same = absurd (cc same)
+same-numbers f g (x ∷ xs) [] same = absurd (cc same)
+same-numbers f g (x ∷ xs) (y ∷ ys) same =
+    let first : f x ≡ g y = cc same in
+    let rest : map f xs ≡ map g ys = cc same in
+    cc (ap Number first, same-numbers f g xs ys rest)
+
+pub same-rows : {A B : Type 0} → (f : A → ℤ) (g : B → ℤ) (xs : List A) (ys : List B) (validity : Option Bits) → map f xs ≡ map g ys → number_rows f xs validity ≡ number_rows g ys validity
+same-rows f g xs ys validity same = ap (masked validity) (same-numbers f g xs ys same)
+
+pub same-length : {A B : Type 0} → (f : A → ℤ) (g : B → ℤ) (xs : List A) (ys : List B) → map f xs ≡ map g ys → length xs ≡ length ys
+same-length f g xs ys same = sym (length-map xs f) ∙ ap length same ∙ length-map ys g
+
+pub same-shown : {A B : Type 0} → (f : A → ℤ) (g : B → ℤ) (xs : List A) (ys : List B) (rows : List Value) → map f xs ≡ map g ys → Shows (numbers f xs) rows → Shows (numbers g ys) rows
+same-shown f g xs ys rows same shows = rw (sym (same-numbers f g xs ys same)) shows
+
+-- the same of a column that is made, beneath the validity that callers pass
+pub made-of-same : {A B E : Type 0} → (f : A → ℤ) (g : B → ℤ) (xs : List A) (ys : List B) (bytes : List ℕ) (has : Bool) (result : Result ArrayRef E) → map f xs ≡ map g ys
+    → IfOk result (λ made. rows made.column ≡ number_rows f xs (validity_in bytes has (length xs)))
+    → IfOk result (λ made. rows made.column ≡ number_rows g ys (validity_in bytes has (length ys)))
+made-of-same f g xs ys bytes has (Ok made) same is = is ∙ same-rows f g xs ys (validity_in bytes has (length xs)) same ∙ ap (λ n. number_rows g ys (validity_in bytes has n)) (same-length f g xs ys same)
+made-of-same f g xs ys bytes has (Err fault) same is = is
+
+-- what shows the numbers of a column shows its rows
+pub shown-by : {A B : Type 0} → (f : A → ℤ) (g : B → ℤ) (xs : List A) (ys : List B) (validity : Option Bits) (vs : List Value) → map f xs ≡ map g ys → number_rows f xs validity ≡ vs → Covers validity (length xs) → Shows (numbers g ys) vs
+shown-by f g xs ys validity vs same is covers = same-shown f g xs ys vs same (shows-numbers f xs validity vs is covers)
+
+pub ruleset words = (shown-by, length-number_rows)

@@ -1,0 +1,161 @@
+//! Entries of lists of one length, at an index for each of them.
+
+ghost use Rattle.std.specs.Prelude.{◌≡◌, ◌≢◌, length, false, IsTrue};
+ghost use Rattle.sel_arrow.specs.Columns.{primitive_rows};
+ghost use Rattle.sel_arrow.specs.NestedArrays.{block_column};
+ghost use Rattle.sel_arrow.specs.Rows.{rows, type_of};
+ghost use Rattle.sel_arrow.specs.Shape.{of_int64, is_block_shape};
+ghost use Rattle.sel_c.specs.Entries.{entries_at_each, refuses_some, past_entries_at_each};
+ghost use Rattle.sel_c.specs.Types.{entry_type};
+ghost use Rattle.sel_handle.specs.Status.{no_column, other_kind, other_length, get_out_of_bounds, held_rows, held_type, Demands, HasColumn, Makes, TellsLimits};
+
+use sel_arrow::array::Array;
+use sel_arrow::array_ref::ArrayRef;
+use sel_arrow::fixed_size_list::FixedSizeListArray;
+use sel_arrow::primitive::PrimitiveArray;
+use sel_handle::handle::Handle;
+use sel_handle::status::{NO_COLUMN, NO_MEMORY, OTHER_KIND, OTHER_LENGTH, put, status_of};
+use sel_sublists::sublist::fixed_size_list::sub_fixed_size_list_get;
+use std::alloc::Global;
+
+/// Makes the column whose row k is the entry of list k at index k, or null where the list is null or, with
+/// `null_on_oob`, the index is null or has no place; a negative index counts from the end. SEL_NO_COLUMN: `of` or
+/// `indices` has no column; SEL_OTHER_KIND: `of` is not of lists of one length, or `indices` not of numbers of 64 bits;
+/// SEL_OTHER_LENGTH: there are not as many indices as lists; SEL_GET_OUT_OF_BOUNDS: without `null_on_oob`, an index is
+/// null or has no place and its list is not null; SEL_LIMIT_ROWS, SEL_LIMIT_BYTES: the entries need more.
+#[unsafe(no_mangle)]
+pub extern "C" fn sel_fixed_get_each(
+    alloc: Global,
+    of: &mut Handle,
+    indices: &mut Handle,
+    null_on_oob: bool,
+    out: &mut Handle,
+) -> u32
+    ensures rows { Makes result out.old.tree out.new.tree (λ made. rows made.column ≡
+        entries_at_each (held_rows of.old.tree) (held_type of.old.tree)
+        (held_rows indices.old.tree)) }
+    ensures dtype { Makes result out.old.tree out.new.tree
+        (λ made. type_of made.column ≡ entry_type (held_type of.old.tree)) }
+    ensures column { Demands result no_column (HasColumn of.old.tree × HasColumn indices.old.tree) }
+    ensures kind { Demands result other_kind
+        (IsTrue (is_block_shape (held_type of.old.tree)) × (held_type indices.old.tree ≡ of_int64)) }
+    ensures length { Demands result other_length
+        (length (held_rows indices.old.tree) ≡ length (held_rows of.old.tree)) }
+    ensures bounds { Demands result get_out_of_bounds
+        (refuses_some null_on_oob (held_rows of.old.tree) (held_type of.old.tree)
+        (held_rows indices.old.tree) ≡ false) }
+    ensures limits { TellsLimits result
+        (past_entries_at_each (held_rows of.old.tree) (held_type of.old.tree)
+        (held_rows indices.old.tree)) }
+    ensures unchanged { of.new.tree ≡ of.old.tree }
+    ensures indices { indices.new.tree ≡ indices.old.tree }
+{
+    let Some(column) = of.take(alloc) else {
+        return NO_COLUMN;
+    };
+    let Some(at) = indices.take(alloc) else {
+        *of = Handle::of(column);
+        return NO_COLUMN;
+    };
+    let status = fixed_get_each_into(alloc, &column, &at, null_on_oob, out);
+    *of = Handle::of(column);
+    *indices = Handle::of(at);
+    status
+}
+
+fn fixed_get_each_into(
+    alloc: Global,
+    column: &ArrayRef,
+    indices: &ArrayRef,
+    null_on_oob: bool,
+    out: &mut Handle,
+) -> u32
+    ensures rows { Makes result out.old.tree out.new.tree (λ made. rows made.column ≡
+        entries_at_each (rows column.now.column) (type_of column.now.column)
+        (rows indices.now.column)) }
+    ensures dtype { Makes result out.old.tree out.new.tree
+        (λ made. type_of made.column ≡ entry_type (type_of column.now.column)) }
+    ensures column { result ≢ no_column }
+    ensures kind { Demands result other_kind
+        (IsTrue (is_block_shape (type_of column.now.column)) ×
+        (type_of indices.now.column ≡ of_int64)) }
+    ensures length { Demands result other_length
+        (length (rows indices.now.column) ≡ length (rows column.now.column)) }
+    ensures bounds { Demands result get_out_of_bounds
+        (refuses_some null_on_oob (rows column.now.column) (type_of column.now.column)
+        (rows indices.now.column) ≡ false) }
+    ensures limits { TellsLimits result
+        (past_entries_at_each (rows column.now.column) (type_of column.now.column)
+        (rows indices.now.column)) }
+{
+    let Ok(copy) = indices.try_clone(alloc) else {
+        return NO_MEMORY;
+    };
+    let Ok(at) = copy.into_primitive::<i64>() else {
+        return OTHER_KIND;
+    };
+    entries_of_column_into(alloc, column, &at, null_on_oob, out)
+}
+
+fn entries_of_column_into(
+    alloc: Global,
+    column: &ArrayRef,
+    indices: &PrimitiveArray<i64>,
+    null_on_oob: bool,
+    out: &mut Handle,
+) -> u32
+    ensures rows { Makes result out.old.tree out.new.tree (λ made. rows made.column ≡
+        entries_at_each (rows column.now.column) (type_of column.now.column)
+        (primitive_rows indices.now)) }
+    ensures dtype { Makes result out.old.tree out.new.tree
+        (λ made. type_of made.column ≡ entry_type (type_of column.now.column)) }
+    ensures column { result ≢ no_column }
+    ensures kind { Demands result other_kind (IsTrue (is_block_shape (type_of column.now.column))) }
+    ensures length { Demands result other_length
+        (length (primitive_rows indices.now) ≡ length (rows column.now.column)) }
+    ensures bounds { Demands result get_out_of_bounds
+        (refuses_some null_on_oob (rows column.now.column) (type_of column.now.column)
+        (primitive_rows indices.now) ≡ false) }
+    ensures limits { TellsLimits result
+        (past_entries_at_each (rows column.now.column) (type_of column.now.column)
+        (primitive_rows indices.now)) }
+{
+    let Ok(copy) = column.try_clone(alloc) else {
+        return NO_MEMORY;
+    };
+    let Ok(lists) = copy.into_fixed_size_list() else {
+        return OTHER_KIND;
+    };
+    entries_into(alloc, &lists, indices, null_on_oob, out)
+}
+
+fn entries_into(
+    alloc: Global,
+    lists: &FixedSizeListArray,
+    indices: &PrimitiveArray<i64>,
+    null_on_oob: bool,
+    out: &mut Handle,
+) -> u32
+    ensures rows { Makes result out.old.tree out.new.tree (λ made. rows made.column ≡
+        entries_at_each (rows (block_column lists.now)) (type_of (block_column lists.now))
+        (primitive_rows indices.now)) }
+    ensures dtype { Makes result out.old.tree out.new.tree
+        (λ made. type_of made.column ≡ entry_type (type_of (block_column lists.now))) }
+    ensures own { (result ≢ no_column) × (result ≢ other_kind) }
+    ensures length { Demands result other_length
+        (length (primitive_rows indices.now) ≡ length (rows (block_column lists.now))) }
+    ensures bounds { Demands result get_out_of_bounds (refuses_some null_on_oob
+        (rows (block_column lists.now)) (type_of (block_column lists.now))
+        (primitive_rows indices.now) ≡ false) }
+    ensures limits { TellsLimits result (past_entries_at_each
+        (rows (block_column lists.now)) (type_of (block_column lists.now))
+        (primitive_rows indices.now)) }
+{
+    if indices.len() != lists.len() {
+        return OTHER_LENGTH;
+    }
+    match sub_fixed_size_list_get(alloc, lists, indices, null_on_oob) {
+        Ok(taken) => put(alloc, taken, out),
+        Err(fault) => status_of(fault),
+    }
+}
