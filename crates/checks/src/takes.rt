@@ -171,15 +171,25 @@ fn bytes_of_any_column_at_indices(rt: HostRuntime) -> Result<(), Fail> {
     Ok(())
 }
 
-// The rows at places, none of which is null, of a column that is needed no more.
-fn taken_at(alloc: Global, rows: ArrayRef, places: &[u32]) -> Result<ArrayRef, Fail> {
-    let places = IdxArr::try_new(buffer(alloc, places)?, None)?;
-    if !indices_in_bounds(&places, rows.len()) {
+// Indices, none of which is null, without a validity.
+fn plain_indices(alloc: Global, places: &[u32]) -> Result<IdxArr, Fail> {
+    Ok(IdxArr::try_new(buffer(alloc, places)?, None)?)
+}
+
+// The rows at places, none of which is null.
+fn rows_at(alloc: Global, column: &ArrayRef, places: &[u32]) -> Result<ArrayRef, Fail> {
+    let places = plain_indices(alloc, places)?;
+    if !indices_in_bounds(&places, column.len()) {
         return Err(Fail::from("out of bounds"));
     }
-    let taken = take_unchecked(alloc, &rows, &places);
-    drop(rows);
-    Ok(taken?)
+    Ok(take_unchecked(alloc, column, &places)?)
+}
+
+// The same of a column that is needed no more.
+fn taken_at(alloc: Global, column: ArrayRef, places: &[u32]) -> Result<ArrayRef, Fail> {
+    let taken = rows_at(alloc, &column, places);
+    drop(column);
+    taken
 }
 
 // The numbers 10, 20 and 30, without a validity.
