@@ -101,7 +101,8 @@ static uint32_t import_numbers(level *l, char format, sel_column *out) {
     case 'i': IMPORT_NUMBERS(int32_t, sel_int32_new);
     case 'I': IMPORT_NUMBERS(uint32_t, sel_uint32_new);
     case 'l': IMPORT_NUMBERS(int64_t, sel_int64_new);
-    default: IMPORT_NUMBERS(uint64_t, sel_uint64_new);
+    case 'L': IMPORT_NUMBERS(uint64_t, sel_uint64_new);
+    default: IMPORT_NUMBERS(sel_wide, sel_int128_new);
     }
 }
 
@@ -265,6 +266,14 @@ static uint32_t import_struct(level *l, sel_column *out) {
     return status;
 }
 
+/* Whether a format is that of whole numbers of 128 bits: d:P,0 or d:P,0,128. */
+static bool is_wide_number(const char *format) {
+    unsigned precision;
+    int read = 0;
+    if (sscanf(format, "d:%2u,0%n", &precision, &read) != 1 || read == 0) return false;
+    return !format[read] || !strcmp(format + read, ",128");
+}
+
 /* How many children a format has; -1: any number. */
 static int64_t children_of(const char *format) { return format[0] != '+' ? 0 : format[1] == 's' ? -1 : 1; }
 
@@ -272,7 +281,7 @@ static uint32_t import_format(level *l, const char *f, sel_column *out) {
     uint32_t status = SEL_DONE;
     bool one = f[0] && !f[1];
     if (!strcmp(f, "n")) return sel_null_new(l->len, out);
-    if (one && strchr("bcCsSiIlL", f[0])) {
+    if ((one && strchr("bcCsSiIlL", f[0])) || is_wide_number(f)) {
         if ((status = buffers_missing(l, 2)) != SEL_DONE) return status;
         return f[0] == 'b' ? import_bits(l, out) : import_numbers(l, f[0], out);
     }
@@ -289,7 +298,7 @@ static uint32_t import_format(level *l, const char *f, sel_column *out) {
 
 static bool is_known(const char *f) {
     bool one = f[0] && !f[1] && strchr("nbcCsSiIlLzZuU", f[0]);
-    return one || !strcmp(f, "vz") || !strcmp(f, "vu") || !strcmp(f, "+l") || !strcmp(f, "+L")
+    return one || is_wide_number(f) || !strcmp(f, "vz") || !strcmp(f, "vu") || !strcmp(f, "+l") || !strcmp(f, "+L")
         || !strcmp(f, "+s") || !strncmp(f, "+w:", 3);
 }
 
@@ -397,6 +406,26 @@ static uint32_t export_bits(target *t) {
         return values ? read(t->of, values, t->len) : SEL_NO_MEMORY;                                                    \
     } while (0)
 
+/* Whether a number of 128 bits with a sign has at most 38 digits: its size is below 10 to the 38th. */
+static bool has_38_digits(sel_wide number) {
+    bool negative = number.high >> 63;
+    uint64_t high = negative ? ~number.high + (number.low == 0) : number.high;
+    uint64_t low = negative ? ~number.low + 1 : number.low;
+    const uint64_t most_high = 0x4b3b4ca85a86c47aU, most_low = 0x098a224000000000U;
+    return high < most_high || (high == most_high && low < most_low);
+}
+
+static uint32_t export_wide(target *t) {
+    sel_wide *values = buffer(t, 1, t->len, sizeof *values);
+    if (!values) return SEL_NO_MEMORY;
+    uint32_t status = sel_int128_values(t->of, values, t->len);
+    for (size_t i = 0; status == SEL_DONE && i < t->len; i++) {
+        if (!row_is_valid(t, i)) values[i] = (sel_wide){0, 0};
+        else if (!has_38_digits(values[i])) status = SEL_ARROW_RANGE;
+    }
+    return status;
+}
+
 static uint32_t export_numbers(target *t, uint32_t kind) {
     switch (kind) {
     case SEL_BOOLEAN: return export_bits(t);
@@ -407,7 +436,8 @@ static uint32_t export_numbers(target *t, uint32_t kind) {
     case SEL_UINT8: EXPORT_NUMBERS(uint8_t, sel_uint8_values);
     case SEL_UINT16: EXPORT_NUMBERS(uint16_t, sel_uint16_values);
     case SEL_UINT32: EXPORT_NUMBERS(uint32_t, sel_uint32_values);
-    default: EXPORT_NUMBERS(uint64_t, sel_uint64_values);
+    case SEL_UINT64: EXPORT_NUMBERS(uint64_t, sel_uint64_values);
+    default: return export_wide(t);
     }
 }
 
@@ -519,7 +549,7 @@ static uint32_t export_struct(target *t) {
     return status;
 }
 
-static const char *const formats[] = {"n", "b", "c", "s", "i", "l", NULL, "C", "S", "I", "L", NULL, "Z", "vz", "vu", "+L", "+w:", "+s"};
+static const char *const formats[] = {"n", "b", "c", "s", "i", "l", "d:38,0,128", "C", "S", "I", "L", NULL, "Z", "vz", "vu", "+L", "+w:", "+s"};
 
 static uint32_t export_level(target *t, uint32_t kind) {
     size_t count = 0;

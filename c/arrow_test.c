@@ -142,7 +142,7 @@ static void leaves_are_refused(void) {
     const int64_t values[4] = {1, 2, 3, 4}, falling[4] = {0, 4, 2, 8}, below[4] = {-1, 0, 1, 2};
     const void *two[2] = {NULL, values}, *missing[2] = {NULL, NULL};
     const void *fall[3] = {NULL, falling, some_text}, *negative[3] = {NULL, below, some_text}, *no_bytes[3] = {NULL, values, NULL};
-    const char *const unknown[] = {"", "x", "d:38,0", "d:38,0,128", "d:38,2", "d:38,0,256", "tdD", "tsu:", "w:4", "+x", "+m", "+us:0", "+vl", "vx", "ll", "e"};
+    const char *const unknown[] = {"", "x", "d:38,2", "d:38,0,256", "tdD", "tsu:", "w:4", "+x", "+m", "+us:0", "+vl", "vx", "ll", "e"};
     for (size_t i = 0; i < sizeof unknown / sizeof *unknown; i++) refuses(SEL_ARROW_FORMAT, unknown[i], 2, 0, 2, two);
     refuses(SEL_ARROW_LENGTH, "l", -1, 0, 2, two);
     refuses(SEL_ARROW_LENGTH, "l", 1, -1, 2, two);
@@ -277,6 +277,16 @@ static void exports_are_released(void) {
     CHECK(sel_len(&again) == 2 && sel_null_count(&again) == 1);
     sel_free(&again);
     sel_free(&list);
+    const sel_wide most = {UINT64_MAX, INT64_MAX}, ten = {10, 0};
+    CHECK(sel_int128_new(&most, 1, some_bits, 0, false, &column) == SEL_DONE);
+    CHECK(sel_export(&column, &array, &schema) == SEL_ARROW_RANGE && !array.release && !schema.release);
+    CHECK(sel_int128_new(&ten, 1, some_bits, 0, false, &column) == SEL_DONE);
+    CHECK(sel_export(&column, &array, &schema) == SEL_DONE && !strcmp(schema.format, "d:38,0,128"));
+    array.release(&array);
+    schema.release(&schema);
+    CHECK(sel_uint128_new(&ten, 1, some_bits, 0, false, &column) == SEL_DONE);
+    CHECK(sel_export(&column, &array, &schema) == SEL_ARROW_FORMAT && !array.release);
+    sel_free(&column);
     sel_free(&column);
 }
 

@@ -57,8 +57,8 @@ enum sel_arrow_status {
 
 /* Makes a column of an array, at every depth, and releases the array, whatever the status is; the schema is only read.
  *
- * Formats: n, b, c, C, s, S, i, I, l, L; z and Z (bytes), u and U (texts, as views), vz, vu; +l and +L (lists), +w:N
- * (lists of one length), +s (tuples). Offsets of 32 bits are widened.
+ * Formats: n, b, c, C, s, S, i, I, l, L; d:P,0 and d:P,0,128 (whole numbers of 128 bits); z and Z (bytes), u and U
+ * (texts, as views), vz, vu; +l and +L (lists), +w:N (lists of one length), +s (tuples). Offsets of 32 bits are widened.
  * Any other format is refused. The rules of columns are tested; that the buffers are as long as the format says is the
  * promise of whoever made the array.
  *
@@ -68,11 +68,11 @@ uint32_t sel_import(struct ArrowArray *array, const struct ArrowSchema *schema, 
 
 /* Writes a copy of the column to two structures, which the caller releases. The column stays as it was.
  *
- * Bytes go out as Z, views as vz and vu, lists as +L; numbers of 128 bits do not go out (SEL_ARROW_FORMAT). Fields are
- * named by their places, "0", "1", ...
+ * Bytes go out as Z, views as vz and vu, lists as +L, numbers of 128 bits with a sign as d:38,0,128; those without one
+ * have no format (SEL_ARROW_FORMAT). Fields are named by their places, "0", "1", ...
  *
- * SEL_DONE; SEL_NO_COLUMN; SEL_NO_MEMORY; SEL_ARROW_FORMAT; SEL_ARROW_RANGE where a place in a data buffer is past
- * 2,147,483,647. Where it is not SEL_DONE, nothing is left to release. */
+ * SEL_DONE; SEL_NO_COLUMN; SEL_NO_MEMORY; SEL_ARROW_FORMAT; SEL_ARROW_RANGE where a number has more than 38 digits or a
+ * place in a data buffer is past 2,147,483,647. Where it is not SEL_DONE, nothing is left to release. */
 uint32_t sel_export(sel_column *of, struct ArrowArray *array, struct ArrowSchema *schema);
 
 /* The text of a status of either enum, without a zero at its end: as many bytes as there is room for; the answer is how

@@ -1,4 +1,4 @@
-"""Proved selection kernels over Arrow columns: filter and take.
+"""Proved selection kernels over Arrow columns: filter, take and getters of lists.
 
 >>> import sel
 >>> ages = sel.Column.from_pylist([31, None, 27, 45])

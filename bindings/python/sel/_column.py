@@ -9,7 +9,7 @@ from ctypes import addressof, byref, c_bool, c_size_t, c_uint8, create_string_bu
 from typing import TYPE_CHECKING, Any
 
 from ._errors import OutOfBounds
-from ._library import Handle, Slice, View, call, lib
+from ._library import Handle, Slice, View, Wide, call, lib
 from ._types import KINDS, NUMBERS, Type, parse_type, type_of_values
 
 if TYPE_CHECKING:
@@ -181,11 +181,21 @@ class Column:
         """The rows at the indices, null where an index is null."""
         return self._new("sel_take", self._other(_as_column(indices, "u32")))
 
+    def sublist_get(self, index: int) -> Column:
+        """Of each list the element at the index, counted from the end where it is negative; null where there is none."""
+        return self._new("sel_sublist_get", index)
+
     def index_is_oob(self, index: int) -> bool:
         """Whether a list that is not null has no element at the index."""
         answer = c_bool()
         call("sel_index_is_oob", self._at(), index, byref(answer))
         return answer.value
+
+    def fixed_get(self, index: int | Column, null_on_oob: bool = True) -> Column:
+        """Of each list of one length the element at the index, or at its row of a column of indices of 64 bits."""
+        if isinstance(index, Column):
+            return self._new("sel_fixed_get_each", self._other(index), null_on_oob)
+        return self._new("sel_fixed_get", index, null_on_oob)
 
     def unit_list(self) -> Column:
         """Each row in a list of its own."""
@@ -284,8 +294,12 @@ def _make_numbers(values: Sequence[Any], wanted: Type) -> Column:
             raise TypeError(f"{number!r} is no whole number")
         if not least <= number <= most:
             raise OverflowError(f"{number} is none of {wanted}")
-    plain = array(_CODES[name], numbers)
-    items = (c_uint8 * max(8, len(plain) * plain.itemsize)).from_buffer_copy(plain.tobytes().ljust(8, b"\0"))
+    if abs(bits) == 128:
+        low = (1 << 64) - 1
+        items: Any = (Wide * max(1, count))(*[Wide(number & low, number >> 64 & low) for number in numbers])
+    else:
+        items = array(_CODES[name], numbers)
+        items = (c_uint8 * max(8, len(items) * items.itemsize)).from_buffer_copy(items.tobytes().ljust(8, b"\0"))
     call(f"sel_{name}_new", items, count, *_validity([value is not None for value in values]), byref(column._handle))
     return column
 
@@ -409,6 +423,11 @@ def _read_null(column: Column) -> list[Any]:
 def _read_numbers(column: Column) -> list[Any]:
     name, bits = NUMBERS[KINDS[lib.sel_kind(column._at())]]
     count = len(column)
+    if abs(bits) == 128:
+        wide = (Wide * max(1, count))()
+        call(f"sel_{name}_values", column._at(), wide, count)
+        numbers = [item.high << 64 | item.low for item in wide[:count]]
+        return [number - (1 << 128) if bits < 0 and number >> 127 else number for number in numbers]
     items = array(_CODES[name], bytes(count * abs(bits) // 8) or bytes(8))
     call(f"sel_{name}_values", column._at(), items.buffer_info()[0], count)
     return items.tolist()[:count]

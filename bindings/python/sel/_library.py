@@ -4,19 +4,25 @@ from __future__ import annotations
 
 import ctypes
 import os
-from ctypes import POINTER, Structure, c_bool, c_char_p, c_int64, c_size_t, c_uint8, c_uint32, c_void_p
+from ctypes import POINTER, Structure, c_bool, c_char_p, c_int64, c_size_t, c_uint8, c_uint32, c_uint64, c_void_p
 from pathlib import Path
 from typing import Any
 
 from ._errors import error_of
 
-__all__ = ["ArrowArray", "ArrowSchema", "Handle", "Slice", "View", "call", "lib", "status_of"]
+__all__ = ["ArrowArray", "ArrowSchema", "Handle", "Slice", "View", "Wide", "call", "lib", "status_of"]
 
 
 class Handle(Structure):
     """`sel_column`: a column that the library holds."""
 
     _fields_ = [("at", c_void_p)]
+
+
+class Wide(Structure):
+    """A number of 128 bits in two words."""
+
+    _fields_ = [("low", c_uint64), ("high", c_uint64)]
 
 
 class View(Structure):
@@ -79,7 +85,7 @@ _CALLS: dict[str, list[Any]] = {
     "sel_null_new": [_SIZE, _COLUMN],
     "sel_boolean_new": [_BYTES, _SIZE, _SIZE, *_BITS, _COLUMN],
     **{f"sel_{name}_new": [_BYTES, _SIZE, *_BITS, _COLUMN] for name in
-       ("int8", "int16", "int32", "int64", "uint8", "uint16", "uint32", "uint64")},
+       ("int8", "int16", "int32", "int64", "int128", "uint8", "uint16", "uint32", "uint64", "uint128")},
     "sel_binary_new": [_BYTES, _SIZE, _BYTES, _SIZE, *_BITS, _COLUMN],
     "sel_binview_new": [_BYTES, _SIZE, _BYTES, _SIZE, *_BITS, _COLUMN],
     "sel_utf8view_new": [_BYTES, _SIZE, _BYTES, _SIZE, *_BITS, _COLUMN],
@@ -88,7 +94,7 @@ _CALLS: dict[str, list[Any]] = {
     "sel_struct_new": [_SIZE, *_BITS, _COLUMN, _SIZE, _COLUMN],
     "sel_validity": [_COLUMN, _BYTES, _SIZE, POINTER(c_bool)],
     **{f"sel_{name}_values": [_COLUMN, _BYTES, _SIZE] for name in
-       ("boolean", "int8", "int16", "int32", "int64", "uint8", "uint16", "uint32", "uint64")},
+       ("boolean", "int8", "int16", "int32", "int64", "int128", "uint8", "uint16", "uint32", "uint64", "uint128")},
     "sel_offsets": [_COLUMN, _BYTES, _SIZE],
     "sel_bytes_len": [_COLUMN, POINTER(_SIZE)],
     "sel_bytes": [_COLUMN, _BYTES, _SIZE],
@@ -104,8 +110,11 @@ _CALLS: dict[str, list[Any]] = {
     "sel_filter_bits": [_COLUMN, _BYTES, _SIZE, _SIZE, _COLUMN],
     "sel_take": [_COLUMN, _COLUMN, _COLUMN],
     "sel_take_rows": [_COLUMN, _BYTES, _SIZE, *_BITS, _COLUMN],
+    "sel_sublist_get": [_COLUMN, c_int64, _COLUMN],
     "sel_index_is_oob": [_COLUMN, c_int64, POINTER(c_bool)],
     "sel_unit_list": [_COLUMN, _COLUMN],
+    "sel_fixed_get": [_COLUMN, c_int64, c_bool, _COLUMN],
+    "sel_fixed_get_each": [_COLUMN, _COLUMN, c_bool, _COLUMN],
     "sel_sliced": [_COLUMN, _SIZE, _SIZE, _COLUMN],
     "sel_share": [_COLUMN, _COLUMN],
     "sel_import": [POINTER(ArrowArray), POINTER(ArrowSchema), _COLUMN],

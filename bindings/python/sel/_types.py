@@ -12,8 +12,8 @@ __all__ = ["NUMBERS", "Type", "parse_type", "type_of_values"]
 KINDS = ("null", "bool", "i8", "i16", "i32", "i64", "i128", "u8", "u16", "u32", "u64", "u128", "binary", "binview", "utf8", "list", "fixed", "struct")
 
 # A number type's name in the calls of the library, and its bits; a negative count has a sign.
-NUMBERS = {"i8": ("int8", -8), "i16": ("int16", -16), "i32": ("int32", -32), "i64": ("int64", -64),
-           "u8": ("uint8", 8), "u16": ("uint16", 16), "u32": ("uint32", 32), "u64": ("uint64", 64)}
+NUMBERS = {"i8": ("int8", -8), "i16": ("int16", -16), "i32": ("int32", -32), "i64": ("int64", -64), "i128": ("int128", -128),
+           "u8": ("uint8", 8), "u16": ("uint16", 16), "u32": ("uint32", 32), "u64": ("uint64", 64), "u128": ("uint128", 128)}
 
 
 @dataclass(frozen=True)
@@ -43,7 +43,7 @@ def parse_type(text: str) -> Type:
 def _read(text: str) -> tuple[Type, str]:
     end = next((place for place, letter in enumerate(text) if letter in "<>,"), len(text))
     kind, rest = text[:end], text[end:]
-    if kind not in KINDS or kind in ("i128", "u128"):
+    if kind not in KINDS:
         raise ValueError(f"no type is called {kind!r}")
     if kind not in ("list", "fixed", "struct"):
         return Type(kind), rest

@@ -7,7 +7,7 @@ from typing import Any
 
 from sel import Type
 
-LEAVES = ("null", "bool", "i8", "i16", "i32", "i64", "u8", "u16", "u32", "u64", "binary", "binview", "utf8")
+LEAVES = ("null", "bool", "i8", "i16", "i32", "i64", "i128", "u8", "u16", "u32", "u64", "u128", "binary", "binview", "utf8")
 
 
 def random_type(rng: random.Random, depth: int, but: tuple[str, ...] = ()) -> Type:
@@ -24,6 +24,8 @@ def random_type(rng: random.Random, depth: int, but: tuple[str, ...] = ()) -> Ty
 def random_number(rng: random.Random, kind: str) -> int:
     bits = int(kind[1:])
     least, most = (-(1 << (bits - 1)), (1 << (bits - 1)) - 1) if kind[0] == "i" else (0, (1 << bits) - 1)
+    if kind == "i128":  # as many digits as Arrow's decimals have
+        least, most = -(10**38) + 1, 10**38 - 1
     return rng.choice((least, most, 0, rng.randrange(least, most + 1)))
 
 
@@ -55,6 +57,12 @@ def kept(rows: list[Any], mask: list[bool | None]) -> list[Any]:
 
 def taken(rows: list[Any], indices: list[int | None]) -> list[Any]:
     return [None if index is None else rows[index] for index in indices]
+
+
+def element(row: list[Any] | None, index: int) -> Any:
+    if row is None or not -len(row) <= index < len(row):
+        return None
+    return row[index]
 
 
 def is_outside(rows: list[list[Any] | None], index: int) -> bool:

@@ -16,7 +16,7 @@ class Columns(unittest.TestCase):
     def test_every_kind_in_and_out(self) -> None:
         for text, rows in (
             ("null", [None, None]), ("bool", [True, None, False]), ("i8", [-128, None, 127]), ("u16", [65535, 0]),
-            ("i64", [-(2**63), None, 2**63 - 1]), ("u64", [2**64 - 1]), ("binary", [b"", None, b"a\0b"]),
+            ("i128", [-(2**127), None, 2**127 - 1]), ("u128", [2**128 - 1]), ("binary", [b"", None, b"a\0b"]),
             ("binview", [b"twelve bytes", b"thirteen byte", None]), ("utf8", ["", "é√", None, "longer than twelve"]),
             ("list<i64>", [[1, None], None, []]), ("fixed<2,bool>", [[True, None], None]), ("struct<i64,utf8>", [(1, "a"), None, (None, None)]),
             ("list<struct<fixed<1,i8>,list<utf8>>>", [[([1], ["x"]), None], None, [(None, None)]]),
@@ -41,7 +41,7 @@ class Columns(unittest.TestCase):
     def test_random_columns_through_arrow(self) -> None:
         rng = random.Random(2)
         for _ in range(CASES):
-            wanted = model.random_type(rng, 3)
+            wanted = model.random_type(rng, 3, but=("u128",))
             rows = model.random_rows(rng, wanted, rng.randrange(12))
             start = rng.randrange(len(rows) + 1)
             part = Column.from_pylist(rows, wanted)[start:]
@@ -65,7 +65,7 @@ class Kernels(unittest.TestCase):
     def test_of_columns_that_came_through_arrow(self) -> None:
         rng = random.Random(3)
         for _ in range(CASES):
-            wanted = model.random_type(rng, 3)
+            wanted = model.random_type(rng, 3, but=("u128",))
             rows = model.random_rows(rng, wanted, rng.randrange(1, 12))
             column = Column.from_arrow(Column.from_pylist(rows, wanted))
             mask = [rng.choice((True, False, None)) for _ in rows]
@@ -74,12 +74,21 @@ class Kernels(unittest.TestCase):
             self.assertEqual(column.take(indices).to_pylist(), model.taken(rows, indices))
             self.assertEqual(column.unit_list().to_pylist(), [[row] for row in rows])
 
-    def test_out_of_bounds(self) -> None:
+    def test_getters(self) -> None:
         rng = random.Random(4)
         for _ in range(CASES):
-            wanted, index = Type("list", (model.random_type(rng, 2),)), rng.randrange(-4, 4)
+            below, index = model.random_type(rng, 2), rng.randrange(-4, 4)
+            rows = model.random_rows(rng, Type("list", (below,)), rng.randrange(1, 10))
+            lists = Column.from_pylist(rows, Type("list", (below,)))
+            self.assertEqual(lists.sublist_get(index).to_pylist(), [model.element(row, index) for row in rows])
+            self.assertEqual(lists.index_is_oob(index), model.is_outside(rows, index))
+            wanted = Type("fixed", (below,), rng.randrange(4))
             rows = model.random_rows(rng, wanted, rng.randrange(1, 10))
-            self.assertEqual(Column.from_pylist(rows, wanted).index_is_oob(index), model.is_outside(rows, index))
+            blocks = Column.from_pylist(rows, wanted)
+            self.assertEqual(blocks.fixed_get(index).to_pylist(), [model.element(row, index) for row in rows])
+            each = [rng.choice((None, rng.randrange(-4, 4))) for _ in rows]
+            expected = [None if at is None else model.element(row, at) for row, at in zip(rows, each)]
+            self.assertEqual(blocks.fixed_get(Column.from_pylist(each, "i64")).to_pylist(), expected)
 
 
 class Refusals(unittest.TestCase):
@@ -87,9 +96,12 @@ class Refusals(unittest.TestCase):
         column = Column.from_pylist([1, 2])
         for error, call in (
             (sel.WrongArgument, lambda: column.filter([True])),
+            (sel.WrongArgument, lambda: column.sublist_get(0)),
             (sel.OutOfBounds, lambda: column.take([2])),
-            (sel.WrongArgument, lambda: column.index_is_oob(0)),
             (sel.OutOfBounds, lambda: column.sliced(1, 2)),
+            (sel.OutOfBounds, lambda: Column.from_pylist([[1]], "fixed<1,i64>").fixed_get(1, null_on_oob=False)),
+            (sel.BrokenRule, lambda: Column.from_pylist([2**127 - 1], "i128").__arrow_c_array__()),
+            (sel.BrokenRule, lambda: Column.from_pylist([1], "u128").__arrow_c_array__()),
         ):
             with self.assertRaises(error) as caught:
                 call()

@@ -235,12 +235,24 @@ impl Column {
         Column::made(|out| unsafe { raw::sel_take(of.at(), indices.at(), out) })
     }
 
+    /// Of each list the element at the index, counted from the end where it is negative; null where there is none.
+    pub fn sublist_get(&self, index: i64) -> Result<Column, Error> {
+        // SAFETY: as in `child`.
+        Column::made(|out| unsafe { raw::sel_sublist_get(self.at(), index, out) })
+    }
+
     /// Whether a list that is not null has no element at the index.
     pub fn index_is_oob(&self, index: i64) -> Result<bool, Error> {
         let mut is_oob = false;
         // SAFETY: as in `len`.
         checked(unsafe { raw::sel_index_is_oob(self.at(), index, &mut is_oob) })?;
         Ok(is_oob)
+    }
+
+    /// Of each list of one length the element at the index; null where there is none, or else the out of bounds refusal.
+    pub fn fixed_get(&self, index: i64, null_on_oob: bool) -> Result<Column, Error> {
+        // SAFETY: as in `child`.
+        Column::made(|out| unsafe { raw::sel_fixed_get(self.at(), index, null_on_oob, out) })
     }
 
     /// Each row in a list of its own.

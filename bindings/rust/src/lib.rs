@@ -1,5 +1,5 @@
-//! Selection kernels over Arrow columns that are proved to pick the rows of their definition: filter and take. Safe types
-//! over the C library `libsel`.
+//! Selection kernels over Arrow columns that are proved to pick the rows of their definition: filter, take and getters of
+//! lists. Safe types over the C library `libsel`.
 //!
 //! ```
 //! use sel::Column;

@@ -69,8 +69,10 @@ calls! {
     fn sel_field(of: *mut Handle, i: usize, out: *mut Handle) -> u32;
     fn sel_filter(of: *mut Handle, mask: *mut Handle, out: *mut Handle) -> u32;
     fn sel_take(of: *mut Handle, indices: *mut Handle, out: *mut Handle) -> u32;
+    fn sel_sublist_get(of: *mut Handle, index: i64, out: *mut Handle) -> u32;
     fn sel_index_is_oob(of: *mut Handle, index: i64, out: *mut bool) -> u32;
     fn sel_unit_list(of: *mut Handle, out: *mut Handle) -> u32;
+    fn sel_fixed_get(of: *mut Handle, index: i64, null_on_oob: bool, out: *mut Handle) -> u32;
     fn sel_sliced(of: *mut Handle, offset: usize, len: usize, out: *mut Handle) -> u32;
     fn sel_share(of: *mut Handle, out: *mut Handle) -> u32;
     fn sel_free(of: *mut Handle);
