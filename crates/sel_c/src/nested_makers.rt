@@ -1,6 +1,6 @@
 //! Columns of bytes, lists and tuples, made of slices and of columns that the calls take.
 
-ghost use Rattle.std.specs.Prelude.{◌≡◌, ◌≢◌, None, map, length};
+ghost use Rattle.std.specs.Prelude.{◌≡◌, ◌≢◌, All, None, map, length};
 ghost use Rattle.sel_arrow.specs.Nested.{list_rows, block_rows, tuple_rows};
 ghost use Rattle.sel_arrow.specs.Pieces.{byte_rows, rows_between};
 ghost use Rattle.sel_arrow.specs.Rows.{rows, type_of};
@@ -118,6 +118,7 @@ pub extern "C" fn sel_struct_new(
         (map (λ field. held_rows field.tree) fields.old) (validity_in bits.now has_bits len)) }
     ensures dtype { Makes result out.old.tree out.new.tree (λ made. type_of made.column ≡
         of_struct (shapes_of (map (λ field. held_type field.tree) fields.old))) }
+    ensures column { Demands result no_column (All (λ field. HasColumn field.tree) fields.old) }
     ensures status { result ≢ no_column → Names result
         (struct_rules len (map (λ field. held_count field.tree) fields.old) bits.now has_bits) }
 {

@@ -1,11 +1,12 @@
 -- What is taken of a list, one by one.
 use Rattle.std.proofs.Common.{◌≡◌, ℕ, zero, suc, ◌+◌, ◌<◌, List, [], ◌∷◌, ◌++◌, length, take, drop, get_or, map, refl, ap, sym, ◌∙◌, arith, add-one, set}
-use Rattle.std.proofs.Common.{Some}
+use Rattle.std.proofs.Common.{All, None, Some, subst}
+use Rattle.std.proofs.lemmas.List.Elements.{All-nil, All-cons}
 use Rattle.std.proofs.lemmas.List.{drop-set-lt}
 use Rattle.sel_arrow.specs.Rows.{rows, row_count, type_of}
 use Rattle.sel_arrow.specs.declared.array_ref.ArrayRef.{ArrayRef}
 use Rattle.sel_handle.specs.Held.{Held}
-use Rattle.sel_handle.specs.Status.{held_count, held_rows, held_type}
+use Rattle.sel_handle.specs.Status.{held_count, held_rows, held_type, HasColumn}
 use Rattle.sel_handle.specs.declared.handle.Handle.{Handle}
 
 nil : {A : Type 0} → (i : ℕ) → drop {A = A} i [] ≡ []
@@ -67,3 +68,17 @@ types_taken = each held_type
 
 pub counts_taken : (ts : List ArrayRef) (hs : List Handle) → map (λ t. Some t) ts ≡ map (λ h. h.tree) hs → map (λ t. row_count t.column) ts ≡ map (λ h. held_count h.tree) hs
 counts_taken = each held_count
+
+-- each handle whose column was taken had one
+pub all_held : (ts : List ArrayRef) (hs : List Handle) → map (λ t. Some t) ts ≡ map (λ h. h.tree) hs → All (λ h. HasColumn h.tree) hs
+all_held [] [] same = All-nil (λ h. HasColumn h.tree)
+all_held [] (h ∷ hs) same = absurd (cc same)
+all_held (t ∷ ts) [] same = absurd (cc same)
+all_held (t ∷ ts) (h ∷ hs) same =
+    let first : Some t ≡ h.tree = cc same in
+    let rest : map (λ t. Some t) ts ≡ map (λ h. h.tree) hs = cc same in
+    All-cons (λ (x : Handle). HasColumn x.tree) h hs (subst HasColumn first tt) (all_held ts hs rest)
+
+-- where one has none, not each has one
+pub one_lacks : (xs hs : List Handle) (i : ℕ) (d : Handle) → i < length xs → drop i hs ≡ drop i xs → (get_or hs i d).tree ≡ None → All (λ h. HasColumn h.tree) xs → ⊥
+one_lacks xs hs i d low same none all = subst HasColumn (ap (λ (h : Handle). h.tree) (sym (same_entry xs hs i d same)) ∙ none) (all i d low)

@@ -1,8 +1,8 @@
 //! Columns of several handles.
 
-ghost use Rattle.std.specs.Prelude.{◌≡◌, ◌≢◌, Some, map, IfOk, IfErr};
+ghost use Rattle.std.specs.Prelude.{◌≡◌, ◌≢◌, All, Some, map, IfOk, IfErr};
 ghost use Rattle.sel_arrow.specs.Rows.{rows, row_count, type_of};
-ghost use Rattle.sel_handle.specs.Status.{done, held_count, held_rows, held_type};
+ghost use Rattle.sel_handle.specs.Status.{done, held_count, held_rows, held_type, no_column, HasColumn};
 
 use crate::handle::Handle;
 use crate::status::{NO_COLUMN, NO_MEMORY};
@@ -20,6 +20,9 @@ pub fn take_all(alloc: Global, handles: &mut [Handle]) -> Result<Vec<ArrayRef>, 
         map (λ handle. held_type handle.tree) handles.old) }
     ensures counts { IfOk result (λ taken. map (λ column. row_count column.column) taken.items ≡
         map (λ handle. held_count handle.tree) handles.old) }
+    ensures full { IfOk result (λ _. All (λ handle. HasColumn handle.tree) handles.old) }
+    ensures column { IfErr result (λ status. status ≡ no_column →
+        All (λ handle. HasColumn handle.tree) handles.old → ⊥) }
     ensures refusal { IfErr result (λ status. status ≢ done) }
 {
     let Ok(mut taken) = Vec::with_capacity(alloc, handles.len()) else {

@@ -1,6 +1,6 @@
-use Rattle.std.proofs.Common.{rules, arith, Some, ◌≡◌, get_or, sym, ap, ◌∙◌}
+use Rattle.std.proofs.Common.{rules, arith, None, Some, ◌≡◌, get_or, sym, ap, ◌∙◌}
 use Rattle.std.proofs.lemmas.Grind.{common_steps}
-use Rattle.sel_handle.proofs.Taken.{taken_more, left_more, rows_taken, types_taken, counts_taken}
+use Rattle.sel_handle.proofs.Taken.{taken_more, left_more, rows_taken, types_taken, counts_taken, all_held, one_lacks}
 use Rattle.sel_handle.proofs.several.take_all.Goals as goal
 
 pub loop-i-preserved : goal.loop-i-preserved
@@ -18,3 +18,13 @@ returns-clause-dtypes c = types_taken c.loop-i.taken.items c.args.handles.now (g
 
 pub returns-clause-counts : goal.returns-clause-counts
 returns-clause-counts c = counts_taken c.loop-i.taken.items c.args.handles.now (grind (arith, common_steps))
+
+pub returns-clause-full : goal.returns-clause-full
+returns-clause-full c = all_held c.loop-i.taken.items c.args.handles.now (grind (arith, common_steps))
+
+pub returns-in_default-take-clause-column : goal.returns-in_default-take-clause-column
+returns-in_default-take-clause-column c =
+    λ is.
+    let l = c.loop-i in
+    let none : (get_or l.handles l.i c.index-handles-i.result).tree ≡ None = grind (arith, common_steps) in
+    one_lacks c.args.handles.now l.handles l.i c.index-handles-i.result (grind (arith, common_steps)) l.invariant.3 none
