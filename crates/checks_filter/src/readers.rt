@@ -63,6 +63,42 @@ fn words_of_a_bitmap(rt: HostRuntime) -> Result<(), Fail> {
     Ok(())
 }
 
+/// Whether 200 bits, true at the fourth place and at the last, have two words without a true bit between two others.
+fn skips_two_words(bitmap: &Bitmap) -> bool {
+    let mut words = AlignedWords::new(bitmap);
+    words.skip_zeros() == 0
+        && words.words_read() == 0
+        && words.next() == Some((0b1000, 64))
+        && words.skip_zeros() == 128
+        && words.words_read() == 3
+        && words.next() == Some((0b1000_0000, 8))
+        && words.skip_zeros() == 0
+        && words.next() == None
+        && words.words_read() == 4
+}
+
+/// Whether the same bits behind the fourth one begin with a word of 60 bits, which is given out although none of them is true.
+fn gives_a_part_of_zeros(bitmap: &Bitmap) -> bool {
+    let mut words = AlignedWords::new(bitmap);
+    words.skip_zeros() == 0
+        && words.next() == Some((0, 60))
+        && words.skip_zeros() == 128
+        && words.next() == Some((0b1000_0000, 8))
+        && words.next() == None
+}
+
+#[test]
+fn words_without_a_true_bit(rt: HostRuntime) -> Result<(), Fail> {
+    let mut bits = Vec::new(rt.alloc());
+    for i in 0..200 {
+        bits.push(i == 3 || i == 199)?;
+    }
+    let bitmap = Bitmap::from_bools(rt.alloc(), &bits)?;
+    assert!(rt; skips_two_words(&bitmap));
+    assert!(rt; gives_a_part_of_zeros(&bitmap.sliced(4, 196)));
+    Ok(())
+}
+
 /// Whether the first two of these bits are true and the fifth is not, each is counted, and so is one that is read again.
 fn gives_bits(bitmap: &Bitmap) -> bool
     requires { length bitmap.now.bits ≡ 192 }

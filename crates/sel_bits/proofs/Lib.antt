@@ -13,4 +13,5 @@ pub mod Parts
 pub mod Prefix
 pub mod Shifts
 pub mod WordsOf
+pub mod ZeroWords
 pub mod Zeros

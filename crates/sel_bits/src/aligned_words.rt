@@ -1,6 +1,6 @@
 //! A reader that gives the bits of a bitmap out in words, and counts them.
 
-ghost use Rattle.std.specs.Prelude.{◌≡◌, ◌+◌, ◌/◌, ◌<◌, ◌≤◌, length, IfSome, IfNone, MatchOption};
+ghost use Rattle.std.specs.Prelude.{◌≡◌, ◌≢◌, ◌+◌, ◌/◌, ◌<◌, ◌≤◌, length, take, drop, replicate, false, IfSome, IfNone, MatchOption};
 ghost use Rattle.sel_bits.specs.Reading.{after_word, next_bits, next_count, reached};
 ghost use Rattle.sel_bits.specs.Words.{word_of};
 
@@ -86,5 +86,26 @@ impl<'a> AlignedWords<'a> {
         let word = bitmap.word_at(self.at, count);
         self.at += count;
         Some((word, count))
+    }
+    /// Passes over the next words as long as these have 64 bits, all of them false, each counted as given out, and answers how many
+    /// bits these had.
+    #[inline]
+    pub fn skip_zeros(&mut self) -> usize
+        ensures zeros { take result (drop (reached self.old) self.old.source.bits) ≡
+            replicate result false }
+        ensures all { next_count self.new ≡ 64 → word_of (next_bits self.new) ≢ 0 }
+        ensures passed { reached self.new ≡ reached self.old + result }
+        ensures count { self.new.words_read ≡ self.old.words_read + result / 64 }
+        ensures source { self.new.source ≡ self.old.source }
+        ensures bound { self.new.words_read ≤ length self.new.source.bits / 64 + 2 }
+    {
+        let bitmap = self.bitmap;
+        if (bitmap.offset() + self.at) % 64 != 0 {
+            return 0;
+        }
+        let words = bitmap.zero_words(self.at);
+        self.words += words as u64;
+        self.at += 64 * words;
+        64 * words
     }
 }

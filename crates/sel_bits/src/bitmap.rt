@@ -1,7 +1,7 @@
 //! Truth values, eight to a byte from its lowest bit on, in bytes that several bitmaps can share.
 #![tactic(auto, using(crate::proofs::BitLists::length_bits_from))]
 
-ghost use Rattle.std.specs.Prelude.{◌≡◌, ℕ, ◌+◌, ◌-◌, ◌*◌, ◌/◌, ◌%◌, ◌^◌, ◌<◌, ◌≤◌, [], ◌∷◌, ◌++◌, Bool, false, length, take, drop, slice_index_or, replicate, IfOk, IfErr, IsTrue, ◌↔◌, vec_len, if◌then◌else◌};
+ghost use Rattle.std.specs.Prelude.{◌≡◌, ◌≢◌, ℕ, ◌+◌, ◌-◌, ◌*◌, ◌/◌, ◌%◌, ◌^◌, ◌<◌, ◌≤◌, [], ◌∷◌, ◌++◌, Bool, false, length, take, drop, slice_index_or, replicate, IfOk, IfErr, IsTrue, ◌↔◌, vec_len, if◌then◌else◌};
 ghost use Rattle.sel_bits.specs.Bits.{bits_from, count_true, count_false, leading_ones, leading_zeros, trailing_zeros, unsliced};
 ghost use Rattle.sel_bits.specs.Words.{word_of};
 
@@ -153,6 +153,25 @@ impl Bitmap {
     {
         let first = self.offset + at;
         whole_word(&self.bytes, first / 8, first % 8)
+    }
+
+    /// How many words of 64 false bits stand behind one another from bit `at` on.
+    pub(crate) fn zero_words(&self, at: usize) -> usize
+        requires { at ≤ length self.now.bits }
+        ensures within { at + 64 * result ≤ length self.now.bits }
+        ensures zeros { take (64 * result) (drop at self.now.bits) ≡ replicate (64 * result) false }
+        ensures all { at + 64 * result + 64 ≤ length self.now.bits →
+            word_of (take 64 (drop (at + 64 * result) self.now.bits)) ≢ 0 }
+    {
+        let most = (self.len() - at) / 64;
+        let mut words = 0;
+        while words < most {
+            if self.whole_word_at(at + 64 * words) != 0 {
+                return words;
+            }
+            words += 1;
+        }
+        words
     }
 
     /// How many bits are true.

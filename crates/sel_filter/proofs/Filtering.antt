@@ -1,5 +1,5 @@
 -- What a filter keeps from word to word of its mask, over plain variables.
-use Rattle.std.proofs.Common.{◌≡◌, ℕ, ◌+◌, ◌-◌, ◌^◌, ◌<◌, ◌≤◌, ◌∙◌, sym, ap, arith, List, ◌++◌, length, take, drop, replicate, Bool, false, append-nil}
+use Rattle.std.proofs.Common.{◌≡◌, ℕ, ◌+◌, ◌-◌, ◌^◌, ◌<◌, ◌≤◌, ◌∙◌, sym, refl, ap, subst, arith, List, [], ◌++◌, length, take, drop, replicate, Bool, false, append-nil}
 use Rattle.std.proofs.lemmas.List.{take-append-drop, take_all, length-take, length-drop}
 use Rattle.std.proofs.lemmas.List.Sums.{count_by-le-length}
 use Rattle.std.proofs.Math.Seq.{take-add}
@@ -69,6 +69,18 @@ pub record IsFiltered (vs ms : Bits) (out : List Bool) (start : ℕ) (values : B
   pub gives : out ≡ select (take start vs.bits) (take start ms.bits)
   pub reads : values.bits_read ≡ count_true (take start ms.bits)
 
+-- before anything is read
+pub filtered_none : (values : BitReading) (mask : WordReading) → values.bits_read ≡ 0 → mask.words_read ≡ 0 → length values.source.bits ≡ length mask.source.bits
+    → IsFiltered values.source mask.source [] 0 values mask
+filtered_none values mask values_unread mask_unread lengths = record {
+  values_source = refl;
+  mask_source = refl;
+  lengths = lengths;
+  here = omega (arith, mask_unread);
+  gives = refl;
+  reads = values_unread;
+}
+
 module _ (vs ms : Bits) (out : List Bool) (start : ℕ) (values : BitReading) (mask : WordReading) (was : IsFiltered vs ms out start values mask)
     (word count : ℕ) (is_word : word ≡ word_of (next_bits mask)) (is_count : count ≡ next_count mask) where
   long_mask : length mask.source.bits ≡ length ms.bits
@@ -113,6 +125,39 @@ module _ (vs ms : Bits) (out : List Bool) (start : ℕ) (values : BitReading) (m
     gives = (λ i. was.gives i ++ marked_selects i) ∙ sym (select_more vs.bits ms.bits start count was.lengths within);
     reads = omega (arith, more-reads, was.reads, marked_counts, count_more vs.bits ms.bits start count was.lengths within);
   }
+
+-- words without a true bit keep nothing
+module _ (vs ms : Bits) (out : List Bool) (start : ℕ) (values : BitReading) (mask : WordReading) (was : IsFiltered vs ms out start values mask)
+    (n : ℕ) (later : WordReading) (same : later.source ≡ mask.source) (on : reached later ≡ reached mask + n)
+    (none : take n (drop (reached mask) mask.source.bits) ≡ replicate n false) where
+  skipped : take n (drop start ms.bits) ≡ replicate n false
+  skipped =
+      ap (λ a. take n (drop a ms.bits)) was.here
+      ∙ ap (λ (s : Bits). take n (drop (reached mask) s.bits)) (sym was.mask_source)
+      ∙ none
+
+  skipped_within : start + n ≤ length ms.bits
+  skipped_within = omega (arith, was.here, on, ap (λ (s : Bits). length s.bits) same, ap (λ (s : Bits). length s.bits) was.mask_source)
+
+  keeps_none : select (take n (drop start vs.bits)) (take n (drop start ms.bits)) ≡ []
+  keeps_none = ap (select (take n (drop start vs.bits))) skipped ∙ select_none (take n (drop start vs.bits)) n
+
+  skipped_all : IsFiltered vs ms out (start + n) values later
+  skipped_all = record {
+    values_source = was.values_source;
+    mask_source = same ∙ was.mask_source;
+    lengths = was.lengths;
+    here = omega (arith, was.here, on);
+    gives =
+        was.gives
+        ∙ sym (select_more vs.bits ms.bits start n was.lengths skipped_within
+        ∙ ap (λ l. select (take start vs.bits) (take start ms.bits) ++ l) keeps_none
+        ∙ append-nil (select (take start vs.bits) (take start ms.bits)));
+    reads = omega (arith, was.reads, count_more vs.bits ms.bits start n was.lengths skipped_within, ap count_true skipped, count_true_none n);
+  }
+
+  pub filtered_skip : (to : ℕ) → to ≡ start + n → IsFiltered vs ms out to values later
+  filtered_skip to is = subst (λ k. IsFiltered vs ms out k values later) (sym is) skipped_all
 
 -- behind the last one everything is
 module _ (vs ms : Bits) (out : List Bool) (start : ℕ) (values : BitReading) (mask : WordReading) (was : IsFiltered vs ms out start values mask) (end : reached mask ≡ length mask.source.bits) where

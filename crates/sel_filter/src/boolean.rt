@@ -89,10 +89,11 @@ fn keep_marked(
     // (a bitmap has no more bits than a place can show)
     let _whole = mask.len();
     let mut kept = BitPacker::with_capacity(alloc, room)?;
-    let mut start = 0;
+    let mut start = mask.skip_zeros();
     while let Some((word, count)) = mask.next() {
         append_marked(values, start, word, &mut kept)?;
         start += count;
+        start += mask.skip_zeros();
     }
     kept.into_bitmap(values.bits_read() as usize)
 }

@@ -1,7 +1,9 @@
-use Rattle.std.proofs.Common.{◌∙◌, ap, sym, arith}
+use Rattle.std.proofs.Common.{◌+◌, ◌-◌, ◌∙◌, ap, sym, refl, arith, [], ◌++◌, length, drop}
 use Rattle.std.proofs.lemmas.Result.{IfOk-weaker}
 use Rattle.sel_bits.specs.Bits.{Bits}
-use Rattle.sel_filter.proofs.Filtering.{marked_fits, marked_reads, filtered_next, filtered_all, reads_all, kept_count}
+use Rattle.sel_bits.specs.Words.{bits}
+use Rattle.sel_filter.specs.Select.{select}
+use Rattle.sel_filter.proofs.Filtering.{marked_fits, marked_reads, filtered_next, filtered_all, filtered_none, filtered_skip, reads_all, kept_count}
 use Rattle.sel_filter.proofs.boolean.keep_marked.Goals as goal
 
 pub append_marked-requires-clause-within : goal.append_marked-requires-clause-within
@@ -12,11 +14,26 @@ pub append_marked-requires-clause-reads : goal.append_marked-requires-clause-rea
 append_marked-requires-clause-reads c =
     omega (arith, c.len-whole.ensures, marked_reads c.args.values.now.source c.args.mask.now.source c.loop-word.kept c.loop-word.start c.loop-word.values c.loop-word.mask c.loop-word.invariant c.in-Some.word c.in-Some.count (c.in-Some.word-is ∙ c.in-Some.ensures.word) (c.in-Some.count-is ∙ c.in-Some.ensures.count))
 
+pub loop-word-init : goal.loop-word-init
+loop-word-init c =
+    let vs = c.args.values.now in
+    let ms = c.args.mask.now in
+    let skip = c.skip_zeros-start in
+    rw c.in_ok-kept.ensures.value
+    (filtered_skip vs.source ms.source [] 0 vs ms (filtered_none vs ms c.requires.values_unread c.requires.mask_unread c.requires.long)
+    skip.result skip.new.self skip.ensures.source skip.ensures.passed skip.ensures.zeros skip.result (omega arith))
+
 pub loop-word-preserved : goal.loop-word-preserved
 loop-word-preserved c =
-    rw (c.in_ok-append_marked.ensures.appended, c.in-Some.ensures.after)
-    (filtered_next c.args.values.now.source c.args.mask.now.source c.loop-word.kept c.loop-word.start c.loop-word.values c.loop-word.mask c.loop-word.invariant c.in-Some.word c.in-Some.count (c.in-Some.word-is ∙ c.in-Some.ensures.word) (c.in-Some.count-is ∙ c.in-Some.ensures.count)
-    c.append_marked.new.values c.in_ok-append_marked.ensures.source c.in_ok-append_marked.ensures.reads)
+    let was = c.loop-word in
+    let out = was.kept ++ select (drop was.start was.values.source.bits) (bits (length was.values.source.bits - was.start) c.in-Some.word) in
+    let skip = c.skip_zeros-start-in-Some in
+    let next = filtered_next c.args.values.now.source c.args.mask.now.source was.kept was.start was.values was.mask was.invariant c.in-Some.word c.in-Some.count (c.in-Some.word-is ∙ c.in-Some.ensures.word) (c.in-Some.count-is ∙ c.in-Some.ensures.count)
+        c.append_marked.new.values c.in_ok-append_marked.ensures.source c.in_ok-append_marked.ensures.reads in
+    rw c.in_ok-append_marked.ensures.appended
+    (filtered_skip c.args.values.now.source c.args.mask.now.source out (was.start + c.in-Some.count) c.append_marked.new.values c.next.new.self
+    (rw c.in-Some.ensures.after next)
+    skip.result skip.new.self skip.ensures.source skip.ensures.passed skip.ensures.zeros (was.start + c.in-Some.count + skip.result) refl)
 
 pub into_bitmap-requires : goal.into_bitmap-requires
 into_bitmap-requires c =
