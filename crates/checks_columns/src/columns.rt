@@ -4,8 +4,8 @@ ghost use Rattle.sel_arrow.specs.Masked.{Covers};
 ghost use Rattle.sel_arrow.specs.Rows.{IsWellFormed};
 
 use crate::fixtures::{
-    buffer, copy_tells, has_bytes, has_bytes_at, has_own_dtype, has_text, has_truths, numbers,
-    one_buffer, part_tells, tells, truths, validity,
+    buffer, copy_tells, has_bytes, has_bytes_at, has_numbers, has_own_dtype, has_text, has_truths,
+    numbers, one_buffer, part_tells, tells, truths, validity,
 };
 use sel_arrow::array::Array;
 use sel_arrow::array_ref::ArrayRef;
@@ -631,5 +631,21 @@ fn a_validity_may_be_missing(rt: HostRuntime) -> Result<(), Fail> {
     assert!(rt; has_second_null(&bits) == Ok(true));
     assert!(rt; clone_validity(&bits)?.is_some());
     assert!(rt; missing_is_valid() == Ok(true));
+    Ok(())
+}
+
+#[test]
+fn columns_of_options(rt: HostRuntime) -> Result<(), Fail> {
+    let alloc = rt.alloc();
+    let rows = [Some(5i16), None, Some(-3)];
+    let numbers = PrimitiveArray::from_options(alloc, &rows)?;
+    assert!(rt; has_numbers(&numbers, &rows));
+    assert!(rt; numbers.null_count() == 1);
+    let rows = [None, Some(true), Some(false), Some(true)];
+    let truths = BooleanArray::from_options(alloc, &rows)?;
+    assert!(rt; has_truths(&truths, &rows));
+    assert!(rt; truths.null_count() == 1);
+    let none: [Option<u128>; 0] = [];
+    assert!(rt; PrimitiveArray::from_options(alloc, &none)?.is_empty());
     Ok(())
 }

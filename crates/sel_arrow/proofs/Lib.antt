@@ -6,6 +6,7 @@ pub mod NestedParts
 pub mod NestedRows
 pub mod NoRows
 pub mod NullCounts
+pub mod RowOptions
 pub mod Rows
 pub mod Texts
 pub mod Trees

@@ -13,6 +13,7 @@ pub mod fixed_size_list;
 pub mod list;
 pub mod native_columns;
 pub mod null;
+mod options;
 pub mod primitive;
 pub mod rules;
 pub mod structure;

@@ -1,9 +1,9 @@
 //! A column of numbers.
 
-ghost use Rattle.std.specs.Prelude.{◌≡◌, ◌≢◌, ◌≤◌, ◌<◌, ◌↔◌, length, slice_index_or, None, IfOk, IfErr, IfSome, IfNone, IsTrue, []};
+ghost use Rattle.std.specs.Prelude.{◌≡◌, ◌≢◌, ◌≤◌, ◌<◌, ◌↔◌, length, map, slice_index_or, None, IfOk, IfErr, IfSome, IfNone, IsTrue, []};
 ghost use Rattle.std.specs.Option.{option_copied};
-ghost use Rattle.sel_bits.specs.Faults.{IsFault};
-ghost use Rattle.sel_arrow.specs.Makers.{flat_fault};
+ghost use Rattle.sel_bits.specs.Faults.{IsFault, IsFaultOrMemory};
+ghost use Rattle.sel_arrow.specs.Makers.{flat_fault, null_fault};
 ghost use Rattle.sel_arrow.specs.Masked.{Covers, number_rows, number_value};
 ghost use Rattle.sel_arrow.specs.Shape.{Shape, of_null};
 ghost use Rattle.sel_arrow.specs.Value.{Null};
@@ -12,6 +12,7 @@ use crate::array::Array;
 use crate::array_ref::ArrayRef;
 use crate::column::Column;
 use crate::datatype::ArrowDataType;
+use crate::options::{valid_rows, values_or};
 use crate::validity::{MOST_ROWS, clone_validity, has_other_length, is_valid_at, sliced_validity};
 use sel_bits::bitmap::Bitmap;
 use sel_bits::buffer::Buffer;
@@ -52,6 +53,29 @@ impl<T: NativeType> PrimitiveArray<T> {
             return Err(MakeError::Malformed(Malformed::ValidityLength));
         }
         Ok(PrimitiveArray { values, validity })
+    }
+
+    /// The column of these rows, each null where it is none; beneath a null stands the least number of the type. Refused are more
+    /// rows than 4,294,967,295; else it refuses only for want of memory.
+    pub fn from_options(alloc: Global, rows: &[Option<T>]) -> Result<PrimitiveArray<T>, MakeError>
+        ensures rows { IfOk result (λ column. primitive_rows column ≡
+            map (number_value T.number) rows.now) }
+        ensures accepted { IfOk result (λ _. null_fault (length rows.now) ≡ None) }
+        ensures refused { IfErr result (IsFaultOrMemory (null_fault (length rows.now))) }
+    {
+        if rows.len() > MOST_ROWS {
+            return Err(MakeError::Malformed(Malformed::TooManyRows));
+        }
+        match (values_or(alloc, rows, T::LEAST), valid_rows(alloc, rows)) {
+            (Ok(values), Ok(valid)) => match Buffer::from_vec(values) {
+                Ok(values) => Ok(PrimitiveArray {
+                    values,
+                    validity: Some(valid),
+                }),
+                Err(_) => Err(MakeError::OutOfMemory),
+            },
+            _ => Err(MakeError::OutOfMemory),
+        }
     }
 
     /// The numbers, those beneath nulls too.

@@ -26,7 +26,8 @@ pub enum LineEnd {
 /// Reads the next line into `line`, without its line feed.
 pub fn read_line<R: Read>(reader: &mut Counted<R>, line: &mut Vec<u8>) -> Result<LineEnd, RunError>
     ensures ok { IfOk result (λ end. HasNoFeed line.new.items
-        × Consumes (R.remaining (inner_of reader.old)) (R.remaining (inner_of reader.new)) (piece end line.new.items)
+        × Consumes (R.remaining (inner_of reader.old)) (R.remaining (inner_of reader.new))
+        (piece end line.new.items)
         × IsReadTo end line.new.items (R.remaining (inner_of reader.new))) }
     ensures err { OnErr result ((rest : List ℕ) × HasNoFeed rest
         × Consumes (R.remaining (inner_of reader.old)) (R.remaining (inner_of reader.new)) rest) }
@@ -48,7 +49,8 @@ pub fn read_line<R: Read>(reader: &mut Counted<R>, line: &mut Vec<u8>) -> Result
 // The next byte, or `None` at the end.
 fn read_byte<R: Read>(reader: &mut Counted<R>) -> Result<Option<u8>, RunError>
     ensures ok { IfOk result (λ byte.
-        Consumes (R.remaining (inner_of reader.old)) (R.remaining (inner_of reader.new)) (option_to_list byte)) }
+        Consumes (R.remaining (inner_of reader.old)) (R.remaining (inner_of reader.new))
+        (option_to_list byte)) }
     ensures end { IfOk result (λ byte. IfNone byte (IsAtEnd (R.remaining (inner_of reader.new)))) }
     ensures err { OnErr result (Keeps (R.remaining (inner_of reader.old))
         (R.remaining (inner_of reader.new))) }

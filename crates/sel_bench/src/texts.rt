@@ -85,7 +85,8 @@ pub struct Texts {
     ghost paired: { length validity.items ≡ length views.items },
     ghost few: { length views.items ≤ 4294967295 },
     ghost placed: { IsTrue (all_placed (bytes.items ∷ []) views.items) },
-    ghost texts: { IsTrue (all_text (hidden validity.items (map (view_value (bytes.items ∷ [])) views.items))) },
+    ghost texts: { IsTrue (all_text
+        (hidden validity.items (map (view_value (bytes.items ∷ [])) views.items))) },
 }
 
 impl Texts {

@@ -12,7 +12,8 @@ pub fn send<W: Write>(writer: &mut Counted<W>, text: &[u8]) -> Result<(), RunErr
     ensures ok { OnOk result (Appends (W.contents (inner_of writer.old))
         (W.contents (inner_of writer.new)) text.now) }
     ensures err { OnErr result ((sent : ℕ)
-        × Appends (W.contents (inner_of writer.old)) (W.contents (inner_of writer.new)) (take sent text.now)) }
+        × Appends (W.contents (inner_of writer.old)) (W.contents (inner_of writer.new))
+        (take sent text.now)) }
     ensures fault { IfErr result (λ e. e ≡ RunError.Output) }
     ensures failures { failures_of writer.new ≡
         counted_up (is_err result) (failures_of writer.old) }

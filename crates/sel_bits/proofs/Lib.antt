@@ -1,3 +1,4 @@
+pub mod AllTrue
 pub mod BitLists
 pub mod BlockParts
 pub mod Combining

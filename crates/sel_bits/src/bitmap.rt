@@ -182,6 +182,14 @@ impl Bitmap {
         count_set(bytes, shift, len)
     }
 
+    /// Whether no bit is false. It looks no further than the first false bit.
+    #[tactic(auto, using(crate::proofs::AllTrue::all_true))]
+    pub fn is_all_true(&self) -> bool
+        ensures { IsTrue result ↔ (count_true self.now.bits ≡ length self.now.bits) }
+    {
+        self.leading_ones() == self.len()
+    }
+
     /// How many bits are false.
     pub fn unset_bits(&self) -> usize
         ensures { result ≡ count_false self.now.bits }

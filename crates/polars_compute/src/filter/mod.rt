@@ -76,7 +76,7 @@ fn filter_trimmed(alloc: Global, array: ArrayRef, mask: &Bitmap) -> PolarsResult
     ensures dtype { IfOk result (λ kept. type_of kept.column ≡ type_of array.column) }
     ensures refusal { IfErr result (λ fault. fault ≡ PolarsError.OutOfMemory) }
 {
-    if mask.set_bits() == mask.len() {
+    if mask.is_all_true() {
         return Ok(array);
     }
     filter_column(alloc, array.as_column(), mask)

@@ -37,7 +37,8 @@ pub fn take_unchecked<O: Offset, I: Index>(
 struct TakenRows<'a, O: Offset, I: Index> {
     values: &'a BinaryArray<O>,
     indices: &'a PrimitiveArray<I>,
-    ghost within: { IsTrue (all_within (length (binary_rows values.now)) (primitive_rows indices.now)) },
+    ghost within: { IsTrue
+        (all_within (length (binary_rows values.now)) (primitive_rows indices.now)) },
 }
 
 impl<O: Offset, I: Index> ByteRows for TakenRows<'_, O, I> {

@@ -1,0 +1,7 @@
+-- Of the rows so far it is told which are there.
+use Rattle.std.proofs.Common.{◌≡◌, map, take}
+use Rattle.std.specs.Prelude.{is_some}
+use Rattle.sel_arrow.proofs.options.valid_rows.Given as goal
+
+abbrev pub invariant-loop-row : goal.invariant-loop-row
+invariant-loop-row g l = l.valid.items ≡ map is_some (take l.row-index l.rows)

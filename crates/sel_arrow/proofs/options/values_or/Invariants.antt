@@ -1,0 +1,7 @@
+-- The rows so far, with the one value in the place of those that are missing.
+use Rattle.std.proofs.Common.{◌≡◌, map, take}
+use Rattle.std.specs.Prelude.{unwrap_or}
+use Rattle.sel_arrow.proofs.options.values_or.Given as goal
+
+abbrev pub invariant-loop-row : goal.invariant-loop-row
+invariant-loop-row g l = l.values.items ≡ map (λ row. unwrap_or row l.hidden) (take l.row-index l.rows)

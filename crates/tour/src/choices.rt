@@ -1,0 +1,54 @@
+//! Choices: when a mask is true the rows of one column, otherwise those of another.
+
+use crate::made::{numbers, texts};
+use crate::page::{show, title};
+use crate::stop::Stop;
+use polars_compute::if_then_else::IfThenElseKernel;
+use sel_arrow::array::Array;
+use sel_arrow::primitive::PrimitiveArray;
+use sel_arrow::utf8view::Utf8ViewArray;
+use sel_bits::bitmap::Bitmap;
+use std::alloc::Global;
+
+/// A choice between two columns, and between a column and one value.
+pub fn choices(alloc: Global, page: &mut String) -> Result<(), Stop> {
+    title(page, "if_then_else: row by row the one or the other")?;
+    let mask = Bitmap::from_bools(alloc, &[true, false, true])?;
+    let cheap = numbers(alloc, &[Some(1i64), None, Some(3)])?;
+    let dear = numbers(alloc, &[Some(10i64), Some(20), None])?;
+    show(
+        alloc,
+        page,
+        "of two columns",
+        chosen(alloc, &mask, &cheap, &dear)?.into_ref(),
+    )?;
+    let names = texts(alloc, &[Some("a"), Some("b"), None])?;
+    show(
+        alloc,
+        page,
+        "of texts and one text",
+        named(alloc, &mask, &names)?.into_ref(),
+    )
+}
+
+/// The rows of the first where the mask is true, else of the second, where all are of one length.
+fn chosen(
+    alloc: Global,
+    mask: &Bitmap,
+    if_true: &PrimitiveArray<i64>,
+    if_false: &PrimitiveArray<i64>,
+) -> Result<PrimitiveArray<i64>, Stop> {
+    if if_true.len() != mask.len() || if_false.len() != mask.len() {
+        return Err(Stop::Unmet);
+    }
+    Ok(PrimitiveArray::if_then_else(alloc, mask, if_true, if_false)?)
+}
+
+/// The texts where the mask is true, else one text.
+fn named(alloc: Global, mask: &Bitmap, names: &Utf8ViewArray) -> Result<Utf8ViewArray, Stop> {
+    if names.len() != mask.len() {
+        return Err(Stop::Unmet);
+    }
+    let nobody = String::from_str(alloc, "nobody")?;
+    Ok(Utf8ViewArray::if_then_else_broadcast_false(alloc, mask, names, &nobody)?)
+}

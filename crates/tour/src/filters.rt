@@ -1,0 +1,57 @@
+//! Filters: the rows where a mask is true.
+
+use crate::made::{numbers, truths};
+use crate::nested::people;
+use crate::page::{show, title};
+use crate::stop::Stop;
+use polars_compute::filter::{filter, filter_with_bitmap};
+use sel_arrow::array::Array;
+use sel_arrow::array_ref::ArrayRef;
+use sel_arrow::boolean::BooleanArray;
+use sel_bits::bitmap::Bitmap;
+use std::alloc::Global;
+
+/// A filter by a column of truth values, and one by bits.
+pub fn filters(alloc: Global, page: &mut String) -> Result<(), Stop> {
+    title(
+        page,
+        "filter: the rows where the mask is true; a null in it counts as false",
+    )?;
+    let ages = numbers(alloc, &[Some(31i64), None, Some(27), Some(45)])?.into_ref();
+    let mask = truths(alloc, &[Some(true), Some(true), None, Some(true)])?;
+    show(
+        alloc,
+        page,
+        "ages by [true,true,null,true]",
+        kept(alloc, ages, &mask)?,
+    )?;
+    let bits = Bitmap::from_bools(alloc, &[false, true, true])?;
+    show(
+        alloc,
+        page,
+        "structs by the bits 0, 1, 1",
+        kept_by_bits(alloc, people(alloc)?, &bits)?,
+    )
+}
+
+/// The rows that the mask keeps, where there is a truth value for each row.
+fn kept(alloc: Global, column: ArrayRef, mask: &BooleanArray) -> Result<ArrayRef, Stop> {
+    if column.len() != mask.len() {
+        drop(column);
+        return Err(Stop::Unmet);
+    }
+    let kept = filter(alloc, &column, mask);
+    drop(column);
+    Ok(kept?)
+}
+
+/// The same by bits.
+fn kept_by_bits(alloc: Global, column: ArrayRef, mask: &Bitmap) -> Result<ArrayRef, Stop> {
+    if column.len() != mask.len() {
+        drop(column);
+        return Err(Stop::Unmet);
+    }
+    let kept = filter_with_bitmap(alloc, &column, mask);
+    drop(column);
+    Ok(kept?)
+}

@@ -1,0 +1,84 @@
+//! Several columns: side by side, and rows picked from each.
+
+use crate::made::{numbers, texts};
+use crate::page::{show, title};
+use crate::stop::Stop;
+use polars_compute::gather::{collect_rows, picks_in_bounds};
+use polars_compute::horizontal_flatten::{flatten_is_safe, horizontal_flatten_unchecked};
+use sel_arrow::array::Array;
+use sel_arrow::array_ref::ArrayRef;
+use sel_arrow::column::Column;
+use sel_runs::sources::{are_alike, are_well_formed};
+use std::alloc::Global;
+
+/// Columns side by side, and rows of two columns.
+pub fn joined(alloc: Global, page: &mut String) -> Result<(), Stop> {
+    title(
+        page,
+        "horizontal_flatten: row by row the parts of all columns",
+    )?;
+    show(
+        alloc,
+        page,
+        "two numbers, then one, three times",
+        side_by_side(alloc)?,
+    )?;
+    title(page, "collect_rows: rows of several columns, by picks")?;
+    show(
+        alloc,
+        page,
+        "the second's first, nobody, the first's second",
+        picked(alloc)?,
+    )
+}
+
+fn side_by_side(alloc: Global) -> Result<ArrayRef, Stop> {
+    let wide = numbers(
+        alloc,
+        &[Some(1i64), Some(2), Some(3), None, Some(5), Some(6)],
+    )?
+    .into_ref();
+    let narrow = numbers(alloc, &[Some(10i64)])?.into_ref();
+    let columns = vec![in alloc; wide, narrow]?;
+    let flat = flattened(alloc, &columns, &[2, 1], 3);
+    drop(columns);
+    flat
+}
+
+/// The columns side by side, where they are of one type and each has its rows, or those of one row for all.
+fn flattened(
+    alloc: Global,
+    columns: &[ArrayRef],
+    widths: &[usize],
+    height: usize,
+) -> Result<ArrayRef, Stop> {
+    if !flatten_is_safe(columns, widths, height) {
+        return Err(Stop::Unmet);
+    }
+    Ok(horizontal_flatten_unchecked(alloc, columns, widths, height)?)
+}
+
+fn picked(alloc: Global) -> Result<ArrayRef, Stop> {
+    let first = texts(alloc, &[Some("Ada"), Some("Grace")])?.into_ref();
+    let second = texts(alloc, &[Some("Emmy")])?.into_ref();
+    let picks = [Some((1, 0)), None, Some((0, 1))];
+    let rows = collected(alloc, &[first.as_column(), second.as_column()], &picks);
+    drop(first);
+    drop(second);
+    rows
+}
+
+/// The rows that the picks name, where the columns are of one type and have them.
+fn collected<'a>(
+    alloc: Global,
+    sources: &'a [&'a Column],
+    picks: &[Option<(u32, u32)>],
+) -> Result<ArrayRef, Stop> {
+    if sources.is_empty() || !are_alike(sources) || !are_well_formed(sources) {
+        return Err(Stop::Unmet);
+    }
+    if !picks_in_bounds(sources, picks) {
+        return Err(Stop::Unmet);
+    }
+    Ok(collect_rows(alloc, sources, picks)?)
+}

@@ -1,0 +1,112 @@
+//! Columns made from lists of rows, of which none is null: values, and a bitmap that says which rows are there.
+
+use crate::stop::Stop;
+use sel_arrow::array_ref::ArrayRef;
+use sel_arrow::binary::BinaryArray;
+use sel_arrow::boolean::BooleanArray;
+use sel_arrow::fixed_size_list::FixedSizeListArray;
+use sel_arrow::list::ListArray;
+use sel_arrow::primitive::PrimitiveArray;
+use sel_arrow::structure::StructArray;
+use sel_arrow::utf8view::Utf8ViewArray;
+use sel_arrow::view::View;
+use sel_bits::bitmap::Bitmap;
+use sel_bits::buffer::Buffer;
+use sel_bits::native::NativeType;
+use sel_bits::offsets::OffsetsBuffer;
+use std::alloc::Global;
+
+/// Which rows are there.
+pub fn validity<T: Copy>(alloc: Global, rows: &[Option<T>]) -> Result<Option<Bitmap>, Stop> {
+    let mut valid = Vec::with_capacity(alloc, rows.len())?;
+    for row in rows {
+        valid.push(row.is_some())?;
+    }
+    Ok(Some(Bitmap::from_bools(alloc, &valid)?))
+}
+
+/// Numbers, of any of the ten types.
+pub fn numbers<T: NativeType>(
+    alloc: Global,
+    rows: &[Option<T>],
+) -> Result<PrimitiveArray<T>, Stop> {
+    Ok(PrimitiveArray::from_options(alloc, rows)?)
+}
+
+/// Truth values: bits, eight to a byte.
+pub fn truths(alloc: Global, rows: &[Option<bool>]) -> Result<BooleanArray, Stop> {
+    Ok(BooleanArray::from_options(alloc, rows)?)
+}
+
+/// Rows of bytes: all bytes behind one another, and the offsets between which each row lies.
+pub fn bytes(alloc: Global, rows: &[Option<&[u8]>]) -> Result<BinaryArray<i64>, Stop> {
+    let mut values = Vec::new(alloc);
+    let mut offsets = vec![in alloc; 0i64]?;
+    for row in rows {
+        values.extend_from_slice(row.unwrap_or(b"".as_slice()))?;
+        offsets.push(values.len() as i64)?;
+    }
+    let offsets = OffsetsBuffer::try_from(offsets)?;
+    Ok(BinaryArray::try_new(offsets, Buffer::from_vec(values)?, validity(alloc, rows)?)?)
+}
+
+/// Texts: a view each, which holds up to 12 bytes itself and else names a place in the one data buffer.
+pub fn texts(alloc: Global, rows: &[Option<&str>]) -> Result<Utf8ViewArray, Stop> {
+    let mut views = Vec::with_capacity(alloc, rows.len())?;
+    let mut data = Vec::new(alloc);
+    for row in rows {
+        let text = row.unwrap_or("").as_bytes();
+        if text.len() > 1000 || data.len() > 1000 {
+            return Err(Stop::Unmet);
+        }
+        views.push(View::new_from_bytes(text, 0, data.len() as u32))?;
+        data.extend_from_slice(text)?;
+    }
+    let buffers = vec![in alloc; Buffer::from_vec(data)?]?;
+    let buffers = Buffer::from_vec(buffers)?;
+    Ok(Utf8ViewArray::try_new(Buffer::from_vec(views)?, buffers, validity(alloc, rows)?)?)
+}
+
+/// Lists of these lengths over a child; beneath a null stands none of its rows.
+pub fn lists(
+    alloc: Global,
+    lengths: &[Option<u32>],
+    child: ArrayRef,
+) -> Result<ListArray<i64>, Stop> {
+    let valid = validity(alloc, lengths)?;
+    let offsets = offsets(alloc, lengths)?;
+    Ok(ListArray::try_new(alloc, offsets, child, valid)?)
+}
+
+fn offsets(alloc: Global, lengths: &[Option<u32>]) -> Result<OffsetsBuffer<i64>, Stop> {
+    let mut offsets = vec![in alloc; 0i64]?;
+    let mut end = 0u32;
+    for length in lengths {
+        end = end.saturating_add(length.unwrap_or(0));
+        offsets.push(i64::from(end))?;
+    }
+    Ok(OffsetsBuffer::try_from(offsets)?)
+}
+
+/// Lists of one length: the rows of the child, so many to a list, also beneath a null.
+pub fn blocks(
+    alloc: Global,
+    size: usize,
+    valid: &[bool],
+    child: ArrayRef,
+) -> Result<FixedSizeListArray, Stop> {
+    let validity = Some(Bitmap::from_bools(alloc, valid)?);
+    Ok(FixedSizeListArray::try_new(alloc, size, valid.len(), child, validity)?)
+}
+
+/// Structs of two fields: row k has row k of each.
+pub fn pairs(
+    alloc: Global,
+    valid: &[bool],
+    first: ArrayRef,
+    second: ArrayRef,
+) -> Result<StructArray, Stop> {
+    let validity = Some(Bitmap::from_bools(alloc, valid)?);
+    let fields = vec![in alloc; first, second]?;
+    Ok(StructArray::try_new(alloc, valid.len(), fields, validity)?)
+}

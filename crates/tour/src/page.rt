@@ -1,0 +1,60 @@
+//! The lines that the tour prints.
+
+use crate::stop::Stop;
+use sel_arrow::array::Array;
+use sel_arrow::array_ref::ArrayRef;
+use sel_text::print::print_rows;
+use sel_text::types::print_dtype;
+use std::alloc::Global;
+
+/// A line between what came before and what follows.
+pub fn title(page: &mut String, text: &str) -> Result<(), Stop> {
+    if !page.is_empty() {
+        page.push('\n')?;
+    }
+    page.push_str(text)?;
+    page.push('\n')?;
+    Ok(())
+}
+
+/// A line `name: text`.
+pub fn line(page: &mut String, name: &str, text: &str) -> Result<(), Stop> {
+    page.push_str("  ")?;
+    page.push_str(name)?;
+    page.push_str(": ")?;
+    page.push_str(text)?;
+    page.push('\n')?;
+    Ok(())
+}
+
+/// A line with the rows of a column.
+pub fn rows(alloc: Global, page: &mut String, name: &str, column: &ArrayRef) -> Result<(), Stop> {
+    let text = print_rows(alloc, column.as_column())?;
+    line(page, name, &text)
+}
+
+/// A line with the rows of a column that is needed no more.
+pub fn show(alloc: Global, page: &mut String, name: &str, column: ArrayRef) -> Result<(), Stop> {
+    let shown = rows(alloc, page, name, &column);
+    drop(column);
+    shown
+}
+
+/// A line with the type and the rows of a column that is needed no more.
+pub fn show_typed(alloc: Global, page: &mut String, column: ArrayRef) -> Result<(), Stop> {
+    let dtype = type_text(alloc, &column);
+    match dtype {
+        Ok(name) => show(alloc, page, &name, column),
+        Err(stop) => {
+            drop(column);
+            Err(stop)
+        }
+    }
+}
+
+fn type_text(alloc: Global, column: &ArrayRef) -> Result<String, Stop> {
+    let dtype = column.dtype(alloc)?;
+    let text = print_dtype(alloc, &dtype);
+    drop(dtype);
+    Ok(text?)
+}

@@ -1,0 +1,39 @@
+//! Parts of columns: a slice shares what it is a part of, and copies no row.
+
+use crate::made::numbers;
+use crate::nested::people;
+use crate::page::{show, title};
+use crate::stop::Stop;
+use sel_arrow::array::Array;
+use sel_arrow::array_ref::ArrayRef;
+use std::alloc::Global;
+
+/// A slice of a column, and one of a column over columns.
+pub fn parts(alloc: Global, page: &mut String) -> Result<(), Stop> {
+    title(page, "Slices: a part of the rows, without a copy")?;
+    let ages = numbers(alloc, &[Some(31i64), None, Some(27), Some(45)])?.into_ref();
+    show(
+        alloc,
+        page,
+        "two rows from the second on",
+        sliced(alloc, ages, 1, 2)?,
+    )?;
+    show(
+        alloc,
+        page,
+        "of structs, the last two",
+        sliced(alloc, people(alloc)?, 1, 2)?,
+    )
+}
+
+/// So many rows from a place on, where the column has them: the condition of a slice.
+fn sliced(alloc: Global, column: ArrayRef, start: usize, len: usize) -> Result<ArrayRef, Stop> {
+    let rows = column.len();
+    if start > rows || len > rows - start {
+        drop(column);
+        return Err(Stop::Unmet);
+    }
+    let part = column.sliced(alloc, start, len);
+    drop(column);
+    Ok(part?)
+}

@@ -1,0 +1,90 @@
+//! Refusals: a limit that an answer passes, an index that is out of bounds, and a rule that parts break.
+
+use crate::made::{blocks, numbers};
+use crate::page::{line, title};
+use crate::stop::Stop;
+use polars_compute::gather::sublist::fixed_size_list::sub_fixed_size_list_get_literal;
+use polars_compute::gather::{indices_in_bounds, take_unchecked};
+use sel_arrow::array::Array;
+use sel_arrow::array_ref::ArrayRef;
+use sel_arrow::list::ListArray;
+use sel_arrow::null::NullArray;
+use sel_bits::faults::{MakeError, PolarsError, PolarsResult};
+use sel_bits::offsets::OffsetsBuffer;
+use std::alloc::Global;
+
+/// Each refusal but want of memory, which any call that takes memory may answer.
+pub fn refusals(alloc: Global, page: &mut String) -> Result<(), Stop> {
+    title(
+        page,
+        "Refusals: an answer of its own, and what was given stays as it was",
+    )?;
+    refusal(
+        alloc,
+        page,
+        "a list of 4294967295 rows, twice",
+        too_long(alloc)?,
+    )?;
+    refusal(alloc, page, "the third of two", outside(alloc)?)?;
+    broken_rule(alloc, page)
+}
+
+fn refusal(
+    alloc: Global,
+    page: &mut String,
+    name: &str,
+    answer: PolarsResult<ArrayRef>,
+) -> Result<(), Stop> {
+    match answer {
+        Ok(column) => {
+            drop(column);
+            Err(Stop::Unmet)
+        }
+        Err(PolarsError::OutOfMemory) => Err(Stop::Refused(PolarsError::OutOfMemory)),
+        Err(fault) => line(page, name, &format!(in alloc; "{fault}")?),
+    }
+}
+
+/// One list over as many nulls as a column may have, taken twice: the lists would have more rows.
+fn too_long(alloc: Global) -> Result<PolarsResult<ArrayRef>, Stop> {
+    let child = NullArray::try_new(4_294_967_295)?.into_ref();
+    let offsets = OffsetsBuffer::try_from(vec![in alloc; 0i64, 4_294_967_295]?)?;
+    let list = ListArray::try_new(alloc, offsets, child, None)?.into_ref();
+    let indices = numbers(alloc, &[Some(0u32), Some(0)])?;
+    if !indices_in_bounds(&indices, list.len()) {
+        drop(list);
+        return Err(Stop::Unmet);
+    }
+    let taken = take_unchecked(alloc, &list, &indices);
+    drop(list);
+    Ok(taken)
+}
+
+/// The third entry of lists of two, where that is not to be null.
+fn outside(alloc: Global) -> Result<PolarsResult<ArrayRef>, Stop> {
+    let child = numbers(alloc, &[Some(1i64), Some(2)])?.into_ref();
+    let block = blocks(alloc, 2, &[true], child)?;
+    let third = sub_fixed_size_list_get_literal(alloc, &block, 2, false);
+    drop(block);
+    Ok(third)
+}
+
+/// Lists whose last offset is past the end of their child.
+fn broken_rule(alloc: Global, page: &mut String) -> Result<(), Stop> {
+    let child = numbers(alloc, &[Some(1i64), Some(2)])?.into_ref();
+    let offsets = OffsetsBuffer::try_from(vec![in alloc; 0i64, 3]?)?;
+    match ListArray::try_new(alloc, offsets, child, None) {
+        Ok(list) => {
+            drop(list);
+            Err(Stop::Unmet)
+        }
+        Err(MakeError::OutOfMemory) => Err(Stop::Refused(PolarsError::OutOfMemory)),
+        Err(MakeError::Malformed(rule)) => {
+            line(
+                page,
+                "a list up to row 3 of 2",
+                &format!(in alloc; "{rule:?}")?,
+            )
+        }
+    }
+}

@@ -1,0 +1,50 @@
+//! Takes: the rows at indices.
+
+use crate::made::numbers;
+use crate::nested::people;
+use crate::page::{line, show, title};
+use crate::stop::Stop;
+use polars_compute::gather::{indices_in_bounds, take_unchecked};
+use sel_arrow::array::Array;
+use sel_arrow::array_ref::ArrayRef;
+use sel_arrow::primitive::IdxArr;
+use std::alloc::Global;
+
+/// Takes of numbers and of structs, and indices that are out of bounds.
+pub fn takes(alloc: Global, page: &mut String) -> Result<(), Stop> {
+    title(
+        page,
+        "take: the rows at indices, null where an index is null",
+    )?;
+    let ages = numbers(alloc, &[Some(31i64), None, Some(27), Some(45)])?.into_ref();
+    let indices = numbers(alloc, &[Some(3u32), None, Some(1), Some(3)])?;
+    show(
+        alloc,
+        page,
+        "ages at [3,null,1,3]",
+        taken(alloc, ages, &indices)?,
+    )?;
+    let last_first = numbers(alloc, &[Some(2u32), Some(0)])?;
+    show(
+        alloc,
+        page,
+        "structs at [2,0]",
+        taken(alloc, people(alloc)?, &last_first)?,
+    )?;
+    let text = match indices_in_bounds(&indices, 3) {
+        true => "yes",
+        false => "no",
+    };
+    line(page, "whether three rows have these indices", text)
+}
+
+/// The rows at the indices, where each index that is not null has a row.
+fn taken(alloc: Global, column: ArrayRef, indices: &IdxArr) -> Result<ArrayRef, Stop> {
+    if !indices_in_bounds(indices, column.len()) {
+        drop(column);
+        return Err(Stop::Unmet);
+    }
+    let taken = take_unchecked(alloc, &column, indices);
+    drop(column);
+    Ok(taken?)
+}
