@@ -1,4 +1,4 @@
-# `make run` runs the program on the stored input, or on another: make run INPUT=file; `make build` proves and builds it;
+# `make tour` shows columns of each kind, each kernel and each refusal once; `make run` runs the program on the stored input, or on another: make run INPUT=file; `make build` proves and builds it;
 # `make lib` builds the library for C into build/, `make install PREFIX=folder` puts it and its header there;
 # `make bench` times some of its kernels beside plain loops (make bench QUICK=1: their answers alone);
 # `make test` is the whole gate: `rt ci`, then what it built with each growth of memory refused, and on stored runs; `make api` writes the reference anew; `make test-lib` builds the library for C over kept proofs, and tries it and the bindings; `make edits` tries every edit that must fail, those beside the gate's too.
@@ -6,10 +6,13 @@
 INPUT ?= crates/sel_bench/stdin
 PREFIX ?= /usr/local
 
-.PHONY: run build lib install bench test test-lib edits api
+.PHONY: run tour build lib install bench test test-lib edits api
 
 run:
-	@tools/run $(INPUT)
+	@tools/run sel_bench $(INPUT)
+
+tour:
+	@tools/run tour
 
 build:
 	cd crates/sel_bench && rt run < /dev/null
