@@ -2,6 +2,9 @@ pub mod CellRows
 pub mod Equalities
 pub mod Escapes
 pub mod Printed
+pub mod Spaceless
 pub mod TypeTexts
+pub mod Commas
+pub mod Decimals
 pub mod Decoded
 pub mod Told
