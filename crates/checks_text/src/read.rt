@@ -93,11 +93,26 @@ fn reads(alloc: Global, dtype: &str, rows: &str, beneath: Beneath) -> Result<Str
     }
 }
 
+/// Whether a text was printed, and is this one.
+fn is_text(printed: Result<String, TextError>, text: &str) -> bool {
+    match printed {
+        Ok(printed) => printed.as_str() == text,
+        Err(_) => false,
+    }
+}
+
+/// Whether nothing was printed, for this reason.
+fn is_refused(printed: Result<String, TextError>, why: TextError) -> bool {
+    match printed {
+        Ok(_printed) => false,
+        Err(fault) => fault == why,
+    }
+}
+
 /// Whether each of the rows is printed as it is to be.
 fn all_read(alloc: Global, beneath: Beneath) -> bool {
     for (dtype, rows, printed) in ROWS {
-        let text = reads(alloc, dtype, rows, beneath);
-        if !matches!(text, Ok(text) if text.as_str() == printed) {
+        if !is_text(reads(alloc, dtype, rows, beneath), printed) {
             return false;
         }
     }
@@ -145,8 +160,7 @@ fn reads_type(alloc: Global, text: &str) -> Result<String, TextError> {
 fn types(rt: HostRuntime) -> Result<(), Fail> {
     let alloc = rt.alloc();
     for (text, printed) in TYPES {
-        let text = reads_type(alloc, text);
-        assert!(rt; matches!(text, Ok(text) if text.as_str() == printed));
+        assert!(rt; is_text(reads_type(alloc, text), printed));
     }
     Ok(())
 }
@@ -171,7 +185,7 @@ const NO_TYPES: [(&str, TextError); 12] = [
 fn texts_of_no_type(rt: HostRuntime) -> Result<(), Fail> {
     let alloc = rt.alloc();
     for (text, fault) in NO_TYPES {
-        assert!(rt; matches!(reads_type(alloc, text), Err(why) if why == fault));
+        assert!(rt; is_refused(reads_type(alloc, text), fault));
     }
     Ok(())
 }
@@ -223,7 +237,7 @@ fn texts_of_no_rows(rt: HostRuntime) -> Result<(), Fail> {
     let alloc = rt.alloc();
     for (dtype, rows, fault) in NO_ROWS {
         let text = reads(alloc, dtype, rows, Beneath::Zeros);
-        assert!(rt; matches!(text, Err(why) if why == fault));
+        assert!(rt; is_refused(text, fault));
     }
     Ok(())
 }
@@ -239,7 +253,7 @@ fn too_many_levels(rt: HostRuntime) -> Result<(), Fail> {
     let deeper = format!(in alloc; "list<{text}>")?;
     assert!(rt; reads_type(alloc, &deeper).is_ok());
     let deepest = format!(in alloc; "list<{deeper}>")?;
-    assert!(rt; matches!(reads_type(alloc, &deepest), Err(TextError::Limit)));
+    assert!(rt; is_refused(reads_type(alloc, &deepest), TextError::Limit));
     Ok(())
 }
 

@@ -1,6 +1,8 @@
 -- The texts of faults, and where they may be.
 use Rattle.std.specs.Prelude.{ℕ, ◌≤◌, ⊤, List, ◌++◌, codes}
 use Rattle.std.specs.Fmt.{decimal}
+use Rattle.sel_text.specs.declared.text_error.Fault.{Fault}
+use Rattle.sel_text.specs.declared.text_error.Fault.TheVariants.{Limit as LimitFault, OutOfMemory as MemoryFault}
 use Rattle.sel_text.specs.declared.text_error.TextError.{TextError}
 use Rattle.sel_text.specs.declared.text_error.TextError.TheVariants.{Syntax, «Type», Limit, OutOfMemory}
 
@@ -16,3 +18,15 @@ abbrev pub IsWithin : ℕ → TextError → Type 0
 IsWithin count (Syntax at) = at ≤ count
 IsWithin count («Type» at) = at ≤ count
 IsWithin count error = ⊤
+
+-- a refusal speaks of a limit or of memory, and not of the text (own)
+abbrev pub IsShortage : TextError → Type 0
+IsShortage Limit = ⊤
+IsShortage OutOfMemory = ⊤
+IsShortage error = ⊥
+
+-- the same of a fault (own)
+abbrev pub IsShort : Fault → Type 0
+IsShort LimitFault = ⊤
+IsShort MemoryFault = ⊤
+IsShort fault = ⊥

@@ -1,7 +1,9 @@
 //! Words and whole numbers at the front of a text.
 
-ghost use Rattle.std.specs.Prelude.{◌≡◌, ◌≢◌, ◌≤◌, ◌<◌, ◌++◌, ◌^◌, ℕ, List, MatchOption, IfOk, length, take, slice_index};
+ghost use Rattle.std.specs.Prelude.{◌≡◌, ◌≢◌, ◌≤◌, ◌<◌, ◌++◌, ◌^◌, ℕ, List, MatchOption, IfOk, IfErr, length, take, drop, slice_index};
+ghost use Rattle.std.specs.Fmt.{decimal};
 ghost use Rattle.std.specs.Str.Parse.{AllDigits, digits_value};
+ghost use Rattle.sel_text.specs.Digits.{NoDigit};
 
 use crate::text_error::Fault;
 
@@ -16,6 +18,7 @@ pub(crate) fn behind<'a>(bytes: &'a [u8], word: &[u8]) -> Option<&'a [u8]>
 /// What stands behind a word, which is to come next.
 pub(crate) fn expect<'a>(bytes: &'a [u8], word: &[u8]) -> Result<&'a [u8], Fault>
     ensures rest { IfOk result (λ rest. bytes.now ≡ word.now ++ rest.now) }
+    ensures refused { IfErr result (λ _. (more : List ℕ) → bytes.now ≢ word.now ++ more) }
 {
     match behind(bytes, word) {
         Some(rest) => Ok(rest),
@@ -24,20 +27,27 @@ pub(crate) fn expect<'a>(bytes: &'a [u8], word: &[u8]) -> Result<&'a [u8], Fault
 }
 
 /// The digits at the front and what stands behind them. There is one, and a zero is the first only where it is the only one.
+#[tactic(auto, using(crate::proofs::Ends::no_numeral, crate::proofs::Ends::zero_first))]
 pub(crate) fn read_digits(bytes: &[u8]) -> Result<(&[u8], &[u8]), Fault>
     ensures parts { IfOk result (λ read. bytes.now ≡ read.0.now ++ read.1.now) }
     ensures some { IfOk result (λ read. 0 < length read.0.now) }
     ensures digits { IfOk result (λ read. AllDigits 10 read.0.now) }
     ensures zero { IfOk result (λ read.
         slice_index read.0.now 0 ≡ 48 → length read.0.now ≡ 1) }
+    ensures end { IfOk result (λ read. NoDigit read.1.now) }
+    ensures refused { IfErr result (λ _. (n : ℕ) (more : List ℕ) → n < 2 ^ 64 → NoDigit more →
+        bytes.now ≢ decimal n ++ more) }
 {
     let count = count_digits(bytes);
-    let (digits, rest) = bytes.split_at(count);
-    match digits {
-        [] => Err(Fault::Syntax(bytes.len())),
-        [b'0', more @ ..] if !more.is_empty() => Err(Fault::Syntax(bytes.len() - 1)),
-        _ => Ok((digits, rest)),
+    if count == 0 {
+        return Err(Fault::Syntax(bytes.len()));
     }
+    if count > 1 {
+        if bytes[0] == b'0' {
+            return Err(Fault::Syntax(bytes.len() - 1));
+        }
+    }
+    Ok(bytes.split_at(count))
 }
 
 /// How many digits stand at the front.
@@ -45,6 +55,7 @@ pub(crate) fn read_digits(bytes: &[u8]) -> Result<(&[u8], &[u8]), Fault>
 fn count_digits(bytes: &[u8]) -> usize
     ensures inside { result ≤ length bytes.now }
     ensures digits { AllDigits 10 (take result bytes.now) }
+    ensures end { NoDigit (drop result bytes.now) }
 {
     for (i, byte) in bytes.iter().enumerate() {
         if !byte.is_ascii_digit() {

@@ -17,7 +17,9 @@ use sel_arrow::array_ref::ArrayRef;
 use sel_arrow::datatype::ArrowDataType;
 use std::alloc::Global;
 
-/// The column of this type with these rows, as in `[1, null, -3]`: `print_rows` writes the text back without its spaces.
+/// The column of this type with these rows, as in `[1, null, -3]`: `print_rows` writes the text back without its spaces, so each
+/// number and each text between quotes is to be spelled as it is printed. `beneath` chooses what stands beneath nulls. Refuses a
+/// text of no rows of this type, with the place; a column past a limit; and want of memory.
 pub fn parse_column(
     alloc: Global,
     dtype: &ArrowDataType,
@@ -38,7 +40,7 @@ pub fn parse_column(
     }
 }
 
-/// The column whose text this is.
+/// The column whose text this is. What was read is printed and compared, so that nothing rests on how it is read.
 fn read_whole(
     dtype: &ArrowDataType,
     alloc: Global,

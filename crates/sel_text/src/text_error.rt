@@ -1,7 +1,7 @@
 //! Why a text gives no type and no column.
 
 ghost use Rattle.std.specs.Prelude.{◌≡◌, ◌≤◌, Some, length};
-ghost use Rattle.sel_text.specs.TextErrors.{error_text, IsWithin};
+ghost use Rattle.sel_text.specs.TextErrors.{error_text, IsShort, IsShortage, IsWithin};
 ghost use Rattle.sel_text.specs.declared.text_error.Fault.TheVariants.{OutOfMemory};
 
 use crate::spaces::place_in;
@@ -49,7 +49,8 @@ pub(crate) enum Fault {
 impl Fault {
     /// The fault as one of the text, of which so many bytes are no spaces between its parts.
     pub(crate) fn placed(self, text: &str, count: usize) -> TextError
-        ensures { IsWithin (length text.now) result }
+        ensures place { IsWithin (length text.now) result }
+        ensures short { IsShort self → IsShortage result }
     {
         match self {
             Fault::Syntax(left) => TextError::Syntax {
