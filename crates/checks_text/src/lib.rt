@@ -11,3 +11,5 @@ mod named;
 mod parts;
 #[cfg(test)]
 mod printed;
+#[cfg(test)]
+mod read;

@@ -8,32 +8,11 @@ use Rattle.std.specs.List.{flat_map}
 use Rattle.std.specs.Str.Parse.{AllDigits, digits_value}
 use Rattle.std.proofs.lemmas.Bool.Decides.{nat_tests}
 use Rattle.std.proofs.lemmas.Fmt.{decimal_is_IsNumeral_wide}
+use Rattle.sel_text.specs.Digits.{NoDigit}
 use Rattle.sel_text.specs.Texts.{escaped, hex_byte}
+use Rattle.sel_text.proofs.Ends.{digits_apart}
 
 -- ---- numbers
-
--- a text does not go on with a digit
-abbrev pub NoDigit : List ℕ → Type 0
-NoDigit [] = ⊤
-NoDigit (c ∷ rest) = 10 ≤ digit_value c
-
-pub digits_apart : (a b r t : List ℕ) → AllDigits 10 a → AllDigits 10 b → NoDigit r → NoDigit t → a ++ r ≡ b ++ t → (a ≡ b) × (r ≡ t)
-digits_apart [] [] r t da db nr nt e = (refl, e)
-digits_apart [] (y ∷ b) [] t da db nr nt e = cc
-digits_apart [] (y ∷ b) (c ∷ r) t da db nr nt e =
-    let same : c ≡ y = cc in
-    let one = ap digit_value same in
-    absurd (omega (arith, one, nr, db.0))
-digits_apart (x ∷ a) [] r [] da db nr nt e = cc
-digits_apart (x ∷ a) [] r (c ∷ t) da db nr nt e =
-    let same : x ≡ c = cc in
-    let one = ap digit_value same in
-    absurd (omega (arith, one, nt, da.0))
-digits_apart (x ∷ a) (y ∷ b) r t da db nr nt e =
-    let same : x ≡ y = cc in
-    let rest : a ++ r ≡ b ++ t = cc in
-    let parts = digits_apart a b r t da.1 db.1 nr nt rest in
-    (ap (λ c. c ∷ a) same ∙ ap (λ l. y ∷ l) parts.0, parts.1)
 
 -- so many bits take less than 64 digits
 pub few_digits : (n : ℕ) → n < 2 ^ 129 → n < 10 ^ 64

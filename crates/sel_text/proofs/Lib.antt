@@ -1,7 +1,13 @@
 pub mod CellRows
+pub mod Commas
+pub mod Decimals
+pub mod Decoded
+pub mod Ends
 pub mod Equalities
 pub mod Escapes
+pub mod Fields
 pub mod Printed
-pub mod TypeTexts
-pub mod Decoded
+pub mod Spaceless
 pub mod Told
+pub mod TypeTexts
+pub mod TypesTold

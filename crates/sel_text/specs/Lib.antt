@@ -1,5 +1,9 @@
 pub mod Cells
 pub mod Fits
 pub mod Laws
+pub mod Digits
+pub mod Spaces
+pub mod TextErrors
 pub mod Texts
 pub mod Types
+pub mod Written

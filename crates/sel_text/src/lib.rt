@@ -1,8 +1,17 @@
 //! A notation for columns: rows and types as texts, and columns compared by their rows.
 #![tactic(auto)]
 
+pub mod build;
 mod cell;
 pub mod equal;
+mod item;
 pub mod laws;
+mod numerals;
+pub mod parse;
 pub mod print;
+pub mod read_type;
+mod spaces;
+mod strings;
+pub mod text_error;
 pub mod types;
+mod whole;

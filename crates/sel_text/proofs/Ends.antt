@@ -1,0 +1,67 @@
+-- Numerals, and what stands behind them.
+use Rattle.std.proofs.Common.{◌≡◌, ◌≢◌, ℕ, zero, suc, ◌+◌, ◌^◌, ◌≤◌, ◌<◌, List, [], ◌∷◌, ◌++◌, length, take, drop, get_or, refl, ap, sym, ◌∙◌, arith, lit<, length-take, subst}
+use Rattle.std.specs.Char.{digit_value}
+use Rattle.std.specs.Fmt.{decimal}
+use Rattle.std.specs.Int.{IsInRange}
+use Rattle.std.specs.Str.Parse.{AllDigits, digits_value}
+use Rattle.std.proofs.lemmas.Bool.Decides.{nat_tests}
+use Rattle.std.proofs.lemmas.Fmt.{decimal_is_IsNumeral, first_decimal, decimal_digit}
+use Rattle.std.proofs.lemmas.List.{get_or-take, take-append-drop}
+use Rattle.sel_text.specs.Digits.{NoDigit}
+
+pub digits_apart : (a b r t : List ℕ) → AllDigits 10 a → AllDigits 10 b → NoDigit r → NoDigit t → a ++ r ≡ b ++ t → (a ≡ b) × (r ≡ t)
+digits_apart [] [] r t da db nr nt e = (refl, e)
+digits_apart [] (y ∷ b) [] t da db nr nt e = cc
+digits_apart [] (y ∷ b) (c ∷ r) t da db nr nt e =
+    let same : c ≡ y = cc in
+    let one = ap digit_value same in
+    absurd (omega (arith, one, nr, db.0))
+digits_apart (x ∷ a) [] r [] da db nr nt e = cc
+digits_apart (x ∷ a) [] r (c ∷ t) da db nr nt e =
+    let same : x ≡ c = cc in
+    let one = ap digit_value same in
+    absurd (omega (arith, one, nt, da.0))
+digits_apart (x ∷ a) (y ∷ b) r t da db nr nt e =
+    let same : x ≡ y = cc in
+    let rest : a ++ r ≡ b ++ t = cc in
+    let parts = digits_apart a b r t da.1 db.1 nr nt rest in
+    (ap (λ c. c ∷ a) same ∙ ap (λ l. y ∷ l) parts.0, parts.1)
+
+-- a numeral has a digit, and a zero first only where it is the only one
+pub numeral_has : (n : ℕ) → n < 2 ^ 64 → (0 < length (decimal n)) × AllDigits 10 (decimal n) × (get_or (decimal n) 0 0 ≡ 48 → length (decimal n) ≡ 1)
+numeral_has zero small = let is = (decimal_is_IsNumeral zero small).0 in (is.0, is.1, λ e. ap length (decimal_digit 0 (lit< tt)))
+numeral_has (suc n) small =
+    let is = (decimal_is_IsNumeral (suc n) small).0 in
+    let first = first_decimal (suc n) (omega arith) small in
+    (is.0, is.1, λ e. absurd (omega (arith, first, e)))
+
+-- all the digits at the front are the numeral there
+pub numeral_told : (bytes digits rest : List ℕ) → bytes ≡ digits ++ rest → AllDigits 10 digits → NoDigit rest → (n : ℕ) (more : List ℕ) → n < 2 ^ 64 → NoDigit more → bytes ≡ decimal n ++ more →
+    (digits ≡ decimal n) × (rest ≡ more)
+numeral_told bytes digits rest is all end n more small ends begins =
+    digits_apart digits (decimal n) rest more all (numeral_has n small).1 end ends (sym is ∙ begins)
+
+-- no digit is no numeral
+pub no_numeral : (bytes : List ℕ) (count : ℕ) → count ≡ 0 → NoDigit (drop count bytes) → (n : ℕ) (more : List ℕ) → n < 2 ^ 64 → NoDigit more → bytes ≢ decimal n ++ more
+no_numeral bytes count none end n more small ends begins =
+    let told = numeral_told bytes [] bytes refl tt (subst NoDigit (ap (λ k. drop k bytes) none) end) n more small ends begins in
+    let long = ap length told.0 in
+    let has = (numeral_has n small).0 in
+    omega (arith, long, has)
+
+-- nor is one with a zero before others
+pub zero_first : (bytes : List ℕ) (count : ℕ) → count ≤ length bytes → AllDigits 10 (take count bytes) → NoDigit (drop count bytes) → 1 < count → get_or bytes 0 0 ≡ 48 →
+    (n : ℕ) (more : List ℕ) → n < 2 ^ 64 → NoDigit more → bytes ≢ decimal n ++ more
+zero_first bytes count inside all end long naught n more small ends begins =
+    let told = numeral_told bytes (take count bytes) (drop count bytes) (sym (take-append-drop count bytes)) all end n more small ends begins in
+    let first : get_or (take count bytes) 0 0 ≡ 48 = get_or-take count bytes 0 0 (omega arith) ∙ naught in
+    let one = (numeral_has n small).2 (ap (λ l. get_or l 0 0) (sym told.0) ∙ first) in
+    let same = ap length told.0 in
+    let many = length-take count bytes in
+    omega (arith, long, one, same, many)
+
+-- numbers of 64 bits with one numeral are one
+pub numbers_told : (m n : ℕ) (bytes rest more : List ℕ) → m < 2 ^ 64 → n < 2 ^ 64 → NoDigit rest → NoDigit more → bytes ≡ decimal m ++ rest → bytes ≡ decimal n ++ more → (m ≡ n) × (rest ≡ more)
+numbers_told m n bytes rest more sm sn end ends one other =
+    let told = numeral_told bytes (decimal m) rest one (numeral_has m sm).1 end n more sn ends other in
+    (sym (decimal_is_IsNumeral m sm).1 ∙ ap (digits_value 10) told.0 ∙ (decimal_is_IsNumeral n sn).1, told.1)

@@ -1,0 +1,130 @@
+-- The texts of types that are still to be read.
+use Rattle.std.proofs.Common.{◌≡◌, ◌≢◌, ℕ, ◌+◌, ◌≤◌, ◌<◌, true, false, List, [], ◌∷◌, ◌++◌, length, map, get_or, drop, Vec, Global, refl, ap, sym, ◌∙◌, arith, append_assoc, length-append}
+use Rattle.std.specs.List.{join_with_byte}
+use Rattle.std.specs.Prelude.{◌&&◌, ◌^◌, nat_lt, IsTrue}
+use Rattle.std.proofs.lemmas.Bool.Decides.{nat_tests}
+use Rattle.std.proofs.lemmas.List.{map-append}
+use Rattle.sel_arrow.specs.DataType.{shape_of}
+use Rattle.sel_arrow.specs.Shape.{Shape, Shapes, no_shapes, next_shape, shapes_of, of_large_list, of_fixed_size_list, of_struct}
+use Rattle.sel_arrow.specs.declared.datatype.ArrowDataType.{ArrowDataType, Struct}
+use Rattle.sel_arrow.proofs.Lists.{and_first, and_second}
+use Rattle.sel_arrow.proofs.Types.{shape_of-Struct}
+use Rattle.sel_text.specs.Types.{angled, type_text, type_texts}
+use Rattle.sel_text.specs.Written.{widths_written, all_widths_written}
+
+-- what stands behind the first of several types
+abbrev pub behind_first : Shapes → List ℕ → List ℕ
+behind_first no_shapes more = 62 ∷ more
+behind_first (next_shape s ss) more = 44 ∷ (type_text s ++ behind_first ss more)
+
+join_behind : (s : Shape) (ss : Shapes) (more : List ℕ) → join_with_byte 44 (type_texts (next_shape s ss)) ++ (62 ∷ more) ≡ type_text s ++ behind_first ss more
+join_behind s no_shapes more = refl
+join_behind s (next_shape t ss) more =
+    append_assoc (type_text s) (44 ∷ join_with_byte 44 (type_texts (next_shape t ss))) (62 ∷ more) ∙ ap (λ l. type_text s ++ (44 ∷ l)) (join_behind t ss more)
+
+-- behind the opening bracket
+pub behind_bracket : (s : Shape) (ss : Shapes) (text more : List ℕ) → 60 ∷ text ≡ angled (type_texts (next_shape s ss)) ++ more → text ≡ type_text s ++ behind_first ss more
+behind_bracket s ss text more is =
+    ap (drop 1) is ∙ append_assoc (join_with_byte 44 (type_texts (next_shape s ss))) (62 ∷ []) more ∙ join_behind s ss more
+
+-- types that were read before others
+abbrev pub shapes_then : List Shape → Shapes → Shapes
+shapes_then [] others = others
+shapes_then (s ∷ read) others = next_shape s (shapes_then read others)
+
+then_one : (read : List Shape) (s : Shape) (others : Shapes) → shapes_then (read ++ s ∷ []) others ≡ shapes_then read (next_shape s others)
+then_one [] s others = refl
+then_one (r ∷ read) s others = ap (next_shape r) (then_one read s others)
+
+then_none : (read : List Shape) → shapes_then read no_shapes ≡ shapes_of read
+then_none [] = refl
+then_none (r ∷ read) = ap (next_shape r) (then_none read)
+
+-- what is left of types while they are read
+pub record IsLeft (all : Shapes) (read : List ArrowDataType) (rest more : List ℕ) : Type 0 where
+  pub first : Shape
+  pub others : Shapes
+  pub narrow : all_widths_written (next_shape first others) ≡ true
+  pub whole : shapes_then (map shape_of read) (next_shape first others) ≡ all
+  pub text : rest ≡ type_text first ++ behind_first others more
+
+-- at first all of them are left
+pub all_left : (s : Shape) (ss : Shapes) (text more : List ℕ) → all_widths_written (next_shape s ss) ≡ true → 60 ∷ text ≡ angled (type_texts (next_shape s ss)) ++ more → IsLeft (next_shape s ss) [] text more
+all_left s ss text more narrow is = record { first = s; others = ss; narrow = narrow; whole = refl; text = behind_bracket s ss text more is }
+
+first_narrow : (s : Shape) (ss : Shapes) → all_widths_written (next_shape s ss) ≡ true → widths_written s ≡ true
+first_narrow s ss narrow = and_first (widths_written s) (all_widths_written ss) narrow
+
+others_narrow : (s : Shape) (ss : Shapes) → all_widths_written (next_shape s ss) ≡ true → all_widths_written ss ≡ true
+others_narrow s ss narrow = and_second (widths_written s) (all_widths_written ss) narrow
+
+-- the bracket closes behind the last of them
+pub last_read : (all : Shapes) (read grown : List ArrowDataType) (field : ArrowDataType) (rest text end more : List ℕ) (left : IsLeft all read rest more) → grown ≡ read ++ field ∷ [] →
+    (shape_of field ≡ left.first) × (text ≡ behind_first left.others more) → text ≡ 62 ∷ end → (shapes_of (map shape_of grown) ≡ all) × (end ≡ more)
+last_read all read grown field rest text end more left is told closed = go left.others left.whole told.1
+  where
+    grown_shapes : map shape_of grown ≡ map shape_of read ++ left.first ∷ []
+    grown_shapes = ap (map shape_of) is ∙ map-append shape_of read (field ∷ []) ∙ ap (λ s. map shape_of read ++ s ∷ []) told.0
+
+    go : (others : Shapes) → shapes_then (map shape_of read) (next_shape left.first others) ≡ all → text ≡ behind_first others more → (shapes_of (map shape_of grown) ≡ all) × (end ≡ more)
+    go no_shapes whole behind =
+        (sym (then_none (map shape_of grown)) ∙ ap (λ l. shapes_then l no_shapes) grown_shapes ∙ then_one (map shape_of read) left.first no_shapes ∙ whole, ap (drop 1) (sym closed ∙ behind))
+    go (next_shape s ss) whole behind = let first : 62 ≡ 44 = ap (λ l. get_or l 0 0) (sym closed ∙ behind) in absurd (omega (arith, first))
+
+-- where it does not, a comma and another type stand there
+pub more_left : (all : Shapes) (read grown : List ArrowDataType) (field : ArrowDataType) (rest text behind more : List ℕ) (left : IsLeft all read rest more) → grown ≡ read ++ field ∷ [] →
+    (shape_of field ≡ left.first) × (text ≡ behind_first left.others more) → text ≡ 44 ∷ behind → IsLeft all grown behind more
+more_left all read grown field rest text behind more left is told comma = go left.others left.narrow left.whole told.1
+  where
+    grown_shapes : map shape_of grown ≡ map shape_of read ++ left.first ∷ []
+    grown_shapes = ap (map shape_of) is ∙ map-append shape_of read (field ∷ []) ∙ ap (λ s. map shape_of read ++ s ∷ []) told.0
+
+    go : (others : Shapes) → all_widths_written (next_shape left.first others) ≡ true → shapes_then (map shape_of read) (next_shape left.first others) ≡ all → text ≡ behind_first others more → IsLeft all grown behind more
+    go no_shapes narrow whole here = let first : 44 ≡ 62 = ap (λ l. get_or l 0 0) (sym comma ∙ here) in absurd (omega (arith, first))
+    go (next_shape s ss) narrow whole here = record {
+      first = s;
+      others = ss;
+      narrow = others_narrow left.first (next_shape s ss) narrow;
+      whole = ap (λ l. shapes_then l (next_shape s ss)) grown_shapes ∙ then_one (map shape_of read) left.first (next_shape s ss) ∙ whole;
+      text = ap (drop 1) (sym comma ∙ here);
+    }
+
+-- one of the two stands there
+pub bracket_or_comma : (others : Shapes) (text more : List ℕ) → text ≡ behind_first others more → ((rest : List ℕ) → text ≢ 62 ∷ rest) → ((rest : List ℕ) → text ≢ 44 ∷ rest) → ⊥
+bracket_or_comma no_shapes text more is no_bracket no_comma = no_bracket _ is
+bracket_or_comma (next_shape s ss) text more is no_bracket no_comma = no_comma _ is
+
+-- so the text does not end before
+pub not_ended : (all : Shapes) (read : List ArrowDataType) (rest more : List ℕ) → IsLeft all read rest more → length rest ≡ 0 → ⊥
+not_ended all read rest more left none =
+    let long = ap length left.text in
+    let parts = length-append (type_text left.first) (behind_first left.others more) in
+    let some = has_some left.others in
+    omega (arith, none, long, parts, some)
+  where
+    has_some : (others : Shapes) → 0 < length (behind_first others more)
+    has_some no_shapes = omega arith
+    has_some (next_shape s ss) = omega arith
+
+-- the first type that is left is narrow
+pub left_narrow : (all : Shapes) (read : List ArrowDataType) (rest more : List ℕ) (left : IsLeft all read rest more) → IsTrue (widths_written left.first)
+left_narrow all read rest more left = first_narrow left.first left.others left.narrow
+
+-- behind `struct<` stands a bracket where there are no types, and otherwise a letter
+pub no_types : (parts : Shapes) (rest more : List ℕ) → 60 ∷ 62 ∷ rest ≡ angled (type_texts parts) ++ more → (parts ≡ no_shapes) × (rest ≡ more)
+no_types no_shapes rest more is = (refl, ap (drop 2) is)
+no_types (next_shape s ss) rest more is = absurd (letter s (behind_first ss more) rest (behind_bracket s ss (62 ∷ rest) more is))
+  where
+    letter : (s : Shape) (more rest : List ℕ) → 62 ∷ rest ≡ type_text s ++ more → ⊥
+    letter (of_large_list s) more rest is = let first = ap (λ l. get_or l 0 0) is in omega (arith, first)
+    letter (of_fixed_size_list s n) more rest is = let first = ap (λ l. get_or l 0 0) is in omega (arith, first)
+    letter s more rest is = let first = ap (λ l. get_or l 0 0) is in omega (arith, first)
+
+-- where no bracket stands there, there are types
+pub some_types : (parts : Shapes) (text more : List ℕ) → 60 ∷ text ≡ angled (type_texts parts) ++ more → ((rest : List ℕ) → text ≢ 62 ∷ rest) → (first : Shape) × (others : Shapes) × (parts ≡ next_shape first others)
+some_types no_shapes text more is none = absurd (none more (ap (drop 1) is))
+some_types (next_shape s ss) text more is none = (s, ss, refl)
+
+-- the width and the child's widths of a type of lists of one length
+pub block_narrow : (s : Shape) (size : ℕ) → widths_written (of_fixed_size_list s size) ≡ true → (size < 2 ^ 64) × (widths_written s ≡ true)
+block_narrow s size narrow = (grind (arith, nat_tests, and_first (nat_lt size (2 ^ 64)) (widths_written s) narrow), and_second (nat_lt size (2 ^ 64)) (widths_written s) narrow)

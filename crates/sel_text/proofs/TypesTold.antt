@@ -1,0 +1,167 @@
+-- A text begins with the text of one type at most.
+use Rattle.std.proofs.Common.{◌≡◌, ◌≢◌, ℕ, Bool, true, false, true≢false, List, [], ◌∷◌, ◌++◌, get_or, drop, refl, ap, sym, ◌∙◌, arith, append_assoc}
+use Rattle.std.specs.Prelude.{codes, ◌==◌, if◌then◌else◌}
+use Rattle.std.specs.Fmt.{decimal}
+use Rattle.sel_arrow.specs.Shape.{Shape, Shapes, no_shapes, next_shape, of_null, of_boolean, of_int8, of_int16, of_int32, of_int64, of_int128, of_uint8, of_uint16, of_uint32, of_uint64, of_uint128, of_large_binary, of_binary_view, of_utf8_view, of_large_list, of_fixed_size_list, of_struct}
+use Rattle.sel_text.specs.Written.{is_plain}
+use Rattle.sel_text.specs.Types.{angled, type_text, type_texts}
+
+-- the type that a text begins with, but for its children: told by the letters that its names differ in
+abbrev begun : List ℕ → Shape
+begun text =
+    let first = get_or text 0 0 in
+    let second = get_or text 1 0 in
+    let third = get_or text 2 0 in
+    if first == 110 then of_null else
+    if first == 98 then (if second == 111 then of_boolean else if get_or text 3 0 == 97 then of_large_binary else of_binary_view) else
+    if first == 105 then (if second == 56 then of_int8 else if second == 51 then of_int32 else if second == 54 then of_int64 else if third == 54 then of_int16 else of_int128) else
+    if first == 117 then (if second == 56 then of_uint8 else if second == 51 then of_uint32 else if second == 54 then of_uint64 else if second == 116 then of_utf8_view else if third == 54 then of_uint16 else of_uint128) else
+    if first == 108 then of_large_list of_null else
+    if first == 102 then of_fixed_size_list of_null 0 else of_struct no_shapes
+
+abbrev without_children : Shape → Shape
+without_children (of_large_list s) = of_large_list of_null
+without_children (of_fixed_size_list s n) = of_fixed_size_list of_null 0
+without_children (of_struct ss) = of_struct no_shapes
+without_children s = s
+
+begins : (s : Shape) (more : List ℕ) → begun (type_text s ++ more) ≡ without_children s
+begins (of_large_list s) more = refl
+begins (of_fixed_size_list s n) more = refl
+begins (of_struct ss) more = refl
+begins of_null more = refl
+begins of_boolean more = refl
+begins of_int8 more = refl
+begins of_int16 more = refl
+begins of_int32 more = refl
+begins of_int64 more = refl
+begins of_int128 more = refl
+begins of_uint8 more = refl
+begins of_uint16 more = refl
+begins of_uint32 more = refl
+begins of_uint64 more = refl
+begins of_uint128 more = refl
+begins of_large_binary more = refl
+begins of_binary_view more = refl
+begins of_utf8_view more = refl
+
+plain_kept : (s : Shape) → is_plain (without_children s) ≡ true → without_children s ≡ s
+plain_kept (of_large_list s) plain = absurd (true≢false (sym plain))
+plain_kept (of_fixed_size_list s n) plain = absurd (true≢false (sym plain))
+plain_kept (of_struct ss) plain = absurd (true≢false (sym plain))
+plain_kept s plain = refl
+
+append_same : (a r t : List ℕ) → a ++ r ≡ a ++ t → r ≡ t
+append_same [] r t same = same
+append_same (x ∷ a) r t same = append_same a r t (ap (drop 1) same)
+
+-- a text that begins with a type without a child begins with no other one
+pub plain_told : (a s : Shape) (text rest more : List ℕ) → is_plain a ≡ true → text ≡ type_text a ++ rest → text ≡ type_text s ++ more → (a ≡ s) × (rest ≡ more)
+plain_told a s text rest more plain one other =
+    let heads : without_children a ≡ without_children s = sym (begins a rest) ∙ ap begun (sym one ∙ other) ∙ begins s more in
+    let kept : without_children a ≡ a = plain_kept a (plain_of a plain) in
+    let same : a ≡ s = sym kept ∙ heads ∙ plain_kept s (ap is_plain (sym heads ∙ kept) ∙ plain) in
+    (same, append_same (type_text a) rest more (sym one ∙ other ∙ ap (λ b. type_text b ++ more) (sym same)))
+  where
+    plain_of : (a : Shape) → is_plain a ≡ true → is_plain (without_children a) ≡ true
+    plain_of (of_large_list s) plain = plain
+    plain_of (of_fixed_size_list s n) plain = plain
+    plain_of (of_struct ss) plain = plain
+    plain_of s plain = plain
+
+-- which children a type has: none, that of lists, that of lists of one length, or those of tuples
+abbrev kind : Shape → ℕ
+kind (of_large_list s) = 1
+kind (of_fixed_size_list s n) = 2
+kind (of_struct ss) = 3
+kind s = 0
+
+kind_kept : (s : Shape) → kind (without_children s) ≡ kind s
+kind_kept (of_large_list s) = refl
+kind_kept (of_fixed_size_list s n) = refl
+kind_kept (of_struct ss) = refl
+kind_kept s = refl
+
+kind_told : (s : Shape) (text more : List ℕ) → text ≡ type_text s ++ more → kind s ≡ kind (begun text)
+kind_told s text more is = sym (ap (λ l. kind (begun l)) is ∙ ap kind (begins s more) ∙ kind_kept s)
+
+a_list : (s : Shape) → kind s ≡ 1 → (child : Shape) × (s ≡ of_large_list child)
+a_list (of_large_list s) is = (s, refl)
+a_list (of_fixed_size_list s n) is = absurd (omega (arith, is))
+a_list s is = absurd (omega (arith, is))
+
+a_block : (s : Shape) → kind s ≡ 2 → (child : Shape) × (size : ℕ) × (s ≡ of_fixed_size_list child size)
+a_block (of_large_list s) is = absurd (omega (arith, is))
+a_block (of_fixed_size_list s n) is = (s, n, refl)
+a_block s is = absurd (omega (arith, is))
+
+a_tuple : (s : Shape) → kind s ≡ 3 → (parts : Shapes) × (s ≡ of_struct parts)
+a_tuple (of_large_list s) is = absurd (omega (arith, is))
+a_tuple (of_struct ss) is = (ss, refl)
+a_tuple s is = absurd (omega (arith, is))
+
+-- behind the name of a type with children stands one of that kind
+pub lists_told : (s : Shape) (text more : List ℕ) → codes "list" ++ text ≡ type_text s ++ more → (child : Shape) × (s ≡ of_large_list child) × (text ≡ 60 ∷ (type_text child ++ (62 ∷ more)))
+lists_told s text more is =
+    let found = a_list s (kind_told s (codes "list" ++ text) more is) in
+    let one = is ∙ ap (λ x. type_text x ++ more) found.1 in
+    (found.0, found.1, ap (drop 4) one ∙ ap (λ l. 60 ∷ l) (append_assoc (type_text found.0) (62 ∷ []) more))
+
+pub blocks_told : (s : Shape) (text more : List ℕ) → codes "fixed" ++ text ≡ type_text s ++ more →
+    (child : Shape) × (size : ℕ) × (s ≡ of_fixed_size_list child size) × (text ≡ 60 ∷ (decimal size ++ (44 ∷ (type_text child ++ (62 ∷ more)))))
+blocks_told s text more is =
+    let found = a_block s (kind_told s (codes "fixed" ++ text) more is) in
+    let one = is ∙ ap (λ x. type_text x ++ more) found.2 in
+    (found.0, found.1, found.2, ap (drop 5) one ∙ ap (λ l. 60 ∷ l) (append_assoc (decimal found.1 ++ (44 ∷ type_text found.0)) (62 ∷ []) more ∙ append_assoc (decimal found.1) (44 ∷ type_text found.0) (62 ∷ more)))
+
+pub tuples_told : (s : Shape) (text more : List ℕ) → codes "struct" ++ text ≡ type_text s ++ more → (parts : Shapes) × (s ≡ of_struct parts) × (text ≡ angled (type_texts parts) ++ more)
+tuples_told s text more is =
+    let found = a_tuple s (kind_told s (codes "struct" ++ text) more is) in
+    let one = is ∙ ap (λ x. type_text x ++ more) found.1 in
+    (found.0, found.1, ap (drop 6) one)
+
+-- a text with the name of no type begins with none
+pub none_told : (s : Shape) (text more : List ℕ) → ((t : Shape) (rest : List ℕ) → is_plain t ≡ true → text ≢ type_text t ++ rest) → ((rest : List ℕ) → text ≢ codes "list" ++ rest) → ((rest : List ℕ) → text ≢ codes "fixed" ++ rest) → ((rest : List ℕ) → text ≢ codes "struct" ++ rest) → text ≢ type_text s ++ more
+none_told (of_large_list s) text more plain lists blocks tuples is = lists _ is
+none_told (of_fixed_size_list s n) text more plain lists blocks tuples is = blocks _ is
+none_told (of_struct ss) text more plain lists blocks tuples is = tuples _ is
+none_told s text more plain lists blocks tuples is = plain s more refl is
+
+-- nor does one with the bits of no number behind an `i` or a `u`
+pub no_signed : (text : List ℕ) → ((rest : List ℕ) → text ≢ codes "8" ++ rest) → ((rest : List ℕ) → text ≢ codes "16" ++ rest) → ((rest : List ℕ) → text ≢ codes "32" ++ rest) → ((rest : List ℕ) → text ≢ codes "64" ++ rest) → ((rest : List ℕ) → text ≢ codes "128" ++ rest) →
+    (s : Shape) (more : List ℕ) → 105 ∷ text ≢ type_text s ++ more
+no_signed text a b c d f of_int8 more is = a more (ap (drop 1) is)
+no_signed text a b c d f of_int16 more is = b more (ap (drop 1) is)
+no_signed text a b c d f of_int32 more is = c more (ap (drop 1) is)
+no_signed text a b c d f of_int64 more is = d more (ap (drop 1) is)
+no_signed text a b c d f of_int128 more is = f more (ap (drop 1) is)
+no_signed text a b c d f s more is = let first = ap (λ l. get_or l 0 0) is in omega (arith, first)
+
+pub no_unsigned : (text : List ℕ) → ((rest : List ℕ) → text ≢ codes "8" ++ rest) → ((rest : List ℕ) → text ≢ codes "16" ++ rest) → ((rest : List ℕ) → text ≢ codes "32" ++ rest) → ((rest : List ℕ) → text ≢ codes "64" ++ rest) → ((rest : List ℕ) → text ≢ codes "128" ++ rest) →
+    ((rest : List ℕ) → text ≢ codes "tf8" ++ rest) → (s : Shape) (more : List ℕ) → 117 ∷ text ≢ type_text s ++ more
+no_unsigned text a b c d f g of_uint8 more is = a more (ap (drop 1) is)
+no_unsigned text a b c d f g of_uint16 more is = b more (ap (drop 1) is)
+no_unsigned text a b c d f g of_uint32 more is = c more (ap (drop 1) is)
+no_unsigned text a b c d f g of_uint64 more is = d more (ap (drop 1) is)
+no_unsigned text a b c d f g of_uint128 more is = f more (ap (drop 1) is)
+no_unsigned text a b c d f g of_utf8_view more is = g more (ap (drop 1) is)
+no_unsigned text a b c d f g s more is = let first = ap (λ l. get_or l 0 0) is in omega (arith, first)
+
+pub no_plain : (text : List ℕ) → ((rest : List ℕ) → text ≢ codes "i" ++ rest) → ((rest : List ℕ) → text ≢ codes "null" ++ rest) → ((rest : List ℕ) → text ≢ codes "bool" ++ rest) → ((rest : List ℕ) → text ≢ codes "binary" ++ rest) → ((rest : List ℕ) → text ≢ codes "binview" ++ rest) →
+    ((rest : List ℕ) → text ≢ codes "u" ++ rest) → (s : Shape) (more : List ℕ) → is_plain s ≡ true → text ≢ type_text s ++ more
+no_plain text a b c d f g of_null more plain is = b more is
+no_plain text a b c d f g of_boolean more plain is = c more is
+no_plain text a b c d f g of_large_binary more plain is = d more is
+no_plain text a b c d f g of_binary_view more plain is = f more is
+no_plain text a b c d f g of_int8 more plain is = a (56 ∷ more) is
+no_plain text a b c d f g of_int16 more plain is = a (49 ∷ 54 ∷ more) is
+no_plain text a b c d f g of_int32 more plain is = a (51 ∷ 50 ∷ more) is
+no_plain text a b c d f g of_int64 more plain is = a (54 ∷ 52 ∷ more) is
+no_plain text a b c d f g of_int128 more plain is = a (49 ∷ 50 ∷ 56 ∷ more) is
+no_plain text a b c d f g of_uint8 more plain is = g (56 ∷ more) is
+no_plain text a b c d f g of_uint16 more plain is = g (49 ∷ 54 ∷ more) is
+no_plain text a b c d f g of_uint32 more plain is = g (51 ∷ 50 ∷ more) is
+no_plain text a b c d f g of_uint64 more plain is = g (54 ∷ 52 ∷ more) is
+no_plain text a b c d f g of_uint128 more plain is = g (49 ∷ 50 ∷ 56 ∷ more) is
+no_plain text a b c d f g of_utf8_view more plain is = g (116 ∷ 102 ∷ 56 ∷ more) is
+no_plain text a b c d f g s more plain is = true≢false (sym plain)

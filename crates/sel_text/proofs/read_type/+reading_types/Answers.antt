@@ -1,0 +1,89 @@
+use Rattle.std.proofs.Common.{◌≡◌, ℕ, List, ◌+◌, ◌≤◌, ◌++◌, ◌∷◌, [], true, length, drop, map, ap, sym, refl, subst, arith, ◌∙◌, length-append}
+use Rattle.std.proofs.lemmas.List.{map-append}
+use Rattle.sel_arrow.specs.DataType.{shape_of}
+use Rattle.sel_arrow.specs.Shape.{Shape, Shapes, next_shape, shapes_of, of_struct, of_fixed_size_list}
+use Rattle.sel_arrow.proofs.Types.{shape_of-Struct}
+use Rattle.sel_text.specs.Types.{angled, type_texts}
+use Rattle.sel_text.specs.Written.{widths_written, all_widths_written}
+use Rattle.sel_text.proofs.Commas.{commas, comma_more, comma_last}
+use Rattle.sel_text.proofs.Fields.{IsLeft, behind_first, all_left, last_read, more_left, bracket_or_comma, left_narrow, no_types, some_types, block_narrow}
+use Rattle.sel_text.proofs.TypeTexts.{text_of_type, struct_behind}
+use Rattle.sel_text.proofs.TypesTold.{tuples_told, blocks_told}
+use Rattle.sel_text.proofs.read_type.+reading_types.Goals as goal
+
+pub read_fields-loop-init : goal.read_fields-loop-init
+read_fields-loop-init t c = record {
+  text = sym (ap (λ l. commas (map text_of_type l) ++ c.args.bytes.now) c.new-fields.ensures.items);
+  room = omega arith;
+  left = λ s ss more narrow is. subst (λ l. IsLeft (next_shape s ss) l c.args.bytes.now more) (sym c.new-fields.ensures.items) (all_left s ss c.args.bytes.now more narrow is);
+}
+
+pub read_fields-returns-in-Some-clause-text : goal.read_fields-returns-in-Some-clause-text
+read_fields-returns-in-Some-clause-text t c =
+    let text = text_of_type c.in-Ok.read.0 in
+    let grown = ap (map text_of_type) c.in_ok-push.ensures.items ∙ map-append text_of_type c.loop.fields.items (c.in-Ok.read.0 ∷ []) in
+    comma_last 60 62 _ _ text _ _ _ grown c.loop.invariant.text (c.in-Ok.ensures.text ∙ ap (λ l. text ++ l) c.in-Some.ensures)
+
+pub read_fields-returns-in-Some-clause-whole : goal.read_fields-returns-in-Some-clause-whole
+read_fields-returns-in-Some-clause-whole t c = λ s ss more narrow is.
+    let left = c.loop.invariant.left s ss more narrow is in
+    let told = c.in-Ok.ensures.whole left.first (behind_first left.others more) (left_narrow _ _ _ _ left) left.text in
+    last_read (next_shape s ss) c.loop.fields.items c.push.new.self.items c.in-Ok.read.0 c.loop.rest.now c.in-Ok.read.1.now c.in-Some.end.now more left c.in_ok-push.ensures.items told c.in-Some.ensures
+
+pub read_fields-returns-in_default-behind-clause-whole : goal.read_fields-returns-in_default-behind-clause-whole
+read_fields-returns-in_default-behind-clause-whole t c = λ s ss more narrow is.
+    let left = c.loop.invariant.left s ss more narrow is in
+    let told = c.in-Ok.ensures.whole left.first (behind_first left.others more) (left_narrow _ _ _ _ left) left.text in
+    bracket_or_comma left.others c.in-Ok.read.1.now more told.1 c.in_default.ensures c.in_default-behind.ensures
+
+pub read_fields-loop-preserved : goal.read_fields-loop-preserved
+read_fields-loop-preserved t c =
+    let text = text_of_type c.in-Ok.read.0 in
+    let grown = ap (map text_of_type) c.in_ok-push.ensures.items ∙ map-append text_of_type c.loop.fields.items (c.in-Ok.read.0 ∷ []) in
+    let here : c.loop.rest.now ≡ text ++ (44 ∷ c.in-Some-behind.next.now) = c.in-Ok.ensures.text ∙ ap (λ l. text ++ l) c.in-Some-behind.ensures in
+    let long = ap length here in
+    let parts = length-append text (44 ∷ c.in-Some-behind.next.now) in
+    record {
+      text = comma_more _ _ text _ _ _ grown c.loop.invariant.text here;
+      room = omega (arith, long, parts, c.loop.invariant.room);
+      left = λ s ss more narrow is.
+          let left = c.loop.invariant.left s ss more narrow is in
+          let told = c.in-Ok.ensures.whole left.first (behind_first left.others more) (left_narrow _ _ _ _ left) left.text in
+          more_left (next_shape s ss) c.loop.fields.items c.push.new.self.items c.in-Ok.read.0 c.loop.rest.now c.in-Ok.read.1.now c.in-Some-behind.next.now more left c.in_ok-push.ensures.items told c.in-Some-behind.ensures;
+    }
+
+pub read_tuples-returns-in-Some-clause-text : goal.read_tuples-returns-in-Some-clause-text
+read_tuples-returns-in-Some-clause-text t c =
+    struct_behind c.new.result [] _ _ c.new.ensures.items (c.in_ok-rest.ensures.rest ∙ ap (λ l. 60 ∷ l) c.in-Some.ensures)
+
+pub read_tuples-returns-clause-text : goal.read_tuples-returns-clause-text
+read_tuples-returns-clause-text t c = struct_behind c.in_ok-fields.fields _ _ _ refl (c.in_ok-rest.ensures.rest ∙ c.in_ok-fields.ensures.text)
+
+pub read_tuples-returns-in-Some-clause-whole : goal.read_tuples-returns-in-Some-clause-whole
+read_tuples-returns-in-Some-clause-whole t c = λ s more few is.
+    let told = tuples_told s c.args.bytes.now more is in
+    let here : c.args.bytes.now ≡ 60 ∷ 62 ∷ c.in-Some.rest.now = c.in_ok-rest.ensures.rest ∙ ap (λ l. 60 ∷ l) c.in-Some.ensures in
+    let none = no_types told.0 c.in-Some.rest.now more (sym here ∙ told.2) in
+    (shape_of-Struct c.new.result ∙ ap (λ l. of_struct (shapes_of (map shape_of l))) c.new.ensures.items ∙ ap of_struct (sym none.0) ∙ sym told.1, none.1)
+
+pub read_tuples-returns-clause-whole : goal.read_tuples-returns-clause-whole
+read_tuples-returns-clause-whole t c = λ s more few is.
+    let told = tuples_told s c.args.bytes.now more is in
+    let here = sym c.in_ok-rest.ensures.rest ∙ told.2 in
+    let some = some_types told.0 c.in_ok-rest.rest.now more here c.in_default.ensures in
+    let narrow : all_widths_written (next_shape some.0 some.1) ≡ true = ap all_widths_written (sym some.2) ∙ ap widths_written (sym told.1) ∙ few in
+    let read = c.in_ok-fields.ensures.whole some.0 some.1 more narrow (here ∙ ap (λ l. angled (type_texts l) ++ more) some.2) in
+    (shape_of-Struct c.in_ok-fields.fields ∙ ap of_struct (read.0 ∙ sym some.2) ∙ sym told.1, read.1)
+
+pub read_blocks-returns-clause-whole : goal.read_blocks-returns-clause-whole
+read_blocks-returns-clause-whole t c = λ s more few is.
+    let told = blocks_told s c.args.bytes.now more is in
+    let fits = block_narrow told.0 told.1 (ap widths_written (sym told.2) ∙ few) in
+    let start = ap (drop 1) (sym c.in_ok-rest.ensures.rest ∙ told.3) in
+    let size = c.in_ok-size.ensures.whole told.1 _ fits.0 (omega arith) start in
+    let next = ap (drop 1) (sym c.in_ok-rest-2.ensures.rest ∙ size.1) in
+    let child = c.in_ok-child.ensures.whole told.0 (62 ∷ more) fits.1 next in
+    let end = ap (drop 1) (sym c.in_ok-rest-3.ensures.rest ∙ child.1) in (
+      ap (λ x. of_fixed_size_list (shape_of x) c.in_ok-size.size) c.in_ok-child-2.ensures.ok ∙ ap (λ x. of_fixed_size_list x c.in_ok-size.size) child.0 ∙ ap (of_fixed_size_list told.0) size.0 ∙ sym told.2,
+      end,
+    )

@@ -1,0 +1,269 @@
+//! Columns made of rows that were read.
+
+use crate::cell::Whole;
+use crate::item::Item;
+use crate::text_error::Fault;
+use crate::whole::FromWhole;
+use sel_arrow::array::Array;
+use sel_arrow::array_ref::ArrayRef;
+use sel_arrow::binary::BinaryArray;
+use sel_arrow::binview::BinaryViewArray;
+use sel_arrow::boolean::BooleanArray;
+use sel_arrow::datatype::ArrowDataType;
+use sel_arrow::fixed_size_list::FixedSizeListArray;
+use sel_arrow::list::ListArray;
+use sel_arrow::null::NullArray;
+use sel_arrow::primitive::{ArrowPrimitive, PrimitiveArray};
+use sel_arrow::structure::StructArray;
+use sel_arrow::utf8view::Utf8ViewArray;
+use sel_arrow::view::View;
+use sel_bits::bitmap::Bitmap;
+use sel_bits::buffer::Buffer;
+use sel_bits::offsets::OffsetsBuffer;
+use std::alloc::Global;
+
+/// What stands beneath the nulls of a column that is read. Its rows are the same with either.
+#[derive(Debug, Clone, Copy, PartialEq, Eq)]
+pub enum Beneath {
+    /// Zeros, falsehoods, and nothing in a text or a list.
+    Zeros,
+    /// The greatest numbers, truths, one byte in a text and one entry in a list.
+    Others,
+}
+
+/// The column of these rows.
+#[cycle(building)]
+pub(crate) fn build(
+    dtype: &ArrowDataType,
+    alloc: Global,
+    items: &[&Item],
+    beneath: Beneath,
+) -> Result<ArrayRef, Fault> {
+    match dtype {
+        ArrowDataType::Null => Ok(NullArray::try_new(items.len())?.into_ref()),
+        ArrowDataType::Boolean => truths(alloc, items, beneath),
+        ArrowDataType::Int8 => numbers::<i8>(alloc, items, beneath),
+        ArrowDataType::Int16 => numbers::<i16>(alloc, items, beneath),
+        ArrowDataType::Int32 => numbers::<i32>(alloc, items, beneath),
+        ArrowDataType::Int64 => numbers::<i64>(alloc, items, beneath),
+        ArrowDataType::Int128 => numbers::<i128>(alloc, items, beneath),
+        ArrowDataType::UInt8 => numbers::<u8>(alloc, items, beneath),
+        ArrowDataType::UInt16 => numbers::<u16>(alloc, items, beneath),
+        ArrowDataType::UInt32 => numbers::<u32>(alloc, items, beneath),
+        ArrowDataType::UInt64 => numbers::<u64>(alloc, items, beneath),
+        ArrowDataType::UInt128 => numbers::<u128>(alloc, items, beneath),
+        ArrowDataType::LargeBinary => pieces(alloc, items, beneath),
+        ArrowDataType::BinaryView => Ok(views(alloc, items, beneath)?.into_ref()),
+        ArrowDataType::Utf8View => texts(alloc, items, beneath),
+        ArrowDataType::LargeList(child) => lists(child, alloc, items, beneath),
+        ArrowDataType::FixedSizeList(child, size) => blocks(child, *size, alloc, items, beneath),
+        ArrowDataType::Struct(fields) => tuples(fields, alloc, items, beneath),
+    }
+}
+
+/// Which of the rows are valid, where one is not.
+fn validity_of(alloc: Global, items: &[&Item]) -> Result<Option<Bitmap>, Fault> {
+    let mut valid = Vec::with_capacity(alloc, items.len())?;
+    for item in items {
+        valid.push(!matches!(item, Item::Null))?;
+    }
+    if valid.iter().all(|valid| *valid) {
+        return Ok(None);
+    }
+    Ok(Some(Bitmap::from_bools(alloc, &valid)?))
+}
+
+/// The column of these truth values.
+fn truths(alloc: Global, items: &[&Item], beneath: Beneath) -> Result<ArrayRef, Fault> {
+    let mut values = Vec::with_capacity(alloc, items.len())?;
+    for item in items {
+        values.push(match item {
+            Item::Truth(truth) => *truth,
+            _ => beneath == Beneath::Others,
+        })?;
+    }
+    let values = Bitmap::from_bools(alloc, &values)?;
+    Ok(BooleanArray::try_new(values, validity_of(alloc, items)?)?.into_ref())
+}
+
+/// The column of these numbers.
+fn numbers<T: ArrowPrimitive + FromWhole>(
+    alloc: Global,
+    items: &[&Item],
+    beneath: Beneath,
+) -> Result<ArrayRef, Fault> {
+    let mut values = Vec::with_capacity(alloc, items.len())?;
+    for item in items {
+        values.push(number_in::<T>(item, beneath))?;
+    }
+    let values = Buffer::from_vec(values)?;
+    Ok(PrimitiveArray::try_new(values, validity_of(alloc, items)?)?.into_ref())
+}
+
+/// The number in a row, or what stands beneath a null.
+fn number_in<T: ArrowPrimitive + FromWhole>(item: &Item, beneath: Beneath) -> T {
+    let other = match beneath {
+        Beneath::Zeros => T::ZERO,
+        Beneath::Others => T::GREATEST,
+    };
+    match item {
+        Item::Number(whole) => T::from_whole(*whole).unwrap_or(other),
+        _ => other,
+    }
+}
+
+/// The bytes in a row, or those that stand beneath a null.
+fn bytes_in(item: &Item, beneath: Beneath) -> &[u8] {
+    match item {
+        Item::Bytes(bytes) => bytes,
+        _ => match beneath {
+            Beneath::Zeros => b"",
+            Beneath::Others => b"?",
+        },
+    }
+}
+
+/// The column of these bytes, one after another between offsets.
+fn pieces(alloc: Global, items: &[&Item], beneath: Beneath) -> Result<ArrayRef, Fault> {
+    let mut bytes = Vec::new(alloc);
+    let mut ends: Vec<i64> = vec![in alloc; 0]?;
+    for item in items {
+        bytes.extend_from_slice(bytes_in(item, beneath))?;
+        ends.push(offset_at(bytes.len())?)?;
+    }
+    let offsets = OffsetsBuffer::try_from(ends)?;
+    let bytes = Buffer::from_vec(bytes)?;
+    Ok(BinaryArray::try_new(offsets, bytes, validity_of(alloc, items)?)?.into_ref())
+}
+
+/// A place as an offset.
+fn offset_at(place: usize) -> Result<i64, Fault> {
+    match i64::try_from(place) {
+        Ok(offset) => Ok(offset),
+        Err(_) => Err(Fault::Limit),
+    }
+}
+
+/// The column of views of these bytes, those past 12 bytes in one data buffer.
+fn views(alloc: Global, items: &[&Item], beneath: Beneath) -> Result<BinaryViewArray, Fault> {
+    let mut data = Vec::new(alloc);
+    let mut views = Vec::with_capacity(alloc, items.len())?;
+    for item in items {
+        let bytes = bytes_in(item, beneath);
+        let (Ok(_), Ok(start)) = (u32::try_from(bytes.len()), u32::try_from(data.len())) else {
+            return Err(Fault::Limit);
+        };
+        views.push(View::new_from_bytes(bytes, 0, start))?;
+        data.extend_from_slice(bytes)?;
+    }
+    let data = Buffer::from_vec(data)?;
+    let buffers = Buffer::from_vec(vec![in alloc; data]?)?;
+    let views = Buffer::from_vec(views)?;
+    Ok(BinaryViewArray::try_new(views, buffers, validity_of(alloc, items)?)?)
+}
+
+/// The column of these texts.
+fn texts(alloc: Global, items: &[&Item], beneath: Beneath) -> Result<ArrayRef, Fault> {
+    let BinaryViewArray {
+        views,
+        buffers,
+        validity,
+    } = views(alloc, items, beneath)?;
+    Ok(Utf8ViewArray::try_new(views, buffers, validity)?.into_ref())
+}
+
+/// The column of these lists.
+#[cycle(building)]
+fn lists(
+    dtype: &ArrowDataType,
+    alloc: Global,
+    items: &[&Item],
+    beneath: Beneath,
+) -> Result<ArrayRef, Fault> {
+    let null = Item::Null;
+    let mut entries = Vec::new(alloc);
+    let mut ends: Vec<i64> = vec![in alloc; 0]?;
+    for item in items {
+        match item {
+            Item::Items(list) => push_each(&mut entries, list)?,
+            _ if beneath == Beneath::Others => entries.push(&null)?,
+            _ => {}
+        }
+        ends.push(offset_at(entries.len())?)?;
+    }
+    let child = build(dtype, alloc, &entries, beneath)?;
+    let offsets = OffsetsBuffer::try_from(ends)?;
+    let validity = validity_of(alloc, items)?;
+    Ok(ListArray::try_new(alloc, offsets, child, validity)?.into_ref())
+}
+
+/// Puts each entry of a list behind others.
+fn push_each<'a>(entries: &mut Vec<&'a Item>, list: &'a [Item]) -> Result<(), Fault> {
+    for entry in list {
+        entries.push(entry)?;
+    }
+    Ok(())
+}
+
+/// The column of these lists, each of so many entries.
+#[cycle(building)]
+fn blocks(
+    dtype: &ArrowDataType,
+    size: usize,
+    alloc: Global,
+    items: &[&Item],
+    beneath: Beneath,
+) -> Result<ArrayRef, Fault> {
+    let null = Item::Null;
+    let mut entries = Vec::new(alloc);
+    for item in items {
+        match item {
+            Item::Items(list) => push_each(&mut entries, list)?,
+            _ => push_copies(&mut entries, &null, size)?,
+        }
+    }
+    let child = build(dtype, alloc, &entries, beneath)?;
+    let validity = validity_of(alloc, items)?;
+    Ok(FixedSizeListArray::try_new(alloc, size, items.len(), child, validity)?.into_ref())
+}
+
+/// Puts an entry so many times behind others.
+fn push_copies<'a>(
+    entries: &mut Vec<&'a Item>,
+    entry: &'a Item,
+    count: usize,
+) -> Result<(), Fault> {
+    for _ in 0..count {
+        entries.push(entry)?;
+    }
+    Ok(())
+}
+
+/// The column of these tuples.
+#[cycle(building)]
+fn tuples(
+    dtypes: &[ArrowDataType],
+    alloc: Global,
+    items: &[&Item],
+    beneath: Beneath,
+) -> Result<ArrayRef, Fault> {
+    let null = Item::Null;
+    let mut fields = Vec::with_capacity(alloc, dtypes.len())?;
+    for (k, dtype) in dtypes.iter().enumerate() {
+        let mut parts = Vec::with_capacity(alloc, items.len())?;
+        for item in items {
+            parts.push(part_at(item, k).unwrap_or(&null))?;
+        }
+        fields.push(build(dtype, alloc, &parts, beneath)?)?;
+    }
+    let validity = validity_of(alloc, items)?;
+    Ok(StructArray::try_new(alloc, items.len(), fields, validity)?.into_ref())
+}
+
+/// What a tuple has at a place.
+fn part_at(item: &Item, place: usize) -> Option<&Item> {
+    match item {
+        Item::Parts(parts) => parts.get(place),
+        _ => None,
+    }
+}

@@ -1,0 +1,276 @@
+//! Types of columns, read.
+
+ghost use Rattle.std.specs.Prelude.{◌≡◌, ◌≢◌, ◌<◌, ◌∷◌, ◌++◌, ◌^◌, ℕ, List, true, IfOk, IfErr, IfSome, IfNone, MatchResult, IsTrue, map, length, codes};
+ghost use Rattle.std.specs.Fmt.{decimal};
+ghost use Rattle.sel_arrow.specs.DataType.{shape_of};
+ghost use Rattle.sel_text.specs.Spaces.{spaceless};
+ghost use Rattle.sel_arrow.specs.Shape.{Shape, Shapes, next_shape, shapes_of};
+ghost use Rattle.sel_text.specs.Digits.{NoDigit};
+ghost use Rattle.sel_text.specs.TextErrors.{IsShort, IsShortage, IsWithin};
+ghost use Rattle.sel_text.specs.Written.{all_widths_written, is_plain, widths_written};
+ghost use Rattle.sel_text.specs.Types.{angled, type_text, type_texts};
+
+use crate::numerals::{behind, expect, number_of, read_digits};
+use crate::spaces::without_spaces;
+use crate::text_error::{Fault, TextError};
+use sel_arrow::datatype::ArrowDataType;
+use std::alloc::Global;
+
+/// How many types with children may stand in one another.
+pub const DEEPEST: usize = 64;
+
+/// The type that a text names, as in `struct<list<i8>, fixed<2, utf8>>`: `print_dtype` writes the text back without its spaces.
+/// Refuses a text that names none, with the place; as past a limit one with more than 64 types with children in one another or a
+/// width past 18,446,744,073,709,551,615; and for want of memory.
+pub fn parse_dtype(alloc: Global, text: &str) -> Result<ArrowDataType, TextError>
+    ensures text { IfOk result (λ dtype. type_text (shape_of dtype) ≡ spaceless text.now) }
+    ensures refused { IfErr result (λ error. (shape : Shape) → IsTrue (widths_written shape) →
+        spaceless text.now ≡ type_text shape → IsShortage error) }
+    ensures place { IfErr result (IsWithin (length text.now)) }
+{
+    let Ok(bytes) = without_spaces(alloc, text) else {
+        return Err(TextError::OutOfMemory);
+    };
+    match read_whole(alloc, &bytes) {
+        Ok(dtype) => Ok(dtype),
+        Err(fault) => Err(fault.placed(text, bytes.len())),
+    }
+}
+
+/// The type whose text this is.
+fn read_whole(alloc: Global, bytes: &[u8]) -> Result<ArrowDataType, Fault>
+    ensures text { IfOk result (λ dtype. type_text (shape_of dtype) ≡ bytes.now) }
+    ensures refused { IfErr result (λ fault. (shape : Shape) → IsTrue (widths_written shape) →
+        bytes.now ≡ type_text shape → IsShort fault) }
+{
+    let (dtype, rest) = match read_type(alloc, bytes, DEEPEST) {
+        Ok(read) => read,
+        Err(fault) => return Err(fault),
+    };
+    if !rest.is_empty() {
+        return Err(Fault::Syntax(rest.len()));
+    }
+    Ok(dtype)
+}
+
+/// The type whose text stands at the front, and what stands behind it.
+#[cycle(reading_types)]
+fn read_type(alloc: Global, bytes: &[u8], levels: usize) -> Result<(ArrowDataType, &[u8]), Fault>
+    ensures text { IfOk result (λ read. bytes.now ≡ type_text (shape_of read.0) ++ read.1.now) }
+    ensures whole { (shape : Shape) (more : List ℕ) → IsTrue (widths_written shape) →
+        bytes.now ≡ type_text shape ++ more →
+        MatchResult result (λ read. (shape_of read.0 ≡ shape) × (read.1.now ≡ more)) IsShort }
+{
+    if let Some(read) = read_plain(bytes) {
+        return Ok(read);
+    }
+    if levels == 0 {
+        return Err(Fault::Limit);
+    }
+    if let Some(rest) = behind(bytes, b"list") {
+        return read_list(alloc, rest, levels);
+    }
+    if let Some(rest) = behind(bytes, b"fixed") {
+        return read_blocks(alloc, rest, levels);
+    }
+    if let Some(rest) = behind(bytes, b"struct") {
+        return read_tuples(alloc, rest, levels);
+    }
+    match bytes {
+        [b'a'..=b'z', ..] => Err(Fault::Type(bytes.len())),
+        _ => Err(Fault::Syntax(bytes.len())),
+    }
+}
+
+/// The type without a child whose text stands at the front, and what stands behind it.
+#[tactic(auto, using(crate::proofs::TypesTold::no_plain))]
+fn read_plain(bytes: &[u8]) -> Option<(ArrowDataType, &[u8])>
+    ensures text { IfSome result (λ read.
+        bytes.now ≡ type_text (shape_of read.0) ++ read.1.now) }
+    ensures plain { IfSome result (λ read. is_plain (shape_of read.0) ≡ true) }
+    ensures none { IfNone result ((shape : Shape) (more : List ℕ) → is_plain shape ≡ true →
+        bytes.now ≢ type_text shape ++ more) }
+{
+    if let Some(rest) = behind(bytes, b"i") {
+        return read_signed(rest);
+    }
+    if let Some(rest) = behind(bytes, b"null") {
+        return Some((ArrowDataType::Null, rest));
+    }
+    if let Some(rest) = behind(bytes, b"bool") {
+        return Some((ArrowDataType::Boolean, rest));
+    }
+    if let Some(rest) = behind(bytes, b"binary") {
+        return Some((ArrowDataType::LargeBinary, rest));
+    }
+    if let Some(rest) = behind(bytes, b"binview") {
+        return Some((ArrowDataType::BinaryView, rest));
+    }
+    match behind(bytes, b"u") {
+        Some(rest) => read_unsigned(rest),
+        None => None,
+    }
+}
+
+/// The type of numbers with a sign whose bits stand at the front, behind its `i`.
+#[tactic(auto, using(crate::proofs::TypesTold::no_signed))]
+fn read_signed(bytes: &[u8]) -> Option<(ArrowDataType, &[u8])>
+    ensures text { IfSome result (λ read.
+        105 ∷ bytes.now ≡ type_text (shape_of read.0) ++ read.1.now) }
+    ensures plain { IfSome result (λ read. is_plain (shape_of read.0) ≡ true) }
+    ensures none { IfNone result ((shape : Shape) (more : List ℕ) →
+        105 ∷ bytes.now ≢ type_text shape ++ more) }
+{
+    if let Some(rest) = behind(bytes, b"8") {
+        return Some((ArrowDataType::Int8, rest));
+    }
+    if let Some(rest) = behind(bytes, b"16") {
+        return Some((ArrowDataType::Int16, rest));
+    }
+    if let Some(rest) = behind(bytes, b"32") {
+        return Some((ArrowDataType::Int32, rest));
+    }
+    if let Some(rest) = behind(bytes, b"64") {
+        return Some((ArrowDataType::Int64, rest));
+    }
+    match behind(bytes, b"128") {
+        Some(rest) => Some((ArrowDataType::Int128, rest)),
+        None => None,
+    }
+}
+
+/// The type of texts, or that of numbers without a sign whose bits stand at the front, behind its `u`.
+#[tactic(auto, using(crate::proofs::TypesTold::no_unsigned))]
+fn read_unsigned(bytes: &[u8]) -> Option<(ArrowDataType, &[u8])>
+    ensures text { IfSome result (λ read.
+        117 ∷ bytes.now ≡ type_text (shape_of read.0) ++ read.1.now) }
+    ensures plain { IfSome result (λ read. is_plain (shape_of read.0) ≡ true) }
+    ensures none { IfNone result ((shape : Shape) (more : List ℕ) →
+        117 ∷ bytes.now ≢ type_text shape ++ more) }
+{
+    if let Some(rest) = behind(bytes, b"8") {
+        return Some((ArrowDataType::UInt8, rest));
+    }
+    if let Some(rest) = behind(bytes, b"16") {
+        return Some((ArrowDataType::UInt16, rest));
+    }
+    if let Some(rest) = behind(bytes, b"32") {
+        return Some((ArrowDataType::UInt32, rest));
+    }
+    if let Some(rest) = behind(bytes, b"64") {
+        return Some((ArrowDataType::UInt64, rest));
+    }
+    if let Some(rest) = behind(bytes, b"tf8") {
+        return Some((ArrowDataType::Utf8View, rest));
+    }
+    match behind(bytes, b"128") {
+        Some(rest) => Some((ArrowDataType::UInt128, rest)),
+        None => None,
+    }
+}
+
+/// The type of lists whose text stands at the front, behind its name.
+#[cycle(reading_types)]
+fn read_list(alloc: Global, bytes: &[u8], levels: usize) -> Result<(ArrowDataType, &[u8]), Fault>
+    requires { 0 < levels }
+    ensures text { IfOk result (λ read.
+        codes "list" ++ bytes.now ≡ type_text (shape_of read.0) ++ read.1.now) }
+    ensures whole { (shape : Shape) (more : List ℕ) → IsTrue (widths_written shape) →
+        codes "list" ++ bytes.now ≡ type_text shape ++ more →
+        MatchResult result (λ read. (shape_of read.0 ≡ shape) × (read.1.now ≡ more)) IsShort }
+{
+    let rest = expect(bytes, b"<")?;
+    let (child, rest) = read_type(alloc, rest, levels - 1)?;
+    let rest = expect(rest, b">")?;
+    let child = Box::new(alloc, child)?;
+    Ok((ArrowDataType::LargeList(child), rest))
+}
+
+/// The type of lists of one length whose text stands at the front, behind its name.
+#[cycle(reading_types)]
+fn read_blocks(alloc: Global, bytes: &[u8], levels: usize) -> Result<(ArrowDataType, &[u8]), Fault>
+    requires { 0 < levels }
+    ensures text { IfOk result (λ read.
+        codes "fixed" ++ bytes.now ≡ type_text (shape_of read.0) ++ read.1.now) }
+    ensures whole { (shape : Shape) (more : List ℕ) → IsTrue (widths_written shape) →
+        codes "fixed" ++ bytes.now ≡ type_text shape ++ more →
+        MatchResult result (λ read. (shape_of read.0 ≡ shape) × (read.1.now ≡ more)) IsShort }
+{
+    let rest = expect(bytes, b"<")?;
+    let (size, rest) = read_size(rest)?;
+    let rest = expect(rest, b",")?;
+    let (child, rest) = read_type(alloc, rest, levels - 1)?;
+    let rest = expect(rest, b">")?;
+    let child = Box::new(alloc, child)?;
+    Ok((ArrowDataType::FixedSizeList(child, size), rest))
+}
+
+/// The number of entries that stands at the front.
+fn read_size(bytes: &[u8]) -> Result<(usize, &[u8]), Fault>
+    ensures text { IfOk result (λ read. bytes.now ≡ decimal read.0 ++ read.1.now) }
+    ensures whole { (size : ℕ) (more : List ℕ) → size < 2 ^ 64 → NoDigit more →
+        bytes.now ≡ decimal size ++ more →
+        MatchResult result (λ read. (read.0 ≡ size) × (read.1.now ≡ more)) IsShort }
+{
+    let (digits, rest) = read_digits(bytes)?;
+    let Some(number) = number_of(digits) else {
+        return Err(Fault::Limit);
+    };
+    match usize::try_from(number) {
+        Ok(size) => Ok((size, rest)),
+        Err(_) => Err(Fault::Limit),
+    }
+}
+
+/// The type of tuples whose text stands at the front, behind its name.
+#[cycle(reading_types)]
+fn read_tuples(alloc: Global, bytes: &[u8], levels: usize) -> Result<(ArrowDataType, &[u8]), Fault>
+    requires { 0 < levels }
+    ensures text { IfOk result (λ read.
+        codes "struct" ++ bytes.now ≡ type_text (shape_of read.0) ++ read.1.now) }
+    ensures whole { (shape : Shape) (more : List ℕ) → IsTrue (widths_written shape) →
+        codes "struct" ++ bytes.now ≡ type_text shape ++ more →
+        MatchResult result (λ read. (shape_of read.0 ≡ shape) × (read.1.now ≡ more)) IsShort }
+{
+    let rest = expect(bytes, b"<")?;
+    if let Some(rest) = behind(rest, b">") {
+        return Ok((ArrowDataType::Struct(Vec::new(alloc)), rest));
+    }
+    let (fields, rest) = read_fields(alloc, rest, levels)?;
+    Ok((ArrowDataType::Struct(fields), rest))
+}
+
+/// The types up to the closing bracket, of which there is one at least.
+#[cycle(reading_types)]
+fn read_fields(
+    alloc: Global,
+    bytes: &[u8],
+    levels: usize,
+) -> Result<(Vec<ArrowDataType>, &[u8]), Fault>
+    requires { 0 < levels }
+    ensures text { IfOk result (λ read. 60 ∷ bytes.now ≡
+        angled (map (λ dtype. type_text (shape_of dtype)) read.0.items) ++ read.1.now) }
+    ensures whole { (first : Shape) (others : Shapes) (more : List ℕ) →
+        all_widths_written (next_shape first others) ≡ true →
+        60 ∷ bytes.now ≡ angled (type_texts (next_shape first others)) ++ more →
+        MatchResult result (λ read. (shapes_of (map shape_of read.0.items) ≡
+        next_shape first others) × (read.1.now ≡ more)) IsShort }
+{
+    let mut fields = Vec::new(alloc);
+    let mut rest = bytes;
+    for _ in 0..bytes.len() {
+        let (field, more) = match read_type(alloc, rest, levels - 1) {
+            Ok(read) => read,
+            Err(fault) => return Err(fault),
+        };
+        fields.push(field)?;
+        if let Some(end) = behind(more, b">") {
+            return Ok((fields, end));
+        }
+        let Some(next) = behind(more, b",") else {
+            return Err(Fault::Syntax(more.len()));
+        };
+        rest = next;
+    }
+    Err(Fault::Syntax(rest.len()))
+}

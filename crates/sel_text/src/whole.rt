@@ -1,0 +1,121 @@
+//! Whole numbers of the ten number types.
+
+use crate::cell::Whole;
+
+/// A number type that takes a whole number where it fits.
+pub(crate) trait FromWhole: Copy {
+    /// Nothing.
+    const ZERO: Self;
+
+    fn from_whole(whole: Whole) -> Option<Self>;
+}
+
+impl FromWhole for i8 {
+    const ZERO: i8 = 0;
+
+    fn from_whole(whole: Whole) -> Option<i8> {
+        match whole {
+            Whole::Signed(number) => i8::try_from(number).ok(),
+            Whole::Unsigned(number) => i8::try_from(number).ok(),
+        }
+    }
+}
+
+impl FromWhole for i16 {
+    const ZERO: i16 = 0;
+
+    fn from_whole(whole: Whole) -> Option<i16> {
+        match whole {
+            Whole::Signed(number) => i16::try_from(number).ok(),
+            Whole::Unsigned(number) => i16::try_from(number).ok(),
+        }
+    }
+}
+
+impl FromWhole for i32 {
+    const ZERO: i32 = 0;
+
+    fn from_whole(whole: Whole) -> Option<i32> {
+        match whole {
+            Whole::Signed(number) => i32::try_from(number).ok(),
+            Whole::Unsigned(number) => i32::try_from(number).ok(),
+        }
+    }
+}
+
+impl FromWhole for i64 {
+    const ZERO: i64 = 0;
+
+    fn from_whole(whole: Whole) -> Option<i64> {
+        match whole {
+            Whole::Signed(number) => i64::try_from(number).ok(),
+            Whole::Unsigned(number) => i64::try_from(number).ok(),
+        }
+    }
+}
+
+impl FromWhole for i128 {
+    const ZERO: i128 = 0;
+
+    fn from_whole(whole: Whole) -> Option<i128> {
+        match whole {
+            Whole::Signed(number) => i128::try_from(number).ok(),
+            Whole::Unsigned(number) => i128::try_from(number).ok(),
+        }
+    }
+}
+
+impl FromWhole for u8 {
+    const ZERO: u8 = 0;
+
+    fn from_whole(whole: Whole) -> Option<u8> {
+        match whole {
+            Whole::Signed(number) => u8::try_from(number).ok(),
+            Whole::Unsigned(number) => u8::try_from(number).ok(),
+        }
+    }
+}
+
+impl FromWhole for u16 {
+    const ZERO: u16 = 0;
+
+    fn from_whole(whole: Whole) -> Option<u16> {
+        match whole {
+            Whole::Signed(number) => u16::try_from(number).ok(),
+            Whole::Unsigned(number) => u16::try_from(number).ok(),
+        }
+    }
+}
+
+impl FromWhole for u32 {
+    const ZERO: u32 = 0;
+
+    fn from_whole(whole: Whole) -> Option<u32> {
+        match whole {
+            Whole::Signed(number) => u32::try_from(number).ok(),
+            Whole::Unsigned(number) => u32::try_from(number).ok(),
+        }
+    }
+}
+
+impl FromWhole for u64 {
+    const ZERO: u64 = 0;
+
+    fn from_whole(whole: Whole) -> Option<u64> {
+        match whole {
+            Whole::Signed(number) => u64::try_from(number).ok(),
+            Whole::Unsigned(number) => u64::try_from(number).ok(),
+        }
+    }
+}
+
+impl FromWhole for u128 {
+    const ZERO: u128 = 0;
+
+    fn from_whole(whole: Whole) -> Option<u128> {
+        match whole {
+            Whole::Signed(number) => u128::try_from(number).ok(),
+            Whole::Unsigned(number) => u128::try_from(number).ok(),
+        }
+    }
+}
