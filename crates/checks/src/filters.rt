@@ -2,13 +2,12 @@
 
 ghost use Rattle.std.specs.Prelude.{◌≡◌, ◌≤◌, length, IfOk};
 
-use crate::kernels::{filtered_by, many_values};
+use crate::kernels::many_values;
 use checks_columns::fixtures::has_text;
 use polars_compute::filter::boolean::pext64_polyfill;
 use polars_compute::filter::filter_boolean_kernel;
 use polars_compute::filter::scalar::{scalar_filter, scalar_filter_offset};
 use sel_arrow::array::Array;
-use sel_arrow::boolean::BooleanArray;
 use sel_arrow::utf8view::Utf8ViewArray;
 use sel_arrow::view::View;
 use sel_bits::bitmap::Bitmap;
@@ -183,14 +182,4 @@ pub fn are_last_texts(alloc: Global, kept: &Utf8ViewArray) -> PolarsResult<bool>
             && has_text(alloc, kept, 0, Some("abcdefghijklm"))?
             && has_text(alloc, kept, 1, None)?,
     )
-}
-
-#[test]
-fn filters_of_texts(rt: HostRuntime) -> Result<(), Fail> {
-    let bits = Bitmap::from_bools(rt.alloc(), &[false, true, true])?;
-    let mask = BooleanArray::try_new(bits, None)?;
-    let kept = filtered_by(rt.alloc(), three_texts(rt.alloc())?.into_ref(), &mask)?;
-    let kept = kept.into_utf8view().ok().ok_or("another type")?;
-    assert!(rt; are_last_texts(rt.alloc(), &kept) == Ok(true));
-    Ok(())
 }

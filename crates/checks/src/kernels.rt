@@ -1,8 +1,7 @@
 //! Filters and takes of columns without children, and the kernels of bits, numbers and bytes beneath them.
 
 use checks_columns::fixtures::{
-    begins_with, column, has_bits, has_bytes, has_numbers, is_bytes, is_numbers, is_truths,
-    numbers, truths, validity_of,
+    begins_with, column, has_bits, has_bytes, has_numbers, is_bytes, numbers, validity_of,
 };
 use polars_compute::filter::boolean::filter_bitmap_and_validity;
 use polars_compute::filter::primitive::{filter_values, filter_values_and_validity};
@@ -14,7 +13,6 @@ use sel_arrow::array::Array;
 use sel_arrow::array_ref::ArrayRef;
 use sel_arrow::binary::BinaryArray;
 use sel_arrow::boolean::BooleanArray;
-use sel_arrow::null::NullArray;
 use sel_arrow::primitive::{IdxArr, PrimitiveArray};
 use sel_bits::bitmap::Bitmap;
 use sel_bits::buffer::Buffer;
@@ -101,92 +99,6 @@ fn rows_kept(alloc: Global, array: &ArrayRef, mask: &Bitmap) -> Result<ArrayRef,
         return Err(Fail::from("another length"));
     }
     Ok(filter_with_bitmap(alloc, array, mask)?)
-}
-
-/// The rows of any column under the mask, where they are as many.
-pub fn filtered_by(alloc: Global, array: ArrayRef, mask: &BooleanArray) -> Result<ArrayRef, Fail> {
-    let kept = rows_filtered(alloc, &array, mask);
-    drop(array);
-    kept
-}
-
-fn rows_filtered(alloc: Global, array: &ArrayRef, mask: &BooleanArray) -> Result<ArrayRef, Fail> {
-    if array.len() != mask.len() {
-        return Err(Fail::from("another length"));
-    }
-    Ok(filter(alloc, array, mask)?)
-}
-
-// Whether the rows, the least number hidden below none, are these under the mask.
-fn filters(
-    alloc: Global,
-    rows: &[Option<i64>],
-    mask: &BooleanArray,
-    kept: &[Option<i64>],
-) -> Result<bool, Fail> {
-    let array = column(alloc, rows, i64::MIN)?;
-    is_numbers(filtered_by(alloc, array.into_ref(), mask)?, kept)
-}
-
-#[test]
-fn filters_of_numbers(rt: HostRuntime) -> Result<(), Fail> {
-    let alloc = rt.alloc();
-    let rows: [(&[Option<i64>], &[bool], &[bool], &[Option<i64>]); 4] = [
-        (
-            &[Some(10), Some(20), Some(30), Some(40)],
-            &[true, true, false, true],
-            &[true, false, true, true],
-            &[Some(10), Some(40)],
-        ),
-        (&[], &[], &[], &[]),
-        (
-            &[Some(10), Some(20)],
-            &[true, true],
-            &[true, false],
-            &[Some(10)],
-        ),
-        (&[Some(1), None], &[false, true], &[true, true], &[None]),
-    ];
-    for (values, mask, validity, kept) in &rows {
-        let mask = truths(alloc, mask, validity)?;
-        assert!(rt; filters(alloc, values, &mask, kept)?);
-    }
-    Ok(())
-}
-
-// The last two of the three rows of any column.
-fn last_two(alloc: Global, array: ArrayRef) -> Result<ArrayRef, Fail> {
-    let kept = rows_behind(alloc, &array);
-    drop(array);
-    kept
-}
-
-fn rows_behind(alloc: Global, array: &ArrayRef) -> Result<ArrayRef, Fail> {
-    let mask = Bitmap::from_bools(alloc, &[false, true, true])?;
-    rows_kept(alloc, array, &mask)
-}
-
-#[test]
-fn numbers_by_bits(rt: HostRuntime) -> Result<(), Fail> {
-    let array = column(rt.alloc(), &[Some(7u32), None, Some(9)], 0)?;
-    let kept = last_two(rt.alloc(), array.into_ref())?;
-    assert!(rt; is_numbers(kept, &[None, Some(9u32)])?);
-    Ok(())
-}
-
-#[test]
-fn truth_values_by_bits(rt: HostRuntime) -> Result<(), Fail> {
-    let array = truths(rt.alloc(), &[true, false, true], &[true, true, false])?;
-    let kept = last_two(rt.alloc(), array.into_ref())?;
-    assert!(rt; is_truths(kept, &[Some(false), None])?);
-    Ok(())
-}
-
-#[test]
-fn nulls_by_bits(rt: HostRuntime) -> Result<(), Fail> {
-    let kept = last_two(rt.alloc(), NullArray::try_new(3)?.into_ref())?;
-    assert!(rt; kept.into_null().ok().ok_or("another type")?.len() == 2);
-    Ok(())
 }
 
 // 112 bits at bit offset 3, true at even places.

@@ -1,18 +1,13 @@
 //! Rows of several columns, by picks and by runs.
 
-use checks_columns::fixtures::{
-    buffer, has_bytes, has_bytes_at, has_numbers, has_text, is_bytes, is_numbers, is_truths,
-    one_buffer, truths,
-};
+use checks_columns::fixtures::{buffer, has_bytes, has_bytes_at, has_numbers, one_buffer};
 use polars_compute::gather::{collect_rows, picks_in_bounds};
 use sel_arrow::array::Array;
 use sel_arrow::array_ref::ArrayRef;
 use sel_arrow::binary::BinaryArray;
 use sel_arrow::binview::BinaryViewArray;
 use sel_arrow::column::Column;
-use sel_arrow::null::NullArray;
 use sel_arrow::primitive::{ArrowPrimitive, PrimitiveArray};
-use sel_arrow::utf8view::Utf8ViewArray;
 use sel_arrow::view::View;
 use sel_bits::bitmap::Bitmap;
 use sel_bits::faults::PolarsResult;
@@ -22,8 +17,6 @@ use sel_runs::run::{Run, push_run};
 use sel_runs::sources::{are_alike, are_well_formed, picked_rows, runs_fit};
 use std::alloc::Global;
 use std::test::Fail;
-
-const PICKS: [Option<(u32, u32)>; 3] = [Some((1, 0)), None, Some((0, 1))];
 
 // The rows at these picks, where the sources are of one type and have them.
 fn collected<'a>(
@@ -59,49 +52,10 @@ fn numbers<T: ArrowPrimitive>(alloc: Global, values: &[T]) -> Result<PrimitiveAr
     Ok(PrimitiveArray::try_new(buffer(alloc, values)?, None)?)
 }
 
-#[test]
-fn rows_of_two_columns_of_numbers(rt: HostRuntime) -> Result<(), Fail> {
-    let alloc = rt.alloc();
-    let first = numbers(alloc, &[1i64, 2])?;
-    let second = numbers(alloc, &[3i64])?;
-    let rows = collected_of_two(alloc, first.into_ref(), second.into_ref(), &PICKS)?;
-    assert!(rt; is_numbers(rows, &[Some(3i64), None, Some(2)])?);
-    Ok(())
-}
-
-#[test]
-fn rows_of_two_columns_of_nulls(rt: HostRuntime) -> Result<(), Fail> {
-    let first = NullArray::try_new(2)?.into_ref();
-    let second = NullArray::try_new(1)?.into_ref();
-    let rows = collected_of_two(rt.alloc(), first, second, &PICKS)?;
-    assert!(rt; rows.into_null().ok().ok_or("another type")?.len() == 3);
-    Ok(())
-}
-
-#[test]
-fn rows_of_two_columns_of_truth_values(rt: HostRuntime) -> Result<(), Fail> {
-    let alloc = rt.alloc();
-    let first = truths(alloc, &[false, true], &[true, false])?;
-    let second = truths(alloc, &[true], &[true])?;
-    let rows = collected_of_two(alloc, first.into_ref(), second.into_ref(), &PICKS)?;
-    assert!(rt; is_truths(rows, &[Some(true), None, None])?);
-    Ok(())
-}
-
 // Rows of `abc`, cut at these offsets.
 fn pieces(alloc: Global, offsets: &[i64]) -> Result<BinaryArray<i64>, Fail> {
     let offsets = OffsetsBuffer::try_from(Vec::from_slice(alloc, offsets)?)?;
     Ok(BinaryArray::try_new(offsets, buffer(alloc, b"abc")?, None)?)
-}
-
-#[test]
-fn rows_of_two_columns_of_bytes(rt: HostRuntime) -> Result<(), Fail> {
-    let alloc = rt.alloc();
-    let first = pieces(alloc, &[0, 0, 1])?;
-    let second = pieces(alloc, &[1, 3])?;
-    let rows = collected_of_two(alloc, first.into_ref(), second.into_ref(), &PICKS)?;
-    assert!(rt; is_bytes(rows, &[Some(b"bc"), None, Some(b"a")])?);
-    Ok(())
 }
 
 // The rows `a` and `c`, and between them a null over a byte that is not its own.
@@ -165,38 +119,6 @@ fn rows_of_two_columns_of_views(rt: HostRuntime) -> Result<(), Fail> {
     let rows = collected_of_two(alloc, first.into_ref(), second.into_ref(), &LONG_PICKS)?;
     let rows = rows.into_binview().ok().ok_or("another type")?;
     assert!(rt; are_long_rows(alloc, &rows) == Ok(true));
-    Ok(())
-}
-
-fn texts(alloc: Global, long: &[u8]) -> Result<Utf8ViewArray, Fail> {
-    let BinaryViewArray {
-        views,
-        buffers,
-        validity,
-        ..
-    } = views(alloc, long)?;
-    Ok(Utf8ViewArray::try_new(views, buffers, validity)?)
-}
-
-// The same of texts.
-fn are_long_texts(alloc: Global, rows: &Utf8ViewArray) -> PolarsResult<bool> {
-    Ok(
-        rows.len() == 3
-            && rows.data_buffers().len() == 2
-            && has_text(alloc, rows, 0, Some("nopqrstuvwxyz"))?
-            && has_text(alloc, rows, 1, None)?
-            && has_text(alloc, rows, 2, Some("ab"))?,
-    )
-}
-
-#[test]
-fn rows_of_two_columns_of_texts(rt: HostRuntime) -> Result<(), Fail> {
-    let alloc = rt.alloc();
-    let first = texts(alloc, b"abcdefghijklm")?;
-    let second = texts(alloc, b"nopqrstuvwxyz")?;
-    let rows = collected_of_two(alloc, first.into_ref(), second.into_ref(), &LONG_PICKS)?;
-    let rows = rows.into_utf8view().ok().ok_or("another type")?;
-    assert!(rt; are_long_texts(alloc, &rows) == Ok(true));
     Ok(())
 }
 

@@ -1,22 +1,14 @@
 //! Takes of bits, of truth values and of columns of any type at indices, null where an index is.
 
-use checks_columns::fixtures::{
-    buffer, column, has_bits, has_text, has_truths, is_bytes, is_numbers, numbers, truths,
-};
+use checks_columns::fixtures::{buffer, column, has_bits, has_truths, is_numbers, numbers, truths};
 use polars_compute::gather::bitmap::{take_bitmap_nulls_unchecked, take_bitmap_unchecked};
 use polars_compute::gather::{boolean, idx_slice_in_bounds, indices_in_bounds, take_unchecked};
 use sel_arrow::array::Array;
 use sel_arrow::array_ref::ArrayRef;
-use sel_arrow::binary::BinaryArray;
 use sel_arrow::boolean::BooleanArray;
-use sel_arrow::null::NullArray;
 use sel_arrow::primitive::{IdxArr, PrimitiveArray};
-use sel_arrow::utf8view::Utf8ViewArray;
-use sel_arrow::view::View;
 use sel_bits::bitmap::Bitmap;
-use sel_bits::buffer::Buffer;
 use sel_bits::faults::PolarsResult;
-use sel_bits::offsets::OffsetsBuffer;
 use std::alloc::Global;
 use std::test::Fail;
 
@@ -93,81 +85,6 @@ fn truth_values_at_indices(rt: HostRuntime) -> Result<(), Fail> {
     let array = truths(rt.alloc(), &[true, true, false], &[true, false, true])?;
     let taken = truths_taken(rt.alloc(), &array, &[Some(2), None, Some(1), Some(0)])?;
     assert!(rt; has_truths(&taken, &[Some(false), None, None, Some(true)]));
-    Ok(())
-}
-
-// The rows of any column at these indices, where they are in bounds.
-fn rows_taken(alloc: Global, column: &ArrayRef, places: &[Option<u32>]) -> Result<ArrayRef, Fail> {
-    let places = indices(alloc, places)?;
-    if !indices_in_bounds(&places, column.len()) {
-        return Err(Fail::from("out of bounds"));
-    }
-    Ok(take_unchecked(alloc, column, &places)?)
-}
-
-// The same of a column that is needed no more.
-//
-// Columns of every kind are dropped by a call: a drop at the end of a body is proved kind by kind.
-fn taken(alloc: Global, column: ArrayRef, places: &[Option<u32>]) -> Result<ArrayRef, Fail> {
-    let rows = rows_taken(alloc, &column, places);
-    drop(column);
-    rows
-}
-
-#[test]
-fn numbers_of_any_column_at_indices(rt: HostRuntime) -> Result<(), Fail> {
-    let alloc = rt.alloc();
-    let column = numbers(alloc, &[5i64, 6, 7], &[true, false, true])?;
-    let rows = taken(alloc, column.into_ref(), &[Some(2), None, Some(1)])?;
-    assert!(rt; is_numbers(rows, &[Some(7i64), None, None])?);
-    Ok(())
-}
-
-#[test]
-fn nulls_of_any_column_at_indices(rt: HostRuntime) -> Result<(), Fail> {
-    let alloc = rt.alloc();
-    let nulls = NullArray::try_new(2)?;
-    let rows = taken(alloc, nulls.into_ref(), &[Some(1), None, Some(0)])?;
-    assert!(rt; rows.into_null().ok().ok_or("another type")?.len() == 3);
-    Ok(())
-}
-
-// A column of these two short texts.
-fn two_texts(alloc: Global) -> Result<Utf8ViewArray, Fail> {
-    let views = [
-        View::new_from_bytes(b"a", 0, 0),
-        View::new_from_bytes(b"bc", 0, 0),
-    ];
-    let buffers = Buffer::from_vec(Vec::new(alloc))?;
-    Ok(Utf8ViewArray::try_new(buffer(alloc, &views)?, buffers, None)?)
-}
-
-// Whether the rows are the longer text and a null.
-fn are_taken_texts(alloc: Global, rows: &Utf8ViewArray) -> PolarsResult<bool> {
-    Ok(rows.len() == 2 && has_text(alloc, rows, 0, Some("bc"))? && has_text(alloc, rows, 1, None)?)
-}
-
-#[test]
-fn texts_of_any_column_at_indices(rt: HostRuntime) -> Result<(), Fail> {
-    let alloc = rt.alloc();
-    let rows = taken(alloc, two_texts(alloc)?.into_ref(), &[Some(1), None])?;
-    let rows = rows.into_utf8view().ok().ok_or("another type")?;
-    assert!(rt; are_taken_texts(alloc, &rows) == Ok(true));
-    Ok(())
-}
-
-// A column of bytes between these offsets, without a validity.
-fn pieces(alloc: Global, offsets: &[i64], bytes: &[u8]) -> Result<BinaryArray<i64>, Fail> {
-    let offsets = OffsetsBuffer::try_from(Vec::from_slice(alloc, offsets)?)?;
-    Ok(BinaryArray::try_new(offsets, buffer(alloc, bytes)?, None)?)
-}
-
-#[test]
-fn bytes_of_any_column_at_indices(rt: HostRuntime) -> Result<(), Fail> {
-    let alloc = rt.alloc();
-    let column = pieces(alloc, &[0, 1, 3], b"abc")?;
-    let rows = taken(alloc, column.into_ref(), &[Some(1), None, Some(0)])?;
-    assert!(rt; is_bytes(rows, &[Some(b"bc"), None, Some(b"a")])?);
     Ok(())
 }
 

@@ -11,20 +11,6 @@ use std::alloc::Global;
 use std::test::Fail;
 
 #[test]
-fn numbers_of_two_columns(rt: HostRuntime) -> Result<(), Fail> {
-    let alloc = rt.alloc();
-    let mask = Bitmap::from_bools(alloc, &[true, false, true])?;
-    let if_true = column(alloc, &[Some(1i64), None, Some(3)], 5)?;
-    let if_false = column(alloc, &[Some(7i64), Some(8), None], 5)?;
-    if !is_as_long(&if_true, &mask) || !is_as_long(&if_false, &mask) {
-        return Err(Fail::from("another length"));
-    }
-    let chosen = PrimitiveArray::if_then_else(alloc, &mask, &if_true, &if_false)?;
-    assert!(rt; has_numbers(&chosen, &[Some(1), Some(8), Some(3)]));
-    Ok(())
-}
-
-#[test]
 fn numbers_of_a_column_and_a_scalar(rt: HostRuntime) -> Result<(), Fail> {
     let alloc = rt.alloc();
     let mask = Bitmap::from_bools(alloc, &[true, false, false])?;
@@ -78,20 +64,6 @@ fn numbers_of_many_words(rt: HostRuntime) -> Result<(), Fail> {
     }
     let chosen = PrimitiveArray::if_then_else_broadcast_false(alloc, &mask, &numbers, &1000)?;
     assert!(rt; has_numbers(&chosen, &expected));
-    Ok(())
-}
-
-#[test]
-fn truths_of_two_columns(rt: HostRuntime) -> Result<(), Fail> {
-    let alloc = rt.alloc();
-    let mask = Bitmap::from_bools(alloc, &[true, false, false])?;
-    let if_true = truths(alloc, &[true, true, true], &[true, true, true])?;
-    let if_false = truths(alloc, &[false, false, true], &[true, true, false])?;
-    if !is_as_long(&if_true, &mask) || !is_as_long(&if_false, &mask) {
-        return Err(Fail::from("another length"));
-    }
-    let chosen = BooleanArray::if_then_else(alloc, &mask, &if_true, &if_false)?;
-    assert!(rt; has_truths(&chosen, &[Some(true), Some(false), None]));
     Ok(())
 }
 

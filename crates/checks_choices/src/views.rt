@@ -134,20 +134,6 @@ fn texts_of_a_column_and_a_scalar(rt: HostRuntime) -> Result<(), Fail> {
 }
 
 #[test]
-fn texts_of_two_columns(rt: HostRuntime) -> Result<(), Fail> {
-    let alloc = rt.alloc();
-    let if_true = two_texts(alloc, b"a", b"b")?;
-    let if_false = two_texts(alloc, b"c", b"d")?;
-    let mask = Bitmap::from_bools(alloc, &[false, true])?;
-    if !is_as_long(&if_true, &mask) || !is_as_long(&if_false, &mask) {
-        return Err(Fail::from("another length"));
-    }
-    let chosen = Utf8ViewArray::if_then_else(alloc, &mask, &if_true, &if_false)?;
-    assert!(rt; are_texts(alloc, &chosen, "c", "b")?);
-    Ok(())
-}
-
-#[test]
 fn texts_of_two_scalars(rt: HostRuntime) -> Result<(), Fail> {
     let alloc = rt.alloc();
     let mask = Bitmap::from_bools(alloc, &[false, true])?;

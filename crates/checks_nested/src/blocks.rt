@@ -1,6 +1,6 @@
 //! Lists of one length.
 
-use crate::shared::{has_too_many_rows, kept, nulls_in, taken};
+use crate::shared::{has_too_many_rows, nulls_in, taken};
 use checks_columns::fixtures::{are_numbers, is_valid, nulls, number_at, numbers, validity};
 use sel_arrow::array::Array;
 use sel_arrow::array_ref::ArrayRef;
@@ -59,59 +59,6 @@ pub fn pair_and_null(alloc: Global) -> Result<ArrayRef, Fail> {
     let bits = validity(alloc, &[true, false])?;
     let child = numbers(alloc, &[1i64, 2, 3, 4], &[true, true, true, true])?;
     blocks(alloc, 2, 2, child.into_ref(), bits)
-}
-
-/// Whether these rows at their own places are the same.
-fn takes_pair_and_null(alloc: Global) -> Result<bool, Fail> {
-    let rows = taken(alloc, pair_and_null(alloc)?, &[Some(0), Some(1)])?;
-    let column = rows.as_column();
-    let are_same = are_blocks(column, 2, 2)
-        && is_pair_at(column, 0, 0, &[Some(1), Some(2)])
-        && is_null_at(column, 1)
-        && rows.null_count() == 1;
-    drop(rows);
-    Ok(are_same)
-}
-
-/// Two lists of two nulls each.
-pub fn pairs_of_nulls(alloc: Global) -> Result<ArrayRef, Fail> {
-    let child = numbers(alloc, &[5i64, 6, 7, 8], &[false, false, false, false])?;
-    blocks(alloc, 2, 2, child.into_ref(), None)
-}
-
-/// Whether these rows at their own places are the same.
-fn takes_pairs_of_nulls(alloc: Global) -> Result<bool, Fail> {
-    let rows = taken(alloc, pairs_of_nulls(alloc)?, &[Some(0), Some(1)])?;
-    let column = rows.as_column();
-    let are_same = are_blocks(column, 2, 2)
-        && is_pair_at(column, 0, 0, &[None, None])
-        && is_pair_at(column, 1, 2, &[None, None])
-        && rows.null_count() == 0;
-    drop(rows);
-    Ok(are_same)
-}
-
-/// Three lists of no entries.
-pub fn empty_blocks(alloc: Global) -> Result<ArrayRef, Fail> {
-    let empty = nulls(0)?;
-    blocks(alloc, 0, 3, empty, None)
-}
-
-/// Whether lists of no entries at places are two such lists.
-fn takes_empty_blocks(alloc: Global) -> Result<bool, Fail> {
-    let rows = taken(alloc, empty_blocks(alloc)?, &[Some(2), Some(0)])?;
-    let column = rows.as_column();
-    let are_empty = are_blocks(column, 0, 2) && !is_null_at(column, 0) && !is_null_at(column, 1);
-    drop(rows);
-    Ok(are_empty)
-}
-
-#[test]
-fn lists_of_one_length_at_indices(rt: HostRuntime) -> Result<(), Fail> {
-    assert!(rt; takes_pair_and_null(rt.alloc())?);
-    assert!(rt; takes_pairs_of_nulls(rt.alloc())?);
-    assert!(rt; takes_empty_blocks(rt.alloc())?);
-    Ok(())
 }
 
 /// One list of so many nulls.
@@ -248,21 +195,6 @@ fn whole_columns_are_taken(rt: HostRuntime) -> Result<(), Fail> {
     Ok(())
 }
 
-/// Whether this is the one list of 1 and 2.
-fn is_first_pair(rows: ArrayRef) -> bool {
-    let column = rows.as_column();
-    let is_first = are_blocks(column, 2, 1) && is_pair_at(column, 0, 0, &[Some(1), Some(2)]);
-    drop(rows);
-    is_first
-}
-
-#[test]
-fn a_filter_of_lists_of_one_length_is_a_take(rt: HostRuntime) -> Result<(), Fail> {
-    assert!(rt; is_first_pair(kept(rt.alloc(), pair_and_null(rt.alloc())?, &[true, false])?));
-    assert!(rt; is_first_pair(taken(rt.alloc(), pair_and_null(rt.alloc())?, &[Some(0)])?));
-    Ok(())
-}
-
 /// The rows `[1, 2]`, `[3, 4]` and null, which hides `5` and `6`.
 pub fn number_blocks(alloc: Global) -> Result<FixedSizeListArray, Fail> {
     let bits = validity(alloc, &[true, true, false])?;
@@ -287,11 +219,4 @@ pub fn are_pair_and_null(rows: ArrayRef) -> bool {
         && is_null_at(column, 1);
     drop(rows);
     are_these
-}
-
-#[test]
-fn lists_of_one_length_under_a_mask_with_a_gap(rt: HostRuntime) -> Result<(), Fail> {
-    let rows = kept(rt.alloc(), three_blocks(rt.alloc())?, &[true, false, true])?;
-    assert!(rt; are_pair_and_null(rows));
-    Ok(())
 }

@@ -8,8 +8,6 @@ mod blocks;
 #[cfg(test)]
 mod kinds;
 #[cfg(test)]
-mod laws;
-#[cfg(test)]
 mod lists;
 #[cfg(test)]
 mod shared;

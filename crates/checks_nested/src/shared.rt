@@ -3,13 +3,11 @@
 //! Columns of every kind are dropped by a call: a drop at the end of a body is proved kind by kind.
 
 use checks_columns::fixtures::column;
-use polars_compute::filter::filter_with_bitmap;
 use polars_compute::gather::{indices_in_bounds, take_unchecked};
 use sel_arrow::array::Array;
 use sel_arrow::array_ref::ArrayRef;
 use sel_arrow::column::Column;
 use sel_arrow::primitive::IdxArr;
-use sel_bits::bitmap::Bitmap;
 use sel_bits::faults::{Limit, PolarsError};
 use std::alloc::Global;
 use std::test::Fail;
@@ -57,22 +55,6 @@ pub fn has_too_many_rows(
     let refusal = refusal_of(alloc, &column, places);
     drop(column);
     Ok(refusal? == Some(PolarsError::SizeLimit(Limit::Rows)))
-}
-
-/// The rows of any column where the bit is true, where there is a bit for each.
-fn rows_kept(alloc: Global, column: &ArrayRef, bits: &[bool]) -> Result<ArrayRef, Fail> {
-    let mask = Bitmap::from_bools(alloc, bits)?;
-    if column.len() != mask.len() {
-        return Err(Fail::from("another length"));
-    }
-    Ok(filter_with_bitmap(alloc, column, &mask)?)
-}
-
-/// The same of a column that is needed no more.
-pub fn kept(alloc: Global, column: ArrayRef, bits: &[bool]) -> Result<ArrayRef, Fail> {
-    let kept = rows_kept(alloc, &column, bits);
-    drop(column);
-    kept
 }
 
 /// How many rows a column of nulls has.

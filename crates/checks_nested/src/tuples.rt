@@ -1,6 +1,5 @@
 //! Tuples.
 
-use crate::shared::{kept, taken};
 use checks_columns::fixtures::{
     are_numbers, is_valid, number_at, numbers, truth_at, truths, validity,
 };
@@ -11,37 +10,6 @@ use sel_arrow::structure::StructArray;
 use sel_bits::faults::{MakeError, Malformed};
 use std::alloc::Global;
 use std::test::Fail;
-
-/// Three tuples of no fields.
-fn empty_tuples(alloc: Global) -> Result<ArrayRef, Fail> {
-    Ok(StructArray::try_new(alloc, 3, Vec::new(alloc), None)?.into_ref())
-}
-
-/// Whether these are the empty tuple and a null.
-fn are_taken_empty(column: &Column) -> bool {
-    match column {
-        Column::Struct {
-            len,
-            fields,
-            validity,
-        } => *len == 2 && fields.is_empty() && is_valid(validity, 0) && !is_valid(validity, 1),
-        _ => false,
-    }
-}
-
-/// Whether empty tuples at places are these.
-fn takes_empty_tuples(alloc: Global) -> Result<bool, Fail> {
-    let rows = taken(alloc, empty_tuples(alloc)?, &[Some(2), None])?;
-    let are_taken = are_taken_empty(rows.as_column());
-    drop(rows);
-    Ok(are_taken)
-}
-
-#[test]
-fn empty_tuples_at_indices(rt: HostRuntime) -> Result<(), Fail> {
-    assert!(rt; takes_empty_tuples(rt.alloc())?);
-    Ok(())
-}
 
 /// Two tuples of these fields.
 fn pairs(alloc: Global, first: ArrayRef, second: ArrayRef) -> Result<ArrayRef, Fail> {
@@ -54,39 +22,6 @@ pub fn two_pairs(alloc: Global) -> Result<ArrayRef, Fail> {
     let first = numbers(alloc, &[1i64, 2], &[true, true])?;
     let second = truths(alloc, &[true, true], &[true, false])?;
     pairs(alloc, first.into_ref(), second.into_ref())
-}
-
-/// Whether these are `(2, null)` and a null.
-fn are_taken_pairs(column: &Column) -> bool {
-    match column {
-        Column::Struct {
-            len,
-            fields,
-            validity,
-        } => {
-            *len == 2
-                && is_valid(validity, 0)
-                && !is_valid(validity, 1)
-                && fields.len() == 2
-                && number_at(&fields[0], 0) == Some(Some(2))
-                && truth_at(&fields[1], 0) == Some(None)
-        }
-        _ => false,
-    }
-}
-
-/// Whether pairs at places are these.
-fn takes_pairs(alloc: Global) -> Result<bool, Fail> {
-    let rows = taken(alloc, two_pairs(alloc)?, &[Some(1), None])?;
-    let are_taken = are_taken_pairs(rows.as_column());
-    drop(rows);
-    Ok(are_taken)
-}
-
-#[test]
-fn pairs_at_indices(rt: HostRuntime) -> Result<(), Fail> {
-    assert!(rt; takes_pairs(rt.alloc())?);
-    Ok(())
 }
 
 /// The rows `(1, true)`, `(2, null)` and null, which hides `3` and `false`.
@@ -153,23 +88,6 @@ pub fn is_tuple_at(column: &Column, at: usize, row: (Option<i64>, Option<bool>))
         }
         _ => false,
     }
-}
-
-/// Whether these are `(1, true)` and null.
-fn are_pair_and_null(rows: ArrayRef) -> bool {
-    let column = rows.as_column();
-    let are_these = are_tuples(column, 2)
-        && is_tuple_at(column, 0, (Some(1), Some(true)))
-        && is_null_tuple(column, 1);
-    drop(rows);
-    are_these
-}
-
-#[test]
-fn tuples_under_a_mask_with_a_gap(rt: HostRuntime) -> Result<(), Fail> {
-    let rows = kept(rt.alloc(), three_tuples(rt.alloc())?, &[true, false, true])?;
-    assert!(rt; are_pair_and_null(rows));
-    Ok(())
 }
 
 /// Why tuples over a field of another length are refused.
