@@ -1,7 +1,7 @@
 //! Columns without children.
 
 use crate::shared::flattened;
-use checks_columns::fixtures::{is_numbers, numbers};
+use checks_columns::fixtures::{is_numbers, is_truths, number_column, numbers, truths};
 use sel_arrow::array::Array;
 use sel_arrow::array_ref::ArrayRef;
 use sel_arrow::null::NullArray;
@@ -41,6 +41,84 @@ fn numbers_side_by_side(rt: HostRuntime) -> Result<(), Fail> {
     let rows = [Some(1), Some(2), Some(9), Some(3), Some(4), Some(9)];
     let arrays = two(rt.alloc(), &[1, 2, 3, 4], &[9])?;
     assert!(rt; are_flat(rt.alloc(), arrays, &[2, 1], 2, &rows)?);
+    Ok(())
+}
+
+#[test]
+fn long_parts_of_numbers_side_by_side(rt: HostRuntime) -> Result<(), Fail> {
+    let alloc = rt.alloc();
+    let first = number_column(alloc, &[Some(1); 16])?;
+    let second = number_column(
+        alloc,
+        &[
+            Some(2),
+            None,
+            Some(3),
+            Some(4),
+            Some(5),
+            Some(6),
+            Some(7),
+            Some(8),
+        ],
+    )?;
+    let arrays = vec![in alloc; first, second]?;
+    let rows = [
+        Some(1),
+        Some(1),
+        Some(1),
+        Some(1),
+        Some(1),
+        Some(1),
+        Some(1),
+        Some(1),
+        Some(2),
+        None,
+        Some(3),
+        Some(4),
+        Some(5),
+        Some(6),
+        Some(7),
+        Some(8),
+        Some(1),
+        Some(1),
+        Some(1),
+        Some(1),
+        Some(1),
+        Some(1),
+        Some(1),
+        Some(1),
+        Some(2),
+        None,
+        Some(3),
+        Some(4),
+        Some(5),
+        Some(6),
+        Some(7),
+        Some(8),
+    ];
+    assert!(rt; are_flat(alloc, arrays, &[8, 8], 2, &rows)?);
+    Ok(())
+}
+
+#[test]
+fn truth_values_side_by_side(rt: HostRuntime) -> Result<(), Fail> {
+    let alloc = rt.alloc();
+    let first = truths(alloc, &[true, false, true], &[true, true, false])?;
+    let second = truths(alloc, &[false, true], &[true, true])?;
+    let arrays = vec![in alloc; first.into_ref(), second.into_ref()]?;
+    let flat = flattened(alloc, arrays, &[1, 2], 3)??;
+    let rows = [
+        Some(true),
+        Some(false),
+        Some(true),
+        Some(false),
+        Some(false),
+        Some(true),
+        None,
+        Some(false),
+        Some(true),
+    ];
+    assert!(rt; is_truths(flat, &rows)?);
     Ok(())
 }
 
