@@ -1,6 +1,8 @@
 //! Rows of several columns, by picks and by runs.
 
-use checks_columns::fixtures::{buffer, has_bytes, has_bytes_at, has_numbers, one_buffer};
+use checks_columns::fixtures::{
+    buffer, column, has_bytes, has_bytes_at, has_numbers, is_numbers, one_buffer,
+};
 use polars_compute::gather::{collect_rows, picks_in_bounds};
 use sel_arrow::array::Array;
 use sel_arrow::array_ref::ArrayRef;
@@ -50,6 +52,64 @@ fn collected_of_two(
 
 fn numbers<T: ArrowPrimitive>(alloc: Global, values: &[T]) -> Result<PrimitiveArray<T>, Fail> {
     Ok(PrimitiveArray::try_new(buffer(alloc, values)?, None)?)
+}
+
+// 58 picks, more than a word of bits takes at once: row 2 of the first column, nulls, and row 1 of the second.
+fn many_picks(alloc: Global) -> PolarsResult<Vec<Option<(u32, u32)>>> {
+    let mut picks = Vec::from_slice(alloc, &[Some((0, 2))])?;
+    for _ in 0..56 {
+        picks.push(None)?;
+    }
+    picks.push(Some((1, 1)))?;
+    Ok(picks)
+}
+
+// Whether the rows are a first one, 56 nulls and a last one.
+fn are_many<T: ArrowPrimitive + PartialEq>(
+    alloc: Global,
+    rows: ArrayRef,
+    first: T,
+    last: T,
+) -> Result<bool, Fail> {
+    let mut wanted = Vec::from_slice(alloc, &[Some(first)])?;
+    for _ in 0..56 {
+        wanted.push(None)?;
+    }
+    wanted.push(Some(last))?;
+    is_numbers(rows, &wanted)
+}
+
+#[test]
+fn rows_of_numbers_past_a_word_of_bits(rt: HostRuntime) -> Result<(), Fail> {
+    let alloc = rt.alloc();
+    let picks = many_picks(alloc)?;
+    let first = numbers(alloc, &[1u8, 2, 3])?;
+    let second = numbers(alloc, &[4u8, 5])?;
+    let rows = collected_of_two(alloc, first.into_ref(), second.into_ref(), &picks)?;
+    assert!(rt; are_many(alloc, rows, 3u8, 5)?);
+    Ok(())
+}
+
+#[test]
+fn rows_of_numbers_without_a_null(rt: HostRuntime) -> Result<(), Fail> {
+    let alloc = rt.alloc();
+    let first = numbers(alloc, &[1i128, 2, 3])?;
+    let second = numbers(alloc, &[4i128, 5])?;
+    let picks = [Some((0, 2)), Some((1, 0)), Some((0, 0)), Some((0, 2))];
+    let rows = collected_of_two(alloc, first.into_ref(), second.into_ref(), &picks)?;
+    assert!(rt; is_numbers(rows, &[Some(3i128), Some(4), Some(1), Some(3)])?);
+    Ok(())
+}
+
+#[test]
+fn rows_of_numbers_with_a_null_in_one_column(rt: HostRuntime) -> Result<(), Fail> {
+    let alloc = rt.alloc();
+    let first = numbers(alloc, &[1u32, 2, 3])?;
+    let second = column(alloc, &[Some(4u32), None], 9)?;
+    let picks = [Some((1, 1)), Some((0, 1)), Some((1, 0))];
+    let rows = collected_of_two(alloc, first.into_ref(), second.into_ref(), &picks)?;
+    assert!(rt; is_numbers(rows, &[None, Some(2u32), Some(4)])?);
+    Ok(())
 }
 
 // Rows of `abc`, cut at these offsets.

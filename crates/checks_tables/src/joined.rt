@@ -68,6 +68,22 @@ fn wrong(
 #[test]
 fn columns_side_by_side(rt: HostRuntime) -> Result<(), Fail> {
     let lines = [
+        (
+            "i64",
+            "[1,1,1,1,1,1,1,1,1,1,1,1,1,1,1,1]",
+            "[2,null,3,4,5,6,7,8]",
+            [8, 8],
+            2,
+            "[1,1,1,1,1,1,1,1,2,null,3,4,5,6,7,8,1,1,1,1,1,1,1,1,2,null,3,4,5,6,7,8]",
+        ),
+        (
+            "bool",
+            "[true,false,null]",
+            "[false,true]",
+            [1, 2],
+            3,
+            "[true,false,true,false,false,true,null,false,true]",
+        ),
         ("i64", "[1,2,3,4]", "[9]", [2, 1], 2, "[1,2,9,3,4,9]"),
         ("i64", "[]", "[7,8]", [3, 2], 0, "[]"),
         ("i64", "[1,null]", "[null,4]", [1, 1], 2, "[1,null,null,4]"),

@@ -132,7 +132,7 @@ flatten_more xss ws r =
 -- ---- how long rows are
 
 -- the row's part ends within a list that has so many for each row
-row_inside : (r h n w : ℕ) → r < h → n ≡ w * h → r * w + w ≤ n
+pub row_inside : (r h n w : ℕ) → r < h → n ≡ w * h → r * w + w ≤ n
 row_inside r h n w inside long =
     let more : (r + 1) * w ≤ h * w = mul-le (r + 1) w h w (omega (arith, inside)) (omega arith) in
     let turned : w * h ≡ h * w = omega arith in
@@ -140,7 +140,7 @@ row_inside r h n w inside long =
     omega (arith, more, one, long, turned)
 
 -- a list that has not the width's length alone has so many for each row
-many_of : (h n w : ℕ) → ((n ≡ w * h) ⊎ (n ≡ w)) → (n == w) ≡ false → n ≡ w * h
+pub many_of : (h n w : ℕ) → ((n ≡ w * h) ⊎ (n ≡ w)) → (n == w) ≡ false → n ≡ w * h
 many_of h n w (inl e) other = e
 many_of h n w (inr e) other = absurd (true_false (sym (eq-eqb n w e) ∙ other))
   where

@@ -1,1 +1,2 @@
 pub mod Flattening
+pub mod Weaving

@@ -2,20 +2,21 @@
 
 ghost use Rattle.std.specs.Prelude.{◌≡◌, ◌≤◌, ◌<◌, ◌+◌, ◌*◌, ◌++◌, ◌↔◌, Some, All, length, map, take, drop, IsTrue, IfSome, IfNone, IfOk, IfErr, OnOk};
 ghost use Rattle.sel_arrow.specs.Rows.{rows, type_of};
-ghost use Rattle.sel_arrow.specs.Value.{Null};
 ghost use Rattle.sel_runs.specs.Need.{IsRefusal, PassesNone};
-ghost use Rattle.sel_runs.specs.Picks.{pick, PickFits};
-ghost use Rattle.sel_runs.specs.Runs.{expand};
 ghost use Rattle.sel_runs.specs.Sources.{first_type};
-ghost use Rattle.sel_flatten.specs.Flatten.{array_columns, array_rows, flatten, flat_row, row_part, row_width, part_fits, parts_fit, past_flattened};
+ghost use Rattle.sel_flatten.specs.Flatten.{array_columns, array_rows, flatten, row_width, part_fits, parts_fit, past_flattened};
+ghost use Rattle.sel_flatten.specs.Lanes.{lane_of as lane_for, lanes_of};
 
+use crate::woven::{Lane, Woven};
 use sel_arrow::array::Array;
 use sel_arrow::array_ref::ArrayRef;
 use sel_arrow::column::Column;
 use sel_bits::faults::{Limit, PolarsError, PolarsResult};
-use sel_runs::collect::collect_runs;
-use sel_runs::run::{Run, push_run};
+use sel_runs::planned::collect_plan;
 use std::alloc::Global;
+
+// From so many rows on, parts are copied as runs.
+const LONG_PART: usize = 8;
 
 /// The rows of all columns side by side: row h of the answer, which is as wide as all `widths` together, has column by
 /// column its rows from `h * width` up to `(h + 1) * width`, or its only `width` rows where it has no more; the answer is
@@ -160,9 +161,20 @@ fn collect_flat(
         (past_flattened height (first_type (array_columns arrays.now))
         (array_columns arrays.now) (flatten (array_rows arrays.now) widths.now height))) }
 {
-    let runs = runs_of_parts(alloc, arrays, widths, height)?;
+    let lanes = lanes_of_parts(alloc, arrays, widths)?;
+    let woven = Woven {
+        lanes: lanes.as_slice(),
+        source: 0,
+        at: 0,
+        part: 0,
+        lane: 0,
+        row: 0,
+        below: (height - 1) as u32,
+        left: len as u32,
+    };
     let sources = columns_of(alloc, arrays)?;
-    let column = collect_runs(alloc, &sources, &runs, len)?;
+    let in_runs = len / height >= LONG_PART * arrays.len();
+    let column = collect_plan(alloc, &sources, &woven, in_runs)?;
     Ok(ArrayRef { column })
 }
 
@@ -179,67 +191,31 @@ fn columns_of<'a>(alloc: Global, arrays: &'a [ArrayRef]) -> PolarsResult<Vec<&'a
     Ok(found)
 }
 
-// The parts of all columns as runs, row by row. Refuses only for want of memory.
-fn runs_of_parts(
-    alloc: Global,
-    arrays: &[ArrayRef],
-    widths: &[usize],
-    height: usize,
-) -> PolarsResult<Vec<Run>>
-    requires fit { IsTrue (parts_fit height (array_rows arrays.now) widths.now) }
-    requires few { height * row_width widths.now ≤ 4294967295 }
-    ensures rows { IfOk result (λ runs. pick Null (array_rows arrays.now) (expand runs.items) ≡
-        flatten (array_rows arrays.now) widths.now height) }
-    ensures fits { IfOk result (λ runs. All (PickFits (array_rows arrays.now))
-        (expand runs.items)) }
+// What each row of the answer has of each column. Refuses only for want of memory.
+fn lanes_of_parts(alloc: Global, arrays: &[ArrayRef], widths: &[usize]) -> PolarsResult<Vec<Lane>>
+    requires paired { length arrays.now ≡ length widths.now }
+    requires few { row_width widths.now ≤ 4294967295 }
+    ensures lanes { IfOk result (λ lanes. lanes.items ≡
+        lanes_of (array_rows arrays.now) widths.now) }
     ensures refusal { IfErr result (λ fault. fault ≡ PolarsError.OutOfMemory) }
 {
-    let mut runs = Vec::new(alloc);
-    for r in 0..height {
-        push_row(&mut runs, arrays, widths, height, r)?;
-    }
-    Ok(runs)
-}
-
-// Puts the parts of row `r` behind the others. Refuses only for want of memory.
-fn push_row(
-    runs: &mut Vec<Run>,
-    arrays: &[ArrayRef],
-    widths: &[usize],
-    height: usize,
-    r: usize,
-) -> PolarsResult<()>
-    requires fit { IsTrue (parts_fit height (array_rows arrays.now) widths.now) }
-    requires inside { r < height }
-    requires fits { All (PickFits (array_rows arrays.now)) (expand runs.old.items) }
-    requires room { length (expand runs.old.items) + row_width widths.now ≤ 4294967295 }
-    ensures rows { OnOk result (pick Null (array_rows arrays.now) (expand runs.new.items) ≡
-        pick Null (array_rows arrays.now) (expand runs.old.items) ++ flat_row r
-        (array_rows arrays.now) widths.now) }
-    ensures fits { OnOk result (All (PickFits (array_rows arrays.now)) (expand runs.new.items)) }
-    ensures refusal { IfErr result (λ fault. fault ≡ PolarsError.OutOfMemory) }
-{
+    let mut lanes = Vec::with_capacity(alloc, arrays.len())?;
     for (s, array) in arrays.iter().enumerate() {
-        push_run(runs, run_of_part(array, s, widths[s], height, r))?;
+        lanes.push(lane_of(array, widths[s]))?;
     }
-    Ok(())
+    Ok(lanes)
 }
 
-// The part of column `s` in row `r`.
-fn run_of_part(array: &ArrayRef, s: usize, width: usize, height: usize, r: usize) -> Run
-    requires numbered { s ≤ 4294967295 }
-    requires inside { r < height }
-    requires fit { IsTrue (part_fits height (length (rows array.now.column)) width) }
-    ensures source { result.source ≡ Some s }
-    ensures len { result.len ≡ width }
-    ensures part { take result.len (drop result.start (rows array.now.column)) ≡
-        row_part r (rows array.now.column) width }
-    ensures inside { result.start + result.len ≤ length (rows array.now.column) }
+// What each row of the answer has of a column.
+fn lane_of(array: &ArrayRef, width: usize) -> Lane
+    requires { width ≤ 4294967295 }
+    ensures { result ≡ lane_for (length (rows array.now.column)) width }
 {
-    let start = if array.len() == width { 0 } else { r * width };
-    Run {
-        source: Some(s as u32),
-        start: start as u32,
-        len: width as u32,
-    }
+    let width = width as u32;
+    let step = if array.len() == width as usize {
+        0
+    } else {
+        width
+    };
+    Lane { width, step }
 }

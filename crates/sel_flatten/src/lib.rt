@@ -2,3 +2,4 @@
 #![tactic(auto)]
 
 pub mod horizontal_flatten;
+mod woven;

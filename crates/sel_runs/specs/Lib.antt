@@ -4,6 +4,7 @@ pub mod Ends
 pub mod JoinedBytes
 pub mod Need
 pub mod Picks
+pub mod Plans
 pub mod Raised
 pub mod Runs
 pub mod Sources

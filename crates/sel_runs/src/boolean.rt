@@ -1,6 +1,7 @@
 //! Truth values that grow by those of other columns.
 
-ghost use Rattle.std.specs.Prelude.{◌≡◌, ◌≤◌, ◌+◌, ◌++◌, All, length, map, take, drop, IfOk, IfErr, OnOk};
+ghost use Rattle.std.specs.Prelude.{◌≡◌, ◌≤◌, ◌+◌, ◌++◌, Some, All, length, map, take, drop, IfOk, IfErr, OnOk};
+ghost use Rattle.std.specs.Option.{option_copied};
 ghost use Rattle.sel_arrow.specs.Columns.{boolean_rows};
 ghost use Rattle.sel_arrow.specs.Masked.{hidden};
 ghost use Rattle.sel_arrow.specs.Rows.{rows, type_of, IsWellFormed};
@@ -12,10 +13,13 @@ ghost use Rattle.sel_runs.specs.Validity.{part_bits};
 ghost use Rattle.sel_runs.specs.Sources.{picked, rows_of};
 
 use crate::bits::{push_validity, validity_from};
+use crate::gather::{gather_bits, gather_validity};
 use crate::growable::{Growable, extend_runs};
+use crate::plan::Plan;
 use crate::run::Run;
 use sel_arrow::boolean::BooleanArray;
 use sel_arrow::column::Column;
+use sel_bits::bitmap::Bitmap;
 use sel_bits::faults::{PolarsError, PolarsResult};
 use sel_bits::packer::BitPacker;
 use std::alloc::Global;
@@ -132,4 +136,63 @@ pub fn collect_boolean<'a>(
     let validity = validity_from(validity, len)?;
     let values = values.into_bitmap(len)?;
     Ok(Column::Boolean(BooleanArray { values, validity }))
+}
+
+/// The rows that picks name of columns of truth values. Refuses only for want of memory.
+pub fn gather_boolean<'a, P: Plan>(
+    alloc: Global,
+    sources: &'a [&'a Column],
+    plan: &P,
+) -> PolarsResult<Column>
+    requires alike { All (λ c. type_of c.now ≡ of_boolean) sources.now }
+    requires fits { All (PickFits (rows_of sources.now)) (P.picks plan.now) }
+    ensures rows { IfOk result (λ column. rows column ≡
+        pick Null (rows_of sources.now) (P.picks plan.now)) }
+    ensures dtype { IfOk result (λ column. type_of column ≡ of_boolean) }
+    ensures formed { IfOk result (λ column. IsWellFormed column) }
+    ensures refusal { IfErr result (λ fault. fault ≡ PolarsError.OutOfMemory) }
+{
+    let len = plan.len();
+    let found = booleans_of(alloc, sources)?;
+    let arrays = found.as_slice();
+    let truths = values_of(alloc, arrays)?;
+    let values = truths.as_slice();
+    let bits = gather_bits(alloc, plan, values)?;
+    let validities = validities_of(alloc, arrays)?;
+    let maps = validities.as_slice();
+    let validity = gather_validity(alloc, plan, maps)?;
+    let values = bits.into_bitmap(len)?;
+    Ok(Column::Boolean(BooleanArray { values, validity }))
+}
+
+// The truth values of each source. Refuses only for want of memory.
+fn values_of<'a>(
+    alloc: Global,
+    arrays: &[&'a BooleanArray],
+) -> PolarsResult<Vec<Option<&'a Bitmap>>>
+    ensures maps { IfOk result (λ maps. map option_copied maps.items ≡
+        map (λ s. Some s.now.values) arrays.now) }
+    ensures refusal { IfErr result (λ fault. fault ≡ PolarsError.OutOfMemory) }
+{
+    let mut maps = Vec::with_capacity(alloc, arrays.len())?;
+    for array in arrays {
+        maps.push(Some(&array.values))?;
+    }
+    Ok(maps)
+}
+
+// The validity of each source. Refuses only for want of memory.
+fn validities_of<'a>(
+    alloc: Global,
+    arrays: &[&'a BooleanArray],
+) -> PolarsResult<Vec<Option<&'a Bitmap>>>
+    ensures maps { IfOk result (λ maps. map option_copied maps.items ≡
+        map (λ s. s.now.validity) arrays.now) }
+    ensures refusal { IfErr result (λ fault. fault ≡ PolarsError.OutOfMemory) }
+{
+    let mut maps = Vec::with_capacity(alloc, arrays.len())?;
+    for array in arrays {
+        maps.push(array.validity.as_ref())?;
+    }
+    Ok(maps)
 }

@@ -16,8 +16,10 @@ use crate::kinds::{binaries_of, texts_of, views_of};
 use crate::lists::{child_runs, children_of, count_items};
 use crate::nested::{blocks_over, lists_over, tuples_over};
 use crate::null::collect_null;
+use crate::plan::Listed;
+use crate::planned::collect_plan;
 use crate::primitive::collect_primitive;
-use crate::run::{Run, runs_of_picks};
+use crate::run::Run;
 use crate::structs::{fields_at, split_runs};
 use crate::view::collect_views;
 use sel_arrow::array_ref::ArrayRef;
@@ -49,8 +51,7 @@ pub fn collect_rows<'a>(
     ensures refusal { IfErr result (IsRefusal (past_taken (first_type (columns_of sources.now))
         (columns_of sources.now) (pick Null (rows_of sources.now) picks.now))) }
 {
-    let runs = runs_of_picks(alloc, picks)?;
-    let column = collect_runs(alloc, sources, &runs, picks.len())?;
+    let column = collect_plan(alloc, sources, &Listed { picks }, false)?;
     Ok(ArrayRef { column })
 }
 

@@ -2,7 +2,7 @@
 
 ghost use Rattle.std.specs.Prelude.{◌≡◌, ◌≤◌, ◌+◌, ◌++◌, All, length, map, take, drop, IfOk, IfErr, OnOk};
 ghost use Rattle.std.specs.Option.{option_copied};
-ghost use Rattle.sel_arrow.specs.Masked.{Covers, hidden, number_rows};
+ghost use Rattle.sel_arrow.specs.Masked.{hidden, number_rows};
 ghost use Rattle.sel_arrow.specs.Rows.{rows, type_of, IsWellFormed};
 ghost use Rattle.sel_arrow.specs.Value.{Null, Number};
 ghost use Rattle.sel_runs.specs.Picks.{pick, PickFits};
@@ -12,28 +12,21 @@ ghost use Rattle.sel_runs.specs.Sources.{picked, rows_of};
 
 use crate::bits::{push_validity, validity_from};
 use crate::fill::push_values;
+use crate::gather::{Part, gather_validity, gather_values, validities_of};
 use crate::growable::{Growable, extend_runs};
+use crate::plan::Plan;
 use crate::run::Run;
 use sel_arrow::column::Column;
 use sel_arrow::primitive::ArrowPrimitive;
-use sel_bits::bitmap::Bitmap;
 use sel_bits::buffer::Buffer;
 use sel_bits::faults::{PolarsError, PolarsResult};
 use sel_bits::packer::BitPacker;
 use std::alloc::Global;
 
-/// The numbers and the validity of a source.
-#[derive(Drop)]
-struct Numbers<'a, T: ArrowPrimitive> {
-    values: &'a [T],
-    validity: Option<&'a Bitmap>,
-    ghost covers: { Covers (option_copied validity) (length values.now) },
-}
-
 /// The numbers so far, and the validity, one bit a number.
 #[derive(Drop)]
 struct GrowablePrimitive<'a, T: ArrowPrimitive> {
-    sources: &'a [Numbers<'a, T>],
+    sources: &'a [Part<'a, T>],
     values: Vec<T>,
     validity: BitPacker,
     ghost lengths: { length validity ≡ length values.items },
@@ -81,7 +74,7 @@ impl<T: ArrowPrimitive + Drop> Growable for GrowablePrimitive<'_, T> {
 fn push_part<T: ArrowPrimitive>(
     values: &mut Vec<T>,
     validity: &mut BitPacker,
-    from: &Numbers<T>,
+    from: &Part<T>,
     start: usize,
     len: usize,
 ) -> PolarsResult<()>
@@ -100,7 +93,7 @@ fn push_part<T: ArrowPrimitive>(
 fn numbers_of<'a, T: ArrowPrimitive>(
     alloc: Global,
     sources: &'a [&'a Column],
-) -> PolarsResult<Vec<Numbers<'a, T>>>
+) -> PolarsResult<Vec<Part<'a, T>>>
     requires { All (λ c. type_of c.now ≡ T.shape) sources.now }
     ensures rows { IfOk result (λ found. map (λ s. number_rows T.number s.values.now
         (option_copied s.validity)) found.items ≡ rows_of sources.now) }
@@ -111,7 +104,7 @@ fn numbers_of<'a, T: ArrowPrimitive>(
         let Some((values, validity)) = T::of_column(*source) else {
             unreachable!()
         };
-        found.push(Numbers { values, validity })?;
+        found.push(Part { values, validity })?;
     }
     Ok(found)
 }
@@ -144,6 +137,32 @@ pub fn collect_primitive<'a, T: ArrowPrimitive + Drop>(
         ..
     } = extend_runs(empty, runs)?;
     let validity = validity_from(validity, len)?;
+    let values = Buffer::from_vec(values)?;
+    Ok(T::into_column(values, validity))
+}
+
+/// The rows that picks name of columns of one type of numbers. Refuses only for want of memory.
+pub fn gather_primitive<'a, P: Plan, T: ArrowPrimitive + Drop>(
+    alloc: Global,
+    sources: &'a [&'a Column],
+    plan: &P,
+) -> PolarsResult<Column>
+    requires alike { All (λ c. type_of c.now ≡ T.shape) sources.now }
+    requires fits { All (PickFits (rows_of sources.now)) (P.picks plan.now) }
+    ensures rows { IfOk result (λ column. rows column ≡
+        pick Null (rows_of sources.now) (P.picks plan.now)) }
+    ensures dtype { IfOk result (λ column. type_of column ≡ T.shape) }
+    ensures formed { IfOk result (λ column. IsWellFormed column) }
+    ensures refusal { IfErr result (λ fault. fault ≡ PolarsError.OutOfMemory) }
+{
+    // (there are no more picks than a column may have rows)
+    let _len = plan.len();
+    let found = numbers_of::<T>(alloc, sources)?;
+    let parts = found.as_slice();
+    let values = gather_values(alloc, plan, parts, T::LEAST)?;
+    let validities = validities_of(alloc, parts)?;
+    let maps = validities.as_slice();
+    let validity = gather_validity(alloc, plan, maps)?;
     let values = Buffer::from_vec(values)?;
     Ok(T::into_column(values, validity))
 }

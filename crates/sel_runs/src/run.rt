@@ -3,6 +3,7 @@
 ghost use Rattle.std.specs.Prelude.{◌≡◌, ◌≤◌, ◌+◌, ◌++◌, ◌∷◌, [], None, length, IfSome, IfOk, IfErr, OnOk};
 ghost use Rattle.sel_runs.specs.Runs.{expand, unrolled};
 
+use crate::plan::{Listed, runs_of_plan};
 use sel_bits::faults::{PolarsError, PolarsResult};
 use std::alloc::Global;
 
@@ -75,11 +76,7 @@ pub fn runs_of_picks(alloc: Global, picks: &[Option<(u32, u32)>]) -> PolarsResul
     ensures picks { IfOk result (λ runs. expand runs.items ≡ picks.now) }
     ensures refusal { IfErr result (λ fault. fault ≡ PolarsError.OutOfMemory) }
 {
-    let mut runs = Vec::new(alloc);
-    for pick in picks {
-        push_run(&mut runs, run_of_pick(*pick))?;
-    }
-    Ok(runs)
+    runs_of_plan(alloc, &Listed { picks })
 }
 
 /// The run of one pick.

@@ -8,6 +8,8 @@ ghost use Rattle.sel_runs.specs.Picks.{pick, PickFits};
 ghost use Rattle.sel_runs.specs.Runs.{expand};
 
 use crate::collect::collect_runs;
+use crate::plan::Plan;
+use crate::planned::collect_plan;
 use crate::run::Run;
 use sel_arrow::array_ref::ArrayRef;
 use sel_arrow::column::Column;
@@ -35,5 +37,22 @@ pub fn collect_one(
 {
     let sources = [column];
     let column = collect_runs(alloc, &sources, runs, len)?;
+    Ok(ArrayRef { column })
+}
+
+/// The rows that a plan picks of one column. Refuses for want of memory, and where they pass a limit.
+pub fn collect_one_plan<P: Plan>(alloc: Global, column: &Column, plan: &P) -> PolarsResult<ArrayRef>
+    requires formed { IsWellFormed column.now }
+    requires fits { All (PickFits (rows column.now ∷ [])) (P.picks plan.now) }
+    ensures rows { IfOk result (λ array. rows array.column ≡
+        pick Null (rows column.now ∷ []) (P.picks plan.now)) }
+    ensures dtype { IfOk result (λ array. type_of array.column ≡ type_of column.now) }
+    ensures within { IfOk result (λ _. PassesNone
+        (past (type_of column.now) (pick Null (rows column.now ∷ []) (P.picks plan.now)))) }
+    ensures refusal { IfErr result (IsRefusal
+        (past (type_of column.now) (pick Null (rows column.now ∷ []) (P.picks plan.now)))) }
+{
+    let sources = [column];
+    let column = collect_plan(alloc, &sources, plan, false)?;
     Ok(ArrayRef { column })
 }

@@ -16,6 +16,13 @@ use Rattle.sel_sublists.specs.Elements.{element_at, child_pick}
 pub mapped_count : {A B : Type 0} (g : A → B) (f : ℕ → A) (k : ℕ) → length (map g (map f (range_with_len 0 k))) ≡ k
 mapped_count g f k = length-map (map f (range_with_len 0 k)) g ∙ length-map-range_with_len f 0 k
 
+pub mapped_at : {A B : Type 0} (g : A → B) (f : ℕ → A) (n k : ℕ) (a : A) (d : B) → k < length (map g (map f (range_with_len 0 n))) → get_or (map g (map f (range_with_len 0 n))) k d ≡ g (f k)
+mapped_at g f n k a d below =
+    let inside : k < n = omega (arith, below, mapped_count g f n) in
+    let there : k < length (map f (range_with_len 0 n)) = omega (arith, inside, length-map-range_with_len f 0 n) in
+    let same : 0 + k ≡ k = omega arith in
+    get_or-map g (map f (range_with_len 0 n)) k a d there ∙ ap g (get_or-map-range_with_len f 0 n k k a inside same)
+
 pub mapped_more : {A B : Type 0} (g : A → B) (f : ℕ → A) (old new : List B) (k : ℕ) (b : B) → new ≡ old ++ b ∷ [] → b ≡ g (f k) → old ≡ map g (map f (range_with_len 0 k)) → new ≡ map g (map f (range_with_len 0 (k + 1)))
 mapped_more g f old new k b e is so_far =
     let same : 0 + k ≡ k = omega arith in

@@ -5,12 +5,12 @@ ghost use Rattle.sel_arrow.specs.Columns.{primitive_rows};
 ghost use Rattle.sel_arrow.specs.Masked.{number_value};
 ghost use Rattle.sel_arrow.specs.NestedArrays.{block_column};
 ghost use Rattle.sel_arrow.specs.Rows.{rows, type_of};
-ghost use Rattle.sel_runs.specs.Runs.{expand};
+ghost use Rattle.sel_arrow.specs.Value.{Number};
 ghost use Rattle.sel_sublists.specs.Elements.{child_pick};
 ghost use Rattle.sel_runs.specs.Need.{PassesNone};
 ghost use Rattle.sel_sublists.specs.Entries.{fixed_get, at_each, entry_place, entry_places, out_of_bounds, place_of, IsGetRefusal, past_entries};
 
-use crate::sublist::run_of_place;
+use crate::sublist::pick_of_place;
 use sel_arrow::array::Array;
 use sel_arrow::array_ref::ArrayRef;
 use sel_arrow::fixed_size_list::FixedSizeListArray;
@@ -18,8 +18,8 @@ use sel_arrow::primitive::PrimitiveArray;
 use sel_arrow::validity::is_valid_at;
 use sel_bits::faults::{PolarsError, PolarsResult};
 use sel_bits::number::negative_to_usize;
-use sel_runs::run::{Run, push_run};
-use sel_runs::single::collect_one;
+use sel_runs::plan::{Places, Walk};
+use sel_runs::single::collect_one_plan;
 use std::alloc::Global;
 
 /// Row k is the entry of list k at the index, or null where list k is null or the index has no place in lists of that length.
@@ -43,8 +43,10 @@ pub fn sub_fixed_size_list_get_literal(
     if is_literal_refused(arr, index, null_on_oob) {
         return Err(PolarsError::ComputeError);
     }
-    let runs = runs_of_literal(alloc, arr, index)?;
-    let taken = collect_one(alloc, arr.values(), &runs, arr.len)?;
+    let place = negative_to_usize(index, arr.size);
+    let places = LiteralPlaces { arr, index, place };
+    let plan = Walk { places, at: 0 };
+    let taken = collect_one_plan(alloc, arr.values(), &plan)?;
     Ok(taken)
 }
 
@@ -71,8 +73,9 @@ pub fn sub_fixed_size_list_get(
     if is_refused(arr, index, null_on_oob) {
         return Err(PolarsError::ComputeError);
     }
-    let runs = runs_of_indices(alloc, arr, index)?;
-    let taken = collect_one(alloc, arr.values(), &runs, arr.len)?;
+    let places = EntryPlaces { arr, index };
+    let plan = Walk { places, at: 0 };
+    let taken = collect_one_plan(alloc, arr.values(), &plan)?;
     Ok(taken)
 }
 
@@ -110,37 +113,79 @@ fn is_refused(arr: &FixedSizeListArray, index: &PrimitiveArray<i64>, null_on_oob
     false
 }
 
-// The runs of the entries at one index. Refuses only for want of memory.
-fn runs_of_literal(alloc: Global, arr: &FixedSizeListArray, index: i64) -> PolarsResult<Vec<Run>>
-    ensures picks { IfOk result (λ runs.
-        expand runs.items ≡ map child_pick (entry_places arr.now (at_each arr.now index))) }
-    ensures refusal { IfErr result (λ fault. fault ≡ PolarsError.OutOfMemory) }
-{
-    let place = negative_to_usize(index, arr.size);
-    let mut runs = Vec::new(alloc);
-    for k in 0..arr.len {
-        push_run(&mut runs, run_of_place(entry_at(arr, k, place)))?;
-    }
-    Ok(runs)
+/// The entries of lists at one index, as rows of their child; its place among the entries of each list is known.
+#[derive(Drop)]
+struct LiteralPlaces<'a> {
+    arr: &'a FixedSizeListArray,
+    index: i64,
+    place: Option<usize>,
+    ghost placed: { place ≡ place_of arr.now.size (Number index) },
 }
 
-// The runs of the entries at an index for each list. Refuses only for want of memory.
-fn runs_of_indices(
-    alloc: Global,
-    arr: &FixedSizeListArray,
-    index: &PrimitiveArray<i64>,
-) -> PolarsResult<Vec<Run>>
-    requires { length (primitive_rows index.now) ≡ length (rows (block_column arr.now)) }
-    ensures picks { IfOk result (λ runs.
-        expand runs.items ≡ map child_pick (entry_places arr.now (primitive_rows index.now))) }
-    ensures refusal { IfErr result (λ fault. fault ≡ PolarsError.OutOfMemory) }
-{
-    let mut runs = Vec::new(alloc);
-    for k in 0..arr.len {
-        let place = place_among(index.get(k), arr.size);
-        push_run(&mut runs, run_of_place(entry_at(arr, k, place)))?;
+impl Places for LiteralPlaces<'_> {
+    ghost picks = { λ places. map child_pick
+        (entry_places places.arr.now (at_each places.arr.now places.index)) };
+
+    #[inline(always)]
+    fn len(&self) -> usize {
+        self.arr.len
     }
-    Ok(runs)
+
+    #[inline(always)]
+    fn get(&self, k: usize) -> Option<(u32, u32)> {
+        pick_of_place(entry_at(self.arr, k, self.place))
+    }
+
+    #[inline(always)]
+    fn again(&self) -> Self {
+        LiteralPlaces {
+            arr: self.arr,
+            index: self.index,
+            place: self.place,
+        }
+    }
+
+    #[inline(always)]
+    fn has_nulls(&self) -> bool {
+        true
+    }
+}
+
+/// The entries of lists at an index for each of them, as rows of their child.
+#[derive(Drop)]
+struct EntryPlaces<'a> {
+    arr: &'a FixedSizeListArray,
+    index: &'a PrimitiveArray<i64>,
+    ghost paired: { length (primitive_rows index.now) ≡ length (rows (block_column arr.now)) },
+}
+
+impl Places for EntryPlaces<'_> {
+    ghost picks = { λ places. map child_pick
+        (entry_places places.arr.now (primitive_rows places.index.now)) };
+
+    #[inline(always)]
+    fn len(&self) -> usize {
+        self.arr.len
+    }
+
+    #[inline(always)]
+    fn get(&self, k: usize) -> Option<(u32, u32)> {
+        let place = place_among(self.index.get(k), self.arr.size);
+        pick_of_place(entry_at(self.arr, k, place))
+    }
+
+    #[inline(always)]
+    fn again(&self) -> Self {
+        EntryPlaces {
+            arr: self.arr,
+            index: self.index,
+        }
+    }
+
+    #[inline(always)]
+    fn has_nulls(&self) -> bool {
+        true
+    }
 }
 
 // The place of an index among the entries of a list; none where it is null or has none.

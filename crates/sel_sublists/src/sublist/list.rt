@@ -10,11 +10,10 @@ ghost use Rattle.sel_arrow.specs.Rows.{rows, type_of};
 ghost use Rattle.sel_arrow.specs.Shape.{of_large_list};
 ghost use Rattle.sel_arrow.specs.Value.{Null};
 ghost use Rattle.sel_runs.specs.Need.{IsRefusal, PassesNone, past};
-ghost use Rattle.sel_runs.specs.Runs.{expand};
 ghost use Rattle.sel_sublists.specs.Elements.{child_pick};
 ghost use Rattle.sel_sublists.specs.Lists.{list_get, lacks_place, oob, child_place, places_in, unit_lists};
 
-use crate::sublist::run_of_place;
+use crate::sublist::pick_of_place;
 use sel_arrow::array::Array;
 use sel_arrow::array_ref::ArrayRef;
 use sel_arrow::list::ListArray;
@@ -25,8 +24,8 @@ use sel_bits::faults::{PolarsError, PolarsResult};
 use sel_bits::number::negative_to_usize;
 use sel_bits::offsets::OffsetsBuffer;
 use sel_bits::packer::BitPacker;
-use sel_runs::run::{Run, push_run};
-use sel_runs::single::collect_one;
+use sel_runs::plan::{Places, Walk};
+use sel_runs::single::collect_one_plan;
 use std::alloc::Global;
 
 /// Row k is null where list k is null or the index has no place in it, else the element at that place, which may be null.
@@ -41,8 +40,9 @@ pub fn sublist_get(alloc: Global, arr: &ListArray<i64>, index: i64) -> PolarsRes
     ensures refusal { IfErr result (IsRefusal
         (past (type_of arr.now.values.value) (list_get (rows (list_column arr.now)) index))) }
 {
-    let runs = runs_of_places(alloc, arr, index)?;
-    let taken = collect_one(alloc, arr.values(), &runs, arr.offsets.len_proxy())?;
+    let places = ListPlaces { arr, index };
+    let plan = Walk { places, at: 0 };
+    let taken = collect_one_plan(alloc, arr.values(), &plan)?;
     Ok(taken)
 }
 
@@ -142,20 +142,43 @@ fn unit_offsets(alloc: Global, len: usize) -> PolarsResult<OffsetsBuffer<i64>>
     OffsetsBuffer::of_rising(offsets)
 }
 
-// The runs of the elements at the places of the index. Refuses only for want of memory.
-fn runs_of_places(alloc: Global, arr: &ListArray<i64>, index: i64) -> PolarsResult<Vec<Run>>
-    ensures picks { IfOk result (λ runs. expand runs.items ≡
-        map child_pick (places_in arr.now.offsets arr.now.validity index)) }
-    ensures refusal { IfErr result (λ fault. fault ≡ PolarsError.OutOfMemory) }
-{
-    let mut runs = Vec::new(alloc);
-    for k in 0..arr.offsets.len_proxy() {
-        push_run(&mut runs, run_of_place(place_in_child(arr, index, k)))?;
+/// The elements of lists at one index, as rows of their child.
+#[derive(Drop)]
+struct ListPlaces<'a> {
+    arr: &'a ListArray<i64>,
+    index: i64,
+}
+
+impl Places for ListPlaces<'_> {
+    ghost picks = { λ places. map child_pick
+        (places_in places.arr.now.offsets places.arr.now.validity places.index) };
+
+    #[inline(always)]
+    fn len(&self) -> usize {
+        self.arr.offsets.len_proxy()
     }
-    Ok(runs)
+
+    #[inline(always)]
+    fn get(&self, k: usize) -> Option<(u32, u32)> {
+        pick_of_place(place_in_child(self.arr, self.index, k))
+    }
+
+    #[inline(always)]
+    fn again(&self) -> Self {
+        ListPlaces {
+            arr: self.arr,
+            index: self.index,
+        }
+    }
+
+    #[inline(always)]
+    fn has_nulls(&self) -> bool {
+        true
+    }
 }
 
 // Which of the child's rows is the element of list `k`; none where it is null or has no place for the index.
+#[inline(always)]
 fn place_in_child(arr: &ListArray<i64>, index: i64, k: usize) -> Option<u32>
     requires { k < rows_between arr.now.offsets }
     ensures { result ≡ child_place arr.now.offsets arr.now.validity index k }

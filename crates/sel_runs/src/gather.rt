@@ -1,0 +1,180 @@
+//! Values and bits of several sources, found pick by pick.
+
+ghost use Rattle.std.specs.Prelude.{◌≡◌, ◌≤◌, ◌<◌, ◌+◌, All, None, false, length, slice_index_or, map, take, drop, IfOk, IfErr};
+ghost use Rattle.std.specs.Option.{ForSome, option_copied};
+ghost use Rattle.sel_bits.specs.Words.{word_of};
+ghost use Rattle.sel_arrow.specs.Masked.{Covers, valid_at};
+ghost use Rattle.sel_runs.specs.Picks.{found, pick, PickFits};
+ghost use Rattle.sel_runs.specs.Plans.{HasBit, bit_found, bits_found};
+ghost use Rattle.sel_runs.specs.Validity.{bits_for};
+
+use crate::bits::validity_from;
+use crate::plan::Plan;
+use sel_bits::bitmap::Bitmap;
+use sel_bits::faults::{PolarsError, PolarsResult};
+use sel_bits::packer::{BitPacker, MOST_BITS};
+use std::alloc::Global;
+
+/// The values and the validity of a source.
+#[derive(Drop)]
+pub struct Part<'a, T: Copy> {
+    pub values: &'a [T],
+    pub validity: Option<&'a Bitmap>,
+    pub ghost covers: { Covers (option_copied validity) (length values.now) },
+}
+
+/// The value that each pick names, and `zero` for none. Refuses only for want of memory.
+pub fn gather_values<P: Plan, T: Copy + Drop>(
+    alloc: Global,
+    plan: &P,
+    parts: &[Part<T>],
+    zero: T,
+) -> PolarsResult<Vec<T>>
+    requires { All (PickFits (map (λ s. s.values.now) parts.now)) (P.picks plan.now) }
+    ensures values { IfOk result (λ values. values.items ≡
+        pick zero (map (λ s. s.values.now) parts.now) (P.picks plan.now)) }
+    ensures refusal { IfErr result (λ fault. fault ≡ PolarsError.OutOfMemory) }
+{
+    let len = plan.len();
+    let mut values = Vec::with_capacity(alloc, len)?;
+    let mut rest = plan.again();
+    for k in 0..len {
+        let pick = rest.next();
+        values.push_reserved(value_of_pick(parts, pick, zero));
+    }
+    Ok(values)
+}
+
+// The value that a pick names, and `zero` for none.
+#[inline(always)]
+fn value_of_pick<T: Copy + Drop>(parts: &[Part<T>], pick: Option<(u32, u32)>, zero: T) -> T
+    requires { PickFits (map (λ s. s.values.now) parts.now) pick }
+    ensures { result ≡ found zero (map (λ s. s.values.now) parts.now) pick }
+{
+    match pick {
+        None => zero,
+        Some((s, i)) => {
+            let part = &parts[s as usize];
+            value_in(part.values, i as usize)
+        }
+    }
+}
+
+// Value `i`.
+#[inline(always)]
+fn value_in<T: Copy>(values: &[T], i: usize) -> T
+    requires { i < length values.now }
+    ensures { result ≡ slice_index_or values.now i result }
+{
+    values[i]
+}
+
+/// The validity of the rows that picks name, of sources with these validities; none where each row is valid. Refuses only for
+/// want of memory.
+pub fn gather_validity<P: Plan>(
+    alloc: Global,
+    plan: &P,
+    maps: &[Option<&Bitmap>],
+) -> PolarsResult<Option<Bitmap>>
+    requires { All (HasBit (map option_copied maps.now)) (P.picks plan.now) }
+    ensures bits { IfOk result (λ validity. bits_for (length (P.picks plan.now)) validity ≡
+        bits_found (map option_copied maps.now) (P.picks plan.now)) }
+    ensures covers { IfOk result (λ validity. Covers validity (length (P.picks plan.now))) }
+    ensures refusal { IfErr result (λ fault. fault ≡ PolarsError.OutOfMemory) }
+{
+    if !plan.has_nulls() && !is_any_there(maps) {
+        return Ok(None);
+    }
+    let len = plan.len();
+    let bits = gather_bits(alloc, plan, maps)?;
+    let validity = validity_from(bits, len)?;
+    Ok(validity)
+}
+
+// Whether some bitmap is there.
+fn is_any_there(maps: &[Option<&Bitmap>]) -> bool
+    ensures { result ≡ false → All (λ map. option_copied map ≡ None) maps.now }
+{
+    maps.iter().any(|map| map.is_some())
+}
+
+/// The validity of each source. Refuses only for want of memory.
+pub fn validities_of<'a, T: Copy + Drop>(
+    alloc: Global,
+    parts: &[Part<'a, T>],
+) -> PolarsResult<Vec<Option<&'a Bitmap>>>
+    ensures maps { IfOk result (λ maps. map option_copied maps.items ≡
+        map (λ s. option_copied s.validity) parts.now) }
+    ensures refusal { IfErr result (λ fault. fault ≡ PolarsError.OutOfMemory) }
+{
+    let mut maps = Vec::with_capacity(alloc, parts.len())?;
+    for part in parts {
+        maps.push(part.validity)?;
+    }
+    Ok(maps)
+}
+
+/// The bit that each pick names, true where that bitmap is not there; false for none. Refuses only for want of memory.
+pub fn gather_bits<P: Plan>(
+    alloc: Global,
+    plan: &P,
+    maps: &[Option<&Bitmap>],
+) -> PolarsResult<BitPacker>
+    requires { All (HasBit (map option_copied maps.now)) (P.picks plan.now) }
+    ensures bits { IfOk result (λ bits. bits ≡
+        bits_found (map option_copied maps.now) (P.picks plan.now)) }
+    ensures refusal { IfErr result (λ fault. fault ≡ PolarsError.OutOfMemory) }
+{
+    let len = plan.len();
+    let mut bits = BitPacker::with_capacity(alloc, len)?;
+    let mut rest = plan.again();
+    let mut at = 0;
+    while at < len {
+        let count = (len - at).min(MOST_BITS);
+        bits.append(word_of_picks(&mut rest, maps, count), count as u32)?;
+        at += count;
+    }
+    Ok(bits)
+}
+
+// The word of the bits that the next `count` picks name, which are left no longer.
+#[inline(always)]
+fn word_of_picks<P: Plan>(plan: &mut P, maps: &[Option<&Bitmap>], count: usize) -> u64
+    requires fits { All (HasBit (map option_copied maps.now)) (P.picks plan.old) }
+    requires inside { count ≤ length (P.picks plan.old) }
+    requires short { count ≤ 56 }
+    ensures word { result ≡ word_of
+        (take count (bits_found (map option_copied maps.now) (P.picks plan.old))) }
+    ensures rest { P.picks plan.new ≡ drop count (P.picks plan.old) }
+{
+    let mut word = 0;
+    for i in 0..count {
+        let pick = plan.next();
+        word += u64::from(bit_of_pick(maps, pick)) << i;
+    }
+    word
+}
+
+// The bit that a pick names.
+#[inline(always)]
+fn bit_of_pick(maps: &[Option<&Bitmap>], pick: Option<(u32, u32)>) -> bool
+    requires { HasBit (map option_copied maps.now) pick }
+    ensures { result ≡ bit_found (map option_copied maps.now) pick }
+{
+    match pick {
+        None => false,
+        Some((s, i)) => is_valid_in(maps[s as usize], i as usize),
+    }
+}
+
+// Whether row `i` is valid.
+#[inline(always)]
+fn is_valid_in(validity: Option<&Bitmap>, i: usize) -> bool
+    requires { ForSome (option_copied validity) (λ v. i < length v.bits) }
+    ensures { result ≡ valid_at (option_copied validity.entry) i }
+{
+    match validity {
+        None => true,
+        Some(bits) => bits.get_bit(i),
+    }
+}

@@ -1,0 +1,85 @@
+//! Rows of columns of any one type, as a plan picks them.
+//!
+//! Of numbers and truth values each pick is looked up as it is asked for. For all other types the picks are listed as runs, since
+//! what lies below a row is copied by runs too.
+
+ghost use Rattle.std.specs.Prelude.{◌≡◌, ◌≤◌, ◌<◌, All, length, map, IfOk, IfErr};
+ghost use Rattle.sel_arrow.specs.Rows.{rows, type_of, IsWellFormed};
+ghost use Rattle.sel_arrow.specs.Value.{Null};
+ghost use Rattle.sel_runs.specs.Need.{IsRefusal, PassesNone, past_taken};
+ghost use Rattle.sel_runs.specs.Picks.{pick, PickFits};
+ghost use Rattle.sel_runs.specs.Sources.{columns_of, first_type, rows_of};
+
+use crate::boolean::gather_boolean;
+use crate::collect::collect_runs;
+use crate::plan::{Plan, runs_of_plan};
+use crate::primitive::gather_primitive;
+use sel_arrow::column::Column;
+use sel_bits::faults::PolarsResult;
+use std::alloc::Global;
+
+/// The rows that a plan picks of columns of one type, by its runs where `in_runs` is true: where they are long, that is faster, and
+/// the answer is the same. Refuses as `collect_rows` does.
+pub fn collect_plan<'a, P: Plan>(
+    alloc: Global,
+    sources: &'a [&'a Column],
+    plan: &P,
+    in_runs: bool,
+) -> PolarsResult<Column>
+    requires some { 0 < length sources.now }
+    requires alike { All (λ c. type_of c.now ≡ first_type (columns_of sources.now)) sources.now }
+    requires formed { All (λ c. IsWellFormed c.now) sources.now }
+    requires fits { All (PickFits (rows_of sources.now)) (P.picks plan.now) }
+    ensures rows { IfOk result (λ column. rows column ≡
+        pick Null (rows_of sources.now) (P.picks plan.now)) }
+    ensures dtype { IfOk result (λ column. type_of column ≡ first_type (columns_of sources.now)) }
+    ensures formed { IfOk result (λ column. IsWellFormed column) }
+    ensures within { IfOk result (λ _. PassesNone (past_taken (first_type (columns_of sources.now))
+        (columns_of sources.now) (pick Null (rows_of sources.now) (P.picks plan.now)))) }
+    ensures refusal { IfErr result (IsRefusal (past_taken (first_type (columns_of sources.now))
+        (columns_of sources.now) (pick Null (rows_of sources.now) (P.picks plan.now)))) }
+{
+    if in_runs {
+        return collect_listed(alloc, sources, plan);
+    }
+    let first: &Column = sources[0];
+    match first {
+        Column::Boolean(_) => Ok(gather_boolean(alloc, sources, plan)?),
+        Column::Int8(_) => Ok(gather_primitive::<P, i8>(alloc, sources, plan)?),
+        Column::Int16(_) => Ok(gather_primitive::<P, i16>(alloc, sources, plan)?),
+        Column::Int32(_) => Ok(gather_primitive::<P, i32>(alloc, sources, plan)?),
+        Column::Int64(_) => Ok(gather_primitive::<P, i64>(alloc, sources, plan)?),
+        Column::Int128(_) => Ok(gather_primitive::<P, i128>(alloc, sources, plan)?),
+        Column::UInt8(_) => Ok(gather_primitive::<P, u8>(alloc, sources, plan)?),
+        Column::UInt16(_) => Ok(gather_primitive::<P, u16>(alloc, sources, plan)?),
+        Column::UInt32(_) => Ok(gather_primitive::<P, u32>(alloc, sources, plan)?),
+        Column::UInt64(_) => Ok(gather_primitive::<P, u64>(alloc, sources, plan)?),
+        Column::UInt128(_) => Ok(gather_primitive::<P, u128>(alloc, sources, plan)?),
+        _ => collect_listed(alloc, sources, plan),
+    }
+}
+
+// The same by runs, which are listed for it.
+fn collect_listed<'a, P: Plan>(
+    alloc: Global,
+    sources: &'a [&'a Column],
+    plan: &P,
+) -> PolarsResult<Column>
+    requires some { 0 < length sources.now }
+    requires alike { All (λ c. type_of c.now ≡ first_type (columns_of sources.now)) sources.now }
+    requires formed { All (λ c. IsWellFormed c.now) sources.now }
+    requires fits { All (PickFits (rows_of sources.now)) (P.picks plan.now) }
+    ensures rows { IfOk result (λ column. rows column ≡
+        pick Null (rows_of sources.now) (P.picks plan.now)) }
+    ensures dtype { IfOk result (λ column. type_of column ≡ first_type (columns_of sources.now)) }
+    ensures formed { IfOk result (λ column. IsWellFormed column) }
+    ensures within { IfOk result (λ _. PassesNone (past_taken (first_type (columns_of sources.now))
+        (columns_of sources.now) (pick Null (rows_of sources.now) (P.picks plan.now)))) }
+    ensures refusal { IfErr result (IsRefusal (past_taken (first_type (columns_of sources.now))
+        (columns_of sources.now) (pick Null (rows_of sources.now) (P.picks plan.now)))) }
+{
+    let len = plan.len();
+    let runs = runs_of_plan(alloc, plan)?;
+    let column = collect_runs(alloc, sources, &runs, len)?;
+    Ok(column)
+}
