@@ -491,6 +491,34 @@ uint32_t sel_take_rows(
     bool has_bits,
     sel_column *out);
 
+/* ---- Rows chosen between two sides by a mask: when-then-otherwise. ---- */
+
+/* Makes the column whose row k is row k of `if_true` where row k of `mask`, a column of truth values, is the valid
+ * value true, else row k of `if_false`. SEL_NO_COLUMN: `mask`, `if_true` or `if_false` has no column;
+ * SEL_OTHER_KIND: `mask` is not of truth values; SEL_OTHER_TYPE: the sides are not of one type; SEL_OTHER_LENGTH: a
+ * side has not as many rows as `mask`; SEL_LIMIT_ROWS, SEL_LIMIT_BYTES, SEL_LIMIT_BUFFERS: the answer needs more. */
+uint32_t sel_choose(sel_column *mask, sel_column *if_true, sel_column *if_false, sel_column *out);
+
+/* As `sel_choose`, with one row on the side of the mask's true rows: `if_true` is a column of one row, null too,
+ * which stands at every position. SEL_NO_COLUMN: `mask`, `if_true` or `if_false` has no column; SEL_OTHER_KIND:
+ * `mask` is not of truth values; SEL_OTHER_TYPE: the sides are not of one type; SEL_OTHER_LENGTH: `if_true` has not
+ * one row, or `if_false` not as many as `mask`; SEL_LIMIT_ROWS, SEL_LIMIT_BYTES, SEL_LIMIT_BUFFERS: the answer needs
+ * more. */
+uint32_t sel_choose_one(sel_column *mask, sel_column *if_true, sel_column *if_false, sel_column *out);
+
+/* As `sel_choose`, with one row on the side of the mask's other rows: `if_false` is a column of one row, null too,
+ * which stands at every position. SEL_NO_COLUMN: `mask`, `if_true` or `if_false` has no column; SEL_OTHER_KIND:
+ * `mask` is not of truth values; SEL_OTHER_TYPE: the sides are not of one type; SEL_OTHER_LENGTH: `if_false` has not
+ * one row, or `if_true` not as many as `mask`; SEL_LIMIT_ROWS, SEL_LIMIT_BYTES, SEL_LIMIT_BUFFERS: the answer needs
+ * more. */
+uint32_t sel_choose_or_one(sel_column *mask, sel_column *if_true, sel_column *if_false, sel_column *out);
+
+/* As `sel_choose`, with one row on each side: `if_true` and `if_false` are columns of one row, null too, and the
+ * answer has as many rows as `mask`. SEL_NO_COLUMN: `mask`, `if_true` or `if_false` has no column; SEL_OTHER_KIND:
+ * `mask` is not of truth values; SEL_OTHER_TYPE: the sides are not of one type; SEL_OTHER_LENGTH: a side has not one
+ * row; SEL_LIMIT_ROWS, SEL_LIMIT_BYTES, SEL_LIMIT_BUFFERS: the answer needs more. */
+uint32_t sel_choose_of_two(sel_column *mask, sel_column *if_true, sel_column *if_false, sel_column *out);
+
 /* ---- Elements of lists. ---- */
 
 /* Makes the column whose row k is the element of list k at the index, or null where the list is null or has no such
@@ -521,6 +549,56 @@ uint32_t sel_fixed_get(sel_column *of, int64_t index, bool null_on_oob, sel_colu
  * bits; SEL_OTHER_LENGTH: there are not as many indices as lists; SEL_GET_OUT_OF_BOUNDS: without `null_on_oob`, an
  * index is null or has no place and its list is not null; SEL_LIMIT_ROWS, SEL_LIMIT_BYTES: the entries need more. */
 uint32_t sel_fixed_get_each(sel_column *of, sel_column *indices, bool null_on_oob, sel_column *out);
+
+/* ---- Rows of several columns: side by side, and picked. ---- */
+
+/* Makes the column of the rows side by side: row r of `height` has of each column, in their order, its `widths[i]`
+ * rows from `r * widths[i]` on, or its only `widths[i]` rows where it has no more; all of them stand behind one
+ * another. SEL_NO_COLUMN: one of `columns` has no column; SEL_OTHER_TYPE: not all are of one type; SEL_OTHER_LENGTH:
+ * there are no columns, or not as many widths, a width is 0, or a column has neither so many rows for each row of
+ * the answer nor for one alone; SEL_LIMIT_ROWS, SEL_LIMIT_BYTES, SEL_LIMIT_BUFFERS: the answer needs more. */
+uint32_t sel_flatten(
+    sel_column *columns,
+    size_t columns_len,
+    const size_t *widths,
+    size_t widths_len,
+    size_t height,
+    sel_column *out);
+
+/* Makes the column whose row k is row `picks[k].row` of `sources[picks[k].source]`, or null where bit k of the
+ * validity is 0. SEL_NO_COLUMN: one of `sources` has no column; SEL_TOO_MANY_ROWS: there are more than 4,294,967,295
+ * picks; SEL_VALIDITY_LENGTH: fewer bytes of validity than the picks need; SEL_OTHER_LENGTH: there are no sources;
+ * SEL_OTHER_TYPE: not all are of one type; SEL_OUT_OF_BOUNDS: a pick that is not null names no row; SEL_LIMIT_ROWS,
+ * SEL_LIMIT_BYTES, SEL_LIMIT_BUFFERS: the rows that are picked need more. */
+uint32_t sel_collect_rows(
+    sel_column *sources,
+    size_t sources_len,
+    const sel_pick *picks,
+    size_t picks_len,
+    const uint8_t *bits,
+    size_t bits_len,
+    bool has_bits,
+    sel_column *out);
+
+/* ---- Dictionaries: keys that name texts. ---- */
+
+/* Makes the keys and the values of a dictionary without its null values: the values are those that are not null, in
+ * order; a key is null where it was or where its value is null, else it names the same value as before.
+ * SEL_NO_COLUMN: `keys` or `values` has no column; SEL_OTHER_KIND: `keys` is not of unsigned numbers of 32 bits, or
+ * `values` not of texts; SEL_OUT_OF_BOUNDS: a key that is not null names no value. */
+uint32_t sel_propagate_dictionary(sel_column *keys, sel_column *values, sel_column *out_keys, sel_column *out_values);
+
+/* ---- Rows compared, and as a text. ---- */
+
+/* Writes whether the two columns have the same rows. The values decide and not the types: 1 is the same number in
+ * columns of any numbers, and what lies beneath a null is not looked at. It takes no memory. SEL_NO_COLUMN: `of` or
+ * `other` has no column. */
+uint32_t sel_equal_rows(sel_column *of, sel_column *other, bool *equal);
+
+/* Writes the rows as a text, as in `[1,null,-3]`, without a zero behind it: as many of its bytes as `out` has room
+ * for, and into `len` how many it has. Texts stand between quotes as in JSON, bytes as in `h"00ff"`, lists between
+ * brackets, tuples between parentheses. SEL_NO_COLUMN: there is no column. */
+uint32_t sel_print(sel_column *of, uint8_t *out, size_t out_len, size_t *len);
 
 /* ---- The children of lists and the fields of tuples, which share buffers with their column. ---- */
 

@@ -1,4 +1,7 @@
 pub mod Below
+pub mod Chosen
 pub mod Entries
+pub mod Printed
+pub mod Several
 pub mod Types
 pub mod Wides

@@ -2,6 +2,8 @@
 #![tactic(auto)]
 
 mod children;
+mod choices;
+mod dictionaries;
 mod filters;
 mod fixed;
 mod fixed_each;
@@ -10,7 +12,10 @@ mod makers;
 mod nested_makers;
 mod nested_readers;
 mod readers;
+mod several;
+mod sides;
 mod takes;
+mod texts;
 mod views;
 mod whole;
 mod wides;

@@ -1,15 +1,14 @@
 -- A bare pointer with its allocator, and what they own, as entries of a walk. Assumes `Logic`.
 --     both                     the machine value of a pointer beside an allocator
 --     loose_out, loose_in      a `Loose` by value is [what the box owned; the allocator], and back
-use Rattle.std.proofs.Common.{◌≡◌, ℕ, List, [], ◌∷◌, ◌++◌, refl, subst, ap}
-use lib.Dec.{T}
+use Rattle.std.proofs.Common.{◌≡◌, ℕ, List, [], ◌∷◌, ◌++◌, refl, subst}
 use mir.Syntax.{impl, tnil, dnil}
-use mir.Val.{Val, vptr, vstruct, vcons, vnil, of_list, has_ty, WT}
+use mir.Val.{Val, vptr, vstruct, vcons, vnil, of_list}
 use mir.Raw.{raw as bare}
 use base.Logic.{fst∗, never}
 use seplogic.Ra.Ura.{Ura}
 use types.Logic.{Logic, sem}
-use types.Kit.{Item, Goal, Seq, Step, step, ‵, ◌$◌, move, drop, fsplit, fjoin, fpick, fpack, feq_i, feq_l, rewrite}
+use types.Kit.{Item, Goal, Seq, Step, step, ‵, ◌$◌, move, drop, fsplit, fjoin, fpick, fpack, feq_i, feq_l}
 use denote.RattleType.{RattleType, Valss}
 use denote.Builtin.{RawPtr}
 use denote.Memory.{lone}
@@ -23,7 +22,6 @@ use Rattle.core.proofs.alloc.Calls.{Al, handle_tells}
 use Rattle.core.proofs.cell.Inside.{Good}
 use Rattle.core.specs.declared.alloc.Allocator.{Ghosts}
 use Rattle.std_alloc.specs.Box.Ownership.{box_owns}
-use Rattle.std_alloc.proofs.ResultValues.{and_tt}
 use Rattle.sel_handle.specs.contracts.loose.Loose as loose
 
 abbrev pub both : Val → Val → Val

@@ -1,8 +1,8 @@
 -- The values beneath a validity show the rows.
-use Rattle.std.proofs.Common.{◌≡◌, ℕ, ℤ, Bool, true, false, List, [], ◌∷◌, length, map, Option, Some, None, replicate, refl, ap, sym, ◌∙◌, arith}
+use Rattle.std.proofs.Common.{◌≡◌, ℤ, Bool, true, List, [], ◌∷◌, length, Option, Some, None, replicate, refl, ap, sym, ◌∙◌}
 use Rattle.sel_bits.specs.Bits.{Bits}
 use Rattle.sel_arrow.specs.Masked.{hidden, masked, Covers, number_rows, truth_rows}
-use Rattle.sel_arrow.specs.Value.{Value, Number, Truth, validities, is_valid}
+use Rattle.sel_arrow.specs.Value.{Value, Number, Truth, validities}
 use Rattle.sel_arrow.specs.Shape.{of_int8}
 use Rattle.sel_arrow.proofs.Rows.{tells-masked, length-number_rows, length-truth_rows}
 use Rattle.sel_handle.specs.Outputs.{Shows, numbers, truths}

@@ -1,5 +1,5 @@
 -- What callers pass beside values.
-use Rattle.std.specs.Prelude.{◌≡◌, ℕ, ℤ, ◌+◌, ◌*◌, Bool, true, false, List, length, Option, None, Some, nat_lt, ◌&&◌, [], ◌∷◌, map}
+use Rattle.std.specs.Prelude.{◌≡◌, ℕ, ℤ, ◌*◌, Bool, true, false, List, length, Option, None, Some, nat_lt, ◌&&◌, [], ◌∷◌, map}
 use Rattle.sel_handle.specs.declared.views.ViewWords.{ViewWords}
 use Rattle.sel_bits.specs.Faults.{first_broken}
 use Rattle.sel_bits.specs.declared.faults.Malformed.{Malformed}

@@ -1,5 +1,5 @@
 -- The parts of columns that are not values, as they are laid out.
-use Rattle.std.specs.Prelude.{ℕ, List, Option, None, Some, length}
+use Rattle.std.specs.Prelude.{ℕ, List, Option, None, Some}
 use Rattle.std.specs.Option.{option_map}
 use Rattle.sel_arrow.specs.declared.binview.BinaryViewArray.{BinaryViewArray}
 use Rattle.sel_arrow.specs.declared.column.Column.{Column}

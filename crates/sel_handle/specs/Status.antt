@@ -1,5 +1,5 @@
 -- The numbers that calls answer.
-use Rattle.std.specs.Prelude.{◌≡◌, ◌≢◌, ◌≤◌, ℕ, ◌==◌, cond, List, Option, None, Some, [], true}
+use Rattle.std.specs.Prelude.{◌≡◌, ◌≢◌, ◌≤◌, ℕ, ◌==◌, cond, List, Option, None, Some, [], ◌∷◌, true}
 use Rattle.std.specs.List.{list_any}
 use Rattle.std.specs.Option.{IsSomeAnd}
 use Rattle.sel_bits.specs.declared.faults.Limit.{Limit}
@@ -10,10 +10,11 @@ use Rattle.sel_bits.specs.declared.faults.MakeError.{MakeError}
 use Rattle.sel_bits.specs.declared.faults.MakeError.TheVariants as make
 use Rattle.sel_bits.specs.declared.faults.PolarsError.{PolarsError}
 use Rattle.sel_bits.specs.declared.faults.PolarsError.TheVariants as error
-use Rattle.sel_arrow.specs.Rows.{rows, row_count, type_of}
+use Rattle.sel_arrow.specs.Rows.{rows, row_count, type_of, buffers_held}
 use Rattle.sel_arrow.specs.Shape.{Shape, of_null}
 use Rattle.sel_arrow.specs.Value.{Value}
 use Rattle.sel_arrow.specs.declared.array_ref.ArrayRef.{ArrayRef}
+use Rattle.sel_arrow.specs.declared.column.Column.{Column}
 use Rattle.sel_handle.specs.Held.{Held}
 
 -- what was asked for is done (own)
@@ -130,3 +131,13 @@ Names status (Some rule) = status ≢ no_memory → status ≡ rule_status rule
 abbrev pub held_count : Held → ℕ
 held_count None = 0
 held_count (Some column) = row_count column.column
+
+-- the data buffers of each column of views in the column that a handle has (Arrow columnar format: variable-size binary view layout)
+abbrev pub held_buffer_lists : Held → List (List (List ℕ))
+held_buffer_lists None = []
+held_buffer_lists (Some column) = buffers_held column.column
+
+-- the column that a handle has, in a list; nothing where it has none (own)
+abbrev pub held_columns : Held → List Column
+held_columns None = []
+held_columns (Some column) = column.column ∷ []

@@ -1,11 +1,12 @@
 //! Columns of several handles.
 
-ghost use Rattle.std.specs.Prelude.{◌≡◌, ◌≢◌, All, Some, map, IfOk, IfErr};
-ghost use Rattle.sel_arrow.specs.Rows.{rows, row_count, type_of};
-ghost use Rattle.sel_handle.specs.Status.{done, held_count, held_rows, held_type, no_column, HasColumn};
+ghost use Rattle.std.specs.Prelude.{◌≡◌, ◌≢◌, ◌≤◌, All, None, Some, map, IfOk, IfErr};
+ghost use Rattle.sel_arrow.specs.Rows.{rows, row_count, type_of, buffers_held};
+ghost use Rattle.sel_handle.specs.Status.{done, held_buffer_lists, held_count, held_rows, held_type, no_column, no_memory, HasColumn};
 
 use crate::handle::Handle;
 use crate::status::{NO_COLUMN, NO_MEMORY};
+use sel_arrow::array::Array;
 use sel_arrow::array_ref::ArrayRef;
 use std::alloc::Global;
 
@@ -39,4 +40,59 @@ pub fn take_all(alloc: Global, handles: &mut [Handle]) -> Result<Vec<ArrayRef>, 
         i += 1;
     }
     Ok(taken)
+}
+
+/// Second columns of all handles, in their order, which share the buffers. Refuses a handle without a column, and for want
+/// of memory.
+pub fn share_all(alloc: Global, handles: &mut [Handle]) -> Result<Vec<ArrayRef>, u32>
+    ensures rows { IfOk result (λ shared. map (λ column. rows column.column) shared.items ≡
+        map (λ handle. held_rows handle.tree) handles.old) }
+    ensures dtypes { IfOk result (λ shared. map (λ column. type_of column.column) shared.items ≡
+        map (λ handle. held_type handle.tree) handles.old) }
+    ensures buffers { IfOk result (λ shared. map (λ column. buffers_held column.column)
+        shared.items ≡ map (λ handle. held_buffer_lists handle.tree) handles.old) }
+    ensures full { IfOk result (λ _. All (λ handle. HasColumn handle.tree) handles.old) }
+    ensures column { IfErr result (λ status. status ≡ no_column →
+        All (λ handle. HasColumn handle.tree) handles.old → ⊥) }
+    ensures refusal { IfErr result (λ status. (status ≢ done) × (status ≤ no_column)) }
+    ensures unchanged { map (λ handle. handle.tree) handles.new ≡
+        map (λ handle. handle.tree) handles.old }
+{
+    let Ok(mut shared) = Vec::with_capacity(alloc, handles.len()) else {
+        return Err(NO_MEMORY);
+    };
+    let mut i = 0;
+    while i < handles.len() {
+        let column = match share_one(alloc, &mut handles[i]) {
+            Ok(column) => column,
+            Err(status) => return Err(status),
+        };
+        if shared.push(column).is_err() {
+            return Err(NO_MEMORY);
+        }
+        i += 1;
+    }
+    Ok(shared)
+}
+
+// A second column of a handle. Refuses one without a column, and for want of memory.
+fn share_one(alloc: Global, handle: &mut Handle) -> Result<ArrayRef, u32>
+    ensures rows { IfOk result (λ shared. rows shared.column ≡ held_rows handle.old.tree) }
+    ensures dtype { IfOk result (λ shared. type_of shared.column ≡ held_type handle.old.tree) }
+    ensures buffers { IfOk result (λ shared.
+        buffers_held shared.column ≡ held_buffer_lists handle.old.tree) }
+    ensures full { IfOk result (λ _. HasColumn handle.old.tree) }
+    ensures column { IfErr result (λ status. status ≡ no_column → handle.old.tree ≡ None) }
+    ensures refusal { IfErr result (λ status. (status ≢ done) × (status ≤ no_column)) }
+    ensures unchanged { handle.new.tree ≡ handle.old.tree }
+{
+    let Some(column) = handle.take(alloc) else {
+        return Err(NO_COLUMN);
+    };
+    let copy = column.try_clone(alloc);
+    *handle = Handle::of(column);
+    match copy {
+        Ok(copy) => Ok(copy),
+        Err(_) => Err(NO_MEMORY),
+    }
 }

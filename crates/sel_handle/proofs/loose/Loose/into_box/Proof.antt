@@ -1,42 +1,37 @@
 -- `into_box` hands the pointer and the allocator to a call.
-use Rattle.std.proofs.Common.{List, [], ◌∷◌, ◌++◌, refl, sym, ap, ◌∙◌, subst}
+use Rattle.std.proofs.Common.{List, [], ◌∷◌, ◌++◌, refl, sym, ap, subst}
 use mathlib.Core.Path.{◌≡◌}
 use mathlib.Core.Bool.{true, ◌&&◌}
-use seplogic.Ra.Ura.{Ura}
 use lib.Dec.{T}
-use mir.Syntax.{Fn, Args, Dict, a_type, dcons, dnil}
+use mir.Syntax.{Fn, Args, a_type, dcons, dnil}
 use mir.MapTy.{inst_fn}
-use mir.Raw.{raw as bare}
-use mir.Val.{Val, vptr, vstruct, of_list, has_ty, WT}
-use base.Logic.{ent, emp, id⊢, never, fst∗}
+use mir.Val.{Val, vptr, has_ty, WT}
+use base.Logic.{ent, emp, id⊢}
 use base.Fml.{ftrue, flft}
 use contract.BorrowLft.{◌⊑◌}
 use prog.Wp.{WpFn, Tables}
-use types.Logic.{Logic, sem}
 use contract.Monad.{fact, fact_i}
 use contract.Running.{tables, tables_of}
 use sound.WpLaws.{fm_of, WpFn-mono}
-use types.Kit.{Item, ‵, raw, at_ret, ◌⊛◌, some, later, ◌$◌, ◌∵◌, !, qed, by, move, drop, use0, use1, join, split, split3, pick, rewrite, fsplit, fjoin, fpick, feq_i, feq_l, suffices, await, done, ⋆}
-use types.Part.{whole, sub, agg}
+use types.Kit.{‵, raw, at_ret, ◌⊛◌, some, later, ◌$◌, ◌∵◌, !, qed, move, drop, use0, use1, join, split, split3, pick, rewrite, fsplit, fjoin, feq_i, suffices, await, done}
+use types.Part.{whole, sub}
 use types.Run.{first, blocks, exec, stop, fld, no_more, and_then, of_opd, returns, enter}
 use types.ByLocal.{alloc_all, pass_all, free_all, look_at, get, get_in, sets, lands_last, env}
 use denote.RattleType.{RattleType, owns}
 use denote.Exit.{no}
 use denote.Param.{layout, param, bounded}
-use denote.Param.Laws.{Laws, param_laws}
-use denote.RawPtr.{Ptr, RawPtr, block_ptr, null_ptr, ptr_val, in_a_block}
+use denote.Param.Laws.{param_laws}
+use denote.RawPtr.{block_ptr}
 use denote.Signature.{plain}
 use denote.Steps.{heard, nothing, only}
-use denote.Struct.Tuple.{Tuple}
 use denote.Triple.Call.{calls_at_last}
 use Rattle.core.proofs.alloc.Shapes.{after}
 use denote.Triple.Clauses.{Ended, Clauses, Lasts, lasts}
 use denote.Triple.Spec.{triple_of}
-use denote.Triple.Statement.{Contract, Triple}
+use denote.Triple.Statement.{Contract}
 use denote.Triple.Table.{entered}
 use denote.Triple.Walked.{says, Stays, stay_dropped, walk_of, ends_at, walk_Meets}
-use Rattle.core.proofs.alloc.Calls.{Al, token, handle_tells, Goes-blank}
-use Rattle.std_alloc.specs.Box.Ownership.{box_owns}
+use Rattle.core.proofs.alloc.Calls.{Al, Goes-blank}
 use Rattle.std_alloc.specs.contracts.boxed.Box.from_raw as made
 use Rattle.std_alloc.proofs.boxed.Box.from_raw.Met as made_met
 use Rattle.std_alloc.proofs.BoxSteps.Form as box

@@ -2,9 +2,8 @@
 use Rattle.std.proofs.Common.{List, [], ◌∷◌, ◌++◌, refl, sym, ap, ◌∙◌, subst}
 use mathlib.Core.Path.{◌≡◌}
 use mathlib.Core.Bool.{true, ◌&&◌}
-use seplogic.Ra.Ura.{Ura}
 use lib.Dec.{T}
-use mir.Syntax.{Fn, Args, Dict, a_type, dcons, dnil}
+use mir.Syntax.{Fn, Args, a_type, dcons, dnil}
 use mir.MapTy.{inst_fn}
 use mir.Raw.{raw as bare}
 use mir.Val.{Val, vptr, vstruct, of_list, has_ty, WT}
@@ -12,18 +11,18 @@ use base.Logic.{ent, emp, id⊢, never, fst∗}
 use base.Fml.{ftrue, flft}
 use contract.BorrowLft.{◌⊑◌}
 use prog.Wp.{WpFn, Tables}
-use types.Logic.{Logic, sem}
+use types.Logic.{sem}
 use contract.Monad.{fact, fact_i}
 use contract.Running.{tables, tables_of}
 use sound.WpLaws.{fm_of, WpFn-mono}
-use types.Kit.{Item, ‵, raw, ◌⊛◌, some, later, ◌$◌, ◌∵◌, !, qed, by, move, drop, use0, use1, join, split, split3, pick, rewrite, fsplit, fjoin, fpick, feq_l, suffices, await, done, ⋆}
+use types.Kit.{‵, raw, ◌⊛◌, some, later, ◌$◌, ◌∵◌, !, qed, move, drop, use0, use1, join, split, split3, pick, rewrite, fsplit, fjoin, fpick, feq_l, suffices, await, done}
 use types.Part.{whole, sub, agg}
 use types.Run.{stop, fld, no_more, and_then, of_opd, returns, enter}
 use types.ByLocal.{alloc_all, pass_all, free_all, look_at, get, get_in, sets, lands_as}
 use denote.RattleType.{RattleType, owns}
 use denote.Exit.{no}
 use denote.Param.{layout, param, bounded}
-use denote.Param.Laws.{Laws, param_laws}
+use denote.Param.Laws.{param_laws}
 use denote.RawPtr.{Ptr, RawPtr, block_ptr, null_ptr, ptr_val, in_a_block}
 use denote.Signature.{plain}
 use denote.Steps.{heard, nothing, only}
@@ -31,7 +30,7 @@ use denote.Struct.Tuple.{Tuple}
 use denote.Triple.Call.{calls_at}
 use denote.Triple.Clauses.{Ended, Clauses, Lasts, lasts}
 use denote.Triple.Spec.{triple_of}
-use denote.Triple.Statement.{Contract, Triple}
+use denote.Triple.Statement.{Contract}
 use denote.Triple.Table.{entered}
 use denote.Triple.Walked.{says, Stays, stay_dropped, walk_of, ends_at, walk_Meets}
 use Rattle.core.proofs.alloc.Calls.{Al, token, handle_tells, Goes-blank}

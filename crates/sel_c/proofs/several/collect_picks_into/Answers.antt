@@ -1,0 +1,59 @@
+use Rattle.std.proofs.Common.{rules, arith, ◌≡◌, ◌<◌, ◌∙◌, All, Bor, ap, sym, subst, map, length, List}
+use Rattle.sel_arrow.specs.Rows.{rows, type_of}
+use Rattle.sel_arrow.specs.Value.{Value, Null}
+use Rattle.sel_arrow.specs.declared.array_ref.ArrayRef.{ArrayRef}
+use Rattle.sel_arrow.specs.declared.column.Column.{Column}
+use Rattle.sel_flatten.proofs.Flattening.{as_sources}
+use Rattle.sel_runs.specs.Picks.{pick, PickFits}
+use Rattle.sel_runs.specs.Sources.{first_type}
+use Rattle.sel_c.specs.Several.{first_shape}
+use Rattle.sel_c.proofs.Alike.{alike_columns, first_same}
+use Rattle.sel_c.proofs.Made.{makes-put}
+use Rattle.sel_c.proofs.several.collect_picks_into.Goals as goal
+
+pub returns-then-not-picks_in_bounds-clause-bounds : goal.returns-then-not-picks_in_bounds-clause-bounds
+returns-then-not-picks_in_bounds-clause-bounds c =
+    let some : 0 < length c.args.arrays.now = search rules in
+    let alike = alike_columns c.args.arrays.now (c.are_alike.ensures.0 c.if-not-are_alike.false) in
+    let sources = as_sources c.deref.result.now c.args.arrays.now (ap (map (λ (x : Bor Column). x.now)) c.deref.ensures.value ∙ c.in-Ok.ensures.columns) some alike in (
+      λ is. absurd cc,
+      λ _ all.
+          let yes = c.picks_in_bounds.ensures.1 (subst (λ (xss : List (List Value)). All (PickFits xss) c.args.picks.now) (sym sources.rows) all, c.requires) in
+          absurd (cc (yes, c.if-not-picks_in_bounds.true)),
+    )
+
+pub collect_rows-requires-clause-alike : goal.collect_rows-requires-clause-alike
+collect_rows-requires-clause-alike c =
+    let some : 0 < length c.args.arrays.now = search rules in
+    let alike = alike_columns c.args.arrays.now (c.are_alike.ensures.0 c.if-not-are_alike.false) in
+    (as_sources c.deref-2.result.now c.args.arrays.now (ap (map (λ (x : Bor Column). x.now)) c.deref-2.ensures.value ∙ c.in-Ok.ensures.columns) some alike).alike
+
+pub collect_rows-requires-clause-formed : goal.collect_rows-requires-clause-formed
+collect_rows-requires-clause-formed c =
+    let some : 0 < length c.args.arrays.now = search rules in
+    let alike = alike_columns c.args.arrays.now (c.are_alike.ensures.0 c.if-not-are_alike.false) in
+    (as_sources c.deref-2.result.now c.args.arrays.now (ap (map (λ (x : Bor Column). x.now)) c.deref-2.ensures.value ∙ c.in-Ok.ensures.columns) some alike).formed
+
+pub returns-in-Ok-collect_rows-clause-rows : goal.returns-in-Ok-collect_rows-clause-rows
+returns-in-Ok-collect_rows-clause-rows c =
+    let some : 0 < length c.args.arrays.now = search rules in
+    let alike = alike_columns c.args.arrays.now (c.are_alike.ensures.0 c.if-not-are_alike.false) in
+    let sources = as_sources c.deref-2.result.now c.args.arrays.now (ap (map (λ (x : Bor Column). x.now)) c.deref-2.ensures.value ∙ c.in-Ok.ensures.columns) some alike in
+    makes-put c.put.result c.args.out.now.tree c.put.new.out.tree c.in-Ok-collect_rows.collected
+    (λ made. rows made.column ≡ pick Null (map (λ (a : ArrayRef). rows a.column) c.args.arrays.now) c.args.picks.now) c.put.ensures.column
+    (c.in-Ok-collect_rows.ensures.rows ∙ ap (λ (xss : List (List Value)). pick Null xss c.args.picks.now) sources.rows)
+
+pub returns-in-Ok-collect_rows-clause-dtype : goal.returns-in-Ok-collect_rows-clause-dtype
+returns-in-Ok-collect_rows-clause-dtype c =
+    makes-put c.put.result c.args.out.now.tree c.put.new.out.tree c.in-Ok-collect_rows.collected
+    (λ made. type_of made.column ≡ first_shape (map (λ (a : ArrayRef). type_of a.column) c.args.arrays.now)) c.put.ensures.column
+    (c.in-Ok-collect_rows.ensures.dtype ∙ ap first_type (ap (map (λ (x : Bor Column). x.now)) c.deref-2.ensures.value ∙ c.in-Ok.ensures.columns) ∙ sym (first_same c.args.arrays.now))
+
+pub returns-in-Ok-collect_rows-clause-bounds : goal.returns-in-Ok-collect_rows-clause-bounds
+returns-in-Ok-collect_rows-clause-bounds c =
+    let some : 0 < length c.args.arrays.now = search rules in
+    let alike = alike_columns c.args.arrays.now (c.are_alike.ensures.0 c.if-not-are_alike.false) in
+    let sources = as_sources c.deref.result.now c.args.arrays.now (ap (map (λ (x : Bor Column). x.now)) c.deref.ensures.value ∙ c.in-Ok.ensures.columns) some alike in (
+      λ is. subst (λ (xss : List (List Value)). All (PickFits xss) c.args.picks.now) sources.rows (c.picks_in_bounds.ensures.0 c.if-not-picks_in_bounds.false).0,
+      λ is _. let low = c.put.ensures.status in absurd (omega (arith, is, low)),
+    )
