@@ -25,7 +25,8 @@ pub(crate) fn values_or<T: Copy>(
     rows: &[Option<T>],
     hidden: T,
 ) -> PolarsResult<Vec<T>>
-    ensures items { IfOk result (λ values. values.items ≡ map (λ row. unwrap_or row hidden) rows.now) }
+    ensures items { IfOk result (λ values. values.items ≡
+        map (λ row. unwrap_or row hidden) rows.now) }
     ensures refusal { IfErr result (λ fault. fault ≡ PolarsError.OutOfMemory) }
 {
     let mut values = Vec::with_capacity(alloc, rows.len())?;

@@ -117,7 +117,8 @@ pub extern "C" fn sel_field_count(alloc: Global, of: &mut Handle, count: &mut us
 fn field_count_into(column: &ArrayRef, count: &mut usize) -> u32
     ensures count { result ≡ done → count.new ≡ length (fields_of column.now.column) }
     ensures column { result ≢ no_column }
-    ensures kind { Demands result other_kind (IsTrue (is_struct_shape (type_of column.now.column))) }
+    ensures kind { Demands result other_kind
+        (IsTrue (is_struct_shape (type_of column.now.column))) }
 {
     let Some(fields) = fields_lent(column) else {
         return OTHER_KIND;

@@ -37,7 +37,8 @@ pub extern "C" fn sel_propagate_dictionary(
         (λ made. type_of made.column ≡ of_uint32) }
     ensures value_dtype { Makes result out_values.old.tree out_values.new.tree
         (λ made. type_of made.column ≡ of_utf8_view) }
-    ensures column { Demands result no_column (HasColumn keys.old.tree × HasColumn values.old.tree) }
+    ensures column { Demands result no_column
+        (HasColumn keys.old.tree × HasColumn values.old.tree) }
     ensures kind { Demands result other_kind
         ((held_type keys.old.tree ≡ of_uint32) × (held_type values.old.tree ≡ of_utf8_view)) }
     ensures bounds { Demands result out_of_bounds

@@ -62,7 +62,8 @@ fn fixed_get_into(
     ensures column { result ≢ no_column }
     ensures kind { Demands result other_kind (IsTrue (is_block_shape (type_of column.now.column))) }
     ensures bounds { Demands result get_out_of_bounds
-        (refuses_index null_on_oob (rows column.now.column) (type_of column.now.column) index ≡ false) }
+        (refuses_index null_on_oob (rows column.now.column) (type_of column.now.column) index
+        ≡ false) }
     ensures limits { TellsLimits result
         (past_entries_at (rows column.now.column) (type_of column.now.column) index) }
 {

@@ -38,7 +38,8 @@ pub extern "C" fn sel_fixed_get_each(
         (λ made. type_of made.column ≡ entry_type (held_type of.old.tree)) }
     ensures column { Demands result no_column (HasColumn of.old.tree × HasColumn indices.old.tree) }
     ensures kind { Demands result other_kind
-        (IsTrue (is_block_shape (held_type of.old.tree)) × (held_type indices.old.tree ≡ of_int64)) }
+        (IsTrue (is_block_shape (held_type of.old.tree)) ×
+        (held_type indices.old.tree ≡ of_int64)) }
     ensures length { Demands result other_length
         (length (held_rows indices.old.tree) ≡ length (held_rows of.old.tree)) }
     ensures bounds { Demands result get_out_of_bounds

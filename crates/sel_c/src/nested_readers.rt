@@ -36,7 +36,8 @@ pub extern "C" fn sel_offsets(alloc: Global, of: &mut Handle, out: &mut [i64]) -
 pub extern "C" fn sel_bytes_len(alloc: Global, of: &mut Handle, len: &mut usize) -> u32
     ensures len { result ≡ done → Some len.new ≡ option_map length (held_bytes of.old.tree) }
     ensures column { Demands result no_column (HasColumn of.old.tree) }
-    ensures kind { HasColumn of.old.tree → Demands result other_kind (held_bytes of.old.tree ≢ None) }
+    ensures kind { HasColumn of.old.tree →
+        Demands result other_kind (held_bytes of.old.tree ≢ None) }
     ensures unchanged { of.new.tree ≡ of.old.tree }
 {
     let Some(column) = of.take(alloc) else {
@@ -54,7 +55,8 @@ pub extern "C" fn sel_bytes_len(alloc: Global, of: &mut Handle, len: &mut usize)
 pub extern "C" fn sel_bytes(alloc: Global, of: &mut Handle, out: &mut [u8]) -> u32
     ensures bytes { result ≡ done → Some out.new ≡ held_bytes of.old.tree }
     ensures column { Demands result no_column (HasColumn of.old.tree) }
-    ensures kind { HasColumn of.old.tree → Demands result other_kind (held_bytes of.old.tree ≢ None) }
+    ensures kind { HasColumn of.old.tree →
+        Demands result other_kind (held_bytes of.old.tree ≢ None) }
     ensures unchanged { of.new.tree ≡ of.old.tree }
 {
     let Some(column) = of.take(alloc) else {

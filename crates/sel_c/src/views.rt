@@ -73,7 +73,8 @@ pub extern "C" fn sel_utf8view_new(
 pub extern "C" fn sel_views(alloc: Global, of: &mut Handle, out: &mut [ViewWords]) -> u32
     ensures views { result ≡ done → Some (views_in out.new) ≡ held_views of.old.tree }
     ensures column { Demands result no_column (HasColumn of.old.tree) }
-    ensures kind { HasColumn of.old.tree → Demands result other_kind (held_views of.old.tree ≢ None) }
+    ensures kind { HasColumn of.old.tree →
+        Demands result other_kind (held_views of.old.tree ≢ None) }
     ensures unchanged { of.new.tree ≡ of.old.tree }
 {
     let Some(column) = of.take(alloc) else {
@@ -90,7 +91,8 @@ pub extern "C" fn sel_views(alloc: Global, of: &mut Handle, out: &mut [ViewWords
 pub extern "C" fn sel_buffer_count(alloc: Global, of: &mut Handle, count: &mut usize) -> u32
     ensures count { result ≡ done → Some count.new ≡ option_map length (held_buffers of.old.tree) }
     ensures column { Demands result no_column (HasColumn of.old.tree) }
-    ensures kind { HasColumn of.old.tree → Demands result other_kind (held_views of.old.tree ≢ None) }
+    ensures kind { HasColumn of.old.tree →
+        Demands result other_kind (held_views of.old.tree ≢ None) }
     ensures unchanged { of.new.tree ≡ of.old.tree }
 {
     let Some(column) = of.take(alloc) else {
@@ -108,7 +110,8 @@ pub extern "C" fn sel_buffer_len(alloc: Global, of: &mut Handle, i: usize, len: 
     ensures len { result ≡ done → option_map (λ buffers. option_map length (slice_get buffers i))
         (held_buffers of.old.tree) ≡ Some (Some len.new) }
     ensures column { Demands result no_column (HasColumn of.old.tree) }
-    ensures kind { HasColumn of.old.tree → Demands result other_kind (held_views of.old.tree ≢ None) }
+    ensures kind { HasColumn of.old.tree →
+        Demands result other_kind (held_views of.old.tree ≢ None) }
     ensures unchanged { of.new.tree ≡ of.old.tree }
 {
     let Some(column) = of.take(alloc) else {
@@ -127,7 +130,8 @@ pub extern "C" fn sel_buffer(alloc: Global, of: &mut Handle, i: usize, out: &mut
     ensures bytes { result ≡ done → option_map (λ buffers. slice_get buffers i)
         (held_buffers of.old.tree) ≡ Some (Some out.new) }
     ensures column { Demands result no_column (HasColumn of.old.tree) }
-    ensures kind { HasColumn of.old.tree → Demands result other_kind (held_views of.old.tree ≢ None) }
+    ensures kind { HasColumn of.old.tree →
+        Demands result other_kind (held_views of.old.tree ≢ None) }
     ensures unchanged { of.new.tree ≡ of.old.tree }
 {
     let Some(column) = of.take(alloc) else {

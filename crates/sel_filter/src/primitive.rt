@@ -128,7 +128,8 @@ fn copy_runs<T: Copy>(out: &mut BlockCopy<'_, T>, start: usize, word: u64) -> Po
         (out.new.copies
         ≡ out.old.copies + starts_after false (bits (length out.old.source - start) word)) }
     ensures beginning { IsBeginning out.new.items
-        (out.old.items ++ select (drop start out.old.source) (bits (length out.old.source - start) word)) }
+        (out.old.items ++ select (drop start out.old.source)
+        (bits (length out.old.source - start) word)) }
     ensures refusal { IfErr result (λ fault. fault ≡ PolarsError.OutOfMemory) }
 {
     let mut at = start;

@@ -29,7 +29,7 @@ loop-word-preserved c =
     let out = was.kept ++ select (drop was.start was.values.source.bits) (bits (length was.values.source.bits - was.start) c.in-Some.word) in
     let skip = c.skip_zeros-start-in-Some in
     let next = filtered_next c.args.values.now.source c.args.mask.now.source was.kept was.start was.values was.mask was.invariant c.in-Some.word c.in-Some.count (c.in-Some.word-is ∙ c.in-Some.ensures.word) (c.in-Some.count-is ∙ c.in-Some.ensures.count)
-        c.append_marked.new.values c.in_ok-append_marked.ensures.source c.in_ok-append_marked.ensures.reads in
+    c.append_marked.new.values c.in_ok-append_marked.ensures.source c.in_ok-append_marked.ensures.reads in
     rw c.in_ok-append_marked.ensures.appended
     (filtered_skip c.args.values.now.source c.args.mask.now.source out (was.start + c.in-Some.count) c.append_marked.new.values c.next.new.self
     (rw c.in-Some.ensures.after next)
