@@ -6,6 +6,8 @@ mod kernels;
 #[cfg(test)]
 mod made;
 #[cfg(test)]
+mod odd;
+#[cfg(test)]
 mod readers;
 #[cfg(test)]
 mod values;
