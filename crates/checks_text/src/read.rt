@@ -1,5 +1,6 @@
 //! Texts read as types and columns, and printed again.
 
+use sel_arrow::datatype::ArrowDataType;
 use sel_text::build::Beneath;
 use sel_text::parse::parse_column;
 use sel_text::print::print_rows;
@@ -128,6 +129,26 @@ fn rows_over_zeros(rt: HostRuntime) -> Result<(), Fail> {
 #[test]
 fn rows_over_others(rt: HostRuntime) -> Result<(), Fail> {
     assert!(rt; all_read(rt.alloc(), Beneath::Others));
+    Ok(())
+}
+
+/// The number that stands beneath the null of a column of 8 bits that was read.
+fn beneath_null(alloc: Global, beneath: Beneath) -> Result<i8, Fail> {
+    let Ok(column) = parse_column(alloc, &ArrowDataType::Int8, "[5,null]", beneath) else {
+        return Err(Fail::from("not read"));
+    };
+    let numbers = column.into_primitive::<i8>().ok().ok_or("another type")?;
+    let [_, number] = numbers.values().as_slice() else {
+        return Err(Fail::from("not two rows"));
+    };
+    Ok(*number)
+}
+
+#[test]
+fn what_stands_beneath_nulls(rt: HostRuntime) -> Result<(), Fail> {
+    let alloc = rt.alloc();
+    assert!(rt; beneath_null(alloc, Beneath::Zeros)? == 0);
+    assert!(rt; beneath_null(alloc, Beneath::Others)? == 127);
     Ok(())
 }
 

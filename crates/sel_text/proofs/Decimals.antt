@@ -1,5 +1,5 @@
 -- Digits as they are read.
-use Rattle.std.proofs.Common.{◌≡◌, ℕ, ◌+◌, ◌-◌, ◌*◌, ◌≤◌, ◌<◌, ◌^◌, List, [], ◌∷◌, ◌++◌, length, take, get_or, sym, ap, ◌∙◌, arith, length-take}
+use Rattle.std.proofs.Common.{◌≡◌, ℕ, ◌+◌, ◌-◌, ◌*◌, ◌≤◌, ◌<◌, ◌^◌, List, length, take, get_or, ap, ◌∙◌, arith, length-take}
 use Rattle.std.specs.Char.{digit_value}
 use Rattle.std.specs.Fmt.{decimal}
 use Rattle.std.specs.Int.{IsInRange}
@@ -8,7 +8,7 @@ use Rattle.std.proofs.lemmas.Bool.Decides.{nat_tests}
 use Rattle.std.proofs.lemmas.Fmt.{decimal-digits_value}
 use Rattle.std.proofs.lemmas.Int.Digits.{digits_value_more}
 use Rattle.std.proofs.lemmas.List.{get_or-take}
-use Rattle.std.proofs.lemmas.Str.Parse.{IsNumeralModel, numerals_by_value, tells_by_index, tells_digits, digit_at, digits_value-take-le}
+use Rattle.std.proofs.lemmas.Str.Parse.{numerals_by_value, tells_by_index, tells_digits, digit_at, digits_value-take-le}
 
 -- digits place by place
 pub all_digits : (bytes : List ℕ) (count : ℕ) → ((k : ℕ) → k < count → IsInRange 48 57 (get_or bytes k 0)) → AllDigits 10 (take count bytes)

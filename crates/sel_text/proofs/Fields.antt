@@ -1,14 +1,13 @@
 -- The texts of types that are still to be read.
-use Rattle.std.proofs.Common.{◌≡◌, ◌≢◌, ℕ, ◌+◌, ◌≤◌, ◌<◌, true, false, List, [], ◌∷◌, ◌++◌, length, map, get_or, drop, Vec, Global, refl, ap, sym, ◌∙◌, arith, append_assoc, length-append}
+use Rattle.std.proofs.Common.{◌≡◌, ◌≢◌, ℕ, ◌<◌, true, List, [], ◌∷◌, ◌++◌, length, map, get_or, drop, refl, ap, sym, ◌∙◌, arith, append_assoc, length-append}
 use Rattle.std.specs.List.{join_with_byte}
-use Rattle.std.specs.Prelude.{◌&&◌, ◌^◌, nat_lt, IsTrue}
+use Rattle.std.specs.Prelude.{◌^◌, nat_lt, IsTrue}
 use Rattle.std.proofs.lemmas.Bool.Decides.{nat_tests}
 use Rattle.std.proofs.lemmas.List.{map-append}
 use Rattle.sel_arrow.specs.DataType.{shape_of}
-use Rattle.sel_arrow.specs.Shape.{Shape, Shapes, no_shapes, next_shape, shapes_of, of_large_list, of_fixed_size_list, of_struct}
-use Rattle.sel_arrow.specs.declared.datatype.ArrowDataType.{ArrowDataType, Struct}
+use Rattle.sel_arrow.specs.Shape.{Shape, Shapes, no_shapes, next_shape, shapes_of, of_large_list, of_fixed_size_list}
+use Rattle.sel_arrow.specs.declared.datatype.ArrowDataType.{ArrowDataType}
 use Rattle.sel_arrow.proofs.Lists.{and_first, and_second}
-use Rattle.sel_arrow.proofs.Types.{shape_of-Struct}
 use Rattle.sel_text.specs.Types.{angled, type_text, type_texts}
 use Rattle.sel_text.specs.Written.{widths_written, all_widths_written}
 

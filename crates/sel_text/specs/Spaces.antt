@@ -1,5 +1,5 @@
 -- A text without the spaces between its parts.
-use Rattle.std.specs.Prelude.{ℕ, Bool, true, false, List, [], ◌∷◌, if◌then◌else◌, ◌==◌, not}
+use Rattle.std.specs.Prelude.{ℕ, Bool, true, List, [], ◌∷◌, if◌then◌else◌, ◌==◌, not}
 use Rattle.sel_text.specs.declared.spaces.Place.{Place}
 use Rattle.sel_text.specs.declared.spaces.Place.TheVariants.{Between, Quoted, Escaped}
 

@@ -1,5 +1,5 @@
 -- Types that can be read.
-use Rattle.std.specs.Prelude.{ℕ, Bool, true, false, ◌&&◌, nat_lt, ◌^◌}
+use Rattle.std.specs.Prelude.{Bool, true, false, ◌&&◌, nat_lt, ◌^◌}
 use Rattle.sel_arrow.specs.Shape.{Shape, Shapes, no_shapes, next_shape, of_large_list, of_fixed_size_list, of_struct}
 
 abbrev mutual

@@ -1,7 +1,7 @@
-use Rattle.std.proofs.Common.{◌≡◌, ℕ, List, ◌+◌, ◌≤◌, ◌++◌, ◌∷◌, [], true, length, drop, map, ap, sym, refl, subst, arith, ◌∙◌, length-append}
+use Rattle.std.proofs.Common.{◌≡◌, ◌++◌, ◌∷◌, [], true, length, drop, map, ap, sym, refl, subst, arith, ◌∙◌, length-append}
 use Rattle.std.proofs.lemmas.List.{map-append}
 use Rattle.sel_arrow.specs.DataType.{shape_of}
-use Rattle.sel_arrow.specs.Shape.{Shape, Shapes, next_shape, shapes_of, of_struct, of_fixed_size_list}
+use Rattle.sel_arrow.specs.Shape.{next_shape, shapes_of, of_struct, of_fixed_size_list}
 use Rattle.sel_arrow.proofs.Types.{shape_of-Struct}
 use Rattle.sel_text.specs.Types.{angled, type_texts}
 use Rattle.sel_text.specs.Written.{widths_written, all_widths_written}
