@@ -64,29 +64,25 @@ fn many_picks(alloc: Global) -> PolarsResult<Vec<Option<(u32, u32)>>> {
     Ok(picks)
 }
 
-// Whether the rows are a first one, 56 nulls and a last one.
-fn are_many<T: ArrowPrimitive + PartialEq>(
-    alloc: Global,
-    rows: ArrayRef,
-    first: T,
-    last: T,
-) -> Result<bool, Fail> {
-    let mut wanted = Vec::from_slice(alloc, &[Some(first)])?;
+// A first row, 56 nulls and a last row.
+fn many_rows(alloc: Global) -> PolarsResult<Vec<Option<u8>>> {
+    let mut rows = Vec::from_slice(alloc, &[Some(3)])?;
     for _ in 0..56 {
-        wanted.push(None)?;
+        rows.push(None)?;
     }
-    wanted.push(Some(last))?;
-    is_numbers(rows, &wanted)
+    rows.push(Some(5))?;
+    Ok(rows)
 }
 
 #[test]
 fn rows_of_numbers_past_a_word_of_bits(rt: HostRuntime) -> Result<(), Fail> {
     let alloc = rt.alloc();
     let picks = many_picks(alloc)?;
+    let wanted = many_rows(alloc)?;
     let first = numbers(alloc, &[1u8, 2, 3])?;
     let second = numbers(alloc, &[4u8, 5])?;
     let rows = collected_of_two(alloc, first.into_ref(), second.into_ref(), &picks)?;
-    assert!(rt; are_many(alloc, rows, 3u8, 5)?);
+    assert!(rt; is_numbers(rows, &wanted)?);
     Ok(())
 }
 

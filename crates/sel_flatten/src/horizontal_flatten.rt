@@ -16,7 +16,7 @@ use sel_runs::planned::collect_plan;
 use std::alloc::Global;
 
 // From so many rows on, parts are copied as runs.
-const LONG_PART: usize = 8;
+const LONG_PART: usize = 32;
 
 /// The rows of all columns side by side: row h of the answer, which is as wide as all `widths` together, has column by
 /// column its rows from `h * width` up to `(h + 1) * width`, or its only `width` rows where it has no more; the answer is
