@@ -592,7 +592,7 @@ uint32_t sel_export(sel_column *of, struct ArrowArray *array, struct ArrowSchema
     return status;
 }
 
-size_t sel_arrow_text(uint32_t status, uint8_t *out, size_t out_len) {
+const char *sel_status_text(uint32_t status) {
     static const struct { uint32_t status; const char *text; } texts[] = {
         {SEL_DONE, "done"},
         {SEL_NO_MEMORY, "out of memory"},
@@ -628,9 +628,13 @@ size_t sel_arrow_text(uint32_t status, uint8_t *out, size_t out_len) {
         {SEL_ARROW_DEPTH, "more than 256 levels of children"},
         {SEL_ARROW_RANGE, "a value or a place that the format cannot show"},
     };
-    const char *text = "no status of these calls";
     for (size_t i = 0; i < sizeof texts / sizeof *texts; i++)
-        if (texts[i].status == status) text = texts[i].text;
+        if (texts[i].status == status) return texts[i].text;
+    return "no status of these calls";
+}
+
+size_t sel_arrow_text(uint32_t status, uint8_t *out, size_t out_len) {
+    const char *text = sel_status_text(status);
     size_t len = strlen(text);
     memcpy(out, text, len < out_len ? len : out_len);
     return len;

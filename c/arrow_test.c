@@ -351,6 +351,7 @@ static void texts_of_statuses(void) {
     size_t len = sel_arrow_text(SEL_ARROW_FORMAT, text, 8);
     CHECK(len > 8 && !memcmp(text, "a format", 8));
     CHECK(sel_arrow_text(SEL_NO_MEMORY, text, sizeof text) > 5);
+    CHECK(!strcmp(sel_status_text(SEL_DONE), "done") && !strcmp(sel_status_text(15), "no status of these calls"));
 }
 
 int main(void) {

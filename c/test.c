@@ -1,6 +1,6 @@
 /* Each call of sel.h: what it makes, each status, and that nothing leaks, also where an allocation is refused. */
 
-#include "sel.h"
+#include "test.h"
 
 #include <stdio.h>
 #include <stdlib.h>
@@ -17,7 +17,7 @@ void __wrap_free(void *block);
 
 static long blocks = 0;
 static long until_refused = -1;
-static bool refused = false;
+bool refused = false;
 
 static bool refuses(void) {
     if (until_refused < 0) {
@@ -57,23 +57,18 @@ void __wrap_free(void *block) {
 
 static int failures = 0;
 
-static void is(bool holds, const char *what, int line) {
+void is(bool holds, const char *what, int line) {
     if (!holds) {
         printf("line %d: %s\n", line, what);
         failures += 1;
     }
 }
 
-#define IS(holds) is((holds), #holds, __LINE__)
-
-/* A status that stands for want of memory only where an allocation was refused. */
-static bool done(uint32_t status) {
+bool done(uint32_t status) {
     return status == SEL_DONE || (refused && status == SEL_NO_MEMORY);
 }
 
-#define DONE(call) is(done(call), #call, __LINE__)
-
-static const uint8_t no_bits[1] = {0};
+const uint8_t no_bits[1] = {0};
 
 /* ---- makers and readers ---- */
 
@@ -438,8 +433,7 @@ static void test_structs(void) {
 
 /* ---- views ---- */
 
-/* The view of up to 12 bytes, and one of more of them in a data buffer. */
-static sel_view view_of(const char *text, uint32_t len, uint32_t offset) {
+sel_view view_of(const char *text, uint32_t len, uint32_t offset) {
     sel_view view = {len, 0, 0, 0};
     if (len <= 12) {
         memcpy(&view.prefix, text, len);
@@ -494,6 +488,7 @@ static void test_views(void) {
 static void (*const tests[])(void) = {
     test_nulls, test_booleans, test_int8, test_int16, test_int32, test_int64, test_uint8, test_uint16, test_uint32,
     test_uint64, test_int128, test_uint128, test_whole, test_filters, test_takes, test_bytes, test_lists, test_structs, test_views,
+    test_choices, test_broadcasts, test_chosen_kinds, test_flattens, test_collected_rows, test_dictionaries, test_equal_rows, test_prints,
 };
 
 int main(void) {

@@ -5,9 +5,7 @@
 #include <stdio.h>
 
 static int refused(const char *call, uint32_t status) {
-    uint8_t text[64];
-    size_t len = sel_arrow_text(status, text, sizeof text);
-    fprintf(stderr, "%s: %.*s\n", call, (int)(len < sizeof text ? len : sizeof text), (const char *)text);
+    fprintf(stderr, "%s: %s\n", call, sel_status_text(status));
     return 1;
 }
 

@@ -75,8 +75,10 @@ uint32_t sel_import(struct ArrowArray *array, const struct ArrowSchema *schema, 
  * place in a data buffer is past 2,147,483,647. Where it is not SEL_DONE, nothing is left to release. */
 uint32_t sel_export(sel_column *of, struct ArrowArray *array, struct ArrowSchema *schema);
 
-/* The text of a status of either enum, without a zero at its end: as many bytes as there is room for; the answer is how
- * many it has. */
+/* The text of a status of either enum, which nobody frees. */
+const char *sel_status_text(uint32_t status);
+
+/* The same without a zero at its end: as many bytes as there is room for; the answer is how many it has. */
 size_t sel_arrow_text(uint32_t status, uint8_t *out, size_t out_len);
 
 #ifdef __cplusplus

@@ -1,17 +1,17 @@
-"""Proved selection kernels over Arrow columns: filter, take and getters of lists.
+"""Proved selection kernels over Arrow columns: filter, take, choose, getters of lists, flatten.
 
 >>> import sel
 >>> ages = sel.Column.from_pylist([31, None, 27, 45])
 >>> ages.filter([True, True, False, True])
-Column(i64, [31, None, 45])
+Column(i64, [31,null,45])
 """
 
-from ._column import Column
+from ._column import Column, choose, collect_rows, flatten, propagate_dictionary
 from ._errors import BrokenRule, LimitPassed, OutOfBounds, OutOfMemory, SelError, WrongArgument
 from ._types import Type, parse_type
 
 __all__ = [
     "BrokenRule", "Column", "LimitPassed", "OutOfBounds", "OutOfMemory", "SelError", "Type", "WrongArgument",
-    "parse_type",
+    "choose", "collect_rows", "flatten", "parse_type", "propagate_dictionary",
 ]
 __version__ = "0.2.0"

@@ -9,13 +9,13 @@ from ctypes import addressof, byref, c_bool, c_size_t, c_uint8, create_string_bu
 from typing import TYPE_CHECKING, Any
 
 from ._errors import OutOfBounds
-from ._library import Handle, Slice, View, Wide, call, lib
+from ._library import Handle, Pick, Slice, View, Wide, call, lib
 from ._types import KINDS, NUMBERS, Type, parse_type, type_of_values
 
 if TYPE_CHECKING:
     import numpy
 
-__all__ = ["Column"]
+__all__ = ["Column", "choose", "collect_rows", "flatten", "propagate_dictionary"]
 
 # Where a slice without items points to.
 _NOTHING = (c_uint8 * 16)()
@@ -167,9 +167,23 @@ class Column:
 
     def __repr__(self) -> str:
         most = 12
-        rows = ", ".join(map(repr, self.sliced(0, min(most, len(self))).to_pylist()))
-        more = f", ... {len(self) - most} more" if len(self) > most else ""
-        return f"Column({self.type}, [{rows}{more}])"
+        if len(self) <= most:
+            return f"Column({self.type}, {self})"
+        return f"Column({self.type}, {str(self.sliced(0, most))[:-1]}, ... {len(self) - most} more])"
+
+    def __str__(self) -> str:
+        """The rows as a text, as in `[1,null,-3]`: texts as in JSON, bytes as in `h"00ff"`, tuples in parentheses."""
+        room, count = (c_uint8 * 1)(), c_size_t()
+        call("sel_print", self._at(), room, 0, byref(count))
+        room = (c_uint8 * count.value)()
+        call("sel_print", self._at(), room, count.value, byref(count))
+        return bytes(room).decode()
+
+    def equals(self, other: Column) -> bool:
+        """Whether both have the same rows, of whatever types."""
+        answer, second = c_bool(), self._other(other)
+        call("sel_equal_rows", self._at(), second._at(), byref(answer))
+        return answer.value
 
     # ---- kernels
 
@@ -494,3 +508,42 @@ def _read_structs(column: Column) -> list[Any]:
 
 _READERS = {"null": _read_null, "bool": _read_bools, "binary": _read_bytes, "binview": _read_views, "utf8": _read_views,
             "list": _read_lists, "fixed": _read_fixed_lists, "struct": _read_structs}
+
+
+# ---- kernels over several columns
+
+
+def choose(mask: Column | Iterable[bool | None], if_true: Column | Any, if_false: Column | Any) -> Column:
+    """The rows of `if_true` where the mask is true, else those of `if_false`; both are of one type.
+
+    A side that is no column is one value for all rows; a mask's null is false.
+    """
+    wanted = if_true.type if isinstance(if_true, Column) else if_false.type if isinstance(if_false, Column) else type_of_values([if_true, if_false])
+    first, second = (side if isinstance(side, Column) else Column.from_pylist([side], wanted) for side in (if_true, if_false))
+    second = first._other(second)
+    name = {(True, True): "sel_choose", (False, True): "sel_choose_one", (True, False): "sel_choose_or_one", (False, False): "sel_choose_of_two"}[
+        isinstance(if_true, Column), isinstance(if_false, Column)]
+    flags = first._other(second._other(_as_column(mask, "bool")))
+    return flags._new(name, first, second)
+
+
+def flatten(columns: Sequence[Column], widths: Sequence[int], height: int) -> Column:
+    """`height` rows with so many items of each column, column by column, behind one another."""
+    sizes = (c_size_t * max(1, len(widths)))(*widths)
+    return _with_handles(columns, lambda handles, made: call(
+        "sel_flatten", handles, len(columns), sizes, len(widths), height, byref(made._handle)))
+
+
+def collect_rows(columns: Sequence[Column], picks: Sequence[tuple[int, int] | None]) -> Column:
+    """The rows that the picks name, each a column's place and a row's; null where a pick is `None`."""
+    places = (Pick * max(1, len(picks)))(*[Pick(*(pick or (0, 0))) for pick in picks])
+    valid = _validity([pick is not None for pick in picks])
+    return _with_handles(columns, lambda handles, made: call(
+        "sel_collect_rows", handles, len(columns), places, len(picks), *valid, byref(made._handle)))
+
+
+def propagate_dictionary(keys: Column, values: Column) -> tuple[Column, Column]:
+    """Keys of 32 bits and texts without the null ones: a key of a null text becomes null."""
+    new_keys, new_values, texts = Column(), Column(), keys._other(values)
+    call("sel_propagate_dictionary", keys._at(), texts._at(), byref(new_keys._handle), byref(new_values._handle))
+    return new_keys, new_values

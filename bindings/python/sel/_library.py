@@ -10,7 +10,7 @@ from typing import Any
 
 from ._errors import error_of
 
-__all__ = ["ArrowArray", "ArrowSchema", "Handle", "Slice", "View", "Wide", "call", "lib", "status_of"]
+__all__ = ["ArrowArray", "ArrowSchema", "Handle", "Pick", "Slice", "View", "Wide", "call", "lib", "status_of"]
 
 
 class Handle(Structure):
@@ -35,6 +35,12 @@ class Slice(Structure):
     """A slice of bytes."""
 
     _fields_ = [("at", c_void_p), ("len", c_size_t)]
+
+
+class Pick(Structure):
+    """A row of one of several columns."""
+
+    _fields_ = [("source", c_uint32), ("row", c_uint32)]
 
 
 class ArrowSchema(Structure):
@@ -110,13 +116,22 @@ _CALLS: dict[str, list[Any]] = {
     "sel_filter_bits": [_COLUMN, _BYTES, _SIZE, _SIZE, _COLUMN],
     "sel_take": [_COLUMN, _COLUMN, _COLUMN],
     "sel_take_rows": [_COLUMN, _BYTES, _SIZE, *_BITS, _COLUMN],
+    "sel_choose": [_COLUMN, _COLUMN, _COLUMN, _COLUMN],
+    "sel_choose_one": [_COLUMN, _COLUMN, _COLUMN, _COLUMN],
+    "sel_choose_or_one": [_COLUMN, _COLUMN, _COLUMN, _COLUMN],
+    "sel_choose_of_two": [_COLUMN, _COLUMN, _COLUMN, _COLUMN],
     "sel_sublist_get": [_COLUMN, c_int64, _COLUMN],
     "sel_index_is_oob": [_COLUMN, c_int64, POINTER(c_bool)],
     "sel_unit_list": [_COLUMN, _COLUMN],
     "sel_fixed_get": [_COLUMN, c_int64, c_bool, _COLUMN],
     "sel_fixed_get_each": [_COLUMN, _COLUMN, c_bool, _COLUMN],
+    "sel_flatten": [_COLUMN, _SIZE, _BYTES, _SIZE, _SIZE, _COLUMN],
+    "sel_propagate_dictionary": [_COLUMN, _COLUMN, _COLUMN, _COLUMN],
+    "sel_collect_rows": [_COLUMN, _SIZE, _BYTES, _SIZE, *_BITS, _COLUMN],
     "sel_sliced": [_COLUMN, _SIZE, _SIZE, _COLUMN],
     "sel_share": [_COLUMN, _COLUMN],
+    "sel_equal_rows": [_COLUMN, _COLUMN, POINTER(c_bool)],
+    "sel_print": [_COLUMN, _BYTES, _SIZE, POINTER(_SIZE)],
     "sel_import": [POINTER(ArrowArray), POINTER(ArrowSchema), _COLUMN],
     "sel_export": [_COLUMN, POINTER(ArrowArray), POINTER(ArrowSchema)],
 }

@@ -59,6 +59,10 @@ def taken(rows: list[Any], indices: list[int | None]) -> list[Any]:
     return [None if index is None else rows[index] for index in indices]
 
 
+def chosen(mask: list[bool | None], first: list[Any], second: list[Any]) -> list[Any]:
+    return [a if keep else b for keep, a, b in zip(mask, first, second)]
+
+
 def element(row: list[Any] | None, index: int) -> Any:
     if row is None or not -len(row) <= index < len(row):
         return None
@@ -67,3 +71,10 @@ def element(row: list[Any] | None, index: int) -> Any:
 
 def is_outside(rows: list[list[Any] | None], index: int) -> bool:
     return any(row is not None and not -len(row) <= index < len(row) for row in rows)
+
+
+def side_by_side(columns: list[list[Any]], widths: list[int], height: int) -> list[Any]:
+    return [
+        rows[(0 if len(rows) == width else place * width) + item]
+        for place in range(height) for rows, width in zip(columns, widths) for item in range(width)
+    ]

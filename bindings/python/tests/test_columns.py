@@ -48,10 +48,12 @@ class Columns(unittest.TestCase):
             again = Column.from_arrow(part)
             self.assertEqual(again.to_pylist(), rows[start:])
             self.assertEqual(again.type, wanted)
+            self.assertTrue(again.equals(part))
 
     def test_shown(self) -> None:
-        self.assertEqual(repr(Column.from_pylist([1, None])), "Column(i64, [1, None])")
-        self.assertEqual(repr(Column.from_pylist(list(range(13)), "u8")), "Column(u8, [0, 1, 2, 3, 4, 5, 6, 7, 8, 9, 10, 11, ... 1 more])")
+        self.assertEqual(repr(Column.from_pylist([1, None])), "Column(i64, [1,null])")
+        self.assertEqual(repr(Column.from_pylist(list(range(13)), "u8")), "Column(u8, [0,1,2,3,4,5,6,7,8,9,10,11, ... 1 more])")
+        self.assertEqual(str(Column.from_pylist([[("\u00e9\n", b"\x00")], None])), '[[("\u00e9\\n",h"00")],null]')
         self.assertEqual(Column.from_pylist(["a", "b"])[-1], "b")
 
     def test_types_are_read(self) -> None:
@@ -67,11 +69,14 @@ class Kernels(unittest.TestCase):
         for _ in range(CASES):
             wanted = model.random_type(rng, 3, but=("u128",))
             rows = model.random_rows(rng, wanted, rng.randrange(1, 12))
+            other = model.random_rows(rng, wanted, len(rows))
             column = Column.from_arrow(Column.from_pylist(rows, wanted))
             mask = [rng.choice((True, False, None)) for _ in rows]
             indices = [rng.choice((None, rng.randrange(len(rows)))) for _ in range(rng.randrange(8))]
             self.assertEqual(column.filter(mask).to_pylist(), model.kept(rows, mask))
             self.assertEqual(column.take(indices).to_pylist(), model.taken(rows, indices))
+            answer = sel.choose(mask, column, Column.from_pylist(other, wanted))
+            self.assertEqual(answer.to_pylist(), model.chosen(mask, rows, other))
             self.assertEqual(column.unit_list().to_pylist(), [[row] for row in rows])
 
     def test_getters(self) -> None:
@@ -90,6 +95,37 @@ class Kernels(unittest.TestCase):
             expected = [None if at is None else model.element(row, at) for row, at in zip(rows, each)]
             self.assertEqual(blocks.fixed_get(Column.from_pylist(each, "i64")).to_pylist(), expected)
 
+    def test_several_columns(self) -> None:
+        rng = random.Random(5)
+        for _ in range(CASES // 4):
+            wanted, height = model.random_type(rng, 2), rng.randrange(1, 5)
+            widths = [rng.randrange(1, 4) for _ in range(rng.randrange(1, 4))]
+            rows = [model.random_rows(rng, wanted, width * rng.choice((1, height))) for width in widths]
+            columns = [Column.from_pylist(each, wanted) for each in rows]
+            self.assertEqual(sel.flatten(columns, widths, height).to_pylist(), model.side_by_side(rows, widths, height))
+            places = [(source, row) for source, each in enumerate(rows) for row in range(len(each))]
+            picks = [rng.choice((None, rng.choice(places))) for _ in range(rng.randrange(9))]
+            expected = [None if pick is None else rows[pick[0]][pick[1]] for pick in picks]
+            self.assertEqual(sel.collect_rows(columns, picks).to_pylist(), expected)
+
+    def test_one_value_for_all_rows(self) -> None:
+        column = Column.from_pylist([1, None, 3])
+        mask = [True, False, None]
+        self.assertEqual(sel.choose(mask, 7, column).to_pylist(), [7, None, 3])
+        self.assertEqual(sel.choose(mask, column, 8).to_pylist(), [1, 8, 8])
+        self.assertEqual(sel.choose(mask, 7, 8).to_pylist(), [7, 8, 8])
+        self.assertEqual(sel.choose(mask, column, column).to_pylist(), [1, None, 3])
+        self.assertEqual(sel.choose(mask, None, column).to_pylist(), [None, None, 3])
+        names = Column.from_pylist([["a"], None, []])
+        self.assertEqual(sel.choose(mask, names, ["b", None]).to_pylist(), [["a"], ["b", None], ["b", None]])
+        self.assertEqual(sel.choose(mask, (1, "x"), (2, None)).to_pylist(), [(1, "x"), (2, None), (2, None)])
+
+    def test_dictionaries(self) -> None:
+        keys, values = Column.from_pylist([0, 1, 2, None], "u32"), Column.from_pylist(["a", None, "c"])
+        new_keys, new_values = sel.propagate_dictionary(keys, values)
+        self.assertEqual(new_keys.to_pylist(), [0, None, 1, None])
+        self.assertEqual(new_values.to_pylist(), ["a", "c"])
+
 
 class Refusals(unittest.TestCase):
     def test_each_has_its_text(self) -> None:
@@ -97,9 +133,11 @@ class Refusals(unittest.TestCase):
         for error, call in (
             (sel.WrongArgument, lambda: column.filter([True])),
             (sel.WrongArgument, lambda: column.sublist_get(0)),
+            (sel.WrongArgument, lambda: sel.choose([True, True], column, Column.from_pylist(["a", "b"]))),
             (sel.OutOfBounds, lambda: column.take([2])),
             (sel.OutOfBounds, lambda: column.sliced(1, 2)),
             (sel.OutOfBounds, lambda: Column.from_pylist([[1]], "fixed<1,i64>").fixed_get(1, null_on_oob=False)),
+            (sel.LimitPassed, lambda: sel.flatten([Column.from_pylist([None] * 65537)], [65537], 65536)),
             (sel.BrokenRule, lambda: Column.from_pylist([2**127 - 1], "i128").__arrow_c_array__()),
             (sel.BrokenRule, lambda: Column.from_pylist([1], "u128").__arrow_c_array__()),
         ):

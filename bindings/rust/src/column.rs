@@ -2,8 +2,9 @@
 
 use crate::error::Error;
 use crate::number::Number;
-use crate::raw::{self, Handle, RawSlice, RawView};
+use crate::raw::{self, Handle, RawPick, RawSlice, RawView};
 use std::cell::UnsafeCell;
+use std::fmt;
 use std::ptr;
 
 /// The kinds of columns, by their numbers in `include/sel.h`.
@@ -272,6 +273,31 @@ impl Column {
         // SAFETY: as in `child`.
         Column::made(|out| unsafe { raw::sel_share(self.at(), out) })
     }
+
+    /// Whether both have the same rows, of whatever types.
+    pub fn equals(&self, other: &Column) -> Result<bool, Error> {
+        let (other, mut equal) = (other.share()?, false);
+        // SAFETY: two distinct handles.
+        checked(unsafe { raw::sel_equal_rows(self.at(), other.at(), &mut equal) })?;
+        Ok(equal)
+    }
+
+    /// The rows as a text, as in `[1,null,-3]`.
+    pub fn to_text(&self) -> Result<String, Error> {
+        let (mut bytes, mut len) = (Vec::new(), 0);
+        // SAFETY: as in `len`; the room is as much as is told.
+        checked(unsafe { raw::sel_print(self.at(), bytes.as_mut_ptr(), 0, &mut len) })?;
+        bytes.resize(len, 0);
+        // SAFETY: as above.
+        checked(unsafe { raw::sel_print(self.at(), bytes.as_mut_ptr(), bytes.len(), &mut len) })?;
+        Ok(String::from_utf8_lossy(&bytes).into_owned())
+    }
+}
+
+impl fmt::Debug for Column {
+    fn fmt(&self, f: &mut fmt::Formatter<'_>) -> fmt::Result {
+        f.write_str(&self.to_text().map_err(|_| fmt::Error)?)
+    }
 }
 
 /// The view of bytes: up to 12 lie in it, more go behind the others.
@@ -311,4 +337,63 @@ fn with_handles(columns: Vec<Column>, call: impl FnOnce(*mut Handle, usize, *mut
         unsafe { raw::sel_free(handle) }
     }
     made
+}
+
+fn shares(columns: &[&Column]) -> Result<Vec<Column>, Error> {
+    columns.iter().map(|column| column.share()).collect()
+}
+
+type Choice = unsafe extern "C" fn(*mut Handle, *mut Handle, *mut Handle, *mut Handle) -> u32;
+
+fn chosen(call: Choice, mask: &Column, if_true: &Column, if_false: &Column) -> Result<Column, Error> {
+    let (mask, first, second) = (mask.share()?, if_true.share()?, if_false.share()?);
+    // SAFETY: four distinct handles.
+    Column::made(|out| unsafe { call(mask.at(), first.at(), second.at(), out) })
+}
+
+/// The rows of `if_true` where the mask is true, else those of `if_false`; both are of one type and of the mask's length.
+pub fn choose(mask: &Column, if_true: &Column, if_false: &Column) -> Result<Column, Error> {
+    chosen(raw::sel_choose, mask, if_true, if_false)
+}
+
+/// The same where `if_true` has one row, null too, which stands at every position.
+pub fn choose_one(mask: &Column, if_true: &Column, if_false: &Column) -> Result<Column, Error> {
+    chosen(raw::sel_choose_one, mask, if_true, if_false)
+}
+
+/// The same where `if_false` has one row, null too, which stands at every position.
+pub fn choose_or_one(mask: &Column, if_true: &Column, if_false: &Column) -> Result<Column, Error> {
+    chosen(raw::sel_choose_or_one, mask, if_true, if_false)
+}
+
+/// The same where each side has one row, null too, which stands at every position.
+pub fn choose_of_two(mask: &Column, if_true: &Column, if_false: &Column) -> Result<Column, Error> {
+    chosen(raw::sel_choose_of_two, mask, if_true, if_false)
+}
+
+/// `height` rows with so many items of each column, column by column, behind one another.
+pub fn flatten(columns: &[&Column], widths: &[usize], height: usize) -> Result<Column, Error> {
+    with_handles(shares(columns)?, |at, count, out| {
+        // SAFETY: the handles stand behind one another; the widths are as many as are told.
+        unsafe { raw::sel_flatten(at, count, widths.as_ptr(), widths.len(), height, out) }
+    })
+}
+
+/// The rows that the picks name, each a column's place and a row's; null where there is no pick.
+pub fn collect_rows(columns: &[&Column], picks: &[Option<(u32, u32)>]) -> Result<Column, Error> {
+    let bits = packed(picks.iter().map(Option::is_some));
+    let picks: Vec<RawPick> = picks.iter().map(|pick| pick.unwrap_or_default()).map(|(source, row)| RawPick { source, row }).collect();
+    with_handles(shares(columns)?, |at, count, out| {
+        // SAFETY: as in `flatten`; the bits are as many bytes as are told.
+        unsafe { raw::sel_collect_rows(at, count, picks.as_ptr(), picks.len(), bits.as_ptr(), bits.len(), true, out) }
+    })
+}
+
+/// Keys of 32 bits and texts without the null ones: a key of a null text becomes null.
+pub fn propagate_dictionary(keys: &Column, values: &Column) -> Result<(Column, Column), Error> {
+    let (new_keys, new_values) = (Column::empty(), Column::empty());
+    // SAFETY: four distinct handles, since a column of keys is none of texts: one that is both is refused by its kind.
+    let values = values.share()?;
+    checked(unsafe { raw::sel_propagate_dictionary(keys.at(), values.at(), new_keys.at(), new_values.at()) })?;
+    Ok((new_keys, new_values))
 }

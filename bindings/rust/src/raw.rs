@@ -8,6 +8,13 @@ pub struct Handle {
 }
 
 #[repr(C)]
+#[derive(Clone, Copy)]
+pub struct RawPick {
+    pub source: u32,
+    pub row: u32,
+}
+
+#[repr(C)]
 #[derive(Clone, Copy, Default)]
 pub struct RawView {
     pub length: u32,
@@ -69,11 +76,20 @@ calls! {
     fn sel_field(of: *mut Handle, i: usize, out: *mut Handle) -> u32;
     fn sel_filter(of: *mut Handle, mask: *mut Handle, out: *mut Handle) -> u32;
     fn sel_take(of: *mut Handle, indices: *mut Handle, out: *mut Handle) -> u32;
+    fn sel_choose(mask: *mut Handle, if_true: *mut Handle, if_false: *mut Handle, out: *mut Handle) -> u32;
+    fn sel_choose_one(mask: *mut Handle, if_true: *mut Handle, if_false: *mut Handle, out: *mut Handle) -> u32;
+    fn sel_choose_or_one(mask: *mut Handle, if_true: *mut Handle, if_false: *mut Handle, out: *mut Handle) -> u32;
+    fn sel_choose_of_two(mask: *mut Handle, if_true: *mut Handle, if_false: *mut Handle, out: *mut Handle) -> u32;
     fn sel_sublist_get(of: *mut Handle, index: i64, out: *mut Handle) -> u32;
     fn sel_index_is_oob(of: *mut Handle, index: i64, out: *mut bool) -> u32;
     fn sel_unit_list(of: *mut Handle, out: *mut Handle) -> u32;
     fn sel_fixed_get(of: *mut Handle, index: i64, null_on_oob: bool, out: *mut Handle) -> u32;
+    fn sel_flatten(columns: *mut Handle, columns_len: usize, widths: *const usize, widths_len: usize, height: usize, out: *mut Handle) -> u32;
+    fn sel_collect_rows(sources: *mut Handle, sources_len: usize, picks: *const RawPick, picks_len: usize, bits: *const u8, bits_len: usize, has_bits: bool, out: *mut Handle) -> u32;
+    fn sel_propagate_dictionary(keys: *mut Handle, values: *mut Handle, out_keys: *mut Handle, out_values: *mut Handle) -> u32;
     fn sel_sliced(of: *mut Handle, offset: usize, len: usize, out: *mut Handle) -> u32;
     fn sel_share(of: *mut Handle, out: *mut Handle) -> u32;
+    fn sel_equal_rows(of: *mut Handle, other: *mut Handle, equal: *mut bool) -> u32;
+    fn sel_print(of: *mut Handle, out: *mut u8, out_len: usize, len: *mut usize) -> u32;
     fn sel_free(of: *mut Handle);
 }

@@ -5,4 +5,5 @@ pub mod Entries
 pub mod Limits
 pub mod Made
 pub mod PickWords
+pub mod SameNeeds
 pub mod Shown

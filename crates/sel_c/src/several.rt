@@ -63,6 +63,10 @@ pub extern "C" fn sel_flatten(
         (AreAlike (map (λ column. held_type column.tree) columns.old)) }
     ensures length { Demands result other_length ((0 < length columns.old) × IsTrue
         (parts_fit height (map (λ column. held_rows column.tree) columns.old) widths.now)) }
+    ensures limits { TellsLimits result
+        (past_flattened height (first_shape (map (λ column. held_type column.tree) columns.old))
+        (flat_map (λ column. held_columns column.tree) columns.old)
+        (flatten (map (λ column. held_rows column.tree) columns.old) widths.now height)) }
     ensures unchanged { map (λ column. column.tree) columns.new ≡
         map (λ column. column.tree) columns.old }
 {
@@ -88,6 +92,12 @@ fn flatten_into(
         (AreAlike (map (λ array. type_of array.column) arrays.now)) }
     ensures length { Demands result other_length ((0 < length arrays.now) × IsTrue
         (parts_fit height (map (λ array. rows array.column) arrays.now) widths.now)) }
+    ensures one_type { TellsLimits result
+        (λ _. AreAlike (map (λ array. type_of array.column) arrays.now)) }
+    ensures limits { TellsLimits result
+        (past_flattened height (first_shape (map (λ array. type_of array.column) arrays.now))
+        (array_columns arrays.now)
+        (flatten (map (λ array. rows array.column) arrays.now) widths.now height)) }
 {
     if !are_alike(arrays) {
         return OTHER_TYPE;
@@ -145,6 +155,11 @@ pub extern "C" fn sel_collect_rows(
     ensures bounds { Demands result out_of_bounds
         (All (PickFits (map (λ source. held_rows source.tree) sources.old))
         (picks_in picks.now bits.now has_bits)) }
+    ensures limits { TellsLimits result
+        (past_taken (first_shape (map (λ source. held_type source.tree) sources.old))
+        (flat_map (λ source. held_columns source.tree) sources.old)
+        (pick Null (map (λ source. held_rows source.tree) sources.old)
+        (picks_in picks.now bits.now has_bits))) }
     ensures unchanged { map (λ source. source.tree) sources.new ≡
         map (λ source. source.tree) sources.old }
 {
@@ -177,6 +192,12 @@ fn collect_into(
     ensures bounds { Demands result out_of_bounds
         (All (PickFits (map (λ array. rows array.column) arrays.now))
         (picks_in words.now bits.now has_bits)) }
+    ensures one_type { TellsLimits result
+        (λ _. AreAlike (map (λ array. type_of array.column) arrays.now)) }
+    ensures limits { TellsLimits result
+        (past_taken (first_shape (map (λ array. type_of array.column) arrays.now))
+        (array_columns arrays.now) (pick Null (map (λ array. rows array.column) arrays.now)
+        (picks_in words.now bits.now has_bits))) }
 {
     if words.len() > MOST_ROWS {
         return TOO_MANY_ROWS;
@@ -237,6 +258,12 @@ fn collect_picks_into(
         (AreAlike (map (λ array. type_of array.column) arrays.now)) }
     ensures bounds { Demands result out_of_bounds
         (All (PickFits (map (λ array. rows array.column) arrays.now)) picks.now) }
+    ensures one_type { TellsLimits result
+        (λ _. AreAlike (map (λ array. type_of array.column) arrays.now)) }
+    ensures limits { TellsLimits result
+        (past_taken (first_shape (map (λ array. type_of array.column) arrays.now))
+        (array_columns arrays.now)
+        (pick Null (map (λ array. rows array.column) arrays.now) picks.now)) }
 {
     if arrays.is_empty() {
         return OTHER_LENGTH;

@@ -6,8 +6,12 @@ use Rattle.sel_arrow.specs.declared.column.Column.{Column}
 use Rattle.sel_flatten.proofs.Flattening.{as_sources}
 use Rattle.sel_runs.specs.Picks.{pick, PickFits}
 use Rattle.sel_runs.specs.Sources.{first_type}
+use Rattle.sel_arrow.specs.Shape.{Shape}
+use Rattle.sel_handle.specs.Status.{TellsLimits}
+use Rattle.sel_runs.specs.Need.{past_taken}
 use Rattle.sel_c.specs.Several.{first_shape}
 use Rattle.sel_c.proofs.Alike.{alike_columns, first_same}
+use Rattle.sel_c.proofs.Limits.{tells-passed}
 use Rattle.sel_c.proofs.Made.{makes-put}
 use Rattle.sel_c.proofs.several.collect_picks_into.Goals as goal
 
@@ -57,3 +61,16 @@ returns-in-Ok-collect_rows-clause-bounds c =
       λ is. subst (λ (xss : List (List Value)). All (PickFits xss) c.args.picks.now) sources.rows (c.picks_in_bounds.ensures.0 c.if-not-picks_in_bounds.false).0,
       λ is _. let low = c.put.ensures.status in absurd (omega (arith, is, low)),
     )
+
+pub returns-clause-limits : goal.returns-clause-limits
+returns-clause-limits c =
+    let some : 0 < length c.args.arrays.now = search rules in
+    let alike = alike_columns c.args.arrays.now (c.are_alike.ensures.0 c.if-not-are_alike.false) in
+    let lent = ap (map (λ (x : Bor Column). x.now)) c.deref-2.ensures.value ∙ c.in-Ok.ensures.columns in
+    let sources = as_sources c.deref-2.result.now c.args.arrays.now lent some alike in
+    let columns = map (λ (a : ArrayRef). a.column) c.args.arrays.now in
+    let vs = pick Null (map (λ (a : ArrayRef). rows a.column) c.args.arrays.now) c.args.picks.now in
+    let passed = tells-passed c.status_of.result _ c.in-Err.fault c.status_of.ensures.number c.in-Err.ensures.refusal in
+    subst (λ (s : Shape). TellsLimits c.status_of.result (past_taken s columns vs)) (sym (first_same c.args.arrays.now))
+    (subst (λ (cs : List Column). TellsLimits c.status_of.result (past_taken (first_type cs) cs vs)) lent
+    (subst (λ (xss : List (List Value)). TellsLimits c.status_of.result (past_taken (first_type (map (λ (x : Bor Column). x.now) c.deref-2.result.now)) (map (λ (x : Bor Column). x.now) c.deref-2.result.now) (pick Null xss c.args.picks.now))) sources.rows passed))

@@ -1,11 +1,20 @@
 use Rattle.std.proofs.Common.{List, ap, map, subst, ◌∙◌}
-use Rattle.sel_arrow.specs.Rows.{type_of}
+use Rattle.sel_arrow.specs.Rows.{rows, type_of, buffers_held}
 use Rattle.sel_arrow.specs.Shape.{Shape}
 use Rattle.sel_arrow.specs.declared.array_ref.ArrayRef.{ArrayRef}
 use Rattle.sel_handle.specs.Status.{other_type, Demands}
-use Rattle.sel_c.specs.Several.{AreAlike}
+use Rattle.sel_c.specs.Several.{picks_in, AreAlike}
+use Rattle.sel_c.proofs.SameNeeds.{pick_limits}
 use Rattle.sel_c.proofs.several.sel_collect_rows.Goals as goal
 
 pub returns-in-Ok-clause-alike : goal.returns-in-Ok-clause-alike
 returns-in-Ok-clause-alike c =
     subst (λ (types : List Shape). Demands c.collect_into.result other_type (AreAlike types)) (ap (map (λ (x : ArrayRef). type_of x.column)) c.deref.ensures.value ∙ c.in-Ok.ensures.dtypes) c.collect_into.ensures.alike
+
+pub returns-in-Ok-clause-limits : goal.returns-in-Ok-clause-limits
+returns-in-Ok-clause-limits c =
+    pick_limits c.collect_into.result c.deref.result.now c.args.sources.now (picks_in c.args.picks.now c.args.bits.now c.args.has_bits) c.in-Ok.ensures.full
+    (ap (map (λ (x : ArrayRef). rows x.column)) c.deref.ensures.value ∙ c.in-Ok.ensures.rows)
+    (ap (map (λ (x : ArrayRef). type_of x.column)) c.deref.ensures.value ∙ c.in-Ok.ensures.dtypes)
+    (ap (map (λ (x : ArrayRef). buffers_held x.column)) c.deref.ensures.value ∙ c.in-Ok.ensures.buffers)
+    c.collect_into.ensures.one_type c.collect_into.ensures.limits

@@ -1,11 +1,20 @@
 use Rattle.std.proofs.Common.{List, ap, map, subst, ◌∙◌}
-use Rattle.sel_arrow.specs.Rows.{type_of}
+use Rattle.sel_arrow.specs.Rows.{rows, type_of, buffers_held}
 use Rattle.sel_arrow.specs.Shape.{Shape}
 use Rattle.sel_arrow.specs.declared.array_ref.ArrayRef.{ArrayRef}
 use Rattle.sel_handle.specs.Status.{other_type, Demands}
 use Rattle.sel_c.specs.Several.{AreAlike}
+use Rattle.sel_c.proofs.SameNeeds.{flat_limits}
 use Rattle.sel_c.proofs.several.sel_flatten.Goals as goal
 
 pub returns-in-Ok-clause-alike : goal.returns-in-Ok-clause-alike
 returns-in-Ok-clause-alike c =
     subst (λ (types : List Shape). Demands c.flatten_into.result other_type (AreAlike types)) (ap (map (λ (x : ArrayRef). type_of x.column)) c.deref.ensures.value ∙ c.in-Ok.ensures.dtypes) c.flatten_into.ensures.alike
+
+pub returns-in-Ok-clause-limits : goal.returns-in-Ok-clause-limits
+returns-in-Ok-clause-limits c =
+    flat_limits c.flatten_into.result c.args.height c.deref.result.now c.args.columns.now c.args.widths.now c.in-Ok.ensures.full
+    (ap (map (λ (x : ArrayRef). rows x.column)) c.deref.ensures.value ∙ c.in-Ok.ensures.rows)
+    (ap (map (λ (x : ArrayRef). type_of x.column)) c.deref.ensures.value ∙ c.in-Ok.ensures.dtypes)
+    (ap (map (λ (x : ArrayRef). buffers_held x.column)) c.deref.ensures.value ∙ c.in-Ok.ensures.buffers)
+    c.flatten_into.ensures.one_type c.flatten_into.ensures.limits

@@ -7,7 +7,7 @@ use Rattle.sel_runs.specs.Need.{past_taken, IsRefusal}
 use Rattle.sel_runs.specs.Picks.{pick}
 use Rattle.sel_c.specs.Chosen.{chosen_rows}
 use Rattle.sel_c.proofs.ChosenPicks.{choice_fits, choice_picked, chosen_long, picked_alike}
-use Rattle.sel_c.proofs.sides.choice.Goals as goal
+use Rattle.sel_c.proofs.sides.picked_choice.Goals as goal
 
 pub collect_rows-requires-clause-fits : goal.collect_rows-requires-clause-fits
 collect_rows-requires-clause-fits c =

@@ -1,0 +1,275 @@
+/* Calls on several columns: choices, flatten, rows that are picked, dictionaries, and rows compared and printed. */
+
+#include "test.h"
+
+#include <string.h>
+
+/* The column of numbers under a validity. */
+static sel_column numbers(const int64_t *values, size_t len, uint8_t bits) {
+    sel_column column = {0};
+    DONE(sel_int64_new(values, len, &bits, 1, true, &column));
+    return column;
+}
+
+static sel_column truths(uint8_t values, size_t len, uint8_t bits) {
+    sel_column column = {0};
+    DONE(sel_boolean_new(&values, 1, len, &bits, 1, true, &column));
+    return column;
+}
+
+/* The column of texts of up to 12 bytes. */
+static sel_column texts(const char *const *words, size_t len, uint8_t bits) {
+    sel_view views[8];
+    const sel_slice nothing[1] = {{no_bits, 0}};
+    sel_column column = {0};
+    for (size_t i = 0; i < len; i += 1) {
+        views[i] = view_of(words[i], (uint32_t)strlen(words[i]), 0);
+    }
+    DONE(sel_utf8view_new(views, len, nothing, 0, &bits, 1, true, &column));
+    return column;
+}
+
+/* The column has the text, or want of memory hides it. */
+static bool prints(sel_column *column, const char *text) {
+    uint8_t room[256];
+    size_t len = 0;
+    if (column->at == NULL) {
+        return refused;
+    }
+    uint32_t status = sel_print(column, room, sizeof room, &len);
+    if (status != SEL_DONE) {
+        return done(status);
+    }
+    return len == strlen(text) && memcmp(room, text, len) == 0;
+}
+
+/* A call is done and its answer has the text; the answer is freed. */
+static void answers(uint32_t status, sel_column *out, const char *text, int line) {
+    is(done(status), "the call is done", line);
+    is(status != SEL_DONE || prints(out, text), text, line);
+    sel_free(out);
+}
+
+#define ANSWERS(call, out, text) answers((call), (out), (text), __LINE__)
+
+static void free_all(sel_column *columns, size_t len) {
+    for (size_t i = 0; i < len; i += 1) {
+        sel_free(&columns[i]);
+    }
+}
+
+static bool all_made(const sel_column *columns, size_t len) {
+    for (size_t i = 0; i < len; i += 1) {
+        if (columns[i].at == NULL) {
+            return false;
+        }
+    }
+    return true;
+}
+
+/* ---- choices ---- */
+
+void test_choices(void) {
+    const int64_t first[4] = {1, 2, 3, 4}, second[4] = {10, 20, 30, 40};
+    sel_column out = {0}, sides[5] = {{0}, {0}, {0}, {0}, {0}};
+    IS(sel_choose(&sides[0], &sides[1], &sides[2], &out) == SEL_NO_COLUMN);
+    /* true, null, true, false */
+    sides[0] = truths(7, 4, 13);
+    IS(sel_choose(&sides[0], &sides[1], &sides[2], &out) == SEL_NO_COLUMN);
+    sides[1] = numbers(first, 4, 14);
+    IS(sel_choose(&sides[0], &sides[1], &sides[2], &out) == SEL_NO_COLUMN);
+    sides[2] = numbers(second, 4, 13);
+    sides[3] = numbers(first, 3, 7);
+    sides[4] = truths(1, 4, 15);
+    if (all_made(sides, 5)) {
+        ANSWERS(sel_choose(&sides[0], &sides[1], &sides[2], &out), &out, "[null,null,3,40]");
+        ANSWERS(sel_choose(&sides[0], &sides[2], &sides[1], &out), &out, "[10,2,30,4]");
+        IS(sel_choose(&sides[1], &sides[2], &sides[3], &out) == SEL_OTHER_KIND || refused);
+        IS(sel_choose(&sides[0], &sides[1], &sides[4], &out) == SEL_OTHER_TYPE || refused);
+        IS(sel_choose(&sides[0], &sides[1], &sides[3], &out) == SEL_OTHER_LENGTH || refused);
+        IS(sel_choose(&sides[0], &sides[3], &sides[1], &out) == SEL_OTHER_LENGTH || refused);
+        IS(out.at == NULL && prints(&sides[0], "[true,null,true,false]"));
+        IS(prints(&sides[1], "[null,2,3,4]") && prints(&sides[2], "[10,null,30,40]"));
+    }
+    free_all(sides, 5);
+}
+
+void test_broadcasts(void) {
+    const int64_t values[3] = {1, 2, 3};
+    sel_column out = {0}, given[5] = {truths(5, 3, 7), numbers(values, 3, 3), numbers(values + 2, 1, 1), numbers(values, 1, 0), {0}};
+    IS(sel_choose_one(&given[0], &given[2], &given[4], &out) == SEL_NO_COLUMN);
+    IS(sel_choose_or_one(&given[0], &given[4], &given[2], &out) == SEL_NO_COLUMN);
+    IS(sel_choose_of_two(&given[4], &given[2], &given[3], &out) == SEL_NO_COLUMN);
+    if (all_made(given, 4)) {
+        ANSWERS(sel_choose_one(&given[0], &given[2], &given[1], &out), &out, "[3,2,3]");
+        ANSWERS(sel_choose_one(&given[0], &given[3], &given[1], &out), &out, "[null,2,null]");
+        ANSWERS(sel_choose_or_one(&given[0], &given[1], &given[2], &out), &out, "[1,3,null]");
+        ANSWERS(sel_choose_or_one(&given[0], &given[1], &given[3], &out), &out, "[1,null,null]");
+        ANSWERS(sel_choose_of_two(&given[0], &given[2], &given[3], &out), &out, "[3,null,3]");
+        ANSWERS(sel_choose_of_two(&given[0], &given[3], &given[2], &out), &out, "[null,3,null]");
+        IS(sel_choose_one(&given[0], &given[1], &given[1], &out) != SEL_DONE);
+        IS(sel_choose_or_one(&given[0], &given[2], &given[3], &out) == SEL_OTHER_LENGTH || refused);
+        IS(sel_choose_of_two(&given[0], &given[1], &given[2], &out) == SEL_OTHER_LENGTH || refused);
+        IS(sel_choose_one(&given[0], &given[2], &given[3], &out) == SEL_OTHER_LENGTH || refused);
+        IS(sel_choose_one(&given[0], &given[2], &given[0], &out) != SEL_DONE);
+        IS(sel_choose_of_two(&given[1], &given[2], &given[3], &out) == SEL_OTHER_KIND || refused);
+    }
+    free_all(given, 5);
+    sel_free(&out);
+}
+
+/* Both sides are columns of one kind; the mask is true, false. */
+static void chooses(sel_column *first, sel_column *second, const char *chosen, const char *turned) {
+    sel_column mask = truths(1, 2, 3), out = {0};
+    if (first->at != NULL && second->at != NULL && mask.at != NULL) {
+        ANSWERS(sel_choose(&mask, first, second, &out), &out, chosen);
+        ANSWERS(sel_choose(&mask, second, first, &out), &out, turned);
+    }
+    sel_free(first);
+    sel_free(second);
+    sel_free(&mask);
+}
+
+void test_chosen_kinds(void) {
+    const char *const words[2] = {"ada", "grace"}, *const others[2] = {"tim", "don"};
+    const int64_t offsets[3] = {0, 1, 3}, values[4] = {1, 2, 3, 4};
+    sel_column first = texts(words, 2, 3), second = texts(others, 2, 1);
+    chooses(&first, &second, "[\"ada\",null]", "[\"tim\",\"grace\"]");
+    DONE(sel_null_new(2, &first));
+    DONE(sel_null_new(2, &second));
+    chooses(&first, &second, "[null,null]", "[null,null]");
+    DONE(sel_binary_new(offsets, 3, (const uint8_t *)"abc", 3, no_bits, 0, false, &first));
+    DONE(sel_binary_new(offsets, 3, (const uint8_t *)"xyz", 3, no_bits, 0, false, &second));
+    chooses(&first, &second, "[h\"61\",h\"797a\"]", "[h\"78\",h\"6263\"]");
+    first = truths(2, 2, 3), second = truths(1, 2, 2);
+    chooses(&first, &second, "[false,false]", "[null,true]");
+    for (int kind = 0; kind < 3; kind += 1) {
+        sel_column below[2] = {numbers(values, kind == 0 ? 3 : 2, 7), numbers(values + 1, kind == 0 ? 3 : 2, 5)}, made[2] = {{0}, {0}};
+        for (int side = 0; side < 2 && all_made(below, 2); side += 1) {
+            sel_column child = {0};
+            DONE(sel_share(&below[side], &child));
+            if (child.at != NULL) {
+                DONE(kind == 0 ? sel_list_new(offsets, 3, no_bits, 0, false, &child, &made[side])
+                    : kind == 1 ? sel_fixed_list_new(1, 2, no_bits, 0, false, &child, &made[side])
+                    : sel_struct_new(2, no_bits, 0, false, &child, 1, &made[side]));
+            }
+            sel_free(&child);
+        }
+        free_all(below, 2);
+        const char *const chosen[3] = {"[[1],[null,4]]", "[[1],[null]]", "[(1),(null)]"};
+        const char *const turned[3] = {"[[2],[2,3]]", "[[2],[2]]", "[(2),(2)]"};
+        chooses(&made[0], &made[1], chosen[kind], turned[kind]);
+    }
+}
+
+/* ---- columns side by side, and rows that are picked ---- */
+
+void test_flattens(void) {
+    const int64_t values[4] = {1, 2, 3, 4};
+    const size_t widths[2] = {2, 1}, none[2] = {2, 0};
+    sel_column out = {0}, given[2] = {{0}, {0}};
+    IS(sel_flatten(given, 0, widths, 0, 2, &out) == SEL_OTHER_LENGTH || refused);
+    given[0] = numbers(values, 4, 15);
+    IS(sel_flatten(given, 2, widths, 2, 2, &out) == SEL_NO_COLUMN || refused);
+    given[1] = numbers(values + 3, 1, 0);
+    if (all_made(given, 2)) {
+        ANSWERS(sel_flatten(given, 2, widths, 2, 2, &out), &out, "[1,2,null,3,4,null]");
+        IS(sel_flatten(given, 2, widths, 1, 2, &out) == SEL_OTHER_LENGTH || refused);
+        IS(sel_flatten(given, 2, none, 2, 2, &out) == SEL_OTHER_LENGTH || refused);
+        IS(sel_flatten(given, 2, widths, 2, 3, &out) == SEL_OTHER_LENGTH || refused);
+        IS(sel_flatten(given + 1, 1, widths + 1, 1, (size_t)4294967296, &out) == SEL_LIMIT_ROWS || refused);
+        ANSWERS(sel_flatten(given + 1, 1, widths + 1, 1, 3, &out), &out, "[null,null,null]");
+        sel_free(&given[1]);
+        given[1] = truths(1, 1, 1);
+        IS(given[1].at == NULL || sel_flatten(given, 2, widths, 2, 2, &out) == SEL_OTHER_TYPE || refused);
+        IS(sel_len(&given[0]) == 4);
+    }
+    free_all(given, 2);
+}
+
+void test_collected_rows(void) {
+    const int64_t values[3] = {1, 2, 3};
+    const sel_pick picks[4] = {{1, 1}, {0, 2}, {9, 9}, {1, 0}};
+    const uint8_t bits[1] = {11};
+    sel_column out = {0}, given[2] = {{0}, {0}};
+    IS(sel_collect_rows(given, 0, picks, 0, no_bits, 0, false, &out) == SEL_OTHER_LENGTH || refused);
+    given[0] = numbers(values, 3, 7);
+    IS(sel_collect_rows(given, 2, picks, 0, no_bits, 0, false, &out) == SEL_NO_COLUMN || refused);
+    given[1] = numbers(values + 1, 2, 2);
+    if (all_made(given, 2)) {
+        ANSWERS(sel_collect_rows(given, 2, picks, 4, bits, 1, true, &out), &out, "[3,3,null,null]");
+        ANSWERS(sel_collect_rows(given, 2, picks, 0, no_bits, 0, false, &out), &out, "[]");
+        IS(sel_collect_rows(given, 2, picks, 4, no_bits, 0, false, &out) == SEL_OUT_OF_BOUNDS || refused);
+        IS(sel_collect_rows(given, 1, picks, 1, no_bits, 0, false, &out) == SEL_OUT_OF_BOUNDS || refused);
+        IS(sel_collect_rows(given, 2, picks, 4, no_bits, 0, true, &out) == SEL_VALIDITY_LENGTH || refused);
+        IS(sel_collect_rows(given, 2, picks, (size_t)4294967296, no_bits, 0, false, &out) == SEL_TOO_MANY_ROWS || refused);
+        sel_free(&given[1]);
+        given[1] = truths(1, 1, 1);
+        IS(given[1].at == NULL || sel_collect_rows(given, 2, picks, 0, no_bits, 0, false, &out) == SEL_OTHER_TYPE || refused);
+        IS(prints(&given[0], "[1,2,3]"));
+    }
+    free_all(given, 2);
+}
+
+/* ---- dictionaries ---- */
+
+void test_dictionaries(void) {
+    const uint32_t keys[4] = {0, 1, 2, 9}, far[1] = {3};
+    const char *const words[3] = {"a", "", "c"};
+    const uint8_t bits[1] = {7};
+    sel_column given[2] = {{0}, {0}}, out[2] = {{0}, {0}};
+    IS(sel_propagate_dictionary(&given[0], &given[1], &out[0], &out[1]) == SEL_NO_COLUMN);
+    DONE(sel_uint32_new(keys, 4, bits, 1, true, &given[0]));
+    IS(sel_propagate_dictionary(&given[0], &given[1], &out[0], &out[1]) == SEL_NO_COLUMN);
+    given[1] = texts(words, 3, 5);
+    if (all_made(given, 2)) {
+        uint32_t status = sel_propagate_dictionary(&given[0], &given[1], &out[0], &out[1]);
+        IS(done(status) && (out[0].at == NULL) == (status != SEL_DONE) && (out[1].at == NULL) == (status != SEL_DONE));
+        IS(status != SEL_DONE || (prints(&out[0], "[0,null,1,null]") && prints(&out[1], "[\"a\",\"c\"]")));
+        IS(prints(&given[0], "[0,1,2,null]") && prints(&given[1], "[\"a\",null,\"c\"]"));
+        IS(sel_propagate_dictionary(&given[1], &given[0], &out[0], &out[1]) == SEL_OTHER_KIND || refused);
+        DONE(sel_uint32_new(far, 1, no_bits, 0, false, &given[0]));
+        IS(sel_propagate_dictionary(&given[0], &given[1], &out[0], &out[1]) == SEL_OUT_OF_BOUNDS || refused);
+    }
+    free_all(given, 2);
+    free_all(out, 2);
+}
+
+/* ---- rows compared and printed ---- */
+
+void test_equal_rows(void) {
+    const int64_t values[3] = {1, 2, 3};
+    const int8_t small[3] = {1, 9, 3};
+    const uint8_t bits[1] = {5};
+    bool equal = false;
+    sel_column given[3] = {{0}, {0}, {0}};
+    IS(sel_equal_rows(&given[0], &given[1], &equal) == SEL_NO_COLUMN);
+    given[0] = numbers(values, 3, 5);
+    IS(sel_equal_rows(&given[0], &given[1], &equal) == SEL_NO_COLUMN);
+    DONE(sel_int8_new(small, 3, bits, 1, true, &given[1]));
+    given[2] = numbers(values, 3, 7);
+    if (all_made(given, 3)) {
+        IS(sel_equal_rows(&given[0], &given[1], &equal) == SEL_DONE && equal);
+        IS(sel_equal_rows(&given[0], &given[2], &equal) == SEL_DONE && !equal);
+        IS(sel_len(&given[0]) == 3 && sel_len(&given[1]) == 3);
+    }
+    free_all(given, 3);
+}
+
+void test_prints(void) {
+    const int64_t values[3] = {1, 2, -3};
+    uint8_t room[12] = "zzzzzzzzzzz";
+    size_t len = 9;
+    sel_column column = {0};
+    IS(sel_print(&column, room, 12, &len) == SEL_NO_COLUMN && len == 9);
+    column = numbers(values, 3, 5);
+    if (column.at != NULL) {
+        uint32_t status = sel_print(&column, room, 4, &len);
+        IS(done(status) && (status != SEL_DONE || (len == 11 && memcmp(room, "[1,nzzzzzzz", 11) == 0)));
+        status = sel_print(&column, room, 0, &len);
+        IS(done(status) && (status != SEL_DONE || len == 11));
+        status = sel_print(&column, room, 12, &len);
+        IS(done(status) && (status != SEL_DONE || memcmp(room, "[1,null,-3]", 11) == 0));
+    }
+    sel_free(&column);
+}

@@ -1,0 +1,23 @@
+"""When-then-otherwise over a table of columns, nested ones too."""
+
+import sel
+
+prices = sel.Column.from_pylist([10, None, 30, 40])
+sold = sel.Column.from_pylist([True, False, None, True])
+
+# The price where something was sold, else 0.
+print(sel.choose(sold, prices, 0))
+
+# Lists of lists and tuples are rows like any other.
+first = sel.Column.from_pylist([[("a", [1])], None, [], [("b", [2, None])]])
+second = sel.Column.from_pylist([[("x", [9])]] * 4)
+print(sel.choose(sold, first, second))
+
+# The last element of each list, where it has one.
+print(first.sublist_get(-1))
+
+# A refusal is an exception with its text.
+try:
+    prices.filter([True])
+except sel.WrongArgument as error:
+    print(error)
