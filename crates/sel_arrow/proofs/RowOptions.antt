@@ -3,7 +3,7 @@ use Rattle.std.proofs.Common.{◌≡◌, ℤ, refl, ap, List, [], ◌∷◌, ◌
 use Rattle.std.specs.Prelude.{is_some, unwrap_or}
 use Rattle.std.proofs.lemmas.List.{take_more, map-append}
 use Rattle.sel_arrow.specs.Masked.{hidden, number_value, truth_value}
-use Rattle.sel_arrow.specs.Value.{Value, Null, Number, Truth}
+use Rattle.sel_arrow.specs.Value.{Null, Number, Truth}
 
 -- one row more
 pub mapped_more : {X Y : Type 0} (f : X → Y) (rows : List X) (i : ℕ) (d : X) (ys : List Y) (y : Y) → i < length rows

@@ -10,7 +10,7 @@ use Rattle.std.proofs.lemmas.Nat.{pow_pos}
 use Rattle.std.proofs.Math.Seq.{take-add, take-append-add, take-append_seam}
 use Rattle.std.proofs.lemmas.Nat.Bits.{bit_at-lt, bit_at_lowest, shr_and_one}
 use Rattle.std.proofs.lemmas.List.{same_lists, length-take, length-drop, take-set, take_more, take_more_set, length-set, take-take, take-append-le, take_all, nil_from_length, get_or_default}
-use Rattle.sel_bits.specs.Bits.{Bits, count_true}
+use Rattle.sel_bits.specs.Bits.{Bits}
 use Rattle.sel_bits.specs.Reading.{WordReading, reached, next_bits, next_count}
 use Rattle.sel_bits.specs.Words.{is_set, bits, word_of}
 use Rattle.sel_bits.proofs.Lists.{bits_suc, bits_zero}

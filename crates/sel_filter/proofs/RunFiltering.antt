@@ -1,6 +1,6 @@
 -- What the filter by runs keeps from word to word of its mask.
-use Rattle.std.proofs.Common.{◌≡◌, ℕ, zero, suc, ◌+◌, ◌-◌, ◌*◌, ◌/◌, ◌^◌, ◌<◌, ◌≤◌, ◌∙◌, sym, refl, ap, arith, List, ◌++◌, length, take, drop, Bool, false, true, append_assoc, append-nil, length-append, subst}
-use Rattle.std.proofs.lemmas.List.{length-take, length-drop, take-append-drop, take-append-le, take-take, take_all}
+use Rattle.std.proofs.Common.{◌≡◌, ℕ, ◌+◌, ◌-◌, ◌/◌, ◌^◌, ◌<◌, ◌≤◌, ◌∙◌, sym, refl, ap, arith, List, ◌++◌, length, take, drop, Bool, false, append_assoc, append-nil, length-append, subst}
+use Rattle.std.proofs.lemmas.List.{length-take, take-append-drop, take-append-le, take-take, take_all}
 use Rattle.std.proofs.Math.Seq.{take-add, take-append_seam}
 use Rattle.sel_bits.specs.Words.{bits, word_of}
 use Rattle.sel_filter.specs.Select.{select}

@@ -1,11 +1,11 @@
 -- What the loop over the runs of a word keeps, over plain variables.
-use Rattle.std.proofs.Common.{◌≡◌, ℕ, zero, suc, ◌+◌, ◌-◌, ◌*◌, ◌/◌, ◌%◌, ◌^◌, ◌<◌, ◌≤◌, ◌∙◌, sym, refl, ap, subst, ⊎_elim, arith, List, [], ◌∷◌, ◌++◌, length, take, drop, replicate, Bool, true, false, append_assoc, append-nil, zero-add}
-use Rattle.std.specs.Int.{bit_at, trailing_zeros, trailing_ones, bit_not, w64}
+use Rattle.std.proofs.Common.{◌≡◌, ℕ, ◌+◌, ◌-◌, ◌/◌, ◌^◌, ◌<◌, ◌≤◌, ◌∙◌, sym, ap, subst, ⊎_elim, arith, List, ◌++◌, length, take, drop, replicate, true, false, append_assoc, append-nil, zero-add}
+use Rattle.std.specs.Int.{bit_at, trailing_zeros, trailing_ones, w64}
 use Rattle.std.proofs.Math.Seq.{take-append_seam}
 use Rattle.std.proofs.lemmas.Bool.{cases_lt}
 use Rattle.std.proofs.lemmas.Nat.{shr-shr, shr_below, shr_le}
 use lib.Count.{trailing_of_zero}
-use Rattle.std.proofs.lemmas.Nat.Bits.{bit_at-lt, bit_at_above, bit_at-zero, bit_at-trailing_zeros, bit_at-trailing_ones, bit_at_ones}
+use Rattle.std.proofs.lemmas.Nat.Bits.{bit_at_above, bit_at-trailing_zeros, bit_at-trailing_ones, bit_at_ones}
 use Rattle.std.proofs.lemmas.List.{length-drop, drop-drop}
 use Rattle.sel_bits.specs.Words.{bits}
 use Rattle.sel_filter.specs.Select.{select}

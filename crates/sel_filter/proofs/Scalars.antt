@@ -1,11 +1,10 @@
 -- Values that the bits of bytes keep.
-use Rattle.std.proofs.Common.{◌≡◌, ℕ, zero, suc, ◌+◌, ◌-◌, ◌/◌, ◌%◌, ◌^◌, ◌<◌, ◌≤◌, min, List, [], ◌∷◌, length, take, drop, get_or, Bool, true, false, cond, refl, ap, sym, ◌∙◌, arith, add-one, drop-cons}
+use Rattle.std.proofs.Common.{◌≡◌, ℕ, zero, suc, ◌+◌, ◌-◌, ◌/◌, ◌%◌, ◌^◌, ◌<◌, ◌≤◌, min, List, [], ◌∷◌, length, take, drop, get_or, refl, ap, sym, ◌∙◌, arith}
 use Rattle.std.specs.Prelude.{◌==◌}
 use Rattle.std.specs.Int.{bit_at}
 use Rattle.std.proofs.lemmas.List.{same_lists, length-take, length-drop, get_or-take, get_or-drop}
-use Rattle.std.proofs.lemmas.List.Sums.{sum_by-cons}
 use Rattle.sel_bits.specs.Words.{is_set}
-use Rattle.sel_bits.specs.Bits.{bit_in, bits_from, count_true}
+use Rattle.sel_bits.specs.Bits.{bit_in, bits_from}
 use Rattle.sel_bits.proofs.BitLists.{length_bits_from, get_bits_from}
 use Rattle.sel_bits.proofs.Shifts.{bit_at_shr}
 use Rattle.sel_filter.specs.Scalar.{up_to_boundary}

@@ -1,20 +1,14 @@
 -- Runs of true bits in a word.
-use Rattle.std.proofs.Common.{◌≡◌, ◌≢◌, ℕ, zero, suc, ◌+◌, ◌-◌, ◌*◌, ◌/◌, ◌%◌, ◌^◌, ◌<◌, ◌≤◌, ◌∙◌, sym, refl, ap, subst, ⊎_elim, arith, List, [], ◌∷◌, ◌++◌, length, take, drop, replicate, Bool, true, false, cond, append_assoc, append-nil, length-append}
-use Rattle.std.specs.Prelude.{◌==◌, not, ◌&&◌}
-use Rattle.std.specs.Int.{bit_at, trailing_zeros, trailing_ones, w64}
-use Rattle.std.proofs.Math.Nat.{pow-suc, div-one}
-use Rattle.std.proofs.lemmas.Bool.{cases_lt}
-use Rattle.std.proofs.lemmas.Nat.{shr-shr, shr_below}
-use Rattle.std.proofs.lemmas.Nat.Bits.{bit_at-lt, bit_at-suc, bit_at-zero, bit_at_lowest, bit_at_above, bit_at-trailing_zeros, bit_at-trailing_ones}
-use Rattle.std.proofs.lemmas.List.{length-drop, take_all}
-use Rattle.sel_bits.specs.Words.{is_set, bits, word_of}
+use Rattle.std.proofs.Common.{◌≡◌, ℕ, zero, suc, ◌+◌, ◌-◌, ◌*◌, ◌/◌, ◌^◌, ◌<◌, ◌≤◌, ◌∙◌, sym, refl, ap, arith, List, [], ◌∷◌, ◌++◌, length, take, drop, replicate, Bool, true, false}
+use Rattle.std.specs.Prelude.{◌==◌}
+use Rattle.std.specs.Int.{bit_at}
+use Rattle.std.proofs.lemmas.Nat.Bits.{bit_at-suc}
+use Rattle.sel_bits.specs.Words.{bits}
 use Rattle.sel_filter.specs.Select.{select}
 use Rattle.sel_filter.specs.Runs.{starts_after}
 use Rattle.sel_bits.proofs.Lists.{bits_suc, bits_zero}
-use Rattle.sel_bits.proofs.Shifts.{bit_at_shr}
-use Rattle.sel_filter.proofs.Selects.{select_none}
 use Rattle.sel_filter.proofs.WordLists.{bits_of_zero}
-use Rattle.sel_bits.proofs.Packs.{bits_split, length_bits}
+use Rattle.sel_bits.proofs.Packs.{bits_split}
 
 -- a word whose t lowest bits are all b
 bits_equal : (b t w : ℕ) → ((i : ℕ) → i < t → bit_at w i ≡ b) → bits t w ≡ replicate t (b == 1)

@@ -9,7 +9,7 @@ use Rattle.sel_bits.proofs.Combining.{packed_more}
 use Rattle.sel_bits.proofs.Packed.{word_of-next, word_of-few}
 use Rattle.sel_bits.proofs.Padded.{word_of_lt}
 use Rattle.sel_arrow.specs.Masked.{valid_at}
-use Rattle.sel_runs.specs.Picks.{found, pick, PickFits}
+use Rattle.sel_runs.specs.Picks.{found, pick}
 use Rattle.sel_runs.specs.Plans.{bit_found, bits_found, IsPicked}
 
 -- one pick more

@@ -1,6 +1,6 @@
-use Rattle.std.proofs.Common.{◌≡◌, ◌<◌, ◌≤◌, ◌+◌, ◌-◌, ◌/◌, ◌^◌, List, length, take, drop, ◌++◌, ap, subst, sym, refl, ◌∙◌, arith}
+use Rattle.std.proofs.Common.{◌≡◌, ◌<◌, ◌/◌, ◌^◌, subst, sym, refl, arith}
 use Rattle.std.specs.Int.{trailing_zeros, w64}
-use Rattle.sel_filter.proofs.Running.{IsRun, IsRunning, run_within, running_next, running_last, lowest_run, shifted_away, copies_left}
+use Rattle.sel_filter.proofs.Running.{IsRun, run_within, running_next, running_last, lowest_run, shifted_away, copies_left}
 use Rattle.sel_filter.proofs.primitive.copy_runs.Goals as goal
 
 pub overflow_add-at : goal.overflow_add-at

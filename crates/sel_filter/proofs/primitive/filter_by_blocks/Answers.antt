@@ -1,4 +1,4 @@
-use Rattle.std.proofs.Common.{◌∙◌, [], length, ap, refl, arith}
+use Rattle.std.proofs.Common.{◌∙◌, [], length, ap, arith}
 use Rattle.sel_bits.specs.Reading.{WordReading, reached}
 use Rattle.sel_filter.proofs.Dense.{part_fits, part_kept, read_within, read_word}
 use Rattle.sel_filter.proofs.primitive.filter_by_blocks.Goals as goal

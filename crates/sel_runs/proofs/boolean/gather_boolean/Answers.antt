@@ -1,4 +1,4 @@
-use Rattle.std.proofs.Common.{◌≡◌, ◌∙◌, All, length, map, ap, sym, subst, arith, false, Option, Some}
+use Rattle.std.proofs.Common.{◌≡◌, ◌∙◌, All, length, map, ap, sym, subst, arith, false}
 use Rattle.std.specs.Option.{option_copied}
 use Rattle.std.proofs.lemmas.List.{length-map}
 use Rattle.sel_bits.specs.Bits.{Bits}

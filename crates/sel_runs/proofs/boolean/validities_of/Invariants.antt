@@ -1,4 +1,4 @@
-use Rattle.std.proofs.Common.{◌≡◌, take, map, Some}
+use Rattle.std.proofs.Common.{◌≡◌, take, map}
 use Rattle.std.specs.Option.{option_copied}
 use Rattle.sel_runs.proofs.boolean.validities_of.Given as goal
 

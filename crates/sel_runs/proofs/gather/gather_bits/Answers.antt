@@ -1,4 +1,4 @@
-use Rattle.std.proofs.Common.{◌≡◌, ◌≤◌, ◌+◌, length, map, arith}
+use Rattle.std.proofs.Common.{◌≤◌, ◌+◌, length, map, arith}
 use Rattle.std.specs.Option.{option_copied}
 use Rattle.sel_runs.specs.Plans.{HasBit}
 use Rattle.sel_runs.proofs.Gathers.{word_lt, words_more, left_all, left_length, left_behind}

@@ -1,4 +1,4 @@
-use Rattle.std.proofs.Common.{◌≡◌, ◌≤◌, ◌-◌, take, drop, map, length}
+use Rattle.std.proofs.Common.{◌≡◌, ◌≤◌, ◌-◌, take, drop, map}
 use Rattle.std.specs.Option.{option_copied}
 use Rattle.sel_runs.specs.Plans.{bits_found}
 use Rattle.sel_runs.proofs.gather.gather_bits.Given as goal

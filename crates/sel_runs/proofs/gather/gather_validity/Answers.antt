@@ -1,7 +1,7 @@
-use Rattle.std.proofs.Common.{◌≡◌, All, map, length, ap, sym, subst, ◌∙◌, Option, None}
+use Rattle.std.proofs.Common.{map, length, ap, sym, ◌∙◌}
 use Rattle.std.specs.Option.{option_copied}
 use Rattle.std.proofs.lemmas.List.{length-map}
-use Rattle.sel_runs.specs.Plans.{bit_found, bits_found}
+use Rattle.sel_runs.specs.Plans.{bit_found}
 use Rattle.sel_runs.specs.Validity.{bits_for}
 use Rattle.sel_runs.proofs.Gathers.{all_there, all_none}
 use Rattle.sel_runs.proofs.gather.gather_validity.Goals as goal

@@ -1,4 +1,4 @@
-use Rattle.std.proofs.Common.{◌≡◌, ◌≤◌, ◌∷◌, drop, map, sym, ◌∙◌, arith, length, length-drop}
+use Rattle.std.proofs.Common.{map, sym, ◌∙◌, arith}
 use Rattle.sel_runs.specs.Picks.{PickFits}
 use Rattle.sel_runs.proofs.Gathers.{next_all, rest_is, values_next}
 use Rattle.sel_runs.proofs.gather.gather_values.Goals as goal

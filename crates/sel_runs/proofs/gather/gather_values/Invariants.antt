@@ -1,4 +1,4 @@
-use Rattle.std.proofs.Common.{◌≡◌, ◌≤◌, take, drop, map, length, vec_len, vec_capacity}
+use Rattle.std.proofs.Common.{◌≡◌, ◌≤◌, take, drop, map, vec_len, vec_capacity}
 use Rattle.sel_runs.specs.Picks.{pick}
 use Rattle.sel_runs.proofs.gather.gather_values.Given as goal
 

@@ -1,4 +1,4 @@
-use Rattle.std.proofs.Common.{◌≡◌, ◌≤◌, All, length, map, ap, sym, subst, ◌∙◌, arith}
+use Rattle.std.proofs.Common.{◌≡◌, All, length, map, ap, sym, subst, ◌∙◌, arith}
 use Rattle.std.specs.Option.{option_copied}
 use Rattle.sel_arrow.specs.Masked.{hidden, number_rows}
 use Rattle.sel_arrow.specs.Value.{Value, Number, Null}

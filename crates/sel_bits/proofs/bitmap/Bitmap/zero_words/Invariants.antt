@@ -1,5 +1,5 @@
 -- The words so far have no true bit.
-use Rattle.std.proofs.Common.{◌-◌, ◌≡◌, ◌+◌, ◌*◌, ◌≤◌, Bool, false, length, take, drop, replicate}
+use Rattle.std.proofs.Common.{◌-◌, ◌≡◌, ◌*◌, ◌≤◌, false, take, drop, replicate}
 use Rattle.sel_bits.proofs.bitmap.Bitmap.zero_words.Given as goal
 
 abbrev pub invariant-loop-words : goal.invariant-loop-words
