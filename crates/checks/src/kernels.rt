@@ -5,14 +5,13 @@ use checks_columns::fixtures::{
 };
 use polars_compute::filter::boolean::filter_bitmap_and_validity;
 use polars_compute::filter::primitive::{filter_values, filter_values_and_validity};
-use polars_compute::filter::{filter, filter_boolean_kernel, filter_with_bitmap};
+use polars_compute::filter::{filter_boolean_kernel, filter_with_bitmap};
 use polars_compute::gather::binary::take_unchecked;
 use polars_compute::gather::primitive::take_primitive_unchecked;
 use polars_compute::gather::{indices_in_bounds, indices_in_bounds_of};
 use sel_arrow::array::Array;
 use sel_arrow::array_ref::ArrayRef;
 use sel_arrow::binary::BinaryArray;
-use sel_arrow::boolean::BooleanArray;
 use sel_arrow::primitive::{IdxArr, PrimitiveArray};
 use sel_bits::bitmap::Bitmap;
 use sel_bits::buffer::Buffer;
