@@ -12,12 +12,13 @@
 typedef struct job {
     size_t rows, made;          /* rows of the first column, and of the answer */
     size_t size;                /* bytes of a number */
-    size_t copied;              /* bytes that the copy reads and writes */
+    size_t copied;              /* bytes that the copy reads, and writes */
     size_t width, height;
     const uint8_t *mask, *valid; /* packed; no validity where it is null */
     const uint8_t *values, *others; /* numbers, 16-byte views, or packed bits */
     const int64_t *offsets;
     const uint32_t *indices;
+    const uint8_t *source;      /* what the copy reads */
     int64_t index;
     sel_column *first, *second, *third;
 } job;
@@ -96,13 +97,19 @@ TIMED(propagate)
 
 static bool copy(job *j) {
     uint8_t *out = room(j->copied);
-    memcpy(out, j->values, j->copied);
+    memcpy(out, j->source, j->copied);
     keep(out);
     return true;
 }
 TIMED(copy)
 
-/* ---- loops that filter */
+/* ---- loops that filter: they count what they keep before they take its memory, as all do that are not told */
+
+static size_t kept_of(const job *j) {
+    size_t count = 0;
+    for (size_t w = 0; w < (j->rows + 63) / 64; w++) count += (size_t)__builtin_popcountll(word_at(j->mask, w));
+    return count;
+}
 
 typedef struct wide { uint64_t low, high; } wide;
 
@@ -150,8 +157,8 @@ static uint64_t compress(uint64_t v, uint64_t m) {
     return v;
 }
 
-static uint8_t *kept_bits(const job *j, const uint8_t *bits) {
-    uint8_t *out = room(j->made / 8 + 16);
+static uint8_t *kept_bits(const job *j, const uint8_t *bits, size_t made) {
+    uint8_t *out = room(made / 8 + 16);
     uint64_t pending = 0;
     size_t words = 0;
     unsigned held = 0;
@@ -172,7 +179,8 @@ static uint8_t *kept_bits(const job *j, const uint8_t *bits) {
 }
 
 static bool loop_filter(job *j) {
-    uint8_t *out = room((j->made + 64) * j->size);
+    size_t made = kept_of(j);
+    uint8_t *out = room((made + 64) * j->size);
     switch (j->size) {
     case 1: kept_1(j, j->values, (uint8_t *)out); break;
     case 2: kept_2(j, j->values, (uint16_t *)out); break;
@@ -180,21 +188,22 @@ static bool loop_filter(job *j) {
     case 8: kept_8(j, j->values, (uint64_t *)out); break;
     default: kept_16(j, j->values, (wide *)out); break;
     }
-    if (j->valid) keep(kept_bits(j, j->valid));
+    if (j->valid) keep(kept_bits(j, j->valid, made));
     keep(out);
     return true;
 }
 TIMED(loop_filter)
 
 static bool loop_filter_bits(job *j) {
-    keep(kept_bits(j, j->values));
+    keep(kept_bits(j, j->values, kept_of(j)));
     return true;
 }
 TIMED(loop_filter_bits)
 
 /* Two fields of 8 bytes. */
 static bool loop_filter_pairs(job *j) {
-    uint8_t *first = room((j->made + 64) * 8), *second = room((j->made + 64) * 8);
+    size_t made = kept_of(j);
+    uint8_t *first = room((made + 64) * 8), *second = room((made + 64) * 8);
     kept_8(j, j->values, (uint64_t *)first);
     kept_8(j, j->others, (uint64_t *)second);
     keep(first);
@@ -206,7 +215,7 @@ TIMED(loop_filter_pairs)
 /* Lists of one length, of numbers of 8 bytes; and lists between offsets. */
 static bool loop_filter_blocks(job *j) {
     size_t bytes = j->width * 8, count = 0;
-    uint8_t *out = room(j->made * bytes);
+    uint8_t *out = room(kept_of(j) * bytes);
     for (size_t i = 0; i < j->rows; i++)
         if (bit(j->mask, i)) memcpy(out + count++ * bytes, j->values + i * bytes, bytes);
     keep(out);
@@ -215,13 +224,15 @@ static bool loop_filter_blocks(job *j) {
 TIMED(loop_filter_blocks)
 
 static bool lists_of(job *j, bool taken) {
-    size_t bytes = 0, count = 0;
+    size_t bytes = 0, made = 0, count = 0;
     for (size_t i = 0; i < j->rows; i++) {
         size_t row = taken ? j->indices[i] : i;
-        if (taken || bit(j->mask, i)) bytes += (size_t)(j->offsets[row + 1] - j->offsets[row]) * j->size;
+        if (!taken && !bit(j->mask, i)) continue;
+        bytes += (size_t)(j->offsets[row + 1] - j->offsets[row]) * j->size;
+        made++;
     }
     uint8_t *out = room(bytes);
-    int64_t *ends = (int64_t *)room((j->made + 1) * 8), end = 0;
+    int64_t *ends = (int64_t *)room((made + 1) * 8), end = 0;
     ends[count++] = 0;
     for (size_t i = 0; i < j->rows; i++) {
         size_t row = taken ? j->indices[i] : i;

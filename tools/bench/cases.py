@@ -21,16 +21,19 @@ class Job(ctypes.Structure):
     """The job of bench.c."""
 
     _fields_ = [(name, c_size_t) for name in ("rows", "made", "size", "copied", "width", "height")] \
-        + [(name, c_void_p) for name in ("mask", "valid", "values", "others", "offsets", "indices")] + [("index", c_int64)] \
+        + [(name, c_void_p) for name in ("mask", "valid", "values", "others", "offsets", "indices", "source")] + [("index", c_int64)] \
         + [(name, c_void_p) for name in ("first", "second", "third")]
 
 
 class Case:
     """One row of the table."""
 
-    def __init__(self, kernel, rows, varied, calls, check, numpy=None, keep=(), **parts):
+    def __init__(self, kernel, rows, varied, calls, check, numpy=None, keep=(), read=0, written=0, **parts):
+        """`read` and `written` are the bytes that any way of doing it must read and write; the copy moves as many in all."""
         self.kernel, self.rows, self.varied, self.calls, self.check, self.numpy = kernel, rows, varied, calls, check, numpy
-        self.job, self.keep = Job(rows=rows), [keep]
+        copied = (read + written + 1) // 2
+        self.job, self.keep = Job(rows=rows, copied=copied), [keep]
+        parts["source"] = np.ones(copied + 1, dtype=np.uint8)
         for name, part in parts.items():
             self.keep.append(part)
             setattr(self.job, name, place_of(part))
@@ -169,7 +172,7 @@ def filter_of_numbers(rows, size, density, runs=False, offset=0, nulls=False):
     by_numpy = (lambda: values[mask]) if valid is None else (lambda: (values[mask], valid[mask]))
     parts = {} if valid is None else {"valid": packed(valid)}
     return Case(f"filter, {size} byte{'s' if size > 1 else ''}", rows, varied, ("filter", "loop_filter"), check, by_numpy, made=kept, size=size,
-                copied=kept * size, mask=bits, values=values, first=column, second=flags, **parts)
+                read=rows // 8 + kept * size + (rows // 8 if nulls else 0), written=kept * size + (kept // 8 if nulls else 0), mask=bits, values=values, first=column, second=flags, **parts)
 
 
 def filter_of_wides(rows, density):
@@ -178,21 +181,21 @@ def filter_of_wides(rows, density):
     values[:] = RNG.integers(0, 2 ** 63, (rows, 2), dtype=np.uint64)
     column, flags, pairs = wides(values), mask_column(mask), values.view(np.complex128).reshape(-1)
     return Case("filter, 16 bytes", rows, f"{density:g} random", ("filter", "loop_filter"), lambda: equal(read_wides(column.filter(flags)), values[mask], "wides"),
-                lambda: pairs[mask], made=int(mask.sum()), size=16, copied=int(mask.sum()) * 16, mask=packed(mask), values=values, first=column, second=flags)
+                lambda: pairs[mask], made=int(mask.sum()), size=16, read=rows // 8 + int(mask.sum()) * 16, written=int(mask.sum()) * 16, mask=packed(mask), values=values, first=column, second=flags)
 
 
 def filter_of_bits(rows, density):
     mask, flags = random_mask(rows, density), random_mask(rows, .5)
     column, by, kept = Column.from_numpy(flags), mask_column(mask), int(mask.sum())
     return Case("filter, bits", rows, f"{density:g} random", ("filter", "loop_filter_bits"), lambda: equal(column.filter(by).to_numpy(), flags[mask], "bits"),
-                lambda: flags[mask], made=kept, copied=kept // 8, mask=packed(mask), values=packed(flags), first=column, second=by)
+                lambda: flags[mask], made=kept, read=rows // 4, written=kept // 8, mask=packed(mask), values=packed(flags), first=column, second=by)
 
 
 def filter_of_views(rows, density):
     mask, views = random_mask(rows, density), views_of(rows)
     column, flags, kept = texts(views), mask_column(mask), int(mask.sum())
     return Case("filter, views", rows, f"{density:g} random", ("filter", "loop_filter"), lambda: equal(read_views(column.filter(flags)), views[mask], "views"),
-                made=kept, size=16, copied=kept * 16, mask=packed(mask), values=views, first=column, second=flags)
+                made=kept, size=16, read=rows // 8 + kept * 16, written=kept * 16, mask=packed(mask), values=views, first=column, second=flags)
 
 
 def list_data(rows):
@@ -210,7 +213,7 @@ def filter_of_lists(rows, density):
         equal(found, lengths[mask], "lengths of lists")
         equal(items, values[np.repeat(mask, lengths)], "items of lists")
 
-    return Case("filter, lists", rows, f"{density:g} random", ("filter", "loop_filter_lists"), check, made=kept, size=8, copied=int(lengths[mask].sum() * 8 + kept * 8),
+    return Case("filter, lists", rows, f"{density:g} random", ("filter", "loop_filter_lists"), check, made=kept, size=8, read=rows // 8 + int(lengths[mask].sum() * 8 + kept * 8), written=int(lengths[mask].sum() * 8 + kept * 8),
                 mask=packed(mask), values=values, offsets=offsets, first=column, second=flags)
 
 
@@ -219,7 +222,7 @@ def filter_of_blocks(rows, density):
     column, flags, kept, square = blocks(4, values), mask_column(mask), int(mask.sum()), values.reshape(-1, 4)
     return Case("filter, lists of four", rows, f"{density:g} random", ("filter", "loop_filter_blocks"),
                 lambda: equal(column.filter(flags)._child().to_numpy(), square[mask].reshape(-1), "blocks"), lambda: square[mask],
-                made=kept, width=4, copied=kept * 32, mask=packed(mask), values=values, first=column, second=flags)
+                made=kept, width=4, read=rows // 8 + kept * 32, written=kept * 32, mask=packed(mask), values=values, first=column, second=flags)
 
 
 def filter_of_structs(rows, density):
@@ -236,7 +239,7 @@ def filter_of_structs(rows, density):
         equal(answer._field(1).to_numpy(), second[mask], "the second field")
 
     return Case("filter, two fields", rows, f"{density:g} random", ("filter", "loop_filter_pairs"), check, lambda: (first[mask], second[mask]),
-                made=kept, copied=kept * 16, mask=packed(mask), values=first, others=second, first=column, second=flags)
+                made=kept, read=rows // 8 + kept * 16, written=kept * 16, mask=packed(mask), values=first, others=second, first=column, second=flags)
 
 
 # ---- takes
@@ -259,7 +262,7 @@ def take_of_numbers(rows, size, order, nulls=False):
     by_numpy = (lambda: np.take(values, places)) if valid is None else (lambda: (np.take(values, places), np.take(valid, places)))
     parts = {} if valid is None else {"valid": packed(valid)}
     return Case(f"take, {size} byte{'s' if size > 1 else ''}", rows, order + (", nulls" if nulls else ""), ("take", "loop_take"), check, by_numpy,
-                made=rows, size=size, copied=rows * size, values=values, indices=places, first=column, second=indices, **parts)
+                made=rows, size=size, read=rows * (4 + size), written=rows * size, values=values, indices=places, first=column, second=indices, **parts)
 
 
 def take_of_others(rows):
@@ -268,9 +271,9 @@ def take_of_others(rows):
     flags, views, (lengths, offsets, values) = random_mask(rows, .5), views_of(rows), list_data(rows)
     bits, shown, listed = Column.from_numpy(flags), texts(views), lists(offsets, values)
     yield Case("take, bits", rows, "random", ("take", "loop_take_bits"), lambda: equal(bits.take(indices).to_numpy(), flags[places], "bits of a take"),
-               lambda: np.take(flags, places), made=rows, copied=rows // 8, values=packed(flags), indices=places, first=bits, second=indices)
+               lambda: np.take(flags, places), made=rows, read=rows * 4 + rows // 8, written=rows // 8, values=packed(flags), indices=places, first=bits, second=indices)
     yield Case("take, views", rows, "random", ("take", "loop_take"), lambda: equal(read_views(shown.take(indices)), views[places], "views of a take"),
-               made=rows, size=16, copied=rows * 16, values=views, indices=places, first=shown, second=indices)
+               made=rows, size=16, read=rows * 20, written=rows * 16, values=views, indices=places, first=shown, second=indices)
 
     def check_lists():
         found, items = read_lists(listed.take(indices))
@@ -280,7 +283,7 @@ def take_of_others(rows):
         equal(items, values[wanted], "items of taken lists")
 
     copied = int(lengths[places].sum() * 8 + rows * 8)
-    yield Case("take, lists", rows, "random", ("take", "loop_take_lists"), check_lists, made=rows, size=8, copied=copied,
+    yield Case("take, lists", rows, "random", ("take", "loop_take_lists"), check_lists, made=rows, size=8, read=copied + rows * 4, written=copied,
                values=values, offsets=offsets, indices=places, first=listed, second=indices)
     text = RNG.integers(0, 256, int(offsets[-1]), dtype=np.uint8)
     joined = binaries(offsets, text)
@@ -297,7 +300,7 @@ def take_of_others(rows):
         equal(np.diff(found), lengths[places], "lengths of taken bytes")
         equal(data[found[0]:found[-1]], text[wanted], "taken bytes")
 
-    yield Case("take, bytes", rows, "random", ("take", "loop_take_lists"), check_bytes, made=rows, size=1, copied=int(lengths[places].sum() + rows * 8),
+    yield Case("take, bytes", rows, "random", ("take", "loop_take_lists"), check_bytes, made=rows, size=1, read=int(lengths[places].sum() + rows * 12), written=int(lengths[places].sum() + rows * 8),
                values=text, offsets=offsets, indices=places, first=joined, second=indices)
 
 
@@ -309,7 +312,7 @@ def choices(rows):
     first, second = padded(RNG.integers(0, 2 ** 62, rows)), padded(RNG.integers(0, 2 ** 62, rows))
     flags, bits, one = mask_column(mask), packed(mask), Column.from_numpy(first)
     two, scalar, other = Column.from_numpy(second), Column.from_numpy(first[:1]), Column.from_numpy(second[:1])
-    parts = {"made": rows, "size": 8, "copied": rows * 8, "mask": bits, "values": first, "others": second}
+    parts = {"made": rows, "size": 8, "read": rows // 8 + rows * 8, "written": rows * 8, "mask": bits, "values": first, "others": second}
     yield Case("choose, 8 bytes", rows, "both columns", ("choose", "loop_choose"), lambda: equal(sel.choose(flags, one, two).to_numpy(), np.where(mask, first, second), "a choice"),
                lambda: np.where(mask, first, second), first=flags, second=one, third=two, **parts)
     yield Case("choose, 8 bytes", rows, "one scalar", ("choose_one", "loop_choose_one"),
@@ -322,7 +325,7 @@ def choices(rows):
     left, right = texts(views), texts(others)
     yield Case("choose, views", rows, "both columns", ("choose", "loop_choose_views"),
                lambda: equal(read_views(sel.choose(flags, left, right)), np.where(mask[:, None], views, others), "a choice of views"),
-               made=rows, size=16, copied=rows * 16, mask=bits, values=views, others=others, first=flags, second=left, third=right)
+               made=rows, size=16, read=rows // 8 + rows * 16, written=rows * 16, mask=bits, values=views, others=others, first=flags, second=left, third=right)
 
 
 # ---- lists and several columns
@@ -337,18 +340,18 @@ def lists_and_several(rows):
         equal(~np.ma.getmaskarray(answer), there, "which lists have an element")
         equal(np.ma.getdata(answer)[there], values[offsets[:-1][there] + 1], "elements of lists")
 
-    yield Case("sublist_get", rows, "index 1", ("sublist_get", "loop_sublist_get"), check_get, made=rows, copied=rows * 8, index=1,
+    yield Case("sublist_get", rows, "index 1", ("sublist_get", "loop_sublist_get"), check_get, made=rows, read=rows * 16, written=rows * 8, index=1,
                values=values, offsets=offsets, first=column)
     numbers = RNG.integers(0, 2 ** 62, rows * 4)
     fixed = blocks(4, numbers)
     yield Case("fixed_get", rows, "index 1 of four", ("fixed_get", "loop_fixed_get"), lambda: equal(fixed.fixed_get(1).to_numpy(), numbers[1::4], "entries"),
-               lambda: numbers[1::4].copy(), made=rows, width=4, copied=rows * 8, index=1, values=numbers, first=fixed)
+               lambda: numbers[1::4].copy(), made=rows, width=4, read=rows * 8, written=rows * 8, index=1, values=numbers, first=fixed)
     one, two, high = RNG.integers(0, 2 ** 62, rows), RNG.integers(0, 2 ** 62, rows), rows // 4
     pair = [Column.from_numpy(one), Column.from_numpy(two)]
     handles, shares = several(pair)
     yield Case("flatten", rows, "two by four", ("flatten", "loop_flatten"),
                lambda: equal(sel.flatten(pair, [4, 4], high).to_numpy(), np.hstack([one.reshape(-1, 4), two.reshape(-1, 4)]).reshape(-1), "a flatten"),
-               lambda: np.hstack([one.reshape(-1, 4), two.reshape(-1, 4)]), keep=shares, made=2 * rows, width=4, height=high, copied=rows * 16,
+               lambda: np.hstack([one.reshape(-1, 4), two.reshape(-1, 4)]), keep=shares, made=2 * rows, width=4, height=high, read=rows * 16, written=rows * 16,
                values=one, others=two, first=handles)
     picks = np.stack([RNG.integers(0, 2, rows, dtype=np.uint32), RNG.integers(0, rows, rows, dtype=np.uint32)], axis=1).copy()
     both = np.stack([one, two])
@@ -359,7 +362,7 @@ def lists_and_several(rows):
         equal(answer.to_numpy(), both[picks[:, 0], picks[:, 1]], "picked rows")
 
     yield Case("collect_rows", rows, "random, of two", ("collect_rows", "loop_collect_rows"), check_picks, lambda: both[picks[:, 0], picks[:, 1]],
-               keep=shares, made=rows, copied=rows * 8, values=picks, others=one, offsets=two, first=handles)
+               keep=shares, made=rows, read=rows * 16, written=rows * 8, values=picks, others=one, offsets=two, first=handles)
     count = max(64, rows // 16)
     there, views, keys = random_mask(count, .9), views_of(count), RNG.integers(0, count, rows, dtype=np.uint32)
     dictionary, named = texts(views, there), Column.from_numpy(keys)
@@ -371,7 +374,7 @@ def lists_and_several(rows):
         equal(np.ma.getdata(found)[there[keys]], (np.cumsum(there) - 1)[keys[there[keys]]], "the keys' numbers")
         equal(read_views(new_values), views[there], "values that stay")
 
-    yield Case("propagate_dictionary", rows, ".9 of the values valid", ("propagate", "loop_propagate"), check_dictionary, made=rows, height=count, copied=rows * 4,
+    yield Case("propagate_dictionary", rows, ".9 of the values valid", ("propagate", "loop_propagate"), check_dictionary, made=rows, height=count, read=rows * 4 + count * 16, written=rows * 4 + rows // 8 + count * 16,
                mask=packed(there), values=views, indices=keys, first=named, second=dictionary)
 
 

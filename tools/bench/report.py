@@ -13,23 +13,23 @@ import numpy
 
 # Why a row is slower than a peer, by the beginning of its kernel's name; the first that fits counts.
 CAUSES = (
-    ("filter, bits", "the library is built for any processor of x86-64-v2, and packs bits by shifts; the loops are compiled for this one"),
-    ("filter, lists", "rows of lists are copied by runs of kept rows, which are listed first"),
-    ("filter, two fields", "the mask is read again for each field, and its runs are listed first"),
-    ("filter, views", "the data buffers are shared by counts, and the views go by the kernel of 16 bytes"),
-    ("filter", "the library is built for any processor of x86-64-v2, the loops and numpy use this one's; a mask is read as a column, with its validity"),
-    ("take, views", "indices are tested to be in bounds, and the data buffers are shared by counts"),
-    ("take, bits", "indices are tested to be in bounds, and each bit is read by a checked call"),
-    ("take, lists", "rows of lists are copied by runs, one for each index, which are listed first"),
-    ("take, bytes", "the bytes of each row are copied by a call, after the offsets are made"),
-    ("take", "indices are tested to be in bounds, and a validity is read where there is one"),
-    ("choose, views", "choices of views for C go by picks of rows, not by the words of the mask"),
-    ("choose, 8 bytes", "the mask's words are read as bits in a loop of 64 that is not vectorized for x86-64-v2; two scalars go by picks of rows"),
-    ("sublist_get", "elements are taken by runs, one for each list, which are listed first"),
-    ("fixed_get", "the index is repeated for each list and tested, and entries are taken by it"),
-    ("flatten", "rows are copied by runs, which are listed first"),
-    ("collect_rows", "picks are tested, made to runs and copied by these"),
-    ("propagate_dictionary", "keys are tested, and both columns are columns of their own afterwards"),
+    ("filter, bits", "the library is built for any processor of x86-64-v2, the loops for this one; the kept bits are counted and the ends of the mask trimmed first"),
+    ("filter, lists", "the kept rows are listed as runs, and the lists and their items are copied by these"),
+    ("filter, two fields", "the kept rows are listed as runs once, and each field is copied by these, where the loop goes by the mask's words"),
+    ("filter, views", "the ends of the mask are trimmed and its kept rows counted first, and each data buffer is shared by a count"),
+    ("filter", "the library is built for any processor of x86-64-v2, the loops and numpy use this one's; the ends of the mask are trimmed and its kept rows counted first"),
+    ("take, views", "each index is tested to have a row first, and each data buffer is shared by a count"),
+    ("take, bits", "each index is tested to have a row first, and bits are read and packed one by one"),
+    ("take, lists", "rows are listed as runs, one for each index, and the lists and their items are copied by these"),
+    ("take, bytes", "each index is tested to have a row first, and the bytes of each row are put behind the others by a call"),
+    ("take", "each index is tested to have a row first; the loop tests none"),
+    ("choose, views", "choices of views for C are made of picks, one a row, and not by the mask's words"),
+    ("choose, 8 bytes", "choices with a scalar on each side are made of picks, one a row; the others go by the mask's words, built for any processor of x86-64-v2"),
+    ("sublist_get", "the elements are listed as runs, one for each list, and copied by these"),
+    ("fixed_get", "the entries are listed as runs, one for each list, and copied by these"),
+    ("flatten", "the parts of each row are listed as runs, and copied by these"),
+    ("collect_rows", "each pick is tested to have a row, made to a run, and copied by it"),
+    ("propagate_dictionary", "each key is tested to have a value first; both answers are columns of their own"),
 )
 
 COLORS = (("sel", "#2a6fdb", "#7fb0ff"), ("loop", "#2f8f4e", "#7bd598"), ("numpy", "#b8681c", "#f0a860"), ("copy", "#777777", "#aaaaaa"))
@@ -77,7 +77,7 @@ def ns(times: dict, name: str) -> str:
 
 
 def table(rows: list[tuple], with_cause: bool) -> list[str]:
-    head = "| kernel | rows | | sel | loop | numpy | copy | to the best peer | to the copy |" + (" cause |" if with_cause else "")
+    head = "| kernel | rows | varied | sel | loop | numpy | copy | to the best peer | to the copy |" + (" cause |" if with_cause else "")
     lines = [head, "|" + "---|" * (head.count("|") - 1)]
     for ratio, name, to_copy, kernel, count, varied, times in rows:
         cells = [kernel, f"{count:,}", varied, *(ns(times, each) for each in ("sel", "loop", "numpy", "copy")), f"{ratio:.2f} ({name})", f"{to_copy:.2f}"]
@@ -105,7 +105,7 @@ def picture(path: pathlib.Path, title: str, labels: list[str], lines: dict[str, 
 
     values = [value for line in lines.values() for value in line if value > 0]
     low, high = math.floor(math.log10(min(values))), math.ceil(math.log10(max(values)))
-    width, height, left, top = 640, 360, 64, 40
+    width, height, left, top = 640, 360, 76, 40
     across = (width - left - 110) / max(1, len(labels) - 1)
     up = (height - top - 50) / max(1, high - low)
 
@@ -127,16 +127,14 @@ def picture(path: pathlib.Path, title: str, labels: list[str], lines: dict[str, 
     for place, label in enumerate(labels):
         parts.append(f'<text x="{x(place):.1f}" y="{height - 28}" text-anchor="middle">{label}</text>')
     parts.append(f'<line class="axis" x1="{left}" x2="{width - 110}" y1="{height - 50}" y2="{height - 50}"/>')
-    ends: list[float] = []
-    for name, _, _ in COLORS:
-        if name not in lines:
-            continue
+    drawn = [name for name, _, _ in COLORS if name in lines]
+    for name in drawn:
         points = " ".join(f"{x(place):.1f},{y(value):.1f}" for place, value in enumerate(lines[name]) if value > 0)
-        end = y(lines[name][-1])
-        while any(abs(end - other) < 13 for other in ends):
-            end += 13
-        ends.append(end)
-        parts.append(f'<polyline class="{name}" points="{points}"/><text class="{name}" x="{width - 100}" y="{end + 4:.1f}">{name}</text>')
+        parts.append(f'<polyline class="{name}" points="{points}"/>')
+    below = 0.0
+    for name in sorted(drawn, key=lambda name: y(lines[name][-1])):
+        below = max(y(lines[name][-1]), below + 13)
+        parts.append(f'<text class="{name}" x="{width - 100}" y="{below + 4:.1f}">{name}</text>')
     path.write_text("\n".join(parts + ["</svg>"]) + "\n")
 
 
@@ -160,7 +158,7 @@ def write(docs: pathlib.Path, results: list, scale: list, load: list[float], com
     repeats = sum(spread(each[3]) <= .1 for each in results)
     text = ["# Benchmarks", "", "Written by `make bench`; the text is the tool's too. Times are ns a row of the first column: the best of many rounds, and the median in parentheses. "
             "Each answer was compared with numpy's before it was timed, and each contender makes the whole result, its memory too. "
-            "`loop` is a plain loop of C, compiled for this processor; `numpy` stands where numpy has the operation, and is called from Python; `copy` copies as many bytes as the answer has.", ""]
+            "`loop` is a plain loop of C, compiled for this processor; `numpy` stands where numpy has the operation, and is called from Python; `copy` moves as many bytes as any way of doing it must read and write.", ""]
     text += machine(load, compiler, flags)
     text += [f"- Of {len(results)} rows the library's median lies within 10 percent of its best in {repeats}.",
              "- Not measured, since the library for C does not export them: `pext64`, and operations on bitmaps at unlike offsets.", ""]
