@@ -1,22 +1,27 @@
-/* Times kernels of libsel beside plain C loops and a copy of the bytes, in one process, in turn. It prints one line a row:
- * the kernel, the rows, what was varied, and for each contender the best and the median time in ns a row.
- * Every answer is compared with a loop over the rows before it is timed. */
+/* What tools/bench/run times, one contender at a time: calls of libsel, the plain loops that a user would write in their
+ * place, and a copy of the bytes that must be read and written. Each does the whole of its job, its result's memory too,
+ * so many times as it is told, and answers how many nanoseconds of this thread that took. */
 #define _POSIX_C_SOURCE 200809L
 #include "sel.h"
 
-#include <stdio.h>
 #include <stdlib.h>
 #include <string.h>
 #include <time.h>
 
-static uint64_t seed = 0x9e3779b97f4a7c15u;
-
-static uint64_t next_random(void) {
-    seed ^= seed << 13;
-    seed ^= seed >> 7;
-    seed ^= seed << 17;
-    return seed;
-}
+/* A job; which parts are set depends on the contender. Masks and bits have 64 bits of room behind their last one. */
+typedef struct job {
+    size_t rows, made;          /* rows of the first column, and of the answer */
+    size_t size;                /* bytes of a number */
+    size_t copied;              /* bytes that the copy reads, and writes */
+    size_t width, height;
+    const uint8_t *mask, *valid; /* packed; no validity where it is null */
+    const uint8_t *values, *others; /* numbers, 16-byte views, or packed bits */
+    const int64_t *offsets;
+    const uint32_t *indices;
+    const uint8_t *source;      /* what the copy reads */
+    int64_t index;
+    sel_column *first, *second, *third;
+} job;
 
 static double now_ns(void) {
     struct timespec t;
@@ -24,59 +29,17 @@ static double now_ns(void) {
     return (double)t.tv_sec * 1e9 + (double)t.tv_nsec;
 }
 
-static void *room(size_t bytes) {
-    void *at = malloc(bytes + 64);
-    if (!at) {
-        fputs("bench: out of memory\n", stderr);
-        exit(1);
-    }
-    memset(at, 0, bytes + 64);
-    return at;
-}
-
-static void must(bool holds, const char *what) {
-    if (!holds) {
-        fprintf(stderr, "bench: another answer: %s\n", what);
-        exit(1);
-    }
-}
-
-/* ---- what is timed: each contender does the whole of it, its result's memory too */
-
-typedef struct job {
-    size_t rows, kept;
-    uint8_t *mask;             /* packed */
-    uint8_t *bits;             /* packed values */
-    uint64_t *numbers;
-    uint32_t *indices;
-    size_t size;               /* bytes of a number */
-    sel_column column, mask_column, index_column, other;
-} job;
-
-typedef void (*contender)(job *);
-
-static bool bit(const uint8_t *bits, size_t i) { return bits[i / 8] >> (i % 8) & 1; }
-
 static volatile uint8_t sink;
 
-static void keep_result(void *at) {
+/* An answer is written to, and freed. */
+static void keep(uint8_t *at) {
     sink = *(volatile uint8_t *)at;
     free(at);
 }
 
-static void sel_filter_it(job *j) {
-    sel_column out = {0};
-    must(sel_filter(&j->column, &j->mask_column, &out) == SEL_DONE, "sel_filter");
-    sel_free(&out);
-}
+static uint8_t *room(size_t bytes) { return malloc(bytes + 64); }
 
-static void sel_take_it(job *j) {
-    sel_column out = {0};
-    must(sel_take(&j->column, &j->index_column, &out) == SEL_DONE, "sel_take");
-    sel_free(&out);
-}
-
-/* ---- plain loops */
+static bool bit(const uint8_t *bits, size_t i) { return bits[i / 8] >> (i % 8) & 1; }
 
 static uint64_t word_at(const uint8_t *bits, size_t word) {
     uint64_t value;
@@ -84,7 +47,101 @@ static uint64_t word_at(const uint8_t *bits, size_t word) {
     return value;
 }
 
-/* The bits of v under m, packed: six rounds, each moving by a power of two. */
+#define TIMED(name)                                                  \
+    double bench_##name(job *j, size_t repeats) {                    \
+        double start = now_ns();                                     \
+        for (size_t k = 0; k < repeats; k++)                         \
+            if (!name(j)) return -1;                                 \
+        return now_ns() - start;                                     \
+    }
+
+/* ---- calls of libsel */
+
+#define CALL(name, call)                                             \
+    static bool name(job *j) {                                       \
+        sel_column out = {0};                                        \
+        bool done = (call) == SEL_DONE;                              \
+        sel_free(&out);                                              \
+        return done;                                                 \
+    }                                                                \
+    TIMED(name)
+
+CALL(filter, sel_filter(j->first, j->second, &out))
+CALL(take, sel_take(j->first, j->second, &out))
+CALL(choose, sel_choose(j->first, j->second, j->third, &out))
+CALL(choose_one, sel_choose_one(j->first, j->second, j->third, &out))
+CALL(choose_of_two, sel_choose_of_two(j->first, j->second, j->third, &out))
+CALL(sublist_get, sel_sublist_get(j->first, j->index, &out))
+CALL(fixed_get, sel_fixed_get(j->first, j->index, true, &out))
+CALL(collect_rows, sel_collect_rows(j->first, 2, (const sel_pick *)j->values, j->made, (const uint8_t[1]){0}, 0, false, &out))
+
+static bool flatten(job *j) {
+    const size_t widths[2] = {j->width, j->width};
+    sel_column out = {0};
+    bool done = sel_flatten(j->first, 2, widths, 2, j->height, &out) == SEL_DONE;
+    sel_free(&out);
+    return done;
+}
+TIMED(flatten)
+
+static bool propagate(job *j) {
+    sel_column keys = {0}, texts = {0};
+    bool done = sel_propagate_dictionary(j->first, j->second, &keys, &texts) == SEL_DONE;
+    sel_free(&keys);
+    sel_free(&texts);
+    return done;
+}
+TIMED(propagate)
+
+/* ---- the copy */
+
+static bool copy(job *j) {
+    uint8_t *out = room(j->copied);
+    memcpy(out, j->source, j->copied);
+    keep(out);
+    return true;
+}
+TIMED(copy)
+
+/* ---- loops that filter: they count what they keep before they take its memory, as all do that are not told */
+
+static size_t kept_of(const job *j) {
+    size_t count = 0;
+    for (size_t w = 0; w < (j->rows + 63) / 64; w++) count += (size_t)__builtin_popcountll(word_at(j->mask, w));
+    return count;
+}
+
+typedef struct wide { uint64_t low, high; } wide;
+
+/* Of each word of the mask: nothing, a copy, the bits that are set, or each value written and kept where its bit is set. */
+#define FILTER(name, type)                                           \
+    static size_t name(const job *j, const uint8_t *from, type *out) { \
+        const type *values = (const type *)from;                     \
+        size_t count = 0;                                            \
+        for (size_t w = 0; w < (j->rows + 63) / 64; w++) {           \
+            uint64_t m = word_at(j->mask, w);                        \
+            const type *block = values + w * 64;                     \
+            if (m == ~(uint64_t)0) {                                 \
+                memcpy(out + count, block, 64 * sizeof(type));       \
+                count += 64;                                         \
+            } else if (__builtin_popcountll(m) <= 16) {              \
+                for (; m; m &= m - 1) out[count++] = block[__builtin_ctzll(m)]; \
+            } else {                                                 \
+                for (unsigned i = 0; i < 64; i++) {                  \
+                    out[count] = block[i];                           \
+                    count += m >> i & 1;                             \
+                }                                                    \
+            }                                                        \
+        }                                                            \
+        return count;                                                \
+    }
+FILTER(kept_1, uint8_t)
+FILTER(kept_2, uint16_t)
+FILTER(kept_4, uint32_t)
+FILTER(kept_8, uint64_t)
+FILTER(kept_16, wide)
+
+/* The bits of v under m, packed, by six rounds, each of which moves by a power of two. */
 static uint64_t compress(uint64_t v, uint64_t m) {
     v &= m;
     uint64_t below = ~m << 1;
@@ -100,249 +157,242 @@ static uint64_t compress(uint64_t v, uint64_t m) {
     return v;
 }
 
-static void loop_filter_bits(job *j) {
-    uint64_t *out = malloc(j->kept / 8 + 16), pending = 0;
+static uint8_t *kept_bits(const job *j, const uint8_t *bits, size_t made) {
+    uint8_t *out = room(made / 8 + 16);
+    uint64_t pending = 0;
     size_t words = 0;
     unsigned held = 0;
-    for (size_t w = 0; w < j->rows / 64; w++) {
-        uint64_t m = word_at(j->mask, w);
-        uint64_t kept = compress(word_at(j->bits, w), m);
+    for (size_t w = 0; w < (j->rows + 63) / 64; w++) {
+        uint64_t m = word_at(j->mask, w), kept = compress(word_at(bits, w), m);
         unsigned count = (unsigned)__builtin_popcountll(m);
         pending |= kept << held;
         if (held + count >= 64) {
-            out[words++] = pending;
+            memcpy(out + words++ * 8, &pending, 8);
             pending = held ? kept >> (64 - held) : 0;
             held = held + count - 64;
         } else {
             held += count;
         }
     }
-    out[words] = pending;
-    keep_result(out);
+    memcpy(out + words * 8, &pending, 8);
+    return out;
 }
 
-static void loop_set_bits(job *j) {
-    uint8_t *out = malloc(j->kept / 8 + 16);
-    memset(out, 0, j->kept / 8 + 16);
-    size_t count = 0;
-    for (size_t w = 0; w < j->rows / 64; w++) {
-        for (uint64_t m = word_at(j->mask, w); m; m &= m - 1) {
-            size_t place = w * 64 + (size_t)__builtin_ctzll(m);
-            out[count / 8] |= (uint8_t)(bit(j->bits, place) << (count % 8));
-            count++;
-        }
+static bool loop_filter(job *j) {
+    size_t made = kept_of(j);
+    uint8_t *out = room((made + 64) * j->size);
+    switch (j->size) {
+    case 1: kept_1(j, j->values, (uint8_t *)out); break;
+    case 2: kept_2(j, j->values, (uint16_t *)out); break;
+    case 4: kept_4(j, j->values, (uint32_t *)out); break;
+    case 8: kept_8(j, j->values, (uint64_t *)out); break;
+    default: kept_16(j, j->values, (wide *)out); break;
     }
-    keep_result(out);
+    if (j->valid) keep(kept_bits(j, j->valid, made));
+    keep(out);
+    return true;
 }
+TIMED(loop_filter)
 
-#define FILTER_LOOP(name, type)                                                                                         \
-    static void name(job *j) {                                                                                          \
-        const type *values = (const type *)j->numbers;                                                                  \
-        type *out = malloc((j->kept + 64) * sizeof(type));                                                              \
-        size_t count = 0;                                                                                               \
-        for (size_t w = 0; w < j->rows / 64; w++) {                                                                     \
-            uint64_t m = word_at(j->mask, w);                                                                           \
-            const type *block = values + w * 64;                                                                        \
-            if (m == 0) continue;                                                                                       \
-            if (m == ~(uint64_t)0) {                                                                                    \
-                memcpy(out + count, block, 64 * sizeof(type));                                                          \
-                count += 64;                                                                                            \
-            } else if (__builtin_popcountll(m) <= 16) {                                                                 \
-                for (; m; m &= m - 1) out[count++] = block[__builtin_ctzll(m)];                                         \
-            } else {                                                                                                    \
-                for (unsigned i = 0; i < 64; i++) {                                                                     \
-                    out[count] = block[i];                                                                              \
-                    count += m >> i & 1;                                                                                \
-                }                                                                                                       \
-            }                                                                                                           \
-        }                                                                                                               \
-        keep_result(out);                                                                                               \
+static bool loop_filter_bits(job *j) {
+    keep(kept_bits(j, j->values, kept_of(j)));
+    return true;
+}
+TIMED(loop_filter_bits)
+
+/* Two fields of 8 bytes. */
+static bool loop_filter_pairs(job *j) {
+    size_t made = kept_of(j);
+    uint8_t *first = room((made + 64) * 8), *second = room((made + 64) * 8);
+    kept_8(j, j->values, (uint64_t *)first);
+    kept_8(j, j->others, (uint64_t *)second);
+    keep(first);
+    keep(second);
+    return true;
+}
+TIMED(loop_filter_pairs)
+
+/* Lists of one length, of numbers of 8 bytes; and lists between offsets. */
+static bool loop_filter_blocks(job *j) {
+    size_t bytes = j->width * 8, count = 0;
+    uint8_t *out = room(kept_of(j) * bytes);
+    for (size_t i = 0; i < j->rows; i++)
+        if (bit(j->mask, i)) memcpy(out + count++ * bytes, j->values + i * bytes, bytes);
+    keep(out);
+    return true;
+}
+TIMED(loop_filter_blocks)
+
+static bool lists_of(job *j, bool taken) {
+    size_t bytes = 0, made = 0, count = 0;
+    for (size_t i = 0; i < j->rows; i++) {
+        size_t row = taken ? j->indices[i] : i;
+        if (!taken && !bit(j->mask, i)) continue;
+        bytes += (size_t)(j->offsets[row + 1] - j->offsets[row]) * j->size;
+        made++;
     }
-FILTER_LOOP(loop_filter_1, uint8_t)
-FILTER_LOOP(loop_filter_2, uint16_t)
-FILTER_LOOP(loop_filter_4, uint32_t)
-FILTER_LOOP(loop_filter_8, uint64_t)
-
-static void loop_take(job *j) {
-    uint64_t *out = malloc(j->rows * 8 + 8);
-    for (size_t i = 0; i < j->rows; i++) out[i] = j->numbers[j->indices[i]];
-    keep_result(out);
-}
-
-/* The bytes that must be read and written, copied. */
-static void copy_numbers(job *j) {
-    uint8_t *out = malloc(j->rows * j->size + 8);
-    memcpy(out, j->numbers, j->kept * j->size + 1);
-    keep_result(out);
-}
-
-/* ---- measuring */
-
-enum { MOST = 4, ROUNDS = 61 };
-
-static int by_time(const void *a, const void *b) {
-    double x = *(const double *)a, y = *(const double *)b;
-    return (x > y) - (x < y);
-}
-
-static void measure(const char *what, const char *varied, job *j, const char *const names[], const contender jobs[], int count, int rounds) {
-    double times[MOST][ROUNDS];
-    int repeats = j->rows < 100000 ? 40 : 2;
-    for (int round = 0; round < rounds; round++)
-        for (int i = 0; i < count; i++) {
-            double start = now_ns();
-            for (int k = 0; k < repeats; k++) jobs[i](j);
-            times[i][round] = (now_ns() - start) / repeats / (double)j->rows;
-        }
-    printf("%-22s %8zu %-10s", what, j->rows, varied);
-    for (int i = 0; i < count; i++) {
-        qsort(times[i], (size_t)rounds, sizeof(double), by_time);
-        printf("  %s %.4f %.4f", names[i], times[i][0], times[i][rounds / 2]);
+    uint8_t *out = room(bytes);
+    int64_t *ends = (int64_t *)room((made + 1) * 8), end = 0;
+    ends[count++] = 0;
+    for (size_t i = 0; i < j->rows; i++) {
+        size_t row = taken ? j->indices[i] : i;
+        if (!taken && !bit(j->mask, i)) continue;
+        int64_t len = j->offsets[row + 1] - j->offsets[row];
+        memcpy(out + (size_t)end * j->size, j->values + (size_t)j->offsets[row] * j->size, (size_t)len * j->size);
+        ends[count++] = end += len;
     }
-    printf("\n");
-    fflush(stdout);
+    keep(out);
+    keep((uint8_t *)ends);
+    return true;
 }
 
-static size_t random_mask(uint8_t *mask, size_t rows, double density) {
-    size_t kept = 0;
-    memset(mask, 0, rows / 8 + 16);
-    for (size_t i = 0; i < rows; i++) {
-        bool keep = (double)(next_random() >> 11) / 9007199254740992.0 < density;
-        mask[i / 8] |= (uint8_t)(keep << (i % 8));
-        kept += keep;
+static bool loop_filter_lists(job *j) { return lists_of(j, false); }
+TIMED(loop_filter_lists)
+
+static bool loop_take_lists(job *j) { return lists_of(j, true); }
+TIMED(loop_take_lists)
+
+/* ---- loops that take */
+
+#define TAKE(type)                                                   \
+    for (size_t i = 0; i < j->made; i++) ((type *)out)[i] = ((const type *)j->values)[j->indices[i]];
+
+static bool loop_take(job *j) {
+    uint8_t *out = room(j->made * j->size);
+    switch (j->size) {
+    case 1: TAKE(uint8_t) break;
+    case 4: TAKE(uint32_t) break;
+    case 8: TAKE(uint64_t) break;
+    default: TAKE(wide) break;
     }
-    return kept;
-}
-
-static uint32_t number_column(size_t size, const void *values, size_t rows, sel_column *out) {
-    static const uint8_t none;
-    switch (size) {
-    case 1: return sel_uint8_new(values, rows, &none, 0, false, out);
-    case 2: return sel_uint16_new(values, rows, &none, 0, false, out);
-    case 4: return sel_uint32_new(values, rows, &none, 0, false, out);
-    default: return sel_uint64_new(values, rows, &none, 0, false, out);
+    if (j->valid) {
+        uint8_t *bits = room(j->made / 8 + 8);
+        memset(bits, 0, j->made / 8 + 8);
+        for (size_t i = 0; i < j->made; i++) bits[i / 8] |= (uint8_t)(bit(j->valid, j->indices[i]) << (i % 8));
+        keep(bits);
     }
+    keep(out);
+    return true;
 }
+TIMED(loop_take)
 
-static void with_mask(job *j, double density) {
-    static const uint8_t none;
-    j->kept = random_mask(j->mask, j->rows, density);
-    sel_free(&j->mask_column);
-    must(sel_boolean_new(j->mask, (j->rows + 7) / 8, j->rows, &none, 0, false, &j->mask_column) == SEL_DONE, "a mask");
-}
-
-/* The library's answer beside a loop over the mask's bits. */
-static void check_bits(job *j) {
-    sel_column out = {0};
-    uint8_t *kept = room(j->kept / 8 + 1);
-    must(sel_filter(&j->column, &j->mask_column, &out) == SEL_DONE && sel_len(&out) == j->kept, "how many bits are kept");
-    must(sel_boolean_values(&out, kept, (j->kept + 7) / 8) == SEL_DONE, "the bits");
-    for (size_t i = 0, k = 0; i < j->rows; i++)
-        if (bit(j->mask, i)) must(bit(kept, k++) == bit(j->bits, i), "a bit of a filter");
-    sel_free(&out);
-    free(kept);
-}
-
-static uint32_t read_numbers(size_t size, sel_column *of, void *out, size_t rows) {
-    switch (size) {
-    case 1: return sel_uint8_values(of, out, rows);
-    case 2: return sel_uint16_values(of, out, rows);
-    case 4: return sel_uint32_values(of, out, rows);
-    default: return sel_uint64_values(of, out, rows);
+static bool loop_take_bits(job *j) {
+    uint8_t *out = room(j->made / 8 + 8);
+    for (size_t i = 0; i < j->made; i += 8) {
+        unsigned byte = 0;
+        for (size_t k = 0; k < 8 && i + k < j->made; k++) byte |= (unsigned)bit(j->values, j->indices[i + k]) << k;
+        out[i / 8] = (uint8_t)byte;
     }
+    keep(out);
+    return true;
 }
+TIMED(loop_take_bits)
 
-static void check_numbers(job *j) {
-    sel_column out = {0};
-    char *kept = room(j->kept * j->size), *values = (char *)j->numbers;
-    must(sel_filter(&j->column, &j->mask_column, &out) == SEL_DONE && sel_len(&out) == j->kept, "how many numbers are kept");
-    must(read_numbers(j->size, &out, kept, j->kept) == SEL_DONE, "the numbers");
-    for (size_t i = 0, k = 0; i < j->rows; i++)
-        if (bit(j->mask, i)) must(!memcmp(kept + k++ * j->size, values + i * j->size, j->size), "a number of a filter");
-    sel_free(&out);
-    free(kept);
+/* ---- loops that choose */
+
+static bool loop_choose(job *j) {
+    uint64_t *out = (uint64_t *)room((j->rows + 64) * 8);
+    const uint64_t *first = (const uint64_t *)j->values, *second = (const uint64_t *)j->others;
+    for (size_t i = 0; i < j->rows; i++) out[i] = bit(j->mask, i) ? first[i] : second[i];
+    keep((uint8_t *)out);
+    return true;
 }
+TIMED(loop_choose)
 
-static void check_take(job *j) {
-    sel_column out = {0};
-    uint64_t *taken = room(j->rows * 8);
-    must(sel_take(&j->column, &j->index_column, &out) == SEL_DONE, "a take");
-    must(sel_uint64_values(&out, taken, j->rows) == SEL_DONE, "the numbers of a take");
-    for (size_t i = 0; i < j->rows; i++) must(taken[i] == j->numbers[j->indices[i]], "a number of a take");
-    sel_free(&out);
-    free(taken);
+static bool loop_choose_one(job *j) {
+    uint64_t *out = (uint64_t *)room((j->rows + 64) * 8);
+    const uint64_t one = *(const uint64_t *)j->values, *second = (const uint64_t *)j->others;
+    for (size_t i = 0; i < j->rows; i++) out[i] = bit(j->mask, i) ? one : second[i];
+    keep((uint8_t *)out);
+    return true;
 }
+TIMED(loop_choose_one)
 
-static void filters_of_bits(job *j, int rounds) {
-    static const double densities[] = {.001, .01, .1, .5, .9, .999};
-    static const uint8_t none;
-    static const char *const names[] = {"sel", "six rounds", "set bits"};
-    static const contender jobs[] = {sel_filter_it, loop_filter_bits, loop_set_bits};
-    sel_free(&j->column);
-    must(sel_boolean_new(j->bits, (j->rows + 7) / 8, j->rows, &none, 0, false, &j->column) == SEL_DONE, "bits");
-    for (size_t d = 0; d < sizeof densities / sizeof *densities; d++) {
-        char varied[16];
-        snprintf(varied, sizeof varied, "%g", densities[d]);
-        with_mask(j, densities[d]);
-        check_bits(j);
-        measure("filter of bits", varied, j, names, jobs, 3, rounds);
+static bool loop_choose_of_two(job *j) {
+    uint64_t *out = (uint64_t *)room((j->rows + 64) * 8);
+    const uint64_t one = *(const uint64_t *)j->values, two = *(const uint64_t *)j->others;
+    for (size_t i = 0; i < j->rows; i++) out[i] = bit(j->mask, i) ? one : two;
+    keep((uint8_t *)out);
+    return true;
+}
+TIMED(loop_choose_of_two)
+
+static bool loop_choose_views(job *j) {
+    wide *out = (wide *)room((j->rows + 64) * 16);
+    const wide *first = (const wide *)j->values, *second = (const wide *)j->others;
+    for (size_t i = 0; i < j->rows; i++) out[i] = bit(j->mask, i) ? first[i] : second[i];
+    keep((uint8_t *)out);
+    return true;
+}
+TIMED(loop_choose_views)
+
+/* ---- loops over lists and several columns */
+
+static bool loop_sublist_get(job *j) {
+    uint64_t *out = (uint64_t *)room(j->rows * 8);
+    uint8_t *bits = room(j->rows / 8 + 8);
+    memset(bits, 0, j->rows / 8 + 8);
+    for (size_t i = 0; i < j->rows; i++) {
+        bool there = j->index < j->offsets[i + 1] - j->offsets[i];
+        out[i] = there ? ((const uint64_t *)j->values)[j->offsets[i] + j->index] : 0;
+        bits[i / 8] |= (uint8_t)(there << (i % 8));
     }
+    keep((uint8_t *)out);
+    keep(bits);
+    return true;
 }
+TIMED(loop_sublist_get)
 
-static void filters_of_numbers(job *j, size_t size, int rounds) {
-    static const double densities[] = {.001, .01, .1, .5, .9, .99, .999};
-    static const char *const names[] = {"sel", "loop", "copy"};
-    const contender loop = size == 1 ? loop_filter_1 : size == 2 ? loop_filter_2 : size == 4 ? loop_filter_4 : loop_filter_8;
-    const contender jobs[] = {sel_filter_it, loop, copy_numbers};
-    char what[32];
-    snprintf(what, sizeof what, "filter of %zu bytes", size);
-    j->size = size;
-    sel_free(&j->column);
-    must(number_column(size, j->numbers, j->rows, &j->column) == SEL_DONE, "numbers");
-    for (size_t d = 0; d < sizeof densities / sizeof *densities; d++) {
-        char varied[16];
-        snprintf(varied, sizeof varied, "%g", densities[d]);
-        with_mask(j, densities[d]);
-        check_numbers(j);
-        measure(what, varied, j, names, jobs, 3, rounds);
-    }
+static bool loop_fixed_get(job *j) {
+    uint64_t *out = (uint64_t *)room(j->rows * 8);
+    for (size_t i = 0; i < j->rows; i++) out[i] = ((const uint64_t *)j->values)[i * j->width + (size_t)j->index];
+    keep((uint8_t *)out);
+    return true;
 }
+TIMED(loop_fixed_get)
 
-static void takes_of_numbers(job *j, int rounds) {
-    static const uint8_t none;
-    static const char *const names[] = {"sel", "loop", "copy"};
-    static const contender jobs[] = {sel_take_it, loop_take, copy_numbers};
-    for (int sorted = 0; sorted < 2; sorted++) {
-        for (size_t i = 0; i < j->rows; i++) j->indices[i] = sorted ? (uint32_t)i : (uint32_t)(next_random() % j->rows);
-        sel_free(&j->index_column);
-        must(sel_uint32_new(j->indices, j->rows, &none, 0, false, &j->index_column) == SEL_DONE, "indices");
-        j->kept = j->rows;
-        check_take(j);
-        measure("take of 8 bytes", sorted ? "sorted" : "random", j, names, jobs, 3, rounds);
+static bool loop_flatten(job *j) {
+    size_t bytes = j->width * 8;
+    uint8_t *out = room(2 * j->height * bytes);
+    for (size_t i = 0; i < j->height; i++) {
+        memcpy(out + 2 * i * bytes, j->values + i * bytes, bytes);
+        memcpy(out + (2 * i + 1) * bytes, j->others + i * bytes, bytes);
     }
+    keep(out);
+    return true;
 }
+TIMED(loop_flatten)
 
-int main(int count, char **words) {
-    int rounds = count > 1 && !strcmp(words[1], "quick") ? 3 : ROUNDS;
-    static const size_t sizes[] = {16384, 1048576};
-    for (size_t s = 0; s < 2; s++) {
-        job j = {.rows = sizes[s], .size = 8};
-        j.mask = room(j.rows / 8 + 16);
-        j.bits = room(j.rows / 8 + 16);
-        j.numbers = room(j.rows * 8);
-        j.indices = room(j.rows * 4);
-        for (size_t i = 0; i < j.rows; i++) j.numbers[i] = next_random();
-        for (size_t i = 0; i < j.rows / 8; i++) j.bits[i] = (uint8_t)next_random();
-        filters_of_bits(&j, rounds);
-        for (size_t size = 1; size <= 8; size *= 2) filters_of_numbers(&j, size, rounds);
-        takes_of_numbers(&j, rounds);
-        sel_free(&j.column);
-        sel_free(&j.mask_column);
-        sel_free(&j.index_column);
-        free(j.mask);
-        free(j.bits);
-        free(j.numbers);
-        free(j.indices);
-    }
-    return 0;
+/* Picks among two columns of numbers; `values` are the picks, `offsets` holds the two columns' addresses. */
+static bool loop_collect_rows(job *j) {
+    const uint64_t *const sources[2] = {(const uint64_t *)j->others, (const uint64_t *)j->offsets};
+    const sel_pick *picks = (const sel_pick *)j->values;
+    uint64_t *out = (uint64_t *)room(j->made * 8);
+    for (size_t i = 0; i < j->made; i++) out[i] = sources[picks[i].source][picks[i].row];
+    keep((uint8_t *)out);
+    return true;
 }
+TIMED(loop_collect_rows)
+
+/* Keys of values of which `mask` tells which are there; the views of these values are `values`. */
+static bool loop_propagate(job *j) {
+    uint32_t *ranks = (uint32_t *)room(j->height * 4), *keys = (uint32_t *)room(j->rows * 4), rank = 0;
+    wide *views = (wide *)room(j->height * 16);
+    uint8_t *bits = room(j->rows / 8 + 8);
+    memset(bits, 0, j->rows / 8 + 8);
+    for (size_t i = 0; i < j->height; i++) {
+        ranks[i] = rank;
+        views[rank] = ((const wide *)j->values)[i];
+        rank += bit(j->mask, i);
+    }
+    for (size_t i = 0; i < j->rows; i++) {
+        keys[i] = ranks[j->indices[i]];
+        bits[i / 8] |= (uint8_t)(bit(j->mask, j->indices[i]) << (i % 8));
+    }
+    keep((uint8_t *)ranks);
+    keep((uint8_t *)keys);
+    keep((uint8_t *)views);
+    keep(bits);
+    return true;
+}
+TIMED(loop_propagate)

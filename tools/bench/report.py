@@ -1,0 +1,171 @@
+"""The page of the benchmark, and its pictures."""
+
+from __future__ import annotations
+
+import datetime
+import os
+import pathlib
+import platform
+import subprocess
+import sys
+
+import numpy
+
+# Why a row is slower than a peer, by the beginning of its kernel's name; the first that fits counts.
+CAUSES = (
+    ("filter, bits", "the library is built for any processor of x86-64-v2, the loops for this one; the kept bits are counted and the ends of the mask trimmed first"),
+    ("filter, lists", "the kept rows are listed as runs, and the lists and their items are copied by these"),
+    ("filter, two fields", "the kept rows are listed as runs once, and each field is copied by these, where the loop goes by the mask's words"),
+    ("filter, views", "the ends of the mask are trimmed and its kept rows counted first, and each data buffer is shared by a count"),
+    ("filter", "the library is built for any processor of x86-64-v2, the loops and numpy use this one's; the ends of the mask are trimmed and its kept rows counted first"),
+    ("take, views", "each index is tested to have a row first, and each data buffer is shared by a count"),
+    ("take, bits", "each index is tested to have a row first, and bits are read and packed one by one"),
+    ("take, lists", "rows are listed as runs, one for each index, and the lists and their items are copied by these"),
+    ("take, bytes", "each index is tested to have a row first, and the bytes of each row are put behind the others by a call"),
+    ("take", "each index is tested to have a row first; the loop tests none"),
+    ("choose, views", "choices of views for C are made of picks, one a row, and not by the mask's words"),
+    ("choose, 8 bytes", "choices with a scalar on each side are made of picks, one a row; the others go by the mask's words, built for any processor of x86-64-v2"),
+    ("sublist_get", "the elements are listed as runs, one for each list, and copied by these"),
+    ("fixed_get", "the entries are listed as runs, one for each list, and copied by these"),
+    ("flatten", "the parts of each row are listed as runs, and copied by these"),
+    ("collect_rows", "each pick is tested to have a row, made to a run, and copied by it"),
+    ("propagate_dictionary", "each key is tested to have a value first; both answers are columns of their own"),
+)
+
+COLORS = (("sel", "#2a6fdb", "#7fb0ff"), ("loop", "#2f8f4e", "#7bd598"), ("numpy", "#b8681c", "#f0a860"), ("copy", "#777777", "#aaaaaa"))
+
+
+def cause_of(kernel: str) -> str:
+    return next((cause for start, cause in CAUSES if kernel.startswith(start)), "not known")
+
+
+def best_peer(times: dict) -> tuple[str, float]:
+    return min(((name, each[0]) for name, each in times.items() if name in ("loop", "numpy")), key=lambda pair: pair[1])
+
+
+def row_of(result) -> tuple:
+    kernel, rows, varied, times = result
+    name, peer = best_peer(times)
+    ours = times["sel"][0]
+    return ours / peer, name, ours / times["copy"][0], kernel, rows, varied, times
+
+
+def processor() -> str:
+    try:
+        lines = pathlib.Path("/proc/cpuinfo").read_text().split("\n")
+        return next(line.split(":", 1)[1].strip() for line in lines if line.startswith("model name"))
+    except (OSError, StopIteration):
+        return platform.processor() or platform.machine()
+
+
+def version_of(words: list[str]) -> str:
+    done = subprocess.run(words, stdout=subprocess.PIPE, stderr=subprocess.DEVNULL, text=True, check=False)
+    return (done.stdout.split("\n") or [""])[0].strip()
+
+
+def spread(times: dict) -> float:
+    """How far the median of the library's times lies above the best."""
+    best, median = times["sel"]
+    return median / best - 1
+
+
+def ns(times: dict, name: str) -> str:
+    if name not in times:
+        return "-"
+    best, median = times[name]
+    return f"{best:.3f} ({median:.3f})"
+
+
+def table(rows: list[tuple], with_cause: bool) -> list[str]:
+    head = "| kernel | rows | varied | sel | loop | numpy | copy | to the best peer | to the copy |" + (" cause |" if with_cause else "")
+    lines = [head, "|" + "---|" * (head.count("|") - 1)]
+    for ratio, name, to_copy, kernel, count, varied, times in rows:
+        cells = [kernel, f"{count:,}", varied, *(ns(times, each) for each in ("sel", "loop", "numpy", "copy")), f"{ratio:.2f} ({name})", f"{to_copy:.2f}"]
+        lines.append("| " + " | ".join(cells + ([cause_of(kernel)] if with_cause else [])) + " |")
+    return lines
+
+
+def machine(load: list[float], compiler: str, flags: list[str]) -> list[str]:
+    cores = os.cpu_count() or 1
+    busy = max(load)
+    lines = [
+        f"- Machine: {processor()}, {cores} cores; {platform.system()} {platform.release()}; one core is used, in one process, and each contender has its turn in each round.",
+        f"- Date: {datetime.date.today().isoformat()}. Library: proved, built by the toolchain for x86-64-v2. Loops: `{version_of([compiler, '--version'])}` with `{' '.join(flags[:2])}`. "
+        f"Python {sys.version.split()[0]}, numpy {numpy.__version__}.",
+        f"- Load of the machine, as it tells it (1 is this process): {', '.join(f'{each:.1f}' for each in load)}.",
+    ]
+    if busy > 1.5:
+        lines.append(f"- **Other processes shared the machine** (load up to {busy:.1f} on {cores} cores): these numbers do not repeat within 10 percent, and ratios are the better guide than times.")
+    return lines
+
+
+def picture(path: pathlib.Path, title: str, labels: list[str], lines: dict[str, list[float]]) -> None:
+    """Lines over labels, both axes by even steps; the height is the logarithm of the time."""
+    import math
+
+    values = [value for line in lines.values() for value in line if value > 0]
+    low, high = math.floor(math.log10(min(values))), math.ceil(math.log10(max(values)))
+    width, height, left, top = 640, 360, 76, 40
+    across = (width - left - 110) / max(1, len(labels) - 1)
+    up = (height - top - 50) / max(1, high - low)
+
+    def x(place: int) -> float:
+        return left + place * across
+
+    def y(value: float) -> float:
+        return height - 50 - (math.log10(value) - low) * up
+
+    parts = [f'<svg xmlns="http://www.w3.org/2000/svg" viewBox="0 0 {width} {height}" font-family="sans-serif" font-size="12" role="img" aria-label="{title}">', "<style>",
+             "text { fill: #222 } .axis { stroke: #999; stroke-width: 1 } .grid { stroke: #ddd; stroke-width: 1 }"]
+    parts += [f".{name} {{ stroke: {light}; fill: {light} }} polyline.{name} {{ fill: none; stroke-width: 2 }} text.{name} {{ stroke: none }}" for name, light, _ in COLORS]
+    parts.append("@media (prefers-color-scheme: dark) { text { fill: #eee } .grid { stroke: #444 }")
+    parts += [f".{name} {{ stroke: {dark}; fill: {dark} }} polyline.{name} {{ fill: none }} text.{name} {{ stroke: none }}" for name, _, dark in COLORS]
+    parts += ["}", "</style>", f'<text x="{left}" y="22" font-size="14">{title}</text>']
+    for power in range(low, high + 1):
+        at = height - 50 - (power - low) * up
+        parts.append(f'<line class="grid" x1="{left}" x2="{width - 110}" y1="{at:.1f}" y2="{at:.1f}"/><text x="{left - 8}" y="{at + 4:.1f}" text-anchor="end">{10.0 ** power:g} ns</text>')
+    for place, label in enumerate(labels):
+        parts.append(f'<text x="{x(place):.1f}" y="{height - 28}" text-anchor="middle">{label}</text>')
+    parts.append(f'<line class="axis" x1="{left}" x2="{width - 110}" y1="{height - 50}" y2="{height - 50}"/>')
+    drawn = [name for name, _, _ in COLORS if name in lines]
+    for name in drawn:
+        points = " ".join(f"{x(place):.1f},{y(value):.1f}" for place, value in enumerate(lines[name]) if value > 0)
+        parts.append(f'<polyline class="{name}" points="{points}"/>')
+    below = 0.0
+    for name in sorted(drawn, key=lambda name: y(lines[name][-1])):
+        below = max(y(lines[name][-1]), below + 13)
+        parts.append(f'<text class="{name}" x="{width - 100}" y="{below + 4:.1f}">{name}</text>')
+    path.write_text("\n".join(parts + ["</svg>"]) + "\n")
+
+
+def lines_of(results: list) -> dict[str, list[float]]:
+    names = [name for name, _, _ in COLORS if all(name in times for _, _, _, times in results)]
+    return {name: [times[name][0] for _, _, _, times in results] for name in names}
+
+
+def pictures(docs: pathlib.Path, results: list, scale: list) -> None:
+    densities = [each for each in results if each[0] == "filter, 8 bytes" and each[1] > 2 ** 16 and each[2].split()[-1] == "random"]
+    picture(docs / "bench-density.svg", "Filter of 1,048,576 numbers of 8 bytes: ns a row, by the share that is kept", [each[2].split()[0] for each in densities], lines_of(densities))
+    for kernel, name in (("filter", "filter"), ("take", "take")):
+        found = [each for each in scale if each[0].startswith(kernel)]
+        labels = [f"2^{each[1].bit_length() - 1}" for each in found]
+        picture(docs / f"bench-{name}-size.svg", f"{kernel.capitalize()} of numbers of 8 bytes: ns a row, by the number of rows", labels, lines_of(found))
+
+
+def write(docs: pathlib.Path, results: list, scale: list, load: list[float], compiler: str, flags: list[str]) -> None:
+    rows = sorted((row_of(each) for each in results), key=lambda row: -row[0])
+    worse, others = [row for row in rows if row[0] > 1], [row for row in rows if row[0] <= 1]
+    repeats = sum(spread(each[3]) <= .1 for each in results)
+    text = ["# Benchmarks", "", "Written by `make bench`; the text is the tool's too. Times are ns a row of the first column: the best of many rounds, and the median in parentheses. "
+            "Each answer was compared with numpy's before it was timed, and each contender makes the whole result, its memory too. "
+            "`loop` is a plain loop of C, compiled for this processor; `numpy` stands where numpy has the operation, and is called from Python; `copy` moves as many bytes as any way of doing it must read and write.", ""]
+    text += machine(load, compiler, flags)
+    text += [f"- Of {len(results)} rows the library's median lies within 10 percent of its best in {repeats}.",
+             "- Not measured, since the library for C does not export them: `pext64`, and operations on bitmaps at unlike offsets.", ""]
+    text += ["![Time of a filter by the share that is kept](bench-density.svg)", "", "![Time of a filter by the number of rows](bench-filter-size.svg)", "",
+             "![Time of a take by the number of rows](bench-take-size.svg)", ""]
+    text += [f"## Slower than the best peer: {len(worse)} of {len(rows)} rows", "", *table(worse, True), ""]
+    text += [f"## As fast or faster: {len(others)} rows", "", *table(others, False), ""]
+    text += ["## By the number of rows", "", *table([row_of(each) for each in scale], False), ""]
+    (docs / "BENCHMARKS.md").write_text("\n".join(text))
+    pictures(docs, results, scale)
