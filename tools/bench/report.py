@@ -25,10 +25,10 @@ CAUSES = (
     ("take", "each index is tested to have a row first; the loop tests none"),
     ("choose, views", "choices of views for C are made of picks, one a row, and not by the mask's words"),
     ("choose, 8 bytes", "choices with a scalar on each side are made of picks, one a row; the others go by the mask's words, built for any processor of x86-64-v2"),
-    ("sublist_get", "the elements are listed as runs, one for each list, and copied by these"),
-    ("fixed_get", "the entries are listed as runs, one for each list, and copied by these"),
-    ("flatten", "the parts of each row are listed as runs, and copied by these"),
-    ("collect_rows", "each pick is tested to have a row, made to a run, and copied by it"),
+    ("sublist_get", "the place of each element is worked out twice, once for the values and once for which of them are there"),
+    ("fixed_get", "the place of each entry is worked out twice, once for the values and once for which of them are there"),
+    ("flatten", "a plan goes from column to column for each row, where the loop knows how wide they are"),
+    ("collect_rows", "each pick is tested to have a row first; then values are looked up one by one"),
     ("propagate_dictionary", "each key is tested to have a value first; both answers are columns of their own"),
 )
 
