@@ -17,7 +17,7 @@ abbrev mutual
 
 -- a type has no child (own)
 abbrev pub is_plain : Shape → Bool
-is_plain (of_large_list shape) = false
-is_plain (of_fixed_size_list shape size) = false
-is_plain (of_struct shapes) = false
-is_plain shape = true
+is_plain (of_large_list _) = false
+is_plain (of_fixed_size_list _ _) = false
+is_plain (of_struct _) = false
+is_plain _ = true
