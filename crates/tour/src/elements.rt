@@ -10,6 +10,8 @@ use polars_compute::gather::sublist::list::{array_to_unit_list, index_is_oob, su
 use sel_arrow::array::Array;
 use sel_arrow::array_ref::ArrayRef;
 use sel_arrow::fixed_size_list::FixedSizeListArray;
+use sel_arrow::list::ListArray;
+use sel_arrow::primitive::PrimitiveArray;
 use std::alloc::Global;
 
 /// Elements of lists and of lists of one length, and lists of one row each.
@@ -31,37 +33,71 @@ fn six(alloc: Global) -> Result<ArrayRef, Stop> {
     .into_ref())
 }
 
+// (each column is made anew, so that only one is held at a time)
+fn list(alloc: Global) -> Result<ListArray<i64>, Stop> {
+    lists(alloc, &[Some(3), None, Some(1), Some(2)], six(alloc)?)
+}
+
 fn of_lists(alloc: Global, page: &mut String) -> Result<(), Stop> {
-    let list = lists(alloc, &[Some(3), None, Some(1), Some(2)], six(alloc)?)?;
-    let is_outside = index_is_oob(&list, 1);
-    let last = sublist_get(alloc, &list, -1);
-    let second = sublist_get(alloc, &list, 1);
-    show(alloc, page, "lists", list.into_ref())?;
-    show(alloc, page, "the last of each", last?)?;
-    show(alloc, page, "the second of each", second?)?;
-    let text = match is_outside {
+    show(alloc, page, "lists", list(alloc)?.into_ref())?;
+    show(alloc, page, "the last of each", element(alloc, -1)?)?;
+    show(alloc, page, "the second of each", element(alloc, 1)?)?;
+    let text = match lacks_a_second(alloc)? {
         true => "yes",
         false => "no",
     };
     line(page, "whether some list has no second", text)
 }
 
+fn element(alloc: Global, index: i64) -> Result<ArrayRef, Stop> {
+    let list = list(alloc)?;
+    let found = sublist_get(alloc, &list, index);
+    drop(list);
+    Ok(found?)
+}
+
+fn lacks_a_second(alloc: Global) -> Result<bool, Stop> {
+    let list = list(alloc)?;
+    let is_lacking = index_is_oob(&list, 1);
+    drop(list);
+    Ok(is_lacking)
+}
+
+fn block(alloc: Global) -> Result<FixedSizeListArray, Stop> {
+    blocks(alloc, 2, &[true, false, true], six(alloc)?)
+}
+
 fn of_blocks(alloc: Global, page: &mut String) -> Result<(), Stop> {
-    let block = blocks(alloc, 2, &[true, false, true], six(alloc)?)?;
-    let second = sub_fixed_size_list_get_literal(alloc, &block, 1, true);
-    let each = at_each(alloc, &block);
-    show(alloc, page, "lists of one length", block.into_ref())?;
-    show(alloc, page, "the second of each", second?)?;
-    show(alloc, page, "at the indices [1,0,-1]", each?)
+    show(alloc, page, "lists of one length", block(alloc)?.into_ref())?;
+    show(alloc, page, "the second of each", entry(alloc, 1)?)?;
+    show(alloc, page, "at the indices [1,0,-1]", entry_each(alloc)?)
+}
+
+fn entry(alloc: Global, index: i64) -> Result<ArrayRef, Stop> {
+    let block = block(alloc)?;
+    let found = sub_fixed_size_list_get_literal(alloc, &block, index, true);
+    drop(block);
+    Ok(found?)
+}
+
+fn entry_each(alloc: Global) -> Result<ArrayRef, Stop> {
+    let indices = numbers(alloc, &[Some(1i64), Some(0), Some(-1)])?;
+    let block = block(alloc)?;
+    let found = at_each(alloc, &block, &indices);
+    drop(block);
+    found
 }
 
 /// The entries at an index for each list, where there are as many indices as lists.
-fn at_each(alloc: Global, block: &FixedSizeListArray) -> Result<ArrayRef, Stop> {
-    let indices = numbers(alloc, &[Some(1i64), Some(0), Some(-1)])?;
+fn at_each(
+    alloc: Global,
+    block: &FixedSizeListArray,
+    indices: &PrimitiveArray<i64>,
+) -> Result<ArrayRef, Stop> {
     if indices.len() != block.len() {
         return Err(Stop::Unmet);
     }
-    Ok(sub_fixed_size_list_get(alloc, block, &indices, true)?)
+    Ok(sub_fixed_size_list_get(alloc, block, indices, true)?)
 }
 
 fn units(alloc: Global, page: &mut String) -> Result<(), Stop> {
