@@ -17,18 +17,15 @@ mod takes;
 
 use crate::stop::Stop;
 use std::alloc::Global;
-use std::io;
-use std::io::Write;
 use std::process::ExitCode;
 
 fn main(rt: HostRuntime) -> ExitCode {
     let Ok(page) = tour(rt.alloc()) else {
         return ExitCode::FAILURE;
     };
-    let mut output = io::writer(&rt);
-    match send(&mut output, page.as_bytes()) {
-        true => ExitCode::SUCCESS,
-        false => ExitCode::FAILURE,
+    match print!(rt; "{page}") {
+        Ok(()) => ExitCode::SUCCESS,
+        Err(_) => ExitCode::FAILURE,
     }
 }
 
@@ -46,16 +43,4 @@ fn tour(alloc: Global) -> Result<String, Stop> {
     dictionaries::dictionaries(alloc, &mut page)?;
     refusals::refusals(alloc, &mut page)?;
     Ok(page)
-}
-
-/// Whether all of the text could be written.
-fn send<W: Write>(output: &mut W, text: &[u8]) -> bool {
-    let mut sent = 0;
-    while sent < text.len() {
-        match output.write(&text[sent..]) {
-            Ok(count) if count > 0 => sent += count,
-            _ => return false,
-        }
-    }
-    output.flush().is_ok()
 }

@@ -45,19 +45,28 @@ fn refusal(
     }
 }
 
-/// One list over as many nulls as a column may have, taken twice: the lists would have more rows.
-fn too_long(alloc: Global) -> Result<PolarsResult<ArrayRef>, Stop> {
-    let child = NullArray::try_new(4_294_967_295)?.into_ref();
+/// One list over as many nulls as a column may have.
+fn long_list(alloc: Global) -> Result<ArrayRef, Stop> {
     let offsets = OffsetsBuffer::try_from(vec![in alloc; 0i64, 4_294_967_295]?)?;
-    let list = ListArray::try_new(alloc, offsets, child, None)?.into_ref();
+    let child = NullArray::try_new(4_294_967_295)?.into_ref();
+    Ok(ListArray::try_new(alloc, offsets, child, None)?.into_ref())
+}
+
+/// The first row, twice.
+fn taken_twice(alloc: Global, list: &ArrayRef) -> Result<PolarsResult<ArrayRef>, Stop> {
     let indices = numbers(alloc, &[Some(0u32), Some(0)])?;
     if !indices_in_bounds(&indices, list.len()) {
-        drop(list);
         return Err(Stop::Unmet);
     }
-    let taken = take_unchecked(alloc, &list, &indices);
+    Ok(take_unchecked(alloc, list, &indices))
+}
+
+/// The lists that are asked for would have more rows than a column may have.
+fn too_long(alloc: Global) -> Result<PolarsResult<ArrayRef>, Stop> {
+    let list = long_list(alloc)?;
+    let taken = taken_twice(alloc, &list);
     drop(list);
-    Ok(taken)
+    taken
 }
 
 /// The third entry of lists of two, where that is not to be null.
@@ -71,8 +80,8 @@ fn outside(alloc: Global) -> Result<PolarsResult<ArrayRef>, Stop> {
 
 /// Lists whose last offset is past the end of their child.
 fn broken_rule(alloc: Global, page: &mut String) -> Result<(), Stop> {
-    let child = numbers(alloc, &[Some(1i64), Some(2)])?.into_ref();
     let offsets = OffsetsBuffer::try_from(vec![in alloc; 0i64, 3]?)?;
+    let child = numbers(alloc, &[Some(1i64), Some(2)])?.into_ref();
     match ListArray::try_new(alloc, offsets, child, None) {
         Ok(list) => {
             drop(list);
