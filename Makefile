@@ -1,7 +1,9 @@
 # `make tour` shows columns of each kind, each kernel and each refusal once; `make run` runs the program on the stored input, or on another: make run INPUT=file; `make build` proves and builds it;
 # `make lib` builds the library for C into build/, `make install PREFIX=folder` puts it and its header there;
 # `make bench` times its kernels beside numpy, plain loops and a copy, and writes docs/BENCHMARKS.md (make bench QUICK=1: their answers alone);
-# `make test` is the whole gate: `rt ci`, then wrong bodies one function at a time over what it built, what it built with each growth of memory refused, and on stored runs; `make api` writes the reference anew; `make test-lib` builds the library for C over kept proofs, and tries it and the bindings; `make edits` tries every edit that must fail, those beside the gate's too.
+# `make test` is the whole gate: `rt ci`, then, over what it built, wrong bodies one function at a time, each growth of memory refused, stored runs,
+# and the library for C with its bindings, examples and the answers of its benchmark; `make api` writes the reference anew; `make test-lib` builds the
+# library for C over kept proofs, and tries it and what stands around it; `make edits` tries every edit that must fail, those beside the gate's too.
 
 INPUT ?= crates/sel_bench/stdin
 PREFIX ?= /usr/local
@@ -32,9 +34,7 @@ test:
 	tools/header --check
 	tools/links
 	rt ci
-	tools/refused
-	tools/refuse/run
-	tools/runs
+	tools/tried
 
 test-lib:
 	tools/clib --check

@@ -1,0 +1,51 @@
+"""The toolchain's prover, called over the libraries that `rt ci` has proved and built in crates/NAME/out/rlib."""
+
+from __future__ import annotations
+
+import pathlib
+import subprocess
+
+ROOT = pathlib.Path(__file__).resolve().parent.parent
+
+
+def kit() -> pathlib.Path:
+    """The folder of the toolchain."""
+    page = subprocess.run(["rt", "doc"], capture_output=True, text=True, check=True).stdout.strip()
+    return pathlib.Path(page).parent
+
+
+def lines() -> dict[str, tuple[list[str], list[str]]]:
+    """Of each crate of crates.txt what it is marked as, and the libraries that it names."""
+    found = {}
+    for line in (ROOT / "crates.txt").read_text().split("\n"):
+        if line and not line.startswith("#"):
+            head, _, below = line.partition(":")
+            found[head.split()[0]] = head.split()[1:], below.split()
+    return found
+
+
+def crates_below(name: str, uses: dict[str, list[str]]) -> list[str]:
+    """The crates that a crate stands on, each behind those that it stands on itself."""
+    found: list[str] = []
+    for library in uses.get(name, []):
+        found += [it for it in [*crates_below(library, uses), library] if it not in found]
+    return [it for it in found if it in uses]
+
+
+def words(verb: str, name: str, folder: pathlib.Path) -> list[str]:
+    """The prover's words for a crate, or for a copy of it in the folder."""
+    place, marks = kit(), lines()[name][0]
+    uses = {crate: below for crate, (_, below) in lines().items()}
+    root = "src/main.rt" if (folder / "src" / "main.rt").exists() else "src/lib.rt"
+    said = [f"{place}/bin/rattle", verb, "--crate-name", name, root]
+    for library in ["std", *[it for it in uses[name] if it not in uses]]:
+        said += ["--extern", f"{library}={place}/rlibs/{library}.rlib"]
+    said += ["-L", f"dependency={place}/rlibs"]
+    for library in uses[name]:
+        if library in uses:
+            said += ["--extern", f"{library}={ROOT}/crates/{library}/out/rlib/{library}.rlib"]
+    for library in crates_below(name, uses):
+        said += ["-L", f"dependency={ROOT}/crates/{library}/out/rlib"]
+    said += ["--antt-project", f"{place}/rattle/logic/antt-project.json", "--logic-built", f"{place}/logic_built"]
+    said += ["--crate-type", "staticlib"] if "staticlib" in marks else []
+    return [*said, "--links", f"{name}="]
