@@ -118,8 +118,14 @@ pub extern "C" fn sel_take_rows(
     ensures dtype { Makes result out.old.tree out.new.tree
         (λ made. type_of made.column ≡ held_type of.old.tree) }
     ensures column { Demands result no_column (HasColumn of.old.tree) }
+    ensures few { Demands result (rule_status TooManyRows) (length indices.now ≤ 4294967295) }
+    ensures validity { Demands result (rule_status ValidityLength)
+        (lacks_bits bits.now has_bits (length indices.now) ≡ false) }
     ensures bounds { Demands result out_of_bounds
         (IsTrue (all_within (length (held_rows of.old.tree))
+        (number_rows pos indices.now (validity_in bits.now has_bits (length indices.now))))) }
+    ensures limits { TellsLimits result (past (held_type of.old.tree)
+        (take_rows (held_rows of.old.tree)
         (number_rows pos indices.now (validity_in bits.now has_bits (length indices.now))))) }
     ensures unchanged { of.new.tree ≡ of.old.tree }
 {
@@ -145,8 +151,14 @@ fn take_rows_into(
     ensures dtype { Makes result out.old.tree out.new.tree
         (λ made. type_of made.column ≡ type_of column.now.column) }
     ensures column { result ≢ no_column }
+    ensures few { Demands result (rule_status TooManyRows) (length indices.now ≤ 4294967295) }
+    ensures validity { Demands result (rule_status ValidityLength)
+        (lacks_bits bits.now has_bits (length indices.now) ≡ false) }
     ensures bounds { Demands result out_of_bounds
         (IsTrue (all_within (length (rows column.now.column))
+        (number_rows pos indices.now (validity_in bits.now has_bits (length indices.now))))) }
+    ensures limits { TellsLimits result (past (type_of column.now.column)
+        (take_rows (rows column.now.column)
         (number_rows pos indices.now (validity_in bits.now has_bits (length indices.now))))) }
 {
     match numbers_of(alloc, indices, bits, has_bits) {
