@@ -6,7 +6,7 @@ ghost use Rattle.sel_arrow.specs.Masked.{number_rows};
 ghost use Rattle.sel_arrow.specs.Rows.{rows, type_of};
 ghost use Rattle.sel_arrow.specs.Shape.{of_uint32};
 ghost use Rattle.sel_handle.specs.Inputs.{validity_in};
-ghost use Rattle.sel_handle.specs.Status.{no_column, other_kind, other_length, out_of_bounds, held_rows, held_type, Demands, HasColumn, Makes, TellsLimits};
+ghost use Rattle.sel_handle.specs.Status.{no_column, other_kind, out_of_bounds, held_rows, held_type, Demands, HasColumn, Makes, TellsLimits};
 ghost use Rattle.sel_runs.specs.Need.{past, IsRefusal};
 ghost use Rattle.polars_compute.specs.Pick.{all_within, take_rows};
 
@@ -118,9 +118,6 @@ pub extern "C" fn sel_take_rows(
     ensures dtype { Makes result out.old.tree out.new.tree
         (λ made. type_of made.column ≡ held_type of.old.tree) }
     ensures column { Demands result no_column (HasColumn of.old.tree) }
-    ensures few { Demands result (rule_status TooManyRows) (length indices.now ≤ 4294967295) }
-    ensures validity { Demands result (rule_status ValidityLength)
-        (lacks_bits bits.now has_bits (length indices.now) ≡ false) }
     ensures bounds { Demands result out_of_bounds
         (IsTrue (all_within (length (held_rows of.old.tree))
         (number_rows pos indices.now (validity_in bits.now has_bits (length indices.now))))) }
@@ -151,9 +148,6 @@ fn take_rows_into(
     ensures dtype { Makes result out.old.tree out.new.tree
         (λ made. type_of made.column ≡ type_of column.now.column) }
     ensures column { result ≢ no_column }
-    ensures few { Demands result (rule_status TooManyRows) (length indices.now ≤ 4294967295) }
-    ensures validity { Demands result (rule_status ValidityLength)
-        (lacks_bits bits.now has_bits (length indices.now) ≡ false) }
     ensures bounds { Demands result out_of_bounds
         (IsTrue (all_within (length (rows column.now.column))
         (number_rows pos indices.now (validity_in bits.now has_bits (length indices.now))))) }
