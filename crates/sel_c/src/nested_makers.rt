@@ -6,7 +6,7 @@ ghost use Rattle.sel_arrow.specs.Pieces.{byte_rows, rows_between};
 ghost use Rattle.sel_arrow.specs.Rows.{rows, type_of};
 ghost use Rattle.sel_arrow.specs.Shape.{of_large_binary, of_large_list, of_fixed_size_list, of_struct, shapes_of};
 ghost use Rattle.sel_handle.specs.Inputs.{positions, validity_in, binary_rules, list_rules, block_rules, struct_rules};
-ghost use Rattle.sel_handle.specs.Status.{no_column, held_count, held_rows, held_type, Demands, HasColumn, Makes, Names};
+ghost use Rattle.sel_handle.specs.Status.{done, no_column, held_count, held_rows, held_type, Demands, HasColumn, Makes, Names};
 
 use sel_handle::handle::Handle;
 use sel_handle::nested::{binary_of, blocks_of, lists_of, tuples_of};
@@ -121,6 +121,7 @@ pub extern "C" fn sel_struct_new(
     ensures column { Demands result no_column (All (λ field. HasColumn field.tree) fields.old) }
     ensures status { result ≢ no_column → Names result
         (struct_rules len (map (λ field. held_count field.tree) fields.old) bits.now has_bits) }
+    ensures taken { result ≡ done → All (λ field. field.tree ≡ None) fields.new }
 {
     let taken = match take_all(alloc, fields) {
         Ok(taken) => taken,

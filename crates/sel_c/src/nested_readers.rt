@@ -1,10 +1,10 @@
 //! What is read of columns of bytes between offsets and of lists.
 
-ghost use Rattle.std.specs.Prelude.{◌≡◌, ◌≢◌, None, Some, length};
+ghost use Rattle.std.specs.Prelude.{◌≡◌, ◌≢◌, None, Some, [], ◌∷◌, length};
 ghost use Rattle.std.specs.Option.{option_map};
 ghost use Rattle.sel_handle.specs.Inputs.{positions};
 ghost use Rattle.sel_handle.specs.Layout.{held_offsets, held_bytes};
-ghost use Rattle.sel_handle.specs.Status.{done, no_column, other_kind, Demands, HasColumn};
+ghost use Rattle.sel_handle.specs.Status.{done, no_column, other_kind, other_length, Demands, HasColumn, IsOneOf};
 
 use sel_handle::handle::Handle;
 use sel_handle::parts::{bytes_into, bytes_len_into, offsets_into};
@@ -20,6 +20,9 @@ pub extern "C" fn sel_offsets(alloc: Global, of: &mut Handle, out: &mut [i64]) -
     ensures column { Demands result no_column (HasColumn of.old.tree) }
     ensures kind { HasColumn of.old.tree →
         Demands result other_kind (held_offsets of.old.tree ≢ None) }
+    ensures length { result ≡ other_length →
+        Some (length out.old) ≢ option_map length (held_offsets of.old.tree) }
+    ensures status { IsOneOf result (done ∷ no_column ∷ other_kind ∷ other_length ∷ []) }
     ensures unchanged { of.new.tree ≡ of.old.tree }
 {
     let Some(column) = of.take(alloc) else {
@@ -38,6 +41,7 @@ pub extern "C" fn sel_bytes_len(alloc: Global, of: &mut Handle, len: &mut usize)
     ensures column { Demands result no_column (HasColumn of.old.tree) }
     ensures kind { HasColumn of.old.tree →
         Demands result other_kind (held_bytes of.old.tree ≢ None) }
+    ensures status { IsOneOf result (done ∷ no_column ∷ other_kind ∷ []) }
     ensures unchanged { of.new.tree ≡ of.old.tree }
 {
     let Some(column) = of.take(alloc) else {
@@ -57,6 +61,9 @@ pub extern "C" fn sel_bytes(alloc: Global, of: &mut Handle, out: &mut [u8]) -> u
     ensures column { Demands result no_column (HasColumn of.old.tree) }
     ensures kind { HasColumn of.old.tree →
         Demands result other_kind (held_bytes of.old.tree ≢ None) }
+    ensures length { result ≡ other_length →
+        Some (length out.old) ≢ option_map length (held_bytes of.old.tree) }
+    ensures status { IsOneOf result (done ∷ no_column ∷ other_kind ∷ other_length ∷ []) }
     ensures unchanged { of.new.tree ≡ of.old.tree }
 {
     let Some(column) = of.take(alloc) else {

@@ -6,7 +6,7 @@ ghost use Rattle.sel_arrow.specs.Masked.{number_rows};
 ghost use Rattle.sel_arrow.specs.Rows.{rows, type_of};
 ghost use Rattle.sel_arrow.specs.Shape.{of_uint32};
 ghost use Rattle.sel_handle.specs.Inputs.{validity_in};
-ghost use Rattle.sel_handle.specs.Status.{no_column, other_kind, other_length, out_of_bounds, held_rows, held_type, Demands, HasColumn, Makes, TellsLimits};
+ghost use Rattle.sel_handle.specs.Status.{no_column, other_kind, out_of_bounds, held_rows, held_type, Demands, HasColumn, Makes, TellsLimits};
 ghost use Rattle.sel_runs.specs.Need.{past, IsRefusal};
 ghost use Rattle.polars_compute.specs.Pick.{all_within, take_rows};
 
@@ -121,6 +121,9 @@ pub extern "C" fn sel_take_rows(
     ensures bounds { Demands result out_of_bounds
         (IsTrue (all_within (length (held_rows of.old.tree))
         (number_rows pos indices.now (validity_in bits.now has_bits (length indices.now))))) }
+    ensures limits { TellsLimits result (past (held_type of.old.tree)
+        (take_rows (held_rows of.old.tree)
+        (number_rows pos indices.now (validity_in bits.now has_bits (length indices.now))))) }
     ensures unchanged { of.new.tree ≡ of.old.tree }
 {
     let Some(column) = of.take(alloc) else {
@@ -147,6 +150,9 @@ fn take_rows_into(
     ensures column { result ≢ no_column }
     ensures bounds { Demands result out_of_bounds
         (IsTrue (all_within (length (rows column.now.column))
+        (number_rows pos indices.now (validity_in bits.now has_bits (length indices.now))))) }
+    ensures limits { TellsLimits result (past (type_of column.now.column)
+        (take_rows (rows column.now.column)
         (number_rows pos indices.now (validity_in bits.now has_bits (length indices.now))))) }
 {
     match numbers_of(alloc, indices, bits, has_bits) {

@@ -1,13 +1,13 @@
 //! Columns of bytes and texts that views name.
 
-ghost use Rattle.std.specs.Prelude.{◌≡◌, ◌≢◌, None, Some, length, map, slice_get};
+ghost use Rattle.std.specs.Prelude.{◌≡◌, ◌≢◌, None, Some, [], ◌∷◌, length, map, slice_get};
 ghost use Rattle.std.specs.Option.{option_map};
 ghost use Rattle.sel_arrow.specs.Rows.{rows, type_of};
 ghost use Rattle.sel_arrow.specs.Shape.{of_binary_view, of_utf8_view};
 ghost use Rattle.sel_arrow.specs.Views.{view_rows};
 ghost use Rattle.sel_handle.specs.Inputs.{validity_in, views_in, binview_rules, utf8view_rules};
 ghost use Rattle.sel_handle.specs.Layout.{held_buffers, held_views};
-ghost use Rattle.sel_handle.specs.Status.{done, no_column, other_kind, Demands, HasColumn, Makes, Names};
+ghost use Rattle.sel_handle.specs.Status.{done, no_column, other_kind, other_length, out_of_bounds, Demands, HasColumn, IsOneOf, Makes, Names};
 
 use sel_handle::handle::Handle;
 use sel_handle::status::{NO_COLUMN, put, status_of_maker};
@@ -75,6 +75,9 @@ pub extern "C" fn sel_views(alloc: Global, of: &mut Handle, out: &mut [ViewWords
     ensures column { Demands result no_column (HasColumn of.old.tree) }
     ensures kind { HasColumn of.old.tree →
         Demands result other_kind (held_views of.old.tree ≢ None) }
+    ensures length { result ≡ other_length →
+        Some (length out.old) ≢ option_map length (held_views of.old.tree) }
+    ensures status { IsOneOf result (done ∷ no_column ∷ other_kind ∷ other_length ∷ []) }
     ensures unchanged { of.new.tree ≡ of.old.tree }
 {
     let Some(column) = of.take(alloc) else {
@@ -93,6 +96,7 @@ pub extern "C" fn sel_buffer_count(alloc: Global, of: &mut Handle, count: &mut u
     ensures column { Demands result no_column (HasColumn of.old.tree) }
     ensures kind { HasColumn of.old.tree →
         Demands result other_kind (held_views of.old.tree ≢ None) }
+    ensures status { IsOneOf result (done ∷ no_column ∷ other_kind ∷ []) }
     ensures unchanged { of.new.tree ≡ of.old.tree }
 {
     let Some(column) = of.take(alloc) else {
@@ -112,6 +116,9 @@ pub extern "C" fn sel_buffer_len(alloc: Global, of: &mut Handle, i: usize, len: 
     ensures column { Demands result no_column (HasColumn of.old.tree) }
     ensures kind { HasColumn of.old.tree →
         Demands result other_kind (held_views of.old.tree ≢ None) }
+    ensures bounds { result ≡ out_of_bounds →
+        option_map (λ buffers. slice_get buffers i) (held_buffers of.old.tree) ≡ Some None }
+    ensures status { IsOneOf result (done ∷ no_column ∷ other_kind ∷ out_of_bounds ∷ []) }
     ensures unchanged { of.new.tree ≡ of.old.tree }
 {
     let Some(column) = of.take(alloc) else {
@@ -132,6 +139,12 @@ pub extern "C" fn sel_buffer(alloc: Global, of: &mut Handle, i: usize, out: &mut
     ensures column { Demands result no_column (HasColumn of.old.tree) }
     ensures kind { HasColumn of.old.tree →
         Demands result other_kind (held_views of.old.tree ≢ None) }
+    ensures bounds { result ≡ out_of_bounds →
+        option_map (λ buffers. slice_get buffers i) (held_buffers of.old.tree) ≡ Some None }
+    ensures length { result ≡ other_length → option_map (λ buffers. option_map length
+        (slice_get buffers i)) (held_buffers of.old.tree) ≢ Some (Some (length out.old)) }
+    ensures status { IsOneOf result
+        (done ∷ no_column ∷ other_kind ∷ other_length ∷ out_of_bounds ∷ []) }
     ensures unchanged { of.new.tree ≡ of.old.tree }
 {
     let Some(column) = of.take(alloc) else {

@@ -1,8 +1,8 @@
 -- What is taken of a list, one by one.
 use Rattle.std.proofs.Common.{◌≡◌, ℕ, zero, suc, ◌+◌, ◌<◌, List, [], ◌∷◌, ◌++◌, length, take, drop, get_or, map, refl, ap, sym, ◌∙◌, arith, add-one, set}
 use Rattle.std.proofs.Common.{All, None, Some, subst}
-use Rattle.std.proofs.lemmas.List.Elements.{All-nil, All-cons}
-use Rattle.std.proofs.lemmas.List.{drop-set-lt}
+use Rattle.std.proofs.lemmas.List.Elements.{All-nil, All-cons, All-append}
+use Rattle.std.proofs.lemmas.List.{drop-set-lt, take_more_set}
 use Rattle.sel_arrow.specs.Rows.{rows, row_count, type_of}
 use Rattle.sel_arrow.specs.declared.array_ref.ArrayRef.{ArrayRef}
 use Rattle.sel_handle.specs.Held.{Held}
@@ -82,3 +82,9 @@ all_held (t ∷ ts) (h ∷ hs) same =
 -- where one has none, not each has one
 pub one_lacks : (xs hs : List Handle) (i : ℕ) (d : Handle) → i < length xs → drop i hs ≡ drop i xs → (get_or hs i d).tree ≡ None → All (λ h. HasColumn h.tree) xs → ⊥
 one_lacks xs hs i d low same none all = subst HasColumn (ap (λ (h : Handle). h.tree) (sym (same_entry xs hs i d same)) ∙ none) (all i d low)
+
+-- where the entry at i has none any more, none of the first i + 1 has
+pub emptied_more : (hs : List Handle) (i : ℕ) (h : Handle) → i < length hs → h.tree ≡ None → All (λ (x : Handle). x.tree ≡ None) (take i hs) → All (λ (x : Handle). x.tree ≡ None) (take (i + 1) (set hs i h))
+emptied_more hs i h low none all =
+    let P = λ (x : Handle). x.tree ≡ None in
+    subst (All P) (sym (take_more_set hs i h low)) (All-append P (take i hs) (h ∷ []) all (All-cons P h [] none (All-nil P)))

@@ -22,6 +22,7 @@ pub fn take_all(alloc: Global, handles: &mut [Handle]) -> Result<Vec<ArrayRef>, 
     ensures counts { IfOk result (λ taken. map (λ column. row_count column.column) taken.items ≡
         map (λ handle. held_count handle.tree) handles.old) }
     ensures full { IfOk result (λ _. All (λ handle. HasColumn handle.tree) handles.old) }
+    ensures emptied { IfOk result (λ _. All (λ handle. handle.tree ≡ None) handles.new) }
     ensures column { IfErr result (λ status. status ≡ no_column →
         All (λ handle. HasColumn handle.tree) handles.old → ⊥) }
     ensures refusal { IfErr result (λ status. status ≢ done) }
