@@ -7,6 +7,7 @@ pub mod Equalities
 pub mod Escapes
 pub mod Fields
 pub mod Printed
+pub mod Quotes
 pub mod Spaceless
 pub mod Told
 pub mod TypeTexts

@@ -16,7 +16,8 @@ use Rattle.sel_text.specs.Fits.{fits, all_fit, parts_fit, fits_count, fits_numbe
 use Rattle.sel_text.specs.Laws.{TextsTellRows}
 use Rattle.sel_text.specs.Texts.{bracketed, hex_byte, escaped, hex_text, quoted, is_text_shape, bytes_text, item_shape, part_shapes, item_texts, part_texts, value_text, text_of}
 use Rattle.sel_text.specs.Digits.{NoDigit}
-use Rattle.sel_text.proofs.Decoded.{few_digits, signed_apart, hex_apart, escaped_apart}
+use Rattle.sel_text.proofs.Ends.{few_digits}
+use Rattle.sel_text.proofs.Decoded.{signed_apart, hex_apart, escaped_apart}
 use Rattle.sel_text.proofs.Equalities.{list_of_back}
 use Rattle.sel_text.proofs.Printed.{listed_texts}
 

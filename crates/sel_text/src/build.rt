@@ -13,7 +13,7 @@ use sel_arrow::datatype::ArrowDataType;
 use sel_arrow::fixed_size_list::FixedSizeListArray;
 use sel_arrow::list::ListArray;
 use sel_arrow::null::NullArray;
-use sel_arrow::primitive::{ArrowPrimitive, PrimitiveArray};
+use sel_arrow::primitive::PrimitiveArray;
 use sel_arrow::structure::StructArray;
 use sel_arrow::utf8view::Utf8ViewArray;
 use sel_arrow::view::View;
@@ -87,7 +87,7 @@ fn truths(alloc: Global, items: &[&Item], beneath: Beneath) -> Result<ArrayRef, 
 }
 
 /// The column of these numbers.
-fn numbers<T: ArrowPrimitive + FromWhole>(
+fn numbers<T: FromWhole>(
     alloc: Global,
     items: &[&Item],
     beneath: Beneath,
@@ -101,7 +101,7 @@ fn numbers<T: ArrowPrimitive + FromWhole>(
 }
 
 /// The number in a row, or what stands beneath a null.
-fn number_in<T: ArrowPrimitive + FromWhole>(item: &Item, beneath: Beneath) -> T {
+fn number_in<T: FromWhole>(item: &Item, beneath: Beneath) -> T {
     let other = match beneath {
         Beneath::Zeros => T::ZERO,
         Beneath::Others => T::GREATEST,
