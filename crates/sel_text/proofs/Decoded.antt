@@ -22,7 +22,7 @@ decimal_apart m n r t sm sn nr nt e =
     (sym dm.1 ∙ ap (digits_value 10) parts.0 ∙ dn.1, parts.1)
 
 -- digits never begin with a minus
-no_minus : (a r t : List ℕ) → 0 < length a → AllDigits 10 a → a ++ r ≡ 45 ∷ t → ⊥
+pub no_minus : (a r t : List ℕ) → 0 < length a → AllDigits 10 a → a ++ r ≡ 45 ∷ t → ⊥
 no_minus [] r t some da e = omega arith
 no_minus (x ∷ a) r t some da e =
     let same : x ≡ 45 = cc in
