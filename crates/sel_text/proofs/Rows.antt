@@ -1,14 +1,15 @@
 -- Rows that are no nulls, by their type.
-use Rattle.std.proofs.Common.{◌≡◌, ◌≢◌, ℕ, ℤ, Bool, true, false, true≢false, List, ◌++◌, length, drop, refl, ap, sym, ◌∙◌}
+use Rattle.std.proofs.Common.{◌≡◌, ◌≢◌, ℕ, ℤ, Bool, true, false, true≢false, List, ◌++◌, [], length, drop, append-nil, refl, ap, sym, ◌∙◌}
 use Rattle.std.specs.Prelude.{codes}
 use Rattle.std.specs.Fmt.{signed_decimal}
 use Rattle.sel_arrow.specs.Shape.{Shape, Shapes, of_null, of_boolean, of_large_list, of_fixed_size_list, of_struct, is_struct_shape}
-use Rattle.sel_arrow.specs.Value.{Value, Null, Truth, Number, Bytes, Items, Tuple, Values, listed}
+use Rattle.sel_arrow.specs.Value.{Value, Null, Truth, Number, Bytes, Items, Tuple, Values, listed, values_of}
 use Rattle.sel_arrow.proofs.Lists.{and_first, and_second}
 use Rattle.sel_text.specs.Digits.{NoDigit}
 use Rattle.sel_text.specs.Fits.{fits, all_fit, parts_fit, fits_bytes, fits_count, fits_number, is_truth_shape}
 use Rattle.sel_text.specs.Readings.{BeginsWith}
-use Rattle.sel_text.specs.Texts.{bracketed, bytes_text, item_shape, item_texts, parenthesized, part_shapes, part_texts, truth_text, value_text}
+use Rattle.sel_text.specs.Texts.{bracketed, bytes_text, item_shape, item_texts, parenthesized, part_shapes, part_texts, text_of, truth_text, value_text}
+use Rattle.sel_text.proofs.Printed.{listed_texts}
 use Rattle.sel_text.proofs.Told.{unlike}
 
 -- each value of a type that a text begins with is read, as far as `R` says
@@ -80,3 +81,7 @@ null_read s (Number z) text rest more is begins = absurd (unlike s Null (Number 
 null_read s (Bytes bs) text rest more is begins = absurd (unlike s Null (Bytes bs) rest more refl begins.fit (sym is ∙ begins.whole) refl)
 null_read s (Items vs) text rest more is begins = absurd (unlike s Null (Items vs) rest more refl begins.fit (sym is ∙ begins.whole) refl)
 null_read s (Tuple vs) text rest more is begins = absurd (unlike s Null (Tuple vs) rest more refl begins.fit (sym is ∙ begins.whole) refl)
+
+-- the text of a column's rows is that of a list of them
+pub rows_text : (s : Shape) (vs : List Value) (text : List ℕ) → text ≡ text_of s vs → text ≡ bracketed (item_texts s (values_of vs)) ++ []
+rows_text s vs text is = is ∙ ap bracketed (sym (listed_texts s vs)) ∙ sym (append-nil (bracketed (item_texts s (values_of vs))))

@@ -321,7 +321,7 @@ mutual
 
 -- ---- lists of values
 
-all_fits : (s : Shape) (vs : List Value) → list_all (fits s) vs ≡ true → all_fit s (values_of vs) ≡ true
+pub all_fits : (s : Shape) (vs : List Value) → list_all (fits s) vs ≡ true → all_fit s (values_of vs) ≡ true
 all_fits s [] fit = refl
 all_fits s (v ∷ vs) fit = both (fits s v) (all_fit s (values_of vs)) (and_first _ _ fit) (all_fits s vs (and_second _ _ fit))
 
