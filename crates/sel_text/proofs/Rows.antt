@@ -6,9 +6,9 @@ use Rattle.sel_arrow.specs.Shape.{Shape, Shapes, of_null, of_boolean, of_large_l
 use Rattle.sel_arrow.specs.Value.{Value, Null, Truth, Number, Bytes, Items, Tuple, Values, listed, values_of}
 use Rattle.sel_arrow.proofs.Lists.{and_first, and_second}
 use Rattle.sel_text.specs.Digits.{NoDigit}
-use Rattle.sel_text.specs.Fits.{fits, all_fit, parts_fit, fits_bytes, fits_count, fits_number, is_truth_shape}
+use Rattle.sel_text.specs.Fits.{all_fit, parts_fit, fits_bytes, fits_count, fits_number, is_truth_shape}
 use Rattle.sel_text.specs.Readings.{BeginsWith}
-use Rattle.sel_text.specs.Texts.{bracketed, bytes_text, item_shape, item_texts, parenthesized, part_shapes, part_texts, text_of, truth_text, value_text}
+use Rattle.sel_text.specs.Texts.{bracketed, bytes_text, item_shape, item_texts, parenthesized, part_shapes, part_texts, text_of, truth_text}
 use Rattle.sel_text.proofs.Printed.{listed_texts}
 use Rattle.sel_text.proofs.Told.{unlike}
 

@@ -1,4 +1,3 @@
-use Rattle.std.proofs.Common.{ℕ, List}
 use Rattle.std.specs.Prelude.{◌≡◌, MatchResult}
 use Rattle.sel_text.specs.TextErrors.{IsShort}
 use Rattle.sel_text.proofs.Numbers.{minus_told}

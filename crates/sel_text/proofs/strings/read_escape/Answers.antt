@@ -1,6 +1,6 @@
-use Rattle.std.proofs.Common.{◌∷◌, refl, ap}
+use Rattle.std.proofs.Common.{◌∷◌, ap}
 use Rattle.sel_text.proofs.Decoded.{read_one}
-use Rattle.sel_text.proofs.Quotes.{escape_told, no_escape}
+use Rattle.sel_text.proofs.Quotes.{escape_told}
 use Rattle.sel_text.proofs.strings.read_escape.Goals as goal
 
 pub returns-in-Some-clause-whole : goal.returns-in-Some-clause-whole

@@ -1,4 +1,4 @@
-use Rattle.std.proofs.Common.{◌≡◌, true, sym, subst}
+use Rattle.std.proofs.Common.{true, sym, subst}
 use Rattle.sel_text.specs.Texts.{escaped}
 use Rattle.sel_text.proofs.Quotes.{IsLeft, all_left, none_left, has_next, one_read, escaped_unquoted, no_test}
 use Rattle.sel_text.proofs.strings.read_quoted.Goals as goal
