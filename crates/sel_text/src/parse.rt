@@ -46,7 +46,8 @@ pub fn parse_column(
     }
 }
 
-/// The column whose text this is. What was read is printed and compared, so that nothing rests on how it is read.
+/// The column whose text this is. What was read is printed and compared, so that an answer does not rest on how it is read. No text
+/// is known that is read and not printed back; since it would be none of a wrong syntax, a limit is told there.
 fn read_whole(
     dtype: &ArrowDataType,
     alloc: Global,
