@@ -1,5 +1,5 @@
 -- What was written is read back: digits, and bytes between quotes.
-use Rattle.std.proofs.Common.{◌≡◌, ◌≢◌, ℕ, ℤ, pos, negsuc, suc, ◌+◌, ◌-◌, ◌*◌, ◌^◌, ◌/◌, ◌%◌, ◌<◌, Bool, true, false, List, [], ◌∷◌, ◌++◌, length, refl, ap, sym, ◌∙◌, arith, append_assoc, lit<}
+use Rattle.std.proofs.Common.{◌≡◌, ◌≢◌, ℕ, ℤ, pos, negsuc, suc, ◌+◌, ◌-◌, ◌*◌, ◌^◌, ◌/◌, ◌%◌, ◌<◌, Bool, true, false, List, [], ◌∷◌, ◌++◌, length, refl, ap, sym, ◌∙◌, arith, append_assoc}
 use Rattle.std.specs.Prelude.{nat_lt, ◌==◌, if◌then◌else◌}
 use Rattle.std.specs.Char.{digit_char, digit_value}
 use Rattle.std.specs.Fmt.{decimal, signed_decimal}
@@ -10,13 +10,9 @@ use Rattle.std.proofs.lemmas.Bool.Decides.{nat_tests}
 use Rattle.std.proofs.lemmas.Fmt.{decimal_is_IsNumeral_wide}
 use Rattle.sel_text.specs.Digits.{NoDigit}
 use Rattle.sel_text.specs.Texts.{escaped, hex_byte}
-use Rattle.sel_text.proofs.Ends.{digits_apart}
+use Rattle.sel_text.proofs.Ends.{digits_apart, few_digits}
 
 -- ---- numbers
-
--- so many bits take less than 64 digits
-pub few_digits : (n : ℕ) → n < 2 ^ 129 → n < 10 ^ 64
-few_digits n small = let big : 2 ^ 129 < 10 ^ 64 = lit< tt in omega (arith, big)
 
 decimal_apart : (m n : ℕ) (r t : List ℕ) → m < 2 ^ 129 → n < 2 ^ 129 → NoDigit r → NoDigit t → decimal m ++ r ≡ decimal n ++ t → (m ≡ n) × (r ≡ t)
 decimal_apart m n r t sm sn nr nt e =
@@ -26,7 +22,7 @@ decimal_apart m n r t sm sn nr nt e =
     (sym dm.1 ∙ ap (digits_value 10) parts.0 ∙ dn.1, parts.1)
 
 -- digits never begin with a minus
-no_minus : (a r t : List ℕ) → 0 < length a → AllDigits 10 a → a ++ r ≡ 45 ∷ t → ⊥
+pub no_minus : (a r t : List ℕ) → 0 < length a → AllDigits 10 a → a ++ r ≡ 45 ∷ t → ⊥
 no_minus [] r t some da e = omega arith
 no_minus (x ∷ a) r t some da e =
     let same : x ≡ 45 = cc in
@@ -49,10 +45,10 @@ signed_apart (negsuc m) (negsuc n) r t sm sn nr nt e =
 
 -- ---- bytes in hexadecimal
 
-digit_char_same : (x y : ℕ) → digit_char x ≡ digit_char y → x ≡ y
+pub digit_char_same : (x y : ℕ) → digit_char x ≡ digit_char y → x ≡ y
 digit_char_same x y e = grind (arith, nat_tests)
 
-no_quote : (x : ℕ) → digit_char x ≢ 34
+pub no_quote : (x : ℕ) → digit_char x ≢ 34
 no_quote x e = grind (arith, nat_tests)
 
 pub hex_apart : (bs cs r t : List ℕ) → flat_map hex_byte bs ++ (34 ∷ r) ≡ flat_map hex_byte cs ++ (34 ∷ t) → (bs ≡ cs) × (r ≡ t)
@@ -72,19 +68,19 @@ hex_apart (b ∷ bs) (c ∷ cs) r t e =
 -- ---- texts between quotes
 
 -- the value of a hexadecimal digit
-abbrev hex_value : ℕ → ℕ
+abbrev pub hex_value : ℕ → ℕ
 hex_value c = if nat_lt c 58 then c - 48 else c - 87
 
 hex_value_back : (d : ℕ) → d < 16 → hex_value (digit_char d) ≡ d
 hex_value_back d small = grind (arith, nat_tests)
 
 -- four digits behind `\u` as a byte
-abbrev read_hex : List ℕ → ℕ × List ℕ
+abbrev pub read_hex : List ℕ → ℕ × List ℕ
 read_hex (a ∷ b ∷ c ∷ d ∷ rest) = (16 * hex_value c + hex_value d, rest)
 read_hex text = (0, text)
 
 -- what stands behind a backslash
-abbrev read_escape : ℕ → List ℕ → ℕ × List ℕ
+abbrev pub read_escape : ℕ → List ℕ → ℕ × List ℕ
 read_escape c rest =
     if c == 110 then (10, rest) else
     if c == 114 then (13, rest) else
@@ -94,13 +90,13 @@ read_escape c rest =
     if c == 117 then read_hex rest else (c, rest)
 
 -- the first byte of what stands between quotes, and the rest
-abbrev read_one : List ℕ → ℕ × List ℕ
+abbrev pub read_one : List ℕ → ℕ × List ℕ
 read_one [] = (0, [])
 read_one (c ∷ []) = (c, [])
 read_one (c ∷ d ∷ rest) = if c == 92 then read_escape d rest else (c, d ∷ rest)
 
 -- a byte and the rest
-abbrev one_then : ℕ → List ℕ → ℕ × List ℕ
+abbrev pub one_then : ℕ → List ℕ → ℕ × List ℕ
 one_then a r = (a, r)
 
 pick : (P : List ℕ → Type 0) (b : Bool) (x y : List ℕ) → (b ≡ true → P x) → (b ≡ false → P y) → P (if b then x else y)
@@ -112,7 +108,7 @@ plain_read a [] is = refl
 plain_read a (d ∷ r) is = ap (λ t. if t then read_escape d r else (a, d ∷ r)) is
 
 -- an escape is read back as the byte
-read_escaped : (a : ℕ) (r : List ℕ) → read_one (escaped a ++ r) ≡ one_then a r
+pub read_escaped : (a : ℕ) (r : List ℕ) → read_one (escaped a ++ r) ≡ one_then a r
 read_escaped a r =
     let P = λ (l : List ℕ). read_one (l ++ r) ≡ one_then a r in
     let back : (n : ℕ) → (a == n) ≡ true → one_then n r ≡ one_then a r = λ n is. (let same : n ≡ a = grind (arith, nat_tests, is) in ap (λ x. one_then x r) same) in
@@ -135,7 +131,7 @@ read_escaped a r =
         omega (arith, h, l)
 
 -- no escape begins with a quote
-unquoted : (a : ℕ) (r t : List ℕ) → escaped a ++ r ≡ 34 ∷ t → ⊥
+pub unquoted : (a : ℕ) (r t : List ℕ) → escaped a ++ r ≡ 34 ∷ t → ⊥
 unquoted a r t e =
     let read : one_then a r ≡ read_one (34 ∷ t) = sym (read_escaped a r) ∙ ap read_one e in
     let same : a ≡ 34 = ap (λ p. p.0) (read ∙ plain_read 34 t refl) in

@@ -1,9 +1,12 @@
 -- Numerals, and what stands behind them.
-use Rattle.std.proofs.Common.{◌≡◌, ◌≢◌, ℕ, zero, suc, ◌^◌, ◌≤◌, ◌<◌, List, [], ◌∷◌, ◌++◌, length, take, drop, get_or, refl, ap, sym, ◌∙◌, arith, lit<, length-take, subst}
+use Rattle.std.proofs.Common.{◌≡◌, ◌≢◌, ℕ, zero, suc, ◌+◌, ◌/◌, ◌^◌, ◌≤◌, ◌<◌, Bool, true, false, List, [], ◌∷◌, ◌++◌, length, take, drop, get_or, refl, ap, sym, ◌∙◌, arith, lit<, length-take, subst}
 use Rattle.std.specs.Char.{digit_value}
 use Rattle.std.specs.Fmt.{decimal}
-use Rattle.std.specs.Str.Parse.{AllDigits, digits_value}
-use Rattle.std.proofs.lemmas.Fmt.{decimal_is_IsNumeral, first_decimal, decimal_digit}
+use Rattle.std.specs.Prelude.{nat_lt}
+use Rattle.std.specs.Str.Parse.{AllDigits, IsNumeral, digits_value}
+use Rattle.std.proofs.Math.ListN.{get_or-append}
+use Rattle.std.proofs.lemmas.Bool.Decides.{nat_tests}
+use Rattle.std.proofs.lemmas.Fmt.{decimal_is_IsNumeral_wide, decimal_digit, decimal_step_wide}
 use Rattle.std.proofs.lemmas.List.{get_or-take, take-append-drop}
 use Rattle.sel_text.specs.Digits.{NoDigit}
 
@@ -25,22 +28,48 @@ digits_apart (x ∷ a) (y ∷ b) r t da db nr nt e =
     let parts = digits_apart a b r t da.1 db.1 nr nt rest in
     (ap (λ c. c ∷ a) same ∙ ap (λ l. y ∷ l) parts.0, parts.1)
 
+-- so many bits take less than 64 digits
+pub few_digits : (n : ℕ) → n < 2 ^ 129 → n < 10 ^ 64
+few_digits n small = let big : 2 ^ 129 < 10 ^ 64 = lit< tt in omega (arith, big)
+
+-- a numeral is one of digits, and that of its number
+pub numeral_is : (n : ℕ) → n < 2 ^ 128 → IsNumeral 10 (decimal n) × (digits_value 10 (decimal n) ≡ n)
+numeral_is n small = decimal_is_IsNumeral_wide n (few_digits n (omega (arith, small)))
+
+-- a numeral begins with a zero only where it is that of zero
+first_digit : (most n : ℕ) → n ≤ most → 0 < n → n < 10 ^ 64 → 48 < get_or (decimal n) 0 0
+first_digit zero n few some small = absurd (omega arith)
+first_digit (suc most) n few some small = go (first_digit most (n / 10)) (nat_lt n 10) refl
+  where
+    go : (n / 10 ≤ most → 0 < n / 10 → n / 10 < 10 ^ 64 → 48 < get_or (decimal (n / 10)) 0 0) → (b : Bool) → nat_lt n 10 ≡ b → 48 < get_or (decimal n) 0 0
+    go shorter true is =
+        let low : n < 10 = grind (arith, nat_tests, is) in
+        let one : get_or (decimal n) 0 0 ≡ 48 + n = ap (λ l. get_or l 0 0) (decimal_digit n low) in
+        omega (arith, one, some)
+    go shorter false is =
+        let high : 10 ≤ n = grind (arith, nat_tests, is) in
+        let less : n / 10 < 10 ^ 64 = omega (arith, small) in
+        let before = shorter (omega (arith, few, high)) (omega (arith, high)) less in
+        let long = (decimal_is_IsNumeral_wide (n / 10) less).0.0 in
+        let same : get_or (decimal n) 0 0 ≡ get_or (decimal (n / 10)) 0 0 = ap (λ l. get_or l 0 0) (decimal_step_wide n high small) ∙ get_or-append (decimal (n / 10)) _ 0 0 long in
+        omega (arith, before, same)
+
 -- a numeral has a digit, and a zero first only where it is the only one
-pub numeral_has : (n : ℕ) → n < 2 ^ 64 → (0 < length (decimal n)) × AllDigits 10 (decimal n) × (get_or (decimal n) 0 0 ≡ 48 → length (decimal n) ≡ 1)
-numeral_has zero small = let is = (decimal_is_IsNumeral zero small).0 in (is.0, is.1, λ e. ap length (decimal_digit 0 (lit< tt)))
+pub numeral_has : (n : ℕ) → n < 2 ^ 128 → (0 < length (decimal n)) × AllDigits 10 (decimal n) × (get_or (decimal n) 0 0 ≡ 48 → length (decimal n) ≡ 1)
+numeral_has zero small = let is = (numeral_is zero small).0 in (is.0, is.1, λ e. ap length (decimal_digit 0 (lit< tt)))
 numeral_has (suc n) small =
-    let is = (decimal_is_IsNumeral (suc n) small).0 in
-    let first = first_decimal (suc n) (omega arith) small in
+    let is = (numeral_is (suc n) small).0 in
+    let first = first_digit (suc n) (suc n) (omega arith) (omega arith) (few_digits (suc n) (omega (arith, small))) in
     (is.0, is.1, λ e. absurd (omega (arith, first, e)))
 
 -- all the digits at the front are the numeral there
-pub numeral_told : (bytes digits rest : List ℕ) → bytes ≡ digits ++ rest → AllDigits 10 digits → NoDigit rest → (n : ℕ) (more : List ℕ) → n < 2 ^ 64 → NoDigit more → bytes ≡ decimal n ++ more →
+pub numeral_told : (bytes digits rest : List ℕ) → bytes ≡ digits ++ rest → AllDigits 10 digits → NoDigit rest → (n : ℕ) (more : List ℕ) → n < 2 ^ 128 → NoDigit more → bytes ≡ decimal n ++ more →
     (digits ≡ decimal n) × (rest ≡ more)
 numeral_told bytes digits rest is all end n more small ends begins =
     digits_apart digits (decimal n) rest more all (numeral_has n small).1 end ends (sym is ∙ begins)
 
 -- no digit is no numeral
-pub no_numeral : (bytes : List ℕ) (count : ℕ) → count ≡ 0 → NoDigit (drop count bytes) → (n : ℕ) (more : List ℕ) → n < 2 ^ 64 → NoDigit more → bytes ≢ decimal n ++ more
+pub no_numeral : (bytes : List ℕ) (count : ℕ) → count ≡ 0 → NoDigit (drop count bytes) → (n : ℕ) (more : List ℕ) → n < 2 ^ 128 → NoDigit more → bytes ≢ decimal n ++ more
 no_numeral bytes count none end n more small ends begins =
     let told = numeral_told bytes [] bytes refl tt (subst NoDigit (ap (λ k. drop k bytes) none) end) n more small ends begins in
     let long = ap length told.0 in
@@ -49,7 +78,7 @@ no_numeral bytes count none end n more small ends begins =
 
 -- nor is one with a zero before others
 pub zero_first : (bytes : List ℕ) (count : ℕ) → count ≤ length bytes → AllDigits 10 (take count bytes) → NoDigit (drop count bytes) → 1 < count → get_or bytes 0 0 ≡ 48 →
-    (n : ℕ) (more : List ℕ) → n < 2 ^ 64 → NoDigit more → bytes ≢ decimal n ++ more
+    (n : ℕ) (more : List ℕ) → n < 2 ^ 128 → NoDigit more → bytes ≢ decimal n ++ more
 zero_first bytes count inside all end long naught n more small ends begins =
     let told = numeral_told bytes (take count bytes) (drop count bytes) (sym (take-append-drop count bytes)) all end n more small ends begins in
     let first : get_or (take count bytes) 0 0 ≡ 48 = get_or-take count bytes 0 0 (omega arith) ∙ naught in
@@ -58,8 +87,8 @@ zero_first bytes count inside all end long naught n more small ends begins =
     let many = length-take count bytes in
     omega (arith, long, one, same, many)
 
--- numbers of 64 bits with one numeral are one
-pub numbers_told : (m n : ℕ) (bytes rest more : List ℕ) → m < 2 ^ 64 → n < 2 ^ 64 → NoDigit rest → NoDigit more → bytes ≡ decimal m ++ rest → bytes ≡ decimal n ++ more → (m ≡ n) × (rest ≡ more)
+-- numbers with one numeral are one
+pub numbers_told : (m n : ℕ) (bytes rest more : List ℕ) → m < 2 ^ 128 → n < 2 ^ 128 → NoDigit rest → NoDigit more → bytes ≡ decimal m ++ rest → bytes ≡ decimal n ++ more → (m ≡ n) × (rest ≡ more)
 numbers_told m n bytes rest more sm sn end ends one other =
     let told = numeral_told bytes (decimal m) rest one (numeral_has m sm).1 end n more sn ends other in
-    (sym (decimal_is_IsNumeral m sm).1 ∙ ap (digits_value 10) told.0 ∙ (decimal_is_IsNumeral n sn).1, told.1)
+    (sym (numeral_is m sm).1 ∙ ap (digits_value 10) told.0 ∙ (numeral_is n sn).1, told.1)

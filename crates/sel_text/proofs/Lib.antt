@@ -3,10 +3,14 @@ pub mod Commas
 pub mod Decimals
 pub mod Decoded
 pub mod Ends
+pub mod Entries
 pub mod Equalities
 pub mod Escapes
 pub mod Fields
+pub mod Numbers
 pub mod Printed
+pub mod Quotes
+pub mod Rows
 pub mod Spaceless
 pub mod Told
 pub mod TypeTexts

@@ -16,19 +16,20 @@ use Rattle.sel_text.specs.Fits.{fits, all_fit, parts_fit, fits_count, fits_numbe
 use Rattle.sel_text.specs.Laws.{TextsTellRows}
 use Rattle.sel_text.specs.Texts.{bracketed, hex_byte, escaped, hex_text, quoted, is_text_shape, bytes_text, item_shape, part_shapes, item_texts, part_texts, value_text, text_of}
 use Rattle.sel_text.specs.Digits.{NoDigit}
-use Rattle.sel_text.proofs.Decoded.{few_digits, signed_apart, hex_apart, escaped_apart}
+use Rattle.sel_text.proofs.Ends.{few_digits}
+use Rattle.sel_text.proofs.Decoded.{signed_apart, hex_apart, escaped_apart}
 use Rattle.sel_text.proofs.Equalities.{list_of_back}
 use Rattle.sel_text.proofs.Printed.{listed_texts}
 
 -- ---- texts behind an opening bracket
 
 -- the texts from the second on, each behind a comma, the closing bracket, and a rest
-abbrev after : ℕ → List (List ℕ) → List ℕ → List ℕ
+abbrev pub after : ℕ → List (List ℕ) → List ℕ → List ℕ
 after close [] r = close ∷ r
 after close (x ∷ xs) r = 44 ∷ x ++ after close xs r
 
 -- all of them
-abbrev inside : ℕ → List (List ℕ) → List ℕ → List ℕ
+abbrev pub inside : ℕ → List (List ℕ) → List ℕ → List ℕ
 inside close [] r = close ∷ r
 inside close (x ∷ xs) r = x ++ after close xs r
 
@@ -39,11 +40,11 @@ joined_after close x (y ∷ xs) r =
     ∙ append_assoc x (44 ∷ join_with_byte 44 (y ∷ xs)) (close ∷ r)
     ∙ ap (λ l. x ++ (44 ∷ l)) (sym (append_assoc (join_with_byte 44 (y ∷ xs)) (close ∷ []) r) ∙ joined_after close y xs r)
 
-joined_inside : (close : ℕ) (xs : List (List ℕ)) (r : List ℕ) → (join_with_byte 44 xs ++ close ∷ []) ++ r ≡ inside close xs r
+pub joined_inside : (close : ℕ) (xs : List (List ℕ)) (r : List ℕ) → (join_with_byte 44 xs ++ close ∷ []) ++ r ≡ inside close xs r
 joined_inside close [] r = refl
 joined_inside close (x ∷ xs) r = joined_after close x xs r
 
-after_no_digit : (close : ℕ) (xs : List (List ℕ)) (r : List ℕ) → 10 ≤ digit_value close → NoDigit (after close xs r)
+pub after_no_digit : (close : ℕ) (xs : List (List ℕ)) (r : List ℕ) → 10 ≤ digit_value close → NoDigit (after close xs r)
 after_no_digit close [] r past = past
 after_no_digit close (x ∷ xs) r past = comma_past
   where
@@ -84,7 +85,7 @@ small_signed : (bits : ℕ) (z : ℤ) → 2 ^ bits ≤ 2 ^ 128 → nat_lt (mag z
 small_signed bits z few fit = let small = below (mag z) (2 ^ bits) fit in omega (arith, small, few)
 
 -- a number of a type has at most 128 bits
-small_number : (s : Shape) (z : ℤ) → fits_number s z ≡ true → mag z < 2 ^ 128
+pub small_number : (s : Shape) (z : ℤ) → fits_number s z ≡ true → mag z < 2 ^ 128
 small_number of_int8 z fit = small_signed 7 z (omega arith) fit
 small_number of_int16 z fit = small_signed 15 z (omega arith) fit
 small_number of_int32 z fit = small_signed 31 z (omega arith) fit
@@ -103,6 +104,30 @@ small_number of_utf8_view z fit = absurd cc
 small_number (of_large_list s) z fit = absurd cc
 small_number (of_fixed_size_list s size) z fit = absurd cc
 small_number (of_struct ss) z fit = absurd cc
+
+-- one below zero is of a type with a sign
+below_signed : (bits n : ℕ) → 2 ^ bits ≤ 2 ^ 127 → nat_lt n (2 ^ bits) ≡ true → n < 2 ^ 127
+below_signed bits n few fit = let small = below n (2 ^ bits) fit in omega (arith, small, few)
+
+pub small_below : (s : Shape) (n : ℕ) → fits_number s (negsuc n) ≡ true → n < 2 ^ 127
+small_below of_int8 n fit = below_signed 7 n (omega arith) fit
+small_below of_int16 n fit = below_signed 15 n (omega arith) fit
+small_below of_int32 n fit = below_signed 31 n (omega arith) fit
+small_below of_int64 n fit = below_signed 63 n (omega arith) fit
+small_below of_int128 n fit = below_signed 127 n (omega arith) fit
+small_below of_uint8 n fit = absurd cc
+small_below of_uint16 n fit = absurd cc
+small_below of_uint32 n fit = absurd cc
+small_below of_uint64 n fit = absurd cc
+small_below of_uint128 n fit = absurd cc
+small_below of_null n fit = absurd cc
+small_below of_boolean n fit = absurd cc
+small_below of_large_binary n fit = absurd cc
+small_below of_binary_view n fit = absurd cc
+small_below of_utf8_view n fit = absurd cc
+small_below (of_large_list s) n fit = absurd cc
+small_below (of_fixed_size_list s size) n fit = absurd cc
+small_below (of_struct ss) n fit = absurd cc
 
 starts : (s : Shape) (v : Value) (r : List ℕ) → fits s v ≡ true → kind_of (get_or (value_text s v ++ r) 0 0) ≡ kind v
 starts s Null r fit = refl
@@ -136,14 +161,14 @@ bytes_apart s bs cs r t e = go (is_text_shape s) e
         hex_apart bs cs r t (sym (append_assoc (flat_map hex_byte bs) (34 ∷ []) r) ∙ body ∙ append_assoc (flat_map hex_byte cs) (34 ∷ []) t)
 
 -- values of two kinds have no text in common
-unlike : (s : Shape) (v w : Value) (r t : List ℕ) → fits s v ≡ true → fits s w ≡ true → value_text s v ++ r ≡ value_text s w ++ t → (kind v == kind w) ≡ false → ⊥
+pub unlike : (s : Shape) (v w : Value) (r t : List ℕ) → fits s v ≡ true → fits s w ≡ true → value_text s v ++ r ≡ value_text s w ++ t → (kind v == kind w) ≡ false → ⊥
 unlike s v w r t fv fw e differ =
     let same = same_kind s v w r t fv fw e in
     let apart : kind v ≢ kind w = grind (arith, nat_tests, differ) in
     apart same
 
 -- a closing bracket begins no value
-no_value : (s : Shape) (v : Value) (close : ℕ) (r t : List ℕ) → fits s v ≡ true → kind_of close ≡ 6 → close ∷ r ≡ value_text s v ++ t → ⊥
+pub no_value : (s : Shape) (v : Value) (close : ℕ) (r t : List ℕ) → fits s v ≡ true → kind_of close ≡ 6 → close ∷ r ≡ value_text s v ++ t → ⊥
 no_value s v close r t fit none e =
     let one : kind v ≡ 6 = sym (starts s v t fit) ∙ ap (λ l. kind_of (get_or l 0 0)) (sym e) ∙ none in
     never v one
@@ -296,7 +321,7 @@ mutual
 
 -- ---- lists of values
 
-all_fits : (s : Shape) (vs : List Value) → list_all (fits s) vs ≡ true → all_fit s (values_of vs) ≡ true
+pub all_fits : (s : Shape) (vs : List Value) → list_all (fits s) vs ≡ true → all_fit s (values_of vs) ≡ true
 all_fits s [] fit = refl
 all_fits s (v ∷ vs) fit = both (fits s v) (all_fit s (values_of vs)) (and_first _ _ fit) (all_fits s vs (and_second _ _ fit))
 

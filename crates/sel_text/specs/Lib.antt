@@ -2,6 +2,7 @@ pub mod Cells
 pub mod Fits
 pub mod Laws
 pub mod Digits
+pub mod Readings
 pub mod Spaces
 pub mod TextErrors
 pub mod Texts

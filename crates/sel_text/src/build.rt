@@ -1,5 +1,8 @@
 //! Columns made of rows that were read.
 
+ghost use Rattle.std.specs.Prelude.{IfErr};
+ghost use Rattle.sel_text.specs.TextErrors.{IsShort};
+
 use crate::cell::Whole;
 use crate::item::Item;
 use crate::text_error::Fault;
@@ -13,7 +16,7 @@ use sel_arrow::datatype::ArrowDataType;
 use sel_arrow::fixed_size_list::FixedSizeListArray;
 use sel_arrow::list::ListArray;
 use sel_arrow::null::NullArray;
-use sel_arrow::primitive::{ArrowPrimitive, PrimitiveArray};
+use sel_arrow::primitive::PrimitiveArray;
 use sel_arrow::structure::StructArray;
 use sel_arrow::utf8view::Utf8ViewArray;
 use sel_arrow::view::View;
@@ -38,7 +41,9 @@ pub(crate) fn build(
     alloc: Global,
     items: &[&Item],
     beneath: Beneath,
-) -> Result<ArrayRef, Fault> {
+) -> Result<ArrayRef, Fault>
+    ensures { IfErr result IsShort }
+{
     match dtype {
         ArrowDataType::Null => Ok(NullArray::try_new(items.len())?.into_ref()),
         ArrowDataType::Boolean => truths(alloc, items, beneath),
@@ -62,7 +67,9 @@ pub(crate) fn build(
 }
 
 /// Which of the rows are valid, where one is not.
-fn validity_of(alloc: Global, items: &[&Item]) -> Result<Option<Bitmap>, Fault> {
+fn validity_of(alloc: Global, items: &[&Item]) -> Result<Option<Bitmap>, Fault>
+    ensures { IfErr result IsShort }
+{
     let mut valid = Vec::with_capacity(alloc, items.len())?;
     for item in items {
         valid.push(!matches!(item, Item::Null))?;
@@ -74,7 +81,9 @@ fn validity_of(alloc: Global, items: &[&Item]) -> Result<Option<Bitmap>, Fault> 
 }
 
 /// The column of these truth values.
-fn truths(alloc: Global, items: &[&Item], beneath: Beneath) -> Result<ArrayRef, Fault> {
+fn truths(alloc: Global, items: &[&Item], beneath: Beneath) -> Result<ArrayRef, Fault>
+    ensures { IfErr result IsShort }
+{
     let mut values = Vec::with_capacity(alloc, items.len())?;
     for item in items {
         values.push(match item {
@@ -87,11 +96,13 @@ fn truths(alloc: Global, items: &[&Item], beneath: Beneath) -> Result<ArrayRef, 
 }
 
 /// The column of these numbers.
-fn numbers<T: ArrowPrimitive + FromWhole>(
+fn numbers<T: FromWhole>(
     alloc: Global,
     items: &[&Item],
     beneath: Beneath,
-) -> Result<ArrayRef, Fault> {
+) -> Result<ArrayRef, Fault>
+    ensures { IfErr result IsShort }
+{
     let mut values = Vec::with_capacity(alloc, items.len())?;
     for item in items {
         values.push(number_in::<T>(item, beneath))?;
@@ -101,7 +112,7 @@ fn numbers<T: ArrowPrimitive + FromWhole>(
 }
 
 /// The number in a row, or what stands beneath a null.
-fn number_in<T: ArrowPrimitive + FromWhole>(item: &Item, beneath: Beneath) -> T {
+fn number_in<T: FromWhole>(item: &Item, beneath: Beneath) -> T {
     let other = match beneath {
         Beneath::Zeros => T::ZERO,
         Beneath::Others => T::GREATEST,
@@ -124,7 +135,9 @@ fn bytes_in(item: &Item, beneath: Beneath) -> &[u8] {
 }
 
 /// The column of these bytes, one after another between offsets.
-fn pieces(alloc: Global, items: &[&Item], beneath: Beneath) -> Result<ArrayRef, Fault> {
+fn pieces(alloc: Global, items: &[&Item], beneath: Beneath) -> Result<ArrayRef, Fault>
+    ensures { IfErr result IsShort }
+{
     let mut bytes = Vec::new(alloc);
     let mut ends: Vec<i64> = vec![in alloc; 0]?;
     for item in items {
@@ -137,7 +150,9 @@ fn pieces(alloc: Global, items: &[&Item], beneath: Beneath) -> Result<ArrayRef, 
 }
 
 /// A place as an offset.
-fn offset_at(place: usize) -> Result<i64, Fault> {
+fn offset_at(place: usize) -> Result<i64, Fault>
+    ensures { IfErr result IsShort }
+{
     match i64::try_from(place) {
         Ok(offset) => Ok(offset),
         Err(_) => Err(Fault::Limit),
@@ -145,7 +160,9 @@ fn offset_at(place: usize) -> Result<i64, Fault> {
 }
 
 /// The column of views of these bytes, those past 12 bytes in one data buffer.
-fn views(alloc: Global, items: &[&Item], beneath: Beneath) -> Result<BinaryViewArray, Fault> {
+fn views(alloc: Global, items: &[&Item], beneath: Beneath) -> Result<BinaryViewArray, Fault>
+    ensures { IfErr result IsShort }
+{
     let mut data = Vec::new(alloc);
     let mut views = Vec::with_capacity(alloc, items.len())?;
     for item in items {
@@ -163,7 +180,9 @@ fn views(alloc: Global, items: &[&Item], beneath: Beneath) -> Result<BinaryViewA
 }
 
 /// The column of these texts.
-fn texts(alloc: Global, items: &[&Item], beneath: Beneath) -> Result<ArrayRef, Fault> {
+fn texts(alloc: Global, items: &[&Item], beneath: Beneath) -> Result<ArrayRef, Fault>
+    ensures { IfErr result IsShort }
+{
     let BinaryViewArray {
         views,
         buffers,
@@ -179,7 +198,9 @@ fn lists(
     alloc: Global,
     items: &[&Item],
     beneath: Beneath,
-) -> Result<ArrayRef, Fault> {
+) -> Result<ArrayRef, Fault>
+    ensures { IfErr result IsShort }
+{
     let null = Item::Null;
     let mut entries = Vec::new(alloc);
     let mut ends: Vec<i64> = vec![in alloc; 0]?;
@@ -198,7 +219,9 @@ fn lists(
 }
 
 /// Puts each entry of a list behind others.
-fn push_each<'a>(entries: &mut Vec<&'a Item>, list: &'a [Item]) -> Result<(), Fault> {
+fn push_each<'a>(entries: &mut Vec<&'a Item>, list: &'a [Item]) -> Result<(), Fault>
+    ensures { IfErr result IsShort }
+{
     for entry in list {
         entries.push(entry)?;
     }
@@ -213,7 +236,9 @@ fn blocks(
     alloc: Global,
     items: &[&Item],
     beneath: Beneath,
-) -> Result<ArrayRef, Fault> {
+) -> Result<ArrayRef, Fault>
+    ensures { IfErr result IsShort }
+{
     let null = Item::Null;
     let mut entries = Vec::new(alloc);
     for item in items {
@@ -228,11 +253,9 @@ fn blocks(
 }
 
 /// Puts an entry so many times behind others.
-fn push_copies<'a>(
-    entries: &mut Vec<&'a Item>,
-    entry: &'a Item,
-    count: usize,
-) -> Result<(), Fault> {
+fn push_copies<'a>(entries: &mut Vec<&'a Item>, entry: &'a Item, count: usize) -> Result<(), Fault>
+    ensures { IfErr result IsShort }
+{
     for _ in 0..count {
         entries.push(entry)?;
     }
@@ -246,7 +269,9 @@ fn tuples(
     alloc: Global,
     items: &[&Item],
     beneath: Beneath,
-) -> Result<ArrayRef, Fault> {
+) -> Result<ArrayRef, Fault>
+    ensures { IfErr result IsShort }
+{
     let null = Item::Null;
     let mut fields = Vec::with_capacity(alloc, dtypes.len())?;
     for (k, dtype) in dtypes.iter().enumerate() {

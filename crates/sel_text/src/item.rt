@@ -1,6 +1,16 @@
 //! Rows, as they are read from a text.
 
-ghost use Rattle.std.specs.Str.Parse.{AllDigits};
+ghost use Rattle.std.specs.Prelude.{◌≡◌, ◌≢◌, ◌<◌, ◌∷◌, ◌++◌, ℕ, ℤ, pos, negsuc, suc, Bool, List, MatchResult, IfOk, IfErr, IsTrue, length, map, nat_lt};
+ghost use Rattle.std.specs.Fmt.{decimal, signed_decimal};
+ghost use Rattle.std.specs.List.{list_all};
+ghost use Rattle.sel_arrow.specs.DataType.{shape_of};
+ghost use Rattle.sel_arrow.specs.Shape.{shapes_of};
+ghost use Rattle.sel_arrow.specs.Value.{Value, Values, listed};
+ghost use Rattle.sel_text.specs.Digits.{NoDigit};
+ghost use Rattle.sel_text.specs.Fits.{all_fit, fits_number, parts_fit};
+ghost use Rattle.sel_text.specs.Readings.{BeginsWith};
+ghost use Rattle.sel_text.specs.TextErrors.{IsShort};
+ghost use Rattle.sel_text.specs.Texts.{bracketed, hex_text, item_texts, parenthesized, part_texts, quoted, truth_text};
 
 use crate::cell::Whole;
 use crate::numerals::{behind, expect, number_of, read_digits};
@@ -27,7 +37,11 @@ pub(crate) fn read_item<'a>(
     dtype: &ArrowDataType,
     alloc: Global,
     bytes: &'a [u8],
-) -> Result<(Item, &'a [u8]), Fault> {
+) -> Result<(Item, &'a [u8]), Fault>
+    ensures { (value : Value) (more : List ℕ) →
+        BeginsWith (shape_of dtype.now) value bytes.now more →
+        MatchResult result (λ read. read.1.now ≡ more) IsShort }
+{
     if let Some(rest) = behind(bytes, b"null") {
         return Ok((Item::Null, rest));
     }
@@ -44,31 +58,26 @@ pub(crate) fn read_item<'a>(
         ArrowDataType::UInt32 => read_number::<u32>(bytes),
         ArrowDataType::UInt64 => read_number::<u64>(bytes),
         ArrowDataType::UInt128 => read_number::<u128>(bytes),
-        ArrowDataType::LargeBinary | ArrowDataType::BinaryView => {
-            let rest = opened(bytes, b"h\"")?;
-            let (value, rest) = read_hex(alloc, rest)?;
-            Ok((Item::Bytes(value), rest))
-        }
-        ArrowDataType::Utf8View => {
-            let rest = opened(bytes, b"\"")?;
-            let (value, rest) = read_quoted(alloc, rest)?;
-            Ok((Item::Bytes(value), rest))
-        }
-        ArrowDataType::LargeList(child) => {
-            let (items, rest) = read_items(child, alloc, bytes)?;
-            Ok((Item::Items(items), rest))
-        }
-        ArrowDataType::FixedSizeList(child, size) => {
-            let (items, rest) = read_items(child, alloc, bytes)?;
-            if items.len() != *size {
-                return Err(Fault::Type(bytes.len()));
+        ArrowDataType::LargeBinary => read_bytes(alloc, bytes),
+        ArrowDataType::BinaryView => read_bytes(alloc, bytes),
+        ArrowDataType::Utf8View => read_text(alloc, bytes),
+        ArrowDataType::LargeList(child) => match read_items(child, alloc, bytes) {
+            Ok((items, rest)) => Ok((Item::Items(items), rest)),
+            Err(fault) => Err(fault),
+        },
+        ArrowDataType::FixedSizeList(child, size) => match read_items(child, alloc, bytes) {
+            Ok((items, rest)) => {
+                if items.len() != *size {
+                    return Err(Fault::Type(bytes.len()));
+                }
+                Ok((Item::Items(items), rest))
             }
-            Ok((Item::Items(items), rest))
-        }
-        ArrowDataType::Struct(fields) => {
-            let (parts, rest) = read_parts(fields, alloc, bytes)?;
-            Ok((Item::Parts(parts), rest))
-        }
+            Err(fault) => Err(fault),
+        },
+        ArrowDataType::Struct(fields) => match read_parts(fields, alloc, bytes) {
+            Ok((parts, rest)) => Ok((Item::Parts(parts), rest)),
+            Err(fault) => Err(fault),
+        },
     }
 }
 
@@ -84,7 +93,10 @@ fn mismatch(bytes: &[u8]) -> Fault {
 }
 
 /// What stands behind what a row of the type begins with.
-fn opened<'a>(bytes: &'a [u8], word: &[u8]) -> Result<&'a [u8], Fault> {
+fn opened<'a>(bytes: &'a [u8], word: &[u8]) -> Result<&'a [u8], Fault>
+    ensures rest { IfOk result (λ rest. bytes.now ≡ word.now ++ rest.now) }
+    ensures refused { IfErr result (λ _. (more : List ℕ) → bytes.now ≢ word.now ++ more) }
+{
     match behind(bytes, word) {
         Some(rest) => Ok(rest),
         None => Err(mismatch(bytes)),
@@ -92,44 +104,114 @@ fn opened<'a>(bytes: &'a [u8], word: &[u8]) -> Result<&'a [u8], Fault> {
 }
 
 /// The truth value at the front.
-fn read_truth(bytes: &[u8]) -> Result<(Item, &[u8]), Fault> {
+fn read_truth(bytes: &[u8]) -> Result<(Item, &[u8]), Fault>
+    ensures { (truth : Bool) (more : List ℕ) → bytes.now ≡ truth_text truth ++ more →
+        MatchResult result (λ read. read.1.now ≡ more) IsShort }
+{
     if let Some(rest) = behind(bytes, b"true") {
         return Ok((Item::Truth(true), rest));
     }
-    let rest = opened(bytes, b"false")?;
-    Ok((Item::Truth(false), rest))
+    match opened(bytes, b"false") {
+        Ok(rest) => Ok((Item::Truth(false), rest)),
+        Err(fault) => Err(fault),
+    }
+}
+
+/// The bytes in hexadecimal at the front.
+fn read_bytes(alloc: Global, bytes: &[u8]) -> Result<(Item, &[u8]), Fault>
+    ensures { (value more : List ℕ) → IsTrue (list_all (λ byte. nat_lt byte 256) value) →
+        bytes.now ≡ hex_text value ++ more →
+        MatchResult result (λ read. read.1.now ≡ more) IsShort }
+{
+    let rest = match opened(bytes, b"h\"") {
+        Ok(rest) => rest,
+        Err(fault) => return Err(fault),
+    };
+    match read_hex(alloc, rest) {
+        Ok((value, rest)) => Ok((Item::Bytes(value), rest)),
+        Err(fault) => Err(fault),
+    }
+}
+
+/// The text between quotes at the front.
+fn read_text(alloc: Global, bytes: &[u8]) -> Result<(Item, &[u8]), Fault>
+    ensures { (value more : List ℕ) → bytes.now ≡ quoted value ++ more →
+        MatchResult result (λ read. read.1.now ≡ more) IsShort }
+{
+    let rest = match opened(bytes, b"\"") {
+        Ok(rest) => rest,
+        Err(fault) => return Err(fault),
+    };
+    match read_quoted(alloc, rest) {
+        Ok((value, rest)) => Ok((Item::Bytes(value), rest)),
+        Err(fault) => Err(fault),
+    }
 }
 
 /// The number at the front, which is to fit its type.
-fn read_number<T: FromWhole>(bytes: &[u8]) -> Result<(Item, &[u8]), Fault> {
-    if !matches!(bytes, [b'-' | b'0'..=b'9', ..]) {
-        return Err(mismatch(bytes));
+fn read_number<T: FromWhole>(bytes: &[u8]) -> Result<(Item, &[u8]), Fault>
+    ensures { (number : ℤ) (more : List ℕ) → IsTrue (fits_number T.shape number) →
+        NoDigit more → bytes.now ≡ signed_decimal number ++ more →
+        MatchResult result (λ read. read.1.now ≡ more) IsShort }
+{
+    match behind(bytes, b"-") {
+        Some(numeral) => read_negative::<T>(numeral, bytes.len()),
+        None => read_positive::<T>(bytes),
     }
-    let (digits, rest) = match behind(bytes, b"-") {
-        Some(rest) => read_digits(rest)?,
-        None => read_digits(bytes)?,
-    };
-    let Some(whole) = signed(bytes[0] == b'-', digits) else {
-        return Err(Fault::Type(bytes.len()));
-    };
-    if digits == b"0".as_slice() && bytes[0] == b'-' {
-        return Err(Fault::Syntax(bytes.len() - 1));
-    }
-    if T::from_whole(whole).is_none() {
-        return Err(Fault::Type(bytes.len()));
-    }
-    Ok((Item::Number(whole), rest))
 }
 
-/// The number that digits write behind a minus or not, where it is one of 128 bits.
-fn signed(negative: bool, digits: &[u8]) -> Option<Whole>
-    requires { AllDigits 10 digits.now }
+/// The number at the front, without a minus.
+fn read_positive<T: FromWhole>(bytes: &[u8]) -> Result<(Item, &[u8]), Fault>
+    ensures { (number : ℕ) (more : List ℕ) → IsTrue (fits_number T.shape (pos number)) →
+        NoDigit more → bytes.now ≡ decimal number ++ more →
+        MatchResult result (λ read. read.1.now ≡ more) IsShort }
 {
-    let number = number_of(digits)?;
-    if !negative {
-        return Some(Whole::Unsigned(number));
+    let (digits, rest) = match read_digits(bytes) {
+        Ok(read) => read,
+        Err(fault) => return Err(without_digit(bytes, fault)),
+    };
+    let Some(number) = number_of(digits) else {
+        return Err(Fault::Type(bytes.len()));
+    };
+    let whole = Whole::Unsigned(number);
+    match T::from_whole(whole) {
+        Some(_) => Ok((Item::Number(whole), rest)),
+        None => Err(Fault::Type(bytes.len())),
     }
-    Some(Whole::Signed(0i128.checked_sub_unsigned(number)?))
+}
+
+/// The fault, or why no number begins here where no digit does.
+fn without_digit(bytes: &[u8], fault: Fault) -> Fault {
+    match bytes {
+        [b'0'..=b'9', ..] => fault,
+        _ => mismatch(bytes),
+    }
+}
+
+/// The number at the front, behind its minus, with so many bytes left from that on.
+fn read_negative<T: FromWhole>(bytes: &[u8], left: usize) -> Result<(Item, &[u8]), Fault>
+    ensures { (number : ℕ) (more : List ℕ) → IsTrue (fits_number T.shape (negsuc number)) →
+        NoDigit more → bytes.now ≡ decimal (suc number) ++ more →
+        MatchResult result (λ read. read.1.now ≡ more) IsShort }
+{
+    let (digits, rest) = match read_digits(bytes) {
+        Ok(read) => read,
+        Err(fault) => return Err(fault),
+    };
+    let Some(size) = number_of(digits) else {
+        return Err(Fault::Type(left));
+    };
+    if size == 0 {
+        return Err(Fault::Syntax(bytes.len()));
+    }
+    let Some(number) = 0i128.checked_sub_unsigned(size) else {
+        return Err(Fault::Type(left));
+    };
+    let whole = Whole::Signed(number);
+    match T::from_whole(whole) {
+        Some(_) => Ok((Item::Number(whole), rest)),
+        None => Err(Fault::Type(left)),
+    }
 }
 
 /// The rows between brackets at the front, and what stands behind them.
@@ -138,19 +220,34 @@ pub(crate) fn read_items<'a>(
     dtype: &ArrowDataType,
     alloc: Global,
     bytes: &'a [u8],
-) -> Result<(Vec<Item>, &'a [u8]), Fault> {
+) -> Result<(Vec<Item>, &'a [u8]), Fault>
+    ensures { (entries : Values) (more : List ℕ) →
+        IsTrue (all_fit (shape_of dtype.now) entries) →
+        bytes.now ≡ bracketed (item_texts (shape_of dtype.now) entries) ++ more →
+        MatchResult result (λ read. (length read.0.items ≡ length (listed entries)) ×
+        (read.1.now ≡ more)) IsShort }
+{
     let mut items = Vec::new(alloc);
-    let mut rest = opened(bytes, b"[")?;
+    let mut rest = match opened(bytes, b"[") {
+        Ok(rest) => rest,
+        Err(fault) => return Err(fault),
+    };
     if let Some(end) = behind(rest, b"]") {
         return Ok((items, end));
     }
     for _ in 0..bytes.len() {
-        let (item, more) = read_item(dtype, alloc, rest)?;
+        let (item, more) = match read_item(dtype, alloc, rest) {
+            Ok(read) => read,
+            Err(fault) => return Err(fault),
+        };
         items.push(item)?;
         if let Some(end) = behind(more, b"]") {
             return Ok((items, end));
         }
-        rest = expect(more, b",")?;
+        rest = match expect(more, b",") {
+            Ok(next) => next,
+            Err(fault) => return Err(fault),
+        };
     }
     Err(Fault::Syntax(rest.len()))
 }
@@ -161,17 +258,44 @@ fn read_parts<'a>(
     dtypes: &[ArrowDataType],
     alloc: Global,
     bytes: &'a [u8],
-) -> Result<(Vec<Item>, &'a [u8]), Fault> {
+) -> Result<(Vec<Item>, &'a [u8]), Fault>
+    ensures { (entries : Values) (more : List ℕ) →
+        let shapes = shapes_of (map shape_of dtypes.now) in IsTrue (parts_fit shapes entries) →
+        bytes.now ≡ parenthesized (part_texts shapes entries) ++ more →
+        MatchResult result (λ read. read.1.now ≡ more) IsShort }
+{
     let mut parts = Vec::with_capacity(alloc, dtypes.len())?;
-    let mut rest = opened(bytes, b"(")?;
+    let mut rest = match opened(bytes, b"(") {
+        Ok(rest) => rest,
+        Err(fault) => return Err(fault),
+    };
     for (k, dtype) in dtypes.iter().enumerate() {
-        if k > 0 {
-            rest = expect(rest, b",")?;
-        }
-        let (part, more) = read_item(dtype, alloc, rest)?;
+        let next = match part_begun(rest, k) {
+            Ok(next) => next,
+            Err(fault) => return Err(fault),
+        };
+        let (part, more) = match read_item(dtype, alloc, next) {
+            Ok(read) => read,
+            Err(fault) => return Err(fault),
+        };
         parts.push(part)?;
         rest = more;
     }
-    let rest = expect(rest, b")")?;
-    Ok((parts, rest))
+    match expect(rest, b")") {
+        Ok(rest) => Ok((parts, rest)),
+        Err(fault) => Err(fault),
+    }
+}
+
+/// What stands behind the comma before a part, of which the first has none.
+fn part_begun(bytes: &[u8], place: usize) -> Result<&[u8], Fault>
+    ensures first { IfOk result (λ next. place ≡ 0 → next.now ≡ bytes.now) }
+    ensures other { IfOk result (λ next. 0 < place → bytes.now ≡ 44 ∷ next.now) }
+    ensures refused { IfErr result (λ _. 0 < place) }
+    ensures comma { IfErr result (λ _. (more : List ℕ) → bytes.now ≢ 44 ∷ more) }
+{
+    if place == 0 {
+        return Ok(bytes);
+    }
+    expect(bytes, b",")
 }

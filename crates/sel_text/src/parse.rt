@@ -1,10 +1,13 @@
 //! Columns, read.
 
-ghost use Rattle.std.specs.Prelude.{◌≡◌, IfOk, IfErr, IsTrue, length};
+ghost use Rattle.std.specs.Prelude.{◌≡◌, List, IfOk, IfErr, IsTrue, length};
+ghost use Rattle.std.specs.List.{list_all};
 ghost use Rattle.sel_arrow.specs.DataType.{shape_of};
 ghost use Rattle.sel_arrow.specs.Rows.{rows, type_of};
+ghost use Rattle.sel_arrow.specs.Value.{Value};
+ghost use Rattle.sel_text.specs.Fits.{fits};
 ghost use Rattle.sel_text.specs.Spaces.{spaceless};
-ghost use Rattle.sel_text.specs.TextErrors.{IsWithin};
+ghost use Rattle.sel_text.specs.TextErrors.{IsShort, IsShortage, IsWithin};
 ghost use Rattle.sel_text.specs.Texts.{text_of};
 
 use crate::build::{Beneath, build};
@@ -29,6 +32,9 @@ pub fn parse_column(
     ensures dtype { IfOk result (λ array. type_of array.column ≡ shape_of dtype.now) }
     ensures text { IfOk result (λ array.
         text_of (shape_of dtype.now) (rows array.column) ≡ spaceless text.now) }
+    ensures refused { IfErr result (λ error. (values : List Value) →
+        IsTrue (list_all (fits (shape_of dtype.now)) values) →
+        spaceless text.now ≡ text_of (shape_of dtype.now) values → IsShortage error) }
     ensures place { IfErr result (IsWithin (length text.now)) }
 {
     let Ok(bytes) = without_spaces(alloc, text) else {
@@ -40,7 +46,8 @@ pub fn parse_column(
     }
 }
 
-/// The column whose text this is. What was read is printed and compared, so that nothing rests on how it is read.
+/// The column whose text this is. What was read is printed and compared, so that an answer does not rest on how it is read. No text
+/// is known that is read and not printed back; since it would be none of a wrong syntax, a limit is told there.
 fn read_whole(
     dtype: &ArrowDataType,
     alloc: Global,
@@ -50,13 +57,19 @@ fn read_whole(
     ensures dtype { IfOk result (λ array. type_of array.column ≡ shape_of dtype.now) }
     ensures text { IfOk result (λ array.
         text_of (shape_of dtype.now) (rows array.column) ≡ bytes.now) }
+    ensures refused { IfErr result (λ fault. (values : List Value) →
+        IsTrue (list_all (fits (shape_of dtype.now)) values) →
+        bytes.now ≡ text_of (shape_of dtype.now) values → IsShort fault) }
 {
-    let array = read_rows(dtype, alloc, bytes, beneath)?;
+    let array = match read_rows(dtype, alloc, bytes, beneath) {
+        Ok(array) => array,
+        Err(fault) => return Err(fault),
+    };
     match has_text(dtype, alloc, bytes, &array) {
         Ok(true) => Ok(array),
         Ok(false) => {
             drop(array);
-            Err(Fault::Syntax(bytes.len()))
+            Err(Fault::Limit)
         }
         Err(fault) => {
             drop(array);
@@ -76,6 +89,7 @@ fn has_text(
         IsTrue same → type_of array.now.column ≡ shape_of dtype.now) }
     ensures text { IfOk result (λ same.
         IsTrue same → text_of (shape_of dtype.now) (rows array.now.column) ≡ bytes.now) }
+    ensures short { IfErr result IsShort }
 {
     if !array.has_dtype(dtype) {
         return Ok(false);
@@ -90,8 +104,15 @@ fn read_rows(
     alloc: Global,
     bytes: &[u8],
     beneath: Beneath,
-) -> Result<ArrayRef, Fault> {
-    let (items, rest) = read_items(dtype, alloc, bytes)?;
+) -> Result<ArrayRef, Fault>
+    ensures refused { IfErr result (λ fault. (values : List Value) →
+        IsTrue (list_all (fits (shape_of dtype.now)) values) →
+        bytes.now ≡ text_of (shape_of dtype.now) values → IsShort fault) }
+{
+    let (items, rest) = match read_items(dtype, alloc, bytes) {
+        Ok(read) => read,
+        Err(fault) => return Err(fault),
+    };
     if !rest.is_empty() {
         return Err(Fault::Syntax(rest.len()));
     }
@@ -104,7 +125,9 @@ fn build_rows(
     alloc: Global,
     items: &[Item],
     beneath: Beneath,
-) -> Result<ArrayRef, Fault> {
+) -> Result<ArrayRef, Fault>
+    ensures { IfErr result IsShort }
+{
     let mut rows = Vec::with_capacity(alloc, items.len())?;
     for item in items {
         rows.push(item)?;

@@ -1,29 +1,63 @@
 //! Bytes and texts between quotes, read.
 
-ghost use Rattle.std.specs.Prelude.{◌<◌, IfOk, length};
+ghost use Rattle.std.specs.Prelude.{◌≡◌, ◌<◌, ◌∷◌, ◌++◌, ℕ, List, IfOk, MatchResult, IsTrue, length, nat_lt};
+ghost use Rattle.std.specs.Char.{digit_char};
+ghost use Rattle.std.specs.List.{flat_map, list_all};
+ghost use Rattle.sel_text.specs.TextErrors.{IsShort};
+ghost use Rattle.sel_text.specs.Texts.{escaped, hex_byte};
 
-use crate::numerals::expect;
+use crate::numerals::behind;
 use crate::text_error::Fault;
 use std::alloc::Global;
-use std::str;
 
 /// The bytes in hexadecimal at the front, behind their opening quote, and what stands behind the closing one.
-pub(crate) fn read_hex(alloc: Global, bytes: &[u8]) -> Result<(Vec<u8>, &[u8]), Fault> {
+pub(crate) fn read_hex(alloc: Global, bytes: &[u8]) -> Result<(Vec<u8>, &[u8]), Fault>
+    ensures whole { (value more : List ℕ) → IsTrue (list_all (λ byte. nat_lt byte 256) value) →
+        bytes.now ≡ flat_map hex_byte value ++ (34 ∷ more) →
+        MatchResult result (λ read. (read.0.items ≡ value) × (read.1.now ≡ more)) IsShort }
+{
     let mut value = Vec::new(alloc);
     let mut rest = bytes;
-    while let [high, low, more @ ..] = rest {
-        if *high == b'"' {
-            break;
+    loop {
+        if let Some(end) = behind(rest, b"\"") {
+            return Ok((value, end));
         }
-        value.push(16 * hex_digit(*high, rest.len())? + hex_digit(*low, rest.len() - 1)?)?;
+        let (byte, more) = match read_hex_byte(rest) {
+            Ok(read) => read,
+            Err(fault) => return Err(fault),
+        };
+        value.push(byte)?;
         rest = more;
     }
-    Ok((value, expect(rest, b"\"")?))
+}
+
+/// The byte whose two digits stand at the front, and what stands behind them.
+fn read_hex_byte(bytes: &[u8]) -> Result<(u8, &[u8]), Fault>
+    ensures shorter { IfOk result (λ read. length read.1.now < length bytes.now) }
+    ensures whole { (byte : ℕ) (more : List ℕ) → byte < 256 →
+        bytes.now ≡ hex_byte byte ++ more →
+        MatchResult result (λ read. (read.0 ≡ byte) × (read.1.now ≡ more)) IsShort }
+{
+    if bytes.len() < 2 {
+        return Err(Fault::Syntax(bytes.len()));
+    }
+    let high = match hex_digit(bytes[0], bytes.len()) {
+        Ok(high) => high,
+        Err(fault) => return Err(fault),
+    };
+    let low = match hex_digit(bytes[1], bytes.len() - 1) {
+        Ok(low) => low,
+        Err(fault) => return Err(fault),
+    };
+    Ok((16 * high + low, &bytes[2..]))
 }
 
 /// The value of a hexadecimal digit in lower case, with so many bytes left from it on.
+#[tactic(auto, using(crate::proofs::Quotes::hex_digits))]
 fn hex_digit(digit: u8, left: usize) -> Result<u8, Fault>
-    ensures { IfOk result (λ value. value < 16) }
+    ensures small { IfOk result (λ value. value < 16) }
+    ensures whole { (value : ℕ) → value < 16 → digit ≡ digit_char value →
+        MatchResult result (λ read. read ≡ value) IsShort }
 {
     match digit {
         b'0'..=b'9' => Ok(digit - b'0'),
@@ -33,46 +67,92 @@ fn hex_digit(digit: u8, left: usize) -> Result<u8, Fault>
 }
 
 /// The text at the front, behind its opening quote, and what stands behind the closing one.
-pub(crate) fn read_quoted(alloc: Global, bytes: &[u8]) -> Result<(Vec<u8>, &[u8]), Fault> {
+pub(crate) fn read_quoted(alloc: Global, bytes: &[u8]) -> Result<(Vec<u8>, &[u8]), Fault>
+    ensures whole { (value more : List ℕ) → bytes.now ≡ flat_map escaped value ++ (34 ∷ more) →
+        MatchResult result (λ read. (read.0.items ≡ value) × (read.1.now ≡ more)) IsShort }
+{
     let mut value = Vec::new(alloc);
     let mut rest = bytes;
-    while let [byte, more @ ..] = rest {
-        match *byte {
-            b'"' => break,
-            b'\\' => {
-                let (byte, more) = read_escape(more)?;
-                value.push(byte)?;
-                rest = more;
-            }
-            0..=31 => return Err(Fault::Syntax(rest.len())),
-            byte => {
-                value.push(byte)?;
-                rest = more;
-            }
+    loop {
+        if let Some(end) = behind(rest, b"\"") {
+            return Ok((value, end));
         }
+        let (byte, more) = match read_byte(rest) {
+            Ok(read) => read,
+            Err(fault) => return Err(fault),
+        };
+        value.push(byte)?;
+        rest = more;
     }
-    Ok((value, expect(rest, b"\"")?))
+}
+
+/// The byte of a text at the front, where no quote stands: as it is, or its escape.
+fn read_byte(bytes: &[u8]) -> Result<(u8, &[u8]), Fault>
+    ensures shorter { IfOk result (λ read. length read.1.now < length bytes.now) }
+    ensures whole { (byte : ℕ) (more : List ℕ) → bytes.now ≡ escaped byte ++ more →
+        MatchResult result (λ read. (read.0 ≡ byte) × (read.1.now ≡ more)) IsShort }
+{
+    if let Some(rest) = behind(bytes, b"\\") {
+        return read_escape(rest);
+    }
+    if bytes.is_empty() {
+        return Err(Fault::Syntax(bytes.len()));
+    }
+    if bytes[0] < 32 {
+        return Err(Fault::Syntax(bytes.len()));
+    }
+    Ok((bytes[0], &bytes[1..]))
 }
 
 /// The byte whose escape stands at the front, behind its backslash: each byte has one, as it is printed.
 fn read_escape(bytes: &[u8]) -> Result<(u8, &[u8]), Fault>
-    ensures { IfOk result (λ read. length read.1.now < length bytes.now) }
+    ensures shorter { IfOk result (λ read. length read.1.now < length bytes.now) }
+    ensures whole { (byte : ℕ) (more : List ℕ) → 92 ∷ bytes.now ≡ escaped byte ++ more →
+        MatchResult result (λ read. (read.0 ≡ byte) × (read.1.now ≡ more)) IsShort }
 {
-    match bytes {
-        [b'"', rest @ ..] => Ok((b'"', rest)),
-        [b'\\', rest @ ..] => Ok((b'\\', rest)),
-        [b'n', rest @ ..] => Ok((b'\n', rest)),
-        [b'r', rest @ ..] => Ok((b'\r', rest)),
-        [b't', rest @ ..] => Ok((b'\t', rest)),
-        [b'b', rest @ ..] => Ok((8, rest)),
-        [b'f', rest @ ..] => Ok((12, rest)),
-        [b'u', b'0', b'0', high @ b'0'..=b'1', low, rest @ ..] => {
-            let byte = 16 * (*high - b'0') + hex_digit(*low, rest.len() + 1)?;
-            if matches!(byte, 8 | 9 | 10 | 12 | 13) {
-                return Err(Fault::Syntax(bytes.len()));
-            }
-            Ok((byte, rest))
-        }
-        _ => Err(Fault::Syntax(bytes.len())),
+    if let Some(rest) = behind(bytes, b"\"") {
+        return Ok((b'"', rest));
+    }
+    if let Some(rest) = behind(bytes, b"\\") {
+        return Ok((b'\\', rest));
+    }
+    if let Some(rest) = behind(bytes, b"n") {
+        return Ok((b'\n', rest));
+    }
+    if let Some(rest) = behind(bytes, b"r") {
+        return Ok((b'\r', rest));
+    }
+    if let Some(rest) = behind(bytes, b"t") {
+        return Ok((b'\t', rest));
+    }
+    if let Some(rest) = behind(bytes, b"b") {
+        return Ok((8, rest));
+    }
+    if let Some(rest) = behind(bytes, b"f") {
+        return Ok((12, rest));
+    }
+    match behind(bytes, b"u00") {
+        Some(rest) => read_control(rest, bytes.len()),
+        None => Err(Fault::Syntax(bytes.len())),
+    }
+}
+
+/// The byte below a space whose two digits stand at the front, behind the `\u00` of an escape, of which so many bytes are left from
+/// its `u` on. A byte with a letter for an escape is not written so.
+fn read_control(bytes: &[u8], left: usize) -> Result<(u8, &[u8]), Fault>
+    ensures shorter { IfOk result (λ read. length read.1.now < length bytes.now) }
+    ensures whole { (byte : ℕ) (more : List ℕ) →
+        92 ∷ 117 ∷ 48 ∷ 48 ∷ bytes.now ≡ escaped byte ++ more →
+        MatchResult result (λ read. (read.0 ≡ byte) × (read.1.now ≡ more)) IsShort }
+{
+    let (byte, rest) = match read_hex_byte(bytes) {
+        Ok(read) => read,
+        Err(fault) => return Err(fault),
+    };
+    match byte {
+        8..=10 => Err(Fault::Syntax(left)),
+        12..=13 => Err(Fault::Syntax(left)),
+        32..=255 => Err(Fault::Syntax(left)),
+        _ => Ok((byte, rest)),
     }
 }

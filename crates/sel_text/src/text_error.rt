@@ -82,6 +82,8 @@ impl<T: Drop> From<AllocFailed<T>> for Fault {
 }
 
 impl From<PolarsError> for Fault {
+    ghost from_gives = { λ _ fault. IsShort fault };
+
     fn from(fault: PolarsError) -> Fault {
         match fault {
             PolarsError::OutOfMemory => Fault::OutOfMemory,
@@ -91,6 +93,8 @@ impl From<PolarsError> for Fault {
 }
 
 impl From<MakeError> for Fault {
+    ghost from_gives = { λ _ fault. IsShort fault };
+
     fn from(fault: MakeError) -> Fault {
         match fault {
             MakeError::OutOfMemory => Fault::OutOfMemory,

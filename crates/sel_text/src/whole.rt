@@ -1,13 +1,20 @@
 //! Whole numbers of the ten number types.
 
+ghost use Rattle.std.specs.Prelude.{◌≡◌, false, IfNone};
+ghost use Rattle.sel_text.specs.Cells.{whole_number};
+ghost use Rattle.sel_text.specs.Fits.{fits_number};
+
 use crate::cell::Whole;
+use sel_arrow::primitive::ArrowPrimitive;
 
 /// A number type that takes a whole number where it fits.
-pub(crate) trait FromWhole: Copy {
+pub(crate) trait FromWhole: ArrowPrimitive {
     /// Nothing.
     const ZERO: Self;
 
-    fn from_whole(whole: Whole) -> Option<Self>;
+    /// The number, or None where none of the type is it.
+    fn from_whole(whole: Whole) -> Option<Self>
+        ensures { IfNone result (fits_number Self.shape (whole_number whole) ≡ false) };
 }
 
 impl FromWhole for i8 {

@@ -11,4 +11,4 @@ returns-in-Ok c =
     let size : c.in-Ok.size ≡ digits_value 10 c.in_ok-digits.digits.now = c.in-Ok.ensures.1 ∙ c.in-Some.ensures in
     let small : digits_value 10 c.in_ok-digits.digits.now < 2 ^ 64 = omega (arith, c.in-Ok.ensures.0, c.in-Some.ensures) in
     let text : c.args.bytes.now ≡ decimal c.in-Ok.size ++ c.in_ok-digits.rest.now = read.parts ∙ ap (λ l. l ++ c.in_ok-digits.rest.now) (sym (ap decimal size ∙ printed_back _ read.digits read.some read.zero small)) in
-    record { text = text; whole = λ n more few end is. numbers_told c.in-Ok.size n _ _ more (omega (arith, size, small)) few read.end end text is }
+    record { text = text; whole = λ n more few end is. numbers_told c.in-Ok.size n _ _ more (omega (arith, size, small)) (omega (arith, few)) read.end end text is }

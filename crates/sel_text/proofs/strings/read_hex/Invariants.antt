@@ -1,5 +1,14 @@
-use Rattle.std.proofs.Common.{length}
+-- What is left behind the bytes so far.
+use Rattle.std.proofs.Common.{◌≡◌, ℕ, List, ◌∷◌, ◌++◌, length}
+use Rattle.std.specs.Prelude.{IsTrue, nat_lt}
+use Rattle.std.specs.List.{flat_map, list_all}
+use Rattle.sel_text.specs.Texts.{hex_byte}
+use Rattle.sel_text.proofs.Quotes.{IsLeft}
 use Rattle.sel_text.proofs.strings.read_hex.Given as goal
 
-abbrev pub decreases-loop-rest : goal.decreases-loop-rest
-decreases-loop-rest l = length l.rest
+abbrev pub invariant-loop-end : goal.invariant-loop-end
+invariant-loop-end l =
+    (value more : List ℕ) → IsTrue (list_all (λ byte. nat_lt byte 256) value) → l.fn.bytes ≡ flat_map hex_byte value ++ (34 ∷ more) → IsLeft hex_byte (λ byte. nat_lt byte 256) value l.value.items l.rest more
+
+abbrev pub decreases-loop-end : goal.decreases-loop-end
+decreases-loop-end l = length l.rest

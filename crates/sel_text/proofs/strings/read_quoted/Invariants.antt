@@ -1,5 +1,13 @@
-use Rattle.std.proofs.Common.{length}
+-- What is left behind the bytes so far.
+use Rattle.std.proofs.Common.{◌≡◌, ℕ, true, List, ◌∷◌, ◌++◌, length}
+use Rattle.std.specs.List.{flat_map}
+use Rattle.sel_text.specs.Texts.{escaped}
+use Rattle.sel_text.proofs.Quotes.{IsLeft}
 use Rattle.sel_text.proofs.strings.read_quoted.Given as goal
 
-abbrev pub decreases-loop-rest : goal.decreases-loop-rest
-decreases-loop-rest l = length l.rest
+abbrev pub invariant-loop-end : goal.invariant-loop-end
+invariant-loop-end l =
+    (value more : List ℕ) → l.fn.bytes ≡ flat_map escaped value ++ (34 ∷ more) → IsLeft escaped (λ byte. true) value l.value.items l.rest more
+
+abbrev pub decreases-loop-end : goal.decreases-loop-end
+decreases-loop-end l = length l.rest

@@ -1,0 +1,72 @@
+use Rattle.std.proofs.Common.{◌≡◌, ◌∙◌, ap, sym, subst, arith, ◌+◌, length, length-append, map}
+use Rattle.sel_arrow.specs.DataType.{shape_of}
+use Rattle.sel_arrow.specs.Shape.{of_struct, shapes_of}
+use Rattle.sel_arrow.specs.Value.{listed}
+use Rattle.sel_arrow.proofs.Types.{struct_shape}
+use Rattle.sel_text.specs.TextErrors.{IsShort}
+use Rattle.sel_text.proofs.Entries.{IsLeft, items_opened, no_items, some_items, item_begins, last_item, more_items, less_room, parts_opened, part_left, part_begins, part_read, parts_end}
+use Rattle.sel_text.proofs.Rows.{Reads, null_read, tuple_row}
+use Rattle.sel_text.proofs.item.+reading_rows.Goals as goal
+
+pub read_item-returns-in-Some : goal.read_item-returns-in-Some
+read_item-returns-in-Some t c = λ value more begins. null_read (shape_of c.args.dtype.now) value c.args.bytes.now _ more c.in-Some.ensures begins
+
+pub read_item-returns-in-Ok-read_parts : goal.read_item-returns-in-Ok-read_parts
+read_item-returns-in-Ok-read_parts t c =
+    let shapes = shapes_of (map shape_of c.deref-in-Struct.result.now) in
+    let same : of_struct shapes ≡ shape_of c.args.dtype.now = ap (λ l. of_struct (shapes_of (map shape_of l))) c.deref-in-Struct.ensures.value ∙ sym (struct_shape c.args.dtype.now c.in-Struct.fields c.in-Struct.is) in
+    subst (λ s. Reads (λ more. c.in-Ok-read_parts.rest.now ≡ more) s c.args.bytes.now) same (tuple_row (λ more. c.in-Ok-read_parts.rest.now ≡ more) c.args.bytes.now c.in_default.ensures shapes c.in-Ok-read_parts.ensures)
+
+pub read_item-returns-in-Err-read_parts : goal.read_item-returns-in-Err-read_parts
+read_item-returns-in-Err-read_parts t c =
+    let shapes = shapes_of (map shape_of c.deref-in-Struct.result.now) in
+    let same : of_struct shapes ≡ shape_of c.args.dtype.now = ap (λ l. of_struct (shapes_of (map shape_of l))) c.deref-in-Struct.ensures.value ∙ sym (struct_shape c.args.dtype.now c.in-Struct.fields c.in-Struct.is) in
+    subst (λ s. Reads (λ more. IsShort c.in-Err-read_parts.fault) s c.args.bytes.now) same (tuple_row (λ more. IsShort c.in-Err-read_parts.fault) c.args.bytes.now c.in_default.ensures shapes c.in-Err-read_parts.ensures)
+
+pub read_items-returns-in-Some : goal.read_items-returns-in-Some
+read_items-returns-in-Some t c = λ entries more fit is.
+    let s = shape_of c.args.dtype.now in
+    let none = no_items s entries _ _ more fit (items_opened s entries _ _ more c.in-Ok.ensures.rest is) c.in-Some.ensures in
+    (ap length c.new-items.ensures.items ∙ none.0, none.1)
+
+pub read_items-loop-init : goal.read_items-loop-init
+read_items-loop-init t c = λ entries more fit is.
+    let s = shape_of c.args.dtype.now in
+    let left = some_items s entries _ more fit (items_opened s entries _ _ more c.in-Ok.ensures.rest is) c.in_default.ensures in
+    let long = ap length c.in-Ok.ensures.rest in
+    (subst (λ n. IsLeft s (length (listed entries)) n c.in-Ok.rest.now more) (sym (ap length c.new-items.ensures.items)) left, omega (arith, long))
+
+pub read_items-returns-in-Some-behind : goal.read_items-returns-in-Some-behind
+read_items-returns-in-Some-behind t c = λ entries more fit is.
+    let left = (c.loop.invariant entries more fit is).0 in
+    let told = c.in-Ok-read_item.ensures left.first _ (item_begins _ _ _ _ more left) in
+    let last = last_item _ _ _ _ _ _ more left told c.in-Some-behind.ensures in
+    (ap length c.in_ok-push.ensures.items ∙ length-append c.loop.items.items _ ∙ last.0, last.1)
+
+pub read_items-loop-preserved : goal.read_items-loop-preserved
+read_items-loop-preserved t c = λ entries more fit is.
+    let s = shape_of c.args.dtype.now in
+    let before = c.loop.invariant entries more fit is in
+    let left = before.0 in
+    let told = c.in-Ok-read_item.ensures left.first _ (item_begins _ _ _ _ more left) in
+    let next = more_items _ _ _ _ _ _ more left told c.in-Ok-expect.ensures.rest in
+    let room = less_room _ _ _ _ _ _ more left told c.in-Ok-expect.ensures.rest in
+    let count : length c.push.new.self.items ≡ length c.loop.items.items + 1 = ap length c.in_ok-push.ensures.items ∙ length-append c.loop.items.items _ in
+    (subst (λ n. IsLeft s (length (listed entries)) n c.in-Ok-expect.next.now more) (sym count) next, omega (arith, room, before.1))
+
+pub read_parts-loop-k-init : goal.read_parts-loop-k-init
+read_parts-loop-k-init t c = λ entries more fit is. parts_opened _ entries _ _ more fit c.in-Ok.ensures.rest is
+
+pub read_parts-returns-in-Err-read_item : goal.read_parts-returns-in-Err-read_item
+read_parts-returns-in-Err-read_item t c = λ entries more fit is.
+    let part = part_left c.args.dtypes.now c.loop-k.k c.index-dtypes-k.result c.loop-k.rest.now more (omega arith) c.index-dtypes-k.is (c.loop-k.invariant entries more fit is) in
+    c.in-Err-read_item.ensures part.first _ (part_begins _ _ c.loop-k.k _ _ more part c.in-Ok-part_begun.ensures.first c.in-Ok-part_begun.ensures.other)
+
+pub read_parts-loop-k-preserved : goal.read_parts-loop-k-preserved
+read_parts-loop-k-preserved t c = λ entries more fit is.
+    let part = part_left c.args.dtypes.now c.loop-k.k c.index-dtypes-k.result c.loop-k.rest.now more (omega arith) c.index-dtypes-k.is (c.loop-k.invariant entries more fit is) in
+    let told = c.in-Ok-read_item.ensures part.first _ (part_begins _ _ c.loop-k.k _ _ more part c.in-Ok-part_begun.ensures.first c.in-Ok-part_begun.ensures.other) in
+    part_read _ _ c.loop-k.k _ _ more part told
+
+pub read_parts-returns : goal.read_parts-returns
+read_parts-returns t c = λ entries more fit is. absurd (c.in-Err-expect.ensures.refused more (parts_end c.args.dtypes.now c.loop-k.k c.loop-k.rest.now more (omega arith) (c.loop-k.invariant entries more fit is)))
