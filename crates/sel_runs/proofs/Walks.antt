@@ -1,5 +1,5 @@
 -- Lists that a plan picks, gone over once.
-use Rattle.std.proofs.Common.{◌≡◌, ◌≢◌, All, Bor, ℤ, pos, ℕ, zero, suc, ◌+◌, ◌≤◌, ◌<◌, Bool, true, false, List, [], ◌∷◌, ◌++◌, length, take, drop, map, replicate, get_or, Option, Some, None, refl, ap, sym, subst, ◌∙◌, arith, length-append}
+use Rattle.std.proofs.Common.{◌≡◌, ◌≢◌, All, Bor, ℤ, pos, ℕ, zero, suc, ◌+◌, ◌≤◌, ◌<◌, true, false, List, [], ◌∷◌, ◌++◌, length, take, drop, map, get_or, Option, Some, None, refl, ap, sym, subst, ◌∙◌, arith, length-append}
 use Rattle.std.specs.Option.{ForSome}
 use Rattle.std.proofs.Math.Seq.{take-add}
 use Rattle.std.proofs.lemmas.List.{length-map, get_or-map, map-append, take-append-drop, take-append-le, drop-append-le, take_all, drop_all, length-drop, get_or-replicate}
@@ -16,7 +16,7 @@ use Rattle.sel_runs.specs.Children.{child, is_listing, joined_items}
 use Rattle.sel_runs.specs.Ends.{item_ends}
 use Rattle.sel_runs.specs.Need.{IsPastRows}
 use Rattle.sel_runs.specs.Picks.{found, pick, PickFits}
-use Rattle.sel_runs.specs.Plans.{HasBit, TellNulls, bit_found, bits_found}
+use Rattle.sel_runs.specs.Plans.{HasBit, TellNulls, bits_found}
 use Rattle.sel_runs.specs.Runs.{expand, unrolled}
 use Rattle.sel_runs.specs.Sources.{columns_of, first_type}
 use Rattle.sel_runs.specs.declared.run.Run.{Run}

@@ -1,4 +1,4 @@
-use Rattle.std.proofs.Common.{◌≡◌, ◌∙◌, inr, ap, sym, subst, length, map, arith}
+use Rattle.std.proofs.Common.{◌∙◌, inr, ap, sym, subst, length, map, arith}
 use Rattle.std.proofs.lemmas.Result.{err_from_is_err_and}
 use Rattle.sel_arrow.specs.Rows.{type_of}
 use Rattle.sel_arrow.specs.Shape.{of_large_list}
@@ -7,7 +7,7 @@ use Rattle.sel_runs.specs.Children.{child, joined_items}
 use Rattle.sel_runs.specs.Need.{IsPastRows, IsRefusal, PassesNone, past_taken}
 use Rattle.sel_runs.specs.Picks.{pick}
 use Rattle.sel_runs.specs.Runs.{expand}
-use Rattle.sel_runs.specs.Sources.{columns_of, first_type, picked}
+use Rattle.sel_runs.specs.Sources.{columns_of, picked}
 use Rattle.sel_runs.proofs.Below.{refused_more}
 use Rattle.sel_runs.proofs.ItemRuns.{rows_of, below_of}
 use Rattle.sel_runs.proofs.RunLists.{length-pick}

@@ -7,8 +7,7 @@ use Rattle.sel_arrow.proofs.NestedRows.{lists_formed}
 use Rattle.sel_runs.specs.Children.{joined_items}
 use Rattle.sel_runs.specs.Ends.{item_ends}
 use Rattle.sel_runs.specs.Picks.{pick}
-use Rattle.sel_runs.specs.Plans.{HasBit, TellNulls, bits_found}
-use Rattle.sel_runs.specs.Sources.{columns_of}
+use Rattle.sel_runs.specs.Plans.{HasBit, bits_found}
 use Rattle.sel_runs.proofs.ItemRuns.{rows_of}
 use Rattle.sel_runs.proofs.JoinedRows.{offsets_of, same_numbers, map_same}
 use Rattle.sel_runs.proofs.Layouts.{picked_lists}

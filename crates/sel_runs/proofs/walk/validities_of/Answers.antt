@@ -1,7 +1,6 @@
 use Rattle.std.proofs.Common.{◌∙◌, ◌++◌, ◌∷◌, [], ap, sym, subst, map, take}
 use Rattle.std.specs.Option.{option_copied}
 use Rattle.std.proofs.lemmas.List.{map_push, map_more}
-use Rattle.sel_arrow.specs.declared.column.Column.{Column}
 use Rattle.sel_runs.specs.Plans.{TellNulls}
 use Rattle.sel_runs.specs.Sources.{columns_of}
 use Rattle.sel_runs.proofs.Walks.{told_more}
