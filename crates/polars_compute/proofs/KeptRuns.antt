@@ -1,11 +1,13 @@
 -- Runs of the places that a mask keeps, and of those that indices name.
-use Rattle.std.proofs.Common.{◌≡◌, All, ℕ, zero, suc, ◌+◌, ◌<◌, pos, negsuc, true, false, Bool, List, [], ◌∷◌, length, map, cond, refl, ap, sym, ◌∙◌, arith, get_or, IsTrue}
+use Rattle.std.proofs.Common.{◌≡◌, All, ℕ, zero, suc, ◌+◌, ◌<◌, pos, negsuc, true, false, Bool, List, [], ◌∷◌, length, map, cond, refl, ap, sym, ◌∙◌, arith, get_or, IsTrue, None}
 use Rattle.std.proofs.lemmas.Bool.{ltb-true}
 use Rattle.std.proofs.lemmas.List.Sums.{sum_by-cons}
 use Rattle.sel_bits.specs.Bits.{count_true}
+use Rattle.sel_arrow.specs.Masked.{number_rows}
 use Rattle.sel_arrow.specs.Value.{Value, Null, Number}
 use Rattle.sel_arrow.proofs.Lists.{and_first, and_second}
 use Rattle.sel_runs.specs.Picks.{pick, PickFits}
+use Rattle.sel_runs.specs.Plans.{IsPicked}
 use Rattle.polars_compute.specs.Pick.{pick_of, place_pick, is_within, all_within}
 use Rattle.polars_compute.specs.Select.{select, kept, kept_from}
 use Rattle.polars_compute.proofs.Places.{selected, kept_below}
@@ -37,6 +39,12 @@ within_fit xs (v ∷ vs) h zero d below = one v (and_first (is_within (length xs
     one (Number (negsuc i)) e = absurd (cc e)
     one _ e = tt
 within_fit xs (v ∷ vs) h (suc k) d below = within_fit xs vs (and_second (is_within (length xs) v) (all_within (length xs) vs) h) k d (omega (arith, below))
+
+-- indices without a null name a row each
+pub all_picked : (indices : List ℕ) → All IsPicked (map pick_of (number_rows pos indices None))
+all_picked [] k d h = absurd (omega (arith, h))
+all_picked (i ∷ indices) zero d h = tt
+all_picked (i ∷ indices) (suc k) d h = all_picked indices k d (omega (arith, h))
 
 -- as many places as true bits
 pub count_kept : (ms : List Bool) → length (kept ms) ≡ count_true ms

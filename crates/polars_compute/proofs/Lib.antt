@@ -4,6 +4,7 @@ pub mod BlockTests
 pub mod Collects
 pub mod Dictionaries
 pub mod KeptRuns
+pub mod KeptTuples
 pub mod LawProofs
 pub mod Meanings
 pub mod Needs

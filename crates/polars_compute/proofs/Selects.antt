@@ -42,7 +42,7 @@ select-hidden (b ∷ bs) (v ∷ vs) [] h = refl
 select-hidden (b ∷ bs) (v ∷ vs) (true ∷ ms) h = ap (λ l. (if b then v else Null) ∷ l) (select-hidden bs vs ms (omega arith))
 select-hidden (b ∷ bs) (v ∷ vs) (false ∷ ms) h = select-hidden bs vs ms (omega arith)
 
-select-masked : (validity kept : Option Bits) (vs : List Value) (ms : List Bool) → Covers validity (length vs)
+pub select-masked : (validity kept : Option Bits) (vs : List Value) (ms : List Bool) → Covers validity (length vs)
     → option_map (λ v. v.bits) kept ≡ option_map (λ v. select v.bits ms) validity → masked kept (select vs ms) ≡ select (masked validity vs) ms
 select-masked None None vs ms covers is = refl
 select-masked None (Some kept) vs ms covers is = cc

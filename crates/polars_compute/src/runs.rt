@@ -1,4 +1,4 @@
-//! Runs of rows of one column, from a mask and from indices.
+//! Rows of one column as runs of a mask, and as picks that indices make.
 
 ghost use Rattle.std.specs.Prelude.{◌≡◌, ◌≤◌, ◌<◌, slice_index_or, length, map, IfOk, IfErr};
 ghost use Rattle.sel_arrow.specs.Columns.{primitive_rows};
@@ -11,7 +11,8 @@ use sel_arrow::array::Array;
 use sel_arrow::primitive::IdxArr;
 use sel_bits::bitmap::Bitmap;
 use sel_bits::faults::{PolarsError, PolarsResult};
-use sel_runs::run::{Run, push_run, run_of_pick};
+use sel_runs::plan::Places;
+use sel_runs::run::{Run, push_run};
 use std::alloc::Global;
 
 /// The runs of the places where the bit is true, one for all that stand together. Refuses only for want of memory.
@@ -33,20 +34,43 @@ pub(crate) fn runs_of_mask(alloc: Global, mask: &Bitmap) -> PolarsResult<Vec<Run
     Ok(runs)
 }
 
-/// The runs of the rows that indices name, nulls for null indices. Refuses only for want of memory.
-pub(crate) fn runs_of_indices(alloc: Global, indices: &IdxArr) -> PolarsResult<Vec<Run>>
-    ensures picks { IfOk result (λ runs. expand runs.items ≡
-        map pick_of (primitive_rows indices.now)) }
-    ensures refusal { IfErr result (λ fault. fault ≡ PolarsError.OutOfMemory) }
-{
-    let mut runs = Vec::new(alloc);
-    for k in 0..indices.len() {
-        push_run(&mut runs, run_of_pick(pick_at(indices, k)))?;
+/// The rows of one column that indices name, none for a null index.
+#[derive(Drop)]
+pub(crate) struct Taken<'a> {
+    pub(crate) indices: &'a IdxArr,
+}
+
+impl Places for Taken<'_> {
+    ghost picks = { λ taken. map pick_of (primitive_rows taken.indices.now) };
+
+    #[inline(always)]
+    fn len(&self) -> usize {
+        self.indices.len()
     }
-    Ok(runs)
+
+    #[inline(always)]
+    fn get(&self, k: usize) -> Option<(u32, u32)> {
+        pick_at(self.indices, k)
+    }
+
+    #[inline(always)]
+    fn again(&self) -> Self {
+        Taken {
+            indices: self.indices,
+        }
+    }
+
+    #[inline(always)]
+    fn has_nulls(&self) -> bool {
+        match &self.indices.validity {
+            None => false,
+            Some(_) => true,
+        }
+    }
 }
 
 // The pick that index `k` makes of one column; none for a null.
+#[inline(always)]
 fn pick_at(indices: &IdxArr, k: usize) -> Option<(u32, u32)>
     requires { k < length (primitive_rows indices.now) }
     ensures { result ≡ pick_of (slice_index_or (primitive_rows indices.now) k Null) }

@@ -1,7 +1,8 @@
 -- Picks one by one, and what they find.
 use Rattle.std.proofs.Common.{◌≡◌, ℕ, ◌+◌, ◌*◌, ◌%◌, ◌^◌, ◌≤◌, ◌<◌, All, Bool, true, false, List, [], ◌∷◌, ◌++◌, length, take, drop, map, replicate, get_or, Option, Some, None, zero, suc, refl, ap, sym, subst, ◌∙◌, arith, append_assoc}
 use Rattle.std.specs.Int.{from_bool}
-use Rattle.std.proofs.lemmas.List.{length-map, get_or-map, take_more, map_push, get_or-take, get_or-drop, drop-map, drop-drop, length-take, length-drop}
+use Rattle.std.proofs.Math.Seq.{take-add}
+use Rattle.std.proofs.lemmas.List.{length-map, get_or-map, take_more, map_push, map-append, get_or-take, get_or-drop, drop-map, drop-drop, length-take, length-drop}
 use Rattle.std.proofs.lemmas.List.Elements.{All-get_or, All-head, All-tail, All-drop}
 use Rattle.sel_bits.specs.Bits.{Bits}
 use Rattle.sel_bits.specs.Words.{bits, word_of}
@@ -67,6 +68,23 @@ pub values_next : {A : Type 0} (d : A) (xss : List (List A)) (ps rest : List (Op
 values_next d xss ps rest p k old new x e is there more =
     more ∙ ap (λ l. l ++ x ∷ []) is ∙ ap (λ y. pick d xss (take k ps) ++ y ∷ []) (there ∙ ap (found d xss) (sym (next_is ps rest p k e)))
     ∙ sym (pick_next d xss ps k (next_below ps rest p k e))
+
+-- one value more behind others
+pub values_behind : {A : Type 0} (d : A) (xss : List (List A)) (ps rest : List (Option (ℕ × ℕ))) (p : Option (ℕ × ℕ)) (k : ℕ) (front old new : List A) (x : A) → drop k ps ≡ p ∷ rest →
+    old ≡ front ++ pick d xss (take k ps) → x ≡ found d xss p → new ≡ old ++ x ∷ [] → new ≡ front ++ pick d xss (take (k + 1) ps)
+values_behind d xss ps rest p k front old new x e is there more =
+    let so_far = pick d xss (take k ps) in
+    more ∙ ap (λ l. l ++ x ∷ []) is ∙ append_assoc front so_far (x ∷ [])
+    ∙ ap (λ l. front ++ l) (values_next d xss ps rest p k so_far (so_far ++ x ∷ []) x e refl there refl)
+
+-- the values of more picks
+pub values_more : {A : Type 0} (d : A) (xss : List (List A)) (ps left : List (Option (ℕ × ℕ))) (old new : List A) (at count : ℕ) → left ≡ drop at ps → old ≡ pick d xss (take at ps) →
+    new ≡ old ++ pick d xss (take count left) → new ≡ pick d xss (take (at + count) ps)
+values_more d xss ps left old new at count behind is more =
+    more ∙ ap (λ l. l ++ pick d xss (take count left)) is
+    ∙ ap (λ l. pick d xss (take at ps) ++ pick d xss (take count l)) behind
+    ∙ sym (map-append (found d xss) (take at ps) (take count (drop at ps)))
+    ∙ ap (pick d xss) (sym (take-add at count ps))
 
 there_at : (vs : List (Option Bits)) (ps rest : List (Option (ℕ × ℕ))) (p : Option (ℕ × ℕ)) (count i : ℕ) → drop i ps ≡ p ∷ rest → i < count →
     get_or (take count (bits_found vs ps)) i false ≡ bit_found vs p

@@ -21,5 +21,6 @@ pub mod SplitRuns
 pub mod Thinned
 pub mod TupleRows
 pub mod ValidBytes
+pub mod Walks
 pub mod Windows
 pub mod Within

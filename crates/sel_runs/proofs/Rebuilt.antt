@@ -26,7 +26,7 @@ use Rattle.sel_runs.proofs.Grown.{finished}
 -- null, or a list
 abbrev pub IsListed : Value → Type 0
 IsListed Null = Unit {0}
-IsListed (Items values) = Unit {0}
+IsListed (Items _) = Unit {0}
 IsListed v = ⊥
 
 -- null, or a list of so many values
@@ -156,7 +156,7 @@ lists_fit vs offsets values validity n long few ends below covered formed =
 block_length : (w : ℕ) (v : Value) → IsBlock w v → length (items_in w v) ≡ w
 block_length w v = elim v as (λ x. IsBlock w x → length (items_in w x) ≡ w) [
   | Null ↦ λ h. length-replicate w Null
-  | Items values ↦ λ h. h
+  | Items _ ↦ λ h. h
   | _ ↦ λ h. absurd h
 ]
 

@@ -112,7 +112,7 @@ pub length_more : (rs : List Run) (i : ℕ) → i < length rs → length (expand
 length_more rs i inside =
     ap length (expand_more rs i inside) ∙ length-append (expand (take i rs)) (unrolled (run_at rs i)) ∙ ap (λ n. length (expand (take i rs)) + n) (length-unrolled (run_at rs i))
 
-All-left : {A : Type 0} (P : A → Type 0) (xs ys : List A) → All P (xs ++ ys) → All P xs
+pub All-left : {A : Type 0} (P : A → Type 0) (xs ys : List A) → All P (xs ++ ys) → All P xs
 All-left P xs ys h = subst (All P) (take-append-le (length xs) xs ys (omega arith) ∙ take_all (length xs) xs (omega arith)) (All-take P (length xs) (xs ++ ys) h)
 
 All-right : {A : Type 0} (P : A → Type 0) (xs ys : List A) → All P (xs ++ ys) → All P ys

@@ -1,6 +1,6 @@
 //! Values and bits of several sources, found pick by pick.
 
-ghost use Rattle.std.specs.Prelude.{◌≡◌, ◌≤◌, ◌<◌, ◌+◌, All, None, false, length, slice_index_or, map, take, drop, IfOk, IfErr};
+ghost use Rattle.std.specs.Prelude.{◌≡◌, ◌≤◌, ◌<◌, ◌+◌, ◌++◌, All, None, false, length, slice_index_or, map, take, drop, vec_len, vec_capacity, IfOk, IfErr};
 ghost use Rattle.std.specs.Option.{ForSome, option_copied};
 ghost use Rattle.sel_bits.specs.Words.{word_of};
 ghost use Rattle.sel_arrow.specs.Masked.{Covers, valid_at};
@@ -69,6 +69,116 @@ fn value_in<T: Copy>(values: &[T], i: usize) -> T
     values[i]
 }
 
+/// The value that each pick names, `zero` for none, and the validity of the rows that picks name; none where each row is valid.
+/// Where some row may be null, each pick is worked out once for both. Refuses only for want of memory.
+pub fn gather_parts<P: Plan, T: Copy + Drop>(
+    alloc: Global,
+    plan: &P,
+    parts: &[Part<T>],
+    zero: T,
+) -> PolarsResult<(Vec<T>, Option<Bitmap>)>
+    requires { All (PickFits (map (λ s. s.values.now) parts.now)) (P.picks plan.now) }
+    ensures values { IfOk result (λ rows. rows.0.items ≡
+        pick zero (map (λ s. s.values.now) parts.now) (P.picks plan.now)) }
+    ensures bits { IfOk result (λ rows. bits_for (length (P.picks plan.now)) rows.1 ≡
+        bits_found (map (λ s. option_copied s.validity) parts.now) (P.picks plan.now)) }
+    ensures covers { IfOk result (λ rows. Covers rows.1 (length (P.picks plan.now))) }
+    ensures refusal { IfErr result (λ fault. fault ≡ PolarsError.OutOfMemory) }
+{
+    if !plan.has_nulls() && !is_any_hidden(parts) {
+        let values = gather_values(alloc, plan, parts, zero)?;
+        return Ok((values, None));
+    }
+    let len = plan.len();
+    let (values, bits) = gather_hidden(alloc, plan, parts, zero)?;
+    let validity = validity_from(bits, len)?;
+    Ok((values, validity))
+}
+
+// Whether some source has a validity.
+fn is_any_hidden<T: Copy>(parts: &[Part<T>]) -> bool
+    ensures { result ≡ false → All (λ s. option_copied s.validity ≡ None) parts.now }
+{
+    parts.iter().any(|part| part.validity.is_some())
+}
+
+// The value that each pick names, `zero` for none, and the bit of its validity, false for none. Refuses only for want of memory.
+fn gather_hidden<P: Plan, T: Copy + Drop>(
+    alloc: Global,
+    plan: &P,
+    parts: &[Part<T>],
+    zero: T,
+) -> PolarsResult<(Vec<T>, BitPacker)>
+    requires { All (PickFits (map (λ s. s.values.now) parts.now)) (P.picks plan.now) }
+    ensures values { IfOk result (λ rows. rows.0.items ≡
+        pick zero (map (λ s. s.values.now) parts.now) (P.picks plan.now)) }
+    ensures bits { IfOk result (λ rows. rows.1 ≡
+        bits_found (map (λ s. option_copied s.validity) parts.now) (P.picks plan.now)) }
+    ensures refusal { IfErr result (λ fault. fault ≡ PolarsError.OutOfMemory) }
+{
+    let len = plan.len();
+    let mut values = Vec::with_capacity(alloc, len)?;
+    let mut bits = BitPacker::with_capacity(alloc, len)?;
+    let mut rest = plan.again();
+    let mut at = 0;
+    while at < len {
+        let count = (len - at).min(MOST_BITS);
+        let word = push_word(&mut values, &mut rest, parts, zero, count);
+        bits.append(word, count as u32)?;
+        at += count;
+    }
+    Ok((values, bits))
+}
+
+// Puts the values that the next `count` picks name behind the others, and answers the word of their bits. The picks are left no
+// longer.
+#[inline(always)]
+fn push_word<P: Plan, T: Copy + Drop>(
+    values: &mut Vec<T>,
+    plan: &mut P,
+    parts: &[Part<T>],
+    zero: T,
+    count: usize,
+) -> u64
+    requires fits { All (PickFits (map (λ s. s.values.now) parts.now)) (P.picks plan.old) }
+    requires inside { count ≤ length (P.picks plan.old) }
+    requires short { count ≤ 56 }
+    requires room { vec_len values.old + count ≤ vec_capacity values.old }
+    ensures values { values.new.items ≡ values.old.items ++
+        pick zero (map (λ s. s.values.now) parts.now) (take count (P.picks plan.old)) }
+    ensures word { result ≡ word_of (take count (bits_found
+        (map (λ s. option_copied s.validity) parts.now) (P.picks plan.old))) }
+    ensures rest { P.picks plan.new ≡ drop count (P.picks plan.old) }
+    ensures len { vec_len values.new ≡ vec_len values.old + count }
+    ensures capacity { vec_capacity values.new ≡ vec_capacity values.old }
+{
+    let mut word = 0;
+    for i in 0..count {
+        let pick = plan.next();
+        let (value, bit) = row_of_pick(parts, pick, zero);
+        values.push_reserved(value);
+        word += u64::from(bit) << i;
+    }
+    word
+}
+
+// The value that a pick names and the bit of its validity; `zero` and false for none.
+#[inline(always)]
+fn row_of_pick<T: Copy + Drop>(parts: &[Part<T>], pick: Option<(u32, u32)>, zero: T) -> (T, bool)
+    requires { PickFits (map (λ s. s.values.now) parts.now) pick }
+    ensures value { result.0 ≡ found zero (map (λ s. s.values.now) parts.now) pick }
+    ensures bit { result.1 ≡ bit_found (map (λ s. option_copied s.validity) parts.now) pick }
+{
+    match pick {
+        None => (zero, false),
+        Some((s, i)) => {
+            let part = &parts[s as usize];
+            let value = value_in(part.values, i as usize);
+            (value, is_valid_in(part.validity, i as usize))
+        }
+    }
+}
+
 /// The validity of the rows that picks name, of sources with these validities; none where each row is valid. Refuses only for
 /// want of memory.
 pub fn gather_validity<P: Plan>(
@@ -96,22 +206,6 @@ fn is_any_there(maps: &[Option<&Bitmap>]) -> bool
     ensures { result ≡ false → All (λ map. option_copied map ≡ None) maps.now }
 {
     maps.iter().any(|map| map.is_some())
-}
-
-/// The validity of each source. Refuses only for want of memory.
-pub fn validities_of<'a, T: Copy + Drop>(
-    alloc: Global,
-    parts: &[Part<'a, T>],
-) -> PolarsResult<Vec<Option<&'a Bitmap>>>
-    ensures maps { IfOk result (λ maps. map option_copied maps.items ≡
-        map (λ s. option_copied s.validity) parts.now) }
-    ensures refusal { IfErr result (λ fault. fault ≡ PolarsError.OutOfMemory) }
-{
-    let mut maps = Vec::with_capacity(alloc, parts.len())?;
-    for part in parts {
-        maps.push(part.validity)?;
-    }
-    Ok(maps)
 }
 
 /// The bit that each pick names, true where that bitmap is not there; false for none. Refuses only for want of memory.

@@ -21,3 +21,4 @@ pub mod sources;
 mod structs;
 mod validity;
 pub mod view;
+mod walk;

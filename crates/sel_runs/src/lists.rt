@@ -73,8 +73,9 @@ fn part_of_row(column: &Column, i: usize) -> Option<(u32, u32)>
     }
 }
 
-// The child's rows in row `i` of a run; `width` nulls where it is null.
-fn run_of_row(sources: &[&Column], run: Run, i: u32, width: u32) -> Run
+/// The child's rows in row `i` of a run; `width` nulls where it is null.
+#[inline(always)]
+pub fn run_of_row(sources: &[&Column], run: Run, i: u32, width: u32) -> Run
     requires lists { All (λ c. is_listing (type_of c.now) ≡ true) sources.now }
     requires formed { All (λ c. IsWellFormed c.now) sources.now }
     requires fits { All (PickFits (rows_of sources.now)) (unrolled run) }

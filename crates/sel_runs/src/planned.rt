@@ -1,7 +1,7 @@
 //! Rows of columns of any one type, as a plan picks them.
 //!
-//! Of numbers and truth values each pick is looked up as it is asked for. For all other types the picks are listed as runs, since
-//! what lies below a row is copied by runs too.
+//! Of numbers and truth values each pick is looked up as it is asked for. Lists are gone over once, and list runs of their items
+//! alone. For all other types the picks are listed as runs, since what lies below a row is copied by runs too.
 
 ghost use Rattle.std.specs.Prelude.{◌≡◌, ◌≤◌, ◌<◌, All, length, map, IfOk, IfErr};
 ghost use Rattle.sel_arrow.specs.Rows.{rows, type_of, IsWellFormed};
@@ -14,6 +14,7 @@ use crate::boolean::gather_boolean;
 use crate::collect::collect_runs;
 use crate::plan::{Plan, runs_of_plan};
 use crate::primitive::gather_primitive;
+use crate::walk::gather_lists;
 use sel_arrow::column::Column;
 use sel_bits::faults::PolarsResult;
 use std::alloc::Global;
@@ -55,6 +56,7 @@ pub fn collect_plan<'a, P: Plan>(
         Column::UInt32(_) => Ok(gather_primitive::<P, u32>(alloc, sources, plan)?),
         Column::UInt64(_) => Ok(gather_primitive::<P, u64>(alloc, sources, plan)?),
         Column::UInt128(_) => Ok(gather_primitive::<P, u128>(alloc, sources, plan)?),
+        Column::LargeList { values, .. } => Ok(gather_lists(alloc, values, sources, plan)?),
         _ => collect_listed(alloc, sources, plan),
     }
 }

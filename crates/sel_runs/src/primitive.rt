@@ -12,7 +12,7 @@ ghost use Rattle.sel_runs.specs.Sources.{picked, rows_of};
 
 use crate::bits::{push_validity, validity_from};
 use crate::fill::push_values;
-use crate::gather::{Part, gather_validity, gather_values, validities_of};
+use crate::gather::{Part, gather_parts};
 use crate::growable::{Growable, extend_runs};
 use crate::plan::Plan;
 use crate::run::Run;
@@ -159,10 +159,7 @@ pub fn gather_primitive<'a, P: Plan, T: ArrowPrimitive + Drop>(
     let _len = plan.len();
     let found = numbers_of::<T>(alloc, sources)?;
     let parts = found.as_slice();
-    let values = gather_values(alloc, plan, parts, T::LEAST)?;
-    let validities = validities_of(alloc, parts)?;
-    let maps = validities.as_slice();
-    let validity = gather_validity(alloc, plan, maps)?;
+    let (values, validity) = gather_parts(alloc, plan, parts, T::LEAST)?;
     let values = Buffer::from_vec(values)?;
     Ok(T::into_column(values, validity))
 }

@@ -1,8 +1,10 @@
 //! The rows of a column that a mask keeps.
 
-ghost use Rattle.std.specs.Prelude.{◌≡◌, ◌≤◌, ◌+◌, length, IfOk, IfErr};
+ghost use Rattle.std.specs.Prelude.{◌≡◌, ◌≤◌, ◌+◌, All, length, map, IfOk, IfErr};
+ghost use Rattle.sel_bits.specs.Bits.{count_true};
 ghost use Rattle.sel_arrow.specs.Columns.{null_rows, boolean_rows, primitive_rows, binview_rows, utf8view_rows};
-ghost use Rattle.sel_arrow.specs.Rows.{rows, type_of, IsWellFormed};
+ghost use Rattle.sel_arrow.specs.Rows.{rows, type_of, IsField, IsWellFormed};
+ghost use Rattle.sel_arrow.specs.declared.column.Column.{Struct};
 ghost use Rattle.polars_compute.specs.Select.{select, in_force};
 ghost use Rattle.polars_compute.specs.Trim.{KeepsAll};
 
@@ -11,8 +13,8 @@ pub mod primitive;
 pub mod scalar;
 
 use crate::runs::runs_of_mask;
-use boolean::filter_bitmap_and_validity;
 pub use boolean::filter_boolean_kernel;
+use boolean::{filter_bitmap_and_validity, filter_validity};
 use primitive::filter_values_and_validity;
 use sel_arrow::array::Array;
 use sel_arrow::array_ref::ArrayRef;
@@ -82,7 +84,9 @@ fn filter_trimmed(alloc: Global, array: ArrayRef, mask: &Bitmap) -> PolarsResult
     filter_column(alloc, array.as_column(), mask)
 }
 
-/// The rows of a column where the bit is true.
+/// The rows of a column where the bit is true: numbers, truth values and views by the words of the mask, fields of tuples each by
+/// its kind, and all others by runs.
+#[cycle(filtering)]
 fn filter_column(alloc: Global, column: &Column, mask: &Bitmap) -> PolarsResult<ArrayRef>
     requires formed { IsWellFormed column.now }
     requires long { length (rows column.now) ≡ length mask.now.bits }
@@ -105,11 +109,61 @@ fn filter_column(alloc: Global, column: &Column, mask: &Bitmap) -> PolarsResult<
         Column::UInt128(column) => filter_numbers(alloc, column, mask),
         Column::BinaryView(column) => Ok(filter_views(alloc, column, mask)?.into_ref()),
         Column::Utf8View(column) => Ok(filter_texts(alloc, column, mask)?.into_ref()),
-        Column::LargeBinary(_)
-        | Column::LargeList { .. }
-        | Column::FixedSizeList { .. }
-        | Column::Struct { .. } => Ok(filter_runs(alloc, column, mask)?),
+        Column::Struct {
+            len,
+            fields,
+            validity,
+        } => filter_tuples(alloc, *len, fields, validity, mask),
+        Column::LargeBinary(_) | Column::LargeList { .. } | Column::FixedSizeList { .. } => {
+            Ok(filter_runs(alloc, column, mask)?)
+        }
     }
+}
+
+/// The tuples, `_count` in all, where the bit is true: each field filtered, and the validity.
+#[cycle(filtering)]
+fn filter_tuples(
+    alloc: Global,
+    _count: usize,
+    fields: &Vec<Column>,
+    validity: &Option<Bitmap>,
+    mask: &Bitmap,
+) -> PolarsResult<ArrayRef>
+    requires formed { IsWellFormed (Struct _count fields.now validity.now) }
+    requires long { _count ≡ length mask.now.bits }
+    ensures rows { IfOk result (λ kept. rows kept.column ≡
+        select (rows (Struct _count fields.now validity.now)) mask.now.bits) }
+    ensures dtype { IfOk result (λ kept. type_of kept.column ≡
+        type_of (Struct _count fields.now validity.now)) }
+    ensures refusal { IfErr result (λ fault. fault ≡ PolarsError.OutOfMemory) }
+{
+    let fields = filter_fields(alloc, fields, mask)?;
+    let validity = filter_validity(alloc, validity.as_ref(), mask)?;
+    let len = mask.set_bits();
+    let column = Column::Struct {
+        len,
+        fields,
+        validity,
+    };
+    Ok(ArrayRef { column })
+}
+
+/// Each column with its rows where the bit is true.
+#[cycle(filtering)]
+fn filter_fields(alloc: Global, columns: &[Column], mask: &Bitmap) -> PolarsResult<Vec<Column>>
+    requires fields { All (IsField (length mask.now.bits)) columns.now }
+    ensures rows { IfOk result (λ kept. map rows kept.items ≡
+        map (λ column. select (rows column) mask.now.bits) columns.now) }
+    ensures dtypes { IfOk result (λ kept. map type_of kept.items ≡ map type_of columns.now) }
+    ensures fields { IfOk result (λ kept. All (IsField (count_true mask.now.bits)) kept.items) }
+    ensures refusal { IfErr result (λ fault. fault ≡ PolarsError.OutOfMemory) }
+{
+    let mut kept = Vec::new(alloc);
+    for column in columns {
+        let ArrayRef { column } = filter_column(alloc, column, mask)?;
+        kept.push(column)?;
+    }
+    Ok(kept)
 }
 
 /// Numbers where the bit is true, as a column of any type.

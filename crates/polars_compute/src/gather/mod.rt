@@ -17,7 +17,7 @@ pub(crate) mod generic_binary;
 pub mod primitive;
 mod validity;
 
-use crate::runs::runs_of_indices;
+use crate::runs::Taken;
 use binview::{take_texts, take_views};
 pub use fixed_size_list::take_blocks;
 use primitive::take_primitive_unchecked;
@@ -29,7 +29,8 @@ use sel_arrow::primitive::{ArrowPrimitive, IdxArr, PrimitiveArray};
 use sel_bits::faults::PolarsResult;
 use sel_bits::native::{Index, NativeType};
 pub use sel_runs::collect::collect_rows;
-use sel_runs::single::collect_one;
+use sel_runs::plan::Walk;
+use sel_runs::single::collect_one_plan;
 pub use sel_runs::sources::picks_in_bounds;
 pub use sel_sublists::sublist;
 use std::alloc::Global;
@@ -96,8 +97,9 @@ fn take_nested(alloc: Global, values: &Column, indices: &IdxArr) -> PolarsResult
     if fixed_size_list::holds_numbers(values) {
         return fixed_size_list::take_unchecked(alloc, values, indices);
     }
-    let runs = runs_of_indices(alloc, indices)?;
-    let taken = collect_one(alloc, values, &runs, indices.len())?;
+    let places = Taken { indices };
+    let plan = Walk { places, at: 0 };
+    let taken = collect_one_plan(alloc, values, &plan)?;
     Ok(taken)
 }
 

@@ -1,0 +1,71 @@
+use Rattle.std.proofs.Common.{◌∙◌, All, ap, sym, subst, map, length, arith}
+use Rattle.std.proofs.lemmas.List.Elements.{All-get_or, All-push}
+use Rattle.sel_bits.specs.Bits.{count_true}
+use Rattle.sel_arrow.specs.Rows.{rows, type_of, well_formed, IsField}
+use Rattle.sel_arrow.specs.Shape.{shapes_of}
+use Rattle.sel_arrow.proofs.NestedParts.{mapped_more, tuples_type}
+use Rattle.sel_arrow.proofs.NestedRows.{length-rows, length-tuple_rows}
+use Rattle.sel_arrow.proofs.Trees.{rows-Struct, has_fields}
+use Rattle.sel_arrow.proofs.Types.{type_of-Struct}
+use Rattle.sel_runs.proofs.Depths.{size_of, sizes_of, one_size}
+use Rattle.sel_runs.proofs.ListParts.{few_rows}
+use Rattle.polars_compute.proofs.KeptTuples.{kept_of, kept_struct_rows, kept_struct_formed, kept_is_field}
+use Rattle.polars_compute.proofs.filter.+filtering.Goals as goal
+
+pub filter_column-filter_runs-requires-clause-few : goal.filter_column-filter_runs-requires-clause-few
+filter_column-filter_runs-requires-clause-few t c = omega (arith, few_rows c.args.column.now c.requires.formed, length-rows c.args.column.now, c.requires.long)
+
+pub filter_column-filter_tuples-requires : goal.filter_column-filter_tuples-requires
+filter_column-filter_tuples-requires t c =
+    let len = c.in-Struct.len in
+    let fields = c.in-Struct.fields in
+    let validity = c.in-Struct.validity in
+    let count = ap length (rows-Struct len fields validity) ∙ length-tuple_rows len (map rows fields.items) validity in
+    (omega (arith, c.decreases, ap size_of (ap type_of c.in-Struct.is ∙ type_of-Struct len fields validity)), (ap well_formed (sym c.in-Struct.is) ∙ c.requires.formed, sym count ∙ ap (λ x. length (rows x)) (sym c.in-Struct.is) ∙ c.requires.long))
+
+pub filter_tuples-filter_fields-requires : goal.filter_tuples-filter_fields-requires
+filter_tuples-filter_fields-requires t c =
+    let has = has_fields c.args._count c.args.fields.now c.args.validity.now c.requires.formed in
+    (omega (arith, c.decreases, ap (λ l. sizes_of (shapes_of (map type_of l))) c.deref.ensures.value), subst (All (IsField (length c.args.mask.now.bits))) (sym c.deref.ensures.value) (subst (λ n. All (IsField n) c.args.fields.now.items) c.requires.long has.fields))
+
+pub filter_tuples-invariant_of-result : goal.filter_tuples-invariant_of-result
+filter_tuples-invariant_of-result t c =
+    let validity = rw c.as_ref.ensures.value at c.in_ok-validity.ensures.validity in
+    record {
+      formed = kept_struct_formed c.args._count c.set_bits-len.result c.args.fields.now c.in_ok-fields.fields c.args.validity.now c.in_ok-validity.validity c.args.mask.now.bits c.requires.formed c.requires.long c.set_bits-len.ensures c.in_ok-fields.ensures.fields validity;
+    }
+
+pub filter_tuples-returns-clause-rows : goal.filter_tuples-returns-clause-rows
+filter_tuples-returns-clause-rows t c =
+    let ms = c.args.mask.now.bits in
+    let validity = rw c.as_ref.ensures.value at c.in_ok-validity.ensures.validity in
+    kept_struct_rows c.args._count c.set_bits-len.result c.args.fields.now c.in_ok-fields.fields c.args.validity.now c.in_ok-validity.validity ms c.requires.formed c.requires.long c.set_bits-len.ensures
+    (c.in_ok-fields.ensures.rows ∙ ap (map (kept_of ms)) c.deref.ensures.value) validity
+
+pub filter_tuples-returns-clause-dtype : goal.filter_tuples-returns-clause-dtype
+filter_tuples-returns-clause-dtype t c =
+    tuples_type c.args._count c.set_bits-len.result c.args.fields.now c.in_ok-fields.fields c.args.validity.now c.in_ok-validity.validity (c.in_ok-fields.ensures.dtypes ∙ ap (map type_of) c.deref.ensures.value)
+
+pub filter_fields-filter_column-requires : goal.filter_fields-filter_column-requires
+filter_fields-filter_column-requires t c =
+    let fits = IsField (length c.args.mask.now.bits) in
+    let field = subst fits (sym c.column-item.is) (All-get_or fits c.args.columns.now c.loop-column.column-index c.column-item.result c.loop-column-test.true c.requires.fields) in
+    (omega (arith, c.decreases, one_size type_of c.args.columns.now c.loop-column.column-index c.column-item.result c.loop-column-test.true c.column-item.is), (field.1, length-rows c.column-item.result ∙ field.0))
+
+pub filter_fields-loop-column-preserved : goal.filter_fields-loop-column-preserved
+filter_fields-loop-column-preserved t c =
+    let ms = c.args.mask.now.bits in
+    let lt = c.loop-column-test.true in
+    let is = c.column-item.is in
+    let i = c.loop-column.column-index in
+    let column = c.column-item.result in
+    let old = c.loop-column.kept.items in
+    let part = c.in_ok-column.field-0.column in
+    let pushed = c.in_ok-push.ensures.items in
+    let fits = IsField (length ms) in
+    let field = subst fits (sym is) (All-get_or fits c.args.columns.now i column lt c.requires.fields) in
+    record {
+      rows = mapped_more rows (kept_of ms) c.args.columns.now old c.push.new.self.items i column part lt is pushed c.in_ok-column.ensures.rows c.loop-column.invariant.rows;
+      dtypes = mapped_more type_of type_of c.args.columns.now old c.push.new.self.items i column part lt is pushed c.in_ok-column.ensures.dtype c.loop-column.invariant.dtypes;
+      fields = subst (All (IsField (count_true ms))) (sym pushed) (All-push (IsField (count_true ms)) old part c.loop-column.invariant.fields (kept_is_field column part ms c.in_ok-column.ensures.rows field c.in_ok-column.field-0.formed));
+    }

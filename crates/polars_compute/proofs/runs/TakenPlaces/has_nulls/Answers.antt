@@ -1,0 +1,11 @@
+use Rattle.std.proofs.Common.{All, map, pos, sym, subst}
+use Rattle.sel_arrow.specs.Masked.{number_rows}
+use Rattle.sel_runs.specs.Plans.{IsPicked}
+use Rattle.polars_compute.specs.Pick.{pick_of}
+use Rattle.polars_compute.proofs.KeptRuns.{all_picked}
+use Rattle.polars_compute.proofs.runs.TakenPlaces.has_nulls.Goals as goal
+
+pub returns-in-None : goal.returns-in-None
+returns-in-None c = λ none.
+    let indices = c.args.self.now.indices.now in
+    subst (λ v. All IsPicked (map pick_of (number_rows pos indices.values v))) (sym c.in-None.is) (all_picked indices.values)

@@ -1,0 +1,8 @@
+use Rattle.std.proofs.Common.{arith}
+use Rattle.std.proofs.lemmas.List.{length-map}
+use Rattle.sel_arrow.specs.Columns.{primitive_rows}
+use Rattle.polars_compute.specs.Pick.{pick_of}
+use Rattle.polars_compute.proofs.runs.TakenPlaces.len.Goals as goal
+
+pub returns-clause-len : goal.returns-clause-len
+returns-clause-len c = omega (arith, c.len.ensures.len, length-map (primitive_rows c.args.self.now.indices.now) pick_of)

@@ -1,0 +1,179 @@
+//! Lists that a plan picks, gone over once: no run is listed for the rows themselves.
+
+ghost use Rattle.std.specs.Prelude.{◌≡◌, ◌≢◌, ◌≤◌, ◌<◌, ◌+◌, ◌++◌, ◌∷◌, true, pos, All, length, map, IfOk, IfErr, OnOk};
+ghost use Rattle.std.specs.Option.{option_copied};
+ghost use Rattle.sel_arrow.specs.Rows.{rows, type_of, IsWellFormed};
+ghost use Rattle.sel_arrow.specs.Shape.{of_large_list, of_null};
+ghost use Rattle.sel_arrow.specs.Value.{Null};
+ghost use Rattle.sel_runs.specs.Children.{is_listing, joined_items};
+ghost use Rattle.sel_runs.specs.Ends.{item_ends};
+ghost use Rattle.sel_runs.specs.Need.{IsPastRows, IsRefusal, PassesNone, past_taken};
+ghost use Rattle.sel_runs.specs.Picks.{pick, PickFits};
+ghost use Rattle.sel_runs.specs.Plans.{TellNulls};
+ghost use Rattle.sel_runs.specs.Runs.{expand, unrolled};
+ghost use Rattle.sel_runs.specs.Sources.{child_rows, columns_of, rows_of, run_rows};
+
+use crate::collect::collect_runs;
+use crate::gather::gather_validity;
+use crate::lists::{children_of, run_of_row};
+use crate::plan::Plan;
+use crate::run::{Run, push_run};
+use sel_arrow::column::Column;
+use sel_bits::bitmap::Bitmap;
+use sel_bits::faults::{Limit, PolarsError, PolarsResult};
+use sel_bits::offsets::OffsetsBuffer;
+use std::alloc::Global;
+
+/// The lists that a plan picks of columns of lists, whose child is of the type of `child`. Refuses for want of memory, and
+/// where their items pass a limit.
+pub fn gather_lists<'a, P: Plan>(
+    alloc: Global,
+    child: &Column,
+    sources: &'a [&'a Column],
+    plan: &P,
+) -> PolarsResult<Column>
+    requires some { 0 < length sources.now }
+    requires alike { All (λ c. type_of c.now ≡ of_large_list (type_of child.now)) sources.now }
+    requires formed { All (λ c. IsWellFormed c.now) sources.now }
+    requires fits { All (PickFits (rows_of sources.now)) (P.picks plan.now) }
+    ensures rows { IfOk result (λ column. rows column ≡
+        pick Null (rows_of sources.now) (P.picks plan.now)) }
+    ensures dtype { IfOk result (λ column. type_of column ≡ of_large_list (type_of child.now)) }
+    ensures formed { IfOk result (λ column. IsWellFormed column) }
+    ensures within { IfOk result (λ _. PassesNone (past_taken (of_large_list (type_of child.now))
+        (columns_of sources.now) (pick Null (rows_of sources.now) (P.picks plan.now)))) }
+    ensures refusal { IfErr result (IsRefusal (past_taken (of_large_list (type_of child.now))
+        (columns_of sources.now) (pick Null (rows_of sources.now) (P.picks plan.now)))) }
+{
+    let _ = child;
+    let (ends, below, need) = walk_lists(alloc, sources, plan)?;
+    let children = children_of(alloc, sources)?;
+    let values = collect_runs(alloc, &children, &below, need)?;
+    let column = lists_of_plan(alloc, values, ends, sources, plan)?;
+    Ok(column)
+}
+
+// The lists that a plan picks, over where they end and the rows that they hold. Refuses only for want of memory.
+fn lists_of_plan<P: Plan>(
+    alloc: Global,
+    values: Column,
+    ends: Vec<i64>,
+    sources: &[&Column],
+    plan: &P,
+) -> PolarsResult<Column>
+    requires lists { All (λ c. type_of c.now ≡ of_large_list (type_of values)) sources.now }
+    requires formed { All (λ c. IsWellFormed c.now) sources.now }
+    requires fits { All (PickFits (rows_of sources.now)) (P.picks plan.now) }
+    requires ends { ends.items ≡
+        map pos (0 ∷ item_ends 0 (pick Null (rows_of sources.now) (P.picks plan.now))) }
+    requires below { rows values ≡
+        joined_items 0 (pick Null (rows_of sources.now) (P.picks plan.now)) }
+    requires child { IsWellFormed values }
+    ensures rows { IfOk result (λ column. rows column ≡
+        pick Null (rows_of sources.now) (P.picks plan.now)) }
+    ensures dtype { IfOk result (λ column. type_of column ≡ of_large_list (type_of values)) }
+    ensures formed { IfOk result (λ column. IsWellFormed column) }
+    ensures refusal { IfErr result (λ fault. fault ≡ PolarsError.OutOfMemory) }
+{
+    // (there are no more picks than a column may have rows)
+    let _len = plan.len();
+    let values = Box::new(alloc, values)?;
+    let offsets = OffsetsBuffer::of_rising(ends)?;
+    let validities = validities_of(alloc, sources)?;
+    let maps = validities.as_slice();
+    let validity = gather_validity(alloc, plan, maps)?;
+    Ok(Column::LargeList {
+        offsets,
+        values,
+        validity,
+    })
+}
+
+// The validity of each source. Refuses only for want of memory.
+fn validities_of<'a>(alloc: Global, sources: &[&'a Column]) -> PolarsResult<Vec<Option<&'a Bitmap>>>
+    requires formed { All (λ c. IsWellFormed c.now) sources.now }
+    ensures told { IfOk result (λ maps.
+        TellNulls (map option_copied maps.items) (columns_of sources.now)) }
+    ensures refusal { IfErr result (λ fault. fault ≡ PolarsError.OutOfMemory) }
+{
+    let mut maps = Vec::with_capacity(alloc, sources.len())?;
+    for source in sources {
+        let column: &'a Column = *source;
+        maps.push(column.validity())?;
+    }
+    Ok(maps)
+}
+
+// A 0 and where each list ends that a plan picks, the runs of the children's rows that they hold, and how many these are.
+// Refuses for want of memory, and where they are more rows than a column may have.
+fn walk_lists<P: Plan>(
+    alloc: Global,
+    sources: &[&Column],
+    plan: &P,
+) -> PolarsResult<(Vec<i64>, Vec<Run>, usize)>
+    requires lists { All (λ c. is_listing (type_of c.now) ≡ true) sources.now }
+    requires formed { All (λ c. IsWellFormed c.now) sources.now }
+    requires fits { All (PickFits (rows_of sources.now)) (P.picks plan.now) }
+    ensures ends { IfOk result (λ walk. walk.0.items ≡
+        map pos (0 ∷ item_ends 0 (pick Null (rows_of sources.now) (P.picks plan.now)))) }
+    ensures items { IfOk result (λ walk. pick Null (child_rows sources.now) (expand walk.1.items) ≡
+        joined_items 0 (pick Null (rows_of sources.now) (P.picks plan.now))) }
+    ensures fits { IfOk result (λ walk. All
+        (PickFits (child_rows sources.now)) (expand walk.1.items)) }
+    ensures count { IfOk result (λ walk. length (expand walk.1.items) ≡ walk.2) }
+    ensures few { IfOk result (λ walk. walk.2 ≤ 4294967295) }
+    ensures refusal { IfErr result (IsRefusal (IsPastRows
+        (length (joined_items 0 (pick Null (rows_of sources.now) (P.picks plan.now)))))) }
+{
+    let len = plan.len();
+    let mut ends = Vec::with_capacity(alloc, len + 1)?;
+    ends.push(0)?;
+    let mut below = Vec::with_capacity(alloc, len)?;
+    let mut rest = plan.again();
+    let mut at = 0;
+    let mut end = 0;
+    while at < len {
+        let run = rest.next_run();
+        end = push_lists(&mut ends, &mut below, sources, run, end)?;
+        at += run.len as usize;
+    }
+    Ok((ends, below, end as usize))
+}
+
+// Puts the ends of the lists of a run behind the others, and the runs of the children's rows that they hold; answers the last end.
+// Refuses for want of memory, and where it is more than a column may have rows.
+fn push_lists(
+    ends: &mut Vec<i64>,
+    below: &mut Vec<Run>,
+    sources: &[&Column],
+    run: Run,
+    start: u32,
+) -> PolarsResult<u32>
+    requires lists { All (λ c. is_listing (type_of c.now) ≡ true) sources.now }
+    requires formed { All (λ c. IsWellFormed c.now) sources.now }
+    requires fits { All (PickFits (rows_of sources.now)) (unrolled run) }
+    requires sound { All (PickFits (child_rows sources.now)) (expand below.old.items) }
+    requires count { length (expand below.old.items) ≡ start }
+    ensures ends { OnOk result (ends.new.items ≡
+        ends.old.items ++ map pos (item_ends start (run_rows sources.now run))) }
+    ensures items { OnOk result (pick Null (child_rows sources.now) (expand below.new.items) ≡
+        pick Null (child_rows sources.now) (expand below.old.items) ++ joined_items 0
+        (run_rows sources.now run)) }
+    ensures sound { OnOk result (All (PickFits (child_rows sources.now)) (expand below.new.items)) }
+    ensures last { IfOk result (λ end. end ≡
+        start + length (joined_items 0 (run_rows sources.now run))) }
+    ensures refusal { IfErr result (IsRefusal (IsPastRows
+        (start + length (joined_items 0 (run_rows sources.now run))))) }
+{
+    let mut end = start;
+    for i in 0..run.len {
+        let one = run_of_row(sources, run, i, 0);
+        if one.len > u32::MAX - end {
+            return Err(PolarsError::SizeLimit(Limit::Rows));
+        }
+        end += one.len;
+        ends.push(end as i64)?;
+        push_run(below, one)?;
+    }
+    Ok(end)
+}
