@@ -22,7 +22,7 @@ use Rattle.sel_arrow.proofs.Rows.{length-part}
 use Rattle.sel_runs.specs.Children.{items_in, joined_items}
 use Rattle.sel_runs.specs.Need.{IsPastRows, past}
 use Rattle.sel_runs.proofs.ItemRuns.{listed_values}
-use Rattle.polars_compute.specs.Blocks.{past_blocks}
+use Rattle.polars_compute.specs.BareBlocks.{past_blocks}
 use Rattle.polars_compute.specs.Pick.{found, pick_of, take_rows}
 use Rattle.polars_compute.proofs.Takes.{length-pick}
 

@@ -21,8 +21,10 @@ use Rattle.sel_arrow.proofs.Lists.{all_at, and_first, and_second, both}
 use Rattle.sel_arrow.proofs.NestedParts.{part-block_rows}
 use Rattle.sel_arrow.proofs.NestedRows.{HasBlocks, has_blocks, length-blocks, length-rows}
 use Rattle.sel_arrow.proofs.Rows.{length-number_rows, length-part, part-mapped}
-use Rattle.polars_compute.specs.Blocks.{block_at, block_items, is_bare, is_block_within, blocks_within, HoldsBlocks, IsBeginning}
-use Rattle.polars_compute.specs.Pick.{all_within, found, is_within, pick_of, take_rows, valid_pick}
+use Rattle.polars_compute.specs.Blocks.{block_at, block_items, is_block_within, blocks_within, IsBeginning}
+use Rattle.polars_compute.specs.BareBlocks.{is_bare, HoldsBlocks}
+use Rattle.polars_compute.specs.Pick.{all_within, found, is_within, pick_of, take_rows}
+use Rattle.polars_compute.specs.ValidPicks.{valid_pick}
 use Rattle.polars_compute.proofs.Takes.{row_taken, validity_within}
 
 -- ---- one block more

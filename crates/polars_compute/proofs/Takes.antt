@@ -11,7 +11,8 @@ use Rattle.sel_arrow.specs.Masked.{hidden, masked, Covers, valid_at}
 use Rattle.sel_arrow.proofs.Lists.{all_at}
 use Rattle.sel_arrow.proofs.Rows.{masked_null, masked_valid}
 use Rattle.sel_runs.specs.Validity.{bits_for}
-use Rattle.polars_compute.specs.Pick.{found, pick, pick_of, take_rows, is_within, all_within, valid_pick}
+use Rattle.polars_compute.specs.Pick.{found, pick, pick_of, take_rows, is_within, all_within}
+use Rattle.polars_compute.specs.ValidPicks.{valid_pick}
 
 both : (a b : Bool) → (a && b) ≡ true → (a ≡ true) × (b ≡ true)
 both true b e = (refl, e)

@@ -1,3 +1,4 @@
+pub mod BareBlocks
 pub mod Blocks
 pub mod Compress
 pub mod Dictionary
@@ -9,3 +10,4 @@ pub mod Pick
 pub mod Scalar
 pub mod Select
 pub mod Trim
+pub mod ValidPicks

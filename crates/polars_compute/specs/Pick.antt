@@ -1,8 +1,6 @@
 -- The rows that picks or indices name.
 use Rattle.std.specs.Prelude.{ℕ, pos, negsuc, Bool, true, false, List, [], ◌∷◌, map, Option, Some, None, nat_lt}
 use Rattle.std.specs.List.{list_all}
-use Rattle.sel_bits.specs.Bits.{Bits}
-use Rattle.sel_arrow.specs.Masked.{valid_at}
 use Rattle.sel_arrow.specs.Value.{Value, Null, Number}
 pub use Rattle.sel_runs.specs.Picks.{found, pick}
 
@@ -24,11 +22,6 @@ is_within n _ = true
 -- each index that is not null names one of n rows (own)
 abbrev pub all_within : ℕ → List Value → Bool
 all_within n indices = list_all (is_within n) indices
-
--- whether a pick of one column is not none and names a row that is valid (own)
-abbrev pub valid_pick : Option Bits → Option (ℕ × ℕ) → Bool
-valid_pick validity None = false
-valid_pick validity (Some p) = valid_at validity p.1
 
 -- the pick that a place makes of one list (own)
 abbrev pub place_pick : ℕ → Option (ℕ × ℕ)

@@ -4,10 +4,11 @@ use Rattle.std.proofs.lemmas.List.Elements.{All-nil, All-cons}
 use Rattle.sel_arrow.specs.Rows.{rows}
 use Rattle.sel_arrow.specs.Value.{Value, Null}
 use Rattle.sel_arrow.specs.declared.column.Column.{Column}
-use Rattle.sel_choices.specs.ListSides.{chosen_from}
+use Rattle.sel_choices.specs.ListParts.{chosen_from}
 use Rattle.sel_choices.proofs.ListRuns.{chosen_columns, chosen_true, chosen_false, chosen_both}
 use Rattle.sel_runs.specs.Picks.{pick, PickFits}
-use Rattle.sel_c.specs.Chosen.{bit_pick, chosen_picks, chosen_rows, first_row, place_on, SideFits}
+use Rattle.sel_c.specs.Chosen.{chosen_rows, first_row}
+use Rattle.sel_c.specs.ChosenPicks.{bit_pick, chosen_picks, place_on, SideFits}
 
 more : (t f : Bool) (i k : ℕ) (bits : List Bool) → k < length bits → chosen_picks t f i (take (suc k) bits) ≡ chosen_picks t f i (take k bits) ++ bit_pick t f (get_or bits k false) (i + k) ∷ []
 more t f i k [] below = absurd (omega (arith, below))

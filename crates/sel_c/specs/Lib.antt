@@ -1,5 +1,6 @@
 pub mod Below
 pub mod Chosen
+pub mod ChosenPicks
 pub mod Entries
 pub mod Printed
 pub mod Several

@@ -4,7 +4,8 @@ ghost use Rattle.std.specs.Prelude.{◌≡◌, ◌≢◌, ◌≤◌, ◌++◌, �
 ghost use Rattle.sel_arrow.specs.Columns.{boolean_rows};
 ghost use Rattle.sel_arrow.specs.Rows.{rows, type_of};
 ghost use Rattle.sel_arrow.specs.Shape.{of_boolean};
-ghost use Rattle.sel_c.specs.Chosen.{chosen_rows, first_row, SideFits};
+ghost use Rattle.sel_c.specs.Chosen.{chosen_rows, first_row};
+ghost use Rattle.sel_c.specs.ChosenPicks.{SideFits};
 ghost use Rattle.sel_choices.specs.Choose.{choose, choose_one, choose_or_one, choose_of_two};
 ghost use Rattle.sel_handle.specs.Status.{no_memory, no_column, other_kind, other_type, other_length, held_columns, held_rows, held_type, Demands, HasColumn, IsOneOf, Makes, TellsLimits};
 ghost use Rattle.sel_runs.specs.Need.{past_taken};

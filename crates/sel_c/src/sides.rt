@@ -3,7 +3,8 @@
 ghost use Rattle.std.specs.Prelude.{◌≡◌, ◌≤◌, ◌∷◌, [], length, IfOk, IfErr, IfSome};
 ghost use Rattle.sel_arrow.specs.Columns.{primitive_rows};
 ghost use Rattle.sel_arrow.specs.Rows.{rows, type_of};
-ghost use Rattle.sel_c.specs.Chosen.{bit_pick, chosen_picks, chosen_rows, first_row, place_on, SideFits};
+ghost use Rattle.sel_c.specs.Chosen.{chosen_rows, first_row};
+ghost use Rattle.sel_c.specs.ChosenPicks.{bit_pick, chosen_picks, place_on, SideFits};
 ghost use Rattle.sel_choices.specs.Choose.{choose, choose_one, choose_or_one};
 ghost use Rattle.sel_runs.specs.Need.{past_taken, IsRefusal};
 

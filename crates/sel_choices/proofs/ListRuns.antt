@@ -15,7 +15,7 @@ use Rattle.sel_runs.proofs.ItemRuns.{ends-append, joined_more, joined_part, list
 use Rattle.sel_runs.proofs.Rebuilt.{IsBlock, IsListed as IsNullOrList}
 use Rattle.sel_runs.proofs.RunLists.{length-pick, length-unrolled, map_nulls, pick_rows}
 use Rattle.sel_choices.specs.Choose.{choose, choose_one, choose_or_one, choose_of_two}
-use Rattle.sel_choices.specs.ListSides.{chosen_from, AreHeld, IsListed, IsPart}
+use Rattle.sel_choices.specs.ListParts.{chosen_from, AreHeld, IsListed, IsPart}
 use Rattle.sel_choices.proofs.Chosen.{repeated_then, repeated_otherwise, repeated_both}
 
 -- ---- rows that are chosen by their places

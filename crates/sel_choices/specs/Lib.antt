@@ -1,4 +1,5 @@
 pub mod Choose
+pub mod ListParts
 pub mod ListSides
 pub mod Sides
 pub mod Validity

@@ -1,18 +1,15 @@
 -- Sides of choices between lists, and the parts of their children that the chosen rows hold.
-use Rattle.std.specs.Prelude.{◌≡◌, ⊤, ℕ, ◌+◌, Bool, All, List, [], ◌∷◌, length, is_some, if◌then◌else◌, ◌⊎◌}
+use Rattle.std.specs.Prelude.{List, [], ◌∷◌, length, ◌⊎◌}
 use Rattle.sel_bits.specs.declared.faults.Limit.{Limit}
 use Rattle.sel_bits.specs.declared.native.NativeType.{Ghosts}
 use Rattle.sel_arrow.specs.Shape.{Shape, of_large_list, of_fixed_size_list}
-use Rattle.sel_arrow.specs.Value.{Value, Null, Items, is_valid}
+use Rattle.sel_arrow.specs.Value.{Value}
 use Rattle.sel_arrow.specs.declared.array_ref.ArrayRef.{ArrayRef}
 use Rattle.sel_arrow.specs.declared.column.Column.{Column}
 use Rattle.sel_arrow.specs.declared.fixed_size_list.FixedSizeListArray.{FixedSizeListArray}
 use Rattle.sel_arrow.specs.declared.list.ListArray.{ListArray}
-use Rattle.sel_runs.specs.Children.{items_in, joined_items}
+use Rattle.sel_runs.specs.Children.{joined_items}
 use Rattle.sel_runs.specs.Need.{IsPastRows, past_taken}
-use Rattle.sel_runs.specs.Picks.{pick, PickFits}
-use Rattle.sel_runs.specs.Runs.{expand, unrolled}
-use Rattle.sel_runs.specs.declared.run.Run.{Run}
 use Rattle.sel_choices.specs.Sides.{Side, column, scalar, past_flat}
 
 -- the child of lists (Arrow columnar format: variable-size list layout)
@@ -41,27 +38,3 @@ past_below s columns rows limit = ⊥
 -- which limits a choice between two sides passes that is of this type and has these rows: it has too many of them, or they hold too much (own)
 abbrev pub past_lists : {C : Type 0} → (C → Column) → Shape → Side C ArrayRef → Side C ArrayRef → List Value → Limit → Type 0
 past_lists child type if_true if_false rows limit = past_flat if_true if_false rows limit ⊎ past_below type (below child if_true ∷ below child if_false ∷ []) rows limit
-
--- entry k is that of place i + k on the side of the true bits where bit k is true, else on the other side (when-then-otherwise) (own)
-abbrev pub chosen_from : {A : Type 0} → ℕ → List Bool → (ℕ → A) → (ℕ → A) → List A
-chosen_from i [] ts fs = []
-chosen_from i (m ∷ ms) ts fs = (if m then ts i else fs i) ∷ chosen_from (i + 1) ms ts fs
-
--- null, or a list (own)
-abbrev pub IsListed : Value → Type 0
-IsListed Null = ⊤
-IsListed (Items listed) = ⊤
-IsListed v = ⊥
-
--- that a run picks the values in a row, so many nulls where it is null, and has a source where it is not (own)
-pub record IsPart (xss : List (List Value)) (width : ℕ) (row : Value) (part : Run) : Type 0 where
-  pub items : pick Null xss (unrolled part) ≡ items_in width row
-  pub fits : All (PickFits xss) (unrolled part)
-  pub valid : is_some part.source ≡ is_valid row
-  pub listed : IsListed row
-
--- that runs pick the values in all rows, behind one another, and that there are so many of them (own)
-pub record AreHeld (xss : List (List Value)) (width : ℕ) (rows : List Value) (runs : List Run) (count : ℕ) : Type 0 where
-  pub items : pick Null xss (expand runs) ≡ joined_items width rows
-  pub fits : All (PickFits xss) (expand runs)
-  pub many : count ≡ length (joined_items width rows)

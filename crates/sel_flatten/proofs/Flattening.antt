@@ -20,7 +20,8 @@ use Rattle.sel_runs.proofs.Fits.{rows_fit}
 use Rattle.sel_runs.proofs.RunLists.{pick_run}
 use Rattle.sel_arrow.proofs.Lists.{and_first, and_second}
 use Rattle.sel_arrow.proofs.Rows.{length-part}
-use Rattle.sel_flatten.specs.Flatten.{flatten, flat_row, row_part, row_width, part_fits, parts_fit}
+use Rattle.sel_flatten.specs.Flatten.{flatten, flat_row, row_part, part_fits, parts_fit}
+use Rattle.sel_flatten.specs.Widths.{row_width}
 
 -- ---- parts that fit
 

@@ -14,7 +14,8 @@ use Rattle.sel_runs.specs.Plans.{IsPicked}
 use Rattle.sel_runs.specs.Runs.{picks_of}
 use Rattle.sel_runs.proofs.Fits.{rows_fit}
 use Rattle.sel_runs.proofs.RunLists.{pick_rows}
-use Rattle.sel_flatten.specs.Flatten.{flatten, flat_row, row_part, row_width, part_fits, parts_fit}
+use Rattle.sel_flatten.specs.Flatten.{flatten, flat_row, row_part, part_fits, parts_fit}
+use Rattle.sel_flatten.specs.Widths.{row_width}
 use Rattle.sel_flatten.specs.Lanes.{lane_of, lanes_of, row_picks, rows_picks, left_picks}
 use Rattle.sel_flatten.specs.declared.woven.Lane.{Lane}
 use Rattle.sel_flatten.proofs.Flattening.{Parts, part_at, row_inside, many_of, start_at, width_room}

@@ -30,11 +30,6 @@ flat_row r (xs ∷ xss) (w ∷ ws) = row_part r xs w ++ flat_row r xss ws
 abbrev pub flatten : {A : Type 0} → List (List A) → List ℕ → ℕ → List A
 flatten xss ws h = flat_map (λ r. flat_row r xss ws) (range_with_len 0 h)
 
--- how many entries one row has (own)
-abbrev pub row_width : List ℕ → ℕ
-row_width [] = 0
-row_width (w ∷ ws) = w + row_width ws
-
 -- whether a list of n entries has w of them, which is not 0, for each of h rows, or for one row alone (own)
 abbrev pub part_fits : ℕ → ℕ → ℕ → Bool
 part_fits h n w = nat_lt 0 w && ((n == w * h) || (n == w))

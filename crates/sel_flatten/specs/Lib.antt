@@ -1,2 +1,3 @@
 pub mod Flatten
 pub mod Lanes
+pub mod Widths

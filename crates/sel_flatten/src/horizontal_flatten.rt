@@ -4,7 +4,8 @@ ghost use Rattle.std.specs.Prelude.{◌≡◌, ◌≤◌, ◌<◌, ◌+◌, ◌*
 ghost use Rattle.sel_arrow.specs.Rows.{rows, type_of};
 ghost use Rattle.sel_runs.specs.Need.{IsRefusal, PassesNone};
 ghost use Rattle.sel_runs.specs.Sources.{first_type};
-ghost use Rattle.sel_flatten.specs.Flatten.{array_columns, array_rows, flatten, row_width, part_fits, parts_fit, past_flattened};
+ghost use Rattle.sel_flatten.specs.Flatten.{array_columns, array_rows, flatten, part_fits, parts_fit, past_flattened};
+ghost use Rattle.sel_flatten.specs.Widths.{row_width};
 ghost use Rattle.sel_flatten.specs.Lanes.{lane_of as lane_for, lanes_of};
 
 use crate::woven::{Lane, Woven};

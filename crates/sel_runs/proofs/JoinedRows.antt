@@ -14,7 +14,8 @@ use Rattle.sel_arrow.specs.Pieces.{pieces, pieces_after, byte_rows, rows_between
 use Rattle.sel_arrow.proofs.ByteRows.{length-pieces}
 use Rattle.sel_runs.specs.declared.binary.Joined.{Joined}
 use Rattle.sel_runs.specs.declared.run.Run.{Run}
-use Rattle.sel_runs.specs.JoinedBytes.{bytes_of, ends_from, joined_bytes, IsBytesRow, AllBytesRows, GrewBy}
+use Rattle.sel_runs.specs.JoinedBytes.{ends_from, IsBytesRow}
+use Rattle.sel_runs.specs.GrownBytes.{bytes_of, joined_bytes, AllBytesRows, GrewBy}
 use Rattle.sel_runs.specs.Need.{byte_count, bytes_needed}
 use Rattle.sel_runs.specs.Picks.{found, pick}
 use Rattle.sel_runs.specs.Runs.{expand, unrolled}

@@ -4,7 +4,7 @@ use Rattle.std.specs.Prelude.{if◌then◌else◌}
 use Rattle.std.proofs.lemmas.List.{length-drop, length-map, get_or-drop, map-append}
 use Rattle.sel_bits.specs.Bits.{leading_ones, leading_zeros}
 use Rattle.sel_bits.proofs.Zeros.{leading_le}
-use Rattle.sel_runs.specs.Cleared.{kept_by}
+use Rattle.sel_runs.specs.KeptPicks.{kept_by}
 use Rattle.sel_runs.specs.Runs.{picks_of, unrolled_from}
 use Rattle.sel_runs.proofs.RunLists.{unrolled_from-append, length-unrolled_from}
 

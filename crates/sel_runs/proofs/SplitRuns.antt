@@ -9,7 +9,8 @@ use Rattle.sel_arrow.specs.Shape.{Shape, of_null}
 use Rattle.sel_arrow.specs.Value.{Value, Null, is_valid, validities}
 use Rattle.sel_arrow.specs.declared.column.Column.{Column}
 use Rattle.sel_arrow.proofs.Rows.{part-replicate}
-use Rattle.sel_runs.specs.Cleared.{cleared, kept_by}
+use Rattle.sel_runs.specs.Cleared.{cleared}
+use Rattle.sel_runs.specs.KeptPicks.{kept_by}
 use Rattle.sel_runs.specs.Picks.{found, pick, PickFits}
 use Rattle.sel_runs.specs.Runs.{unrolled, picks_of}
 use Rattle.sel_runs.specs.Validity.{part_bits}

@@ -16,7 +16,8 @@ use Rattle.sel_arrow.specs.Value.{Value, Null, Bytes, is_valid, validities}
 use Rattle.sel_arrow.proofs.ByteRows.{length-byte_rows, null_bytes, valid_bytes}
 use Rattle.sel_arrow.proofs.Rows.{length-part}
 use Rattle.sel_runs.specs.Cleared.{cleared, IsLive}
-use Rattle.sel_runs.specs.JoinedBytes.{bytes_of, ends_from, joined_bytes}
+use Rattle.sel_runs.specs.JoinedBytes.{ends_from}
+use Rattle.sel_runs.specs.GrownBytes.{bytes_of, joined_bytes}
 use Rattle.sel_runs.specs.Need.{byte_count, bytes_needed}
 use Rattle.sel_runs.specs.Picks.{found, pick, PickFits}
 use Rattle.sel_runs.specs.Runs.{picks_of, unrolled, unrolled_from}

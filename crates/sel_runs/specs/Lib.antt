@@ -1,11 +1,14 @@
 pub mod Children
 pub mod Cleared
 pub mod Ends
+pub mod GrownBytes
 pub mod JoinedBytes
+pub mod KeptPicks
 pub mod Need
 pub mod Picks
 pub mod Plans
 pub mod Raised
+pub mod RunRows
 pub mod Runs
 pub mod Sources
 pub mod Validity

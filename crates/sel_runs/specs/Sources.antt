@@ -11,7 +11,7 @@ use Rattle.sel_arrow.specs.declared.binview.BinaryViewArray.{BinaryViewArray}
 use Rattle.sel_arrow.specs.declared.column.Column.{Column}
 use Rattle.sel_runs.specs.Children.{child}
 use Rattle.sel_runs.specs.Picks.{pick}
-use Rattle.sel_runs.specs.Runs.{expand, unrolled}
+use Rattle.sel_runs.specs.Runs.{expand}
 use Rattle.sel_runs.specs.declared.run.Run.{Run}
 
 -- the type of the first column, that of nulls where there is none (own)
@@ -35,10 +35,6 @@ child_rows sources = map (λ c. rows (child c.now)) sources
 abbrev pub picked : List (Bor Column) → List Run → List Value
 picked sources runs = pick Null (rows_of sources) (expand runs)
 
--- the rows of one run (own)
-abbrev pub run_rows : List (Bor Column) → Run → List Value
-run_rows sources run = pick Null (rows_of sources) (unrolled run)
-
 -- the rows of each column of bytes (own)
 abbrev pub binaries : {O : Type 0} {type : Ghosts O} → List (Bor (BinaryArray O type)) → List (List Value)
 binaries sources = map (λ s. binary_rows s.now) sources
@@ -46,10 +42,6 @@ binaries sources = map (λ s. binary_rows s.now) sources
 -- the rows that runs pick of them, null where a run has no source (own)
 abbrev pub picked_bytes : {O : Type 0} {type : Ghosts O} → List (Bor (BinaryArray O type)) → List Run → List Value
 picked_bytes sources runs = pick Null (binaries sources) (expand runs)
-
--- the rows of one run (own)
-abbrev pub run_bytes : {O : Type 0} {type : Ghosts O} → List (Bor (BinaryArray O type)) → Run → List Value
-run_bytes sources run = pick Null (binaries sources) (unrolled run)
 
 -- the rows of each column of views (own)
 abbrev pub binviews : List (Bor BinaryViewArray) → List (List Value)

@@ -4,11 +4,13 @@ ghost use Rattle.std.specs.Prelude.{◌≡◌, ◌≤◌, ◌+◌, ◌*◌, ◌�
 ghost use Rattle.sel_arrow.specs.Columns.{binary_rows};
 ghost use Rattle.sel_arrow.specs.Value.{Null, validities};
 ghost use Rattle.sel_runs.specs.Cleared.{IsLive};
-ghost use Rattle.sel_runs.specs.JoinedBytes.{ends_from, joined_bytes, GrewBy};
+ghost use Rattle.sel_runs.specs.JoinedBytes.{ends_from};
+ghost use Rattle.sel_runs.specs.GrownBytes.{joined_bytes, GrewBy};
 ghost use Rattle.sel_runs.specs.Need.{IsPastBytes, IsRefusal, PassesNone, bytes_needed};
 ghost use Rattle.sel_runs.specs.Picks.{pick, PickFits};
 ghost use Rattle.sel_runs.specs.Runs.{expand, unrolled};
-ghost use Rattle.sel_runs.specs.Sources.{binaries, picked_bytes, run_bytes};
+ghost use Rattle.sel_runs.specs.Sources.{binaries, picked_bytes};
+ghost use Rattle.sel_runs.specs.RunRows.{run_bytes};
 
 use crate::bits::validity_from;
 use crate::run::Run;

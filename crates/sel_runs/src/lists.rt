@@ -8,7 +8,8 @@ ghost use Rattle.sel_runs.specs.Children.{child, is_listing, items_in, joined_it
 ghost use Rattle.sel_runs.specs.Picks.{pick, PickFits};
 ghost use Rattle.sel_runs.specs.Runs.{expand, unrolled};
 ghost use Rattle.sel_runs.specs.Ends.{item_ends};
-ghost use Rattle.sel_runs.specs.Sources.{child_rows, picked, rows_of, run_rows};
+ghost use Rattle.sel_runs.specs.Sources.{child_rows, picked, rows_of};
+ghost use Rattle.sel_runs.specs.RunRows.{run_rows};
 
 use crate::run::{Run, nulls_of, push_run};
 use sel_arrow::column::Column;

@@ -4,7 +4,8 @@ ghost use Rattle.std.specs.Prelude.{◌≡◌, ◌≢◌, ◌≤◌, ◌<◌, �
 ghost use Rattle.sel_arrow.specs.Rows.{rows, type_of, IsWellFormed};
 ghost use Rattle.sel_arrow.specs.Shape.{of_null};
 ghost use Rattle.sel_runs.specs.Children.{field};
-ghost use Rattle.sel_runs.specs.Cleared.{cleared, kept_by};
+ghost use Rattle.sel_runs.specs.Cleared.{cleared};
+ghost use Rattle.sel_runs.specs.KeptPicks.{kept_by};
 ghost use Rattle.sel_runs.specs.Picks.{PickFits};
 ghost use Rattle.sel_runs.specs.Runs.{expand, unrolled};
 ghost use Rattle.sel_runs.specs.Sources.{rows_of};

@@ -8,7 +8,8 @@ ghost use Rattle.sel_arrow.specs.Value.{Null, validities};
 ghost use Rattle.sel_runs.specs.Picks.{pick, PickFits};
 ghost use Rattle.sel_runs.specs.Runs.{expand, unrolled};
 ghost use Rattle.sel_runs.specs.Validity.{bits_for};
-ghost use Rattle.sel_runs.specs.Sources.{picked, rows_of, run_rows};
+ghost use Rattle.sel_runs.specs.Sources.{picked, rows_of};
+ghost use Rattle.sel_runs.specs.RunRows.{run_rows};
 
 use crate::bits::{push_validity, validity_from};
 use crate::run::Run;

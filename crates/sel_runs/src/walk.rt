@@ -11,7 +11,8 @@ ghost use Rattle.sel_runs.specs.Need.{IsPastRows, IsRefusal, PassesNone, past_ta
 ghost use Rattle.sel_runs.specs.Picks.{pick, PickFits};
 ghost use Rattle.sel_runs.specs.Plans.{TellNulls};
 ghost use Rattle.sel_runs.specs.Runs.{expand, unrolled};
-ghost use Rattle.sel_runs.specs.Sources.{child_rows, columns_of, rows_of, run_rows};
+ghost use Rattle.sel_runs.specs.Sources.{child_rows, columns_of, rows_of};
+ghost use Rattle.sel_runs.specs.RunRows.{run_rows};
 
 use crate::collect::collect_runs;
 use crate::gather::gather_validity;

@@ -158,7 +158,7 @@ fn filter_fields(alloc: Global, columns: &[Column], mask: &Bitmap) -> PolarsResu
     ensures fields { IfOk result (λ kept. All (IsField (count_true mask.now.bits)) kept.items) }
     ensures refusal { IfErr result (λ fault. fault ≡ PolarsError.OutOfMemory) }
 {
-    let mut kept = Vec::new(alloc);
+    let mut kept = Vec::with_capacity(alloc, columns.len())?;
     for column in columns {
         let ArrayRef { column } = filter_column(alloc, column, mask)?;
         kept.push(column)?;

@@ -4,7 +4,8 @@ ghost use Rattle.std.specs.Prelude.{◌≡◌, ◌+◌, ◌*◌, ◌^◌, ◌<�
 ghost use Rattle.sel_arrow.specs.Columns.{primitive_rows};
 ghost use Rattle.sel_arrow.specs.Masked.{number_value};
 ghost use Rattle.sel_arrow.specs.Rows.{rows, row_count, type_of, IsWellFormed};
-ghost use Rattle.polars_compute.specs.Blocks.{after_block, block_items, blocks_within, holds_bare, is_bare, is_block_within, past_blocks, HoldsBlocks, IsBeginning};
+ghost use Rattle.polars_compute.specs.Blocks.{after_block, block_items, blocks_within, is_block_within, IsBeginning};
+ghost use Rattle.polars_compute.specs.BareBlocks.{holds_bare, is_bare, past_blocks, HoldsBlocks};
 ghost use Rattle.polars_compute.specs.Need.{IsPastRows, IsRefusal, past};
 ghost use Rattle.polars_compute.specs.Pick.{all_within, take_rows};
 

@@ -5,7 +5,8 @@ ghost use Rattle.std.specs.Option.{ForSome};
 ghost use Rattle.sel_arrow.specs.Columns.{primitive_rows};
 ghost use Rattle.sel_arrow.specs.Masked.{number_value};
 ghost use Rattle.sel_runs.specs.Validity.{bits_for};
-ghost use Rattle.polars_compute.specs.Pick.{all_within, is_within, valid_pick, pick_of};
+ghost use Rattle.polars_compute.specs.Pick.{all_within, is_within, pick_of};
+ghost use Rattle.polars_compute.specs.ValidPicks.{valid_pick};
 
 use sel_arrow::array::Array;
 use sel_arrow::primitive::IdxArr;

@@ -5,7 +5,8 @@ ghost use Rattle.sel_arrow.specs.NestedArrays.{block_column};
 ghost use Rattle.sel_arrow.specs.Rows.{rows, type_of};
 ghost use Rattle.sel_arrow.specs.Shape.{of_fixed_size_list};
 ghost use Rattle.sel_runs.specs.Children.{items_in};
-ghost use Rattle.sel_choices.specs.ListSides.{chosen_from, past_below};
+ghost use Rattle.sel_choices.specs.ListSides.{past_below};
+ghost use Rattle.sel_choices.specs.ListParts.{chosen_from};
 ghost use Rattle.sel_choices.specs.Sides.{IsRefusal, PassesNone};
 
 use crate::if_then_else::IfThenElseKernel;

@@ -4,7 +4,8 @@ ghost use Rattle.std.specs.Prelude.{◌≡◌, ◌≤◌, ◌<◌, ◌∷◌, []
 ghost use Rattle.sel_arrow.specs.NestedArrays.{list_column};
 ghost use Rattle.sel_arrow.specs.Rows.{rows, type_of};
 ghost use Rattle.sel_arrow.specs.Shape.{of_large_list};
-ghost use Rattle.sel_choices.specs.ListSides.{chosen_from, past_below};
+ghost use Rattle.sel_choices.specs.ListSides.{past_below};
+ghost use Rattle.sel_choices.specs.ListParts.{chosen_from};
 ghost use Rattle.sel_choices.specs.Sides.{IsRefusal, PassesNone};
 
 use crate::if_then_else::IfThenElseKernel;

@@ -10,7 +10,7 @@ ghost use Rattle.sel_runs.specs.Need.{past_taken, IsPastRows, IsRefusal, PassesN
 ghost use Rattle.sel_runs.specs.Picks.{pick, PickFits};
 ghost use Rattle.sel_runs.specs.Runs.{expand};
 ghost use Rattle.sel_runs.specs.Validity.{bits_for};
-ghost use Rattle.sel_choices.specs.ListSides.{chosen_from, AreHeld, IsListed};
+ghost use Rattle.sel_choices.specs.ListParts.{chosen_from, AreHeld, IsListed};
 
 use crate::if_then_else::list_sides::{ListSide, chosen_part};
 use sel_arrow::column::Column;

@@ -5,7 +5,7 @@ ghost use Rattle.sel_arrow.specs.Nested.{list_of};
 ghost use Rattle.sel_arrow.specs.Rows.{rows, IsWellFormed};
 ghost use Rattle.sel_arrow.specs.Value.{Value, Null};
 ghost use Rattle.sel_arrow.specs.declared.column.Column.{Column};
-ghost use Rattle.sel_choices.specs.ListSides.{chosen_from, IsPart};
+ghost use Rattle.sel_choices.specs.ListParts.{chosen_from, IsPart};
 
 use sel_arrow::array_ref::ArrayRef;
 use sel_arrow::column::Column;

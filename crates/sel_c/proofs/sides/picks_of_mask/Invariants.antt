@@ -1,6 +1,6 @@
 -- The picks so far.
 use Rattle.std.proofs.Common.{◌≡◌, take}
-use Rattle.sel_c.specs.Chosen.{chosen_picks}
+use Rattle.sel_c.specs.ChosenPicks.{chosen_picks}
 use Rattle.sel_c.proofs.sides.picks_of_mask.Given as goal
 
 abbrev pub invariant-loop-i : goal.invariant-loop-i

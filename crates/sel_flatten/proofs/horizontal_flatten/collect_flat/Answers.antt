@@ -12,7 +12,8 @@ use Rattle.sel_runs.specs.Sources.{first_type}
 use Rattle.sel_runs.proofs.Below.{refused_more}
 use Rattle.sel_runs.proofs.RunLists.{length-pick}
 use Rattle.sel_runs.proofs.Within.{few_rows_pass, passes_neither}
-use Rattle.sel_flatten.specs.Flatten.{flatten, row_width}
+use Rattle.sel_flatten.specs.Flatten.{flatten}
+use Rattle.sel_flatten.specs.Widths.{row_width}
 use Rattle.sel_flatten.specs.Lanes.{lanes_of, left_picks, rows_picks}
 use Rattle.sel_flatten.proofs.Flattening.{as_sources, flat_length, widths_long, width_count}
 use Rattle.sel_flatten.proofs.Weaving.{left_first, rows_woven, woven_fit, wide_lanes, low_lanes, length-lanes}

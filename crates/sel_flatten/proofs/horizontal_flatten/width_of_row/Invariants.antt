@@ -1,6 +1,6 @@
 -- The widths so far, each of them below 2 ^ 64.
 use Rattle.std.proofs.Common.{◌≡◌, ◌≤◌, ◌*◌, take}
-use Rattle.sel_flatten.specs.Flatten.{row_width}
+use Rattle.sel_flatten.specs.Widths.{row_width}
 use Rattle.sel_flatten.proofs.horizontal_flatten.width_of_row.Given as goal
 
 abbrev pub invariant-loop-width : goal.invariant-loop-width

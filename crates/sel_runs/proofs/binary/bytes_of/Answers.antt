@@ -1,7 +1,7 @@
 use Rattle.std.proofs.Common.{◌∙◌, ap, sym, map}
 use Rattle.sel_arrow.specs.Columns.{binary_rows}
 use Rattle.sel_arrow.specs.Value.{Null}
-use Rattle.sel_runs.specs.JoinedBytes.{joined_bytes}
+use Rattle.sel_runs.specs.GrownBytes.{joined_bytes}
 use Rattle.sel_runs.proofs.RunLists.{pick_nulls}
 use Rattle.sel_runs.proofs.ValidBytes.{nulls_bytes, source_below, source_inside, source_live, source_picked}
 use Rattle.sel_runs.proofs.binary.bytes_of.Goals as goal

@@ -4,7 +4,8 @@ use Rattle.sel_arrow.specs.Columns.{binary_rows}
 use Rattle.sel_arrow.specs.Masked.{Covers}
 use Rattle.sel_arrow.specs.Pieces.{rows_between, last_offset}
 use Rattle.sel_arrow.specs.Value.{Null}
-use Rattle.sel_runs.specs.JoinedBytes.{ends_from, joined_bytes}
+use Rattle.sel_runs.specs.JoinedBytes.{ends_from}
+use Rattle.sel_runs.specs.GrownBytes.{joined_bytes}
 use Rattle.sel_runs.specs.Need.{bytes_needed}
 use Rattle.sel_runs.specs.Picks.{pick}
 use Rattle.sel_runs.specs.Runs.{expand}

@@ -2,7 +2,7 @@
 use Rattle.std.proofs.Common.{map, take}
 use Rattle.sel_arrow.specs.Columns.{binary_rows}
 use Rattle.sel_arrow.specs.Value.{Null}
-use Rattle.sel_runs.specs.JoinedBytes.{GrewBy}
+use Rattle.sel_runs.specs.GrownBytes.{GrewBy}
 use Rattle.sel_runs.specs.Picks.{pick}
 use Rattle.sel_runs.specs.Runs.{expand}
 use Rattle.sel_runs.proofs.binary.push_runs.Given as goal

@@ -1,7 +1,7 @@
 use Rattle.std.proofs.Common.{◌≡◌, ℕ, ◌+◌, ◌-◌, ◌++◌, ◌∙◌, ap, sym, arith, length, map, List, Option, true≢false}
 use Rattle.std.proofs.lemmas.List.{length-append}
 use Rattle.sel_bits.specs.Bits.{Bits}
-use Rattle.sel_runs.specs.Cleared.{kept_by}
+use Rattle.sel_runs.specs.KeptPicks.{kept_by}
 use Rattle.sel_runs.specs.Runs.{expand, unrolled, unrolled_from}
 use Rattle.sel_runs.specs.declared.run.Run.{Run}
 use Rattle.sel_runs.proofs.KeptBlocks.{Passes, zeros_within, ones_within, passed_left, passed_some, passed_rest, kept_more, kept_count}

@@ -1,6 +1,6 @@
 -- The rows so far stand behind those that were there; the bits that are left are those from the next row on.
 use Rattle.std.proofs.Common.{◌≡◌, ◌≤◌, ◌+◌, ◌-◌, ◌++◌, length, map}
-use Rattle.sel_runs.specs.Cleared.{kept_by}
+use Rattle.sel_runs.specs.KeptPicks.{kept_by}
 use Rattle.sel_runs.specs.Runs.{expand, unrolled_from}
 use Rattle.sel_runs.proofs.KeptBlocks.{IsRest}
 use Rattle.sel_runs.proofs.structs.push_kept.Given as goal

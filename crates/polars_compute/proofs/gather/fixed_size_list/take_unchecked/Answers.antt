@@ -5,7 +5,8 @@ use Rattle.sel_arrow.specs.Masked.{hidden}
 use Rattle.sel_arrow.specs.Nested.{blocks, list_of}
 use Rattle.sel_arrow.specs.Rows.{rows, row_count, type_of, well_formed}
 use Rattle.sel_runs.proofs.Below.{refused_more}
-use Rattle.polars_compute.specs.Blocks.{blocks_within, past_blocks, HoldsBlocks}
+use Rattle.polars_compute.specs.Blocks.{blocks_within}
+use Rattle.polars_compute.specs.BareBlocks.{past_blocks, HoldsBlocks}
 use Rattle.polars_compute.specs.Need.{IsPastRows}
 use Rattle.polars_compute.proofs.BlockNeeds.{past_taken_blocks}
 use Rattle.polars_compute.proofs.BlockTakes.{blocks_taken, whole_has, whole_validity, whole_within}

@@ -2,7 +2,8 @@ use Rattle.std.proofs.Common.{◌∙◌, map, pos, length, None, replicate, true
 use Rattle.sel_arrow.specs.Columns.{primitive_rows}
 use Rattle.sel_arrow.specs.Masked.{masked}
 use Rattle.sel_arrow.specs.Value.{Number}
-use Rattle.polars_compute.specs.Pick.{valid_pick, pick_of}
+use Rattle.polars_compute.specs.Pick.{pick_of}
+use Rattle.polars_compute.specs.ValidPicks.{valid_pick}
 use Rattle.polars_compute.proofs.Takes.{is_nothing, none_null}
 use Rattle.polars_compute.proofs.gather.validity.take_validity.Goals as goal
 

@@ -15,7 +15,8 @@ use Rattle.sel_runs.specs.Validity.{bits_for}
 use Rattle.sel_runs.proofs.Below.{refused_more}
 use Rattle.sel_runs.proofs.Rebuilt.{IsBlock, blocks_rebuilt, blocks_fit}
 use Rattle.sel_runs.proofs.Within.{few_rows_pass, passes_neither}
-use Rattle.sel_choices.specs.ListSides.{chosen_from, past_below}
+use Rattle.sel_choices.specs.ListSides.{past_below}
+use Rattle.sel_choices.specs.ListParts.{chosen_from}
 use Rattle.sel_choices.specs.Sides.{IsRefusal}
 use Rattle.sel_choices.proofs.ListRuns.{all_blocks, chosen_all, length-chosen, plain}
 use Rattle.sel_choices.proofs.if_then_else.array.choose_sized_lists.Goals as goal

@@ -15,7 +15,8 @@ use Rattle.sel_runs.proofs.Below.{refused_more}
 use Rattle.sel_runs.proofs.JoinedRows.{offsets_of, same_numbers, map_same}
 use Rattle.sel_runs.proofs.Rebuilt.{rising_ends, lists_rebuilt, lists_fit}
 use Rattle.sel_runs.proofs.Within.{few_rows_pass, passes_neither}
-use Rattle.sel_choices.specs.ListSides.{chosen_from, past_below}
+use Rattle.sel_choices.specs.ListSides.{past_below}
+use Rattle.sel_choices.specs.ListParts.{chosen_from}
 use Rattle.sel_choices.specs.Sides.{IsRefusal}
 use Rattle.sel_choices.proofs.ListRuns.{all_listed, length-chosen}
 use Rattle.sel_choices.proofs.if_then_else.list.choose_lists.Goals as goal

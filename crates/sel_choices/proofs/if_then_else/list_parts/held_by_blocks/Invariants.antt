@@ -2,7 +2,7 @@
 use Rattle.std.proofs.Common.{◌≡◌, ◌≤◌, ◌∷◌, [], All, take}
 use Rattle.sel_arrow.specs.Rows.{rows}
 use Rattle.sel_arrow.specs.Value.{validities}
-use Rattle.sel_choices.specs.ListSides.{chosen_from, AreHeld, IsListed}
+use Rattle.sel_choices.specs.ListParts.{chosen_from, AreHeld, IsListed}
 use Rattle.sel_choices.proofs.if_then_else.list_parts.held_by_blocks.Given as goal
 
 abbrev pub invariant-loop-i : goal.invariant-loop-i

@@ -5,7 +5,7 @@ use Rattle.sel_arrow.specs.Rows.{rows}
 use Rattle.sel_arrow.specs.Value.{Value, Null, validities, is_valid}
 use Rattle.sel_runs.specs.Ends.{item_ends}
 use Rattle.sel_runs.specs.Validity.{bits_for}
-use Rattle.sel_choices.specs.ListSides.{chosen_from, AreHeld, IsListed}
+use Rattle.sel_choices.specs.ListParts.{chosen_from, AreHeld, IsListed}
 use Rattle.sel_choices.proofs.ListRuns.{length-chosen, count_room, held_more, listed_more, valid_more, ends_step}
 use Rattle.sel_choices.proofs.if_then_else.list_parts.held_by_lists.Goals as goal
 

@@ -1,7 +1,7 @@
 use Rattle.std.proofs.Common.{◌∷◌, [], ◌∙◌, true, false, refl, sym}
 use Rattle.sel_arrow.specs.Rows.{rows}
 use Rattle.sel_arrow.specs.Value.{Value, Null}
-use Rattle.sel_choices.specs.ListSides.{IsPart}
+use Rattle.sel_choices.specs.ListParts.{IsPart}
 use Rattle.sel_choices.proofs.ListRuns.{chosen_row_if}
 use Rattle.sel_choices.proofs.if_then_else.list_sides.chosen_part.Goals as goal
 

@@ -5,7 +5,8 @@ use Rattle.sel_arrow.specs.Rows.{rows, type_of}
 use Rattle.sel_arrow.specs.Shape.{of_fixed_size_list}
 use Rattle.sel_arrow.specs.Value.{Null}
 use Rattle.sel_choices.specs.Choose.{choose}
-use Rattle.sel_choices.specs.ListSides.{block_child, chosen_from}
+use Rattle.sel_choices.specs.ListSides.{block_child}
+use Rattle.sel_choices.specs.ListParts.{chosen_from}
 use Rattle.sel_choices.specs.Sides.{column}
 use Rattle.sel_choices.proofs.ListChoices.{answered_choice, few_bits, held_blocks, refused_choice}
 use Rattle.sel_choices.proofs.ListRuns.{chosen_columns}

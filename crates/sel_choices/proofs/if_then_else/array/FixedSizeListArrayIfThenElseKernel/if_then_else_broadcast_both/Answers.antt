@@ -7,7 +7,8 @@ use Rattle.sel_arrow.specs.Rows.{rows, type_of}
 use Rattle.sel_arrow.specs.Shape.{of_fixed_size_list}
 use Rattle.sel_runs.proofs.Within.{few_rows_pass}
 use Rattle.sel_choices.specs.Choose.{choose_of_two}
-use Rattle.sel_choices.specs.ListSides.{block_child, chosen_from}
+use Rattle.sel_choices.specs.ListSides.{block_child}
+use Rattle.sel_choices.specs.ListParts.{chosen_from}
 use Rattle.sel_choices.specs.Sides.{scalar}
 use Rattle.sel_choices.proofs.ListChoices.{answered_choice, held_scalar, refused_choice, same_width}
 use Rattle.sel_choices.proofs.ListRuns.{chosen_both}

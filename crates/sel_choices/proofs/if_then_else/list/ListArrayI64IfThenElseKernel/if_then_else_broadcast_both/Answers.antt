@@ -8,7 +8,7 @@ use Rattle.sel_arrow.specs.Shape.{of_large_list}
 use Rattle.sel_arrow.specs.declared.column.Column.{Column}
 use Rattle.sel_runs.proofs.Within.{few_rows_pass}
 use Rattle.sel_choices.specs.Choose.{choose_of_two}
-use Rattle.sel_choices.specs.ListSides.{chosen_from}
+use Rattle.sel_choices.specs.ListParts.{chosen_from}
 use Rattle.sel_choices.specs.Sides.{scalar}
 use Rattle.sel_choices.proofs.ListChoices.{answered_choice, refused_choice}
 use Rattle.sel_choices.proofs.ListRuns.{chosen_both}

@@ -6,7 +6,8 @@ use Rattle.sel_arrow.specs.Rows.{rows, type_of}
 use Rattle.sel_arrow.specs.Shape.{of_large_list}
 use Rattle.sel_arrow.specs.Value.{Null}
 use Rattle.sel_choices.specs.Choose.{choose_or_one}
-use Rattle.sel_choices.specs.ListSides.{chosen_from, list_child}
+use Rattle.sel_choices.specs.ListSides.{list_child}
+use Rattle.sel_choices.specs.ListParts.{chosen_from}
 use Rattle.sel_choices.specs.Sides.{column, scalar}
 use Rattle.sel_choices.proofs.ListChoices.{answered_choice, few_bits, refused_choice}
 use Rattle.sel_choices.proofs.ListRuns.{chosen_false}
