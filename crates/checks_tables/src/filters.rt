@@ -175,6 +175,18 @@ fn rows_under_masks(rt: HostRuntime) -> Result<(), Fail> {
             "[false,true,true]",
             "[(null,2),null]",
         ),
+        (
+            "struct<struct<i64,utf8>,bool,null>",
+            "[((1,\"a\"),true,null),null,((null,\"a text of more than twelve\"),null,null),(null,false,null)]",
+            "[true,false,true,true]",
+            "[((1,\"a\"),true,null),((null,\"a text of more than twelve\"),null,null),(null,false,null)]",
+        ),
+        (
+            "struct<>",
+            "[(),null,(),()]",
+            "[true,true,false,true]",
+            "[(),null,()]",
+        ),
     ];
     assert_eq!(rt; wrong(rt.alloc(), &lines)?, None);
     Ok(())

@@ -102,6 +102,12 @@ fn rows_at_indices(rt: HostRuntime) -> Result<(), Fail> {
             "[null,[[1],null],null]",
         ),
         (
+            "list<null>",
+            "[[null,null],[],null]",
+            "[0,2,null,0,1]",
+            "[[null,null],null,null,[null,null],[]]",
+        ),
+        (
             "list<struct<i64,list<bool>>>",
             "[[(1,[true]),null],[(null,null)]]",
             "[1,0,1]",
