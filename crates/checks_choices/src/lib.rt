@@ -8,6 +8,8 @@ mod lists;
 #[cfg(test)]
 mod masks;
 #[cfg(test)]
+mod odd;
+#[cfg(test)]
 mod views;
 #[cfg(test)]
 mod words;

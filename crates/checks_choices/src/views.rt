@@ -63,6 +63,26 @@ fn a_view_that_holds_its_bytes_stays(rt: HostRuntime) -> Result<(), Fail> {
     Ok(())
 }
 
+// Four letters in a view whose other numbers are no place: nothing is behind them.
+const FOUR: View = View {
+    length: 4,
+    prefix: 1684234849,
+    buffer_idx: 4294967295,
+    offset: 0,
+};
+
+#[test]
+fn a_view_that_holds_its_bytes_stays_whatever_is_behind_them(rt: HostRuntime) -> Result<(), Fail> {
+    let alloc = rt.alloc();
+    let none = Buffer::from_vec(Vec::new(alloc))?;
+    let four = BinaryViewArray::try_new(buffer(alloc, &[FOUR])?, none, None)?;
+    assert!(rt; has_bytes_at(alloc, &four, 0, Some(b"abcd"))?);
+    let chosen = otherwise(alloc, &far_bytes(alloc, LONG)?, &four)?;
+    assert!(rt; chosen.views().as_slice() == [FOUR].as_slice());
+    assert!(rt; has_bytes_at(alloc, &chosen, 0, Some(b"abcd"))?);
+    Ok(())
+}
+
 #[test]
 fn bytes_of_a_column_and_a_scalar(rt: HostRuntime) -> Result<(), Fail> {
     let alloc = rt.alloc();

@@ -10,7 +10,7 @@ use std::alloc::Global;
 use std::test::Fail;
 
 // The rows that the mask keeps, of a column that is needed no more.
-fn kept(
+pub fn kept(
     alloc: Global,
     rows: ArrayRef,
     mask: &BooleanArray,
@@ -25,7 +25,7 @@ fn kept(
 }
 
 // The same by the bits of a mask without nulls.
-fn kept_by_bits(
+pub fn kept_by_bits(
     alloc: Global,
     rows: ArrayRef,
     mask: &BooleanArray,

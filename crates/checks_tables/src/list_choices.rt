@@ -13,13 +13,13 @@ use std::test::Fail;
 
 /// On which side the single list stands.
 #[derive(Clone, Copy)]
-enum Side {
+pub enum Side {
     True,
     False,
 }
 
 // A choice as a column of any type.
-fn as_any<A: Array>(chosen: PolarsResult<A>) -> PolarsResult<ArrayRef> {
+pub fn as_any<A: Array>(chosen: PolarsResult<A>) -> PolarsResult<ArrayRef> {
     match chosen {
         Ok(chosen) => Ok(chosen.into_ref()),
         Err(fault) => Err(fault),
@@ -65,7 +65,7 @@ fn of_blocks(
 }
 
 // The choice between a column of lists of either kind, which is needed no more, and one list.
-fn chosen(
+pub fn chosen(
     alloc: Global,
     mask: &Bitmap,
     lists: ArrayRef,

@@ -10,7 +10,11 @@ use std::alloc::Global;
 use std::test::Fail;
 
 // The rows at the indices, of a column that is needed no more.
-fn taken(alloc: Global, rows: ArrayRef, indices: &IdxArr) -> Result<PolarsResult<ArrayRef>, Fail> {
+pub fn taken(
+    alloc: Global,
+    rows: ArrayRef,
+    indices: &IdxArr,
+) -> Result<PolarsResult<ArrayRef>, Fail> {
     if !indices_in_bounds(indices, rows.len()) {
         drop(rows);
         return Err(Fail::from("out of bounds"));
