@@ -298,14 +298,16 @@ static void test_bytes(void) {
 /* An index for each of the lists 10 20, 30 40. */
 static void test_each(sel_column *lists) {
     const int64_t places[2] = {1, -2}, far[2] = {0, 2}, wanted[2] = {20, 30};
-    sel_column at = {0}, out = {0};
+    sel_column at = {0}, out = {0}, flat = tens();
     IS(sel_fixed_get_each(lists, &at, false, &out) == SEL_NO_COLUMN);
     IS(sel_fixed_get_each(&out, lists, false, &at) == SEL_NO_COLUMN);
     DONE(sel_int64_new(places, 2, no_bits, 0, false, &at));
     if (at.at != NULL) {
+        IS(flat.at == NULL || sel_fixed_get_each(&flat, &at, false, &out) == SEL_OTHER_KIND || refused);
         DONE(sel_fixed_get_each(lists, &at, false, &out));
         IS(out.at == NULL || holds(&out, wanted, 2) || refused);
     }
+    sel_free(&flat);
     DONE(sel_int64_new(places, 1, no_bits, 0, false, &at));
     if (at.at != NULL && sel_len(&at) == 1) {
         IS(sel_fixed_get_each(lists, &at, false, &out) == SEL_OTHER_LENGTH || refused);
