@@ -28,7 +28,7 @@ fn chosen<C: IfThenElseKernel>(
 }
 
 // The same of columns that are needed no more, where both are of the kind.
-pub fn of_kind<C: IfThenElseKernel + Drop>(
+fn of_kind<C: IfThenElseKernel + Drop>(
     alloc: Global,
     mask: &Bitmap,
     if_true: Result<C, ArrayRef>,

@@ -204,7 +204,7 @@ fn wrong_entries(
     Ok(None)
 }
 
-pub const OUTSIDE: &str = "get index is out of bounds";
+const OUTSIDE: &str = "get index is out of bounds";
 
 #[test]
 fn entries_at_one_index(rt: HostRuntime) -> Result<(), Fail> {
@@ -238,7 +238,7 @@ fn entries_at_one_index(rt: HostRuntime) -> Result<(), Fail> {
 }
 
 // The entries at an index for each list, of lists that are needed no more.
-pub fn entries_at(
+fn entries_at(
     alloc: Global,
     blocks: FixedSizeListArray,
     indices: &PrimitiveArray<i64>,

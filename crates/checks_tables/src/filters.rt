@@ -10,7 +10,7 @@ use std::alloc::Global;
 use std::test::Fail;
 
 // The rows that the mask keeps, of a column that is needed no more.
-pub fn kept(
+fn kept(
     alloc: Global,
     rows: ArrayRef,
     mask: &BooleanArray,
@@ -25,7 +25,7 @@ pub fn kept(
 }
 
 // The same by the bits of a mask without nulls.
-pub fn kept_by_bits(
+fn kept_by_bits(
     alloc: Global,
     rows: ArrayRef,
     mask: &BooleanArray,

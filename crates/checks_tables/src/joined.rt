@@ -25,7 +25,7 @@ fn two(
 }
 
 // What a flatten answers of columns that may be put side by side.
-pub fn flattened(
+fn flattened(
     alloc: Global,
     columns: &[ArrayRef],
     widths: &[usize],
@@ -202,7 +202,7 @@ fn what_may_stand_side_by_side(rt: HostRuntime) -> Result<(), Fail> {
 }
 
 // The rows that picks name, where the sources are of one type and have them.
-pub fn collected<'a>(
+fn collected<'a>(
     alloc: Global,
     sources: &'a [&'a Column],
     picks: &[Option<(u32, u32)>],

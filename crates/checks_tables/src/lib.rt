@@ -1,6 +1,5 @@
 //! Worked rows of the kernels as tables: columns are written as texts, and so are answers. Each line is tried on columns of their
 //! own, and on parts of longer ones that begin inside a byte. Beneath nulls stand other values.
-//! In `random` are columns of random rows beside the definitions, written out again.
 #![tactic(auto)]
 
 #[cfg(test)]
@@ -15,8 +14,6 @@ mod joined;
 mod limits;
 #[cfg(test)]
 mod list_choices;
-#[cfg(test)]
-mod random;
 #[cfg(test)]
 mod read;
 #[cfg(test)]

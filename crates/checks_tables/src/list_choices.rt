@@ -13,13 +13,13 @@ use std::test::Fail;
 
 /// On which side the single list stands.
 #[derive(Clone, Copy)]
-pub enum Side {
+enum Side {
     True,
     False,
 }
 
 // A choice as a column of any type.
-pub fn as_any<A: Array>(chosen: PolarsResult<A>) -> PolarsResult<ArrayRef> {
+fn as_any<A: Array>(chosen: PolarsResult<A>) -> PolarsResult<ArrayRef> {
     match chosen {
         Ok(chosen) => Ok(chosen.into_ref()),
         Err(fault) => Err(fault),
@@ -65,7 +65,7 @@ fn of_blocks(
 }
 
 // The choice between a column of lists of either kind, which is needed no more, and one list.
-pub fn chosen(
+fn chosen(
     alloc: Global,
     mask: &Bitmap,
     lists: ArrayRef,

@@ -10,11 +10,7 @@ use std::alloc::Global;
 use std::test::Fail;
 
 // The rows at the indices, of a column that is needed no more.
-pub fn taken(
-    alloc: Global,
-    rows: ArrayRef,
-    indices: &IdxArr,
-) -> Result<PolarsResult<ArrayRef>, Fail> {
+fn taken(alloc: Global, rows: ArrayRef, indices: &IdxArr) -> Result<PolarsResult<ArrayRef>, Fail> {
     if !indices_in_bounds(indices, rows.len()) {
         drop(rows);
         return Err(Fail::from("out of bounds"));
