@@ -1,9 +1,7 @@
-//! The worked rows of filters, of takes, of blocks, of dictionaries, of rows of several columns, of columns with children and
-//! of the laws, as tests, and the pieces by which runs are copied, each called by itself.
+//! The worked rows of filters, of takes, of dictionaries, of rows of several columns and of the laws, as tests, and the
+//! pieces by which runs are copied, each called by itself.
 #![tactic(auto)]
 
-#[cfg(test)]
-mod blocks;
 #[cfg(test)]
 mod dictionaries;
 #[cfg(test)]
@@ -12,8 +10,6 @@ mod filters;
 mod kernels;
 #[cfg(test)]
 mod laws;
-#[cfg(test)]
-mod nested;
 #[cfg(test)]
 mod rows;
 #[cfg(test)]

@@ -1,6 +1,6 @@
 //! Lists between offsets.
 
-use crate::nested::shared::{has_too_many_rows, taken};
+use crate::shared::{has_too_many_rows, taken};
 use checks_columns::fixtures::{are_numbers, is_valid, nulls, numbers, offsets, validity};
 use sel_arrow::array::Array;
 use sel_arrow::array_ref::ArrayRef;

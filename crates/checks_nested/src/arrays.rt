@@ -1,8 +1,8 @@
 //! What columns with children tell of themselves, of their parts and of their copies.
 
-use crate::nested::blocks::{are_blocks, is_null_at, is_pair_at, number_blocks, three_blocks};
-use crate::nested::lists::{are_lists, bounds_at, is_list_at, number_lists, three_lists};
-use crate::nested::tuples::{are_tuples, is_null_tuple, is_tuple_at, mixed_tuples, three_tuples};
+use crate::blocks::{are_blocks, is_null_at, is_pair_at, number_blocks, three_blocks};
+use crate::lists::{are_lists, bounds_at, is_list_at, number_lists, three_lists};
+use crate::tuples::{are_tuples, is_null_tuple, is_tuple_at, mixed_tuples, three_tuples};
 use checks_columns::fixtures::{
     copy_tells, has_bits, has_own_dtype, nulls, offsets, part_tells, tells,
 };

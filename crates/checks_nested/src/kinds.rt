@@ -1,9 +1,9 @@
 //! Columns with children as lists, as lists of one length and as tuples, under other validities.
 
-use crate::nested::arrays::{are_all_lists, are_all_tuples};
-use crate::nested::blocks::{are_pair_and_null, are_two_pairs, pair_and_null};
-use crate::nested::lists::{are_lists, bounds_at, is_list_at, three_lists};
-use crate::nested::tuples::{three_tuples, two_pairs};
+use crate::arrays::{are_all_lists, are_all_tuples};
+use crate::blocks::{are_pair_and_null, are_two_pairs, pair_and_null};
+use crate::lists::{are_lists, bounds_at, is_list_at, three_lists};
+use crate::tuples::{three_tuples, two_pairs};
 use checks_columns::fixtures::{is_valid, number_at, numbers, truths};
 use sel_arrow::array::Array;
 use sel_arrow::array_ref::ArrayRef;

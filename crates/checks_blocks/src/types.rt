@@ -1,6 +1,6 @@
 //! Lists of two numbers of each type, turned round.
 
-use crate::blocks::trees::{are_blocks, bare, below, blocks, is_bare, taken};
+use crate::trees::{are_blocks, bare, below, blocks, is_bare, taken};
 use sel_arrow::primitive::ArrowPrimitive;
 use std::alloc::Global;
 use std::test::Fail;

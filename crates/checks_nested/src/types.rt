@@ -1,8 +1,8 @@
 //! Types of columns with children, copies of these columns, and columns without rows.
 
-use crate::nested::blocks::pair_and_null;
-use crate::nested::lists::{are_lists, bounds_at, is_list_at, three_lists};
-use crate::nested::tuples::two_pairs;
+use crate::blocks::pair_and_null;
+use crate::lists::{are_lists, bounds_at, is_list_at, three_lists};
+use crate::tuples::two_pairs;
 use checks_columns::fixtures::numbers;
 use sel_arrow::array::Array;
 use sel_arrow::array_ref::ArrayRef;

@@ -1,6 +1,6 @@
 //! Lists of one length.
 
-use crate::nested::shared::{has_too_many_rows, nulls_in, taken};
+use crate::shared::{has_too_many_rows, nulls_in, taken};
 use checks_columns::fixtures::{are_numbers, is_valid, nulls, number_at, numbers, validity};
 use sel_arrow::array::Array;
 use sel_arrow::array_ref::ArrayRef;
