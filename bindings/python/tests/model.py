@@ -3,9 +3,13 @@
 from __future__ import annotations
 
 import random
+from array import array
+from ctypes import byref
 from typing import Any
+from unittest.mock import patch
 
-from sel import Type
+from sel import Column, Type
+from sel import _column as inside
 
 LEAVES = ("null", "bool", "i8", "i16", "i32", "i64", "i128", "u8", "u16", "u32", "u64", "u128", "binary", "binview", "utf8")
 
@@ -51,6 +55,55 @@ def random_rows(rng: random.Random, wanted: Type, count: int) -> list[Any]:
     return [random_value(rng, wanted) for _ in range(count)]
 
 
+def plain_value(rng: random.Random, wanted: Type) -> Any:
+    """A value that is not null, where the type has one."""
+    value = None
+    while value is None and wanted.kind != "null":
+        value = random_value(rng, wanted)
+    return value
+
+
+def laid_out(rng: random.Random, rows: list[Any], wanted: Type) -> Column:
+    """A column with these rows, which at each depth was sliced twice and has other values beneath its nulls."""
+    front, back = rng.randrange(3), rng.randrange(3)
+    padded = random_rows(rng, wanted, front) + rows + random_rows(rng, wanted, back)
+    valid = [row is not None for row in padded]
+    column = _with_nulls(rng, [plain_value(rng, wanted) if row is None else row for row in padded], valid, wanted)
+    first = rng.randrange(front + 1)
+    return column.sliced(first, len(padded) - first).sliced(front - first, len(rows))
+
+
+def _with_nulls(rng: random.Random, values: list[Any], valid: list[bool], wanted: Type) -> Column:
+    """The column of the values, of which those that are not valid are hidden."""
+    if wanted.kind in ("list", "fixed", "struct"):
+        return {"list": _lists, "fixed": _fixed_lists, "struct": _structs}[wanted.kind](rng, values, valid, wanted)
+    validity = inside._validity(valid)
+    with patch.object(inside, "_validity", lambda _: validity):
+        return Column.from_pylist(values, wanted)
+
+
+def _lists(rng: random.Random, values: list[Any], valid: list[bool], wanted: Type) -> Column:
+    column, ends = Column(), array("q", [0])
+    for value in values:
+        ends.append(ends[-1] + len(value))
+    child = laid_out(rng, [item for value in values for item in value], wanted.children[0])
+    inside.call("sel_list_new", *ends.buffer_info(), *inside._validity(valid), child._at(), byref(column._handle))
+    return column
+
+
+def _fixed_lists(rng: random.Random, values: list[Any], valid: list[bool], wanted: Type) -> Column:
+    column = Column()
+    child = laid_out(rng, [item for value in values for item in value], wanted.children[0])
+    inside.call("sel_fixed_list_new", wanted.width, len(values), *inside._validity(valid), child._at(), byref(column._handle))
+    return column
+
+
+def _structs(rng: random.Random, values: list[Any], valid: list[bool], wanted: Type) -> Column:
+    fields = [laid_out(rng, [value[place] for value in values], child) for place, child in enumerate(wanted.children)]
+    return inside._with_handles(fields, lambda handles, made: inside.call(
+        "sel_struct_new", len(values), *inside._validity(valid), handles, len(fields), byref(made._handle)))
+
+
 def kept(rows: list[Any], mask: list[bool | None]) -> list[Any]:
     return [row for row, keep in zip(rows, mask) if keep]
 
@@ -78,3 +131,10 @@ def side_by_side(columns: list[list[Any]], widths: list[int], height: int) -> li
         rows[(0 if len(rows) == width else place * width) + item]
         for place in range(height) for rows, width in zip(columns, widths) for item in range(width)
     ]
+
+
+def handed_on(keys: list[int | None], values: list[Any]) -> tuple[list[int | None], list[Any]]:
+    """Keys that are null where their value is, and the values that are not null."""
+    left = [value for value in values if value is not None]
+    ranks = [None if value is None else sum(before is not None for before in values[:place]) for place, value in enumerate(values)]
+    return [None if key is None else ranks[key] for key in keys], left

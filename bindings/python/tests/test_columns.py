@@ -108,6 +108,63 @@ class Kernels(unittest.TestCase):
             expected = [None if pick is None else rows[pick[0]][pick[1]] for pick in picks]
             self.assertEqual(sel.collect_rows(columns, picks).to_pylist(), expected)
 
+    def test_of_slices_with_other_values_beneath_nulls(self) -> None:
+        rng = random.Random(6)
+        for case in range(CASES):
+            wanted = model.random_type(rng, 3)
+            rows = model.random_rows(rng, wanted, rng.randrange(70 if case % 9 == 0 else 12))
+            other = model.random_rows(rng, wanted, len(rows))
+            column = model.laid_out(rng, rows, wanted)
+            self.assertEqual(column.to_pylist(), rows)
+            self.assertTrue(column.equals(Column.from_pylist(rows, wanted)))
+            mask = [rng.choice((True, False, None)) for _ in rows]
+            bits = model.laid_out(rng, mask, Type("bool"))
+            self.assertEqual(column.filter(bits).to_pylist(), model.kept(rows, mask))
+            indices = [rng.choice((None, rng.randrange(len(rows)))) for _ in range(rng.randrange(8))] if rows else [None]
+            self.assertEqual(column.take(model.laid_out(rng, indices, Type("u32"))).to_pylist(), model.taken(rows, indices))
+            answer = sel.choose(bits, column, model.laid_out(rng, other, wanted))
+            self.assertEqual(answer.to_pylist(), model.chosen(mask, rows, other))
+            self.assertEqual(column.unit_list().to_pylist(), [[row] for row in rows])
+
+    def test_getters_of_slices_with_other_values_beneath_nulls(self) -> None:
+        rng = random.Random(7)
+        for _ in range(CASES):
+            below, index = model.random_type(rng, 2), rng.randrange(-4, 4)
+            wanted = Type("list", (below,))
+            rows = model.random_rows(rng, wanted, rng.randrange(10))
+            lists = model.laid_out(rng, rows, wanted)
+            self.assertEqual(lists.sublist_get(index).to_pylist(), [model.element(row, index) for row in rows])
+            self.assertEqual(lists.index_is_oob(index), model.is_outside(rows, index))
+            wanted = Type("fixed", (below,), rng.randrange(4))
+            rows = model.random_rows(rng, wanted, rng.randrange(10))
+            blocks = model.laid_out(rng, rows, wanted)
+            self.assertEqual(blocks.fixed_get(index).to_pylist(), [model.element(row, index) for row in rows])
+            each = [rng.choice((None, rng.randrange(-4, 4))) for _ in rows]
+            expected = [None if at is None else model.element(row, at) for row, at in zip(rows, each)]
+            self.assertEqual(blocks.fixed_get(model.laid_out(rng, each, Type("i64"))).to_pylist(), expected)
+
+    def test_several_slices_with_other_values_beneath_nulls(self) -> None:
+        rng = random.Random(8)
+        for _ in range(CASES // 2):
+            wanted, height = model.random_type(rng, 3), rng.randrange(1, 5)
+            widths = [rng.randrange(1, 4) for _ in range(rng.randrange(1, 4))]
+            rows = [model.random_rows(rng, wanted, width * rng.choice((1, height))) for width in widths]
+            columns = [model.laid_out(rng, each, wanted) for each in rows]
+            self.assertEqual(sel.flatten(columns, widths, height).to_pylist(), model.side_by_side(rows, widths, height))
+            places = [(source, row) for source, each in enumerate(rows) for row in range(len(each))]
+            picks = [rng.choice((None, rng.choice(places))) for _ in range(rng.randrange(9))]
+            expected = [None if pick is None else rows[pick[0]][pick[1]] for pick in picks]
+            self.assertEqual(sel.collect_rows(columns, picks).to_pylist(), expected)
+
+    def test_random_dictionaries(self) -> None:
+        rng = random.Random(9)
+        for _ in range(CASES // 2):
+            wanted = Type("utf8")
+            values = model.random_rows(rng, wanted, rng.randrange(1, 9))
+            keys = [rng.choice((None, rng.randrange(len(values)))) for _ in range(rng.randrange(12))]
+            answer = sel.propagate_dictionary(model.laid_out(rng, keys, Type("u32")), model.laid_out(rng, values, wanted))
+            self.assertEqual(tuple(column.to_pylist() for column in answer), model.handed_on(keys, values))
+
     def test_one_value_for_all_rows(self) -> None:
         column = Column.from_pylist([1, None, 3])
         mask = [True, False, None]
