@@ -17,4 +17,6 @@ mod list_choices;
 #[cfg(test)]
 mod read;
 #[cfg(test)]
+mod selected;
+#[cfg(test)]
 mod takes;

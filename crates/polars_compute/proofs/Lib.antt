@@ -10,5 +10,6 @@ pub mod Meanings
 pub mod Needs
 pub mod Places
 pub mod Selects
+pub mod TakenBits
 pub mod Takes
 pub mod Withins

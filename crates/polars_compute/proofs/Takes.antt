@@ -1,5 +1,5 @@
 -- Rows at indices.
-use Rattle.std.proofs.Common.{◌≡◌, All, ℕ, zero, suc, ◌<◌, pos, Bool, true, false, ◌&&◌, List, [], ◌∷◌, length, map, get_or, replicate, Option, Some, None, is_some, refl, ap, sym, ◌∙◌, subst}
+use Rattle.std.proofs.Common.{◌≡◌, All, ℕ, zero, suc, ◌<◌, pos, negsuc, Bool, true, false, ◌&&◌, List, [], ◌∷◌, length, map, get_or, replicate, Option, Some, None, is_some, refl, ap, sym, ◌∙◌, subst, arith}
 use Rattle.std.specs.Prelude.{if◌then◌else◌}
 use Rattle.std.specs.List.{list_all}
 use Rattle.std.specs.Option.{ForSome}
@@ -10,11 +10,12 @@ use Rattle.sel_arrow.specs.Value.{Value, Null, Number}
 use Rattle.sel_arrow.specs.Masked.{hidden, masked, Covers, valid_at}
 use Rattle.sel_arrow.proofs.Lists.{all_at}
 use Rattle.sel_arrow.proofs.Rows.{masked_null, masked_valid}
+use Rattle.sel_runs.specs.Plans.{HasBit, bits_found}
 use Rattle.sel_runs.specs.Validity.{bits_for}
 use Rattle.polars_compute.specs.Pick.{found, pick, pick_of, take_rows, is_within, all_within}
 use Rattle.polars_compute.specs.ValidPicks.{valid_pick}
 
-both : (a b : Bool) → (a && b) ≡ true → (a ≡ true) × (b ≡ true)
+pub both : (a b : Bool) → (a && b) ≡ true → (a ≡ true) × (b ≡ true)
 both true b e = (refl, e)
 both false b e = cc
 
@@ -138,3 +139,32 @@ places_within n places within =
 pub picked_places : {A : Type 0} (values : List A) (filler : A) (places : List ℕ) → map (λ place. get_or values place filler) places ≡ pick filler (values ∷ []) (map pick_of (map (λ x. Number (pos x)) places))
 picked_places values filler [] = refl
 picked_places values filler (place ∷ places) = ap (λ l. get_or values place filler ∷ l) (picked_places values filler places)
+
+-- ---- bits that indices name
+
+has_bit : (validity : Option Bits) (v : Value) → ForSome validity (λ b. is_within (length b.bits) v ≡ true) → HasBit (validity ∷ []) (pick_of v)
+has_bit validity (Number (pos i)) within = (omega arith, λ b there. ltb-true i (length b.bits) (within b there))
+has_bit validity (Number (negsuc i)) within = cc
+has_bit validity v within = cc
+
+-- the picks of indices that are within name bits of the one validity
+pub picks_have_bits : (validity : Option Bits) (indices : List Value) → ForSome validity (λ v. all_within (length v.bits) indices ≡ true) → All (HasBit (validity ∷ [])) (map pick_of indices)
+picks_have_bits validity indices within =
+    λ k d h.
+    let there : k < length indices = omega (arith, h, length-map indices pick_of) in
+    subst (HasBit (validity ∷ [])) (sym (get_or-map pick_of indices k Null d there))
+    (has_bit validity (get_or indices k Null) (λ v is. all_at (is_within (length v.bits)) indices k Null (within v is) there))
+
+-- and find there whether the rows are valid
+pub found_valid : (validity : Option Bits) (indices : List Value) → bits_found (validity ∷ []) (map pick_of indices) ≡ map (valid_pick validity) (map pick_of indices)
+found_valid validity [] = refl
+found_valid validity (Number (pos i) ∷ indices) = ap (λ l. valid_at validity i ∷ l) (found_valid validity indices)
+found_valid validity (index ∷ indices) = ap (λ l. false ∷ l) (found_valid validity indices)
+
+-- of rows without a validity those are valid whose indices are
+pub named_bits : (bits : List Bool) (places : List ℕ) → length bits ≡ length places → bits ≡ map (valid_pick None) (map pick_of (hidden bits (map (λ x. Number (pos x)) places)))
+named_bits [] [] same = refl
+named_bits [] (place ∷ places) same = absurd (omega (arith, same))
+named_bits (b ∷ bits) [] same = absurd (omega (arith, same))
+named_bits (true ∷ bits) (place ∷ places) same = ap (λ l. true ∷ l) (named_bits bits places (omega (arith, same)))
+named_bits (false ∷ bits) (place ∷ places) same = ap (λ l. false ∷ l) (named_bits bits places (omega (arith, same)))

@@ -1,15 +1,3 @@
-pub mod Answered
-pub mod Chosen
-pub mod FewItems
-pub mod Flattened
-pub mod Hex
-pub mod MadeColumns
 pub mod Pieces
-pub mod Printed
 pub mod Progress
-pub mod ReadBlocks
-pub mod ReadLists
-pub mod RowLemmas
-pub mod SelectedRows
 pub mod Steps
-pub mod TextViews

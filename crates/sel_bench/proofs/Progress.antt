@@ -14,9 +14,9 @@ use Rattle.sel_bench.specs.declared.run.Done.{Done}
 use Rattle.sel_bench.specs.declared.run.Done.TheVariants.{End, BadLine}
 use Rattle.sel_bench.specs.declared.run.RunError.{RunError}
 use Rattle.sel_bench.specs.declared.run.RunError.TheVariants.{OutOfMemory, Input, Output}
-use Rattle.sel_bench.specs.Lines.{HasNoFeed, parts, lines_of_parts, but_last, lines, whole_lines}
+use Rattle.sel_lines.specs.Lines.{HasNoFeed, parts, lines_of_parts, but_last, lines, whole_lines}
 use Rattle.sel_bench.specs.Output.{answer_at, answers, first_bad, first_bad_from, output_from, bad_or, written_for}
-use Rattle.sel_bench.specs.Commands.{answer_of_line}
+use Rattle.sel_lines.specs.Commands.{answer_of_line}
 use Rattle.sel_bench.specs.Step.{Step, piece, lines_in, IsReadTo}
 use Rattle.sel_bench.proofs.Steps.{none_some}
 use Rattle.sel_bench.specs.Run.{AreAnswered, Runs, IsLineRead}

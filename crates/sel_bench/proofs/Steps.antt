@@ -8,11 +8,11 @@ use Rattle.sel_bench.specs.declared.reading.LineEnd.{LineEnd}
 use Rattle.sel_bench.specs.declared.reading.LineEnd.TheVariants as ending
 use Rattle.sel_bench.specs.declared.run.RunError.{RunError}
 use Rattle.sel_bench.specs.declared.run.RunError.TheVariants.{OutOfMemory, Input, Output}
-use Rattle.sel_bench.specs.Lines.{HasNoFeed}
+use Rattle.sel_lines.specs.Lines.{HasNoFeed}
 use Rattle.sel_bench.specs.Output.{bad_or, first_bad_from}
-use Rattle.sel_bench.specs.Commands.{answer_of_line}
+use Rattle.sel_lines.specs.Commands.{answer_of_line}
 use Rattle.sel_bench.specs.Step.{Step, lines_in, IsReadTo}
-use Rattle.sel_bench.proofs.Answered.{too_long}
+use Rattle.sel_lines.proofs.Answered.{too_long}
 
 -- a line that could not be read to its end
 pub failed_step : (n : ℕ) (e : RunError) (rest : List ℕ) (before after holds : Option (List ℕ)) → e ≢ Output → HasNoFeed rest → Consumes before after rest

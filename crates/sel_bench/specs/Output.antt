@@ -1,6 +1,6 @@
 use Rattle.std.specs.Prelude.{ℕ, ◌+◌, List, [], ◌∷◌, ◌++◌, Option, None, Some, if◌then◌else◌, codes, decimal, nat_le}
-use Rattle.sel_bench.specs.Commands.{answer_of_line}
-use Rattle.sel_bench.specs.Lines.{lines, last_number}
+use Rattle.sel_lines.specs.Commands.{answer_of_line}
+use Rattle.sel_lines.specs.Lines.{lines, last_number}
 
 -- the answer to line number n, or None where it is bad (own)
 abbrev pub answer_at : ℕ → List ℕ → Option (List ℕ)

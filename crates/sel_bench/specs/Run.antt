@@ -6,7 +6,7 @@ use Rattle.sel_bench.specs.declared.run.Done.{Done}
 use Rattle.sel_bench.specs.declared.run.Done.TheVariants.{End, BadLine}
 use Rattle.sel_bench.specs.declared.run.RunError.{RunError}
 use Rattle.sel_bench.specs.declared.run.RunError.TheVariants.{OutOfMemory, Input, Output}
-use Rattle.sel_bench.specs.Lines.{lines, whole_lines, but_last, HasNoFeed, longest_line}
+use Rattle.sel_lines.specs.Lines.{lines, whole_lines, but_last, HasNoFeed, longest_line}
 use Rattle.sel_bench.specs.Output.{answers, first_bad, output}
 
 -- these lines are good, and their answers are written (own)

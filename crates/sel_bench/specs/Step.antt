@@ -8,7 +8,7 @@ use Rattle.sel_bench.specs.declared.run.Done.{Done}
 use Rattle.sel_bench.specs.declared.run.Done.TheVariants.{End, BadLine}
 use Rattle.sel_bench.specs.declared.run.RunError.{RunError}
 use Rattle.sel_bench.specs.declared.run.RunError.TheVariants.{OutOfMemory, Input, Output}
-use Rattle.sel_bench.specs.Lines.{HasNoFeed, longest_line}
+use Rattle.sel_lines.specs.Lines.{HasNoFeed, longest_line}
 use Rattle.sel_bench.specs.Output.{output_from, first_bad_from}
 
 -- the bytes that were read for a line that ended so (own)

@@ -1,32 +1,11 @@
 //! Reads lines such as `take 5,n,7 2,n,1` and answers each by a line.
 #![tactic(auto)]
 
-mod blocks;
-mod choose;
-mod columns;
-mod commands;
 mod counted;
-mod dict;
-mod filter;
-mod fixed;
-mod flatten;
-mod get;
-mod lists;
-mod numbers;
-mod pext;
 mod reading;
-mod refusals;
-mod rows;
 mod run;
-mod select;
-#[cfg(test)]
-mod select_tests;
-mod table;
-mod take;
 #[cfg(test)]
 mod tests;
-mod texts;
-mod words;
 mod writing;
 
 use counted::Counted;

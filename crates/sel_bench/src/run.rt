@@ -7,10 +7,10 @@ ghost use Rattle.sel_bench.specs.Step.{Step, lines_in};
 ghost use Rattle.sel_bench.specs.Run.{Runs};
 ghost use Rattle.sel_bench.specs.declared.run.RunError.TheVariants.{OutOfMemory};
 
-use crate::commands::answer_line;
 use crate::counted::Counted;
 use crate::reading::{LineEnd, read_line};
 use crate::writing::{flush, send};
+use sel_lines::commands::answer_line;
 use std::alloc::{AllocError, AllocFailed, Global};
 use std::io::{Read, Write};
 

@@ -6,6 +6,7 @@ ghost use Rattle.sel_arrow.specs.Rows.{rows, type_of};
 ghost use Rattle.sel_c.specs.Chosen.{chosen_rows, first_row};
 ghost use Rattle.sel_c.specs.ChosenPicks.{bit_pick, chosen_picks, place_on, SideFits};
 ghost use Rattle.sel_choices.specs.Choose.{choose, choose_one, choose_or_one};
+ghost use Rattle.sel_choices.specs.Sides.{column};
 ghost use Rattle.sel_runs.specs.Need.{past_taken, IsRefusal};
 
 use sel_arrow::array::Array;
@@ -41,11 +42,47 @@ pub(crate) fn choice(
         (if_true.now.column ∷ if_false.now.column ∷ []) (chosen_rows true_column false_column
         mask.now.bits (rows if_true.now.column) (rows if_false.now.column)))) }
 {
-    let quick = number_choice(alloc, mask, if_true, if_false, true_column, false_column);
-    match quick {
-        Ok(Some(chosen)) => Ok(chosen),
-        Ok(None) => picked_choice(alloc, mask, if_true, if_false, true_column, false_column),
-        Err(fault) => Err(fault),
+    let quick = number_choice(alloc, mask, if_true, if_false, true_column, false_column)?;
+    if let Some(chosen) = quick {
+        return Ok(chosen);
+    }
+    if true_column && false_column {
+        let quick = kernel_choice(alloc, mask, if_true, if_false)?;
+        if let Some(chosen) = quick {
+            return Ok(chosen);
+        }
+    }
+    picked_choice(alloc, mask, if_true, if_false, true_column, false_column)
+}
+
+// The choice between two columns of truth values or of views, by the words of the mask; none where they are of other types.
+fn kernel_choice(
+    alloc: Global,
+    mask: &Bitmap,
+    if_true: &ArrayRef,
+    if_false: &ArrayRef,
+) -> PolarsResult<Option<ArrayRef>>
+    requires true_side { length (rows if_true.now.column) ≡ length mask.now.bits }
+    requires false_side { length (rows if_false.now.column) ≡ length mask.now.bits }
+    ensures rows { IfOk result (λ made. IfSome made (λ chosen. rows chosen.column ≡
+        choose mask.now.bits (rows if_true.now.column) (rows if_false.now.column))) }
+    ensures dtype { IfOk result (λ made. IfSome made (λ chosen.
+        type_of chosen.column ≡ type_of if_true.now.column)) }
+    ensures refusal { IfErr result (IsRefusal (past_taken (type_of if_true.now.column)
+        (if_true.now.column ∷ if_false.now.column ∷ []) (choose mask.now.bits
+        (rows if_true.now.column) (rows if_false.now.column)))) }
+{
+    match (if_true.as_column(), if_false.as_column()) {
+        (Column::Boolean(first), Column::Boolean(second)) => {
+            chosen_columns(alloc, mask, first, second)
+        }
+        (Column::BinaryView(first), Column::BinaryView(second)) => {
+            chosen_columns(alloc, mask, first, second)
+        }
+        (Column::Utf8View(first), Column::Utf8View(second)) => {
+            chosen_columns(alloc, mask, first, second)
+        }
+        _ => Ok(None),
     }
 }
 
@@ -219,21 +256,25 @@ fn chosen_numbers<T: ArrowPrimitive>(
     Ok(None)
 }
 
-// The choice between two columns of numbers. Refuses only for want of memory.
-fn chosen_columns<T: ArrowPrimitive>(
+// The choice between two columns that the words of a mask choose between.
+fn chosen_columns<A: IfThenElseKernel>(
     alloc: Global,
     mask: &Bitmap,
-    if_true: &PrimitiveArray<T>,
-    if_false: &PrimitiveArray<T>,
+    if_true: &A,
+    if_false: &A,
 ) -> PolarsResult<Option<ArrayRef>>
-    requires true_side { length (primitive_rows if_true.now) ≡ length mask.now.bits }
-    requires false_side { length (primitive_rows if_false.now) ≡ length mask.now.bits }
+    requires true_side { length (A.rows if_true.now) ≡ length mask.now.bits }
+    requires false_side { length (A.rows if_false.now) ≡ length mask.now.bits }
+    requires alike { A.shape if_true.now ≡ A.shape if_false.now }
     ensures rows { IfOk result (λ made. IfSome made (λ chosen. rows chosen.column ≡
-        choose mask.now.bits (primitive_rows if_true.now) (primitive_rows if_false.now))) }
-    ensures dtype { IfOk result (λ made. IfSome made (λ chosen. type_of chosen.column ≡ T.shape)) }
-    ensures refusal { IfErr result (IsRefusal (λ _. ⊥)) }
+        choose mask.now.bits (A.rows if_true.now) (A.rows if_false.now))) }
+    ensures dtype { IfOk result (λ made. IfSome made (λ chosen.
+        type_of chosen.column ≡ A.shape if_true.now)) }
+    ensures refusal { IfErr result (IsRefusal
+        (A.past (A.shape if_true.now) (column if_true.now) (column if_false.now)
+        (choose mask.now.bits (A.rows if_true.now) (A.rows if_false.now)))) }
 {
-    match PrimitiveArray::if_then_else(alloc, mask, if_true, if_false) {
+    match A::if_then_else(alloc, mask, if_true, if_false) {
         Ok(chosen) => Ok(Some(chosen.into_ref())),
         Err(fault) => Err(fault),
     }

@@ -23,20 +23,25 @@ pub fn filter_values<T: Copy>(alloc: Global, values: &[T], mask: &Bitmap) -> Pol
     ensures refusal { IfErr result (λ fault. fault ≡ PolarsError.OutOfMemory) }
 {
     let count = mask.set_bits();
-    if count / LONG_RUN >= count_runs(mask) {
+    if has_long_runs(mask, count) {
         return filter_by_runs(alloc, values, mask, count);
     }
     filter_by_blocks(alloc, values, mask, count)
 }
 
-/// How many runs of true bits there are, each cut where words of the mask meet. Only speed rests on it.
-fn count_runs(mask: &Bitmap) -> usize {
+/// Whether runs of true bits, each cut where words of the mask meet, have so many bits on average; there are `count` in all.
+/// Where short runs are many, a part of the mask tells it. Only speed rests on it.
+fn has_long_runs(mask: &Bitmap, count: usize) -> bool {
+    let most = count / LONG_RUN;
     let mut words = AlignedWords::new(mask);
     let mut runs: usize = 0;
     while let Some((word, _)) = words.next() {
         runs = runs.saturating_add((word & !(word << 1)).count_ones() as usize);
+        if runs > most {
+            return false;
+        }
     }
-    runs
+    true
 }
 
 /// The values where the mask is true, each run of them by one copy, with room for `count`.

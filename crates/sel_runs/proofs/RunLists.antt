@@ -1,11 +1,12 @@
 -- Runs, the picks that they stand for, and what these find.
-use Rattle.std.proofs.Common.{◌≡◌, ◌-◌, All, subst, ℕ, ◌<◌, ◌≤◌, ◌+◌, List, [], ◌∷◌, ◌++◌, map, length, replicate, get_or, take, drop, refl, sym, ap, ◌∙◌, arith, append_assoc, length-append, Option, Some, None, suc, zero, zero-add}
+use Rattle.std.proofs.Common.{◌≡◌, ◌-◌, All, subst, ℕ, ◌<◌, ◌≤◌, ◌+◌, List, [], ◌∷◌, ◌++◌, map, length, replicate, get_or, take, drop, refl, sym, ap, ◌∙◌, arith, append_assoc, length-append, slice_set, Option, Some, None, is_none, false, suc, zero, zero-add}
 use Rattle.std.proofs.lemmas.List.{length-map, take-append-le, drop-append-le, take_all, drop_all, take_more, drop_more, take-append-drop, replicate-append-replicate, map-append, length-replicate, append-nil}
 use Rattle.std.proofs.lemmas.List.FromFn.{length-map-range_with_len, get_or-map-range_with_len}
-use Rattle.std.proofs.lemmas.List.Elements.{All-get_or, All-take, All-drop}
+use Rattle.std.proofs.lemmas.List.Elements.{All-append, All-drop, All-get_or, All-head, All-map, All-nil, All-tail, All-take}
 use Rattle.std.specs.List.{range_with_len}
 use Rattle.sel_runs.specs.declared.run.Run.{Run}
 use Rattle.sel_runs.specs.Picks.{found, pick, PickFits}
+use Rattle.sel_runs.specs.Plans.{IsPicked}
 use Rattle.sel_runs.specs.Runs.{expand, unrolled, unrolled_from, picks_of}
 
 -- ---- runs behind one another
@@ -53,16 +54,24 @@ joined_nulls r s e f = rw (e, f) (nulls-append r.len s.len)
 pub joined_rows : (r s : Run) (a b : ℕ) → r.source ≡ Some a → s.source ≡ Some b → a ≡ b → r.start + r.len ≡ s.start → unrolled_from r.source r.start (r.len + s.len) ≡ unrolled r ++ unrolled s
 joined_rows r s a b e f same next = rw (e, f, ← same) (picks_of-append a r.start s.start r.len s.len next)
 
-pub expand_joined : (old rest new : List Run) (last both run : Run) → old ≡ rest ++ last ∷ [] → unrolled both ≡ unrolled last ++ unrolled run →
-    new ≡ rest ++ both ∷ [] → expand new ≡ expand old ++ unrolled run
-expand_joined old rest new last both run e u f =
-    rw (e, f, expand-push rest both, expand-push rest last, u) (sym (append_assoc (expand rest) (unrolled last) (unrolled run)))
+-- the last run with another in its place that goes on
+pub last_joined : (rs : List Run) (i : ℕ) (last both run : Run) → i + 1 ≡ length rs → last ≡ get_or rs i last → unrolled both ≡ unrolled last ++ unrolled run → expand (slice_set rs i both) ≡ expand rs ++ unrolled run
+last_joined [] i last both run end is joined = absurd (omega (arith, end))
+last_joined (r ∷ []) zero last both run end is joined =
+    append-nil (unrolled both) ∙ joined ∙ ap (λ l. unrolled l ++ unrolled run) is ∙ ap (λ l. l ++ unrolled run) (sym (append-nil (unrolled r)))
+last_joined (r ∷ []) (suc i) last both run end is joined = absurd (omega (arith, end))
+last_joined (r ∷ s ∷ rs) zero last both run end is joined = absurd (omega (arith, end))
+last_joined (r ∷ s ∷ rs) (suc i) last both run end is joined =
+    ap (λ l. unrolled r ++ l) (last_joined (s ∷ rs) i last both run (omega (arith, end)) is joined) ∙ sym (append_assoc (unrolled r) (expand (s ∷ rs)) (unrolled run))
 
-pub expand_behind : (old rest one new : List Run) (last run : Run) → old ≡ rest ++ last ∷ [] → one ≡ rest ++ last ∷ [] → new ≡ one ++ run ∷ [] → expand new ≡ expand old ++ unrolled run
-expand_behind old rest one new last run e f g = rw (e, g, f) (expand-push (rest ++ last ∷ []) run)
-
-pub last_len : (old rest : List Run) (last : Run) → old ≡ rest ++ last ∷ [] → last.len ≤ length (expand old)
-last_len old rest last e = rw (e, expand-push rest last, length-append (expand rest) (unrolled last), length-unrolled last) (omega arith)
+pub one_len : (rs : List Run) (i : ℕ) (run : Run) → i < length rs → run ≡ get_or rs i run → run.len ≤ length (expand rs)
+one_len [] i run inside is = absurd (omega (arith, inside))
+one_len (r ∷ rs) zero run inside is =
+    let same = ap (λ (x : Run). x.len) is in
+    omega (arith, same, length-unrolled r, length-append (unrolled r) (expand rs))
+one_len (r ∷ rs) (suc i) run inside is =
+    let rest = one_len rs i run (omega (arith, inside)) is in
+    omega (arith, rest, length-append (unrolled r) (expand rs))
 
 pub ruleset run_rules = (expand-append, expand-one, length-unrolled)
 
@@ -157,3 +166,16 @@ run_there xss r s is other fits =
     let picks : All (PickFits xss) (picks_of s r.start r.len) = subst (λ o. All (PickFits xss) (unrolled_from o r.start r.len)) is fits in
     let some : 0 < r.len = omega (arith, other) in
     (run_source xss s r.start r.len some picks, run_inside xss s r.start r.len some picks)
+
+-- ---- runs that have a source each
+
+picked_run : (o : Option ℕ) (a n : ℕ) → is_none o ≡ false → All IsPicked (unrolled_from o a n)
+picked_run None a n named = absurd cc
+picked_run (Some s) a n named = All-map IsPicked (λ i. Some (s, i)) (range_with_len a n) (λ k d h. tt)
+
+pub named_picked : (rs : List Run) → All (λ r. is_none r.source ≡ false) rs → All IsPicked (expand rs)
+named_picked [] named = All-nil IsPicked
+named_picked (r ∷ rs) named =
+    let here = picked_run r.source r.start r.len (All-head (λ r. is_none r.source ≡ false) r rs named) in
+    let rest = named_picked rs (All-tail (λ r. is_none r.source ≡ false) r rs named) in
+    All-append IsPicked (unrolled r) (expand rs) here rest

@@ -17,14 +17,14 @@ use std::alloc::Global;
 
 /// The values and the validity of a source.
 #[derive(Drop)]
-pub struct Part<'a, T: Copy> {
+pub(crate) struct Part<'a, T: Copy> {
     pub values: &'a [T],
     pub validity: Option<&'a Bitmap>,
     pub ghost covers: { Covers (option_copied validity) (length values.now) },
 }
 
 /// The value that each pick names, and `zero` for none. Refuses only for want of memory.
-pub fn gather_values<P: Plan, T: Copy + Drop>(
+pub(crate) fn gather_values<P: Plan, T: Copy + Drop>(
     alloc: Global,
     plan: &P,
     parts: &[Part<T>],
@@ -71,7 +71,7 @@ fn value_in<T: Copy>(values: &[T], i: usize) -> T
 
 /// The value that each pick names, `zero` for none, and the validity of the rows that picks name; none where each row is valid.
 /// Where some row may be null, each pick is worked out once for both. Refuses only for want of memory.
-pub fn gather_parts<P: Plan, T: Copy + Drop>(
+pub(crate) fn gather_parts<P: Plan, T: Copy + Drop>(
     alloc: Global,
     plan: &P,
     parts: &[Part<T>],
@@ -95,8 +95,8 @@ pub fn gather_parts<P: Plan, T: Copy + Drop>(
     Ok((values, validity))
 }
 
-// Whether some source has a validity.
-fn is_any_hidden<T: Copy>(parts: &[Part<T>]) -> bool
+/// Whether some source has a validity.
+pub(crate) fn is_any_hidden<T: Copy>(parts: &[Part<T>]) -> bool
     ensures { result ≡ false → All (λ s. option_copied s.validity ≡ None) parts.now }
 {
     parts.iter().any(|part| part.validity.is_some())
@@ -181,7 +181,7 @@ fn row_of_pick<T: Copy + Drop>(parts: &[Part<T>], pick: Option<(u32, u32)>, zero
 
 /// The validity of the rows that picks name, of sources with these validities; none where each row is valid. Refuses only for
 /// want of memory.
-pub fn gather_validity<P: Plan>(
+pub(crate) fn gather_validity<P: Plan>(
     alloc: Global,
     plan: &P,
     maps: &[Option<&Bitmap>],
@@ -201,8 +201,8 @@ pub fn gather_validity<P: Plan>(
     Ok(validity)
 }
 
-// Whether some bitmap is there.
-fn is_any_there(maps: &[Option<&Bitmap>]) -> bool
+/// Whether some bitmap is there.
+pub(crate) fn is_any_there(maps: &[Option<&Bitmap>]) -> bool
     ensures { result ≡ false → All (λ map. option_copied map ≡ None) maps.now }
 {
     maps.iter().any(|map| map.is_some())

@@ -1,10 +1,11 @@
 //! Columns with children over children that are collected already.
 
-ghost use Rattle.std.specs.Prelude.{◌≡◌, ◌≤◌, All, length, map, IfOk, IfErr};
+ghost use Rattle.std.specs.Prelude.{◌≡◌, ◌≤◌, ◌∷◌, All, pos, length, map, IfOk, IfErr};
 ghost use Rattle.sel_arrow.specs.Rows.{rows, type_of, IsField, IsWellFormed};
 ghost use Rattle.sel_arrow.specs.Shape.{of_large_list, of_fixed_size_list, of_struct, shapes_of};
 ghost use Rattle.sel_arrow.specs.Value.{Null};
 ghost use Rattle.sel_runs.specs.Children.{joined_items, parts_of};
+ghost use Rattle.sel_runs.specs.Ends.{item_ends};
 ghost use Rattle.sel_runs.specs.Picks.{pick, PickFits};
 ghost use Rattle.sel_runs.specs.Runs.{expand};
 ghost use Rattle.sel_runs.specs.Sources.{picked, rows_of};
@@ -38,8 +39,33 @@ pub fn lists_over(
     ensures formed { IfOk result (λ column. IsWellFormed column) }
     ensures refusal { IfErr result (λ fault. fault ≡ PolarsError.OutOfMemory) }
 {
-    let values = Box::new(alloc, values)?;
     let ends = ends_of(alloc, sources, runs, len)?;
+    lists_with(alloc, values, ends, sources, runs, len)
+}
+
+/// The same, where it is known where they end.
+pub(crate) fn lists_with(
+    alloc: Global,
+    values: Column,
+    ends: Vec<i64>,
+    sources: &[&Column],
+    runs: &[Run],
+    len: usize,
+) -> PolarsResult<Column>
+    requires lists { All (λ c. type_of c.now ≡ of_large_list (type_of values)) sources.now }
+    requires formed { All (λ c. IsWellFormed c.now) sources.now }
+    requires fits { All (PickFits (rows_of sources.now)) (expand runs.now) }
+    requires len { length (expand runs.now) ≡ len }
+    requires few { len ≤ 4294967295 }
+    requires ends { ends.items ≡ map pos (0 ∷ item_ends 0 (picked sources.now runs.now)) }
+    requires below { rows values ≡ joined_items 0 (picked sources.now runs.now) }
+    requires child { IsWellFormed values }
+    ensures rows { IfOk result (λ column. rows column ≡ picked sources.now runs.now) }
+    ensures dtype { IfOk result (λ column. type_of column ≡ of_large_list (type_of values)) }
+    ensures formed { IfOk result (λ column. IsWellFormed column) }
+    ensures refusal { IfErr result (λ fault. fault ≡ PolarsError.OutOfMemory) }
+{
+    let values = Box::new(alloc, values)?;
     let offsets = OffsetsBuffer::of_rising(ends)?;
     let validity = collect_validity(alloc, sources, runs, len)?;
     Ok(Column::LargeList {

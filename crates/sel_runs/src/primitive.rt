@@ -11,8 +11,9 @@ ghost use Rattle.sel_runs.specs.Validity.{part_bits};
 ghost use Rattle.sel_runs.specs.Sources.{picked, rows_of};
 
 use crate::bits::{push_validity, validity_from};
+use crate::copied::{copy_runs, is_any_null};
 use crate::fill::push_values;
-use crate::gather::{Part, gather_parts};
+use crate::gather::{Part, gather_parts, is_any_hidden};
 use crate::growable::{Growable, extend_runs};
 use crate::plan::Plan;
 use crate::run::Run;
@@ -126,8 +127,14 @@ pub fn collect_primitive<'a, T: ArrowPrimitive + Drop>(
     ensures refusal { IfErr result (λ fault. fault ≡ PolarsError.OutOfMemory) }
 {
     let found = numbers_of::<T>(alloc, sources)?;
+    let parts = found.as_slice();
+    if !is_any_hidden(parts) && !is_any_null(runs) {
+        let copied = copy_runs(alloc, parts, runs, T::LEAST, len)?;
+        let copied = Buffer::from_vec(copied)?;
+        return Ok(T::into_column(copied, None));
+    }
     let empty = GrowablePrimitive {
-        sources: &found,
+        sources: parts,
         values: Vec::with_capacity(alloc, len)?,
         validity: BitPacker::with_capacity(alloc, len)?,
     };

@@ -25,16 +25,14 @@ pub fn push_run(runs: &mut Vec<Run>, run: Run) -> PolarsResult<()>
     if run.len == 0 {
         return Ok(());
     }
-    match runs.pop() {
-        None => runs.push(run)?,
-        Some(last) => match joined(last, run) {
-            Some(both) => runs.push(both)?,
-            None => {
-                runs.push(last)?;
-                runs.push(run)?;
-            }
-        },
+    let count = runs.len();
+    if count > 0 {
+        if let Some(both) = joined(runs[count - 1], run) {
+            runs[count - 1] = both;
+            return Ok(());
+        }
     }
+    runs.push(run)?;
     Ok(())
 }
 

@@ -1,17 +1,21 @@
 //! Which rows are valid that runs pick.
 
 ghost use Rattle.std.specs.Prelude.{◌≡◌, ◌≢◌, ◌++◌, All, length, map, IfOk, IfErr, OnOk};
+ghost use Rattle.std.specs.Option.{option_copied};
 ghost use Rattle.sel_arrow.specs.Masked.{Covers};
 ghost use Rattle.sel_arrow.specs.Rows.{rows, type_of, IsWellFormed};
 ghost use Rattle.sel_arrow.specs.Shape.{of_null};
 ghost use Rattle.sel_arrow.specs.Value.{Null, validities};
 ghost use Rattle.sel_runs.specs.Picks.{pick, PickFits};
+ghost use Rattle.sel_runs.specs.Plans.{TellNulls};
 ghost use Rattle.sel_runs.specs.Runs.{expand, unrolled};
 ghost use Rattle.sel_runs.specs.Validity.{bits_for};
-ghost use Rattle.sel_runs.specs.Sources.{picked, rows_of};
+ghost use Rattle.sel_runs.specs.Sources.{columns_of, picked, rows_of};
 ghost use Rattle.sel_runs.specs.RunRows.{run_rows};
 
 use crate::bits::{push_validity, validity_from};
+use crate::copied::is_any_null;
+use crate::gather::is_any_there;
 use crate::run::Run;
 use sel_arrow::column::Column;
 use sel_bits::bitmap::Bitmap;
@@ -36,12 +40,35 @@ pub fn collect_validity(
     ensures covers { IfOk result (λ validity. Covers validity len) }
     ensures refusal { IfErr result (λ fault. fault ≡ PolarsError.OutOfMemory) }
 {
+    let maps = validities_of(alloc, sources)?;
+    let maps = maps.as_slice();
+    if !is_any_null(runs) && !is_any_there(maps) {
+        return Ok(None);
+    }
     let mut bits = BitPacker::with_capacity(alloc, len)?;
     for run in runs {
         push_valid_rows(&mut bits, sources, *run)?;
     }
     let validity = validity_from(bits, len)?;
     Ok(validity)
+}
+
+/// The validity of each source. Refuses only for want of memory.
+pub(crate) fn validities_of<'a>(
+    alloc: Global,
+    sources: &[&'a Column],
+) -> PolarsResult<Vec<Option<&'a Bitmap>>>
+    requires formed { All (λ c. IsWellFormed c.now) sources.now }
+    ensures told { IfOk result (λ maps.
+        TellNulls (map option_copied maps.items) (columns_of sources.now)) }
+    ensures refusal { IfErr result (λ fault. fault ≡ PolarsError.OutOfMemory) }
+{
+    let mut maps = Vec::with_capacity(alloc, sources.len())?;
+    for source in sources {
+        let column: &'a Column = *source;
+        maps.push(column.validity())?;
+    }
+    Ok(maps)
 }
 
 // Puts one bit for each row of a run behind the others. Refuses only for want of memory.

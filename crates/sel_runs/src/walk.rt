@@ -1,7 +1,6 @@
 //! Lists that a plan picks, gone over once: no run is listed for the rows themselves.
 
 ghost use Rattle.std.specs.Prelude.{◌≡◌, ◌≢◌, ◌≤◌, ◌<◌, ◌+◌, ◌++◌, ◌∷◌, true, pos, All, length, map, IfOk, IfErr, OnOk};
-ghost use Rattle.std.specs.Option.{option_copied};
 ghost use Rattle.sel_arrow.specs.Rows.{rows, type_of, IsWellFormed};
 ghost use Rattle.sel_arrow.specs.Shape.{of_large_list, of_null};
 ghost use Rattle.sel_arrow.specs.Value.{Null};
@@ -9,18 +8,18 @@ ghost use Rattle.sel_runs.specs.Children.{is_listing, joined_items};
 ghost use Rattle.sel_runs.specs.Ends.{item_ends};
 ghost use Rattle.sel_runs.specs.Need.{IsPastRows, IsRefusal, PassesNone, past_taken};
 ghost use Rattle.sel_runs.specs.Picks.{pick, PickFits};
-ghost use Rattle.sel_runs.specs.Plans.{TellNulls};
 ghost use Rattle.sel_runs.specs.Runs.{expand, unrolled};
-ghost use Rattle.sel_runs.specs.Sources.{child_rows, columns_of, rows_of};
+ghost use Rattle.sel_runs.specs.Sources.{child_rows, columns_of, picked, rows_of};
 ghost use Rattle.sel_runs.specs.RunRows.{run_rows};
 
 use crate::collect::collect_runs;
 use crate::gather::gather_validity;
 use crate::lists::{children_of, run_of_row};
+use crate::nested::lists_with;
 use crate::plan::Plan;
 use crate::run::{Run, push_run};
+use crate::validity::validities_of;
 use sel_arrow::column::Column;
-use sel_bits::bitmap::Bitmap;
 use sel_bits::faults::{Limit, PolarsError, PolarsResult};
 use sel_bits::offsets::OffsetsBuffer;
 use std::alloc::Global;
@@ -90,21 +89,6 @@ fn lists_of_plan<P: Plan>(
     })
 }
 
-// The validity of each source. Refuses only for want of memory.
-fn validities_of<'a>(alloc: Global, sources: &[&'a Column]) -> PolarsResult<Vec<Option<&'a Bitmap>>>
-    requires formed { All (λ c. IsWellFormed c.now) sources.now }
-    ensures told { IfOk result (λ maps.
-        TellNulls (map option_copied maps.items) (columns_of sources.now)) }
-    ensures refusal { IfErr result (λ fault. fault ≡ PolarsError.OutOfMemory) }
-{
-    let mut maps = Vec::with_capacity(alloc, sources.len())?;
-    for source in sources {
-        let column: &'a Column = *source;
-        maps.push(column.validity())?;
-    }
-    Ok(maps)
-}
-
 // A 0 and where each list ends that a plan picks, the runs of the children's rows that they hold, and how many these are.
 // Refuses for want of memory, and where they are more rows than a column may have.
 fn walk_lists<P: Plan>(
@@ -137,6 +121,70 @@ fn walk_lists<P: Plan>(
         let run = rest.next_run();
         end = push_lists(&mut ends, &mut below, sources, run, end)?;
         at += run.len as usize;
+    }
+    Ok((ends, below, end as usize))
+}
+
+/// The lists that runs pick of columns of lists, whose child is of the type of `child`: gone over once, where `collect_runs` goes
+/// over them for each of their parts. Refuses for want of memory, and where their items pass a limit.
+pub fn collect_list_runs<'a>(
+    alloc: Global,
+    child: &Column,
+    sources: &'a [&'a Column],
+    runs: &[Run],
+    len: usize,
+) -> PolarsResult<Column>
+    requires some { 0 < length sources.now }
+    requires alike { All (λ c. type_of c.now ≡ of_large_list (type_of child.now)) sources.now }
+    requires formed { All (λ c. IsWellFormed c.now) sources.now }
+    requires fits { All (PickFits (rows_of sources.now)) (expand runs.now) }
+    requires len { length (expand runs.now) ≡ len }
+    requires few { len ≤ 4294967295 }
+    ensures rows { IfOk result (λ column. rows column ≡ picked sources.now runs.now) }
+    ensures dtype { IfOk result (λ column. type_of column ≡ of_large_list (type_of child.now)) }
+    ensures formed { IfOk result (λ column. IsWellFormed column) }
+    ensures within { IfOk result (λ _. PassesNone (past_taken (of_large_list (type_of child.now))
+        (columns_of sources.now) (picked sources.now runs.now))) }
+    ensures refusal { IfErr result (IsRefusal (past_taken (of_large_list (type_of child.now))
+        (columns_of sources.now) (picked sources.now runs.now))) }
+{
+    let _ = child;
+    let (ends, below, need) = walk_runs(alloc, sources, runs, len)?;
+    let children = children_of(alloc, sources)?;
+    let values = collect_runs(alloc, &children, &below, need)?;
+    let column = lists_with(alloc, values, ends, sources, runs, len)?;
+    Ok(column)
+}
+
+// A 0 and where each list ends that runs pick, `len` lists in all, the runs of the children's rows that they hold, and how many these
+// are. Refuses for want of memory, and where they are more rows than a column may have.
+fn walk_runs(
+    alloc: Global,
+    sources: &[&Column],
+    runs: &[Run],
+    len: usize,
+) -> PolarsResult<(Vec<i64>, Vec<Run>, usize)>
+    requires lists { All (λ c. is_listing (type_of c.now) ≡ true) sources.now }
+    requires formed { All (λ c. IsWellFormed c.now) sources.now }
+    requires fits { All (PickFits (rows_of sources.now)) (expand runs.now) }
+    requires few { len ≤ 4294967295 }
+    ensures ends { IfOk result (λ walk. walk.0.items ≡
+        map pos (0 ∷ item_ends 0 (picked sources.now runs.now))) }
+    ensures items { IfOk result (λ walk. pick Null (child_rows sources.now) (expand walk.1.items) ≡
+        joined_items 0 (picked sources.now runs.now)) }
+    ensures fits { IfOk result (λ walk. All
+        (PickFits (child_rows sources.now)) (expand walk.1.items)) }
+    ensures count { IfOk result (λ walk. length (expand walk.1.items) ≡ walk.2) }
+    ensures few { IfOk result (λ walk. walk.2 ≤ 4294967295) }
+    ensures refusal { IfErr result (IsRefusal (IsPastRows
+        (length (joined_items 0 (picked sources.now runs.now))))) }
+{
+    let mut ends = Vec::with_capacity(alloc, len + 1)?;
+    ends.push(0)?;
+    let mut below = Vec::with_capacity(alloc, runs.len())?;
+    let mut end = 0;
+    for run in runs {
+        end = push_lists(&mut ends, &mut below, sources, *run, end)?;
     }
     Ok((ends, below, end as usize))
 }

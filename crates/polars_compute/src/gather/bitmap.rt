@@ -1,6 +1,7 @@
 //! Bits at indices.
 
-ghost use Rattle.std.specs.Prelude.{◌≡◌, IsTrue, length, pos, [], ◌∷◌, map, false, slice_index_or, IfOk, IfErr};
+ghost use Rattle.std.specs.Prelude.{◌≡◌, ◌≤◌, IsTrue, length, pos, [], ◌∷◌, map, false, slice_index_or, IfOk, IfErr};
+ghost use Rattle.sel_bits.specs.Words.{word_of};
 ghost use Rattle.sel_arrow.specs.Columns.{primitive_rows};
 ghost use Rattle.sel_arrow.specs.Masked.{number_value};
 ghost use Rattle.polars_compute.specs.Pick.{all_within, all_below, is_within, pick, found, pick_of, place_pick};
@@ -9,7 +10,7 @@ use sel_arrow::array::Array;
 use sel_arrow::primitive::IdxArr;
 use sel_bits::bitmap::Bitmap;
 use sel_bits::faults::{PolarsError, PolarsResult};
-use sel_bits::packer::BitPacker;
+use sel_bits::packer::{BitPacker, MOST_BITS};
 use std::alloc::Global;
 
 /// Bit k is the bit at index k. Refuses only for want of memory.
@@ -24,10 +25,27 @@ pub fn take_bitmap_unchecked(
     ensures refusal { IfErr result (λ fault. fault ≡ PolarsError.OutOfMemory) }
 {
     let mut taken = BitPacker::with_capacity(alloc, indices.len())?;
-    for k in 0..indices.len() {
-        taken.push(values.get_bit(indices[k] as usize))?;
+    let mut rest = indices;
+    while !rest.is_empty() {
+        let (places, others) = rest.split_at(rest.len().min(MOST_BITS));
+        taken.append(word_of_places(values, places), places.len() as u32)?;
+        rest = others;
     }
     taken.into_bitmap(indices.len())
+}
+
+/// The word of the bits at these places.
+#[inline]
+fn word_of_places(values: &Bitmap, places: &[u32]) -> u64
+    requires few { length places.now ≤ 56 }
+    requires inside { IsTrue (all_below (length values.now.bits) places.now) }
+    ensures { result ≡ word_of (pick false (values.now.bits ∷ []) (map place_pick places.now)) }
+{
+    let mut word = 0;
+    for k in 0..places.len() {
+        word += u64::from(values.get_bit(places[k] as usize)) << k;
+    }
+    word
 }
 
 /// Bit k is the bit at index k; a null index gives the bit at 0, or false where there are no bits.
@@ -42,6 +60,9 @@ pub fn take_bitmap_nulls_unchecked(
         (values.now.bits ∷ []) (map pick_of (primitive_rows indices.now))) }
     ensures refusal { IfErr result (λ fault. fault ≡ PolarsError.OutOfMemory) }
 {
+    if indices.validity.is_none() {
+        return take_bitmap_unchecked(alloc, values, indices.values.as_slice());
+    }
     let count = indices.len();
     let filler = first_bit(values);
     let mut taken = BitPacker::with_capacity(alloc, count)?;

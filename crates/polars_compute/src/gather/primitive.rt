@@ -48,7 +48,7 @@ pub(crate) fn take_values<T: Copy>(
     }
     let mut taken = Vec::with_capacity(alloc, indices.len())?;
     for k in 0..indices.len() {
-        taken.push(value_at(values, indices.get(k), filler))?;
+        taken.push_reserved(value_at(values, indices.get(k), filler));
     }
     Ok(taken)
 }

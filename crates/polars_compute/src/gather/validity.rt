@@ -1,23 +1,24 @@
 //! The validity of rows at indices.
 
-ghost use Rattle.std.specs.Prelude.{◌≡◌, IsTrue, length, pos, map, IfOk, IfErr};
+ghost use Rattle.std.specs.Prelude.{◌≡◌, IsTrue, length, map, IfOk, IfErr};
 ghost use Rattle.std.specs.Option.{ForSome};
 ghost use Rattle.sel_arrow.specs.Columns.{primitive_rows};
-ghost use Rattle.sel_arrow.specs.Masked.{number_value};
 ghost use Rattle.sel_runs.specs.Validity.{bits_for};
-ghost use Rattle.polars_compute.specs.Pick.{all_within, is_within, pick_of};
+ghost use Rattle.polars_compute.specs.Pick.{all_within, pick_of};
 ghost use Rattle.polars_compute.specs.ValidPicks.{valid_pick};
 
+use crate::gather::bitmap::take_bitmap_unchecked;
+use crate::runs::Taken;
 use sel_arrow::array::Array;
 use sel_arrow::primitive::IdxArr;
-use sel_arrow::validity::is_valid_at;
 use sel_bits::bitmap::Bitmap;
 use sel_bits::faults::{PolarsError, PolarsResult};
-use sel_bits::packer::BitPacker;
+use sel_runs::gather::gather_bits;
+use sel_runs::plan::Walk;
 use std::alloc::Global;
 
 /// The validity of the rows at the indices: of each index whether it is not null and its row is valid. There is none where
-/// neither the rows nor the indices have one. Refuses only for want of memory.
+/// neither the rows nor the indices have one, and rows without one have that of the indices. Refuses only for want of memory.
 pub(crate) fn take_validity(
     alloc: Global,
     validity: &Option<Bitmap>,
@@ -30,9 +31,10 @@ pub(crate) fn take_validity(
     ensures refusal { IfErr result (λ fault. fault ≡ PolarsError.OutOfMemory) }
 {
     if validity.is_none() {
-        if indices.validity.is_none() {
-            return Ok(None);
-        }
+        return match &indices.validity {
+            None => Ok(None),
+            Some(named) => Ok(Some(named.try_clone()?)),
+        };
     }
     let taken = take_bits(alloc, validity, indices)?;
     Ok(Some(taken))
@@ -50,22 +52,15 @@ pub(crate) fn take_bits(
         map (valid_pick validity.now) (map pick_of (primitive_rows indices.now))) }
     ensures refusal { IfErr result (λ fault. fault ≡ PolarsError.OutOfMemory) }
 {
+    if let Some(bits) = validity {
+        if indices.validity.is_none() {
+            return take_bitmap_unchecked(alloc, bits, indices.values.as_slice());
+        }
+    }
     let count = indices.len();
-    let mut taken = BitPacker::with_capacity(alloc, count)?;
-    for k in 0..count {
-        taken.push(is_valid_pick(validity, indices.get(k)))?;
-    }
-    taken.into_bitmap(count)
-}
-
-/// Whether an index is not null and its row is valid.
-fn is_valid_pick(validity: &Option<Bitmap>, index: Option<u32>) -> bool
-    requires { ForSome validity.now
-        (λ v. IsTrue (is_within (length v.bits) (number_value pos index))) }
-    ensures { result ≡ valid_pick validity.now (pick_of (number_value pos index)) }
-{
-    match index {
-        None => false,
-        Some(place) => is_valid_at(validity, place as usize),
-    }
+    let places = Taken { indices };
+    let plan = Walk { places, at: 0 };
+    let maps = [validity.as_ref()];
+    let bits = gather_bits(alloc, &plan, &maps)?;
+    bits.into_bitmap(count)
 }

@@ -1,7 +1,10 @@
-use Rattle.std.proofs.Common.{◌∷◌, []}
+use Rattle.std.proofs.Common.{◌∙◌, ◌∷◌, [], ap, sym, subst}
 use Rattle.std.proofs.lemmas.Result.{err_from_is_err_and}
 use Rattle.sel_arrow.specs.Rows.{rows, type_of}
+use Rattle.sel_arrow.specs.Shape.{of_large_list}
 use Rattle.sel_arrow.specs.Value.{Null}
+use Rattle.sel_arrow.specs.declared.column.Column.{Column}
+use Rattle.sel_runs.specs.Need.{past_taken}
 use Rattle.sel_runs.specs.Picks.{pick}
 use Rattle.sel_runs.specs.Runs.{expand}
 use Rattle.sel_runs.proofs.Below.{refused_more}
@@ -11,7 +14,7 @@ use Rattle.sel_runs.proofs.single.collect_one.Goals as goal
 
 pub returns-in_err-column-clause-refusal : goal.returns-in_err-column-clause-refusal
 returns-in_err-column-clause-refusal c =
-    let p = err_from_is_err_and c.from_residual.result c.from_residual.ensures.1 in
+    let p = err_from_is_err_and c.from_residual-in_err-column.result c.from_residual-in_err-column.ensures.1 in
     let column = c.args.column.now in
     let vs = pick Null (rows column ∷ []) (expand c.args.runs.now) in
     rw (p.1, p.2) (refused_more _ _ c.in_err-column.field-0.0 (λ limit h. one_source column c.requires.formed vs limit h) c.in_err-column.ensures.refusal)
@@ -21,3 +24,19 @@ returns-clause-within c =
     let column = c.args.column.now in
     let vs = pick Null (rows column ∷ []) (expand c.args.runs.now) in
     rows_pass c.in_ok-column.column (type_of column) vs c.in_ok-column.ensures.formed c.in_ok-column.ensures.dtype c.in_ok-column.ensures.rows
+
+pub returns-in_err-lists-clause-refusal : goal.returns-in_err-lists-clause-refusal
+returns-in_err-lists-clause-refusal c =
+    let p = err_from_is_err_and c.from_residual.result c.from_residual.ensures.1 in
+    let column = c.args.column.now in
+    let typed = ap type_of c.in-LargeList.is ∙ ap (λ (x : Column). of_large_list (type_of x)) (sym c.deref.ensures) in
+    let vs = pick Null (rows column ∷ []) (expand c.args.runs.now) in
+    rw (p.1, p.2) (refused_more _ _ c.in_err-lists.field-0.0
+    (λ limit h. one_source column c.requires.formed vs limit (subst (λ t. past_taken t (column ∷ []) vs limit) (sym typed) h)) c.in_err-lists.ensures.refusal)
+
+pub returns-in-LargeList-clause-within : goal.returns-in-LargeList-clause-within
+returns-in-LargeList-clause-within c =
+    let column = c.args.column.now in
+    let typed = ap type_of c.in-LargeList.is ∙ ap (λ (x : Column). of_large_list (type_of x)) (sym c.deref.ensures) in
+    let vs = pick Null (rows column ∷ []) (expand c.args.runs.now) in
+    rows_pass c.in_ok-lists.lists (type_of column) vs c.in_ok-lists.ensures.formed (c.in_ok-lists.ensures.dtype ∙ sym typed) c.in_ok-lists.ensures.rows

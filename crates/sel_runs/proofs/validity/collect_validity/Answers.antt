@@ -1,10 +1,15 @@
-use Rattle.std.proofs.Common.{◌∙◌, ◌++◌, ap, sym, length, take}
+use Rattle.std.proofs.Common.{◌∙◌, ◌++◌, ap, sym, subst, length, map, replicate, take, true}
+use Rattle.std.specs.Option.{option_copied}
 use Rattle.std.proofs.lemmas.List.{length-map, map-append}
 use Rattle.sel_arrow.specs.Value.{Null, is_valid, validities}
 use Rattle.sel_runs.specs.Picks.{pick, PickFits}
+use Rattle.sel_runs.specs.Plans.{TellNulls}
 use Rattle.sel_runs.specs.Runs.{expand, unrolled}
+use Rattle.sel_runs.specs.Sources.{columns_of}
+use Rattle.sel_runs.proofs.Gathers.{all_none, all_there}
 use Rattle.sel_runs.proofs.ItemRuns.{rows_of, all_runs}
-use Rattle.sel_runs.proofs.RunLists.{all_at, pick_more, length-pick, run_at}
+use Rattle.sel_runs.proofs.RunLists.{all_at, pick_more, length-pick, named_picked, run_at}
+use Rattle.sel_runs.proofs.Walks.{told_picked}
 use Rattle.sel_runs.proofs.validity.collect_validity.Goals as goal
 
 pub loop-run-init : goal.loop-run-init
@@ -32,3 +37,14 @@ validity_from-requires c =
 pub returns-clause-bits : goal.returns-clause-bits
 returns-clause-bits c =
     c.in_ok-validity.ensures.bits ∙ c.loop-run.invariant ∙ all_runs (λ ps. validities (pick Null (rows_of c.args.sources.now) ps)) c.args.runs.now c.loop-run.run-index c.loop-run-test.false
+
+pub returns-then-not-is_any_there-clause-bits : goal.returns-then-not-is_any_there-clause-bits
+returns-then-not-is_any_there-clause-bits c =
+    let cs = c.args.sources.now in
+    let ps = expand c.args.runs.now in
+    let maps = map option_copied c.as_slice-maps.result.now in
+    let found = ap (map option_copied) c.as_slice-maps.ensures.value in
+    let told = subst (λ vs. TellNulls vs (columns_of cs)) (sym found) c.in_ok-maps.ensures.told in
+    let none = all_none option_copied c.as_slice-maps.result.now (c.is_any_there.ensures c.if-not-is_any_there.true) in
+    let picked = named_picked c.args.runs.now (c.is_any_null.ensures c.if-not-is_any_null.true) in
+    ap (λ n. replicate n true) (sym c.requires.len) ∙ all_there maps ps none picked ∙ told_picked maps cs ps told c.requires.known c.requires.fits

@@ -1,0 +1,86 @@
+-- Bits at places, a word at a time.
+use Rattle.std.proofs.Common.{◌≡◌, ◌≤◌, ◌<◌, ◌+◌, ◌*◌, ◌%◌, ◌^◌, ◌∙◌, ℕ, zero, suc, pos, Bool, true, false, List, [], ◌∷◌, ◌++◌, length, map, take, drop, get_or, Some, refl, ap, sym, append-nil, arith}
+use Rattle.std.specs.Prelude.{◌==◌}
+use Rattle.std.specs.Int.{from_bool}
+use Rattle.std.proofs.lemmas.Bool.{eqb-true, ltb-true}
+use Rattle.std.proofs.lemmas.List.{drop-map, get_or_default, length-map, take-append-drop, take-map}
+use Rattle.std.proofs.lemmas.List.Folds.{list_all-append, list_all-map}
+use Rattle.sel_bits.specs.Bits.{Bits}
+use Rattle.sel_bits.specs.Words.{bits, word_of}
+use Rattle.sel_bits.proofs.Packed.{bits_word_of, block_packed, word_of-few, word_of-next}
+use Rattle.sel_bits.proofs.Padded.{word_of_lt}
+use Rattle.sel_arrow.specs.Value.{Number}
+use Rattle.polars_compute.specs.Pick.{all_below, all_within, found, is_within, pick, pick_of, place_pick}
+use Rattle.polars_compute.specs.ValidPicks.{valid_pick}
+use Rattle.polars_compute.proofs.Takes.{both}
+
+-- the bits at places
+abbrev pub bits_at : List Bool → List ℕ → List Bool
+bits_at bs places = pick false (bs ∷ []) (map place_pick places)
+
+pub length-bits_at : (bs : List Bool) (places : List ℕ) → length (bits_at bs places) ≡ length places
+length-bits_at bs places = length-map (map place_pick places) (found false (bs ∷ [])) ∙ length-map places place_pick
+
+at_place : (bs : List Bool) (places : List ℕ) (k : ℕ) → k < length places → get_or (bits_at bs places) k false ≡ get_or bs (get_or places k 0) false
+at_place bs [] k h = absurd (omega (arith, h))
+at_place bs (place ∷ places) zero h = refl
+at_place bs (place ∷ places) (suc k) h = at_place bs places k (omega (arith, h))
+
+-- a bit more of a word
+pub word_at_next : (bs : List Bool) (places : List ℕ) (k word bit : ℕ) → k < length places → length places ≤ 56 → word ≡ word_of (take k (bits_at bs places)) → bit ≡ from_bool (get_or bs (get_or places k 0) false)
+    → word + bit * 2 ^ k % 2 ^ 64 ≡ word_of (take (k + 1) (bits_at bs places))
+word_at_next bs places k word bit inside short is bit-is =
+    let long = length-bits_at bs places in
+    word_of-next (bits_at bs places) k word bit (omega (arith, long, inside)) (omega (arith, long, short)) is (bit-is ∙ ap from_bool (sym (at_place bs places k inside)))
+
+pub word_at_few : (bs : List Bool) (places : List ℕ) (k : ℕ) → k ≤ length places → length places ≤ 56 → word_of (take k (bits_at bs places)) < 2 ^ 56
+word_at_few bs places k inside short =
+    let long = length-bits_at bs places in
+    word_of-few (bits_at bs places) k (omega (arith, long, inside)) (omega (arith, long, short))
+
+pub word_at_lt : (bs : List Bool) (places : List ℕ) (word : ℕ) → word ≡ word_of (bits_at bs places) → word < 2 ^ length places
+word_at_lt bs places word is = rw (is, sym (length-bits_at bs places)) (word_of_lt (bits_at bs places))
+
+-- the bits of the first places, and then those of the others
+pub word_packed : (bs : List Bool) (packed : List Bool) (rest all : List ℕ) (n word : ℕ) → packed ++ bits_at bs rest ≡ bits_at bs all → word ≡ word_of (bits_at bs (take n rest))
+    → (packed ++ bits (length (take n rest)) word) ++ bits_at bs (drop n rest) ≡ bits_at bs all
+word_packed bs packed rest all n word before is =
+    let front = take n rest in
+    let block : bits (length front) word ≡ bits_at bs front =
+    ap (bits (length front)) is ∙ ap (λ m. bits m (word_of (bits_at bs front))) (sym (length-bits_at bs front)) ∙ bits_word_of (bits_at bs front) in
+    let first : bits_at bs front ≡ take n (bits_at bs rest) =
+    ap (pick false (bs ∷ [])) (sym (take-map place_pick n rest)) ∙ sym (take-map (found false (bs ∷ [])) n (map place_pick rest)) in
+    let others : drop n (bits_at bs rest) ≡ bits_at bs (drop n rest) =
+    drop-map (found false (bs ∷ [])) n (map place_pick rest) ∙ ap (pick false (bs ∷ [])) (drop-map place_pick n rest) in
+    ap (λ l. (packed ++ bits (length front) word) ++ l) (sym others)
+    ∙ block_packed packed (bits (length front) word) (bits_at bs rest) (bits_at bs all) n before (block ∙ first)
+
+-- those at no places are none more
+pub all_packed : (bs packed : List Bool) (rest all : List ℕ) → true ≡ (length rest == 0) → packed ++ bits_at bs rest ≡ bits_at bs all → packed ≡ bits_at bs all
+all_packed bs packed [] all none is = sym (append-nil packed) ∙ is
+all_packed bs packed (place ∷ rest) all none is = absurd (omega (arith, eqb-true (length (place ∷ rest)) 0 (sym none)))
+
+-- places below a number stay so in both parts
+pub below_parts : (n m : ℕ) (places : List ℕ) → all_below n places ≡ true → (all_below n (take m places) ≡ true) × (all_below n (drop m places) ≡ true)
+below_parts n m places below =
+    let parts = sym (list_all-append _ (take m places) (drop m places)) ∙ ap (all_below n) (take-append-drop m places) ∙ below in
+    both (all_below n (take m places)) (all_below n (drop m places)) parts
+
+-- ---- indices without nulls
+
+pub below_within : (n : ℕ) (places : List ℕ) → all_within n (map (λ x. Number (pos x)) places) ≡ true → all_below n places ≡ true
+below_within n places within = sym (list_all-map (is_within n) (λ x. Number (pos x)) places) ∙ within
+
+-- whatever stands for a null
+pub named_at : (bs : List Bool) (filler : Bool) (places : List ℕ) → all_below (length bs) places ≡ true
+    → bits_at bs places ≡ pick filler (bs ∷ []) (map pick_of (map (λ x. Number (pos x)) places))
+named_at bs filler [] below = refl
+named_at bs filler (place ∷ places) below =
+    let parts = both _ (all_below (length bs) places) below in
+    let here = get_or_default bs place false filler (ltb-true place (length bs) parts.0) in
+    (λ i. here i ∷ named_at bs filler places parts.1 i)
+
+-- whether the rows are valid
+pub placed_valid : (v : Bits) (places : List ℕ) → bits_at v.bits places ≡ map (valid_pick (Some v)) (map pick_of (map (λ x. Number (pos x)) places))
+placed_valid v [] = refl
+placed_valid v (place ∷ places) = ap (λ l. get_or v.bits place false ∷ l) (placed_valid v places)

@@ -1,8 +1,0 @@
-use Rattle.std.proofs.Common.{◌≡◌, Some, map, take}
-use Rattle.sel_bench.specs.Columns.{all_some}
-use Rattle.sel_bench.specs.Flatten.{part_of}
-use Rattle.sel_bench.specs.Parts.{read_part}
-use Rattle.sel_bench.proofs.flatten.parse_parts.Given as goal
-
-abbrev pub invariant-loop-word : goal.invariant-loop-word
-invariant-loop-word l = all_some (map (λ word. part_of word.now) (take l.word-index l.words)) ≡ Some (map read_part l.parts.items)

@@ -1,8 +1,0 @@
-use Rattle.std.proofs.Common.{◌≡◌, Some, map, take}
-use Rattle.sel_bench.specs.Columns.{all_some, row_of}
-use Rattle.sel_bench.specs.Texts.{text_of}
-use Rattle.sel_bench.specs.Parts.{text_row}
-use Rattle.sel_bench.proofs.texts.parse_words.Given as goal
-
-abbrev pub invariant-loop-word : goal.invariant-loop-word
-invariant-loop-word l = all_some (map (λ word. row_of text_of word.now) (take l.word-index l.words)) ≡ Some (map text_row l.rows.items)

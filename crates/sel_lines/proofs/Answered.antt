@@ -1,0 +1,37 @@
+-- The answer to a line, by the tests that the code makes.
+use Rattle.std.proofs.Common.{◌≡◌, ℕ, ◌≤◌, ◌<◌, Bool, true, false, cond, List, length, Option, Some, None, arith, refl, ap, sym, ◌∙◌}
+use Rattle.std.specs.Prelude.{Decides, IsUtf8, ◌==◌, ◌&&◌, nat_le}
+use Rattle.std.specs.List.{slice_split}
+use Rattle.std.specs.Str.{is_utf8}
+use Rattle.std.proofs.lemmas.Bool.Decides.{Decides-and}
+use Rattle.std.proofs.lemmas.Bool.{leb-true, le-leb}
+use Rattle.std.proofs.lemmas.Str.{IsUtf8-from_is_utf8, is_utf8-from_IsUtf8}
+use Rattle.polars_compute.specs.Pick.{take_rows, all_within}
+use Rattle.sel_arrow.specs.Value.{Value}
+use Rattle.sel_lines.specs.Columns.{column_text}
+use Rattle.sel_lines.specs.Take.{take_answer}
+use Rattle.sel_lines.specs.Commands.{answer_of_words, answer_of_line}
+
+pub take_answered : (rows indices a b : List Value) (text : List ℕ) → rows ≡ a → indices ≡ b → all_within (length rows) indices ≡ true → text ≡ column_text (take_rows rows indices)
+    → Some text ≡ take_answer a b
+take_answered rows indices a b text isa isb within made =
+    ap Some made ∙ ap (λ t. cond t (Some (column_text (take_rows rows indices))) None) (sym within) ∙ ap (λ r. take_answer r indices) isa ∙ ap (take_answer a) isb
+
+pub none_unless : {A : Type 0} (b : Bool) (x : Option A) → (b ≡ true → ⊥) → None ≡ cond b x None
+none_unless true x never = absurd (never refl)
+none_unless false x never = refl
+
+is_short_text : (line : List ℕ) → Decides (nat_le (length line) 1048576 && is_utf8 line) ((length line ≤ 1048576) × IsUtf8 line)
+is_short_text line = Decides-and _ _ (leb-true (length line) 1048576, le-leb (length line) 1048576) (IsUtf8-from_is_utf8 line, is_utf8-from_IsUtf8 line)
+
+pub too_long : (line : List ℕ) → 1048576 < length line → None ≡ answer_of_line line
+unfolding answer_of_line
+too_long line long = none_unless _ _ (λ t. let short = ((is_short_text line).0 t).0 in omega arith)
+
+pub no_text : (line : List ℕ) → (IsUtf8 line → ⊥) → None ≡ answer_of_line line
+unfolding answer_of_line
+no_text line bad = none_unless _ _ (λ t. bad ((is_short_text line).0 t).1)
+
+pub of_text : (line : List ℕ) → length line ≤ 1048576 → IsUtf8 line → answer_of_words (slice_split (λ b. b == 32) line) ≡ answer_of_line line
+unfolding answer_of_line
+of_text line short text = ap (λ t. cond t (answer_of_words (slice_split (λ b. b == 32) line)) None) (sym ((is_short_text line).1 (short, text)))

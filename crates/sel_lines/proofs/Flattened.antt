@@ -1,0 +1,113 @@
+-- Columns of numbers side by side.
+use Rattle.std.proofs.Common.{◌≡◌, ℕ, ◌<◌, ◌≤◌, Bool, true, false, cond, Bor, List, [], ◌∷◌, length, map, Option, Some, None, arith, refl, ap, sym, subst, ◌∙◌}
+use Rattle.std.specs.Prelude.{Decides, IsTrue, ◌&&◌, nat_lt, option_map, codes}
+use Rattle.std.specs.List.{All}
+use Rattle.std.proofs.lemmas.Bool.Decides.{Decides-and, Decides-ltb}
+use Rattle.std.proofs.lemmas.List.{length-map}
+use Rattle.std.proofs.lemmas.List.Elements.{All-nil, All-head, All-weaker}
+use mathlib.Core.Logic.{⊎_elim}
+use Rattle.sel_bits.specs.declared.faults.Limit.{Limit}
+use Rattle.sel_bits.specs.declared.faults.Limit.TheVariants.{Rows, Bytes, Buffers, ViewBytes}
+use Rattle.sel_bits.specs.declared.faults.PolarsError.{PolarsError}
+use Rattle.sel_bits.specs.declared.faults.PolarsError.TheVariants.{OutOfMemory, SizeLimit, ComputeError}
+use Rattle.sel_arrow.specs.Rows.{rows, type_of}
+use Rattle.sel_arrow.specs.Columns.{primitive_rows}
+use Rattle.sel_arrow.specs.Shape.{of_int64}
+use Rattle.sel_arrow.specs.Value.{Value}
+use Rattle.sel_arrow.specs.declared.array_ref.ArrayRef.{ArrayRef}
+use Rattle.sel_arrow.specs.declared.column.Column.{Column}
+use Rattle.sel_runs.specs.Need.{IsRefusal, IsPastRows}
+use Rattle.sel_runs.specs.Sources.{first_type}
+use Rattle.sel_flatten.specs.Flatten.{flatten, parts_fit, past_flattened}
+use Rattle.sel_lines.specs.Columns.{all_some, column_text}
+use Rattle.sel_lines.specs.Flatten.{part_of, side_by_side, flat_text, flatten_answer, flatten_words}
+use Rattle.sel_lines.specs.Parts.{read_part}
+use Rattle.sel_lines.specs.Numbers.{size_of}
+use Rattle.sel_lines.specs.Words.{if_both}
+use Rattle.sel_lines.specs.declared.flatten.Part.{Part}
+use Rattle.sel_lines.proofs.Answered.{none_unless}
+use Rattle.sel_lines.proofs.RowLemmas.{map_now}
+
+-- ---- when the columns fit
+
+fit_test : (h : ℕ) (xss : List (List Value)) (ws : List ℕ) → Decides (nat_lt 0 (length xss) && parts_fit h xss ws) ((0 < length xss) × IsTrue (parts_fit h xss ws))
+fit_test h xss ws = Decides-and _ _ (Decides-ltb 0 (length xss)) ((λ e. e), (λ e. e))
+
+pub fitting : (h : ℕ) (xss : List (List Value)) (ws : List ℕ) → 0 < length xss → IsTrue (parts_fit h xss ws) → side_by_side h xss ws ≡ Some (flatten xss ws h)
+fitting h xss ws some fit = ap (λ b. cond b (Some (flatten xss ws h)) None) ((fit_test h xss ws).1 (some, fit))
+
+pub not_fitting : (h : ℕ) (xss : List (List Value)) (ws : List ℕ) → (0 < length xss → IsTrue (parts_fit h xss ws) → ⊥) → None ≡ side_by_side h xss ws
+not_fitting h xss ws never = none_unless _ _ (λ t. let both = (fit_test h xss ws).0 t in never both.0 both.1)
+
+-- ---- columns of one type
+
+pub first_number : (arrays : List ArrayRef) → 0 < length arrays → All (λ a. type_of a.column ≡ of_int64) arrays → first_type (map (λ a. a.column) arrays) ≡ of_int64
+first_number [] some numbers = absurd (omega arith)
+first_number (a ∷ arrays) some numbers = All-head (λ a. type_of a.column ≡ of_int64) a arrays numbers
+
+pub numbers_alike : (arrays : List ArrayRef) → All (λ a. type_of a.column ≡ of_int64) arrays → All (λ a. type_of a.column ≡ first_type (map (λ a. a.column) arrays)) arrays
+numbers_alike [] numbers = All-nil _
+numbers_alike (a ∷ arrays) numbers =
+    All-weaker (λ b. type_of b.column ≡ of_int64) (λ b. type_of b.column ≡ type_of a.column) (λ b is. is ∙ sym (All-head (λ b. type_of b.column ≡ of_int64) a arrays numbers)) (a ∷ arrays) numbers
+
+-- ---- past the limit of rows
+
+many_rows : (n : ℕ) (limit : Limit) → IsPastRows n limit → 4294967295 < n
+many_rows n Rows past = past
+many_rows n Bytes past = absurd past
+many_rows n Buffers past = absurd past
+many_rows n ViewBytes past = absurd past
+
+many_numbers : (h : ℕ) (columns : List Column) (vs : List Value) (limit : Limit) → past_flattened h of_int64 columns vs limit → 4294967295 < length vs
+many_numbers h columns vs limit past = ⊎_elim (λ many. many_rows (length vs) limit many) (λ never. absurd never) past.1
+
+many_text : (vs : List Value) → 4294967295 < length vs → flat_text vs ≡ codes "size limit rows"
+many_text vs many = ap (λ b. cond b (codes "size limit rows") (column_text vs)) ((Decides-ltb 4294967295 (length vs)).1 many)
+
+few_text : (vs : List Value) (b : Bool) → nat_lt 4294967295 (length vs) ≡ b → (b ≡ true → ⊥) → flat_text vs ≡ column_text vs
+few_text vs true is never = absurd (never refl)
+few_text vs false is never = ap (λ b. cond b (codes "size limit rows") (column_text vs)) is
+
+-- rows that a column has
+pub column_flat_text : (vs : List Value) → length vs ≤ 4294967295 → flat_text vs ≡ column_text vs
+column_flat_text vs few = few_text vs (nat_lt 4294967295 (length vs)) refl (λ t. let many = (Decides-ltb 4294967295 (length vs)).0 t in omega arith)
+
+-- a refusal of another kind than want of memory is that text
+pub refused_text : (h : ℕ) (arrays : List ArrayRef) (ws : List ℕ) (fault : PolarsError) → 0 < length arrays → All (λ a. type_of a.column ≡ of_int64) arrays
+    → IsTrue (parts_fit h (map (λ a. rows a.column) arrays) ws)
+    → IsRefusal (past_flattened h (first_type (map (λ a. a.column) arrays)) (map (λ a. a.column) arrays) (flatten (map (λ a. rows a.column) arrays) ws h)) fault
+    → IsRefusal (λ limit. option_map flat_text (side_by_side h (map (λ a. rows a.column) arrays) ws) ≡ Some (codes "size limit rows")) fault
+refused_text h arrays ws OutOfMemory some numbers fit refused = tt
+refused_text h arrays ws (SizeLimit limit) some numbers fit refused =
+    let xss = map (λ (a : ArrayRef). rows a.column) arrays in
+    let columns = map (λ (a : ArrayRef). a.column) arrays in
+    let long : 0 < length xss = rw length-map some in
+    let past : past_flattened h of_int64 columns (flatten xss ws h) limit =
+    subst (λ s. past_flattened h s columns (flatten xss ws h) limit) (first_number arrays some numbers) refused in
+    ap (option_map flat_text) (fitting h xss ws long fit) ∙ ap Some (many_text (flatten xss ws h) (many_numbers h columns (flatten xss ws h) limit past))
+refused_text h arrays ws ComputeError some numbers fit refused = absurd refused
+
+-- ---- the parts that were read
+
+columns_read : (parts : List Part) → map (λ part. part.1) (map read_part parts) ≡ map (λ part. primitive_rows part.column) parts
+columns_read [] = refl
+columns_read (part ∷ parts) = ap (λ xss. primitive_rows part.column ∷ xss) (columns_read parts)
+
+widths_read : (parts : List Part) → map (λ part. part.0) (map read_part parts) ≡ map (λ part. part.width) parts
+widths_read [] = refl
+widths_read (part ∷ parts) = ap (λ ws. part.width ∷ ws) (widths_read parts)
+
+pub answer_read : (h : ℕ) (parts : List Part)
+    → option_map flat_text (side_by_side h (map (λ part. primitive_rows part.column) parts) (map (λ part. part.width) parts)) ≡ flatten_answer h (map read_part parts)
+answer_read h parts =
+    ap (λ xss. option_map flat_text (side_by_side h xss (map (λ part. part.width) parts))) (sym (columns_read parts))
+    ∙ ap (λ ws. option_map flat_text (side_by_side h (map (λ part. part.1) (map read_part parts)) ws)) (sym (widths_read parts))
+
+-- the words behind a height are the parts
+pub words_read : (words rest : List (Bor (List ℕ))) (first : Bor (List ℕ)) (h : ℕ) (parts : Option (List (ℕ × List Value))) → words ≡ first ∷ rest
+    → Some h ≡ size_of first.now → parts ≡ all_some (map (λ word. part_of word.now) rest)
+    → if_both flatten_answer (Some h) parts ≡ flatten_words (map (λ word. word.now) words)
+words_read words rest first h parts split height is =
+    ap (if_both flatten_answer (Some h)) (is ∙ ap all_some (map_now part_of rest))
+    ∙ ap (λ s. if_both flatten_answer s (all_some (map part_of (map (λ word. word.now) rest)))) height
+    ∙ ap (λ ws. flatten_words (map (λ word. word.now) ws)) (sym split)

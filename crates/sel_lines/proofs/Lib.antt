@@ -1,0 +1,13 @@
+pub mod Answered
+pub mod Chosen
+pub mod FewItems
+pub mod Flattened
+pub mod Hex
+pub mod MadeColumns
+pub mod Pieces
+pub mod Printed
+pub mod ReadBlocks
+pub mod ReadLists
+pub mod RowLemmas
+pub mod SelectedRows
+pub mod TextViews

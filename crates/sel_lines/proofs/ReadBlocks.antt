@@ -1,0 +1,162 @@
+-- Lists of one length that are read one by one.
+use Rattle.std.proofs.Common.{◌≡◌, ℕ, ℤ, zero, suc, pos, ◌*◌, Bool, true, false, cond, List, [], ◌∷◌, ◌++◌, length, length-append, get_or, map, replicate, Bor, Some, None, arith, refl, ap, sym, ◌∙◌}
+use Rattle.std.specs.Prelude.{◌==◌, ◌&&◌, option_and_then}
+use Rattle.std.specs.List.{list_all}
+use Rattle.std.proofs.lemmas.Bool.Decides.{Decides-eqb}
+use Rattle.std.proofs.lemmas.List.{map-append, append-nil, length-map, length-replicate}
+use Rattle.std.proofs.lemmas.List.Folds.{list_all-append}
+use Rattle.sel_bits.specs.Bits.{Bits}
+use Rattle.sel_bits.specs.Faults.{error_text}
+use Rattle.sel_bits.specs.declared.faults.PolarsError.TheVariants.{ComputeError}
+use Rattle.sel_arrow.specs.Masked.{hidden}
+use Rattle.sel_arrow.specs.Nested.{list_of, blocks, block_rows}
+use Rattle.sel_arrow.specs.NestedArrays.{block_column}
+use Rattle.sel_arrow.specs.Rows.{rows}
+use Rattle.sel_arrow.specs.Value.{Value, Null, Truth, Number, Bytes, Items, Tuple, is_valid, validities}
+use Rattle.sel_arrow.specs.declared.fixed_size_list.FixedSizeListArray.{FixedSizeListArray}
+use Rattle.sel_arrow.proofs.Lists.{both, and_first, and_second}
+use Rattle.sel_runs.specs.Children.{items_in, joined_items}
+use Rattle.sel_runs.proofs.ItemRuns.{joined-append, listed_values}
+use Rattle.sel_runs.proofs.Rebuilt.{IsBlock, blocks_length, blocks_rebuilt}
+use Rattle.sel_lines.specs.declared.blocks.Blocks.{Blocks}
+use Rattle.sel_sublists.specs.Entries.{fixed_get, at_each, out_of_bounds}
+use Rattle.sel_sublists.proofs.Blocks.{long_rows}
+use Rattle.sel_lines.specs.declared.rows.Rows.{Rows}
+use Rattle.sel_lines.specs.Blocks.{blocks_of, is_block, width_of}
+use Rattle.sel_lines.specs.BlockParts.{HasBlocks, standing_for}
+use Rattle.sel_lines.specs.Columns.{column_text}
+use Rattle.sel_lines.specs.Fixed.{entries_text, fixed_answer, fixed_read, fixed_words}
+use Rattle.sel_lines.specs.ListParts.{shown_list}
+use Rattle.sel_lines.specs.Numbers.{number_of, truth_of}
+use Rattle.sel_lines.specs.Words.{if_both}
+use Rattle.sel_lines.proofs.ReadLists.{hidden-append, length-hidden}
+
+-- ---- a row, and the list that stands for it
+
+list_stands : (w : ℕ) (v : Value) → is_block w v ≡ true → IsBlock w (standing_for w v)
+list_stands w Null h = ap length (listed_values (replicate w (Number (pos 0)))) ∙ length-replicate w (Number (pos 0))
+list_stands w (Items items) h = (Decides-eqb _ w).0 h
+list_stands w (Truth b) h = absurd cc
+list_stands w (Number z) h = absurd cc
+list_stands w (Bytes bytes) h = absurd cc
+list_stands w (Tuple parts) h = absurd cc
+
+lists_stand : (w : ℕ) (read : List Value) → list_all (is_block w) read ≡ true → (k : ℕ) → IsBlock w (get_or (map (standing_for w) read) k Null)
+lists_stand w [] all k = tt
+lists_stand w (v ∷ read) all zero = list_stands w v (and_first (is_block w v) (list_all (is_block w) read) all)
+lists_stand w (v ∷ read) all (suc k) = lists_stand w read (and_second (is_block w v) (list_all (is_block w) read) all) k
+
+-- so many rows have as many items each
+pub standing_length : (w : ℕ) (read : List Value) → list_all (is_block w) read ≡ true → length (joined_items w (map (standing_for w) read)) ≡ length read * w
+standing_length w read all = blocks_length w (map (standing_for w) read) (lists_stand w read all) ∙ ap (λ n. n * w) (length-map read (standing_for w))
+
+is_there : (w : ℕ) (v : Value) → is_block w v ≡ true → is_valid (standing_for w v) ≡ true
+is_there w Null h = refl
+is_there w (Items items) h = refl
+is_there w (Truth b) h = refl
+is_there w (Number z) h = refl
+is_there w (Bytes bytes) h = refl
+is_there w (Tuple parts) h = refl
+
+are_there : (w : ℕ) (read : List Value) → list_all (is_block w) read ≡ true → replicate (length read) true ≡ validities (map (standing_for w) read)
+are_there w [] all = refl
+are_there w (v ∷ read) all =
+    let one = is_there w v (and_first (is_block w v) (list_all (is_block w) read) all) in
+    let rest = are_there w read (and_second (is_block w v) (list_all (is_block w) read) all) in
+    ap (λ bs. true ∷ bs) rest ∙ ap (λ b. b ∷ validities (map (standing_for w) read)) (sym one)
+
+shown_again : (w : ℕ) (read : List Value) → hidden (validities read) (map (standing_for w) read) ≡ read
+shown_again w [] = refl
+shown_again w (Null ∷ read) = ap (λ l. Null ∷ l) (shown_again w read)
+shown_again w (Items items ∷ read) = ap (λ l. Items items ∷ l) (shown_again w read)
+shown_again w (Truth b ∷ read) = ap (λ l. Truth b ∷ l) (shown_again w read)
+shown_again w (Number z ∷ read) = ap (λ l. Number z ∷ l) (shown_again w read)
+shown_again w (Bytes bytes ∷ read) = ap (λ l. Bytes bytes ∷ l) (shown_again w read)
+shown_again w (Tuple parts ∷ read) = ap (λ l. Tuple parts ∷ l) (shown_again w read)
+
+-- a list has as many items as were read
+pub width_is : (w n : ℕ) (items : Rows ℤ) → n ≡ length items.values.items → (n == w) ≡ is_block w (shown_list (Some items))
+width_is w n items count =
+    let row = hidden items.validity.items (map Number items.values.items) in
+    let long : length items.validity.items ≡ length (map Number items.values.items) = items.paired ∙ sym (length-map items.values.items Number) in
+    let all = count ∙ sym (ap length (listed_values row) ∙ length-hidden items.validity.items (map Number items.values.items) long ∙ length-map items.values.items Number) in
+    ap (λ m. m == w) all
+
+-- ---- one row more
+
+pub block_more : (w : ℕ) (read : List Value) (old new : Blocks) (row : Value) (xs : List ℤ) (bs : List Bool) (b : Bool) → HasBlocks w read old → length bs ≡ length xs →
+    new.values.items ≡ old.values.items ++ xs → new.flags.items ≡ old.flags.items ++ bs → new.validity.items ≡ old.validity.items ++ b ∷ [] → is_valid row ≡ b →
+    hidden bs (map Number xs) ≡ items_in w (standing_for w row) → is_block w row ≡ true → HasBlocks w (read ++ row ∷ []) new
+block_more w read old new row xs bs b has paired values flags valid is held wide =
+    let st = standing_for w in
+    let long : length old.flags.items ≡ length (map Number old.values.items) = has.flags ∙ sym (length-map old.values.items Number) in
+    record {
+      items =
+          ap (λ l. hidden l (map Number new.values.items)) flags ∙ ap (λ l. hidden (old.flags.items ++ bs) (map Number l)) values
+          ∙ ap (hidden (old.flags.items ++ bs)) (map-append Number old.values.items xs)
+          ∙ hidden-append old.flags.items bs (map Number old.values.items) (map Number xs) long
+          ∙ ap (λ l. l ++ hidden bs (map Number xs)) has.items ∙ ap (λ l. joined_items w (map st read) ++ l) (held ∙ sym (append-nil (items_in w (st row))))
+          ∙ sym (ap (joined_items w) (map-append st read (row ∷ [])) ∙ joined-append w (map st read) (st row ∷ []));
+      flags = omega (arith, ap length values, ap length flags, length-append old.values.items xs, length-append old.flags.items bs, has.flags, paired);
+      valid = valid ∙ ap (λ l. l ++ b ∷ []) has.valid ∙ ap (λ v. validities read ++ v ∷ []) (sym is) ∙ sym (map-append is_valid read (row ∷ []));
+      all = list_all-append (is_block w) read (row ∷ []) ∙ both (list_all (is_block w) read) (is_block w row && true) has.all (both (is_block w row) true wide refl);
+    }
+
+plain_zeros : (w : ℕ) → hidden (replicate w true) (map Number (replicate w (pos 0))) ≡ replicate w (Number (pos 0))
+plain_zeros zero = refl
+plain_zeros (suc w) = ap (λ l. Number (pos 0) ∷ l) (plain_zeros w)
+
+pub null_block_more : (w : ℕ) (read : List Value) (old new : Blocks) → HasBlocks w read old → new.values.items ≡ old.values.items ++ replicate w (pos 0) →
+    new.flags.items ≡ old.flags.items ++ replicate w true → new.validity.items ≡ old.validity.items ++ false ∷ [] → HasBlocks w (read ++ Null ∷ []) new
+null_block_more w read old new has values flags valid =
+    block_more w read old new Null (replicate w (pos 0)) (replicate w true) false has (length-replicate w true ∙ sym (length-replicate w (pos 0))) values flags valid refl
+    (plain_zeros w ∙ sym (listed_values (replicate w (Number (pos 0))))) refl
+
+pub list_block_more : (w : ℕ) (read : List Value) (old new : Blocks) (xs : List ℤ) (bs : List Bool) → HasBlocks w read old → length bs ≡ length xs →
+    new.values.items ≡ old.values.items ++ xs → new.flags.items ≡ old.flags.items ++ bs → new.validity.items ≡ old.validity.items ++ true ∷ [] →
+    is_block w (list_of (hidden bs (map Number xs))) ≡ true → HasBlocks w (read ++ list_of (hidden bs (map Number xs)) ∷ []) new
+list_block_more w read old new xs bs has paired values flags valid wide =
+    block_more w read old new (list_of (hidden bs (map Number xs))) xs bs true has paired values flags valid refl (sym (listed_values (hidden bs (map Number xs)))) wide
+
+-- ---- the column
+
+pub blocks_made : (w n : ℕ) (read : List Value) (parts : Blocks) (child : List Value) (validity : Bits) → HasBlocks w read parts → n ≡ length parts.validity.items →
+    child ≡ hidden parts.flags.items (map Number parts.values.items) → validity.bits ≡ parts.validity.items → block_rows w n child (Some validity) ≡ read
+blocks_made w n read parts child validity has count items valid =
+    let st = standing_for w in
+    let many : length read ≡ n = sym (count ∙ ap length has.valid ∙ length-map read is_valid) in
+    ap (λ bs. hidden bs (map list_of (blocks w n child))) (valid ∙ has.valid)
+    ∙ ap (hidden (validities read))
+    (blocks_rebuilt w (map st read) child None n (lists_stand w read has.all) (length-map read st ∙ many) (items ∙ has.items) (ap (λ k. replicate k true) (sym many) ∙ are_there w read has.all))
+    ∙ shown_again w read
+
+-- ---- the answer
+
+same_text : (arr : FixedSizeListArray) (w : ℕ) (read : List Value) (index : ℤ) (b : Bool) → rows (block_column arr) ≡ read → arr.size ≡ w →
+    entries_text arr.size (rows (block_column arr)) (at_each arr index) b ≡ entries_text w read (replicate (length read) (Number index)) b
+same_text arr w read index b is size =
+    ap (λ s. entries_text s (rows (block_column arr)) (at_each arr index) b) size ∙ ap (λ xs. entries_text w xs (at_each arr index) b) is
+    ∙ ap (λ n. entries_text w read (replicate n (Number index)) b) (sym (long_rows arr) ∙ ap length is)
+
+pub entries_printed : (arr : FixedSizeListArray) (w : ℕ) (read : List Value) (index : ℤ) (b : Bool) → rows (block_column arr) ≡ read → arr.size ≡ w → out_of_bounds b arr (at_each arr index) ≡ false →
+    column_text (fixed_get (rows (block_column arr)) arr.size (at_each arr index)) ≡ entries_text w read (replicate (length read) (Number index)) b
+entries_printed arr w read index b is size inside =
+    sym (ap (λ t. cond t (error_text ComputeError) (column_text (fixed_get (rows (block_column arr)) arr.size (at_each arr index)))) inside) ∙ same_text arr w read index b is size
+
+pub refusal_printed : (arr : FixedSizeListArray) (w : ℕ) (read : List Value) (index : ℤ) (b : Bool) → rows (block_column arr) ≡ read → arr.size ≡ w → out_of_bounds b arr (at_each arr index) ≡ true →
+    error_text ComputeError ≡ entries_text w read (replicate (length read) (Number index)) b
+refusal_printed arr w read index b is size outside =
+    sym (ap (λ t. cond t (error_text ComputeError) (column_text (fixed_get (rows (block_column arr)) arr.size (at_each arr index)))) outside) ∙ same_text arr w read index b is size
+
+pub fixed_answered : (words : List (Bor (List ℕ))) (d : Bor (List ℕ)) (w : ℕ) (read : List Value) (index : ℤ) (b : Bool) (text : List ℕ) → length words ≡ 4 →
+    Some w ≡ width_of (get_or words 0 d).now → blocks_of w (get_or words 1 d).now ≡ Some read → Some (Number index) ≡ number_of (get_or words 2 d).now → Some (Truth b) ≡ truth_of (get_or words 3 d).now →
+    text ≡ entries_text w read (replicate (length read) (Number index)) b → Some text ≡ fixed_words (map (λ word. word.now) words)
+fixed_answered (width ∷ lists ∷ at ∷ oob ∷ []) d w read index b text four wide held placed asked made =
+    ap Some made
+    ∙ ap (if_both (fixed_answer w read) (Some (Number index))) asked ∙ ap (λ x. if_both (fixed_answer w read) x (truth_of oob.now)) placed
+    ∙ ap (option_and_then (λ rows. if_both (fixed_answer w rows) (number_of at.now) (truth_of oob.now))) (sym held) ∙ ap (option_and_then (fixed_read lists.now at.now oob.now)) wide
+fixed_answered [] d w read index b text four wide held placed asked made = absurd (omega arith)
+fixed_answered (x ∷ []) d w read index b text four wide held placed asked made = absurd (omega arith)
+fixed_answered (x ∷ y ∷ []) d w read index b text four wide held placed asked made = absurd (omega arith)
+fixed_answered (x ∷ y ∷ z ∷ []) d w read index b text four wide held placed asked made = absurd (omega arith)
+fixed_answered (x ∷ y ∷ z ∷ v ∷ u ∷ rest) d w read index b text four wide held placed asked made = absurd (omega arith)

@@ -1,0 +1,139 @@
+-- Rows of several columns, one column after the other.
+use Rattle.std.proofs.Common.{◌≡◌, ℕ, ◌+◌, ◌-◌, ◌<◌, Bool, true, false, cond, Bor, List, [], ◌∷◌, ◌++◌, All, length, get_or, map, take, drop, Option, Some, None, arith, refl, ap, sym, subst, ◌∙◌}
+use Rattle.std.specs.Prelude.{◌==◌, ◌&&◌, count_by, unwrap_or}
+use Rattle.std.specs.List.{list_all}
+use Rattle.std.proofs.lemmas.Bool.{ne_eqb}
+use Rattle.std.proofs.lemmas.Bool.Decides.{Decides-eqb}
+use Rattle.std.proofs.lemmas.List.{get_or-map, length-map, map-append, length-drop, take_all, take_more}
+use Rattle.std.proofs.lemmas.List.Folds.{list_all-map, list_all_at}
+use Rattle.std.proofs.lemmas.List.Sums.{sum_by-cons}
+use Rattle.sel_bits.specs.declared.faults.PolarsError.{PolarsError}
+use Rattle.sel_bits.specs.declared.faults.PolarsError.TheVariants.{OutOfMemory, SizeLimit, ComputeError}
+use Rattle.sel_arrow.specs.Masked.{truth_value}
+use Rattle.sel_arrow.specs.Rows.{rows, type_of}
+use Rattle.sel_arrow.specs.Shape.{of_int64}
+use Rattle.sel_arrow.specs.Value.{Value}
+use Rattle.sel_arrow.specs.declared.array_ref.ArrayRef.{ArrayRef}
+use Rattle.sel_arrow.proofs.Lists.{all_at, and_first, and_second}
+use Rattle.sel_runs.proofs.Within.{rows_pass}
+use Rattle.polars_compute.specs.Need.{IsRefusal, PassesNone, past}
+use Rattle.polars_compute.specs.Pick.{take_rows, all_within}
+use Rattle.polars_compute.specs.Select.{select, in_force, is_true}
+use Rattle.sel_filter.proofs.Selects.{length-select}
+use Rattle.sel_lines.specs.Columns.{all_some, column_of}
+use Rattle.sel_lines.specs.Numbers.{index_of, number_of, truth_of}
+use Rattle.sel_lines.specs.SelectRows.{rows_of_each, type_of_each, select_rows_of, selection_fits, past_selected}
+use Rattle.sel_lines.specs.Table.{table_read, table_words}
+use Rattle.sel_lines.proofs.RowLemmas.{map_now}
+
+-- ---- what the condition says
+
+pub long_at : (columns : List ArrayRef) (mask indices : List Value) (i : ℕ) (d : ArrayRef) → selection_fits (rows_of_each columns) mask indices ≡ true → i < length columns →
+    length (rows (get_or columns i d).column) ≡ length mask
+long_at columns mask indices i d fits h =
+    let p = λ (xs : List Value). length xs == length mask in
+    let each = sym (list_all-map p (λ (c : ArrayRef). rows c.column) columns) ∙ and_first (list_all p (rows_of_each columns)) (all_within (count_by is_true mask) indices) fits in
+    (Decides-eqb _ _).0 (all_at (λ (c : ArrayRef). p (rows c.column)) columns i d each h)
+
+pub indices_inside : (columns : List (List Value)) (mask indices : List Value) → selection_fits columns mask indices ≡ true → all_within (count_by is_true mask) indices ≡ true
+indices_inside columns mask indices fits = and_second (list_all (λ xs. length xs == length mask) columns) (all_within (count_by is_true mask) indices) fits
+
+count_forced : (mask : List Value) → count_by (λ b. b) (in_force mask) ≡ count_by is_true mask
+count_forced [] = refl
+count_forced (v ∷ mask) =
+    omega (arith, sum_by-cons (λ b. cond b 1 0) (is_true v) (in_force mask), sum_by-cons (λ w. cond (is_true w) 1 0) v mask, count_forced mask)
+
+-- so many rows are kept
+pub kept_count : (xs mask : List Value) → length xs ≡ length mask → length (select xs (in_force mask)) ≡ count_by is_true mask
+kept_count xs mask long = length-select xs (in_force mask) (long ∙ sym (length-map mask is_true)) ∙ count_forced mask
+
+pub forced_row : (row : Option Bool) → unwrap_or row false ≡ is_true (truth_value row)
+forced_row None = refl
+forced_row (Some b) = refl
+
+-- the columns so far are as long as the mask
+pub unfit_at : (columns : List ArrayRef) (mask indices : List Value) (i : ℕ) (x : ArrayRef) → i < length columns → x ≡ get_or columns i x → (length (rows x.column) ≡ length mask → ⊥) →
+    false ≡ selection_fits (rows_of_each columns) mask indices
+unfit_at columns mask indices i x h at other =
+    let p = λ (xs : List Value). length xs == length mask in
+    let none : p (rows (get_or columns i x).column) ≡ false = ap (λ (c : ArrayRef). p (rows c.column)) (sym at) ∙ ne_eqb _ _ other in
+    sym (ap (λ b. b && all_within (count_by is_true mask) indices) (list_all-map p (λ (c : ArrayRef). rows c.column) columns ∙ list_all_at (λ (c : ArrayRef). p (rows c.column)) columns i x h none))
+
+pub all_long : (columns : List ArrayRef) (mask indices : List Value) → list_all (λ c. length (rows c.column) == length mask) columns ≡ true →
+    all_within (count_by is_true mask) indices ≡ selection_fits (rows_of_each columns) mask indices
+all_long columns mask indices each =
+    sym (ap (λ b. b && all_within (count_by is_true mask) indices) (list_all-map (λ xs. length xs == length mask) (λ (c : ArrayRef). rows c.column) columns ∙ each))
+
+-- ---- one column more
+
+pub mapped_step : {A B : Type 0} (f g : A → B) (xs sel new : List A) (i : ℕ) (x taken : A) → i < length xs → x ≡ get_or xs i x → new ≡ sel ++ taken ∷ [] → f taken ≡ g x →
+    map f sel ≡ map g (take i xs) → map f new ≡ map g (take (i + 1) xs)
+mapped_step f g xs sel new i x taken h at made same so_far =
+    ap (map f) made ∙ map-append f sel (taken ∷ []) ∙ ap (λ l. l ++ f taken ∷ []) so_far ∙ ap (λ b. map g (take i xs) ++ b ∷ []) (same ∙ ap g at)
+    ∙ sym (ap (map g) (take_more xs i x h) ∙ map-append g (take i xs) (get_or xs i x ∷ []))
+
+pub rows_mapped : (mask indices : List Value) (columns : List ArrayRef) →
+    map (λ c. take_rows (select (rows c.column) (in_force mask)) indices) columns ≡ select_rows_of (rows_of_each columns) mask indices
+rows_mapped mask indices [] = refl
+rows_mapped mask indices (c ∷ columns) = ap (λ l. take_rows (select (rows c.column) (in_force mask)) indices ∷ l) (rows_mapped mask indices columns)
+
+-- ---- refusals
+
+pub refused_some : (columns : List ArrayRef) (mask indices : List Value) (i : ℕ) (x : ArrayRef) (fault : PolarsError) → i < length columns → x ≡ get_or columns i x →
+    IsRefusal (past (type_of x.column) (take_rows (select (rows x.column) (in_force mask)) indices)) fault → IsRefusal (past_selected columns mask indices) fault
+refused_some columns mask indices i x OutOfMemory h at refused = tt
+refused_some columns mask indices i x (SizeLimit limit) h at refused = (i, x, h, sym at, refused)
+refused_some columns mask indices i x ComputeError h at refused = absurd refused
+
+-- columns of numbers pass no limit
+pub never_past : (columns : List ArrayRef) (mask indices : List Value) (fault : PolarsError) → All (λ c. type_of c.column ≡ of_int64) columns → IsRefusal (past_selected columns mask indices) fault → fault ≡ OutOfMemory
+never_past columns mask indices OutOfMemory numbers refused = refl
+never_past columns mask indices (SizeLimit limit) numbers refused =
+    let x = refused.1 in
+    let is : type_of x.column ≡ of_int64 = subst (λ (c : ArrayRef). type_of c.column ≡ of_int64) refused.3 (numbers refused.0 x refused.2) in
+    absurd (subst (λ s. past s (take_rows (select (rows x.column) (in_force mask)) indices) limit) is refused.4)
+never_past columns mask indices ComputeError numbers refused = absurd refused
+
+-- ---- types
+
+pub same_types : (xs ys : List ArrayRef) → type_of_each xs ≡ type_of_each ys → All (λ c. type_of c.column ≡ of_int64) ys → All (λ c. type_of c.column ≡ of_int64) xs
+same_types xs ys same numbers = λ k d h.
+    let type = λ (c : ArrayRef). type_of c.column in
+    let there : k < length ys = omega (arith, h, length-map xs type, length-map ys type, ap length same) in
+    sym (get_or-map type xs k d of_int64 h) ∙ ap (λ l. get_or l k of_int64) same ∙ get_or-map type ys k d of_int64 there ∙ numbers k d there
+
+-- ---- the words of a line
+
+table_shape : (words rest : List (Bor (List ℕ))) (d : Bor (List ℕ)) → 2 < length words → rest ≡ drop 2 words →
+    table_read (column_of truth_of (get_or words 0 d).now) (column_of index_of (get_or words 1 d).now) (all_some (map (λ word. column_of number_of word.now) rest)) ≡ table_words (map (λ word. word.now) words)
+table_shape [] rest d h is = absurd (omega arith)
+table_shape (mask ∷ []) rest d h is = absurd (omega arith)
+table_shape (mask ∷ indices ∷ []) rest d h is = absurd (omega arith)
+table_shape (mask ∷ indices ∷ column ∷ columns) rest d h is =
+    ap (λ l. table_read (column_of truth_of mask.now) (column_of index_of indices.now) (all_some l))
+    (ap (map (λ word. column_of number_of word.now)) is ∙ map_now (column_of number_of) (column ∷ columns))
+
+pub table_words_read : (words rest : List (Bor (List ℕ))) (d : Bor (List ℕ)) (mask indices : List Value) (columns : Option (List (List Value))) → 2 < length words → rest ≡ drop 2 words →
+    Some mask ≡ column_of truth_of (get_or words 0 d).now → Some indices ≡ column_of index_of (get_or words 1 d).now → columns ≡ all_some (map (λ word. column_of number_of word.now) rest) →
+    table_read (Some mask) (Some indices) columns ≡ table_words (map (λ word. word.now) words)
+table_words_read words rest d mask indices columns h is masked indexed read =
+    ap (table_read (Some mask) (Some indices)) read ∙ ap (λ x. table_read (Some mask) x (all_some (map (λ word. column_of number_of word.now) rest))) indexed
+    ∙ ap (λ x. table_read x (column_of index_of (get_or words 1 d).now) (all_some (map (λ word. column_of number_of word.now) rest))) masked ∙ table_shape words rest d h is
+
+pub rest_is : (words : List (Bor (List ℕ))) (n : ℕ) → take (length words - n) (drop n words) ≡ drop n words
+rest_is words n = take_all (length words - n) (drop n words) (omega (arith, length-drop n words))
+
+-- an answer passes no limit
+pub none_past : (columns selected : List ArrayRef) (mask indices : List Value) → rows_of_each selected ≡ map (λ c. take_rows (select (rows c.column) (in_force mask)) indices) columns → type_of_each selected ≡ type_of_each columns →
+    PassesNone (past_selected columns mask indices)
+none_past columns selected mask indices same types limit past =
+    let taken = λ (c : ArrayRef). take_rows (select (rows c.column) (in_force mask)) indices in
+    let shown = λ (c : ArrayRef). rows c.column in
+    let type = λ (c : ArrayRef). type_of c.column in
+    let i = past.0 in
+    let x = past.1 in
+    let s = get_or selected i x in
+    let there : i < length selected = omega (arith, past.2, length-map selected shown, length-map columns taken, ap length same) in
+    let is_rows : rows s.column ≡ taken x = sym (get_or-map shown selected i x [] there) ∙ ap (λ l. get_or l i []) same ∙ get_or-map taken columns i x [] past.2 ∙ ap taken past.3 in
+    let is_type : type_of s.column ≡ type_of x.column = sym (get_or-map type selected i x of_int64 there) ∙ ap (λ l. get_or l i of_int64) types ∙ get_or-map type columns i x of_int64 past.2 ∙ ap type past.3 in
+    rows_pass s.column (type_of x.column) (taken x) s.formed is_type is_rows limit past.4

@@ -1,0 +1,11 @@
+-- The rows so far, and the parts that they are kept in.
+use Rattle.std.proofs.Common.{◌≡◌, List, map, take, Some}
+use Rattle.sel_arrow.specs.Value.{Value}
+use Rattle.sel_lines.specs.Blocks.{block_of}
+use Rattle.sel_lines.specs.BlockParts.{HasBlocks}
+use Rattle.sel_lines.specs.Columns.{all_some}
+use Rattle.sel_lines.proofs.blocks.parse_each.Given as goal
+
+abbrev pub invariant-loop-word : goal.invariant-loop-word
+invariant-loop-word l =
+    (read : List Value) × (all_some (map (λ word. block_of l.width word.now) (take l.word-index l.words)) ≡ Some read) × HasBlocks l.width read l.blocks

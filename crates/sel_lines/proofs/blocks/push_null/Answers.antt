@@ -1,0 +1,14 @@
+use Rattle.std.proofs.Common.{◌+◌, pos, true, arith}
+use Rattle.std.specs.Prelude.{vec_len}
+use Rattle.sel_runs.proofs.Windows.{resized}
+use Rattle.sel_lines.proofs.ReadBlocks.{null_block_more}
+use Rattle.sel_lines.proofs.blocks.push_null.Goals as goal
+
+pub returns : goal.returns
+returns c =
+    λ read has.
+    let old = c.args.blocks.now in
+    let width = c.args.width in
+    let values = resized old.values.items c.resize.new.self.items (c.len.result + width) (vec_len old.values) width (pos 0) c.in_ok-resize.ensures.items (omega (arith, old.values.ok)) (omega (arith, c.len.ensures)) in
+    let flags = resized old.flags.items c.resize-2.new.self.items (c.len-2.result + width) (vec_len old.flags) width true c.in_ok-resize-2.ensures.items (omega (arith, old.flags.ok)) (omega (arith, c.len-2.ensures)) in
+    null_block_more width read old _ has values flags c.in_ok-push.ensures.items

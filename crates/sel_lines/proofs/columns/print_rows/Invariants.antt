@@ -1,0 +1,8 @@
+use Rattle.std.proofs.Common.{◌≡◌, map, take}
+use Rattle.std.specs.Prelude.{string_bytes}
+use Rattle.std.specs.List.{join_with_byte}
+use Rattle.sel_lines.specs.Columns.{row_text}
+use Rattle.sel_lines.proofs.columns.print_rows.Given as goal
+
+abbrev pub invariant-loop-place : goal.invariant-loop-place
+invariant-loop-place g l = string_bytes l.text ≡ join_with_byte 44 (map row_text (take l.place (g.C.Array.rows l.column)))

@@ -1,0 +1,18 @@
+use Rattle.std.proofs.Common.{◌∙◌, ap, map, arith}
+use Rattle.std.proofs.lemmas.Result.{IfOk-weaker}
+use Rattle.std.specs.List.{slice_split}
+use Rattle.std.specs.Prelude.{◌==◌}
+use Rattle.sel_lines.specs.Commands.{answer_of_words}
+use Rattle.sel_lines.proofs.Answered.{too_long, no_text, of_text}
+use Rattle.sel_lines.proofs.commands.answer_line.Goals as goal
+
+pub returns-then-line-gt-LONGEST_LINE : goal.returns-then-line-gt-LONGEST_LINE
+returns-then-line-gt-LONGEST_LINE c = too_long c.args.line.now (omega arith)
+
+pub returns-in_default : goal.returns-in_default
+returns-in_default c = no_text c.args.line.now c.in_default.ensures.cases.0
+
+pub returns : goal.returns
+returns c = let text = c.in-Ok.ensures.cases in
+    let cut = ap (map (λ part. part.now)) c.deref.ensures.value ∙ c.in_ok-words.ensures.parts in
+    IfOk-weaker c.answer_words.result _ _ (λ answer made. made ∙ ap answer_of_words (cut ∙ ap (slice_split (λ b. b == 32)) text.0) ∙ of_text c.args.line.now (omega arith) text.1) c.answer_words.ensures

@@ -1,0 +1,31 @@
+use Rattle.std.proofs.Common.{◌∙◌, ap, subst, length, replicate, w64, to_z, of_z}
+use Rattle.std.proofs.lemmas.Int.{to_z-of_z}
+use Rattle.std.proofs.lemmas.Result.{IfOk-weaker}
+use Rattle.sel_arrow.specs.Value.{Number}
+use Rattle.sel_sublists.specs.Entries.{at_each, IsGetRefusal}
+use Rattle.sel_lines.specs.Columns.{column_text}
+use Rattle.sel_lines.specs.Fixed.{entries_text}
+use Rattle.sel_lines.proofs.ReadBlocks.{entries_printed, refusal_printed}
+use Rattle.sel_lines.proofs.fixed.answer_blocks.Goals as goal
+
+pub returns-in-Ok : goal.returns-in-Ok
+returns-in-Ok c =
+    let arr = c.in_ok-array.array in
+    let index = to_z w64 (of_z w64 c.args.index) in
+    IfOk-weaker c.print_column.result _ _
+    (λ text made read has.
+    made ∙ ap column_text (c.numbers_of.ensures ∙ c.in-Ok.ensures.rows)
+    ∙ entries_printed arr c.args.width read index c.args.null_on_oob (c.in_ok-array.ensures.rows read has) c.in_ok-array.ensures.size c.in-Ok.ensures.inside
+    ∙ ap (λ z. entries_text c.args.width read (replicate (length read) (Number z)) c.args.null_on_oob) (to_z-of_z w64 c.args.index c.ranges.index))
+    c.print_column.ensures
+
+pub returns-in-ComputeError : goal.returns-in-ComputeError
+returns-in-ComputeError c =
+    let arr = c.in_ok-array.array in
+    let index = to_z w64 (of_z w64 c.args.index) in
+    let outside = subst (IsGetRefusal c.args.null_on_oob arr (at_each arr index)) c.in-ComputeError.is c.in-Err.ensures.refusal in
+    IfOk-weaker c.from_str.result _ _
+    (λ text made read has.
+    made ∙ refusal_printed arr c.args.width read index c.args.null_on_oob (c.in_ok-array.ensures.rows read has) c.in_ok-array.ensures.size outside
+    ∙ ap (λ z. entries_text c.args.width read (replicate (length read) (Number z)) c.args.null_on_oob) (to_z-of_z w64 c.args.index c.ranges.index))
+    c.from_str.ensures.ok

@@ -1,0 +1,10 @@
+-- The rows so far, and the parts that they are kept in.
+use Rattle.std.proofs.Common.{◌≡◌, List, map, take, Some}
+use Rattle.sel_arrow.specs.Value.{Value}
+use Rattle.sel_lines.specs.Columns.{all_some}
+use Rattle.sel_lines.specs.Lists.{list_of_word}
+use Rattle.sel_lines.specs.ListParts.{HasRead}
+use Rattle.sel_lines.proofs.lists.parse_each.Given as goal
+
+abbrev pub invariant-loop-word : goal.invariant-loop-word
+invariant-loop-word l = (read : List Value) × (all_some (map (λ word. list_of_word word.now) (take l.word-index l.words)) ≡ Some read) × HasRead read l.lists

@@ -1,0 +1,24 @@
+use Rattle.std.proofs.Common.{◌≤◌, ◌∙◌, arith, ap, sym, length}
+use Rattle.std.specs.Prelude.{◌==◌}
+use Rattle.std.specs.List.{list_all}
+use Rattle.std.proofs.lemmas.List.{take_all}
+use Rattle.sel_arrow.specs.Columns.{boolean_rows, primitive_rows}
+use Rattle.sel_arrow.specs.Rows.{rows}
+use Rattle.sel_arrow.specs.declared.array_ref.ArrayRef.{ArrayRef}
+use Rattle.polars_compute.specs.Pick.{all_within}
+use Rattle.sel_lines.proofs.SelectedRows.{all_long, unfit_at}
+use Rattle.sel_lines.proofs.select.select_is_safe.Goals as goal
+
+pub returns-then-len : goal.returns-then-len
+returns-then-len c =
+    unfit_at c.args.columns.now (boolean_rows c.args.mask.now) (primitive_rows c.args.indices.now) c.loop-column.column-index c.column-item.result c.loop-column-test.true c.column-item.is
+    (λ same. omega (arith, same, c.len.ensures.len, c.len-in-loop-column.ensures.len, c.if-len.true))
+
+pub returns : goal.returns
+returns c =
+    let columns = c.args.columns.now in
+    let mask = boolean_rows c.args.mask.now in
+    let indices = primitive_rows c.args.indices.now in
+    let all : length columns ≤ c.loop-column.column-index = omega (arith, c.loop-column-test.false) in
+    let each = ap (list_all (λ (a : ArrayRef). length (rows a.column) == length mask)) (sym (take_all c.loop-column.column-index columns all)) ∙ c.loop-column.invariant in
+    c.indices_in_bounds.ensures ∙ ap (λ n. all_within n indices) c.rows_in_force.ensures ∙ all_long columns mask indices each

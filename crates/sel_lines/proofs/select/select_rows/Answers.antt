@@ -1,0 +1,55 @@
+use Rattle.std.proofs.Common.{◌≤◌, ◌∙◌, arith, ap, length, map}
+use Rattle.std.proofs.lemmas.List.{take_all}
+use Rattle.std.proofs.lemmas.Result.{err_from_is_err_and}
+use Rattle.sel_arrow.specs.Columns.{boolean_rows, primitive_rows}
+use Rattle.sel_arrow.specs.Rows.{rows, type_of}
+use Rattle.sel_arrow.specs.declared.array_ref.ArrayRef.{ArrayRef}
+use Rattle.polars_compute.specs.Pick.{take_rows}
+use Rattle.polars_compute.specs.Select.{select, in_force}
+use Rattle.sel_lines.proofs.SelectedRows.{long_at, mapped_step, none_past, refused_some, rows_mapped}
+use Rattle.sel_lines.proofs.select.select_rows.Goals as goal
+
+pub select_column-requires-clause-long : goal.select_column-requires-clause-long
+select_column-requires-clause-long c =
+    let x = c.column-item.result in
+    ap (λ (a : ArrayRef). length (rows a.column)) c.column-item.is
+    ∙ long_at c.args.columns.now (boolean_rows c.args.mask.now) (primitive_rows c.args.indices.now) c.loop-column.column-index x c.requires c.loop-column-test.true
+
+pub returns-in_err-select_column-clause-refusal : goal.returns-in_err-select_column-clause-refusal
+returns-in_err-select_column-clause-refusal c =
+    let p = err_from_is_err_and c.from_residual-in_err-select_column.result c.from_residual-in_err-select_column.ensures.1 in
+    rw (p.1, p.2) (refused_some c.args.columns.now (boolean_rows c.args.mask.now) (primitive_rows c.args.indices.now) c.loop-column.column-index c.column-item.result c.in_err-select_column.field-0.0
+    c.loop-column-test.true c.column-item.is c.in_err-select_column.ensures.refusal)
+
+pub loop-column-preserved : goal.loop-column-preserved
+loop-column-preserved c =
+    let columns = c.args.columns.now in
+    let selected = λ (a : ArrayRef). take_rows (select (rows a.column) (in_force (boolean_rows c.args.mask.now))) (primitive_rows c.args.indices.now) in
+    let i = c.loop-column.column-index in
+    let x = c.column-item.result in
+    let taken = c.in_ok-select_column.field-0 in
+    record {
+      taken = mapped_step (λ (a : ArrayRef). rows a.column) selected columns c.loop-column.selected.items _ i x taken c.loop-column-test.true c.column-item.is c.in_ok-push.ensures.items
+          c.in_ok-select_column.ensures.rows c.loop-column.invariant.taken;
+      types = mapped_step (λ (a : ArrayRef). type_of a.column) (λ (a : ArrayRef). type_of a.column) columns c.loop-column.selected.items _ i x taken c.loop-column-test.true c.column-item.is c.in_ok-push.ensures.items
+          c.in_ok-select_column.ensures.dtype c.loop-column.invariant.types;
+    }
+
+pub returns-clause-rows : goal.returns-clause-rows
+returns-clause-rows c =
+    let columns = c.args.columns.now in
+    let mask = boolean_rows c.args.mask.now in
+    let indices = primitive_rows c.args.indices.now in
+    let all : length columns ≤ c.loop-column.column-index = omega (arith, c.loop-column-test.false) in
+    c.loop-column.invariant.taken ∙ ap (map (λ (a : ArrayRef). take_rows (select (rows a.column) (in_force mask)) indices)) (take_all c.loop-column.column-index columns all) ∙ rows_mapped mask indices columns
+
+pub returns-clause-within : goal.returns-clause-within
+returns-clause-within c =
+    let columns = c.args.columns.now in
+    let mask = boolean_rows c.args.mask.now in
+    let indices = primitive_rows c.args.indices.now in
+    let all : length columns ≤ c.loop-column.column-index = omega (arith, c.loop-column-test.false) in
+    let whole = take_all c.loop-column.column-index columns all in
+    none_past columns c.loop-column.selected.items mask indices
+    (c.loop-column.invariant.taken ∙ ap (map (λ (a : ArrayRef). take_rows (select (rows a.column) (in_force mask)) indices)) whole)
+    (c.loop-column.invariant.types ∙ ap (map (λ (a : ArrayRef). type_of a.column)) whole)

@@ -1,0 +1,10 @@
+-- The columns so far, printed.
+use Rattle.std.proofs.Common.{◌≡◌, map, take}
+use Rattle.std.specs.Prelude.{string_bytes}
+use Rattle.std.specs.List.{join_with_byte}
+use Rattle.sel_arrow.specs.Rows.{rows}
+use Rattle.sel_lines.specs.Columns.{column_text}
+use Rattle.sel_lines.proofs.table.print_columns.Given as goal
+
+abbrev pub invariant-loop-place : goal.invariant-loop-place
+invariant-loop-place l = string_bytes l.text ≡ join_with_byte 32 (map (λ c. column_text (rows c.column)) (take l.place l.columns))

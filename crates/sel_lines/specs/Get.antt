@@ -1,0 +1,18 @@
+-- The answers to `get LISTS INDEX`.
+use Rattle.std.specs.Prelude.{ℕ, List, [], ◌∷◌, Option, None, Some}
+use Rattle.sel_arrow.specs.Value.{Value, Number}
+use Rattle.sel_sublists.specs.Lists.{list_get}
+use Rattle.sel_lines.specs.Columns.{column_text}
+use Rattle.sel_lines.specs.Lists.{lists_of}
+use Rattle.sel_lines.specs.Numbers.{number_of}
+use Rattle.sel_lines.specs.Words.{if_both}
+
+-- the elements at the index, printed (own)
+abbrev pub get_answer : List Value → Value → Option (List ℕ)
+get_answer rows (Number index) = Some (column_text (list_get rows index))
+get_answer rows _ = None
+
+-- the answer to the words behind `get` (own)
+abbrev pub get_words : List (List ℕ) → Option (List ℕ)
+get_words (lists ∷ index ∷ []) = if_both get_answer (lists_of lists) (number_of index)
+get_words _ = None

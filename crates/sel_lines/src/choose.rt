@@ -1,0 +1,95 @@
+//! The command `choose MASK T F`.
+ghost use Rattle.std.specs.Prelude.{◌≡◌, ◌≤◌, IfOk, IfErr, All, length, map, option_map, string_bytes};
+ghost use Rattle.sel_arrow.specs.Columns.{boolean_rows, primitive_rows};
+ghost use Rattle.sel_arrow.specs.Value.{Number, Truth};
+ghost use Rattle.sel_lines.specs.Choose.{choose_answer, choose_words, chosen_rows};
+ghost use Rattle.sel_lines.specs.Lines.{longest_line};
+ghost use Rattle.sel_lines.specs.Rows.{rows_of};
+
+use crate::columns::{parse_column, print_column};
+use crate::refusals::want_of_memory;
+use crate::rows::Rows;
+use polars_compute::if_then_else::IfThenElseKernel;
+use sel_arrow::array::Array;
+use sel_arrow::boolean::BooleanArray;
+use sel_arrow::primitive::PrimitiveArray;
+use sel_bits::faults::{PolarsError, PolarsResult};
+use std::alloc::{AllocError, Global};
+
+/// The answer to the words behind `choose`, or `None` where the line is bad.
+pub fn answer_choose(alloc: Global, words: &[&str]) -> Result<Option<String>, AllocError>
+    requires { All (λ word. length word.now ≤ longest_line) words.now }
+    ensures { IfOk result (λ answer.
+        option_map string_bytes answer ≡ choose_words (map (λ word. word.now) words.now)) }
+{
+    if words.len() != 3 {
+        return Ok(None);
+    }
+    let Some(mask) = parse_column::<bool>(alloc, words[0])? else {
+        return Ok(None);
+    };
+    let Some(if_true) = parse_column::<i64>(alloc, words[1])? else {
+        return Ok(None);
+    };
+    let Some(if_false) = parse_column::<i64>(alloc, words[2])? else {
+        return Ok(None);
+    };
+    answer_rows(alloc, mask, if_true, if_false)
+}
+
+fn answer_rows(
+    alloc: Global,
+    mask: Rows<bool>,
+    if_true: Rows<i64>,
+    if_false: Rows<i64>,
+) -> Result<Option<String>, AllocError>
+    ensures { IfOk result (λ answer. option_map string_bytes answer
+        ≡ choose_answer (rows_of Truth mask) (rows_of Number if_true) (rows_of Number if_false)) }
+{
+    match choose_rows(alloc, mask, if_true, if_false) {
+        Ok(Some(chosen)) => Ok(Some(print_column(alloc, &chosen)?)),
+        Ok(None) => Ok(None),
+        Err(fault) => Err(want_of_memory(fault)),
+    }
+}
+
+fn choose_rows(
+    alloc: Global,
+    mask: Rows<bool>,
+    if_true: Rows<i64>,
+    if_false: Rows<i64>,
+) -> PolarsResult<Option<PrimitiveArray<i64>>>
+    ensures rows { IfOk result (λ chosen. option_map (λ column. primitive_rows column) chosen
+        ≡ chosen_rows (rows_of Truth mask) (rows_of Number if_true) (rows_of Number if_false)) }
+    ensures refusal { IfErr result (λ fault. fault ≡ PolarsError.OutOfMemory) }
+{
+    let mask = mask.into_boolean(alloc)?;
+    let if_true = if_true.into_primitive(alloc)?;
+    let if_false = if_false.into_primitive(alloc)?;
+    choose_columns(alloc, &mask, &if_true, &if_false)
+}
+
+// The rows that the mask chooses, or `None` where it has a null or not all three are of one length.
+fn choose_columns(
+    alloc: Global,
+    mask: &BooleanArray,
+    if_true: &PrimitiveArray<i64>,
+    if_false: &PrimitiveArray<i64>,
+) -> PolarsResult<Option<PrimitiveArray<i64>>>
+    ensures rows { IfOk result (λ chosen. option_map (λ column. primitive_rows column) chosen
+        ≡ chosen_rows (boolean_rows mask.now)
+        (primitive_rows if_true.now) (primitive_rows if_false.now)) }
+    ensures refusal { IfErr result (λ fault. fault ≡ PolarsError.OutOfMemory) }
+{
+    if mask.has_nulls() {
+        return Ok(None);
+    }
+    if if_true.len() != mask.len() {
+        return Ok(None);
+    }
+    if if_false.len() != mask.len() {
+        return Ok(None);
+    }
+    let chosen = PrimitiveArray::if_then_else(alloc, &mask.values, if_true, if_false)?;
+    Ok(Some(chosen))
+}

@@ -1,0 +1,85 @@
+//! The command `dict KEYS VALUES`.
+ghost use Rattle.std.specs.Prelude.{◌≡◌, ◌≤◌, IfOk, IfErr, All, length, map, option_map, string_bytes, pos};
+ghost use Rattle.sel_arrow.specs.Columns.{primitive_rows, utf8view_rows};
+ghost use Rattle.sel_arrow.specs.Value.{Number};
+ghost use Rattle.sel_lines.specs.Dict.{both_text, dict_answer, dict_words, without_nulls};
+ghost use Rattle.sel_lines.specs.Lines.{longest_line};
+ghost use Rattle.sel_lines.specs.Rows.{rows_of};
+
+use crate::columns::{parse_column, print_column};
+use crate::refusals::want_of_memory;
+use crate::rows::Rows;
+use crate::texts::parse_texts;
+use polars_compute::propagate_dictionary::{keys_in_bounds, propagate_dictionary_value_nulls};
+use sel_arrow::array::Array;
+use sel_arrow::primitive::PrimitiveArray;
+use sel_arrow::utf8view::Utf8ViewArray;
+use sel_bits::faults::{PolarsError, PolarsResult};
+use std::alloc::{AllocError, Global};
+
+/// The answer to the words behind `dict`, or `None` where the line is bad.
+pub fn answer_dict(alloc: Global, words: &[&str]) -> Result<Option<String>, AllocError>
+    requires { All (λ word. length word.now ≤ longest_line) words.now }
+    ensures { IfOk result (λ answer.
+        option_map string_bytes answer ≡ dict_words (map (λ word. word.now) words.now)) }
+{
+    if words.len() != 2 {
+        return Ok(None);
+    }
+    let Some(keys) = parse_column::<u32>(alloc, words[0])? else {
+        return Ok(None);
+    };
+    let Some(values) = parse_texts(alloc, words[1])? else {
+        return Ok(None);
+    };
+    answer_rows(alloc, keys, &values)
+}
+
+fn answer_rows(
+    alloc: Global,
+    keys: Rows<u32>,
+    values: &Utf8ViewArray,
+) -> Result<Option<String>, AllocError>
+    ensures { IfOk result (λ answer. option_map string_bytes answer
+        ≡ dict_answer (rows_of (λ n. Number (pos n)) keys) (utf8view_rows values.now)) }
+{
+    match propagate_rows(alloc, keys, values) {
+        Ok(Some((keys, values))) => Ok(Some(print_both(alloc, &keys, &values)?)),
+        Ok(None) => Ok(None),
+        Err(fault) => Err(want_of_memory(fault)),
+    }
+}
+
+// The keys, a space and the values.
+fn print_both(
+    alloc: Global,
+    keys: &PrimitiveArray<u32>,
+    values: &Utf8ViewArray,
+) -> Result<String, AllocError>
+    ensures { IfOk result (λ text. string_bytes text ≡
+        both_text (primitive_rows keys.now, utf8view_rows values.now)) }
+{
+    let mut text = print_column(alloc, keys)?;
+    let behind = print_column(alloc, values)?;
+    text.push(' ')?;
+    text.push_str(&behind)?;
+    Ok(text)
+}
+
+// The keys and the values without null values, or `None` where a key names no value.
+fn propagate_rows(
+    alloc: Global,
+    keys: Rows<u32>,
+    values: &Utf8ViewArray,
+) -> PolarsResult<Option<(PrimitiveArray<u32>, Utf8ViewArray)>>
+    ensures rows { IfOk result (λ both. option_map
+        (λ both. (primitive_rows both.0, utf8view_rows both.1)) both
+        ≡ without_nulls (rows_of (λ n. Number (pos n)) keys) (utf8view_rows values.now)) }
+    ensures refusal { IfErr result (λ fault. fault ≡ PolarsError.OutOfMemory) }
+{
+    let keys = keys.into_primitive(alloc)?;
+    if !keys_in_bounds(&keys, values.len()) {
+        return Ok(None);
+    }
+    Ok(Some(propagate_dictionary_value_nulls(alloc, &keys, values)?))
+}

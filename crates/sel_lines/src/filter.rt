@@ -1,0 +1,102 @@
+//! The command `filter COL MASK`.
+ghost use Rattle.std.specs.Prelude.{◌≡◌, ◌≤◌, IfOk, IfErr, All, length, map, option_map, string_bytes};
+ghost use Rattle.polars_compute.specs.Select.{select, in_force};
+ghost use Rattle.sel_arrow.specs.Columns.{boolean_rows, primitive_rows};
+ghost use Rattle.sel_arrow.specs.Rows.{rows, type_of};
+ghost use Rattle.sel_arrow.specs.Shape.{of_int64};
+ghost use Rattle.sel_arrow.specs.Value.{Number, Truth};
+ghost use Rattle.sel_lines.specs.Columns.{column_text};
+ghost use Rattle.sel_lines.specs.Filter.{filter_answer, filter_words};
+ghost use Rattle.sel_lines.specs.Lines.{longest_line};
+ghost use Rattle.sel_lines.specs.Rows.{rows_of};
+
+use crate::columns::{parse_column, print_column};
+use crate::refusals::want_of_memory;
+use crate::rows::Rows;
+use polars_compute::filter::filter;
+use sel_arrow::array::Array;
+use sel_arrow::array_ref::ArrayRef;
+use sel_arrow::boolean::BooleanArray;
+use sel_arrow::primitive::PrimitiveArray;
+use sel_bits::faults::{PolarsError, PolarsResult};
+use std::alloc::{AllocError, Global};
+
+/// The answer to the words behind `filter`, or `None` where the line is bad.
+pub fn answer_filter(alloc: Global, words: &[&str]) -> Result<Option<String>, AllocError>
+    requires { All (λ word. length word.now ≤ longest_line) words.now }
+    ensures { IfOk result (λ answer.
+        option_map string_bytes answer ≡ filter_words (map (λ word. word.now) words.now)) }
+{
+    if words.len() != 2 {
+        return Ok(None);
+    }
+    let Some(column) = parse_column::<i64>(alloc, words[0])? else {
+        return Ok(None);
+    };
+    let Some(mask) = parse_column::<bool>(alloc, words[1])? else {
+        return Ok(None);
+    };
+    answer_rows(alloc, column, mask)
+}
+
+fn answer_rows(
+    alloc: Global,
+    column: Rows<i64>,
+    mask: Rows<bool>,
+) -> Result<Option<String>, AllocError>
+    ensures { IfOk result (λ answer. option_map string_bytes answer
+        ≡ filter_answer (rows_of Number column) (rows_of Truth mask)) }
+{
+    match filter_rows(alloc, column, mask) {
+        Ok(Some(kept)) => Ok(Some(print_column(alloc, &kept)?)),
+        Ok(None) => Ok(None),
+        Err(fault) => Err(want_of_memory(fault)),
+    }
+}
+
+// The rows that the mask keeps, or `None` where it is not as long as the column.
+fn filter_rows(
+    alloc: Global,
+    column: Rows<i64>,
+    mask: Rows<bool>,
+) -> PolarsResult<Option<PrimitiveArray<i64>>>
+    ensures rows { IfOk result (λ kept. option_map
+        (λ column. column_text (primitive_rows column)) kept
+        ≡ filter_answer (rows_of Number column) (rows_of Truth mask)) }
+    ensures refusal { IfErr result (λ fault. fault ≡ PolarsError.OutOfMemory) }
+{
+    let column = column.into_primitive(alloc)?;
+    let mask = mask.into_boolean(alloc)?;
+    if column.len() != mask.len() {
+        return Ok(None);
+    }
+    Ok(Some(filter_column(alloc, column, &mask)?))
+}
+
+// The rows that a mask of the same length keeps.
+fn filter_column(
+    alloc: Global,
+    column: PrimitiveArray<i64>,
+    mask: &BooleanArray,
+) -> PolarsResult<PrimitiveArray<i64>>
+    requires { length (primitive_rows column) ≡ length (boolean_rows mask.now) }
+    ensures rows { IfOk result (λ kept. primitive_rows kept ≡
+        select (primitive_rows column) (in_force (boolean_rows mask.now))) }
+    ensures refusal { IfErr result (λ fault. fault ≡ PolarsError.OutOfMemory) }
+{
+    let array = column.into_ref();
+    let kept = filter(alloc, &array, mask);
+    drop(array);
+    Ok(numbers_of(kept?))
+}
+
+/// The column of numbers that a column of their type is.
+pub fn numbers_of(array: ArrayRef) -> PrimitiveArray<i64>
+    requires { type_of array.column ≡ of_int64 }
+    ensures { primitive_rows result ≡ rows array.column }
+{
+    match array.into_primitive::<i64>() {
+        Ok(numbers) => numbers,
+        Err(_) => unreachable!(),
+    }
+}

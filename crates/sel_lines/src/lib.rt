@@ -1,0 +1,22 @@
+//! What a line such as `take 5,n,7 2,n,1` says, and the line that answers it.
+#![tactic(auto)]
+
+mod blocks;
+mod choose;
+mod columns;
+pub mod commands;
+mod dict;
+mod filter;
+mod fixed;
+mod flatten;
+mod get;
+mod lists;
+mod numbers;
+mod pext;
+mod refusals;
+mod rows;
+pub mod select;
+mod table;
+mod take;
+mod texts;
+mod words;

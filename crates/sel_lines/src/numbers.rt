@@ -1,0 +1,91 @@
+//! Numbers and truth values as words.
+ghost use Rattle.std.specs.Prelude.{◌≡◌, ℕ, pos, List, Option, option_map, Decides};
+ghost use Rattle.sel_arrow.specs.Value.{Value, Number, Truth};
+ghost use Rattle.sel_lines.specs.Numbers.{number_of, index_of, size_of, truth_of};
+ghost use Rattle.sel_lines.specs.Parts.{HasOneSpelling};
+
+/// What a column has in a row that is not null.
+pub trait Item: Copy {
+    /// The value that a word is the printing of.
+    ghost value_of: { List ℕ → Option Value };
+
+    /// The value that an item is.
+    ghost shown: { Self → Value };
+
+    /// What stands beneath a null.
+    const BENEATH_NULL: Self;
+
+    /// The item that a word is the printing of.
+    fn parse(word: &str) -> Option<Self>
+        ensures { option_map shown result ≡ value_of word.now };
+}
+
+impl Item for i64 {
+    ghost value_of = { number_of };
+
+    ghost shown = { Number };
+
+    const BENEATH_NULL: i64 = 0;
+
+    fn parse(word: &str) -> Option<i64> {
+        if has_one_spelling(word) {
+            word.parse::<i64>().ok()
+        } else {
+            None
+        }
+    }
+}
+
+impl Item for u32 {
+    ghost value_of = { index_of };
+
+    ghost shown = { λ n. Number (pos n) };
+
+    const BENEATH_NULL: u32 = 0;
+
+    fn parse(word: &str) -> Option<u32> {
+        if has_one_spelling(word) {
+            word.parse::<u32>().ok()
+        } else {
+            None
+        }
+    }
+}
+
+impl Item for bool {
+    ghost value_of = { truth_of };
+
+    ghost shown = { Truth };
+
+    const BENEATH_NULL: bool = false;
+
+    #[tactic(auto, unfolding(crate::specs::Numbers::truth_of))]
+    fn parse(word: &str) -> Option<bool> {
+        match word.as_bytes() {
+            [b't'] => Some(true),
+            [b'f'] => Some(false),
+            _ => None,
+        }
+    }
+}
+
+/// The number that a word is the printing of.
+pub fn parse_size(word: &str) -> Option<usize>
+    ensures { result ≡ size_of word.now }
+{
+    if has_one_spelling(word) {
+        word.parse::<usize>().ok()
+    } else {
+        None
+    }
+}
+
+// No plus, no leading zero and no `-0`: what `parse` takes and printing never writes.
+fn has_one_spelling(word: &str) -> bool
+    ensures { Decides result (HasOneSpelling word.now) }
+{
+    match word.as_bytes() {
+        [b'+', ..] | [b'-', b'0', ..] | [b'0', _, ..] => false,
+        _ => true,
+    }
+}

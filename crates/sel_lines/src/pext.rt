@@ -1,0 +1,53 @@
+//! The command `pext V M`.
+ghost use Rattle.std.specs.Prelude.{◌≡◌, IfOk, map, option_map, string_bytes};
+ghost use Rattle.std.specs.List.{list_all};
+ghost use Rattle.sel_lines.specs.Pext.{is_hex_digit, is_hex_word, word_of_hex, pext_words};
+
+use polars_compute::filter::boolean::pext64_polyfill;
+use std::alloc::{AllocError, Global};
+
+const MOST_DIGITS: usize = 16;
+
+/// The answer to the words behind `pext`, or `None` where the line is bad.
+pub fn answer_pext(alloc: Global, words: &[&str]) -> Result<Option<String>, AllocError>
+    ensures { IfOk result (λ answer.
+        option_map string_bytes answer ≡ pext_words (map (λ word. word.now) words.now)) }
+{
+    if words.len() != 2 {
+        return Ok(None);
+    }
+    let Some(value) = parse_hex(words[0]) else {
+        return Ok(None);
+    };
+    let Some(mask) = parse_hex(words[1]) else {
+        return Ok(None);
+    };
+    let packed = pext64_polyfill(value, mask, mask.count_ones());
+    Ok(Some(format!(in alloc; "{packed:x}")?))
+}
+
+// The word that hexadecimal digits write.
+fn parse_hex(word: &str) -> Option<u64>
+    ensures { result ≡ word_of_hex word.now }
+{
+    if is_hex(word) {
+        u64::from_str_radix(word, 16).ok()
+    } else {
+        None
+    }
+}
+
+// One digit to 16 in lower case: no sign and no capital letter, which `from_str_radix` takes too.
+fn is_hex(word: &str) -> bool
+    ensures { result ≡ is_hex_word word.now }
+{
+    !word.is_empty() && word.len() <= MOST_DIGITS && has_hex_digits(word.as_bytes())
+}
+
+fn has_hex_digits(bytes: &[u8]) -> bool
+    ensures { result ≡ list_all is_hex_digit bytes.now }
+{
+    bytes
+        .iter()
+        .all(|byte| matches!(*byte, b'0'..=b'9' | b'a'..=b'f'))
+}

@@ -1,0 +1,59 @@
+//! The rows of a column that was read, and the columns that are made of them.
+ghost use Rattle.std.specs.Prelude.{◌≡◌, ◌+◌, ◌≤◌, length, IfOk, IfErr};
+ghost use Rattle.sel_arrow.specs.Columns.{boolean_rows, primitive_rows};
+ghost use Rattle.sel_arrow.specs.Value.{Number, Truth};
+ghost use Rattle.sel_lines.specs.Lines.{longest_line};
+
+use sel_arrow::boolean::BooleanArray;
+use sel_arrow::primitive::PrimitiveArray;
+use sel_bits::bitmap::Bitmap;
+use sel_bits::buffer::Buffer;
+use sel_bits::faults::{PolarsError, PolarsResult};
+use sel_bits::native::NativeType;
+use std::alloc::Global;
+
+/// The items of a column, and which of its rows are valid.
+#[derive(Drop)]
+pub struct Rows<T> {
+    pub values: Vec<T>,
+    pub validity: Vec<bool>,
+    ghost paired: { length validity.items ≡ length values.items },
+    ghost few: { length values.items ≤ longest_line + 1 },
+}
+
+impl<T: NativeType> Rows<T> {
+    ghost use Rattle.sel_lines.specs.Rows.{rows_of};
+
+    /// The column of these numbers. Refuses only for want of memory.
+    pub fn into_primitive(self, alloc: Global) -> PolarsResult<PrimitiveArray<T>>
+        ensures rows { IfOk result (λ column. primitive_rows column ≡
+            rows_of (λ x. Number (T.number x)) self) }
+        ensures refusal { IfErr result (λ fault. fault ≡ PolarsError.OutOfMemory) }
+    {
+        let Rows { values, validity } = self;
+        let validity = Bitmap::from_bools(alloc, &validity)?;
+        let values = Buffer::from_vec(values)?;
+        match PrimitiveArray::try_new(values, Some(validity)) {
+            Ok(column) => Ok(column),
+            Err(_) => unreachable!(),
+        }
+    }
+}
+
+impl Rows<bool> {
+    ghost use Rattle.sel_lines.specs.Rows.{rows_of};
+
+    /// The column of these truth values. Refuses only for want of memory.
+    pub fn into_boolean(self, alloc: Global) -> PolarsResult<BooleanArray>
+        ensures rows { IfOk result (λ column. boolean_rows column ≡ rows_of Truth self) }
+        ensures refusal { IfErr result (λ fault. fault ≡ PolarsError.OutOfMemory) }
+    {
+        let Rows { values, validity } = self;
+        let validity = Bitmap::from_bools(alloc, &validity)?;
+        let values = Bitmap::from_bools(alloc, &values)?;
+        match BooleanArray::try_new(values, Some(validity)) {
+            Ok(column) => Ok(column),
+            Err(_) => unreachable!(),
+        }
+    }
+}

@@ -1,0 +1,95 @@
+//! Rows of several columns: each column is filtered by one mask, and then taken by the same indices.
+ghost use Rattle.std.specs.Prelude.{◌≡◌, IsTrue, IfOk, IfErr, count_by, length};
+ghost use Rattle.sel_arrow.specs.Columns.{boolean_rows, primitive_rows};
+ghost use Rattle.sel_arrow.specs.Rows.{rows, type_of};
+ghost use Rattle.polars_compute.specs.Need.{IsRefusal, PassesNone, past};
+ghost use Rattle.polars_compute.specs.Pick.{all_within, take_rows};
+ghost use Rattle.polars_compute.specs.Select.{select, in_force, is_true};
+ghost use Rattle.sel_lines.specs.SelectRows.{rows_of_each, type_of_each, select_rows_of, selection_fits, past_selected};
+
+use polars_compute::filter::filter;
+use polars_compute::gather::{indices_in_bounds, take_unchecked};
+use sel_arrow::array::Array;
+use sel_arrow::array_ref::ArrayRef;
+use sel_arrow::boolean::BooleanArray;
+use sel_arrow::primitive::IdxArr;
+use sel_bits::faults::PolarsResult;
+use std::alloc::Global;
+
+/// Of each column the rows at the indices among those that the mask keeps, with the column's type: row k is null where index k
+/// is. So row k of all columns comes from one source row. Refuses for want of memory, and where a limit is passed by the rows
+/// that are asked for of some column.
+pub fn select_rows(
+    alloc: Global,
+    columns: &[ArrayRef],
+    mask: &BooleanArray,
+    indices: &IdxArr,
+) -> PolarsResult<Vec<ArrayRef>>
+    requires { IsTrue (selection_fits
+        (rows_of_each columns.now) (boolean_rows mask.now) (primitive_rows indices.now)) }
+    ensures rows { IfOk result (λ selected. rows_of_each selected.items ≡ select_rows_of
+        (rows_of_each columns.now) (boolean_rows mask.now) (primitive_rows indices.now)) }
+    ensures types { IfOk result (λ selected.
+        type_of_each selected.items ≡ type_of_each columns.now) }
+    ensures within { IfOk result (λ _. PassesNone
+        (past_selected columns.now (boolean_rows mask.now) (primitive_rows indices.now))) }
+    ensures refusal { IfErr result (IsRefusal
+        (past_selected columns.now (boolean_rows mask.now) (primitive_rows indices.now))) }
+{
+    let mut selected = Vec::with_capacity(alloc, columns.len())?;
+    for column in columns {
+        selected.push(select_column(alloc, column, mask, indices)?)?;
+    }
+    Ok(selected)
+}
+
+// The rows of one column at the indices among those that the mask keeps.
+fn select_column(
+    alloc: Global,
+    column: &ArrayRef,
+    mask: &BooleanArray,
+    indices: &IdxArr,
+) -> PolarsResult<ArrayRef>
+    requires long { length (rows column.now.column) ≡ length (boolean_rows mask.now) }
+    requires inside { IsTrue (all_within
+        (count_by is_true (boolean_rows mask.now)) (primitive_rows indices.now)) }
+    ensures rows { IfOk result (λ taken. rows taken.column ≡ take_rows
+        (select (rows column.now.column) (in_force (boolean_rows mask.now)))
+        (primitive_rows indices.now)) }
+    ensures dtype { IfOk result (λ taken. type_of taken.column ≡ type_of column.now.column) }
+    ensures refusal { IfErr result (IsRefusal (past (type_of column.now.column)
+        (take_rows (select (rows column.now.column) (in_force (boolean_rows mask.now)))
+        (primitive_rows indices.now)))) }
+{
+    let kept = filter(alloc, column, mask)?;
+    let taken = take_unchecked(alloc, &kept, indices);
+    drop(kept);
+    taken
+}
+
+/// Whether each column is as long as the mask, and each index that is not null is below the number of mask rows in force.
+/// Takes no memory.
+pub fn select_is_safe(columns: &[ArrayRef], mask: &BooleanArray, indices: &IdxArr) -> bool
+    ensures { result ≡ selection_fits
+        (rows_of_each columns.now) (boolean_rows mask.now) (primitive_rows indices.now) }
+{
+    for column in columns {
+        if column.len() != mask.len() {
+            return false;
+        }
+    }
+    indices_in_bounds(indices, rows_in_force(mask))
+}
+
+// How many rows of the mask are the valid value true.
+fn rows_in_force(mask: &BooleanArray) -> usize
+    ensures { result ≡ count_by is_true (boolean_rows mask.now) }
+{
+    let mut count = 0;
+    for place in 0..mask.len() {
+        if mask.get(place).unwrap_or(false) {
+            count += 1;
+        }
+    }
+    count
+}

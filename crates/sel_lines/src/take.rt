@@ -1,0 +1,87 @@
+//! The command `take COL IDX`.
+ghost use Rattle.std.specs.Prelude.{◌≡◌, ◌≤◌, IfOk, IfErr, All, length, map, option_map, string_bytes, pos};
+ghost use Rattle.sel_arrow.specs.Columns.{primitive_rows};
+ghost use Rattle.sel_arrow.specs.Value.{Number};
+ghost use Rattle.sel_lines.specs.Columns.{column_text};
+ghost use Rattle.sel_lines.specs.Lines.{longest_line};
+ghost use Rattle.sel_lines.specs.Rows.{rows_of};
+ghost use Rattle.sel_lines.specs.Take.{take_answer, take_words};
+
+use crate::columns::{parse_column, print_column};
+use crate::refusals::want_of_memory;
+use crate::rows::Rows;
+use polars_compute::gather::indices_in_bounds;
+use polars_compute::gather::primitive::take_primitive_unchecked;
+use sel_arrow::array::Array;
+use sel_arrow::primitive::{IdxArr, PrimitiveArray};
+use sel_bits::faults::{PolarsError, PolarsResult};
+use std::alloc::{AllocError, Global};
+
+/// The answer to the words behind `take`, or `None` where the line is bad.
+pub fn answer_take(alloc: Global, words: &[&str]) -> Result<Option<String>, AllocError>
+    requires { All (λ word. length word.now ≤ longest_line) words.now }
+    ensures { IfOk result (λ answer.
+        option_map string_bytes answer ≡ take_words (map (λ word. word.now) words.now)) }
+{
+    if words.len() != 2 {
+        return Ok(None);
+    }
+    let Some(column) = parse_column::<i64>(alloc, words[0])? else {
+        return Ok(None);
+    };
+    let Some(indices) = parse_column::<u32>(alloc, words[1])? else {
+        return Ok(None);
+    };
+    answer_rows(alloc, column, indices)
+}
+
+fn answer_rows(
+    alloc: Global,
+    column: Rows<i64>,
+    indices: Rows<u32>,
+) -> Result<Option<String>, AllocError>
+    ensures { IfOk result (λ answer. option_map string_bytes answer
+        ≡ take_answer (rows_of Number column) (rows_of (λ n. Number (pos n)) indices)) }
+{
+    match take_rows(alloc, column, indices) {
+        Ok(Some(taken)) => Ok(Some(print_column(alloc, &taken)?)),
+        Ok(None) => Ok(None),
+        Err(fault) => Err(want_of_memory(fault)),
+    }
+}
+
+// The rows at the indices, or `None` where an index has none.
+fn take_rows(
+    alloc: Global,
+    column: Rows<i64>,
+    indices: Rows<u32>,
+) -> PolarsResult<Option<PrimitiveArray<i64>>>
+    ensures rows { IfOk result (λ taken. option_map
+        (λ column. column_text (primitive_rows column)) taken
+        ≡ take_answer (rows_of Number column) (rows_of (λ n. Number (pos n)) indices)) }
+    ensures refusal { IfErr result (λ fault. fault ≡ PolarsError.OutOfMemory) }
+{
+    let column = column.into_primitive(alloc)?;
+    let indices = indices.into_primitive(alloc)?;
+    let taken = take_column(alloc, &column, &indices);
+    drop(column);
+    drop(indices);
+    taken
+}
+
+// The rows of a column at the indices, or `None` where an index has none.
+fn take_column(
+    alloc: Global,
+    column: &PrimitiveArray<i64>,
+    indices: &IdxArr,
+) -> PolarsResult<Option<PrimitiveArray<i64>>>
+    ensures rows { IfOk result (λ taken. option_map
+        (λ rows. column_text (primitive_rows rows)) taken
+        ≡ take_answer (primitive_rows column.now) (primitive_rows indices.now)) }
+    ensures refusal { IfErr result (λ fault. fault ≡ PolarsError.OutOfMemory) }
+{
+    if !indices_in_bounds(indices, column.len()) {
+        return Ok(None);
+    }
+    Ok(Some(take_primitive_unchecked(alloc, column, indices)?))
+}

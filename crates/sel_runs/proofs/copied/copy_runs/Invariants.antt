@@ -1,0 +1,8 @@
+-- What was copied so far.
+use Rattle.std.proofs.Common.{◌≡◌, take, map}
+use Rattle.sel_runs.specs.Picks.{pick}
+use Rattle.sel_runs.specs.Runs.{expand}
+use Rattle.sel_runs.proofs.copied.copy_runs.Given as goal
+
+abbrev pub invariant-loop-run : goal.invariant-loop-run
+invariant-loop-run g l = l.values.items ≡ pick l.fn.zero (map (λ s. s.values.now) l.parts) (expand (take l.run-index l.runs))

@@ -1,0 +1,55 @@
+use Rattle.std.proofs.Common.{◌≤◌, ◌∙◌, ◌++◌, ◌+◌, ◌∷◌, arith, ap, sym, length, map, pos, take}
+use Rattle.std.proofs.lemmas.Result.{err_from_is_err_and}
+use Rattle.sel_arrow.specs.Value.{Null}
+use Rattle.sel_runs.specs.Children.{joined_items}
+use Rattle.sel_runs.specs.Ends.{item_ends}
+use Rattle.sel_runs.specs.Need.{IsPastRows}
+use Rattle.sel_runs.specs.Picks.{pick, PickFits}
+use Rattle.sel_runs.specs.Runs.{expand, unrolled}
+use Rattle.sel_runs.proofs.Below.{refused_more}
+use Rattle.sel_runs.proofs.ItemRuns.{rows_of, below_of, all_runs, run_items_room}
+use Rattle.sel_runs.proofs.RunLists.{all_at, length-pick, pick_more, run_at}
+use Rattle.sel_runs.proofs.Walks.{counts_behind, ends_behind, items_behind, past_more}
+use Rattle.sel_runs.proofs.walk.walk_runs.Goals as goal
+
+pub push_lists-requires-clause-fits : goal.push_lists-requires-clause-fits
+push_lists-requires-clause-fits c = all_at (PickFits (rows_of c.args.sources.now)) c.args.runs.now c.loop-run.run-index c.loop-run-test.true c.requires.fits
+
+pub push_lists-requires-clause-count : goal.push_lists-requires-clause-count
+push_lists-requires-clause-count c =
+    sym (length-pick Null (below_of c.args.sources.now) (expand c.loop-run.below.items)) ∙ ap length c.loop-run.invariant.items ∙ sym c.loop-run.invariant.last
+
+pub loop-run-preserved : goal.loop-run-preserved
+loop-run-preserved c =
+    let xss = rows_of c.args.sources.now in
+    let runs = c.args.runs.now in
+    let i = c.loop-run.run-index in
+    let before = pick Null xss (expand (take i runs)) in
+    let more = pick Null xss (unrolled (run_at runs i)) in
+    let now = pick Null xss (expand (take (i + 1) runs)) in
+    let is = pick_more Null xss runs i c.loop-run-test.true in
+    record {
+      last = counts_behind 0 now before more c.loop-run.end _ is c.loop-run.invariant.last c.in_ok-end.ensures.last;
+      ends = ends_behind now before more c.loop-run.end c.loop-run.ends.items c.push_lists.new.ends.items is c.loop-run.invariant.last c.loop-run.invariant.ends c.in_ok-end.ensures.ends;
+      items = c.in_ok-end.ensures.items ∙ ap (λ l. l ++ joined_items 0 more) c.loop-run.invariant.items ∙ sym (items_behind 0 now before more is);
+      sound = c.in_ok-end.ensures.sound;
+    }
+
+pub returns-in_err-end-clause-refusal : goal.returns-in_err-end-clause-refusal
+returns-in_err-end-clause-refusal c =
+    let xss = rows_of c.args.sources.now in
+    let runs = c.args.runs.now in
+    let i = c.loop-run.run-index in
+    let so_far = c.loop-run.end + length (joined_items 0 (pick Null xss (unrolled (run_at runs i)))) in
+    let total = length (joined_items 0 (pick Null xss (expand runs))) in
+    let below : so_far ≤ total = run_items_room 0 xss runs i c.loop-run.end total c.loop-run-test.true c.loop-run.invariant.last (omega arith) in
+    let p = err_from_is_err_and c.from_residual-in_err-end.result c.from_residual-in_err-end.ensures.1 in
+    rw (p.1, p.2) (refused_more (IsPastRows so_far) (IsPastRows total) c.in_err-end.field-0.0 (past_more so_far _ below) c.in_err-end.ensures.refusal)
+
+pub returns-clause-ends : goal.returns-clause-ends
+returns-clause-ends c =
+    c.loop-run.invariant.ends ∙ all_runs (λ ps. map pos (0 ∷ item_ends 0 (pick Null (rows_of c.args.sources.now) ps))) c.args.runs.now c.loop-run.run-index c.loop-run-test.false
+
+pub returns-clause-items : goal.returns-clause-items
+returns-clause-items c =
+    c.loop-run.invariant.items ∙ all_runs (λ ps. joined_items 0 (pick Null (rows_of c.args.sources.now) ps)) c.args.runs.now c.loop-run.run-index c.loop-run-test.false

@@ -1,0 +1,78 @@
+//! Values without a validity, copied run by run.
+
+ghost use Rattle.std.specs.Prelude.{◌≡◌, ◌≤◌, ◌+◌, ◌++◌, All, false, is_none, length, map, take, drop, IfOk, IfErr, OnOk};
+ghost use Rattle.sel_runs.specs.Picks.{pick, PickFits};
+ghost use Rattle.sel_runs.specs.Runs.{expand, unrolled};
+
+use crate::fill::push_values;
+use crate::gather::Part;
+use crate::run::Run;
+use sel_bits::faults::{PolarsError, PolarsResult};
+use std::alloc::Global;
+
+/// Whether some run is one of nulls.
+pub(crate) fn is_any_null(runs: &[Run]) -> bool
+    ensures { result ≡ false → All (λ run. is_none run.source ≡ false) runs.now }
+{
+    runs.iter().any(|run| run.source.is_none())
+}
+
+/// The values that runs pick, `len` in all, and `zero` for none. Refuses only for want of memory.
+pub(crate) fn copy_runs<T: Copy + Drop>(
+    alloc: Global,
+    parts: &[Part<T>],
+    runs: &[Run],
+    zero: T,
+    len: usize,
+) -> PolarsResult<Vec<T>>
+    requires fits { All (PickFits (map (λ s. s.values.now) parts.now)) (expand runs.now) }
+    requires few { length (expand runs.now) ≤ 4294967295 }
+    ensures values { IfOk result (λ values. values.items ≡
+        pick zero (map (λ s. s.values.now) parts.now) (expand runs.now)) }
+    ensures refusal { IfErr result (λ fault. fault ≡ PolarsError.OutOfMemory) }
+{
+    let mut values = Vec::with_capacity(alloc, len)?;
+    for run in runs {
+        copy_run(&mut values, parts, *run, zero)?;
+    }
+    Ok(values)
+}
+
+// Puts the values that a run picks behind the others, `zero` for none. Refuses only for want of memory.
+#[inline]
+fn copy_run<T: Copy + Drop>(
+    values: &mut Vec<T>,
+    parts: &[Part<T>],
+    run: Run,
+    zero: T,
+) -> PolarsResult<()>
+    requires fits { All (PickFits (map (λ s. s.values.now) parts.now)) (unrolled run) }
+    requires room { length values.old.items + run.len ≤ 4294967295 }
+    ensures values { OnOk result (values.new.items ≡ values.old.items ++
+        pick zero (map (λ s. s.values.now) parts.now) (unrolled run)) }
+    ensures refusal { IfErr result (λ fault. fault ≡ PolarsError.OutOfMemory) }
+{
+    if run.len == 0 {
+        return Ok(());
+    }
+    let len = run.len as usize;
+    match run.source {
+        None => push_values(values, zero, len),
+        Some(source) => {
+            let part = &parts[source as usize];
+            copy_part(values, part.values, run.start as usize, len)
+        }
+    }
+}
+
+// Puts the `len` values from `start` on behind the others. Refuses only for want of memory.
+#[inline]
+fn copy_part<T: Copy>(values: &mut Vec<T>, from: &[T], start: usize, len: usize) -> PolarsResult<()>
+    requires { start + len ≤ length from.now }
+    ensures values { OnOk result (values.new.items ≡
+        values.old.items ++ take len (drop start from.now)) }
+    ensures refusal { IfErr result (λ fault. fault ≡ PolarsError.OutOfMemory) }
+{
+    values.extend_from_slice(&from[start..start + len])?;
+    Ok(())
+}
