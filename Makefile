@@ -33,6 +33,7 @@ test:
 	tools/picture --check
 	tools/header --check
 	tools/links
+	tools/refused --texts
 	rt ci
 	tools/tried
 

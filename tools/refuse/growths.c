@@ -16,7 +16,8 @@ enum {
     BEGINS_FREE = 1000033,  /* a call begins that takes no memory */
     ENDS = 1000037,         /* it ended, and answered */
     ENDS_REFUSED = 1000039, /* it ended with its want of memory */
-    ENDS_LIMITED = 1000081  /* it ended by a limit, or with its want of memory */
+    ENDS_LIMITED = 1000081, /* it ended by a limit, or with its want of memory */
+    ENDS_EITHER = 1000099   /* it ended, and answered; it may take memory, or none */
 };
 
 extern void *__libc_malloc(size_t);
@@ -118,6 +119,9 @@ static int is_mark(size_t bytes)
         return 1;
     case ENDS_LIMITED:
         end_call(is_free ? "free" : "limited");
+        return 1;
+    case ENDS_EITHER:
+        end_call(is_free ? "free" : "either");
         return 1;
     default:
         return 0;

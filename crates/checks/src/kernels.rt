@@ -1,16 +1,15 @@
 //! Filters and takes of columns without children, and the kernels of bits, numbers and bytes beneath them.
 
 use checks_columns::fixtures::{
-    begins_with, column, has_bits, has_bytes, has_numbers, is_bytes, numbers, validity_of,
+    begins_with, column, has_bits, has_bytes, has_numbers, numbers, validity_of,
 };
 use polars_compute::filter::boolean::filter_bitmap_and_validity;
+use polars_compute::filter::filter_boolean_kernel;
 use polars_compute::filter::primitive::{filter_values, filter_values_and_validity};
-use polars_compute::filter::{filter_boolean_kernel, filter_with_bitmap};
 use polars_compute::gather::binary::take_unchecked;
 use polars_compute::gather::primitive::take_primitive_unchecked;
 use polars_compute::gather::{indices_in_bounds, indices_in_bounds_of};
 use sel_arrow::array::Array;
-use sel_arrow::array_ref::ArrayRef;
 use sel_arrow::binary::BinaryArray;
 use sel_arrow::primitive::{IdxArr, PrimitiveArray};
 use sel_bits::bitmap::Bitmap;
@@ -82,22 +81,6 @@ fn zeros(alloc: Global, count: usize) -> Result<IdxArr, Fail> {
         numbers.push(0u32)?;
     }
     Ok(PrimitiveArray::try_new(Buffer::from_vec(numbers)?, None)?)
-}
-
-// The rows of any column whose bits are set, where there are as many bits.
-//
-// Columns of every kind are dropped by a call: a drop at the end of a body is proved kind by kind.
-fn kept_by(alloc: Global, array: ArrayRef, mask: &Bitmap) -> Result<ArrayRef, Fail> {
-    let kept = rows_kept(alloc, &array, mask);
-    drop(array);
-    kept
-}
-
-fn rows_kept(alloc: Global, array: &ArrayRef, mask: &Bitmap) -> Result<ArrayRef, Fail> {
-    if array.len() != mask.len() {
-        return Err(Fail::from("another length"));
-    }
-    Ok(filter_with_bitmap(alloc, array, mask)?)
 }
 
 // 112 bits at bit offset 3, true at even places.
@@ -243,48 +226,6 @@ fn kept_values(rt: HostRuntime) -> Result<(), Fail> {
     assert!(rt; keeps_few(rt.alloc(), &values, &mask) == Ok(true));
     assert!(rt; keeps_few_valid(rt.alloc(), &values, &mask) == Ok(true));
     Ok(())
-}
-
-#[test]
-fn filters_of_bytes(rt: HostRuntime) -> Result<(), Fail> {
-    let alloc = rt.alloc();
-    let rows: [Option<&[u8]>; 5] = [Some(b"a"), None, Some(b"bc"), Some(b""), Some(b"def")];
-    // The first row of the part, its mask, and what is kept of it.
-    let parts: [(usize, &[bool], &[Option<&[u8]>]); 4] = [
-        (
-            0,
-            &[true, true, false, true, false],
-            &[Some(b"a"), None, Some(b"")],
-        ),
-        (0, &[false, false, false, false, false], &[]),
-        (
-            1,
-            &[true, false, true, true],
-            &[None, Some(b""), Some(b"def")],
-        ),
-        (2, &[true, false, true], &[Some(b"bc"), Some(b"def")]),
-    ];
-    let array = bytes_column::<i64>(alloc, &rows)?;
-    for (first, mask, kept) in &parts {
-        assert!(rt; keeps_of_part(alloc, &array, *first, mask, kept)?);
-    }
-    Ok(())
-}
-
-// Whether these rows are kept of those from the place on.
-fn keeps_of_part(
-    alloc: Global,
-    array: &BinaryArray<i64>,
-    first: usize,
-    mask: &[bool],
-    kept: &[Option<&[u8]>],
-) -> Result<bool, Fail> {
-    if array.len() != 5 || first > 5 || mask.len() != 5 - first {
-        return Err(Fail::from("another length"));
-    }
-    let mask = Bitmap::from_bools(alloc, mask)?;
-    let part = array.sliced(alloc, first, 5 - first)?;
-    is_bytes(kept_by(alloc, part.into_ref(), &mask)?, kept)
 }
 
 // The rows of bytes at these indices, where they are in bounds.

@@ -1,9 +1,9 @@
-//! The worked rows of filters, of takes, of dictionaries, of rows of several columns and of the laws, as tests, and the
-//! pieces by which runs are copied, each called by itself.
+//! The kernels beneath the filters and takes of any column, the pieces by which rows and runs are copied, each called by itself, and
+//! the laws, as tests.
 #![tactic(auto)]
 
 #[cfg(test)]
-mod dictionaries;
+mod copies;
 #[cfg(test)]
 mod filters;
 #[cfg(test)]

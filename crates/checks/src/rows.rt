@@ -1,22 +1,18 @@
 //! Rows of several columns, by picks and by runs.
 
-use checks_columns::fixtures::{
-    buffer, column, has_bytes, has_bytes_at, has_numbers, is_numbers, one_buffer,
-};
+use checks_columns::fixtures::{buffer, has_bytes, has_bytes_at, one_buffer};
 use polars_compute::gather::{collect_rows, picks_in_bounds};
 use sel_arrow::array::Array;
 use sel_arrow::array_ref::ArrayRef;
 use sel_arrow::binary::BinaryArray;
 use sel_arrow::binview::BinaryViewArray;
 use sel_arrow::column::Column;
-use sel_arrow::primitive::{ArrowPrimitive, PrimitiveArray};
 use sel_arrow::view::View;
 use sel_bits::bitmap::Bitmap;
 use sel_bits::faults::PolarsResult;
 use sel_bits::offsets::OffsetsBuffer;
-use sel_runs::collect::collect_runs;
 use sel_runs::run::{Run, push_run};
-use sel_runs::sources::{are_alike, are_well_formed, picked_rows, runs_fit};
+use sel_runs::sources::{are_alike, are_well_formed, picked_rows};
 use std::alloc::Global;
 use std::test::Fail;
 
@@ -48,64 +44,6 @@ fn collected_of_two(
     drop(first);
     drop(second);
     rows
-}
-
-fn numbers<T: ArrowPrimitive>(alloc: Global, values: &[T]) -> Result<PrimitiveArray<T>, Fail> {
-    Ok(PrimitiveArray::try_new(buffer(alloc, values)?, None)?)
-}
-
-// 58 picks, more than a word of bits takes at once: row 2 of the first column, nulls, and row 1 of the second.
-fn many_picks(alloc: Global) -> PolarsResult<Vec<Option<(u32, u32)>>> {
-    let mut picks = Vec::from_slice(alloc, &[Some((0, 2))])?;
-    for _ in 0..56 {
-        picks.push(None)?;
-    }
-    picks.push(Some((1, 1)))?;
-    Ok(picks)
-}
-
-// A first row, 56 nulls and a last row.
-fn many_rows(alloc: Global) -> PolarsResult<Vec<Option<u8>>> {
-    let mut rows = Vec::from_slice(alloc, &[Some(3)])?;
-    for _ in 0..56 {
-        rows.push(None)?;
-    }
-    rows.push(Some(5))?;
-    Ok(rows)
-}
-
-#[test]
-fn rows_of_numbers_past_a_word_of_bits(rt: HostRuntime) -> Result<(), Fail> {
-    let alloc = rt.alloc();
-    let picks = many_picks(alloc)?;
-    let wanted = many_rows(alloc)?;
-    let first = numbers(alloc, &[1u8, 2, 3])?;
-    let second = numbers(alloc, &[4u8, 5])?;
-    let rows = collected_of_two(alloc, first.into_ref(), second.into_ref(), &picks)?;
-    assert!(rt; is_numbers(rows, &wanted)?);
-    Ok(())
-}
-
-#[test]
-fn rows_of_numbers_without_a_null(rt: HostRuntime) -> Result<(), Fail> {
-    let alloc = rt.alloc();
-    let first = numbers(alloc, &[1i128, 2, 3])?;
-    let second = numbers(alloc, &[4i128, 5])?;
-    let picks = [Some((0, 2)), Some((1, 0)), Some((0, 0)), Some((0, 2))];
-    let rows = collected_of_two(alloc, first.into_ref(), second.into_ref(), &picks)?;
-    assert!(rt; is_numbers(rows, &[Some(3i128), Some(4), Some(1), Some(3)])?);
-    Ok(())
-}
-
-#[test]
-fn rows_of_numbers_with_a_null_in_one_column(rt: HostRuntime) -> Result<(), Fail> {
-    let alloc = rt.alloc();
-    let first = numbers(alloc, &[1u32, 2, 3])?;
-    let second = column(alloc, &[Some(4u32), None], 9)?;
-    let picks = [Some((1, 1)), Some((0, 1)), Some((1, 0))];
-    let rows = collected_of_two(alloc, first.into_ref(), second.into_ref(), &picks)?;
-    assert!(rt; is_numbers(rows, &[None, Some(2u32), Some(4)])?);
-    Ok(())
 }
 
 // Rows of `abc`, cut at these offsets.
@@ -193,43 +131,5 @@ fn some_runs(alloc: Global) -> PolarsResult<Vec<Run>> {
 fn runs_that_go_on_are_one(rt: HostRuntime) -> Result<(), Fail> {
     let runs = some_runs(rt.alloc())?;
     assert!(rt; runs.len() == 2 && picked_rows(&runs) == 4);
-    Ok(())
-}
-
-// The four rows that runs pick of a column of small numbers.
-fn picked_numbers<'a>(
-    alloc: Global,
-    sources: &'a [&'a Column],
-    runs: &[Run],
-) -> Result<PrimitiveArray<u8>, Fail> {
-    if sources.is_empty() || !are_alike(sources) || !are_well_formed(sources) {
-        return Err(Fail::from("another argument"));
-    }
-    if !runs_fit(sources, runs) || picked_rows(runs) != 4 {
-        return Err(Fail::from("another argument"));
-    }
-    let column = collect_runs(alloc, sources, runs, 4)?;
-    let rows = ArrayRef { column };
-    Ok(rows.into_primitive::<u8>().ok().ok_or("another type")?)
-}
-
-// Whether runs pick the second and the third row, and then two nulls.
-fn picks_the_last(alloc: Global, column: &Column, runs: &[Run]) -> Result<bool, Fail> {
-    let rows = picked_numbers(alloc, &[column], runs)?;
-    Ok(has_numbers(&rows, &[Some(2), Some(3), None, None]))
-}
-
-// The same of these runs of one column, which is dropped by a call.
-fn runs_pick_the_last(alloc: Global, column: ArrayRef, runs: &[Run]) -> Result<bool, Fail> {
-    let answer = picks_the_last(alloc, column.as_column(), runs);
-    drop(column);
-    answer
-}
-
-#[test]
-fn rows_of_runs(rt: HostRuntime) -> Result<(), Fail> {
-    let runs = some_runs(rt.alloc())?;
-    let column = numbers(rt.alloc(), &[1u8, 2, 3])?;
-    assert!(rt; runs_pick_the_last(rt.alloc(), column.into_ref(), &runs)?);
     Ok(())
 }

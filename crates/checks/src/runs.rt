@@ -3,9 +3,8 @@
 ghost use Rattle.sel_arrow.specs.Rows.{IsWellFormed};
 
 use crate::rows::views;
-use checks_columns::fixtures::{buffer, has_bits, has_bytes_at, is_numbers, number_column};
+use checks_columns::fixtures::{buffer, has_bits, has_bytes_at};
 use sel_arrow::array::Array;
-use sel_arrow::array_ref::ArrayRef;
 use sel_arrow::binview::BinaryViewArray;
 use sel_arrow::column::Column;
 use sel_arrow::view::View;
@@ -15,7 +14,6 @@ use sel_bits::faults::PolarsResult;
 use sel_bits::packer::BitPacker;
 use sel_runs::bits::{push_validity, validity_from};
 use sel_runs::run::{Run, nulls_of, run_of_pick, runs_of_picks};
-use sel_runs::single::collect_one;
 use sel_runs::sources::{picked_rows, runs_fit};
 use sel_runs::view::{collect_views, push_buffers, raised_view};
 use std::alloc::Global;
@@ -55,25 +53,6 @@ fn picks_that_go_on_are_one_run(rt: HostRuntime) -> Result<(), Fail> {
     Ok(())
 }
 
-// The four rows that runs pick of one column.
-fn picked_of_one(alloc: Global, column: &Column, runs: &[Run]) -> Result<ArrayRef, Fail>
-    requires { IsWellFormed column.now }
-{
-    if !runs_fit(&[column], runs) || picked_rows(runs) != 4 {
-        return Err(Fail::from("another argument"));
-    }
-    Ok(collect_one(alloc, column, runs, 4)?)
-}
-
-// The same of a column that is needed no more.
-//
-// Columns of every kind are dropped by a call: a drop at the end of a body is proved kind by kind.
-fn picked(alloc: Global, column: ArrayRef, runs: &[Run]) -> Result<ArrayRef, Fail> {
-    let rows = picked_of_one(alloc, column.as_column(), runs);
-    drop(column);
-    rows
-}
-
 // So many rows of a source from this row on.
 fn run_of_rows(source: u32, start: u32, len: u32) -> Run {
     Run {
@@ -81,15 +60,6 @@ fn run_of_rows(source: u32, start: u32, len: u32) -> Run {
         start,
         len,
     }
-}
-
-#[test]
-fn rows_of_one_column_by_runs(rt: HostRuntime) -> Result<(), Fail> {
-    let column = number_column(rt.alloc(), &[Some(1), None, Some(3)])?;
-    let runs = [run_of_rows(0, 1, 2), nulls_of(1), run_of_rows(0, 0, 1)];
-    let rows = picked(rt.alloc(), column, &runs)?;
-    assert!(rt; is_numbers(rows, &[None, Some(3i64), None, Some(1)])?);
-    Ok(())
 }
 
 // Two true bits, and behind them the last three of four.

@@ -1,10 +1,6 @@
-//! The worked rows of choices, as tests.
+//! Choices by words and at odd masks, and the views and data buffers of choices, as tests.
 #![tactic(auto)]
 
-#[cfg(test)]
-mod flat;
-#[cfg(test)]
-mod lists;
 #[cfg(test)]
 mod masks;
 #[cfg(test)]

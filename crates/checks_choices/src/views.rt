@@ -1,11 +1,9 @@
-//! Choices between columns of bytes and of texts that views name.
+//! Which views and data buffers a choice between columns of views has; what its rows are is told by tables.
 
 use crate::masks::is_as_long;
-use checks_columns::fixtures::{buffer, has_bytes_at, has_text, one_buffer};
+use checks_columns::fixtures::{buffer, has_bytes_at, one_buffer};
 use sel_arrow::array::Array;
 use sel_arrow::binview::BinaryViewArray;
-use sel_arrow::datatype::ArrowDataType;
-use sel_arrow::utf8view::Utf8ViewArray;
 use sel_arrow::view::View;
 use sel_bits::bitmap::Bitmap;
 use sel_bits::buffer::Buffer;
@@ -43,23 +41,44 @@ fn otherwise(
     Ok(BinaryViewArray::if_then_else(alloc, &mask, if_true, if_false)?)
 }
 
+// Whether the only view is this one, of these bytes, over so many data buffers.
+fn is_view(
+    alloc: Global,
+    chosen: &BinaryViewArray,
+    view: View,
+    bytes: &[u8],
+    buffers: usize,
+) -> Result<bool, Fail> {
+    Ok(
+        chosen.views().as_slice() == [view].as_slice()
+            && chosen.data_buffers().len() == buffers
+            && has_bytes_at(alloc, chosen, 0, Some(bytes))?,
+    )
+}
+
+// Whether the view of the false side names the second data buffer.
+fn names_the_second_buffer(alloc: Global) -> Result<bool, Fail> {
+    let chosen = otherwise(alloc, &far_bytes(alloc, LONG)?, &far_bytes(alloc, OTHER)?)?;
+    is_view(alloc, &chosen, View::new_from_bytes(OTHER, 1, 0), OTHER, 2)
+}
+
 #[test]
 fn a_view_of_the_false_side_names_the_second_buffer(rt: HostRuntime) -> Result<(), Fail> {
-    let alloc = rt.alloc();
-    let chosen = otherwise(alloc, &far_bytes(alloc, LONG)?, &far_bytes(alloc, OTHER)?)?;
-    let view = *chosen.views().as_slice().first().ok_or("no view")?;
-    assert!(rt; view.buffer_idx == 1 && chosen.data_buffers().len() == 2);
-    assert!(rt; has_bytes_at(alloc, &chosen, 0, Some(OTHER))?);
+    assert!(rt; names_the_second_buffer(rt.alloc())?);
     Ok(())
+}
+
+// Whether a view that holds its bytes stays as it is.
+fn stays(alloc: Global, near: &BinaryViewArray, view: View, bytes: &[u8]) -> Result<bool, Fail> {
+    let chosen = otherwise(alloc, &far_bytes(alloc, LONG)?, near)?;
+    is_view(alloc, &chosen, view, bytes, 1)
 }
 
 #[test]
 fn a_view_that_holds_its_bytes_stays(rt: HostRuntime) -> Result<(), Fail> {
-    let alloc = rt.alloc();
-    let chosen = otherwise(alloc, &far_bytes(alloc, LONG)?, &near_bytes(alloc)?)?;
-    let view = *chosen.views().as_slice().first().ok_or("no view")?;
-    assert!(rt; view == View::new_from_bytes(b"abcdefgh", 0, 0));
-    assert!(rt; has_bytes_at(alloc, &chosen, 0, Some(b"abcdefgh"))?);
+    let near = near_bytes(rt.alloc())?;
+    let view = View::new_from_bytes(b"abcdefgh", 0, 0);
+    assert!(rt; stays(rt.alloc(), &near, view, b"abcdefgh")?);
     Ok(())
 }
 
@@ -71,96 +90,41 @@ const FOUR: View = View {
     offset: 0,
 };
 
+// A column of that view alone.
+fn four_letters(alloc: Global) -> Result<BinaryViewArray, Fail> {
+    let none = Buffer::from_vec(Vec::new(alloc))?;
+    Ok(BinaryViewArray::try_new(buffer(alloc, &[FOUR])?, none, None)?)
+}
+
 #[test]
 fn a_view_that_holds_its_bytes_stays_whatever_is_behind_them(rt: HostRuntime) -> Result<(), Fail> {
-    let alloc = rt.alloc();
-    let none = Buffer::from_vec(Vec::new(alloc))?;
-    let four = BinaryViewArray::try_new(buffer(alloc, &[FOUR])?, none, None)?;
-    assert!(rt; has_bytes_at(alloc, &four, 0, Some(b"abcd"))?);
-    let chosen = otherwise(alloc, &far_bytes(alloc, LONG)?, &four)?;
-    assert!(rt; chosen.views().as_slice() == [FOUR].as_slice());
-    assert!(rt; has_bytes_at(alloc, &chosen, 0, Some(b"abcd"))?);
+    let four = four_letters(rt.alloc())?;
+    assert!(rt; stays(rt.alloc(), &four, FOUR, b"abcd")?);
     Ok(())
 }
 
-#[test]
-fn bytes_of_a_column_and_a_scalar(rt: HostRuntime) -> Result<(), Fail> {
-    let alloc = rt.alloc();
-    let column = far_bytes(alloc, LONG)?;
-    let mask = Bitmap::from_bools(alloc, &[true])?;
-    if !is_as_long(&column, &mask) {
-        return Err(Fail::from("another length"));
-    }
-    let scalar = Vec::from_slice(alloc, OTHER)?;
-    let chosen = BinaryViewArray::if_then_else_broadcast_true(alloc, &mask, &scalar, &column)?;
-    assert!(rt; has_bytes_at(alloc, &chosen, 0, Some(OTHER))? && chosen.data_buffers().len() == 2);
-    let chosen = BinaryViewArray::if_then_else_broadcast_false(alloc, &mask, &column, &scalar)?;
-    assert!(rt; has_bytes_at(alloc, &chosen, 0, Some(LONG))? && chosen.data_buffers().len() == 2);
-    Ok(())
-}
-
-#[test]
-fn bytes_of_two_scalars(rt: HostRuntime) -> Result<(), Fail> {
-    let alloc = rt.alloc();
-    let mask = Bitmap::from_bools(alloc, &[false, true])?;
-    let first = Vec::from_slice(alloc, LONG)?;
-    let second = Vec::from_slice(alloc, OTHER)?;
-    let dtype = ArrowDataType::BinaryView;
-    let chosen = BinaryViewArray::if_then_else_broadcast_both(
-        alloc, dtype, &mask, &first, &second,
-    )?;
-    assert!(rt; chosen.len() == 2 && chosen.data_buffers().len() == 2);
-    assert!(rt; has_bytes_at(alloc, &chosen, 0, Some(OTHER))?);
-    assert!(rt; has_bytes_at(alloc, &chosen, 1, Some(LONG))?);
-    Ok(())
-}
-
-// A column of two short texts.
-fn two_texts(alloc: Global, first: &[u8; 1], second: &[u8; 1]) -> Result<Utf8ViewArray, Fail> {
-    let first = View::new_from_bytes(first, 0, 0);
-    let second = View::new_from_bytes(second, 0, 0);
-    let none = Buffer::from_vec(Vec::new(alloc))?;
-    Ok(Utf8ViewArray::try_new(buffer(alloc, &[first, second])?, none, None)?)
-}
-
-// Whether these are the two texts alone.
-fn are_texts(
+// How many data buffers a choice between bytes and one row of others has.
+fn buffers_beside_a_value(
     alloc: Global,
-    column: &Utf8ViewArray,
-    first: &str,
-    second: &str,
-) -> Result<bool, Fail> {
-    Ok(
-        column.len() == 2
-            && has_text(alloc, column, 0, Some(first))?
-            && has_text(alloc, column, 1, Some(second))?,
-    )
-}
-
-#[test]
-fn texts_of_a_column_and_a_scalar(rt: HostRuntime) -> Result<(), Fail> {
-    let alloc = rt.alloc();
-    let column = two_texts(alloc, b"y", b"z")?;
-    let mask = Bitmap::from_bools(alloc, &[true, false])?;
-    if !is_as_long(&column, &mask) {
+    column: &BinaryViewArray,
+    scalar: &Vec<u8>,
+) -> Result<usize, Fail> {
+    let mask = Bitmap::from_bools(alloc, &[true])?;
+    if !is_as_long(column, &mask) {
         return Err(Fail::from("another length"));
     }
-    let scalar = String::from_str(alloc, "x")?;
-    let chosen = Utf8ViewArray::if_then_else_broadcast_true(alloc, &mask, &scalar, &column)?;
-    assert!(rt; are_texts(alloc, &chosen, "x", "z")? && chosen.data_buffers().len() == 0);
-    let chosen = Utf8ViewArray::if_then_else_broadcast_false(alloc, &mask, &column, &scalar)?;
-    assert!(rt; are_texts(alloc, &chosen, "y", "x")?);
-    Ok(())
+    let chosen = BinaryViewArray::if_then_else_broadcast_true(alloc, &mask, scalar, column)?;
+    Ok(chosen.data_buffers().len())
+}
+
+// The same of a column of a long row and a value.
+fn buffers_beside(alloc: Global, scalar: &[u8]) -> Result<usize, Fail> {
+    let scalar = Vec::from_slice(alloc, scalar)?;
+    buffers_beside_a_value(alloc, &far_bytes(alloc, LONG)?, &scalar)
 }
 
 #[test]
-fn texts_of_two_scalars(rt: HostRuntime) -> Result<(), Fail> {
-    let alloc = rt.alloc();
-    let mask = Bitmap::from_bools(alloc, &[false, true])?;
-    let first = String::from_str(alloc, "first")?;
-    let second = String::from_str(alloc, "second")?;
-    let dtype = ArrowDataType::Utf8View;
-    let chosen = Utf8ViewArray::if_then_else_broadcast_both(alloc, dtype, &mask, &first, &second)?;
-    assert!(rt; are_texts(alloc, &chosen, "second", "first")?);
+fn a_long_value_has_a_data_buffer_of_its_own(rt: HostRuntime) -> Result<(), Fail> {
+    assert!(rt; buffers_beside(rt.alloc(), OTHER)? == 2);
     Ok(())
 }

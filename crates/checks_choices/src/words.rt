@@ -166,18 +166,47 @@ fn are_chosen(values: &[u64]) -> bool {
     values.len() == 135
 }
 
-#[test]
-fn values_by_all_words_of_a_mask(rt: HostRuntime) -> Result<(), Fail> {
-    let mask = long_mask(rt.alloc())?;
-    let if_true = numbers_from(rt.alloc(), 0, 135)?;
-    let if_false = numbers_from(rt.alloc(), 1000, 135)?;
+// Whether the numbers are chosen by three words of the mask.
+fn chooses_by_words(alloc: Global, mask: &Bitmap) -> Result<bool, Fail> {
+    let if_true = numbers_from(alloc, 0, 135)?;
+    let if_false = numbers_from(alloc, 1000, 135)?;
     if if_true.len() != mask.len() || if_false.len() != mask.len() {
         return Err(Fail::from("another length"));
     }
-    let mut words = AlignedWords::new(&mask);
-    let values = if_then_else_words(rt.alloc(), &mut words, &if_true, &if_false)?;
-    assert!(rt; are_chosen(&values) && words.words_read() == 3);
+    let mut words = AlignedWords::new(mask);
+    let values = if_then_else_words(alloc, &mut words, &if_true, &if_false)?;
+    Ok(are_chosen(&values) && words.words_read() == 3)
+}
+
+#[test]
+fn values_by_all_words_of_a_mask(rt: HostRuntime) -> Result<(), Fail> {
+    let mask = long_mask(rt.alloc())?;
+    assert!(rt; chooses_by_words(rt.alloc(), &mask)?);
     Ok(())
+}
+
+// Whether the validity of a choice is these bits, or there is none.
+fn is_validity(
+    alloc: Global,
+    mask: &Bitmap,
+    if_true: Option<&Bitmap>,
+    if_false: Option<&Bitmap>,
+    bits: Option<&[bool]>,
+) -> Result<bool, Fail> {
+    if let Some(side) = if_true {
+        if side.len() != mask.len() {
+            return Err(Fail::from("another length"));
+        }
+    }
+    if let Some(side) = if_false {
+        if side.len() != mask.len() {
+            return Err(Fail::from("another length"));
+        }
+    }
+    match (if_then_else_validity(alloc, mask, if_true, if_false)?, bits) {
+        (Some(chosen), Some(bits)) => Ok(has_bits(&chosen, bits)),
+        (chosen, bits) => Ok(chosen.is_none() && bits.is_none()),
+    }
 }
 
 #[test]
@@ -185,15 +214,17 @@ fn validities_of_choices(rt: HostRuntime) -> Result<(), Fail> {
     let alloc = rt.alloc();
     let mask = Bitmap::from_bools(alloc, &[true, false])?;
     let bits = Bitmap::from_bools(alloc, &[false, false])?;
-    if bits.len() != mask.len() {
-        return Err(Fail::from("another length"));
-    }
-    assert!(rt; if_then_else_validity(alloc, &mask, None, None)?.is_none());
-    let chosen = if_then_else_validity(alloc, &mask, None, Some(&bits))?.ok_or("none")?;
-    assert!(rt; has_bits(&chosen, &[true, false]));
-    let chosen = if_then_else_validity(alloc, &mask, Some(&bits), None)?.ok_or("none")?;
-    assert!(rt; has_bits(&chosen, &[false, true]));
-    let chosen = if_then_else_validity(alloc, &mask, Some(&bits), Some(&mask))?.ok_or("none")?;
-    assert!(rt; has_bits(&chosen, &[false, false]));
+    assert!(rt; is_validity(alloc, &mask, None, None, None)?);
+    assert!(rt; is_validity(alloc, &mask, None, Some(&bits), Some(&[true, false]))?);
+    assert!(rt; is_validity(alloc, &mask, Some(&bits), None, Some(&[false, true]))?);
+    assert!(rt;
+        is_validity(
+            alloc,
+            &mask,
+            Some(&bits),
+            Some(&mask),
+            Some(&[false, false])
+        )?
+    );
     Ok(())
 }

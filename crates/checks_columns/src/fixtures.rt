@@ -135,12 +135,6 @@ pub fn has_truths(column: &BooleanArray, rows: &[Option<bool>]) -> bool {
     true
 }
 
-/// Whether a column of any type is one of these truth values.
-pub fn is_truths(column: ArrayRef, rows: &[Option<bool>]) -> Result<bool, Fail> {
-    let column = column.into_boolean().ok().ok_or("another type")?;
-    Ok(has_truths(&column, rows))
-}
-
 /// Whether the column is these numbers; none is null.
 pub fn has_numbers<T: ArrowPrimitive + PartialEq>(
     column: &PrimitiveArray<T>,
@@ -220,12 +214,6 @@ pub fn has_bytes<O: Offset>(column: &BinaryArray<O>, rows: &[Option<&[u8]>]) -> 
         }
     }
     true
-}
-
-/// Whether a column of any type is one of these bytes.
-pub fn is_bytes(column: ArrayRef, rows: &[Option<&[u8]>]) -> Result<bool, Fail> {
-    let column = column.into_binary().ok().ok_or("another type")?;
-    Ok(has_bytes(&column, rows))
 }
 
 /// Whether the row at the place is these bytes.

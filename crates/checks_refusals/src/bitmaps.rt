@@ -1,7 +1,7 @@
 //! Bitmaps, buffers and offsets: their makers, their operations and the packer.
 
-use crate::marks::{begins, begins_free, ends, ends_answered, ends_by};
 use checks_columns::fixtures::has_bits;
+use checks_lines::marks::{begins, begins_free, ends, ends_answered, ends_by};
 use sel_bits::bitmap::Bitmap;
 use sel_bits::buffer::Buffer;
 use sel_bits::faults::{MakeError, PolarsError, PolarsResult};

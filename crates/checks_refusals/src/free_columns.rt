@@ -1,12 +1,10 @@
 //! The calls on columns that take no memory, with every growth refused.
 
-use crate::kinds::{
-    KINDS, Kind, ROWS, block_array, block_entries, byte_view_array, failing_kind, list_array,
-    list_entries, made, number_array,
-};
-use crate::marks::{begins_free, ends_answered};
-use crate::same::{has_rows, is_column};
+use crate::made::{LISTS, NUMBERS, PAIRS, VIEWS};
 use checks_columns::fixtures::{buffer, column, offsets, one_buffer, validity};
+use checks_lines::marks::{begins_free, ends_answered};
+use checks_lines::read::{Form, column as read};
+use checks_lines::typed::{blocks, lists, numbers, views};
 use polars_compute::gather::{
     idx_slice_in_bounds, indices_in_bounds, indices_in_bounds_of, picks_in_bounds,
 };
@@ -26,77 +24,6 @@ use sel_arrow::view::View;
 use sel_bits::bitmap::Bitmap;
 use std::alloc::Global;
 use std::test::Fail;
-
-/// What a column tells of itself.
-fn tells(alloc: Global, kind: Kind, column: &ArrayRef) -> Result<bool, Fail> {
-    begins_free(alloc);
-    let len = column.len();
-    let is_empty = column.is_empty();
-    let nulls = column.null_count();
-    let has_nulls = column.has_nulls();
-    let has_validity = column.validity().is_some();
-    let is_same = column.same_dtype(column);
-    let is_null = column.has_dtype(&ArrowDataType::Null);
-    let is_formed = column.as_column().is_well_formed();
-    ends_answered(alloc);
-    let is_of_nulls = kind == Kind::Nulls;
-    let is_told = len == 5 && !is_empty && is_same && is_formed && has_nulls;
-    let are_told = nulls == if is_of_nulls { 5 } else { 1 };
-    let is_typed = is_null == is_of_nulls && has_validity != is_of_nulls;
-    Ok(is_told && are_told && is_typed && has_rows(alloc, column, kind, &ROWS)?)
-}
-
-#[test]
-fn no_memory_for_what_a_column_tells(rt: HostRuntime) -> Result<(), Fail> {
-    assert_eq!(rt; failing_kind(rt.alloc(), tells)?, None);
-    Ok(())
-}
-
-/// A column as one of its own kind, and that as one of any type.
-fn turned(column: ArrayRef, kind: Kind) -> Result<ArrayRef, ArrayRef> {
-    match kind {
-        Kind::Nulls => Ok(column.into_null()?.into_ref()),
-        Kind::Truths => Ok(column.into_boolean()?.into_ref()),
-        Kind::Int8 => Ok(column.into_primitive::<i8>()?.into_ref()),
-        Kind::Int16 => Ok(column.into_primitive::<i16>()?.into_ref()),
-        Kind::Int32 => Ok(column.into_primitive::<i32>()?.into_ref()),
-        Kind::Int64 => Ok(column.into_primitive::<i64>()?.into_ref()),
-        Kind::Int128 => Ok(column.into_primitive::<i128>()?.into_ref()),
-        Kind::UInt8 => Ok(column.into_primitive::<u8>()?.into_ref()),
-        Kind::UInt16 => Ok(column.into_primitive::<u16>()?.into_ref()),
-        Kind::UInt32 => Ok(column.into_primitive::<u32>()?.into_ref()),
-        Kind::UInt64 => Ok(column.into_primitive::<u64>()?.into_ref()),
-        Kind::UInt128 => Ok(column.into_primitive::<u128>()?.into_ref()),
-        Kind::Bytes => Ok(column.into_binary()?.into_ref()),
-        Kind::ByteViews => Ok(column.into_binview()?.into_ref()),
-        Kind::Texts => Ok(column.into_utf8view()?.into_ref()),
-        Kind::Lists => Ok(column.into_list()?.into_ref()),
-        Kind::Blocks | Kind::BlocksOfLists => Ok(column.into_fixed_size_list()?.into_ref()),
-        Kind::Tuples => Ok(column.into_struct()?.into_ref()),
-    }
-}
-
-fn turns(alloc: Global, kind: Kind) -> Result<bool, Fail> {
-    let column = made(alloc, kind, &ROWS)?;
-    begins_free(alloc);
-    let back = turned(column, kind);
-    ends_answered(alloc);
-    match back {
-        Ok(column) => is_column(alloc, column, kind, &ROWS),
-        Err(column) => {
-            drop(column);
-            Ok(false)
-        }
-    }
-}
-
-#[test]
-fn no_memory_for_another_view_of_a_column(rt: HostRuntime) -> Result<(), Fail> {
-    for kind in KINDS {
-        assert!(rt; turns(rt.alloc(), kind)?, "{kind:?}");
-    }
-    Ok(())
-}
 
 /// Whether columns of nulls, of truth values and of numbers are made, and their rows read.
 fn makes_flat(alloc: Global) -> Result<bool, Fail> {
@@ -189,7 +116,7 @@ fn tests_columns(alloc: Global, columns: &[ArrayRef], source: &Column) -> bool {
 
 #[test]
 fn no_memory_for_tests_of_indices(rt: HostRuntime) -> Result<(), Fail> {
-    let wide = number_array::<i64>(rt.alloc(), &ROWS)?;
+    let wide = numbers::<i64>(rt.alloc(), "i64", NUMBERS, Form::Whole)?;
     assert!(rt; tests_indices(rt.alloc(), &wide)?);
     Ok(())
 }
@@ -197,7 +124,7 @@ fn no_memory_for_tests_of_indices(rt: HostRuntime) -> Result<(), Fail> {
 /// One column of numbers.
 fn one_column(alloc: Global) -> Result<Vec<ArrayRef>, Fail> {
     let mut columns = Vec::with_capacity(alloc, 1)?;
-    columns.push(made(alloc, Kind::Int64, &ROWS)?)?;
+    columns.push(read(alloc, "i64", NUMBERS, Form::Whole)?)?;
     Ok(columns)
 }
 
@@ -210,7 +137,7 @@ fn tests_columns_of(alloc: Global, source: &Column) -> Result<bool, Fail> {
 
 #[test]
 fn no_memory_for_tests_of_columns(rt: HostRuntime) -> Result<(), Fail> {
-    let source = made(rt.alloc(), Kind::Int64, &ROWS)?;
+    let source = read(rt.alloc(), "i64", NUMBERS, Form::Whole)?;
     let are_tested = tests_columns_of(rt.alloc(), source.as_column());
     drop(source);
     assert!(rt; are_tested?);
@@ -232,31 +159,31 @@ fn lists_fit(alloc: Global, scalar: &ArrayRef) -> Result<bool, Fail> {
     if !type_fits(alloc, scalar)? {
         return Ok(false);
     }
-    let lists = list_array(alloc, &ROWS)?;
+    let found = lists(alloc, "list<i64>", LISTS, Form::Whole)?;
     begins_free(alloc);
-    let fits = lists.scalar_fits(scalar);
+    let fits = found.scalar_fits(scalar);
     ends_answered(alloc);
-    drop(lists);
+    drop(found);
     Ok(fits)
 }
 
 /// The same of lists of one length.
 fn blocks_fit(alloc: Global, scalar: &ArrayRef) -> Result<bool, Fail> {
-    let blocks = block_array(alloc, &ROWS)?;
+    let found = blocks(alloc, "fixed<2,i64>", PAIRS, Form::Whole)?;
     begins_free(alloc);
-    let fits = blocks.scalar_fits(scalar);
+    let fits = found.scalar_fits(scalar);
     ends_answered(alloc);
-    drop(blocks);
+    drop(found);
     Ok(fits)
 }
 
 #[test]
 fn no_memory_for_tests_of_scalars(rt: HostRuntime) -> Result<(), Fail> {
-    let scalar = list_entries(rt.alloc(), 3)?;
+    let scalar = read(rt.alloc(), "i64", "[3,null,3]", Form::Whole)?;
     let are_lists = lists_fit(rt.alloc(), &scalar);
     drop(scalar);
     assert!(rt; are_lists?);
-    let scalar = block_entries(rt.alloc(), 3)?;
+    let scalar = read(rt.alloc(), "i64", "[3,5]", Form::Whole)?;
     let are_blocks = blocks_fit(rt.alloc(), &scalar);
     drop(scalar);
     assert!(rt; are_blocks?);
@@ -265,7 +192,7 @@ fn no_memory_for_tests_of_scalars(rt: HostRuntime) -> Result<(), Fail> {
 
 #[test]
 fn no_memory_for_a_test_of_bytes(rt: HostRuntime) -> Result<(), Fail> {
-    let bytes = byte_view_array(rt.alloc(), &ROWS)?;
+    let bytes = views(rt.alloc(), VIEWS, Form::Whole)?;
     begins_free(rt.alloc());
     let is_utf8 = bytes.is_utf8();
     ends_answered(rt.alloc());

@@ -1,12 +1,10 @@
 //! Other validities of columns, and parts of validities, which take no memory, with every growth refused.
 
-use crate::kinds::{
-    Kind, ROWS, block_array, byte_array, byte_view_array, list_array, number_array, truth_array,
-    tuple_array,
-};
-use crate::marks::{begins_free, ends_answered};
-use crate::same::is_column;
+use crate::made::{LISTS, NUMBERS, PAIRS, PIECES, TRUTHS, TUPLES, VIEWS, is_column};
 use checks_columns::fixtures::has_bits;
+use checks_lines::marks::{begins_free, ends_answered};
+use checks_lines::read::Form;
+use checks_lines::typed::{blocks, lists, mask, numbers, pieces, tuples, views};
 use sel_arrow::array::Array;
 use sel_arrow::binary::BinaryArray;
 use sel_arrow::binview::BinaryViewArray;
@@ -21,10 +19,8 @@ use sel_bits::faults::PolarsResult;
 use std::alloc::Global;
 use std::test::Fail;
 
-/// Another validity of the rows that calls are given, and the rows under it.
+/// Another validity of the rows that calls are given.
 const BITS: [bool; 5] = [true, false, true, true, false];
-
-const MASKED: [Option<u8>; 5] = [Some(1), None, Some(2), Some(7), None];
 
 fn masked_truths(column: BooleanArray, bits: Option<Bitmap>) -> BooleanArray {
     if has_other_length(&bits, column.len()) {
@@ -78,9 +74,9 @@ fn masked_tuples(column: StructArray, bits: Option<Bitmap>) -> StructArray {
 /// Whether a column takes another validity without memory.
 fn masks<A: Array + Drop, F: FnOnce(A, Option<Bitmap>) -> A + Drop>(
     alloc: Global,
-    kind: Kind,
     column: A,
     mask: F,
+    rows: &str,
 ) -> Result<bool, Fail>
     requires { F.IsAlwaysCallable mask }
 {
@@ -88,67 +84,50 @@ fn masks<A: Array + Drop, F: FnOnce(A, Option<Bitmap>) -> A + Drop>(
     begins_free(alloc);
     let masked = mask(column, Some(bits));
     ends_answered(alloc);
-    is_column(alloc, masked.into_ref(), kind, &MASKED)
+    is_column(alloc, masked, rows)
 }
 
 #[test]
 fn no_memory_for_another_validity(rt: HostRuntime) -> Result<(), Fail> {
     let alloc = rt.alloc();
-    assert!(rt;
-        masks(
-            alloc,
-            Kind::Truths,
-            truth_array(alloc, &ROWS)?,
-            masked_truths
-        )?
-    );
-    assert!(rt;
-        masks(
-            alloc,
-            Kind::Int64,
-            number_array::<i64>(alloc, &ROWS)?,
-            masked_numbers
-        )?
-    );
-    assert!(rt;
-        masks(
-            alloc,
-            Kind::Bytes,
-            byte_array::<i64>(alloc, &ROWS)?,
-            masked_bytes
-        )?
-    );
-    assert!(rt;
-        masks(
-            alloc,
-            Kind::ByteViews,
-            byte_view_array(alloc, &ROWS)?,
-            masked_views
-        )?
-    );
+    let column = mask(alloc, TRUTHS, Form::Whole)?;
+    assert!(rt; masks(alloc, column, masked_truths, "[true,null,false,true,null]")?);
+    let column = numbers::<i64>(alloc, "i64", NUMBERS, Form::Whole)?;
+    assert!(rt; masks(alloc, column, masked_numbers, "[1,null,2,7,null]")?);
+    let column = pieces(alloc, PIECES, Form::Whole)?;
+    let rows = r#"[h"01",null,h"0202",h"07070707070707",null]"#;
+    assert!(rt; masks(alloc, column, masked_bytes, rows)?);
+    let column = views(alloc, VIEWS, Form::Whole)?;
+    let rows =
+        r#"[h"6262626262626262626262626262",null,h"63636363",h"6868686868686868686868686868",null]"#;
+    assert!(rt; masks(alloc, column, masked_views, rows)?);
     Ok(())
 }
 
 #[test]
 fn no_memory_for_another_validity_of_lists(rt: HostRuntime) -> Result<(), Fail> {
     let alloc = rt.alloc();
-    assert!(rt; masks(alloc, Kind::Lists, list_array(alloc, &ROWS)?, masked_lists)?);
+    let column = lists(alloc, "list<i64>", LISTS, Form::Whole)?;
     assert!(rt;
         masks(
             alloc,
-            Kind::Blocks,
-            block_array(alloc, &ROWS)?,
-            masked_blocks
+            column,
+            masked_lists,
+            "[[1],null,[2,null],[7,7],null]"
         )?
     );
+    let column = blocks(alloc, "fixed<2,i64>", PAIRS, Form::Whole)?;
     assert!(rt;
         masks(
             alloc,
-            Kind::Tuples,
-            tuple_array(alloc, &ROWS)?,
-            masked_tuples
+            column,
+            masked_blocks,
+            "[[1,5],null,[2,5],[7,5],null]"
         )?
     );
+    let column = tuples(alloc, "struct<i64,utf8>", TUPLES, Form::Whole)?;
+    let rows = r#"[(1,"b"),null,(2,"c"),(7,"h"),null]"#;
+    assert!(rt; masks(alloc, column, masked_tuples, rows)?);
     Ok(())
 }
 

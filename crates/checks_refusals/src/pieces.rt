@@ -1,16 +1,14 @@
-//! The pieces of the kernels: copies of items, runs, validities, data buffers, the bytes and texts of views, choices by words,
-//! and dictionaries.
+//! The pieces of the kernels: copies of items, runs, validities, data buffers, the bytes and texts of views, and choices by words.
 
-use crate::kinds::{Kind, ROWS, byte_view_array, letters, text_array};
-use crate::marks::{begins, ends_by};
-use crate::same::is_column;
-use checks_columns::fixtures::{buffer, column, has_bits, has_numbers};
+use crate::made::{LETTERS, TEXTS, VIEWS, is_column};
+use checks_columns::fixtures::{buffer, has_bits};
+use checks_lines::marks::{begins, ends_by};
+use checks_lines::read::Form;
+use checks_lines::typed::{texts, views};
 use polars_compute::if_then_else::if_then_else_validity;
 use polars_compute::if_then_else::scalar::if_then_else_words;
-use polars_compute::propagate_dictionary::{keys_in_bounds, propagate_dictionary_value_nulls};
 use sel_arrow::array::Array;
 use sel_arrow::binview::BinaryViewArray;
-use sel_arrow::primitive::PrimitiveArray;
 use sel_arrow::utf8view::Utf8ViewArray;
 use sel_bits::aligned_words::AlignedWords;
 use sel_bits::bitmap::Bitmap;
@@ -163,7 +161,7 @@ fn data_buffers_joined(rt: HostRuntime) -> Result<(), Fail> {
 /// Whether the bytes of a row are 14 letters, or want of memory was told.
 fn are_letters(answer: PolarsResult<Option<Vec<u8>>>) -> bool {
     match answer {
-        Ok(Some(bytes)) => bytes.as_slice() == letters(7).as_slice(),
+        Ok(Some(bytes)) => bytes.as_slice() == LETTERS.as_bytes(),
         Ok(None) => false,
         Err(fault) => fault == PolarsError::OutOfMemory,
     }
@@ -172,7 +170,7 @@ fn are_letters(answer: PolarsResult<Option<Vec<u8>>>) -> bool {
 /// The same of a text.
 fn is_text(answer: PolarsResult<Option<String>>) -> bool {
     match answer {
-        Ok(Some(text)) => text.as_bytes() == letters(7).as_slice(),
+        Ok(Some(text)) => text.as_str() == LETTERS,
         Ok(None) => false,
         Err(fault) => fault == PolarsError::OutOfMemory,
     }
@@ -200,12 +198,12 @@ fn gets_text(alloc: Global, texts: &Utf8ViewArray) -> bool {
 
 #[test]
 fn row_of_bytes_and_of_text(rt: HostRuntime) -> Result<(), Fail> {
-    let bytes = byte_view_array(rt.alloc(), &ROWS)?;
+    let bytes = views(rt.alloc(), VIEWS, Form::Whole)?;
     assert!(rt; gets_bytes(rt.alloc(), &bytes));
-    assert!(rt; is_column(rt.alloc(), bytes.into_ref(), Kind::ByteViews, &ROWS)?);
-    let texts = text_array(rt.alloc(), &ROWS)?;
-    assert!(rt; gets_text(rt.alloc(), &texts));
-    assert!(rt; is_column(rt.alloc(), texts.into_ref(), Kind::Texts, &ROWS)?);
+    assert!(rt; is_column(rt.alloc(), bytes, VIEWS)?);
+    let found = texts(rt.alloc(), TEXTS, Form::Whole)?;
+    assert!(rt; gets_text(rt.alloc(), &found));
+    assert!(rt; is_column(rt.alloc(), found, TEXTS)?);
     Ok(())
 }
 
@@ -245,46 +243,5 @@ fn values_of_a_choice(rt: HostRuntime) -> Result<(), Fail> {
     let answer = if_then_else_words(alloc, &mut words, &[1u64, 2, 3], &[4, 5, 6]);
     ends_by(alloc, &answer);
     assert!(rt; are_numbers(answer, &[1, 5, 3]));
-    Ok(())
-}
-
-/// Whether the keys are those of the values 1, 7 and 4 alone, and the values are these, without a validity.
-fn is_propagated(
-    alloc: Global,
-    answer: PolarsResult<(PrimitiveArray<u32>, Utf8ViewArray)>,
-) -> Result<bool, Fail> {
-    match answer {
-        Ok((keys, values)) => {
-            let are_keys = has_numbers(&keys, &[Some(0), None, None, Some(3)]);
-            let are_bare = values.validity().is_none();
-            let rows = [Some(1), Some(2), Some(7), Some(4)];
-            let are_rows = is_column(alloc, values.into_ref(), Kind::Texts, &rows)?;
-            Ok(are_keys && are_bare && are_rows)
-        }
-        Err(fault) => Ok(fault == PolarsError::OutOfMemory),
-    }
-}
-
-fn propagates(
-    alloc: Global,
-    keys: &PrimitiveArray<u32>,
-    values: &Utf8ViewArray,
-) -> Result<bool, Fail> {
-    if !keys_in_bounds(keys, values.len()) {
-        return Err(Fail::from("out of bounds"));
-    }
-    begins(alloc);
-    let answer = propagate_dictionary_value_nulls(alloc, keys, values);
-    ends_by(alloc, &answer);
-    is_propagated(alloc, answer)
-}
-
-#[test]
-fn dictionary_without_null_values(rt: HostRuntime) -> Result<(), Fail> {
-    let keys = column(rt.alloc(), &[Some(0u32), Some(1), None, Some(4)], 9)?;
-    let values = text_array(rt.alloc(), &ROWS)?;
-    assert!(rt; propagates(rt.alloc(), &keys, &values)?);
-    assert!(rt; has_numbers(&keys, &[Some(0), Some(1), None, Some(4)]));
-    assert!(rt; is_column(rt.alloc(), values.into_ref(), Kind::Texts, &ROWS)?);
     Ok(())
 }

@@ -1,10 +1,11 @@
 //! The takes of columns without children, beneath the take of any column.
 
 use crate::bitmaps::are_bits;
-use crate::kinds::{Kind, ROWS, byte_array, number_array, truth_array};
-use crate::marks::{begins, ends_by};
-use crate::same::{is_answer_of, still_has};
-use checks_columns::fixtures::{column, has_bits, has_bytes};
+use crate::made::{NUMBERS, TRUTHS, is_answer, still_has};
+use checks_columns::fixtures::{buffer, column, has_bits, has_bytes, validity};
+use checks_lines::marks::{begins, ends_by};
+use checks_lines::read::Form;
+use checks_lines::typed::{mask, numbers};
 use polars_compute::gather::bitmap::{take_bitmap_nulls_unchecked, take_bitmap_unchecked};
 use polars_compute::gather::primitive::take_primitive_unchecked;
 use polars_compute::gather::{
@@ -14,11 +15,13 @@ use polars_compute::gather::{
 use sel_arrow::array::Array;
 use sel_arrow::binary::BinaryArray;
 use sel_arrow::boolean::BooleanArray;
-use sel_arrow::primitive::{ArrowPrimitive, IdxArr};
+use sel_arrow::primitive::{ArrowPrimitive, IdxArr, PrimitiveArray};
 use sel_bits::bitmap::Bitmap;
 use sel_bits::block_copy::BlockCopy;
+use sel_bits::buffer::Buffer;
 use sel_bits::faults::{PolarsError, PolarsResult};
 use sel_bits::native::{Index, Offset};
+use sel_bits::offsets::OffsetsBuffer;
 use std::alloc::Global;
 use std::test::Fail;
 
@@ -34,46 +37,46 @@ fn takes_truths(alloc: Global, values: &BooleanArray, places: &IdxArr) -> Result
     begins(alloc);
     let answer = boolean::take_unchecked(alloc, values, places);
     ends_by(alloc, &answer);
-    let is_so = is_answer_of(alloc, answer, Kind::Truths, &[Some(4), None, Some(1), None])?;
-    Ok(is_so && still_has(alloc, values, Kind::Truths, &ROWS)?)
+    let is_so = is_answer(alloc, answer, "[false,null,true,null]")?;
+    Ok(is_so && still_has(alloc, values, TRUTHS)?)
 }
 
 #[test]
 fn take_of_truth_values(rt: HostRuntime) -> Result<(), Fail> {
-    let values = truth_array(rt.alloc(), &ROWS)?;
+    let values = mask(rt.alloc(), TRUTHS, Form::Whole)?;
     assert!(rt; takes_truths(rt.alloc(), &values, &indices(rt.alloc())?)?);
     Ok(())
 }
 
 fn takes_numbers<T: ArrowPrimitive + Drop>(
     alloc: Global,
-    kind: Kind,
+    dtype: &str,
     places: &IdxArr,
 ) -> Result<bool, Fail> {
-    let values = number_array::<T>(alloc, &ROWS)?;
+    let values = numbers::<T>(alloc, dtype, NUMBERS, Form::Whole)?;
     if !indices_in_bounds(places, values.len()) {
         return Err(Fail::from("out of bounds"));
     }
     begins(alloc);
     let answer = take_primitive_unchecked(alloc, &values, places);
     ends_by(alloc, &answer);
-    let is_so = is_answer_of(alloc, answer, kind, &[Some(4), None, Some(1), None])?;
-    Ok(is_so && still_has(alloc, &values, kind, &ROWS)?)
+    let is_so = is_answer(alloc, answer, "[4,null,1,null]")?;
+    Ok(is_so && still_has(alloc, &values, NUMBERS)?)
 }
 
 /// Of numbers of every type.
 fn takes_all_numbers(alloc: Global, places: &IdxArr) -> Result<bool, Fail> {
     Ok(
-        takes_numbers::<i8>(alloc, Kind::Int8, places)?
-            && takes_numbers::<i16>(alloc, Kind::Int16, places)?
-            && takes_numbers::<i32>(alloc, Kind::Int32, places)?
-            && takes_numbers::<i64>(alloc, Kind::Int64, places)?
-            && takes_numbers::<i128>(alloc, Kind::Int128, places)?
-            && takes_numbers::<u8>(alloc, Kind::UInt8, places)?
-            && takes_numbers::<u16>(alloc, Kind::UInt16, places)?
-            && takes_numbers::<u32>(alloc, Kind::UInt32, places)?
-            && takes_numbers::<u64>(alloc, Kind::UInt64, places)?
-            && takes_numbers::<u128>(alloc, Kind::UInt128, places)?,
+        takes_numbers::<i8>(alloc, "i8", places)?
+            && takes_numbers::<i16>(alloc, "i16", places)?
+            && takes_numbers::<i32>(alloc, "i32", places)?
+            && takes_numbers::<i64>(alloc, "i64", places)?
+            && takes_numbers::<i128>(alloc, "i128", places)?
+            && takes_numbers::<u8>(alloc, "u8", places)?
+            && takes_numbers::<u16>(alloc, "u16", places)?
+            && takes_numbers::<u32>(alloc, "u32", places)?
+            && takes_numbers::<u64>(alloc, "u64", places)?
+            && takes_numbers::<u128>(alloc, "u128", places)?,
     )
 }
 
@@ -95,9 +98,30 @@ fn are_bytes<O: Offset + Drop>(
     }
 }
 
+/// The rows of two bytes, a null over one byte, and one byte.
+fn three_rows<O: Offset>(alloc: Global) -> Result<BinaryArray<O>, Fail> {
+    let mut ends = Vec::new(alloc);
+    for end in [0usize, 2, 3, 4] {
+        ends.push(O::from_usize(end).ok_or("no offset")?)?;
+    }
+    let offsets = OffsetsBuffer::try_from(ends)?;
+    let bytes = buffer(alloc, &[2u8, 2, 0, 1])?;
+    Ok(BinaryArray::try_new(offsets, bytes, validity(alloc, &[true, false, true])?)?)
+}
+
+/// The places 2, none, 0 and 1.
+fn four_places<I: Index>(alloc: Global) -> Result<PrimitiveArray<I>, Fail> {
+    let mut places = Vec::new(alloc);
+    for place in [2usize, 0, 0, 1] {
+        places.push(I::from_usize(place).ok_or("no index")?)?;
+    }
+    let valid = validity(alloc, &[true, false, true, true])?;
+    Ok(PrimitiveArray::try_new(Buffer::from_vec(places)?, valid)?)
+}
+
 fn takes_bytes<O: Offset + Drop, I: Index + Drop>(alloc: Global) -> Result<bool, Fail> {
-    let values = byte_array::<O>(alloc, &[Some(2), None, Some(1)])?;
-    let places = number_array::<I>(alloc, &[Some(2), None, Some(0), Some(1)])?;
+    let values = three_rows::<O>(alloc)?;
+    let places = four_places::<I>(alloc)?;
     if !indices_in_bounds_of(&places, values.len()) {
         return Err(Fail::from("out of bounds"));
     }

@@ -2,33 +2,18 @@
 
 ghost use Rattle.sel_arrow.specs.Rows.{IsWellFormed};
 
-use crate::kinds::{Kind, ROWS, byte_view_array, text_array};
-use crate::marks::{begins, begins_free, ends_answered, ends_by};
-use crate::same::is_column;
+use crate::made::{TEXTS, VIEWS, is_answer, is_column};
+use checks_lines::marks::{begins, begins_free, ends_answered, ends_by};
+use checks_lines::read::Form;
+use checks_lines::typed::{texts, views};
 use sel_arrow::array::Array;
 use sel_arrow::binview::BinaryViewArray;
 use sel_arrow::column::Column;
-use sel_bits::faults::{PolarsError, PolarsResult};
 use sel_runs::run::{Run, nulls_of};
 use sel_runs::sources::{picked_rows, runs_fit};
 use sel_runs::view::collect_views;
 use std::alloc::Global;
 use std::test::Fail;
-
-/// Whether a call answered the rows 2, 7 and null of bytes, or want of memory.
-fn are_rows(alloc: Global, answer: PolarsResult<BinaryViewArray>) -> Result<bool, Fail> {
-    match answer {
-        Ok(views) => {
-            is_column(
-                alloc,
-                views.into_ref(),
-                Kind::ByteViews,
-                &[Some(2), Some(7), None],
-            )
-        }
-        Err(fault) => Ok(fault == PolarsError::OutOfMemory),
-    }
-}
 
 /// The rows that runs pick of two columns of views.
 fn collects(alloc: Global, first: &Column, second: &Column) -> Result<bool, Fail>
@@ -50,7 +35,8 @@ fn collects(alloc: Global, first: &Column, second: &Column) -> Result<bool, Fail
     begins(alloc);
     let answer = collect_views(alloc, &[one, other], &runs, 3);
     ends_by(alloc, &answer);
-    are_rows(alloc, answer)
+    let rows = r#"[h"63636363",h"6868686868686868686868686868",null]"#;
+    is_answer(alloc, answer, rows)
 }
 
 fn collects_of(
@@ -68,17 +54,17 @@ fn collects_of(
 
 #[test]
 fn runs_of_views(rt: HostRuntime) -> Result<(), Fail> {
-    let first = byte_view_array(rt.alloc(), &[None])?;
-    let second = byte_view_array(rt.alloc(), &ROWS)?;
+    let first = views(rt.alloc(), "[null]", Form::Whole)?;
+    let second = views(rt.alloc(), VIEWS, Form::Whole)?;
     assert!(rt; collects_of(rt.alloc(), first, second)?);
     Ok(())
 }
 
 /// Whether texts are taken for bytes, and these for texts.
 fn there_and_back(alloc: Global) -> Result<bool, Fail> {
-    let texts = text_array(alloc, &ROWS)?;
+    let found = texts(alloc, TEXTS, Form::Whole)?;
     begins_free(alloc);
-    let bytes = texts.to_binview(alloc);
+    let bytes = found.to_binview(alloc);
     ends_answered(alloc);
     let bytes = bytes?;
     begins_free(alloc);
@@ -90,8 +76,8 @@ fn there_and_back(alloc: Global) -> Result<bool, Fail> {
     begins_free(alloc);
     let back = bytes.to_utf8view_unchecked(alloc);
     ends_answered(alloc);
-    let is_back = is_column(alloc, back?.into_ref(), Kind::Texts, &ROWS)?;
-    Ok(is_back && is_column(alloc, bytes.into_ref(), Kind::ByteViews, &ROWS)?)
+    let is_back = is_column(alloc, back?, TEXTS)?;
+    Ok(is_back && is_column(alloc, bytes, VIEWS)?)
 }
 
 #[test]

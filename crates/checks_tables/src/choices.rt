@@ -1,15 +1,20 @@
 //! Choices between two columns by a mask.
 
-use crate::read::{FORMS, Form, column, is_text, mask};
+use checks_lines::line::Line;
+use checks_lines::marks::{begins, ends_line};
+use checks_lines::read::{Form, as_any, two, with_same_of};
+use checks_lines::table::{Memory, wrong_line};
+use checks_lines::typed::mask;
 use polars_compute::if_then_else::IfThenElseKernel;
 use sel_arrow::array_ref::ArrayRef;
+use sel_arrow::primitive::ArrowPrimitive;
 use sel_bits::bitmap::Bitmap;
 use sel_bits::faults::PolarsResult;
 use std::alloc::Global;
 use std::test::Fail;
 
 // The choice between two columns, where they are of one type and as long as the mask.
-fn chosen<C: IfThenElseKernel>(
+fn chosen_between<C: IfThenElseKernel>(
     alloc: Global,
     mask: &Bitmap,
     if_true: &C,
@@ -21,25 +26,28 @@ fn chosen<C: IfThenElseKernel>(
     if !if_true.same_dtype(if_false) {
         return Err(Fail::from("another type"));
     }
-    match C::if_then_else(alloc, mask, if_true, if_false) {
-        Ok(chosen) => Ok(Ok(chosen.into_ref())),
-        Err(fault) => Ok(Err(fault)),
-    }
+    begins(alloc);
+    let answer = C::if_then_else(alloc, mask, if_true, if_false);
+    ends_line(alloc, &answer);
+    Ok(as_any(answer))
 }
 
-// The same of columns that are needed no more, where both are of the kind.
+// The same of columns that are needed no more, where both are of the kind; they keep the rows of their texts.
 fn of_kind<C: IfThenElseKernel + Drop>(
     alloc: Global,
     mask: &Bitmap,
     if_true: Result<C, ArrayRef>,
     if_false: Result<C, ArrayRef>,
+    texts: (&str, &str),
 ) -> Result<PolarsResult<ArrayRef>, Fail> {
     match (if_true, if_false) {
         (Ok(if_true), Ok(if_false)) => {
-            let chosen = chosen(alloc, mask, &if_true, &if_false);
+            let answer = chosen_between(alloc, mask, &if_true, &if_false);
+            let answer = with_same_of(alloc, &if_true, texts.0, answer);
+            let answer = with_same_of(alloc, &if_false, texts.1, answer);
             drop(if_true);
             drop(if_false);
-            chosen
+            answer
         }
         (if_true, if_false) => {
             drop(if_true);
@@ -49,200 +57,123 @@ fn of_kind<C: IfThenElseKernel + Drop>(
     }
 }
 
-/// A kind of column between which a mask can choose.
-#[derive(Clone, Copy)]
-enum Kind {
-    Numbers,
-    Truths,
-    Views,
-    Texts,
-    Lists,
-    Blocks,
-}
-
-// The choice between two columns of a kind that are needed no more.
-fn chosen_of(
+// The same of numbers.
+fn of_numbers<T: ArrowPrimitive + Drop>(
     alloc: Global,
-    kind: Kind,
     mask: &Bitmap,
-    if_true: ArrayRef,
-    if_false: ArrayRef,
+    sides: (ArrayRef, ArrayRef),
+    texts: (&str, &str),
 ) -> Result<PolarsResult<ArrayRef>, Fail> {
-    match kind {
-        Kind::Numbers => of_kind(
-            alloc,
-            mask,
-            if_true.into_primitive::<i64>(),
-            if_false.into_primitive::<i64>(),
-        ),
-        Kind::Truths => of_kind(alloc, mask, if_true.into_boolean(), if_false.into_boolean()),
-        Kind::Views => of_kind(alloc, mask, if_true.into_binview(), if_false.into_binview()),
-        Kind::Texts => of_kind(
-            alloc,
-            mask,
-            if_true.into_utf8view(),
-            if_false.into_utf8view(),
-        ),
-        Kind::Lists => of_kind(alloc, mask, if_true.into_list(), if_false.into_list()),
-        Kind::Blocks => of_kind(
-            alloc,
-            mask,
-            if_true.into_fixed_size_list(),
-            if_false.into_fixed_size_list(),
-        ),
-    }
-}
-
-// Two columns of one type.
-fn two(
-    alloc: Global,
-    dtype: &str,
-    first: &str,
-    second: &str,
-    form: Form,
-) -> Result<(ArrayRef, ArrayRef), Fail> {
-    let first = column(alloc, dtype, first, form)?;
-    match column(alloc, dtype, second, form) {
-        Ok(second) => Ok((first, second)),
-        Err(fail) => {
-            drop(first);
-            Err(fail)
-        }
-    }
-}
-
-// Whether a line holds, in one form: a kind, a type, a mask, the two columns, and the rows of the choice.
-fn holds(
-    alloc: Global,
-    line: &(Kind, &str, &str, &str, &str, &str),
-    form: Form,
-) -> Result<bool, Fail> {
-    let (kind, dtype, bits, first, second, answer) = *line;
-    let bits = mask(alloc, bits, form)?;
-    let (if_true, if_false) = two(alloc, dtype, first, second, form)?;
-    is_text(
+    let (one, other) = sides;
+    of_kind(
         alloc,
-        chosen_of(alloc, kind, bits.values(), if_true, if_false)?,
-        answer,
+        mask,
+        one.into_primitive::<T>(),
+        other.into_primitive::<T>(),
+        texts,
     )
 }
 
-// The first line that does not hold.
-fn wrong(
+// The same of truth values, views and texts.
+fn of_flat(
     alloc: Global,
-    lines: &[(Kind, &str, &str, &str, &str, &str)],
-) -> Result<Option<usize>, Fail> {
-    for form in FORMS {
-        for (i, line) in lines.iter().enumerate() {
-            if !holds(alloc, line, form)? {
-                return Ok(Some(i));
-            }
-        }
+    dtype: &str,
+    mask: &Bitmap,
+    sides: (ArrayRef, ArrayRef),
+    texts: (&str, &str),
+) -> Result<PolarsResult<ArrayRef>, Fail> {
+    let (one, other) = sides;
+    match dtype {
+        "bool" => of_kind(alloc, mask, one.into_boolean(), other.into_boolean(), texts),
+        "utf8" => of_kind(
+            alloc,
+            mask,
+            one.into_utf8view(),
+            other.into_utf8view(),
+            texts,
+        ),
+        _ => of_kind(alloc, mask, one.into_binview(), other.into_binview(), texts),
     }
-    Ok(None)
+}
+
+// The same of columns that are no numbers.
+fn of_others(
+    alloc: Global,
+    dtype: &str,
+    mask: &Bitmap,
+    sides: (ArrayRef, ArrayRef),
+    texts: (&str, &str),
+) -> Result<PolarsResult<ArrayRef>, Fail> {
+    match dtype.as_bytes().first() {
+        Some(b'l') => {
+            let (one, other) = sides;
+            of_kind(alloc, mask, one.into_list(), other.into_list(), texts)
+        }
+        Some(b'f') => {
+            let (one, other) = sides;
+            let one = one.into_fixed_size_list();
+            of_kind(alloc, mask, one, other.into_fixed_size_list(), texts)
+        }
+        _ => of_flat(alloc, dtype, mask, sides, texts),
+    }
+}
+
+// The choice between two columns of a type that are needed no more.
+fn of_dtype(
+    alloc: Global,
+    dtype: &str,
+    mask: &Bitmap,
+    sides: (ArrayRef, ArrayRef),
+    texts: (&str, &str),
+) -> Result<PolarsResult<ArrayRef>, Fail> {
+    match dtype {
+        "i8" => of_numbers::<i8>(alloc, mask, sides, texts),
+        "i16" => of_numbers::<i16>(alloc, mask, sides, texts),
+        "i32" => of_numbers::<i32>(alloc, mask, sides, texts),
+        "i64" => of_numbers::<i64>(alloc, mask, sides, texts),
+        "i128" => of_numbers::<i128>(alloc, mask, sides, texts),
+        "u8" => of_numbers::<u8>(alloc, mask, sides, texts),
+        "u16" => of_numbers::<u16>(alloc, mask, sides, texts),
+        "u32" => of_numbers::<u32>(alloc, mask, sides, texts),
+        "u64" => of_numbers::<u64>(alloc, mask, sides, texts),
+        "u128" => of_numbers::<u128>(alloc, mask, sides, texts),
+        _ => of_others(alloc, dtype, mask, sides, texts),
+    }
+}
+
+/// Of a type, a mask and two columns: the rows of the choice.
+pub fn chosen(alloc: Global, line: &Line, form: Form) -> Result<PolarsResult<ArrayRef>, Fail> {
+    let (dtype, texts) = (line.field(0)?, (line.field(2)?, line.field(3)?));
+    let mask = mask(alloc, line.field(1)?, form)?;
+    let sides = two(alloc, dtype, texts.0, texts.1, form)?;
+    of_dtype(alloc, dtype, mask.values(), sides, texts)
+}
+
+/// A type, a mask, two columns, and the rows of the choice.
+const COLUMNS: &str = r#"
+i64 | [true,false,true] | [1,null,3] | [7,8,null] | [1,8,3]
+i64 | [false,false] | [1,2] | [null,4] | [null,4]
+i64 | [] | [] | [] | []
+bool | [true,false,true,false] | [true,null,null,true] | [null,false,true,null] | [true,false,null,null]
+binview | [false,true,false] | [h"61",h"62",null] | [h"000102030405060708090a0b0c",h"63",null] | [h"000102030405060708090a0b0c",h"62",null]
+utf8 | [false,true] | ["a","b"] | ["c","d"] | ["c","b"]
+utf8 | [true,false,true] | ["a text of more than twelve","b",null] | ["c","another text of more than twelve","d"] | ["a text of more than twelve","another text of more than twelve",null]
+list<i64> | [true,false] | [[1],[2]] | [null,[3,4]] | [[1],[3,4]]
+list<list<utf8>> | [false,true,true] | [null,[["a"],null],[]] | [[[],null],null,null] | [[[],null],[["a"],null],[]]
+list<struct<i8,bool>> | [true,false] | [[(1,true),null],null] | [null,[(2,null)]] | [[(1,true),null],[(2,null)]]
+fixed<2,i64> | [true,false] | [[1,2],null] | [[3,4],[5,6]] | [[1,2],[5,6]]
+fixed<2,i64> | [false,true] | [[1,2],null] | [[3,4],[5,6]] | [[3,4],null]
+fixed<1,list<fixed<2,i8>>> | [true,false] | [[[[1,2],null]],null] | [null,[null]] | [[[[1,2],null]],[null]]
+$C | [true,true,false,true,false] | [$1,null,$2,$7,$4] | [$6,$3,null,null,$5] | [$1,null,null,$7,$5]
+"#;
+
+/// The first line of these tables that does not hold.
+pub fn wrong(alloc: Global, memory: Memory) -> Result<Option<String>, Fail> {
+    wrong_line(alloc, COLUMNS, memory, chosen)
 }
 
 #[test]
 fn choices_between_columns(rt: HostRuntime) -> Result<(), Fail> {
-    let lines = [
-        (
-            Kind::Numbers,
-            "i64",
-            "[true,false,true]",
-            "[1,null,3]",
-            "[7,8,null]",
-            "[1,8,3]",
-        ),
-        (
-            Kind::Numbers,
-            "i64",
-            "[false,false]",
-            "[1,2]",
-            "[null,4]",
-            "[null,4]",
-        ),
-        (Kind::Numbers, "i64", "[]", "[]", "[]", "[]"),
-        (
-            Kind::Truths,
-            "bool",
-            "[true,false,true,false]",
-            "[true,null,null,true]",
-            "[null,false,true,null]",
-            "[true,false,null,null]",
-        ),
-        (
-            Kind::Views,
-            "binview",
-            "[false,true,false]",
-            "[h\"61\",h\"62\",null]",
-            "[h\"000102030405060708090a0b0c\",h\"63\",null]",
-            "[h\"000102030405060708090a0b0c\",h\"62\",null]",
-        ),
-        (
-            Kind::Texts,
-            "utf8",
-            "[false,true]",
-            "[\"a\",\"b\"]",
-            "[\"c\",\"d\"]",
-            "[\"c\",\"b\"]",
-        ),
-        (
-            Kind::Texts,
-            "utf8",
-            "[true,false,true]",
-            "[\"a text of more than twelve\",\"b\",null]",
-            "[\"c\",\"another text of more than twelve\",\"d\"]",
-            "[\"a text of more than twelve\",\"another text of more than twelve\",null]",
-        ),
-        (
-            Kind::Lists,
-            "list<i64>",
-            "[true,false]",
-            "[[1],[2]]",
-            "[null,[3,4]]",
-            "[[1],[3,4]]",
-        ),
-        (
-            Kind::Lists,
-            "list<list<utf8>>",
-            "[false,true,true]",
-            "[null,[[\"a\"],null],[]]",
-            "[[[],null],null,null]",
-            "[[[],null],[[\"a\"],null],[]]",
-        ),
-        (
-            Kind::Lists,
-            "list<struct<i8,bool>>",
-            "[true,false]",
-            "[[(1,true),null],null]",
-            "[null,[(2,null)]]",
-            "[[(1,true),null],[(2,null)]]",
-        ),
-        (
-            Kind::Blocks,
-            "fixed<2,i64>",
-            "[true,false]",
-            "[[1,2],null]",
-            "[[3,4],[5,6]]",
-            "[[1,2],[5,6]]",
-        ),
-        (
-            Kind::Blocks,
-            "fixed<2,i64>",
-            "[false,true]",
-            "[[1,2],null]",
-            "[[3,4],[5,6]]",
-            "[[3,4],null]",
-        ),
-        (
-            Kind::Blocks,
-            "fixed<1,list<fixed<2,i8>>>",
-            "[true,false]",
-            "[[[[1,2],null]],null]",
-            "[null,[null]]",
-            "[[[[1,2],null]],[null]]",
-        ),
-    ];
-    assert_eq!(rt; wrong(rt.alloc(), &lines)?, None);
+    assert_eq!(rt; wrong(rt.alloc(), Memory::Ample)?, None);
     Ok(())
 }

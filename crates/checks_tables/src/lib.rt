@@ -1,9 +1,14 @@
 //! Worked rows of the kernels as tables: columns are written as texts, and so are answers. Each line is tried on columns of their
-//! own, and on parts of longer ones that begin inside a byte. Beneath nulls stand other values.
+//! own, and on parts of longer ones that begin inside a byte. Beneath nulls stand other values. The tests of `refused` try the same
+//! lines with each growth of memory refused in turn, where `tools/refuse` runs them.
 #![tactic(auto)]
 
 #[cfg(test)]
 mod choices;
+#[cfg(test)]
+mod columns;
+#[cfg(test)]
+mod dictionaries;
 #[cfg(test)]
 mod elements;
 #[cfg(test)]
@@ -13,9 +18,15 @@ mod joined;
 #[cfg(test)]
 mod limits;
 #[cfg(test)]
-mod list_choices;
+mod list_scalars;
 #[cfg(test)]
-mod read;
+mod made;
+#[cfg(test)]
+mod nested;
+#[cfg(test)]
+mod refused;
+#[cfg(test)]
+mod scalars;
 #[cfg(test)]
 mod selected;
 #[cfg(test)]

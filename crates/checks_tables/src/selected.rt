@@ -1,6 +1,7 @@
 //! Rows of several columns of several kinds: those at indices among those that a mask keeps.
 
-use crate::read::{FORMS, Form, column, is_text, mask, numbers};
+use checks_lines::read::{FORMS, Form, column, is_text};
+use checks_lines::typed::{mask, numbers};
 use sel_arrow::array::Array;
 use sel_arrow::array_ref::ArrayRef;
 use sel_arrow::boolean::BooleanArray;

@@ -1,7 +1,6 @@
 //! Where a call begins and ends, for `tools/refuse`, which refuses growths of memory between the two alone: each mark is a
-//! growth by so many bytes as nothing else here asks for. The numbers stand in `tools/refuse/growths.c` too.
+//! growth by so many bytes as nothing else in a test asks for. The numbers stand in `tools/refuse/growths.c` too.
 
-use crate::kinds::Kind;
 use sel_bits::faults::{PolarsError, PolarsResult};
 use std::alloc::Global;
 
@@ -14,6 +13,8 @@ const ENDS: usize = 1_000_037;
 const ENDS_REFUSED: usize = 1_000_039;
 
 const ENDS_LIMITED: usize = 1_000_081;
+
+const ENDS_EITHER: usize = 1_000_099;
 
 /// A growth by so many bytes, which are given back.
 fn mark(alloc: Global, bytes: usize) {
@@ -31,14 +32,9 @@ pub fn begins_free(alloc: Global) {
     mark(alloc, BEGINS_FREE);
 }
 
-/// Behind this a call begins on a column of this kind, which takes memory but where the kind is that of nulls: such a column is its
-/// length alone.
-pub fn begins_on(alloc: Global, kind: Kind) {
-    if kind == Kind::Nulls {
-        begins_free(alloc);
-    } else {
-        begins(alloc);
-    }
+/// Behind this the call of a line begins, which takes no memory or may take some.
+pub fn begins_line(alloc: Global, takes_none: bool) {
+    mark(alloc, if takes_none { BEGINS_FREE } else { BEGINS });
 }
 
 /// The call ended: it was refused its memory, or it answered.
@@ -59,6 +55,16 @@ pub fn ends_by<T>(alloc: Global, answer: &PolarsResult<T>) {
 /// The call, which passes a limit, ended by want of memory or by that limit: either may come where a growth was refused.
 pub fn ends_limited(alloc: Global) {
     mark(alloc, ENDS_LIMITED);
+}
+
+/// The call of a line ended by this answer. It may take memory, or none; a refusal of a limit or of a place may come before it does.
+pub fn ends_line<T>(alloc: Global, answer: &PolarsResult<T>) {
+    let bytes = match answer {
+        Ok(_) => ENDS_EITHER,
+        Err(PolarsError::OutOfMemory) => ENDS_REFUSED,
+        Err(_) => ENDS_LIMITED,
+    };
+    mark(alloc, bytes);
 }
 
 /// Whether the answer is want of memory.
