@@ -28,6 +28,4 @@ mod refused;
 #[cfg(test)]
 mod scalars;
 #[cfg(test)]
-mod selected;
-#[cfg(test)]
 mod takes;
