@@ -26,9 +26,9 @@ CAUSES = (
     ("choose, views", "the library is built for any processor of x86-64-v2; where views of the second column move behind the first one's data buffers, each is tested to hold its bytes itself"),
     ("choose, 8 bytes", "choices with a scalar on each side are made of picks, one a row; the others go by the mask's words, built for any processor of x86-64-v2"),
     ("sublist_get", "each place is worked out by a plan, whatever the source, and bits are packed beside the values"),
-    ("fixed_get", "each place is worked out by a plan, whatever the source, and bits are packed beside the values"),
+    ("fixed_get", "each place is worked out by a plan, whatever the source"),
     ("flatten", "a plan goes from column to column for each row, where the loop knows how wide they are"),
-    ("collect_rows", "each pick is tested to have a row first; then values are looked up one by one"),
+    ("collect_rows", "each pick is tested to have a row first, in a walk of its own; the loop tests none"),
     ("propagate_dictionary", "each key is tested to have a value first; both answers are columns of their own"),
 )
 

@@ -1,5 +1,5 @@
 -- The picks of a choice, one by one, and what they pick.
-use Rattle.std.proofs.Common.{◌≡◌, ℕ, zero, suc, ◌+◌, ◌<◌, Bool, true, false, All, List, [], ◌∷◌, ◌++◌, length, take, get_or, refl, ap, ◌∙◌, arith, add-one, Option, Some}
+use Rattle.std.proofs.Common.{◌≡◌, ℕ, zero, suc, ◌+◌, ◌<◌, Bool, true, false, All, List, [], ◌∷◌, length, get_or, refl, ap, ◌∙◌, arith, Option, Some}
 use Rattle.std.proofs.lemmas.List.Elements.{All-nil, All-cons}
 use Rattle.sel_arrow.specs.Rows.{rows}
 use Rattle.sel_arrow.specs.Value.{Value, Null}
@@ -7,23 +7,29 @@ use Rattle.sel_arrow.specs.declared.column.Column.{Column}
 use Rattle.sel_choices.specs.ListParts.{chosen_from}
 use Rattle.sel_choices.proofs.ListRuns.{chosen_columns, chosen_true, chosen_false, chosen_both}
 use Rattle.sel_runs.specs.Picks.{pick, PickFits}
+use Rattle.sel_runs.specs.Plans.{IsPicked}
 use Rattle.sel_c.specs.Chosen.{chosen_rows, first_row}
 use Rattle.sel_c.specs.ChosenPicks.{bit_pick, chosen_picks, place_on, SideFits}
 
-more : (t f : Bool) (i k : ℕ) (bits : List Bool) → k < length bits → chosen_picks t f i (take (suc k) bits) ≡ chosen_picks t f i (take k bits) ++ bit_pick t f (get_or bits k false) (i + k) ∷ []
-more t f i k [] below = absurd (omega (arith, below))
-more t f i zero (b ∷ bits) below =
+at : (t f : Bool) (i k : ℕ) (bits : List Bool) (b : Bool) (d : Option (ℕ × ℕ)) → k < length bits → get_or (chosen_picks t f i bits) k d ≡ bit_pick t f (get_or bits k b) (i + k)
+at t f i k [] b d below = absurd (omega (arith, below))
+at t f i zero (bit ∷ bits) b d below =
     let place : i ≡ i + 0 = omega arith in
-    ap (λ n. bit_pick t f b n ∷ []) place
-more t f i (suc k) (b ∷ bits) below =
+    ap (bit_pick t f bit) place
+at t f i (suc k) (bit ∷ bits) b d below =
     let place : (i + 1) + k ≡ i + suc k = omega arith in
-    ap (λ ps. bit_pick t f b i ∷ ps) (more t f (i + 1) k bits (omega (arith, below)) ∙ ap (λ n. chosen_picks t f (i + 1) (take k bits) ++ bit_pick t f (get_or bits k false) n ∷ []) place)
+    at t f (i + 1) k bits b d (omega (arith, below)) ∙ ap (bit_pick t f (get_or bits k b)) place
 
--- one more pick
-pub bits_more : (t f : Bool) (k : ℕ) (bits : List Bool) → k < length bits → chosen_picks t f 0 (take (k + 1) bits) ≡ chosen_picks t f 0 (take k bits) ++ bit_pick t f (get_or bits k false) k ∷ []
-bits_more t f k bits below =
+-- the pick at a place
+pub chosen_at : (t f : Bool) (k : ℕ) (bits : List Bool) (b : Bool) (d : Option (ℕ × ℕ)) → k < length bits → get_or (chosen_picks t f 0 bits) k d ≡ bit_pick t f (get_or bits k b) k
+chosen_at t f k bits b d below =
     let place : 0 + k ≡ k = omega arith in
-    rw (add-one k) (more t f 0 k bits below ∙ ap (λ n. chosen_picks t f 0 (take k bits) ++ bit_pick t f (get_or bits k false) n ∷ []) place)
+    at t f 0 k bits b d below ∙ ap (bit_pick t f (get_or bits k b)) place
+
+-- none is none
+pub chosen_picked : (t f : Bool) (i : ℕ) (bits : List Bool) → All IsPicked (chosen_picks t f i bits)
+chosen_picked t f i [] = All-nil IsPicked
+chosen_picked t f i (b ∷ bits) = All-cons IsPicked (bit_pick t f b i) (chosen_picks t f (i + 1) bits) tt (chosen_picked t f (i + 1) bits)
 
 -- there are as many as bits
 pub chosen_long : (t f : Bool) (i : ℕ) (bits : List Bool) → length (chosen_picks t f i bits) ≡ length bits
@@ -57,6 +63,6 @@ fits t f i n (false ∷ bits) ts fs same long other =
 pub choice_fits : (t f : Bool) (bits : List Bool) (ts fs : List Value) → SideFits t (length ts) (length bits) → SideFits f (length fs) (length bits) → All (PickFits (ts ∷ fs ∷ [])) (chosen_picks t f 0 bits)
 choice_fits t f bits ts fs long other = fits t f 0 (length bits) bits ts fs (omega arith) long other
 
--- what the same picks pick of the same columns
-pub picked_alike : (x y a b : Column) (ps qs : List (Option (ℕ × ℕ))) → ps ≡ qs → x ≡ a → y ≡ b → pick Null (rows x ∷ rows y ∷ []) ps ≡ pick Null (rows a ∷ rows b ∷ []) qs
-picked_alike x y a b ps qs same first second = cc (same, first, second)
+-- what picks pick of the same columns
+pub picked_alike : (x y a b : Column) (ps : List (Option (ℕ × ℕ))) → x ≡ a → y ≡ b → pick Null (rows x ∷ rows y ∷ []) ps ≡ pick Null (rows a ∷ rows b ∷ []) ps
+picked_alike x y a b ps first second = cc (first, second)

@@ -11,6 +11,7 @@ mod lists;
 mod makers;
 mod nested_makers;
 mod nested_readers;
+mod picks;
 mod readers;
 mod several;
 mod sides;

@@ -6,17 +6,18 @@ ghost use Rattle.sel_bits.specs.declared.faults.Malformed.TheVariants.{TooManyRo
 ghost use Rattle.sel_arrow.specs.Masked.{Covers};
 ghost use Rattle.sel_arrow.specs.Rows.{rows, type_of};
 ghost use Rattle.sel_arrow.specs.Value.{Null};
-ghost use Rattle.sel_c.specs.Several.{first_shape, pick_in, picks_from, picks_in, AreAlike};
+ghost use Rattle.sel_c.specs.Several.{first_shape, picks_from, picks_in, AreAlike};
 ghost use Rattle.sel_flatten.specs.Flatten.{array_columns, array_rows, flatten, parts_fit, past_flattened};
 ghost use Rattle.sel_handle.specs.Inputs.{lacks_bits, validity_in};
 ghost use Rattle.sel_handle.specs.Status.{no_column, other_type, other_length, out_of_bounds, rule_status, held_columns, held_rows, held_type, Demands, HasColumn, Makes, TellsLimits};
 ghost use Rattle.sel_runs.specs.Need.{past_taken};
 ghost use Rattle.sel_runs.specs.Picks.{pick, PickFits};
 
+use crate::picks::{WordPlaces, are_in_bounds, lengths_of};
 use sel_arrow::array::Array;
 use sel_arrow::array_ref::ArrayRef;
 use sel_arrow::column::Column;
-use sel_arrow::validity::{MOST_ROWS, is_valid_at};
+use sel_arrow::validity::MOST_ROWS;
 use sel_bits::bitmap::Bitmap;
 use sel_bits::faults::{PolarsError, PolarsResult};
 use sel_flatten::horizontal_flatten::{flatten_is_safe, horizontal_flatten_unchecked};
@@ -27,8 +28,8 @@ use sel_handle::status::{
     NO_MEMORY, OTHER_LENGTH, OTHER_TYPE, OUT_OF_BOUNDS, TOO_MANY_ROWS, VALIDITY_LENGTH, put,
     status_of,
 };
-use sel_runs::collect::collect_rows;
-use sel_runs::sources::picks_in_bounds;
+use sel_runs::plan::Walk;
+use sel_runs::planned::collect_plan;
 use std::alloc::Global;
 
 /// A row of one of several columns: of which one, and which, both counted from 0.
@@ -208,47 +209,21 @@ fn collect_into(
     let Ok(validity) = validity_of(alloc, bits, has_bits, words.len()) else {
         return NO_MEMORY;
     };
-    let Ok(picks) = picks_of(alloc, words, &validity) else {
-        return NO_MEMORY;
-    };
-    collect_picks_into(alloc, arrays, &picks, out)
-}
-
-// The picks of words, none where one is hidden. Refuses only for want of memory.
-fn picks_of(
-    alloc: Global,
-    words: &[PickWords],
-    validity: &Option<Bitmap>,
-) -> PolarsResult<Vec<Option<(u32, u32)>>>
-    requires { Covers validity.now (length words.now) }
-    ensures { IfOk result (λ picks. picks.items ≡ picks_from 0 validity.now words.now) }
-{
-    let mut picks = Vec::with_capacity(alloc, words.len())?;
-    for (i, pair) in words.iter().enumerate() {
-        picks.push(pick_of(*pair, is_valid_at(validity, i)))?;
-    }
-    Ok(picks)
-}
-
-fn pick_of(words: PickWords, valid: bool) -> Option<(u32, u32)>
-    ensures { result ≡ pick_in words valid }
-{
-    if valid {
-        Some((words.source, words.row))
-    } else {
-        None
-    }
+    collect_picks_into(alloc, arrays, words, &validity, out)
 }
 
 fn collect_picks_into(
     alloc: Global,
     arrays: &[ArrayRef],
-    picks: &[Option<(u32, u32)>],
+    words: &[PickWords],
+    validity: &Option<Bitmap>,
     out: &mut Handle,
 ) -> u32
-    requires { length picks.now ≤ 4294967295 }
+    requires few { length words.now ≤ 4294967295 }
+    requires covers { Covers validity.now (length words.now) }
     ensures rows { Makes result out.old.tree out.new.tree (λ made. rows made.column ≡
-        pick Null (map (λ array. rows array.column) arrays.now) picks.now) }
+        pick Null (map (λ array. rows array.column) arrays.now)
+        (picks_from 0 validity.now words.now)) }
     ensures dtype { Makes result out.old.tree out.new.tree (λ made. type_of made.column ≡
         first_shape (map (λ array. type_of array.column) arrays.now)) }
     ensures own { (result ≢ no_column) × (result ≢ rule_status TooManyRows) ×
@@ -257,13 +232,15 @@ fn collect_picks_into(
     ensures alike { Demands result other_type
         (AreAlike (map (λ array. type_of array.column) arrays.now)) }
     ensures bounds { Demands result out_of_bounds
-        (All (PickFits (map (λ array. rows array.column) arrays.now)) picks.now) }
+        (All (PickFits (map (λ array. rows array.column) arrays.now))
+        (picks_from 0 validity.now words.now)) }
     ensures one_type { TellsLimits result
         (λ _. AreAlike (map (λ array. type_of array.column) arrays.now)) }
     ensures limits { TellsLimits result
         (past_taken (first_shape (map (λ array. type_of array.column) arrays.now))
         (array_columns arrays.now)
-        (pick Null (map (λ array. rows array.column) arrays.now) picks.now)) }
+        (pick Null (map (λ array. rows array.column) arrays.now)
+        (picks_from 0 validity.now words.now))) }
 {
     if arrays.is_empty() {
         return OTHER_LENGTH;
@@ -271,14 +248,18 @@ fn collect_picks_into(
     if !are_alike(arrays) {
         return OTHER_TYPE;
     }
+    let Ok(lengths) = lengths_of(alloc, arrays) else {
+        return NO_MEMORY;
+    };
+    let places = WordPlaces { words, validity };
+    if !are_in_bounds(&lengths, &places) {
+        return OUT_OF_BOUNDS;
+    }
     let Ok(sources) = columns_of(alloc, arrays) else {
         return NO_MEMORY;
     };
-    if !picks_in_bounds(&sources, picks) {
-        return OUT_OF_BOUNDS;
-    }
-    match collect_rows(alloc, &sources, picks) {
-        Ok(collected) => put(alloc, collected, out),
+    match collect_plan(alloc, &sources, &Walk { places, at: 0 }, false) {
+        Ok(column) => put(alloc, ArrayRef { column }, out),
         Err(fault) => status_of(fault),
     }
 }

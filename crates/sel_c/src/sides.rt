@@ -16,7 +16,8 @@ use sel_arrow::primitive::{ArrowPrimitive, PrimitiveArray};
 use sel_bits::bitmap::Bitmap;
 use sel_bits::faults::{PolarsError, PolarsResult};
 use sel_choices::if_then_else::IfThenElseKernel;
-use sel_runs::collect::collect_rows;
+use sel_runs::plan::{Places, Walk};
+use sel_runs::planned::collect_plan;
 use std::alloc::Global;
 
 /// Row k of one column where bit k is true, else row k of the other; of a side that is no column but a scalar, its only
@@ -108,9 +109,14 @@ fn picked_choice(
         (if_true.now.column ∷ if_false.now.column ∷ []) (chosen_rows true_column false_column
         mask.now.bits (rows if_true.now.column) (rows if_false.now.column)))) }
 {
-    let picks = picks_of_mask(alloc, mask, true_column, false_column)?;
     let sources = [if_true.as_column(), if_false.as_column()];
-    collect_rows(alloc, &sources, &picks)
+    let places = MaskPlaces {
+        mask,
+        true_column,
+        false_column,
+    };
+    let column = collect_plan(alloc, &sources, &Walk { places, at: 0 }, false)?;
+    Ok(ArrayRef { column })
 }
 
 // The same of columns of numbers, by the words of the mask; none where they are no numbers, or a scalar is null.
@@ -326,26 +332,46 @@ fn chosen_or_one<T: ArrowPrimitive>(
     }
 }
 
-// The picks of a choice, of sides that are columns or scalars. Refuses only for want of memory.
-fn picks_of_mask(
-    alloc: Global,
-    mask: &Bitmap,
+/// The picks of a choice, of sides that are columns or scalars.
+#[derive(Drop)]
+struct MaskPlaces<'a> {
+    mask: &'a Bitmap,
     true_column: bool,
     false_column: bool,
-) -> PolarsResult<Vec<Option<(u32, u32)>>>
-    requires { length mask.now.bits ≤ 4294967295 }
-    ensures picks { IfOk result (λ picks.
-        picks.items ≡ chosen_picks true_column false_column 0 mask.now.bits) }
-    ensures refusal { IfErr result (λ fault. fault ≡ PolarsError.OutOfMemory) }
-{
-    let mut picks = Vec::with_capacity(alloc, mask.len())?;
-    for i in 0..mask.len() {
-        picks.push(pick_by(mask.get_bit(i), true_column, false_column, i))?;
+    ghost few: { length mask.now.bits ≤ 4294967295 },
+}
+
+impl Places for MaskPlaces<'_> {
+    ghost picks = { λ places. chosen_picks places.true_column places.false_column 0
+        places.mask.now.bits };
+
+    #[inline(always)]
+    fn len(&self) -> usize {
+        self.mask.len()
     }
-    Ok(picks)
+
+    #[inline(always)]
+    fn get(&self, k: usize) -> Option<(u32, u32)> {
+        pick_by(self.mask.get_bit(k), self.true_column, self.false_column, k)
+    }
+
+    #[inline(always)]
+    fn again(&self) -> Self {
+        MaskPlaces {
+            mask: self.mask,
+            true_column: self.true_column,
+            false_column: self.false_column,
+        }
+    }
+
+    #[inline(always)]
+    fn has_nulls(&self) -> bool {
+        false
+    }
 }
 
 // The pick of one bit.
+#[inline(always)]
 fn pick_by(bit: bool, true_column: bool, false_column: bool, i: usize) -> Option<(u32, u32)>
     requires { i ≤ 4294967295 }
     ensures { result ≡ bit_pick true_column false_column bit i }
@@ -358,6 +384,7 @@ fn pick_by(bit: bool, true_column: bool, false_column: bool, i: usize) -> Option
 }
 
 // The place of a side's row.
+#[inline(always)]
 fn place_of(is_column: bool, i: usize) -> u32
     requires { i ≤ 4294967295 }
     ensures { result ≡ place_on is_column i }

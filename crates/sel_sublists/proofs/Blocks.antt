@@ -17,12 +17,13 @@ use Rattle.sel_arrow.specs.declared.fixed_size_list.FixedSizeListArray.{FixedSiz
 use Rattle.sel_arrow.proofs.NestedRows.{has_blocks, length-rows}
 use Rattle.sel_runs.specs.Need.{past, IsRefusal}
 use Rattle.sel_runs.specs.Picks.{pick, PickFits}
+use Rattle.sel_runs.specs.Plans.{IsPicked}
 use Rattle.sel_runs.proofs.ItemRuns.{listed_values}
 use Rattle.sel_runs.proofs.ListParts.{OfBlock, block_null, block_row}
 use Rattle.sel_sublists.specs.Elements.{element_at, child_pick}
 use Rattle.sel_sublists.specs.Entries.{place_of, entry_of, lacks_entry, entry_place, entry_places, fixed_get, out_of_bounds, at_each, IsGetRefusal}
 use Rattle.sel_sublists.proofs.Offsets.{below_shifted, map_map, shifted}
-use Rattle.sel_sublists.proofs.Places.{mapped_count, picked, places_fit, place_below, PlaceBelow}
+use Rattle.sel_sublists.proofs.Places.{mapped_at, mapped_count, picked, place_below, place_picked, places_fit, PlaceBelow}
 
 pub place_of_below : (w : ℕ) (v : Value) → PlaceBelow w (place_of w v)
 place_of_below w (Number index) = place_below index w
@@ -110,6 +111,15 @@ module _ (arr : FixedSizeListArray) where
       ∙ sym (fill_by_all (λ k. element_at below (f k)) (fixed_get (rows column) arr.size indices) arr.len Null
       (length-map-range_with_len g 0 (length (rows column)) ∙ long_rows)
       (λ k h. get_or-map-range_with_len g 0 (length (rows column)) k k Null (inside_rows k h) (omega arith) ∙ sym (entry_is (get_or indices k Null) k h)))
+
+  -- where no list is null and each index has a place, each pick names a row
+  pub entries_there : (indices : List Value) → arr.validity ≡ None → ((k : ℕ) → k < arr.len → is_none (place_of arr.size (get_or indices k Null)) ≡ false) → All IsPicked (map child_pick (entry_places arr indices))
+  entries_there indices whole there k d below =
+      let places = λ (k : ℕ). entry_place arr k (place_of arr.size (get_or indices k Null)) in
+      let inside : k < arr.len = omega (arith, below, mapped_count child_pick places arr.len) in
+      subst IsPicked (sym (mapped_at child_pick places arr.len k None d below))
+      (subst (λ b. IsPicked (child_pick (if b then option_map (λ i. k * arr.size + i) (place_of arr.size (get_or indices k Null)) else None))) (sym (ap (λ v. valid_at v k) whole))
+      (place_picked (k * arr.size) (place_of arr.size (get_or indices k Null)) (there k inside)))
 
   -- ---- out of bounds
 

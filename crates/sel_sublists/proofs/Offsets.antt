@@ -1,9 +1,10 @@
 -- Elements of lists between offsets.
 use Rattle.std.proofs.Common.{◌≡◌, ◌<◌, ◌≤◌, ◌+◌, ◌-◌, ℕ, ℤ, pos, Bool, true, false, All, List, [], ◌∷◌, length, map, take, drop, get_or, Option, Some, None, Box, Global, refl, ap, sym, subst, ◌∙◌, arith}
 use Rattle.std.specs.Prelude.{if◌then◌else◌}
-use Rattle.std.specs.List.{range_with_len}
+use Rattle.std.specs.List.{list_any, range_with_len}
 use Rattle.std.specs.Option.{option_map, is_none, is_some, unwrap_or}
 use Rattle.std.proofs.lemmas.List.{length-map, length-take, length-drop, get_or-map, get_or-take, get_or-drop}
+use Rattle.std.proofs.lemmas.List.Folds.{list_any_at}
 use Rattle.std.proofs.lemmas.List.FromFn.{fill_by_all}
 use Rattle.sel_bits.specs.Bits.{Bits}
 use Rattle.sel_bits.specs.Place.{place}
@@ -14,11 +15,12 @@ use Rattle.sel_arrow.specs.Value.{Value, Null, Number}
 use Rattle.sel_arrow.specs.declared.column.Column.{Column, LargeList}
 use Rattle.sel_arrow.proofs.NestedRows.{has_lists, length-rows}
 use Rattle.sel_runs.specs.Picks.{pick, PickFits}
+use Rattle.sel_runs.specs.Plans.{IsPicked}
 use Rattle.sel_runs.proofs.ItemRuns.{listed_values}
 use Rattle.sel_runs.proofs.ListParts.{list_null, list_row}
 use Rattle.sel_sublists.specs.Elements.{element_at, child_pick}
 use Rattle.sel_sublists.specs.Lists.{element_of, list_get, lacks_place, child_place, places_in}
-use Rattle.sel_sublists.proofs.Places.{picked, places_fit, place_below, PlaceBelow}
+use Rattle.sel_sublists.proofs.Places.{mapped_at, mapped_count, picked, place_below, place_picked, places_fit, PlaceBelow}
 
 -- an element of a part
 pub shifted : (ys : List Value) (s n : ℕ) (o : Option ℕ) → PlaceBelow n o → element_at ys (option_map (λ i. s + i) o) ≡ element_at (take n (drop s ys)) o
@@ -117,3 +119,19 @@ module _ (offsets : List ℕ) (values : Box Column Global) (validity : Option Bi
 
   pub lacks_none : (k : ℕ) → k < rows_between offsets → valid_at validity k ≡ false → false ≡ lacks_place index (get_or (rows column) k Null)
   lacks_none k h e = sym (ap (lacks_place index) (list_null column offsets values validity refl formed k (inside_rows k h) e))
+
+  lacks_not : (k : ℕ) → list_any (lacks_place index) (rows column) ≡ false → k < length (rows column) → lacks_place index (get_or (rows column) k Null) ≡ false
+  lacks_not k none h = by (lacks_place index (get_or (rows column) k Null)) refl
+    where
+      by : (b : Bool) → lacks_place index (get_or (rows column) k Null) ≡ b → lacks_place index (get_or (rows column) k Null) ≡ false
+      by false e = e
+      by true e = absurd cc (sym none ∙ list_any_at (lacks_place index) (rows column) k Null h e)
+
+  -- where no list is null and the index has a place in each, each pick names a row
+  pub all_there : validity ≡ None → list_any (lacks_place index) (rows column) ≡ false → All IsPicked (map child_pick (places_in offsets validity index))
+  all_there whole none k d below =
+      let inside : k < rows_between offsets = omega (arith, below, mapped_count child_pick (child_place offsets validity index) (rows_between offsets)) in
+      let valid : valid_at validity k ≡ true = ap (λ v. valid_at v k) whole in
+      let there : is_none (place index (count k)) ≡ false = lacks_is k inside valid ∙ lacks_not k none (inside_rows k inside) in
+      subst IsPicked (sym (mapped_at child_pick (child_place offsets validity index) (rows_between offsets) k None d below))
+      (subst (λ b. IsPicked (child_pick (if b then option_map (λ i. start k + i) (place index (count k)) else None))) (sym valid) (place_picked (start k) (place index (count k)) there))

@@ -1,7 +1,7 @@
 -- Rows of one child at places.
 use Rattle.std.proofs.Common.{◌≡◌, ◌<◌, ◌+◌, ◌-◌, ℕ, ℤ, pos, negsuc, Bool, true, false, All, List, [], ◌∷◌, ◌++◌, length, map, get_or, Option, Some, None, refl, ap, sym, subst, ◌∙◌, arith}
 use Rattle.std.specs.Prelude.{nat_lt, if◌then◌else◌, not, IfSome}
-use Rattle.std.specs.Option.{is_some, is_none}
+use Rattle.std.specs.Option.{option_map, is_some, is_none}
 use Rattle.std.specs.List.{range_with_len}
 use Rattle.std.proofs.lemmas.Bool.{ltb-true}
 use Rattle.std.proofs.lemmas.List.{length-map, map-append, get_or-map}
@@ -9,6 +9,7 @@ use Rattle.std.proofs.lemmas.List.FromFn.{length-map-range_with_len, get_or-map-
 use Rattle.sel_bits.specs.Place.{place}
 use Rattle.sel_arrow.specs.Value.{Value, Null}
 use Rattle.sel_runs.specs.Picks.{pick, PickFits}
+use Rattle.sel_runs.specs.Plans.{IsPicked}
 use Rattle.sel_sublists.specs.Elements.{element_at, child_pick}
 
 -- ---- a loop over places
@@ -65,3 +66,12 @@ place_below (negsuc i) n = below_if (nat_lt i n) (n - (i + 1)) n (λ e. let h : 
 pub none_is : {A : Type 0} (o : Option A) (b : Bool) → is_some o ≡ not b → is_none o ≡ b
 none_is o true e = ap not e
 none_is o false e = ap not e
+
+pub is_gone : {A : Type 0} (o : Option A) → is_some o ≡ false → o ≡ None
+is_gone None e = refl
+is_gone (Some x) e = absurd cc
+
+-- a place that there is picks a row
+pub place_picked : (s : ℕ) (o : Option ℕ) → is_none o ≡ false → IsPicked (child_pick (option_map (λ i. s + i) o))
+place_picked s None e = absurd cc
+place_picked s (Some i) e = tt

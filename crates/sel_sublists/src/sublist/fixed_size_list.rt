@@ -147,7 +147,7 @@ impl Places for LiteralPlaces<'_> {
 
     #[inline(always)]
     fn has_nulls(&self) -> bool {
-        true
+        self.place.is_none() || self.arr.validity.is_some()
     }
 }
 

@@ -173,7 +173,7 @@ impl Places for ListPlaces<'_> {
 
     #[inline(always)]
     fn has_nulls(&self) -> bool {
-        true
+        self.arr.validity.is_some() || index_is_oob(self.arr, self.index)
     }
 }
 
