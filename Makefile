@@ -1,5 +1,5 @@
 # `make tour` shows columns of each kind, each kernel and each refusal once; `make run` runs the program on the stored input, or on another: make run INPUT=file; `make build` proves and builds it;
-# `make lib` builds the library for C into build/, `make install PREFIX=folder` puts it and its header there;
+# `make lib` builds the library for C into build/, `make install PREFIX=folder` puts it and its header there; either for newer processors: make lib CPU=x86-64-v3;
 # `make bench` times its kernels beside numpy, plain loops and a copy, and writes docs/BENCHMARKS.md (make bench QUICK=1: their answers alone);
 # `make test` is the whole gate: `rt ci`, then, over what it built, wrong bodies one function at a time, each growth of memory refused, stored runs,
 # and the library for C with its bindings, examples and the answers of its benchmark; `make api` writes the reference anew; `make test-lib` builds the
@@ -20,10 +20,10 @@ build:
 	cd crates/sel_bench && rt run < /dev/null
 
 lib:
-	tools/clib
+	tools/clib $(if $(CPU),--cpu $(CPU))
 
 install:
-	tools/clib --install $(PREFIX)
+	tools/clib --install $(PREFIX) $(if $(CPU),--cpu $(CPU))
 
 bench:
 	tools/bench/run $(if $(QUICK),quick)

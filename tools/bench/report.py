@@ -35,8 +35,14 @@ CAUSES = (
 COLORS = (("sel", "#2a6fdb", "#7fb0ff"), ("loop", "#2f8f4e", "#7bd598"), ("numpy", "#b8681c", "#f0a860"), ("copy", "#777777", "#aaaaaa"))
 
 
+def built_for() -> str:
+    """The processors that tools/clib has built the library for."""
+    told = pathlib.Path(__file__).resolve().parents[2] / "build" / "cpu"
+    return told.read_text().strip() if told.exists() else "x86-64-v2"
+
+
 def cause_of(kernel: str) -> str:
-    return next((cause for start, cause in CAUSES if kernel.startswith(start)), "not known")
+    return next((cause for start, cause in CAUSES if kernel.startswith(start)), "not known").replace("x86-64-v2", built_for())
 
 
 def best_peer(times: dict) -> tuple[str, float]:
@@ -90,7 +96,7 @@ def machine(load: list[float], compiler: str, flags: list[str]) -> list[str]:
     busy = max(load)
     lines = [
         f"- Machine: {processor()}, {cores} cores; {platform.system()} {platform.release()}; one core is used, in one process, and each contender has its turn in each round.",
-        f"- Date: {datetime.date.today().isoformat()}. Library: proved, built by the toolchain for x86-64-v2. Loops: `{version_of([compiler, '--version'])}` with `{' '.join(flags[:2])}`. "
+        f"- Date: {datetime.date.today().isoformat()}. Library: proved, built by the toolchain for {built_for()}. Loops: `{version_of([compiler, '--version'])}` with `{' '.join(flags[:2])}`. "
         f"Python {sys.version.split()[0]}, numpy {numpy.__version__}.",
         f"- Load of the machine, as it tells it (1 is this process): {', '.join(f'{each:.1f}' for each in load)}.",
     ]
