@@ -22,7 +22,7 @@ pub(crate) fn count_set(bytes: &[u8], shift: usize, len: usize) -> usize
 
 /// The word of the 64 bits from bit `shift` of byte `at` on. No test of a length is left in it.
 #[inline]
-pub(crate) fn whole_word(bytes: &[u8], at: usize, shift: usize) -> u64
+pub fn whole_word(bytes: &[u8], at: usize, shift: usize) -> u64
     requires shift { shift < 8 }
     requires within { 8 * at + shift + 64 ≤ 8 * length bytes.now }
     ensures { result ≡ word_of (bits_from (drop at bytes.now) shift 64) }
@@ -54,7 +54,7 @@ fn load_eight(bytes: &[u8], at: usize) -> u64
 
 /// The word of the `len` bits from bit `shift` of the first byte on, with zeros above them; bytes that are missing count as 0.
 #[inline]
-pub(crate) fn first_word(bytes: &[u8], shift: usize, len: usize) -> u64
+pub fn first_word(bytes: &[u8], shift: usize, len: usize) -> u64
     requires shift { shift < 8 }
     requires len { len ≤ 64 }
     ensures { result ≡ word_of (bits_from bytes.now shift len) }
