@@ -10,6 +10,7 @@ use sel_bits::native::{Index, NativeType, Offset};
 use sel_bits::number::{load_padded_le_u64, negative_to_usize, prefix_xorsum};
 use sel_bits::offsets::OffsetsBuffer;
 use sel_bits::packer::BitPacker;
+use sel_bits::words::{first_word, whole_word};
 use std::alloc::Global;
 use std::process::Abort;
 use std::test::Fail;
@@ -407,6 +408,8 @@ fn words_of_bits_and_bytes(rt: HostRuntime) {
     assert!(rt; prefix_xorsum(0b1011) == 0xFFFF_FFFF_FFFF_FFF2);
     assert!(rt; load_padded_le_u64(&[0x01, 0x02]) == 0x201);
     assert!(rt; load_padded_le_u64(&[1, 2, 3, 4, 5, 6, 7, 8, 9]) == 0x0807_0605_0403_0201);
+    assert!(rt; whole_word(&[0, 1, 2, 3, 4, 5, 6, 7, 8, 9], 1, 4) == 0x9080_7060_5040_3020);
+    assert!(rt; first_word(&[0x10, 0x32], 4, 8) == 0x21);
 }
 
 #[test]

@@ -27,13 +27,13 @@ at_place bs (place ∷ places) zero h = refl
 at_place bs (place ∷ places) (suc k) h = at_place bs places k (omega (arith, h))
 
 -- a bit more of a word
-pub word_at_next : (bs : List Bool) (places : List ℕ) (k word bit : ℕ) → k < length places → length places ≤ 56 → word ≡ word_of (take k (bits_at bs places)) → bit ≡ from_bool (get_or bs (get_or places k 0) false)
+pub word_at_next : (bs : List Bool) (places : List ℕ) (k word bit : ℕ) → k < length places → length places ≤ 64 → word ≡ word_of (take k (bits_at bs places)) → bit ≡ from_bool (get_or bs (get_or places k 0) false)
     → word + bit * 2 ^ k % 2 ^ 64 ≡ word_of (take (k + 1) (bits_at bs places))
 word_at_next bs places k word bit inside short is bit-is =
     let long = length-bits_at bs places in
     word_of-next (bits_at bs places) k word bit (omega (arith, long, inside)) (omega (arith, long, short)) is (bit-is ∙ ap from_bool (sym (at_place bs places k inside)))
 
-pub word_at_few : (bs : List Bool) (places : List ℕ) (k : ℕ) → k ≤ length places → length places ≤ 56 → word_of (take k (bits_at bs places)) < 2 ^ 56
+pub word_at_few : (bs : List Bool) (places : List ℕ) (k : ℕ) → k ≤ length places → length places ≤ 64 → word_of (take k (bits_at bs places)) < 2 ^ 64
 word_at_few bs places k inside short =
     let long = length-bits_at bs places in
     word_of-few (bits_at bs places) k (omega (arith, long, inside)) (omega (arith, long, short))

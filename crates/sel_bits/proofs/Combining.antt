@@ -130,13 +130,11 @@ abbrev pub IsMade : (Bool → Bool → Bool → Bool) → ℕ → ℕ → ℕ �
 IsMade f x y z w = (i : ℕ) → i < 64 → is_set w i ≡ f (is_set x i) (is_set y i) (is_set z i)
 
 -- the words of a part of three lists make the word of that part of the list that the rule makes
-pub masked_made : (f : Bool → Bool → Bool → Bool) (xs ys zs : List Bool) (at len x y z w : ℕ) → length xs ≡ length ys → length xs ≡ length zs → at + len ≤ length xs → len ≤ 56
+pub masked_made : (f : Bool → Bool → Bool → Bool) (xs ys zs : List Bool) (at len x y z w : ℕ) → length xs ≡ length ys → length xs ≡ length zs → at + len ≤ length xs → len ≤ 64
     → x ≡ word_of (take len (drop at xs)) → y ≡ word_of (take len (drop at ys)) → z ≡ word_of (take len (drop at zs)) → IsMade f x y z w
-    → bit_and w (1 * 2 ^ len % 2 ^ 64 - 1) ≡ word_of (take len (drop at (zip_three f xs ys zs)))
+    → w % 2 ^ len ≡ word_of (take len (drop at (zip_three f xs ys zs)))
 masked_made f xs ys zs at len x y z w second third within few x_is y_is z_is made =
-    ap (λ m. bit_and w (m - 1)) (one_shl len 64 (omega arith))
-    ∙ and_mask w len
-    ∙ is_word_of (take len (drop at all)) (w % 2 ^ len) len (length_part at len all (omega (arith, length-zip_three f xs ys zs second third))) (mod_below w (2 ^ len) (pow_pos len)) bit
+    is_word_of (take len (drop at all)) (w % 2 ^ len) len (length_part at len all (omega (arith, length-zip_three f xs ys zs second third))) (mod_below w (2 ^ len) (pow_pos len)) bit
   where
     all : List Bool
     all = zip_three f xs ys zs

@@ -4,7 +4,8 @@ use Rattle.std.specs.Prelude.{count_ones}
 use Rattle.std.specs.Simd.Lanes.{mask_l}
 use Rattle.std.proofs.Math.Nat.{pow-suc}
 use Rattle.std.proofs.Math.Seq.{take-add}
-use Rattle.std.proofs.lemmas.Nat.{one_shl}
+use Rattle.std.proofs.Math.Pow.{not_mod}
+use Rattle.std.proofs.lemmas.Nat.{pow_pos}
 use Rattle.std.proofs.lemmas.List.{length-replicate, replicate-append-replicate, drop-drop}
 use Rattle.std.proofs.lemmas.List.Sums.{sum_by-append}
 use Rattle.std.proofs.lemmas.Simd.{ones-mask_l}
@@ -22,8 +23,11 @@ word_of-true : (n : ℕ) → word_of (replicate n true) + 1 ≡ 2 ^ n
 word_of-true zero = refl
 word_of-true (suc n) = omega (arith, word_of-true n, pow-suc 2 n)
 
-pub all_ones : (n : ℕ) → n < 64 → 1 * 2 ^ n % 18446744073709551616 - 1 ≡ word_of (replicate n true)
-all_ones n few = omega (arith, one_shl n 64 few, word_of-true n)
+pub all_ones : (n : ℕ) → n ≤ 64 → 18446744073709551615 % 2 ^ n ≡ word_of (replicate n true)
+all_ones n few =
+    let e : 64 - n + n ≡ 64 = omega arith in
+    let max : (2 ^ (64 - n + n) - 1) - 0 ≡ 18446744073709551615 = ap (λ k. (2 ^ k - 1) - 0) e in
+    ap (λ w. w % 2 ^ n) (sym max) ∙ not_mod (64 - n) n (pow_pos n) ∙ omega (arith, word_of-true n)
 
 -- one block more of a part of a list
 pub block_more : (old so_far new xs : List Bool) (start len at count : ℕ) → start + len ≤ length xs → at + count ≤ len →

@@ -43,7 +43,7 @@ from_bool_lt true = omega arith
 from_bool_lt false = omega arith
 
 -- the next truth value of a list, shifted to its place in a word
-pub word_of-next : (l : List Bool) (i word bit : ℕ) → i < length l → length l ≤ 56 → word ≡ word_of (take i l) → bit ≡ from_bool (get_or l i false)
+pub word_of-next : (l : List Bool) (i word bit : ℕ) → i < length l → length l ≤ 64 → word ≡ word_of (take i l) → bit ≡ from_bool (get_or l i false)
     → word + bit * 2 ^ i % 2 ^ 64 ≡ word_of (take (i + 1) l)
 word_of-next l i word bit inside short is bit-is =
     let long : length (take i l) ≡ i = omega (arith, length-take i l) in
@@ -55,11 +55,11 @@ word_of-next l i word bit inside short is bit-is =
     shl_sum = ap (λ n. word + n) (shl_whole bit 1 i 64 (rw bit-is (from_bool_lt (get_or l i false))) (omega arith))
 
 -- the word of the first truth values of few
-pub word_of-few : (l : List Bool) (i : ℕ) → i ≤ length l → length l ≤ 56 → word_of (take i l) < 2 ^ 56
+pub word_of-few : (l : List Bool) (i : ℕ) → i ≤ length l → length l ≤ 64 → word_of (take i l) < 2 ^ 64
 word_of-few l i inside short =
     let long : length (take i l) ≡ i = omega (arith, length-take i l) in
     let fits = word_of_lt (take i l) in
-    let up : 2 ^ i ≤ 2 ^ 56 = pow_mono {j = 56} (omega arith) in
+    let up : 2 ^ i ≤ 2 ^ 64 = pow_mono {j = 64} (omega arith) in
     omega (arith, ap (λ n. 2 ^ n) long, fits, up)
 
 -- a byte of eight equal bits

@@ -87,6 +87,7 @@ impl<'a> AlignedWords<'a> {
         self.at += count;
         Some((word, count))
     }
+
     /// Passes over the next words as long as these have 64 bits, all of them false, each counted as given out, and answers how many
     /// bits these had.
     #[inline]

@@ -6,10 +6,9 @@ ghost use Rattle.sel_bits.specs.Bits.{bits_from, count_true, count_false, leadin
 ghost use Rattle.sel_bits.specs.Words.{word_of};
 
 use crate::faults::{PolarsError, PolarsResult};
-use crate::number::load_padded_le_u64;
 use crate::operations::{Not, word_by};
 use crate::packer::{BitPacker, MOST_BITS};
-use crate::words::{count_set, whole_word};
+use crate::words::{count_set, first_word, whole_word};
 use std::alloc::Global;
 use std::marker::Model;
 use std::rc::RcSlice;
@@ -132,17 +131,15 @@ impl Bitmap {
     #[inline]
     pub(crate) fn word_at(&self, at: usize, len: usize) -> u64
         requires within { at + len ≤ length self.now.bits }
-        requires one_load { (self.now.offset + at) % 8 + len ≤ 64 }
+        requires few { len ≤ 64 }
         ensures { result ≡ word_of (take len (drop at self.now.bits)) }
     {
-        let first = self.offset + at;
-        let bytes = &self.bytes[first / 8..];
-        let word = load_padded_le_u64(bytes) >> (first % 8);
+        // (of whole words nothing is cut off, and their bytes are all there)
         if len == 64 {
-            word
-        } else {
-            word & ((1 << len) - 1)
+            return self.whole_word_at(at);
         }
+        let first = self.offset + at;
+        first_word(&self.bytes[first / 8..], first % 8, len)
     }
 
     /// The word of the 64 bits from bit `at` on.
@@ -348,7 +345,7 @@ fn byte_of(value: bool) -> u8
 
 /// The word whose bits are these, from the lowest on, and then zeros.
 fn word_of_bools(values: &[bool]) -> u64
-    requires { length values.now ≤ 56 }
+    requires { length values.now ≤ 64 }
     ensures { result ≡ word_of values.now }
 {
     let mut word = 0;

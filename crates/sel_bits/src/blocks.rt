@@ -5,8 +5,10 @@ ghost use Rattle.sel_bits.specs.Reading.{after_block, block_bits};
 ghost use Rattle.sel_bits.specs.Words.{word_of};
 
 use crate::bitmap::Bitmap;
-use crate::packer::MOST_BITS;
 use std::marker::Model;
+
+/// The most bits of a block.
+const BLOCK_BITS: usize = 56;
 
 /// The bits of a bitmap in blocks of 56, of which the last one may have fewer.
 ///
@@ -70,7 +72,7 @@ impl<'a> U56Blocks<'a> {
         ensures bound { self.new.blocks_read ≤ (length self.new.source.bits + 55) / 56 }
     {
         let bitmap = self.bitmap;
-        let count = (bitmap.len() - self.at).min(MOST_BITS);
+        let count = (bitmap.len() - self.at).min(BLOCK_BITS);
         if count == 0 {
             return None;
         }

@@ -14,4 +14,4 @@ pub mod number;
 pub mod offsets;
 pub mod operations;
 pub mod packer;
-mod words;
+pub mod words;

@@ -9,6 +9,7 @@ ghost use Rattle.sel_bits.specs.Words.{is_set, word_of};
 use crate::bitmap::Bitmap;
 use crate::faults::{PolarsError, PolarsResult};
 use crate::packer::{BitPacker, MOST_BITS};
+use crate::words::low_bits;
 use std::alloc::Global;
 
 impl Bitmap {
@@ -178,14 +179,15 @@ fn combine<R: BitRule>(alloc: Global, x: &Bitmap, y: &Bitmap, z: &Bitmap) -> Pol
 }
 
 /// The word of what the rule makes of the `len` bits from bit `at` on.
+#[inline]
 pub(crate) fn word_by<R: BitRule>(x: &Bitmap, y: &Bitmap, z: &Bitmap, at: usize, len: usize) -> u64
     requires second { length x.now.bits ≡ length y.now.bits }
     requires third { length x.now.bits ≡ length z.now.bits }
     requires within { at + len ≤ length x.now.bits }
-    requires few { len ≤ 56 }
+    requires few { len ≤ 64 }
     ensures { result ≡ word_of
         (take len (drop at (zip_three R.on_bits x.now.bits y.now.bits z.now.bits))) }
 {
     let word = R::on_words(x.word_at(at, len), y.word_at(at, len), z.word_at(at, len));
-    word & ((1 << len) - 1)
+    low_bits(word, len)
 }

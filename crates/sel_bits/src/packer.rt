@@ -1,4 +1,4 @@
-//! Bits that are packed behind one another, up to 56 at a time.
+//! Bits that are packed behind one another, up to 64 at a time.
 #![tactic(auto, using(crate::proofs::BitLists::length_bits_from))]
 
 ghost use Rattle.std.specs.Prelude.{◌≡◌, ℕ, ◌+◌, ◌-◌, ◌*◌, ◌^◌, ◌<◌, ◌≤◌, [], ◌∷◌, ◌++◌, length, take, drop, replicate, IfOk, IfErr, OnOk};
@@ -7,13 +7,14 @@ ghost use Rattle.sel_bits.specs.Words.{bits, word_of};
 
 use crate::bitmap::Bitmap;
 use crate::faults::{PolarsError, PolarsResult};
+use crate::words::low_bits;
 use std::alloc::Global;
 use std::marker::Model;
 
-/// The most bits that can be put behind the others at once: the seven that may wait stand below them in one word.
-pub const MOST_BITS: usize = 56;
+/// The most bits that can be put behind the others at once.
+pub const MOST_BITS: usize = 64;
 
-/// A bitmap that grows at its end: whole bytes, and fewer than eight bits that wait for their byte to fill.
+/// A bitmap that grows at its end: whole words of 64 bits, and fewer than 64 bits that wait for their word to fill.
 ///
 /// Contracts see the list of the bits so far.
 #[derive(Drop)]
@@ -31,7 +32,7 @@ impl Model for BitPacker {
 
     ghost view = { λ p. packed_bits p.bytes.items p.held p.pending };
 
-    ghost invariant = { λ p. (p.held < 8) × (p.pending < 2 ^ p.held) };
+    ghost invariant = { λ p. (p.held < 64) × (p.pending < 2 ^ p.held) };
 }
 
 impl BitPacker {
@@ -40,7 +41,7 @@ impl BitPacker {
         ensures value { IfOk result (λ packer. packer ≡ []) }
         ensures refusal { IfErr result (λ fault. fault ≡ PolarsError.OutOfMemory) }
     {
-        // (a word may be written behind the last byte)
+        // (the bits that wait at the end are written as a whole word)
         let bytes = Vec::with_capacity(alloc, count.div_ceil(8) + 8)?;
         Ok(BitPacker {
             bytes,
@@ -50,9 +51,9 @@ impl BitPacker {
     }
 
     /// Puts the `count` lowest bits of `word` behind the others. Refuses only for want of memory, and then changes nothing.
-    #[inline]
+    #[inline(always)]
     pub fn append(&mut self, word: u64, count: u32) -> PolarsResult<()>
-        requires count { count ≤ 56 }
+        requires count { count ≤ 64 }
         requires fits { word < 2 ^ count }
         ensures appended { OnOk result (self.new ≡ self.old ++ bits count word) }
         ensures unchanged { IfErr result (λ _. self.new ≡ self.old) }
@@ -60,16 +61,20 @@ impl BitPacker {
     {
         let full = self.pending | (word << self.held);
         let held = self.held + count;
-        let whole = held / 8;
-        // (eight bytes at once, of which those stay that are whole)
+        if held < 64 {
+            self.pending = full;
+            self.held = held;
+            return Ok(());
+        }
         self.bytes.extend_from_slice(&full.to_le_bytes())?;
-        self.bytes.truncate(self.bytes.len() - (8 - whole as usize));
-        self.pending = full >> (8 * whole);
-        self.held = held % 8;
+        // (what did not fit: nothing where none waited, and no shift is by 64)
+        self.pending = (word >> 1) >> (63 - self.held);
+        self.held = held - 64;
         Ok(())
     }
 
     /// Puts one bit behind the others. Refuses only for want of memory, and then changes nothing.
+    #[inline]
     pub fn push(&mut self, bit: bool) -> PolarsResult<()>
         ensures pushed { OnOk result (self.new ≡ self.old ++ bit ∷ []) }
         ensures unchanged { IfErr result (λ _. self.new ≡ self.old) }
@@ -127,18 +132,15 @@ impl BitPacker {
         ensures value { IfOk result (λ bitmap. bitmap ≡ unsliced self) }
         ensures refusal { IfErr result (λ fault. fault ≡ PolarsError.OutOfMemory) }
     {
-        if self.held == 0 {
-            return Bitmap::from_u8_vec(self.bytes, len);
-        }
-        self.bytes.push(self.pending as u8)?;
+        self.bytes.extend_from_slice(&self.pending.to_le_bytes())?;
         Bitmap::from_u8_vec(self.bytes, len)
     }
 }
 
 /// The word whose `count` lowest bits are this one, with zeros above them.
 fn word_of_copies(value: bool, count: usize) -> u64
-    requires { count ≤ 56 }
+    requires { count ≤ 64 }
     ensures { result ≡ word_of (replicate count value) }
 {
-    if value { (1 << count) - 1 } else { 0 }
+    if value { low_bits(u64::MAX, count) } else { 0 }
 }

@@ -1,6 +1,6 @@
 //! Words of up to 64 bits that begin at any bit of a byte, and how many bits of bytes are true.
 
-ghost use Rattle.std.specs.Prelude.{◌≡◌, ℕ, ◌+◌, ◌*◌, ◌<◌, ◌≤◌, length, drop};
+ghost use Rattle.std.specs.Prelude.{◌≡◌, ℕ, ◌+◌, ◌*◌, ◌%◌, ◌^◌, ◌<◌, ◌≤◌, length, drop};
 ghost use Rattle.sel_bits.specs.Bits.{bits_from, count_true};
 ghost use Rattle.sel_bits.specs.Words.{padded_word, word_of};
 
@@ -22,7 +22,7 @@ pub(crate) fn count_set(bytes: &[u8], shift: usize, len: usize) -> usize
 
 /// The word of the 64 bits from bit `shift` of byte `at` on. No test of a length is left in it.
 #[inline]
-pub(crate) fn whole_word(bytes: &[u8], at: usize, shift: usize) -> u64
+pub fn whole_word(bytes: &[u8], at: usize, shift: usize) -> u64
     requires shift { shift < 8 }
     requires within { 8 * at + shift + 64 ≤ 8 * length bytes.now }
     ensures { result ≡ word_of (bits_from (drop at bytes.now) shift 64) }
@@ -54,14 +54,25 @@ fn load_eight(bytes: &[u8], at: usize) -> u64
 
 /// The word of the `len` bits from bit `shift` of the first byte on, with zeros above them; bytes that are missing count as 0.
 #[inline]
-fn first_word(bytes: &[u8], shift: usize, len: usize) -> u64
+pub fn first_word(bytes: &[u8], shift: usize, len: usize) -> u64
     requires shift { shift < 8 }
     requires len { len ≤ 64 }
     ensures { result ≡ word_of (bits_from bytes.now shift len) }
 {
     let low = load_padded_le_u64(bytes);
     let high = if bytes.len() > 8 { bytes[8] } else { 0 };
-    let word = (low >> shift) | ((u64::from(high) << 1) << (63 - shift));
+    low_bits(
+        (low >> shift) | ((u64::from(high) << 1) << (63 - shift)),
+        len,
+    )
+}
+
+/// The `len` lowest bits of a word, with zeros above them.
+#[inline(always)]
+pub(crate) fn low_bits(word: u64, len: usize) -> u64
+    requires { len ≤ 64 }
+    ensures { result ≡ word % 2 ^ len }
+{
     if len == 64 {
         word
     } else {

@@ -13,53 +13,19 @@ use Rattle.sel_bits.specs.Bits.{Bits, count_true}
 use Rattle.sel_bits.specs.Reading.{BlockReading, after_block, block_bits}
 use Rattle.sel_bits.proofs.Padded.{word_of_lt}
 use Rattle.sel_bits.proofs.Packs.{length_bits, bits_split}
-use Rattle.sel_filter.proofs.WordLists.{bits_of_zero, bits_of_ones, bits_word_of, ones_is}
+use Rattle.sel_filter.proofs.WordLists.{bits_of_zero, bits_word_of, ones_is}
+use Rattle.sel_filter.proofs.WordSelects.{select_padded}
 use Rattle.sel_filter.proofs.Selects.{select-append, select_none, length-select, count_true-append, count_true_none}
-
--- what is the same on both sides and false in the mask selects nothing
-select_padded : (xs : List Bool) (ms : List Bool) (k : ℕ) → length xs ≡ length ms → select (xs ++ replicate k false) (ms ++ replicate k false) ≡ select xs ms
-select_padded xs ms k long =
-    select-append xs ms (replicate k false) (replicate k false) long ∙ ap (λ l. select xs ms ++ l) (select_none (replicate k false) k) ∙ append-nil (select xs ms)
 
 wide : (v : ℕ) → v < 2 ^ 56 → bits 64 v ≡ bits 56 v ++ replicate 8 false
 wide v fits = bits_split 56 8 v ∙ ap (λ x. bits 56 v ++ bits 8 x) (div-eq_of_lt fits) ∙ ap (λ l. bits 56 v ++ l) (bits_of_zero 8)
 
 module _ (v m : ℕ) (v_fits : v < 2 ^ 56) (m_fits : m < 2 ^ 56) where
-  both : select (bits 64 v) (bits 64 m) ≡ select (bits 56 v) (bits 56 m)
-  both =
+  pub block_as_word : select (bits 64 v) (bits 64 m) ≡ select (bits 56 v) (bits 56 m)
+  block_as_word =
       ap (λ l. select l (bits 64 m)) (wide v v_fits)
       ∙ ap (select (bits 56 v ++ replicate 8 false)) (wide m m_fits)
       ∙ select_padded (bits 56 v) (bits 56 m) 8 (length_bits 56 v ∙ sym (length_bits 56 m))
-
-  pub compress_block : compress v m ≡ word_of (select (bits 56 v) (bits 56 m))
-  unfolding compress
-  compress_block = ap word_of both
-
-  long : length (select (bits 56 v) (bits 56 m)) ≡ count_ones m
-  long = length-select (bits 56 v) (bits 56 m) (length_bits 56 v ∙ sym (length_bits 56 m)) ∙ sym (ones_is 56 m m_fits)
-
-  pub few_ones : count_ones m ≤ 56
-  few_ones = omega (arith, ones_is 56 m m_fits, count_by-le-length (λ b. b) (bits 56 m), length_bits 56 m)
-
-  pub compress_fits : compress v m < 2 ^ count_ones m
-  compress_fits = rw compress_block (subst (λ k. word_of (select (bits 56 v) (bits 56 m)) < 2 ^ k) long (word_of_lt (select (bits 56 v) (bits 56 m))))
-
-  pub compress_bits : bits (count_ones m) (compress v m) ≡ select (bits 56 v) (bits 56 m)
-  compress_bits =
-      let s = select (bits 56 v) (bits 56 m) in
-      let none : count_ones m - length s ≡ 0 = omega (arith, long) in
-      ap (bits (count_ones m)) compress_block ∙ bits_word_of s (count_ones m) (omega (arith, long)) ∙ ap (λ k. s ++ replicate k false) none ∙ append-nil s
-
-pub select_empty : (v m : ℕ) → m ≡ 0 → select (bits 56 v) (bits 56 m) ≡ []
-select_empty v m none = ap (λ x. select (bits 56 v) (bits 56 x)) none ∙ ap (select (bits 56 v)) (bits_of_zero 56) ∙ select_none (bits 56 v) 56
-
-select_all : (xs : List Bool) (n : ℕ) → length xs ≡ n → select xs (replicate n true) ≡ xs
-select_all [] n long = refl
-select_all (x ∷ xs) zero long = absurd (omega arith)
-select_all (x ∷ xs) (suc n) long = ap (λ l. x ∷ l) (select_all xs n (omega arith))
-
-pub select_full : (v m : ℕ) → m ≡ 2 ^ 56 - 1 → select (bits 56 v) (bits 56 m) ≡ bits 56 v
-select_full v m full = ap (λ x. select (bits 56 v) (bits 56 x)) full ∙ ap (select (bits 56 v)) (bits_of_ones 56) ∙ select_all (bits 56 v) 56 (length_bits 56 v)
 
 -- ---- from block to block
 
@@ -127,10 +93,10 @@ module _ (vs ms : Bits) (out : List Bool) (kept : ℕ) (values mask : BlockReadi
     m_is : m ≡ word_of (take 56 (drop (56 * mask.blocks_read) ms.bits))
     m_is = is_m ∙ ap (λ (s : Bits). word_of (take 56 (drop (56 * mask.blocks_read) s.bits))) was.mask_source
 
-    pub v_fits : v < 2 ^ 56
+    v_fits : v < 2 ^ 56
     v_fits = rw v_is (block_fits vs.bits (56 * mask.blocks_read))
 
-    pub m_fits : m < 2 ^ 56
+    m_fits : m < 2 ^ 56
     m_fits = rw m_is (block_fits ms.bits (56 * mask.blocks_read))
 
     counted : count_ones m ≡ count_true (take 56 (drop (56 * mask.blocks_read) ms.bits))
@@ -141,10 +107,10 @@ module _ (vs ms : Bits) (out : List Bool) (kept : ℕ) (values mask : BlockReadi
         let n = 56 * (mask.blocks_read + 1) in
         omega (arith, was.counts, counted, blocks_count vs.bits ms.bits was.lengths mask.blocks_read, count_by-le-length (λ b. b) (take n ms.bits), length-take n ms.bits)
 
-    selected : select (bits 56 v) (bits 56 m) ≡ select (take 56 (drop (56 * mask.blocks_read) vs.bits)) (take 56 (drop (56 * mask.blocks_read) ms.bits))
-    selected = (λ i. select (bits 56 (v_is i)) (bits 56 (m_is i))) ∙ block_selects vs.bits ms.bits was.lengths mask.blocks_read
+    selected : select (bits 64 v) (bits 64 m) ≡ select (take 56 (drop (56 * mask.blocks_read) vs.bits)) (take 56 (drop (56 * mask.blocks_read) ms.bits))
+    selected = block_as_word v m v_fits m_fits ∙ (λ i. select (bits 56 (v_is i)) (bits 56 (m_is i))) ∙ block_selects vs.bits ms.bits was.lengths mask.blocks_read
 
-    pub kept_more : IsKept vs ms (out ++ select (bits 56 v) (bits 56 m)) (kept + count_ones m) (after_block values) (after_block mask)
+    pub kept_more : IsKept vs ms (out ++ select (bits 64 v) (bits 64 m)) (kept + count_ones m) (after_block values) (after_block mask)
     kept_more = record {
       values_source = was.values_source;
       mask_source = was.mask_source;

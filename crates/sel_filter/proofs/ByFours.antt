@@ -14,7 +14,6 @@ use Rattle.sel_filter.specs.Compress.{compress}
 use Rattle.sel_filter.specs.declared.nibbles.TheConstants.{NIBBLES}
 use Rattle.sel_filter.proofs.Selects.{select-append, few_kept}
 use Rattle.sel_filter.proofs.WordLists.{word_of-append}
-use Rattle.sel_filter.proofs.BlockSelects.{compress_block}
 use Rattle.sel_filter.proofs.FourBits.{kept_four, entry_is, count_is}
 
 -- the bits of v that are kept of the first n
@@ -45,7 +44,7 @@ packed_first v m = record {
 four_bits : (x : ℕ) → bits 4 (x % 16) ≡ bits 4 x
 four_bits x = bits_same 4 (x % 16) x (λ i lt. bit_at_mod x 4 i lt)
 
-module _ (v m i values mask packed place : ℕ) (below : i < 14) (was : IsPacked v m i values mask packed place) where
+module _ (v m i values mask packed place : ℕ) (below : i < 16) (was : IsPacked v m i values mask packed place) where
   abbrev pub four : List Bool
   four = kept_four (values % 16) (mask % 16)
 
@@ -89,6 +88,7 @@ module _ (v m i values mask packed place : ℕ) (below : i < 14) (was : IsPacked
       fits : packed < 2 ^ place
       fits = rw (was.word, was.count) (word_of_lt (kept_bits v m (4 * i)))
 
--- of a block there are no more bits
-pub packed_last : (v m values mask packed place : ℕ) → v < 2 ^ 56 → m < 2 ^ 56 → IsPacked v m 14 values mask packed place → packed ≡ compress v m
-packed_last v m values mask packed place v_fits m_fits was = was.word ∙ sym (compress_block v m v_fits m_fits)
+-- of a word there are no more bits
+pub packed_last : (v m values mask packed place : ℕ) → IsPacked v m 16 values mask packed place → packed ≡ compress v m
+unfolding compress
+packed_last v m values mask packed place was = was.word

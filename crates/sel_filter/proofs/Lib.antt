@@ -18,5 +18,7 @@ pub mod Selects
 pub mod Shortcuts
 pub mod Single
 pub mod Spots
+pub mod WordFiltering
 pub mod WordLists
 pub mod WordRuns
+pub mod WordSelects

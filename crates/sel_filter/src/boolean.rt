@@ -13,17 +13,10 @@ use sel_bits::blocks::U56Blocks;
 use sel_bits::counted_bits::CountedBits;
 use sel_bits::faults::{PolarsError, PolarsResult};
 use sel_bits::packer::BitPacker;
+use sel_bits::words::{first_word, whole_word};
 use std::alloc::Global;
 
-/// A mask is gone over by its true bits where it has no more than one in so many.
-const SPARSE: usize = 256;
-
-/// A mask block that keeps all of its 56 bits.
-const FULL_BLOCK: u64 = (1 << 56) - 1;
-
 /// The bits where the mask is true, in order. Refuses only for want of memory.
-///
-/// A mask that keeps at most one bit in 256 is gone over by its true bits, another one by blocks.
 pub fn filter_boolean_kernel(alloc: Global, values: &Bitmap, mask: &Bitmap) -> PolarsResult<Bitmap>
     requires { length values.now.bits ≡ length mask.now.bits }
     ensures bits { IfOk result (λ kept. kept.bits ≡ select values.now.bits mask.now.bits) }
@@ -36,14 +29,35 @@ pub fn filter_boolean_kernel(alloc: Global, values: &Bitmap, mask: &Bitmap) -> P
     if count == mask.len() {
         return values.try_clone();
     }
-    if count <= mask.len() / SPARSE {
-        let mut bits = CountedBits::new(values);
-        let mut words = AlignedWords::new(mask);
-        return keep_marked(alloc, count, &mut bits, &mut words);
+    keep_words(alloc, count, values, mask)
+}
+
+/// The bits where the mask is true, in order, by words of 64; they are `count` in number. Refuses only for want of memory.
+fn keep_words(alloc: Global, count: usize, values: &Bitmap, mask: &Bitmap) -> PolarsResult<Bitmap>
+    requires long { length values.now.bits ≡ length mask.now.bits }
+    requires count { count ≡ count_true mask.now.bits }
+    ensures bits { IfOk result (λ kept. kept.bits ≡ select values.now.bits mask.now.bits) }
+    ensures refusal { IfErr result (λ fault. fault ≡ PolarsError.OutOfMemory) }
+{
+    let (mask_bytes, mask_shift, len) = mask.as_slice();
+    let (value_bytes, value_shift, _) = values.as_slice();
+    let mut kept = BitPacker::with_capacity(alloc, count)?;
+    for block in 0..len / 64 {
+        let marks = whole_word(mask_bytes, 8 * block, mask_shift);
+        if marks == 0 {
+            continue;
+        }
+        append_kept(
+            &mut kept,
+            whole_word(value_bytes, 8 * block, value_shift),
+            marks,
+        )?;
     }
-    let mut blocks = U56Blocks::new(values);
-    let mut marks = U56Blocks::new(mask);
-    keep_blocks(alloc, count, &mut blocks, &mut marks)
+    let done = len / 64 * 8;
+    let marks = first_word(&mask_bytes[done..], mask_shift, len % 64);
+    let word = first_word(&value_bytes[done..], value_shift, len % 64);
+    append_kept(&mut kept, word, marks)?;
+    kept.into_bitmap(count)
 }
 
 /// The bits of `values` where `mask` is true, in order: each of them is read once, and no other. Refuses only for want of memory, and
@@ -64,31 +78,9 @@ pub fn filter_boolean_kernel_sparse(
     ensures mask_source { mask.new.source ≡ mask.old.source }
     ensures refusal { IfErr result (λ fault. fault ≡ PolarsError.OutOfMemory) }
 {
-    let room = mask.len();
-    keep_marked(alloc, room, values, mask)
-}
-
-/// The same, with room for so many bits from the start.
-fn keep_marked(
-    alloc: Global,
-    room: usize,
-    values: &mut CountedBits<'_>,
-    mask: &mut AlignedWords<'_>,
-) -> PolarsResult<Bitmap>
-    requires values_unread { values.old.bits_read ≡ 0 }
-    requires mask_unread { mask.old.words_read ≡ 0 }
-    requires long { length values.old.source.bits ≡ length mask.old.source.bits }
-    ensures bits { IfOk result (λ kept. kept.bits ≡
-        select values.old.source.bits mask.old.source.bits) }
-    ensures reads { IfOk result (λ _. values.new.bits_read ≡ count_true mask.old.source.bits) }
-    ensures words { mask.new.words_read ≤ length mask.old.source.bits / 64 + 2 }
-    ensures values_source { values.new.source ≡ values.old.source }
-    ensures mask_source { mask.new.source ≡ mask.old.source }
-    ensures refusal { IfErr result (λ fault. fault ≡ PolarsError.OutOfMemory) }
-{
     // (a bitmap has no more bits than a place can show)
-    let _whole = mask.len();
-    let mut kept = BitPacker::with_capacity(alloc, room)?;
+    let whole = mask.len();
+    let mut kept = BitPacker::with_capacity(alloc, whole)?;
     let mut start = mask.skip_zeros();
     while let Some((word, count)) = mask.next() {
         append_marked(values, start, word, &mut kept)?;
@@ -143,31 +135,9 @@ pub fn filter_boolean_kernel_pext(
     ensures mask_source { mask.new.source ≡ mask.old.source }
     ensures refusal { IfErr result (λ fault. fault ≡ PolarsError.OutOfMemory) }
 {
-    let room = mask.len();
-    keep_blocks(alloc, room, values, mask)
-}
-
-/// The same, with room for so many bits from the start.
-fn keep_blocks(
-    alloc: Global,
-    room: usize,
-    values: &mut U56Blocks<'_>,
-    mask: &mut U56Blocks<'_>,
-) -> PolarsResult<Bitmap>
-    requires values_unread { values.old.blocks_read ≡ 0 }
-    requires mask_unread { mask.old.blocks_read ≡ 0 }
-    requires long { length values.old.source.bits ≡ length mask.old.source.bits }
-    ensures bits { IfOk result (λ kept. kept.bits ≡
-        select values.old.source.bits mask.old.source.bits) }
-    ensures values_blocks { values.new.blocks_read ≤ (length values.old.source.bits + 55) / 56 }
-    ensures mask_blocks { mask.new.blocks_read ≤ (length mask.old.source.bits + 55) / 56 }
-    ensures values_source { values.new.source ≡ values.old.source }
-    ensures mask_source { mask.new.source ≡ mask.old.source }
-    ensures refusal { IfErr result (λ fault. fault ≡ PolarsError.OutOfMemory) }
-{
     // (a bitmap has no more bits than a place can show)
-    let _whole = mask.len();
-    let mut kept = BitPacker::with_capacity(alloc, room)?;
+    let whole = mask.len();
+    let mut kept = BitPacker::with_capacity(alloc, whole)?;
     let mut count = 0;
     while let Some(marks) = mask.next() {
         let block = values.next().unwrap();
@@ -177,18 +147,21 @@ fn keep_blocks(
     kept.into_bitmap(count)
 }
 
-/// Puts the bits of `block` where `marks` has a set bit behind the others.
-fn append_kept(kept: &mut BitPacker, block: u64, marks: u64) -> PolarsResult<()>
-    requires block { block < 2 ^ 56 }
-    requires marks { marks < 2 ^ 56 }
-    ensures appended { OnOk result (kept.new ≡ kept.old ++ select (bits 56 block) (bits 56 marks)) }
+/// Puts the bits of `word` where `marks` has a set bit behind the others, in order. Refuses only for want of memory.
+#[inline(always)]
+fn append_kept(kept: &mut BitPacker, word: u64, marks: u64) -> PolarsResult<()>
+    ensures appended { OnOk result (kept.new ≡ kept.old ++ select (bits 64 word) (bits 64 marks)) }
     ensures refusal { IfErr result (λ fault. fault ≡ PolarsError.OutOfMemory) }
 {
     if marks == 0 {
         return Ok(());
     }
-    if marks == FULL_BLOCK {
-        return kept.append(block, 56);
+    if marks == u64::MAX {
+        return kept.append(word, 64);
     }
-    kept.append(compress_by_fours(block, marks), marks.count_ones())
+    let lowest = marks.trailing_zeros();
+    if marks == 1 << lowest {
+        return kept.append((word >> lowest) & 1, 1);
+    }
+    kept.append(compress_by_fours(word, marks), marks.count_ones())
 }

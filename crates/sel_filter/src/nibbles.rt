@@ -1,6 +1,6 @@
 //! The bits of a word that another word keeps, four at a time by a table.
 
-ghost use Rattle.std.specs.Prelude.{◌≡◌, ◌^◌, ◌<◌};
+ghost use Rattle.std.specs.Prelude.{◌≡◌};
 ghost use Rattle.sel_filter.specs.Compress.{compress};
 
 /// At 16 times four bits of a mask, and four bits of a word more: the bits of the word that the mask keeps, from the lowest on.
@@ -24,19 +24,16 @@ const NIBBLES: [u8; 256] = [
     0, 1, 2, 3, 4, 5, 6, 7, 8, 9, 10, 11, 12, 13, 14, 15,
 ];
 
-/// The bits of `v` where `m` has a set bit, packed from the lowest on, and then zeros: four at a time, whatever the mask. Both are
-/// blocks of 56 bits.
+/// The bits of `v` where `m` has a set bit, packed from the lowest on, and then zeros: four at a time, whatever the mask.
 #[inline]
 pub(crate) fn compress_by_fours(v: u64, m: u64) -> u64
-    requires value { v < 2 ^ 56 }
-    requires mask { m < 2 ^ 56 }
     ensures { result ≡ compress v m }
 {
     let mut packed = 0;
     let mut place = 0u32;
     let mut values = v;
     let mut mask = m;
-    for _i in 0..14u32 {
+    for _i in 0..16u32 {
         let four = mask % 16;
         packed |= u64::from(NIBBLES[(16 * four + values % 16) as usize]) << place;
         place += four.count_ones();

@@ -95,14 +95,14 @@ block_length : (vs : List (Option Bits)) (ps : List (Option (ℕ × ℕ))) (coun
 block_length vs ps count inside = omega (arith, inside, length-map ps (bit_found vs), length-take count (bits_found vs ps))
 
 -- one row more in a word
-pub word_next : (vs : List (Option Bits)) (ps rest : List (Option (ℕ × ℕ))) (p : Option (ℕ × ℕ)) (count i word bit : ℕ) (there : Bool) → drop i ps ≡ p ∷ rest → count ≤ length ps → count ≤ 56 → i < count →
+pub word_next : (vs : List (Option Bits)) (ps rest : List (Option (ℕ × ℕ))) (p : Option (ℕ × ℕ)) (count i word bit : ℕ) (there : Bool) → drop i ps ≡ p ∷ rest → count ≤ length ps → count ≤ 64 → i < count →
     word ≡ word_of (take i (take count (bits_found vs ps))) → there ≡ bit_found vs p → bit ≡ from_bool there →
     word + bit * 2 ^ i % 2 ^ 64 ≡ word_of (take (i + 1) (take count (bits_found vs ps)))
 word_next vs ps rest p count i word bit there at inside short h is e f =
     let long = block_length vs ps count inside in
     word_of-next (take count (bits_found vs ps)) i word bit (omega (arith, long, h)) (omega (arith, long, short)) is (f ∙ ap from_bool (e ∙ sym (there_at vs ps rest p count i at h)))
 
-pub word_few : (vs : List (Option Bits)) (ps : List (Option (ℕ × ℕ))) (count i : ℕ) → count ≤ length ps → count ≤ 56 → i < count → word_of (take (i + 1) (take count (bits_found vs ps))) < 2 ^ 56
+pub word_few : (vs : List (Option Bits)) (ps : List (Option (ℕ × ℕ))) (count i : ℕ) → count ≤ length ps → count ≤ 64 → i < count → word_of (take (i + 1) (take count (bits_found vs ps))) < 2 ^ 64
 word_few vs ps count i inside short h =
     let long = block_length vs ps count inside in
     word_of-few (take count (bits_found vs ps)) (i + 1) (omega (arith, long, h)) (omega (arith, long, short))

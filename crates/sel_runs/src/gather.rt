@@ -142,7 +142,7 @@ fn push_word<P: Plan, T: Copy + Drop>(
 ) -> u64
     requires fits { All (PickFits (map (λ s. s.values.now) parts.now)) (P.picks plan.old) }
     requires inside { count ≤ length (P.picks plan.old) }
-    requires short { count ≤ 56 }
+    requires short { count ≤ 64 }
     requires room { vec_len values.old + count ≤ vec_capacity values.old }
     ensures values { values.new.items ≡ values.old.items ++
         pick zero (map (λ s. s.values.now) parts.now) (take count (P.picks plan.old)) }
@@ -236,7 +236,7 @@ pub fn gather_bits<P: Plan>(
 fn word_of_picks<P: Plan>(plan: &mut P, maps: &[Option<&Bitmap>], count: usize) -> u64
     requires fits { All (HasBit (map option_copied maps.now)) (P.picks plan.old) }
     requires inside { count ≤ length (P.picks plan.old) }
-    requires short { count ≤ 56 }
+    requires short { count ≤ 64 }
     ensures word { result ≡ word_of
         (take count (bits_found (map option_copied maps.now) (P.picks plan.old))) }
     ensures rest { P.picks plan.new ≡ drop count (P.picks plan.old) }

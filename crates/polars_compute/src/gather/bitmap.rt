@@ -37,7 +37,7 @@ pub fn take_bitmap_unchecked(
 /// The word of the bits at these places.
 #[inline]
 fn word_of_places(values: &Bitmap, places: &[u32]) -> u64
-    requires few { length places.now ≤ 56 }
+    requires few { length places.now ≤ 64 }
     requires inside { IsTrue (all_below (length values.now.bits) places.now) }
     ensures { result ≡ word_of (pick false (values.now.bits ∷ []) (map place_pick places.now)) }
 {

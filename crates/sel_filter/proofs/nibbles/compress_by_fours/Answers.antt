@@ -21,5 +21,5 @@ loop-i-preserved c =
 
 pub returns : goal.returns
 returns c =
-    let end : c.loop-i._i ≡ 14 = omega arith in
-    packed_last c.args.v c.args.m c.loop-i.values c.loop-i.mask c.loop-i.packed c.loop-i.place c.requires.value c.requires.mask (subst (λ (i : ℕ). IsPacked c.args.v c.args.m i c.loop-i.values c.loop-i.mask c.loop-i.packed c.loop-i.place) end c.loop-i.invariant)
+    let end : c.loop-i._i ≡ 16 = omega arith in
+    packed_last c.args.v c.args.m c.loop-i.values c.loop-i.mask c.loop-i.packed c.loop-i.place (subst (λ (i : ℕ). IsPacked c.args.v c.args.m i c.loop-i.values c.loop-i.mask c.loop-i.packed c.loop-i.place) end c.loop-i.invariant)

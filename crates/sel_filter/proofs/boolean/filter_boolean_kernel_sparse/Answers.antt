@@ -4,7 +4,7 @@ use Rattle.sel_bits.specs.Bits.{Bits}
 use Rattle.sel_bits.specs.Words.{bits}
 use Rattle.sel_filter.specs.Select.{select}
 use Rattle.sel_filter.proofs.Filtering.{marked_fits, marked_reads, filtered_next, filtered_all, filtered_none, filtered_skip, reads_all, kept_count}
-use Rattle.sel_filter.proofs.boolean.keep_marked.Goals as goal
+use Rattle.sel_filter.proofs.boolean.filter_boolean_kernel_sparse.Goals as goal
 
 pub append_marked-requires-clause-within : goal.append_marked-requires-clause-within
 append_marked-requires-clause-within c =

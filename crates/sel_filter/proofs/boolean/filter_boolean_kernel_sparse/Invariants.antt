@@ -1,7 +1,7 @@
 -- What was kept is what is kept of the bits that the mask has given out.
 use Rattle.std.proofs.Common.{◌+◌, ◌-◌, ◌/◌, length}
 use Rattle.sel_filter.proofs.Filtering.{IsFiltered}
-use Rattle.sel_filter.proofs.boolean.keep_marked.Given as goal
+use Rattle.sel_filter.proofs.boolean.filter_boolean_kernel_sparse.Given as goal
 
 abbrev pub invariant-loop-word : goal.invariant-loop-word
 invariant-loop-word l = IsFiltered l.fn.values.source l.fn.mask.source l.kept l.start l.values l.mask

@@ -1,16 +1,8 @@
 use Rattle.std.proofs.Common.{◌∙◌, ap, arith}
 use Rattle.std.proofs.lemmas.Result.{IfOk-weaker}
 use Rattle.sel_bits.specs.Bits.{Bits}
-use Rattle.sel_filter.proofs.BlockSelects.{kept_is, v_fits, m_fits, more_kept, kept_more, kept_all}
-use Rattle.sel_filter.proofs.boolean.keep_blocks.Goals as goal
-
-pub append_kept-requires-clause-block : goal.append_kept-requires-clause-block
-append_kept-requires-clause-block c =
-    v_fits c.args.values.now.source c.args.mask.now.source c.loop-marks.kept c.loop-marks.count c.loop-marks.values c.loop-marks.mask c.loop-marks.invariant c.unwrap-block.result c.in-Some.marks (rw c.unwrap-block.ensures at c.next-in-Some.ensures.block) c.in-Some.ensures.block
-
-pub append_kept-requires-clause-marks : goal.append_kept-requires-clause-marks
-append_kept-requires-clause-marks c =
-    m_fits c.args.values.now.source c.args.mask.now.source c.loop-marks.kept c.loop-marks.count c.loop-marks.values c.loop-marks.mask c.loop-marks.invariant c.unwrap-block.result c.in-Some.marks (rw c.unwrap-block.ensures at c.next-in-Some.ensures.block) c.in-Some.ensures.block
+use Rattle.sel_filter.proofs.BlockSelects.{kept_is, more_kept, kept_more, kept_all}
+use Rattle.sel_filter.proofs.boolean.filter_boolean_kernel_pext.Goals as goal
 
 pub overflow_add-count : goal.overflow_add-count
 overflow_add-count c = record {

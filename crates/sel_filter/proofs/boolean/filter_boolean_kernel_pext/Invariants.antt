@@ -1,7 +1,7 @@
 -- What was kept is what is kept of the blocks that were given out.
 use Rattle.std.proofs.Common.{◌+◌, ◌-◌, ◌/◌, length}
 use Rattle.sel_filter.proofs.BlockSelects.{IsKept}
-use Rattle.sel_filter.proofs.boolean.keep_blocks.Given as goal
+use Rattle.sel_filter.proofs.boolean.filter_boolean_kernel_pext.Given as goal
 
 abbrev pub invariant-loop-marks : goal.invariant-loop-marks
 invariant-loop-marks l = IsKept l.fn.values.source l.fn.mask.source l.kept l.count l.values l.mask

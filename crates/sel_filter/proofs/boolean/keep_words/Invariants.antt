@@ -1,0 +1,7 @@
+-- What the words so far keep is kept.
+use Rattle.std.proofs.Common.{◌≡◌, ◌*◌, take}
+use Rattle.sel_filter.specs.Select.{select}
+use Rattle.sel_filter.proofs.boolean.keep_words.Given as goal
+
+abbrev pub invariant-loop-block : goal.invariant-loop-block
+invariant-loop-block l = l.kept ≡ select (take (64 * l.block) l.values.bits) (take (64 * l.block) l.mask.bits)
