@@ -13,7 +13,8 @@ ghost use Rattle.sel_handle.specs.Status.{other_length, Demands, Makes, Tells};
 use sel_arrow::array::Array;
 use sel_arrow::null::NullArray;
 use sel_handle::handle::Handle;
-use sel_handle::inputs::{booleans_of, numbers_of};
+use sel_handle::inputs::booleans_of;
+use sel_handle::numbers::make_numbers;
 use sel_handle::status::{OTHER_LENGTH, put, status_of_maker};
 use std::alloc::Global;
 
@@ -74,10 +75,7 @@ pub extern "C" fn sel_int8_new(
         (λ made. type_of made.column ≡ of_int8) }
     ensures status { Tells result (flat_rules (length values.now) bits.now has_bits) }
 {
-    match numbers_of(alloc, values, bits, has_bits) {
-        Ok(column) => put(alloc, column, out),
-        Err(fault) => status_of_maker(fault),
-    }
+    make_numbers(alloc, values, bits, has_bits, out)
 }
 
 /// Makes the column of these numbers. SEL_TOO_MANY_ROWS: more than 4,294,967,295; SEL_VALIDITY_LENGTH: fewer bytes of
@@ -96,10 +94,7 @@ pub extern "C" fn sel_int16_new(
         (λ made. type_of made.column ≡ of_int16) }
     ensures status { Tells result (flat_rules (length values.now) bits.now has_bits) }
 {
-    match numbers_of(alloc, values, bits, has_bits) {
-        Ok(column) => put(alloc, column, out),
-        Err(fault) => status_of_maker(fault),
-    }
+    make_numbers(alloc, values, bits, has_bits, out)
 }
 
 /// Makes the column of these numbers. SEL_TOO_MANY_ROWS: more than 4,294,967,295; SEL_VALIDITY_LENGTH: fewer bytes of
@@ -118,10 +113,7 @@ pub extern "C" fn sel_int32_new(
         (λ made. type_of made.column ≡ of_int32) }
     ensures status { Tells result (flat_rules (length values.now) bits.now has_bits) }
 {
-    match numbers_of(alloc, values, bits, has_bits) {
-        Ok(column) => put(alloc, column, out),
-        Err(fault) => status_of_maker(fault),
-    }
+    make_numbers(alloc, values, bits, has_bits, out)
 }
 
 /// Makes the column of these numbers. SEL_TOO_MANY_ROWS: more than 4,294,967,295; SEL_VALIDITY_LENGTH: fewer bytes of
@@ -140,10 +132,7 @@ pub extern "C" fn sel_int64_new(
         (λ made. type_of made.column ≡ of_int64) }
     ensures status { Tells result (flat_rules (length values.now) bits.now has_bits) }
 {
-    match numbers_of(alloc, values, bits, has_bits) {
-        Ok(column) => put(alloc, column, out),
-        Err(fault) => status_of_maker(fault),
-    }
+    make_numbers(alloc, values, bits, has_bits, out)
 }
 
 /// Makes the column of these numbers. SEL_TOO_MANY_ROWS: more than 4,294,967,295; SEL_VALIDITY_LENGTH: fewer bytes of
@@ -162,10 +151,7 @@ pub extern "C" fn sel_uint8_new(
         (λ made. type_of made.column ≡ of_uint8) }
     ensures status { Tells result (flat_rules (length values.now) bits.now has_bits) }
 {
-    match numbers_of(alloc, values, bits, has_bits) {
-        Ok(column) => put(alloc, column, out),
-        Err(fault) => status_of_maker(fault),
-    }
+    make_numbers(alloc, values, bits, has_bits, out)
 }
 
 /// Makes the column of these numbers. SEL_TOO_MANY_ROWS: more than 4,294,967,295; SEL_VALIDITY_LENGTH: fewer bytes of
@@ -184,10 +170,7 @@ pub extern "C" fn sel_uint16_new(
         (λ made. type_of made.column ≡ of_uint16) }
     ensures status { Tells result (flat_rules (length values.now) bits.now has_bits) }
 {
-    match numbers_of(alloc, values, bits, has_bits) {
-        Ok(column) => put(alloc, column, out),
-        Err(fault) => status_of_maker(fault),
-    }
+    make_numbers(alloc, values, bits, has_bits, out)
 }
 
 /// Makes the column of these numbers. SEL_TOO_MANY_ROWS: more than 4,294,967,295; SEL_VALIDITY_LENGTH: fewer bytes of
@@ -206,10 +189,7 @@ pub extern "C" fn sel_uint32_new(
         (λ made. type_of made.column ≡ of_uint32) }
     ensures status { Tells result (flat_rules (length values.now) bits.now has_bits) }
 {
-    match numbers_of(alloc, values, bits, has_bits) {
-        Ok(column) => put(alloc, column, out),
-        Err(fault) => status_of_maker(fault),
-    }
+    make_numbers(alloc, values, bits, has_bits, out)
 }
 
 /// Makes the column of these numbers. SEL_TOO_MANY_ROWS: more than 4,294,967,295; SEL_VALIDITY_LENGTH: fewer bytes of
@@ -228,8 +208,5 @@ pub extern "C" fn sel_uint64_new(
         (λ made. type_of made.column ≡ of_uint64) }
     ensures status { Tells result (flat_rules (length values.now) bits.now has_bits) }
 {
-    match numbers_of(alloc, values, bits, has_bits) {
-        Ok(column) => put(alloc, column, out),
-        Err(fault) => status_of_maker(fault),
-    }
+    make_numbers(alloc, values, bits, has_bits, out)
 }

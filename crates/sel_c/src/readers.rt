@@ -13,7 +13,8 @@ ghost use Rattle.sel_handle.specs.Status.{done, no_memory, no_column, other_kind
 use sel_arrow::array::Array;
 use sel_handle::handle::Handle;
 use sel_handle::kinds::{NO_KIND, kind_of};
-use sel_handle::outputs::{booleans_into, numbers_into, validity_into};
+use sel_handle::numbers::held_numbers_into;
+use sel_handle::outputs::{booleans_into, validity_into};
 use sel_handle::status::NO_COLUMN;
 use std::alloc::Global;
 
@@ -125,12 +126,7 @@ pub extern "C" fn sel_int8_values(alloc: Global, of: &mut Handle, out: &mut [i8]
         (done ∷ no_memory ∷ no_column ∷ other_kind ∷ other_length ∷ []) }
     ensures unchanged { of.new.tree ≡ of.old.tree }
 {
-    let Some(column) = of.take(alloc) else {
-        return NO_COLUMN;
-    };
-    let status = numbers_into(alloc, &column, out);
-    *of = Handle::of(column);
-    status
+    held_numbers_into(alloc, of, out)
 }
 
 /// Writes the numbers, those beneath nulls too, into `out`, which has a place for each row. SEL_NO_COLUMN: there is no
@@ -145,12 +141,7 @@ pub extern "C" fn sel_int16_values(alloc: Global, of: &mut Handle, out: &mut [i1
         (done ∷ no_memory ∷ no_column ∷ other_kind ∷ other_length ∷ []) }
     ensures unchanged { of.new.tree ≡ of.old.tree }
 {
-    let Some(column) = of.take(alloc) else {
-        return NO_COLUMN;
-    };
-    let status = numbers_into(alloc, &column, out);
-    *of = Handle::of(column);
-    status
+    held_numbers_into(alloc, of, out)
 }
 
 /// Writes the numbers, those beneath nulls too, into `out`, which has a place for each row. SEL_NO_COLUMN: there is no
@@ -165,12 +156,7 @@ pub extern "C" fn sel_int32_values(alloc: Global, of: &mut Handle, out: &mut [i3
         (done ∷ no_memory ∷ no_column ∷ other_kind ∷ other_length ∷ []) }
     ensures unchanged { of.new.tree ≡ of.old.tree }
 {
-    let Some(column) = of.take(alloc) else {
-        return NO_COLUMN;
-    };
-    let status = numbers_into(alloc, &column, out);
-    *of = Handle::of(column);
-    status
+    held_numbers_into(alloc, of, out)
 }
 
 /// Writes the numbers, those beneath nulls too, into `out`, which has a place for each row. SEL_NO_COLUMN: there is no
@@ -185,12 +171,7 @@ pub extern "C" fn sel_int64_values(alloc: Global, of: &mut Handle, out: &mut [i6
         (done ∷ no_memory ∷ no_column ∷ other_kind ∷ other_length ∷ []) }
     ensures unchanged { of.new.tree ≡ of.old.tree }
 {
-    let Some(column) = of.take(alloc) else {
-        return NO_COLUMN;
-    };
-    let status = numbers_into(alloc, &column, out);
-    *of = Handle::of(column);
-    status
+    held_numbers_into(alloc, of, out)
 }
 
 /// Writes the numbers, those beneath nulls too, into `out`, which has a place for each row. SEL_NO_COLUMN: there is no
@@ -205,12 +186,7 @@ pub extern "C" fn sel_uint8_values(alloc: Global, of: &mut Handle, out: &mut [u8
         (done ∷ no_memory ∷ no_column ∷ other_kind ∷ other_length ∷ []) }
     ensures unchanged { of.new.tree ≡ of.old.tree }
 {
-    let Some(column) = of.take(alloc) else {
-        return NO_COLUMN;
-    };
-    let status = numbers_into(alloc, &column, out);
-    *of = Handle::of(column);
-    status
+    held_numbers_into(alloc, of, out)
 }
 
 /// Writes the numbers, those beneath nulls too, into `out`, which has a place for each row. SEL_NO_COLUMN: there is no
@@ -225,12 +201,7 @@ pub extern "C" fn sel_uint16_values(alloc: Global, of: &mut Handle, out: &mut [u
         (done ∷ no_memory ∷ no_column ∷ other_kind ∷ other_length ∷ []) }
     ensures unchanged { of.new.tree ≡ of.old.tree }
 {
-    let Some(column) = of.take(alloc) else {
-        return NO_COLUMN;
-    };
-    let status = numbers_into(alloc, &column, out);
-    *of = Handle::of(column);
-    status
+    held_numbers_into(alloc, of, out)
 }
 
 /// Writes the numbers, those beneath nulls too, into `out`, which has a place for each row. SEL_NO_COLUMN: there is no
@@ -245,12 +216,7 @@ pub extern "C" fn sel_uint32_values(alloc: Global, of: &mut Handle, out: &mut [u
         (done ∷ no_memory ∷ no_column ∷ other_kind ∷ other_length ∷ []) }
     ensures unchanged { of.new.tree ≡ of.old.tree }
 {
-    let Some(column) = of.take(alloc) else {
-        return NO_COLUMN;
-    };
-    let status = numbers_into(alloc, &column, out);
-    *of = Handle::of(column);
-    status
+    held_numbers_into(alloc, of, out)
 }
 
 /// Writes the numbers, those beneath nulls too, into `out`, which has a place for each row. SEL_NO_COLUMN: there is no
@@ -265,10 +231,5 @@ pub extern "C" fn sel_uint64_values(alloc: Global, of: &mut Handle, out: &mut [u
         (done ∷ no_memory ∷ no_column ∷ other_kind ∷ other_length ∷ []) }
     ensures unchanged { of.new.tree ≡ of.old.tree }
 {
-    let Some(column) = of.take(alloc) else {
-        return NO_COLUMN;
-    };
-    let status = numbers_into(alloc, &column, out);
-    *of = Handle::of(column);
-    status
+    held_numbers_into(alloc, of, out)
 }

@@ -6,6 +6,7 @@ pub mod inputs;
 pub mod kinds;
 mod loose;
 pub mod nested;
+pub mod numbers;
 pub mod outputs;
 pub mod parts;
 pub mod several;

@@ -1,0 +1,54 @@
+//! Columns of numbers in handles: made of slices, and written into slices.
+
+ghost use Rattle.std.specs.Prelude.{◌≡◌, [], ◌∷◌, length};
+ghost use Rattle.sel_arrow.specs.Masked.{number_rows};
+ghost use Rattle.sel_arrow.specs.Rows.{rows, type_of};
+ghost use Rattle.sel_handle.specs.Inputs.{validity_in, flat_rules};
+ghost use Rattle.sel_handle.specs.Outputs.{Shows, numbers};
+ghost use Rattle.sel_handle.specs.Status.{done, no_memory, no_column, other_kind, other_length, held_rows, held_type, Demands, HasColumn, IsOneOf, Makes, Tells};
+
+use crate::handle::Handle;
+use crate::inputs::numbers_of;
+use crate::outputs::numbers_into;
+use crate::status::{NO_COLUMN, put, status_of_maker};
+use sel_arrow::primitive::ArrowPrimitive;
+use std::alloc::Global;
+
+/// Makes the column of these numbers. `TOO_MANY_ROWS`: more than 4,294,967,295; `VALIDITY_LENGTH`: fewer bytes of validity
+/// than the rows need.
+pub fn make_numbers<T: ArrowPrimitive>(
+    alloc: Global,
+    values: &[T],
+    bits: &[u8],
+    has_bits: bool,
+    out: &mut Handle,
+) -> u32
+    ensures rows { Makes result out.old.tree out.new.tree (λ made. rows made.column ≡
+        number_rows T.number values.now (validity_in bits.now has_bits (length values.now))) }
+    ensures dtype { Makes result out.old.tree out.new.tree (λ made. type_of made.column ≡ T.shape) }
+    ensures status { Tells result (flat_rules (length values.now) bits.now has_bits) }
+{
+    match numbers_of(alloc, values, bits, has_bits) {
+        Ok(column) => put(alloc, column, out),
+        Err(fault) => status_of_maker(fault),
+    }
+}
+
+/// Writes the numbers, those beneath nulls too, into `out`, which has a place for each row. `NO_COLUMN`: there is no column;
+/// `OTHER_KIND`: it is of another kind; `OTHER_LENGTH`: `out` is of another length.
+pub fn held_numbers_into<T: ArrowPrimitive>(alloc: Global, of: &mut Handle, out: &mut [T]) -> u32
+    ensures values { result ≡ done → Shows (numbers T.number out.new) (held_rows of.old.tree) }
+    ensures column { Demands result no_column (HasColumn of.old.tree) }
+    ensures kind { Demands result other_kind (held_type of.old.tree ≡ T.shape) }
+    ensures length { Demands result other_length (length out.old ≡ length (held_rows of.old.tree)) }
+    ensures status { IsOneOf result
+        (done ∷ no_memory ∷ no_column ∷ other_kind ∷ other_length ∷ []) }
+    ensures unchanged { of.new.tree ≡ of.old.tree }
+{
+    let Some(column) = of.take(alloc) else {
+        return NO_COLUMN;
+    };
+    let status = numbers_into(alloc, &column, out);
+    *of = Handle::of(column);
+    status
+}
