@@ -18,7 +18,7 @@ use Rattle.sel_bits.proofs.Packs.{length_bits, get_bits, bits_split}
 use Rattle.sel_bits.proofs.Padded.{bit_at_word_of, word_of_lt}
 use Rattle.sel_bits.proofs.Shifts.{bit_at_shr}
 use Rattle.sel_filter.specs.Select.{select}
-use Rattle.sel_filter.proofs.Selects.{all_kept, length-select, select-append}
+use Rattle.sel_filter.proofs.Selects.{all_kept, few_kept, length-select, select-append}
 use Rattle.sel_filter.proofs.WordLists.{ones_is}
 
 -- ---- words of bits
@@ -85,6 +85,13 @@ pub few_step : {A : Type 0} → (xs kept all : List A) (m : ℕ) (x : A) → 0 <
     → kept ++ select xs (bits (length xs) m) ≡ all → (kept ++ x ∷ []) ++ select xs (bits (length xs) (bit_and m (m - 1))) ≡ all
 few_step xs kept all m x some fits le is before =
     append_assoc kept (x ∷ []) _ ∙ ap (λ l. kept ++ l) (ap (λ y. y ∷ select xs (bits (length xs) (bit_and m (m - 1)))) is ∙ sym (lowest_kept xs 64 m x some fits le).1) ∙ before
+
+-- one place less is left
+pub few_left : {A : Type 0} → (xs : List A) (m : ℕ) (x : A) → 0 < m → m < 2 ^ length xs → length xs ≤ 64 → length (select xs (bits (length xs) (bit_and m (m - 1)))) + 1 ≡ length (select xs (bits (length xs) m))
+few_left xs m x some fits le = omega (arith, ap length (lowest_kept xs 64 m x some fits le).1)
+
+pub few_room : {A : Type 0} → (xs : List A) (m : ℕ) → length (select xs (bits (length xs) m)) ≤ length xs
+few_room xs m = few_kept xs (bits (length xs) m)
 
 pub few_within : {A : Type 0} → (xs : List A) (m : ℕ) → 0 < m → m < 2 ^ length xs → length xs ≤ 64 → trailing_zeros w64 m < length xs
 few_within [] m some fits le = absurd (omega arith)

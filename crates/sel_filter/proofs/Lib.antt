@@ -1,6 +1,5 @@
 pub mod BlockSelects
 pub mod ByFours
-pub mod ByteWords
 pub mod Clears
 pub mod Dense
 pub mod Few

@@ -6,14 +6,14 @@ ghost use Rattle.sel_bits.specs.Words.{bits};
 ghost use Rattle.sel_filter.specs.Runs.{run_starts, starts_after};
 ghost use Rattle.sel_filter.specs.Select.{select};
 
-use crate::block::filter_block;
+use crate::block::{append_blocks, count_runs};
 use sel_bits::aligned_words::AlignedWords;
 use sel_bits::bitmap::Bitmap;
 use sel_bits::block_copy::BlockCopy;
 use sel_bits::faults::{PolarsError, PolarsResult};
 use std::alloc::Global;
 
-/// Kept values are copied run by run where a run has so many of them on average.
+/// Kept values are copied run by run where a run, cut where words of the mask meet, has so many of them on average.
 const LONG_RUN: usize = 32;
 
 /// The values where the mask is true, in order. Refuses only for want of memory.
@@ -22,26 +22,14 @@ pub fn filter_values<T: Copy>(alloc: Global, values: &[T], mask: &Bitmap) -> Pol
     ensures items { IfOk result (λ kept. kept.items ≡ select values.now mask.now.bits) }
     ensures refusal { IfErr result (λ fault. fault ≡ PolarsError.OutOfMemory) }
 {
-    let count = mask.set_bits();
-    if has_long_runs(mask, count) {
+    let (bytes, shift, len) = mask.as_slice();
+    let (count, runs) = count_runs(bytes, shift, len);
+    if runs <= count / LONG_RUN {
         return filter_by_runs(alloc, values, mask, count);
     }
-    filter_by_blocks(alloc, values, mask, count)
-}
-
-/// Whether runs of true bits, each cut where words of the mask meet, have so many bits on average; there are `count` in all.
-/// Where short runs are many, a part of the mask tells it. Only speed rests on it.
-fn has_long_runs(mask: &Bitmap, count: usize) -> bool {
-    let most = count / LONG_RUN;
-    let mut words = AlignedWords::new(mask);
-    let mut runs: usize = 0;
-    while let Some((word, _)) = words.next() {
-        runs = runs.saturating_add((word & !(word << 1)).count_ones() as usize);
-        if runs > most {
-            return false;
-        }
-    }
-    true
+    let mut kept = Vec::new(alloc);
+    append_blocks(values, bytes, shift, count, &mut kept)?;
+    Ok(kept)
 }
 
 /// The values where the mask is true, each run of them by one copy, with room for `count`.
@@ -60,28 +48,6 @@ fn filter_by_runs<T: Copy>(
     let mut words = AlignedWords::new(mask);
     filter_runs(&mut out, &mut words)?;
     Ok(out.into_vec())
-}
-
-/// The values where the mask is true, one block for each word of the mask, with room for `count`, and for a block that is
-/// put behind them before its values are moved together.
-fn filter_by_blocks<T: Copy>(
-    alloc: Global,
-    values: &[T],
-    mask: &Bitmap,
-    count: usize,
-) -> PolarsResult<Vec<T>>
-    requires { length values.now ≡ length mask.now.bits }
-    ensures items { IfOk result (λ kept. kept.items ≡ select values.now mask.now.bits) }
-    ensures refusal { IfErr result (λ fault. fault ≡ PolarsError.OutOfMemory) }
-{
-    let mut kept = Vec::with_capacity(alloc, count.saturating_add(64))?;
-    let mut words = AlignedWords::new(mask);
-    let mut at = 0;
-    while let Some((word, len)) = words.next() {
-        filter_block(&values[at..at + len], word, &mut kept)?;
-        at += len;
-    }
-    Ok(kept)
 }
 
 /// Puts the items of the source where the mask is true behind the others, each run of them by one copy; a run that crosses

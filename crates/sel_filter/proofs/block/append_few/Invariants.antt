@@ -1,6 +1,6 @@
 -- What was appended, and then what the other bits keep, is all that is kept.
-use Rattle.std.proofs.Common.{◌≡◌, ◌<◌, ◌^◌, ◌++◌, length}
-use Rattle.sel_bits.specs.Copying.{IsBeginning}
+use Rattle.std.proofs.Common.{◌≡◌, ◌+◌, ◌<◌, ◌≤◌, ◌^◌, ◌++◌, length, vec_len}
+use Rattle.std.specs.Prelude.{vec_capacity}
 use Rattle.sel_bits.specs.Words.{bits}
 use Rattle.sel_filter.specs.Select.{select}
 use Rattle.sel_filter.proofs.block.append_few.Given as goal
@@ -8,7 +8,7 @@ use Rattle.sel_filter.proofs.block.append_few.Given as goal
 abbrev pub invariant-loop-rest : goal.invariant-loop-rest
 invariant-loop-rest g l = record {
   fits : l.rest < 2 ^ length l.block;
-  begun : IsBeginning l.fn.out.items l.out.items;
+  room : vec_len l.out + length (select l.block (bits (length l.block) l.rest)) ≤ vec_capacity l.out;
   kept : l.out.items ++ select l.block (bits (length l.block) l.rest) ≡ l.fn.out.items ++ select l.block (bits (length l.block) l.mask);
 }
 
