@@ -10,6 +10,9 @@ use crate::run::Run;
 use sel_bits::faults::{PolarsError, PolarsResult};
 use std::alloc::Global;
 
+// So many values or fewer are copied as so many, a move of a known size in place of a call; the rest is cut off again.
+const SHORT_RUN: usize = 8;
+
 /// Whether some run is one of nulls.
 pub(crate) fn is_any_null(runs: &[Run]) -> bool
     ensures { result ≡ false → All (λ run. is_none run.source ≡ false) runs.now }
@@ -31,7 +34,8 @@ pub(crate) fn copy_runs<T: Copy + Drop>(
         pick zero (map (λ s. s.values.now) parts.now) (expand runs.now)) }
     ensures refusal { IfErr result (λ fault. fault ≡ PolarsError.OutOfMemory) }
 {
-    let mut values = Vec::with_capacity(alloc, len)?;
+    // (with room for what is cut off behind the last run)
+    let mut values = Vec::with_capacity(alloc, len.saturating_add(SHORT_RUN))?;
     for run in runs {
         copy_run(&mut values, parts, *run, zero)?;
     }
@@ -39,7 +43,7 @@ pub(crate) fn copy_runs<T: Copy + Drop>(
 }
 
 // Puts the values that a run picks behind the others, `zero` for none. Refuses only for want of memory.
-#[inline]
+#[inline(always)]
 fn copy_run<T: Copy + Drop>(
     values: &mut Vec<T>,
     parts: &[Part<T>],
@@ -66,13 +70,24 @@ fn copy_run<T: Copy + Drop>(
 }
 
 // Puts the `len` values from `start` on behind the others. Refuses only for want of memory.
-#[inline]
-fn copy_part<T: Copy>(values: &mut Vec<T>, from: &[T], start: usize, len: usize) -> PolarsResult<()>
+#[inline(always)]
+fn copy_part<T: Copy + Drop>(
+    values: &mut Vec<T>,
+    from: &[T],
+    start: usize,
+    len: usize,
+) -> PolarsResult<()>
     requires { start + len ≤ length from.now }
     ensures values { OnOk result (values.new.items ≡
         values.old.items ++ take len (drop start from.now)) }
     ensures refusal { IfErr result (λ fault. fault ≡ PolarsError.OutOfMemory) }
 {
+    if len <= SHORT_RUN && from.len() - start >= SHORT_RUN {
+        let before = values.len();
+        values.extend_from_slice(&from[start..start + SHORT_RUN])?;
+        values.truncate(before + len);
+        return Ok(());
+    }
     values.extend_from_slice(&from[start..start + len])?;
     Ok(())
 }
