@@ -6,6 +6,7 @@ ghost use Rattle.sel_runs.specs.Runs.{expand, unrolled};
 
 use crate::fill::push_values;
 use crate::gather::Part;
+use crate::plan::Plan;
 use crate::run::Run;
 use sel_bits::faults::{PolarsError, PolarsResult};
 use std::alloc::Global;
@@ -38,6 +39,30 @@ pub(crate) fn copy_runs<T: Copy + Drop>(
     let mut values = Vec::with_capacity(alloc, len.saturating_add(SHORT_RUN))?;
     for run in runs {
         copy_run(&mut values, parts, *run, zero)?;
+    }
+    Ok(values)
+}
+
+/// The values that a plan picks, copied by its runs, and `zero` for none. Refuses only for want of memory.
+pub(crate) fn copy_plan<P: Plan, T: Copy + Drop>(
+    alloc: Global,
+    plan: &P,
+    parts: &[Part<T>],
+    zero: T,
+) -> PolarsResult<Vec<T>>
+    requires { All (PickFits (map (λ s. s.values.now) parts.now)) (P.picks plan.now) }
+    ensures values { IfOk result (λ values. values.items ≡
+        pick zero (map (λ s. s.values.now) parts.now) (P.picks plan.now)) }
+    ensures refusal { IfErr result (λ fault. fault ≡ PolarsError.OutOfMemory) }
+{
+    let len = plan.len();
+    let mut values = Vec::with_capacity(alloc, len + SHORT_RUN)?;
+    let mut rest = plan.again();
+    let mut at = 0;
+    while at < len {
+        let run = rest.next_run();
+        copy_run(&mut values, parts, run, zero)?;
+        at += run.len as usize;
     }
     Ok(values)
 }
