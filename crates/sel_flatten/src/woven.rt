@@ -148,4 +148,10 @@ impl Plan for Woven<'_> {
     fn has_nulls(&self) -> bool {
         false
     }
+
+    // Whether the parts of a row are of more than one row on average.
+    #[inline(always)]
+    fn is_wide(&self) -> bool {
+        self.left as usize / (self.below as usize + 1) > self.lanes.len()
+    }
 }

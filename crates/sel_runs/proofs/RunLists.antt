@@ -25,6 +25,10 @@ pub length-unrolled_from : (s : Option ℕ) (a n : ℕ) → length (unrolled_fro
 length-unrolled_from None a n = length-replicate n None
 length-unrolled_from (Some s) a n = length-map-range_with_len (λ i. Some (s, i)) a n
 
+length_none : {A : Type 0} (xs : List A) → length xs ≡ 0 → xs ≡ []
+length_none [] e = refl
+length_none (x ∷ xs) e = absurd (omega (arith, e))
+
 pub length-unrolled : (r : Run) → length (unrolled r) ≡ r.len
 length-unrolled r = length-unrolled_from r.source r.start r.len
 
@@ -72,6 +76,10 @@ one_len (r ∷ rs) zero run inside is =
 one_len (r ∷ rs) (suc i) run inside is =
     let rest = one_len rs i run (omega (arith, inside)) is in
     omega (arith, rest, length-append (unrolled r) (expand rs))
+
+-- a run of no rows
+pub none_unrolled : (r : Run) → r.len ≡ 0 → unrolled r ≡ []
+none_unrolled r e = length_none (unrolled r) (length-unrolled r ∙ e)
 
 pub ruleset run_rules = (expand-append, expand-one, length-unrolled)
 

@@ -44,7 +44,7 @@ module _ (ps left rest : List (Option (ℕ × ℕ))) (run : Run) (at : ℕ) (beh
   pub run_behind : rest ≡ drop (at + run.len) ps
   run_behind = left_behind ps left rest at run.len behind other_picks
 
-  taken_run : take (at + run.len) ps ≡ take at ps ++ unrolled run
+  pub taken_run : take (at + run.len) ps ≡ take at ps ++ unrolled run
   taken_run = take-add at run.len ps ∙ ap (λ l. take at ps ++ take run.len l) (sym behind) ∙ ap (λ l. take at ps ++ l) first_picks
 
   pub picked_run : (xss : List (List Value)) → pick Null xss (take (at + run.len) ps) ≡ pick Null xss (take at ps) ++ pick Null xss (unrolled run)

@@ -1,7 +1,8 @@
 -- Parts of lists that a loop copies entry by entry, and bits that are all true.
 use Rattle.std.proofs.Common.{◌≡◌, ℕ, zero, suc, ◌+◌, ◌-◌, ◌≤◌, ◌<◌, Bool, true, false, List, [], ◌∷◌, ◌++◌, length, take, drop, get_or, replicate, refl, ap, ◌∙◌, arith, append_assoc, length-drop, cond}
 use Rattle.std.specs.Prelude.{count_by, not}
-use Rattle.std.proofs.lemmas.List.{take_more, take_all, get_or-drop, replicate-append-replicate}
+use Rattle.std.proofs.Math.Seq.{take-append-add}
+use Rattle.std.proofs.lemmas.List.{take_more, take_all, take-take, get_or-drop, replicate-append-replicate}
 use Rattle.std.proofs.lemmas.List.Sums.{sum_by-cons}
 
 pub window_more : {A : Type 0} (xs : List A) (a i : ℕ) (d : A) → a + i < length xs → take (i + 1) (drop a xs) ≡ take i (drop a xs) ++ get_or xs (a + i) d ∷ []
@@ -28,3 +29,8 @@ resized xs ys m l k x is long grown =
     let rest : m - l ≡ k = omega arith in
     let all : length xs ≤ m = omega arith in
     rw (is, rest, take_all m xs all) refl
+
+-- the first of more entries that were put behind a list, the rest of them cut off again
+pub cut_behind : {A : Type 0} (xs ys zs all : List A) (n len before : ℕ) → all ≡ xs ++ take n ys → zs ≡ take (before + len) all → before ≡ length xs → len ≤ n → zs ≡ xs ++ take len ys
+cut_behind xs ys zs all n len before more is long few =
+    is ∙ ap (take (before + len)) more ∙ ap (λ k. take (k + len) (xs ++ take n ys)) long ∙ take-append-add xs (take n ys) len ∙ ap (λ l. xs ++ l) (take-take len n ys few)

@@ -6,9 +6,13 @@ ghost use Rattle.sel_runs.specs.Runs.{expand, unrolled};
 
 use crate::fill::push_values;
 use crate::gather::Part;
+use crate::plan::Plan;
 use crate::run::Run;
 use sel_bits::faults::{PolarsError, PolarsResult};
 use std::alloc::Global;
+
+// So many values or fewer are copied as so many, a move of a known size in place of a call; the rest is cut off again.
+const SHORT_RUN: usize = 8;
 
 /// Whether some run is one of nulls.
 pub(crate) fn is_any_null(runs: &[Run]) -> bool
@@ -31,15 +35,40 @@ pub(crate) fn copy_runs<T: Copy + Drop>(
         pick zero (map (λ s. s.values.now) parts.now) (expand runs.now)) }
     ensures refusal { IfErr result (λ fault. fault ≡ PolarsError.OutOfMemory) }
 {
-    let mut values = Vec::with_capacity(alloc, len)?;
+    // (with room for what is cut off behind the last run)
+    let mut values = Vec::with_capacity(alloc, len.saturating_add(SHORT_RUN))?;
     for run in runs {
         copy_run(&mut values, parts, *run, zero)?;
     }
     Ok(values)
 }
 
+/// The values that a plan picks, copied by its runs, and `zero` for none. Refuses only for want of memory.
+pub(crate) fn copy_plan<P: Plan, T: Copy + Drop>(
+    alloc: Global,
+    plan: &P,
+    parts: &[Part<T>],
+    zero: T,
+) -> PolarsResult<Vec<T>>
+    requires { All (PickFits (map (λ s. s.values.now) parts.now)) (P.picks plan.now) }
+    ensures values { IfOk result (λ values. values.items ≡
+        pick zero (map (λ s. s.values.now) parts.now) (P.picks plan.now)) }
+    ensures refusal { IfErr result (λ fault. fault ≡ PolarsError.OutOfMemory) }
+{
+    let len = plan.len();
+    let mut values = Vec::with_capacity(alloc, len + SHORT_RUN)?;
+    let mut rest = plan.again();
+    let mut at = 0;
+    while at < len {
+        let run = rest.next_run();
+        copy_run(&mut values, parts, run, zero)?;
+        at += run.len as usize;
+    }
+    Ok(values)
+}
+
 // Puts the values that a run picks behind the others, `zero` for none. Refuses only for want of memory.
-#[inline]
+#[inline(always)]
 fn copy_run<T: Copy + Drop>(
     values: &mut Vec<T>,
     parts: &[Part<T>],
@@ -66,13 +95,24 @@ fn copy_run<T: Copy + Drop>(
 }
 
 // Puts the `len` values from `start` on behind the others. Refuses only for want of memory.
-#[inline]
-fn copy_part<T: Copy>(values: &mut Vec<T>, from: &[T], start: usize, len: usize) -> PolarsResult<()>
+#[inline(always)]
+fn copy_part<T: Copy + Drop>(
+    values: &mut Vec<T>,
+    from: &[T],
+    start: usize,
+    len: usize,
+) -> PolarsResult<()>
     requires { start + len ≤ length from.now }
     ensures values { OnOk result (values.new.items ≡
         values.old.items ++ take len (drop start from.now)) }
     ensures refusal { IfErr result (λ fault. fault ≡ PolarsError.OutOfMemory) }
 {
+    if len <= SHORT_RUN && from.len() - start >= SHORT_RUN {
+        let before = values.len();
+        values.extend_from_slice(&from[start..start + SHORT_RUN])?;
+        values.truncate(before + len);
+        return Ok(());
+    }
     values.extend_from_slice(&from[start..start + len])?;
     Ok(())
 }

@@ -1,6 +1,6 @@
 //! Values and bits of several sources, found pick by pick.
 
-ghost use Rattle.std.specs.Prelude.{◌≡◌, ◌≤◌, ◌<◌, ◌+◌, ◌++◌, All, None, false, length, slice_index_or, map, take, drop, vec_len, vec_capacity, IfOk, IfErr};
+ghost use Rattle.std.specs.Prelude.{◌≡◌, ◌≤◌, ◌<◌, ◌+◌, ◌∷◌, ◌++◌, [], All, None, false, length, slice_index_or, map, take, drop, vec_len, vec_capacity, IfOk, IfErr};
 ghost use Rattle.std.specs.Option.{ForSome, option_copied};
 ghost use Rattle.sel_bits.specs.Words.{word_of};
 ghost use Rattle.sel_arrow.specs.Masked.{Covers, valid_at};
@@ -9,6 +9,7 @@ ghost use Rattle.sel_runs.specs.Plans.{HasBit, bit_found, bits_found};
 ghost use Rattle.sel_runs.specs.Validity.{bits_for};
 
 use crate::bits::validity_from;
+use crate::copied::copy_plan;
 use crate::plan::Plan;
 use sel_bits::bitmap::Bitmap;
 use sel_bits::faults::{PolarsError, PolarsResult};
@@ -35,6 +36,12 @@ pub(crate) fn gather_values<P: Plan, T: Copy + Drop>(
         pick zero (map (λ s. s.values.now) parts.now) (P.picks plan.now)) }
     ensures refusal { IfErr result (λ fault. fault ≡ PolarsError.OutOfMemory) }
 {
+    if plan.is_wide() {
+        return copy_plan(alloc, plan, parts, zero);
+    }
+    if let [part] = parts {
+        return gather_one(alloc, plan, part.values, zero);
+    }
     let len = plan.len();
     let mut values = Vec::with_capacity(alloc, len)?;
     let mut rest = plan.again();
@@ -43,6 +50,40 @@ pub(crate) fn gather_values<P: Plan, T: Copy + Drop>(
         values.push_reserved(value_of_pick(parts, pick, zero));
     }
     Ok(values)
+}
+
+// The value of one source that each pick names, and `zero` for none: the source is looked up once. Refuses only for want of memory.
+fn gather_one<P: Plan, T: Copy + Drop>(
+    alloc: Global,
+    plan: &P,
+    from: &[T],
+    zero: T,
+) -> PolarsResult<Vec<T>>
+    requires { All (PickFits (from.now ∷ [])) (P.picks plan.now) }
+    ensures values { IfOk result (λ values. values.items ≡
+        pick zero (from.now ∷ []) (P.picks plan.now)) }
+    ensures refusal { IfErr result (λ fault. fault ≡ PolarsError.OutOfMemory) }
+{
+    let len = plan.len();
+    let mut values = Vec::with_capacity(alloc, len)?;
+    let mut rest = plan.again();
+    for k in 0..len {
+        let pick = rest.next();
+        values.push_reserved(value_of_place(from, pick, zero));
+    }
+    Ok(values)
+}
+
+// The value of one source that a pick names, and `zero` for none.
+#[inline(always)]
+fn value_of_place<T: Copy>(values: &[T], pick: Option<(u32, u32)>, zero: T) -> T
+    requires { PickFits (values.now ∷ []) pick }
+    ensures { result ≡ found zero (values.now ∷ []) pick }
+{
+    match pick {
+        None => zero,
+        Some((_, i)) => value_in(values, i as usize),
+    }
 }
 
 // The value that a pick names, and `zero` for none.

@@ -43,6 +43,7 @@ fn child_of<'a>(column: &'a Column) -> &'a Column
 }
 
 // Where the child's rows in row `i` begin, and how many there are; none where the row is null.
+#[inline(always)]
 fn part_of_row(column: &Column, i: usize) -> Option<(u32, u32)>
     requires lists { is_listing (type_of column.now) ≡ true }
     requires formed { IsWellFormed column.now }
@@ -148,7 +149,7 @@ pub fn child_runs(
         (PickFits (child_rows sources.now)) (expand below.items)) }
     ensures refusal { IfErr result (λ fault. fault ≡ PolarsError.OutOfMemory) }
 {
-    let mut below = Vec::new(alloc);
+    let mut below = Vec::with_capacity(alloc, runs.len())?;
     for run in runs {
         push_items(&mut below, sources, *run, width)?;
     }

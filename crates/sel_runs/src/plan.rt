@@ -36,6 +36,9 @@ pub trait Plan: Sized + Drop {
     /// Whether some pick may be none.
     fn has_nulls(&self) -> bool
         ensures { result ≡ false → All IsPicked (picks self.now) };
+
+    /// Whether most runs are of more than one row, so that they are better copied as runs. It says nothing of the picks.
+    fn is_wide(&self) -> bool;
 }
 
 /// Picks that are listed.
@@ -72,6 +75,11 @@ impl Plan for Listed<'_> {
 
     fn has_nulls(&self) -> bool {
         self.picks.iter().any(|pick| pick.is_none())
+    }
+
+    #[inline(always)]
+    fn is_wide(&self) -> bool {
+        false
     }
 }
 
@@ -140,6 +148,11 @@ impl<G: Places> Plan for Walk<G> {
     #[inline(always)]
     fn has_nulls(&self) -> bool {
         self.places.has_nulls()
+    }
+
+    #[inline(always)]
+    fn is_wide(&self) -> bool {
+        false
     }
 }
 

@@ -36,6 +36,30 @@ pub fn push_run(runs: &mut Vec<Run>, run: Run) -> PolarsResult<()>
     Ok(())
 }
 
+/// The same where the last run, `last`, is kept apart from the others. It is one of no rows as long as there is none.
+#[inline(always)]
+pub(crate) fn put_run(runs: &mut Vec<Run>, last: &mut Run, run: Run) -> PolarsResult<()>
+    requires { length (expand (runs.old.items ++ last.old ∷ [])) + run.len ≤ 4294967295 }
+    ensures picks { OnOk result (expand (runs.new.items ++ last.new ∷ []) ≡
+        expand (runs.old.items ++ last.old ∷ []) ++ unrolled run) }
+    ensures refusal { IfErr result (λ fault. fault ≡ PolarsError.OutOfMemory) }
+{
+    if run.len == 0 {
+        return Ok(());
+    }
+    if last.len == 0 {
+        *last = run;
+        return Ok(());
+    }
+    if let Some(both) = joined(*last, run) {
+        *last = both;
+        return Ok(());
+    }
+    runs.push(*last)?;
+    *last = run;
+    Ok(())
+}
+
 /// The run of so many nulls.
 pub fn nulls_of(len: u32) -> Run
     ensures { result ≡ (record { source = None; start = 0; len = len }) }
@@ -48,6 +72,7 @@ pub fn nulls_of(len: u32) -> Run
 }
 
 // The two as one run, where the second goes on where the first ends.
+#[inline(always)]
 #[tactic(auto, using(crate::proofs::RunLists::run_rules))]
 fn joined(first: Run, second: Run) -> Option<Run>
     requires { first.len + second.len ≤ 4294967295 }

@@ -1,6 +1,6 @@
 //! Lists that a plan picks, gone over once: no run is listed for the rows themselves.
 
-ghost use Rattle.std.specs.Prelude.{◌≡◌, ◌≢◌, ◌≤◌, ◌<◌, ◌+◌, ◌++◌, ◌∷◌, true, pos, All, length, map, IfOk, IfErr, OnOk};
+ghost use Rattle.std.specs.Prelude.{◌≡◌, ◌≢◌, ◌≤◌, ◌<◌, ◌+◌, ◌++◌, ◌∷◌, [], true, pos, All, length, map, IfOk, IfErr, OnOk};
 ghost use Rattle.sel_arrow.specs.Rows.{rows, type_of, IsWellFormed};
 ghost use Rattle.sel_arrow.specs.Shape.{of_large_list, of_null};
 ghost use Rattle.sel_arrow.specs.Value.{Null};
@@ -17,7 +17,7 @@ use crate::gather::gather_validity;
 use crate::lists::{children_of, run_of_row};
 use crate::nested::lists_with;
 use crate::plan::Plan;
-use crate::run::{Run, push_run};
+use crate::run::{Run, nulls_of, push_run, put_run};
 use crate::validity::validities_of;
 use sel_arrow::column::Column;
 use sel_bits::faults::{Limit, PolarsError, PolarsResult};
@@ -116,12 +116,14 @@ fn walk_lists<P: Plan>(
     let mut below = Vec::with_capacity(alloc, len)?;
     let mut rest = plan.again();
     let mut at = 0;
+    let mut last = nulls_of(0);
     let mut end = 0;
     while at < len {
         let run = rest.next_run();
-        end = push_lists(&mut ends, &mut below, sources, run, end)?;
+        end = push_lists(&mut ends, &mut below, &mut last, sources, run, end)?;
         at += run.len as usize;
     }
+    push_run(&mut below, last)?;
     Ok((ends, below, end as usize))
 }
 
@@ -182,18 +184,22 @@ fn walk_runs(
     let mut ends = Vec::with_capacity(alloc, len + 1)?;
     ends.push(0)?;
     let mut below = Vec::with_capacity(alloc, runs.len())?;
+    let mut last = nulls_of(0);
     let mut end = 0;
     for run in runs {
-        end = push_lists(&mut ends, &mut below, sources, *run, end)?;
+        end = push_lists(&mut ends, &mut below, &mut last, sources, *run, end)?;
     }
+    push_run(&mut below, last)?;
     Ok((ends, below, end as usize))
 }
 
-// Puts the ends of the lists of a run behind the others, and the runs of the children's rows that they hold; answers the last end.
+// Puts the ends of the lists of a run behind the others, and the runs of the children's rows that they hold, the last of which is
+// kept apart; answers the last end.
 // Refuses for want of memory, and where it is more than a column may have rows.
 fn push_lists(
     ends: &mut Vec<i64>,
     below: &mut Vec<Run>,
+    last: &mut Run,
     sources: &[&Column],
     run: Run,
     start: u32,
@@ -201,15 +207,18 @@ fn push_lists(
     requires lists { All (λ c. is_listing (type_of c.now) ≡ true) sources.now }
     requires formed { All (λ c. IsWellFormed c.now) sources.now }
     requires fits { All (PickFits (rows_of sources.now)) (unrolled run) }
-    requires sound { All (PickFits (child_rows sources.now)) (expand below.old.items) }
-    requires count { length (expand below.old.items) ≡ start }
+    requires sound { All (PickFits (child_rows sources.now))
+        (expand (below.old.items ++ last.old ∷ [])) }
+    requires count { length (expand (below.old.items ++ last.old ∷ [])) ≡ start }
     ensures ends { OnOk result (ends.new.items ≡
         ends.old.items ++ map pos (item_ends start (run_rows sources.now run))) }
-    ensures items { OnOk result (pick Null (child_rows sources.now) (expand below.new.items) ≡
-        pick Null (child_rows sources.now) (expand below.old.items) ++ joined_items 0
-        (run_rows sources.now run)) }
-    ensures sound { OnOk result (All (PickFits (child_rows sources.now)) (expand below.new.items)) }
-    ensures last { IfOk result (λ end. end ≡
+    ensures items { OnOk result
+        (pick Null (child_rows sources.now) (expand (below.new.items ++ last.new ∷ [])) ≡
+        pick Null (child_rows sources.now) (expand (below.old.items ++ last.old ∷ [])) ++
+        joined_items 0 (run_rows sources.now run)) }
+    ensures sound { OnOk result (All (PickFits (child_rows sources.now))
+        (expand (below.new.items ++ last.new ∷ []))) }
+    ensures end { IfOk result (λ end. end ≡
         start + length (joined_items 0 (run_rows sources.now run))) }
     ensures refusal { IfErr result (IsRefusal (IsPastRows
         (start + length (joined_items 0 (run_rows sources.now run))))) }
@@ -222,7 +231,7 @@ fn push_lists(
         }
         end += one.len;
         ends.push(end as i64)?;
-        push_run(below, one)?;
+        put_run(below, last, one)?;
     }
     Ok(end)
 }

@@ -1,5 +1,5 @@
 -- The ends and the items of the rows so far stand behind those that were there.
-use Rattle.std.proofs.Common.{◌≡◌, ◌+◌, ◌++◌, All, length, map, take, pos}
+use Rattle.std.proofs.Common.{◌≡◌, ◌+◌, ◌++◌, ◌∷◌, [], All, length, map, take, pos}
 use Rattle.sel_arrow.specs.Value.{Null}
 use Rattle.sel_runs.specs.Children.{joined_items}
 use Rattle.sel_runs.specs.Ends.{item_ends}
@@ -10,8 +10,8 @@ use Rattle.sel_runs.proofs.walk.push_lists.Given as goal
 
 abbrev pub invariant-loop-i : goal.invariant-loop-i
 invariant-loop-i l = record {
-  last : l.end ≡ l.start + length (joined_items 0 (take l.i (pick Null (rows_of l.sources) (unrolled l.run))));
+  count : l.end ≡ l.start + length (joined_items 0 (take l.i (pick Null (rows_of l.sources) (unrolled l.run))));
   ends : l.ends.items ≡ l.initial.ends.items ++ map pos (item_ends l.start (take l.i (pick Null (rows_of l.sources) (unrolled l.run))));
-  items : pick Null (below_of l.sources) (expand l.below.items) ≡ pick Null (below_of l.sources) (expand l.initial.below.items) ++ joined_items 0 (take l.i (pick Null (rows_of l.sources) (unrolled l.run)));
-  sound : All (PickFits (below_of l.sources)) (expand l.below.items);
+  items : pick Null (below_of l.sources) (expand (l.below.items ++ l.last ∷ [])) ≡ pick Null (below_of l.sources) (expand (l.initial.below.items ++ l.initial.last ∷ [])) ++ joined_items 0 (take l.i (pick Null (rows_of l.sources) (unrolled l.run)));
+  sound : All (PickFits (below_of l.sources)) (expand (l.below.items ++ l.last ∷ []));
 }

@@ -1,5 +1,5 @@
 -- The ends and the items of the lists so far.
-use Rattle.std.proofs.Common.{◌≡◌, ◌≤◌, ◌-◌, ◌∷◌, All, length, map, take, drop, pos}
+use Rattle.std.proofs.Common.{◌≡◌, ◌≤◌, ◌-◌, ◌∷◌, ◌++◌, [], All, length, map, take, drop, pos}
 use Rattle.sel_arrow.specs.Value.{Null}
 use Rattle.sel_runs.specs.Children.{joined_items}
 use Rattle.sel_runs.specs.Ends.{item_ends}
@@ -12,10 +12,10 @@ abbrev pub invariant-loop-at : goal.invariant-loop-at
 invariant-loop-at g l = record {
   rest : g.P.Plan.picks l.rest ≡ drop l.at (g.P.Plan.picks l.plan);
   within : l.at ≤ l.len;
-  last : l.end ≡ length (joined_items 0 (pick Null (rows_of l.sources) (take l.at (g.P.Plan.picks l.plan))));
+  count : l.end ≡ length (joined_items 0 (pick Null (rows_of l.sources) (take l.at (g.P.Plan.picks l.plan))));
   ends : l.ends.items ≡ map pos (0 ∷ item_ends 0 (pick Null (rows_of l.sources) (take l.at (g.P.Plan.picks l.plan))));
-  items : pick Null (below_of l.sources) (expand l.below.items) ≡ joined_items 0 (pick Null (rows_of l.sources) (take l.at (g.P.Plan.picks l.plan)));
-  sound : All (PickFits (below_of l.sources)) (expand l.below.items);
+  items : pick Null (below_of l.sources) (expand (l.below.items ++ l.last ∷ [])) ≡ joined_items 0 (pick Null (rows_of l.sources) (take l.at (g.P.Plan.picks l.plan)));
+  sound : All (PickFits (below_of l.sources)) (expand (l.below.items ++ l.last ∷ []));
 }
 
 abbrev pub decreases-loop-at : goal.decreases-loop-at

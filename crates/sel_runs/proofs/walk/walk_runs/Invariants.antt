@@ -1,5 +1,5 @@
 -- The ends and the items of the lists of the runs so far.
-use Rattle.std.proofs.Common.{◌≡◌, ◌∷◌, All, length, map, take, pos}
+use Rattle.std.proofs.Common.{◌≡◌, ◌∷◌, ◌++◌, [], All, length, map, take, pos}
 use Rattle.sel_arrow.specs.Value.{Null}
 use Rattle.sel_runs.specs.Children.{joined_items}
 use Rattle.sel_runs.specs.Ends.{item_ends}
@@ -10,8 +10,8 @@ use Rattle.sel_runs.proofs.walk.walk_runs.Given as goal
 
 abbrev pub invariant-loop-run : goal.invariant-loop-run
 invariant-loop-run l = record {
-  last : l.end ≡ length (joined_items 0 (pick Null (rows_of l.sources) (expand (take l.run-index l.runs))));
+  count : l.end ≡ length (joined_items 0 (pick Null (rows_of l.sources) (expand (take l.run-index l.runs))));
   ends : l.ends.items ≡ map pos (0 ∷ item_ends 0 (pick Null (rows_of l.sources) (expand (take l.run-index l.runs))));
-  items : pick Null (below_of l.sources) (expand l.below.items) ≡ joined_items 0 (pick Null (rows_of l.sources) (expand (take l.run-index l.runs)));
-  sound : All (PickFits (below_of l.sources)) (expand l.below.items);
+  items : pick Null (below_of l.sources) (expand (l.below.items ++ l.last ∷ [])) ≡ joined_items 0 (pick Null (rows_of l.sources) (expand (take l.run-index l.runs)));
+  sound : All (PickFits (below_of l.sources)) (expand (l.below.items ++ l.last ∷ []));
 }
