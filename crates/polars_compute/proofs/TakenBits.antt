@@ -3,13 +3,13 @@ use Rattle.std.proofs.Common.{◌≡◌, ◌≤◌, ◌<◌, ◌+◌, ◌*◌, �
 use Rattle.std.specs.Prelude.{◌==◌}
 use Rattle.std.specs.Int.{from_bool}
 use Rattle.std.proofs.lemmas.Bool.{eqb-true, ltb-true}
-use Rattle.std.proofs.lemmas.List.{drop-map, get_or_default, length-map, take-append-drop, take-map}
+use Rattle.std.proofs.lemmas.List.{drop-map, get_or_default, get_or-drop, get_or-take, length-map, take-append-drop, take-map}
 use Rattle.std.proofs.lemmas.List.Folds.{list_all-append, list_all-map}
 use Rattle.sel_bits.specs.Bits.{Bits}
 use Rattle.sel_bits.specs.Words.{bits, word_of}
 use Rattle.sel_bits.proofs.Packed.{bits_word_of, block_packed, word_of-few, word_of-next}
 use Rattle.sel_bits.proofs.Padded.{word_of_lt}
-use Rattle.sel_arrow.specs.Value.{Number}
+use Rattle.sel_arrow.specs.Value.{Value, Null, Number}
 use Rattle.polars_compute.specs.Pick.{all_below, all_within, found, is_within, pick, pick_of, place_pick}
 use Rattle.polars_compute.specs.ValidPicks.{valid_pick}
 use Rattle.polars_compute.proofs.Takes.{both}
@@ -84,3 +84,20 @@ named_at bs filler (place ∷ places) below =
 pub placed_valid : (v : Bits) (places : List ℕ) → bits_at v.bits places ≡ map (valid_pick (Some v)) (map pick_of (map (λ x. Number (pos x)) places))
 placed_valid v [] = refl
 placed_valid v (place ∷ places) = ap (λ l. get_or v.bits place false ∷ l) (placed_valid v places)
+
+-- ---- rows of which some may be null
+
+pub length-taken : (bs : List Bool) (filler : Bool) (rows : List Value) → length (pick filler (bs ∷ []) (map pick_of rows)) ≡ length rows
+length-taken bs filler rows = length-map (map pick_of rows) (found filler (bs ∷ [])) ∙ length-map rows pick_of
+
+taken_here : (bs : List Bool) (filler : Bool) (rows : List Value) (k : ℕ) → k < length rows → get_or (pick filler (bs ∷ []) (map pick_of rows)) k false ≡ found filler (bs ∷ []) (pick_of (get_or rows k Null))
+taken_here bs filler [] k h = absurd (omega (arith, h))
+taken_here bs filler (row ∷ rows) zero h = refl
+taken_here bs filler (row ∷ rows) (suc k) h = taken_here bs filler rows k (omega (arith, h))
+
+-- entry k of a part
+pub taken_at : (bs : List Bool) (filler : Bool) (rows : List Value) (at len k : ℕ) (bit : Bool) → k < len → at + len ≤ length rows → bit ≡ found filler (bs ∷ []) (pick_of (get_or rows (at + k) Null))
+    → bit ≡ get_or (take len (drop at (pick filler (bs ∷ []) (map pick_of rows)))) k false
+taken_at bs filler rows at len k bit few within is =
+    let all = pick filler (bs ∷ []) (map pick_of rows) in
+    is ∙ sym (get_or-take len (drop at all) k false few ∙ get_or-drop at all k false ∙ taken_here bs filler rows (at + k) (omega arith))

@@ -1,6 +1,7 @@
 //! Bits at indices.
 
-ghost use Rattle.std.specs.Prelude.{◌≡◌, ◌≤◌, IsTrue, length, pos, [], ◌∷◌, map, false, slice_index_or, IfOk, IfErr};
+ghost use Rattle.std.specs.Prelude.{◌≡◌, ◌+◌, ◌*◌, ◌<◌, ◌≤◌, IsTrue, length, take, drop, pos, [], ◌∷◌, map, false, slice_index_or, IfOk, IfErr};
+ghost use Rattle.sel_bits.specs.Bits.{bits_from};
 ghost use Rattle.sel_bits.specs.Words.{word_of};
 ghost use Rattle.sel_arrow.specs.Columns.{primitive_rows};
 ghost use Rattle.sel_arrow.specs.Masked.{number_value};
@@ -24,28 +25,47 @@ pub fn take_bitmap_unchecked(
         pick false (values.now.bits ∷ []) (map place_pick indices.now)) }
     ensures refusal { IfErr result (λ fault. fault ≡ PolarsError.OutOfMemory) }
 {
+    let (bytes, shift, len) = values.as_slice();
     let mut taken = BitPacker::with_capacity(alloc, indices.len())?;
     let mut rest = indices;
     while !rest.is_empty() {
         let (places, others) = rest.split_at(rest.len().min(MOST_BITS));
-        taken.append(word_of_places(values, places), places.len() as u32)?;
+        taken.append(
+            word_of_places(bytes, shift, len, places),
+            places.len() as u32,
+        )?;
         rest = others;
     }
     taken.into_bitmap(indices.len())
 }
 
-/// The word of the bits at these places.
+/// The word of the bits at these places, of the `len` bits from bit `shift` of the first byte on.
 #[inline]
-fn word_of_places(values: &Bitmap, places: &[u32]) -> u64
+fn word_of_places(bytes: &[u8], shift: usize, len: usize, places: &[u32]) -> u64
     requires few { length places.now ≤ 64 }
-    requires inside { IsTrue (all_below (length values.now.bits) places.now) }
-    ensures { result ≡ word_of (pick false (values.now.bits ∷ []) (map place_pick places.now)) }
+    requires shift { shift < 8 }
+    requires within { shift + len ≤ 8 * length bytes.now }
+    requires inside { IsTrue (all_below len places.now) }
+    ensures { result ≡
+        word_of (pick false (bits_from bytes.now shift len ∷ []) (map place_pick places.now)) }
 {
     let mut word = 0;
     for k in 0..places.len() {
-        word += u64::from(values.get_bit(places[k] as usize)) << k;
+        word += u64::from(bit_in(bytes, shift, len, places[k])) << k;
     }
     word
+}
+
+/// The bit at a place of the `len` bits from bit `shift` of the first byte on.
+#[inline(always)]
+fn bit_in(bytes: &[u8], shift: usize, len: usize, place: u32) -> bool
+    requires shift { shift < 8 }
+    requires within { shift + len ≤ 8 * length bytes.now }
+    requires inside { place < len }
+    ensures { result ≡ slice_index_or (bits_from bytes.now shift len) place false }
+{
+    let at = shift + place as usize;
+    (bytes[at / 8] >> (at % 8)) & 1 == 1
 }
 
 /// Bit k is the bit at index k; a null index gives the bit at 0, or false where there are no bits.
@@ -66,10 +86,32 @@ pub fn take_bitmap_nulls_unchecked(
     let count = indices.len();
     let filler = first_bit(values);
     let mut taken = BitPacker::with_capacity(alloc, count)?;
-    for k in 0..count {
-        taken.push(bit_at(values, indices.get(k), filler))?;
+    let mut at = 0;
+    while at < count {
+        let len = (count - at).min(MOST_BITS);
+        taken.append(word_of_rows(values, indices, at, len, filler), len as u32)?;
+        at += len;
     }
     taken.into_bitmap(count)
+}
+
+/// The word of the bits at `len` indices from index `at` on, and of the filler for the null ones.
+#[inline]
+fn word_of_rows(values: &Bitmap, indices: &IdxArr, at: usize, len: usize, filler: bool) -> u64
+    requires few { len ≤ 64 }
+    requires within { at + len ≤ length (primitive_rows indices.now) }
+    requires inside { IsTrue
+        (all_within (length values.now.bits) (primitive_rows indices.now)) }
+    ensures { result ≡ word_of (take len (drop at (pick filler (values.now.bits ∷ [])
+        (map pick_of (primitive_rows indices.now))))) }
+{
+    // (there are no more indices than a place can show)
+    let _whole = indices.len();
+    let mut word = 0;
+    for k in 0..len {
+        word += u64::from(bit_at(values, indices.get(at + k), filler)) << k;
+    }
+    word
 }
 
 /// The bit at 0, or false where there are no bits.
@@ -83,6 +125,7 @@ fn first_bit(values: &Bitmap) -> bool
 }
 
 /// The bit at an index, and the filler for a null one.
+#[inline]
 fn bit_at(values: &Bitmap, index: Option<u32>, filler: bool) -> bool
     requires { IsTrue (is_within (length values.now.bits) (number_value pos index)) }
     ensures { result ≡ found filler (values.now.bits ∷ []) (pick_of (number_value pos index)) }

@@ -1,8 +1,9 @@
 -- The word so far.
 use Rattle.std.proofs.Common.{◌≡◌, take}
+use Rattle.sel_bits.specs.Bits.{bits_from}
 use Rattle.sel_bits.specs.Words.{word_of}
 use Rattle.polars_compute.proofs.TakenBits.{bits_at}
 use Rattle.polars_compute.proofs.gather.bitmap.word_of_places.Given as goal
 
 abbrev pub invariant-loop-k : goal.invariant-loop-k
-invariant-loop-k l = l.word ≡ word_of (take l.k (bits_at l.values.bits l.places))
+invariant-loop-k l = l.word ≡ word_of (take l.k (bits_at (bits_from l.bytes l.shift l.len) l.places))
