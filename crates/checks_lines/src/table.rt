@@ -1,5 +1,6 @@
 //! Tables of lines, tried.
 
+use crate::bits::spelled;
 use crate::kinds::push_lines;
 use crate::line::Line;
 use crate::read::{FORMS, Form, is_text};
@@ -80,6 +81,45 @@ where
             if word != line.answer()? {
                 return Ok(Some(String::from_str(alloc, line.text())?));
             }
+        }
+    }
+    Ok(None)
+}
+
+/// The first line whose call does not answer the text that its last field is.
+pub fn wrong_text<F>(alloc: Global, table: &str, call: F) -> Result<Option<String>, Fail>
+where
+    F: Fn(Global, &Line) -> Result<String, Fail> + Drop,
+    requires { F.IsAlwaysCallable call }
+{
+    for line in &lines_of(alloc, table)? {
+        let answer = call(alloc, line)?;
+        if answer.as_str() != line.answer()? {
+            return Ok(Some(String::from_str(alloc, line.text())?));
+        }
+    }
+    Ok(None)
+}
+
+/// The first line whose call does not answer the bits and numbers, or the refusal, that its last field is.
+pub fn wrong_words<F>(
+    alloc: Global,
+    table: &str,
+    memory: Memory,
+    call: F,
+) -> Result<Option<String>, Fail>
+where
+    F: Fn(Global, &Line) -> Result<PolarsResult<String>, Fail> + Drop,
+    requires { F.IsAlwaysCallable call }
+{
+    for line in &lines_of(alloc, table)? {
+        let is_right = match call(alloc, line)? {
+            Ok(words) => words.as_str() == spelled(alloc, line.answer()?)?.as_str(),
+            Err(PolarsError::OutOfMemory) => memory == Memory::Refused,
+            Err(_) => false,
+        };
+        if !is_right {
+            return Ok(Some(String::from_str(alloc, line.text())?));
         }
     }
     Ok(None)

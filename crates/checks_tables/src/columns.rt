@@ -286,12 +286,43 @@ pub fn there_and_back(
 const PARTS: &str = r#"
 $T | [$1,null,$2,$7,$4] | 1 | 3 | [null,$2,$7]
 $T | [$1,null] | 2 | 0 | []
+null | [null,null,null] | 1 | 2 | [null,null]
+bool | [true,null,false,true] | 1 | 3 | [null,false,true]
+i8 | [-128,null,7,0] | 1 | 2 | [null,7]
+i16 | [-9,null,7,0] | 1 | 2 | [null,7]
+i32 | [-9,null,7,0] | 1 | 2 | [null,7]
+i64 | [-9,null,7,0] | 1 | 2 | [null,7]
+i128 | [-9,null,7,0] | 1 | 2 | [null,7]
+u8 | [255,null,7,0] | 1 | 2 | [null,7]
+u16 | [9,null,7,0] | 1 | 2 | [null,7]
+u32 | [9,null,7,0] | 1 | 2 | [null,7]
+u64 | [9,null,7,0] | 1 | 2 | [null,7]
+u128 | [9,null,7,0] | 1 | 2 | [null,7]
+binary | [h"00ff",null,h""] | 1 | 2 | [null,h""]
+binview | [h"ab01",null,h"0102030405060708090a0b0c0d"] | 1 | 2 | [null,h"0102030405060708090a0b0c0d"]
+utf8 | ["a",null,"z"] | 1 | 2 | [null,"z"]
 "#;
 
 /// A type, rows, and these.
 const ROWS: &str = r#"
 $T | [$1,null,$2,$7,$4] | [$1,null,$2,$7,$4]
 $T | [] | []
+null | [null,null,null] | [null,null,null]
+bool | [true,null,false,true] | [true,null,false,true]
+i8 | [-128,null,7,0] | [-128,null,7,0]
+i16 | [-9,null,7,0] | [-9,null,7,0]
+i32 | [-9,null,7,0] | [-9,null,7,0]
+i64 | [-9,null,7,0] | [-9,null,7,0]
+i128 | [-9,null,7,0] | [-9,null,7,0]
+u8 | [255,null,7,0] | [255,null,7,0]
+u16 | [9,null,7,0] | [9,null,7,0]
+u32 | [9,null,7,0] | [9,null,7,0]
+u64 | [9,null,7,0] | [9,null,7,0]
+u128 | [9,null,7,0] | [9,null,7,0]
+binary | [h"00ff",null,h""] | [h"00ff",null,h""]
+binview | [h"ab01",null,h"0102030405060708090a0b0c0d"] | [h"ab01",null,h"0102030405060708090a0b0c0d"]
+utf8 | ["a",null,"z"] | ["a",null,"z"]
+struct<struct<u8,list<utf8>>,struct<>> | [((7,["a,b","("]),null),(null,())] | [((7,["a,b","("]),null),(null,())]
 "#;
 
 /// A type, and no rows.
@@ -306,17 +337,26 @@ struct<$T,bool> | []
 const LISTS: &str = r#"
 $T | [$1,null,$2,$7,$4] | [0,2,3,5] | [true,false,true] | [[$1,null],null,[$7,$4]]
 $T | [$1,null,$2,$7,$4] | [1,1,4] | [true,true] | [[],[null,$2,$7]]
+i64 | [1,null,3] | [0,1,1,2,3] | [true,false,true,true] | [[1],null,[null],[3]]
+list<i64> | [[1],null,[null],[3]] | [0,3,3,4] | [true,true,false] | [[[1],null,[null]],[],null]
+fixed<2,bool> | [[true,false],[null,false]] | [0,0,2] | [true,true] | [[],[[true,false],[null,false]]]
+utf8 | ["a,b","(",")"] | [0,2,3] | [true,true] | [["a,b","("],[")"]]
 "#;
 
 /// A type, rows, how many of them are in a list, how many lists there are, which are valid, and the lists.
 const BLOCKS: &str = r#"
 $T | [$1,null,$2,$7,$4] | 5 | 1 | [true] | [[$1,null,$2,$7,$4]]
 $T | [$1,null,$2,$7] | 2 | 2 | [false,true] | [null,[$2,$7]]
+bool | [true,false,null,false] | 2 | 2 | [true,true] | [[true,false],[null,false]]
+binary | [h"01",h"0203",h"",null] | 1 | 4 | [true,true,false,true] | [[h"01"],[h"0203"],null,[null]]
+fixed<1,binary> | [[h"01"],[h"0203"],null,[null]] | 2 | 2 | [true,true] | [[[h"01"],[h"0203"]],[null,[null]]]
+null | [] | 0 | 2 | [true,false] | [[],null]
 "#;
 
 /// A type, rows, how many tuples of one of them there are, which are valid, and the tuples.
 const TUPLES: &str = r#"
 $T | [$1,null,$2,$7,$4] | 5 | [true,false,true,true,true] | [($1),null,($2),($7),($4)]
+struct<u8,list<utf8>> | [(7,["a,b","("]),null] | 2 | [true,true] | [((7,["a,b","("])),(null)]
 "#;
 
 /// A type, rows, how many there are, how many of them are null, whether there is a validity, and that it is told.

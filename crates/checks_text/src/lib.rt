@@ -8,8 +8,6 @@ mod made;
 #[cfg(test)]
 mod named;
 #[cfg(test)]
-mod parts;
-#[cfg(test)]
 mod printed;
 #[cfg(test)]
 mod read;

@@ -1,60 +1,15 @@
-//! Columns with children, made of columns, and texts compared.
-//!
-//! Columns of every kind are dropped by a call: a drop at the end of a body is proved kind by kind.
+//! Columns of bytes and of texts, made of their parts.
 
 use checks_columns::fixtures::{buffer, offsets, one_buffer, validity};
 use sel_arrow::array::Array;
 use sel_arrow::array_ref::ArrayRef;
 use sel_arrow::binary::BinaryArray;
 use sel_arrow::binview::BinaryViewArray;
-use sel_arrow::fixed_size_list::FixedSizeListArray;
-use sel_arrow::list::ListArray;
-use sel_arrow::structure::StructArray;
 use sel_arrow::utf8view::Utf8ViewArray;
 use sel_arrow::view::View;
 use sel_bits::bitmap::Bitmap;
 use std::alloc::Global;
 use std::test::Fail;
-
-/// Lists between these offsets.
-pub fn lists(
-    alloc: Global,
-    ends: &[i64],
-    child: ArrayRef,
-    valid: &[bool],
-) -> Result<ArrayRef, Fail> {
-    let bits = validity(alloc, valid)?;
-    Ok(ListArray::try_new(alloc, offsets(alloc, ends)?, child, bits)?.into_ref())
-}
-
-/// Lists of `size` entries each.
-pub fn blocks(
-    alloc: Global,
-    size: usize,
-    child: ArrayRef,
-    valid: &[bool],
-) -> Result<ArrayRef, Fail> {
-    let bits = validity(alloc, valid)?;
-    Ok(FixedSizeListArray::try_new(alloc, size, valid.len(), child, bits)?.into_ref())
-}
-
-/// Pairs of these two fields.
-pub fn pairs(
-    alloc: Global,
-    first: ArrayRef,
-    second: ArrayRef,
-    valid: &[bool],
-) -> Result<ArrayRef, Fail> {
-    let bits = validity(alloc, valid)?;
-    let fields = vec![in alloc; first, second]?;
-    Ok(StructArray::try_new(alloc, valid.len(), fields, bits)?.into_ref())
-}
-
-/// Tuples without fields.
-pub fn units(alloc: Global, valid: &[bool]) -> Result<ArrayRef, Fail> {
-    let bits = validity(alloc, valid)?;
-    Ok(StructArray::try_new(alloc, valid.len(), Vec::new(alloc), bits)?.into_ref())
-}
 
 /// The bytes of all rows between these offsets.
 pub fn bytes(alloc: Global, ends: &[i64], values: &[u8], valid: &[bool]) -> Result<ArrayRef, Fail> {

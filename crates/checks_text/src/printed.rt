@@ -1,7 +1,8 @@
 //! Columns as texts, beside texts written by hand.
 
-use crate::made::{blocks, bytes, lists, pairs, texts, units, views};
-use checks_columns::fixtures::{column, nulls, number_column, truths};
+use crate::made::{bytes, texts, views};
+use checks_columns::fixtures::{column, nulls, truths};
+use checks_lines::read::{Form, column as read};
 use sel_arrow::array::Array;
 use sel_arrow::array_ref::ArrayRef;
 use sel_arrow::binview::bytes_at;
@@ -84,53 +85,6 @@ fn bytes_and_texts(rt: HostRuntime) -> Result<(), Fail> {
     Ok(())
 }
 
-#[test]
-fn lists_three_deep(rt: HostRuntime) -> Result<(), Fail> {
-    let alloc = rt.alloc();
-    let numbers = number_column(alloc, &[Some(1), None, Some(3)])?;
-    let inner = lists(alloc, &[0, 1, 1, 2, 3], numbers, &[true, false, true, true])?;
-    let outer = lists(alloc, &[0, 3, 3, 4], inner, &[true, true, false])?;
-    assert!(rt; prints(alloc, outer, "[[[1],null,[null]],[],null]")?);
-    let truths = truths(
-        alloc,
-        &[true, false, true, false],
-        &[true, true, false, true],
-    )?;
-    let pairs = blocks(alloc, 2, truths.into_ref(), &[true, true])?;
-    let listed = lists(alloc, &[0, 0, 2], pairs, &[true, true])?;
-    assert!(rt; prints(alloc, listed, "[[],[[true,false],[null,false]]]")?);
-    Ok(())
-}
-
-#[test]
-fn blocks_three_deep(rt: HostRuntime) -> Result<(), Fail> {
-    let alloc = rt.alloc();
-    let pieces = bytes(
-        alloc,
-        &[0, 1, 3, 3, 4],
-        &[1, 2, 3, 255],
-        &[true, true, true, false],
-    )?;
-    let inner = blocks(alloc, 1, pieces, &[true, true, false, true])?;
-    let outer = blocks(alloc, 2, inner, &[true, true])?;
-    assert!(rt; prints(alloc, outer, "[[[h\"01\"],[h\"0203\"]],[null,[null]]]")?);
-    let empty = blocks(alloc, 0, nulls(0)?, &[true, false])?;
-    assert!(rt; prints(alloc, empty, "[[],null]")?);
-    Ok(())
-}
-
-#[test]
-fn tuples_three_deep(rt: HostRuntime) -> Result<(), Fail> {
-    let alloc = rt.alloc();
-    let words = texts(alloc, &["a,b", "(", ")"], &[], &[true, true, true])?;
-    let listed = lists(alloc, &[0, 2, 3], words, &[true, true])?;
-    let numbers = column(alloc, &[Some(7u8), Some(9)], 1)?;
-    let inner = pairs(alloc, numbers.into_ref(), listed, &[true, false])?;
-    let outer = pairs(alloc, inner, units(alloc, &[false, true])?, &[true, true])?;
-    assert!(rt; prints(alloc, outer, "[((7,[\"a,b\",\"(\"]),null),(null,())]")?);
-    Ok(())
-}
-
 /// The text of a row of a column that is needed no more.
 fn row_prints(alloc: Global, column: ArrayRef, i: usize, text: &str) -> Result<bool, Fail> {
     if i >= column.len() {
@@ -144,10 +98,9 @@ fn row_prints(alloc: Global, column: ArrayRef, i: usize, text: &str) -> Result<b
 #[test]
 fn one_row(rt: HostRuntime) -> Result<(), Fail> {
     let alloc = rt.alloc();
-    let numbers = number_column(alloc, &[Some(1), None, Some(-3)])?;
-    let listed = lists(alloc, &[0, 1, 3], numbers, &[true, true])?;
-    assert!(rt; row_prints(alloc, listed, 1, "[null,-3]")?);
-    let numbers = number_column(alloc, &[Some(1), None])?;
+    let lists = read(alloc, "list<i64>", "[[1],[null,-3]]", Form::Whole)?;
+    assert!(rt; row_prints(alloc, lists, 1, "[null,-3]")?);
+    let numbers = read(alloc, "i64", "[1,null]", Form::Whole)?;
     assert!(rt; row_prints(alloc, numbers, 1, "null")?);
     Ok(())
 }
