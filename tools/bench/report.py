@@ -14,13 +14,13 @@ import numpy
 # Why a row is slower than a peer, by the beginning of its kernel's name; the first that fits counts.
 CAUSES = (
     ("filter, bits", "the library is built for any processor of x86-64-v2, the loops for this one; the kept bits are counted and the ends of the mask trimmed first"),
-    ("filter, lists", "the kept rows are listed as runs, these are gone over once for the ends of the lists and the runs of their items, and each run of items is copied by a call"),
+    ("filter, lists", "the kept rows are listed as runs, these are gone over once for the ends of the lists and the runs of their items; a run of up to eight items is copied as eight, a longer one by a call"),
     ("filter, two fields", "the mask is gone over once for each field, as for a column of the field's kind"),
     ("filter, views", "the ends of the mask are trimmed and its kept rows counted first, and each data buffer is shared by a count"),
     ("filter", "the library is built for any processor of x86-64-v2, the loops and numpy use this one's; the ends of the mask are trimmed and its kept rows counted first"),
     ("take, views", "each index is tested to have a row first, and each data buffer is shared by a count"),
-    ("take, bits", "each index is tested to have a row first, and each read of a bit tests that its byte is there"),
-    ("take, lists", "the items of each index are listed as a run, and each run is copied by a call"),
+    ("take, bits", "each index is tested to have a row first, and each read works out its byte and its place in it"),
+    ("take, lists", "the items of each index are listed as a run; a run of up to eight is copied as eight, a longer one by a call"),
     ("take, bytes", "each index is tested to have a row first, and the bytes of each row are put behind the others by a call"),
     ("take", "each index is tested to have a row first; the loop tests none"),
     ("choose, views", "the library is built for any processor of x86-64-v2; where views of the second column move behind the first one's data buffers, each is tested to hold its bytes itself"),
