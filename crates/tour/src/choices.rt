@@ -13,22 +13,35 @@ use std::alloc::Global;
 /// A choice between two columns, and between a column and one value.
 pub fn choices(alloc: Global, page: &mut String) -> Result<(), Stop> {
     title(page, "if_then_else: row by row the one or the other")?;
-    let mask = Bitmap::from_bools(alloc, &[true, false, true])?;
-    let cheap = numbers(alloc, &[Some(1i64), None, Some(3)])?;
-    let dear = numbers(alloc, &[Some(10i64), Some(20), None])?;
     show(
         alloc,
         page,
         "of two columns",
-        chosen(alloc, &mask, &cheap, &dear)?.into_ref(),
+        cheap_or_dear(alloc)?.into_ref(),
     )?;
-    let names = texts(alloc, &[Some("a"), Some("b"), None])?;
     show(
         alloc,
         page,
         "of texts and one text",
-        named(alloc, &mask, &names)?.into_ref(),
+        names_or_one(alloc)?.into_ref(),
     )
+}
+
+fn mask(alloc: Global) -> Result<Bitmap, Stop> {
+    Ok(Bitmap::from_bools(alloc, &[true, false, true])?)
+}
+
+fn cheap_or_dear(alloc: Global) -> Result<PrimitiveArray<i64>, Stop> {
+    let mask = mask(alloc)?;
+    let cheap = numbers(alloc, &[Some(1i64), None, Some(3)])?;
+    let dear = numbers(alloc, &[Some(10i64), Some(20), None])?;
+    chosen(alloc, &mask, &cheap, &dear)
+}
+
+fn names_or_one(alloc: Global) -> Result<Utf8ViewArray, Stop> {
+    let mask = mask(alloc)?;
+    let names = texts(alloc, &[Some("a"), Some("b"), None])?;
+    named(alloc, &mask, &names)
 }
 
 /// The rows of the first where the mask is true, else of the second, where all are of one length.

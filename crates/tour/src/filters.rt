@@ -17,21 +17,29 @@ pub fn filters(alloc: Global, page: &mut String) -> Result<(), Stop> {
         page,
         "filter: the rows where the mask is true; a null in it counts as false",
     )?;
-    let ages = numbers(alloc, &[Some(31i64), None, Some(27), Some(45)])?.into_ref();
-    let mask = truths(alloc, &[Some(true), Some(true), None, Some(true)])?;
     show(
         alloc,
         page,
         "ages by [true,true,null,true]",
-        kept(alloc, ages, &mask)?,
+        ages_kept(alloc)?,
     )?;
-    let bits = Bitmap::from_bools(alloc, &[false, true, true])?;
     show(
         alloc,
         page,
         "structs by the bits 0, 1, 1",
-        kept_by_bits(alloc, people(alloc)?, &bits)?,
+        people_kept(alloc)?,
     )
+}
+
+fn ages_kept(alloc: Global) -> Result<ArrayRef, Stop> {
+    let mask = truths(alloc, &[Some(true), Some(true), None, Some(true)])?;
+    let ages = numbers(alloc, &[Some(31i64), None, Some(27), Some(45)])?;
+    kept(alloc, ages.into_ref(), &mask)
+}
+
+fn people_kept(alloc: Global) -> Result<ArrayRef, Stop> {
+    let bits = Bitmap::from_bools(alloc, &[false, true, true])?;
+    kept_by_bits(alloc, people(alloc)?, &bits)
 }
 
 /// The rows that the mask keeps, where there is a truth value for each row.

@@ -36,10 +36,9 @@ fn side_by_side(alloc: Global) -> Result<ArrayRef, Stop> {
     let wide = numbers(
         alloc,
         &[Some(1i64), Some(2), Some(3), None, Some(5), Some(6)],
-    )?
-    .into_ref();
-    let narrow = numbers(alloc, &[Some(10i64)])?.into_ref();
-    let columns = vec![in alloc; wide, narrow]?;
+    )?;
+    let narrow = numbers(alloc, &[Some(10i64)])?;
+    let columns = vec![in alloc; wide.into_ref(), narrow.into_ref()]?;
     let flat = flattened(alloc, &columns, &[2, 1], 3);
     drop(columns);
     flat
@@ -59,9 +58,10 @@ fn flattened(
 }
 
 fn picked(alloc: Global) -> Result<ArrayRef, Stop> {
-    let first = texts(alloc, &[Some("Ada"), Some("Grace")])?.into_ref();
-    let second = texts(alloc, &[Some("Emmy")])?.into_ref();
+    let first = texts(alloc, &[Some("Ada"), Some("Grace")])?;
+    let second = texts(alloc, &[Some("Emmy")])?;
     let picks = [Some((1, 0)), None, Some((0, 1))];
+    let (first, second) = (first.into_ref(), second.into_ref());
     let rows = collected(alloc, &[first.as_column(), second.as_column()], &picks);
     drop(first);
     drop(second);

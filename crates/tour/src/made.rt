@@ -73,9 +73,22 @@ pub fn lists(
     lengths: &[Option<u32>],
     child: ArrayRef,
 ) -> Result<ListArray<i64>, Stop> {
+    match bounds(alloc, lengths) {
+        Ok((offsets, valid)) => Ok(ListArray::try_new(alloc, offsets, child, valid)?),
+        Err(stop) => {
+            drop(child);
+            Err(stop)
+        }
+    }
+}
+
+// Where lists begin and end, and which are there.
+fn bounds(
+    alloc: Global,
+    lengths: &[Option<u32>],
+) -> Result<(OffsetsBuffer<i64>, Option<Bitmap>), Stop> {
     let valid = validity(alloc, lengths)?;
-    let offsets = offsets(alloc, lengths)?;
-    Ok(ListArray::try_new(alloc, offsets, child, valid)?)
+    Ok((offsets(alloc, lengths)?, valid))
 }
 
 fn offsets(alloc: Global, lengths: &[Option<u32>]) -> Result<OffsetsBuffer<i64>, Stop> {
@@ -95,8 +108,15 @@ pub fn blocks(
     valid: &[bool],
     child: ArrayRef,
 ) -> Result<FixedSizeListArray, Stop> {
-    let validity = Some(Bitmap::from_bools(alloc, valid)?);
-    Ok(FixedSizeListArray::try_new(alloc, size, valid.len(), child, validity)?)
+    match Bitmap::from_bools(alloc, valid) {
+        Ok(bits) => {
+            Ok(FixedSizeListArray::try_new(alloc, size, valid.len(), child, Some(bits))?)
+        }
+        Err(fault) => {
+            drop(child);
+            Err(Stop::from(fault))
+        }
+    }
 }
 
 /// Structs of two fields: row k has row k of each.
@@ -106,7 +126,15 @@ pub fn pairs(
     first: ArrayRef,
     second: ArrayRef,
 ) -> Result<StructArray, Stop> {
-    let validity = Some(Bitmap::from_bools(alloc, valid)?);
-    let fields = vec![in alloc; first, second]?;
-    Ok(StructArray::try_new(alloc, valid.len(), fields, validity)?)
+    match Bitmap::from_bools(alloc, valid) {
+        Ok(bits) => {
+            let fields = vec![in alloc; first, second]?;
+            Ok(StructArray::try_new(alloc, valid.len(), fields, Some(bits))?)
+        }
+        Err(fault) => {
+            drop(first);
+            drop(second);
+            Err(Stop::from(fault))
+        }
+    }
 }

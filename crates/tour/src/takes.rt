@@ -16,26 +16,28 @@ pub fn takes(alloc: Global, page: &mut String) -> Result<(), Stop> {
         page,
         "take: the rows at indices, null where an index is null",
     )?;
-    let ages = numbers(alloc, &[Some(31i64), None, Some(27), Some(45)])?.into_ref();
-    let indices = numbers(alloc, &[Some(3u32), None, Some(1), Some(3)])?;
-    show(
-        alloc,
-        page,
-        "ages at [3,null,1,3]",
-        taken(alloc, ages, &indices)?,
-    )?;
-    let last_first = numbers(alloc, &[Some(2u32), Some(0)])?;
-    show(
-        alloc,
-        page,
-        "structs at [2,0]",
-        taken(alloc, people(alloc)?, &last_first)?,
-    )?;
-    let text = match indices_in_bounds(&indices, 3) {
+    show(alloc, page, "ages at [3,null,1,3]", ages_taken(alloc)?)?;
+    show(alloc, page, "structs at [2,0]", people_taken(alloc)?)?;
+    let text = match indices_in_bounds(&places(alloc)?, 3) {
         true => "yes",
         false => "no",
     };
     line(page, "whether three rows have these indices", text)
+}
+
+fn places(alloc: Global) -> Result<IdxArr, Stop> {
+    numbers(alloc, &[Some(3u32), None, Some(1), Some(3)])
+}
+
+fn ages_taken(alloc: Global) -> Result<ArrayRef, Stop> {
+    let indices = places(alloc)?;
+    let ages = numbers(alloc, &[Some(31i64), None, Some(27), Some(45)])?;
+    taken(alloc, ages.into_ref(), &indices)
+}
+
+fn people_taken(alloc: Global) -> Result<ArrayRef, Stop> {
+    let last_first = numbers(alloc, &[Some(2u32), Some(0)])?;
+    taken(alloc, people(alloc)?, &last_first)
 }
 
 /// The rows at the indices, where each index that is not null has a row.

@@ -1,11 +1,12 @@
 //! The rows of a column at indices.
 
-ghost use Rattle.std.specs.Prelude.{◌≡◌, ◌≤◌, length, IsTrue, IfOk, IfErr};
+ghost use Rattle.std.specs.Prelude.{◌≡◌, ◌≤◌, ◌<◌, length, slice_index_or, IsTrue, IfOk, IfErr};
 ghost use Rattle.sel_arrow.specs.Columns.{null_rows, primitive_rows};
 ghost use Rattle.sel_arrow.specs.Rows.{rows, type_of, IsWellFormed};
 ghost use Rattle.polars_compute.specs.Blocks.{blocks_within};
 ghost use Rattle.polars_compute.specs.Need.{IsRefusal, PassesNone, past};
 ghost use Rattle.sel_arrow.specs.Masked.{number_value};
+ghost use Rattle.sel_arrow.specs.Value.{Null};
 ghost use Rattle.polars_compute.specs.Pick.{is_within, all_within, all_below, take_rows};
 
 pub mod binary;
@@ -135,7 +136,10 @@ fn take_nulls(values: &NullArray, indices: &IdxArr) -> NullArray
 pub fn indices_in_bounds(indices: &IdxArr, len: usize) -> bool
     ensures { result ≡ all_within len (primitive_rows indices.now) }
 {
-    indices_in_bounds_of(indices, len)
+    match &indices.validity {
+        None => idx_slice_in_bounds(indices.values.as_slice(), len),
+        Some(_) => indices_in_bounds_of(indices, len),
+    }
 }
 
 /// Whether each index that is not null names one of `len` rows, of indices of any type.
@@ -143,7 +147,7 @@ pub fn indices_in_bounds_of<I: Index>(indices: &PrimitiveArray<I>, len: usize) -
     ensures { result ≡ all_within len (primitive_rows indices.now) }
 {
     for k in 0..row_count(indices) {
-        if !is_in_bounds(indices.get(k), len) {
+        if !is_row_in_bounds(indices, k, len) {
             return false;
         }
     }
@@ -154,7 +158,18 @@ pub fn indices_in_bounds_of<I: Index>(indices: &PrimitiveArray<I>, len: usize) -
 pub fn idx_slice_in_bounds(indices: &[u32], len: usize) -> bool
     ensures { result ≡ all_below len indices.now }
 {
-    indices.iter().all(|place| (*place as usize) < len)
+    len > u32::MAX as usize || are_below(indices, len as u32)
+}
+
+/// Whether each place is below `len`: without a branch for each, so that several are looked at at once.
+fn are_below(places: &[u32], len: u32) -> bool
+    ensures { result ≡ all_below len places.now }
+{
+    let mut are = true;
+    for place in places {
+        are &= *place < len;
+    }
+    are
 }
 
 /// Whether each index that is not null names one of the blocks of `size` that stand in `len` items.
@@ -174,6 +189,14 @@ fn row_count<T: NativeType>(column: &PrimitiveArray<T>) -> usize
     ensures few { result ≤ 4294967295 }
 {
     column.values().len()
+}
+
+/// Whether the index in row `k` is null or names one of `len` rows; only a number that names none needs a look at the validity.
+fn is_row_in_bounds<I: NativeType>(indices: &PrimitiveArray<I>, k: usize, len: usize) -> bool
+    requires { k < length (primitive_rows indices.now) }
+    ensures { result ≡ is_within len (slice_index_or (primitive_rows indices.now) k Null) }
+{
+    is_in_bounds(Some(indices.values.as_slice()[k]), len) || is_in_bounds(indices.get(k), len)
 }
 
 /// Whether an index that is not null names one of `len` rows.

@@ -1,0 +1,7 @@
+-- Whether the places so far are below.
+use Rattle.std.proofs.Common.{◌≡◌, take}
+use Rattle.polars_compute.specs.Pick.{all_below}
+use Rattle.polars_compute.proofs.gather.are_below.Given as goal
+
+abbrev pub invariant-loop-place : goal.invariant-loop-place
+invariant-loop-place l = l.are ≡ all_below l.len (take l.place-index l.places)
