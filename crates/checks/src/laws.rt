@@ -17,6 +17,7 @@ use std::test::Fail;
 // The rows under true bits, of a column that is needed no more.
 fn kept(alloc: Global, rows: ArrayRef, mask: &Bitmap) -> Result<ArrayRef, Fail> {
     if rows.len() != mask.len() {
+        drop(rows);
         return Err(Fail::from("another length"));
     }
     let kept = filter_with_bitmap(alloc, &rows, mask);
@@ -27,6 +28,7 @@ fn kept(alloc: Global, rows: ArrayRef, mask: &Bitmap) -> Result<ArrayRef, Fail> 
 // The rows at places, of a column that is needed no more.
 fn taken(alloc: Global, rows: ArrayRef, places: &IdxArr) -> Result<ArrayRef, Fail> {
     if !indices_in_bounds(places, rows.len()) {
+        drop(rows);
         return Err(Fail::from("out of bounds"));
     }
     let taken = take_unchecked(alloc, &rows, places);

@@ -75,8 +75,9 @@ fn is_refused(line: &Line) -> Result<bool, Fail> {
 /// Of a type, lists of one length, an index, and whether null is an answer: the entries there.
 pub fn entries_at(alloc: Global, line: &Line, form: Form) -> Result<PolarsResult<ArrayRef>, Fail> {
     let (text, index, null_on_oob) = (line.field(1)?, line.number(2)?, line.is(3)?);
+    let takes_none = is_refused(line)?;
     let blocks = blocks(alloc, line.field(0)?, text, form)?;
-    begins_line(alloc, is_refused(line)?);
+    begins_line(alloc, takes_none);
     let answer = sub_fixed_size_list_get_literal(alloc, &blocks, index, null_on_oob);
     ends_line(alloc, &answer);
     let answer = with_same_of(alloc, &blocks, text, Ok(answer));

@@ -88,6 +88,7 @@ fn bytes_and_texts(rt: HostRuntime) -> Result<(), Fail> {
 /// The text of a row of a column that is needed no more.
 fn row_prints(alloc: Global, column: ArrayRef, i: usize, text: &str) -> Result<bool, Fail> {
     if i >= column.len() {
+        drop(column);
         return Err(Fail::from("out of bounds"));
     }
     let printed = row_at(alloc, column.as_column(), i);
