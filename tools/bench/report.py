@@ -158,7 +158,7 @@ def pictures(docs: pathlib.Path, results: list, scale: list) -> None:
         picture(docs / f"bench-{name}-size.svg", f"{kernel.capitalize()} of numbers of 8 bytes: ns a row, by the number of rows", labels, lines_of(found))
 
 
-def write(docs: pathlib.Path, results: list, scale: list, load: list[float], compiler: str, flags: list[str]) -> None:
+def write(docs: pathlib.Path, results: list, scale: list, words: list[str], load: list[float], compiler: str, flags: list[str]) -> None:
     rows = sorted((row_of(each) for each in results), key=lambda row: -row[0])
     worse, others = [row for row in rows if row[0] > 1], [row for row in rows if row[0] <= 1]
     repeats = sum(spread(each[3]) <= .1 for each in results)
@@ -166,12 +166,11 @@ def write(docs: pathlib.Path, results: list, scale: list, load: list[float], com
             "Each answer was compared with numpy's before it was timed, and each contender makes the whole result, its memory too. "
             "`loop` is a plain loop of C, compiled for this processor; `numpy` stands where numpy has the operation, and is called from Python; `copy` moves as many bytes as any way of doing it must read and write.", ""]
     text += machine(load, compiler, flags)
-    text += [f"- Of {len(results)} rows the library's median lies within 10 percent of its best in {repeats}.",
-             "- Not measured, since the library for C does not export them: `pext64`, and operations on bitmaps at unlike offsets.", ""]
+    text += [f"- Of {len(results)} rows the library's median lies within 10 percent of its best in {repeats}.", ""]
     text += ["![Time of a filter by the share that is kept](bench-density.svg)", "", "![Time of a filter by the number of rows](bench-filter-size.svg)", "",
              "![Time of a take by the number of rows](bench-take-size.svg)", ""]
     text += [f"## Slower than the best peer: {len(worse)} of {len(rows)} rows", "", *table(worse, True), ""]
     text += [f"## As fast or faster: {len(others)} rows", "", *table(others, False), ""]
-    text += ["## By the number of rows", "", *table([row_of(each) for each in scale], False), ""]
+    text += ["## By the number of rows", "", *table([row_of(each) for each in scale], False), "", *words]
     (docs / "BENCHMARKS.md").write_text("\n".join(text))
     pictures(docs, results, scale)

@@ -1,0 +1,75 @@
+//! What a line asks for.
+
+ghost use Rattle.std.specs.Prelude.{◌<◌, ◌≤◌};
+
+use std::alloc::Global;
+
+/// The operations that a line can name.
+#[derive(Clone, Copy)]
+pub enum Operation {
+    And,
+    SetBits,
+    Pext,
+    PextFour,
+    Indices,
+    IndicesNull,
+}
+
+impl Operation {
+    fn named(name: &str) -> Option<Operation> {
+        match name {
+            "and" => Some(Operation::And),
+            "set_bits" => Some(Operation::SetBits),
+            "pext" => Some(Operation::Pext),
+            "pext_four" => Some(Operation::PextFour),
+            "indices" => Some(Operation::Indices),
+            "indices_null" => Some(Operation::IndicesNull),
+            _ => None,
+        }
+    }
+}
+
+/// The most rows of a job.
+const MOST_ROWS: usize = 67_108_864;
+
+/// The most bits before the first row.
+const MOST_OFFSET: usize = 64;
+
+/// An operation, on how many bits or words, the places of the first bits in their bytes, and how often.
+#[derive(Clone, Copy)]
+pub struct Job {
+    pub operation: Operation,
+    pub rows: usize,
+    pub left: usize,
+    pub right: usize,
+    pub repeats: u64,
+    pub ghost some_rows: { 0 < rows },
+    pub ghost few_rows: { rows ≤ 67108864 },
+    pub ghost near_left: { left ≤ 64 },
+    pub ghost near_right: { right ≤ 64 },
+}
+
+impl Job {
+    /// The job of a line; none where it is bad, or memory is wanting.
+    pub fn parse(alloc: Global, line: &str) -> Option<Job> {
+        let words: Vec<&str> = line.split_whitespace().collect(alloc).ok()?;
+        if words.len() != 5 {
+            return None;
+        }
+        let operation = Operation::named(words[0])?;
+        let rows = words[1].parse::<usize>().ok()?;
+        let left = words[2].parse::<usize>().ok()?;
+        let right = words[3].parse::<usize>().ok()?;
+        let repeats = words[4].parse::<u64>().ok()?;
+        if rows == 0 || rows > MOST_ROWS || left > MOST_OFFSET || right > MOST_OFFSET {
+            return None;
+        }
+        Some(Job {
+            operation,
+            rows,
+            left,
+            right,
+            repeats,
+        })
+    }
+}
