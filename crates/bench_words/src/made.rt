@@ -8,7 +8,9 @@ use std::alloc::Global;
 
 /// What the words of the left and the right side, and those of validities, begin with.
 pub const LEFT: u64 = 1;
+
 pub const RIGHT: u64 = 2;
+
 pub const NULLS: u64 = 3;
 
 fn next(state: u64) -> u64 {
