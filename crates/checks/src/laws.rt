@@ -25,7 +25,7 @@ fn kept(alloc: Global, rows: ArrayRef, mask: &Bitmap) -> Result<ArrayRef, Fail> 
     Ok(kept?)
 }
 
-// The rows at places, which are made behind the column that they are of.
+// The rows at these places.
 fn taken_of(alloc: Global, rows: &ArrayRef, places: &[Option<u32>]) -> Result<ArrayRef, Fail> {
     let places = column(alloc, places, 0)?;
     if !indices_in_bounds(&places, rows.len()) {
