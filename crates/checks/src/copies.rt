@@ -17,10 +17,13 @@ fn takes(
     let source = [1i64, 2, 3, 4, 5, 6];
     let places = column(alloc, places, 9)?;
     if !blocks_in_bounds(&places, size, source.len()) {
+        drop(places);
         return Err(Fail::from("out of bounds"));
     }
     let mut out = BlockCopy::new(alloc, source.as_slice());
-    take_blocks(&mut out, size, &places, 0)?;
+    let answer = take_blocks(&mut out, size, &places, 0);
+    drop(places);
+    answer?;
     let are_as_many = out.copies() == copies;
     Ok(are_as_many && out.into_vec().as_slice() == items)
 }

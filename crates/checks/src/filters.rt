@@ -3,7 +3,7 @@
 ghost use Rattle.std.specs.Prelude.{◌≡◌, ◌≤◌, length, IfOk};
 
 use crate::kernels::many_values;
-use checks_columns::fixtures::has_text;
+use checks_columns::fixtures::{buffer, has_text, one_buffer, validity};
 use polars_compute::filter::boolean::pext64_polyfill;
 use polars_compute::filter::filter_boolean_kernel;
 use polars_compute::filter::scalar::{scalar_filter, scalar_filter_offset};
@@ -11,7 +11,6 @@ use sel_arrow::array::Array;
 use sel_arrow::utf8view::Utf8ViewArray;
 use sel_arrow::view::View;
 use sel_bits::bitmap::Bitmap;
-use sel_bits::buffer::Buffer;
 use sel_bits::faults::PolarsResult;
 use std::alloc::Global;
 use std::test::Fail;
@@ -164,15 +163,14 @@ fn no_values_behind_an_offset(rt: HostRuntime) -> Result<(), Fail> {
 /// One short text, one of 13 bytes and one that is null.
 pub fn three_texts(alloc: Global) -> Result<Utf8ViewArray, Fail> {
     let long = b"abcdefghijklm";
-    let views = vec![in alloc;
+    let views = [
         View::new_from_bytes(b"a", 0, 0),
         View::new_from_bytes(long, 0, 0),
         View::new_from_bytes(b"", 0, 0),
-    ]?;
-    let data = Buffer::from_vec(Vec::from_slice(alloc, long)?)?;
-    let buffers = Buffer::from_vec(vec![in alloc; data]?)?;
-    let validity = Bitmap::from_bools(alloc, &[true, true, false])?;
-    Ok(Utf8ViewArray::try_new(Buffer::from_vec(views)?, buffers, Some(validity))?)
+    ];
+    let views = buffer(alloc, &views)?;
+    let valid = validity(alloc, &[true, true, false])?;
+    Ok(Utf8ViewArray::try_new(views, one_buffer(alloc, long)?, valid)?)
 }
 
 /// Whether the rows are the long text and a null.

@@ -50,9 +50,9 @@ fn offsets_of<O: Offset>(alloc: Global, rows: &[Option<&[u8]>]) -> Result<Offset
 
 // A column of bytes; none is null over one hidden byte.
 fn bytes_column<O: Offset>(alloc: Global, rows: &[Option<&[u8]>]) -> Result<BinaryArray<O>, Fail> {
-    let validity = validity_of(alloc, rows)?;
     let offsets = offsets_of(alloc, rows)?;
-    Ok(BinaryArray::try_new(offsets, bytes_of(alloc, rows)?, Some(validity))?)
+    let bytes = bytes_of(alloc, rows)?;
+    Ok(BinaryArray::try_new(offsets, bytes, Some(validity_of(alloc, rows)?))?)
 }
 
 // One row of 65,536 bytes.
@@ -65,10 +65,17 @@ fn long_row(alloc: Global) -> Result<BinaryArray<i32>, Fail> {
 fn repeated(alloc: Global, column: &BinaryArray<i32>, count: usize) -> Result<Option<usize>, Fail> {
     let indices = zeros(alloc, count)?;
     if !indices_in_bounds_of(&indices, column.len()) {
+        drop(indices);
         return Err(Fail::from("out of bounds"));
     }
-    match take_unchecked(alloc, column, &indices) {
-        Ok(taken) => Ok(Some(taken.null_count())),
+    let answer = take_unchecked(alloc, column, &indices);
+    drop(indices);
+    match answer {
+        Ok(taken) => {
+            let nulls = taken.null_count();
+            drop(taken);
+            Ok(Some(nulls))
+        }
         Err(PolarsError::SizeLimit(Limit::Bytes)) => Ok(None),
         Err(_) => Err(Fail::from("another refusal")),
     }
@@ -228,28 +235,43 @@ fn kept_values(rt: HostRuntime) -> Result<(), Fail> {
     Ok(())
 }
 
-// The rows of bytes at these indices, where they are in bounds.
-fn taken_bytes<I: Index>(
+// Whether the rows of bytes at these indices, which are in bounds, are these.
+fn takes_bytes<I: Index>(
     alloc: Global,
     column: &BinaryArray<i64>,
     places: &[I],
     validity: &[bool],
-) -> Result<BinaryArray<i64>, Fail> {
+    rows: &[Option<&[u8]>],
+) -> Result<bool, Fail> {
     let indices = numbers(alloc, places, validity)?;
     if !indices_in_bounds_of(&indices, column.len()) {
+        drop(indices);
         return Err(Fail::from("out of bounds"));
     }
-    Ok(take_unchecked(alloc, column, &indices)?)
+    let taken = take_unchecked(alloc, column, &indices);
+    drop(indices);
+    let taken = taken?;
+    let are_bytes = has_bytes(&taken, rows);
+    drop(taken);
+    Ok(are_bytes)
+}
+
+// Whether rows at signed and at unsigned indices are taken.
+fn takes_bytes_of_both(alloc: Global, column: &BinaryArray<i64>) -> Result<bool, Fail> {
+    let valid = [false, true];
+    Ok(
+        takes_bytes(alloc, column, &[-1i8, 1], &valid, &[None, Some(b"bc")])?
+            && takes_bytes(alloc, column, &[u64::MAX, 0], &valid, &[None, Some(b"a")])?,
+    )
 }
 
 #[test]
 fn takes_of_bytes(rt: HostRuntime) -> Result<(), Fail> {
     let alloc = rt.alloc();
     let column = bytes_column::<i64>(alloc, &[Some(b"a"), Some(b"bc")])?;
-    let taken = taken_bytes(alloc, &column, &[-1i8, 1], &[false, true])?;
-    assert!(rt; has_bytes(&taken, &[None, Some(b"bc")]));
-    let taken = taken_bytes(alloc, &column, &[u64::MAX, 0], &[false, true])?;
-    assert!(rt; has_bytes(&taken, &[None, Some(b"a")]));
+    let are_taken = takes_bytes_of_both(alloc, &column);
+    drop(column);
+    assert!(rt; are_taken?);
     Ok(())
 }
 
@@ -257,7 +279,9 @@ fn takes_of_bytes(rt: HostRuntime) -> Result<(), Fail> {
 fn takes_past_the_limit_of_bytes(rt: HostRuntime) -> Result<(), Fail> {
     let alloc = rt.alloc();
     let column = long_row(alloc)?;
-    assert!(rt; repeated(alloc, &column, 32_768)?.is_none());
+    let nulls = repeated(alloc, &column, 32_768);
+    drop(column);
+    assert!(rt; nulls?.is_none());
     Ok(())
 }
 
@@ -268,7 +292,9 @@ fn null_rows_need_no_bytes(rt: HostRuntime) -> Result<(), Fail> {
     let column = long_row(alloc)?;
     assert!(rt; column.len() == 1 && null.len() == 1);
     let column = column.with_validity(Some(null));
-    assert!(rt; repeated(alloc, &column, 32_768)? == Some(32_768));
+    let nulls = repeated(alloc, &column, 32_768);
+    drop(column);
+    assert!(rt; nulls? == Some(32_768));
     Ok(())
 }
 
@@ -284,6 +310,7 @@ fn bounds_of_indices(rt: HostRuntime) -> Result<(), Fail> {
     for (places, validity, len, within) in &signed {
         let indices = numbers(alloc, places, validity)?;
         assert!(rt; indices_in_bounds_of(&indices, *len) == *within);
+        drop(indices);
     }
     let unsigned: [(&[u64], &[bool], usize, bool); 3] = [
         (&[0, 2], &[true, true], 3, true),
@@ -293,28 +320,32 @@ fn bounds_of_indices(rt: HostRuntime) -> Result<(), Fail> {
     for (places, validity, len, within) in &unsigned {
         let indices = numbers(alloc, places, validity)?;
         assert!(rt; indices_in_bounds_of(&indices, *len) == *within);
+        drop(indices);
     }
     Ok(())
 }
 
 // Whether the last number, and nulls from a null index and from a null row, are taken.
-fn takes_numbers(
-    alloc: Global,
-    array: &PrimitiveArray<i64>,
-    indices: &IdxArr,
-) -> PolarsResult<bool> {
-    if !indices_in_bounds(indices, array.len()) || indices_in_bounds(indices, 2) {
+fn takes_numbers(alloc: Global, array: &PrimitiveArray<i64>) -> Result<bool, Fail> {
+    let indices = numbers(alloc, &[2u32, u32::MAX, 1], &[true, false, true])?;
+    if !indices_in_bounds(&indices, array.len()) || indices_in_bounds(&indices, 2) {
+        drop(indices);
         return Ok(false);
     }
-    let taken = take_primitive_unchecked(alloc, array, indices)?;
-    Ok(has_numbers(&taken, &[Some(7), None, None]))
+    let taken = take_primitive_unchecked(alloc, array, &indices);
+    drop(indices);
+    let taken = taken?;
+    let are_taken = has_numbers(&taken, &[Some(7), None, None]);
+    drop(taken);
+    Ok(are_taken)
 }
 
 #[test]
 fn takes_of_numbers(rt: HostRuntime) -> Result<(), Fail> {
     let alloc = rt.alloc();
     let array = column(alloc, &[Some(5i64), None, Some(7)], i64::MIN)?;
-    let indices = numbers(alloc, &[2u32, u32::MAX, 1], &[true, false, true])?;
-    assert!(rt; takes_numbers(alloc, &array, &indices) == Ok(true));
+    let are_taken = takes_numbers(alloc, &array);
+    drop(array);
+    assert!(rt; are_taken?);
     Ok(())
 }

@@ -8,7 +8,7 @@ use polars_compute::if_then_else::IfThenElseKernel;
 use sel_arrow::array::Array;
 use sel_arrow::array_ref::ArrayRef;
 use sel_arrow::binview::BinaryViewArray;
-use sel_arrow::primitive::{IdxArr, PrimitiveArray};
+use sel_arrow::primitive::PrimitiveArray;
 use sel_arrow::utf8view::Utf8ViewArray;
 use sel_bits::bitmap::Bitmap;
 use std::alloc::Global;
@@ -25,15 +25,23 @@ fn kept(alloc: Global, rows: ArrayRef, mask: &Bitmap) -> Result<ArrayRef, Fail> 
     Ok(kept?)
 }
 
-// The rows at places, of a column that is needed no more.
-fn taken(alloc: Global, rows: ArrayRef, places: &IdxArr) -> Result<ArrayRef, Fail> {
-    if !indices_in_bounds(places, rows.len()) {
-        drop(rows);
+// The rows at these places.
+fn taken_of(alloc: Global, rows: &ArrayRef, places: &[Option<u32>]) -> Result<ArrayRef, Fail> {
+    let places = column(alloc, places, 0)?;
+    if !indices_in_bounds(&places, rows.len()) {
+        drop(places);
         return Err(Fail::from("out of bounds"));
     }
-    let taken = take_unchecked(alloc, &rows, places);
-    drop(rows);
+    let taken = take_unchecked(alloc, rows, &places);
+    drop(places);
     Ok(taken?)
+}
+
+// The same of a column that is needed no more.
+fn taken(alloc: Global, rows: ArrayRef, places: &[Option<u32>]) -> Result<ArrayRef, Fail> {
+    let taken = taken_of(alloc, &rows, places);
+    drop(rows);
+    taken
 }
 
 fn tens(alloc: Global) -> Result<ArrayRef, Fail> {
@@ -44,7 +52,7 @@ fn tens(alloc: Global) -> Result<ArrayRef, Fail> {
 fn a_filter_is_a_take(rt: HostRuntime) -> Result<(), Fail> {
     let rows = [Some(10i64), Some(40)];
     let mask = Bitmap::from_bools(rt.alloc(), &[true, false, false, true])?;
-    let places = column(rt.alloc(), &[Some(0u32), Some(3)], 0)?;
+    let places = [Some(0), Some(3)];
     assert!(rt; is_numbers(kept(rt.alloc(), tens(rt.alloc())?, &mask)?, &rows)?);
     assert!(rt; is_numbers(taken(rt.alloc(), tens(rt.alloc())?, &places)?, &rows)?);
     Ok(())
@@ -59,7 +67,7 @@ fn some_null(alloc: Global) -> Result<ArrayRef, Fail> {
 fn a_filter_of_nulls_is_a_take(rt: HostRuntime) -> Result<(), Fail> {
     let rows = [None, Some(3i64), None];
     let mask = Bitmap::from_bools(rt.alloc(), &[false, true, true, true])?;
-    let places = column(rt.alloc(), &[Some(1u32), Some(2), Some(3)], 0)?;
+    let places = [Some(1), Some(2), Some(3)];
     assert!(rt; is_numbers(kept(rt.alloc(), some_null(rt.alloc())?, &mask)?, &rows)?);
     assert!(rt; is_numbers(taken(rt.alloc(), some_null(rt.alloc())?, &places)?, &rows)?);
     Ok(())
@@ -69,25 +77,25 @@ fn a_filter_of_nulls_is_a_take(rt: HostRuntime) -> Result<(), Fail> {
 fn a_filter_of_no_rows_is_a_take(rt: HostRuntime) -> Result<(), Fail> {
     let rows: [Option<i64>; 0] = [];
     let mask = Bitmap::new(rt.alloc())?;
-    let places: [Option<u32>; 0] = [];
-    let places = column(rt.alloc(), &places, 0)?;
     let none = column(rt.alloc(), &rows, 0)?.into_ref();
     assert!(rt; is_numbers(kept(rt.alloc(), none, &mask)?, &rows)?);
     let none = column(rt.alloc(), &rows, 0)?.into_ref();
-    assert!(rt; is_numbers(taken(rt.alloc(), none, &places)?, &rows)?);
+    assert!(rt; is_numbers(taken(rt.alloc(), none, &[])?, &rows)?);
     Ok(())
 }
 
 // Whether the rows are the long text and a null.
 fn is_last_texts(alloc: Global, rows: ArrayRef) -> Result<bool, Fail> {
     let rows = rows.into_utf8view().ok().ok_or("another type")?;
-    Ok(are_last_texts(alloc, &rows)?)
+    let are_last = are_last_texts(alloc, &rows);
+    drop(rows);
+    Ok(are_last?)
 }
 
 #[test]
 fn a_filter_of_texts_is_a_take(rt: HostRuntime) -> Result<(), Fail> {
     let mask = Bitmap::from_bools(rt.alloc(), &[false, true, true])?;
-    let places = column(rt.alloc(), &[Some(1u32), Some(2)], 0)?;
+    let places = [Some(1), Some(2)];
     let texts = three_texts(rt.alloc())?.into_ref();
     assert!(rt; is_last_texts(rt.alloc(), kept(rt.alloc(), texts, &mask)?)?);
     let texts = three_texts(rt.alloc())?.into_ref();
@@ -97,12 +105,15 @@ fn a_filter_of_texts_is_a_take(rt: HostRuntime) -> Result<(), Fail> {
 
 // The choice between the three texts and one text at each position.
 fn chosen_texts(alloc: Global, mask: &Bitmap) -> Result<ArrayRef, Fail> {
+    let other = String::from_str(alloc, "other")?;
     let texts = three_texts(alloc)?;
     if texts.len() != mask.len() {
+        drop(texts);
         return Err(Fail::from("another length"));
     }
-    let other = String::from_str(alloc, "other")?;
-    Ok(Utf8ViewArray::if_then_else_broadcast_false(alloc, mask, &texts, &other)?.into_ref())
+    let chosen = Utf8ViewArray::if_then_else_broadcast_false(alloc, mask, &texts, &other);
+    drop(texts);
+    Ok(chosen?.into_ref())
 }
 
 #[test]
@@ -115,22 +126,28 @@ fn a_choice_of_texts_under_its_mask_is_its_first_side(rt: HostRuntime) -> Result
 
 // The same between their bytes.
 fn chosen_views(alloc: Global, mask: &Bitmap) -> Result<ArrayRef, Fail> {
-    let views = three_texts(alloc)?.to_binview(alloc)?;
+    let other = Vec::from_slice(alloc, b"other")?;
+    let texts = three_texts(alloc)?;
+    let views = texts.to_binview(alloc);
+    drop(texts);
+    let views = views?;
     if views.len() != mask.len() {
+        drop(views);
         return Err(Fail::from("another length"));
     }
-    let other = Vec::from_slice(alloc, b"other")?;
-    Ok(BinaryViewArray::if_then_else_broadcast_false(alloc, mask, &views, &other)?.into_ref())
+    let chosen = BinaryViewArray::if_then_else_broadcast_false(alloc, mask, &views, &other);
+    drop(views);
+    Ok(chosen?.into_ref())
 }
 
 // Whether the rows are the bytes of the long text and a null.
 fn is_last_views(alloc: Global, rows: ArrayRef) -> Result<bool, Fail> {
     let rows = rows.into_binview().ok().ok_or("another type")?;
-    Ok(
-        rows.len() == 2
-            && has_bytes_at(alloc, &rows, 0, Some(b"abcdefghijklm"))?
-            && has_bytes_at(alloc, &rows, 1, None)?,
-    )
+    let are_two = rows.len() == 2;
+    let is_long = has_bytes_at(alloc, &rows, 0, Some(b"abcdefghijklm"));
+    let is_null = has_bytes_at(alloc, &rows, 1, None);
+    drop(rows);
+    Ok(are_two && is_long? && is_null?)
 }
 
 #[test]
@@ -149,13 +166,28 @@ fn side(alloc: Global, first: bool) -> Result<PrimitiveArray<i64>, Fail> {
     column(alloc, &[Some(7), Some(8), None], 0)
 }
 
-// The choice between the two sides.
-fn chosen(alloc: Global, mask: &Bitmap) -> Result<ArrayRef, Fail> {
-    let (first, second) = (side(alloc, true)?, side(alloc, false)?);
+// The choice between this side and the second one.
+fn chosen_with(
+    alloc: Global,
+    mask: &Bitmap,
+    first: &PrimitiveArray<i64>,
+) -> Result<ArrayRef, Fail> {
+    let second = side(alloc, false)?;
     if first.len() != mask.len() || second.len() != mask.len() {
+        drop(second);
         return Err(Fail::from("another length"));
     }
-    Ok(PrimitiveArray::if_then_else(alloc, mask, &first, &second)?.into_ref())
+    let chosen = PrimitiveArray::if_then_else(alloc, mask, first, &second);
+    drop(second);
+    Ok(chosen?.into_ref())
+}
+
+// The choice between the two sides.
+fn chosen(alloc: Global, mask: &Bitmap) -> Result<ArrayRef, Fail> {
+    let first = side(alloc, true)?;
+    let chosen = chosen_with(alloc, mask, &first);
+    drop(first);
+    chosen
 }
 
 #[test]

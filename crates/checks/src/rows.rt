@@ -1,6 +1,6 @@
 //! Rows of several columns, by picks and by runs.
 
-use checks_columns::fixtures::{buffer, has_bytes, has_bytes_at, one_buffer};
+use checks_columns::fixtures::{buffer, has_bytes, has_bytes_at, one_buffer, validity};
 use polars_compute::gather::{collect_rows, picks_in_bounds};
 use sel_arrow::array::Array;
 use sel_arrow::array_ref::ArrayRef;
@@ -8,7 +8,6 @@ use sel_arrow::binary::BinaryArray;
 use sel_arrow::binview::BinaryViewArray;
 use sel_arrow::column::Column;
 use sel_arrow::view::View;
-use sel_bits::bitmap::Bitmap;
 use sel_bits::faults::PolarsResult;
 use sel_bits::offsets::OffsetsBuffer;
 use sel_runs::run::{Run, push_run};
@@ -31,18 +30,26 @@ fn collected<'a>(
     Ok(collect_rows(alloc, sources, picks)?)
 }
 
-// The rows at these picks of two columns of any type, each of which is taken out of its column for it.
+// The rows at these picks of two columns of one type, where the second could be made. Neither is needed any more.
 //
 // Columns of every kind are dropped by a call: a drop at the end of a body is proved kind by kind.
-fn collected_of_two(
+fn collected_of_two<A: Array>(
     alloc: Global,
-    first: ArrayRef,
-    second: ArrayRef,
+    first: A,
+    second: Result<A, Fail>,
     picks: &[Option<(u32, u32)>],
 ) -> Result<ArrayRef, Fail> {
-    let rows = collected(alloc, &[first.as_column(), second.as_column()], picks);
+    let first = first.into_ref();
+    let rows = match second {
+        Ok(second) => {
+            let second = second.into_ref();
+            let rows = collected(alloc, &[first.as_column(), second.as_column()], picks);
+            drop(second);
+            rows
+        }
+        Err(fault) => Err(fault),
+    };
     drop(first);
-    drop(second);
     rows
 }
 
@@ -55,26 +62,25 @@ fn pieces(alloc: Global, offsets: &[i64]) -> Result<BinaryArray<i64>, Fail> {
 // The rows `a` and `c`, and between them a null over a byte that is not its own.
 fn pieces_over_hidden(alloc: Global) -> Result<BinaryArray<i64>, Fail> {
     let offsets = OffsetsBuffer::try_from(Vec::from_slice(alloc, &[0i64, 1, 2, 3])?)?;
-    let validity = Bitmap::from_bools(alloc, &[true, false, true])?;
-    Ok(BinaryArray::try_new(offsets, buffer(alloc, b"abc")?, Some(validity))?)
+    let bytes = buffer(alloc, b"abc")?;
+    Ok(BinaryArray::try_new(offsets, bytes, validity(alloc, &[true, false, true])?)?)
 }
 
 // Whether these are the bytes of four rows, of which nulls have none.
 fn are_bytes_of_valid_rows(rows: ArrayRef) -> Result<bool, Fail> {
     let rows = rows.into_binary().ok().ok_or("another type")?;
-    Ok(
-        has_bytes(&rows, &[Some(b"a"), None, Some(b"c"), Some(b"bc")])
-            && rows.values().as_slice() == b"acbc".as_slice(),
-    )
+    let are_bytes = has_bytes(&rows, &[Some(b"a"), None, Some(b"c"), Some(b"bc")])
+        && rows.values().as_slice() == b"acbc".as_slice();
+    drop(rows);
+    Ok(are_bytes)
 }
 
 #[test]
 fn bytes_beneath_nulls_are_not_copied(rt: HostRuntime) -> Result<(), Fail> {
     let alloc = rt.alloc();
     let first = pieces_over_hidden(alloc)?;
-    let second = pieces(alloc, &[1, 3])?;
     let picks = [Some((0, 0)), Some((0, 1)), Some((0, 2)), Some((1, 0))];
-    let rows = collected_of_two(alloc, first.into_ref(), second.into_ref(), &picks)?;
+    let rows = collected_of_two(alloc, first, pieces(alloc, &[1, 3]), &picks)?;
     assert!(rt; are_bytes_of_valid_rows(rows)?);
     Ok(())
 }
@@ -109,10 +115,11 @@ fn are_long_rows(alloc: Global, rows: &BinaryViewArray) -> PolarsResult<bool> {
 fn rows_of_two_columns_of_views(rt: HostRuntime) -> Result<(), Fail> {
     let alloc = rt.alloc();
     let first = views(alloc, b"abcdefghijklm")?;
-    let second = views(alloc, b"nopqrstuvwxyz")?;
-    let rows = collected_of_two(alloc, first.into_ref(), second.into_ref(), &LONG_PICKS)?;
+    let second = views(alloc, b"nopqrstuvwxyz");
+    let rows = collected_of_two(alloc, first, second, &LONG_PICKS)?;
     let rows = rows.into_binview().ok().ok_or("another type")?;
     assert!(rt; are_long_rows(alloc, &rows) == Ok(true));
+    drop(rows);
     Ok(())
 }
 

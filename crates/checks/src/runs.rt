@@ -117,6 +117,7 @@ fn are_three_buffers(buffers: &[Buffer<u8>]) -> bool {
 fn data_buffers_behind_one_another(rt: HostRuntime) -> Result<(), Fail> {
     let buffers = three_buffers(rt.alloc())?;
     assert!(rt; are_three_buffers(&buffers));
+    drop(buffers);
     Ok(())
 }
 
@@ -139,18 +140,24 @@ fn picked_views(
     Ok(collect_views(alloc, &[one, other], runs, 4)?)
 }
 
-// The same of two columns that are needed no more.
+// The same of two columns that are needed no more, where the second could be made.
 fn collected_views(
     alloc: Global,
     first: BinaryViewArray,
-    second: BinaryViewArray,
+    second: Result<BinaryViewArray, Fail>,
     runs: &[Run],
 ) -> Result<BinaryViewArray, Fail> {
     let first = Column::BinaryView(first);
-    let second = Column::BinaryView(second);
-    let rows = picked_views(alloc, &first, &second, runs);
+    let rows = match second {
+        Ok(second) => {
+            let second = Column::BinaryView(second);
+            let rows = picked_views(alloc, &first, &second, runs);
+            drop(second);
+            rows
+        }
+        Err(fault) => Err(fault),
+    };
     drop(first);
-    drop(second);
     rows
 }
 
@@ -169,12 +176,11 @@ fn are_picked_views(alloc: Global, rows: &BinaryViewArray) -> PolarsResult<bool>
 #[test]
 fn views_of_two_columns_by_runs(rt: HostRuntime) -> Result<(), Fail> {
     let alloc = rt.alloc();
-    let (first, second) = (
-        views(alloc, b"abcdefghijklm")?,
-        views(alloc, b"nopqrstuvwxyz")?,
-    );
+    let first = views(alloc, b"abcdefghijklm")?;
+    let second = views(alloc, b"nopqrstuvwxyz");
     let runs = [run_of_rows(1, 1, 1), nulls_of(1), run_of_rows(0, 0, 2)];
     let rows = collected_views(alloc, first, second, &runs)?;
     assert!(rt; are_picked_views(alloc, &rows) == Ok(true));
+    drop(rows);
     Ok(())
 }

@@ -42,9 +42,12 @@ fn bits_at_places(rt: HostRuntime) -> Result<(), Fail> {
 fn bits_taken(alloc: Global, values: &Bitmap, places: &[Option<u32>]) -> Result<Bitmap, Fail> {
     let places = indices(alloc, places)?;
     if !indices_in_bounds(&places, values.len()) {
+        drop(places);
         return Err(Fail::from("out of bounds"));
     }
-    Ok(take_bitmap_nulls_unchecked(alloc, values, &places)?)
+    let taken = take_bitmap_nulls_unchecked(alloc, values, &places);
+    drop(places);
+    Ok(taken?)
 }
 
 // Whether the bits at these indices are these.
@@ -74,15 +77,21 @@ fn truths_taken(
 ) -> Result<BooleanArray, Fail> {
     let places = indices(alloc, places)?;
     if !indices_in_bounds(&places, array.len()) {
+        drop(places);
         return Err(Fail::from("out of bounds"));
     }
-    Ok(boolean::take_unchecked(alloc, array, &places)?)
+    let taken = boolean::take_unchecked(alloc, array, &places);
+    drop(places);
+    Ok(taken?)
 }
 
 #[test]
 fn truth_values_at_indices(rt: HostRuntime) -> Result<(), Fail> {
     let array = truths(rt.alloc(), &[true, true, false], &[true, false, true])?;
-    let taken = truths_taken(rt.alloc(), &array, &[Some(2), None, Some(1), Some(0)])?;
+    let taken = truths_taken(rt.alloc(), &array, &[Some(2), None, Some(1), Some(0)]);
+    drop(array);
+    let taken = taken?;
     assert!(rt; has_truths(&taken, &[Some(false), None, None, Some(true)]));
+    drop(taken);
     Ok(())
 }

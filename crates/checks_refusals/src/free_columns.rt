@@ -25,25 +25,52 @@ use sel_bits::bitmap::Bitmap;
 use std::alloc::Global;
 use std::test::Fail;
 
-/// Whether columns of nulls, of truth values and of numbers are made, and their rows read.
-fn makes_flat(alloc: Global) -> Result<bool, Fail> {
-    let bits = Bitmap::from_bools(alloc, &[true, false])?;
-    let values = buffer(alloc, &[7i64, 8])?;
-    let valid = validity(alloc, &[true, false])?;
+/// Whether a column of nulls is made.
+fn makes_nulls(alloc: Global) -> Result<bool, Fail> {
     begins_free(alloc);
-    let nulls = NullArray::try_new(2);
-    let truths = BooleanArray::try_new(bits, None);
-    let numbers = PrimitiveArray::try_new(values, valid);
+    let made = NullArray::try_new(2);
     ends_answered(alloc);
-    let (nulls, truths, numbers) = (nulls?, truths?, numbers?);
-    if truths.len() != 2 || numbers.len() != 2 {
+    let nulls = made?;
+    let are_two = nulls.len() == 2;
+    drop(nulls);
+    Ok(are_two)
+}
+
+/// Whether a column of truth values is made, and its rows read.
+fn makes_truths(alloc: Global) -> Result<bool, Fail> {
+    let bits = Bitmap::from_bools(alloc, &[true, false])?;
+    begins_free(alloc);
+    let made = BooleanArray::try_new(bits, None);
+    ends_answered(alloc);
+    let truths = made?;
+    if truths.len() != 2 {
+        drop(truths);
         return Ok(false);
     }
     begins_free(alloc);
-    let first = (truths.get(0), truths.get(1));
-    let second = (numbers.get(0), numbers.get(1));
+    let rows = (truths.get(0), truths.get(1));
     ends_answered(alloc);
-    Ok(nulls.len() == 2 && first == (Some(true), Some(false)) && second == (Some(7), None))
+    drop(truths);
+    Ok(rows == (Some(true), Some(false)))
+}
+
+/// The same of numbers.
+fn makes_numbers(alloc: Global) -> Result<bool, Fail> {
+    let values = buffer(alloc, &[7i64, 8])?;
+    let valid = validity(alloc, &[true, false])?;
+    begins_free(alloc);
+    let made = PrimitiveArray::try_new(values, valid);
+    ends_answered(alloc);
+    let numbers = made?;
+    if numbers.len() != 2 {
+        drop(numbers);
+        return Ok(false);
+    }
+    begins_free(alloc);
+    let rows = (numbers.get(0), numbers.get(1));
+    ends_answered(alloc);
+    drop(numbers);
+    Ok(rows == (Some(7), None))
 }
 
 /// Whether a column of bytes is made, and its row read.
@@ -55,12 +82,15 @@ fn makes_bytes(alloc: Global) -> Result<bool, Fail> {
     ends_answered(alloc);
     let bytes = bytes?;
     if bytes.len() != 1 {
+        drop(bytes);
         return Ok(false);
     }
     begins_free(alloc);
     let row = bytes.get(0);
     ends_answered(alloc);
-    Ok(row == Some(b"ab".as_slice()))
+    let is_row = row == Some(b"ab".as_slice());
+    drop(bytes);
+    Ok(is_row)
 }
 
 /// Whether a column of bytes that views name is made.
@@ -70,7 +100,10 @@ fn makes_views(alloc: Global) -> Result<bool, Fail> {
     begins_free(alloc);
     let made = BinaryViewArray::try_new(views, data, None);
     ends_answered(alloc);
-    Ok(made?.len() == 1)
+    let made = made?;
+    let is_one = made.len() == 1;
+    drop(made);
+    Ok(is_one)
 }
 
 /// The same of texts.
@@ -80,12 +113,17 @@ fn makes_texts(alloc: Global) -> Result<bool, Fail> {
     begins_free(alloc);
     let made = Utf8ViewArray::try_new(views, data, None);
     ends_answered(alloc);
-    Ok(made?.len() == 1)
+    let made = made?;
+    let is_one = made.len() == 1;
+    drop(made);
+    Ok(is_one)
 }
 
 #[test]
 fn no_memory_for_columns_of_parts(rt: HostRuntime) -> Result<(), Fail> {
-    assert!(rt; makes_flat(rt.alloc())?);
+    assert!(rt; makes_nulls(rt.alloc())?);
+    assert!(rt; makes_truths(rt.alloc())?);
+    assert!(rt; makes_numbers(rt.alloc())?);
     assert!(rt; makes_bytes(rt.alloc())?);
     assert!(rt; makes_views(rt.alloc())?);
     assert!(rt; makes_texts(rt.alloc())?);
@@ -101,6 +139,7 @@ fn tests_indices(alloc: Global, wide: &PrimitiveArray<i64>) -> Result<bool, Fail
     let slices = idx_slice_in_bounds(&[4], 5) && !idx_slice_in_bounds(&[4], 4);
     let others = indices_in_bounds_of(wide, 8) && !indices_in_bounds_of(wide, 7);
     ends_answered(alloc);
+    drop(places);
     Ok(inside && !outside && slices && others)
 }
 
@@ -117,19 +156,14 @@ fn tests_columns(alloc: Global, columns: &[ArrayRef], source: &Column) -> bool {
 #[test]
 fn no_memory_for_tests_of_indices(rt: HostRuntime) -> Result<(), Fail> {
     let wide = numbers::<i64>(rt.alloc(), "i64", NUMBERS, Form::Whole)?;
-    assert!(rt; tests_indices(rt.alloc(), &wide)?);
+    let are_tested = tests_indices(rt.alloc(), &wide);
+    drop(wide);
+    assert!(rt; are_tested?);
     Ok(())
 }
 
-/// One column of numbers.
-fn one_column(alloc: Global) -> Result<Vec<ArrayRef>, Fail> {
-    let mut columns = Vec::with_capacity(alloc, 1)?;
-    columns.push(read(alloc, "i64", NUMBERS, Form::Whole)?)?;
-    Ok(columns)
-}
-
 fn tests_columns_of(alloc: Global, source: &Column) -> Result<bool, Fail> {
-    let columns = one_column(alloc)?;
+    let columns = vec![in alloc; read(alloc, "i64", NUMBERS, Form::Whole)?]?;
     let are_tested = tests_columns(alloc, &columns, source);
     drop(columns);
     Ok(are_tested)
@@ -196,6 +230,7 @@ fn no_memory_for_a_test_of_bytes(rt: HostRuntime) -> Result<(), Fail> {
     begins_free(rt.alloc());
     let is_utf8 = bytes.is_utf8();
     ends_answered(rt.alloc());
+    drop(bytes);
     assert!(rt; is_utf8);
     Ok(())
 }

@@ -80,7 +80,13 @@ fn masks<A: Array + Drop, F: FnOnce(A, Option<Bitmap>) -> A + Drop>(
 ) -> Result<bool, Fail>
     requires { F.IsAlwaysCallable mask }
 {
-    let bits = Bitmap::from_bools(alloc, &BITS)?;
+    let bits = match Bitmap::from_bools(alloc, &BITS) {
+        Ok(bits) => bits,
+        Err(fault) => {
+            drop(column);
+            return Err(Fail::from(fault));
+        }
+    };
     begins_free(alloc);
     let masked = mask(column, Some(bits));
     ends_answered(alloc);

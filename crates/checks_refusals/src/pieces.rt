@@ -155,6 +155,8 @@ fn data_buffers_joined(rt: HostRuntime) -> Result<(), Fail> {
     let answer = push_buffers(&mut joined, &others);
     ends_by(alloc, &answer);
     assert!(rt; is_done(&answer) && are_joined(&joined, answer.is_ok()));
+    drop(joined);
+    drop(others);
     Ok(())
 }
 

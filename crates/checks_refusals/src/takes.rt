@@ -1,7 +1,7 @@
 //! The takes of columns without children, beneath the take of any column.
 
 use crate::bitmaps::are_bits;
-use crate::made::{NUMBERS, TRUTHS, is_answer, still_has};
+use crate::made::{NUMBERS, TRUTHS, is_answer, is_column, still_has};
 use checks_columns::fixtures::{buffer, column, has_bits, has_bytes, validity};
 use checks_lines::marks::{begins, ends_by};
 use checks_lines::read::Form;
@@ -30,13 +30,16 @@ fn indices(alloc: Global) -> Result<IdxArr, Fail> {
     column(alloc, &[Some(4u32), None, Some(0), Some(1)], u32::MAX)
 }
 
-fn takes_truths(alloc: Global, values: &BooleanArray, places: &IdxArr) -> Result<bool, Fail> {
-    if !indices_in_bounds(places, values.len()) {
+fn takes_truths(alloc: Global, values: &BooleanArray) -> Result<bool, Fail> {
+    let places = indices(alloc)?;
+    if !indices_in_bounds(&places, values.len()) {
+        drop(places);
         return Err(Fail::from("out of bounds"));
     }
     begins(alloc);
-    let answer = boolean::take_unchecked(alloc, values, places);
+    let answer = boolean::take_unchecked(alloc, values, &places);
     ends_by(alloc, &answer);
+    drop(places);
     let is_so = is_answer(alloc, answer, "[false,null,true,null]")?;
     Ok(is_so && still_has(alloc, values, TRUTHS)?)
 }
@@ -44,7 +47,9 @@ fn takes_truths(alloc: Global, values: &BooleanArray, places: &IdxArr) -> Result
 #[test]
 fn take_of_truth_values(rt: HostRuntime) -> Result<(), Fail> {
     let values = mask(rt.alloc(), TRUTHS, Form::Whole)?;
-    assert!(rt; takes_truths(rt.alloc(), &values, &indices(rt.alloc())?)?);
+    let are_taken = takes_truths(rt.alloc(), &values);
+    drop(values);
+    assert!(rt; are_taken?);
     Ok(())
 }
 
@@ -55,13 +60,19 @@ fn takes_numbers<T: ArrowPrimitive + Drop>(
 ) -> Result<bool, Fail> {
     let values = numbers::<T>(alloc, dtype, NUMBERS, Form::Whole)?;
     if !indices_in_bounds(places, values.len()) {
+        drop(values);
         return Err(Fail::from("out of bounds"));
     }
     begins(alloc);
     let answer = take_primitive_unchecked(alloc, &values, places);
     ends_by(alloc, &answer);
-    let is_so = is_answer(alloc, answer, "[4,null,1,null]")?;
-    Ok(is_so && still_has(alloc, &values, NUMBERS)?)
+    match is_answer(alloc, answer, "[4,null,1,null]") {
+        Ok(is_so) => Ok(is_column(alloc, values, NUMBERS)? && is_so),
+        Err(fault) => {
+            drop(values);
+            Err(fault)
+        }
+    }
 }
 
 /// Of numbers of every type.
@@ -83,7 +94,9 @@ fn takes_all_numbers(alloc: Global, places: &IdxArr) -> Result<bool, Fail> {
 #[test]
 fn take_of_numbers_of_every_type(rt: HostRuntime) -> Result<(), Fail> {
     let places = indices(rt.alloc())?;
-    assert!(rt; takes_all_numbers(rt.alloc(), &places)?);
+    let are_taken = takes_all_numbers(rt.alloc(), &places);
+    drop(places);
+    assert!(rt; are_taken?);
     Ok(())
 }
 
@@ -93,7 +106,11 @@ fn are_bytes<O: Offset + Drop>(
     rows: &[Option<&[u8]>],
 ) -> bool {
     match answer {
-        Ok(taken) => has_bytes(&taken, rows),
+        Ok(taken) => {
+            let are_so = has_bytes(&taken, rows);
+            drop(taken);
+            are_so
+        }
         Err(fault) => fault == PolarsError::OutOfMemory,
     }
 }
@@ -115,56 +132,72 @@ fn four_places<I: Index>(alloc: Global) -> Result<PrimitiveArray<I>, Fail> {
     for place in [2usize, 0, 0, 1] {
         places.push(I::from_usize(place).ok_or("no index")?)?;
     }
-    let valid = validity(alloc, &[true, false, true, true])?;
-    Ok(PrimitiveArray::try_new(Buffer::from_vec(places)?, valid)?)
+    let places = Buffer::from_vec(places)?;
+    Ok(PrimitiveArray::try_new(places, validity(alloc, &[true, false, true, true])?)?)
 }
 
-fn takes_bytes<O: Offset + Drop, I: Index + Drop>(alloc: Global) -> Result<bool, Fail> {
-    let values = three_rows::<O>(alloc)?;
+fn takes_bytes<O: Offset + Drop, I: Index + Drop>(
+    alloc: Global,
+    values: &BinaryArray<O>,
+) -> Result<bool, Fail> {
     let places = four_places::<I>(alloc)?;
     if !indices_in_bounds_of(&places, values.len()) {
+        drop(places);
         return Err(Fail::from("out of bounds"));
     }
     begins(alloc);
-    let answer = binary::take_unchecked(alloc, &values, &places);
+    let answer = binary::take_unchecked(alloc, values, &places);
     ends_by(alloc, &answer);
+    drop(places);
     let are_taken = are_bytes(answer, &[Some(&[1]), None, Some(&[2, 2]), None]);
-    Ok(are_taken && has_bytes(&values, &[Some(&[2, 2]), None, Some(&[1])]))
+    Ok(are_taken && has_bytes(values, &[Some(&[2, 2]), None, Some(&[1])]))
 }
 
 /// By indices of every type.
-fn takes_bytes_by_all<O: Offset + Drop>(alloc: Global) -> Result<bool, Fail> {
+fn takes_bytes_by_all<O: Offset + Drop>(
+    alloc: Global,
+    values: &BinaryArray<O>,
+) -> Result<bool, Fail> {
     Ok(
-        takes_bytes::<O, i8>(alloc)?
-            && takes_bytes::<O, i16>(alloc)?
-            && takes_bytes::<O, i32>(alloc)?
-            && takes_bytes::<O, i64>(alloc)?
-            && takes_bytes::<O, u8>(alloc)?
-            && takes_bytes::<O, u16>(alloc)?
-            && takes_bytes::<O, u32>(alloc)?
-            && takes_bytes::<O, u64>(alloc)?,
+        takes_bytes::<O, i8>(alloc, values)?
+            && takes_bytes::<O, i16>(alloc, values)?
+            && takes_bytes::<O, i32>(alloc, values)?
+            && takes_bytes::<O, i64>(alloc, values)?
+            && takes_bytes::<O, u8>(alloc, values)?
+            && takes_bytes::<O, u16>(alloc, values)?
+            && takes_bytes::<O, u32>(alloc, values)?
+            && takes_bytes::<O, u64>(alloc, values)?,
     )
 }
 
 #[test]
 fn take_of_bytes_by_indices_of_every_type(rt: HostRuntime) -> Result<(), Fail> {
-    assert!(rt; takes_bytes_by_all::<i32>(rt.alloc())?);
-    assert!(rt; takes_bytes_by_all::<i64>(rt.alloc())?);
+    let values = three_rows::<i32>(rt.alloc())?;
+    let are_taken = takes_bytes_by_all(rt.alloc(), &values);
+    drop(values);
+    assert!(rt; are_taken?);
+    let values = three_rows::<i64>(rt.alloc())?;
+    let are_taken = takes_bytes_by_all(rt.alloc(), &values);
+    drop(values);
+    assert!(rt; are_taken?);
     Ok(())
 }
 
 const BITS: [bool; 5] = [true, true, false, true, false];
 
-fn takes_bits(alloc: Global, values: &Bitmap, places: &IdxArr) -> Result<bool, Fail> {
-    if !indices_in_bounds(places, values.len()) || !idx_slice_in_bounds(&[4, 0, 1], values.len()) {
+fn takes_bits(alloc: Global, values: &Bitmap) -> Result<bool, Fail> {
+    let places = indices(alloc)?;
+    if !indices_in_bounds(&places, values.len()) || !idx_slice_in_bounds(&[4, 0, 1], values.len()) {
+        drop(places);
         return Err(Fail::from("out of bounds"));
     }
     begins(alloc);
     let answer = take_bitmap_unchecked(alloc, values, &[4, 0, 1]);
     ends_by(alloc, &answer);
     begins(alloc);
-    let others = take_bitmap_nulls_unchecked(alloc, values, places);
+    let others = take_bitmap_nulls_unchecked(alloc, values, &places);
     ends_by(alloc, &others);
+    drop(places);
     let are_taken = are_bits(answer, &[false, true, true]);
     Ok(are_taken && are_bits(others, &[false, true, true, true]) && has_bits(values, &BITS))
 }
@@ -172,7 +205,7 @@ fn takes_bits(alloc: Global, values: &Bitmap, places: &IdxArr) -> Result<bool, F
 #[test]
 fn take_of_bits(rt: HostRuntime) -> Result<(), Fail> {
     let values = Bitmap::from_bools(rt.alloc(), &BITS)?;
-    assert!(rt; takes_bits(rt.alloc(), &values, &indices(rt.alloc())?)?);
+    assert!(rt; takes_bits(rt.alloc(), &values)?);
     Ok(())
 }
 
@@ -184,12 +217,14 @@ fn takes_blocks(alloc: Global) -> Result<bool, Fail> {
     let source = [1i64, 2, 3, 4, 5, 6];
     let places = column(alloc, &[Some(1u32), None], 9)?;
     if !blocks_in_bounds(&places, 3, source.len()) {
+        drop(places);
         return Err(Fail::from("out of bounds"));
     }
     let mut out = BlockCopy::new(alloc, source.as_slice());
     begins(alloc);
     let answer = take_blocks(&mut out, 3, &places, 0);
     ends_by(alloc, &answer);
+    drop(places);
     let items = out.into_vec();
     Ok(match answer {
         Ok(()) => items.as_slice() == ITEMS.as_slice(),

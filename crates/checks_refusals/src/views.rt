@@ -39,34 +39,36 @@ fn collects(alloc: Global, first: &Column, second: &Column) -> Result<bool, Fail
     is_answer(alloc, answer, rows)
 }
 
+/// The same of two columns that are needed no more, where the second could be made.
 fn collects_of(
     alloc: Global,
     first: BinaryViewArray,
-    second: BinaryViewArray,
+    second: Result<BinaryViewArray, Fail>,
 ) -> Result<bool, Fail> {
     let first = Column::BinaryView(first);
-    let second = Column::BinaryView(second);
-    let is_so = collects(alloc, &first, &second);
+    let is_so = match second {
+        Ok(second) => {
+            let second = Column::BinaryView(second);
+            let is_so = collects(alloc, &first, &second);
+            drop(second);
+            is_so
+        }
+        Err(fault) => Err(fault),
+    };
     drop(first);
-    drop(second);
     is_so
 }
 
 #[test]
 fn runs_of_views(rt: HostRuntime) -> Result<(), Fail> {
     let first = views(rt.alloc(), "[null]", Form::Whole)?;
-    let second = views(rt.alloc(), VIEWS, Form::Whole)?;
+    let second = views(rt.alloc(), VIEWS, Form::Whole);
     assert!(rt; collects_of(rt.alloc(), first, second)?);
     Ok(())
 }
 
-/// Whether texts are taken for bytes, and these for texts.
-fn there_and_back(alloc: Global) -> Result<bool, Fail> {
-    let found = texts(alloc, TEXTS, Form::Whole)?;
-    begins_free(alloc);
-    let bytes = found.to_binview(alloc);
-    ends_answered(alloc);
-    let bytes = bytes?;
+/// Whether bytes are taken for texts.
+fn goes_back(alloc: Global, bytes: &BinaryViewArray) -> Result<bool, Fail> {
     begins_free(alloc);
     let counts = (bytes.views().len(), bytes.data_buffers().len());
     ends_answered(alloc);
@@ -76,8 +78,24 @@ fn there_and_back(alloc: Global) -> Result<bool, Fail> {
     begins_free(alloc);
     let back = bytes.to_utf8view_unchecked(alloc);
     ends_answered(alloc);
-    let is_back = is_column(alloc, back?, TEXTS)?;
-    Ok(is_back && is_column(alloc, bytes, VIEWS)?)
+    is_column(alloc, back?, TEXTS)
+}
+
+/// Whether texts are taken for bytes, and these for texts.
+fn there_and_back(alloc: Global) -> Result<bool, Fail> {
+    let found = texts(alloc, TEXTS, Form::Whole)?;
+    begins_free(alloc);
+    let bytes = found.to_binview(alloc);
+    ends_answered(alloc);
+    drop(found);
+    let bytes = bytes?;
+    match goes_back(alloc, &bytes) {
+        Ok(is_back) => Ok(is_column(alloc, bytes, VIEWS)? && is_back),
+        Err(fault) => {
+            drop(bytes);
+            Err(fault)
+        }
+    }
 }
 
 #[test]
