@@ -1,12 +1,12 @@
 -- Blocks at indices.
-use Rattle.std.proofs.Common.{◌≡◌, ℕ, zero, suc, ◌+◌, ◌-◌, ◌*◌, ◌≤◌, ◌<◌, pos, negsuc, Bool, true, false, List, [], ◌∷◌, ◌++◌, length, take, drop, map, replicate, refl, ap, sym, subst, ◌∙◌, arith, get_or, append-nil, append_assoc, length-append, ℤ, Option, Some, None, true≢false, ◌&&◌, is_none, Box, Global}
+use Rattle.std.proofs.Common.{◌≡◌, ℕ, zero, suc, ◌+◌, ◌-◌, ◌*◌, ◌≤◌, ◌<◌, pos, negsuc, true, List, [], ◌∷◌, ◌++◌, length, take, drop, map, refl, ap, sym, subst, ◌∙◌, arith, get_or, append_assoc, length-append, ℤ, Option, Some, None, true≢false, ◌&&◌, is_none, Box, Global}
 use Rattle.std.specs.Prelude.{if◌then◌else◌}
-use Rattle.std.specs.List.{flat_map, list_all, slice_range}
+use Rattle.std.specs.List.{flat_map, slice_range}
 use Rattle.std.specs.Option.{ForSome}
 use Rattle.std.proofs.Math.Nat.{suc-mul, mul_assoc}
 use Rattle.std.proofs.Math.Seq.{take-append_seam, drop-append-add}
 use Rattle.std.proofs.lemmas.Bool.{leb-true, le-leb, ltb-true}
-use Rattle.std.proofs.lemmas.List.{length-replicate, take_more, take-append-drop}
+use Rattle.std.proofs.lemmas.List.{length-replicate, take-append-drop}
 use Rattle.std.proofs.lemmas.List.Concat.{flat_map-append}
 use Rattle.std.proofs.lemmas.List.FromFn.{get_or-map-range_with_len}
 use Rattle.std.proofs.lemmas.Nat.{mul-le}
@@ -31,14 +31,6 @@ use Rattle.polars_compute.proofs.Takes.{row_taken, validity_within}
 
 pub within_block : (size n : ℕ) (indices : List Value) (k : ℕ) (v : Value) → blocks_within size n indices ≡ true → k < length indices → v ≡ get_or indices k Null → is_block_within size n v ≡ true
 within_block size n indices k v within h is = ap (is_block_within size n) is ∙ all_at (is_block_within size n) indices k Null within h
-
-pub more_blocks : {A : Type 0} (size : ℕ) (filler : A) (xs : List A) (indices : List Value) (k : ℕ) (v : Value) → k < length indices → v ≡ get_or indices k Null →
-    block_items size filler xs (take (k + 1) indices) ≡ block_items size filler xs (take k indices) ++ block_at size filler xs v
-more_blocks size filler xs indices k v h is =
-    let f = block_at size filler xs in
-    ap (flat_map f) (take_more indices k Null h)
-    ∙ flat_map-append f (take k indices) (get_or indices k Null ∷ [])
-    ∙ ap (λ l. flat_map f (take k indices) ++ l) (append-nil (f (get_or indices k Null)) ∙ ap f (sym is))
 
 -- the blocks of the first indices are a beginning
 pub begun : {A : Type 0} (size : ℕ) (filler : A) (xs before ys : List A) (indices : List Value) (k : ℕ) → ys ≡ before ++ block_items size filler xs (take k indices) → IsBeginning ys (before ++ block_items size filler xs indices)

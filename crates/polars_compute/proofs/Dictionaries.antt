@@ -101,20 +101,6 @@ one_more (b ∷ bs) (suc i) inside =
 pub count_step : (bs : List Bool) (i : ℕ) → i < length bs → count_true (take (i + 1) bs) ≡ count_true (take i bs) + (if get_or bs i false then 1 else 0)
 count_step bs i inside = rw add-one (one_more bs i inside)
 
-one_count : (b : Bool) (v : Value) (vs : List Value) → is_valid v ≡ b → count_by is_valid vs + count_by is_null vs ≡ length vs → count_by is_valid (v ∷ vs) + count_by is_null (v ∷ vs) ≡ suc (length vs)
-one_count true v vs e h =
-    let yes : tally (is_valid v) ≡ 1 = ap (λ b. tally b) e in
-    let no : tally (is_null v) ≡ 0 = ap (λ b. tally (not b)) e in
-    omega (arith, yes, no, h, valid_more v vs, null_more v vs)
-one_count false v vs e h =
-    let no : tally (is_valid v) ≡ 0 = ap (λ b. tally b) e in
-    let yes : tally (is_null v) ≡ 1 = ap (λ b. tally (not b)) e in
-    omega (arith, yes, no, h, valid_more v vs, null_more v vs)
-
-both_counts : (vs : List Value) → count_by is_valid vs + count_by is_null vs ≡ length vs
-both_counts [] = refl
-both_counts (v ∷ vs) = one_count (is_valid v) v vs refl (both_counts vs)
-
 pub counts_long : (ranks : List ℕ) (bits : List Bool) → ranks ≡ map (λ i. count_true (take i bits)) (range_with_len 0 (length bits)) → length ranks ≡ length bits
 counts_long ranks bits counts = ap length counts ∙ length-map-range_with_len (λ i. count_true (take i bits)) 0 (length bits)
 

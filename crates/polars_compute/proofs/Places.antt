@@ -1,5 +1,5 @@
 -- The places that a mask keeps.
-use Rattle.std.proofs.Common.{◌≡◌, ℕ, zero, suc, ◌+◌, ◌≤◌, ◌<◌, Bool, true, false, List, [], ◌∷◌, ◌++◌, length, map, drop, get_or, Option, refl, ap, sym, ◌∙◌, arith, add-one, append_assoc}
+use Rattle.std.proofs.Common.{◌≡◌, ℕ, zero, suc, ◌+◌, ◌<◌, Bool, true, false, List, [], ◌∷◌, ◌++◌, length, map, drop, get_or, Option, refl, ap, sym, ◌∙◌, arith, add-one, append_assoc}
 use Rattle.std.specs.List.{range_with_len}
 use Rattle.std.proofs.lemmas.List.{map-append}
 use Rattle.sel_bits.specs.Bits.{leading_ones, leading_zeros}
@@ -49,11 +49,6 @@ kept_from_below n (false ∷ ms) k h = omega (arith, kept_from_below (n + 1) ms 
 
 pub kept_below : (ms : List Bool) (k : ℕ) → k < length (kept ms) → get_or (kept ms) k 0 < length ms
 kept_below ms k h = omega (arith, kept_from_below 0 ms k h)
-
-pub length-kept_from : (n : ℕ) (ms : List Bool) → length (kept_from n ms) ≤ length ms
-length-kept_from n [] = omega arith
-length-kept_from n (true ∷ ms) = omega (arith, length-kept_from (n + 1) ms)
-length-kept_from n (false ∷ ms) = omega (arith, length-kept_from (n + 1) ms)
 
 -- ---- what is kept stands at the places
 

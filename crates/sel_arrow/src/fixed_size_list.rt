@@ -51,10 +51,11 @@ impl FixedSizeListArray {
         ensures refused { IfErr result (IsFaultOrMemory
             (block_fault size len (row_count values.column) validity)) }
     {
-        let ArrayRef { column } = values;
-        if let Some(fault) = fault_of_blocks(size, len, column.len(), &validity) {
+        if let Some(fault) = fault_of_blocks(size, len, values.column.len(), &validity) {
+            drop(values);
             return Err(MakeError::Malformed(fault));
         }
+        let ArrayRef { column } = values;
         match Box::new(alloc, column) {
             Ok(values) => Ok(FixedSizeListArray {
                 size,
@@ -62,7 +63,10 @@ impl FixedSizeListArray {
                 values,
                 validity,
             }),
-            Err(_) => Err(MakeError::OutOfMemory),
+            Err(refused) => {
+                drop(refused.value);
+                Err(MakeError::OutOfMemory)
+            }
         }
     }
 
@@ -156,9 +160,9 @@ impl FixedSizeListArray {
             take (len * size) (drop (off * size) (rows values.now.value))) }
         ensures refusal { IfErr result (λ fault. fault ≡ PolarsError.OutOfMemory) }
     {
+        let validity = sliced_validity(validity, off, len)?;
         let values = values.sliced(alloc, off * size, len * size)?;
         let values = Box::new(alloc, values)?;
-        let validity = sliced_validity(validity, off, len)?;
         Ok(FixedSizeListArray {
             size,
             len,
@@ -185,8 +189,8 @@ impl FixedSizeListArray {
             buffers_held (FixedSizeList size len values.now validity.now)) }
         ensures refusal { IfErr result (λ fault. fault ≡ PolarsError.OutOfMemory) }
     {
-        let values = Box::new(alloc, values.try_clone(alloc)?)?;
         let validity = clone_validity(validity)?;
+        let values = Box::new(alloc, values.try_clone(alloc)?)?;
         Ok(FixedSizeListArray {
             size,
             len,

@@ -54,17 +54,21 @@ impl ListArray<i64> {
         ensures refused { IfErr result (IsFaultOrMemory
             (list_fault offsets (row_count values.column) validity)) }
     {
-        let ArrayRef { column } = values;
-        if let Some(fault) = fault_of_lists(&offsets, column.len(), &validity) {
+        if let Some(fault) = fault_of_lists(&offsets, values.column.len(), &validity) {
+            drop(values);
             return Err(MakeError::Malformed(fault));
         }
+        let ArrayRef { column } = values;
         match Box::new(alloc, column) {
             Ok(values) => Ok(ListArray {
                 offsets,
                 values,
                 validity,
             }),
-            Err(_) => Err(MakeError::OutOfMemory),
+            Err(refused) => {
+                drop(refused.value);
+                Err(MakeError::OutOfMemory)
+            }
         }
     }
 
@@ -149,8 +153,8 @@ impl ListArray<i64> {
         ensures refusal { IfErr result (λ fault. fault ≡ PolarsError.OutOfMemory) }
     {
         let offsets = offsets.try_clone()?.sliced(off, len);
-        let values = Box::new(alloc, values.try_clone(alloc)?)?;
         let validity = sliced_validity(validity, off, len)?;
+        let values = Box::new(alloc, values.try_clone(alloc)?)?;
         Ok(ListArray {
             offsets,
             values,
@@ -176,8 +180,8 @@ impl ListArray<i64> {
         ensures refusal { IfErr result (λ fault. fault ≡ PolarsError.OutOfMemory) }
     {
         let offsets = offsets.try_clone()?;
-        let values = Box::new(alloc, values.try_clone(alloc)?)?;
         let validity = clone_validity(validity)?;
+        let values = Box::new(alloc, values.try_clone(alloc)?)?;
         Ok(ListArray {
             offsets,
             values,

@@ -129,8 +129,8 @@ impl StructArray {
             buffers_held (Struct _count fields.now validity.now)) }
         ensures refusal { IfErr result (λ fault. fault ≡ PolarsError.OutOfMemory) }
     {
-        let fields = parts_of(fields, alloc, off, len)?;
         let validity = sliced_validity(validity, off, len)?;
+        let fields = parts_of(fields, alloc, off, len)?;
         Ok(StructArray {
             len,
             fields,
@@ -155,8 +155,8 @@ impl StructArray {
             buffers_held (Struct len fields.now validity.now)) }
         ensures refusal { IfErr result (λ fault. fault ≡ PolarsError.OutOfMemory) }
     {
-        let fields = copies_of(fields, alloc)?;
         let validity = clone_validity(validity)?;
+        let fields = copies_of(fields, alloc)?;
         Ok(StructArray {
             len,
             fields,

@@ -1,14 +1,14 @@
 //! Bitmaps that are made of others, position by position.
 #![tactic(auto, using(crate::proofs::Combining::combining))]
 
-ghost use Rattle.std.specs.Prelude.{◌≡◌, ℕ, ◌+◌, ◌<◌, ◌≤◌, ◌&&◌, ◌||◌, Bool, not, map, length, take, drop, IfOk, IfErr, if◌then◌else◌};
+ghost use Rattle.std.specs.Prelude.{◌≡◌, ℕ, ◌+◌, ◌*◌, ◌/◌, ◌<◌, ◌≤◌, ◌&&◌, ◌||◌, Bool, not, map, length, take, drop, IfOk, IfErr, if◌then◌else◌};
 ghost use Rattle.sel_bits.specs.Bits.{unsliced, zip_with, zip_three};
 ghost use Rattle.sel_bits.specs.Choose.{choose};
 ghost use Rattle.sel_bits.specs.Words.{is_set, word_of};
 
 use crate::bitmap::Bitmap;
 use crate::faults::{PolarsError, PolarsResult};
-use crate::packer::{BitPacker, MOST_BITS};
+use crate::packer::BitPacker;
 use crate::words::low_bits;
 use std::alloc::Global;
 
@@ -167,15 +167,32 @@ fn combine<R: BitRule>(alloc: Global, x: &Bitmap, y: &Bitmap, z: &Bitmap) -> Pol
         unsliced (zip_three R.on_bits x.now.bits y.now.bits z.now.bits)) }
     ensures refusal { IfErr result (λ fault. fault ≡ PolarsError.OutOfMemory) }
 {
+    let mut packer = whole_words_by::<R>(alloc, x, y, z)?;
+    let count = x.len();
+    let at = 64 * (count / 64);
+    packer.append(word_by::<R>(x, y, z, at, count - at), (count - at) as u32)?;
+    packer.into_bitmap(count)
+}
+
+/// What the rule makes of the bits in whole words of 64, with room for the rest. Refuses only for want of memory.
+fn whole_words_by<R: BitRule>(
+    alloc: Global,
+    x: &Bitmap,
+    y: &Bitmap,
+    z: &Bitmap,
+) -> PolarsResult<BitPacker>
+    requires second { length x.now.bits ≡ length y.now.bits }
+    requires third { length x.now.bits ≡ length z.now.bits }
+    ensures packed { IfOk result (λ packer. packer ≡ take (64 * (length x.now.bits / 64))
+        (zip_three R.on_bits x.now.bits y.now.bits z.now.bits)) }
+    ensures refusal { IfErr result (λ fault. fault ≡ PolarsError.OutOfMemory) }
+{
     let count = x.len();
     let mut packer = BitPacker::with_capacity(alloc, count)?;
-    let mut at = 0;
-    while at < count {
-        let len = (count - at).min(MOST_BITS);
-        packer.append(word_by::<R>(x, y, z, at, len), len as u32)?;
-        at += len;
+    for block in 0..count / 64 {
+        packer.append(word_by::<R>(x, y, z, 64 * block, 64), 64)?;
     }
-    packer.into_bitmap(count)
+    Ok(packer)
 }
 
 /// The word of what the rule makes of the `len` bits from bit `at` on.

@@ -289,8 +289,12 @@ fn bits_of_mask(alloc: Global, mask: &ArrayRef) -> Result<Bitmap, u32>
     let Ok(copy) = mask.try_clone(alloc) else {
         return Err(NO_MEMORY);
     };
-    let Ok(truths) = copy.into_boolean() else {
-        return Err(OTHER_KIND);
+    let truths = match copy.into_boolean() {
+        Ok(truths) => truths,
+        Err(back) => {
+            drop(back);
+            return Err(OTHER_KIND);
+        }
     };
     match bits_in_force(alloc, &truths) {
         Ok(bits) => Ok(bits),

@@ -86,8 +86,12 @@ fn propagate_columns_into(
     let Ok(copy) = keys.try_clone(alloc) else {
         return NO_MEMORY;
     };
-    let Ok(at) = copy.into_primitive::<u32>() else {
-        return OTHER_KIND;
+    let at = match copy.into_primitive::<u32>() {
+        Ok(at) => at,
+        Err(back) => {
+            drop(back);
+            return OTHER_KIND;
+        }
     };
     propagate_keys_into(alloc, &at, values, out_keys, out_values)
 }
@@ -116,8 +120,12 @@ fn propagate_keys_into(
     let Ok(copy) = values.try_clone(alloc) else {
         return NO_MEMORY;
     };
-    let Ok(texts) = copy.into_utf8view() else {
-        return OTHER_KIND;
+    let texts = match copy.into_utf8view() {
+        Ok(texts) => texts,
+        Err(back) => {
+            drop(back);
+            return OTHER_KIND;
+        }
     };
     propagate_texts_into(alloc, keys, &texts, out_keys, out_values)
 }
@@ -188,6 +196,9 @@ fn boxed(alloc: Global, column: ArrayRef) -> Option<Box<ArrayRef>>
 {
     match Box::new(alloc, column) {
         Ok(boxed) => Some(boxed),
-        Err(_) => None,
+        Err(refused) => {
+            drop(refused.value);
+            None
+        }
     }
 }

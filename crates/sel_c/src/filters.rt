@@ -66,8 +66,12 @@ fn filter_into(alloc: Global, column: &ArrayRef, mask: &ArrayRef, out: &mut Hand
     let Ok(copy) = mask.try_clone(alloc) else {
         return NO_MEMORY;
     };
-    let Ok(truths) = copy.into_boolean() else {
-        return OTHER_KIND;
+    let truths = match copy.into_boolean() {
+        Ok(truths) => truths,
+        Err(back) => {
+            drop(back);
+            return OTHER_KIND;
+        }
     };
     if column.len() != truths.len() {
         return OTHER_LENGTH;

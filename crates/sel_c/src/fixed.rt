@@ -70,10 +70,16 @@ fn fixed_get_into(
     let Ok(copy) = column.try_clone(alloc) else {
         return NO_MEMORY;
     };
-    let Ok(lists) = copy.into_fixed_size_list() else {
-        return OTHER_KIND;
+    let lists = match copy.into_fixed_size_list() {
+        Ok(lists) => lists,
+        Err(back) => {
+            drop(back);
+            return OTHER_KIND;
+        }
     };
-    entry_into(alloc, &lists, index, null_on_oob, out)
+    let status = entry_into(alloc, &lists, index, null_on_oob, out);
+    drop(lists);
+    status
 }
 
 fn entry_into(

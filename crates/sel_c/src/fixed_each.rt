@@ -92,8 +92,12 @@ fn fixed_get_each_into(
     let Ok(copy) = indices.try_clone(alloc) else {
         return NO_MEMORY;
     };
-    let Ok(at) = copy.into_primitive::<i64>() else {
-        return OTHER_KIND;
+    let at = match copy.into_primitive::<i64>() {
+        Ok(at) => at,
+        Err(back) => {
+            drop(back);
+            return OTHER_KIND;
+        }
     };
     entries_of_column_into(alloc, column, &at, null_on_oob, out)
 }
@@ -124,10 +128,16 @@ fn entries_of_column_into(
     let Ok(copy) = column.try_clone(alloc) else {
         return NO_MEMORY;
     };
-    let Ok(lists) = copy.into_fixed_size_list() else {
-        return OTHER_KIND;
+    let lists = match copy.into_fixed_size_list() {
+        Ok(lists) => lists,
+        Err(back) => {
+            drop(back);
+            return OTHER_KIND;
+        }
     };
-    entries_into(alloc, &lists, indices, null_on_oob, out)
+    let status = entries_into(alloc, &lists, indices, null_on_oob, out);
+    drop(lists);
+    status
 }
 
 fn entries_into(

@@ -58,10 +58,16 @@ fn sublist_get_into(alloc: Global, column: &ArrayRef, index: i64, out: &mut Hand
     let Ok(copy) = column.try_clone(alloc) else {
         return NO_MEMORY;
     };
-    let Ok(lists) = copy.into_list() else {
-        return OTHER_KIND;
+    let lists = match copy.into_list() {
+        Ok(lists) => lists,
+        Err(back) => {
+            drop(back);
+            return OTHER_KIND;
+        }
     };
-    element_into(alloc, &lists, index, out)
+    let status = element_into(alloc, &lists, index, out);
+    drop(lists);
+    status
 }
 
 fn element_into(alloc: Global, lists: &ListArray<i64>, index: i64, out: &mut Handle) -> u32
@@ -109,10 +115,15 @@ fn index_is_oob_into(alloc: Global, column: &ArrayRef, index: i64, out: &mut boo
     let Ok(copy) = column.try_clone(alloc) else {
         return NO_MEMORY;
     };
-    let Ok(lists) = copy.into_list() else {
-        return OTHER_KIND;
+    let lists = match copy.into_list() {
+        Ok(lists) => lists,
+        Err(back) => {
+            drop(back);
+            return OTHER_KIND;
+        }
     };
     *out = index_is_oob(&lists, index);
+    drop(lists);
     DONE
 }
 
@@ -136,6 +147,9 @@ pub extern "C" fn sel_unit_list(alloc: Global, of: &mut Handle, out: &mut Handle
     };
     match array_to_unit_list(alloc, copy) {
         Ok(lists) => put(alloc, lists.into_ref(), out),
-        Err(_) => NO_MEMORY,
+        Err((back, _)) => {
+            drop(back);
+            NO_MEMORY
+        }
     }
 }

@@ -72,7 +72,11 @@ pub extern "C" fn sel_flatten(
         map (λ column. column.tree) columns.old }
 {
     match share_all(alloc, columns) {
-        Ok(arrays) => flatten_into(alloc, &arrays, widths, height, out),
+        Ok(arrays) => {
+            let status = flatten_into(alloc, &arrays, widths, height, out);
+            drop(arrays);
+            status
+        }
         Err(status) => status,
     }
 }
@@ -165,7 +169,11 @@ pub extern "C" fn sel_collect_rows(
         map (λ source. source.tree) sources.old }
 {
     match share_all(alloc, sources) {
-        Ok(arrays) => collect_into(alloc, &arrays, picks, bits, has_bits, out),
+        Ok(arrays) => {
+            let status = collect_into(alloc, &arrays, picks, bits, has_bits, out);
+            drop(arrays);
+            status
+        }
         Err(status) => status,
     }
 }

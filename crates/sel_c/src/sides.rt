@@ -227,7 +227,10 @@ fn numbers_in<T: ArrowPrimitive>(
     };
     match copy.into_primitive::<T>() {
         Ok(numbers) => Ok(Some(numbers)),
-        Err(_) => Ok(None),
+        Err(back) => {
+            drop(back);
+            Ok(None)
+        }
     }
 }
 

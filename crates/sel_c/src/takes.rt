@@ -72,8 +72,12 @@ fn take_into(alloc: Global, column: &ArrayRef, indices: &ArrayRef, out: &mut Han
     let Ok(copy) = indices.try_clone(alloc) else {
         return NO_MEMORY;
     };
-    let Ok(at) = copy.into_primitive::<u32>() else {
-        return OTHER_KIND;
+    let at = match copy.into_primitive::<u32>() {
+        Ok(at) => at,
+        Err(back) => {
+            drop(back);
+            return OTHER_KIND;
+        }
     };
     take_at_into(alloc, column, &at, out)
 }

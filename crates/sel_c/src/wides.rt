@@ -143,8 +143,12 @@ fn wides_into<T: InWords>(alloc: Global, column: &ArrayRef, out: &mut [Wide]) ->
     let Ok(copy) = column.try_clone(alloc) else {
         return NO_MEMORY;
     };
-    let Ok(array) = copy.into_primitive::<T>() else {
-        return OTHER_KIND;
+    let array = match copy.into_primitive::<T>() {
+        Ok(array) => array,
+        Err(back) => {
+            drop(back);
+            return OTHER_KIND;
+        }
     };
     let values = array.values().as_slice();
     if out.len() != values.len() {

@@ -1,9 +1,6 @@
 -- How many bits are clear below a place.
 use Rattle.std.proofs.Common.{◌≡◌, ℕ, zero, suc, ◌+◌, ◌-◌, ◌<◌, ◌≤◌, refl, ap, arith}
 use Rattle.std.specs.Int.{bit_at}
-use Rattle.std.proofs.lemmas.Nat.Bits.{bit_at-lt}
-use Rattle.sel_bits.specs.Words.{ones_below}
-use Rattle.sel_bits.proofs.Counts.{ones_zero, ones_suc}
 
 -- how many bits of m are clear below place q
 unfoldable pub clears : ℕ → ℕ → ℕ
@@ -21,11 +18,6 @@ clears_zero m = refl
 pub clears_le : (m q : ℕ) → clears m q ≤ q
 clears_le m zero = omega (arith, clears_zero m)
 clears_le m (suc q) = omega (arith, clears_le m q, clears_suc m q)
-
--- each bit below a place is set or clear
-pub clears_ones : (m q : ℕ) → clears m q + ones_below m q ≡ q
-clears_ones m zero = omega (arith, clears_zero m, ones_zero m)
-clears_ones m (suc q) = omega (arith, clears_ones m q, clears_suc m q, ones_suc m q, bit_at-lt m q)
 
 -- d places up there are no fewer clear bits, and at most d more
 clears_up : (m q d : ℕ) → (clears m q ≤ clears m (q + d)) × (clears m (q + d) ≤ clears m q + d)

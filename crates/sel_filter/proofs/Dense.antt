@@ -175,9 +175,6 @@ module _ {A : Type 0} (xs : List A) (ms : List Bool) (at count word : ℕ) (same
 pub read_word : (mask : Bits) (r : WordReading) (at count word : ℕ) → r.source ≡ mask → at ≡ reached r → word ≡ word_of (next_bits r) → count ≡ next_count r → word ≡ word_of (take count (drop at mask.bits))
 read_word mask r at count word source place is_word is_count = is_word ∙ (λ i. word_of (take (sym is_count i) (drop (sym place i) (source i).bits)))
 
-pub read_within : (mask : Bits) (r : WordReading) (at count n : ℕ) → r.source ≡ mask → at ≡ reached r → reached r < length r.source.bits → count ≡ next_count r → n ≡ length mask.bits → at + count ≤ n
-read_within mask r at count n source place more is_count same = omega (arith, ap (λ (b : Bits). length b.bits) source, place, more, is_count, same)
-
 pub ruleset kept_steps = (few_within, none_more, all_set)
 
 -- ---- values that are put into the end of a list

@@ -1,5 +1,5 @@
 -- What the filter by runs keeps from word to word of its mask.
-use Rattle.std.proofs.Common.{◌≡◌, ℕ, ◌+◌, ◌-◌, ◌/◌, ◌^◌, ◌<◌, ◌≤◌, ◌∙◌, sym, refl, ap, arith, List, ◌++◌, length, take, drop, Bool, false, append_assoc, append-nil, length-append, subst}
+use Rattle.std.proofs.Common.{◌≡◌, ℕ, ◌+◌, ◌-◌, ◌/◌, ◌^◌, ◌<◌, ◌≤◌, ◌∙◌, sym, ap, arith, List, ◌++◌, length, take, drop, Bool, false, append_assoc, length-append, subst}
 use Rattle.std.proofs.lemmas.List.{length-take, take-append-drop, take-append-le, take-take, take_all}
 use Rattle.std.proofs.Math.Seq.{take-add, take-append_seam}
 use Rattle.sel_bits.specs.Words.{bits, word_of}
@@ -29,10 +29,6 @@ pub begins_through : {A : Type 0} (xs more ys zs : List A) → ys ≡ xs ++ more
 begins_through xs more ys zs is begun =
     let le : length xs ≤ length ys = omega (arith, ap length is, length-append xs more) in
     sym (ap (take (length xs)) is ∙ take-append_seam xs more) ∙ ap (take (length xs)) begun ∙ take-take (length xs) (length ys) zs le
-
--- all of it, so far
-pub begins_itself : {A : Type 0} (xs rest ys : List A) → xs ++ rest ≡ ys → IsBeginning xs ys
-begins_itself xs rest ys is = sym (ap (take (length xs)) (sym is) ∙ take-append_seam xs rest)
 
 pub record IsRunFiltered {A : Type 0} (source before : List A) (ms : Bits) (start : ℕ) (values : Copying A) (mask : WordReading) : Type 0 where
   pub values_source : values.source ≡ source
@@ -114,17 +110,6 @@ module _ {A : Type 0} (source before : List A) (ms : Bits) (start : ℕ) (values
     gives = gave ∙ (λ i. was.gives i ++ run_selects i) ∙ append_assoc before (select (take start source) (take start ms.bits)) (select (take count (drop start source)) (take count (drop start ms.bits))) ∙ ap (λ l. before ++ l) (sym (select_more source ms.bits start count was.lengths within));
     counts = omega (arith, counted, run_copies);
   }
-
--- before the first word nothing is put behind the others
-pub run_first : {A : Type 0} (values : Copying A) (mask : WordReading) → values.copies ≡ 0 → mask.words_read ≡ 0 → length values.source ≡ length mask.source.bits → IsRunFiltered values.source values.items mask.source 0 values mask
-run_first values mask fresh unread long = record {
-  values_source = refl;
-  mask_source = refl;
-  lengths = long;
-  here = omega (arith, unread);
-  gives = sym (append-nil values.items);
-  counts = omega (arith, fresh);
-}
 
 -- behind the last one all is
 module _ {A : Type 0} (source before : List A) (ms : Bits) (start : ℕ) (values : Copying A) (mask : WordReading) (was : IsRunFiltered source before ms start values mask) (end : reached mask ≡ length mask.source.bits) where

@@ -1,7 +1,6 @@
 -- What the loop over the runs of a word keeps, over plain variables.
 use Rattle.std.proofs.Common.{◌≡◌, ℕ, ◌+◌, ◌-◌, ◌/◌, ◌^◌, ◌<◌, ◌≤◌, ◌∙◌, sym, ap, subst, ⊎_elim, arith, List, ◌++◌, length, take, drop, replicate, true, false, append_assoc, append-nil, zero-add}
 use Rattle.std.specs.Int.{bit_at, trailing_zeros, trailing_ones, w64}
-use Rattle.std.proofs.Math.Seq.{take-append_seam}
 use Rattle.std.proofs.lemmas.Bool.{cases_lt}
 use Rattle.std.proofs.lemmas.Nat.{shr-shr, shr_below, shr_le}
 use lib.Count.{trailing_of_zero}
@@ -118,8 +117,3 @@ shifted_away x r some = let e : r - 1 + 1 ≡ r = omega arith in shr-shr x (r - 
 
 pub copies_left : {A : Type 0} (source target : List A) (total : ℕ) (items : List A) (copies at rest t r : ℕ) → IsRun rest t r → IsRunning source target total items copies at rest → copies < total
 copies_left source target total items copies at rest t r run was = omega (arith, was.counts, starts_one source target total items copies at rest t r run was)
-
--- what was copied so far is a beginning of the target
-pub running_begun : {A : Type 0} (source target : List A) (total : ℕ) (items : List A) (copies at rest : ℕ) → IsRunning source target total items copies at rest → items ≡ take (length items) target
-running_begun source target total items copies at rest was =
-    sym (ap (take (length items)) (sym was.gives) ∙ take-append_seam items (select (drop at source) (bits (length source - at) rest)))

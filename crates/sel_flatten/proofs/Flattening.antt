@@ -1,5 +1,5 @@
 -- Rows side by side: their parts, how long they are, and the runs that pick them.
-use Rattle.std.proofs.Common.{◌≡◌, ◌⊎◌, inl, inr, ℕ, zero, suc, ◌+◌, ◌*◌, ◌<◌, ◌≤◌, Bool, true, false, ◌&&◌, ◌||◌, ◌==◌, nat_lt, All, Bor, List, [], ◌∷◌, ◌++◌, length, take, drop, map, refl, sym, ap, subst, ◌∙◌, arith, get_or, drop-cons, length-append, append_assoc, Some, zero-add, add-one}
+use Rattle.std.proofs.Common.{◌≡◌, ◌⊎◌, inl, inr, ℕ, zero, suc, ◌+◌, ◌*◌, ◌<◌, ◌≤◌, Bool, true, false, ◌&&◌, ◌||◌, ◌==◌, nat_lt, All, Bor, List, [], ◌∷◌, ◌++◌, length, take, drop, map, refl, sym, ap, subst, ◌∙◌, arith, get_or, drop-cons, length-append, Some, zero-add, add-one}
 use Rattle.std.specs.List.{flat_map, range_with_len}
 use Rattle.std.specs.Prelude.{if◌then◌else◌}
 use Rattle.std.proofs.lemmas.Bool.{ltb-true, eqb-true, eq-eqb}
@@ -12,11 +12,10 @@ use Rattle.sel_arrow.specs.Rows.{rows, type_of, IsWellFormed}
 use Rattle.sel_arrow.specs.declared.array_ref.ArrayRef.{ArrayRef}
 use Rattle.sel_arrow.specs.declared.column.Column.{Column}
 use Rattle.sel_arrow.specs.Value.{Null}
-use Rattle.sel_runs.specs.Picks.{pick, PickFits}
-use Rattle.sel_runs.specs.Runs.{unrolled, unrolled_from}
+use Rattle.sel_runs.specs.Picks.{pick}
+use Rattle.sel_runs.specs.Runs.{unrolled}
 use Rattle.sel_runs.specs.Sources.{first_type}
 use Rattle.sel_runs.specs.declared.run.Run.{Run}
-use Rattle.sel_runs.proofs.Fits.{rows_fit}
 use Rattle.sel_runs.proofs.RunLists.{pick_run}
 use Rattle.sel_arrow.proofs.Lists.{and_first, and_second}
 use Rattle.sel_arrow.proofs.Rows.{length-part}
@@ -101,20 +100,6 @@ width_count h (xs ∷ xss) (w ∷ ws) fit =
     omega (arith, e, some)
 
 -- ---- one row
-
-row_step : {A : Type 0} (r : ℕ) (xss : List (List A)) (ws : List ℕ) (s : ℕ) → length xss ≡ length ws → s < length ws →
-    flat_row r (take (suc s) xss) (take (suc s) ws) ≡ flat_row r (take s xss) (take s ws) ++ row_part r (get_or xss s []) (get_or ws s 0)
-row_step r [] [] s long inside = absurd (omega (arith, inside))
-row_step r [] (w ∷ ws) s long inside = absurd (omega (arith, long))
-row_step r (xs ∷ xss) [] s long inside = absurd (omega (arith, inside))
-row_step r (xs ∷ xss) (w ∷ ws) zero long inside = append-nil (row_part r xs w)
-row_step r (xs ∷ xss) (w ∷ ws) (suc s) long inside =
-    ap (λ l. row_part r xs w ++ l) (row_step r xss ws s (omega (arith, long)) (omega (arith, inside)))
-    ∙ sym (append_assoc (row_part r xs w) (flat_row r (take s xss) (take s ws)) (row_part r (get_or xss s []) (get_or ws s 0)))
-
-pub row_more : {A : Type 0} (r : ℕ) (xss : List (List A)) (ws : List ℕ) (s : ℕ) → length xss ≡ length ws → s < length ws →
-    flat_row r (take (s + 1) xss) (take (s + 1) ws) ≡ flat_row r (take s xss) (take s ws) ++ row_part r (get_or xss s []) (get_or ws s 0)
-row_more r xss ws s long inside = rw add-one (row_step r xss ws s long inside)
 
 -- ---- all rows
 
@@ -218,21 +203,9 @@ part_picked arrays s a run r w inside is source within part =
     let xs = rows_at arrays s a inside is in
     pick_run Null (map (λ (x : ArrayRef). rows x.column) arrays) run s source (rw xs within) ∙ ap (λ l. take run.len (drop run.start l)) xs ∙ part ∙ ap (λ l. row_part r l w) (sym xs)
 
-pub part_fitting : (arrays : List ArrayRef) (s : ℕ) (a : ArrayRef) (run : Run) → s < length arrays → a ≡ get_or arrays s a → run.source ≡ Some s → run.start + run.len ≤ length (rows a.column) →
-    All (PickFits (map (λ x. rows x.column) arrays)) (unrolled run)
-part_fitting arrays s a run inside is source within =
-    let xss = map (λ (x : ArrayRef). rows x.column) arrays in
-    let xs = rows_at arrays s a inside is in
-    subst (λ o. All (PickFits xss) (unrolled_from o run.start run.len)) (sym source) (rows_fit xss s run.start run.len (rw xs within))
-
 rest_fits : {A : Type 0} (h : ℕ) (xss : List (List A)) (ws : List ℕ) (s : ℕ) → parts_fit h xss ws ≡ true → parts_fit h (drop s xss) (drop s ws) ≡ true
 rest_fits h xss ws zero fit = fit
 rest_fits h [] [] (suc s) fit = refl
 rest_fits h [] (w ∷ ws) (suc s) fit = absurd cc
 rest_fits h (xs ∷ xss) [] (suc s) fit = absurd cc
 rest_fits h (xs ∷ xss) (w ∷ ws) (suc s) fit = rest_fits h xss ws s (and_second (part_fits h (length xs) w) (parts_fit h xss ws) fit)
-
-pub test_at : {A : Type 0} (h : ℕ) (xss : List (List A)) (ws : List ℕ) (s : ℕ) → parts_fit h xss ws ≡ true → s < length ws → part_fits h (length (get_or xss s [])) (get_or ws s 0) ≡ true
-test_at h xss ws s fit inside =
-    let there : s < length xss = let paired = widths_long h xss ws fit in omega (arith, paired, inside) in
-    and_first (part_fits h (length (get_or xss s [])) (get_or ws s 0)) (parts_fit h (drop (s + 1) xss) (drop (s + 1) ws)) (sym (fit_from h xss ws s there inside) ∙ rest_fits h xss ws s fit)

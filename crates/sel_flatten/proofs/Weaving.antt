@@ -22,14 +22,6 @@ use Rattle.sel_flatten.proofs.Flattening.{Parts, part_at, row_inside, many_of, s
 
 -- ---- a walk
 
--- one row of a part
-pub part_next : (s at n : ℕ) → 0 < n → picks_of s at n ≡ Some (s, at) ∷ picks_of s (at + 1) (n - 1)
-part_next s at zero h = absurd (omega (arith, h))
-part_next s at (suc n) h = let same : n ≡ suc n - 1 = omega arith in ap (λ m. Some (s, at) ∷ picks_of s (at + 1) m) same
-
-pub left_next : (s at part j r n : ℕ) (lanes : List Lane) → 0 < part → left_picks s at part j r n lanes ≡ Some (s, at) ∷ left_picks s (at + 1) (part - 1) j r n lanes
-left_next s at part j r n lanes h = ap (λ l. l ++ (row_picks r j (drop j lanes) ++ rows_picks (r + 1) n lanes)) (part_next s at part h)
-
 lane_next : (r j : ℕ) (lane : Lane) (lanes : List Lane) → j < length lanes → lane ≡ get_or lanes j lane →
     row_picks r j (drop j lanes) ≡ picks_of j (r * lane.step) lane.width ++ row_picks r (j + 1) (drop (j + 1) lanes)
 lane_next r j lane lanes inside is =
@@ -206,8 +198,3 @@ module _ {A : Type 0} (xss : List (List A)) (ws : List ℕ) (h : ℕ) (fit : par
   low_lanes r below few =
       each_lane (λ l. r * l.step + l.width ≤ 4294967295) xss ws
       (λ s inside. low_lane (length (get_or xss s []) == get_or ws s 0) r h (get_or ws s 0) (row_width ws) below (let room = width_room ws s inside in omega (arith, room)) few)
-
-pub low_row : (row below step width : ℕ) → (row + below) * step + width ≤ 4294967295 → row * step + width ≤ 4294967295
-low_row row below step width low =
-    let more : row * step ≤ (row + below) * step = mul-le row step (row + below) step (omega arith) (omega arith) in
-    omega (arith, more, low)

@@ -80,8 +80,20 @@ pub fn lists_of(
     ensures refused { IfErr result
         (IsRuleOrMemory (list_rules offsets.now (row_count child.column) bytes.now has)) }
 {
-    let offsets = offsets_of(alloc, offsets)?;
-    let validity = validity_of(alloc, bytes, has, offsets.len_proxy())?;
+    let offsets = match offsets_of(alloc, offsets) {
+        Ok(offsets) => offsets,
+        Err(fault) => {
+            drop(child);
+            return Err(fault);
+        }
+    };
+    let validity = match validity_of(alloc, bytes, has, offsets.len_proxy()) {
+        Ok(validity) => validity,
+        Err(fault) => {
+            drop(child);
+            return Err(fault);
+        }
+    };
     match ListArray::<i64>::try_new(alloc, offsets, child, validity) {
         Ok(array) => Ok(array.into_ref()),
         Err(fault) => Err(fault),
@@ -106,7 +118,13 @@ pub fn blocks_of(
     ensures refused { IfErr result
         (IsRuleOrMemory (block_rules width len (row_count child.column) bytes.now has)) }
 {
-    let validity = validity_of(alloc, bytes, has, len)?;
+    let validity = match validity_of(alloc, bytes, has, len) {
+        Ok(validity) => validity,
+        Err(fault) => {
+            drop(child);
+            return Err(fault);
+        }
+    };
     match FixedSizeListArray::try_new(alloc, width, len, child, validity) {
         Ok(array) => Ok(array.into_ref()),
         Err(fault) => Err(fault),
@@ -131,7 +149,13 @@ pub fn tuples_of(
     ensures refused { IfErr result (IsRuleOrMemory (struct_rules len
         (map (λ field. row_count field.column) fields.items) bytes.now has)) }
 {
-    let validity = validity_of(alloc, bytes, has, len)?;
+    let validity = match validity_of(alloc, bytes, has, len) {
+        Ok(validity) => validity,
+        Err(fault) => {
+            drop(fields);
+            return Err(fault);
+        }
+    };
     match StructArray::try_new(alloc, len, fields, validity) {
         Ok(array) => Ok(array.into_ref()),
         Err(fault) => Err(fault),

@@ -32,15 +32,20 @@ pub fn numbers_into<T: ArrowPrimitive>(alloc: Global, column: &ArrayRef, out: &m
     let Ok(copy) = column.try_clone(alloc) else {
         return NO_MEMORY;
     };
-    let Ok(array) = copy.into_primitive::<T>() else {
-        return OTHER_KIND;
-    };
-    let values = array.values().as_slice();
-    if out.len() != values.len() {
-        return OTHER_LENGTH;
+    match copy.into_primitive::<T>() {
+        Ok(array) => {
+            let values = array.values().as_slice();
+            if out.len() != values.len() {
+                return OTHER_LENGTH;
+            }
+            out.copy_from_slice(values);
+            DONE
+        }
+        Err(back) => {
+            drop(back);
+            OTHER_KIND
+        }
     }
-    out.copy_from_slice(values);
-    DONE
 }
 
 /// Writes the bits into as many bytes as they need, the first bit lowest; bits behind the last one are of any value.
@@ -111,8 +116,11 @@ pub fn booleans_into(alloc: Global, column: &ArrayRef, out: &mut [u8]) -> u32
     let Ok(copy) = column.try_clone(alloc) else {
         return NO_MEMORY;
     };
-    let Ok(array) = copy.into_boolean() else {
-        return OTHER_KIND;
-    };
-    bits_into(alloc, array.values(), out)
+    match copy.into_boolean() {
+        Ok(array) => bits_into(alloc, array.values(), out),
+        Err(back) => {
+            drop(back);
+            OTHER_KIND
+        }
+    }
 }

@@ -132,7 +132,10 @@ pub fn put(alloc: Global, column: ArrayRef, out: &mut Handle) -> u32
     ensures status { result ≤ no_memory }
 {
     match Box::new(alloc, column) {
-        Err(_) => NO_MEMORY,
+        Err(refused) => {
+            drop(refused.value);
+            NO_MEMORY
+        }
         Ok(column) => {
             *out = Handle::of(column);
             DONE

@@ -9,7 +9,7 @@ use Rattle.sel_bits.specs.declared.faults.MakeError.{MakeError}
 use Rattle.sel_bits.specs.declared.faults.MakeError.TheVariants.{Malformed as Broken, OutOfMemory as WantOfMemory}
 use Rattle.sel_bits.specs.declared.faults.Malformed.{Malformed}
 use Rattle.sel_bits.specs.declared.faults.Malformed.TheVariants.{ViewRange, ViewPrefix}
-use Rattle.sel_arrow.specs.Makers.{flat_fault, list_fault, block_fault, views_fault, utf8view_fault}
+use Rattle.sel_arrow.specs.Makers.{list_fault, block_fault, views_fault, utf8view_fault}
 use Rattle.sel_arrow.specs.Masked.{hidden, too_many}
 use Rattle.sel_arrow.specs.Pieces.{rows_between, last_offset}
 use Rattle.sel_arrow.specs.Texts.{all_text}
@@ -41,9 +41,6 @@ within n last le = grind (arith, nat_tests, le)
 
 alike : (m n : ℕ) → m ≡ n → not (m == n) ≡ false
 alike m n e = grind (arith, nat_tests, e)
-
-pub flat_sound : (n : ℕ) (validity : Bits) → n ≤ 4294967295 → length validity.bits ≡ n → flat_fault n (Some validity) ≡ None
-flat_sound n validity le same = rw (few n le, alike (length validity.bits) n same) refl
 
 two_sound : (range prefix : Bool) → (range && prefix) ≡ true → first_broken ((ViewRange, not range) ∷ (ViewPrefix, not prefix) ∷ []) ≡ None
 two_sound true true h = refl

@@ -1,6 +1,6 @@
 -- Rows of several columns, one column after the other.
-use Rattle.std.proofs.Common.{◌≡◌, ℕ, ◌+◌, ◌-◌, ◌<◌, Bool, true, false, cond, Bor, List, [], ◌∷◌, ◌++◌, All, length, get_or, map, take, drop, Option, Some, None, arith, refl, ap, sym, subst, ◌∙◌}
-use Rattle.std.specs.Prelude.{◌==◌, ◌&&◌, count_by, unwrap_or}
+use Rattle.std.proofs.Common.{◌≡◌, ℕ, ◌+◌, ◌-◌, ◌<◌, true, false, cond, Bor, List, [], ◌∷◌, ◌++◌, All, length, get_or, map, take, drop, Option, Some, arith, refl, ap, sym, ◌∙◌}
+use Rattle.std.specs.Prelude.{◌==◌, ◌&&◌, count_by}
 use Rattle.std.specs.List.{list_all}
 use Rattle.std.proofs.lemmas.Bool.{ne_eqb}
 use Rattle.std.proofs.lemmas.Bool.Decides.{Decides-eqb}
@@ -9,12 +9,11 @@ use Rattle.std.proofs.lemmas.List.Folds.{list_all-map, list_all_at}
 use Rattle.std.proofs.lemmas.List.Sums.{sum_by-cons}
 use Rattle.sel_bits.specs.declared.faults.PolarsError.{PolarsError}
 use Rattle.sel_bits.specs.declared.faults.PolarsError.TheVariants.{OutOfMemory, SizeLimit, ComputeError}
-use Rattle.sel_arrow.specs.Masked.{truth_value}
 use Rattle.sel_arrow.specs.Rows.{rows, type_of}
 use Rattle.sel_arrow.specs.Shape.{of_int64}
 use Rattle.sel_arrow.specs.Value.{Value}
 use Rattle.sel_arrow.specs.declared.array_ref.ArrayRef.{ArrayRef}
-use Rattle.sel_arrow.proofs.Lists.{all_at, and_first, and_second}
+use Rattle.sel_arrow.proofs.Lists.{all_at, and_first}
 use Rattle.sel_runs.proofs.Within.{rows_pass}
 use Rattle.polars_compute.specs.Need.{IsRefusal, PassesNone, past}
 use Rattle.polars_compute.specs.Pick.{take_rows, all_within}
@@ -35,9 +34,6 @@ long_at columns mask indices i d fits h =
     let each = sym (list_all-map p (λ (c : ArrayRef). rows c.column) columns) ∙ and_first (list_all p (rows_of_each columns)) (all_within (count_by is_true mask) indices) fits in
     (Decides-eqb _ _).0 (all_at (λ (c : ArrayRef). p (rows c.column)) columns i d each h)
 
-pub indices_inside : (columns : List (List Value)) (mask indices : List Value) → selection_fits columns mask indices ≡ true → all_within (count_by is_true mask) indices ≡ true
-indices_inside columns mask indices fits = and_second (list_all (λ xs. length xs == length mask) columns) (all_within (count_by is_true mask) indices) fits
-
 count_forced : (mask : List Value) → count_by (λ b. b) (in_force mask) ≡ count_by is_true mask
 count_forced [] = refl
 count_forced (v ∷ mask) =
@@ -46,10 +42,6 @@ count_forced (v ∷ mask) =
 -- so many rows are kept
 pub kept_count : (xs mask : List Value) → length xs ≡ length mask → length (select xs (in_force mask)) ≡ count_by is_true mask
 kept_count xs mask long = length-select xs (in_force mask) (long ∙ sym (length-map mask is_true)) ∙ count_forced mask
-
-pub forced_row : (row : Option Bool) → unwrap_or row false ≡ is_true (truth_value row)
-forced_row None = refl
-forced_row (Some b) = refl
 
 -- the columns so far are as long as the mask
 pub unfit_at : (columns : List ArrayRef) (mask indices : List Value) (i : ℕ) (x : ArrayRef) → i < length columns → x ≡ get_or columns i x → (length (rows x.column) ≡ length mask → ⊥) →
@@ -84,15 +76,6 @@ pub refused_some : (columns : List ArrayRef) (mask indices : List Value) (i : �
 refused_some columns mask indices i x OutOfMemory h at refused = tt
 refused_some columns mask indices i x (SizeLimit limit) h at refused = (i, x, h, sym at, refused)
 refused_some columns mask indices i x ComputeError h at refused = absurd refused
-
--- columns of numbers pass no limit
-pub never_past : (columns : List ArrayRef) (mask indices : List Value) (fault : PolarsError) → All (λ c. type_of c.column ≡ of_int64) columns → IsRefusal (past_selected columns mask indices) fault → fault ≡ OutOfMemory
-never_past columns mask indices OutOfMemory numbers refused = refl
-never_past columns mask indices (SizeLimit limit) numbers refused =
-    let x = refused.1 in
-    let is : type_of x.column ≡ of_int64 = subst (λ (c : ArrayRef). type_of c.column ≡ of_int64) refused.3 (numbers refused.0 x refused.2) in
-    absurd (subst (λ s. past s (take_rows (select (rows x.column) (in_force mask)) indices) limit) is refused.4)
-never_past columns mask indices ComputeError numbers refused = absurd refused
 
 -- ---- types
 

@@ -146,7 +146,10 @@ fn arrays_of(alloc: Global, parts: Vec<Part>) -> PolarsResult<Vec<ArrayRef>>
 {
     let mut arrays = Vec::with_capacity(alloc, parts.len())?;
     for part in parts {
-        arrays.push(part.column.into_ref())?;
+        if arrays.push(part.column.into_ref()).is_err() {
+            drop(arrays);
+            return Err(PolarsError::OutOfMemory);
+        }
     }
     Ok(arrays)
 }

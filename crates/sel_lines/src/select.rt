@@ -38,7 +38,13 @@ pub fn select_rows(
 {
     let mut selected = Vec::with_capacity(alloc, columns.len())?;
     for column in columns {
-        selected.push(select_column(alloc, column, mask, indices)?)?;
+        match select_column(alloc, column, mask, indices) {
+            Ok(taken) => selected.push_reserved(taken),
+            Err(fault) => {
+                drop(selected);
+                return Err(fault);
+            }
+        }
     }
     Ok(selected)
 }

@@ -42,7 +42,9 @@ pub fn answer_table(alloc: Global, words: &[&str]) -> Result<Option<String>, All
     let Some(columns) = parse_columns(alloc, &words[2..])? else {
         return Ok(None);
     };
-    answer_columns(alloc, mask, indices, &columns)
+    let answer = answer_columns(alloc, mask, indices, &columns);
+    drop(columns);
+    answer
 }
 
 // The columns that the words are the printing of.
@@ -55,10 +57,17 @@ fn parse_columns(alloc: Global, words: &[&str]) -> Result<Option<Vec<ArrayRef>>,
 {
     let mut columns = Vec::with_capacity(alloc, words.len())?;
     for word in words {
-        let Some(column) = parse_array(alloc, word)? else {
-            return Ok(None);
-        };
-        columns.push(column)?;
+        match parse_array(alloc, word) {
+            Ok(Some(column)) => columns.push_reserved(column),
+            Ok(None) => {
+                drop(columns);
+                return Ok(None);
+            }
+            Err(fault) => {
+                drop(columns);
+                return Err(fault);
+            }
+        }
     }
     Ok(Some(columns))
 }
@@ -91,7 +100,11 @@ fn answer_columns(
         (rows_of_each columns.now)) }
 {
     match select_read(alloc, mask, indices, columns) {
-        Ok(Some(selected)) => Ok(Some(print_columns(alloc, &selected)?)),
+        Ok(Some(selected)) => {
+            let printed = print_columns(alloc, &selected);
+            drop(selected);
+            Ok(Some(printed?))
+        }
         Ok(None) => Ok(None),
         Err(fault) => Err(want_of_memory(fault)),
     }

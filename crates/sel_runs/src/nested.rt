@@ -39,7 +39,10 @@ pub fn lists_over(
     ensures formed { IfOk result (λ column. IsWellFormed column) }
     ensures refusal { IfErr result (λ fault. fault ≡ PolarsError.OutOfMemory) }
 {
-    let ends = ends_of(alloc, sources, runs, len)?;
+    let Ok(ends) = ends_of(alloc, sources, runs, len) else {
+        drop(values);
+        return Err(PolarsError::OutOfMemory);
+    };
     lists_with(alloc, values, ends, sources, runs, len)
 }
 
@@ -66,8 +69,14 @@ pub(crate) fn lists_with(
     ensures refusal { IfErr result (λ fault. fault ≡ PolarsError.OutOfMemory) }
 {
     let values = Box::new(alloc, values)?;
-    let offsets = OffsetsBuffer::of_rising(ends)?;
-    let validity = collect_validity(alloc, sources, runs, len)?;
+    let Ok(offsets) = OffsetsBuffer::of_rising(ends) else {
+        drop(values);
+        return Err(PolarsError::OutOfMemory);
+    };
+    let Ok(validity) = collect_validity(alloc, sources, runs, len) else {
+        drop(values);
+        return Err(PolarsError::OutOfMemory);
+    };
     Ok(Column::LargeList {
         offsets,
         values,
@@ -101,7 +110,10 @@ pub fn blocks_over(
     ensures refusal { IfErr result (λ fault. fault ≡ PolarsError.OutOfMemory) }
 {
     let values = Box::new(alloc, values)?;
-    let validity = collect_validity(alloc, sources, runs, len)?;
+    let Ok(validity) = collect_validity(alloc, sources, runs, len) else {
+        drop(values);
+        return Err(PolarsError::OutOfMemory);
+    };
     Ok(Column::FixedSizeList {
         size,
         len,
@@ -133,7 +145,10 @@ pub fn tuples_over(
     ensures formed { IfOk result (λ column. IsWellFormed column) }
     ensures refusal { IfErr result (λ fault. fault ≡ PolarsError.OutOfMemory) }
 {
-    let validity = collect_validity(alloc, sources, runs, len)?;
+    let Ok(validity) = collect_validity(alloc, sources, runs, len) else {
+        drop(fields);
+        return Err(PolarsError::OutOfMemory);
+    };
     Ok(Column::Struct {
         len,
         fields,

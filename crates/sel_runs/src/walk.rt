@@ -78,10 +78,19 @@ fn lists_of_plan<P: Plan>(
     // (there are no more picks than a column may have rows)
     let _len = plan.len();
     let values = Box::new(alloc, values)?;
-    let offsets = OffsetsBuffer::of_rising(ends)?;
-    let validities = validities_of(alloc, sources)?;
+    let Ok(offsets) = OffsetsBuffer::of_rising(ends) else {
+        drop(values);
+        return Err(PolarsError::OutOfMemory);
+    };
+    let Ok(validities) = validities_of(alloc, sources) else {
+        drop(values);
+        return Err(PolarsError::OutOfMemory);
+    };
     let maps = validities.as_slice();
-    let validity = gather_validity(alloc, plan, maps)?;
+    let Ok(validity) = gather_validity(alloc, plan, maps) else {
+        drop(values);
+        return Err(PolarsError::OutOfMemory);
+    };
     Ok(Column::LargeList {
         offsets,
         values,

@@ -152,10 +152,6 @@ part_begins s ss place rest next more part first other = record {
   whole = part_text place (value_text s part.first) (part_texts ss part.others) rest next more first other part.text;
 }
 
-pub part_has_comma : (s : Shape) (ss : Shapes) (place : ℕ) (rest more : List ℕ) → HasPart s ss place rest more → 0 < place → ((next : List ℕ) → rest ≢ 44 ∷ next) → ⊥
-part_has_comma s ss zero rest more part some none = omega (arith, some)
-part_has_comma s ss (suc place) rest more part some none = none _ part.text
-
 pub part_read : (s : Shape) (ss : Shapes) (place : ℕ) (rest next more : List ℕ) → (part : HasPart s ss place rest more) → next ≡ after 41 (part_texts ss part.others) more → HasParts ss (place + 1) next more
 part_read s ss place rest next more part is = record { others = part.others; fit = part.others_fit; text = later place is }
   where

@@ -1,5 +1,5 @@
 -- What stands between quotes, byte by byte.
-use Rattle.std.proofs.Common.{◌≡◌, ◌≢◌, ℕ, ◌+◌, ◌*◌, ◌≤◌, ◌<◌, ◌/◌, ◌%◌, Bool, true, false, List, [], ◌∷◌, ◌++◌, length, get_or, drop, refl, ap, sym, ◌∙◌, arith, append_assoc, append-nil, subst}
+use Rattle.std.proofs.Common.{◌≡◌, ◌≢◌, ℕ, ◌+◌, ◌≤◌, ◌<◌, ◌/◌, Bool, true, false, List, [], ◌∷◌, ◌++◌, length, get_or, drop, refl, ap, sym, ◌∙◌, arith, append_assoc, append-nil, subst}
 use Rattle.std.specs.Prelude.{nat_lt, ◌==◌, if◌then◌else◌, codes}
 use Rattle.std.specs.Char.{digit_char}
 use Rattle.std.specs.List.{flat_map, list_all}
@@ -113,20 +113,9 @@ escape_told b n text rest more read is =
     let same : one_then n rest ≡ one_then b more = sym read ∙ ap read_one is ∙ read_escaped b more in
     (ap (λ p. p.0) same, ap (λ p. p.1) same)
 
--- no escape is empty
-pub some_escape : (b : ℕ) (more : List ℕ) → 0 < length (escaped b ++ more)
-some_escape b more = each_escape (λ b word. 0 < length (word ++ more)) (omega arith) (omega arith) (omega arith) (omega arith) (omega arith) (omega arith) (omega arith) (λ c l n8 n9 n10 n12 n13. omega arith) (λ c l n. omega arith) b
-
 -- the second byte of a text, which two texts differ in
 seconds_differ : (a b c d : ℕ) (x y : List ℕ) → a ∷ b ∷ x ≡ c ∷ d ∷ y → (b == d) ≡ false → ⊥
 seconds_differ a b c d x y is differ = let same : b ≡ d = ap (λ l. get_or l 1 0) is in let apart : b ≢ d = grind (arith, nat_tests, differ) in apart same
-
--- what stands behind a backslash, where it is none of the letters, is no escape
-pub no_escape : (bytes : List ℕ) → ((r : List ℕ) → bytes ≢ 34 ∷ r) → ((r : List ℕ) → bytes ≢ 92 ∷ r) → ((r : List ℕ) → bytes ≢ 110 ∷ r) → ((r : List ℕ) → bytes ≢ 114 ∷ r) → ((r : List ℕ) → bytes ≢ 116 ∷ r) → ((r : List ℕ) → bytes ≢ 98 ∷ r) → ((r : List ℕ) → bytes ≢ 102 ∷ r) →
-    ((r : List ℕ) → bytes ≢ 117 ∷ 48 ∷ 48 ∷ r) → (b : ℕ) (more : List ℕ) → 92 ∷ bytes ≡ escaped b ++ more → ⊥
-no_escape bytes quote backslash line return tab back feed control b more =
-    each_escape (λ b word. 92 ∷ bytes ≡ word ++ more → ⊥) (λ is. quote more (ap (drop 1) is)) (λ is. backslash more (ap (drop 1) is)) (λ is. line more (ap (drop 1) is)) (λ is. return more (ap (drop 1) is)) (λ is. tab more (ap (drop 1) is)) (λ is. back more (ap (drop 1) is)) (λ is. feed more (ap (drop 1) is))
-    (λ c l n8 n9 n10 n12 n13 is. control (hex_byte c ++ more) (ap (drop 1) is)) (λ c l n is. let first : 92 ≡ c = ap (λ l. get_or l 0 0) is in n (sym first)) b
 
 -- the byte behind `\u00` is one below a space that has no letter
 pub record IsControl (b : ℕ) (bytes more : List ℕ) : Type 0 where
@@ -156,14 +145,6 @@ plain_told b n rest more plain =
 pub plain_read : (b : ℕ) (bytes more : List ℕ) → 0 < length bytes → ((r : List ℕ) → bytes ≢ 92 ∷ r) → bytes ≡ escaped b ++ more → (get_or bytes 0 0 ≡ b) × (drop 1 bytes ≡ more) × (32 ≤ get_or bytes 0 0)
 plain_read b [] more some plain is = absurd (omega (arith, some))
 plain_read b (n ∷ rest) more some plain is = plain_told b n rest more (λ e. plain rest (ap (λ x. x ∷ rest) e)) is
-
--- two digits
-pub two_digits : (b : ℕ) (bytes more : List ℕ) → b < 256 → bytes ≡ hex_byte b ++ more → (2 ≤ length bytes) × (get_or bytes 0 0 ≡ digit_char (b / 16)) × (get_or bytes 1 0 ≡ digit_char (b % 16)) × (drop 2 bytes ≡ more) × (b / 16 < 16) × (b % 16 < 16)
-two_digits b bytes more small is =
-    let long = ap length is in (omega (arith, long), ap (λ l. get_or l 0 0) is, ap (λ l. get_or l 1 0) is, ap (drop 2) is, omega arith, omega arith)
-
-pub digits_sum : (b high low : ℕ) → high ≡ b / 16 → low ≡ b % 16 → 16 * high + low ≡ b
-digits_sum b high low h l = omega (arith, h, l)
 
 pub below_256 : (b : ℕ) → nat_lt b 256 ≡ true → b < 256
 below_256 b small = grind (arith, nat_tests, small)

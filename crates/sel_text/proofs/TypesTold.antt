@@ -85,11 +85,6 @@ kind_kept s = refl
 kind_told : (s : Shape) (text more : List ℕ) → text ≡ type_text s ++ more → kind s ≡ kind (begun text)
 kind_told s text more is = sym (ap (λ l. kind (begun l)) is ∙ ap kind (begins s more) ∙ kind_kept s)
 
-a_list : (s : Shape) → kind s ≡ 1 → (child : Shape) × (s ≡ of_large_list child)
-a_list (of_large_list s) is = (s, refl)
-a_list (of_fixed_size_list s n) is = absurd (omega (arith, is))
-a_list s is = absurd (omega (arith, is))
-
 a_block : (s : Shape) → kind s ≡ 2 → (child : Shape) × (size : ℕ) × (s ≡ of_fixed_size_list child size)
 a_block (of_large_list s) is = absurd (omega (arith, is))
 a_block (of_fixed_size_list s n) is = (s, n, refl)
@@ -99,13 +94,6 @@ a_tuple : (s : Shape) → kind s ≡ 3 → (parts : Shapes) × (s ≡ of_struct 
 a_tuple (of_large_list s) is = absurd (omega (arith, is))
 a_tuple (of_struct ss) is = (ss, refl)
 a_tuple s is = absurd (omega (arith, is))
-
--- behind the name of a type with children stands one of that kind
-pub lists_told : (s : Shape) (text more : List ℕ) → codes "list" ++ text ≡ type_text s ++ more → (child : Shape) × (s ≡ of_large_list child) × (text ≡ 60 ∷ (type_text child ++ (62 ∷ more)))
-lists_told s text more is =
-    let found = a_list s (kind_told s (codes "list" ++ text) more is) in
-    let one = is ∙ ap (λ x. type_text x ++ more) found.1 in
-    (found.0, found.1, ap (drop 4) one ∙ ap (λ l. 60 ∷ l) (append_assoc (type_text found.0) (62 ∷ []) more))
 
 pub blocks_told : (s : Shape) (text more : List ℕ) → codes "fixed" ++ text ≡ type_text s ++ more →
     (child : Shape) × (size : ℕ) × (s ≡ of_fixed_size_list child size) × (text ≡ 60 ∷ (decimal size ++ (44 ∷ (type_text child ++ (62 ∷ more)))))

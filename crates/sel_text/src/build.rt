@@ -212,9 +212,9 @@ fn lists(
         }
         ends.push(offset_at(entries.len())?)?;
     }
-    let child = build(dtype, alloc, &entries, beneath)?;
     let offsets = OffsetsBuffer::try_from(ends)?;
     let validity = validity_of(alloc, items)?;
+    let child = build(dtype, alloc, &entries, beneath)?;
     Ok(ListArray::try_new(alloc, offsets, child, validity)?.into_ref())
 }
 
@@ -247,8 +247,8 @@ fn blocks(
             _ => push_copies(&mut entries, &null, size)?,
         }
     }
-    let child = build(dtype, alloc, &entries, beneath)?;
     let validity = validity_of(alloc, items)?;
+    let child = build(dtype, alloc, &entries, beneath)?;
     Ok(FixedSizeListArray::try_new(alloc, size, items.len(), child, validity)?.into_ref())
 }
 
@@ -272,17 +272,48 @@ fn tuples(
 ) -> Result<ArrayRef, Fault>
     ensures { IfErr result IsShort }
 {
-    let null = Item::Null;
+    let validity = validity_of(alloc, items)?;
     let mut fields = Vec::with_capacity(alloc, dtypes.len())?;
+    if let Err(fault) = push_fields(&mut fields, dtypes, alloc, items, beneath) {
+        drop(fields);
+        return Err(fault);
+    }
+    Ok(StructArray::try_new(alloc, items.len(), fields, validity)?.into_ref())
+}
+
+/// Puts the fields of these tuples behind others.
+#[cycle(building)]
+fn push_fields(
+    fields: &mut Vec<ArrayRef>,
+    dtypes: &[ArrowDataType],
+    alloc: Global,
+    items: &[&Item],
+    beneath: Beneath,
+) -> Result<(), Fault>
+    ensures { IfErr result IsShort }
+{
+    let null = Item::Null;
     for (k, dtype) in dtypes.iter().enumerate() {
-        let mut parts = Vec::with_capacity(alloc, items.len())?;
-        for item in items {
-            parts.push(part_at(item, k).unwrap_or(&null))?;
-        }
+        let parts = parts_at(alloc, items, k, &null)?;
         fields.push(build(dtype, alloc, &parts, beneath)?)?;
     }
-    let validity = validity_of(alloc, items)?;
-    Ok(StructArray::try_new(alloc, items.len(), fields, validity)?.into_ref())
+    Ok(())
+}
+
+/// What the tuples have at a place, and something else for those that are null.
+fn parts_at<'a>(
+    alloc: Global,
+    items: &[&'a Item],
+    place: usize,
+    other: &'a Item,
+) -> Result<Vec<&'a Item>, Fault>
+    ensures { IfErr result IsShort }
+{
+    let mut parts = Vec::with_capacity(alloc, items.len())?;
+    for item in items {
+        parts.push(part_at(item, place).unwrap_or(other))?;
+    }
+    Ok(parts)
 }
 
 /// What a tuple has at a place.

@@ -81,7 +81,9 @@ fn filter_trimmed(alloc: Global, array: ArrayRef, mask: &Bitmap) -> PolarsResult
     if mask.is_all_true() {
         return Ok(array);
     }
-    filter_column(alloc, array.as_column(), mask)
+    let kept = filter_column(alloc, array.as_column(), mask);
+    drop(array);
+    kept
 }
 
 /// The rows of a column where the bit is true: numbers, truth values and views by the words of the mask, fields of tuples each by
@@ -137,8 +139,8 @@ fn filter_tuples(
         type_of (Struct _count fields.now validity.now)) }
     ensures refusal { IfErr result (λ fault. fault ≡ PolarsError.OutOfMemory) }
 {
-    let fields = filter_fields(alloc, fields, mask)?;
     let validity = filter_validity(alloc, validity.as_ref(), mask)?;
+    let fields = filter_fields(alloc, fields, mask)?;
     let len = mask.set_bits();
     let column = Column::Struct {
         len,

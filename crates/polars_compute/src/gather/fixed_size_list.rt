@@ -143,8 +143,8 @@ pub(crate) fn take_unchecked(
         return Ok(ArrayRef { column });
     }
     let count = rows_below(indices.len(), *size)?;
-    let below = take_level(alloc, child, *size, count, indices)?;
     let validity = take_bits(alloc, validity, indices)?;
+    let below = take_level(alloc, child, *size, count, indices)?;
     let values = Box::new(alloc, below)?;
     Ok(ArrayRef {
         column: Column::FixedSizeList {

@@ -111,9 +111,9 @@ fn choose_lists<T: ListSide, F: ListSide>(
         count,
         validity,
     } = held;
+    let offsets = OffsetsBuffer::of_rising(ends)?;
     let values = held_column(alloc, if_true.child(), if_false.child(), &runs, count)?;
     let values = Box::new(alloc, values)?;
-    let offsets = OffsetsBuffer::of_rising(ends)?;
     Ok(ListArray {
         offsets,
         values,

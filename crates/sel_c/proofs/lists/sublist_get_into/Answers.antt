@@ -15,6 +15,6 @@ returns-clause-limits c =
     let same : to_z w64 (of_z w64 c.args.index) ≡ c.args.index = to_z-of_z w64 c.args.index c.ranges.index in
     let held : rows (list_column c.in-Ok-into_list.lists) ≡ rows c.args.column.now.column = c.in-Ok-into_list.ensures.rows ∙ c.in-Ok.ensures.rows in
     let typed : type_of (list_column c.in-Ok-into_list.lists) ≡ type_of c.args.column.now.column = c.in-Ok-into_list.ensures.dtype ∙ c.in-Ok.ensures.dtype in
-    subst (λ (i : ℤ). TellsLimits c.element_into.result (past (entry_type (type_of c.args.column.now.column)) (list_get (rows c.args.column.now.column) i))) same
-    (subst (λ (vs : List Value). TellsLimits c.element_into.result (past (entry_type (type_of c.args.column.now.column)) (list_get vs (to_z w64 (of_z w64 c.args.index))))) held
-    (subst (λ (shape : Shape). TellsLimits c.element_into.result (past (entry_type shape) (list_get (rows (list_column c.in-Ok-into_list.lists)) (to_z w64 (of_z w64 c.args.index))))) typed c.element_into.ensures.limits))
+    subst (λ (i : ℤ). TellsLimits c.element_into-status.result (past (entry_type (type_of c.args.column.now.column)) (list_get (rows c.args.column.now.column) i))) same
+    (subst (λ (vs : List Value). TellsLimits c.element_into-status.result (past (entry_type (type_of c.args.column.now.column)) (list_get vs (to_z w64 (of_z w64 c.args.index))))) held
+    (subst (λ (shape : Shape). TellsLimits c.element_into-status.result (past (entry_type shape) (list_get (rows (list_column c.in-Ok-into_list.lists)) (to_z w64 (of_z w64 c.args.index))))) typed c.element_into-status.ensures.limits))

@@ -9,12 +9,12 @@ use Rattle.sel_c.proofs.several.sel_collect_rows.Goals as goal
 
 pub returns-in-Ok-clause-alike : goal.returns-in-Ok-clause-alike
 returns-in-Ok-clause-alike c =
-    subst (λ (types : List Shape). Demands c.collect_into.result other_type (AreAlike types)) (ap (map (λ (x : ArrayRef). type_of x.column)) c.deref.ensures.value ∙ c.in-Ok.ensures.dtypes) c.collect_into.ensures.alike
+    subst (λ (types : List Shape). Demands c.collect_into-status.result other_type (AreAlike types)) (ap (map (λ (x : ArrayRef). type_of x.column)) c.deref.ensures.value ∙ c.in-Ok.ensures.dtypes) c.collect_into-status.ensures.alike
 
 pub returns-in-Ok-clause-limits : goal.returns-in-Ok-clause-limits
 returns-in-Ok-clause-limits c =
-    pick_limits c.collect_into.result c.deref.result.now c.args.sources.now (picks_in c.args.picks.now c.args.bits.now c.args.has_bits) c.in-Ok.ensures.full
+    pick_limits c.collect_into-status.result c.deref.result.now c.args.sources.now (picks_in c.args.picks.now c.args.bits.now c.args.has_bits) c.in-Ok.ensures.full
     (ap (map (λ (x : ArrayRef). rows x.column)) c.deref.ensures.value ∙ c.in-Ok.ensures.rows)
     (ap (map (λ (x : ArrayRef). type_of x.column)) c.deref.ensures.value ∙ c.in-Ok.ensures.dtypes)
     (ap (map (λ (x : ArrayRef). buffers_held x.column)) c.deref.ensures.value ∙ c.in-Ok.ensures.buffers)
-    c.collect_into.ensures.one_type c.collect_into.ensures.limits
+    c.collect_into-status.ensures.one_type c.collect_into-status.ensures.limits

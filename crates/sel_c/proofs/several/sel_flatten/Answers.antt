@@ -9,12 +9,12 @@ use Rattle.sel_c.proofs.several.sel_flatten.Goals as goal
 
 pub returns-in-Ok-clause-alike : goal.returns-in-Ok-clause-alike
 returns-in-Ok-clause-alike c =
-    subst (λ (types : List Shape). Demands c.flatten_into.result other_type (AreAlike types)) (ap (map (λ (x : ArrayRef). type_of x.column)) c.deref.ensures.value ∙ c.in-Ok.ensures.dtypes) c.flatten_into.ensures.alike
+    subst (λ (types : List Shape). Demands c.flatten_into-status.result other_type (AreAlike types)) (ap (map (λ (x : ArrayRef). type_of x.column)) c.deref.ensures.value ∙ c.in-Ok.ensures.dtypes) c.flatten_into-status.ensures.alike
 
 pub returns-in-Ok-clause-limits : goal.returns-in-Ok-clause-limits
 returns-in-Ok-clause-limits c =
-    flat_limits c.flatten_into.result c.args.height c.deref.result.now c.args.columns.now c.args.widths.now c.in-Ok.ensures.full
+    flat_limits c.flatten_into-status.result c.args.height c.deref.result.now c.args.columns.now c.args.widths.now c.in-Ok.ensures.full
     (ap (map (λ (x : ArrayRef). rows x.column)) c.deref.ensures.value ∙ c.in-Ok.ensures.rows)
     (ap (map (λ (x : ArrayRef). type_of x.column)) c.deref.ensures.value ∙ c.in-Ok.ensures.dtypes)
     (ap (map (λ (x : ArrayRef). buffers_held x.column)) c.deref.ensures.value ∙ c.in-Ok.ensures.buffers)
-    c.flatten_into.ensures.one_type c.flatten_into.ensures.limits
+    c.flatten_into-status.ensures.one_type c.flatten_into-status.ensures.limits

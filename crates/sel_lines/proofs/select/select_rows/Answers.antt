@@ -1,6 +1,5 @@
 use Rattle.std.proofs.Common.{◌≤◌, ◌∙◌, arith, ap, length, map}
 use Rattle.std.proofs.lemmas.List.{take_all}
-use Rattle.std.proofs.lemmas.Result.{err_from_is_err_and}
 use Rattle.sel_arrow.specs.Columns.{boolean_rows, primitive_rows}
 use Rattle.sel_arrow.specs.Rows.{rows, type_of}
 use Rattle.sel_arrow.specs.declared.array_ref.ArrayRef.{ArrayRef}
@@ -15,11 +14,10 @@ select_column-requires-clause-long c =
     ap (λ (a : ArrayRef). length (rows a.column)) c.column-item.is
     ∙ long_at c.args.columns.now (boolean_rows c.args.mask.now) (primitive_rows c.args.indices.now) c.loop-column.column-index x c.requires c.loop-column-test.true
 
-pub returns-in_err-select_column-clause-refusal : goal.returns-in_err-select_column-clause-refusal
-returns-in_err-select_column-clause-refusal c =
-    let p = err_from_is_err_and c.from_residual-in_err-select_column.result c.from_residual-in_err-select_column.ensures.1 in
-    rw (p.1, p.2) (refused_some c.args.columns.now (boolean_rows c.args.mask.now) (primitive_rows c.args.indices.now) c.loop-column.column-index c.column-item.result c.in_err-select_column.field-0.0
-    c.loop-column-test.true c.column-item.is c.in_err-select_column.ensures.refusal)
+pub returns-in-Err-clause-refusal : goal.returns-in-Err-clause-refusal
+returns-in-Err-clause-refusal c =
+    refused_some c.args.columns.now (boolean_rows c.args.mask.now) (primitive_rows c.args.indices.now) c.loop-column.column-index c.column-item.result c.in-Err.fault
+    c.loop-column-test.true c.column-item.is c.in-Err.ensures.refusal
 
 pub loop-column-preserved : goal.loop-column-preserved
 loop-column-preserved c =
@@ -27,12 +25,14 @@ loop-column-preserved c =
     let selected = λ (a : ArrayRef). take_rows (select (rows a.column) (in_force (boolean_rows c.args.mask.now))) (primitive_rows c.args.indices.now) in
     let i = c.loop-column.column-index in
     let x = c.column-item.result in
-    let taken = c.in_ok-select_column.field-0 in
+    let taken = c.in-Ok.taken in
     record {
-      taken = mapped_step (λ (a : ArrayRef). rows a.column) selected columns c.loop-column.selected.items _ i x taken c.loop-column-test.true c.column-item.is c.in_ok-push.ensures.items
-          c.in_ok-select_column.ensures.rows c.loop-column.invariant.taken;
-      types = mapped_step (λ (a : ArrayRef). type_of a.column) (λ (a : ArrayRef). type_of a.column) columns c.loop-column.selected.items _ i x taken c.loop-column-test.true c.column-item.is c.in_ok-push.ensures.items
-          c.in_ok-select_column.ensures.dtype c.loop-column.invariant.types;
+      taken = mapped_step (λ (a : ArrayRef). rows a.column) selected columns c.loop-column.selected.items _ i x taken c.loop-column-test.true c.column-item.is c.push_reserved.ensures.items
+          c.in-Ok.ensures.rows c.loop-column.invariant.taken;
+      types = mapped_step (λ (a : ArrayRef). type_of a.column) (λ (a : ArrayRef). type_of a.column) columns c.loop-column.selected.items _ i x taken c.loop-column-test.true c.column-item.is c.push_reserved.ensures.items
+          c.in-Ok.ensures.dtype c.loop-column.invariant.types;
+      count = omega (arith, c.push_reserved.ensures.len, c.loop-column.invariant.count);
+      room = omega (arith, c.push_reserved.ensures.capacity, c.loop-column.invariant.room);
     }
 
 pub returns-clause-rows : goal.returns-clause-rows

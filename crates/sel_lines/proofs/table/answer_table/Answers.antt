@@ -26,7 +26,7 @@ returns c =
     let read = sym (ap (option_map (λ columns. rows_of_each columns.items)) c.in-Some-3.is) ∙ c.in_ok-columns.ensures.rows in
     let m = rows_of Truth c.in-Some.mask in
     let i = rows_of (λ n. Number (pos n)) c.in-Some-2.indices in
-    IfOk-weaker c.answer_columns.result _ _
+    IfOk-weaker c.answer_columns-answer.result _ _
     (λ answer made. made ∙ ap (λ columns. table_answer m i (rows_of_each columns)) c.deref.ensures.value
     ∙ table_words_read words _ _ m i (Some (rows_of_each c.in-Some-3.columns.items)) some (rest_is words 2) mask indices read)
-    c.answer_columns.ensures
+    c.answer_columns-answer.ensures

@@ -1,5 +1,5 @@
 -- The columns so far.
-use Rattle.std.proofs.Common.{◌≡◌, All, Some, map, take}
+use Rattle.std.proofs.Common.{◌≡◌, ◌≤◌, All, Some, length, map, take, vec_len, vec_capacity}
 use Rattle.sel_arrow.specs.Rows.{type_of}
 use Rattle.sel_arrow.specs.Shape.{of_int64}
 use Rattle.sel_lines.specs.Columns.{all_some, column_of}
@@ -11,4 +11,6 @@ abbrev pub invariant-loop-word : goal.invariant-loop-word
 invariant-loop-word l = record {
   read : all_some (map (λ word. column_of number_of word.now) (take l.word-index l.words)) ≡ Some (rows_of_each l.columns.items);
   numbers : All (λ c. type_of c.column ≡ of_int64) l.columns.items;
+  count : vec_len l.columns ≡ l.word-index;
+  room : length l.words ≤ vec_capacity l.columns;
 }
