@@ -1,15 +1,11 @@
-//! Bits of words under masks, filters of the bits of many words, of values by bytes of bits, and of texts.
+//! Bits of words under masks, filters of the bits of many words, and of values by bytes of bits.
 
 ghost use Rattle.std.specs.Prelude.{◌≡◌, ◌≤◌, length, IfOk};
 
 use crate::kernels::many_values;
-use checks_columns::fixtures::{buffer, has_text, one_buffer, validity};
 use polars_compute::filter::boolean::pext64_polyfill;
 use polars_compute::filter::filter_boolean_kernel;
 use polars_compute::filter::scalar::{scalar_filter, scalar_filter_offset};
-use sel_arrow::array::Array;
-use sel_arrow::utf8view::Utf8ViewArray;
-use sel_arrow::view::View;
 use sel_bits::bitmap::Bitmap;
 use sel_bits::faults::PolarsResult;
 use std::alloc::Global;
@@ -158,26 +154,4 @@ fn no_values_behind_an_offset(rt: HostRuntime) -> Result<(), Fail> {
     let (others, bytes) = scalar_filter_offset(&none, &empty, &mut out)?;
     assert!(rt; out.is_empty() && others.is_empty() && bytes.is_empty());
     Ok(())
-}
-
-/// One short text, one of 13 bytes and one that is null.
-pub fn three_texts(alloc: Global) -> Result<Utf8ViewArray, Fail> {
-    let long = b"abcdefghijklm";
-    let views = [
-        View::new_from_bytes(b"a", 0, 0),
-        View::new_from_bytes(long, 0, 0),
-        View::new_from_bytes(b"", 0, 0),
-    ];
-    let views = buffer(alloc, &views)?;
-    let valid = validity(alloc, &[true, true, false])?;
-    Ok(Utf8ViewArray::try_new(views, one_buffer(alloc, long)?, valid)?)
-}
-
-/// Whether the rows are the long text and a null.
-pub fn are_last_texts(alloc: Global, kept: &Utf8ViewArray) -> PolarsResult<bool> {
-    Ok(
-        kept.len() == 2
-            && has_text(alloc, kept, 0, Some("abcdefghijklm"))?
-            && has_text(alloc, kept, 1, None)?,
-    )
 }

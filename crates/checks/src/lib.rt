@@ -1,5 +1,5 @@
-//! The kernels beneath the filters and takes of any column, the pieces by which rows and runs are copied, each called by itself, and
-//! the laws, as tests.
+//! The kernels beneath the filters and takes of any column, and the pieces by which rows and runs are copied, each called by itself,
+//! as tests.
 #![tactic(auto)]
 
 #[cfg(test)]
@@ -8,8 +8,6 @@ mod copies;
 mod filters;
 #[cfg(test)]
 mod kernels;
-#[cfg(test)]
-mod laws;
 #[cfg(test)]
 mod rows;
 #[cfg(test)]

@@ -93,11 +93,6 @@ pub fn column<T: NativeType>(
     Ok(PrimitiveArray::try_new(values_of(alloc, rows, hidden)?, Some(validity))?)
 }
 
-/// Numbers as a column of any type; none is null over 7.
-pub fn number_column(alloc: Global, rows: &[Option<i64>]) -> Result<ArrayRef, Fail> {
-    Ok(column(alloc, rows, 7)?.into_ref())
-}
-
 /// A column of truth values with a validity.
 pub fn truths(alloc: Global, values: &[bool], validity: &[bool]) -> Result<BooleanArray, Fail> {
     let values = Bitmap::from_bools(alloc, values)?;
@@ -149,23 +144,6 @@ pub fn has_numbers<T: ArrowPrimitive + PartialEq>(
         }
     }
     true
-}
-
-/// Whether a column of any type is one of these numbers.
-pub fn is_numbers<T: ArrowPrimitive + PartialEq>(
-    column: ArrayRef,
-    rows: &[Option<T>],
-) -> Result<bool, Fail> {
-    let column = column.into_primitive::<T>().ok().ok_or("another type")?;
-    Ok(has_numbers(&column, rows))
-}
-
-/// Whether the row is not null.
-pub fn is_valid(validity: &Option<Bitmap>, at: usize) -> bool {
-    match validity {
-        None => true,
-        Some(bits) => at < bits.len() && bits.get_bit(at),
-    }
 }
 
 /// The number at a place of a column of them, where there is one.

@@ -16,6 +16,8 @@ mod filters;
 #[cfg(test)]
 mod joined;
 #[cfg(test)]
+mod laws;
+#[cfg(test)]
 mod limits;
 #[cfg(test)]
 mod list_scalars;

@@ -38,6 +38,21 @@ pub fn taken(alloc: Global, line: &Line, form: Form) -> Result<PolarsResult<Arra
     with_same(alloc, rows, text, answer)
 }
 
+/// The rows at the indices, of a column that is needed no more.
+pub fn rows_of(
+    alloc: Global,
+    rows: ArrayRef,
+    indices: &IdxArr,
+) -> Result<PolarsResult<ArrayRef>, Fail> {
+    if !indices_in_bounds(indices, rows.len()) {
+        drop(rows);
+        return Err(Fail::from("out of bounds"));
+    }
+    let answer = take_unchecked(alloc, &rows, indices);
+    drop(rows);
+    Ok(answer)
+}
+
 /// A type, rows, indices, and the rows there.
 const INDICES: &str = r#"
 fixed<2,i64> | [[1,2],null] | [1] | [null]
