@@ -71,9 +71,9 @@ fn last_of(alloc: Global, column: ArrayRef) -> Result<ArrayRef, Fail> {
 pub fn is_text(alloc: Global, answer: PolarsResult<ArrayRef>, text: &str) -> Result<bool, Fail> {
     match answer {
         Ok(rows) => {
-            let printed = print_rows(alloc, rows.as_column());
+            let is_same = has_text(alloc, &rows, text);
             drop(rows);
-            Ok(printed?.as_str() == text)
+            Ok(is_same?)
         }
         Err(fault) => Ok(format!(in alloc; "{fault}")?.as_str() == text),
     }

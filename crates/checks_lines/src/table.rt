@@ -3,6 +3,7 @@
 use crate::bits::spelled;
 use crate::kinds::push_lines;
 use crate::line::Line;
+use crate::marks::is_refused;
 use crate::read::{FORMS, Form, is_text};
 use sel_arrow::array_ref::ArrayRef;
 use sel_bits::faults::{PolarsError, PolarsResult};
@@ -10,12 +11,19 @@ use std::alloc::Global;
 use std::test::Fail;
 
 /// Whether the calls of a table have all the memory that they ask for.
-#[derive(Clone, Copy, PartialEq)]
+#[derive(Clone, Copy)]
 pub enum Memory {
     /// They have.
     Ample,
     /// A growth may be refused: want of memory is an answer, too.
     Refused,
+}
+
+impl Memory {
+    /// Whether want of memory is an answer.
+    fn may_be_refused(self) -> bool {
+        matches!(self, Memory::Refused)
+    }
 }
 
 /// The lines of a table, with those of every kind.
@@ -41,28 +49,52 @@ where
     F: Fn(Global, &Line, Form) -> Result<PolarsResult<ArrayRef>, Fail> + Drop,
     requires { F.IsAlwaysCallable call }
 {
-    for line in &lines_of(alloc, table)? {
+    let lines = lines_of(alloc, table)?;
+    for line in &lines {
         for form in FORMS {
             let answer = call(alloc, line, form);
-            if !is_right(alloc, answer?, line, memory)? {
-                return Ok(Some(String::from_str(alloc, line.text())?));
+            if !is_right(alloc, answer, line, memory)? {
+                return told(alloc, line);
             }
         }
     }
     Ok(None)
 }
 
+/// The text of a line that does not hold.
+fn told(alloc: Global, line: &Line) -> Result<Option<String>, Fail> {
+    Ok(Some(String::from_str(alloc, line.text())?))
+}
+
 /// Whether an answer is the one of the line.
 fn is_right(
     alloc: Global,
-    answer: PolarsResult<ArrayRef>,
+    answer: Result<PolarsResult<ArrayRef>, Fail>,
     line: &Line,
     memory: Memory,
 ) -> Result<bool, Fail> {
-    match answer {
-        Err(PolarsError::OutOfMemory) => Ok(memory == Memory::Refused),
-        answer => is_text(alloc, answer, line.answer()?),
+    let answer = answer?;
+    match line.answer() {
+        Ok(text) => is_answer(alloc, answer, text, memory),
+        Err(fail) => {
+            drop(answer);
+            Err(fail)
+        }
     }
+}
+
+/// Whether an answer is this text, or want of memory where that may come.
+fn is_answer(
+    alloc: Global,
+    answer: PolarsResult<ArrayRef>,
+    text: &str,
+    memory: Memory,
+) -> Result<bool, Fail> {
+    if is_refused(&answer) {
+        drop(answer);
+        return Ok(memory.may_be_refused());
+    }
+    is_text(alloc, answer, text)
 }
 
 /// The first line whose test does not tell whether its last field is `true`, in one of the forms of its columns.
@@ -71,19 +103,22 @@ where
     F: Fn(Global, &Line, Form) -> Result<bool, Fail> + Drop,
     requires { F.IsAlwaysCallable call }
 {
-    for line in &lines_of(alloc, table)? {
+    let lines = lines_of(alloc, table)?;
+    for line in &lines {
         for form in FORMS {
-            let word = if call(alloc, line, form)? {
-                "true"
-            } else {
-                "false"
-            };
-            if word != line.answer()? {
-                return Ok(Some(String::from_str(alloc, line.text())?));
+            let answer = call(alloc, line, form);
+            if !is_truth(answer, line)? {
+                return told(alloc, line);
             }
         }
     }
     Ok(None)
+}
+
+/// Whether a test told whether the last field of the line is `true`.
+fn is_truth(answer: Result<bool, Fail>, line: &Line) -> Result<bool, Fail> {
+    let word = if answer? { "true" } else { "false" };
+    Ok(word == line.answer()?)
 }
 
 /// The first line whose call does not answer the text that its last field is.
@@ -92,13 +127,20 @@ where
     F: Fn(Global, &Line) -> Result<String, Fail> + Drop,
     requires { F.IsAlwaysCallable call }
 {
-    for line in &lines_of(alloc, table)? {
-        let answer = call(alloc, line)?;
-        if answer.as_str() != line.answer()? {
-            return Ok(Some(String::from_str(alloc, line.text())?));
+    let lines = lines_of(alloc, table)?;
+    for line in &lines {
+        let answer = call(alloc, line);
+        if !is_same_text(answer, line)? {
+            return told(alloc, line);
         }
     }
     Ok(None)
+}
+
+/// Whether a call answered the text that the last field of the line is.
+fn is_same_text(answer: Result<String, Fail>, line: &Line) -> Result<bool, Fail> {
+    let answer = answer?;
+    Ok(answer.as_str() == line.answer()?)
 }
 
 /// The first line whose call does not answer the bits and numbers, or the refusal, that its last field is.
@@ -112,15 +154,26 @@ where
     F: Fn(Global, &Line) -> Result<PolarsResult<String>, Fail> + Drop,
     requires { F.IsAlwaysCallable call }
 {
-    for line in &lines_of(alloc, table)? {
-        let is_right = match call(alloc, line)? {
-            Ok(words) => words.as_str() == spelled(alloc, line.answer()?)?.as_str(),
-            Err(PolarsError::OutOfMemory) => memory == Memory::Refused,
-            Err(_) => false,
-        };
-        if !is_right {
-            return Ok(Some(String::from_str(alloc, line.text())?));
+    let lines = lines_of(alloc, table)?;
+    for line in &lines {
+        let answer = call(alloc, line);
+        if !are_words(alloc, answer, line, memory)? {
+            return told(alloc, line);
         }
     }
     Ok(None)
+}
+
+/// Whether a call answered the words that the last field of the line spells, or want of memory where that may come.
+fn are_words(
+    alloc: Global,
+    answer: Result<PolarsResult<String>, Fail>,
+    line: &Line,
+    memory: Memory,
+) -> Result<bool, Fail> {
+    match answer? {
+        Ok(words) => Ok(words.as_str() == spelled(alloc, line.answer()?)?.as_str()),
+        Err(PolarsError::OutOfMemory) => Ok(memory.may_be_refused()),
+        Err(_) => Ok(false),
+    }
 }
