@@ -1,17 +1,16 @@
 //! The children of lists and the fields of tuples, which share buffers with their column.
 
-ghost use Rattle.std.specs.Prelude.{◌≡◌, ◌≢◌, ◌<◌, ◌≤◌, length, IfSome, IfNone, IsTrue, true, false, []};
-ghost use Rattle.sel_arrow.specs.Rows.{rows, type_of, IsWellFormed};
+ghost use Rattle.std.specs.Prelude.{◌≡◌, ◌<◌, length, IsTrue};
+ghost use Rattle.sel_arrow.specs.Rows.{rows, type_of};
 ghost use Rattle.sel_arrow.specs.Shape.{is_block_shape, is_struct_shape};
-ghost use Rattle.sel_c.specs.Below.{held_child_rows, held_child_type, held_fields, held_field_rows, held_field_type};
-ghost use Rattle.sel_c.specs.Types.{width_of};
+ghost use Rattle.sel_calls.specs.Below.{held_child_rows, held_child_type, held_fields, held_field_rows, held_field_type};
+ghost use Rattle.sel_calls.specs.Types.{width_of};
 ghost use Rattle.sel_handle.specs.Status.{done, no_column, other_kind, out_of_bounds, held_type, Demands, HasColumn, Makes};
-ghost use Rattle.sel_runs.specs.Children.{child, field, fields_of, is_listing};
+ghost use Rattle.sel_runs.specs.Children.{child, field, is_listing};
 
-use sel_arrow::array_ref::ArrayRef;
-use sel_arrow::column::Column;
+use sel_calls::children::{child_into, field_count_into, field_into, width_into};
 use sel_handle::handle::Handle;
-use sel_handle::status::{DONE, NO_COLUMN, NO_MEMORY, OTHER_KIND, OUT_OF_BOUNDS, put};
+use sel_handle::status::NO_COLUMN;
 use std::alloc::Global;
 
 /// Makes the column of the child of a column of lists, those rows too that are in no list; it shares the buffers of
@@ -34,38 +33,6 @@ pub extern "C" fn sel_child(alloc: Global, of: &mut Handle, out: &mut Handle) ->
     status
 }
 
-fn child_into(alloc: Global, column: &ArrayRef, out: &mut Handle) -> u32
-    ensures rows { Makes result out.old.tree out.new.tree
-        (λ made. rows made.column ≡ rows (child column.now.column)) }
-    ensures dtype { Makes result out.old.tree out.new.tree
-        (λ made. type_of made.column ≡ type_of (child column.now.column)) }
-    ensures column { result ≢ no_column }
-    ensures kind { Demands result other_kind (IsTrue (is_listing (type_of column.now.column))) }
-{
-    let Some(entries) = child_of(column) else {
-        return OTHER_KIND;
-    };
-    match entries.try_clone(alloc) {
-        Ok(column) => put(alloc, ArrayRef { column }, out),
-        Err(_) => NO_MEMORY,
-    }
-}
-
-/// The child of a column of lists.
-#[tactic(auto, using(crate::proofs::Below::below))]
-fn child_of(column: &ArrayRef) -> Option<&Column>
-    ensures child { IfSome result (λ entries. entries.now ≡ child column.now.column) }
-    ensures formed { IfSome result (λ entries. IsWellFormed entries.now) }
-    ensures some { IfSome result (λ _. is_listing (type_of column.now.column) ≡ true) }
-    ensures none { IfNone result (is_listing (type_of column.now.column) ≡ false) }
-{
-    match column.as_column() {
-        Column::LargeList { values, .. } => Some(values),
-        Column::FixedSizeList { values, .. } => Some(values),
-        _ => None,
-    }
-}
-
 /// Writes how many entries each list of a column of lists of one length has. SEL_NO_COLUMN: there is no column;
 /// SEL_OTHER_KIND: it is of another kind.
 #[unsafe(no_mangle)]
@@ -83,20 +50,6 @@ pub extern "C" fn sel_width(alloc: Global, of: &mut Handle, width: &mut usize) -
     status
 }
 
-fn width_into(column: &Column, width: &mut usize) -> u32
-    ensures width { result ≡ done → width.new ≡ width_of (type_of column.now) }
-    ensures column { result ≢ no_column }
-    ensures kind { Demands result other_kind (IsTrue (is_block_shape (type_of column.now))) }
-{
-    match column {
-        Column::FixedSizeList { size, .. } => {
-            *width = *size;
-            DONE
-        }
-        _ => OTHER_KIND,
-    }
-}
-
 /// Writes how many fields a column of tuples has. SEL_NO_COLUMN: there is no column; SEL_OTHER_KIND: it is of another
 /// kind.
 #[unsafe(no_mangle)]
@@ -112,33 +65,6 @@ pub extern "C" fn sel_field_count(alloc: Global, of: &mut Handle, count: &mut us
     let status = field_count_into(&column, count);
     *of = Handle::of(column);
     status
-}
-
-fn field_count_into(column: &ArrayRef, count: &mut usize) -> u32
-    ensures count { result ≡ done → count.new ≡ length (fields_of column.now.column) }
-    ensures column { result ≢ no_column }
-    ensures kind { Demands result other_kind
-        (IsTrue (is_struct_shape (type_of column.now.column))) }
-{
-    let Some(fields) = fields_lent(column) else {
-        return OTHER_KIND;
-    };
-    *count = fields.len();
-    DONE
-}
-
-/// The fields of a column of tuples.
-fn fields_lent(column: &ArrayRef) -> Option<&[Column]>
-    ensures fields { IfSome result (λ fields. fields.now ≡ fields_of column.now.column) }
-    ensures some { IfSome result (λ _. is_struct_shape (type_of column.now.column) ≡ true) }
-    ensures none { IfNone result (is_struct_shape (type_of column.now.column) ≡ false) }
-    ensures empty { IfNone result (fields_of column.now.column ≡ []) }
-    ensures formed { IsWellFormed column.now.column }
-{
-    match column.as_column() {
-        Column::Struct { fields, .. } => Some(fields.as_slice()),
-        _ => None,
-    }
 }
 
 /// Makes the column of field `i` of a column of tuples, counted from 0; it shares the buffers of `of`. Rows of the field
@@ -159,37 +85,4 @@ pub extern "C" fn sel_field(alloc: Global, of: &mut Handle, i: usize, out: &mut 
     let status = field_into(alloc, &column, i, out);
     *of = Handle::of(column);
     status
-}
-
-#[tactic(auto, using(crate::proofs::Below::below))]
-fn field_into(alloc: Global, column: &ArrayRef, i: usize, out: &mut Handle) -> u32
-    ensures rows { Makes result out.old.tree out.new.tree
-        (λ made. rows made.column ≡ rows (field i column.now.column)) }
-    ensures dtype { Makes result out.old.tree out.new.tree
-        (λ made. type_of made.column ≡ type_of (field i column.now.column)) }
-    ensures column { result ≢ no_column }
-    ensures bounds { Demands result out_of_bounds (i < length (fields_of column.now.column)) }
-{
-    let Some(part) = field_of(column, i) else {
-        return OUT_OF_BOUNDS;
-    };
-    match part.try_clone(alloc) {
-        Ok(column) => put(alloc, ArrayRef { column }, out),
-        Err(_) => NO_MEMORY,
-    }
-}
-
-/// Field `i` of a column of tuples.
-fn field_of(column: &ArrayRef, i: usize) -> Option<&Column>
-    ensures field { IfSome result (λ part. part.now ≡ field i column.now.column) }
-    ensures some { IfSome result (λ _. i < length (fields_of column.now.column)) }
-    ensures formed { IsWellFormed column.now.column }
-    ensures none { IfNone result (length (fields_of column.now.column) ≤ i) }
-{
-    let fields = fields_lent(column)?;
-    if i < fields.len() {
-        Some(&fields[i])
-    } else {
-        None
-    }
 }

@@ -1,26 +1,16 @@
 //! Rows chosen between two sides by a mask: when-then-otherwise.
 
-ghost use Rattle.std.specs.Prelude.{◌≡◌, ◌≢◌, ◌≤◌, ◌++◌, ◌∷◌, [], length, true, false, IfOk, IfErr};
-ghost use Rattle.sel_arrow.specs.Columns.{boolean_rows};
+ghost use Rattle.std.specs.Prelude.{◌≡◌, ◌++◌, length, true, false};
 ghost use Rattle.sel_arrow.specs.Rows.{rows, type_of};
 ghost use Rattle.sel_arrow.specs.Shape.{of_boolean};
-ghost use Rattle.sel_c.specs.Chosen.{chosen_rows, first_row};
-ghost use Rattle.sel_c.specs.ChosenPicks.{SideFits};
+ghost use Rattle.sel_calls.specs.Chosen.{first_row};
 ghost use Rattle.sel_choices.specs.Choose.{choose, choose_one, choose_or_one, choose_of_two};
-ghost use Rattle.sel_handle.specs.Status.{no_memory, no_column, other_kind, other_type, other_length, held_columns, held_rows, held_type, Demands, HasColumn, IsOneOf, Makes, TellsLimits};
+ghost use Rattle.sel_handle.specs.Status.{no_column, other_kind, other_type, other_length, held_columns, held_rows, held_type, Demands, HasColumn, Makes, TellsLimits};
 ghost use Rattle.sel_runs.specs.Need.{past_taken};
 ghost use Rattle.polars_compute.specs.Select.{in_force};
 
-use crate::sides::choice;
-use sel_arrow::array::Array;
-use sel_arrow::array_ref::ArrayRef;
-use sel_arrow::boolean::BooleanArray;
-use sel_bits::bitmap::Bitmap;
-use sel_bits::faults::PolarsResult;
+use sel_calls::choices::choose_handles;
 use sel_handle::handle::Handle;
-use sel_handle::status::{
-    NO_COLUMN, NO_MEMORY, OTHER_KIND, OTHER_LENGTH, OTHER_TYPE, put, status_of,
-};
 use std::alloc::Global;
 
 /// Makes the column whose row k is row k of `if_true` where row k of `mask`, a column of truth values, is the valid value
@@ -164,152 +154,4 @@ pub extern "C" fn sel_choose_of_two(
     ensures false_side { if_false.new.tree ≡ if_false.old.tree }
 {
     choose_handles(alloc, mask, if_true, if_false, false, false, out)
-}
-
-// The choice between sides that are columns, or columns of one row where `true_column` or `false_column` is false.
-fn choose_handles(
-    alloc: Global,
-    mask: &mut Handle,
-    if_true: &mut Handle,
-    if_false: &mut Handle,
-    true_column: bool,
-    false_column: bool,
-    out: &mut Handle,
-) -> u32
-    ensures rows { Makes result out.old.tree out.new.tree (λ made. rows made.column ≡
-        chosen_rows true_column false_column (in_force (held_rows mask.old.tree))
-        (held_rows if_true.old.tree) (held_rows if_false.old.tree)) }
-    ensures dtype { Makes result out.old.tree out.new.tree
-        (λ made. type_of made.column ≡ held_type if_true.old.tree) }
-    ensures column { Demands result no_column (HasColumn mask.old.tree ×
-        HasColumn if_true.old.tree × HasColumn if_false.old.tree) }
-    ensures kind { Demands result other_kind (held_type mask.old.tree ≡ of_boolean) }
-    ensures alike { Demands result other_type
-        (held_type if_true.old.tree ≡ held_type if_false.old.tree) }
-    ensures length { Demands result other_length (
-        SideFits true_column (length (held_rows if_true.old.tree))
-        (length (held_rows mask.old.tree)) ×
-        SideFits false_column (length (held_rows if_false.old.tree))
-        (length (held_rows mask.old.tree))) }
-    ensures limits { TellsLimits result (past_taken (held_type if_true.old.tree)
-        (held_columns if_true.old.tree ++ held_columns if_false.old.tree)
-        (chosen_rows true_column false_column (in_force (held_rows mask.old.tree))
-        (held_rows if_true.old.tree) (held_rows if_false.old.tree))) }
-    ensures unchanged { mask.new.tree ≡ mask.old.tree }
-    ensures true_side { if_true.new.tree ≡ if_true.old.tree }
-    ensures false_side { if_false.new.tree ≡ if_false.old.tree }
-{
-    let Some(by) = mask.take(alloc) else {
-        return NO_COLUMN;
-    };
-    let Some(first) = if_true.take(alloc) else {
-        *mask = Handle::of(by);
-        return NO_COLUMN;
-    };
-    let Some(second) = if_false.take(alloc) else {
-        *mask = Handle::of(by);
-        *if_true = Handle::of(first);
-        return NO_COLUMN;
-    };
-    let status = choose_into(alloc, &by, &first, &second, true_column, false_column, out);
-    *mask = Handle::of(by);
-    *if_true = Handle::of(first);
-    *if_false = Handle::of(second);
-    status
-}
-
-fn choose_into(
-    alloc: Global,
-    mask: &ArrayRef,
-    if_true: &ArrayRef,
-    if_false: &ArrayRef,
-    true_column: bool,
-    false_column: bool,
-    out: &mut Handle,
-) -> u32
-    ensures rows { Makes result out.old.tree out.new.tree (λ made. rows made.column ≡
-        chosen_rows true_column false_column (in_force (rows mask.now.column))
-        (rows if_true.now.column) (rows if_false.now.column)) }
-    ensures dtype { Makes result out.old.tree out.new.tree
-        (λ made. type_of made.column ≡ type_of if_true.now.column) }
-    ensures column { result ≢ no_column }
-    ensures kind { Demands result other_kind (type_of mask.now.column ≡ of_boolean) }
-    ensures alike { Demands result other_type
-        (type_of if_true.now.column ≡ type_of if_false.now.column) }
-    ensures length { Demands result other_length (
-        SideFits true_column (length (rows if_true.now.column)) (length (rows mask.now.column)) ×
-        SideFits false_column (length (rows if_false.now.column))
-        (length (rows mask.now.column))) }
-    ensures limits { TellsLimits result (past_taken (type_of if_true.now.column)
-        (if_true.now.column ∷ if_false.now.column ∷ [])
-        (chosen_rows true_column false_column (in_force (rows mask.now.column))
-        (rows if_true.now.column) (rows if_false.now.column))) }
-{
-    let bits = match bits_of_mask(alloc, mask) {
-        Ok(bits) => bits,
-        Err(status) => return status,
-    };
-    if !if_true.same_dtype(if_false) {
-        return OTHER_TYPE;
-    }
-    if !side_fits(if_true, true_column, bits.len()) {
-        return OTHER_LENGTH;
-    }
-    if !side_fits(if_false, false_column, bits.len()) {
-        return OTHER_LENGTH;
-    }
-    match choice(alloc, &bits, if_true, if_false, true_column, false_column) {
-        Ok(chosen) => put(alloc, chosen, out),
-        Err(fault) => status_of(fault),
-    }
-}
-
-// Whether a side has as many rows as the mask, or one where it is a scalar.
-fn side_fits(side: &ArrayRef, is_column: bool, len: usize) -> bool
-    ensures right { result ≡ true → SideFits is_column (length (rows side.now.column)) len }
-    ensures wrong { result ≡ false → SideFits is_column (length (rows side.now.column)) len → ⊥ }
-{
-    if is_column {
-        side.len() == len
-    } else {
-        side.len() == 1
-    }
-}
-
-// Which rows of a column of truth values are the valid value true. Refuses a column of another kind, and for want of memory.
-fn bits_of_mask(alloc: Global, mask: &ArrayRef) -> Result<Bitmap, u32>
-    ensures bits { IfOk result (λ bits. bits.bits ≡ in_force (rows mask.now.column)) }
-    ensures len { IfOk result (λ bits. length bits.bits ≡ length (rows mask.now.column)) }
-    ensures few { IfOk result (λ bits. length bits.bits ≤ 4294967295) }
-    ensures kind { IfOk result (λ _. type_of mask.now.column ≡ of_boolean) }
-    ensures other { IfErr result (λ status. status ≡ other_kind →
-        type_of mask.now.column ≢ of_boolean) }
-    ensures refusal { IfErr result (λ status. IsOneOf status (no_memory ∷ other_kind ∷ [])) }
-{
-    let Ok(copy) = mask.try_clone(alloc) else {
-        return Err(NO_MEMORY);
-    };
-    let truths = match copy.into_boolean() {
-        Ok(truths) => truths,
-        Err(back) => {
-            drop(back);
-            return Err(OTHER_KIND);
-        }
-    };
-    match bits_in_force(alloc, &truths) {
-        Ok(bits) => Ok(bits),
-        Err(_) => Err(NO_MEMORY),
-    }
-}
-
-// Which rows are the valid value true. Refuses only for want of memory.
-fn bits_in_force(alloc: Global, mask: &BooleanArray) -> PolarsResult<Bitmap>
-    ensures bits { IfOk result (λ bits. bits.bits ≡ in_force (boolean_rows mask.now)) }
-    ensures len { IfOk result (λ bits. length bits.bits ≡ length (boolean_rows mask.now)) }
-    ensures few { IfOk result (λ bits. length bits.bits ≤ 4294967295) }
-{
-    match &mask.validity {
-        None => mask.values.try_clone(),
-        Some(validity) => mask.values.and(alloc, validity),
-    }
 }

@@ -1,18 +1,15 @@
 //! The rows that a mask keeps.
 
-ghost use Rattle.std.specs.Prelude.{◌≡◌, ◌≢◌, ◌≤◌, ◌*◌, [], ◌∷◌, length};
+ghost use Rattle.std.specs.Prelude.{◌≡◌, ◌≤◌, ◌*◌, [], ◌∷◌, length};
 ghost use Rattle.sel_bits.specs.Bits.{bits_from};
 ghost use Rattle.sel_arrow.specs.Rows.{rows, type_of};
 ghost use Rattle.sel_arrow.specs.Shape.{of_boolean};
 ghost use Rattle.sel_handle.specs.Status.{done, no_memory, no_column, other_kind, other_length, held_rows, held_type, Demands, HasColumn, IsOneOf, Makes};
 ghost use Rattle.polars_compute.specs.Select.{select, in_force};
 
-use polars_compute::filter::{filter, filter_with_bitmap};
-use sel_arrow::array::Array;
-use sel_arrow::array_ref::ArrayRef;
-use sel_bits::bitmap::Bitmap;
+use sel_calls::filters::{filter_bits_into, filter_into};
 use sel_handle::handle::Handle;
-use sel_handle::status::{NO_COLUMN, NO_MEMORY, OTHER_KIND, OTHER_LENGTH, put};
+use sel_handle::status::NO_COLUMN;
 use std::alloc::Global;
 
 /// Makes the column of the rows where the mask, a column of truth values, is the valid value true; a null in it counts
@@ -51,37 +48,6 @@ pub extern "C" fn sel_filter(
     status
 }
 
-fn filter_into(alloc: Global, column: &ArrayRef, mask: &ArrayRef, out: &mut Handle) -> u32
-    ensures rows { Makes result out.old.tree out.new.tree (λ made. rows made.column ≡
-        select (rows column.now.column) (in_force (rows mask.now.column))) }
-    ensures dtype { Makes result out.old.tree out.new.tree
-        (λ made. type_of made.column ≡ type_of column.now.column) }
-    ensures kind { Demands result other_kind (type_of mask.now.column ≡ of_boolean) }
-    ensures length { Demands result other_length
-        (length (rows column.now.column) ≡ length (rows mask.now.column)) }
-    ensures status { IsOneOf result
-        (done ∷ no_memory ∷ no_column ∷ other_kind ∷ other_length ∷ []) }
-    ensures column { result ≢ no_column }
-{
-    let Ok(copy) = mask.try_clone(alloc) else {
-        return NO_MEMORY;
-    };
-    let truths = match copy.into_boolean() {
-        Ok(truths) => truths,
-        Err(back) => {
-            drop(back);
-            return OTHER_KIND;
-        }
-    };
-    if column.len() != truths.len() {
-        return OTHER_LENGTH;
-    }
-    match filter(alloc, column, &truths) {
-        Ok(kept) => put(alloc, kept, out),
-        Err(_) => NO_MEMORY,
-    }
-}
-
 /// Makes the column of the rows where the bit is true, of `len` bits packed in `mask`. SEL_NO_COLUMN: `of` has no
 /// column; SEL_OTHER_LENGTH: it has not `len` rows, or `mask` has fewer bytes than `len` bits need.
 #[unsafe(no_mangle)]
@@ -108,35 +74,4 @@ pub extern "C" fn sel_filter_bits(
     let status = filter_bits_into(alloc, &column, mask, len, out);
     *of = Handle::of(column);
     status
-}
-
-fn filter_bits_into(
-    alloc: Global,
-    column: &ArrayRef,
-    mask: &[u8],
-    len: usize,
-    out: &mut Handle,
-) -> u32
-    ensures rows { Makes result out.old.tree out.new.tree (λ made. rows made.column ≡
-        select (rows column.now.column) (bits_from mask.now 0 len)) }
-    ensures dtype { Makes result out.old.tree out.new.tree
-        (λ made. type_of made.column ≡ type_of column.now.column) }
-    ensures length { Demands result other_length
-        ((len ≡ length (rows column.now.column)) × (len ≤ 8 * length mask.now)) }
-    ensures status { IsOneOf result (done ∷ no_memory ∷ no_column ∷ other_length ∷ []) }
-    ensures column { result ≢ no_column }
-{
-    if column.len() != len || mask.len() < len.div_ceil(8) {
-        return OTHER_LENGTH;
-    }
-    let Ok(copied) = Vec::from_slice(alloc, mask) else {
-        return NO_MEMORY;
-    };
-    let Ok(bits) = Bitmap::from_u8_vec(copied, len) else {
-        return NO_MEMORY;
-    };
-    match filter_with_bitmap(alloc, column, &bits) {
-        Ok(kept) => put(alloc, kept, out),
-        Err(_) => NO_MEMORY,
-    }
 }

@@ -1,19 +1,15 @@
 //! Entries of lists of one length.
 
-ghost use Rattle.std.specs.Prelude.{◌≡◌, ◌≢◌, false, IsTrue};
-ghost use Rattle.sel_arrow.specs.NestedArrays.{block_column};
+ghost use Rattle.std.specs.Prelude.{◌≡◌, false, IsTrue};
 ghost use Rattle.sel_arrow.specs.Rows.{rows, type_of};
 ghost use Rattle.sel_arrow.specs.Shape.{is_block_shape};
-ghost use Rattle.sel_c.specs.Entries.{entries_at, refuses_index, past_entries_at};
-ghost use Rattle.sel_c.specs.Types.{entry_type};
+ghost use Rattle.sel_calls.specs.Entries.{entries_at, refuses_index, past_entries_at};
+ghost use Rattle.sel_calls.specs.Types.{entry_type};
 ghost use Rattle.sel_handle.specs.Status.{no_column, other_kind, get_out_of_bounds, held_rows, held_type, Demands, HasColumn, Makes, TellsLimits};
 
-use sel_arrow::array::Array;
-use sel_arrow::array_ref::ArrayRef;
-use sel_arrow::fixed_size_list::FixedSizeListArray;
+use sel_calls::fixed::fixed_get_into;
 use sel_handle::handle::Handle;
-use sel_handle::status::{NO_COLUMN, NO_MEMORY, OTHER_KIND, put, status_of};
-use sel_sublists::sublist::fixed_size_list::sub_fixed_size_list_get_literal;
+use sel_handle::status::NO_COLUMN;
 use std::alloc::Global;
 
 /// Makes the column whose row k is the entry of list k at the index, or null where the list is null or, with
@@ -46,61 +42,4 @@ pub extern "C" fn sel_fixed_get(
     let status = fixed_get_into(alloc, &column, index, null_on_oob, out);
     *of = Handle::of(column);
     status
-}
-
-fn fixed_get_into(
-    alloc: Global,
-    column: &ArrayRef,
-    index: i64,
-    null_on_oob: bool,
-    out: &mut Handle,
-) -> u32
-    ensures rows { Makes result out.old.tree out.new.tree (λ made. rows made.column ≡
-        entries_at (rows column.now.column) (type_of column.now.column) index) }
-    ensures dtype { Makes result out.old.tree out.new.tree
-        (λ made. type_of made.column ≡ entry_type (type_of column.now.column)) }
-    ensures column { result ≢ no_column }
-    ensures kind { Demands result other_kind (IsTrue (is_block_shape (type_of column.now.column))) }
-    ensures bounds { Demands result get_out_of_bounds
-        (refuses_index null_on_oob (rows column.now.column) (type_of column.now.column) index
-        ≡ false) }
-    ensures limits { TellsLimits result
-        (past_entries_at (rows column.now.column) (type_of column.now.column) index) }
-{
-    let Ok(copy) = column.try_clone(alloc) else {
-        return NO_MEMORY;
-    };
-    let lists = match copy.into_fixed_size_list() {
-        Ok(lists) => lists,
-        Err(back) => {
-            drop(back);
-            return OTHER_KIND;
-        }
-    };
-    let status = entry_into(alloc, &lists, index, null_on_oob, out);
-    drop(lists);
-    status
-}
-
-fn entry_into(
-    alloc: Global,
-    lists: &FixedSizeListArray,
-    index: i64,
-    null_on_oob: bool,
-    out: &mut Handle,
-) -> u32
-    ensures rows { Makes result out.old.tree out.new.tree (λ made. rows made.column ≡
-        entries_at (rows (block_column lists.now)) (type_of (block_column lists.now)) index) }
-    ensures dtype { Makes result out.old.tree out.new.tree
-        (λ made. type_of made.column ≡ entry_type (type_of (block_column lists.now))) }
-    ensures own { (result ≢ no_column) × (result ≢ other_kind) }
-    ensures bounds { Demands result get_out_of_bounds (refuses_index null_on_oob
-        (rows (block_column lists.now)) (type_of (block_column lists.now)) index ≡ false) }
-    ensures limits { TellsLimits result (past_entries_at
-        (rows (block_column lists.now)) (type_of (block_column lists.now)) index) }
-{
-    match sub_fixed_size_list_get_literal(alloc, lists, index, null_on_oob) {
-        Ok(taken) => put(alloc, taken, out),
-        Err(fault) => status_of(fault),
-    }
 }

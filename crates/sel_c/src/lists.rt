@@ -1,20 +1,18 @@
 //! Elements of lists.
 
-ghost use Rattle.std.specs.Prelude.{◌≡◌, ◌≢◌, IsTrue};
-ghost use Rattle.sel_arrow.specs.NestedArrays.{list_column};
+ghost use Rattle.std.specs.Prelude.{◌≡◌, IsTrue};
 ghost use Rattle.sel_arrow.specs.Rows.{rows, type_of};
 ghost use Rattle.sel_arrow.specs.Shape.{of_large_list, is_list_shape};
-ghost use Rattle.sel_c.specs.Types.{entry_type};
+ghost use Rattle.sel_calls.specs.Types.{entry_type};
 ghost use Rattle.sel_handle.specs.Status.{done, no_column, other_kind, held_rows, held_type, Demands, HasColumn, Makes, TellsLimits};
 ghost use Rattle.sel_runs.specs.Need.{past};
 ghost use Rattle.sel_sublists.specs.Lists.{list_get, oob, unit_lists};
 
 use sel_arrow::array::Array;
-use sel_arrow::array_ref::ArrayRef;
-use sel_arrow::list::ListArray;
+use sel_calls::lists::{index_is_oob_into, sublist_get_into};
 use sel_handle::handle::Handle;
-use sel_handle::status::{DONE, NO_COLUMN, NO_MEMORY, OTHER_KIND, put, status_of};
-use sel_sublists::sublist::list::{array_to_unit_list, index_is_oob, sublist_get};
+use sel_handle::status::{NO_COLUMN, NO_MEMORY, put};
+use sel_sublists::sublist::list::array_to_unit_list;
 use std::alloc::Global;
 
 /// Makes the column whose row k is the element of list k at the index, or null where the list is null or has no such
@@ -45,46 +43,6 @@ pub extern "C" fn sel_sublist_get(
     status
 }
 
-fn sublist_get_into(alloc: Global, column: &ArrayRef, index: i64, out: &mut Handle) -> u32
-    ensures rows { Makes result out.old.tree out.new.tree
-        (λ made. rows made.column ≡ list_get (rows column.now.column) index) }
-    ensures dtype { Makes result out.old.tree out.new.tree
-        (λ made. type_of made.column ≡ entry_type (type_of column.now.column)) }
-    ensures column { result ≢ no_column }
-    ensures kind { Demands result other_kind (IsTrue (is_list_shape (type_of column.now.column))) }
-    ensures limits { TellsLimits result
-        (past (entry_type (type_of column.now.column)) (list_get (rows column.now.column) index)) }
-{
-    let Ok(copy) = column.try_clone(alloc) else {
-        return NO_MEMORY;
-    };
-    let lists = match copy.into_list() {
-        Ok(lists) => lists,
-        Err(back) => {
-            drop(back);
-            return OTHER_KIND;
-        }
-    };
-    let status = element_into(alloc, &lists, index, out);
-    drop(lists);
-    status
-}
-
-fn element_into(alloc: Global, lists: &ListArray<i64>, index: i64, out: &mut Handle) -> u32
-    ensures rows { Makes result out.old.tree out.new.tree
-        (λ made. rows made.column ≡ list_get (rows (list_column lists.now)) index) }
-    ensures dtype { Makes result out.old.tree out.new.tree
-        (λ made. type_of made.column ≡ entry_type (type_of (list_column lists.now))) }
-    ensures own { (result ≢ no_column) × (result ≢ other_kind) }
-    ensures limits { TellsLimits result (past (entry_type (type_of (list_column lists.now)))
-        (list_get (rows (list_column lists.now)) index)) }
-{
-    match sublist_get(alloc, lists, index) {
-        Ok(taken) => put(alloc, taken, out),
-        Err(fault) => status_of(fault),
-    }
-}
-
 /// Writes whether the index has no place in some list that is not null. SEL_NO_COLUMN: `of` has no column;
 /// SEL_OTHER_KIND: it is not of lists between offsets.
 #[unsafe(no_mangle)]
@@ -105,26 +63,6 @@ pub extern "C" fn sel_index_is_oob(
     let status = index_is_oob_into(alloc, &column, index, out);
     *of = Handle::of(column);
     status
-}
-
-fn index_is_oob_into(alloc: Global, column: &ArrayRef, index: i64, out: &mut bool) -> u32
-    ensures told { result ≡ done → out.new ≡ oob (rows column.now.column) index }
-    ensures column { result ≢ no_column }
-    ensures kind { Demands result other_kind (IsTrue (is_list_shape (type_of column.now.column))) }
-{
-    let Ok(copy) = column.try_clone(alloc) else {
-        return NO_MEMORY;
-    };
-    let lists = match copy.into_list() {
-        Ok(lists) => lists,
-        Err(back) => {
-            drop(back);
-            return OTHER_KIND;
-        }
-    };
-    *out = index_is_oob(&lists, index);
-    drop(lists);
-    DONE
 }
 
 /// Makes the column whose row k is the list of row k alone. SEL_NO_COLUMN: `of` has no column.

@@ -1,6 +1,6 @@
 //! Columns of bytes, lists and tuples, made of slices and of columns that the calls take.
 
-ghost use Rattle.std.specs.Prelude.{◌≡◌, ◌≢◌, All, None, map, length};
+ghost use Rattle.std.specs.Prelude.{◌≡◌, ◌≢◌, All, None, map};
 ghost use Rattle.sel_arrow.specs.Nested.{list_rows, block_rows, tuple_rows};
 ghost use Rattle.sel_arrow.specs.Pieces.{byte_rows, rows_between};
 ghost use Rattle.sel_arrow.specs.Rows.{rows, type_of};

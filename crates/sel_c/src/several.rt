@@ -1,46 +1,21 @@
 //! Rows of several columns: side by side, and picked.
 
-ghost use Rattle.std.specs.Prelude.{◌≡◌, ◌≢◌, ◌≤◌, ◌<◌, ◌↔◌, All, false, length, map, IsTrue, IfOk, IfErr};
+ghost use Rattle.std.specs.Prelude.{◌≡◌, ◌≤◌, ◌<◌, All, false, length, map, IsTrue};
 ghost use Rattle.std.specs.List.{flat_map};
 ghost use Rattle.sel_bits.specs.declared.faults.Malformed.TheVariants.{TooManyRows, ValidityLength};
-ghost use Rattle.sel_arrow.specs.Masked.{Covers};
 ghost use Rattle.sel_arrow.specs.Rows.{rows, type_of};
 ghost use Rattle.sel_arrow.specs.Value.{Null};
-ghost use Rattle.sel_c.specs.Several.{first_shape, picks_from, picks_in, AreAlike};
-ghost use Rattle.sel_flatten.specs.Flatten.{array_columns, array_rows, flatten, parts_fit, past_flattened};
-ghost use Rattle.sel_handle.specs.Inputs.{lacks_bits, validity_in};
+ghost use Rattle.sel_calls.specs.Several.{first_shape, picks_in, AreAlike};
+ghost use Rattle.sel_flatten.specs.Flatten.{flatten, parts_fit, past_flattened};
+ghost use Rattle.sel_handle.specs.Inputs.{lacks_bits};
 ghost use Rattle.sel_handle.specs.Status.{no_column, other_type, other_length, out_of_bounds, rule_status, held_columns, held_rows, held_type, Demands, HasColumn, Makes, TellsLimits};
 ghost use Rattle.sel_runs.specs.Need.{past_taken};
 ghost use Rattle.sel_runs.specs.Picks.{pick, PickFits};
 
-use crate::picks::{WordPlaces, are_in_bounds, lengths_of};
-use sel_arrow::array::Array;
-use sel_arrow::array_ref::ArrayRef;
-use sel_arrow::column::Column;
-use sel_arrow::validity::MOST_ROWS;
-use sel_bits::bitmap::Bitmap;
-use sel_bits::faults::{PolarsError, PolarsResult};
-use sel_flatten::horizontal_flatten::{flatten_is_safe, horizontal_flatten_unchecked};
+use sel_calls::several::{PickWords, collect_into, flatten_into};
 use sel_handle::handle::Handle;
-use sel_handle::inputs::validity_of;
 use sel_handle::several::share_all;
-use sel_handle::status::{
-    NO_MEMORY, OTHER_LENGTH, OTHER_TYPE, OUT_OF_BOUNDS, TOO_MANY_ROWS, VALIDITY_LENGTH, put,
-    status_of,
-};
-use sel_runs::plan::Walk;
-use sel_runs::planned::collect_plan;
 use std::alloc::Global;
-
-/// A row of one of several columns: of which one, and which, both counted from 0.
-#[repr(C)]
-#[derive(Clone, Copy)]
-pub struct PickWords {
-    /// Which column.
-    pub source: u32,
-    /// Which of its rows.
-    pub row: u32,
-}
 
 /// Makes the column of the rows side by side: row r of `height` has of each column, in their order, its `widths[i]` rows
 /// from `r * widths[i]` on, or its only `widths[i]` rows where it has no more; all of them stand behind one another.
@@ -79,56 +54,6 @@ pub extern "C" fn sel_flatten(
         }
         Err(status) => status,
     }
-}
-
-fn flatten_into(
-    alloc: Global,
-    arrays: &[ArrayRef],
-    widths: &[usize],
-    height: usize,
-    out: &mut Handle,
-) -> u32
-    ensures rows { Makes result out.old.tree out.new.tree (λ made. rows made.column ≡
-        flatten (map (λ array. rows array.column) arrays.now) widths.now height) }
-    ensures dtype { Makes result out.old.tree out.new.tree (λ made. type_of made.column ≡
-        first_shape (map (λ array. type_of array.column) arrays.now)) }
-    ensures column { result ≢ no_column }
-    ensures alike { Demands result other_type
-        (AreAlike (map (λ array. type_of array.column) arrays.now)) }
-    ensures length { Demands result other_length ((0 < length arrays.now) × IsTrue
-        (parts_fit height (map (λ array. rows array.column) arrays.now) widths.now)) }
-    ensures one_type { TellsLimits result
-        (λ _. AreAlike (map (λ array. type_of array.column) arrays.now)) }
-    ensures limits { TellsLimits result
-        (past_flattened height (first_shape (map (λ array. type_of array.column) arrays.now))
-        (array_columns arrays.now)
-        (flatten (map (λ array. rows array.column) arrays.now) widths.now height)) }
-{
-    if !are_alike(arrays) {
-        return OTHER_TYPE;
-    }
-    if !flatten_is_safe(arrays, widths, height) {
-        return OTHER_LENGTH;
-    }
-    match horizontal_flatten_unchecked(alloc, arrays, widths, height) {
-        Ok(flat) => put(alloc, flat, out),
-        Err(fault) => status_of(fault),
-    }
-}
-
-// Whether all columns are of one type.
-fn are_alike(arrays: &[ArrayRef]) -> bool
-    ensures { IsTrue result ↔ AreAlike (map (λ array. type_of array.column) arrays.now) }
-{
-    let Some(first) = arrays.first() else {
-        return true;
-    };
-    for array in arrays {
-        if !array.same_dtype(first) {
-            return false;
-        }
-    }
-    true
 }
 
 /// Makes the column whose row k is row `picks[k].row` of `sources[picks[k].source]`, or null where bit k of the validity
@@ -176,111 +101,4 @@ pub extern "C" fn sel_collect_rows(
         }
         Err(status) => status,
     }
-}
-
-fn collect_into(
-    alloc: Global,
-    arrays: &[ArrayRef],
-    words: &[PickWords],
-    bits: &[u8],
-    has_bits: bool,
-    out: &mut Handle,
-) -> u32
-    ensures rows { Makes result out.old.tree out.new.tree (λ made. rows made.column ≡
-        pick Null (map (λ array. rows array.column) arrays.now)
-        (picks_in words.now bits.now has_bits)) }
-    ensures dtype { Makes result out.old.tree out.new.tree (λ made. type_of made.column ≡
-        first_shape (map (λ array. type_of array.column) arrays.now)) }
-    ensures column { result ≢ no_column }
-    ensures few { Demands result (rule_status TooManyRows) (length words.now ≤ 4294967295) }
-    ensures validity { Demands result (rule_status ValidityLength)
-        (lacks_bits bits.now has_bits (length words.now) ≡ false) }
-    ensures some { Demands result other_length (0 < length arrays.now) }
-    ensures alike { Demands result other_type
-        (AreAlike (map (λ array. type_of array.column) arrays.now)) }
-    ensures bounds { Demands result out_of_bounds
-        (All (PickFits (map (λ array. rows array.column) arrays.now))
-        (picks_in words.now bits.now has_bits)) }
-    ensures one_type { TellsLimits result
-        (λ _. AreAlike (map (λ array. type_of array.column) arrays.now)) }
-    ensures limits { TellsLimits result
-        (past_taken (first_shape (map (λ array. type_of array.column) arrays.now))
-        (array_columns arrays.now) (pick Null (map (λ array. rows array.column) arrays.now)
-        (picks_in words.now bits.now has_bits))) }
-{
-    if words.len() > MOST_ROWS {
-        return TOO_MANY_ROWS;
-    }
-    if has_bits && bits.len() < words.len().div_ceil(8) {
-        return VALIDITY_LENGTH;
-    }
-    let Ok(validity) = validity_of(alloc, bits, has_bits, words.len()) else {
-        return NO_MEMORY;
-    };
-    collect_picks_into(alloc, arrays, words, &validity, out)
-}
-
-fn collect_picks_into(
-    alloc: Global,
-    arrays: &[ArrayRef],
-    words: &[PickWords],
-    validity: &Option<Bitmap>,
-    out: &mut Handle,
-) -> u32
-    requires few { length words.now ≤ 4294967295 }
-    requires covers { Covers validity.now (length words.now) }
-    ensures rows { Makes result out.old.tree out.new.tree (λ made. rows made.column ≡
-        pick Null (map (λ array. rows array.column) arrays.now)
-        (picks_from 0 validity.now words.now)) }
-    ensures dtype { Makes result out.old.tree out.new.tree (λ made. type_of made.column ≡
-        first_shape (map (λ array. type_of array.column) arrays.now)) }
-    ensures own { (result ≢ no_column) × (result ≢ rule_status TooManyRows) ×
-        (result ≢ rule_status ValidityLength) }
-    ensures some { Demands result other_length (0 < length arrays.now) }
-    ensures alike { Demands result other_type
-        (AreAlike (map (λ array. type_of array.column) arrays.now)) }
-    ensures bounds { Demands result out_of_bounds
-        (All (PickFits (map (λ array. rows array.column) arrays.now))
-        (picks_from 0 validity.now words.now)) }
-    ensures one_type { TellsLimits result
-        (λ _. AreAlike (map (λ array. type_of array.column) arrays.now)) }
-    ensures limits { TellsLimits result
-        (past_taken (first_shape (map (λ array. type_of array.column) arrays.now))
-        (array_columns arrays.now)
-        (pick Null (map (λ array. rows array.column) arrays.now)
-        (picks_from 0 validity.now words.now))) }
-{
-    if arrays.is_empty() {
-        return OTHER_LENGTH;
-    }
-    if !are_alike(arrays) {
-        return OTHER_TYPE;
-    }
-    let Ok(lengths) = lengths_of(alloc, arrays) else {
-        return NO_MEMORY;
-    };
-    let places = WordPlaces { words, validity };
-    if !are_in_bounds(&lengths, &places) {
-        return OUT_OF_BOUNDS;
-    }
-    let Ok(sources) = columns_of(alloc, arrays) else {
-        return NO_MEMORY;
-    };
-    match collect_plan(alloc, &sources, &Walk { places, at: 0 }, false) {
-        Ok(column) => put(alloc, ArrayRef { column }, out),
-        Err(fault) => status_of(fault),
-    }
-}
-
-// The columns themselves. Refuses only for want of memory.
-fn columns_of<'a>(alloc: Global, arrays: &'a [ArrayRef]) -> PolarsResult<Vec<&'a Column>>
-    ensures columns { IfOk result (λ found. map (λ c. c.now) found.items ≡
-        array_columns arrays.now) }
-    ensures refusal { IfErr result (λ fault. fault ≡ PolarsError.OutOfMemory) }
-{
-    let mut found = Vec::with_capacity(alloc, arrays.len())?;
-    for array in arrays {
-        found.push(array.as_column())?;
-    }
-    Ok(found)
 }

@@ -1,16 +1,14 @@
 //! Rows compared, and as a text.
 
 ghost use Rattle.std.specs.Prelude.{◌≡◌, ◌↔◌, [], ◌∷◌, length, IsTrue};
-ghost use Rattle.sel_arrow.specs.Rows.{rows, type_of};
-ghost use Rattle.sel_c.specs.Printed.{filled, held_text};
+ghost use Rattle.sel_arrow.specs.Rows.{rows};
+ghost use Rattle.sel_calls.specs.Printed.{filled, held_text};
 ghost use Rattle.sel_handle.specs.Status.{done, no_memory, no_column, held_rows, Demands, HasColumn, IsOneOf};
-ghost use Rattle.sel_text.specs.Texts.{text_of};
 
-use sel_arrow::array_ref::ArrayRef;
+use sel_calls::texts::print_into;
 use sel_handle::handle::Handle;
-use sel_handle::status::{DONE, NO_COLUMN, NO_MEMORY};
+use sel_handle::status::{DONE, NO_COLUMN};
 use sel_text::equal::equal_rows;
-use sel_text::print::print_rows;
 use std::alloc::Global;
 
 /// Writes whether the two columns have the same rows. The values decide and not the types: 1 is the same number in columns
@@ -60,28 +58,4 @@ pub extern "C" fn sel_print(alloc: Global, of: &mut Handle, out: &mut [u8], len:
     let status = print_into(alloc, &column, out, len);
     *of = Handle::of(column);
     status
-}
-
-fn print_into(alloc: Global, column: &ArrayRef, out: &mut [u8], len: &mut usize) -> u32
-    ensures text { result ≡ done → out.new ≡
-        filled (text_of (type_of column.now.column) (rows column.now.column)) out.old }
-    ensures len { result ≡ done → len.new ≡
-        length (text_of (type_of column.now.column) (rows column.now.column)) }
-    ensures status { IsOneOf result (done ∷ no_memory ∷ []) }
-{
-    let Ok(text) = print_rows(alloc, column.as_column()) else {
-        return NO_MEMORY;
-    };
-    let bytes = text.as_str().as_bytes();
-    *len = bytes.len();
-    fill(bytes, out);
-    DONE
-}
-
-// Writes as many bytes as there is room for.
-fn fill(text: &[u8], out: &mut [u8])
-    ensures { out.new ≡ filled text.now out.old }
-{
-    let count = text.len().min(out.len());
-    out[..count].copy_from_slice(&text[..count]);
 }

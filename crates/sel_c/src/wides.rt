@@ -1,162 +1,19 @@
 //! Columns of numbers of 128 bits, which pass as two words each.
 
-ghost use Rattle.std.specs.Prelude.{◌≡◌, ◌≢◌, [], ◌∷◌, ℤ, length, map, None, IfOk, IfErr};
-ghost use Rattle.sel_bits.specs.Faults.{IsFaultOrMemory};
+ghost use Rattle.std.specs.Prelude.{◌≡◌, [], ◌∷◌, length};
 ghost use Rattle.sel_arrow.specs.Masked.{number_rows};
 ghost use Rattle.sel_arrow.specs.Rows.{rows, type_of};
 ghost use Rattle.sel_arrow.specs.Shape.{of_int128, of_uint128};
-ghost use Rattle.sel_c.specs.Wides.{joined, signed_wide, unsigned_wide};
-ghost use Rattle.sel_handle.specs.Inputs.{validity_in, flat_rules, IsRuleOrMemory};
+ghost use Rattle.sel_calls.specs.Wides.{signed_wide, unsigned_wide};
+ghost use Rattle.sel_handle.specs.Inputs.{validity_in, flat_rules};
 ghost use Rattle.sel_handle.specs.Outputs.{Shows, numbers};
 ghost use Rattle.sel_handle.specs.Status.{done, no_memory, no_column, other_kind, other_length, held_rows, held_type, Demands, HasColumn, IsOneOf, Makes, Names};
 
-use sel_arrow::array::Array;
-use sel_arrow::array_ref::ArrayRef;
 use sel_arrow::primitive::ArrowPrimitive;
-use sel_bits::faults::{MakeError, PolarsResult};
+use sel_calls::wides::{Wide, wides_into, wides_of};
 use sel_handle::handle::Handle;
-use sel_handle::inputs::numbers_of;
-use sel_handle::status::{
-    DONE, NO_COLUMN, NO_MEMORY, OTHER_KIND, OTHER_LENGTH, put, status_of_maker,
-};
+use sel_handle::status::{NO_COLUMN, put, status_of_maker};
 use std::alloc::Global;
-
-/// A number of 128 bits as two words, as it lies in the memory of a little-endian machine.
-#[repr(C)]
-#[derive(Clone, Copy)]
-pub struct Wide {
-    /// The lower 64 bits.
-    pub low: u64,
-    /// The upper 64 bits.
-    pub high: u64,
-}
-
-/// A number that passes as two words.
-pub trait InWords: ArrowPrimitive {
-    ghost use Rattle.sel_c.specs.declared.wides.Wide.{Wide};
-
-    /// The number that two words show.
-    ghost shown_by: { Wide → ℤ };
-
-    /// The number of the words.
-    fn of_words(words: Wide) -> Self
-        ensures { Self.number result ≡ shown_by words };
-
-    /// The words of the number.
-    fn to_words(self) -> Wide
-        ensures { shown_by result ≡ Self.number self };
-}
-
-impl InWords for u128 {
-    ghost shown_by = { unsigned_wide };
-
-    fn of_words(words: Wide) -> u128 {
-        join(words)
-    }
-
-    fn to_words(self) -> Wide {
-        split(self)
-    }
-}
-
-impl InWords for i128 {
-    ghost shown_by = { signed_wide };
-
-    fn of_words(words: Wide) -> i128 {
-        join(words).cast_signed()
-    }
-
-    fn to_words(self) -> Wide {
-        split(self.cast_unsigned())
-    }
-}
-
-fn join(words: Wide) -> u128
-    ensures { result ≡ joined words }
-{
-    words.high as u128 * 18446744073709551616 + words.low as u128
-}
-
-fn split(number: u128) -> Wide
-    ensures { joined result ≡ number }
-{
-    Wide {
-        low: (number % 18446744073709551616) as u64,
-        high: (number / 18446744073709551616) as u64,
-    }
-}
-
-/// The numbers of the words. Refuses only for want of memory.
-fn joined_all<T: InWords>(alloc: Global, words: &[Wide]) -> PolarsResult<Vec<T>>
-    ensures numbers { IfOk result (λ numbers.
-        map T.number numbers.items ≡ map T.shown_by words.now) }
-{
-    let mut numbers = Vec::with_capacity(alloc, words.len())?;
-    for pair in words {
-        numbers.push(T::of_words(*pair))?;
-    }
-    Ok(numbers)
-}
-
-/// Writes the words of the numbers into a slice of as many.
-fn split_all<T: InWords>(numbers: &[T], out: &mut [Wide])
-    requires { length out.old ≡ length numbers.now }
-    ensures numbers { map T.number numbers.now ≡ map T.shown_by out.new }
-{
-    let mut i = 0;
-    while i < numbers.len() {
-        out[i] = numbers[i].to_words();
-        i += 1;
-    }
-}
-
-/// The column of the numbers. Refuses the first broken rule, or for want of memory.
-fn wides_of<T: InWords>(
-    alloc: Global,
-    words: &[Wide],
-    bytes: &[u8],
-    has: bool,
-) -> Result<ArrayRef, MakeError>
-    ensures rows { IfOk result (λ made. rows made.column ≡ number_rows T.shown_by words.now
-        (validity_in bytes.now has (length words.now))) }
-    ensures dtype { IfOk result (λ made. type_of made.column ≡ T.shape) }
-    ensures accepted { IfOk result (λ _. flat_rules (length words.now) bytes.now has ≡ None) }
-    ensures refused { IfErr result (IsRuleOrMemory (flat_rules (length words.now) bytes.now has)) }
-{
-    let Ok(numbers) = joined_all::<T>(alloc, words) else {
-        return Err(MakeError::OutOfMemory);
-    };
-    numbers_of(alloc, &numbers, bytes, has)
-}
-
-/// Writes the numbers, those beneath nulls too, into a slice of as many.
-#[tactic(auto, using(crate::proofs::Shown::words))]
-fn wides_into<T: InWords>(alloc: Global, column: &ArrayRef, out: &mut [Wide]) -> u32
-    ensures values { result ≡ done → Shows (numbers T.shown_by out.new) (rows column.now.column) }
-    ensures kind { Demands result other_kind (type_of column.now.column ≡ T.shape) }
-    ensures length { Demands result other_length
-        (length out.old ≡ length (rows column.now.column)) }
-    ensures status { IsOneOf result
-        (done ∷ no_memory ∷ no_column ∷ other_kind ∷ other_length ∷ []) }
-    ensures column { result ≢ no_column }
-{
-    let Ok(copy) = column.try_clone(alloc) else {
-        return NO_MEMORY;
-    };
-    let array = match copy.into_primitive::<T>() {
-        Ok(array) => array,
-        Err(back) => {
-            drop(back);
-            return OTHER_KIND;
-        }
-    };
-    let values = array.values().as_slice();
-    if out.len() != values.len() {
-        return OTHER_LENGTH;
-    }
-    split_all(values, out);
-    DONE
-}
 
 /// Makes the column of the numbers, each in two's complement. The first rule of these, in this order, that is broken:
 /// SEL_TOO_MANY_ROWS, more than 4,294,967,295; SEL_VALIDITY_LENGTH, fewer bytes of validity than the rows need.

@@ -3,8 +3,8 @@ use Rattle.sel_arrow.specs.Rows.{rows, type_of, buffers_held}
 use Rattle.sel_arrow.specs.Shape.{Shape}
 use Rattle.sel_arrow.specs.declared.array_ref.ArrayRef.{ArrayRef}
 use Rattle.sel_handle.specs.Status.{other_type, Demands}
-use Rattle.sel_c.specs.Several.{picks_in, AreAlike}
-use Rattle.sel_c.proofs.SameNeeds.{pick_limits}
+use Rattle.sel_calls.specs.Several.{picks_in, AreAlike}
+use Rattle.sel_calls.proofs.SameNeeds.{pick_limits}
 use Rattle.sel_c.proofs.several.sel_collect_rows.Goals as goal
 
 pub returns-in-Ok-clause-alike : goal.returns-in-Ok-clause-alike

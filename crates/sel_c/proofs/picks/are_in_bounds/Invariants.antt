@@ -1,8 +1,0 @@
--- The picks so far name rows.
-use Rattle.std.proofs.Common.{All, take}
-use Rattle.sel_c.specs.PickLengths.{HasRow}
-use Rattle.sel_c.specs.Several.{picks_from}
-use Rattle.sel_c.proofs.picks.are_in_bounds.Given as goal
-
-abbrev pub invariant-loop-k : goal.invariant-loop-k
-invariant-loop-k l = All (HasRow l.lengths) (take l.k (picks_from 0 l.places.validity.now l.places.words.now))

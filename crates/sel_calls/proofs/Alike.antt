@@ -1,0 +1,34 @@
+-- Several columns of one type, and the columns that are lent of them.
+use Rattle.std.proofs.Common.{◌≡◌, ℕ, ◌<◌, All, Some, List, [], ◌∷◌, length, map, refl, sym, ap, ◌∙◌, get_or}
+use Rattle.std.specs.List.{slice_get}
+use Rattle.std.proofs.lemmas.Option.{get_or_from_slice_get}
+use Rattle.std.proofs.lemmas.List.{length-map, get_or-map}
+use Rattle.std.proofs.lemmas.List.Elements.{All-map}
+use Rattle.sel_arrow.specs.Rows.{type_of}
+use Rattle.sel_arrow.specs.Shape.{Shape}
+use Rattle.sel_arrow.specs.declared.array_ref.ArrayRef.{ArrayRef}
+use Rattle.sel_runs.specs.Sources.{first_type}
+use Rattle.sel_calls.specs.Several.{first_shape, AreAlike}
+
+pub first_same : (arrays : List ArrayRef) → first_shape (map (λ array. type_of array.column) arrays) ≡ first_type (map (λ array. array.column) arrays)
+first_same [] = refl
+first_same (array ∷ arrays) = refl
+
+-- of one type, said of the columns and of their types
+pub alike_types : (arrays : List ArrayRef) → All (λ a. type_of a.column ≡ first_shape (map (λ array. type_of array.column) arrays)) arrays → AreAlike (map (λ array. type_of array.column) arrays)
+alike_types arrays all = All-map (λ (s : Shape). s ≡ first_shape (map (λ (array : ArrayRef). type_of array.column) arrays)) (λ (array : ArrayRef). type_of array.column) arrays all
+
+pub alike_columns : (arrays : List ArrayRef) → AreAlike (map (λ array. type_of array.column) arrays) → All (λ a. type_of a.column ≡ first_type (map (λ array. array.column) arrays)) arrays
+alike_columns arrays all k d below =
+    let there : k < length (map (λ (array : ArrayRef). type_of array.column) arrays) = rw length-map below in
+    sym (get_or-map (λ (array : ArrayRef). type_of array.column) arrays k d (type_of d.column) below) ∙ all k (type_of d.column) there ∙ first_same arrays
+
+-- where one is of another type than the first, they are not of one type
+pub not_alike : (arrays : List ArrayRef) (k : ℕ) (a d : ArrayRef) → k < length arrays → a ≡ get_or arrays k d → (type_of a.column ≡ first_shape (map (λ array. type_of array.column) arrays) → ⊥) → AreAlike (map (λ array. type_of array.column) arrays) → ⊥
+not_alike arrays k a d below is other all =
+    other (ap (λ (x : ArrayRef). type_of x.column) is ∙ alike_columns arrays all k d below ∙ sym (first_same arrays))
+
+-- the type of the first of them
+pub first_type_is : (arrays : List ArrayRef) (first : ArrayRef) → Some first ≡ slice_get arrays 0 → type_of first.column ≡ first_shape (map (λ array. type_of array.column) arrays)
+first_type_is [] first is = absurd cc
+first_type_is (a ∷ arrays) first is = ap (λ (x : ArrayRef). type_of x.column) (sym (get_or_from_slice_get (a ∷ arrays) 0 first a (sym is)))

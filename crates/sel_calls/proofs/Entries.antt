@@ -1,0 +1,27 @@
+-- What a getter of lists of one length answers, by the rows and the type of the lists.
+use Rattle.std.proofs.Common.{◌≡◌, ℕ, ℤ, Bool, false, length, List, replicate, w64, FitsSigned, to_z, of_z, ap, sym, ◌∙◌, arith}
+use Rattle.std.proofs.lemmas.Int.{to_z-of_z}
+use Rattle.sel_bits.specs.declared.faults.PolarsError.{PolarsError}
+use Rattle.sel_bits.specs.declared.faults.PolarsError.TheVariants.{OutOfMemory, SizeLimit, ComputeError}
+use Rattle.sel_arrow.specs.NestedArrays.{block_column}
+use Rattle.sel_arrow.specs.Rows.{rows}
+use Rattle.sel_arrow.specs.Value.{Value, Number}
+use Rattle.sel_arrow.specs.declared.fixed_size_list.FixedSizeListArray.{FixedSizeListArray}
+use Rattle.sel_arrow.proofs.NestedRows.{length-rows}
+use Rattle.sel_handle.specs.Status.{error_status, get_out_of_bounds, TellsLimits}
+use Rattle.sel_sublists.specs.Entries.{at_each, out_of_bounds, past_entries, IsGetRefusal}
+use Rattle.sel_calls.proofs.Limits.{limit_high, tells-none, tells-passed}
+
+-- the index that the call hands on, for each list, is the one given, for each row
+pub same-indices : (arr : FixedSizeListArray) (index : ℤ) → FitsSigned w64 index → at_each arr (to_z w64 (of_z w64 index)) ≡ replicate (length (rows (block_column arr))) (Number index)
+same-indices arr index fits = ap (λ i. at_each arr i) (to_z-of_z w64 index fits) ∙ ap (λ n. replicate n (Number index)) (sym (length-rows (block_column arr)))
+
+pub get-limits : (status : ℕ) (null_on_oob : Bool) (arr : FixedSizeListArray) (indices : List Value) (fault : PolarsError) → status ≡ error_status fault → IsGetRefusal null_on_oob arr indices fault → TellsLimits status (past_entries arr indices)
+get-limits status null_on_oob arr indices OutOfMemory number refusal = tells-passed status (past_entries arr indices) OutOfMemory number refusal.1
+get-limits status null_on_oob arr indices (SizeLimit limit) number refusal = tells-passed status (past_entries arr indices) (SizeLimit limit) number refusal.1
+get-limits status null_on_oob arr indices ComputeError number refusal = tells-none status (past_entries arr indices) (omega (arith, number))
+
+pub get-bounds : (status : ℕ) (null_on_oob : Bool) (arr : FixedSizeListArray) (indices : List Value) (fault : PolarsError) → status ≡ error_status fault → IsGetRefusal null_on_oob arr indices fault → status ≡ get_out_of_bounds → out_of_bounds null_on_oob arr indices ≡ false → ⊥
+get-bounds status null_on_oob arr indices OutOfMemory number refusal same inside = absurd (omega (arith, number, same))
+get-bounds status null_on_oob arr indices (SizeLimit limit) number refusal same inside = let high = limit_high limit in absurd (omega (arith, number, same, high))
+get-bounds status null_on_oob arr indices ComputeError number refusal same inside = absurd (cc (refusal, inside))

@@ -1,0 +1,32 @@
+use Rattle.std.proofs.Common.{◌<◌, ◌≤◌, All, arith, length, None, refl, subst, sym}
+use Rattle.std.proofs.lemmas.List.{take_all}
+use Rattle.std.proofs.lemmas.List.Elements.{All-more}
+use Rattle.sel_calls.specs.PickLengths.{HasRow}
+use Rattle.sel_calls.specs.Several.{picks_from}
+use Rattle.sel_calls.proofs.picks.are_in_bounds.Goals as goal
+
+pub returns-then-not-has_row : goal.returns-then-not-has_row
+returns-then-not-has_row c =
+    let p = c.args.places.now in
+    let picks = picks_from 0 p.validity.now p.words.now in
+    let inside : c.loop-k.k < length picks = omega (arith, c.loop-k-test.true, c.len-k-end.ensures.len) in (
+      λ never. absurd cc,
+      λ all.
+          let yes = c.has_row.ensures.1 (subst (HasRow c.args.lengths.now) (sym c.get.ensures) (all c.loop-k.k None inside)) in
+          absurd (cc (yes, c.if-not-has_row.true)),
+    )
+
+pub loop-k-preserved : goal.loop-k-preserved
+loop-k-preserved c =
+    let p = c.args.places.now in
+    let picks = picks_from 0 p.validity.now p.words.now in
+    let inside : c.loop-k.k < length picks = omega (arith, c.loop-k-test.true, c.len-k-end.ensures.len) in
+    All-more (HasRow c.args.lengths.now) picks c.loop-k.k None inside c.loop-k.invariant
+    (subst (HasRow c.args.lengths.now) c.get.ensures (c.has_row.ensures.0 c.if-not-has_row.false))
+
+pub returns : goal.returns
+returns c =
+    let p = c.args.places.now in
+    let picks = picks_from 0 p.validity.now p.words.now in
+    let all : length picks ≤ c.loop-k.k = omega (arith, c.loop-k-test.false, c.len-k-end.ensures.len) in
+    (λ yes. subst (All (HasRow c.args.lengths.now)) (take_all c.loop-k.k picks all) c.loop-k.invariant, λ every. refl)

@@ -1,0 +1,8 @@
+-- The picks so far name rows.
+use Rattle.std.proofs.Common.{All, take}
+use Rattle.sel_calls.specs.PickLengths.{HasRow}
+use Rattle.sel_calls.specs.Several.{picks_from}
+use Rattle.sel_calls.proofs.picks.are_in_bounds.Given as goal
+
+abbrev pub invariant-loop-k : goal.invariant-loop-k
+invariant-loop-k l = All (HasRow l.lengths) (take l.k (picks_from 0 l.places.validity.now l.places.words.now))

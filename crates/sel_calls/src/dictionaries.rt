@@ -1,0 +1,162 @@
+//! Dictionaries: keys that name texts.
+
+ghost use Rattle.std.specs.Prelude.{◌≡◌, ◌≢◌, ◌≤◌, [], ◌∷◌, length, IfSome, IsTrue};
+ghost use Rattle.sel_arrow.specs.Columns.{primitive_rows, utf8view_rows};
+ghost use Rattle.sel_arrow.specs.Rows.{rows, type_of};
+ghost use Rattle.sel_arrow.specs.Shape.{of_uint32, of_utf8_view};
+ghost use Rattle.sel_handle.specs.Status.{done, no_memory, no_column, other_kind, out_of_bounds, Demands, IsOneOf, Makes};
+ghost use Rattle.polars_compute.specs.Dictionary.{propagated_keys, valid_values};
+ghost use Rattle.polars_compute.specs.Pick.{all_within};
+
+use polars_compute::propagate_dictionary::{keys_in_bounds, propagate_dictionary_value_nulls};
+use sel_arrow::array::Array;
+use sel_arrow::array_ref::ArrayRef;
+use sel_arrow::primitive::PrimitiveArray;
+use sel_arrow::utf8view::Utf8ViewArray;
+use sel_handle::handle::Handle;
+use sel_handle::status::{DONE, NO_MEMORY, OTHER_KIND, OUT_OF_BOUNDS};
+use std::alloc::Global;
+
+/// The keys and values of a dictionary whose null values are handed on to the keys. The statuses are those of the call
+/// for C.
+pub fn propagate_columns_into(
+    alloc: Global,
+    keys: &ArrayRef,
+    values: &ArrayRef,
+    out_keys: &mut Handle,
+    out_values: &mut Handle,
+) -> u32
+    ensures keys { Makes result out_keys.old.tree out_keys.new.tree (λ made. rows made.column ≡
+        propagated_keys (rows keys.now.column) (rows values.now.column)) }
+    ensures values { Makes result out_values.old.tree out_values.new.tree
+        (λ made. rows made.column ≡ valid_values (rows values.now.column)) }
+    ensures key_dtype { Makes result out_keys.old.tree out_keys.new.tree
+        (λ made. type_of made.column ≡ of_uint32) }
+    ensures value_dtype { Makes result out_values.old.tree out_values.new.tree
+        (λ made. type_of made.column ≡ of_utf8_view) }
+    ensures column { result ≢ no_column }
+    ensures kind { Demands result other_kind
+        ((type_of keys.now.column ≡ of_uint32) × (type_of values.now.column ≡ of_utf8_view)) }
+    ensures bounds { Demands result out_of_bounds
+        (IsTrue (all_within (length (rows values.now.column)) (rows keys.now.column))) }
+    ensures status { IsOneOf result (done ∷ no_memory ∷ other_kind ∷ out_of_bounds ∷ []) }
+{
+    let Ok(copy) = keys.try_clone(alloc) else {
+        return NO_MEMORY;
+    };
+    let at = match copy.into_primitive::<u32>() {
+        Ok(at) => at,
+        Err(back) => {
+            drop(back);
+            return OTHER_KIND;
+        }
+    };
+    propagate_keys_into(alloc, &at, values, out_keys, out_values)
+}
+
+fn propagate_keys_into(
+    alloc: Global,
+    keys: &PrimitiveArray<u32>,
+    values: &ArrayRef,
+    out_keys: &mut Handle,
+    out_values: &mut Handle,
+) -> u32
+    ensures keys { Makes result out_keys.old.tree out_keys.new.tree (λ made. rows made.column ≡
+        propagated_keys (primitive_rows keys.now) (rows values.now.column)) }
+    ensures values { Makes result out_values.old.tree out_values.new.tree
+        (λ made. rows made.column ≡ valid_values (rows values.now.column)) }
+    ensures key_dtype { Makes result out_keys.old.tree out_keys.new.tree
+        (λ made. type_of made.column ≡ of_uint32) }
+    ensures value_dtype { Makes result out_values.old.tree out_values.new.tree
+        (λ made. type_of made.column ≡ of_utf8_view) }
+    ensures column { result ≢ no_column }
+    ensures kind { Demands result other_kind (type_of values.now.column ≡ of_utf8_view) }
+    ensures bounds { Demands result out_of_bounds
+        (IsTrue (all_within (length (rows values.now.column)) (primitive_rows keys.now))) }
+    ensures status { IsOneOf result (done ∷ no_memory ∷ other_kind ∷ out_of_bounds ∷ []) }
+{
+    let Ok(copy) = values.try_clone(alloc) else {
+        return NO_MEMORY;
+    };
+    let texts = match copy.into_utf8view() {
+        Ok(texts) => texts,
+        Err(back) => {
+            drop(back);
+            return OTHER_KIND;
+        }
+    };
+    propagate_texts_into(alloc, keys, &texts, out_keys, out_values)
+}
+
+fn propagate_texts_into(
+    alloc: Global,
+    keys: &PrimitiveArray<u32>,
+    values: &Utf8ViewArray,
+    out_keys: &mut Handle,
+    out_values: &mut Handle,
+) -> u32
+    ensures keys { Makes result out_keys.old.tree out_keys.new.tree (λ made. rows made.column ≡
+        propagated_keys (primitive_rows keys.now) (utf8view_rows values.now)) }
+    ensures values { Makes result out_values.old.tree out_values.new.tree
+        (λ made. rows made.column ≡ valid_values (utf8view_rows values.now)) }
+    ensures key_dtype { Makes result out_keys.old.tree out_keys.new.tree
+        (λ made. type_of made.column ≡ of_uint32) }
+    ensures value_dtype { Makes result out_values.old.tree out_values.new.tree
+        (λ made. type_of made.column ≡ of_utf8_view) }
+    ensures own { (result ≢ no_column) × (result ≢ other_kind) }
+    ensures bounds { Demands result out_of_bounds
+        (IsTrue (all_within (length (utf8view_rows values.now)) (primitive_rows keys.now))) }
+    ensures status { IsOneOf result (done ∷ no_memory ∷ out_of_bounds ∷ []) }
+{
+    if !keys_in_bounds(keys, values.len()) {
+        return OUT_OF_BOUNDS;
+    }
+    match propagate_dictionary_value_nulls(alloc, keys, values) {
+        Ok((keys, values)) => put_both(
+            alloc,
+            keys.into_ref(),
+            values.into_ref(),
+            out_keys,
+            out_values,
+        ),
+        Err(_) => NO_MEMORY,
+    }
+}
+
+// Puts a column into each of two handles, or neither where memory is wanting.
+fn put_both(
+    alloc: Global,
+    first: ArrayRef,
+    second: ArrayRef,
+    out_first: &mut Handle,
+    out_second: &mut Handle,
+) -> u32
+    ensures first { Makes result out_first.old.tree out_first.new.tree (λ made. made ≡ first) }
+    ensures second { Makes result out_second.old.tree out_second.new.tree (λ made. made ≡ second) }
+    ensures status { result ≤ no_memory }
+{
+    let Some(first) = boxed(alloc, first) else {
+        drop(second);
+        return NO_MEMORY;
+    };
+    let Some(second) = boxed(alloc, second) else {
+        drop(first);
+        return NO_MEMORY;
+    };
+    *out_first = Handle::of(first);
+    *out_second = Handle::of(second);
+    DONE
+}
+
+// The column in a box; none where memory is wanting.
+fn boxed(alloc: Global, column: ArrayRef) -> Option<Box<ArrayRef>>
+    ensures { IfSome result (λ boxed. boxed.value ≡ column) }
+{
+    match Box::new(alloc, column) {
+        Ok(boxed) => Some(boxed),
+        Err(refused) => {
+            drop(refused.value);
+            None
+        }
+    }
+}

@@ -1,0 +1,16 @@
+//! What the calls for C do once they have taken the columns from their handles.
+#![tactic(auto)]
+
+pub mod children;
+pub mod choices;
+pub mod dictionaries;
+pub mod filters;
+pub mod fixed;
+pub mod fixed_each;
+pub mod lists;
+mod picks;
+pub mod several;
+mod sides;
+pub mod takes;
+pub mod texts;
+pub mod wides;

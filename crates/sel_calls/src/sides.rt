@@ -1,0 +1,396 @@
+//! Choices between the rows of two columns of one type.
+
+ghost use Rattle.std.specs.Prelude.{◌≡◌, ◌≤◌, ◌∷◌, [], length, IfOk, IfErr, IfSome};
+ghost use Rattle.sel_arrow.specs.Columns.{primitive_rows};
+ghost use Rattle.sel_arrow.specs.Rows.{rows, type_of};
+ghost use Rattle.sel_calls.specs.Chosen.{chosen_rows, first_row};
+ghost use Rattle.sel_calls.specs.ChosenPicks.{bit_pick, chosen_picks, place_on, SideFits};
+ghost use Rattle.sel_choices.specs.Choose.{choose, choose_one, choose_or_one};
+ghost use Rattle.sel_choices.specs.Sides.{column};
+ghost use Rattle.sel_runs.specs.Need.{past_taken, IsRefusal};
+
+use sel_arrow::array::Array;
+use sel_arrow::array_ref::ArrayRef;
+use sel_arrow::column::Column;
+use sel_arrow::primitive::{ArrowPrimitive, PrimitiveArray};
+use sel_bits::bitmap::Bitmap;
+use sel_bits::faults::{PolarsError, PolarsResult};
+use sel_choices::if_then_else::IfThenElseKernel;
+use sel_runs::plan::{Places, Walk};
+use sel_runs::planned::collect_plan;
+use std::alloc::Global;
+
+/// Row k of one column where bit k is true, else row k of the other; of a side that is no column but a scalar, its only
+/// row. Refuses for want of memory, and where the rows need more than a column may have.
+pub(crate) fn choice(
+    alloc: Global,
+    mask: &Bitmap,
+    if_true: &ArrayRef,
+    if_false: &ArrayRef,
+    true_column: bool,
+    false_column: bool,
+) -> PolarsResult<ArrayRef>
+    requires alike { type_of if_true.now.column ≡ type_of if_false.now.column }
+    requires true_side { SideFits true_column (length (rows if_true.now.column))
+        (length mask.now.bits) }
+    requires false_side { SideFits false_column (length (rows if_false.now.column))
+        (length mask.now.bits) }
+    requires few { length mask.now.bits ≤ 4294967295 }
+    ensures rows { IfOk result (λ chosen. rows chosen.column ≡ chosen_rows true_column false_column
+        mask.now.bits (rows if_true.now.column) (rows if_false.now.column)) }
+    ensures dtype { IfOk result (λ chosen. type_of chosen.column ≡ type_of if_true.now.column) }
+    ensures refusal { IfErr result (IsRefusal (past_taken (type_of if_true.now.column)
+        (if_true.now.column ∷ if_false.now.column ∷ []) (chosen_rows true_column false_column
+        mask.now.bits (rows if_true.now.column) (rows if_false.now.column)))) }
+{
+    let quick = number_choice(alloc, mask, if_true, if_false, true_column, false_column)?;
+    if let Some(chosen) = quick {
+        return Ok(chosen);
+    }
+    if true_column && false_column {
+        let quick = kernel_choice(alloc, mask, if_true, if_false)?;
+        if let Some(chosen) = quick {
+            return Ok(chosen);
+        }
+    }
+    picked_choice(alloc, mask, if_true, if_false, true_column, false_column)
+}
+
+// The choice between two columns of truth values or of views, by the words of the mask; none where they are of other types.
+fn kernel_choice(
+    alloc: Global,
+    mask: &Bitmap,
+    if_true: &ArrayRef,
+    if_false: &ArrayRef,
+) -> PolarsResult<Option<ArrayRef>>
+    requires true_side { length (rows if_true.now.column) ≡ length mask.now.bits }
+    requires false_side { length (rows if_false.now.column) ≡ length mask.now.bits }
+    ensures rows { IfOk result (λ made. IfSome made (λ chosen. rows chosen.column ≡
+        choose mask.now.bits (rows if_true.now.column) (rows if_false.now.column))) }
+    ensures dtype { IfOk result (λ made. IfSome made (λ chosen.
+        type_of chosen.column ≡ type_of if_true.now.column)) }
+    ensures refusal { IfErr result (IsRefusal (past_taken (type_of if_true.now.column)
+        (if_true.now.column ∷ if_false.now.column ∷ []) (choose mask.now.bits
+        (rows if_true.now.column) (rows if_false.now.column)))) }
+{
+    match (if_true.as_column(), if_false.as_column()) {
+        (Column::Boolean(first), Column::Boolean(second)) => {
+            chosen_columns(alloc, mask, first, second)
+        }
+        (Column::BinaryView(first), Column::BinaryView(second)) => {
+            chosen_columns(alloc, mask, first, second)
+        }
+        (Column::Utf8View(first), Column::Utf8View(second)) => {
+            chosen_columns(alloc, mask, first, second)
+        }
+        _ => Ok(None),
+    }
+}
+
+// The same of columns of any type, by picks.
+fn picked_choice(
+    alloc: Global,
+    mask: &Bitmap,
+    if_true: &ArrayRef,
+    if_false: &ArrayRef,
+    true_column: bool,
+    false_column: bool,
+) -> PolarsResult<ArrayRef>
+    requires alike { type_of if_true.now.column ≡ type_of if_false.now.column }
+    requires true_side { SideFits true_column (length (rows if_true.now.column))
+        (length mask.now.bits) }
+    requires false_side { SideFits false_column (length (rows if_false.now.column))
+        (length mask.now.bits) }
+    requires few { length mask.now.bits ≤ 4294967295 }
+    ensures rows { IfOk result (λ chosen. rows chosen.column ≡ chosen_rows true_column false_column
+        mask.now.bits (rows if_true.now.column) (rows if_false.now.column)) }
+    ensures dtype { IfOk result (λ chosen. type_of chosen.column ≡ type_of if_true.now.column) }
+    ensures refusal { IfErr result (IsRefusal (past_taken (type_of if_true.now.column)
+        (if_true.now.column ∷ if_false.now.column ∷ []) (chosen_rows true_column false_column
+        mask.now.bits (rows if_true.now.column) (rows if_false.now.column)))) }
+{
+    let sources = [if_true.as_column(), if_false.as_column()];
+    let places = MaskPlaces {
+        mask,
+        true_column,
+        false_column,
+    };
+    let column = collect_plan(alloc, &sources, &Walk { places, at: 0 }, false)?;
+    Ok(ArrayRef { column })
+}
+
+// The same of columns of numbers, by the words of the mask; none where they are no numbers, or a scalar is null.
+fn number_choice(
+    alloc: Global,
+    mask: &Bitmap,
+    if_true: &ArrayRef,
+    if_false: &ArrayRef,
+    true_column: bool,
+    false_column: bool,
+) -> PolarsResult<Option<ArrayRef>>
+    requires true_side { SideFits true_column (length (rows if_true.now.column))
+        (length mask.now.bits) }
+    requires false_side { SideFits false_column (length (rows if_false.now.column))
+        (length mask.now.bits) }
+    requires few { length mask.now.bits ≤ 4294967295 }
+    ensures rows { IfOk result (λ made. IfSome made (λ chosen. rows chosen.column ≡
+        chosen_rows true_column false_column
+        mask.now.bits (rows if_true.now.column) (rows if_false.now.column))) }
+    ensures dtype { IfOk result (λ made. IfSome made (λ chosen.
+        type_of chosen.column ≡ type_of if_true.now.column)) }
+    ensures refusal { IfErr result (IsRefusal (λ _. ⊥)) }
+{
+    match if_true.as_column() {
+        Column::Int8(_) => {
+            choice_of::<i8>(alloc, mask, if_true, if_false, true_column, false_column)
+        }
+        Column::Int16(_) => {
+            choice_of::<i16>(alloc, mask, if_true, if_false, true_column, false_column)
+        }
+        Column::Int32(_) => {
+            choice_of::<i32>(alloc, mask, if_true, if_false, true_column, false_column)
+        }
+        Column::Int64(_) => {
+            choice_of::<i64>(alloc, mask, if_true, if_false, true_column, false_column)
+        }
+        Column::Int128(_) => {
+            choice_of::<i128>(alloc, mask, if_true, if_false, true_column, false_column)
+        }
+        Column::UInt8(_) => {
+            choice_of::<u8>(alloc, mask, if_true, if_false, true_column, false_column)
+        }
+        Column::UInt16(_) => {
+            choice_of::<u16>(alloc, mask, if_true, if_false, true_column, false_column)
+        }
+        Column::UInt32(_) => {
+            choice_of::<u32>(alloc, mask, if_true, if_false, true_column, false_column)
+        }
+        Column::UInt64(_) => {
+            choice_of::<u64>(alloc, mask, if_true, if_false, true_column, false_column)
+        }
+        Column::UInt128(_) => {
+            choice_of::<u128>(alloc, mask, if_true, if_false, true_column, false_column)
+        }
+        _ => Ok(None),
+    }
+}
+
+// The same of columns of numbers of one type; none where they are of another, or a scalar is null.
+fn choice_of<T: ArrowPrimitive>(
+    alloc: Global,
+    mask: &Bitmap,
+    if_true: &ArrayRef,
+    if_false: &ArrayRef,
+    true_column: bool,
+    false_column: bool,
+) -> PolarsResult<Option<ArrayRef>>
+    requires true_side { SideFits true_column (length (rows if_true.now.column))
+        (length mask.now.bits) }
+    requires false_side { SideFits false_column (length (rows if_false.now.column))
+        (length mask.now.bits) }
+    requires few { length mask.now.bits ≤ 4294967295 }
+    ensures rows { IfOk result (λ made. IfSome made (λ chosen. rows chosen.column ≡
+        chosen_rows true_column false_column
+        mask.now.bits (rows if_true.now.column) (rows if_false.now.column))) }
+    ensures dtype { IfOk result (λ made. IfSome made (λ chosen.
+        type_of chosen.column ≡ type_of if_true.now.column)) }
+    ensures refusal { IfErr result (IsRefusal (λ _. ⊥)) }
+{
+    let Ok(first) = numbers_in::<T>(alloc, if_true) else {
+        return Err(PolarsError::OutOfMemory);
+    };
+    let Some(first) = first else {
+        return Ok(None);
+    };
+    let Ok(second) = numbers_in::<T>(alloc, if_false) else {
+        return Err(PolarsError::OutOfMemory);
+    };
+    let Some(second) = second else {
+        return Ok(None);
+    };
+    chosen_numbers(alloc, mask, &first, &second, true_column, false_column)
+}
+
+// The numbers of a column; none where it is of another type. Refuses only for want of memory.
+fn numbers_in<T: ArrowPrimitive>(
+    alloc: Global,
+    column: &ArrayRef,
+) -> PolarsResult<Option<PrimitiveArray<T>>>
+    ensures rows { IfOk result (λ found. IfSome found (λ numbers.
+        primitive_rows numbers ≡ rows column.now.column)) }
+    ensures dtype { IfOk result (λ found. IfSome found (λ _.
+        type_of column.now.column ≡ T.shape)) }
+    ensures refusal { IfErr result (IsRefusal (λ _. ⊥)) }
+{
+    let Ok(copy) = column.try_clone(alloc) else {
+        return Err(PolarsError::OutOfMemory);
+    };
+    match copy.into_primitive::<T>() {
+        Ok(numbers) => Ok(Some(numbers)),
+        Err(back) => {
+            drop(back);
+            Ok(None)
+        }
+    }
+}
+
+// The same of numbers; none where a scalar is null.
+fn chosen_numbers<T: ArrowPrimitive>(
+    alloc: Global,
+    mask: &Bitmap,
+    if_true: &PrimitiveArray<T>,
+    if_false: &PrimitiveArray<T>,
+    true_column: bool,
+    false_column: bool,
+) -> PolarsResult<Option<ArrayRef>>
+    requires true_side { SideFits true_column (length (primitive_rows if_true.now))
+        (length mask.now.bits) }
+    requires false_side { SideFits false_column (length (primitive_rows if_false.now))
+        (length mask.now.bits) }
+    ensures rows { IfOk result (λ made. IfSome made (λ chosen. rows chosen.column ≡
+        chosen_rows true_column false_column
+        mask.now.bits (primitive_rows if_true.now) (primitive_rows if_false.now))) }
+    ensures dtype { IfOk result (λ made. IfSome made (λ chosen. type_of chosen.column ≡ T.shape)) }
+    ensures refusal { IfErr result (IsRefusal (λ _. ⊥)) }
+{
+    if true_column {
+        if false_column {
+            return chosen_columns(alloc, mask, if_true, if_false);
+        }
+        return chosen_or_one(alloc, mask, if_true, if_false);
+    }
+    if false_column {
+        return chosen_one(alloc, mask, if_true, if_false);
+    }
+    Ok(None)
+}
+
+// The choice between two columns that the words of a mask choose between.
+fn chosen_columns<A: IfThenElseKernel>(
+    alloc: Global,
+    mask: &Bitmap,
+    if_true: &A,
+    if_false: &A,
+) -> PolarsResult<Option<ArrayRef>>
+    requires true_side { length (A.rows if_true.now) ≡ length mask.now.bits }
+    requires false_side { length (A.rows if_false.now) ≡ length mask.now.bits }
+    requires alike { A.shape if_true.now ≡ A.shape if_false.now }
+    ensures rows { IfOk result (λ made. IfSome made (λ chosen. rows chosen.column ≡
+        choose mask.now.bits (A.rows if_true.now) (A.rows if_false.now))) }
+    ensures dtype { IfOk result (λ made. IfSome made (λ chosen.
+        type_of chosen.column ≡ A.shape if_true.now)) }
+    ensures refusal { IfErr result (IsRefusal
+        (A.past (A.shape if_true.now) (column if_true.now) (column if_false.now)
+        (choose mask.now.bits (A.rows if_true.now) (A.rows if_false.now)))) }
+{
+    match A::if_then_else(alloc, mask, if_true, if_false) {
+        Ok(chosen) => Ok(Some(chosen.into_ref())),
+        Err(fault) => Err(fault),
+    }
+}
+
+// The choice between the first number of a column and the numbers of another; none where the first one is null.
+fn chosen_one<T: ArrowPrimitive>(
+    alloc: Global,
+    mask: &Bitmap,
+    if_true: &PrimitiveArray<T>,
+    if_false: &PrimitiveArray<T>,
+) -> PolarsResult<Option<ArrayRef>>
+    requires true_side { length (primitive_rows if_true.now) ≡ 1 }
+    requires false_side { length (primitive_rows if_false.now) ≡ length mask.now.bits }
+    ensures rows { IfOk result (λ made. IfSome made (λ chosen. rows chosen.column ≡ choose_one
+        mask.now.bits (first_row (primitive_rows if_true.now)) (primitive_rows if_false.now))) }
+    ensures dtype { IfOk result (λ made. IfSome made (λ chosen. type_of chosen.column ≡ T.shape)) }
+    ensures refusal { IfErr result (IsRefusal (λ _. ⊥)) }
+{
+    let Some(one) = if_true.get(0) else {
+        return Ok(None);
+    };
+    match PrimitiveArray::if_then_else_broadcast_true(alloc, mask, &one, if_false) {
+        Ok(chosen) => Ok(Some(chosen.into_ref())),
+        Err(fault) => Err(fault),
+    }
+}
+
+// The choice between the numbers of a column and the first number of another; none where the first one is null.
+fn chosen_or_one<T: ArrowPrimitive>(
+    alloc: Global,
+    mask: &Bitmap,
+    if_true: &PrimitiveArray<T>,
+    if_false: &PrimitiveArray<T>,
+) -> PolarsResult<Option<ArrayRef>>
+    requires true_side { length (primitive_rows if_true.now) ≡ length mask.now.bits }
+    requires false_side { length (primitive_rows if_false.now) ≡ 1 }
+    ensures rows { IfOk result (λ made. IfSome made (λ chosen. rows chosen.column ≡ choose_or_one
+        mask.now.bits (primitive_rows if_true.now) (first_row (primitive_rows if_false.now)))) }
+    ensures dtype { IfOk result (λ made. IfSome made (λ chosen. type_of chosen.column ≡ T.shape)) }
+    ensures refusal { IfErr result (IsRefusal (λ _. ⊥)) }
+{
+    let Some(one) = if_false.get(0) else {
+        return Ok(None);
+    };
+    match PrimitiveArray::if_then_else_broadcast_false(alloc, mask, if_true, &one) {
+        Ok(chosen) => Ok(Some(chosen.into_ref())),
+        Err(fault) => Err(fault),
+    }
+}
+
+/// The picks of a choice, of sides that are columns or scalars.
+#[derive(Drop)]
+struct MaskPlaces<'a> {
+    mask: &'a Bitmap,
+    true_column: bool,
+    false_column: bool,
+    ghost few: { length mask.now.bits ≤ 4294967295 },
+}
+
+impl Places for MaskPlaces<'_> {
+    ghost picks = { λ places. chosen_picks places.true_column places.false_column 0
+        places.mask.now.bits };
+
+    #[inline(always)]
+    fn len(&self) -> usize {
+        self.mask.len()
+    }
+
+    #[inline(always)]
+    fn get(&self, k: usize) -> Option<(u32, u32)> {
+        pick_by(self.mask.get_bit(k), self.true_column, self.false_column, k)
+    }
+
+    #[inline(always)]
+    fn again(&self) -> Self {
+        MaskPlaces {
+            mask: self.mask,
+            true_column: self.true_column,
+            false_column: self.false_column,
+        }
+    }
+
+    #[inline(always)]
+    fn has_nulls(&self) -> bool {
+        false
+    }
+}
+
+// The pick of one bit.
+#[inline(always)]
+fn pick_by(bit: bool, true_column: bool, false_column: bool, i: usize) -> Option<(u32, u32)>
+    requires { i ≤ 4294967295 }
+    ensures { result ≡ bit_pick true_column false_column bit i }
+{
+    if bit {
+        Some((0, place_of(true_column, i)))
+    } else {
+        Some((1, place_of(false_column, i)))
+    }
+}
+
+// The place of a side's row.
+#[inline(always)]
+fn place_of(is_column: bool, i: usize) -> u32
+    requires { i ≤ 4294967295 }
+    ensures { result ≡ place_on is_column i }
+{
+    if is_column { i as u32 } else { 0 }
+}

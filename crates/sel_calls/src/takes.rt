@@ -1,0 +1,96 @@
+//! The rows at indices.
+
+ghost use Rattle.std.specs.Prelude.{◌≡◌, ◌≢◌, length, pos, IsTrue};
+ghost use Rattle.sel_arrow.specs.Columns.{primitive_rows};
+ghost use Rattle.sel_arrow.specs.Masked.{number_rows};
+ghost use Rattle.sel_arrow.specs.Rows.{rows, type_of};
+ghost use Rattle.sel_arrow.specs.Shape.{of_uint32};
+ghost use Rattle.sel_handle.specs.Inputs.{validity_in};
+ghost use Rattle.sel_handle.specs.Status.{no_column, other_kind, out_of_bounds, Demands, Makes, TellsLimits};
+ghost use Rattle.sel_runs.specs.Need.{past};
+ghost use Rattle.polars_compute.specs.Pick.{all_within, take_rows};
+
+use polars_compute::gather::{indices_in_bounds, take_unchecked};
+use sel_arrow::array::Array;
+use sel_arrow::array_ref::ArrayRef;
+use sel_arrow::primitive::IdxArr;
+use sel_handle::handle::Handle;
+use sel_handle::inputs::numbers_of;
+use sel_handle::status::{NO_MEMORY, OTHER_KIND, OUT_OF_BOUNDS, put, status_of, status_of_maker};
+use std::alloc::Global;
+
+/// The rows at the indices, a column of 32-bit numbers; null where an index is. OTHER_KIND, OUT_OF_BOUNDS: as of the
+/// call for C.
+pub fn take_into(alloc: Global, column: &ArrayRef, indices: &ArrayRef, out: &mut Handle) -> u32
+    ensures rows { Makes result out.old.tree out.new.tree (λ made. rows made.column ≡
+        take_rows (rows column.now.column) (rows indices.now.column)) }
+    ensures dtype { Makes result out.old.tree out.new.tree
+        (λ made. type_of made.column ≡ type_of column.now.column) }
+    ensures column { result ≢ no_column }
+    ensures kind { Demands result other_kind (type_of indices.now.column ≡ of_uint32) }
+    ensures bounds { Demands result out_of_bounds
+        (IsTrue (all_within (length (rows column.now.column)) (rows indices.now.column))) }
+    ensures limits { TellsLimits result (past (type_of column.now.column)
+        (take_rows (rows column.now.column) (rows indices.now.column))) }
+{
+    let Ok(copy) = indices.try_clone(alloc) else {
+        return NO_MEMORY;
+    };
+    let at = match copy.into_primitive::<u32>() {
+        Ok(at) => at,
+        Err(back) => {
+            drop(back);
+            return OTHER_KIND;
+        }
+    };
+    take_at_into(alloc, column, &at, out)
+}
+
+fn take_at_into(alloc: Global, column: &ArrayRef, indices: &IdxArr, out: &mut Handle) -> u32
+    ensures rows { Makes result out.old.tree out.new.tree (λ made. rows made.column ≡
+        take_rows (rows column.now.column) (primitive_rows indices.now)) }
+    ensures dtype { Makes result out.old.tree out.new.tree
+        (λ made. type_of made.column ≡ type_of column.now.column) }
+    ensures column { result ≢ no_column }
+    ensures kind { result ≢ other_kind }
+    ensures bounds { Demands result out_of_bounds
+        (IsTrue (all_within (length (rows column.now.column)) (primitive_rows indices.now))) }
+    ensures limits { TellsLimits result (past (type_of column.now.column)
+        (take_rows (rows column.now.column) (primitive_rows indices.now))) }
+{
+    if !indices_in_bounds(indices, column.len()) {
+        return OUT_OF_BOUNDS;
+    }
+    match take_unchecked(alloc, column, indices) {
+        Ok(taken) => put(alloc, taken, out),
+        Err(fault) => status_of(fault),
+    }
+}
+
+/// The rows at the indices of a slice, null where the validity is false. The statuses are those of the call for C.
+pub fn take_rows_into(
+    alloc: Global,
+    column: &ArrayRef,
+    indices: &[u32],
+    bits: &[u8],
+    has_bits: bool,
+    out: &mut Handle,
+) -> u32
+    ensures rows { Makes result out.old.tree out.new.tree (λ made. rows made.column ≡
+        take_rows (rows column.now.column)
+        (number_rows pos indices.now (validity_in bits.now has_bits (length indices.now)))) }
+    ensures dtype { Makes result out.old.tree out.new.tree
+        (λ made. type_of made.column ≡ type_of column.now.column) }
+    ensures column { result ≢ no_column }
+    ensures bounds { Demands result out_of_bounds
+        (IsTrue (all_within (length (rows column.now.column))
+        (number_rows pos indices.now (validity_in bits.now has_bits (length indices.now))))) }
+    ensures limits { TellsLimits result (past (type_of column.now.column)
+        (take_rows (rows column.now.column)
+        (number_rows pos indices.now (validity_in bits.now has_bits (length indices.now))))) }
+{
+    match numbers_of(alloc, indices, bits, has_bits) {
+        Ok(at) => take_into(alloc, column, &at, out),
+        Err(fault) => status_of_maker(fault),
+    }
+}
