@@ -45,18 +45,18 @@ pub fn collect_plan<'a, P: Plan>(
     }
     let first: &Column = sources[0];
     match first {
-        Column::Boolean(_) => Ok(gather_boolean(alloc, sources, plan)?),
-        Column::Int8(_) => Ok(gather_primitive::<P, i8>(alloc, sources, plan)?),
-        Column::Int16(_) => Ok(gather_primitive::<P, i16>(alloc, sources, plan)?),
-        Column::Int32(_) => Ok(gather_primitive::<P, i32>(alloc, sources, plan)?),
-        Column::Int64(_) => Ok(gather_primitive::<P, i64>(alloc, sources, plan)?),
-        Column::Int128(_) => Ok(gather_primitive::<P, i128>(alloc, sources, plan)?),
-        Column::UInt8(_) => Ok(gather_primitive::<P, u8>(alloc, sources, plan)?),
-        Column::UInt16(_) => Ok(gather_primitive::<P, u16>(alloc, sources, plan)?),
-        Column::UInt32(_) => Ok(gather_primitive::<P, u32>(alloc, sources, plan)?),
-        Column::UInt64(_) => Ok(gather_primitive::<P, u64>(alloc, sources, plan)?),
-        Column::UInt128(_) => Ok(gather_primitive::<P, u128>(alloc, sources, plan)?),
-        Column::LargeList { values, .. } => Ok(gather_lists(alloc, values, sources, plan)?),
+        Column::Boolean(_) => gather_boolean(alloc, sources, plan),
+        Column::Int8(_) => gather_primitive::<P, i8>(alloc, sources, plan),
+        Column::Int16(_) => gather_primitive::<P, i16>(alloc, sources, plan),
+        Column::Int32(_) => gather_primitive::<P, i32>(alloc, sources, plan),
+        Column::Int64(_) => gather_primitive::<P, i64>(alloc, sources, plan),
+        Column::Int128(_) => gather_primitive::<P, i128>(alloc, sources, plan),
+        Column::UInt8(_) => gather_primitive::<P, u8>(alloc, sources, plan),
+        Column::UInt16(_) => gather_primitive::<P, u16>(alloc, sources, plan),
+        Column::UInt32(_) => gather_primitive::<P, u32>(alloc, sources, plan),
+        Column::UInt64(_) => gather_primitive::<P, u64>(alloc, sources, plan),
+        Column::UInt128(_) => gather_primitive::<P, u128>(alloc, sources, plan),
+        Column::LargeList { values, .. } => gather_lists(alloc, values, sources, plan),
         _ => collect_listed(alloc, sources, plan),
     }
 }
