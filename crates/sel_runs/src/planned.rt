@@ -82,6 +82,5 @@ fn collect_listed<'a, P: Plan>(
 {
     let len = plan.len();
     let runs = runs_of_plan(alloc, plan)?;
-    let column = collect_runs(alloc, sources, &runs, len)?;
-    Ok(column)
+    collect_runs(alloc, sources, &runs, len)
 }
