@@ -44,6 +44,30 @@ pub fn collect_plan<'a, P: Plan>(
         return collect_listed(alloc, sources, plan);
     }
     let first: &Column = sources[0];
+    gather_like(alloc, first, sources, plan)
+}
+
+// The same, looked up pick by pick where that serves columns of the type of `first`.
+fn gather_like<'a, P: Plan>(
+    alloc: Global,
+    first: &Column,
+    sources: &'a [&'a Column],
+    plan: &P,
+) -> PolarsResult<Column>
+    requires kind { first_type (columns_of sources.now) ≡ type_of first.now }
+    requires some { 0 < length sources.now }
+    requires alike { All (λ c. type_of c.now ≡ type_of first.now) sources.now }
+    requires formed { All (λ c. IsWellFormed c.now) sources.now }
+    requires fits { All (PickFits (rows_of sources.now)) (P.picks plan.now) }
+    ensures rows { IfOk result (λ column. rows column ≡
+        pick Null (rows_of sources.now) (P.picks plan.now)) }
+    ensures dtype { IfOk result (λ column. type_of column ≡ type_of first.now) }
+    ensures formed { IfOk result (λ column. IsWellFormed column) }
+    ensures within { IfOk result (λ _. PassesNone (past_taken (type_of first.now)
+        (columns_of sources.now) (pick Null (rows_of sources.now) (P.picks plan.now)))) }
+    ensures refusal { IfErr result (IsRefusal (past_taken (type_of first.now)
+        (columns_of sources.now) (pick Null (rows_of sources.now) (P.picks plan.now)))) }
+{
     match first {
         Column::Boolean(_) => gather_boolean(alloc, sources, plan),
         Column::Int8(_) => gather_primitive::<P, i8>(alloc, sources, plan),
