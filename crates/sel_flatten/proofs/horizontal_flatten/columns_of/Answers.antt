@@ -1,4 +1,4 @@
-use Rattle.std.proofs.Common.{◌≡◌, ◌∙◌, Bor, ◌++◌, ◌∷◌, [], map, take, ap, sym}
+use Rattle.std.proofs.Common.{◌∙◌, Bor, ◌++◌, ◌∷◌, [], map, take, ap, sym}
 use Rattle.std.proofs.lemmas.List.{take_all, map_more, map-append}
 use Rattle.sel_arrow.specs.declared.array_ref.ArrayRef.{ArrayRef}
 use Rattle.sel_arrow.specs.declared.column.Column.{Column}

@@ -1,7 +1,7 @@
 use Rattle.std.proofs.Common.{◌∷◌, [], All, map, ◌∙◌, ap, sym, subst, w64, to_z, of_z}
 use Rattle.std.proofs.lemmas.Int.{to_z-of_z}
 use Rattle.std.proofs.lemmas.Result.{IfOk-weaker, MatchResult-weaker}
-use Rattle.sel_arrow.specs.Rows.{rows, type_of}
+use Rattle.sel_arrow.specs.Rows.{rows}
 use Rattle.sel_arrow.specs.Value.{Null}
 use Rattle.sel_runs.specs.Picks.{pick, PickFits}
 use Rattle.sel_sublists.specs.Elements.{child_pick}
