@@ -105,25 +105,25 @@ fn collect_like<'a>(
 {
     match first {
         Column::Null(_) => Ok(collect_null(sources, runs, len)),
-        Column::Boolean(_) => Ok(collect_boolean(alloc, sources, runs, len)?),
-        Column::Int8(_) => Ok(collect_primitive::<i8>(alloc, sources, runs, len)?),
-        Column::Int16(_) => Ok(collect_primitive::<i16>(alloc, sources, runs, len)?),
-        Column::Int32(_) => Ok(collect_primitive::<i32>(alloc, sources, runs, len)?),
-        Column::Int64(_) => Ok(collect_primitive::<i64>(alloc, sources, runs, len)?),
-        Column::Int128(_) => Ok(collect_primitive::<i128>(alloc, sources, runs, len)?),
-        Column::UInt8(_) => Ok(collect_primitive::<u8>(alloc, sources, runs, len)?),
-        Column::UInt16(_) => Ok(collect_primitive::<u16>(alloc, sources, runs, len)?),
-        Column::UInt32(_) => Ok(collect_primitive::<u32>(alloc, sources, runs, len)?),
-        Column::UInt64(_) => Ok(collect_primitive::<u64>(alloc, sources, runs, len)?),
-        Column::UInt128(_) => Ok(collect_primitive::<u128>(alloc, sources, runs, len)?),
-        Column::LargeBinary(_) => Ok(collect_large_binary(alloc, sources, runs, len)?),
-        Column::BinaryView(_) => Ok(collect_binview(alloc, sources, runs, len)?),
-        Column::Utf8View(_) => Ok(collect_utf8view(alloc, sources, runs, len)?),
-        Column::LargeList { values, .. } => Ok(collect_lists(alloc, values, sources, runs, len)?),
+        Column::Boolean(_) => collect_boolean(alloc, sources, runs, len),
+        Column::Int8(_) => collect_primitive::<i8>(alloc, sources, runs, len),
+        Column::Int16(_) => collect_primitive::<i16>(alloc, sources, runs, len),
+        Column::Int32(_) => collect_primitive::<i32>(alloc, sources, runs, len),
+        Column::Int64(_) => collect_primitive::<i64>(alloc, sources, runs, len),
+        Column::Int128(_) => collect_primitive::<i128>(alloc, sources, runs, len),
+        Column::UInt8(_) => collect_primitive::<u8>(alloc, sources, runs, len),
+        Column::UInt16(_) => collect_primitive::<u16>(alloc, sources, runs, len),
+        Column::UInt32(_) => collect_primitive::<u32>(alloc, sources, runs, len),
+        Column::UInt64(_) => collect_primitive::<u64>(alloc, sources, runs, len),
+        Column::UInt128(_) => collect_primitive::<u128>(alloc, sources, runs, len),
+        Column::LargeBinary(_) => collect_large_binary(alloc, sources, runs, len),
+        Column::BinaryView(_) => collect_binview(alloc, sources, runs, len),
+        Column::Utf8View(_) => collect_utf8view(alloc, sources, runs, len),
+        Column::LargeList { values, .. } => collect_lists(alloc, values, sources, runs, len),
         Column::FixedSizeList { size, values, .. } => {
-            Ok(collect_blocks(alloc, *size, values, sources, runs, len)?)
+            collect_blocks(alloc, *size, values, sources, runs, len)
         }
-        Column::Struct { fields, .. } => Ok(collect_tuples(alloc, fields, sources, runs, len)?),
+        Column::Struct { fields, .. } => collect_tuples(alloc, fields, sources, runs, len),
     }
 }
 

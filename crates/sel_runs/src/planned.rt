@@ -44,19 +44,43 @@ pub fn collect_plan<'a, P: Plan>(
         return collect_listed(alloc, sources, plan);
     }
     let first: &Column = sources[0];
+    gather_like(alloc, first, sources, plan)
+}
+
+// The same, looked up pick by pick where that serves columns of the type of `first`.
+fn gather_like<'a, P: Plan>(
+    alloc: Global,
+    first: &Column,
+    sources: &'a [&'a Column],
+    plan: &P,
+) -> PolarsResult<Column>
+    requires kind { first_type (columns_of sources.now) ≡ type_of first.now }
+    requires some { 0 < length sources.now }
+    requires alike { All (λ c. type_of c.now ≡ type_of first.now) sources.now }
+    requires formed { All (λ c. IsWellFormed c.now) sources.now }
+    requires fits { All (PickFits (rows_of sources.now)) (P.picks plan.now) }
+    ensures rows { IfOk result (λ column. rows column ≡
+        pick Null (rows_of sources.now) (P.picks plan.now)) }
+    ensures dtype { IfOk result (λ column. type_of column ≡ type_of first.now) }
+    ensures formed { IfOk result (λ column. IsWellFormed column) }
+    ensures within { IfOk result (λ _. PassesNone (past_taken (type_of first.now)
+        (columns_of sources.now) (pick Null (rows_of sources.now) (P.picks plan.now)))) }
+    ensures refusal { IfErr result (IsRefusal (past_taken (type_of first.now)
+        (columns_of sources.now) (pick Null (rows_of sources.now) (P.picks plan.now)))) }
+{
     match first {
-        Column::Boolean(_) => Ok(gather_boolean(alloc, sources, plan)?),
-        Column::Int8(_) => Ok(gather_primitive::<P, i8>(alloc, sources, plan)?),
-        Column::Int16(_) => Ok(gather_primitive::<P, i16>(alloc, sources, plan)?),
-        Column::Int32(_) => Ok(gather_primitive::<P, i32>(alloc, sources, plan)?),
-        Column::Int64(_) => Ok(gather_primitive::<P, i64>(alloc, sources, plan)?),
-        Column::Int128(_) => Ok(gather_primitive::<P, i128>(alloc, sources, plan)?),
-        Column::UInt8(_) => Ok(gather_primitive::<P, u8>(alloc, sources, plan)?),
-        Column::UInt16(_) => Ok(gather_primitive::<P, u16>(alloc, sources, plan)?),
-        Column::UInt32(_) => Ok(gather_primitive::<P, u32>(alloc, sources, plan)?),
-        Column::UInt64(_) => Ok(gather_primitive::<P, u64>(alloc, sources, plan)?),
-        Column::UInt128(_) => Ok(gather_primitive::<P, u128>(alloc, sources, plan)?),
-        Column::LargeList { values, .. } => Ok(gather_lists(alloc, values, sources, plan)?),
+        Column::Boolean(_) => gather_boolean(alloc, sources, plan),
+        Column::Int8(_) => gather_primitive::<P, i8>(alloc, sources, plan),
+        Column::Int16(_) => gather_primitive::<P, i16>(alloc, sources, plan),
+        Column::Int32(_) => gather_primitive::<P, i32>(alloc, sources, plan),
+        Column::Int64(_) => gather_primitive::<P, i64>(alloc, sources, plan),
+        Column::Int128(_) => gather_primitive::<P, i128>(alloc, sources, plan),
+        Column::UInt8(_) => gather_primitive::<P, u8>(alloc, sources, plan),
+        Column::UInt16(_) => gather_primitive::<P, u16>(alloc, sources, plan),
+        Column::UInt32(_) => gather_primitive::<P, u32>(alloc, sources, plan),
+        Column::UInt64(_) => gather_primitive::<P, u64>(alloc, sources, plan),
+        Column::UInt128(_) => gather_primitive::<P, u128>(alloc, sources, plan),
+        Column::LargeList { values, .. } => gather_lists(alloc, values, sources, plan),
         _ => collect_listed(alloc, sources, plan),
     }
 }
@@ -82,6 +106,5 @@ fn collect_listed<'a, P: Plan>(
 {
     let len = plan.len();
     let runs = runs_of_plan(alloc, plan)?;
-    let column = collect_runs(alloc, sources, &runs, len)?;
-    Ok(column)
+    collect_runs(alloc, sources, &runs, len)
 }

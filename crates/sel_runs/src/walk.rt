@@ -49,8 +49,7 @@ pub fn gather_lists<'a, P: Plan>(
     let (ends, below, need) = walk_lists(alloc, sources, plan)?;
     let children = children_of(alloc, sources)?;
     let values = collect_runs(alloc, &children, &below, need)?;
-    let column = lists_of_plan(alloc, values, ends, sources, plan)?;
-    Ok(column)
+    lists_of_plan(alloc, values, ends, sources, plan)
 }
 
 // The lists that a plan picks, over where they end and the rows that they hold. Refuses only for want of memory.
@@ -163,8 +162,7 @@ pub fn collect_list_runs<'a>(
     let (ends, below, need) = walk_runs(alloc, sources, runs, len)?;
     let children = children_of(alloc, sources)?;
     let values = collect_runs(alloc, &children, &below, need)?;
-    let column = lists_with(alloc, values, ends, sources, runs, len)?;
-    Ok(column)
+    lists_with(alloc, values, ends, sources, runs, len)
 }
 
 // A 0 and where each list ends that runs pick, `len` lists in all, the runs of the children's rows that they hold, and how many these

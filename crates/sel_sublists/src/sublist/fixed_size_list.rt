@@ -46,8 +46,7 @@ pub fn sub_fixed_size_list_get_literal(
     let place = negative_to_usize(index, arr.size);
     let places = LiteralPlaces { arr, index, place };
     let plan = Walk { places, at: 0 };
-    let taken = collect_one_plan(alloc, arr.values(), &plan)?;
-    Ok(taken)
+    collect_one_plan(alloc, arr.values(), &plan)
 }
 
 /// Row k is the entry of list k at index k, or null where list k or index k is null or the index has no place in lists of that
@@ -75,8 +74,7 @@ pub fn sub_fixed_size_list_get(
     }
     let places = EntryPlaces { arr, index };
     let plan = Walk { places, at: 0 };
-    let taken = collect_one_plan(alloc, arr.values(), &plan)?;
-    Ok(taken)
+    collect_one_plan(alloc, arr.values(), &plan)
 }
 
 // Whether one index for all lists is out of bounds.

@@ -42,8 +42,7 @@ pub fn sublist_get(alloc: Global, arr: &ListArray<i64>, index: i64) -> PolarsRes
 {
     let places = ListPlaces { arr, index };
     let plan = Walk { places, at: 0 };
-    let taken = collect_one_plan(alloc, arr.values(), &plan)?;
-    Ok(taken)
+    collect_one_plan(alloc, arr.values(), &plan)
 }
 
 /// Row k is null where list k is null or the index has no place in it, else it says which of the child's rows is the element

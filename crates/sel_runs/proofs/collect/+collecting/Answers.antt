@@ -112,20 +112,26 @@ collect_like-collect_tuples-requires t c =
     let firsts = subst (All (λ x. IsWellFormed x)) (sym same) (λ k d h. (has.fields k d h).1) in
     (omega (arith, c.decreases, ap size_of kind), (firsts, ((λ k d h. c.requires.alike k d h ∙ kind), (c.requires.formed, (c.requires.fits, (c.requires.len, c.requires.few))))))
 
-pub collect_like-returns-in_err-collect_tuples-in-Struct-clause-refusal : goal.collect_like-returns-in_err-collect_tuples-in-Struct-clause-refusal
-collect_like-returns-in_err-collect_tuples-in-Struct-clause-refusal t c =
+pub collect_like-returns-in-Struct-clause-dtype : goal.collect_like-returns-in-Struct-clause-dtype
+collect_like-returns-in-Struct-clause-dtype t c =
     let kind : type_of c.args.first.now ≡ of_struct (shapes_of (map type_of c.deref-in-Struct.result.now)) =
     ap type_of c.in-Struct.is ∙ type_of-Struct c.in-Struct.len c.in-Struct.fields c.in-Struct.validity ∙ ap (λ l. of_struct (shapes_of (map type_of l))) (sym c.deref-in-Struct.ensures.value)
     in
-    let p = err_from_is_err_and c.from_residual-in_err-collect_tuples-in-Struct.result c.from_residual-in_err-collect_tuples-in-Struct.ensures.1 in
-    rw (p.1, p.2, kind) c.in_err-collect_tuples-in-Struct.ensures.refusal
+    rw kind c.collect_tuples.ensures.dtype
 
-pub collect_like-returns-in_ok-collect_tuples-in-Struct-clause-dtype : goal.collect_like-returns-in_ok-collect_tuples-in-Struct-clause-dtype
-collect_like-returns-in_ok-collect_tuples-in-Struct-clause-dtype t c =
+pub collect_like-returns-in-Struct-clause-within : goal.collect_like-returns-in-Struct-clause-within
+collect_like-returns-in-Struct-clause-within t c =
     let kind : type_of c.args.first.now ≡ of_struct (shapes_of (map type_of c.deref-in-Struct.result.now)) =
     ap type_of c.in-Struct.is ∙ type_of-Struct c.in-Struct.len c.in-Struct.fields c.in-Struct.validity ∙ ap (λ l. of_struct (shapes_of (map type_of l))) (sym c.deref-in-Struct.ensures.value)
     in
-    c.in_ok-collect_tuples-in-Struct.ensures.dtype ∙ sym kind
+    rw kind c.collect_tuples.ensures.within
+
+pub collect_like-returns-in-Struct-clause-refusal : goal.collect_like-returns-in-Struct-clause-refusal
+collect_like-returns-in-Struct-clause-refusal t c =
+    let kind : type_of c.args.first.now ≡ of_struct (shapes_of (map type_of c.deref-in-Struct.result.now)) =
+    ap type_of c.in-Struct.is ∙ type_of-Struct c.in-Struct.len c.in-Struct.fields c.in-Struct.validity ∙ ap (λ l. of_struct (shapes_of (map type_of l))) (sym c.deref-in-Struct.ensures.value)
+    in
+    rw kind c.collect_tuples.ensures.refusal
 
 pub collect_fields-loop-j-init : goal.collect_fields-loop-j-init
 collect_fields-loop-j-init t c =
@@ -226,26 +232,14 @@ collect_fields-returns-clause-formed t c = c.loop-j.invariant.formed
 
 -- ---- an answer passes no limit
 
-pub collect_like-returns-in_ok-collect_binview-in-BinaryView-clause-within : goal.collect_like-returns-in_ok-collect_binview-in-BinaryView-clause-within
-collect_like-returns-in_ok-collect_binview-in-BinaryView-clause-within t c =
-    let vs = picked c.args.sources.now c.args.runs.now in
-    subst (λ s. PassesNone (past_taken s (columns_of c.args.sources.now) vs)) (sym (ap type_of c.in-BinaryView.is)) c.in_ok-collect_binview-in-BinaryView.ensures.within
+pub collect_like-returns-in-BinaryView-clause-within : goal.collect_like-returns-in-BinaryView-clause-within
+collect_like-returns-in-BinaryView-clause-within t c = rw c.in-BinaryView.is c.collect_binview.ensures.within
 
-pub collect_like-returns-in_ok-collect_utf8view-in-Utf8View-clause-within : goal.collect_like-returns-in_ok-collect_utf8view-in-Utf8View-clause-within
-collect_like-returns-in_ok-collect_utf8view-in-Utf8View-clause-within t c =
-    let vs = picked c.args.sources.now c.args.runs.now in
-    subst (λ s. PassesNone (past_taken s (columns_of c.args.sources.now) vs)) (sym (ap type_of c.in-Utf8View.is)) c.in_ok-collect_utf8view-in-Utf8View.ensures.within
+pub collect_like-returns-in-Utf8View-clause-within : goal.collect_like-returns-in-Utf8View-clause-within
+collect_like-returns-in-Utf8View-clause-within t c = rw c.in-Utf8View.is c.collect_utf8view.ensures.within
 
-pub collect_like-returns-in_ok-collect_blocks-in-FixedSizeList-clause-within : goal.collect_like-returns-in_ok-collect_blocks-in-FixedSizeList-clause-within
-collect_like-returns-in_ok-collect_blocks-in-FixedSizeList-clause-within t c = rw (c.in-FixedSizeList.is, sym c.deref-in-FixedSizeList.ensures) c.in_ok-collect_blocks-in-FixedSizeList.ensures.within
-
-pub collect_like-returns-in_ok-collect_tuples-in-Struct-clause-within : goal.collect_like-returns-in_ok-collect_tuples-in-Struct-clause-within
-collect_like-returns-in_ok-collect_tuples-in-Struct-clause-within t c =
-    let vs = picked c.args.sources.now c.args.runs.now in
-    let kind : type_of c.args.first.now ≡ of_struct (shapes_of (map type_of c.deref-in-Struct.result.now)) =
-    ap type_of c.in-Struct.is ∙ type_of-Struct c.in-Struct.len c.in-Struct.fields c.in-Struct.validity ∙ ap (λ l. of_struct (shapes_of (map type_of l))) (sym c.deref-in-Struct.ensures.value)
-    in
-    subst (λ s. PassesNone (past_taken s (columns_of c.args.sources.now) vs)) (sym kind) c.in_ok-collect_tuples-in-Struct.ensures.within
+pub collect_like-returns-in-FixedSizeList-clause-within : goal.collect_like-returns-in-FixedSizeList-clause-within
+collect_like-returns-in-FixedSizeList-clause-within t c = rw (c.in-FixedSizeList.is, sym c.deref-in-FixedSizeList.ensures) c.collect_blocks.ensures.within
 
 pub collect_lists-returns-clause-within : goal.collect_lists-returns-clause-within
 collect_lists-returns-clause-within t c =

@@ -1,5 +1,6 @@
-use Rattle.std.proofs.Common.{◌∙◌, inr, ap, sym, subst, length, map, arith}
-use Rattle.std.proofs.lemmas.Result.{err_from_is_err_and}
+use Rattle.std.proofs.Common.{◌≡◌, ◌∙◌, inr, ap, sym, subst, length, map, arith}
+use Rattle.std.specs.Prelude.{IfOk}
+use Rattle.std.proofs.lemmas.Result.{IfOk-weaker, err_from_is_err_and}
 use Rattle.sel_arrow.specs.Rows.{type_of}
 use Rattle.sel_arrow.specs.Shape.{of_large_list}
 use Rattle.sel_arrow.specs.Value.{Null}
@@ -76,7 +77,7 @@ pub returns-clause-dtype : goal.returns-clause-dtype
 returns-clause-dtype c =
     let found = ap (map (λ x. x.now)) c.deref.ensures.value ∙ c.in_ok-children.ensures.children in
     let first = children_first (type_of c.args.child.now) c.args.sources.now c.deref.result.now found c.requires.alike c.requires.formed c.requires.some in
-    c.in_ok-column.ensures.dtype ∙ ap of_large_list (c.in_ok-values.ensures.dtype ∙ first)
+    subst (λ s. IfOk c.lists_with.result (λ column. type_of column ≡ of_large_list s)) (c.in_ok-values.ensures.dtype ∙ first) c.lists_with.ensures.dtype
 
 pub returns-clause-within : goal.returns-clause-within
 returns-clause-within c =
@@ -90,4 +91,4 @@ returns-clause-within c =
     let below = subst (λ l. PassesNone (past_taken s l items)) (children_columns s cs xs found c.requires.alike c.requires.formed)
     (subst (λ l. PassesNone (past_taken s (columns_of xs) l)) same (subst (λ t. PassesNone (past_taken t (columns_of xs) (picked xs c.deref-2.result.now))) first c.in_ok-values.ensures.within)) in
     let long = ap length (sym c.in_ok-ends.ensures.items) in
-    passes_neither (IsPastRows (length items)) (past_taken s (map child (columns_of cs)) items) (few_rows_pass (length items) (omega (arith, long, length-pick Null (below_of cs) (expand c.in_ok-ends.below.items), c.in_ok-ends.ensures.count, c.in_ok-ends.ensures.few))) below
+    IfOk-weaker c.lists_with.result _ _ (λ column same. passes_neither (IsPastRows (length items)) (past_taken s (map child (columns_of cs)) items) (few_rows_pass (length items) (omega (arith, long, length-pick Null (below_of cs) (expand c.in_ok-ends.below.items), c.in_ok-ends.ensures.count, c.in_ok-ends.ensures.few))) below) c.lists_with.ensures.rows

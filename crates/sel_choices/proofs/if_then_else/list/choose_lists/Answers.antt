@@ -1,4 +1,4 @@
-use Rattle.std.proofs.Common.{◌≡◌, ◌∙◌, ◌∷◌, [], List, ap, subst, sym, inr, length, true, arith}
+use Rattle.std.proofs.Common.{◌≡◌, All, ◌∙◌, ◌∷◌, [], List, ap, subst, sym, inl, inr, length, true, arith}
 use Rattle.std.specs.Prelude.{ℤ}
 use Rattle.std.proofs.lemmas.Result.{err_from_is_err_and}
 use Rattle.sel_arrow.specs.Rows.{rows, type_of, well_formed}
@@ -9,11 +9,12 @@ use Rattle.sel_arrow.proofs.NestedRows.{lists_formed}
 use Rattle.sel_runs.specs.Children.{joined_items}
 use Rattle.sel_runs.specs.Ends.{item_ends}
 use Rattle.sel_runs.specs.Need.{IsPastRows, PassesNone, past_taken}
-use Rattle.sel_runs.specs.Picks.{pick}
+use Rattle.sel_runs.specs.Picks.{pick, PickFits}
 use Rattle.sel_runs.specs.Runs.{expand}
 use Rattle.sel_runs.proofs.Below.{refused_more}
 use Rattle.sel_runs.proofs.JoinedRows.{offsets_of, same_numbers, map_same}
 use Rattle.sel_runs.proofs.Rebuilt.{rising_ends, lists_rebuilt, lists_fit}
+use Rattle.sel_runs.proofs.RunLists.{length-pick}
 use Rattle.sel_runs.proofs.Within.{few_rows_pass, passes_neither}
 use Rattle.sel_choices.specs.ListSides.{past_below}
 use Rattle.sel_choices.specs.ListParts.{chosen_from}
@@ -96,3 +97,47 @@ returns-clause-within g c =
     let taken = subst (given ts fs) items second in
     let few = few_rows_pass (length (joined_items 0 vs)) (omega (arith, c.in_ok-held.ensures.held.many, c.in_ok-held.ensures.room)) in
     passes_neither (IsPastRows (length (joined_items 0 vs))) (past_taken (type_of ts) (ts ∷ fs ∷ []) (joined_items 0 vs)) few taken
+
+pub held_by_lists-requires-clause-true_side : goal.held_by_lists-requires-clause-true_side
+held_by_lists-requires-clause-true_side g c = c.requires.true_side
+
+pub held_by_lists-requires-clause-false_side : goal.held_by_lists-requires-clause-false_side
+held_by_lists-requires-clause-false_side g c = c.requires.false_side
+
+pub held_column-requires-clause-true_formed : goal.held_column-requires-clause-true_formed
+held_column-requires-clause-true_formed g c = c.child.ensures.formed
+
+pub held_column-requires-clause-false_formed : goal.held_column-requires-clause-false_formed
+held_column-requires-clause-false_formed g c = c.child-2.ensures.formed
+
+pub held_column-requires-clause-alike : goal.held_column-requires-clause-alike
+held_column-requires-clause-alike g c = ap type_of c.child-2.ensures.column ∙ c.requires.alike ∙ sym (ap type_of c.child.ensures.column)
+
+pub held_column-requires-clause-fits : goal.held_column-requires-clause-fits
+held_column-requires-clause-fits g c =
+    let ts = g.T.ListSide.held c.args.if_true.now in
+    let fs = g.F.ListSide.held c.args.if_false.now in
+    let runs = subst (λ rs. All (PickFits (rows ts ∷ rows fs ∷ [])) (expand rs)) (sym c.deref.ensures.value) c.in_ok-held.ensures.held.fits in
+    let second = subst (λ (b : Column). All (PickFits (rows ts ∷ rows b ∷ [])) (expand c.deref.result.now)) (sym c.child-2.ensures.column) runs in
+    subst (λ (a : Column). All (PickFits (rows a ∷ rows c.child-2.result.now ∷ [])) (expand c.deref.result.now)) (sym c.child.ensures.column) second
+
+pub held_column-requires-clause-many : goal.held_column-requires-clause-many
+held_column-requires-clause-many g c =
+    let xss = rows (g.T.ListSide.held c.args.if_true.now) ∷ rows (g.F.ListSide.held c.args.if_false.now) ∷ [] in
+    let held = c.in_ok-held.ensures.held in
+    ap (λ rs. length (expand rs)) c.deref.ensures.value ∙ sym (length-pick Null xss (expand c.in_ok-held.held.runs.items)) ∙ ap length held.items ∙ sym held.many
+
+pub held_column-requires-clause-room : goal.held_column-requires-clause-room
+held_column-requires-clause-room g c = c.in_ok-held.ensures.room
+
+pub returns-clause-dtype : goal.returns-clause-dtype
+returns-clause-dtype g c = ap (λ t. of_large_list t) (ap type_of c.in_ok-values-2.ensures.ok ∙ c.in_ok-values.ensures.dtype ∙ ap type_of c.child.ensures.column)
+
+pub returns-in_err-held-clause-refusal : goal.returns-in_err-held-clause-refusal
+returns-in_err-held-clause-refusal g c =
+    let t = c.args.if_true.now in
+    let f = c.args.if_false.now in
+    let vs = chosen_from 0 c.args.mask.now.bits (g.T.ListSide.row_at t) (g.F.ListSide.row_at f) in
+    let p = err_from_is_err_and c.from_residual.result c.from_residual.ensures.1 in
+    let t = type_of (g.T.ListSide.held t) in
+    rw (p.1, p.2) (refused_more (IsPastRows (length (joined_items 0 vs))) (past_below (of_large_list t) (g.T.ListSide.held c.args.if_true.now ∷ g.F.ListSide.held f ∷ []) vs) c.in_err-held.field-0.0 (λ limit past. inl past) c.in_err-held.ensures.refusal)

@@ -2,6 +2,8 @@ use Rattle.std.proofs.Common.{◌≡◌, ◌≤◌, ◌+◌, ◌<◌, ◌++◌, 
 use Rattle.std.proofs.lemmas.List.{length-map, take_all}
 use Rattle.sel_arrow.specs.Rows.{rows}
 use Rattle.sel_arrow.specs.Value.{Value, Null, validities, is_valid}
+use Rattle.sel_runs.specs.Picks.{pick, PickFits}
+use Rattle.sel_runs.specs.Runs.{expand}
 use Rattle.sel_runs.specs.Validity.{bits_for}
 use Rattle.sel_choices.specs.ListParts.{chosen_from, AreHeld, IsListed}
 use Rattle.sel_choices.proofs.ListRuns.{length-chosen, count_room, held_more, listed_more, valid_more}
@@ -84,3 +86,27 @@ returns-clause-bits g c =
     let vs = chosen_from 0 ms ts fs in
     let whole : take c.loop-i.i vs ≡ vs = take_all c.loop-i.i vs (omega (arith, c.loop-i-test.false, c.len-i-end.ensures, length-chosen 0 ms ts fs)) in
     ap (λ n. bits_for n c.in_ok-validity.validity) (sym c.len-2.ensures) ∙ c.in_ok-validity.ensures.bits ∙ c.loop-i.invariant.bits ∙ ap validities whole
+
+pub loop-i-init : goal.loop-i-init
+loop-i-init g c =
+    let xss = rows (g.T.ListSide.held c.args.if_true.now) ∷ rows (g.F.ListSide.held c.args.if_false.now) ∷ [] in
+    let none = c.new-runs.ensures.items in
+    record {
+      held = record {
+        items = ap (λ l. pick Null xss (expand l)) none;
+        fits = subst (λ l. All (PickFits xss) (expand l)) (sym none) (λ k d h. absurd (omega (arith, h)));
+        many = refl;
+      };
+      room = omega arith;
+      listed = λ k d h. absurd (omega (arith, h));
+      bits = c.in_ok-valid.ensures.value;
+    }
+
+pub chosen_part-part-requires-clause-true_side : goal.chosen_part-part-requires-clause-true_side
+chosen_part-part-requires-clause-true_side g c = c.requires.true_side c.loop-i.i (omega (arith, c.loop-i-test.true, c.len-i-end.ensures))
+
+pub chosen_part-part-requires-clause-false_side : goal.chosen_part-part-requires-clause-false_side
+chosen_part-part-requires-clause-false_side g c = c.requires.false_side c.loop-i.i (omega (arith, c.loop-i-test.true, c.len-i-end.ensures))
+
+pub returns-clause-covers : goal.returns-clause-covers
+returns-clause-covers g c = λ x e. c.in_ok-validity.ensures.covers x e ∙ c.len-2.ensures

@@ -1,11 +1,14 @@
-use Rattle.std.proofs.Common.{◌≡◌, ◌∙◌, ◌++◌, length, map, ap, arith, None}
+use Rattle.std.proofs.Common.{◌≡◌, ◌∙◌, ◌++◌, ◌+◌, subst, length, map, ap, arith, None}
 use Rattle.std.specs.List.{list_all}
 use Rattle.std.proofs.lemmas.List.{length-append}
+use Rattle.std.proofs.lemmas.Result.{err_from_is_err_and}
 use Rattle.sel_arrow.specs.Masked.{masked}
 use Rattle.sel_arrow.specs.Views.{is_placed, view_of, view_value}
 use Rattle.sel_choices.specs.Choose.{choose_one}
+use Rattle.sel_choices.specs.Sides.{IsRefusal}
+use Rattle.sel_runs.specs.Need.{PassesNone}
 use Rattle.sel_choices.specs.Validity.{chosen_validity}
-use Rattle.sel_choices.specs.ViewSides.{scalar_buffers}
+use Rattle.sel_choices.specs.ViewSides.{scalar_buffers, IsPastViews}
 use Rattle.sel_choices.proofs.JoinedViews.{one_placed, one_rows}
 use Rattle.sel_choices.proofs.Validities.{choice_covers, length-choose_one, no_validity, side_covers, side_long}
 use Rattle.sel_choices.proofs.if_then_else.view_columns.choose_bytes_true.Goals as goal
@@ -50,3 +53,15 @@ returns-clause-rows c =
     ap (λ bs. masked c.in_ok-validity.validity (map (view_value bs) c.in_ok-views-2.views)) joined
     ∙ one_rows a.buffers a.views a.placed bytes x is_x c.new_from_bytes-view.ensures.inline ms c.in_ok-views-2.views a.validity c.in_ok-validity.validity out p a.validity_fits
     (c.in_ok-validity.ensures.value ∙ ap (λ v. chosen_validity ms None v) c.as_ref.ensures.value)
+
+pub returns-clause-buffers : goal.returns-clause-buffers
+returns-clause-buffers c = c.in_ok-buffers.ensures.buffers ∙ (λ i. c.as_slice-2.ensures i ++ (c.deref.ensures.value ∙ c.in_ok-scalar.ensures.buffers) i)
+
+pub returns-clause-within : goal.returns-clause-within
+returns-clause-within c = subst PassesNone (λ i. IsPastViews ((c.count_of_scalar.ensures.count i) + (c.len-before.ensures i)) (length c.args.if_true.now)) c.in_ok-check_limits.ensures.within
+
+pub returns-in_err-check_limits-clause-refusal : goal.returns-in_err-check_limits-clause-refusal
+returns-in_err-check_limits-clause-refusal c =
+    let p = err_from_is_err_and c.from_residual.result c.from_residual.ensures.1 in
+    let fault = c.in_err-check_limits.field-0.0 in
+    rw (p.1, p.2) (subst (λ past. IsRefusal past fault) (λ i. IsPastViews ((c.count_of_scalar.ensures.count i) + (c.len-before.ensures i)) (length c.args.if_true.now)) c.in_err-check_limits.ensures.refusal)

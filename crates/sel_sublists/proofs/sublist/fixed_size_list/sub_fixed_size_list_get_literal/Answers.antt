@@ -1,10 +1,9 @@
 use Rattle.std.proofs.Common.{◌∷◌, [], All, map, ◌∙◌, ap, sym, subst, w64, to_z, of_z}
 use Rattle.std.proofs.lemmas.Int.{to_z-of_z}
-use Rattle.std.proofs.lemmas.Result.{err_from_is_err_and}
-use Rattle.sel_arrow.specs.Rows.{rows, type_of}
+use Rattle.std.proofs.lemmas.Result.{IfOk-weaker, MatchResult-weaker}
+use Rattle.sel_arrow.specs.Rows.{rows}
 use Rattle.sel_arrow.specs.Value.{Null}
 use Rattle.sel_runs.specs.Picks.{pick, PickFits}
-use Rattle.sel_runs.proofs.Within.{rows_pass}
 use Rattle.sel_sublists.specs.Elements.{child_pick}
 use Rattle.sel_sublists.specs.Entries.{at_each, entry_places, out_of_bounds}
 use Rattle.sel_sublists.proofs.Blocks.{entries_fit, entries_got, refused_so}
@@ -18,28 +17,42 @@ collect_one_plan-requires-clause-fits c =
     let fit = subst (All (PickFits (rows arr.values.value ∷ []))) (sym picks) (entries_fit arr (at_each arr c.args.index)) in
     subst (λ column. All (PickFits (rows column ∷ [])) (map child_pick (entry_places arr (at_each arr (to_z w64 (of_z w64 c.args.index)))))) (sym c.values.ensures.column) fit
 
-pub returns-in_err-taken-clause-refusal : goal.returns-in_err-taken-clause-refusal
-returns-in_err-taken-clause-refusal c =
-    let p = err_from_is_err_and c.from_residual.result c.from_residual.ensures.1 in
-    let arr = c.args.arr.now in
-    let shown = to_z-of_z w64 c.args.index c.ranges.index in
-    let picks = ap (λ z. map child_pick (entry_places arr (at_each arr z))) shown in
-    let indices = at_each arr c.args.index in
-    let picked = ap (pick Null (rows arr.values.value ∷ [])) picks ∙ entries_got arr indices in
-    let refusal = rw (c.values.ensures.column, picked) at c.in_err-taken.ensures.refusal in
-    let asked = sym (c.is_literal_refused.ensures ∙ ap (λ z. out_of_bounds c.args.null_on_oob arr (at_each arr z)) shown) ∙ c.if-is_literal_refused.false in
-    rw (p.1, p.2) (refused_so arr indices c.args.null_on_oob c.in_err-taken.field-0.0 asked refusal)
-
 pub returns-clause-rows : goal.returns-clause-rows
 returns-clause-rows c =
     let arr = c.args.arr.now in
     let shown = to_z-of_z w64 c.args.index c.ranges.index in
-    let picks = ap (λ z. map child_pick (entry_places arr (at_each arr z))) shown in
     let indices = at_each arr c.args.index in
+    let picks = ap (λ z. map child_pick (entry_places arr (at_each arr z))) shown in
     let picked = ap (pick Null (rows arr.values.value ∷ [])) picks ∙ entries_got arr indices in
-    c.in_ok-taken.ensures.rows ∙ ap (λ column. pick Null (rows column ∷ []) (map child_pick (entry_places arr (at_each arr (to_z w64 (of_z w64 c.args.index)))))) c.values.ensures.column ∙ picked
+    let same = ap (λ column. pick Null (rows column ∷ []) (map child_pick (entry_places arr (at_each arr (to_z w64 (of_z w64 c.args.index)))))) c.values.ensures.column ∙ picked in
+    IfOk-weaker c.collect_one_plan.result _ _ (λ taken is. is ∙ same) c.collect_one_plan.ensures.rows
+
+pub returns-clause-dtype : goal.returns-clause-dtype
+returns-clause-dtype c = rw c.values.ensures.column at c.collect_one_plan.ensures.dtype
+
+pub returns-clause-inside : goal.returns-clause-inside
+returns-clause-inside c =
+    let arr = c.args.arr.now in
+    let shown = to_z-of_z w64 c.args.index c.ranges.index in
+    let asked = sym (c.is_literal_refused.ensures ∙ ap (λ z. out_of_bounds c.args.null_on_oob arr (at_each arr z)) shown) ∙ c.if-is_literal_refused.false in
+    IfOk-weaker c.collect_one_plan.result _ _ (λ taken is. asked) c.collect_one_plan.ensures.rows
 
 pub returns-clause-within : goal.returns-clause-within
 returns-clause-within c =
-    let taken = c.in_ok-taken.taken in
-    rows_pass taken.column (type_of c.args.arr.now.values.value) _ taken.formed (c.in_ok-taken.ensures.dtype ∙ ap type_of c.values.ensures.column) (returns-clause-rows c)
+    let arr = c.args.arr.now in
+    let shown = to_z-of_z w64 c.args.index c.ranges.index in
+    let indices = at_each arr c.args.index in
+    let picks = ap (λ z. map child_pick (entry_places arr (at_each arr z))) shown in
+    let picked = ap (pick Null (rows arr.values.value ∷ [])) picks ∙ entries_got arr indices in
+    rw (c.values.ensures.column, picked) at c.collect_one_plan.ensures.within
+
+pub returns-clause-refusal : goal.returns-clause-refusal
+returns-clause-refusal c =
+    let arr = c.args.arr.now in
+    let shown = to_z-of_z w64 c.args.index c.ranges.index in
+    let indices = at_each arr c.args.index in
+    let picks = ap (λ z. map child_pick (entry_places arr (at_each arr z))) shown in
+    let picked = ap (pick Null (rows arr.values.value ∷ [])) picks ∙ entries_got arr indices in
+    let asked = sym (c.is_literal_refused.ensures ∙ ap (λ z. out_of_bounds c.args.null_on_oob arr (at_each arr z)) shown) ∙ c.if-is_literal_refused.false in
+    let refusal = rw (c.values.ensures.column, picked) at c.collect_one_plan.ensures.refusal in
+    MatchResult-weaker c.collect_one_plan.result refusal (λ taken h. h) (λ fault h. refused_so arr indices c.args.null_on_oob fault asked h)

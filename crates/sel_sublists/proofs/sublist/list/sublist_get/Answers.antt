@@ -1,10 +1,9 @@
 use Rattle.std.proofs.Common.{◌∷◌, [], All, map, ◌∙◌, ap, sym, subst, w64, to_z, of_z}
 use Rattle.std.proofs.lemmas.Int.{to_z-of_z}
-use Rattle.std.proofs.lemmas.Result.{err_from_is_err_and}
-use Rattle.sel_arrow.specs.Rows.{rows, type_of}
+use Rattle.std.proofs.lemmas.Result.{IfOk-weaker}
+use Rattle.sel_arrow.specs.Rows.{rows}
 use Rattle.sel_arrow.specs.Value.{Null}
 use Rattle.sel_runs.specs.Picks.{pick, PickFits}
-use Rattle.sel_runs.proofs.Within.{rows_pass}
 use Rattle.sel_sublists.specs.Elements.{child_pick}
 use Rattle.sel_sublists.specs.Lists.{places_in}
 use Rattle.sel_sublists.proofs.Offsets.{lists_fit, lists_got}
@@ -18,25 +17,30 @@ collect_one_plan-requires-clause-fits c =
     let fit = subst (All (PickFits (rows arr.values.value ∷ []))) (sym picks) (lists_fit arr.offsets arr.values arr.validity arr.formed c.args.index) in
     subst (λ column. All (PickFits (rows column ∷ [])) (map child_pick (places_in arr.offsets arr.validity (to_z w64 (of_z w64 c.args.index))))) (sym c.values.ensures.column) fit
 
-pub returns-in_err-taken-clause-refusal : goal.returns-in_err-taken-clause-refusal
-returns-in_err-taken-clause-refusal c =
-    let p = err_from_is_err_and c.from_residual.result c.from_residual.ensures.1 in
-    let arr = c.args.arr.now in
-    let shown = to_z-of_z w64 c.args.index c.ranges.index in
-    let picks = ap (λ z. map child_pick (places_in arr.offsets arr.validity z)) shown in
-    let picked = ap (pick Null (rows arr.values.value ∷ [])) picks ∙ lists_got arr.offsets arr.values arr.validity arr.formed c.args.index in
-    let refusal = rw (c.values.ensures.column, picked) at c.in_err-taken.ensures.refusal in
-    rw (p.1, p.2) refusal
-
 pub returns-clause-rows : goal.returns-clause-rows
 returns-clause-rows c =
     let arr = c.args.arr.now in
     let shown = to_z-of_z w64 c.args.index c.ranges.index in
     let picks = ap (λ z. map child_pick (places_in arr.offsets arr.validity z)) shown in
     let picked = ap (pick Null (rows arr.values.value ∷ [])) picks ∙ lists_got arr.offsets arr.values arr.validity arr.formed c.args.index in
-    c.in_ok-taken.ensures.rows ∙ ap (λ column. pick Null (rows column ∷ []) (map child_pick (places_in arr.offsets arr.validity (to_z w64 (of_z w64 c.args.index))))) c.values.ensures.column ∙ picked
+    let same = ap (λ column. pick Null (rows column ∷ []) (map child_pick (places_in arr.offsets arr.validity (to_z w64 (of_z w64 c.args.index))))) c.values.ensures.column ∙ picked in
+    IfOk-weaker c.collect_one_plan.result _ _ (λ taken is. is ∙ same) c.collect_one_plan.ensures.rows
+
+pub returns-clause-dtype : goal.returns-clause-dtype
+returns-clause-dtype c = rw c.values.ensures.column at c.collect_one_plan.ensures.dtype
 
 pub returns-clause-within : goal.returns-clause-within
 returns-clause-within c =
-    let taken = c.in_ok-taken.taken in
-    rows_pass taken.column (type_of c.args.arr.now.values.value) _ taken.formed (c.in_ok-taken.ensures.dtype ∙ ap type_of c.values.ensures.column) (returns-clause-rows c)
+    let arr = c.args.arr.now in
+    let shown = to_z-of_z w64 c.args.index c.ranges.index in
+    let picks = ap (λ z. map child_pick (places_in arr.offsets arr.validity z)) shown in
+    let picked = ap (pick Null (rows arr.values.value ∷ [])) picks ∙ lists_got arr.offsets arr.values arr.validity arr.formed c.args.index in
+    rw (c.values.ensures.column, picked) at c.collect_one_plan.ensures.within
+
+pub returns-clause-refusal : goal.returns-clause-refusal
+returns-clause-refusal c =
+    let arr = c.args.arr.now in
+    let shown = to_z-of_z w64 c.args.index c.ranges.index in
+    let picks = ap (λ z. map child_pick (places_in arr.offsets arr.validity z)) shown in
+    let picked = ap (pick Null (rows arr.values.value ∷ [])) picks ∙ lists_got arr.offsets arr.values arr.validity arr.formed c.args.index in
+    rw (c.values.ensures.column, picked) at c.collect_one_plan.ensures.refusal
