@@ -86,9 +86,9 @@ read_item-returns-then-len-size t c =
     let same : of_fixed_size_list s size ≡ shape_of c.args.dtype.now = ap (λ d. of_fixed_size_list (shape_of d) size) c.deref-in-FixedSizeList.ensures ∙ sym (ap shape_of c.in-FixedSizeList.is) in
     subst (λ s. Reads (λ _. ⊥) s c.args.bytes.now) same (block_row (λ _. ⊥) c.args.bytes.now c.in_default.ensures s size
     (λ entries more count fit is.
-      let long = (c.in-Ok-read_items.ensures entries more fit is).0 in
-      let told = eqb-true _ _ count in
-      c.if-len-size.true (omega (arith, c.len.ensures, c.in-Ok-read_items.items.ok, long, told))))
+    let long = (c.in-Ok-read_items.ensures entries more fit is).0 in
+    let told = eqb-true _ _ count in
+    c.if-len-size.true (omega (arith, c.len.ensures, c.in-Ok-read_items.items.ok, long, told))))
 
 pub read_item-returns-else-len-size : goal.read_item-returns-else-len-size
 read_item-returns-else-len-size t c =
