@@ -33,10 +33,16 @@ pub fn take_all(alloc: Global, handles: &mut [Handle]) -> Result<Vec<ArrayRef>, 
     let mut i = 0;
     while i < handles.len() {
         let Some(column) = handles[i].take(alloc) else {
+            drop(taken);
             return Err(NO_COLUMN);
         };
-        if taken.push(Box::into_inner(column)).is_err() {
-            return Err(NO_MEMORY);
+        match taken.push(Box::into_inner(column)) {
+            Ok(()) => {}
+            Err(failed) => {
+                drop(failed);
+                drop(taken);
+                return Err(NO_MEMORY);
+            }
         }
         i += 1;
     }
@@ -66,10 +72,18 @@ pub fn share_all(alloc: Global, handles: &mut [Handle]) -> Result<Vec<ArrayRef>,
     while i < handles.len() {
         let column = match share_one(alloc, &mut handles[i]) {
             Ok(column) => column,
-            Err(status) => return Err(status),
+            Err(status) => {
+                drop(shared);
+                return Err(status);
+            }
         };
-        if shared.push(column).is_err() {
-            return Err(NO_MEMORY);
+        match shared.push(column) {
+            Ok(()) => {}
+            Err(failed) => {
+                drop(failed);
+                drop(shared);
+                return Err(NO_MEMORY);
+            }
         }
         i += 1;
     }

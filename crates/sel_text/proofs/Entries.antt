@@ -140,6 +140,11 @@ part_left dtypes place dtype rest more there is has =
     let here : drop place dtypes ≡ dtype ∷ drop (place + 1) dtypes = drop_more dtypes place dtype there ∙ ap (λ d. d ∷ drop (place + 1) dtypes) (sym is) in
     has_part (shape_of dtype) (shapes_from (place + 1) dtypes) place rest more (subst (λ ds. HasParts (shapes_of (map shape_of ds)) place rest more) here has)
 
+-- a part that is not the first has its comma
+pub comma_before : (place : ℕ) (text : List ℕ) (texts : List (List ℕ)) (rest more : List ℕ) → 0 < place → rest ≡ parts_from place (text ∷ texts) more → ((next : List ℕ) → rest ≢ 44 ∷ next) → ⊥
+comma_before zero text texts rest more later is no_comma = absurd (omega (arith, later))
+comma_before (suc place) text texts rest more later is no_comma = no_comma _ is
+
 -- behind its comma
 part_text : (place : ℕ) (text : List ℕ) (texts : List (List ℕ)) (rest next more : List ℕ) → (place ≡ 0 → next ≡ rest) → (0 < place → rest ≡ 44 ∷ next) → rest ≡ parts_from place (text ∷ texts) more → next ≡ text ++ after 41 texts more
 part_text zero text texts rest next more first other is = first refl ∙ is

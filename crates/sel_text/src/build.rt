@@ -202,20 +202,50 @@ fn lists(
     ensures { IfErr result IsShort }
 {
     let null = Item::Null;
+    let (entries, offsets) = entries_between(alloc, items, &null, beneath)?;
+    let validity = validity_of(alloc, items)?;
+    let child = build(dtype, alloc, &entries, beneath)?;
+    match ListArray::try_new(alloc, offsets, child, validity) {
+        Ok(array) => Ok(array.into_ref()),
+        Err(fault) => Err(Fault::from(fault)),
+    }
+}
+
+/// The entries of these lists, one list after another between offsets.
+fn entries_between<'a, 'b: 'a>(
+    alloc: Global,
+    items: &[&'b Item],
+    null: &'a Item,
+    beneath: Beneath,
+) -> Result<(Vec<&'a Item>, OffsetsBuffer<i64>), Fault>
+    ensures { IfErr result IsShort }
+{
     let mut entries = Vec::new(alloc);
     let mut ends: Vec<i64> = vec![in alloc; 0]?;
+    push_lists(&mut entries, &mut ends, items, null, beneath)?;
+    let offsets = OffsetsBuffer::try_from(ends)?;
+    Ok((entries, offsets))
+}
+
+/// Puts the entries of these lists behind others, and the end of each list behind other ends.
+fn push_lists<'a, 'b: 'a>(
+    entries: &mut Vec<&'a Item>,
+    ends: &mut Vec<i64>,
+    items: &[&'b Item],
+    null: &'a Item,
+    beneath: Beneath,
+) -> Result<(), Fault>
+    ensures { IfErr result IsShort }
+{
     for item in items {
-        match item {
-            Item::Items(list) => push_each(&mut entries, list)?,
-            _ if beneath == Beneath::Others => entries.push(&null)?,
-            _ => {}
+        match (item, beneath) {
+            (Item::Items(list), _) => push_each(entries, list)?,
+            (_, Beneath::Others) => entries.push(null)?,
+            (_, Beneath::Zeros) => {}
         }
         ends.push(offset_at(entries.len())?)?;
     }
-    let offsets = OffsetsBuffer::try_from(ends)?;
-    let validity = validity_of(alloc, items)?;
-    let child = build(dtype, alloc, &entries, beneath)?;
-    Ok(ListArray::try_new(alloc, offsets, child, validity)?.into_ref())
+    Ok(())
 }
 
 /// Puts each entry of a list behind others.
@@ -240,16 +270,32 @@ fn blocks(
     ensures { IfErr result IsShort }
 {
     let null = Item::Null;
+    let entries = entries_of(alloc, items, &null, size)?;
+    let validity = validity_of(alloc, items)?;
+    let child = build(dtype, alloc, &entries, beneath)?;
+    match FixedSizeListArray::try_new(alloc, size, items.len(), child, validity) {
+        Ok(array) => Ok(array.into_ref()),
+        Err(fault) => Err(Fault::from(fault)),
+    }
+}
+
+/// The entries of these lists, one list after another, and so many of their own for those that are null.
+fn entries_of<'a, 'b: 'a>(
+    alloc: Global,
+    items: &[&'b Item],
+    null: &'a Item,
+    size: usize,
+) -> Result<Vec<&'a Item>, Fault>
+    ensures { IfErr result IsShort }
+{
     let mut entries = Vec::new(alloc);
     for item in items {
         match item {
             Item::Items(list) => push_each(&mut entries, list)?,
-            _ => push_copies(&mut entries, &null, size)?,
+            _ => push_copies(&mut entries, null, size)?,
         }
     }
-    let validity = validity_of(alloc, items)?;
-    let child = build(dtype, alloc, &entries, beneath)?;
-    Ok(FixedSizeListArray::try_new(alloc, size, items.len(), child, validity)?.into_ref())
+    Ok(entries)
 }
 
 /// Puts an entry so many times behind others.
@@ -295,15 +341,19 @@ fn push_fields(
     let null = Item::Null;
     for (k, dtype) in dtypes.iter().enumerate() {
         let parts = parts_at(alloc, items, k, &null)?;
-        fields.push(build(dtype, alloc, &parts, beneath)?)?;
+        let field = build(dtype, alloc, &parts, beneath)?;
+        match fields.push(field) {
+            Ok(()) => {}
+            Err(failed) => return Err(Fault::from(failed)),
+        }
     }
     Ok(())
 }
 
 /// What the tuples have at a place, and something else for those that are null.
-fn parts_at<'a>(
+fn parts_at<'a, 'b: 'a>(
     alloc: Global,
-    items: &[&'a Item],
+    items: &[&'b Item],
     place: usize,
     other: &'a Item,
 ) -> Result<Vec<&'a Item>, Fault>

@@ -196,16 +196,16 @@ fn take_level(
     ensures refusal { IfErr result (IsRefusal (past_blocks (type_of column.now) count)) }
 {
     match column {
-        Column::Int8(numbers) => Ok(take_leaf(alloc, numbers, size, indices)?),
-        Column::Int16(numbers) => Ok(take_leaf(alloc, numbers, size, indices)?),
-        Column::Int32(numbers) => Ok(take_leaf(alloc, numbers, size, indices)?),
-        Column::Int64(numbers) => Ok(take_leaf(alloc, numbers, size, indices)?),
-        Column::Int128(numbers) => Ok(take_leaf(alloc, numbers, size, indices)?),
-        Column::UInt8(numbers) => Ok(take_leaf(alloc, numbers, size, indices)?),
-        Column::UInt16(numbers) => Ok(take_leaf(alloc, numbers, size, indices)?),
-        Column::UInt32(numbers) => Ok(take_leaf(alloc, numbers, size, indices)?),
-        Column::UInt64(numbers) => Ok(take_leaf(alloc, numbers, size, indices)?),
-        Column::UInt128(numbers) => Ok(take_leaf(alloc, numbers, size, indices)?),
+        Column::Int8(numbers) => take_leaf(alloc, numbers, size, indices),
+        Column::Int16(numbers) => take_leaf(alloc, numbers, size, indices),
+        Column::Int32(numbers) => take_leaf(alloc, numbers, size, indices),
+        Column::Int64(numbers) => take_leaf(alloc, numbers, size, indices),
+        Column::Int128(numbers) => take_leaf(alloc, numbers, size, indices),
+        Column::UInt8(numbers) => take_leaf(alloc, numbers, size, indices),
+        Column::UInt16(numbers) => take_leaf(alloc, numbers, size, indices),
+        Column::UInt32(numbers) => take_leaf(alloc, numbers, size, indices),
+        Column::UInt64(numbers) => take_leaf(alloc, numbers, size, indices),
+        Column::UInt128(numbers) => take_leaf(alloc, numbers, size, indices),
         Column::FixedSizeList {
             size: width,
             values,

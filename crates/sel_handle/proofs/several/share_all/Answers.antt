@@ -1,5 +1,4 @@
-use Rattle.std.proofs.Common.{arith, Bool, not, All, ◌≡◌, ◌<◌, ◌++◌, ◌∷◌, [], length, map, ap, ◌∙◌, subst}
-use Rattle.std.specs.Prelude.{if◌then◌else◌}
+use Rattle.std.proofs.Common.{arith, All, ◌≡◌, ◌<◌, ◌++◌, ◌∷◌, [], length, map, ap, ◌∙◌, subst}
 use Rattle.std.proofs.Math.Seq.{map-set_same}
 use Rattle.std.proofs.lemmas.Grind.{common_steps}
 use Rattle.std.proofs.lemmas.List.{take_all}
@@ -22,8 +21,7 @@ loop-i-preserved c =
     let types_more = shared_more held_type (λ (x : ArrayRef). type_of x.column) c.args.handles.now l.handles l.i l.shared.items column d below l.invariant.1 l.invariant.3 c.in-Ok-share_one.ensures.dtype in
     let buffers_more = shared_more held_buffer_lists (λ (x : ArrayRef). buffers_held x.column) c.args.handles.now l.handles l.i l.shared.items column d below l.invariant.1 l.invariant.4 c.in-Ok-share_one.ensures.buffers in
     let full = All-more (λ (h : Handle). HasColumn h.tree) c.args.handles.now l.i d below l.invariant.5 (subst HasColumn (told_at l.handles c.args.handles.now l.i d l.invariant.1) c.in-Ok-share_one.ensures.full) in
-    let pushed : c.push.new.self.items ≡ l.shared.items ++ column ∷ [] =
-    c.push.ensures.items ∙ ap (λ (b : Bool). if b then l.shared.items ++ column ∷ [] else l.shared.items) (c.is_err.ensures.negation ∙ ap not c.if-is_err.false) in (
+    let pushed : c.push.new.self.items ≡ l.shared.items ++ column ∷ [] = c.in-Ok-push.ensures.items in (
       grind (arith, common_steps),
       map-set_same (λ (h : Handle). h.tree) l.handles l.i c.share_one.new.handle d c.share_one.ensures.unchanged ∙ l.invariant.1,
       ap (map (λ (x : ArrayRef). rows x.column)) pushed ∙ rows_more,
@@ -44,8 +42,8 @@ returns-in-Err-clause-unchanged c =
     let l = c.loop-i in
     map-set_same (λ (h : Handle). h.tree) l.handles l.i c.share_one.new.handle c.index-handles-i.result c.share_one.ensures.unchanged ∙ l.invariant.1
 
-pub returns-then-is_err-clause-unchanged : goal.returns-then-is_err-clause-unchanged
-returns-then-is_err-clause-unchanged c =
+pub returns-in-Err-push-clause-unchanged : goal.returns-in-Err-push-clause-unchanged
+returns-in-Err-push-clause-unchanged c =
     let l = c.loop-i in
     map-set_same (λ (h : Handle). h.tree) l.handles l.i c.share_one.new.handle c.index-handles-i.result c.share_one.ensures.unchanged ∙ l.invariant.1
 

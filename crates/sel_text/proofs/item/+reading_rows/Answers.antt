@@ -1,12 +1,20 @@
-use Rattle.std.proofs.Common.{◌≡◌, ◌∙◌, ap, sym, subst, arith, ◌+◌, length, length-append, map}
+use Rattle.std.proofs.Common.{◌≡◌, ◌∙◌, ap, sym, subst, arith, ◌+◌, length, length-append, drop, map, Result, Ok, Err}
+use Rattle.std.specs.Prelude.{IsErrAnd, MatchResult}
+use Rattle.std.proofs.lemmas.Bool.{eqb-true}
 use Rattle.sel_arrow.specs.DataType.{shape_of}
-use Rattle.sel_arrow.specs.Shape.{of_struct, shapes_of}
+use Rattle.sel_arrow.specs.Shape.{of_fixed_size_list, of_struct, shapes_of}
 use Rattle.sel_arrow.specs.Value.{listed}
 use Rattle.sel_arrow.proofs.Types.{struct_shape}
 use Rattle.sel_text.specs.TextErrors.{IsShort}
-use Rattle.sel_text.proofs.Entries.{IsLeft, items_opened, no_items, some_items, item_begins, last_item, more_items, less_room, parts_opened, part_left, part_begins, part_read, parts_end}
-use Rattle.sel_text.proofs.Rows.{Reads, null_read, tuple_row}
+use Rattle.sel_text.specs.declared.text_error.Fault.{Fault}
+use Rattle.sel_text.specs.declared.text_error.Fault.TheVariants.{OutOfMemory}
+use Rattle.sel_text.proofs.Entries.{IsLeft, items_opened, no_items, some_items, item_begins, last_item, more_items, less_room, bracket_or_comma, not_ended, parts_opened, part_left, comma_before, part_begins, part_read, parts_end}
+use Rattle.sel_text.proofs.Rows.{Reads, null_read, list_row, block_row, tuple_row}
 use Rattle.sel_text.proofs.item.+reading_rows.Goals as goal
+
+short_of_memory : {T : Type 0} (P : T → Type 0) (r : Result T Fault) → IsErrAnd r (λ fault. fault ≡ OutOfMemory) → MatchResult r P IsShort
+short_of_memory P (Ok x) never = absurd never
+short_of_memory P (Err fault) is = subst IsShort (sym is) tt
 
 pub read_item-returns-in-Some : goal.read_item-returns-in-Some
 read_item-returns-in-Some t c = λ value more begins. null_read (shape_of c.args.dtype.now) value c.args.bytes.now _ more c.in-Some.ensures begins
@@ -70,3 +78,61 @@ read_parts-loop-k-preserved t c = λ entries more fit is.
 
 pub read_parts-returns : goal.read_parts-returns
 read_parts-returns t c = λ entries more fit is. absurd (c.in-Err-expect.ensures.refused more (parts_end c.args.dtypes.now c.loop-k.k c.loop-k.rest.now more (omega arith) (c.loop-k.invariant entries more fit is)))
+
+pub read_item-returns-then-len-size : goal.read_item-returns-then-len-size
+read_item-returns-then-len-size t c =
+    let s = shape_of c.deref-in-FixedSizeList.result.now in
+    let size = c.in-FixedSizeList.size in
+    let same : of_fixed_size_list s size ≡ shape_of c.args.dtype.now = ap (λ d. of_fixed_size_list (shape_of d) size) c.deref-in-FixedSizeList.ensures ∙ sym (ap shape_of c.in-FixedSizeList.is) in
+    subst (λ s. Reads (λ _. ⊥) s c.args.bytes.now) same (block_row (λ _. ⊥) c.args.bytes.now c.in_default.ensures s size
+    (λ entries more count fit is.
+    let long = (c.in-Ok-read_items.ensures entries more fit is).0 in
+    let told = eqb-true _ _ count in
+    c.if-len-size.true (omega (arith, c.len.ensures, c.in-Ok-read_items.items.ok, long, told))))
+
+pub read_item-returns-else-len-size : goal.read_item-returns-else-len-size
+read_item-returns-else-len-size t c =
+    let s = shape_of c.deref-in-FixedSizeList.result.now in
+    let size = c.in-FixedSizeList.size in
+    let same : of_fixed_size_list s size ≡ shape_of c.args.dtype.now = ap (λ d. of_fixed_size_list (shape_of d) size) c.deref-in-FixedSizeList.ensures ∙ sym (ap shape_of c.in-FixedSizeList.is) in
+    subst (λ s. Reads (λ more. c.in-Ok-read_items.rest.now ≡ more) s c.args.bytes.now) same (block_row (λ more. c.in-Ok-read_items.rest.now ≡ more) c.args.bytes.now c.in_default.ensures s size
+    (λ entries more count fit is. (c.in-Ok-read_items.ensures entries more fit is).1))
+
+pub read_item-returns-in-Err-read_items : goal.read_item-returns-in-Err-read_items
+read_item-returns-in-Err-read_items t c =
+    let s = shape_of c.deref-in-FixedSizeList.result.now in
+    let size = c.in-FixedSizeList.size in
+    let same : of_fixed_size_list s size ≡ shape_of c.args.dtype.now = ap (λ d. of_fixed_size_list (shape_of d) size) c.deref-in-FixedSizeList.ensures ∙ sym (ap shape_of c.in-FixedSizeList.is) in
+    subst (λ s. Reads (λ more. IsShort c.in-Err-read_items.fault) s c.args.bytes.now) same (block_row (λ more. IsShort c.in-Err-read_items.fault) c.args.bytes.now c.in_default.ensures s size
+    (λ entries more count fit is. c.in-Err-read_items.ensures entries more fit is))
+
+pub read_items-returns-in-Err-read_item : goal.read_items-returns-in-Err-read_item
+read_items-returns-in-Err-read_item t c = λ entries more fit is.
+    let left = (c.loop.invariant entries more fit is).0 in
+    c.in-Err-read_item.ensures left.first _ (item_begins _ _ _ _ more left)
+
+pub read_items-returns-in_err-push : goal.read_items-returns-in_err-push
+read_items-returns-in_err-push t c = λ entries more fit is. short_of_memory _ c.from_residual.result c.from_residual.ensures.1
+
+pub read_items-returns-in-Err-expect : goal.read_items-returns-in-Err-expect
+read_items-returns-in-Err-expect t c = λ entries more fit is.
+    let left = (c.loop.invariant entries more fit is).0 in
+    let told = c.in-Ok-read_item.ensures left.first _ (item_begins _ _ _ _ more left) in
+    absurd (bracket_or_comma 93 _ _ more told c.in_default-behind.ensures c.in-Err-expect.ensures.refused)
+
+pub read_items-returns : goal.read_items-returns
+read_items-returns t c = λ entries more fit is.
+    let before = c.loop.invariant entries more fit is in
+    not_ended _ _ _ _ more before.0 (omega (arith, before.1))
+
+pub read_parts-returns-in-Err-part_begun : goal.read_parts-returns-in-Err-part_begun
+read_parts-returns-in-Err-part_begun t c = λ entries more fit is.
+    let part = part_left c.args.dtypes.now c.loop-k.k c.index-dtypes-k.result c.loop-k.rest.now more (omega arith) c.index-dtypes-k.is (c.loop-k.invariant entries more fit is) in
+    absurd (comma_before c.loop-k.k _ _ _ more c.in-Err-part_begun.ensures.refused part.text c.in-Err-part_begun.ensures.comma)
+
+pub read_parts-returns-in_err-push : goal.read_parts-returns-in_err-push
+read_parts-returns-in_err-push t c = λ entries more fit is. short_of_memory _ c.from_residual-in_err-push.result c.from_residual-in_err-push.ensures.1
+
+pub read_parts-returns-in-Ok-expect : goal.read_parts-returns-in-Ok-expect
+read_parts-returns-in-Ok-expect t c = λ entries more fit is.
+    ap (drop 1) (sym c.in-Ok-expect.ensures.rest ∙ parts_end c.args.dtypes.now c.loop-k.k c.loop-k.rest.now more (omega arith) (c.loop-k.invariant entries more fit is))
