@@ -170,3 +170,48 @@ structure::copies_of-loop-column-preserved t c =
       buffers = mapped_more buffers_held buffers_held c.args.columns.now c.loop-column.copies.items _ c.loop-column.column-index c.column-item.result copy.field-0 lt is pushed copy.ensures.buffers c.loop-column.invariant.buffers;
       formed = subst (All IsWellFormed) (sym pushed) (All-push IsWellFormed c.loop-column.copies.items copy.field-0 c.loop-column.invariant.formed copy.ensures.formed);
     }
+
+pub column::Column::try_clone-returns-in_ok-copy_of-in-LargeList-clause-rows :
+    goal.column::Column::try_clone-returns-in_ok-copy_of-in-LargeList-clause-rows
+column::Column::try_clone-returns-in_ok-copy_of-in-LargeList-clause-rows t c =
+    rw c.in-LargeList.is (ap rows c.into_column.ensures.column ∙ c.in_ok-copy_of-in-LargeList.ensures.rows)
+
+pub column::Column::try_clone-returns-in_ok-copy_of-in-LargeList-clause-dtype :
+    goal.column::Column::try_clone-returns-in_ok-copy_of-in-LargeList-clause-dtype
+column::Column::try_clone-returns-in_ok-copy_of-in-LargeList-clause-dtype t c =
+    rw c.in-LargeList.is (ap type_of c.into_column.ensures.column ∙ c.in_ok-copy_of-in-LargeList.ensures.dtype)
+
+pub column::Column::try_clone-returns-in_ok-copy_of-in-LargeList-clause-buffers :
+    goal.column::Column::try_clone-returns-in_ok-copy_of-in-LargeList-clause-buffers
+column::Column::try_clone-returns-in_ok-copy_of-in-LargeList-clause-buffers t c =
+    rw c.in-LargeList.is (ap buffers_held c.into_column.ensures.column ∙ c.in_ok-copy_of-in-LargeList.ensures.buffers)
+
+pub column::Column::try_clone-returns-in_ok-copy_of-in-FixedSizeList-clause-rows :
+    goal.column::Column::try_clone-returns-in_ok-copy_of-in-FixedSizeList-clause-rows
+column::Column::try_clone-returns-in_ok-copy_of-in-FixedSizeList-clause-rows t c =
+    rw c.in-FixedSizeList.is (ap rows c.into_column-in-FixedSizeList.ensures.column ∙ c.in_ok-copy_of-in-FixedSizeList.ensures.rows)
+
+pub column::Column::try_clone-returns-in_ok-copy_of-in-FixedSizeList-clause-dtype :
+    goal.column::Column::try_clone-returns-in_ok-copy_of-in-FixedSizeList-clause-dtype
+column::Column::try_clone-returns-in_ok-copy_of-in-FixedSizeList-clause-dtype t c =
+    rw c.in-FixedSizeList.is (ap type_of c.into_column-in-FixedSizeList.ensures.column ∙ c.in_ok-copy_of-in-FixedSizeList.ensures.dtype)
+
+pub column::Column::try_clone-returns-in_ok-copy_of-in-FixedSizeList-clause-buffers :
+    goal.column::Column::try_clone-returns-in_ok-copy_of-in-FixedSizeList-clause-buffers
+column::Column::try_clone-returns-in_ok-copy_of-in-FixedSizeList-clause-buffers t c =
+    rw c.in-FixedSizeList.is (ap buffers_held c.into_column-in-FixedSizeList.ensures.column ∙ c.in_ok-copy_of-in-FixedSizeList.ensures.buffers)
+
+pub column::Column::try_clone-returns-in_ok-copy_of-in-Struct-clause-rows :
+    goal.column::Column::try_clone-returns-in_ok-copy_of-in-Struct-clause-rows
+column::Column::try_clone-returns-in_ok-copy_of-in-Struct-clause-rows t c =
+    rw c.in-Struct.is (ap rows c.into_column-in-Struct.ensures.column ∙ c.in_ok-copy_of-in-Struct.ensures.rows)
+
+pub column::Column::try_clone-returns-in_ok-copy_of-in-Struct-clause-dtype :
+    goal.column::Column::try_clone-returns-in_ok-copy_of-in-Struct-clause-dtype
+column::Column::try_clone-returns-in_ok-copy_of-in-Struct-clause-dtype t c =
+    rw c.in-Struct.is (ap type_of c.into_column-in-Struct.ensures.column ∙ c.in_ok-copy_of-in-Struct.ensures.dtype)
+
+pub column::Column::try_clone-returns-in_ok-copy_of-in-Struct-clause-buffers :
+    goal.column::Column::try_clone-returns-in_ok-copy_of-in-Struct-clause-buffers
+column::Column::try_clone-returns-in_ok-copy_of-in-Struct-clause-buffers t c =
+    rw c.in-Struct.is (ap buffers_held c.into_column-in-Struct.ensures.column ∙ c.in_ok-copy_of-in-Struct.ensures.buffers)
