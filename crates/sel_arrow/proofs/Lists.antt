@@ -1,7 +1,7 @@
 -- A test of each element of a list, at a part of it.
-use Rattle.std.proofs.Common.{◌≡◌, ℕ, zero, suc, ◌+◌, ◌<◌, Bool, true, false, ◌&&◌, List, [], ◌∷◌, length, take, drop, refl, ap, sym, ◌∙◌, arith, get_or}
+use Rattle.std.proofs.Common.{◌≡◌, ℕ, zero, suc, ◌+◌, ◌<◌, Bool, true, false, ◌&&◌, List, [], ◌∷◌, ◌++◌, map, length, take, drop, refl, ap, sym, ◌∙◌, arith, get_or}
 use Rattle.std.specs.List.{list_all}
-use Rattle.std.proofs.lemmas.List.{take_all}
+use Rattle.std.proofs.lemmas.List.{map_more, take_all}
 use Rattle.std.proofs.lemmas.List.Folds.{list_all_at, list_all_more}
 
 pub both : (a b : Bool) → a ≡ true → b ≡ true → (a && b) ≡ true
@@ -48,3 +48,8 @@ pub none_at : {A : Type 0} (p : A → Bool) → (xs : List A) (i : ℕ) (d : A) 
 none_at p xs i d h here = list_all_at p xs i d h here
 
 pub ruleset all_lists = (all_at, all_more, all_of_them, none_at)
+
+-- what is made of the elements so far, and of one more
+pub push_more : {A B : Type 0} (f : A → B) → (xs : List A) (ys zs : List B) (i : ℕ) (x : A) (y : B) → i < length xs → x ≡ get_or xs i x → y ≡ f x → zs ≡ ys ++ y ∷ [] → ys ≡ map f (take i xs) → zs ≡ map f (take (i + 1) xs)
+push_more f xs ys zs i x y below is made pushed before =
+    pushed ∙ ap (λ l. l ++ y ∷ []) before ∙ ap (λ v. map f (take i xs) ++ v ∷ []) (made ∙ ap f is) ∙ sym (map_more f xs i x below)

@@ -130,6 +130,11 @@ lists_copied offsets new values child validity seen formed is same below copy =
     let count : row_count child.value ≡ row_count values.value = sym (length-rows child.value) ∙ ap length same ∙ length-rows values.value in
     rw (is, copy) (lists_formed offsets child.value validity (record { rising = has.rising; few = has.few; ends = omega (arith, count, has.ends); covered = has.covered; child = below }))
 
+pub lists_copied_rows : (offsets new : List ℕ) (values child : Box Column Global) (validity seen : Option Bits) → new ≡ offsets → rows child.value ≡ rows values.value → seen ≡ validity →
+    rows (LargeList new child seen) ≡ rows (LargeList offsets values validity)
+lists_copied_rows offsets new values child validity seen is same copy =
+    ap (λ os. list_rows os (rows child.value) seen) is ∙ ap (λ vs. list_rows offsets vs seen) same ∙ ap (list_rows offsets (rows values.value)) copy
+
 -- ---- of a column of lists of one length
 
 pub blocks_inside : (size n : ℕ) (values : Box Column Global) (validity : Option Bits) (off len : ℕ) → off + len ≤ length (rows (FixedSizeList size n values validity)) → off + len ≤ n
@@ -172,6 +177,9 @@ blocks_copied size n values child validity seen formed same below copy =
     let has = has_blocks size n values.value validity formed in
     let count : row_count child.value ≡ row_count values.value = sym (length-rows child.value) ∙ ap length same ∙ length-rows values.value in
     rw copy (blocks_formed size n child.value validity (record { few = has.few; narrow = has.narrow; fills = count ∙ has.fills; covered = has.covered; child = below }))
+
+pub blocks_copied_rows : (size n : ℕ) (values child : Box Column Global) (validity seen : Option Bits) → rows child.value ≡ rows values.value → seen ≡ validity → rows (FixedSizeList size n child seen) ≡ rows (FixedSizeList size n values validity)
+blocks_copied_rows size n values child validity seen same copy = ap (λ vs. block_rows size n vs seen) same ∙ ap (block_rows size n (rows values.value)) copy
 
 -- ---- of a column of tuples
 

@@ -2,10 +2,10 @@
 
 ghost use Rattle.std.specs.Prelude.{◌≡◌, ◌≤◌, [], ◌∷◌, map, IfOk, IfErr, IsTrue};
 ghost use Rattle.std.specs.List.{All, list_all};
-ghost use Rattle.sel_arrow.specs.Columns.{binary_rows, binview_rows};
+ghost use Rattle.sel_arrow.specs.Columns.{binview_rows};
 ghost use Rattle.sel_arrow.specs.DataType.{shape_of, widths_fit};
 ghost use Rattle.sel_arrow.specs.Rows.{rows, type_of, IsField, IsWellFormed};
-ghost use Rattle.sel_arrow.specs.Shape.{of_large_list, of_fixed_size_list, of_struct, shapes_of};
+ghost use Rattle.sel_arrow.specs.Shape.{of_boolean, of_large_binary, of_binary_view, of_utf8_view, of_large_list, of_fixed_size_list, of_struct, shapes_of};
 
 use crate::array_ref::ArrayRef;
 use crate::binary::BinaryArray;
@@ -44,32 +44,26 @@ fn empty_column(alloc: Global, dtype: &ArrowDataType) -> PolarsResult<Column>
 {
     match dtype {
         ArrowDataType::Null => Ok(Column::Null(NullArray { length: 0 })),
-        ArrowDataType::Boolean => {
-            let values = Bitmap::new(alloc)?;
-            Ok(Column::Boolean(BooleanArray {
-                values,
-                validity: None,
-            }))
+        ArrowDataType::Boolean => empty_truths(alloc),
+        ArrowDataType::Int8 => empty_numbers::<i8>(alloc),
+        ArrowDataType::Int16 => empty_numbers::<i16>(alloc),
+        ArrowDataType::Int32 => empty_numbers::<i32>(alloc),
+        ArrowDataType::Int64 => empty_numbers::<i64>(alloc),
+        ArrowDataType::Int128 => empty_numbers::<i128>(alloc),
+        ArrowDataType::UInt8 => empty_numbers::<u8>(alloc),
+        ArrowDataType::UInt16 => empty_numbers::<u16>(alloc),
+        ArrowDataType::UInt32 => empty_numbers::<u32>(alloc),
+        ArrowDataType::UInt64 => empty_numbers::<u64>(alloc),
+        ArrowDataType::UInt128 => empty_numbers::<u128>(alloc),
+        ArrowDataType::LargeBinary => empty_bytes(alloc),
+        ArrowDataType::BinaryView => empty_binary_views(alloc),
+        ArrowDataType::Utf8View => empty_texts(alloc),
+        ArrowDataType::LargeList(child) => {
+            let offsets = first_offset(alloc)?;
+            no_lists(alloc, offsets, empty_column(alloc, child)?)
         }
-        ArrowDataType::Int8 => Ok(empty_numbers::<i8>(alloc)?),
-        ArrowDataType::Int16 => Ok(empty_numbers::<i16>(alloc)?),
-        ArrowDataType::Int32 => Ok(empty_numbers::<i32>(alloc)?),
-        ArrowDataType::Int64 => Ok(empty_numbers::<i64>(alloc)?),
-        ArrowDataType::Int128 => Ok(empty_numbers::<i128>(alloc)?),
-        ArrowDataType::UInt8 => Ok(empty_numbers::<u8>(alloc)?),
-        ArrowDataType::UInt16 => Ok(empty_numbers::<u16>(alloc)?),
-        ArrowDataType::UInt32 => Ok(empty_numbers::<u32>(alloc)?),
-        ArrowDataType::UInt64 => Ok(empty_numbers::<u64>(alloc)?),
-        ArrowDataType::UInt128 => Ok(empty_numbers::<u128>(alloc)?),
-        ArrowDataType::LargeBinary => Ok(Column::LargeBinary(empty_bytes(alloc)?)),
-        ArrowDataType::BinaryView => Ok(Column::BinaryView(empty_views(alloc)?)),
-        ArrowDataType::Utf8View => {
-            let bytes = empty_views(alloc)?;
-            Ok(Column::Utf8View(Utf8ViewArray { bytes }))
-        }
-        ArrowDataType::LargeList(child) => Ok(no_lists(alloc, empty_column(alloc, child)?)?),
         ArrowDataType::FixedSizeList(child, size) => {
-            Ok(no_blocks(alloc, *size, empty_column(alloc, child)?)?)
+            no_blocks(alloc, *size, empty_column(alloc, child)?)
         }
         ArrowDataType::Struct(dtypes) => Ok(no_tuples(empty_columns(alloc, dtypes)?)),
     }
@@ -92,14 +86,14 @@ fn empty_columns(alloc: Global, dtypes: &[ArrowDataType]) -> PolarsResult<Vec<Co
 }
 
 /// No lists, of this child. Refuses only for want of memory.
-fn no_lists(alloc: Global, child: Column) -> PolarsResult<Column>
-    requires { IsWellFormed child }
+fn no_lists(alloc: Global, offsets: OffsetsBuffer<i64>, child: Column) -> PolarsResult<Column>
+    requires alone { offsets ≡ 0 ∷ [] }
+    requires formed { IsWellFormed child }
     ensures rows { IfOk result (λ column. rows column ≡ []) }
     ensures dtype { IfOk result (λ column. type_of column ≡ of_large_list (type_of child)) }
     ensures formed { IfOk result (λ column. IsWellFormed column) }
     ensures refusal { IfErr result (λ fault. fault ≡ PolarsError.OutOfMemory) }
 {
-    let offsets = first_offset(alloc)?;
     let values = Box::new(alloc, child)?;
     Ok(Column::LargeList {
         offsets,
@@ -153,6 +147,20 @@ fn empty_numbers<T: ArrowPrimitive>(alloc: Global) -> PolarsResult<Column>
     Ok(T::into_column(values, None))
 }
 
+/// No truth values.
+fn empty_truths(alloc: Global) -> PolarsResult<Column>
+    ensures rows { IfOk result (λ column. rows column ≡ []) }
+    ensures dtype { IfOk result (λ column. type_of column ≡ of_boolean) }
+    ensures formed { IfOk result (λ column. IsWellFormed column) }
+    ensures refusal { IfErr result (λ fault. fault ≡ PolarsError.OutOfMemory) }
+{
+    let values = Bitmap::new(alloc)?;
+    Ok(Column::Boolean(BooleanArray {
+        values,
+        validity: None,
+    }))
+}
+
 /// The offset that stands before any row.
 #[tactic(auto, using(crate::proofs::NoRows::no_bytes))]
 fn first_offset(alloc: Global) -> PolarsResult<OffsetsBuffer<i64>>
@@ -164,17 +172,19 @@ fn first_offset(alloc: Global) -> PolarsResult<OffsetsBuffer<i64>>
 
 /// No bytes.
 #[tactic(auto, using(crate::proofs::NoRows::no_bytes))]
-fn empty_bytes(alloc: Global) -> PolarsResult<BinaryArray<i64>>
-    ensures rows { IfOk result (λ column. binary_rows column ≡ []) }
+fn empty_bytes(alloc: Global) -> PolarsResult<Column>
+    ensures rows { IfOk result (λ column. rows column ≡ []) }
+    ensures dtype { IfOk result (λ column. type_of column ≡ of_large_binary) }
+    ensures formed { IfOk result (λ column. IsWellFormed column) }
     ensures refusal { IfErr result (λ fault. fault ≡ PolarsError.OutOfMemory) }
 {
     let offsets = first_offset(alloc)?;
     let values = Buffer::from_vec(Vec::new(alloc))?;
-    Ok(BinaryArray {
+    Ok(Column::LargeBinary(BinaryArray {
         offsets,
         values,
         validity: None,
-    })
+    }))
 }
 
 /// No views.
@@ -189,4 +199,25 @@ fn empty_views(alloc: Global) -> PolarsResult<BinaryViewArray>
         buffers,
         validity: None,
     })
+}
+
+/// No views of bytes.
+fn empty_binary_views(alloc: Global) -> PolarsResult<Column>
+    ensures rows { IfOk result (λ column. rows column ≡ []) }
+    ensures dtype { IfOk result (λ column. type_of column ≡ of_binary_view) }
+    ensures formed { IfOk result (λ column. IsWellFormed column) }
+    ensures refusal { IfErr result (λ fault. fault ≡ PolarsError.OutOfMemory) }
+{
+    Ok(Column::BinaryView(empty_views(alloc)?))
+}
+
+/// No texts.
+fn empty_texts(alloc: Global) -> PolarsResult<Column>
+    ensures rows { IfOk result (λ column. rows column ≡ []) }
+    ensures dtype { IfOk result (λ column. type_of column ≡ of_utf8_view) }
+    ensures formed { IfOk result (λ column. IsWellFormed column) }
+    ensures refusal { IfErr result (λ fault. fault ≡ PolarsError.OutOfMemory) }
+{
+    let bytes = empty_views(alloc)?;
+    Ok(Column::Utf8View(Utf8ViewArray { bytes }))
 }

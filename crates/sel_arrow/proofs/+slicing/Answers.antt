@@ -1,5 +1,6 @@
 use Rattle.std.proofs.Common.{◌≤◌, ◌+◌, ◌*◌, ◌∙◌, ap, sym, subst, map, length, All, rules, arith}
 use Rattle.std.proofs.lemmas.List.Elements.{All-get_or, All-push}
+use Rattle.sel_arrow.specs.Shape.{of_fixed_size_list}
 use Rattle.sel_arrow.specs.Rows.{rows, buffers_held, type_of, well_formed, IsField, IsWellFormed}
 use Rattle.sel_arrow.specs.declared.column.Column.{Column}
 use Rattle.sel_arrow.proofs.NestedParts.{blocks_inside, blocks_fit, blocks_cover, blocks_within, blocks_part, blocks_part_rows, tuples_inside, fields_cover, fields_within, tuples_part, tuples_part_rows, tuples_type, tuples_held, part_rows, mapped_more, part_is_field}
@@ -100,3 +101,101 @@ fixed_size_list::FixedSizeListArray::part_of-overflow_mul-len t c =
     let inside = blocks_inside c.args.size c.args._count c.args.values.now c.args.validity.now c.args.off c.args.len c.requires.inside in
     let fit = blocks_fit c.args.size c.args._count c.args.values.now c.args.validity.now c.args.len c.requires.formed (omega (arith, inside)) in
     omega (arith, fit)
+
+pub column::Column::sliced-returns-in-Null : goal.column::Column::sliced-returns-in-Null
+column::Column::sliced-returns-in-Null t c =
+    let part = c.part_of.ensures in
+    let is = c.in-Null.is in
+    record { rows = rw is part.rows; dtype = rw is part.dtype; buffers = rw is part.buffers; formed = part.formed; refusal = part.refusal }
+
+pub column::Column::sliced-returns-in-Boolean : goal.column::Column::sliced-returns-in-Boolean
+column::Column::sliced-returns-in-Boolean t c =
+    let part = c.part_of-in-Boolean.ensures in
+    let is = c.in-Boolean.is in
+    record { rows = rw is part.rows; dtype = rw is part.dtype; buffers = rw is part.buffers; formed = part.formed; refusal = part.refusal }
+
+pub column::Column::sliced-returns-in-Int8 : goal.column::Column::sliced-returns-in-Int8
+column::Column::sliced-returns-in-Int8 t c =
+    let part = c.part_of-in-Int8.ensures in
+    let is = c.in-Int8.is in
+    record { rows = rw is part.rows; dtype = rw is part.dtype; buffers = rw is part.buffers; formed = part.formed; refusal = part.refusal }
+
+pub column::Column::sliced-returns-in-Int16 : goal.column::Column::sliced-returns-in-Int16
+column::Column::sliced-returns-in-Int16 t c =
+    let part = c.part_of-in-Int16.ensures in
+    let is = c.in-Int16.is in
+    record { rows = rw is part.rows; dtype = rw is part.dtype; buffers = rw is part.buffers; formed = part.formed; refusal = part.refusal }
+
+pub column::Column::sliced-returns-in-Int32 : goal.column::Column::sliced-returns-in-Int32
+column::Column::sliced-returns-in-Int32 t c =
+    let part = c.part_of-in-Int32.ensures in
+    let is = c.in-Int32.is in
+    record { rows = rw is part.rows; dtype = rw is part.dtype; buffers = rw is part.buffers; formed = part.formed; refusal = part.refusal }
+
+pub column::Column::sliced-returns-in-Int64 : goal.column::Column::sliced-returns-in-Int64
+column::Column::sliced-returns-in-Int64 t c =
+    let part = c.part_of-in-Int64.ensures in
+    let is = c.in-Int64.is in
+    record { rows = rw is part.rows; dtype = rw is part.dtype; buffers = rw is part.buffers; formed = part.formed; refusal = part.refusal }
+
+pub column::Column::sliced-returns-in-Int128 : goal.column::Column::sliced-returns-in-Int128
+column::Column::sliced-returns-in-Int128 t c =
+    let part = c.part_of-in-Int128.ensures in
+    let is = c.in-Int128.is in
+    record { rows = rw is part.rows; dtype = rw is part.dtype; buffers = rw is part.buffers; formed = part.formed; refusal = part.refusal }
+
+pub column::Column::sliced-returns-in-UInt8 : goal.column::Column::sliced-returns-in-UInt8
+column::Column::sliced-returns-in-UInt8 t c =
+    let part = c.part_of-in-UInt8.ensures in
+    let is = c.in-UInt8.is in
+    record { rows = rw is part.rows; dtype = rw is part.dtype; buffers = rw is part.buffers; formed = part.formed; refusal = part.refusal }
+
+pub column::Column::sliced-returns-in-UInt16 : goal.column::Column::sliced-returns-in-UInt16
+column::Column::sliced-returns-in-UInt16 t c =
+    let part = c.part_of-in-UInt16.ensures in
+    let is = c.in-UInt16.is in
+    record { rows = rw is part.rows; dtype = rw is part.dtype; buffers = rw is part.buffers; formed = part.formed; refusal = part.refusal }
+
+pub column::Column::sliced-returns-in-UInt32 : goal.column::Column::sliced-returns-in-UInt32
+column::Column::sliced-returns-in-UInt32 t c =
+    let part = c.part_of-in-UInt32.ensures in
+    let is = c.in-UInt32.is in
+    record { rows = rw is part.rows; dtype = rw is part.dtype; buffers = rw is part.buffers; formed = part.formed; refusal = part.refusal }
+
+pub column::Column::sliced-returns-in-UInt64 : goal.column::Column::sliced-returns-in-UInt64
+column::Column::sliced-returns-in-UInt64 t c =
+    let part = c.part_of-in-UInt64.ensures in
+    let is = c.in-UInt64.is in
+    record { rows = rw is part.rows; dtype = rw is part.dtype; buffers = rw is part.buffers; formed = part.formed; refusal = part.refusal }
+
+pub column::Column::sliced-returns-in-UInt128 : goal.column::Column::sliced-returns-in-UInt128
+column::Column::sliced-returns-in-UInt128 t c =
+    let part = c.part_of-in-UInt128.ensures in
+    let is = c.in-UInt128.is in
+    record { rows = rw is part.rows; dtype = rw is part.dtype; buffers = rw is part.buffers; formed = part.formed; refusal = part.refusal }
+
+pub column::Column::sliced-returns-in-LargeBinary : goal.column::Column::sliced-returns-in-LargeBinary
+column::Column::sliced-returns-in-LargeBinary t c =
+    let part = c.part_of-in-LargeBinary.ensures in
+    let is = c.in-LargeBinary.is in
+    record { rows = rw is part.rows; dtype = rw is part.dtype; buffers = rw is part.buffers; formed = part.formed; refusal = part.refusal }
+
+pub column::Column::sliced-returns-in-BinaryView : goal.column::Column::sliced-returns-in-BinaryView
+column::Column::sliced-returns-in-BinaryView t c =
+    let part = c.part_of-in-BinaryView.ensures in
+    let is = c.in-BinaryView.is in
+    record { rows = rw is part.rows; dtype = rw is part.dtype; buffers = rw is part.buffers; formed = part.formed; refusal = part.refusal }
+
+pub column::Column::sliced-returns-in-Utf8View : goal.column::Column::sliced-returns-in-Utf8View
+column::Column::sliced-returns-in-Utf8View t c =
+    let part = c.part_of-in-Utf8View.ensures in
+    let is = c.in-Utf8View.is in
+    record { rows = rw is part.rows; dtype = rw is part.dtype; buffers = rw is part.buffers; formed = part.formed; refusal = part.refusal }
+
+pub fixed_size_list::FixedSizeListArray::part_of-returns-clause-dtype : goal.fixed_size_list::FixedSizeListArray::part_of-returns-clause-dtype
+fixed_size_list::FixedSizeListArray::part_of-returns-clause-dtype t c =
+    ap (λ shape. of_fixed_size_list shape c.args.size) (ap type_of c.in_ok-values-2.ensures.ok ∙ c.in_ok-values.ensures.dtype ∙ ap type_of c.deref.ensures)
+
+pub fixed_size_list::FixedSizeListArray::part_of-returns-clause-buffers : goal.fixed_size_list::FixedSizeListArray::part_of-returns-clause-buffers
+fixed_size_list::FixedSizeListArray::part_of-returns-clause-buffers t c =
+    ap buffers_held c.in_ok-values-2.ensures.ok ∙ c.in_ok-values.ensures.buffers ∙ ap buffers_held c.deref.ensures
