@@ -1,7 +1,7 @@
 -- Rows of one child at places.
-use Rattle.std.proofs.Common.{◌≡◌, ◌<◌, ◌+◌, ◌-◌, ℕ, ℤ, pos, negsuc, Bool, true, false, All, List, [], ◌∷◌, ◌++◌, length, map, get_or, Option, Some, None, refl, ap, sym, subst, ◌∙◌, arith}
+use Rattle.std.proofs.Common.{◌≡◌, ◌<◌, ◌+◌, ◌-◌, ℕ, ℤ, pos, negsuc, Bool, true, false, All, List, [], ◌∷◌, ◌++◌, length, map, get_or, Option, Some, None, refl, ap, sym, subst, ◌∙◌, arith, Bor}
 use Rattle.std.specs.Prelude.{nat_lt, if◌then◌else◌, not, IfSome}
-use Rattle.std.specs.Option.{option_map, is_some, is_none}
+use Rattle.std.specs.Option.{option_map, option_copied, is_some, is_none}
 use Rattle.std.specs.List.{range_with_len}
 use Rattle.std.proofs.lemmas.Bool.{ltb-true}
 use Rattle.std.proofs.lemmas.List.{length-map, map-append, get_or-map}
@@ -70,6 +70,11 @@ none_is o false e = ap not e
 pub is_gone : {A : Type 0} (o : Option A) → is_some o ≡ false → o ≡ None
 is_gone None e = refl
 is_gone (Some x) e = absurd cc
+
+-- what is lent is there where it is lent
+pub copied_there : {A : Type 0} (o : Option (Bor A)) → is_some (option_copied o) ≡ is_some o
+copied_there None = refl
+copied_there (Some x) = refl
 
 -- a place that there is picks a row
 pub place_picked : (s : ℕ) (o : Option ℕ) → is_none o ≡ false → IsPicked (child_pick (option_map (λ i. s + i) o))

@@ -1,8 +1,9 @@
 //! Elements of lists of one length, by an index for each of them.
 
 ghost use Rattle.std.specs.Prelude.{◌≡◌, ◌≤◌, ◌<◌, false, map, length, IfOk, IfErr, IfSome};
+ghost use Rattle.std.specs.Option.{option_copied};
 ghost use Rattle.sel_arrow.specs.Columns.{primitive_rows};
-ghost use Rattle.sel_arrow.specs.Masked.{number_value};
+ghost use Rattle.sel_arrow.specs.Masked.{number_value, valid_at};
 ghost use Rattle.sel_arrow.specs.NestedArrays.{block_column};
 ghost use Rattle.sel_arrow.specs.Rows.{rows, type_of};
 ghost use Rattle.sel_arrow.specs.Value.{Number};
@@ -16,6 +17,7 @@ use sel_arrow::array_ref::ArrayRef;
 use sel_arrow::fixed_size_list::FixedSizeListArray;
 use sel_arrow::primitive::PrimitiveArray;
 use sel_arrow::validity::is_valid_at;
+use sel_bits::bitmap::Bitmap;
 use sel_bits::faults::{PolarsError, PolarsResult};
 use sel_bits::number::negative_to_usize;
 use sel_runs::plan::{Places, Walk};
@@ -44,7 +46,15 @@ pub fn sub_fixed_size_list_get_literal(
         return Err(PolarsError::ComputeError);
     }
     let place = negative_to_usize(index, arr.size);
-    let places = LiteralPlaces { arr, index, place };
+    let places = LiteralPlaces {
+        blocks: Blocks {
+            arr,
+            validity: arr.validity.as_ref(),
+            size: arr.size,
+        },
+        index,
+        place,
+    };
     let plan = Walk { places, at: 0 };
     collect_one_plan(alloc, arr.values(), &plan)
 }
@@ -72,7 +82,14 @@ pub fn sub_fixed_size_list_get(
     if is_refused(arr, index, null_on_oob) {
         return Err(PolarsError::ComputeError);
     }
-    let places = EntryPlaces { arr, index };
+    let places = EntryPlaces {
+        blocks: Blocks {
+            arr,
+            validity: arr.validity.as_ref(),
+            size: arr.size,
+        },
+        index,
+    };
     let plan = Walk { places, at: 0 };
     collect_one_plan(alloc, arr.values(), &plan)
 }
@@ -111,33 +128,71 @@ fn is_refused(arr: &FixedSizeListArray, index: &PrimitiveArray<i64>, null_on_oob
     false
 }
 
+/// Lists of one length, and what a walk asks for at each of them, which is held here so that it is not looked up in the column.
+#[derive(Clone, Copy, Drop)]
+struct Blocks<'a> {
+    arr: &'a FixedSizeListArray,
+    validity: Option<&'a Bitmap>,
+    size: usize,
+    ghost shown: { option_copied validity ≡ arr.now.validity },
+    ghost sized: { size ≡ arr.now.size },
+}
+
+impl Blocks<'_> {
+    // Whether list `k` is not null.
+    #[inline(always)]
+    fn is_valid(&self, k: usize) -> bool
+        requires { k < self.now.arr.now.len }
+        ensures { result ≡ valid_at self.now.arr.now.validity k }
+    {
+        match self.validity {
+            None => true,
+            Some(validity) => validity.get_bit(k),
+        }
+    }
+
+    // Which of the child's rows is the entry of list `k` at a place; none where the list is null or there is no place.
+    #[inline(always)]
+    fn entry_at(&self, k: usize, place: Option<usize>) -> Option<u32>
+        requires inside { k < self.now.arr.now.len }
+        requires below { IfSome place (λ i. i < self.now.arr.now.size) }
+        ensures { result ≡ entry_place self.now.arr.now k place }
+    {
+        if !self.is_valid(k) {
+            return None;
+        }
+        let i = place?;
+        Some((k * self.size + i) as u32)
+    }
+}
+
 /// The entries of lists at one index, as rows of their child; its place among the entries of each list is known.
 #[derive(Drop)]
 struct LiteralPlaces<'a> {
-    arr: &'a FixedSizeListArray,
+    blocks: Blocks<'a>,
     index: i64,
     place: Option<usize>,
-    ghost placed: { place ≡ place_of arr.now.size (Number index) },
+    ghost placed: { place ≡ place_of blocks.arr.now.size (Number index) },
 }
 
 impl Places for LiteralPlaces<'_> {
     ghost picks = { λ places. map child_pick
-        (entry_places places.arr.now (at_each places.arr.now places.index)) };
+        (entry_places places.blocks.arr.now (at_each places.blocks.arr.now places.index)) };
 
     #[inline(always)]
     fn len(&self) -> usize {
-        self.arr.len
+        self.blocks.arr.len
     }
 
     #[inline(always)]
     fn get(&self, k: usize) -> Option<(u32, u32)> {
-        pick_of_place(entry_at(self.arr, k, self.place))
+        pick_of_place(self.blocks.entry_at(k, self.place))
     }
 
     #[inline(always)]
     fn again(&self) -> Self {
         LiteralPlaces {
-            arr: self.arr,
+            blocks: self.blocks,
             index: self.index,
             place: self.place,
         }
@@ -145,37 +200,38 @@ impl Places for LiteralPlaces<'_> {
 
     #[inline(always)]
     fn has_nulls(&self) -> bool {
-        self.place.is_none() || self.arr.validity.is_some()
+        self.place.is_none() || self.blocks.validity.is_some()
     }
 }
 
 /// The entries of lists at an index for each of them, as rows of their child.
 #[derive(Drop)]
-struct EntryPlaces<'a> {
-    arr: &'a FixedSizeListArray,
-    index: &'a PrimitiveArray<i64>,
-    ghost paired: { length (primitive_rows index.now) ≡ length (rows (block_column arr.now)) },
+struct EntryPlaces<'a, 'b> {
+    blocks: Blocks<'a>,
+    index: &'b PrimitiveArray<i64>,
+    ghost paired: { length (primitive_rows index.now) ≡
+        length (rows (block_column blocks.arr.now)) },
 }
 
-impl Places for EntryPlaces<'_> {
+impl Places for EntryPlaces<'_, '_> {
     ghost picks = { λ places. map child_pick
-        (entry_places places.arr.now (primitive_rows places.index.now)) };
+        (entry_places places.blocks.arr.now (primitive_rows places.index.now)) };
 
     #[inline(always)]
     fn len(&self) -> usize {
-        self.arr.len
+        self.blocks.arr.len
     }
 
     #[inline(always)]
     fn get(&self, k: usize) -> Option<(u32, u32)> {
-        let place = place_among(self.index.get(k), self.arr.size);
-        pick_of_place(entry_at(self.arr, k, place))
+        let place = place_among(self.index.get(k), self.blocks.size);
+        pick_of_place(self.blocks.entry_at(k, place))
     }
 
     #[inline(always)]
     fn again(&self) -> Self {
         EntryPlaces {
-            arr: self.arr,
+            blocks: self.blocks,
             index: self.index,
         }
     }
@@ -191,17 +247,4 @@ fn place_among(index: Option<i64>, size: usize) -> Option<usize>
     ensures { result ≡ place_of size (number_value (λ i. i) index) }
 {
     negative_to_usize(index?, size)
-}
-
-// Which of the child's rows is the entry of list `k` at a place; none where the list is null or there is no place.
-fn entry_at(arr: &FixedSizeListArray, k: usize, place: Option<usize>) -> Option<u32>
-    requires inside { k < arr.now.len }
-    requires below { IfSome place (λ i. i < arr.now.size) }
-    ensures { result ≡ entry_place arr.now k place }
-{
-    if !is_valid_at(&arr.validity, k) {
-        return None;
-    }
-    let i = place?;
-    Some((k * arr.size + i) as u32)
 }

@@ -4,7 +4,7 @@ use Rattle.sel_sublists.proofs.Blocks.{entries_long, lists_few}
 use Rattle.sel_sublists.proofs.sublist.fixed_size_list.EntryPlacesPlaces.len.Goals as goal
 
 pub returns-clause-len : goal.returns-clause-len
-returns-clause-len c = let arr = c.args.self.now.arr.now in sym (entries_long arr (primitive_rows c.args.self.now.index.now))
+returns-clause-len c = let arr = c.args.self.now.blocks.arr.now in sym (entries_long arr (primitive_rows c.args.self.now.index.now))
 
 pub returns-clause-few : goal.returns-clause-few
-returns-clause-few c = lists_few c.args.self.now.arr.now
+returns-clause-few c = lists_few c.args.self.now.blocks.arr.now

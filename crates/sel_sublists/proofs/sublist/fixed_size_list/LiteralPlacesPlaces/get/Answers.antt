@@ -9,18 +9,18 @@ use Rattle.sel_sublists.proofs.sublist.fixed_size_list.LiteralPlacesPlaces.get.G
 
 pub entry_at-requires-clause-inside : goal.entry_at-requires-clause-inside
 entry_at-requires-clause-inside c =
-    let arr = c.args.self.now.arr.now in
+    let arr = c.args.self.now.blocks.arr.now in
     omega (arith, c.requires, entries_long arr (at_each arr c.args.self.now.index))
 
 pub entry_at-requires-clause-below : goal.entry_at-requires-clause-below
 entry_at-requires-clause-below c =
     let p = c.args.self.now in
-    subst (PlaceBelow p.arr.now.size) (sym p.placed) (place_of_below p.arr.now.size (Number p.index))
+    subst (PlaceBelow p.blocks.arr.now.size) (sym p.placed) (place_of_below p.blocks.arr.now.size (Number p.index))
 
 pub returns : goal.returns
 returns c =
     let p = c.args.self.now in
-    let arr = p.arr.now in
+    let arr = p.blocks.arr.now in
     let k = c.args.k in
     let inside : k < arr.len = omega (arith, c.requires, entries_long arr (at_each arr p.index)) in
     let places = λ (k : ℕ). entry_place arr k (place_of arr.size (slice_index_or (at_each arr p.index) k Null)) in
