@@ -2,6 +2,8 @@ pub mod Cells
 pub mod Fits
 pub mod Laws
 pub mod Digits
+pub mod ItemValues
+pub mod Limits
 pub mod Readings
 pub mod Spaces
 pub mod TextErrors

@@ -30,3 +30,8 @@ abbrev pub IsShort : Fault → Type 0
 IsShort LimitFault = ⊤
 IsShort MemoryFault = ⊤
 IsShort fault = ⊥
+
+-- a fault speaks of memory alone (own)
+abbrev pub IsWanting : Fault → Type 0
+IsWanting MemoryFault = ⊤
+IsWanting fault = ⊥

@@ -1,7 +1,16 @@
 //! Columns made of rows that were read.
 
-ghost use Rattle.std.specs.Prelude.{IfErr};
-ghost use Rattle.sel_text.specs.TextErrors.{IsShort};
+ghost use Rattle.std.specs.Prelude.{◌≡◌, ◌<◌, true, List, IfOk, IfErr, length, map};
+ghost use Rattle.std.specs.List.{list_all};
+ghost use Rattle.sel_arrow.specs.Columns.{binview_rows};
+ghost use Rattle.sel_arrow.specs.DataType.{shape_of};
+ghost use Rattle.sel_arrow.specs.Masked.{Covers, masked};
+ghost use Rattle.sel_arrow.specs.Shape.{Shape, shapes_of, of_boolean, of_large_binary, of_utf8_view, of_large_list, of_fixed_size_list, of_struct};
+ghost use Rattle.sel_arrow.specs.Value.{Value};
+ghost use Rattle.sel_text.specs.Fits.{fits};
+ghost use Rattle.sel_text.specs.ItemValues.{rows_read};
+ghost use Rattle.sel_text.specs.Limits.{is_view_shape, past_limit, IsTold, Makes, Shows};
+ghost use Rattle.sel_text.specs.TextErrors.{IsShort, IsWanting};
 
 use crate::cell::Whole;
 use crate::item::Item;
@@ -42,7 +51,8 @@ pub(crate) fn build(
     items: &[&Item],
     beneath: Beneath,
 ) -> Result<ArrayRef, Fault>
-    ensures { IfErr result IsShort }
+    ensures { list_all (fits (shape_of dtype.now)) (rows_read items.now) ≡ true →
+        Makes beneath (shape_of dtype.now) (rows_read items.now) result }
 {
     match dtype {
         ArrowDataType::Null => Ok(NullArray::try_new(items.len())?.into_ref()),
@@ -68,7 +78,10 @@ pub(crate) fn build(
 
 /// Which of the rows are valid, where one is not.
 fn validity_of(alloc: Global, items: &[&Item]) -> Result<Option<Bitmap>, Fault>
-    ensures { IfErr result IsShort }
+    ensures covers { IfOk result (λ validity. Covers validity (length items.now)) }
+    ensures hides { IfOk result (λ validity. (plain : List Value) →
+        Shows (rows_read items.now) plain → masked validity plain ≡ rows_read items.now) }
+    ensures memory { IfErr result IsWanting }
 {
     let mut valid = Vec::with_capacity(alloc, items.len())?;
     for item in items {
@@ -82,7 +95,8 @@ fn validity_of(alloc: Global, items: &[&Item]) -> Result<Option<Bitmap>, Fault>
 
 /// The column of these truth values.
 fn truths(alloc: Global, items: &[&Item], beneath: Beneath) -> Result<ArrayRef, Fault>
-    ensures { IfErr result IsShort }
+    ensures { list_all (fits of_boolean) (rows_read items.now) ≡ true →
+        Makes beneath of_boolean (rows_read items.now) result }
 {
     let mut values = Vec::with_capacity(alloc, items.len())?;
     for item in items {
@@ -101,7 +115,8 @@ fn numbers<T: FromWhole>(
     items: &[&Item],
     beneath: Beneath,
 ) -> Result<ArrayRef, Fault>
-    ensures { IfErr result IsShort }
+    ensures { list_all (fits T.shape) (rows_read items.now) ≡ true →
+        Makes beneath T.shape (rows_read items.now) result }
 {
     let mut values = Vec::with_capacity(alloc, items.len())?;
     for item in items {
@@ -136,7 +151,8 @@ fn bytes_in(item: &Item, beneath: Beneath) -> &[u8] {
 
 /// The column of these bytes, one after another between offsets.
 fn pieces(alloc: Global, items: &[&Item], beneath: Beneath) -> Result<ArrayRef, Fault>
-    ensures { IfErr result IsShort }
+    ensures { list_all (fits of_large_binary) (rows_read items.now) ≡ true →
+        Makes beneath of_large_binary (rows_read items.now) result }
 {
     let mut bytes = Vec::new(alloc);
     let mut ends: Vec<i64> = vec![in alloc; 0]?;
@@ -161,7 +177,12 @@ fn offset_at(place: usize) -> Result<i64, Fault>
 
 /// The column of views of these bytes, those past 12 bytes in one data buffer.
 fn views(alloc: Global, items: &[&Item], beneath: Beneath) -> Result<BinaryViewArray, Fault>
-    ensures { IfErr result IsShort }
+    ensures views { IfOk result (λ array. (shape : Shape) → is_view_shape shape ≡ true →
+        list_all (fits shape) (rows_read items.now) ≡ true →
+        binview_rows array ≡ rows_read items.now) }
+    ensures limit { IfErr result (λ fault. (shape : Shape) → is_view_shape shape ≡ true →
+        list_all (fits shape) (rows_read items.now) ≡ true →
+        IsTold (past_limit beneath shape (rows_read items.now)) fault) }
 {
     let mut data = Vec::new(alloc);
     let mut views = Vec::with_capacity(alloc, items.len())?;
@@ -181,7 +202,8 @@ fn views(alloc: Global, items: &[&Item], beneath: Beneath) -> Result<BinaryViewA
 
 /// The column of these texts.
 fn texts(alloc: Global, items: &[&Item], beneath: Beneath) -> Result<ArrayRef, Fault>
-    ensures { IfErr result IsShort }
+    ensures { list_all (fits of_utf8_view) (rows_read items.now) ≡ true →
+        Makes beneath of_utf8_view (rows_read items.now) result }
 {
     let BinaryViewArray {
         views,
@@ -199,7 +221,8 @@ fn lists(
     items: &[&Item],
     beneath: Beneath,
 ) -> Result<ArrayRef, Fault>
-    ensures { IfErr result IsShort }
+    ensures { list_all (fits (of_large_list (shape_of dtype.now))) (rows_read items.now) ≡ true →
+        Makes beneath (of_large_list (shape_of dtype.now)) (rows_read items.now) result }
 {
     let null = Item::Null;
     let (entries, offsets) = entries_between(alloc, items, &null, beneath)?;
@@ -267,7 +290,8 @@ fn blocks(
     items: &[&Item],
     beneath: Beneath,
 ) -> Result<ArrayRef, Fault>
-    ensures { IfErr result IsShort }
+    ensures { list_all (fits (of_fixed_size_list (shape_of dtype.now) size)) (rows_read items.now) ≡ true →
+        Makes beneath (of_fixed_size_list (shape_of dtype.now) size) (rows_read items.now) result }
 {
     let null = Item::Null;
     let entries = entries_of(alloc, items, &null, size)?;
@@ -316,7 +340,8 @@ fn tuples(
     items: &[&Item],
     beneath: Beneath,
 ) -> Result<ArrayRef, Fault>
-    ensures { IfErr result IsShort }
+    ensures { list_all (fits (of_struct (shapes_of (map shape_of dtypes.now)))) (rows_read items.now) ≡ true →
+        Makes beneath (of_struct (shapes_of (map shape_of dtypes.now))) (rows_read items.now) result }
 {
     let validity = validity_of(alloc, items)?;
     let mut fields = Vec::with_capacity(alloc, dtypes.len())?;

@@ -1,6 +1,6 @@
 //! Whole numbers of the ten number types.
 
-ghost use Rattle.std.specs.Prelude.{◌≡◌, false, IfNone};
+ghost use Rattle.std.specs.Prelude.{◌≡◌, false, IfNone, IfSome};
 ghost use Rattle.sel_text.specs.Cells.{whole_number};
 ghost use Rattle.sel_text.specs.Fits.{fits_number};
 
@@ -14,7 +14,8 @@ pub(crate) trait FromWhole: ArrowPrimitive {
 
     /// The number, or None where none of the type is it.
     fn from_whole(whole: Whole) -> Option<Self>
-        ensures { IfNone result (fits_number Self.shape (whole_number whole) ≡ false) };
+        ensures number { IfSome result (λ number. Self.number number ≡ whole_number whole) }
+        ensures refused { IfNone result (fits_number Self.shape (whole_number whole) ≡ false) };
 }
 
 impl FromWhole for i8 {
