@@ -1,3 +1,4 @@
+pub mod Below
 pub mod CellRows
 pub mod Commas
 pub mod Decimals
@@ -7,6 +8,7 @@ pub mod Entries
 pub mod Equalities
 pub mod Escapes
 pub mod Fields
+pub mod Making
 pub mod Numbers
 pub mod Printed
 pub mod Quotes

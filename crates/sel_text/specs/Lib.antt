@@ -1,3 +1,4 @@
+pub mod Below
 pub mod Cells
 pub mod Fits
 pub mod Laws

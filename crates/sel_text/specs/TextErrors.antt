@@ -1,6 +1,8 @@
 -- The texts of faults, and where they may be.
 use Rattle.std.specs.Prelude.{ℕ, ◌≤◌, ⊤, List, ◌++◌, codes}
 use Rattle.std.specs.Fmt.{decimal}
+use Rattle.sel_bits.specs.declared.faults.MakeError.{MakeError}
+use Rattle.sel_bits.specs.declared.faults.MakeError.TheVariants.{Malformed as Broken, OutOfMemory as WantOfMemory}
 use Rattle.sel_text.specs.declared.text_error.Fault.{Fault}
 use Rattle.sel_text.specs.declared.text_error.Fault.TheVariants.{Limit as LimitFault, OutOfMemory as MemoryFault}
 use Rattle.sel_text.specs.declared.text_error.TextError.{TextError}
@@ -35,3 +37,8 @@ IsShort fault = ⊥
 abbrev pub IsWanting : Fault → Type 0
 IsWanting MemoryFault = ⊤
 IsWanting fault = ⊥
+
+-- what a maker refuses, as a fault: a rule is broken only past a limit (own)
+abbrev pub fault_of_maker : MakeError → Fault
+fault_of_maker (Broken rule) = LimitFault
+fault_of_maker WantOfMemory = MemoryFault

@@ -1,16 +1,17 @@
 //! Columns made of rows that were read.
 
-ghost use Rattle.std.specs.Prelude.{◌≡◌, ◌<◌, true, List, IfOk, IfErr, length, map};
-ghost use Rattle.std.specs.List.{list_all};
+ghost use Rattle.std.specs.Prelude.{◌≡◌, ◌<◌, ◌++◌, pos, true, List, IfOk, IfErr, OnOk, length, map, replicate};
+ghost use Rattle.std.specs.List.{flat_map, list_all};
 ghost use Rattle.sel_arrow.specs.Columns.{binview_rows};
 ghost use Rattle.sel_arrow.specs.DataType.{shape_of};
 ghost use Rattle.sel_arrow.specs.Masked.{Covers, masked};
 ghost use Rattle.sel_arrow.specs.Shape.{Shape, shapes_of, of_boolean, of_large_binary, of_utf8_view, of_large_list, of_fixed_size_list, of_struct};
-ghost use Rattle.sel_arrow.specs.Value.{Value};
+ghost use Rattle.sel_arrow.specs.Value.{Value, Null};
+ghost use Rattle.sel_text.specs.Below.{offsets_below, HasParts};
 ghost use Rattle.sel_text.specs.Fits.{fits};
-ghost use Rattle.sel_text.specs.ItemValues.{rows_read};
-ghost use Rattle.sel_text.specs.Limits.{is_view_shape, past_limit, IsTold, Makes, Shows};
-ghost use Rattle.sel_text.specs.TextErrors.{IsShort, IsWanting};
+ghost use Rattle.sel_text.specs.ItemValues.{item_value, rows_read};
+ghost use Rattle.sel_text.specs.Limits.{any_past, block_in, entries_in, is_view_shape, part_in, past_limit, IsTold, Makes, Shows};
+ghost use Rattle.sel_text.specs.TextErrors.{IsWanting};
 
 use crate::cell::Whole;
 use crate::item::Item;
@@ -167,7 +168,8 @@ fn pieces(alloc: Global, items: &[&Item], beneath: Beneath) -> Result<ArrayRef, 
 
 /// A place as an offset.
 fn offset_at(place: usize) -> Result<i64, Fault>
-    ensures { IfErr result IsShort }
+    ensures value { IfOk result (λ offset. offset ≡ pos place) }
+    ensures past { IfErr result (λ _. 9223372036854775807 < place) }
 {
     match i64::try_from(place) {
         Ok(offset) => Ok(offset),
@@ -225,9 +227,18 @@ fn lists(
         Makes beneath (of_large_list (shape_of dtype.now)) (rows_read items.now) result }
 {
     let null = Item::Null;
-    let (entries, offsets) = entries_between(alloc, items, &null, beneath)?;
-    let validity = validity_of(alloc, items)?;
-    let child = build(dtype, alloc, &entries, beneath)?;
+    let (entries, offsets) = match entries_between(alloc, items, &null, beneath) {
+        Ok(made) => made,
+        Err(fault) => return Err(fault),
+    };
+    let validity = match validity_of(alloc, items) {
+        Ok(validity) => validity,
+        Err(fault) => return Err(fault),
+    };
+    let child = match build(dtype, alloc, &entries, beneath) {
+        Ok(child) => child,
+        Err(fault) => return Err(fault),
+    };
     match ListArray::try_new(alloc, offsets, child, validity) {
         Ok(array) => Ok(array.into_ref()),
         Err(fault) => Err(Fault::from(fault)),
@@ -241,39 +252,54 @@ fn entries_between<'a, 'b: 'a>(
     null: &'a Item,
     beneath: Beneath,
 ) -> Result<(Vec<&'a Item>, OffsetsBuffer<i64>), Fault>
-    ensures { IfErr result IsShort }
+    ensures entries { item_value null.now ≡ Null → IfOk result (λ made. rows_read made.0.items ≡
+        flat_map (entries_in beneath) (rows_read items.now)) }
+    ensures offsets { item_value null.now ≡ Null → IfOk result (λ made. made.1 ≡
+        offsets_below (entries_in beneath) (rows_read items.now)) }
+    ensures memory { item_value null.now ≡ Null → IfErr result IsWanting }
 {
     let mut entries = Vec::new(alloc);
     let mut ends: Vec<i64> = vec![in alloc; 0]?;
-    push_lists(&mut entries, &mut ends, items, null, beneath)?;
-    let offsets = OffsetsBuffer::try_from(ends)?;
-    Ok((entries, offsets))
+    for item in items {
+        if let Err(fault) = push_below(&mut entries, item, null, beneath) {
+            return Err(fault);
+        }
+        match offset_at(entries.len()) {
+            Ok(end) => ends.push(end)?,
+            Err(fault) => return Err(fault),
+        }
+    }
+    match OffsetsBuffer::try_from(ends) {
+        Ok(offsets) => Ok((entries, offsets)),
+        Err(fault) => Err(Fault::from(fault)),
+    }
 }
 
-/// Puts the entries of these lists behind others, and the end of each list behind other ends.
-fn push_lists<'a, 'b: 'a>(
+/// Puts the entries of a list behind others, or what stands beneath a null.
+fn push_below<'a, 'b: 'a>(
     entries: &mut Vec<&'a Item>,
-    ends: &mut Vec<i64>,
-    items: &[&'b Item],
+    item: &'b Item,
     null: &'a Item,
     beneath: Beneath,
 ) -> Result<(), Fault>
-    ensures { IfErr result IsShort }
+    ensures entries { item_value null.now ≡ Null → OnOk result (rows_read entries.new.items ≡
+        rows_read entries.old.items ++ entries_in beneath (item_value item.now)) }
+    ensures memory { IfErr result IsWanting }
 {
-    for item in items {
-        match (item, beneath) {
-            (Item::Items(list), _) => push_each(entries, list)?,
-            (_, Beneath::Others) => entries.push(null)?,
-            (_, Beneath::Zeros) => {}
-        }
-        ends.push(offset_at(entries.len())?)?;
+    if let Item::Items(list) = item {
+        return push_each(entries, list);
+    }
+    if beneath == Beneath::Others {
+        entries.push(null)?;
     }
     Ok(())
 }
 
 /// Puts each entry of a list behind others.
 fn push_each<'a>(entries: &mut Vec<&'a Item>, list: &'a [Item]) -> Result<(), Fault>
-    ensures { IfErr result IsShort }
+    ensures entries { OnOk result (rows_read entries.new.items ≡
+        rows_read entries.old.items ++ map item_value list.now) }
+    ensures memory { IfErr result IsWanting }
 {
     for entry in list {
         entries.push(entry)?;
@@ -290,13 +316,23 @@ fn blocks(
     items: &[&Item],
     beneath: Beneath,
 ) -> Result<ArrayRef, Fault>
-    ensures { list_all (fits (of_fixed_size_list (shape_of dtype.now) size)) (rows_read items.now) ≡ true →
+    ensures { list_all (fits (of_fixed_size_list (shape_of dtype.now) size))
+        (rows_read items.now) ≡ true →
         Makes beneath (of_fixed_size_list (shape_of dtype.now) size) (rows_read items.now) result }
 {
     let null = Item::Null;
-    let entries = entries_of(alloc, items, &null, size)?;
-    let validity = validity_of(alloc, items)?;
-    let child = build(dtype, alloc, &entries, beneath)?;
+    let entries = match entries_of(alloc, items, &null, size) {
+        Ok(entries) => entries,
+        Err(fault) => return Err(fault),
+    };
+    let validity = match validity_of(alloc, items) {
+        Ok(validity) => validity,
+        Err(fault) => return Err(fault),
+    };
+    let child = match build(dtype, alloc, &entries, beneath) {
+        Ok(child) => child,
+        Err(fault) => return Err(fault),
+    };
     match FixedSizeListArray::try_new(alloc, size, items.len(), child, validity) {
         Ok(array) => Ok(array.into_ref()),
         Err(fault) => Err(Fault::from(fault)),
@@ -310,21 +346,41 @@ fn entries_of<'a, 'b: 'a>(
     null: &'a Item,
     size: usize,
 ) -> Result<Vec<&'a Item>, Fault>
-    ensures { IfErr result IsShort }
+    ensures entries { item_value null.now ≡ Null → IfOk result (λ entries.
+        rows_read entries.items ≡ flat_map (block_in size) (rows_read items.now)) }
+    ensures memory { IfErr result IsWanting }
 {
     let mut entries = Vec::new(alloc);
     for item in items {
-        match item {
-            Item::Items(list) => push_each(&mut entries, list)?,
-            _ => push_copies(&mut entries, null, size)?,
+        if let Err(fault) = push_block(&mut entries, item, null, size) {
+            return Err(fault);
         }
     }
     Ok(entries)
 }
 
+/// Puts the entries of a list behind others, or so many of their own where it is null.
+fn push_block<'a, 'b: 'a>(
+    entries: &mut Vec<&'a Item>,
+    item: &'b Item,
+    null: &'a Item,
+    size: usize,
+) -> Result<(), Fault>
+    ensures entries { item_value null.now ≡ Null → OnOk result (rows_read entries.new.items ≡
+        rows_read entries.old.items ++ block_in size (item_value item.now)) }
+    ensures memory { IfErr result IsWanting }
+{
+    if let Item::Items(list) = item {
+        return push_each(entries, list);
+    }
+    push_copies(entries, null, size)
+}
+
 /// Puts an entry so many times behind others.
 fn push_copies<'a>(entries: &mut Vec<&'a Item>, entry: &'a Item, count: usize) -> Result<(), Fault>
-    ensures { IfErr result IsShort }
+    ensures entries { OnOk result (rows_read entries.new.items ≡
+        rows_read entries.old.items ++ replicate count (item_value entry.now)) }
+    ensures memory { IfErr result IsWanting }
 {
     for _ in 0..count {
         entries.push(entry)?;
@@ -340,16 +396,24 @@ fn tuples(
     items: &[&Item],
     beneath: Beneath,
 ) -> Result<ArrayRef, Fault>
-    ensures { list_all (fits (of_struct (shapes_of (map shape_of dtypes.now)))) (rows_read items.now) ≡ true →
-        Makes beneath (of_struct (shapes_of (map shape_of dtypes.now))) (rows_read items.now) result }
+    ensures { list_all (fits (of_struct (shapes_of (map shape_of dtypes.now))))
+        (rows_read items.now) ≡ true →
+        Makes beneath (of_struct (shapes_of (map shape_of dtypes.now))) (rows_read items.now)
+        result }
 {
-    let validity = validity_of(alloc, items)?;
+    let validity = match validity_of(alloc, items) {
+        Ok(validity) => validity,
+        Err(fault) => return Err(fault),
+    };
     let mut fields = Vec::with_capacity(alloc, dtypes.len())?;
     if let Err(fault) = push_fields(&mut fields, dtypes, alloc, items, beneath) {
         drop(fields);
         return Err(fault);
     }
-    Ok(StructArray::try_new(alloc, items.len(), fields, validity)?.into_ref())
+    match StructArray::try_new(alloc, items.len(), fields, validity) {
+        Ok(array) => Ok(array.into_ref()),
+        Err(fault) => Err(Fault::from(fault)),
+    }
 }
 
 /// Puts the fields of these tuples behind others.
@@ -361,12 +425,23 @@ fn push_fields(
     items: &[&Item],
     beneath: Beneath,
 ) -> Result<(), Fault>
-    ensures { IfErr result IsShort }
+    ensures fields { list_all (fits (of_struct (shapes_of (map shape_of dtypes.now))))
+        (rows_read items.now) ≡ true → OnOk result (HasParts fields.new.items
+        fields.old.items (map shape_of dtypes.now) (rows_read items.now)) }
+    ensures limit { list_all (fits (of_struct (shapes_of (map shape_of dtypes.now))))
+        (rows_read items.now) ≡ true → IfErr result (IsTold (any_past beneath
+        (shapes_of (map shape_of dtypes.now)) 0 (rows_read items.now))) }
 {
     let null = Item::Null;
     for (k, dtype) in dtypes.iter().enumerate() {
-        let parts = parts_at(alloc, items, k, &null)?;
-        let field = build(dtype, alloc, &parts, beneath)?;
+        let parts = match parts_at(alloc, items, k, &null) {
+            Ok(parts) => parts,
+            Err(fault) => return Err(fault),
+        };
+        let field = match build(dtype, alloc, &parts, beneath) {
+            Ok(field) => field,
+            Err(fault) => return Err(fault),
+        };
         match fields.push(field) {
             Ok(()) => {}
             Err(failed) => return Err(Fault::from(failed)),
@@ -382,19 +457,26 @@ fn parts_at<'a, 'b: 'a>(
     place: usize,
     other: &'a Item,
 ) -> Result<Vec<&'a Item>, Fault>
-    ensures { IfErr result IsShort }
+    ensures parts { item_value other.now ≡ Null → IfOk result (λ parts.
+        rows_read parts.items ≡ map (part_in place) (rows_read items.now)) }
+    ensures memory { IfErr result IsWanting }
 {
     let mut parts = Vec::with_capacity(alloc, items.len())?;
     for item in items {
-        parts.push(part_at(item, place).unwrap_or(other))?;
+        parts.push(part_at(item, place, other))?;
     }
     Ok(parts)
 }
 
-/// What a tuple has at a place.
-fn part_at(item: &Item, place: usize) -> Option<&Item> {
-    match item {
-        Item::Parts(parts) => parts.get(place),
-        _ => None,
+/// What a tuple has at a place, and something else where it is null.
+fn part_at<'a, 'b: 'a>(item: &'b Item, place: usize, other: &'a Item) -> &'a Item
+    ensures { item_value other.now ≡ Null →
+        item_value result.now ≡ part_in place (item_value item.now) }
+{
+    if let Item::Parts(parts) = item {
+        if let Some(part) = parts.get(place) {
+            return part;
+        }
     }
+    other
 }

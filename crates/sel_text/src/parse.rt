@@ -104,8 +104,10 @@ fn has_text(
     if !array.has_dtype(dtype) {
         return Ok(false);
     }
-    let printed = print_rows(alloc, array.as_column())?;
-    Ok(printed.as_bytes() == bytes)
+    match print_rows(alloc, array.as_column()) {
+        Ok(printed) => Ok(printed.as_bytes() == bytes),
+        Err(_) => Err(Fault::OutOfMemory),
+    }
 }
 
 /// The column of the rows that are read from these bytes.

@@ -1,0 +1,84 @@
+-- What a column's maker and its refusal tell.
+use Rattle.std.proofs.Common.{◌≡◌, Bool, true, false, ◌||◌, List, [], ◌∷◌, Result, Ok, Err, Option, Some, None, refl, sym, ap, subst, ◌∙◌}
+use Rattle.std.specs.Prelude.{IsErrAnd}
+use Rattle.sel_arrow.specs.Shape.{Shape}
+use Rattle.sel_arrow.specs.Value.{Value}
+use Rattle.sel_arrow.specs.declared.array_ref.ArrayRef.{ArrayRef}
+use Rattle.sel_bits.specs.Faults.{first_broken, IsFault, IsFaultOrMemory}
+use Rattle.sel_bits.specs.declared.faults.Malformed.{Malformed}
+use Rattle.sel_bits.specs.declared.faults.MakeError.{MakeError}
+use Rattle.sel_bits.specs.declared.faults.MakeError.TheVariants.{Malformed as Broken, OutOfMemory as WantOfMemory}
+use Rattle.sel_text.specs.Limits.{past_limit, IsTold, Makes}
+use Rattle.sel_text.specs.TextErrors.{fault_of_maker, IsShort, IsWanting}
+use Rattle.sel_text.specs.declared.build.Beneath.{Beneath}
+use Rattle.sel_text.specs.declared.text_error.Fault.{Fault}
+use Rattle.sel_text.specs.declared.text_error.Fault.TheVariants.{Syntax, «Type», Limit, OutOfMemory}
+
+pub or_first : (a b : Bool) → a ≡ true → (a || b) ≡ true
+or_first true b e = refl
+or_first false b e = absurd cc
+
+pub or_second : (a b : Bool) → b ≡ true → (a || b) ≡ true
+or_second true b e = refl
+or_second false b e = e
+
+-- a limit below is one of the whole
+pub told_more : (p q : Bool) (fault : Fault) → (p ≡ true → q ≡ true) → IsTold p fault → IsTold q fault
+told_more p q Limit more told = more told
+told_more p q OutOfMemory more told = tt
+told_more p q (Syntax n) more told = absurd told
+told_more p q («Type» n) more told = absurd told
+
+pub told_wanting : (p : Bool) (fault : Fault) → IsWanting fault → IsTold p fault
+told_wanting p Limit wants = absurd wants
+told_wanting p OutOfMemory wants = tt
+told_wanting p (Syntax n) wants = absurd wants
+told_wanting p («Type» n) wants = absurd wants
+
+pub told_short : (p : Bool) (fault : Fault) → IsTold p fault → IsShort fault
+told_short p Limit told = tt
+told_short p OutOfMemory told = tt
+told_short p (Syntax n) told = absurd told
+told_short p («Type» n) told = absurd told
+
+pub told_limit : (p : Bool) (fault : Fault) → fault ≡ Limit → IsTold p fault → p ≡ true
+told_limit p fault is told = subst (IsTold p) is told
+
+pub told_memory : (p : Bool) (fault : Fault) → fault ≡ OutOfMemory → IsTold p fault
+told_memory p fault is = subst (IsTold p) (sym is) tt
+
+pub memory_wanting : (fault : Fault) → fault ≡ OutOfMemory → IsWanting fault
+memory_wanting fault is = subst IsWanting (sym is) tt
+
+-- want of memory where a `?` ends the making
+pub made_wanting : (b : Beneath) (s : Shape) (vs : List Value) (r : Result ArrayRef Fault) → IsErrAnd r (λ fault. fault ≡ OutOfMemory) → Makes b s vs r
+made_wanting b s vs (Ok array) never = absurd never
+made_wanting b s vs (Err fault) is = told_memory (past_limit b s vs) fault is
+
+-- what a maker refuses is told as a limit
+pub maker_told : (rule : Option Malformed) (error : MakeError) (p : Bool) → IsFaultOrMemory rule error → ((m : Malformed) → rule ≡ Some m → p ≡ true) → IsTold p (fault_of_maker error)
+maker_told rule (Broken m) p is past = past m is
+maker_told rule WantOfMemory p is past = tt
+
+pub maker_limit : (rule : Option Malformed) (error : MakeError) (p : Bool) → IsFault rule error → ((m : Malformed) → rule ≡ Some m → p ≡ true) → IsTold p (fault_of_maker error)
+maker_limit rule (Broken m) p is past = past m is
+maker_limit rule WantOfMemory p is past = absurd is
+
+pub maker_wanting : (rule : Option Malformed) (error : MakeError) → IsFaultOrMemory rule error → rule ≡ None → IsWanting (fault_of_maker error)
+maker_wanting rule (Broken m) is kept = absurd (cc (is, kept))
+maker_wanting rule WantOfMemory is kept = tt
+
+-- the only rule that is broken is the first one, where the others are kept
+pub first_of_one : (a : Bool) (r m : Malformed) → first_broken ((r, a) ∷ []) ≡ Some m → a ≡ true
+first_of_one true r m is = refl
+first_of_one false r m is = absurd cc
+
+pub first_of_three : (a b d : Bool) (r s t m : Malformed) → b ≡ false → d ≡ false → first_broken ((r, a) ∷ (s, b) ∷ (t, d) ∷ []) ≡ Some m → a ≡ true
+first_of_three true b d r s t m second third is = refl
+first_of_three false false false r s t m second third is = absurd cc
+first_of_three false true d r s t m second third is = absurd cc
+first_of_three false false true r s t m second third is = absurd cc
+
+pub first_of_four : (a b d e : Bool) (r s t u m : Malformed) → d ≡ false → e ≡ false → first_broken ((r, a) ∷ (s, b) ∷ (t, d) ∷ (u, e) ∷ []) ≡ Some m → (a || b) ≡ true
+first_of_four true b d e r s t u m third fourth is = refl
+first_of_four false b d e r s t u m third fourth is = first_of_three b d e s t u m third fourth is
