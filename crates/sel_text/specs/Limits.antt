@@ -1,5 +1,5 @@
 -- Which rows pass a limit where a column is made of them.
-use Rattle.std.specs.Prelude.{◌≡◌, ⊤, ⊥, ℕ, ◌+◌, Bool, true, false, ◌||◌, List, [], ◌∷◌, map, length, replicate, slice_index_or, if◌then◌else◌, nat_le, nat_lt, Result, Ok, Err}
+use Rattle.std.specs.Prelude.{◌≡◌, ⊤, ℕ, ◌+◌, Bool, true, false, ◌||◌, List, [], ◌∷◌, map, length, replicate, slice_index_or, if◌then◌else◌, nat_le, nat_lt, Result, Ok, Err}
 use Rattle.std.specs.List.{flat_map}
 use Rattle.sel_arrow.specs.Rows.{rows, type_of}
 use Rattle.sel_arrow.specs.Shape.{Shape, Shapes, no_shapes, next_shape, of_binary_view, of_utf8_view, of_large_list, of_fixed_size_list, of_struct}
