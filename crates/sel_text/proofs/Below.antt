@@ -1,10 +1,11 @@
 -- What stands below lists.
-use Rattle.std.proofs.Common.{◌≡◌, ℕ, zero, suc, ◌+◌, ◌*◌, ◌-◌, ◌<◌, ◌≤◌, ℤ, pos, Bool, true, false, ◌&&◌, ◌||◌, ◌==◌, List, [], ◌∷◌, ◌++◌, map, length, take, drop, get_or, replicate, Option, Some, None, refl, sym, ap, subst, ◌∙◌, arith, append_assoc, length-append, not}
+use Rattle.std.proofs.Common.{◌≡◌, ℕ, zero, suc, ◌+◌, ◌*◌, ◌-◌, ◌<◌, ◌≤◌, ℤ, pos, Bool, true, false, ◌&&◌, ◌||◌, ◌==◌, List, [], ◌∷◌, ◌++◌, map, length, take, drop, get_or, replicate, Option, Some, None, refl, sym, ap, subst, ◌∙◌, arith, append_assoc, length-append, not, w64, FitsSigned, to_z, of_z}
 use Rattle.std.specs.Prelude.{nat_lt, slice_index}
 use Rattle.std.specs.List.{flat_map, list_all, slice_range, range_with_len}
 use Rattle.std.proofs.lemmas.Bool.Decides.{nat_tests}
 use Rattle.std.proofs.lemmas.Grind.{common_steps}
-use Rattle.std.proofs.lemmas.List.{append-nil, length-replicate}
+use Rattle.std.proofs.lemmas.Int.{to_z-of_z}
+use Rattle.std.proofs.lemmas.List.{append-nil, length-replicate, map-append}
 use Rattle.std.proofs.lemmas.List.Concat.{flat_map-cons, flat_map-append}
 use Rattle.std.proofs.lemmas.List.Folds.{list_all-append}
 use Rattle.sel_bits.specs.Bits.{Bits}
@@ -125,10 +126,11 @@ module _ (below : Value → List Value) (p : Value → Bool) where
   pub blocks_long : (size : ℕ) → ((row : Value) → p row ≡ true → length (below row) ≡ size) → (rows : List Value) → list_all p rows ≡ true → length (flat_map below rows) ≡ length rows * size
   blocks_long size each [] fit = omega arith
   blocks_long size each (row ∷ rows) fit =
+      let product : (suc (length rows)) * size ≡ size + length rows * size = omega arith in
       let split = ap length (flat_map-cons below row rows) ∙ length-append (below row) (flat_map below rows) in
       let here = each row (and_first _ _ fit) in
-      let rest = blocks_long size each rows (and_second _ _ fit) in
-      split ∙ ap (λ n. n + length (flat_map below rows)) here ∙ ap (λ n. size + n) rest
+      let rest : length (flat_map below rows) ≡ length rows * size = blocks_long size each rows (and_second _ _ fit) in
+      split ∙ ap (λ n. n + length (flat_map below rows)) here ∙ ap (λ n. size + n) rest ∙ sym product
 
   blocks_from : (size : ℕ) → ((row : Value) → p row ≡ true → length (below row) ≡ size) → ((row : Value) → p row ≡ true → is_valid row ≡ true → row ≡ list_of (below row)) →
       (rows pre child : List Value) (k : ℕ) → list_all p rows ≡ true → length pre ≡ k * size → child ≡ pre ++ flat_map below rows →
@@ -150,9 +152,12 @@ module _ (below : Value → List Value) (p : Value → Bool) where
 
   pub blocks_show : (size : ℕ) → ((row : Value) → p row ≡ true → length (below row) ≡ size) → ((row : Value) → p row ≡ true → is_valid row ≡ true → row ≡ list_of (below row)) →
       (rows : List Value) → list_all p rows ≡ true → Shows rows (map list_of (blocks size (length rows) (flat_map below rows)))
-  blocks_show size sized each rows fit = blocks_from size sized each rows [] (flat_map below rows) 0 fit refl refl
+  blocks_show size sized each rows fit = blocks_from size sized each rows [] (flat_map below rows) 0 fit (omega arith) refl
 
 -- ---- the offsets
+
+from_none : (n : ℕ) → 0 + n ≡ n
+from_none n = omega arith
 
 module _ (below : Value → List Value) where
   length-ends : (place : ℕ) (rows : List Value) → length (ends_below below place rows) ≡ length rows
@@ -171,7 +176,7 @@ module _ (below : Value → List Value) where
       rest ∙ same
 
   pub last_below : (rows : List Value) → last_offset (offsets_below below rows) ≡ length (flat_map below rows)
-  last_below rows = ap (λ n. slice_index (offsets_below below rows) n) (count_between rows) ∙ last_from 0 rows
+  last_below rows = ap (λ n. slice_index (offsets_below below rows) n) (count_between rows) ∙ last_from 0 rows ∙ from_none (length (flat_map below rows))
 
   -- one more end
   pub ends_more : (place : ℕ) (rows : List Value) (row : Value) → ends_below below place (rows ++ row ∷ []) ≡ ends_below below place rows ++ (place + length (flat_map below (rows ++ row ∷ []))) ∷ []
@@ -204,9 +209,35 @@ same_numbers (m ∷ ms) (n ∷ ns) e =
     let rest : map pos ms ≡ map pos ns = cc in
     cc (here, same_numbers ms ns rest)
 
+-- a place that is stored as an offset
+pub end_kept : (z : ℤ) (n : ℕ) → z ≡ pos n → n < 9223372036854775808 → to_z w64 (of_z w64 z) ≡ pos n
+end_kept z n is small = to_z-of_z w64 z (subst (FitsSigned w64) (sym is) (record { sfits = small })) ∙ is
+
 pub map_same : (xs : List ℤ) → map (λ (x : ℤ). x) xs ≡ xs
 map_same [] = refl
 map_same (x ∷ xs) = ap (λ l. x ∷ l) (map_same xs)
+
+-- ---- row by row
+
+pub entries_grown : (below : Value → List Value) (before after : List Value) (row : Value) → after ≡ before ++ row ∷ [] → (old new : List Value) → old ≡ flat_map below before → new ≡ old ++ below row → new ≡ flat_map below after
+entries_grown below before after row more old new is put =
+    put ∙ ap (λ l. l ++ below row) is ∙ ap (λ l. flat_map below before ++ l) (sym (append-nil (below row)) ∙ sym (flat_map-cons below row []))
+    ∙ sym (flat_map-append below before (row ∷ [])) ∙ ap (flat_map below) (sym more)
+
+pub offsets_grown : (below : Value → List Value) (before after : List Value) (row : Value) → after ≡ before ++ row ∷ [] → (old new : List ℤ) (end : ℤ) → old ≡ map pos (offsets_below below before) → new ≡ old ++ end ∷ [] →
+    end ≡ pos (length (flat_map below after)) → new ≡ map pos (offsets_below below after)
+offsets_grown below before after row more old new end is put ends =
+    put ∙ ap (λ l. l ++ end ∷ []) is ∙ ap (λ z. map pos (offsets_below below before) ++ z ∷ []) (ends ∙ ap (λ l. pos (length (flat_map below l))) more)
+    ∙ sym (map-append pos (offsets_below below before) (length (flat_map below (before ++ row ∷ [])) ∷ []))
+    ∙ ap (λ n. map pos (offsets_below below before ++ n ∷ [])) (sym (from_none (length (flat_map below (before ++ row ∷ [])))))
+    ∙ ap (λ l. pos 0 ∷ map pos l) (sym (ends_more below 0 before row)) ∙ ap (λ l. map pos (offsets_below below l)) (sym more)
+
+pub offsets_read : (below : Value → List Value) (rows all : List Value) → rows ≡ all → (ends : List ℤ) (offsets : List ℕ) → ends ≡ map pos (offsets_below below rows) → map (λ (z : ℤ). z) ends ≡ map pos offsets → offsets ≡ offsets_below below all
+offsets_read below rows all same ends offsets is shown =
+    same_numbers offsets (offsets_below below all) (sym shown ∙ map_same ends ∙ is ∙ ap (λ l. map pos (offsets_below below l)) same)
+
+pub ends_kept : (below : Value → List Value) (rows : List Value) (ends : List ℤ) → ends ≡ map pos (offsets_below below rows) → offsets_fault (λ (z : ℤ). z) ends ≡ None
+ends_kept below rows ends is = ap (offsets_fault (λ (z : ℤ). z)) is ∙ offsets_kept below rows
 
 -- ---- the rules of a column of lists, of which only those on numbers can be broken
 

@@ -8,6 +8,7 @@ pub mod Entries
 pub mod Equalities
 pub mod Escapes
 pub mod Fields
+pub mod ItemRows
 pub mod Making
 pub mod Numbers
 pub mod Printed

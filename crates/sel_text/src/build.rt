@@ -289,10 +289,10 @@ fn push_below<'a, 'b: 'a>(
     if let Item::Items(list) = item {
         return push_each(entries, list);
     }
-    if beneath == Beneath::Others {
-        entries.push(null)?;
+    match beneath {
+        Beneath::Zeros => Ok(()),
+        Beneath::Others => push_copies(entries, null, 1),
     }
-    Ok(())
 }
 
 /// Puts each entry of a list behind others.
