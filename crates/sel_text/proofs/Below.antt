@@ -12,18 +12,22 @@ use Rattle.sel_bits.specs.Bits.{Bits}
 use Rattle.sel_bits.specs.Faults.{first_broken}
 use Rattle.sel_bits.specs.Offsets.{falls_after, has_fall, has_negative, offsets_fault}
 use Rattle.sel_bits.specs.declared.faults.Malformed.{Malformed}
+use Rattle.sel_bits.specs.declared.faults.Malformed.TheVariants.{ChildLength, OffsetRange, TooManyRows, ValidityLength, Width}
 use Rattle.sel_arrow.specs.Masked.{masked, too_many, validity_differs, Covers}
 use Rattle.sel_arrow.specs.Makers.{list_fault, block_fault}
 use Rattle.sel_arrow.specs.Nested.{list_of, list_rows, blocks, block_rows}
 use Rattle.sel_arrow.specs.Pieces.{pieces, pieces_after, rows_between, last_offset}
+use Rattle.sel_arrow.specs.Rows.{rows}
 use Rattle.sel_arrow.specs.Shape.{Shape, of_large_list, of_fixed_size_list}
 use Rattle.sel_arrow.specs.Value.{Value, Null, Truth, Number, Bytes, Items, Tuple, Values, no_values, next_value, values_of, listed, is_valid}
+use Rattle.sel_arrow.specs.declared.column.Column.{Column}
 use Rattle.sel_arrow.proofs.Lists.{both, and_first, and_second}
 use Rattle.sel_text.specs.Below.{ends_below, offsets_below}
 use Rattle.sel_text.specs.Fits.{fits, fits_count, all_fit}
 use Rattle.sel_text.specs.Limits.{block_in, entries_in, Shows}
 use Rattle.sel_text.specs.declared.build.Beneath.{Beneath}
 use Rattle.sel_text.specs.declared.build.Beneath.TheVariants.{Zeros, Others}
+use Rattle.sel_text.proofs.Making.{first_of_three, first_of_four}
 
 pub values_listed : (vs : Values) → values_of (listed vs) ≡ vs
 values_listed no_values = refl
@@ -250,3 +254,40 @@ not_below m n le = grind (arith, nat_tests)
 
 pub is_equal : (m n : ℕ) → m ≡ n → not (m == n) ≡ false
 is_equal m n same = grind (arith, nat_tests)
+
+-- ---- the columns of lists
+
+pub same_lists : (o p : List ℕ) (c d : Column) (v w : Option Bits) → o ≡ p → c ≡ d → v ≡ w → list_rows o (rows c) v ≡ list_rows p (rows d) w
+same_lists o p c d v w offsets child validity = ap (λ x. list_rows x (rows c) v) offsets ∙ ap (λ x. list_rows p (rows x) v) child ∙ ap (λ x. list_rows p (rows d) x) validity
+
+pub same_blocks : (size side n m : ℕ) (c d : Column) (v w : Option Bits) → size ≡ side → n ≡ m → c ≡ d → v ≡ w → block_rows size n (rows c) v ≡ block_rows side m (rows d) w
+same_blocks size side n m c d v w width count child validity =
+    ap (λ x. block_rows x n (rows c) v) width ∙ ap (λ x. block_rows side x (rows c) v) count ∙ ap (λ x. block_rows side m (rows x) v) child ∙ ap (λ x. block_rows side m (rows d) x) validity
+
+pub lists_made : (b : Beneath) (s : Shape) (vs child : List Value) (offsets : List ℕ) (validity : Option Bits) → list_all (fits (of_large_list s)) vs ≡ true → offsets ≡ offsets_below (entries_in b) vs → child ≡ flat_map (entries_in b) vs →
+    ((plain : List Value) → Shows vs plain → masked validity plain ≡ vs) → list_rows offsets child validity ≡ vs
+lists_made b s vs child offsets validity fit ends is hides =
+    ap (λ o. list_rows o child validity) ends ∙ ap (λ l. list_rows (offsets_below (entries_in b) vs) l validity) is
+    ∙ hides (map list_of (pieces (offsets_below (entries_in b) vs) (flat_map (entries_in b) vs))) (lists_show (entries_in b) (fits (of_large_list s)) (list_entries s b) vs fit)
+
+pub lists_past : (below : Value → List Value) (vs : List Value) (offsets : List ℕ) (count : ℕ) (validity : Option Bits) (m : Malformed) → offsets ≡ offsets_below below vs → count ≡ length (flat_map below vs) → Covers validity (length vs) →
+    list_fault offsets count validity ≡ Some m → too_many (length vs) ≡ true
+lists_past below vs offsets count validity m ends long covers is =
+    let many = ap rows_between ends ∙ count_between below vs in
+    let last = ap last_offset ends ∙ last_below below vs in
+    let inside : nat_lt count (last_offset offsets) ≡ false = not_below count (last_offset offsets) (omega (arith, last, long)) in
+    let kept : validity_differs validity (rows_between offsets) ≡ false = ap (validity_differs validity) many ∙ validity_kept validity (length vs) covers in
+    sym (ap too_many many) ∙ first_of_three (too_many (rows_between offsets)) (nat_lt count (last_offset offsets)) (validity_differs validity (rows_between offsets)) TooManyRows OffsetRange ValidityLength m inside kept is
+
+pub blocks_made : (s : Shape) (size : ℕ) (vs child : List Value) (n : ℕ) (validity : Option Bits) → list_all (fits (of_fixed_size_list s size)) vs ≡ true → n ≡ length vs → child ≡ flat_map (block_in size) vs →
+    ((plain : List Value) → Shows vs plain → masked validity plain ≡ vs) → block_rows size n child validity ≡ vs
+blocks_made s size vs child n validity fit count is hides =
+    ap (λ k. block_rows size k child validity) count ∙ ap (λ l. block_rows size (length vs) l validity) is
+    ∙ hides (map list_of (blocks size (length vs) (flat_map (block_in size) vs))) (blocks_show (block_in size) (fits (of_fixed_size_list s size)) size (block_long s size) (block_entries s size) vs fit)
+
+pub blocks_past : (s : Shape) (size : ℕ) (vs : List Value) (n count : ℕ) (validity : Option Bits) (m : Malformed) → list_all (fits (of_fixed_size_list s size)) vs ≡ true → n ≡ length vs → count ≡ length (flat_map (block_in size) vs) → Covers validity (length vs) →
+    block_fault size n count validity ≡ Some m → (too_many (length vs) || too_many size) ≡ true
+blocks_past s size vs n count validity m fit same long covers is =
+    let fills : count ≡ n * size = long ∙ blocks_long (block_in size) (fits (of_fixed_size_list s size)) size (block_long s size) vs fit ∙ ap (λ k. k * size) (sym same) in
+    let kept : validity_differs validity n ≡ false = ap (validity_differs validity) same ∙ validity_kept validity (length vs) covers in
+    ap (λ k. too_many k || too_many size) (sym same) ∙ first_of_four (too_many n) (too_many size) (not (count == n * size)) (validity_differs validity n) TooManyRows Width ChildLength ValidityLength m (is_equal count (n * size) fills) kept is

@@ -8,9 +8,10 @@ pub mod Entries
 pub mod Equalities
 pub mod Escapes
 pub mod Fields
-pub mod ItemRows
+pub mod ItemParts
 pub mod Making
 pub mod Numbers
+pub mod PartRows
 pub mod Printed
 pub mod Quotes
 pub mod Rows

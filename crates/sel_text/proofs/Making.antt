@@ -1,15 +1,17 @@
 -- What a column's maker and its refusal tell.
-use Rattle.std.proofs.Common.{◌≡◌, Bool, true, false, ◌||◌, List, [], ◌∷◌, Result, Ok, Err, Option, Some, None, refl, sym, ap, subst, ◌∙◌}
+use Rattle.std.proofs.Common.{◌≡◌, Bool, true, false, ◌||◌, List, [], ◌∷◌, length, replicate, Result, Ok, Err, Option, Some, None, refl, sym, ap, subst, ◌∙◌}
 use Rattle.std.specs.Prelude.{IsErrAnd}
-use Rattle.sel_arrow.specs.Shape.{Shape}
-use Rattle.sel_arrow.specs.Value.{Value}
+use Rattle.std.specs.List.{list_all}
+use Rattle.sel_arrow.specs.Shape.{Shape, of_null}
+use Rattle.sel_arrow.specs.Value.{Value, Null, Truth, Number, Bytes, Items, Tuple}
 use Rattle.sel_arrow.specs.declared.array_ref.ArrayRef.{ArrayRef}
 use Rattle.sel_bits.specs.Faults.{first_broken, IsFault, IsFaultOrMemory}
 use Rattle.sel_bits.specs.declared.faults.Malformed.{Malformed}
 use Rattle.sel_bits.specs.declared.faults.MakeError.{MakeError}
 use Rattle.sel_bits.specs.declared.faults.MakeError.TheVariants.{Malformed as Broken, OutOfMemory as WantOfMemory}
+use Rattle.sel_text.specs.Fits.{fits}
 use Rattle.sel_text.specs.Limits.{past_limit, IsTold, Makes}
-use Rattle.sel_text.specs.TextErrors.{fault_of_maker, IsShort, IsWanting}
+use Rattle.sel_text.specs.TextErrors.{make_fault, IsShort, IsWanting}
 use Rattle.sel_text.specs.declared.build.Beneath.{Beneath}
 use Rattle.sel_text.specs.declared.text_error.Fault.{Fault}
 use Rattle.sel_text.specs.declared.text_error.Fault.TheVariants.{Syntax, «Type», Limit, OutOfMemory}
@@ -56,15 +58,15 @@ made_wanting b s vs (Ok array) never = absurd never
 made_wanting b s vs (Err fault) is = told_memory (past_limit b s vs) fault is
 
 -- what a maker refuses is told as a limit
-pub maker_told : (rule : Option Malformed) (error : MakeError) (p : Bool) → IsFaultOrMemory rule error → ((m : Malformed) → rule ≡ Some m → p ≡ true) → IsTold p (fault_of_maker error)
+pub maker_told : (rule : Option Malformed) (error : MakeError) (p : Bool) → IsFaultOrMemory rule error → ((m : Malformed) → rule ≡ Some m → p ≡ true) → IsTold p (make_fault error)
 maker_told rule (Broken m) p is past = past m is
 maker_told rule WantOfMemory p is past = tt
 
-pub maker_limit : (rule : Option Malformed) (error : MakeError) (p : Bool) → IsFault rule error → ((m : Malformed) → rule ≡ Some m → p ≡ true) → IsTold p (fault_of_maker error)
+pub maker_limit : (rule : Option Malformed) (error : MakeError) (p : Bool) → IsFault rule error → ((m : Malformed) → rule ≡ Some m → p ≡ true) → IsTold p (make_fault error)
 maker_limit rule (Broken m) p is past = past m is
 maker_limit rule WantOfMemory p is past = absurd is
 
-pub maker_wanting : (rule : Option Malformed) (error : MakeError) → IsFaultOrMemory rule error → rule ≡ None → IsWanting (fault_of_maker error)
+pub maker_wanting : (rule : Option Malformed) (error : MakeError) → IsFaultOrMemory rule error → rule ≡ None → IsWanting (make_fault error)
 maker_wanting rule (Broken m) is kept = absurd (cc (is, kept))
 maker_wanting rule WantOfMemory is kept = tt
 
@@ -82,3 +84,13 @@ first_of_three false false true r s t m second third is = absurd cc
 pub first_of_four : (a b d e : Bool) (r s t u m : Malformed) → d ≡ false → e ≡ false → first_broken ((r, a) ∷ (s, b) ∷ (t, d) ∷ (u, e) ∷ []) ≡ Some m → (a || b) ≡ true
 first_of_four true b d e r s t u m third fourth is = refl
 first_of_four false b d e r s t u m third fourth is = first_of_three b d e s t u m third fourth is
+
+-- each row of a type of nulls is null
+pub all_nulls : (vs : List Value) → list_all (fits of_null) vs ≡ true → replicate (length vs) Null ≡ vs
+all_nulls [] fit = refl
+all_nulls (Null ∷ vs) fit = ap (λ l. Null ∷ l) (all_nulls vs fit)
+all_nulls (Truth t ∷ vs) fit = absurd cc
+all_nulls (Number z ∷ vs) fit = absurd cc
+all_nulls (Bytes bs ∷ vs) fit = absurd cc
+all_nulls (Items es ∷ vs) fit = absurd cc
+all_nulls (Tuple es ∷ vs) fit = absurd cc

@@ -39,6 +39,6 @@ IsWanting MemoryFault = ⊤
 IsWanting fault = ⊥
 
 -- what a maker refuses, as a fault: a rule is broken only past a limit (own)
-abbrev pub fault_of_maker : MakeError → Fault
-fault_of_maker (Broken rule) = LimitFault
-fault_of_maker WantOfMemory = MemoryFault
+abbrev pub make_fault : MakeError → Fault
+make_fault (Broken rule) = LimitFault
+make_fault WantOfMemory = MemoryFault

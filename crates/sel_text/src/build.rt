@@ -432,8 +432,8 @@ fn push_fields(
         (rows_read items.now) ≡ true → IfErr result (IsTold (any_past beneath
         (shapes_of (map shape_of dtypes.now)) 0 (rows_read items.now))) }
 {
-    let null = Item::Null;
     for (k, dtype) in dtypes.iter().enumerate() {
+        let null = Item::Null;
         let parts = match parts_at(alloc, items, k, &null) {
             Ok(parts) => parts,
             Err(fault) => return Err(fault),

@@ -1,7 +1,7 @@
 //! Why a text gives no type and no column.
 
 ghost use Rattle.std.specs.Prelude.{◌≡◌, ◌≤◌, Some, length};
-ghost use Rattle.sel_text.specs.TextErrors.{error_text, fault_of_maker, IsShort, IsShortage, IsWithin};
+ghost use Rattle.sel_text.specs.TextErrors.{error_text, make_fault, IsShort, IsShortage, IsWithin};
 ghost use Rattle.sel_text.specs.declared.text_error.Fault.TheVariants.{OutOfMemory};
 
 use crate::spaces::place_in;
@@ -94,7 +94,7 @@ impl From<PolarsError> for Fault {
 }
 
 impl From<MakeError> for Fault {
-    ghost from_gives = { λ error fault. fault ≡ fault_of_maker error };
+    ghost from_gives = { λ error fault. fault ≡ make_fault error };
 
     fn from(fault: MakeError) -> Fault {
         match fault {

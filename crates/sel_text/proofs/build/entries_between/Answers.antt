@@ -6,7 +6,7 @@ use Rattle.sel_text.specs.ItemValues.{item_value, rows_read}
 use Rattle.sel_text.specs.Limits.{entries_in}
 use Rattle.sel_text.specs.TextErrors.{IsWanting}
 use Rattle.sel_text.proofs.Below.{entries_grown, offsets_grown, offsets_read, ends_kept, end_kept}
-use Rattle.sel_text.proofs.ItemRows.{one_more, all_read}
+use Rattle.sel_text.proofs.ItemParts.{one_more, all_read}
 use Rattle.sel_text.proofs.Making.{maker_wanting}
 use Rattle.sel_text.proofs.build.entries_between.Goals as goal
 
