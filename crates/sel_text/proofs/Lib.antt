@@ -7,6 +7,7 @@ pub mod Entries
 pub mod Equalities
 pub mod Escapes
 pub mod Fields
+pub mod ItemRows
 pub mod Numbers
 pub mod Printed
 pub mod Quotes
