@@ -11,7 +11,9 @@ pub mod ItemRows
 pub mod Numbers
 pub mod Printed
 pub mod Quotes
+pub mod Refusals
 pub mod Rows
+pub mod Shown
 pub mod Spaceless
 pub mod Told
 pub mod TypeTexts
