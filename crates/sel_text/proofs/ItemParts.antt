@@ -1,34 +1,19 @@
--- The rows that items are.
+-- What stands below items, and their parts.
 use Rattle.std.proofs.Common.{◌≡◌, Bor, ℕ, ◌+◌, ◌<◌, ◌≤◌, List, [], ◌∷◌, ◌++◌, map, take, length, get_or, Vec, Global, refl, sym, ap, ◌∙◌, arith}
 use Rattle.std.specs.Prelude.{slice_index_or}
 use Rattle.std.proofs.lemmas.List.{length-map, get_or-map, get_or_past, map_more, take_all}
-use mathlib.Core.Former.{Count}
-use Rattle.sel_arrow.specs.Value.{Value, Null, Values, Items, Tuple, next_value, values_of, listed}
-use Rattle.sel_text.specs.ItemValues.{item_value, rows_read, values_read}
+use Rattle.sel_arrow.specs.Value.{Value, Null, Values, Items, Tuple, values_of, listed}
+use Rattle.sel_text.specs.ItemValues.{item_value, rows_read}
 use Rattle.sel_text.specs.Limits.{part_in}
-use Rattle.sel_text.specs.declared.item.Item.{Item, Items as ItemsItem, Parts as PartsItem, Row_of-Item, end_of-Item, more_of-Item, items-the_row-Item, items_hidden-the_row-Item-0}
-use Rattle.sel_text.specs.declared.item.Item.TheVariants.{Items', Parts'}
+use Rattle.sel_text.specs.declared.item.Item.{Item, Items as ItemsItem, Parts as PartsItem}
 use Rattle.sel_text.proofs.Equalities.{list_back}
+use Rattle.sel_text.proofs.ItemRows.{items_value, parts_value}
 
-abbrev row_in : Item → (n : Count) × Row_of-Item n
-row_in (Items' n items) = (_, items)
-row_in (Parts' n parts) = (_, parts)
-row_in item = (_, end_of-Item)
+list_read : (items : Vec Item Global) → item_value (ItemsItem items) ≡ Items (values_of (map item_value items.items))
+list_read items = items_value items (values_of (map item_value items.items)) (sym (list_back (map item_value items.items)))
 
-each_read : (n : _) (row : Row_of-Item n) → values_read row ≡ values_of (map item_value (items-the_row-Item n row))
-each_read n end_of-Item = refl
-each_read n (more_of-Item item items) = ap (next_value (item_value item)) (each_read _ items)
-
--- the list of items, and the tuple of them
-pub list_read : (items : Vec Item Global) → item_value (ItemsItem items) ≡ Items (values_of (map item_value items.items))
-list_read items =
-    let row = row_in (ItemsItem items) in
-    ap Items (each_read row.0 row.1 ∙ ap (λ l. values_of (map item_value l)) (items_hidden-the_row-Item-0 items))
-
-pub tuple_read : (parts : Vec Item Global) → item_value (PartsItem parts) ≡ Tuple (values_of (map item_value parts.items))
-tuple_read parts =
-    let row = row_in (PartsItem parts) in
-    ap Tuple (each_read row.0 row.1 ∙ ap (λ l. values_of (map item_value l)) (items_hidden-the_row-Item-0 parts))
+tuple_read : (parts : Vec Item Global) → item_value (PartsItem parts) ≡ Tuple (values_of (map item_value parts.items))
+tuple_read parts = parts_value parts (values_of (map item_value parts.items)) (sym (list_back (map item_value parts.items)))
 
 -- what stands below a list that was read
 pub items_listed : (item : Item) (items : Vec Item Global) → item ≡ ItemsItem items → (below : Value → List Value) → ((entries : Values) → below (Items entries) ≡ listed entries) → below (item_value item) ≡ map item_value items.items

@@ -9,12 +9,15 @@ pub mod Equalities
 pub mod Escapes
 pub mod Fields
 pub mod ItemParts
+pub mod ItemRows
 pub mod Making
 pub mod Numbers
 pub mod PartRows
 pub mod Printed
 pub mod Quotes
+pub mod Refusals
 pub mod Rows
+pub mod Shown
 pub mod Spaceless
 pub mod Told
 pub mod TypeTexts

@@ -7,6 +7,7 @@ pub mod ItemValues
 pub mod Limits
 pub mod Readings
 pub mod Spaces
+pub mod Stored
 pub mod TextErrors
 pub mod Texts
 pub mod Types

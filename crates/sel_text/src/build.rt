@@ -1,16 +1,17 @@
 //! Columns made of rows that were read.
 
-ghost use Rattle.std.specs.Prelude.{◌≡◌, ◌<◌, ◌++◌, pos, true, List, IfOk, IfErr, OnOk, length, map, replicate};
+ghost use Rattle.std.specs.Prelude.{◌≡◌, ◌<◌, ◌∷◌, ◌++◌, [], pos, true, List, IfOk, IfErr, OnOk, length, map, replicate};
 ghost use Rattle.std.specs.List.{flat_map, list_all};
 ghost use Rattle.sel_arrow.specs.Columns.{binview_rows};
 ghost use Rattle.sel_arrow.specs.DataType.{shape_of};
 ghost use Rattle.sel_arrow.specs.Masked.{Covers, masked};
 ghost use Rattle.sel_arrow.specs.Shape.{Shape, shapes_of, of_boolean, of_large_binary, of_utf8_view, of_large_list, of_fixed_size_list, of_struct};
-ghost use Rattle.sel_arrow.specs.Value.{Value, Null};
+ghost use Rattle.sel_arrow.specs.Value.{Value, Null, Number, is_valid};
 ghost use Rattle.sel_text.specs.Below.{offsets_below, HasParts};
 ghost use Rattle.sel_text.specs.Fits.{fits};
 ghost use Rattle.sel_text.specs.ItemValues.{item_value, rows_read};
 ghost use Rattle.sel_text.specs.Limits.{any_past, block_in, entries_in, is_view_shape, part_in, past_limit, IsTold, Makes, Shows};
+ghost use Rattle.sel_text.specs.Stored.{bytes_stored, truth_stored};
 ghost use Rattle.sel_text.specs.TextErrors.{IsWanting};
 
 use crate::cell::Whole;
@@ -86,12 +87,32 @@ fn validity_of(alloc: Global, items: &[&Item]) -> Result<Option<Bitmap>, Fault>
 {
     let mut valid = Vec::with_capacity(alloc, items.len())?;
     for item in items {
-        valid.push(!matches!(item, Item::Null))?;
+        valid.push(is_filled(item))?;
     }
-    if valid.iter().all(|valid| *valid) {
+    if all_true(&valid) {
         return Ok(None);
     }
     Ok(Some(Bitmap::from_bools(alloc, &valid)?))
+}
+
+/// Whether each of them is true.
+#[tactic(auto, using(sel_arrow::proofs::Lists::all_lists))]
+fn all_true(bits: &[bool]) -> bool
+    ensures { result ≡ list_all (λ bit. bit) bits.now }
+{
+    for bit in bits {
+        if !*bit {
+            return false;
+        }
+    }
+    true
+}
+
+/// Whether a row is no null.
+fn is_filled(item: &Item) -> bool
+    ensures { result ≡ is_valid (item_value item.now) }
+{
+    !matches!(item, Item::Null)
 }
 
 /// The column of these truth values.
@@ -101,13 +122,23 @@ fn truths(alloc: Global, items: &[&Item], beneath: Beneath) -> Result<ArrayRef, 
 {
     let mut values = Vec::with_capacity(alloc, items.len())?;
     for item in items {
-        values.push(match item {
-            Item::Truth(truth) => *truth,
-            _ => beneath == Beneath::Others,
-        })?;
+        values.push(truth_in(item, beneath))?;
     }
     let values = Bitmap::from_bools(alloc, &values)?;
     Ok(BooleanArray::try_new(values, validity_of(alloc, items)?)?.into_ref())
+}
+
+/// The truth value in a row, or what stands beneath a null.
+fn truth_in(item: &Item, beneath: Beneath) -> bool
+    ensures { result ≡ truth_stored beneath (item_value item.now) }
+{
+    match item {
+        Item::Truth(truth) => *truth,
+        _ => match beneath {
+            Beneath::Zeros => false,
+            Beneath::Others => true,
+        },
+    }
 }
 
 /// The column of these numbers.
@@ -128,7 +159,10 @@ fn numbers<T: FromWhole>(
 }
 
 /// The number in a row, or what stands beneath a null.
-fn number_in<T: FromWhole>(item: &Item, beneath: Beneath) -> T {
+fn number_in<T: FromWhole>(item: &Item, beneath: Beneath) -> T
+    ensures { fits T.shape (item_value item.now) ≡ true →
+        Shows (item_value item.now ∷ []) (Number (T.number result) ∷ []) }
+{
     let other = match beneath {
         Beneath::Zeros => T::ZERO,
         Beneath::Others => T::GREATEST,
@@ -140,7 +174,9 @@ fn number_in<T: FromWhole>(item: &Item, beneath: Beneath) -> T {
 }
 
 /// The bytes in a row, or those that stand beneath a null.
-fn bytes_in(item: &Item, beneath: Beneath) -> &[u8] {
+fn bytes_in(item: &Item, beneath: Beneath) -> &[u8]
+    ensures { result.now ≡ bytes_stored beneath (item_value item.now) }
+{
     match item {
         Item::Bytes(bytes) => bytes,
         _ => match beneath {

@@ -1,7 +1,7 @@
 //! Why a text gives no type and no column.
 
 ghost use Rattle.std.specs.Prelude.{◌≡◌, ◌≤◌, Some, length};
-ghost use Rattle.sel_text.specs.TextErrors.{error_text, make_fault, IsShort, IsShortage, IsWithin};
+ghost use Rattle.sel_text.specs.TextErrors.{error_text, kernel_fault, make_fault, IsShort, IsShortage, IsWithin};
 ghost use Rattle.sel_text.specs.declared.text_error.Fault.TheVariants.{OutOfMemory};
 
 use crate::spaces::place_in;
@@ -83,7 +83,7 @@ impl<T: Drop> From<AllocFailed<T>> for Fault {
 }
 
 impl From<PolarsError> for Fault {
-    ghost from_gives = { λ _ fault. IsShort fault };
+    ghost from_gives = { λ error fault. fault ≡ kernel_fault error };
 
     fn from(fault: PolarsError) -> Fault {
         match fault {

@@ -1,6 +1,6 @@
 //! Whole numbers of the ten number types.
 
-ghost use Rattle.std.specs.Prelude.{◌≡◌, false, IfNone, IfSome};
+ghost use Rattle.std.specs.Prelude.{◌≡◌, pos, false, true, refl, IfNone, IfSome};
 ghost use Rattle.sel_text.specs.Cells.{whole_number};
 ghost use Rattle.sel_text.specs.Fits.{fits_number};
 
@@ -12,6 +12,9 @@ pub(crate) trait FromWhole: ArrowPrimitive {
     /// Nothing.
     const ZERO: Self;
 
+    /// The type is one of numbers.
+    ghost numeric: { fits_number Self.shape (pos 0) ≡ true };
+
     /// The number, or None where none of the type is it.
     fn from_whole(whole: Whole) -> Option<Self>
         ensures number { IfSome result (λ number. Self.number number ≡ whole_number whole) }
@@ -20,6 +23,8 @@ pub(crate) trait FromWhole: ArrowPrimitive {
 
 impl FromWhole for i8 {
     const ZERO: i8 = 0;
+
+    ghost numeric = { refl };
 
     fn from_whole(whole: Whole) -> Option<i8> {
         match whole {
@@ -32,6 +37,8 @@ impl FromWhole for i8 {
 impl FromWhole for i16 {
     const ZERO: i16 = 0;
 
+    ghost numeric = { refl };
+
     fn from_whole(whole: Whole) -> Option<i16> {
         match whole {
             Whole::Signed(number) => i16::try_from(number).ok(),
@@ -42,6 +49,8 @@ impl FromWhole for i16 {
 
 impl FromWhole for i32 {
     const ZERO: i32 = 0;
+
+    ghost numeric = { refl };
 
     fn from_whole(whole: Whole) -> Option<i32> {
         match whole {
@@ -54,6 +63,8 @@ impl FromWhole for i32 {
 impl FromWhole for i64 {
     const ZERO: i64 = 0;
 
+    ghost numeric = { refl };
+
     fn from_whole(whole: Whole) -> Option<i64> {
         match whole {
             Whole::Signed(number) => i64::try_from(number).ok(),
@@ -64,6 +75,8 @@ impl FromWhole for i64 {
 
 impl FromWhole for i128 {
     const ZERO: i128 = 0;
+
+    ghost numeric = { refl };
 
     fn from_whole(whole: Whole) -> Option<i128> {
         match whole {
@@ -76,6 +89,8 @@ impl FromWhole for i128 {
 impl FromWhole for u8 {
     const ZERO: u8 = 0;
 
+    ghost numeric = { refl };
+
     fn from_whole(whole: Whole) -> Option<u8> {
         match whole {
             Whole::Signed(number) => u8::try_from(number).ok(),
@@ -86,6 +101,8 @@ impl FromWhole for u8 {
 
 impl FromWhole for u16 {
     const ZERO: u16 = 0;
+
+    ghost numeric = { refl };
 
     fn from_whole(whole: Whole) -> Option<u16> {
         match whole {
@@ -98,6 +115,8 @@ impl FromWhole for u16 {
 impl FromWhole for u32 {
     const ZERO: u32 = 0;
 
+    ghost numeric = { refl };
+
     fn from_whole(whole: Whole) -> Option<u32> {
         match whole {
             Whole::Signed(number) => u32::try_from(number).ok(),
@@ -109,6 +128,8 @@ impl FromWhole for u32 {
 impl FromWhole for u64 {
     const ZERO: u64 = 0;
 
+    ghost numeric = { refl };
+
     fn from_whole(whole: Whole) -> Option<u64> {
         match whole {
             Whole::Signed(number) => u64::try_from(number).ok(),
@@ -119,6 +140,8 @@ impl FromWhole for u64 {
 
 impl FromWhole for u128 {
     const ZERO: u128 = 0;
+
+    ghost numeric = { refl };
 
     fn from_whole(whole: Whole) -> Option<u128> {
         match whole {
