@@ -3,7 +3,7 @@ use Rattle.std.proofs.Common.{◌≡◌, ℕ, zero, suc, ℤ, pos, ◌+◌, ◌<
 use Rattle.std.specs.Prelude.{if◌then◌else◌}
 use Rattle.std.specs.Borrow.{Bor}
 use Rattle.std.specs.List.{list_all}
-use Rattle.std.proofs.lemmas.List.{map-append, take_more}
+use Rattle.std.proofs.lemmas.List.{length-map, map-append, take_more}
 use Rattle.sel_arrow.specs.Masked.{hidden}
 use Rattle.sel_arrow.specs.Shape.{Shape, of_null, of_boolean, of_int8, of_int16, of_int32, of_int64, of_int128, of_uint8, of_uint16, of_uint32, of_uint64, of_uint128, of_large_binary, of_binary_view, of_utf8_view, of_large_list, of_fixed_size_list, of_struct, is_struct_shape}
 use Rattle.sel_arrow.specs.Value.{Value, Null, Truth, Number, Bytes, Items, Tuple, is_valid, listed}
@@ -62,7 +62,7 @@ shown_all (row ∷ rows) (v ∷ vs) all s =
     let first : v ≡ row = ap (λ b. if b then v else Null) (sym valid) ∙ both.0 in
     ap (λ x. x ∷ vs) first ∙ ap (λ l. row ∷ l) (shown_all rows vs (and_second (is_valid row) (list_all (λ b. b) (map is_valid rows)) all) both.1)
 
-pub shown_length : (rows plain : List Value) → Shows rows plain → length plain ≡ length rows
+shown_length : (rows plain : List Value) → Shows rows plain → length plain ≡ length rows
 shown_length [] [] s = refl
 shown_length [] (v ∷ vs) s = absurd s
 shown_length (row ∷ rows) [] s = absurd (never_none row rows s)
@@ -111,6 +111,13 @@ shown_more value items i item values grown y inside is before here grows =
     let plain : map value grown ≡ map value values ++ value y ∷ [] = ap (map value) grows ∙ map-append value values (y ∷ []) in
     subst (λ r. Shows r (map value grown)) (sym rows) (subst (λ p. Shows (rows_read (take i items) ++ item_value item.now ∷ []) p) (sym plain)
     (shown_append (rows_read (take i items)) (map value values) (item_value item.now ∷ []) (value y ∷ []) before here))
+
+-- as many rows as items
+pub rows_count : (items : List (Bor Item)) → length (rows_read items) ≡ length items
+rows_count items = length-map items (λ (item : Bor Item). item_value item.now)
+
+pub shown_count : {A : Type 0} (value : A → Value) (items : List (Bor Item)) (values : List A) → Shows (rows_read items) (map value values) → length values ≡ length items
+shown_count value items values s = sym (length-map values value) ∙ shown_length (rows_read items) (map value values) s ∙ rows_count items
 
 -- ---- truth values
 

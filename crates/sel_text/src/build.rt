@@ -164,7 +164,7 @@ fn number_in<T: FromWhole>(item: &Item, beneath: Beneath) -> T
         Shows (item_value item.now ∷ []) (Number (T.number result) ∷ []) }
 {
     let other = match beneath {
-        Beneath::Zeros => T::ZERO,
+        Beneath::Zeros => T::zero(),
         Beneath::Others => T::GREATEST,
     };
     match item {

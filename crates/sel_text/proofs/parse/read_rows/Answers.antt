@@ -1,9 +1,10 @@
-use Rattle.std.proofs.Common.{[], ap, sym, ◌∙◌, length, true≢false, subst}
+use Rattle.std.proofs.Common.{[], ap, sym, ◌∙◌, length, map, true≢false, subst}
 use Rattle.std.specs.Prelude.{◌==◌}
 use Rattle.std.specs.List.{list_all}
 use Rattle.sel_arrow.specs.DataType.{shape_of}
 use Rattle.sel_arrow.specs.Value.{values_of}
 use Rattle.sel_text.specs.Fits.{fits}
+use Rattle.sel_text.specs.ItemValues.{item_value}
 use Rattle.sel_text.specs.Limits.{past_limit, Makes}
 use Rattle.sel_text.proofs.Equalities.{list_back}
 use Rattle.sel_text.proofs.Making.{told_wanting}
@@ -27,5 +28,5 @@ pub returns : goal.returns
 returns c = λ values fit is.
     let s = shape_of c.args.dtype.now in
     let told = c.in-Ok.ensures (values_of values) [] (all_fits s values fit) (rows_text s values _ is) in
-    let same = told.0 ∙ list_back values in
-    ?
+    let same = ap (map item_value) c.deref.ensures.value ∙ told.0 ∙ list_back values in
+    subst (λ vs. Makes c.args.beneath s vs c.build_rows.result) same (c.build_rows.ensures (ap (list_all (fits s)) same ∙ fit))
