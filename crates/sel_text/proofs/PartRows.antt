@@ -152,10 +152,11 @@ pub tuples_made : (shapes : List Shape) (vs : List Value) (refs old : List Array
     (type_of (tuple_column array) ≡ of_struct (shapes_of shapes)) × (rows (tuple_column array) ≡ vs)
 tuples_made shapes vs refs old array validity fit has none len fields valid hides =
     let types = ap (map type_of) fields ∙ columns_of type_of refs ∙ has.types ∙ ap (λ l. map (λ field. type_of field.column) l ++ shapes) none in
-    let parts = ap (map rows) fields ∙ columns_of rows refs ∙ has.parts ∙ ap (λ l. map (λ field. rows field.column) l ++ parts_below (length shapes) vs) none in
-    (type_of-Struct array.len array.fields array.validity ∙ ap (λ l. of_struct (shapes_of l)) types,
+    let parts = ap (map rows) fields ∙ columns_of rows refs ∙ has.parts ∙ ap (λ l. map (λ field. rows field.column) l ++ parts_below (length shapes) vs) none in (
+      type_of-Struct array.len array.fields array.validity ∙ ap (λ l. of_struct (shapes_of l)) types,
       rows-Struct array.len array.fields array.validity ∙ ap (λ l. tuple_rows array.len l array.validity) parts ∙ ap (λ n. tuple_rows n (parts_below (length shapes) vs) array.validity) len
-      ∙ ap (λ v. tuple_rows (length vs) (parts_below (length shapes) vs) v) valid ∙ hides (map (tuple_at (parts_below (length shapes) vs)) (range_with_len 0 (length vs))) (tuples_show shapes vs fit))
+          ∙ ap (λ v. tuple_rows (length vs) (parts_below (length shapes) vs) v) valid ∙ hides (map (tuple_at (parts_below (length shapes) vs)) (range_with_len 0 (length vs))) (tuples_show shapes vs fit),
+    )
 
 fields_count : (vs : List Value) (refs : List ArrayRef) (places : List ℕ) → map (λ field. rows field.column) refs ≡ map (λ place. map (part_in place) vs) places → list_all (λ n. n == length vs) (map (λ field. row_count field.column) refs) ≡ true
 fields_count vs [] places e = refl

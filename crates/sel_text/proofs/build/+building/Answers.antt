@@ -55,9 +55,10 @@ lists-returns-in-Ok-try_new t c = λ fit.
     let kept = ap (list_all (fits s)) read ∙ all_below (entries_in b) (fits (of_large_list s)) (fits s) (list_below s b) vs fit in
     let child = c.in-Ok-build.ensures kept in
     let made = c.in-Ok-try_new.ensures in
-    let same = same_lists _ _ _ _ _ _ made.offsets made.values made.validity in
-    (c.into_ref.ensures.dtype ∙ ap (λ x. of_large_list (type_of x)) made.values ∙ ap of_large_list child.0,
-      c.into_ref.ensures.rows ∙ same ∙ lists_made b s vs (rows c.in-Ok-build.child.column) c.in-Ok.made.1 c.in-Ok-validity_of.validity fit (c.in-Ok.ensures.offsets refl) (child.1 ∙ read) c.in-Ok-validity_of.ensures.hides)
+    let same = same_lists _ _ _ _ _ _ made.offsets made.values made.validity in (
+      c.into_ref.ensures.dtype ∙ ap (λ x. of_large_list (type_of x)) made.values ∙ ap of_large_list child.0,
+      c.into_ref.ensures.rows ∙ same ∙ lists_made b s vs (rows c.in-Ok-build.child.column) c.in-Ok.made.1 c.in-Ok-validity_of.validity fit (c.in-Ok.ensures.offsets refl) (child.1 ∙ read) c.in-Ok-validity_of.ensures.hides,
+    )
 
 pub lists-returns : goal.lists-returns
 lists-returns t c = λ fit.
@@ -98,9 +99,10 @@ blocks-returns-in-Ok-try_new t c = λ fit.
     let child = c.in-Ok-build.ensures kept in
     let made = c.in-Ok-try_new.ensures in
     let same = same_blocks _ _ _ _ _ _ _ _ made.size made.len made.values made.validity in
-    let count = sym (length-map c.args.items.now (λ item. item_value item.now)) in
-    (c.into_ref.ensures.dtype ∙ ap (λ x. of_fixed_size_list (type_of x) c.in-Ok-try_new.array.size) made.values ∙ ap (λ x. of_fixed_size_list x c.in-Ok-try_new.array.size) child.0 ∙ ap (of_fixed_size_list s) made.size,
-      c.into_ref.ensures.rows ∙ same ∙ blocks_made s size vs (rows c.in-Ok-build.child.column) (length c.args.items.now) c.in-Ok-validity_of.validity fit count (child.1 ∙ read) c.in-Ok-validity_of.ensures.hides)
+    let count = sym (length-map c.args.items.now (λ item. item_value item.now)) in (
+      c.into_ref.ensures.dtype ∙ ap (λ x. of_fixed_size_list (type_of x) c.in-Ok-try_new.array.size) made.values ∙ ap (λ x. of_fixed_size_list x c.in-Ok-try_new.array.size) child.0 ∙ ap (of_fixed_size_list s) made.size,
+      c.into_ref.ensures.rows ∙ same ∙ blocks_made s size vs (rows c.in-Ok-build.child.column) (length c.args.items.now) c.in-Ok-validity_of.validity fit count (child.1 ∙ read) c.in-Ok-validity_of.ensures.hides,
+    )
 
 pub blocks-returns : goal.blocks-returns
 blocks-returns t c = λ fit.
