@@ -1,3 +1,4 @@
+pub mod BuiltPieces
 pub mod CellRows
 pub mod Commas
 pub mod Decimals
