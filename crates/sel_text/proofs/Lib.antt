@@ -1,4 +1,5 @@
 pub mod Below
+pub mod BuiltPieces
 pub mod CellRows
 pub mod Commas
 pub mod Decimals

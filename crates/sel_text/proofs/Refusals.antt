@@ -1,18 +1,25 @@
 -- Which rule rows that fit their type can break.
-use Rattle.std.proofs.Common.{◌≡◌, ◌≢◌, ℕ, Bool, true, false, true≢false, List, [], ◌∷◌, length, Option, Some, None, refl, ap, sym, ◌∙◌, subst}
-use Rattle.std.specs.Prelude.{◌||◌, ◌==◌, if◌then◌else◌, not}
+use Rattle.std.proofs.Common.{◌≡◌, ◌≢◌, ℕ, Bool, true, false, true≢false, List, [], ◌∷◌, length, Option, Some, None, Result, Ok, Err, refl, ap, sym, ◌∙◌, subst, arith}
+use Rattle.std.specs.Prelude.{◌||◌, ◌&&◌, ◌==◌, nat_lt, IsTrue, if◌then◌else◌, not, IsErrAnd}
+use Rattle.std.specs.List.{flat_map}
 use Rattle.std.proofs.lemmas.Bool.Decides.{nat_tests}
 use Rattle.sel_bits.specs.Bits.{Bits}
-use Rattle.sel_bits.specs.Faults.{IsFault, first_broken}
+use Rattle.sel_bits.specs.Faults.{IsFault, IsFaultOrMemory, first_broken}
 use Rattle.sel_bits.specs.declared.faults.MakeError.{MakeError}
 use Rattle.sel_bits.specs.declared.faults.MakeError.TheVariants.{Malformed as Broken, OutOfMemory as WantOfMemory}
 use Rattle.sel_bits.specs.declared.faults.Malformed.{Malformed}
-use Rattle.sel_bits.specs.declared.faults.Malformed.TheVariants.{TooManyRows, ValidityLength}
-use Rattle.sel_arrow.specs.Makers.{flat_fault}
+use Rattle.sel_bits.specs.declared.faults.Malformed.TheVariants.{TooManyRows, TooManyBuffers, OffsetRange, ValidityLength, ViewRange, ViewPrefix, Utf8}
+use Rattle.sel_arrow.specs.Makers.{binary_fault, binview_fault, flat_fault, or_else, utf8view_fault, view_fault, views_fault}
 use Rattle.sel_arrow.specs.Masked.{Covers, too_many, validity_differs}
+use Rattle.sel_arrow.specs.Pieces.{last_offset, rows_between}
+use Rattle.sel_arrow.specs.Texts.{all_text}
+use Rattle.sel_arrow.specs.Views.{all_placed, has_prefix, is_in_range, is_placed, view_rows}
+use Rattle.sel_arrow.specs.declared.view.View.{View}
+use Rattle.sel_arrow.proofs.Lists.{and_first, and_second}
 use Rattle.sel_arrow.specs.Shape.{Shape, of_null, of_boolean, of_int8, of_int16, of_int32, of_int64, of_int128, of_uint8, of_uint16, of_uint32, of_uint64, of_uint128, of_large_binary, of_binary_view, of_utf8_view, of_large_list, of_fixed_size_list, of_struct}
 use Rattle.sel_arrow.specs.Value.{Value}
-use Rattle.sel_text.specs.Limits.{past_limit, IsTold, is_past}
+use Rattle.sel_arrow.specs.declared.array_ref.ArrayRef.{ArrayRef}
+use Rattle.sel_text.specs.Limits.{all_placed_bytes, any_past, block_in, entries_in, past_limit, IsTold, Makes, is_past}
 use Rattle.sel_text.specs.TextErrors.{make_fault}
 use Rattle.sel_text.specs.declared.build.Beneath.{Beneath}
 use Rattle.sel_text.specs.declared.text_error.Fault.{Fault}
@@ -32,24 +39,24 @@ many_past beneath of_uint32 rows many = many
 many_past beneath of_uint64 rows many = many
 many_past beneath of_uint128 rows many = many
 many_past beneath of_large_binary rows many = many
-many_past beneath of_binary_view rows many = ap (λ b. b || _) many
-many_past beneath of_utf8_view rows many = ap (λ b. b || _) many
-many_past beneath (of_large_list s) rows many = ap (λ b. b || _) many
-many_past beneath (of_fixed_size_list s size) rows many = ap (λ b. b || _) many
-many_past beneath (of_struct ss) rows many = ap (λ b. b || _) many
+many_past beneath of_binary_view rows many = ap (λ b. b || is_past (all_placed_bytes rows)) many
+many_past beneath of_utf8_view rows many = ap (λ b. b || is_past (all_placed_bytes rows)) many
+many_past beneath (of_large_list s) rows many = ap (λ b. b || past_limit beneath s (flat_map (entries_in beneath) rows)) many
+many_past beneath (of_fixed_size_list s size) rows many = ap (λ b. b || is_past size || past_limit beneath s (flat_map (block_in size) rows)) many
+many_past beneath (of_struct ss) rows many = ap (λ b. b || any_past beneath ss 0 rows) many
 
 -- a validity that covers the rows has no other length
 pub no_difference : (validity : Option Bits) (n : ℕ) → Covers validity n → validity_differs validity n ≡ false
 no_difference None n covers = refl
 no_difference (Some v) n covers = let long = covers v refl in ap (λ k. not (k == n)) long ∙ grind (arith, nat_tests)
 
+none_some : (rule : Malformed) → None ≡ Some rule → ⊥
+none_some rule is = absurd cc
+
 -- where no other rule is broken, too many rows are told
 pub many_told : (t : Bool) (others : Option Malformed) (error : MakeError) → others ≡ None → IsFault (if t then Some TooManyRows else others) error → t ≡ true
 many_told true others error none fault = refl
 many_told false others (Broken rule) none fault = absurd (none_some rule (sym none ∙ fault))
-  where
-    none_some : (rule : Malformed) → None ≡ Some rule → ⊥
-    none_some rule is = absurd cc
 many_told false others WantOfMemory none fault = absurd fault
 
 -- which is a limit that they pass
@@ -57,8 +64,56 @@ pub limit_told : (passed : Bool) (fallen : Option Malformed) (error : MakeError)
 limit_told passed fallen (Broken rule) fault past is told = subst (IsTold passed) (sym told) (past is)
 limit_told passed fallen WantOfMemory fault past is told = absurd is
 
+-- so it is told where the parts are refused
+pub makes_told : (beneath : Beneath) (s : Shape) (rows : List Value) (r : Result ArrayRef Fault) (error : MakeError) → IsErrAnd r (λ fault. fault ≡ make_fault error) →
+    ((fault : Fault) → fault ≡ make_fault error → IsTold (past_limit beneath s rows) fault) → Makes beneath s rows r
+makes_told beneath s rows (Ok array) error is told = absurd is
+makes_told beneath s rows (Err fault) error is told = told fault is
+
 pub flat_told : (beneath : Beneath) (s : Shape) (rows : List Value) (n : ℕ) (validity : Option Bits) (error : MakeError) (fault : Fault) → n ≡ length rows → Covers validity n →
     IsFault (flat_fault n validity) error → fault ≡ make_fault error → IsTold (past_limit beneath s rows) fault
 flat_told beneath s rows n validity error fault long covers =
     limit_told (past_limit beneath s rows) (flat_fault n validity) error fault
     (λ is. many_past beneath s rows (ap is_past (sym long) ∙ many_told (too_many n) _ error (ap (λ b. if b then Some ValidityLength else None) (no_difference validity n covers)) is))
+
+-- offsets that break no rule are refused for want of memory alone
+pub memory_told : (passed : Bool) (broken : Option Malformed) (error : MakeError) (fault : Fault) → broken ≡ None → IsFaultOrMemory broken error → fault ≡ make_fault error → IsTold passed fault
+memory_told passed broken (Broken rule) fault none is told = absurd (none_some rule (sym none ∙ is))
+memory_told passed broken WantOfMemory fault none is told = subst (IsTold passed) (sym told) tt
+
+two_none : (a b : Bool) (x y : Malformed) → a ≡ false → b ≡ false → first_broken ((x, a) ∷ (y, b) ∷ []) ≡ None
+two_none false false x y p q = refl
+two_none false true x y p q = absurd (true≢false q)
+two_none true b x y p q = absurd (true≢false p)
+
+pub binary_told : (beneath : Beneath) (s : Shape) (rows : List Value) (offsets bytes : List ℕ) (validity : Option Bits) (error : MakeError) (fault : Fault) → rows_between offsets ≡ length rows →
+    nat_lt (length bytes) (last_offset offsets) ≡ false → Covers validity (length rows) → IsFault (binary_fault offsets bytes validity) error → fault ≡ make_fault error → IsTold (past_limit beneath s rows) fault
+binary_told beneath s rows offsets bytes validity error fault long inside covers =
+    let covered = subst (Covers validity) (sym long) covers in
+    limit_told (past_limit beneath s rows) (binary_fault offsets bytes validity) error fault
+    (λ is. many_past beneath s rows (ap is_past (sym long) ∙ many_told (too_many (rows_between offsets)) (first_broken ((OffsetRange, nat_lt (length bytes) (last_offset offsets)) ∷ (ValidityLength, validity_differs validity (rows_between offsets)) ∷ [])) error
+    (two_none (nat_lt (length bytes) (last_offset offsets)) (validity_differs validity (rows_between offsets)) OffsetRange ValidityLength inside (no_difference validity (rows_between offsets) covered)) is))
+
+-- ---- views
+
+no_view_fault : (buffers : List (List ℕ)) (view : View) → is_placed buffers view ≡ true → view_fault buffers view ≡ None
+no_view_fault buffers view placed =
+    two_none (not (is_in_range buffers view)) (not (has_prefix buffers view)) ViewRange ViewPrefix (ap not (and_first (is_in_range buffers view) (has_prefix buffers view) placed)) (ap not (and_second (is_in_range buffers view) (has_prefix buffers view) placed))
+
+no_views_fault : (buffers : List (List ℕ)) (views : List View) → all_placed buffers views ≡ true → views_fault buffers views ≡ None
+no_views_fault buffers [] placed = refl
+no_views_fault buffers (view ∷ views) placed =
+    ap (λ f. or_else f (views_fault buffers views)) (no_view_fault buffers view (and_first (is_placed buffers view) (all_placed buffers views) placed))
+    ∙ no_views_fault buffers views (and_second (is_placed buffers view) (all_placed buffers views) placed)
+
+many_views : (t : Bool) (others next : Option Malformed) (error : MakeError) → others ≡ None → next ≡ None → IsFault (or_else (if t then Some TooManyRows else others) next) error → t ≡ true
+many_views true others next error none end fault = refl
+many_views false others next error none end fault = many_told false others error none (subst (λ f. IsFault f error) (ap (λ o. or_else o next) none ∙ end ∙ sym none) fault)
+
+pub binview_told : (beneath : Beneath) (s : Shape) (rows : List Value) (views : List View) (buffers : List (List ℕ)) (validity : Option Bits) (error : MakeError) (fault : Fault) → length views ≡ length rows → length buffers ≡ 1 →
+    IsTrue (all_placed buffers views) → Covers validity (length rows) → IsFault (binview_fault views buffers validity) error → fault ≡ make_fault error → IsTold (past_limit beneath s rows) fault
+binview_told beneath s rows views buffers validity error fault long one placed covers =
+    let covered = subst (Covers validity) (sym long) covers in
+    limit_told (past_limit beneath s rows) (binview_fault views buffers validity) error fault
+    (λ is. many_past beneath s rows (ap is_past (sym long) ∙ many_views (too_many (length views)) (first_broken ((TooManyBuffers, too_many (length buffers)) ∷ (ValidityLength, validity_differs validity (length views)) ∷ [])) (views_fault buffers views) error
+    (two_none (too_many (length buffers)) (validity_differs validity (length views)) TooManyBuffers ValidityLength (ap too_many one) (no_difference validity (length views) covered)) (no_views_fault buffers views placed) is))

@@ -3,15 +3,15 @@ use Rattle.std.proofs.Common.{◌≡◌, ℕ, zero, suc, ℤ, pos, ◌+◌, ◌<
 use Rattle.std.specs.Prelude.{if◌then◌else◌}
 use Rattle.std.specs.Borrow.{Bor}
 use Rattle.std.specs.List.{list_all}
-use Rattle.std.proofs.lemmas.List.{length-map, map-append, take_more}
+use Rattle.std.proofs.lemmas.List.{length-map, map-append, map_more, take_more}
 use Rattle.sel_arrow.specs.Masked.{hidden}
 use Rattle.sel_arrow.specs.Shape.{Shape, of_null, of_boolean, of_int8, of_int16, of_int32, of_int64, of_int128, of_uint8, of_uint16, of_uint32, of_uint64, of_uint128, of_large_binary, of_binary_view, of_utf8_view, of_large_list, of_fixed_size_list, of_struct, is_struct_shape}
 use Rattle.sel_arrow.specs.Value.{Value, Null, Truth, Number, Bytes, Items, Tuple, is_valid, listed}
 use Rattle.sel_arrow.proofs.Lists.{and_first, and_second}
 use Rattle.sel_text.specs.Fits.{fits, fits_bytes, fits_count, fits_number, is_truth_shape, all_fit, parts_fit}
 use Rattle.sel_text.specs.ItemValues.{item_value, rows_read}
-use Rattle.sel_text.specs.Limits.{Shows}
-use Rattle.sel_text.specs.Stored.{truth_stored}
+use Rattle.sel_text.specs.Limits.{Shows, is_view_shape}
+use Rattle.sel_text.specs.Stored.{bytes_stored, truth_stored}
 use Rattle.sel_text.specs.Texts.{item_shape, part_shapes}
 use Rattle.sel_text.specs.declared.build.Beneath.{Beneath}
 use Rattle.sel_text.specs.declared.build.Beneath.TheVariants.{Zeros, Others}
@@ -177,3 +177,65 @@ number_shown s (Number z) y has fit same = (ap Number (sym (same z refl fit)), t
 number_shown s (Bytes bs) y has fit same = no_truth (sym ((is_numeric s has).bytes bs) ∙ fit)
 number_shown s (Items es) y has fit same = no_truth (sym ((is_numeric s has).counts (length (listed es))) ∙ and_first (fits_count s (length (listed es))) (all_fit (item_shape s) es) fit)
 number_shown s (Tuple es) y has fit same = no_truth (sym (is_numeric s has).tuples ∙ and_first (is_struct_shape s) (parts_fit (part_shapes s) es) fit)
+
+-- ---- bytes
+
+-- a type of bytes is of no other kind
+pub record IsOfBytes (s : Shape) : Type 0 where
+  truths : is_truth_shape s ≡ false
+  numbers : (z : ℤ) → fits_number s z ≡ false
+  counts : (n : ℕ) → fits_count s n ≡ false
+  tuples : is_struct_shape s ≡ false
+
+pub of_binary : IsOfBytes of_large_binary
+of_binary = record { truths = refl; numbers = λ z. refl; counts = λ n. refl; tuples = refl }
+
+pub of_views : (s : Shape) → is_view_shape s ≡ true → IsOfBytes s
+of_views of_binary_view has = record { truths = refl; numbers = λ z. refl; counts = λ n. refl; tuples = refl }
+of_views of_utf8_view has = record { truths = refl; numbers = λ z. refl; counts = λ n. refl; tuples = refl }
+of_views of_large_binary has = no_truth has
+of_views of_null has = no_truth has
+of_views of_boolean has = no_truth has
+of_views of_int8 has = no_truth has
+of_views of_int16 has = no_truth has
+of_views of_int32 has = no_truth has
+of_views of_int64 has = no_truth has
+of_views of_int128 has = no_truth has
+of_views of_uint8 has = no_truth has
+of_views of_uint16 has = no_truth has
+of_views of_uint32 has = no_truth has
+of_views of_uint64 has = no_truth has
+of_views of_uint128 has = no_truth has
+of_views (of_large_list s) has = no_truth has
+of_views (of_fixed_size_list s size) has = no_truth has
+of_views (of_struct ss) has = no_truth has
+
+-- what is stored for each row
+abbrev pub stored_bytes : Beneath → List (Bor Item) → List (List ℕ)
+stored_bytes beneath items = map (λ item. bytes_stored beneath (item_value item.now)) items
+
+pub stored_count : (beneath : Beneath) (items : List (Bor Item)) → length (stored_bytes beneath items) ≡ length (rows_read items)
+stored_count beneath items = length-map items (λ (item : Bor Item). bytes_stored beneath (item_value item.now)) ∙ sym (rows_count items)
+
+pub bytes_shown : (s : Shape) → IsOfBytes s → (beneath : Beneath) (items : List (Bor Item)) → list_all (fits s) (rows_read items) ≡ true → Shows (rows_read items) (map Bytes (stored_bytes beneath items))
+bytes_shown s of beneath [] fit = tt
+bytes_shown s of beneath (item ∷ items) fit =
+    let row = item_value item.now in
+    let first = and_first (fits s row) (list_all (fits s) (rows_read items)) fit in
+    let rest = and_second (fits s row) (list_all (fits s) (rows_read items)) fit in
+    and_then row (rows_read items) (Bytes (bytes_stored beneath row)) (map Bytes (stored_bytes beneath items)) (same row first) (bytes_shown s of beneath items rest)
+  where
+    same : (row : Value) → fits s row ≡ true → is_valid row ≡ true → row ≡ Bytes (bytes_stored beneath row)
+    same Null fit valid = no_truth valid
+    same (Truth b) fit valid = no_truth (sym of.truths ∙ fit)
+    same (Number z) fit valid = no_truth (sym (of.numbers z) ∙ fit)
+    same (Bytes bs) fit valid = refl
+    same (Items es) fit valid = no_truth (sym (of.counts (length (listed es))) ∙ and_first (fits_count s (length (listed es))) (all_fit (item_shape s) es) fit)
+    same (Tuple es) fit valid = no_truth (sym of.tuples ∙ and_first (is_struct_shape s) (parts_fit (part_shapes s) es) fit)
+
+-- one row more
+pub stored_more : (beneath : Beneath) (items : List (Bor Item)) (i : ℕ) (item : Bor Item) (bytes : List ℕ) → i < length items → item ≡ get_or items i item → bytes ≡ bytes_stored beneath (item_value item.now) →
+    stored_bytes beneath (take (i + 1) items) ≡ stored_bytes beneath (take i items) ++ bytes ∷ []
+stored_more beneath items i item bytes inside is here =
+    let stored = λ (item : Bor Item). bytes_stored beneath (item_value item.now) in
+    map_more stored items i item inside ∙ ap (λ x. map stored (take i items) ++ x ∷ []) (ap stored (sym is) ∙ sym here)

@@ -1,17 +1,18 @@
 //! Columns made of rows that were read.
 
-ghost use Rattle.std.specs.Prelude.{◌≡◌, ◌<◌, ◌∷◌, ◌++◌, [], pos, true, List, IfOk, IfErr, OnOk, length, map, replicate};
+ghost use Rattle.std.specs.Prelude.{◌≡◌, ◌<◌, ◌≤◌, ◌+◌, ◌∷◌, ◌++◌, [], pos, true, List, IfOk, IfErr, OnOk, length, map, replicate};
 ghost use Rattle.std.specs.List.{flat_map, list_all};
 ghost use Rattle.sel_arrow.specs.Columns.{binview_rows};
 ghost use Rattle.sel_arrow.specs.DataType.{shape_of};
 ghost use Rattle.sel_arrow.specs.Masked.{Covers, masked};
 ghost use Rattle.sel_arrow.specs.Shape.{Shape, shapes_of, of_boolean, of_large_binary, of_utf8_view, of_large_list, of_fixed_size_list, of_struct};
+ghost use Rattle.sel_arrow.specs.Views.{inline_bytes, view_of};
 ghost use Rattle.sel_arrow.specs.Value.{Value, Null, Number, is_valid};
 ghost use Rattle.sel_text.specs.Below.{offsets_below, HasParts};
 ghost use Rattle.sel_text.specs.Fits.{fits};
 ghost use Rattle.sel_text.specs.ItemValues.{item_value, rows_read};
-ghost use Rattle.sel_text.specs.Limits.{any_past, block_in, entries_in, is_view_shape, part_in, past_limit, IsTold, Makes, Shows};
-ghost use Rattle.sel_text.specs.Stored.{bytes_stored, truth_stored};
+ghost use Rattle.sel_text.specs.Limits.{any_past, block_in, entries_in, is_past, is_view_shape, part_in, past_limit, IsTold, Makes, Shows};
+ghost use Rattle.sel_text.specs.Stored.{bytes_behind, bytes_stored, truth_stored};
 ghost use Rattle.sel_text.specs.TextErrors.{IsWanting};
 
 use crate::cell::Whole;
@@ -163,8 +164,9 @@ fn number_in<T: FromWhole>(item: &Item, beneath: Beneath) -> T
     ensures { fits T.shape (item_value item.now) ≡ true →
         Shows (item_value item.now ∷ []) (Number (T.number result) ∷ []) }
 {
+    let zero = T::zero();
     let other = match beneath {
-        Beneath::Zeros => T::zero(),
+        Beneath::Zeros => zero,
         Beneath::Others => T::GREATEST,
     };
     match item {
@@ -205,7 +207,7 @@ fn pieces(alloc: Global, items: &[&Item], beneath: Beneath) -> Result<ArrayRef, 
 /// A place as an offset.
 fn offset_at(place: usize) -> Result<i64, Fault>
     ensures value { IfOk result (λ offset. offset ≡ pos place) }
-    ensures past { IfErr result (λ _. 9223372036854775807 < place) }
+    ensures refused { IfErr result (λ fault. (fault ≡ Fault.Limit) × (9223372036854775807 < place)) }
 {
     match i64::try_from(place) {
         Ok(offset) => Ok(offset),
@@ -225,17 +227,30 @@ fn views(alloc: Global, items: &[&Item], beneath: Beneath) -> Result<BinaryViewA
     let mut data = Vec::new(alloc);
     let mut views = Vec::with_capacity(alloc, items.len())?;
     for item in items {
-        let bytes = bytes_in(item, beneath);
-        let (Ok(_), Ok(start)) = (u32::try_from(bytes.len()), u32::try_from(data.len())) else {
-            return Err(Fault::Limit);
-        };
-        views.push(View::new_from_bytes(bytes, 0, start))?;
-        data.extend_from_slice(bytes)?;
+        views.push(view_behind(&mut data, bytes_in(item, beneath))?)?;
     }
     let data = Buffer::from_vec(data)?;
     let buffers = Buffer::from_vec(vec![in alloc; data]?)?;
     let views = Buffer::from_vec(views)?;
     Ok(BinaryViewArray::try_new(views, buffers, validity_of(alloc, items)?)?)
+}
+
+/// The view of these bytes, of which more than 12 are put behind the others in a data buffer.
+fn view_behind(data: &mut Vec<u8>, bytes: &[u8]) -> Result<View, Fault>
+    ensures view { IfOk result (λ view. view ≡ view_of bytes.now 0 (length data.old.items)) }
+    ensures inline { IfOk result (λ view. length bytes.now ≤ 12 → inline_bytes view ≡ bytes.now) }
+    ensures data { IfOk result (λ _. data.new.items ≡ data.old.items ++ bytes_behind bytes.now) }
+    ensures limit { IfErr result (λ fault.
+        IsTold (is_past (length data.old.items + length (bytes_behind bytes.now))) fault) }
+{
+    if bytes.len() <= 12 {
+        return Ok(View::new_from_bytes(bytes, 0, 0));
+    }
+    let (Ok(_), Ok(start)) = (u32::try_from(bytes.len()), u32::try_from(data.len())) else {
+        return Err(Fault::Limit);
+    };
+    data.extend_from_slice(bytes)?;
+    Ok(View::new_from_bytes(bytes, 0, start))
 }
 
 /// The column of these texts.
