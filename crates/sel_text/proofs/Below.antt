@@ -19,7 +19,7 @@ use Rattle.sel_arrow.specs.Nested.{list_of, list_rows, blocks, block_rows}
 use Rattle.sel_arrow.specs.Pieces.{pieces, pieces_after, rows_between, last_offset}
 use Rattle.sel_arrow.specs.Rows.{rows}
 use Rattle.sel_arrow.specs.Shape.{Shape, of_large_list, of_fixed_size_list}
-use Rattle.sel_arrow.specs.Value.{Value, Null, Truth, Number, Bytes, Items, Tuple, Values, no_values, next_value, values_of, listed, is_valid}
+use Rattle.sel_arrow.specs.Value.{Value, Null, Truth, Number, Bytes, Items, Tuple, Values, no_values, next_value, listed, is_valid}
 use Rattle.sel_arrow.specs.declared.column.Column.{Column}
 use Rattle.sel_arrow.proofs.Lists.{both, and_first, and_second}
 use Rattle.sel_text.specs.Below.{ends_below, offsets_below}
@@ -27,13 +27,11 @@ use Rattle.sel_text.specs.Fits.{fits, fits_count, all_fit}
 use Rattle.sel_text.specs.Limits.{block_in, entries_in, Shows}
 use Rattle.sel_text.specs.declared.build.Beneath.{Beneath}
 use Rattle.sel_text.specs.declared.build.Beneath.TheVariants.{Zeros, Others}
+use Rattle.sel_text.proofs.ItemRows.{values_back}
 use Rattle.sel_text.proofs.Making.{first_of_three, first_of_four}
+use Rattle.sel_text.proofs.Refusals.{no_difference}
 
-pub values_listed : (vs : Values) → values_of (listed vs) ≡ vs
-values_listed no_values = refl
-values_listed (next_value v vs) = ap (next_value v) (values_listed vs)
-
-pub listed_fit : (s : Shape) (vs : Values) → all_fit s vs ≡ true → list_all (fits s) (listed vs) ≡ true
+listed_fit : (s : Shape) (vs : Values) → all_fit s vs ≡ true → list_all (fits s) (listed vs) ≡ true
 listed_fit s no_values fit = refl
 listed_fit s (next_value v vs) fit = both (fits s v) (list_all (fits s) (listed vs)) (and_first _ _ fit) (listed_fit s vs (and_second _ _ fit))
 
@@ -49,12 +47,12 @@ show_next (Tuple es) v rows vs is rest = (is refl, rest)
 
 -- ---- what each row of a type of lists has below it
 
-pub list_entries : (s : Shape) (b : Beneath) (row : Value) → fits (of_large_list s) row ≡ true → is_valid row ≡ true → row ≡ list_of (entries_in b row)
+list_entries : (s : Shape) (b : Beneath) (row : Value) → fits (of_large_list s) row ≡ true → is_valid row ≡ true → row ≡ list_of (entries_in b row)
 list_entries s b Null fit valid = absurd cc
 list_entries s b (Truth t) fit valid = absurd cc
 list_entries s b (Number z) fit valid = absurd cc
 list_entries s b (Bytes bs) fit valid = absurd cc
-list_entries s b (Items es) fit valid = ap Items (sym (values_listed es))
+list_entries s b (Items es) fit valid = ap Items (sym (values_back es))
 list_entries s b (Tuple es) fit valid = absurd cc
 
 pub list_below : (s : Shape) (b : Beneath) (row : Value) → fits (of_large_list s) row ≡ true → list_all (fits s) (entries_in b row) ≡ true
@@ -66,12 +64,12 @@ list_below s b (Bytes bs) fit = absurd cc
 list_below s b (Items es) fit = listed_fit s es fit
 list_below s b (Tuple es) fit = absurd cc
 
-pub block_entries : (s : Shape) (size : ℕ) (row : Value) → fits (of_fixed_size_list s size) row ≡ true → is_valid row ≡ true → row ≡ list_of (block_in size row)
+block_entries : (s : Shape) (size : ℕ) (row : Value) → fits (of_fixed_size_list s size) row ≡ true → is_valid row ≡ true → row ≡ list_of (block_in size row)
 block_entries s size Null fit valid = absurd cc
 block_entries s size (Truth t) fit valid = absurd cc
 block_entries s size (Number z) fit valid = absurd cc
 block_entries s size (Bytes bs) fit valid = absurd cc
-block_entries s size (Items es) fit valid = ap Items (sym (values_listed es))
+block_entries s size (Items es) fit valid = ap Items (sym (values_back es))
 block_entries s size (Tuple es) fit valid = absurd cc
 
 nulls_fit : (s : Shape) (n : ℕ) → list_all (fits s) (replicate n Null) ≡ true
@@ -86,7 +84,7 @@ block_below s size (Bytes bs) fit = absurd cc
 block_below s size (Items es) fit = listed_fit s es (and_second (length (listed es) == size) (all_fit s es) fit)
 block_below s size (Tuple es) fit = absurd cc
 
-pub block_long : (s : Shape) (size : ℕ) (row : Value) → fits (of_fixed_size_list s size) row ≡ true → length (block_in size row) ≡ size
+block_long : (s : Shape) (size : ℕ) (row : Value) → fits (of_fixed_size_list s size) row ≡ true → length (block_in size row) ≡ size
 block_long s size Null fit = length-replicate size Null
 block_long s size (Truth t) fit = absurd cc
 block_long s size (Number z) fit = absurd cc
@@ -122,12 +120,12 @@ module _ (below : Value → List Value) (p : Value → Bool) where
       (length-append pre (below row) ∙ ap (λ n. n + length (below row)) long)
       (whole ∙ sym (append_assoc pre (below row) (flat_map below rows))))
 
-  pub lists_show : ((row : Value) → p row ≡ true → is_valid row ≡ true → row ≡ list_of (below row)) → (rows : List Value) → list_all p rows ≡ true →
+  lists_show : ((row : Value) → p row ≡ true → is_valid row ≡ true → row ≡ list_of (below row)) → (rows : List Value) → list_all p rows ≡ true →
       Shows rows (map list_of (pieces (offsets_below below rows) (flat_map below rows)))
   lists_show each rows fit = lists_from each rows [] (flat_map below rows) 0 fit refl refl
 
   -- lists of one length
-  pub blocks_long : (size : ℕ) → ((row : Value) → p row ≡ true → length (below row) ≡ size) → (rows : List Value) → list_all p rows ≡ true → length (flat_map below rows) ≡ length rows * size
+  blocks_long : (size : ℕ) → ((row : Value) → p row ≡ true → length (below row) ≡ size) → (rows : List Value) → list_all p rows ≡ true → length (flat_map below rows) ≡ length rows * size
   blocks_long size each [] fit = omega arith
   blocks_long size each (row ∷ rows) fit =
       let product : (suc (length rows)) * size ≡ size + length rows * size = omega arith in
@@ -154,7 +152,7 @@ module _ (below : Value → List Value) (p : Value → Bool) where
       (length-append pre (below row) ∙ ap (λ n. n + length (below row)) long ∙ ap (λ n. k * size + n) count ∙ sym next)
       (whole ∙ sym (append_assoc pre (below row) (flat_map below rows))))
 
-  pub blocks_show : (size : ℕ) → ((row : Value) → p row ≡ true → length (below row) ≡ size) → ((row : Value) → p row ≡ true → is_valid row ≡ true → row ≡ list_of (below row)) →
+  blocks_show : (size : ℕ) → ((row : Value) → p row ≡ true → length (below row) ≡ size) → ((row : Value) → p row ≡ true → is_valid row ≡ true → row ≡ list_of (below row)) →
       (rows : List Value) → list_all p rows ≡ true → Shows rows (map list_of (blocks size (length rows) (flat_map below rows)))
   blocks_show size sized each rows fit = blocks_from size sized each rows [] (flat_map below rows) 0 fit (omega arith) refl
 
@@ -179,11 +177,11 @@ module _ (below : Value → List Value) where
       let same : (place + length (below row)) + length (flat_map below rows) ≡ place + length (flat_map below (row ∷ rows)) = omega (arith, split) in
       rest ∙ same
 
-  pub last_below : (rows : List Value) → last_offset (offsets_below below rows) ≡ length (flat_map below rows)
+  last_below : (rows : List Value) → last_offset (offsets_below below rows) ≡ length (flat_map below rows)
   last_below rows = ap (λ n. slice_index (offsets_below below rows) n) (count_between rows) ∙ last_from 0 rows ∙ from_none (length (flat_map below rows))
 
   -- one more end
-  pub ends_more : (place : ℕ) (rows : List Value) (row : Value) → ends_below below place (rows ++ row ∷ []) ≡ ends_below below place rows ++ (place + length (flat_map below (rows ++ row ∷ []))) ∷ []
+  ends_more : (place : ℕ) (rows : List Value) (row : Value) → ends_below below place (rows ++ row ∷ []) ≡ ends_below below place rows ++ (place + length (flat_map below (rows ++ row ∷ []))) ∷ []
   ends_more place [] row = ap (λ n. (place + n) ∷ []) (ap length (sym (append-nil (below row)) ∙ sym (flat_map-cons below row [])))
   ends_more place (first ∷ rows) row =
       let split = ap length (flat_map-cons below first (rows ++ row ∷ [])) ∙ length-append (below first) (flat_map below (rows ++ row ∷ [])) in
@@ -201,7 +199,7 @@ module _ (below : Value → List Value) where
       ap (λ b. b || falls_after (λ z. z) (pos (place + length (below row))) (map pos (ends_below below (place + length (below row)) rows))) above ∙ none_falls (place + length (below row)) rows
 
   -- they break no rule
-  pub offsets_kept : (rows : List Value) → offsets_fault (λ z. z) (map pos (offsets_below below rows)) ≡ None
+  offsets_kept : (rows : List Value) → offsets_fault (λ z. z) (map pos (offsets_below below rows)) ≡ None
   offsets_kept rows = rw (none_negative 0 rows, none_falls 0 rows) refl
 
 pub same_numbers : (ms ns : List ℕ) → map pos ms ≡ map pos ns → ms ≡ ns
@@ -217,7 +215,7 @@ same_numbers (m ∷ ms) (n ∷ ns) e =
 pub end_kept : (z : ℤ) (n : ℕ) → z ≡ pos n → n < 9223372036854775808 → to_z w64 (of_z w64 z) ≡ pos n
 end_kept z n is small = to_z-of_z w64 z (subst (FitsSigned w64) (sym is) (record { sfits = small })) ∙ is
 
-pub map_same : (xs : List ℤ) → map (λ (x : ℤ). x) xs ≡ xs
+map_same : (xs : List ℤ) → map (λ (x : ℤ). x) xs ≡ xs
 map_same [] = refl
 map_same (x ∷ xs) = ap (λ l. x ∷ l) (map_same xs)
 
@@ -245,14 +243,10 @@ ends_kept below rows ends is = ap (offsets_fault (λ (z : ℤ). z)) is ∙ offse
 
 -- ---- the rules of a column of lists, of which only those on numbers can be broken
 
-pub validity_kept : (validity : Option Bits) (n : ℕ) → Covers validity n → validity_differs validity n ≡ false
-validity_kept None n covers = refl
-validity_kept (Some validity) n covers = let same = covers validity refl in grind (arith, nat_tests, same)
-
 pub not_below : (m n : ℕ) → n ≤ m → nat_lt m n ≡ false
 not_below m n le = grind (arith, nat_tests)
 
-pub is_equal : (m n : ℕ) → m ≡ n → not (m == n) ≡ false
+is_equal : (m n : ℕ) → m ≡ n → not (m == n) ≡ false
 is_equal m n same = grind (arith, nat_tests)
 
 -- ---- the columns of lists
@@ -276,7 +270,7 @@ lists_past below vs offsets count validity m ends long covers is =
     let many = ap rows_between ends ∙ count_between below vs in
     let last = ap last_offset ends ∙ last_below below vs in
     let inside : nat_lt count (last_offset offsets) ≡ false = not_below count (last_offset offsets) (omega (arith, last, long)) in
-    let kept : validity_differs validity (rows_between offsets) ≡ false = ap (validity_differs validity) many ∙ validity_kept validity (length vs) covers in
+    let kept : validity_differs validity (rows_between offsets) ≡ false = ap (validity_differs validity) many ∙ no_difference validity (length vs) covers in
     sym (ap too_many many) ∙ first_of_three (too_many (rows_between offsets)) (nat_lt count (last_offset offsets)) (validity_differs validity (rows_between offsets)) TooManyRows OffsetRange ValidityLength m inside kept is
 
 pub blocks_made : (s : Shape) (size : ℕ) (vs child : List Value) (n : ℕ) (validity : Option Bits) → list_all (fits (of_fixed_size_list s size)) vs ≡ true → n ≡ length vs → child ≡ flat_map (block_in size) vs →
@@ -289,5 +283,5 @@ pub blocks_past : (s : Shape) (size : ℕ) (vs : List Value) (n count : ℕ) (va
     block_fault size n count validity ≡ Some m → (too_many (length vs) || too_many size) ≡ true
 blocks_past s size vs n count validity m fit same long covers is =
     let fills : count ≡ n * size = long ∙ blocks_long (block_in size) (fits (of_fixed_size_list s size)) size (block_long s size) vs fit ∙ ap (λ k. k * size) (sym same) in
-    let kept : validity_differs validity n ≡ false = ap (validity_differs validity) same ∙ validity_kept validity (length vs) covers in
+    let kept : validity_differs validity n ≡ false = ap (validity_differs validity) same ∙ no_difference validity (length vs) covers in
     ap (λ k. too_many k || too_many size) (sym same) ∙ first_of_four (too_many n) (too_many size) (not (count == n * size)) (validity_differs validity n) TooManyRows Width ChildLength ValidityLength m (is_equal count (n * size) fills) kept is

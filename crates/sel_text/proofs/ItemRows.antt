@@ -16,7 +16,7 @@ each_item : (n : _) (row : Row_of-Item n) → values_read row ≡ values_of (map
 each_item n end_of-Item = refl
 each_item n (more_of-Item item items) = ap (next_value (item_value item)) (each_item _ items)
 
-values_back : (vs : Values) → values_of (listed vs) ≡ vs
+pub values_back : (vs : Values) → values_of (listed vs) ≡ vs
 values_back no_values = refl
 values_back (next_value v vs) = ap (next_value v) (values_back vs)
 

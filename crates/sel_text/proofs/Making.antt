@@ -1,18 +1,15 @@
 -- What a column's maker and its refusal tell.
-use Rattle.std.proofs.Common.{◌≡◌, Bool, true, false, ◌||◌, List, [], ◌∷◌, length, replicate, Result, Ok, Err, Option, Some, None, refl, sym, ap, subst, ◌∙◌}
-use Rattle.std.specs.Prelude.{IsErrAnd}
+use Rattle.std.proofs.Common.{◌≡◌, Bool, true, false, ◌||◌, List, [], ◌∷◌, length, replicate, Option, Some, None, refl, ap}
 use Rattle.std.specs.List.{list_all}
-use Rattle.sel_arrow.specs.Shape.{Shape, of_null}
+use Rattle.sel_arrow.specs.Shape.{of_null}
 use Rattle.sel_arrow.specs.Value.{Value, Null, Truth, Number, Bytes, Items, Tuple}
-use Rattle.sel_arrow.specs.declared.array_ref.ArrayRef.{ArrayRef}
-use Rattle.sel_bits.specs.Faults.{first_broken, IsFault, IsFaultOrMemory}
+use Rattle.sel_bits.specs.Faults.{first_broken, IsFaultOrMemory}
 use Rattle.sel_bits.specs.declared.faults.Malformed.{Malformed}
 use Rattle.sel_bits.specs.declared.faults.MakeError.{MakeError}
 use Rattle.sel_bits.specs.declared.faults.MakeError.TheVariants.{Malformed as Broken, OutOfMemory as WantOfMemory}
 use Rattle.sel_text.specs.Fits.{fits}
-use Rattle.sel_text.specs.Limits.{past_limit, IsTold, Makes}
-use Rattle.sel_text.specs.TextErrors.{make_fault, IsShort, IsWanting}
-use Rattle.sel_text.specs.declared.build.Beneath.{Beneath}
+use Rattle.sel_text.specs.Limits.{IsTold}
+use Rattle.sel_text.specs.TextErrors.{make_fault, IsWanting}
 use Rattle.sel_text.specs.declared.text_error.Fault.{Fault}
 use Rattle.sel_text.specs.declared.text_error.Fault.TheVariants.{Syntax, «Type», Limit, OutOfMemory}
 
@@ -37,44 +34,16 @@ told_wanting p OutOfMemory wants = tt
 told_wanting p (Syntax n) wants = absurd wants
 told_wanting p («Type» n) wants = absurd wants
 
-pub told_short : (p : Bool) (fault : Fault) → IsTold p fault → IsShort fault
-told_short p Limit told = tt
-told_short p OutOfMemory told = tt
-told_short p (Syntax n) told = absurd told
-told_short p («Type» n) told = absurd told
-
-pub told_limit : (p : Bool) (fault : Fault) → fault ≡ Limit → IsTold p fault → p ≡ true
-told_limit p fault is told = subst (IsTold p) is told
-
-pub told_memory : (p : Bool) (fault : Fault) → fault ≡ OutOfMemory → IsTold p fault
-told_memory p fault is = subst (IsTold p) (sym is) tt
-
-pub memory_wanting : (fault : Fault) → fault ≡ OutOfMemory → IsWanting fault
-memory_wanting fault is = subst IsWanting (sym is) tt
-
--- want of memory where a `?` ends the making
-pub made_wanting : (b : Beneath) (s : Shape) (vs : List Value) (r : Result ArrayRef Fault) → IsErrAnd r (λ fault. fault ≡ OutOfMemory) → Makes b s vs r
-made_wanting b s vs (Ok array) never = absurd never
-made_wanting b s vs (Err fault) is = told_memory (past_limit b s vs) fault is
-
 -- what a maker refuses is told as a limit
 pub maker_told : (rule : Option Malformed) (error : MakeError) (p : Bool) → IsFaultOrMemory rule error → ((m : Malformed) → rule ≡ Some m → p ≡ true) → IsTold p (make_fault error)
 maker_told rule (Broken m) p is past = past m is
 maker_told rule WantOfMemory p is past = tt
-
-pub maker_limit : (rule : Option Malformed) (error : MakeError) (p : Bool) → IsFault rule error → ((m : Malformed) → rule ≡ Some m → p ≡ true) → IsTold p (make_fault error)
-maker_limit rule (Broken m) p is past = past m is
-maker_limit rule WantOfMemory p is past = absurd is
 
 pub maker_wanting : (rule : Option Malformed) (error : MakeError) → IsFaultOrMemory rule error → rule ≡ None → IsWanting (make_fault error)
 maker_wanting rule (Broken m) is kept = absurd (cc (is, kept))
 maker_wanting rule WantOfMemory is kept = tt
 
 -- the only rule that is broken is the first one, where the others are kept
-pub first_of_one : (a : Bool) (r m : Malformed) → first_broken ((r, a) ∷ []) ≡ Some m → a ≡ true
-first_of_one true r m is = refl
-first_of_one false r m is = absurd cc
-
 pub first_of_three : (a b d : Bool) (r s t m : Malformed) → b ≡ false → d ≡ false → first_broken ((r, a) ∷ (s, b) ∷ (t, d) ∷ []) ≡ Some m → a ≡ true
 first_of_three true b d r s t m second third is = refl
 first_of_three false false false r s t m second third is = absurd cc

@@ -27,8 +27,10 @@ use Rattle.sel_text.specs.Below.{parts_below, HasParts}
 use Rattle.sel_text.specs.Fits.{fits, parts_fit}
 use Rattle.sel_text.specs.Limits.{any_past, part_in, past_limit, Shows}
 use Rattle.sel_text.specs.declared.build.Beneath.{Beneath}
-use Rattle.sel_text.proofs.Below.{show_next, values_listed, validity_kept}
+use Rattle.sel_text.proofs.Below.{show_next}
+use Rattle.sel_text.proofs.ItemRows.{values_back}
 use Rattle.sel_text.proofs.Making.{first_of_three, or_first, or_second}
+use Rattle.sel_text.proofs.Refusals.{no_difference}
 
 -- ---- the parts fit their types
 
@@ -89,7 +91,7 @@ tuple_of_parts shapes (Bytes bs) fit valid = absurd cc
 tuple_of_parts shapes (Items es) fit valid = absurd cc
 tuple_of_parts shapes (Tuple es) fit valid =
     let entries = ap (λ n. map (λ place. slice_index_or (listed es) place Null) (range_with_len 0 n)) (sym (count_parts shapes es fit)) ∙ entries_from (listed es) (listed es) [] 0 refl refl in
-    ap Tuple (sym (values_listed es)) ∙ ap (λ l. Tuple (values_of l)) (sym entries)
+    ap Tuple (sym (values_back es)) ∙ ap (λ l. Tuple (values_of l)) (sym entries)
 
 part_here : (vs : List Value) (k place : ℕ) → slice_index_or (map (part_in place) vs) k Null ≡ part_in place (slice_index_or vs k Null)
 part_here [] k place = refl
@@ -112,13 +114,10 @@ tuples_from shapes all (row ∷ left) pre k fit is long =
     (λ valid. tuple_of_parts shapes row (and_first _ _ fit) valid ∙ ap (λ l. Tuple (values_of l)) (sym parts))
     (tuples_from shapes all left (pre ++ row ∷ []) (k + 1) (and_second _ _ fit) (is ∙ sym (append_assoc pre (row ∷ []) left)) longer)
 
-pub tuples_show : (shapes : List Shape) (vs : List Value) → list_all (fits (of_struct (shapes_of shapes))) vs ≡ true → Shows vs (map (tuple_at (parts_below (length shapes) vs)) (range_with_len 0 (length vs)))
+tuples_show : (shapes : List Shape) (vs : List Value) → list_all (fits (of_struct (shapes_of shapes))) vs ≡ true → Shows vs (map (tuple_at (parts_below (length shapes) vs)) (range_with_len 0 (length vs)))
 tuples_show shapes vs fit = tuples_from shapes vs vs [] 0 fit refl refl
 
 -- ---- field by field
-
-pub parts_none : (fields : List ArrayRef) (vs : List Value) → HasParts fields fields [] vs
-parts_none fields vs = record { types = sym (append-nil (map (λ field. type_of field.column) fields)); parts = sym (append-nil (map (λ field. rows field.column) fields)) }
 
 pub parts_more : (new mid old : List ArrayRef) (field : ArrayRef) (dtypes : List ArrowDataType) (dtype : ArrowDataType) (k : ℕ) (vs : List Value) → HasParts mid old (map shape_of (take k dtypes)) vs → k < length dtypes → dtype ≡ get_or dtypes k dtype →
     new ≡ mid ++ field ∷ [] → type_of field.column ≡ shape_of dtype → rows field.column ≡ map (part_in k) vs → HasParts new old (map shape_of (take (k + 1) dtypes)) vs
@@ -137,9 +136,6 @@ parts_more new mid old field dtypes dtype k vs has below is put typed made =
           ∙ append_assoc (map (λ f. rows f.column) old) (parts_below k vs) (map (part_in k) vs ∷ [])
           ∙ ap (λ l. map (λ f. rows f.column) old ++ l) (sym last) ∙ ap (λ n. map (λ f. rows f.column) old ++ parts_below n vs) (sym more);
     }
-
-pub parts_all : (new old : List ArrayRef) (dtypes : List ArrowDataType) (k : ℕ) (vs : List Value) → length dtypes ≤ k → HasParts new old (map shape_of (take k dtypes)) vs → HasParts new old (map shape_of dtypes) vs
-parts_all new old dtypes k vs past has = subst (λ ds. HasParts new old (map shape_of ds) vs) (take_all k dtypes past) has
 
 -- ---- the column of the fields
 
@@ -175,5 +171,5 @@ tuples_past shapes vs refs old n validity m has none same covers is =
     let parts = has.parts ∙ ap (λ l. map (λ field. rows field.column) l ++ parts_below (length shapes) vs) none in
     let counts = fields_count vs refs (range_with_len 0 (length shapes)) parts in
     let rows_fit : list_all (λ k. k == n) (map (λ field. row_count field.column) refs) ≡ true = ap (λ l. list_all (λ k. k == l) (map (λ field. row_count field.column) refs)) same ∙ counts in
-    let kept : validity_differs validity n ≡ false = ap (validity_differs validity) same ∙ validity_kept validity (length vs) covers in
+    let kept : validity_differs validity n ≡ false = ap (validity_differs validity) same ∙ no_difference validity (length vs) covers in
     sym (ap too_many same) ∙ first_of_three (too_many n) (not (list_all (λ k. k == n) (map (λ field. row_count field.column) refs))) (validity_differs validity n) TooManyRows FieldLength ValidityLength m (ap not rows_fit) kept is

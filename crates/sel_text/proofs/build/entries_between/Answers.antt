@@ -1,7 +1,5 @@
-use Rattle.std.proofs.Common.{◌≡◌, ◌<◌, ◌∷◌, [], ◌++◌, pos, map, take, length, ◌∙◌, ap, sym, subst, arith}
-use Rattle.std.specs.List.{flat_map}
+use Rattle.std.proofs.Common.{◌≡◌, ◌<◌, pos, take, length, ◌∙◌, ap, sym, subst, arith}
 use Rattle.std.proofs.lemmas.List.{length-map}
-use Rattle.sel_text.specs.Below.{offsets_below}
 use Rattle.sel_text.specs.ItemValues.{item_value, rows_read}
 use Rattle.sel_text.specs.Limits.{entries_in}
 use Rattle.sel_text.specs.TextErrors.{IsWanting}

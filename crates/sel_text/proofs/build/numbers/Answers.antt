@@ -1,5 +1,5 @@
 use Rattle.std.proofs.Common.{◌≡◌, ap, sym, subst, ◌∙◌, length, map, arith}
-use Rattle.std.proofs.lemmas.List.{length-map, take_all}
+use Rattle.std.proofs.lemmas.List.{take_all}
 use Rattle.sel_arrow.specs.Masked.{Covers, masked}
 use Rattle.sel_arrow.specs.Value.{Number}
 use Rattle.sel_text.specs.ItemValues.{rows_read}
@@ -29,7 +29,8 @@ returns g c = λ fit.
     let items = c.args.items.now in
     let column = c.in_ok-try_new.field-0 in
     let all = take_all c.loop-item.item-index items (omega arith) in
-    let shown = subst (λ l. Shows (rows_read l) (map (λ x. Number (g.T.NativeType.number x)) c.loop-item.values.items)) all (c.loop-item.invariant fit) in
-    (c.into_ref.ensures.dtype,
-    c.into_ref.ensures.rows ∙ ap (λ l. masked column.validity (map (λ x. Number (g.T.NativeType.number x)) l)) (c.in_ok-try_new.ensures.values ∙ c.in_ok-values-2.ensures.items)
-    ∙ ap (λ v. masked v (map (λ x. Number (g.T.NativeType.number x)) c.loop-item.values.items)) c.in_ok-try_new.ensures.validity ∙ c.in_ok-validity_of.ensures.hides (map (λ x. Number (g.T.NativeType.number x)) c.loop-item.values.items) shown)
+    let shown = subst (λ l. Shows (rows_read l) (map (λ x. Number (g.T.NativeType.number x)) c.loop-item.values.items)) all (c.loop-item.invariant fit) in (
+      c.into_ref.ensures.dtype,
+      c.into_ref.ensures.rows ∙ ap (λ l. masked column.validity (map (λ x. Number (g.T.NativeType.number x)) l)) (c.in_ok-try_new.ensures.values ∙ c.in_ok-values-2.ensures.items)
+          ∙ ap (λ v. masked v (map (λ x. Number (g.T.NativeType.number x)) c.loop-item.values.items)) c.in_ok-try_new.ensures.validity ∙ c.in_ok-validity_of.ensures.hides (map (λ x. Number (g.T.NativeType.number x)) c.loop-item.values.items) shown,
+    )

@@ -53,7 +53,8 @@ returns c = λ fit.
     let column = c.in_ok-try_new.field-0 in
     let so = subst (λ l. Holds c.loop-item.ends.items c.loop-item.bytes.items (stored_bytes c.args.beneath l)) (take_all c.loop-item.item-index items (omega arith)) c.loop-item.invariant in
     let held = pieces_held c.loop-item.ends.items c.loop-item.bytes.items ps so c.in_ok-offsets.offsets c.in_ok-offsets.ensures.value in
-    let shown = c.in_ok-validity_of.ensures.hides (map Bytes ps) (bytes_shown of_large_binary of_binary c.args.beneath items fit) in
-    (c.into_ref.ensures.dtype,
-    c.into_ref.ensures.rows ∙ ap (λ o. byte_rows o column.values column.validity) (c.in_ok-try_new.ensures.offsets ∙ c.offsets.view_is) ∙ ap (λ v. byte_rows c.in_ok-offsets.offsets v column.validity) (c.in_ok-try_new.ensures.values ∙ c.in_ok-bytes.ensures.items)
-    ∙ ap (λ l. masked column.validity (map Bytes l)) held ∙ ap (λ v. masked v (map Bytes ps)) c.in_ok-try_new.ensures.validity ∙ shown)
+    let shown = c.in_ok-validity_of.ensures.hides (map Bytes ps) (bytes_shown of_large_binary of_binary c.args.beneath items fit) in (
+      c.into_ref.ensures.dtype,
+      c.into_ref.ensures.rows ∙ ap (λ o. byte_rows o column.values column.validity) (c.in_ok-try_new.ensures.offsets ∙ c.offsets.view_is) ∙ ap (λ v. byte_rows c.in_ok-offsets.offsets v column.validity) (c.in_ok-try_new.ensures.values ∙ c.in_ok-bytes.ensures.items)
+          ∙ ap (λ l. masked column.validity (map Bytes l)) held ∙ ap (λ v. masked v (map Bytes ps)) c.in_ok-try_new.ensures.validity ∙ shown,
+    )
