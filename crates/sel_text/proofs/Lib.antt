@@ -1,4 +1,5 @@
 pub mod BuiltPieces
+pub mod BuiltViews
 pub mod CellRows
 pub mod Commas
 pub mod Decimals
