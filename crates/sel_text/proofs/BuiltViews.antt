@@ -122,18 +122,6 @@ new_view store text v is near = decided (leb (length text) 12) refl
         let behind : bytes_behind text ≡ text = ap (λ b. cond b [] text) e in
         subst (λ x. Named (store ++ bytes_behind text) x text) (sym far) (subst (λ t. Named (store ++ t) (far_view (length store) text) text) (sym behind) (far_new store text e))
 
--- bytes that lie in their view do not ask where the others end
-pub short_view : (text : List ℕ) (at : ℕ) → length text ≤ 12 → view_of text 0 0 ≡ view_of text 0 at
-short_view text at short =
-    let e : leb (length text) 12 ≡ true = le-leb _ _ short in
-    ap (λ b. cond b (near_view text) (far_view 0 text)) e ∙ sym (ap (λ b. cond b (near_view text) (far_view at text)) e)
-
-pub none_behind : (text : List ℕ) → length text ≤ 12 → bytes_behind text ≡ []
-none_behind text short = ap (λ b. cond b [] text) (le-leb _ _ short)
-
-pub all_behind : (text : List ℕ) → 12 < length text → bytes_behind text ≡ text
-all_behind text long = ap (λ b. cond b [] text) (grind (arith, nat_tests, long))
-
 -- ---- the views so far
 
 -- how many bytes of pieces stand in the data buffer
@@ -165,6 +153,9 @@ views_more store grown views more ps p v so is near grows adds =
       held = let both_parts = total-append ps (p ∷ []) in let before = so.held in omega (arith, length-append store (bytes_behind p), both_parts, before);
     } in
     subst (λ s. Views s more (ps ++ p ∷ [])) (sym grows) (subst (λ l. Views wide l (ps ++ p ∷ [])) (sym adds) made)
+
+pub views_count : (store : List ℕ) (views : List View) (ps : List (List ℕ)) → Views store views ps → length views ≡ length ps
+views_count store views ps so = sym (length-map views (view_value (store ∷ []))) ∙ ap length so.shown ∙ length-map ps Bytes
 
 -- ---- how many bytes rows place
 
