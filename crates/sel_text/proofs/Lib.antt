@@ -1,5 +1,6 @@
 pub mod Below
 pub mod BuiltPieces
+pub mod BuiltViews
 pub mod CellRows
 pub mod Commas
 pub mod Decimals

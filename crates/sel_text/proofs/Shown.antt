@@ -182,10 +182,10 @@ number_shown s (Tuple es) y has fit same = no_truth (sym (is_numeric s has).tupl
 
 -- a type of bytes is of no other kind
 pub record IsOfBytes (s : Shape) : Type 0 where
-  truths : is_truth_shape s ≡ false
-  numbers : (z : ℤ) → fits_number s z ≡ false
-  counts : (n : ℕ) → fits_count s n ≡ false
-  tuples : is_struct_shape s ≡ false
+  pub truths : is_truth_shape s ≡ false
+  pub numbers : (z : ℤ) → fits_number s z ≡ false
+  pub counts : (n : ℕ) → fits_count s n ≡ false
+  pub tuples : is_struct_shape s ≡ false
 
 pub of_binary : IsOfBytes of_large_binary
 of_binary = record { truths = refl; numbers = λ z. refl; counts = λ n. refl; tuples = refl }
