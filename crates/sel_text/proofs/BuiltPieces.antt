@@ -100,7 +100,7 @@ pieces_back before (p ∷ ps) =
     let next = pieces_back (before ++ p) ps in
     let further : length (before ++ p) ≡ length before + length p = length-append before p in
     let rest : pieces_after (length before + length p) (ends_from (length before + length p) ps) (before ++ (p ++ joined ps)) ≡ ps =
-        subst (λ n. pieces_after n (ends_from n ps) (before ++ (p ++ joined ps)) ≡ ps) further (subst (λ l. pieces_after (length (before ++ p)) (ends_from (length (before ++ p)) ps) l ≡ ps) (append_assoc before p (joined ps)) next) in
+    subst (λ n. pieces_after n (ends_from n ps) (before ++ (p ++ joined ps)) ≡ ps) further (subst (λ l. pieces_after (length (before ++ p)) (ends_from (length (before ++ p)) ps) l ≡ ps) (append_assoc before p (joined ps)) next) in
     ap (λ x. x ∷ pieces_after (length before + length p) (ends_from (length before + length p) ps) (before ++ (p ++ joined ps))) (piece_there before p (joined ps)) ∙ ap (λ l. p ∷ l) rest
 
 none_broken : (a b : Bool) → a ≡ false → b ≡ false → first_broken ((OffsetCount, false) ∷ (OffsetNegative, a) ∷ (OffsetOrder, b) ∷ []) ≡ None

@@ -107,7 +107,7 @@ pub shown_more : {A : Type 0} (value : A → Value) (items : List (Bor Item)) (i
 shown_more value items i item values grown y inside is before here grows =
     let row = λ (x : Bor Item). item_value x.now in
     let rows : rows_read (take (i + 1) items) ≡ rows_read (take i items) ++ item_value item.now ∷ [] =
-        ap rows_read (take_more items i item inside ∙ ap (λ x. take i items ++ x ∷ []) (sym is)) ∙ map-append row (take i items) (item ∷ []) in
+    ap rows_read (take_more items i item inside ∙ ap (λ x. take i items ++ x ∷ []) (sym is)) ∙ map-append row (take i items) (item ∷ []) in
     let plain : map value grown ≡ map value values ++ value y ∷ [] = ap (map value) grows ∙ map-append value values (y ∷ []) in
     subst (λ r. Shows r (map value grown)) (sym rows) (subst (λ p. Shows (rows_read (take i items) ++ item_value item.now ∷ []) p) (sym plain)
     (shown_append (rows_read (take i items)) (map value values) (item_value item.now ∷ []) (value y ∷ []) before here))
