@@ -146,7 +146,7 @@ views_more store grown views more ps p v so is near grows adds =
     let old = all_kept store (bytes_behind p) views so.placed in
     let new = new_view store p v is near in
     let mapped : map (view_value bs) (views ++ v ∷ []) ≡ map Bytes (ps ++ p ∷ []) =
-        map-append (view_value bs) views (v ∷ []) ∙ ap (λ l. l ++ view_value bs v ∷ []) (old.1 ∙ so.shown) ∙ ap (λ x. map Bytes ps ++ x ∷ []) new.1 ∙ sym (map-append Bytes ps (p ∷ [])) in
+    map-append (view_value bs) views (v ∷ []) ∙ ap (λ l. l ++ view_value bs v ∷ []) (old.1 ∙ so.shown) ∙ ap (λ x. map Bytes ps ++ x ∷ []) new.1 ∙ sym (map-append Bytes ps (p ∷ [])) in
     let made : Views wide (views ++ v ∷ []) (ps ++ p ∷ []) = record {
       placed = list_all-append (is_placed bs) views (v ∷ []) ∙ both (all_placed bs views) (is_placed bs v && true) old.0 (both (is_placed bs v) true new.0 refl);
       shown = mapped;
@@ -188,7 +188,7 @@ past_bytes s of beneath items i store p views fit so next past =
     let all = all_in_rows s of beneath items fit in
     let stored = λ (item : Bor Item). bytes_stored beneath (item_value item.now) in
     let cut = ap total_behind (ap (map stored) (sym (take-append-drop (i + 1) items)) ∙ map-append stored (take (i + 1) items) (drop (i + 1) items) ∙ ap (λ l. l ++ map stored (drop (i + 1) items)) next)
-        ∙ total-append (stored_bytes beneath (take i items) ++ p ∷ []) (map stored (drop (i + 1) items)) in
+    ∙ total-append (stored_bytes beneath (take i items) ++ p ∷ []) (map stored (drop (i + 1) items)) in
     let here = total-append (stored_bytes beneath (take i items)) (p ∷ []) in
     let held = so.held in
     let many : 4294967295 < length store + length (bytes_behind p) = ltb-true _ _ past in

@@ -207,8 +207,8 @@ fn pieces(alloc: Global, items: &[&Item], beneath: Beneath) -> Result<ArrayRef, 
 /// A place as an offset.
 fn offset_at(place: usize) -> Result<i64, Fault>
     ensures value { IfOk result (λ offset. offset ≡ pos place) }
-    ensures refused { IfErr result (λ fault. (fault ≡ Fault.Limit) ×
-        (9223372036854775807 < place)) }
+    ensures refused { IfErr result (λ fault.
+        (fault ≡ Fault.Limit) × (9223372036854775807 < place)) }
 {
     match i64::try_from(place) {
         Ok(offset) => Ok(offset),
