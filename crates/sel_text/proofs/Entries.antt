@@ -1,5 +1,5 @@
 -- The values of lists and tuples that are still to be read.
-use Rattle.std.proofs.Common.{◌≡◌, ◌≢◌, ℕ, zero, suc, ◌+◌, ◌≤◌, ◌<◌, true, true≢false, List, [], ◌∷◌, ◌++◌, length, drop, map, get_or, refl, ap, sym, ◌∙◌, arith, length-append, subst}
+use Rattle.std.proofs.Common.{◌≡◌, ◌≢◌, ℕ, zero, suc, ◌+◌, ◌≤◌, ◌<◌, true, true≢false, List, [], ◌∷◌, ◌++◌, length, drop, map, get_or, refl, ap, sym, ◌∙◌, arith, append_assoc, append-nil, length-append, subst}
 use Rattle.std.proofs.lemmas.List.{drop_more, drop_all}
 use Rattle.sel_arrow.specs.DataType.{shape_of}
 use Rattle.sel_arrow.specs.Shape.{Shape, Shapes, no_shapes, next_shape, shapes_of}
@@ -13,13 +13,13 @@ use Rattle.sel_text.proofs.Told.{after, inside, joined_inside, after_no_digit, n
 
 -- ---- lists
 
--- what is left of a list's values while they are read: one of them at least
-pub record IsLeft (s : Shape) (count read : ℕ) (rest more : List ℕ) : Type 0 where
+-- what is left of a list's values behind those that were read: one of them at least
+pub record IsLeft (s : Shape) (all read : List Value) (rest more : List ℕ) : Type 0 where
   pub first : Value
   pub others : Values
   pub fit : fits s first ≡ true
   pub others_fit : all_fit s others ≡ true
-  pub whole : read + suc (length (listed others)) ≡ count
+  pub whole : read ++ (first ∷ listed others) ≡ all
   pub text : rest ≡ value_text s first ++ after 93 (item_texts s others) more
 
 -- behind the opening bracket
@@ -27,45 +27,47 @@ pub items_opened : (s : Shape) (vs : Values) (text rest more : List ℕ) → tex
 items_opened s vs text rest more opens is = ap (drop 1) (sym opens ∙ is) ∙ joined_inside 93 (item_texts s vs) more
 
 -- where it closes at once there is no value
-pub no_items : (s : Shape) (vs : Values) (rest end more : List ℕ) → all_fit s vs ≡ true → rest ≡ inside 93 (item_texts s vs) more → rest ≡ 93 ∷ end → (0 ≡ length (listed vs)) × (end ≡ more)
+pub no_items : (s : Shape) (vs : Values) (rest end more : List ℕ) → all_fit s vs ≡ true → rest ≡ inside 93 (item_texts s vs) more → rest ≡ 93 ∷ end → ([] ≡ listed vs) × (end ≡ more)
 no_items s no_values rest end more fit is closes = (refl, ap (drop 1) (sym closes ∙ is))
 no_items s (next_value v vs) rest end more fit is closes = absurd (no_value s v 93 end (after 93 (item_texts s vs) more) (and_first (fits s v) (all_fit s vs) fit) refl (sym closes ∙ is))
 
 -- and otherwise one
-pub some_items : (s : Shape) (vs : Values) (rest more : List ℕ) → all_fit s vs ≡ true → rest ≡ inside 93 (item_texts s vs) more → ((end : List ℕ) → rest ≢ 93 ∷ end) → IsLeft s (length (listed vs)) 0 rest more
+pub some_items : (s : Shape) (vs : Values) (rest more : List ℕ) → all_fit s vs ≡ true → rest ≡ inside 93 (item_texts s vs) more → ((end : List ℕ) → rest ≢ 93 ∷ end) → IsLeft s (listed vs) [] rest more
 some_items s no_values rest more fit is other = absurd (other more is)
 some_items s (next_value v vs) rest more fit is other = record {
   first = v;
   others = vs;
   fit = and_first (fits s v) (all_fit s vs) fit;
   others_fit = and_second (fits s v) (all_fit s vs) fit;
-  whole = omega arith;
+  whole = refl;
   text = is;
 }
 
-pub item_begins : (s : Shape) (count read : ℕ) (rest more : List ℕ) → (left : IsLeft s count read rest more) → BeginsWith s left.first rest (after 93 (item_texts s left.others) more)
-item_begins s count read rest more left = record { fit = left.fit; end = after_no_digit 93 (item_texts s left.others) more (omega arith); whole = left.text }
+pub item_begins : (s : Shape) (all read : List Value) (rest more : List ℕ) → (left : IsLeft s all read rest more) → BeginsWith s left.first rest (after 93 (item_texts s left.others) more)
+item_begins s all read rest more left = record { fit = left.fit; end = after_no_digit 93 (item_texts s left.others) more (omega arith); whole = left.text }
 
 -- the bracket closes behind the last value
-pub last_item : (s : Shape) (count read : ℕ) (rest next end more : List ℕ) → (left : IsLeft s count read rest more) → next ≡ after 93 (item_texts s left.others) more → next ≡ 93 ∷ end → (read + 1 ≡ count) × (end ≡ more)
-last_item s count read rest next end more left is closes = go left.others left.whole is
+pub last_item : (s : Shape) (all read : List Value) (rest next end more : List ℕ) → (left : IsLeft s all read rest more) → next ≡ after 93 (item_texts s left.others) more → next ≡ 93 ∷ end →
+    (read ++ left.first ∷ [] ≡ all) × (end ≡ more)
+last_item s all read rest next end more left is closes = go left.others left.whole is
   where
-    go : (others : Values) → read + suc (length (listed others)) ≡ count → next ≡ after 93 (item_texts s others) more → (read + 1 ≡ count) × (end ≡ more)
+    go : (others : Values) → read ++ (left.first ∷ listed others) ≡ all → next ≡ after 93 (item_texts s others) more → (read ++ left.first ∷ [] ≡ all) × (end ≡ more)
     go no_values whole is = (whole, ap (drop 1) (sym closes ∙ is))
     go (next_value v vs) whole is = let first : 93 ≡ 44 = ap (λ l. get_or l 0 0) (sym closes ∙ is) in absurd (omega (arith, first))
 
 -- a comma and another value stand behind any other
-pub more_items : (s : Shape) (count read : ℕ) (rest next behind more : List ℕ) → (left : IsLeft s count read rest more) → next ≡ after 93 (item_texts s left.others) more → next ≡ 44 ∷ behind → IsLeft s count (read + 1) behind more
-more_items s count read rest next behind more left is comma = go left.others left.others_fit left.whole is
+pub more_items : (s : Shape) (all read : List Value) (rest next behind more : List ℕ) → (left : IsLeft s all read rest more) → next ≡ after 93 (item_texts s left.others) more → next ≡ 44 ∷ behind →
+    IsLeft s all (read ++ left.first ∷ []) behind more
+more_items s all read rest next behind more left is comma = go left.others left.others_fit left.whole is
   where
-    go : (others : Values) → all_fit s others ≡ true → read + suc (length (listed others)) ≡ count → next ≡ after 93 (item_texts s others) more → IsLeft s count (read + 1) behind more
+    go : (others : Values) → all_fit s others ≡ true → read ++ (left.first ∷ listed others) ≡ all → next ≡ after 93 (item_texts s others) more → IsLeft s all (read ++ left.first ∷ []) behind more
     go no_values fit whole is = let first : 44 ≡ 93 = ap (λ l. get_or l 0 0) (sym comma ∙ is) in absurd (omega (arith, first))
     go (next_value v vs) fit whole is = record {
       first = v;
       others = vs;
       fit = and_first (fits s v) (all_fit s vs) fit;
       others_fit = and_second (fits s v) (all_fit s vs) fit;
-      whole = omega (arith, whole);
+      whole = append_assoc read (left.first ∷ []) (v ∷ listed vs) ∙ whole;
       text = ap (drop 1) (sym comma ∙ is);
     }
 
@@ -79,16 +81,16 @@ some_after : (close : ℕ) (texts : List (List ℕ)) (more : List ℕ) → 0 < l
 some_after close [] more = omega arith
 some_after close (x ∷ texts) more = omega arith
 
-pub not_ended : (s : Shape) (count read : ℕ) (rest more : List ℕ) → IsLeft s count read rest more → length rest ≡ 0 → ⊥
-not_ended s count read rest more left none =
+pub not_ended : (s : Shape) (all read : List Value) (rest more : List ℕ) → IsLeft s all read rest more → length rest ≡ 0 → ⊥
+not_ended s all read rest more left none =
     let long = ap length left.text in
     let parts = length-append (value_text s left.first) (after 93 (item_texts s left.others) more) in
     let some = some_after 93 (item_texts s left.others) more in
     omega (arith, none, long, parts, some)
 
 -- a value takes room
-pub less_room : (s : Shape) (count read : ℕ) (rest next behind more : List ℕ) → (left : IsLeft s count read rest more) → next ≡ after 93 (item_texts s left.others) more → next ≡ 44 ∷ behind → length behind < length rest
-less_room s count read rest next behind more left is comma =
+pub less_room : (s : Shape) (all read : List Value) (rest next behind more : List ℕ) → (left : IsLeft s all read rest more) → next ≡ after 93 (item_texts s left.others) more → next ≡ 44 ∷ behind → length behind < length rest
+less_room s all read rest next behind more left is comma =
     let long = ap length (left.text ∙ ap (λ l. value_text s left.first ++ l) (sym is ∙ comma)) in
     let parts = length-append (value_text s left.first) (44 ∷ behind) in
     omega (arith, long, parts)
@@ -100,31 +102,34 @@ abbrev pub parts_from : ℕ → List (List ℕ) → List ℕ → List ℕ
 parts_from zero texts more = inside 41 texts more
 parts_from (suc place) texts more = after 41 texts more
 
--- what is left of a tuple's values while they are read
-pub record HasParts (ss : Shapes) (place : ℕ) (rest more : List ℕ) : Type 0 where
+-- what is left of a tuple's values behind those that were read
+pub record HasParts (ss : Shapes) (all read : List Value) (place : ℕ) (rest more : List ℕ) : Type 0 where
   pub others : Values
+  pub whole : read ++ listed others ≡ all
   pub fit : parts_fit ss others ≡ true
   pub text : rest ≡ parts_from place (part_texts ss others) more
 
-pub parts_opened : (ss : Shapes) (vs : Values) (text rest more : List ℕ) → parts_fit ss vs ≡ true → text ≡ 40 ∷ rest → text ≡ parenthesized (part_texts ss vs) ++ more → HasParts ss 0 rest more
-parts_opened ss vs text rest more fit opens is = record { others = vs; fit = fit; text = ap (drop 1) (sym opens ∙ is) ∙ joined_inside 41 (part_texts ss vs) more }
+pub parts_opened : (ss : Shapes) (vs : Values) (text rest more : List ℕ) → parts_fit ss vs ≡ true → text ≡ 40 ∷ rest → text ≡ parenthesized (part_texts ss vs) ++ more → HasParts ss (listed vs) [] 0 rest more
+parts_opened ss vs text rest more fit opens is = record { others = vs; whole = refl; fit = fit; text = ap (drop 1) (sym opens ∙ is) ∙ joined_inside 41 (part_texts ss vs) more }
 
 -- the next of them
-pub record HasPart (s : Shape) (ss : Shapes) (place : ℕ) (rest more : List ℕ) : Type 0 where
+pub record HasPart (s : Shape) (ss : Shapes) (all read : List Value) (place : ℕ) (rest more : List ℕ) : Type 0 where
   pub first : Value
   pub others : Values
+  pub whole : read ++ (first ∷ listed others) ≡ all
   pub fit : fits s first ≡ true
   pub others_fit : parts_fit ss others ≡ true
   pub text : rest ≡ parts_from place (value_text s first ∷ part_texts ss others) more
 
-has_part : (s : Shape) (ss : Shapes) (place : ℕ) (rest more : List ℕ) → HasParts (next_shape s ss) place rest more → HasPart s ss place rest more
-has_part s ss place rest more has = go has.others has.fit has.text
+has_part : (s : Shape) (ss : Shapes) (all read : List Value) (place : ℕ) (rest more : List ℕ) → HasParts (next_shape s ss) all read place rest more → HasPart s ss all read place rest more
+has_part s ss all read place rest more has = go has.others has.whole has.fit has.text
   where
-    go : (vs : Values) → parts_fit (next_shape s ss) vs ≡ true → rest ≡ parts_from place (part_texts (next_shape s ss) vs) more → HasPart s ss place rest more
-    go no_values fit is = absurd (true≢false (sym fit))
-    go (next_value v vs) fit is = record {
+    go : (vs : Values) → read ++ listed vs ≡ all → parts_fit (next_shape s ss) vs ≡ true → rest ≡ parts_from place (part_texts (next_shape s ss) vs) more → HasPart s ss all read place rest more
+    go no_values whole fit is = absurd (true≢false (sym fit))
+    go (next_value v vs) whole fit is = record {
       first = v;
       others = vs;
+      whole = whole;
       fit = and_first (fits s v) (parts_fit ss vs) fit;
       others_fit = and_second (fits s v) (parts_fit ss vs) fit;
       text = is;
@@ -134,11 +139,11 @@ has_part s ss place rest more has = go has.others has.fit has.text
 abbrev pub shapes_from : ℕ → List ArrowDataType → Shapes
 shapes_from place dtypes = shapes_of (map shape_of (drop place dtypes))
 
-pub part_left : (dtypes : List ArrowDataType) (place : ℕ) (dtype : ArrowDataType) (rest more : List ℕ) → place < length dtypes → dtype ≡ get_or dtypes place dtype → HasParts (shapes_from place dtypes) place rest more →
-    HasPart (shape_of dtype) (shapes_from (place + 1) dtypes) place rest more
-part_left dtypes place dtype rest more there is has =
+pub part_left : (dtypes : List ArrowDataType) (all read : List Value) (place : ℕ) (dtype : ArrowDataType) (rest more : List ℕ) → place < length dtypes → dtype ≡ get_or dtypes place dtype →
+    HasParts (shapes_from place dtypes) all read place rest more → HasPart (shape_of dtype) (shapes_from (place + 1) dtypes) all read place rest more
+part_left dtypes all read place dtype rest more there is has =
     let here : drop place dtypes ≡ dtype ∷ drop (place + 1) dtypes = drop_more dtypes place dtype there ∙ ap (λ d. d ∷ drop (place + 1) dtypes) (sym is) in
-    has_part (shape_of dtype) (shapes_from (place + 1) dtypes) place rest more (subst (λ ds. HasParts (shapes_of (map shape_of ds)) place rest more) here has)
+    has_part (shape_of dtype) (shapes_from (place + 1) dtypes) all read place rest more (subst (λ ds. HasParts (shapes_of (map shape_of ds)) all read place rest more) here has)
 
 -- a part that is not the first has its comma
 pub comma_before : (place : ℕ) (text : List ℕ) (texts : List (List ℕ)) (rest more : List ℕ) → 0 < place → rest ≡ parts_from place (text ∷ texts) more → ((next : List ℕ) → rest ≢ 44 ∷ next) → ⊥
@@ -150,30 +155,31 @@ part_text : (place : ℕ) (text : List ℕ) (texts : List (List ℕ)) (rest next
 part_text zero text texts rest next more first other is = first refl ∙ is
 part_text (suc place) text texts rest next more first other is = ap (drop 1) (sym (other (omega arith)) ∙ is)
 
-pub part_begins : (s : Shape) (ss : Shapes) (place : ℕ) (rest next more : List ℕ) → (part : HasPart s ss place rest more) → (place ≡ 0 → next ≡ rest) → (0 < place → rest ≡ 44 ∷ next) → BeginsWith s part.first next (after 41 (part_texts ss part.others) more)
-part_begins s ss place rest next more part first other = record {
+pub part_begins : (s : Shape) (ss : Shapes) (all read : List Value) (place : ℕ) (rest next more : List ℕ) → (part : HasPart s ss all read place rest more) → (place ≡ 0 → next ≡ rest) → (0 < place → rest ≡ 44 ∷ next) → BeginsWith s part.first next (after 41 (part_texts ss part.others) more)
+part_begins s ss all read place rest next more part first other = record {
   fit = part.fit;
   end = after_no_digit 41 (part_texts ss part.others) more (omega arith);
   whole = part_text place (value_text s part.first) (part_texts ss part.others) rest next more first other part.text;
 }
 
-pub part_read : (s : Shape) (ss : Shapes) (place : ℕ) (rest next more : List ℕ) → (part : HasPart s ss place rest more) → next ≡ after 41 (part_texts ss part.others) more → HasParts ss (place + 1) next more
-part_read s ss place rest next more part is = record { others = part.others; fit = part.others_fit; text = later place is }
+pub part_read : (s : Shape) (ss : Shapes) (all read : List Value) (place : ℕ) (rest next more : List ℕ) → (part : HasPart s ss all read place rest more) → next ≡ after 41 (part_texts ss part.others) more →
+    HasParts ss all (read ++ part.first ∷ []) (place + 1) next more
+part_read s ss all read place rest next more part is = record { others = part.others; whole = append_assoc read (part.first ∷ []) (listed part.others) ∙ part.whole; fit = part.others_fit; text = later place is }
   where
     later : (k : ℕ) → next ≡ after 41 (part_texts ss part.others) more → next ≡ parts_from (k + 1) (part_texts ss part.others) more
     later zero is = is
     later (suc k) is = let one : suc (suc k) ≡ suc k + 1 = omega arith in subst (λ n. next ≡ parts_from n (part_texts ss part.others) more) one is
 
 -- behind the last of them stands the closing bracket
-pub parts_end : (dtypes : List ArrowDataType) (place : ℕ) (rest more : List ℕ) → length dtypes ≤ place → HasParts (shapes_from place dtypes) place rest more → rest ≡ 41 ∷ more
-parts_end dtypes place rest more past has =
+pub parts_end : (dtypes : List ArrowDataType) (all read : List Value) (place : ℕ) (rest more : List ℕ) → length dtypes ≤ place → HasParts (shapes_from place dtypes) all read place rest more → (read ≡ all) × (rest ≡ 41 ∷ more)
+parts_end dtypes all read place rest more past has =
     let none : drop place dtypes ≡ [] = drop_all place dtypes past in
-    go place (subst (λ ds. HasParts (shapes_of (map shape_of ds)) place rest more) none has)
+    go place (subst (λ ds. HasParts (shapes_of (map shape_of ds)) all read place rest more) none has)
   where
-    closed : (place : ℕ) (vs : Values) → parts_fit no_shapes vs ≡ true → rest ≡ parts_from place (part_texts no_shapes vs) more → rest ≡ 41 ∷ more
-    closed zero no_values fit is = is
-    closed (suc place) no_values fit is = is
-    closed place (next_value v vs) fit is = absurd (true≢false (sym fit))
+    closed : (place : ℕ) (vs : Values) → read ++ listed vs ≡ all → parts_fit no_shapes vs ≡ true → rest ≡ parts_from place (part_texts no_shapes vs) more → (read ≡ all) × (rest ≡ 41 ∷ more)
+    closed zero no_values whole fit is = (sym (append-nil read) ∙ whole, is)
+    closed (suc place) no_values whole fit is = (sym (append-nil read) ∙ whole, is)
+    closed place (next_value v vs) whole fit is = absurd (true≢false (sym fit))
 
-    go : (place : ℕ) → HasParts no_shapes place rest more → rest ≡ 41 ∷ more
-    go place has = closed place has.others has.fit has.text
+    go : (place : ℕ) → HasParts no_shapes all read place rest more → (read ≡ all) × (rest ≡ 41 ∷ more)
+    go place has = closed place has.others has.whole has.fit has.text

@@ -23,7 +23,7 @@ bytes_shown shown v w told is = (λ p. sym is ∙ told.0 p, λ e. told.1 (is ∙
 
 -- ---- lists of values
 
-list_back : (vs : List Value) → listed (values_of vs) ≡ vs
+pub list_back : (vs : List Value) → listed (values_of vs) ≡ vs
 list_back [] = refl
 list_back (v ∷ vs) = ap (λ l. v ∷ l) (list_back vs)
 

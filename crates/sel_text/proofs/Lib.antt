@@ -1,3 +1,6 @@
+pub mod Below
+pub mod BuiltPieces
+pub mod BuiltViews
 pub mod CellRows
 pub mod Commas
 pub mod Decimals
@@ -7,10 +10,16 @@ pub mod Entries
 pub mod Equalities
 pub mod Escapes
 pub mod Fields
+pub mod ItemParts
+pub mod ItemRows
+pub mod Making
 pub mod Numbers
+pub mod PartRows
 pub mod Printed
 pub mod Quotes
+pub mod Refusals
 pub mod Rows
+pub mod Shown
 pub mod Spaceless
 pub mod Told
 pub mod TypeTexts

@@ -42,8 +42,8 @@ below_kept s n size z fit is taken =
     to_z-of_z w128 z (subst (FitsSigned w128) (sym taken) below.0) ∙ taken ∙ below.1
 
 -- behind a minus stands a number below zero
-pub minus_told : (R : List ℕ → Type 0) (s : Shape) (text numeral : List ℕ) → text ≡ 45 ∷ numeral → ((n : ℕ) (more : List ℕ) → fits_number s (negsuc n) ≡ true → NoDigit more → numeral ≡ decimal (suc n) ++ more → R more) →
-    (z : ℤ) (more : List ℕ) → fits_number s z ≡ true → NoDigit more → text ≡ signed_decimal z ++ more → R more
+pub minus_told : (R : ℤ → List ℕ → Type 0) (s : Shape) (text numeral : List ℕ) → text ≡ 45 ∷ numeral → ((n : ℕ) (more : List ℕ) → fits_number s (negsuc n) ≡ true → NoDigit more → numeral ≡ decimal (suc n) ++ more → R (negsuc n) more) →
+    (z : ℤ) (more : List ℕ) → fits_number s z ≡ true → NoDigit more → text ≡ signed_decimal z ++ more → R z more
 minus_told R s text numeral minus read (pos n) more fit end is =
     let numeric = (numeral_is n (plain_small s n fit)).0 in
     absurd (no_minus (decimal n) more numeral numeric.0 numeric.1 (sym is ∙ minus))

@@ -13,20 +13,20 @@ use Rattle.sel_text.proofs.Printed.{listed_texts}
 use Rattle.sel_text.proofs.Told.{unlike}
 
 -- each value of a type that a text begins with is read, as far as `R` says
-abbrev pub Reads : (List ℕ → Type 0) → Shape → List ℕ → Type 0
-Reads R s text = (v : Value) (more : List ℕ) → BeginsWith s v text more → R more
+abbrev pub Reads : (Value → List ℕ → Type 0) → Shape → List ℕ → Type 0
+Reads R s text = (v : Value) (more : List ℕ) → BeginsWith s v text more → R v more
 
 -- a text does not begin with `null`
 abbrev pub NotNull : List ℕ → Type 0
 NotNull text = (rest : List ℕ) → text ≢ codes "null" ++ rest
 
 -- what is to be read of a type's values, for each kind of value
-module _ (R : List ℕ → Type 0) (s : Shape) (text : List ℕ) (filled : NotNull text)
-    (truths : (b : Bool) (more : List ℕ) → is_truth_shape s ≡ true → text ≡ truth_text b ++ more → R more)
-    (numbers : (z : ℤ) (more : List ℕ) → fits_number s z ≡ true → NoDigit more → text ≡ signed_decimal z ++ more → R more)
-    (bytes : (bs more : List ℕ) → fits_bytes s bs ≡ true → text ≡ bytes_text s bs ++ more → R more)
-    (lists : (vs : Values) (more : List ℕ) → fits_count s (length (listed vs)) ≡ true → all_fit (item_shape s) vs ≡ true → text ≡ bracketed (item_texts (item_shape s) vs) ++ more → R more)
-    (tuples : (vs : Values) (more : List ℕ) → is_struct_shape s ≡ true → parts_fit (part_shapes s) vs ≡ true → text ≡ parenthesized (part_texts (part_shapes s) vs) ++ more → R more) where
+module _ (R : Value → List ℕ → Type 0) (s : Shape) (text : List ℕ) (filled : NotNull text)
+    (truths : (b : Bool) (more : List ℕ) → is_truth_shape s ≡ true → text ≡ truth_text b ++ more → R (Truth b) more)
+    (numbers : (z : ℤ) (more : List ℕ) → fits_number s z ≡ true → NoDigit more → text ≡ signed_decimal z ++ more → R (Number z) more)
+    (bytes : (bs more : List ℕ) → fits_bytes s bs ≡ true → text ≡ bytes_text s bs ++ more → R (Bytes bs) more)
+    (lists : (vs : Values) (more : List ℕ) → fits_count s (length (listed vs)) ≡ true → all_fit (item_shape s) vs ≡ true → text ≡ bracketed (item_texts (item_shape s) vs) ++ more → R (Items vs) more)
+    (tuples : (vs : Values) (more : List ℕ) → is_struct_shape s ≡ true → parts_fit (part_shapes s) vs ≡ true → text ≡ parenthesized (part_texts (part_shapes s) vs) ++ more → R (Tuple vs) more) where
   pub row_read : Reads R s text
   row_read Null more begins = absurd (filled more begins.whole)
   row_read (Truth b) more begins = truths b more begins.fit begins.whole
@@ -40,42 +40,23 @@ module _ (R : List ℕ → Type 0) (s : Shape) (text : List ℕ) (filled : NotNu
 never : {A : Type 0} → false ≡ true → A
 never is = absurd (true≢false (sym is))
 
-module _ (R : List ℕ → Type 0) (text : List ℕ) (filled : NotNull text) where
-  -- a type of nulls has no other value
-  pub null_row : Reads R of_null text
-  null_row = row_read R of_null text filled (λ b more is whole. never is) (λ z more is end whole. never is) (λ bs more is whole. never is) (λ vs more is fit whole. never is) (λ vs more is fit whole. never is)
-
-  pub truth_row : ((b : Bool) (more : List ℕ) → text ≡ truth_text b ++ more → R more) → Reads R of_boolean text
-  truth_row read = row_read R of_boolean text filled (λ b more is whole. read b more whole) (λ z more is end whole. never is) (λ bs more is whole. never is) (λ vs more is fit whole. never is) (λ vs more is fit whole. never is)
-
-  -- a type of numbers, which is of no other kind
-  pub number_row : (s : Shape) → is_truth_shape s ≡ false → ((bs : List ℕ) → fits_bytes s bs ≡ false) → ((n : ℕ) → fits_count s n ≡ false) → is_struct_shape s ≡ false →
-      ((z : ℤ) (more : List ℕ) → fits_number s z ≡ true → NoDigit more → text ≡ signed_decimal z ++ more → R more) → Reads R s text
-  number_row s truths bytes counts tuples read =
-      row_read R s text filled (λ b more is whole. never (sym truths ∙ is)) read (λ bs more is whole. never (sym (bytes bs) ∙ is)) (λ vs more is fit whole. never (sym (counts (length (listed vs))) ∙ is)) (λ vs more is fit whole. never (sym tuples ∙ is))
-
-  -- a type of bytes or of texts
-  pub bytes_row : (s : Shape) → is_truth_shape s ≡ false → ((z : ℤ) → fits_number s z ≡ false) → ((n : ℕ) → fits_count s n ≡ false) → is_struct_shape s ≡ false →
-      ((bs more : List ℕ) → fits_bytes s bs ≡ true → text ≡ bytes_text s bs ++ more → R more) → Reads R s text
-  bytes_row s truths numbers counts tuples read =
-      row_read R s text filled (λ b more is whole. never (sym truths ∙ is)) (λ z more is end whole. never (sym (numbers z) ∙ is)) read (λ vs more is fit whole. never (sym (counts (length (listed vs))) ∙ is)) (λ vs more is fit whole. never (sym tuples ∙ is))
-
-  pub list_row : (s : Shape) → ((vs : Values) (more : List ℕ) → all_fit s vs ≡ true → text ≡ bracketed (item_texts s vs) ++ more → R more) → Reads R (of_large_list s) text
+module _ (R : Value → List ℕ → Type 0) (text : List ℕ) (filled : NotNull text) where
+  pub list_row : (s : Shape) → ((vs : Values) (more : List ℕ) → all_fit s vs ≡ true → text ≡ bracketed (item_texts s vs) ++ more → R (Items vs) more) → Reads R (of_large_list s) text
   list_row s read =
       row_read R (of_large_list s) text filled (λ b more is whole. never is) (λ z more is end whole. never is) (λ bs more is whole. never is) (λ vs more is fit whole. read vs more fit whole) (λ vs more is fit whole. never is)
 
-  pub block_row : (s : Shape) (size : ℕ) → ((vs : Values) (more : List ℕ) → fits_count (of_fixed_size_list s size) (length (listed vs)) ≡ true → all_fit s vs ≡ true → text ≡ bracketed (item_texts s vs) ++ more → R more) →
+  pub block_row : (s : Shape) (size : ℕ) → ((vs : Values) (more : List ℕ) → fits_count (of_fixed_size_list s size) (length (listed vs)) ≡ true → all_fit s vs ≡ true → text ≡ bracketed (item_texts s vs) ++ more → R (Items vs) more) →
       Reads R (of_fixed_size_list s size) text
   block_row s size read =
       row_read R (of_fixed_size_list s size) text filled (λ b more is whole. never is) (λ z more is end whole. never is) (λ bs more is whole. never is) (λ vs more is fit whole. read vs more is fit whole) (λ vs more is fit whole. never is)
 
-  pub tuple_row : (ss : Shapes) → ((vs : Values) (more : List ℕ) → parts_fit ss vs ≡ true → text ≡ parenthesized (part_texts ss vs) ++ more → R more) → Reads R (of_struct ss) text
+  pub tuple_row : (ss : Shapes) → ((vs : Values) (more : List ℕ) → parts_fit ss vs ≡ true → text ≡ parenthesized (part_texts ss vs) ++ more → R (Tuple vs) more) → Reads R (of_struct ss) text
   tuple_row ss read =
       row_read R (of_struct ss) text filled (λ b more is whole. never is) (λ z more is end whole. never is) (λ bs more is whole. never is) (λ vs more is fit whole. never is) (λ vs more is fit whole. read vs more fit whole)
 
 -- a null is told by its text
-pub null_read : (s : Shape) (v : Value) (text rest more : List ℕ) → text ≡ codes "null" ++ rest → BeginsWith s v text more → rest ≡ more
-null_read s Null text rest more is begins = ap (drop 4) (sym is ∙ begins.whole)
+pub null_read : (s : Shape) (v : Value) (text rest more : List ℕ) → text ≡ codes "null" ++ rest → BeginsWith s v text more → (Null ≡ v) × (rest ≡ more)
+null_read s Null text rest more is begins = (refl, ap (drop 4) (sym is ∙ begins.whole))
 null_read s (Truth b) text rest more is begins = absurd (unlike s Null (Truth b) rest more refl begins.fit (sym is ∙ begins.whole) refl)
 null_read s (Number z) text rest more is begins = absurd (unlike s Null (Number z) rest more refl begins.fit (sym is ∙ begins.whole) refl)
 null_read s (Bytes bs) text rest more is begins = absurd (unlike s Null (Bytes bs) rest more refl begins.fit (sym is ∙ begins.whole) refl)

@@ -1,9 +1,13 @@
+pub mod Below
 pub mod Cells
 pub mod Fits
 pub mod Laws
 pub mod Digits
+pub mod ItemValues
+pub mod Limits
 pub mod Readings
 pub mod Spaces
+pub mod Stored
 pub mod TextErrors
 pub mod Texts
 pub mod Types

@@ -1,6 +1,10 @@
 -- The texts of faults, and where they may be.
 use Rattle.std.specs.Prelude.{ℕ, ◌≤◌, ⊤, List, ◌++◌, codes}
 use Rattle.std.specs.Fmt.{decimal}
+use Rattle.sel_bits.specs.declared.faults.MakeError.{MakeError}
+use Rattle.sel_bits.specs.declared.faults.MakeError.TheVariants.{OutOfMemory as MakeMemory}
+use Rattle.sel_bits.specs.declared.faults.PolarsError.{PolarsError}
+use Rattle.sel_bits.specs.declared.faults.PolarsError.TheVariants.{OutOfMemory as KernelMemory}
 use Rattle.sel_text.specs.declared.text_error.Fault.{Fault}
 use Rattle.sel_text.specs.declared.text_error.Fault.TheVariants.{Limit as LimitFault, OutOfMemory as MemoryFault}
 use Rattle.sel_text.specs.declared.text_error.TextError.{TextError}
@@ -30,3 +34,18 @@ abbrev pub IsShort : Fault → Type 0
 IsShort LimitFault = ⊤
 IsShort MemoryFault = ⊤
 IsShort fault = ⊥
+
+-- the fault that a broken rule is (own)
+abbrev pub make_fault : MakeError → Fault
+make_fault MakeMemory = MemoryFault
+make_fault error = LimitFault
+
+-- the fault that a refusal of a kernel is (own)
+abbrev pub kernel_fault : PolarsError → Fault
+kernel_fault KernelMemory = MemoryFault
+kernel_fault error = LimitFault
+
+-- a fault speaks of memory alone (own)
+abbrev pub IsWanting : Fault → Type 0
+IsWanting MemoryFault = ⊤
+IsWanting fault = ⊥

@@ -1,7 +1,19 @@
 //! Columns made of rows that were read.
 
-ghost use Rattle.std.specs.Prelude.{IfErr};
-ghost use Rattle.sel_text.specs.TextErrors.{IsShort};
+ghost use Rattle.std.specs.Prelude.{◌≡◌, ◌<◌, ◌≤◌, ◌+◌, ◌∷◌, ◌++◌, [], pos, true, List, IfOk, IfErr, OnOk, length, map, replicate};
+ghost use Rattle.std.specs.List.{flat_map, list_all};
+ghost use Rattle.sel_arrow.specs.Columns.{binview_rows};
+ghost use Rattle.sel_arrow.specs.DataType.{shape_of};
+ghost use Rattle.sel_arrow.specs.Masked.{Covers, masked};
+ghost use Rattle.sel_arrow.specs.Shape.{Shape, shapes_of, of_boolean, of_large_binary, of_utf8_view, of_large_list, of_fixed_size_list, of_struct};
+ghost use Rattle.sel_arrow.specs.Views.{inline_bytes, view_of};
+ghost use Rattle.sel_arrow.specs.Value.{Value, Null, Number, is_valid};
+ghost use Rattle.sel_text.specs.Below.{offsets_below, HasParts};
+ghost use Rattle.sel_text.specs.Fits.{fits};
+ghost use Rattle.sel_text.specs.ItemValues.{item_value, rows_read};
+ghost use Rattle.sel_text.specs.Limits.{any_past, block_in, entries_in, is_past, is_view_shape, part_in, past_limit, IsTold, Makes, Shows};
+ghost use Rattle.sel_text.specs.Stored.{bytes_behind, bytes_stored, truth_stored};
+ghost use Rattle.sel_text.specs.TextErrors.{IsWanting};
 
 use crate::cell::Whole;
 use crate::item::Item;
@@ -42,7 +54,8 @@ pub(crate) fn build(
     items: &[&Item],
     beneath: Beneath,
 ) -> Result<ArrayRef, Fault>
-    ensures { IfErr result IsShort }
+    ensures { list_all (fits (shape_of dtype.now)) (rows_read items.now) ≡ true →
+        Makes beneath (shape_of dtype.now) (rows_read items.now) result }
 {
     match dtype {
         ArrowDataType::Null => Ok(NullArray::try_new(items.len())?.into_ref()),
@@ -68,31 +81,65 @@ pub(crate) fn build(
 
 /// Which of the rows are valid, where one is not.
 fn validity_of(alloc: Global, items: &[&Item]) -> Result<Option<Bitmap>, Fault>
-    ensures { IfErr result IsShort }
+    ensures covers { IfOk result (λ validity. Covers validity (length items.now)) }
+    ensures hides { IfOk result (λ validity. (plain : List Value) →
+        Shows (rows_read items.now) plain → masked validity plain ≡ rows_read items.now) }
+    ensures memory { IfErr result IsWanting }
 {
     let mut valid = Vec::with_capacity(alloc, items.len())?;
     for item in items {
-        valid.push(!matches!(item, Item::Null))?;
+        valid.push(is_filled(item))?;
     }
-    if valid.iter().all(|valid| *valid) {
+    if all_true(&valid) {
         return Ok(None);
     }
     Ok(Some(Bitmap::from_bools(alloc, &valid)?))
 }
 
+/// Whether each of them is true.
+#[tactic(auto, using(sel_arrow::proofs::Lists::all_lists))]
+fn all_true(bits: &[bool]) -> bool
+    ensures { result ≡ list_all (λ bit. bit) bits.now }
+{
+    for bit in bits {
+        if !*bit {
+            return false;
+        }
+    }
+    true
+}
+
+/// Whether a row is no null.
+fn is_filled(item: &Item) -> bool
+    ensures { result ≡ is_valid (item_value item.now) }
+{
+    !matches!(item, Item::Null)
+}
+
 /// The column of these truth values.
 fn truths(alloc: Global, items: &[&Item], beneath: Beneath) -> Result<ArrayRef, Fault>
-    ensures { IfErr result IsShort }
+    ensures { list_all (fits of_boolean) (rows_read items.now) ≡ true →
+        Makes beneath of_boolean (rows_read items.now) result }
 {
     let mut values = Vec::with_capacity(alloc, items.len())?;
     for item in items {
-        values.push(match item {
-            Item::Truth(truth) => *truth,
-            _ => beneath == Beneath::Others,
-        })?;
+        values.push(truth_in(item, beneath))?;
     }
     let values = Bitmap::from_bools(alloc, &values)?;
     Ok(BooleanArray::try_new(values, validity_of(alloc, items)?)?.into_ref())
+}
+
+/// The truth value in a row, or what stands beneath a null.
+fn truth_in(item: &Item, beneath: Beneath) -> bool
+    ensures { result ≡ truth_stored beneath (item_value item.now) }
+{
+    match item {
+        Item::Truth(truth) => *truth,
+        _ => match beneath {
+            Beneath::Zeros => false,
+            Beneath::Others => true,
+        },
+    }
 }
 
 /// The column of these numbers.
@@ -101,7 +148,8 @@ fn numbers<T: FromWhole>(
     items: &[&Item],
     beneath: Beneath,
 ) -> Result<ArrayRef, Fault>
-    ensures { IfErr result IsShort }
+    ensures { list_all (fits T.shape) (rows_read items.now) ≡ true →
+        Makes beneath T.shape (rows_read items.now) result }
 {
     let mut values = Vec::with_capacity(alloc, items.len())?;
     for item in items {
@@ -112,9 +160,13 @@ fn numbers<T: FromWhole>(
 }
 
 /// The number in a row, or what stands beneath a null.
-fn number_in<T: FromWhole>(item: &Item, beneath: Beneath) -> T {
+fn number_in<T: FromWhole>(item: &Item, beneath: Beneath) -> T
+    ensures { fits T.shape (item_value item.now) ≡ true →
+        Shows (item_value item.now ∷ []) (Number (T.number result) ∷ []) }
+{
+    let zero = T::zero();
     let other = match beneath {
-        Beneath::Zeros => T::ZERO,
+        Beneath::Zeros => zero,
         Beneath::Others => T::GREATEST,
     };
     match item {
@@ -124,7 +176,9 @@ fn number_in<T: FromWhole>(item: &Item, beneath: Beneath) -> T {
 }
 
 /// The bytes in a row, or those that stand beneath a null.
-fn bytes_in(item: &Item, beneath: Beneath) -> &[u8] {
+fn bytes_in(item: &Item, beneath: Beneath) -> &[u8]
+    ensures { result.now ≡ bytes_stored beneath (item_value item.now) }
+{
     match item {
         Item::Bytes(bytes) => bytes,
         _ => match beneath {
@@ -136,7 +190,8 @@ fn bytes_in(item: &Item, beneath: Beneath) -> &[u8] {
 
 /// The column of these bytes, one after another between offsets.
 fn pieces(alloc: Global, items: &[&Item], beneath: Beneath) -> Result<ArrayRef, Fault>
-    ensures { IfErr result IsShort }
+    ensures { list_all (fits of_large_binary) (rows_read items.now) ≡ true →
+        Makes beneath of_large_binary (rows_read items.now) result }
 {
     let mut bytes = Vec::new(alloc);
     let mut ends: Vec<i64> = vec![in alloc; 0]?;
@@ -151,7 +206,9 @@ fn pieces(alloc: Global, items: &[&Item], beneath: Beneath) -> Result<ArrayRef, 
 
 /// A place as an offset.
 fn offset_at(place: usize) -> Result<i64, Fault>
-    ensures { IfErr result IsShort }
+    ensures value { IfOk result (λ offset. offset ≡ pos place) }
+    ensures refused { IfErr result (λ fault.
+        (fault ≡ Fault.Limit) × (9223372036854775807 < place)) }
 {
     match i64::try_from(place) {
         Ok(offset) => Ok(offset),
@@ -161,17 +218,17 @@ fn offset_at(place: usize) -> Result<i64, Fault>
 
 /// The column of views of these bytes, those past 12 bytes in one data buffer.
 fn views(alloc: Global, items: &[&Item], beneath: Beneath) -> Result<BinaryViewArray, Fault>
-    ensures { IfErr result IsShort }
+    ensures views { IfOk result (λ array. (shape : Shape) → is_view_shape shape ≡ true →
+        list_all (fits shape) (rows_read items.now) ≡ true →
+        binview_rows array ≡ rows_read items.now) }
+    ensures limit { IfErr result (λ fault. (shape : Shape) → is_view_shape shape ≡ true →
+        list_all (fits shape) (rows_read items.now) ≡ true →
+        IsTold (past_limit beneath shape (rows_read items.now)) fault) }
 {
     let mut data = Vec::new(alloc);
     let mut views = Vec::with_capacity(alloc, items.len())?;
     for item in items {
-        let bytes = bytes_in(item, beneath);
-        let (Ok(_), Ok(start)) = (u32::try_from(bytes.len()), u32::try_from(data.len())) else {
-            return Err(Fault::Limit);
-        };
-        views.push(View::new_from_bytes(bytes, 0, start))?;
-        data.extend_from_slice(bytes)?;
+        views.push(view_behind(&mut data, bytes_in(item, beneath))?)?;
     }
     let data = Buffer::from_vec(data)?;
     let buffers = Buffer::from_vec(vec![in alloc; data]?)?;
@@ -179,9 +236,28 @@ fn views(alloc: Global, items: &[&Item], beneath: Beneath) -> Result<BinaryViewA
     Ok(BinaryViewArray::try_new(views, buffers, validity_of(alloc, items)?)?)
 }
 
+/// The view of these bytes, of which more than 12 are put behind the others in a data buffer.
+fn view_behind(data: &mut Vec<u8>, bytes: &[u8]) -> Result<View, Fault>
+    ensures view { IfOk result (λ view. view ≡ view_of bytes.now 0 (length data.old.items)) }
+    ensures inline { IfOk result (λ view. length bytes.now ≤ 12 → inline_bytes view ≡ bytes.now) }
+    ensures data { IfOk result (λ _. data.new.items ≡ data.old.items ++ bytes_behind bytes.now) }
+    ensures limit { IfErr result (λ fault.
+        IsTold (is_past (length data.old.items + length (bytes_behind bytes.now))) fault) }
+{
+    if bytes.len() <= 12 {
+        return Ok(View::new_from_bytes(bytes, 0, 0));
+    }
+    let (Ok(_), Ok(start)) = (u32::try_from(bytes.len()), u32::try_from(data.len())) else {
+        return Err(Fault::Limit);
+    };
+    data.extend_from_slice(bytes)?;
+    Ok(View::new_from_bytes(bytes, 0, start))
+}
+
 /// The column of these texts.
 fn texts(alloc: Global, items: &[&Item], beneath: Beneath) -> Result<ArrayRef, Fault>
-    ensures { IfErr result IsShort }
+    ensures { list_all (fits of_utf8_view) (rows_read items.now) ≡ true →
+        Makes beneath of_utf8_view (rows_read items.now) result }
 {
     let BinaryViewArray {
         views,
@@ -199,12 +275,22 @@ fn lists(
     items: &[&Item],
     beneath: Beneath,
 ) -> Result<ArrayRef, Fault>
-    ensures { IfErr result IsShort }
+    ensures { list_all (fits (of_large_list (shape_of dtype.now))) (rows_read items.now) ≡ true →
+        Makes beneath (of_large_list (shape_of dtype.now)) (rows_read items.now) result }
 {
     let null = Item::Null;
-    let (entries, offsets) = entries_between(alloc, items, &null, beneath)?;
-    let validity = validity_of(alloc, items)?;
-    let child = build(dtype, alloc, &entries, beneath)?;
+    let (entries, offsets) = match entries_between(alloc, items, &null, beneath) {
+        Ok(made) => made,
+        Err(fault) => return Err(fault),
+    };
+    let validity = match validity_of(alloc, items) {
+        Ok(validity) => validity,
+        Err(fault) => return Err(fault),
+    };
+    let child = match build(dtype, alloc, &entries, beneath) {
+        Ok(child) => child,
+        Err(fault) => return Err(fault),
+    };
     match ListArray::try_new(alloc, offsets, child, validity) {
         Ok(array) => Ok(array.into_ref()),
         Err(fault) => Err(Fault::from(fault)),
@@ -218,39 +304,54 @@ fn entries_between<'a, 'b: 'a>(
     null: &'a Item,
     beneath: Beneath,
 ) -> Result<(Vec<&'a Item>, OffsetsBuffer<i64>), Fault>
-    ensures { IfErr result IsShort }
+    ensures entries { item_value null.now ≡ Null → IfOk result (λ made. rows_read made.0.items ≡
+        flat_map (entries_in beneath) (rows_read items.now)) }
+    ensures offsets { item_value null.now ≡ Null → IfOk result (λ made. made.1 ≡
+        offsets_below (entries_in beneath) (rows_read items.now)) }
+    ensures memory { item_value null.now ≡ Null → IfErr result IsWanting }
 {
     let mut entries = Vec::new(alloc);
     let mut ends: Vec<i64> = vec![in alloc; 0]?;
-    push_lists(&mut entries, &mut ends, items, null, beneath)?;
-    let offsets = OffsetsBuffer::try_from(ends)?;
-    Ok((entries, offsets))
+    for item in items {
+        if let Err(fault) = push_below(&mut entries, item, null, beneath) {
+            return Err(fault);
+        }
+        match offset_at(entries.len()) {
+            Ok(end) => ends.push(end)?,
+            Err(fault) => return Err(fault),
+        }
+    }
+    match OffsetsBuffer::try_from(ends) {
+        Ok(offsets) => Ok((entries, offsets)),
+        Err(fault) => Err(Fault::from(fault)),
+    }
 }
 
-/// Puts the entries of these lists behind others, and the end of each list behind other ends.
-fn push_lists<'a, 'b: 'a>(
+/// Puts the entries of a list behind others, or what stands beneath a null.
+fn push_below<'a, 'b: 'a>(
     entries: &mut Vec<&'a Item>,
-    ends: &mut Vec<i64>,
-    items: &[&'b Item],
+    item: &'b Item,
     null: &'a Item,
     beneath: Beneath,
 ) -> Result<(), Fault>
-    ensures { IfErr result IsShort }
+    ensures entries { item_value null.now ≡ Null → OnOk result (rows_read entries.new.items ≡
+        rows_read entries.old.items ++ entries_in beneath (item_value item.now)) }
+    ensures memory { IfErr result IsWanting }
 {
-    for item in items {
-        match (item, beneath) {
-            (Item::Items(list), _) => push_each(entries, list)?,
-            (_, Beneath::Others) => entries.push(null)?,
-            (_, Beneath::Zeros) => {}
-        }
-        ends.push(offset_at(entries.len())?)?;
+    if let Item::Items(list) = item {
+        return push_each(entries, list);
     }
-    Ok(())
+    match beneath {
+        Beneath::Zeros => Ok(()),
+        Beneath::Others => push_copies(entries, null, 1),
+    }
 }
 
 /// Puts each entry of a list behind others.
 fn push_each<'a>(entries: &mut Vec<&'a Item>, list: &'a [Item]) -> Result<(), Fault>
-    ensures { IfErr result IsShort }
+    ensures entries { OnOk result (rows_read entries.new.items ≡
+        rows_read entries.old.items ++ map item_value list.now) }
+    ensures memory { IfErr result IsWanting }
 {
     for entry in list {
         entries.push(entry)?;
@@ -267,12 +368,23 @@ fn blocks(
     items: &[&Item],
     beneath: Beneath,
 ) -> Result<ArrayRef, Fault>
-    ensures { IfErr result IsShort }
+    ensures { list_all (fits (of_fixed_size_list (shape_of dtype.now) size))
+        (rows_read items.now) ≡ true →
+        Makes beneath (of_fixed_size_list (shape_of dtype.now) size) (rows_read items.now) result }
 {
     let null = Item::Null;
-    let entries = entries_of(alloc, items, &null, size)?;
-    let validity = validity_of(alloc, items)?;
-    let child = build(dtype, alloc, &entries, beneath)?;
+    let entries = match entries_of(alloc, items, &null, size) {
+        Ok(entries) => entries,
+        Err(fault) => return Err(fault),
+    };
+    let validity = match validity_of(alloc, items) {
+        Ok(validity) => validity,
+        Err(fault) => return Err(fault),
+    };
+    let child = match build(dtype, alloc, &entries, beneath) {
+        Ok(child) => child,
+        Err(fault) => return Err(fault),
+    };
     match FixedSizeListArray::try_new(alloc, size, items.len(), child, validity) {
         Ok(array) => Ok(array.into_ref()),
         Err(fault) => Err(Fault::from(fault)),
@@ -286,21 +398,41 @@ fn entries_of<'a, 'b: 'a>(
     null: &'a Item,
     size: usize,
 ) -> Result<Vec<&'a Item>, Fault>
-    ensures { IfErr result IsShort }
+    ensures entries { item_value null.now ≡ Null → IfOk result (λ entries.
+        rows_read entries.items ≡ flat_map (block_in size) (rows_read items.now)) }
+    ensures memory { IfErr result IsWanting }
 {
     let mut entries = Vec::new(alloc);
     for item in items {
-        match item {
-            Item::Items(list) => push_each(&mut entries, list)?,
-            _ => push_copies(&mut entries, null, size)?,
+        if let Err(fault) = push_block(&mut entries, item, null, size) {
+            return Err(fault);
         }
     }
     Ok(entries)
 }
 
+/// Puts the entries of a list behind others, or so many of their own where it is null.
+fn push_block<'a, 'b: 'a>(
+    entries: &mut Vec<&'a Item>,
+    item: &'b Item,
+    null: &'a Item,
+    size: usize,
+) -> Result<(), Fault>
+    ensures entries { item_value null.now ≡ Null → OnOk result (rows_read entries.new.items ≡
+        rows_read entries.old.items ++ block_in size (item_value item.now)) }
+    ensures memory { IfErr result IsWanting }
+{
+    if let Item::Items(list) = item {
+        return push_each(entries, list);
+    }
+    push_copies(entries, null, size)
+}
+
 /// Puts an entry so many times behind others.
 fn push_copies<'a>(entries: &mut Vec<&'a Item>, entry: &'a Item, count: usize) -> Result<(), Fault>
-    ensures { IfErr result IsShort }
+    ensures entries { OnOk result (rows_read entries.new.items ≡
+        rows_read entries.old.items ++ replicate count (item_value entry.now)) }
+    ensures memory { IfErr result IsWanting }
 {
     for _ in 0..count {
         entries.push(entry)?;
@@ -316,15 +448,24 @@ fn tuples(
     items: &[&Item],
     beneath: Beneath,
 ) -> Result<ArrayRef, Fault>
-    ensures { IfErr result IsShort }
+    ensures { list_all (fits (of_struct (shapes_of (map shape_of dtypes.now))))
+        (rows_read items.now) ≡ true →
+        Makes beneath (of_struct (shapes_of (map shape_of dtypes.now))) (rows_read items.now)
+        result }
 {
-    let validity = validity_of(alloc, items)?;
+    let validity = match validity_of(alloc, items) {
+        Ok(validity) => validity,
+        Err(fault) => return Err(fault),
+    };
     let mut fields = Vec::with_capacity(alloc, dtypes.len())?;
     if let Err(fault) = push_fields(&mut fields, dtypes, alloc, items, beneath) {
         drop(fields);
         return Err(fault);
     }
-    Ok(StructArray::try_new(alloc, items.len(), fields, validity)?.into_ref())
+    match StructArray::try_new(alloc, items.len(), fields, validity) {
+        Ok(array) => Ok(array.into_ref()),
+        Err(fault) => Err(Fault::from(fault)),
+    }
 }
 
 /// Puts the fields of these tuples behind others.
@@ -336,12 +477,23 @@ fn push_fields(
     items: &[&Item],
     beneath: Beneath,
 ) -> Result<(), Fault>
-    ensures { IfErr result IsShort }
+    ensures fields { list_all (fits (of_struct (shapes_of (map shape_of dtypes.now))))
+        (rows_read items.now) ≡ true → OnOk result (HasParts fields.new.items
+        fields.old.items (map shape_of dtypes.now) (rows_read items.now)) }
+    ensures limit { list_all (fits (of_struct (shapes_of (map shape_of dtypes.now))))
+        (rows_read items.now) ≡ true → IfErr result (IsTold (any_past beneath
+        (shapes_of (map shape_of dtypes.now)) 0 (rows_read items.now))) }
 {
-    let null = Item::Null;
     for (k, dtype) in dtypes.iter().enumerate() {
-        let parts = parts_at(alloc, items, k, &null)?;
-        let field = build(dtype, alloc, &parts, beneath)?;
+        let null = Item::Null;
+        let parts = match parts_at(alloc, items, k, &null) {
+            Ok(parts) => parts,
+            Err(fault) => return Err(fault),
+        };
+        let field = match build(dtype, alloc, &parts, beneath) {
+            Ok(field) => field,
+            Err(fault) => return Err(fault),
+        };
         match fields.push(field) {
             Ok(()) => {}
             Err(failed) => return Err(Fault::from(failed)),
@@ -357,19 +509,26 @@ fn parts_at<'a, 'b: 'a>(
     place: usize,
     other: &'a Item,
 ) -> Result<Vec<&'a Item>, Fault>
-    ensures { IfErr result IsShort }
+    ensures parts { item_value other.now ≡ Null → IfOk result (λ parts.
+        rows_read parts.items ≡ map (part_in place) (rows_read items.now)) }
+    ensures memory { IfErr result IsWanting }
 {
     let mut parts = Vec::with_capacity(alloc, items.len())?;
     for item in items {
-        parts.push(part_at(item, place).unwrap_or(other))?;
+        parts.push(part_at(item, place, other))?;
     }
     Ok(parts)
 }
 
-/// What a tuple has at a place.
-fn part_at(item: &Item, place: usize) -> Option<&Item> {
-    match item {
-        Item::Parts(parts) => parts.get(place),
-        _ => None,
+/// What a tuple has at a place, and something else where it is null.
+fn part_at<'a, 'b: 'a>(item: &'b Item, place: usize, other: &'a Item) -> &'a Item
+    ensures { item_value other.now ≡ Null →
+        item_value result.now ≡ part_in place (item_value item.now) }
+{
+    if let Item::Parts(parts) = item {
+        if let Some(part) = parts.get(place) {
+            return part;
+        }
     }
+    other
 }

@@ -5,11 +5,12 @@ ghost use Rattle.std.specs.Fmt.{decimal, signed_decimal};
 ghost use Rattle.std.specs.List.{list_all};
 ghost use Rattle.sel_arrow.specs.DataType.{shape_of};
 ghost use Rattle.sel_arrow.specs.Shape.{shapes_of};
-ghost use Rattle.sel_arrow.specs.Value.{Value, Values, listed};
+ghost use Rattle.sel_arrow.specs.Value.{Value, Truth, Number, Bytes, Values, listed};
 ghost use Rattle.sel_text.specs.Digits.{NoDigit};
 ghost use Rattle.sel_text.specs.Fits.{all_fit, fits_number, parts_fit};
 ghost use Rattle.sel_text.specs.Readings.{BeginsWith};
-ghost use Rattle.sel_text.specs.TextErrors.{IsShort};
+ghost use Rattle.sel_text.specs.ItemValues.{item_value};
+ghost use Rattle.sel_text.specs.TextErrors.{IsWanting};
 ghost use Rattle.sel_text.specs.Texts.{bracketed, hex_text, item_texts, parenthesized, part_texts, quoted, truth_text};
 
 use crate::cell::Whole;
@@ -40,7 +41,7 @@ pub(crate) fn read_item<'a>(
 ) -> Result<(Item, &'a [u8]), Fault>
     ensures { (value : Value) (more : List ℕ) →
         BeginsWith (shape_of dtype.now) value bytes.now more →
-        MatchResult result (λ read. read.1.now ≡ more) IsShort }
+        MatchResult result (λ read. (item_value read.0 ≡ value) × (read.1.now ≡ more)) IsWanting }
 {
     if let Some(rest) = behind(bytes, b"null") {
         return Ok((Item::Null, rest));
@@ -106,7 +107,8 @@ fn opened<'a>(bytes: &'a [u8], word: &[u8]) -> Result<&'a [u8], Fault>
 /// The truth value at the front.
 fn read_truth(bytes: &[u8]) -> Result<(Item, &[u8]), Fault>
     ensures { (truth : Bool) (more : List ℕ) → bytes.now ≡ truth_text truth ++ more →
-        MatchResult result (λ read. read.1.now ≡ more) IsShort }
+        MatchResult result (λ read. (item_value read.0 ≡ Truth truth) × (read.1.now ≡ more))
+        IsWanting }
 {
     if let Some(rest) = behind(bytes, b"true") {
         return Ok((Item::Truth(true), rest));
@@ -121,7 +123,8 @@ fn read_truth(bytes: &[u8]) -> Result<(Item, &[u8]), Fault>
 fn read_bytes(alloc: Global, bytes: &[u8]) -> Result<(Item, &[u8]), Fault>
     ensures { (value more : List ℕ) → IsTrue (list_all (λ byte. nat_lt byte 256) value) →
         bytes.now ≡ hex_text value ++ more →
-        MatchResult result (λ read. read.1.now ≡ more) IsShort }
+        MatchResult result (λ read. (item_value read.0 ≡ Bytes value) × (read.1.now ≡ more))
+        IsWanting }
 {
     let rest = match opened(bytes, b"h\"") {
         Ok(rest) => rest,
@@ -136,7 +139,8 @@ fn read_bytes(alloc: Global, bytes: &[u8]) -> Result<(Item, &[u8]), Fault>
 /// The text between quotes at the front.
 fn read_text(alloc: Global, bytes: &[u8]) -> Result<(Item, &[u8]), Fault>
     ensures { (value more : List ℕ) → bytes.now ≡ quoted value ++ more →
-        MatchResult result (λ read. read.1.now ≡ more) IsShort }
+        MatchResult result (λ read. (item_value read.0 ≡ Bytes value) × (read.1.now ≡ more))
+        IsWanting }
 {
     let rest = match opened(bytes, b"\"") {
         Ok(rest) => rest,
@@ -152,7 +156,8 @@ fn read_text(alloc: Global, bytes: &[u8]) -> Result<(Item, &[u8]), Fault>
 fn read_number<T: FromWhole>(bytes: &[u8]) -> Result<(Item, &[u8]), Fault>
     ensures { (number : ℤ) (more : List ℕ) → IsTrue (fits_number T.shape number) →
         NoDigit more → bytes.now ≡ signed_decimal number ++ more →
-        MatchResult result (λ read. read.1.now ≡ more) IsShort }
+        MatchResult result (λ read. (item_value read.0 ≡ Number number) × (read.1.now ≡ more))
+        IsWanting }
 {
     match behind(bytes, b"-") {
         Some(numeral) => read_negative::<T>(numeral, bytes.len()),
@@ -164,7 +169,8 @@ fn read_number<T: FromWhole>(bytes: &[u8]) -> Result<(Item, &[u8]), Fault>
 fn read_positive<T: FromWhole>(bytes: &[u8]) -> Result<(Item, &[u8]), Fault>
     ensures { (number : ℕ) (more : List ℕ) → IsTrue (fits_number T.shape (pos number)) →
         NoDigit more → bytes.now ≡ decimal number ++ more →
-        MatchResult result (λ read. read.1.now ≡ more) IsShort }
+        MatchResult result (λ read. (item_value read.0 ≡ Number (pos number)) ×
+        (read.1.now ≡ more)) IsWanting }
 {
     let (digits, rest) = match read_digits(bytes) {
         Ok(read) => read,
@@ -192,7 +198,8 @@ fn without_digit(bytes: &[u8], fault: Fault) -> Fault {
 fn read_negative<T: FromWhole>(bytes: &[u8], left: usize) -> Result<(Item, &[u8]), Fault>
     ensures { (number : ℕ) (more : List ℕ) → IsTrue (fits_number T.shape (negsuc number)) →
         NoDigit more → bytes.now ≡ decimal (suc number) ++ more →
-        MatchResult result (λ read. read.1.now ≡ more) IsShort }
+        MatchResult result (λ read. (item_value read.0 ≡ Number (negsuc number)) ×
+        (read.1.now ≡ more)) IsWanting }
 {
     let (digits, rest) = match read_digits(bytes) {
         Ok(read) => read,
@@ -224,8 +231,8 @@ pub(crate) fn read_items<'a>(
     ensures { (entries : Values) (more : List ℕ) →
         IsTrue (all_fit (shape_of dtype.now) entries) →
         bytes.now ≡ bracketed (item_texts (shape_of dtype.now) entries) ++ more →
-        MatchResult result (λ read. (length read.0.items ≡ length (listed entries)) ×
-        (read.1.now ≡ more)) IsShort }
+        MatchResult result (λ read. (map item_value read.0.items ≡ listed entries) ×
+        (read.1.now ≡ more)) IsWanting }
 {
     let mut items = Vec::new(alloc);
     let mut rest = match opened(bytes, b"[") {
@@ -262,7 +269,8 @@ fn read_parts<'a>(
     ensures { (entries : Values) (more : List ℕ) →
         let shapes = shapes_of (map shape_of dtypes.now) in IsTrue (parts_fit shapes entries) →
         bytes.now ≡ parenthesized (part_texts shapes entries) ++ more →
-        MatchResult result (λ read. read.1.now ≡ more) IsShort }
+        MatchResult result (λ read. (map item_value read.0.items ≡ listed entries) ×
+        (read.1.now ≡ more)) IsWanting }
 {
     let mut parts = Vec::with_capacity(alloc, dtypes.len())?;
     let mut rest = match opened(bytes, b"(") {

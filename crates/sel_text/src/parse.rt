@@ -1,13 +1,15 @@
 //! Columns, read.
 
-ghost use Rattle.std.specs.Prelude.{◌≡◌, List, IfOk, IfErr, IsTrue, length};
+ghost use Rattle.std.specs.Prelude.{◌≡◌, true, List, IfOk, IfErr, IsTrue, length, map};
 ghost use Rattle.std.specs.List.{list_all};
 ghost use Rattle.sel_arrow.specs.DataType.{shape_of};
 ghost use Rattle.sel_arrow.specs.Rows.{rows, type_of};
 ghost use Rattle.sel_arrow.specs.Value.{Value};
 ghost use Rattle.sel_text.specs.Fits.{fits};
+ghost use Rattle.sel_text.specs.ItemValues.{item_value};
+ghost use Rattle.sel_text.specs.Limits.{past_limit, IsTold, Makes};
 ghost use Rattle.sel_text.specs.Spaces.{spaceless};
-ghost use Rattle.sel_text.specs.TextErrors.{IsShort, IsShortage, IsWithin};
+ghost use Rattle.sel_text.specs.TextErrors.{IsShortage, IsWanting, IsWithin};
 ghost use Rattle.sel_text.specs.Texts.{text_of};
 
 use crate::build::{Beneath, build};
@@ -35,6 +37,10 @@ pub fn parse_column(
     ensures refused { IfErr result (λ error. (values : List Value) →
         IsTrue (list_all (fits (shape_of dtype.now)) values) →
         spaceless text.now ≡ text_of (shape_of dtype.now) values → IsShortage error) }
+    ensures limit { IfErr result (λ error. error ≡ TextError.Limit → (values : List Value) →
+        IsTrue (list_all (fits (shape_of dtype.now)) values) →
+        spaceless text.now ≡ text_of (shape_of dtype.now) values →
+        IsTrue (past_limit beneath (shape_of dtype.now) values)) }
     ensures place { IfErr result (IsWithin (length text.now)) }
 {
     let Ok(bytes) = without_spaces(alloc, text) else {
@@ -46,8 +52,8 @@ pub fn parse_column(
     }
 }
 
-/// The column whose text this is. What was read is printed and compared, so that an answer does not rest on how it is read. No text
-/// is known that is read and not printed back; since it would be none of a wrong syntax, a limit is told there.
+/// The column whose text this is. What was read is printed and compared, so that an answer does not rest on how it is read. The text
+/// of values that fit the type is printed back, so what is not is told to be no text of rows, from its start on.
 fn read_whole(
     dtype: &ArrowDataType,
     alloc: Global,
@@ -59,7 +65,8 @@ fn read_whole(
         text_of (shape_of dtype.now) (rows array.column) ≡ bytes.now) }
     ensures refused { IfErr result (λ fault. (values : List Value) →
         IsTrue (list_all (fits (shape_of dtype.now)) values) →
-        bytes.now ≡ text_of (shape_of dtype.now) values → IsShort fault) }
+        bytes.now ≡ text_of (shape_of dtype.now) values →
+        IsTold (past_limit beneath (shape_of dtype.now) values) fault) }
 {
     let array = match read_rows(dtype, alloc, bytes, beneath) {
         Ok(array) => array,
@@ -69,7 +76,7 @@ fn read_whole(
         Ok(true) => Ok(array),
         Ok(false) => {
             drop(array);
-            Err(Fault::Limit)
+            Err(Fault::Syntax(bytes.len()))
         }
         Err(fault) => {
             drop(array);
@@ -89,13 +96,18 @@ fn has_text(
         IsTrue same → type_of array.now.column ≡ shape_of dtype.now) }
     ensures text { IfOk result (λ same.
         IsTrue same → text_of (shape_of dtype.now) (rows array.now.column) ≡ bytes.now) }
-    ensures short { IfErr result IsShort }
+    ensures whole { type_of array.now.column ≡ shape_of dtype.now →
+        text_of (shape_of dtype.now) (rows array.now.column) ≡ bytes.now →
+        IfOk result (λ same. IsTrue same) }
+    ensures memory { IfErr result IsWanting }
 {
     if !array.has_dtype(dtype) {
         return Ok(false);
     }
-    let printed = print_rows(alloc, array.as_column())?;
-    Ok(printed.as_bytes() == bytes)
+    match print_rows(alloc, array.as_column()) {
+        Ok(printed) => Ok(printed.as_bytes() == bytes),
+        Err(_) => Err(Fault::OutOfMemory),
+    }
 }
 
 /// The column of the rows that are read from these bytes.
@@ -105,9 +117,9 @@ fn read_rows(
     bytes: &[u8],
     beneath: Beneath,
 ) -> Result<ArrayRef, Fault>
-    ensures refused { IfErr result (λ fault. (values : List Value) →
-        IsTrue (list_all (fits (shape_of dtype.now)) values) →
-        bytes.now ≡ text_of (shape_of dtype.now) values → IsShort fault) }
+    ensures { (values : List Value) → IsTrue (list_all (fits (shape_of dtype.now)) values) →
+        bytes.now ≡ text_of (shape_of dtype.now) values →
+        Makes beneath (shape_of dtype.now) values result }
 {
     let (items, rest) = match read_items(dtype, alloc, bytes) {
         Ok(read) => read,
@@ -126,7 +138,8 @@ fn build_rows(
     items: &[Item],
     beneath: Beneath,
 ) -> Result<ArrayRef, Fault>
-    ensures { IfErr result IsShort }
+    ensures { list_all (fits (shape_of dtype.now)) (map item_value items.now) ≡ true →
+        Makes beneath (shape_of dtype.now) (map item_value items.now) result }
 {
     let mut rows = Vec::with_capacity(alloc, items.len())?;
     for item in items {

@@ -1,7 +1,7 @@
 //! Why a text gives no type and no column.
 
 ghost use Rattle.std.specs.Prelude.{◌≡◌, ◌≤◌, Some, length};
-ghost use Rattle.sel_text.specs.TextErrors.{error_text, IsShort, IsShortage, IsWithin};
+ghost use Rattle.sel_text.specs.TextErrors.{error_text, kernel_fault, make_fault, IsShort, IsShortage, IsWithin};
 ghost use Rattle.sel_text.specs.declared.text_error.Fault.TheVariants.{OutOfMemory};
 
 use crate::spaces::place_in;
@@ -51,6 +51,7 @@ impl Fault {
     pub(crate) fn placed(self, text: &str, count: usize) -> TextError
         ensures place { IsWithin (length text.now) result }
         ensures short { IsShort self → IsShortage result }
+        ensures limit { result ≡ TextError.Limit → self ≡ Fault.Limit }
     {
         match self {
             Fault::Syntax(left) => TextError::Syntax {
@@ -82,7 +83,7 @@ impl<T: Drop> From<AllocFailed<T>> for Fault {
 }
 
 impl From<PolarsError> for Fault {
-    ghost from_gives = { λ _ fault. IsShort fault };
+    ghost from_gives = { λ error fault. fault ≡ kernel_fault error };
 
     fn from(fault: PolarsError) -> Fault {
         match fault {
@@ -93,7 +94,7 @@ impl From<PolarsError> for Fault {
 }
 
 impl From<MakeError> for Fault {
-    ghost from_gives = { λ _ fault. IsShort fault };
+    ghost from_gives = { λ error fault. fault ≡ make_fault error };
 
     fn from(fault: MakeError) -> Fault {
         match fault {

@@ -1,6 +1,6 @@
 //! Whole numbers of the ten number types.
 
-ghost use Rattle.std.specs.Prelude.{◌≡◌, false, IfNone};
+ghost use Rattle.std.specs.Prelude.{◌≡◌, pos, false, true, IfNone, IfSome};
 ghost use Rattle.sel_text.specs.Cells.{whole_number};
 ghost use Rattle.sel_text.specs.Fits.{fits_number};
 
@@ -9,16 +9,20 @@ use sel_arrow::primitive::ArrowPrimitive;
 
 /// A number type that takes a whole number where it fits.
 pub(crate) trait FromWhole: ArrowPrimitive {
-    /// Nothing.
-    const ZERO: Self;
+    /// Nothing, which each of the types has.
+    fn zero() -> Self
+        ensures { fits_number Self.shape (pos 0) ≡ true };
 
     /// The number, or None where none of the type is it.
     fn from_whole(whole: Whole) -> Option<Self>
-        ensures { IfNone result (fits_number Self.shape (whole_number whole) ≡ false) };
+        ensures number { IfSome result (λ number. Self.number number ≡ whole_number whole) }
+        ensures refused { IfNone result (fits_number Self.shape (whole_number whole) ≡ false) };
 }
 
 impl FromWhole for i8 {
-    const ZERO: i8 = 0;
+    fn zero() -> i8 {
+        0
+    }
 
     fn from_whole(whole: Whole) -> Option<i8> {
         match whole {
@@ -29,7 +33,9 @@ impl FromWhole for i8 {
 }
 
 impl FromWhole for i16 {
-    const ZERO: i16 = 0;
+    fn zero() -> i16 {
+        0
+    }
 
     fn from_whole(whole: Whole) -> Option<i16> {
         match whole {
@@ -40,7 +46,9 @@ impl FromWhole for i16 {
 }
 
 impl FromWhole for i32 {
-    const ZERO: i32 = 0;
+    fn zero() -> i32 {
+        0
+    }
 
     fn from_whole(whole: Whole) -> Option<i32> {
         match whole {
@@ -51,7 +59,9 @@ impl FromWhole for i32 {
 }
 
 impl FromWhole for i64 {
-    const ZERO: i64 = 0;
+    fn zero() -> i64 {
+        0
+    }
 
     fn from_whole(whole: Whole) -> Option<i64> {
         match whole {
@@ -62,7 +72,9 @@ impl FromWhole for i64 {
 }
 
 impl FromWhole for i128 {
-    const ZERO: i128 = 0;
+    fn zero() -> i128 {
+        0
+    }
 
     fn from_whole(whole: Whole) -> Option<i128> {
         match whole {
@@ -73,7 +85,9 @@ impl FromWhole for i128 {
 }
 
 impl FromWhole for u8 {
-    const ZERO: u8 = 0;
+    fn zero() -> u8 {
+        0
+    }
 
     fn from_whole(whole: Whole) -> Option<u8> {
         match whole {
@@ -84,7 +98,9 @@ impl FromWhole for u8 {
 }
 
 impl FromWhole for u16 {
-    const ZERO: u16 = 0;
+    fn zero() -> u16 {
+        0
+    }
 
     fn from_whole(whole: Whole) -> Option<u16> {
         match whole {
@@ -95,7 +111,9 @@ impl FromWhole for u16 {
 }
 
 impl FromWhole for u32 {
-    const ZERO: u32 = 0;
+    fn zero() -> u32 {
+        0
+    }
 
     fn from_whole(whole: Whole) -> Option<u32> {
         match whole {
@@ -106,7 +124,9 @@ impl FromWhole for u32 {
 }
 
 impl FromWhole for u64 {
-    const ZERO: u64 = 0;
+    fn zero() -> u64 {
+        0
+    }
 
     fn from_whole(whole: Whole) -> Option<u64> {
         match whole {
@@ -117,7 +137,9 @@ impl FromWhole for u64 {
 }
 
 impl FromWhole for u128 {
-    const ZERO: u128 = 0;
+    fn zero() -> u128 {
+        0
+    }
 
     fn from_whole(whole: Whole) -> Option<u128> {
         match whole {

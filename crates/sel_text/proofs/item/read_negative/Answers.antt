@@ -1,4 +1,5 @@
 use Rattle.std.proofs.Common.{arith, ap, sym, ◌∙◌, true≢false}
+use Rattle.sel_arrow.specs.Value.{Number}
 use Rattle.sel_text.specs.Fits.{fits_number}
 use Rattle.sel_text.proofs.Numbers.{digits_told, below_small, below_signed, below_kept}
 use Rattle.sel_text.proofs.item.read_negative.Goals as goal
@@ -23,8 +24,9 @@ pub returns-in-None : goal.returns-in-None
 returns-in-None g c = λ number more fit end is.
     let told = digits_told _ _ _ _ more (below_small _ number fit) c.in-Ok.ensures.parts c.in-Ok.ensures.digits c.in-Ok.ensures.end end is in
     let kept = below_kept _ number c.in-Some.size c.in-Some-checked_sub_unsigned.number fit (c.in-Some.ensures ∙ told.0) c.in-Some-checked_sub_unsigned.ensures.1 in
-    true≢false (sym fit ∙ ap (fits_number g.T.ArrowPrimitive.shape) (sym kept) ∙ c.in-None.ensures)
+    true≢false (sym fit ∙ ap (fits_number g.T.ArrowPrimitive.shape) (sym kept) ∙ c.in-None.ensures.refused)
 
 pub returns-in-Some-from_whole : goal.returns-in-Some-from_whole
 returns-in-Some-from_whole g c = λ number more fit end is.
-    (digits_told _ _ _ _ more (below_small _ number fit) c.in-Ok.ensures.parts c.in-Ok.ensures.digits c.in-Ok.ensures.end end is).1
+    let told = digits_told _ _ _ _ more (below_small _ number fit) c.in-Ok.ensures.parts c.in-Ok.ensures.digits c.in-Ok.ensures.end end is in
+    (ap Number (below_kept _ number c.in-Some.size c.in-Some-checked_sub_unsigned.number fit (c.in-Some.ensures ∙ told.0) c.in-Some-checked_sub_unsigned.ensures.1), told.1)

@@ -1,4 +1,5 @@
 use Rattle.std.proofs.Common.{◌≡◌, pos, arith, ap, sym, ◌∙◌, true≢false}
+use Rattle.sel_arrow.specs.Value.{Number}
 use Rattle.sel_text.specs.Fits.{fits_number}
 use Rattle.sel_text.proofs.Numbers.{digits_told, plain_small}
 use Rattle.sel_text.proofs.item.read_positive.Goals as goal
@@ -13,8 +14,9 @@ pub returns-in-None : goal.returns-in-None
 returns-in-None g c = λ number more fit end is.
     let told = digits_told number _ _ _ more (plain_small _ number fit) c.in-Ok.ensures.parts c.in-Ok.ensures.digits c.in-Ok.ensures.end end is in
     let same : c.in-Some.number ≡ number = c.in-Some.ensures ∙ told.0 in
-    true≢false (sym fit ∙ ap (λ n. fits_number g.T.ArrowPrimitive.shape (pos n)) (sym same) ∙ c.in-None.ensures)
+    true≢false (sym fit ∙ ap (λ n. fits_number g.T.ArrowPrimitive.shape (pos n)) (sym same) ∙ c.in-None.ensures.refused)
 
 pub returns-in-Some-from_whole : goal.returns-in-Some-from_whole
 returns-in-Some-from_whole g c = λ number more fit end is.
-    (digits_told number _ _ _ more (plain_small _ number fit) c.in-Ok.ensures.parts c.in-Ok.ensures.digits c.in-Ok.ensures.end end is).1
+    let told = digits_told number _ _ _ more (plain_small _ number fit) c.in-Ok.ensures.parts c.in-Ok.ensures.digits c.in-Ok.ensures.end end is in
+    (ap (λ n. Number (pos n)) (c.in-Some.ensures ∙ told.0), told.1)

@@ -1,0 +1,175 @@
+-- Parts of tuples, and tuples of them.
+use Rattle.std.proofs.Common.{◌≡◌, ℕ, zero, suc, ◌+◌, ◌-◌, ◌<◌, ◌≤◌, Bool, true, false, ◌&&◌, ◌==◌, List, [], ◌∷◌, ◌++◌, map, length, take, get_or, Option, Some, None, Vec, Global, refl, sym, ap, subst, ◌∙◌, arith, append_assoc, length-append, not}
+use Rattle.std.specs.Prelude.{slice_index_or}
+use Rattle.std.specs.List.{list_all, range_with_len}
+use Rattle.std.proofs.lemmas.Bool.Decides.{nat_tests}
+use Rattle.std.proofs.lemmas.List.{append-nil, get_or-append_right, length-map, length-take, map-append, map_more, take_all}
+use Rattle.std.proofs.lemmas.List.FromFn.{map-range_with_len_more}
+use Rattle.sel_bits.specs.Bits.{Bits}
+use Rattle.sel_bits.specs.declared.faults.Malformed.{Malformed}
+use Rattle.sel_bits.specs.declared.faults.Malformed.TheVariants.{TooManyRows, FieldLength, ValidityLength}
+use Rattle.sel_arrow.specs.DataType.{shape_of}
+use Rattle.sel_arrow.specs.Makers.{struct_fault}
+use Rattle.sel_arrow.specs.Masked.{masked, too_many, validity_differs, Covers}
+use Rattle.sel_arrow.specs.Nested.{tuple_at, tuple_rows}
+use Rattle.sel_arrow.specs.NestedArrays.{tuple_column}
+use Rattle.sel_arrow.specs.Rows.{rows, row_count, type_of}
+use Rattle.sel_arrow.specs.Shape.{Shape, of_struct, shapes_of}
+use Rattle.sel_arrow.specs.Value.{Value, Null, Truth, Number, Bytes, Items, Tuple, Values, no_values, next_value, values_of, listed, is_valid}
+use Rattle.sel_arrow.specs.declared.array_ref.ArrayRef.{ArrayRef}
+use Rattle.sel_arrow.specs.declared.datatype.ArrowDataType.{ArrowDataType}
+use Rattle.sel_arrow.specs.declared.structure.StructArray.{StructArray}
+use Rattle.sel_arrow.proofs.Lists.{both, and_first, and_second}
+use Rattle.sel_arrow.proofs.NestedRows.{length-rows}
+use Rattle.sel_arrow.proofs.Trees.{rows-Struct}
+use Rattle.sel_arrow.proofs.Types.{type_of-Struct}
+use Rattle.sel_text.specs.Below.{parts_below, HasParts}
+use Rattle.sel_text.specs.Fits.{fits, parts_fit}
+use Rattle.sel_text.specs.Limits.{any_past, part_in, past_limit, Shows}
+use Rattle.sel_text.specs.declared.build.Beneath.{Beneath}
+use Rattle.sel_text.proofs.Below.{show_next}
+use Rattle.sel_text.proofs.ItemRows.{values_back}
+use Rattle.sel_text.proofs.Making.{first_of_three, or_first, or_second}
+use Rattle.sel_text.proofs.Refusals.{no_difference}
+
+-- ---- the parts fit their types
+
+part_fits : (shapes : List Shape) (es : Values) (k : ℕ) (s : Shape) → parts_fit (shapes_of shapes) es ≡ true → k < length shapes → s ≡ get_or shapes k s → fits s (slice_index_or (listed es) k Null) ≡ true
+part_fits [] es k s fit below is = absurd (omega arith)
+part_fits (x ∷ xs) no_values k s fit below is = absurd cc
+part_fits (x ∷ xs) (next_value v vs) zero s fit below is = subst (λ t. fits t v ≡ true) (sym is) (and_first (fits x v) (parts_fit (shapes_of xs) vs) fit)
+part_fits (x ∷ xs) (next_value v vs) (suc k) s fit below is = part_fits xs vs k s (and_second (fits x v) (parts_fit (shapes_of xs) vs) fit) (omega arith) is
+
+row_part : (shapes : List Shape) (k : ℕ) (s : Shape) → k < length shapes → s ≡ get_or shapes k s → (row : Value) → fits (of_struct (shapes_of shapes)) row ≡ true → fits s (part_in k row) ≡ true
+row_part shapes k s below is Null fit = refl
+row_part shapes k s below is (Truth t) fit = refl
+row_part shapes k s below is (Number z) fit = refl
+row_part shapes k s below is (Bytes bs) fit = refl
+row_part shapes k s below is (Items es) fit = refl
+row_part shapes k s below is (Tuple es) fit = part_fits shapes es k s fit below is
+
+pub parts_kept : (shapes : List Shape) (k : ℕ) (s : Shape) → k < length shapes → s ≡ get_or shapes k s → (vs : List Value) → list_all (fits (of_struct (shapes_of shapes))) vs ≡ true → list_all (fits s) (map (part_in k) vs) ≡ true
+parts_kept shapes k s below is [] fit = refl
+parts_kept shapes k s below is (v ∷ vs) fit =
+    both (fits s (part_in k v)) (list_all (fits s) (map (part_in k) vs)) (row_part shapes k s below is v (and_first _ _ fit)) (parts_kept shapes k s below is vs (and_second _ _ fit))
+
+-- a limit of a part is one of the tuples
+pub past_at : (b : Beneath) (shapes : List Shape) (place k n : ℕ) (s : Shape) (vs : List Value) → k < length shapes → s ≡ get_or shapes k s → place + k ≡ n → past_limit b s (map (part_in n) vs) ≡ true → any_past b (shapes_of shapes) place vs ≡ true
+past_at b [] place k n s vs below is at past = absurd (omega arith)
+past_at b (x ∷ xs) place zero n s vs below is at past =
+    let here : n ≡ place = omega arith in
+    or_first (past_limit b x (map (part_in place) vs)) (any_past b (shapes_of xs) (place + 1) vs) (subst (λ t. past_limit b t (map (part_in place) vs) ≡ true) is (subst (λ m. past_limit b s (map (part_in m) vs) ≡ true) here past))
+past_at b (x ∷ xs) place (suc k) n s vs below is at past =
+    or_second (past_limit b x (map (part_in place) vs)) (any_past b (shapes_of xs) (place + 1) vs) (past_at b xs (place + 1) k n s vs (omega arith) is (omega arith) past)
+
+-- ---- a tuple is that of its parts
+
+count_parts : (shapes : List Shape) (es : Values) → parts_fit (shapes_of shapes) es ≡ true → length (listed es) ≡ length shapes
+count_parts [] no_values fit = refl
+count_parts [] (next_value v vs) fit = absurd cc
+count_parts (x ∷ xs) no_values fit = absurd cc
+count_parts (x ∷ xs) (next_value v vs) fit = ap suc (count_parts xs vs (and_second (fits x v) (parts_fit (shapes_of xs) vs) fit))
+
+entry_here : (pre rest : List Value) (v : Value) (k : ℕ) → length pre ≡ k → get_or (pre ++ v ∷ rest) k Null ≡ v
+entry_here pre rest v k long =
+    let none : k - length pre ≡ 0 = omega arith in
+    get_or-append_right pre (v ∷ rest) (length pre) k Null refl (omega arith) ∙ ap (λ n. get_or (v ∷ rest) n Null) none
+
+entries_from : (all left pre : List Value) (k : ℕ) → all ≡ pre ++ left → length pre ≡ k → map (λ i. slice_index_or all i Null) (range_with_len k (length left)) ≡ left
+entries_from all [] pre k is long = refl
+entries_from all (v ∷ left) pre k is long =
+    let here : get_or all k Null ≡ v = ap (λ l. get_or l k Null) is ∙ entry_here pre left v k long in
+    let longer : length (pre ++ v ∷ []) ≡ k + 1 = length-append pre (v ∷ []) ∙ ap (λ n. n + 1) long in
+    ap (λ x. x ∷ map (λ i. slice_index_or all i Null) (range_with_len (k + 1) (length left))) here
+    ∙ ap (λ l. v ∷ l) (entries_from all left (pre ++ v ∷ []) (k + 1) (is ∙ sym (append_assoc pre (v ∷ []) left)) longer)
+
+tuple_of_parts : (shapes : List Shape) (row : Value) → fits (of_struct (shapes_of shapes)) row ≡ true → is_valid row ≡ true → row ≡ Tuple (values_of (map (λ place. part_in place row) (range_with_len 0 (length shapes))))
+tuple_of_parts shapes Null fit valid = absurd cc
+tuple_of_parts shapes (Truth t) fit valid = absurd cc
+tuple_of_parts shapes (Number z) fit valid = absurd cc
+tuple_of_parts shapes (Bytes bs) fit valid = absurd cc
+tuple_of_parts shapes (Items es) fit valid = absurd cc
+tuple_of_parts shapes (Tuple es) fit valid =
+    let entries = ap (λ n. map (λ place. slice_index_or (listed es) place Null) (range_with_len 0 n)) (sym (count_parts shapes es fit)) ∙ entries_from (listed es) (listed es) [] 0 refl refl in
+    ap Tuple (sym (values_back es)) ∙ ap (λ l. Tuple (values_of l)) (sym entries)
+
+part_here : (vs : List Value) (k place : ℕ) → slice_index_or (map (part_in place) vs) k Null ≡ part_in place (slice_index_or vs k Null)
+part_here [] k place = refl
+part_here (v ∷ vs) zero place = refl
+part_here (v ∷ vs) (suc k) place = part_here vs k place
+
+row_parts : (vs : List Value) (k : ℕ) (row : Value) → get_or vs k Null ≡ row → (places : List ℕ) → map (λ field. slice_index_or field k Null) (map (λ place. map (part_in place) vs) places) ≡ map (λ place. part_in place row) places
+row_parts vs k row is [] = refl
+row_parts vs k row is (place ∷ places) =
+    ap (λ x. x ∷ map (λ field. slice_index_or field k Null) (map (λ p. map (part_in p) vs) places)) (part_here vs k place ∙ ap (part_in place) is) ∙ ap (λ l. part_in place row ∷ l) (row_parts vs k row is places)
+
+tuples_from : (shapes : List Shape) (all left pre : List Value) (k : ℕ) → list_all (fits (of_struct (shapes_of shapes))) left ≡ true → all ≡ pre ++ left → length pre ≡ k →
+    Shows left (map (tuple_at (parts_below (length shapes) all)) (range_with_len k (length left)))
+tuples_from shapes all [] pre k fit is long = tt
+tuples_from shapes all (row ∷ left) pre k fit is long =
+    let here : get_or all k Null ≡ row = ap (λ l. get_or l k Null) is ∙ entry_here pre left row k long in
+    let longer : length (pre ++ row ∷ []) ≡ k + 1 = length-append pre (row ∷ []) ∙ ap (λ n. n + 1) long in
+    let parts = row_parts all k row here (range_with_len 0 (length shapes)) in
+    show_next row (tuple_at (parts_below (length shapes) all) k) left (map (tuple_at (parts_below (length shapes) all)) (range_with_len (k + 1) (length left)))
+    (λ valid. tuple_of_parts shapes row (and_first _ _ fit) valid ∙ ap (λ l. Tuple (values_of l)) (sym parts))
+    (tuples_from shapes all left (pre ++ row ∷ []) (k + 1) (and_second _ _ fit) (is ∙ sym (append_assoc pre (row ∷ []) left)) longer)
+
+tuples_show : (shapes : List Shape) (vs : List Value) → list_all (fits (of_struct (shapes_of shapes))) vs ≡ true → Shows vs (map (tuple_at (parts_below (length shapes) vs)) (range_with_len 0 (length vs)))
+tuples_show shapes vs fit = tuples_from shapes vs vs [] 0 fit refl refl
+
+-- ---- field by field
+
+pub parts_more : (new mid old : List ArrayRef) (field : ArrayRef) (dtypes : List ArrowDataType) (dtype : ArrowDataType) (k : ℕ) (vs : List Value) → HasParts mid old (map shape_of (take k dtypes)) vs → k < length dtypes → dtype ≡ get_or dtypes k dtype →
+    new ≡ mid ++ field ∷ [] → type_of field.column ≡ shape_of dtype → rows field.column ≡ map (part_in k) vs → HasParts new old (map shape_of (take (k + 1) dtypes)) vs
+parts_more new mid old field dtypes dtype k vs has below is put typed made =
+    let count : length (map shape_of (take k dtypes)) ≡ k = rw (length-map, length-take) (omega arith) in
+    let more : length (map shape_of (take (k + 1) dtypes)) ≡ k + 1 = rw (length-map, length-take) (omega arith) in
+    let last = map-range_with_len_more (λ place. map (part_in place) vs) 0 k k (omega arith) in
+    record {
+      types = ap (map (λ f. type_of f.column)) put ∙ map-append (λ f. type_of f.column) mid (field ∷ []) ∙ ap (λ l. l ++ type_of field.column ∷ []) has.types
+          ∙ ap (λ t. (map (λ f. type_of f.column) old ++ map shape_of (take k dtypes)) ++ t ∷ []) (typed ∙ ap shape_of is)
+          ∙ append_assoc (map (λ f. type_of f.column) old) (map shape_of (take k dtypes)) (shape_of (get_or dtypes k dtype) ∷ [])
+          ∙ ap (λ l. map (λ f. type_of f.column) old ++ l) (sym (map_more shape_of dtypes k dtype below));
+      parts = ap (map (λ f. rows f.column)) put ∙ map-append (λ f. rows f.column) mid (field ∷ []) ∙ ap (λ l. l ++ rows field.column ∷ []) has.parts
+          ∙ ap (λ r. (map (λ f. rows f.column) old ++ parts_below (length (map shape_of (take k dtypes))) vs) ++ r ∷ []) made
+          ∙ ap (λ n. (map (λ f. rows f.column) old ++ parts_below n vs) ++ map (part_in k) vs ∷ []) count
+          ∙ append_assoc (map (λ f. rows f.column) old) (parts_below k vs) (map (part_in k) vs ∷ [])
+          ∙ ap (λ l. map (λ f. rows f.column) old ++ l) (sym last) ∙ ap (λ n. map (λ f. rows f.column) old ++ parts_below n vs) (sym more);
+    }
+
+-- ---- the column of the fields
+
+columns_of : {A : Type 0} (f : _ → A) (refs : List ArrayRef) → map f (map (λ field. field.column) refs) ≡ map (λ field. f field.column) refs
+columns_of f [] = refl
+columns_of f (r ∷ refs) = ap (λ l. f r.column ∷ l) (columns_of f refs)
+
+pub tuples_made : (shapes : List Shape) (vs : List Value) (refs old : List ArrayRef) (array : StructArray) (validity : Option Bits) → list_all (fits (of_struct (shapes_of shapes))) vs ≡ true → HasParts refs old shapes vs → old ≡ [] →
+    array.len ≡ length vs → array.fields.items ≡ map (λ field. field.column) refs → array.validity ≡ validity → ((plain : List Value) → Shows vs plain → masked validity plain ≡ vs) →
+    (type_of (tuple_column array) ≡ of_struct (shapes_of shapes)) × (rows (tuple_column array) ≡ vs)
+tuples_made shapes vs refs old array validity fit has none len fields valid hides =
+    let types = ap (map type_of) fields ∙ columns_of type_of refs ∙ has.types ∙ ap (λ l. map (λ field. type_of field.column) l ++ shapes) none in
+    let parts = ap (map rows) fields ∙ columns_of rows refs ∙ has.parts ∙ ap (λ l. map (λ field. rows field.column) l ++ parts_below (length shapes) vs) none in (
+      type_of-Struct array.len array.fields array.validity ∙ ap (λ l. of_struct (shapes_of l)) types,
+      rows-Struct array.len array.fields array.validity ∙ ap (λ l. tuple_rows array.len l array.validity) parts ∙ ap (λ n. tuple_rows n (parts_below (length shapes) vs) array.validity) len
+          ∙ ap (λ v. tuple_rows (length vs) (parts_below (length shapes) vs) v) valid ∙ hides (map (tuple_at (parts_below (length shapes) vs)) (range_with_len 0 (length vs))) (tuples_show shapes vs fit),
+    )
+
+fields_count : (vs : List Value) (refs : List ArrayRef) (places : List ℕ) → map (λ field. rows field.column) refs ≡ map (λ place. map (part_in place) vs) places → list_all (λ n. n == length vs) (map (λ field. row_count field.column) refs) ≡ true
+fields_count vs [] places e = refl
+fields_count vs (r ∷ refs) [] e = absurd cc
+fields_count vs (r ∷ refs) (place ∷ places) e =
+    let first : rows r.column ≡ map (part_in place) vs = cc in
+    let others : map (λ field. rows field.column) refs ≡ map (λ p. map (part_in p) vs) places = cc in
+    let count : row_count r.column ≡ length vs = sym (length-rows r.column) ∙ ap length first ∙ length-map vs (part_in place) in
+    let same : (row_count r.column == length vs) ≡ true = grind (arith, nat_tests) in
+    both (row_count r.column == length vs) (list_all (λ n. n == length vs) (map (λ field. row_count field.column) refs)) same (fields_count vs refs places others)
+
+-- only too many rows are refused
+pub tuples_past : (shapes : List Shape) (vs : List Value) (refs old : List ArrayRef) (n : ℕ) (validity : Option Bits) (m : Malformed) → HasParts refs old shapes vs → old ≡ [] → n ≡ length vs → Covers validity (length vs) →
+    struct_fault n (map (λ field. row_count field.column) refs) validity ≡ Some m → too_many (length vs) ≡ true
+tuples_past shapes vs refs old n validity m has none same covers is =
+    let parts = has.parts ∙ ap (λ l. map (λ field. rows field.column) l ++ parts_below (length shapes) vs) none in
+    let counts = fields_count vs refs (range_with_len 0 (length shapes)) parts in
+    let rows_fit : list_all (λ k. k == n) (map (λ field. row_count field.column) refs) ≡ true = ap (λ l. list_all (λ k. k == l) (map (λ field. row_count field.column) refs)) same ∙ counts in
+    let kept : validity_differs validity n ≡ false = ap (validity_differs validity) same ∙ no_difference validity (length vs) covers in
+    sym (ap too_many same) ∙ first_of_three (too_many n) (not (list_all (λ k. k == n) (map (λ field. row_count field.column) refs))) (validity_differs validity n) TooManyRows FieldLength ValidityLength m (ap not rows_fit) kept is

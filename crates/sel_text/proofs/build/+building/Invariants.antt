@@ -1,0 +1,13 @@
+-- The fields so far.
+use Rattle.std.proofs.Common.{◌≡◌, map, take, true}
+use Rattle.std.specs.List.{list_all}
+use Rattle.sel_arrow.specs.DataType.{shape_of}
+use Rattle.sel_arrow.specs.Shape.{of_struct, shapes_of}
+use Rattle.sel_text.specs.Below.{HasParts}
+use Rattle.sel_text.specs.Fits.{fits}
+use Rattle.sel_text.specs.ItemValues.{rows_read}
+use Rattle.sel_text.proofs.build.+building.Given as goal
+
+abbrev pub invariant-push_fields-loop-k : goal.invariant-push_fields-loop-k
+invariant-push_fields-loop-k l =
+    list_all (fits (of_struct (shapes_of (map shape_of l.dtypes)))) (rows_read l.items) ≡ true → HasParts l.fields.items l.fn.fields.items (map shape_of (take l.k l.dtypes)) (rows_read l.items)

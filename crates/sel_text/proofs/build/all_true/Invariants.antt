@@ -1,0 +1,7 @@
+-- Those so far are true.
+use Rattle.std.proofs.Common.{◌≡◌, true, take}
+use Rattle.std.specs.List.{list_all}
+use Rattle.sel_text.proofs.build.all_true.Given as goal
+
+abbrev pub invariant-loop-bit : goal.invariant-loop-bit
+invariant-loop-bit l = list_all (λ bit. bit) (take l.bit-index l.bits) ≡ true

@@ -1,0 +1,10 @@
+-- The entries so far.
+use Rattle.std.proofs.Common.{◌≡◌, take}
+use Rattle.std.specs.List.{flat_map}
+use Rattle.sel_arrow.specs.Value.{Null}
+use Rattle.sel_text.specs.ItemValues.{item_value, rows_read}
+use Rattle.sel_text.specs.Limits.{block_in}
+use Rattle.sel_text.proofs.build.entries_of.Given as goal
+
+abbrev pub invariant-loop-item : goal.invariant-loop-item
+invariant-loop-item l = item_value l.null ≡ Null → rows_read l.entries.items ≡ flat_map (block_in l.size) (rows_read (take l.item-index l.items))
