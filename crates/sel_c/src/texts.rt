@@ -66,13 +66,13 @@ pub extern "C" fn sel_print(alloc: Global, of: &mut Handle, out: &mut [u8], len:
     status
 }
 
-/// Makes the column of the type that `dtype` names, as in `struct<list<i8>,fixed<2,utf8>>`, with the rows that `text` is of:
-/// both as `sel_print` and the documents write them, spelled as they are printed, in UTF-8, with any spaces between their
-/// parts. The types are null, bool, i8 to i128, u8 to u128, binary (between offsets), binview (by views), utf8, list<..>,
-/// fixed<n,..> and struct<..>. SEL_TYPE_SYNTAX: `dtype` names no type; SEL_TEXT_SYNTAX: `text` is none of rows;
-/// SEL_TEXT_MISFIT: a row does not fit the type. With these three `at` is the place from which on it is so, counted in
-/// bytes from 0, or the length of that text where it ends too soon; else `at` stays. SEL_TEXT_LIMIT: the column would pass
-/// a limit, or the type has more than 64 levels of children.
+/// Makes the column of the type that `dtype` names, as in `struct<list<i8>,fixed<2,utf8>>`, with the rows of `text`, which
+/// is written as by `sel_print`; both are UTF-8, and spaces between their parts are passed over. Types are null, bool, i8
+/// to i128, u8 to u128, binary (bytes between offsets), binview and utf8 (by views), list<..>, fixed<n,..> and struct<..>.
+/// SEL_TYPE_SYNTAX: `dtype` names no type; SEL_TEXT_SYNTAX: `text` is none of rows; SEL_TEXT_MISFIT: a row does not fit the
+/// type. With these three, `at` is the place of the first byte at which that text goes wrong, counted from 0, or its length
+/// where it ends too soon; with any other number `at` stays. SEL_TEXT_LIMIT: the column would pass a limit, or the type has
+/// more than 64 levels of children.
 #[unsafe(no_mangle)]
 pub extern "C" fn sel_parse(
     alloc: Global,
