@@ -86,6 +86,8 @@ pub extern "C" fn sel_parse(
     ensures rows { Makes result out.old.tree out.new.tree
         (λ made. text_of (type_of made.column) (rows made.column) ≡ spaceless text.now) }
     ensures named { result ≡ type_syntax → (shape : Shape) → IsTypeText shape dtype.now → ⊥ }
+    ensures typed { IsOneOf result (text_syntax ∷ text_misfit ∷ []) →
+        (shape : Shape) × (type_text shape ≡ spaceless dtype.now) }
     ensures accepted { (shape : Shape) (values : List Value) →
         IsTypeText shape dtype.now → IsRowsText shape values text.now →
         IsOneOf result (done ∷ no_memory ∷ text_limit ∷ []) }

@@ -58,6 +58,8 @@ pub fn parse_into(alloc: Global, name: &[u8], text: &[u8], at: &mut usize, out: 
     ensures rows { Makes result out.old.tree out.new.tree
         (λ made. text_of (type_of made.column) (rows made.column) ≡ spaceless text.now) }
     ensures named { result ≡ type_syntax → (shape : Shape) → IsTypeText shape name.now → ⊥ }
+    ensures typed { IsOneOf result (text_syntax ∷ text_misfit ∷ []) →
+        (shape : Shape) × (type_text shape ≡ spaceless name.now) }
     ensures accepted { (shape : Shape) (values : List Value) →
         IsTypeText shape name.now → IsRowsText shape values text.now →
         IsOneOf result (done ∷ no_memory ∷ text_limit ∷ []) }
