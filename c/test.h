@@ -30,5 +30,7 @@ void test_collected_rows(void);
 void test_dictionaries(void);
 void test_equal_rows(void);
 void test_prints(void);
+void test_parses(void);
+void test_misread_texts(void);
 
 #endif

@@ -1,4 +1,4 @@
-/* Calls on several columns: choices, flatten, rows that are picked, dictionaries, and rows compared and printed. */
+/* Calls on several columns: choices, flatten, rows that are picked, dictionaries, and rows compared, printed and read. */
 
 #include "test.h"
 
@@ -272,4 +272,91 @@ void test_prints(void) {
         IS(done(status) && (status != SEL_DONE || memcmp(room, "[1,null,-3]", 11) == 0));
     }
     sel_free(&column);
+}
+
+/* ---- columns read from texts ---- */
+
+static uint32_t parse(const char *dtype, const char *text, size_t *at, sel_column *out) {
+    return sel_parse((const uint8_t *)dtype, strlen(dtype), (const uint8_t *)text, strlen(text), at, out);
+}
+
+/* The texts name the column that was made, which is freed, and the rows are printed as told. */
+static void reads(const char *dtype, const char *text, const char *printed, sel_column *made, int line) {
+    size_t at = 77;
+    bool equal = false;
+    sel_column out = {0};
+    uint32_t status = parse(dtype, text, &at, &out);
+    is(done(status) && at == 77 && (out.at == NULL) == (status != SEL_DONE), dtype, line);
+    if (status == SEL_DONE && made->at != NULL) {
+        is(sel_equal_rows(&out, made, &equal) == SEL_DONE && equal, text, line);
+        is(sel_kind(&out) == sel_kind(made) && prints(&out, printed), printed, line);
+    }
+    sel_free(&out);
+    sel_free(made);
+}
+
+#define READS(dtype, text, printed, made) reads((dtype), (text), (printed), (made), __LINE__)
+
+void test_parses(void) {
+    const int64_t values[4] = {1, 2, -3, 4}, offsets[4] = {0, 2, 2, 2};
+    const char *const words[2] = {"ada", "a, b] c"};
+    const uint8_t outer[1] = {5}, first[1] = {1};
+    sel_column made = numbers(values, 3, 5), below[2] = {{0}, {0}};
+    READS("i64", " [1, null ,-3] ", "[1,null,-3]", &made);
+    made = numbers(values, 0, 0);
+    READS(" i64 ", "[ ]", "[]", &made);
+    made = truths(1, 3, 5);
+    READS("bool", "[true,null,false]", "[true,null,false]", &made);
+    below[0] = texts(words, 2, 3);
+    DONE(below[0].at == NULL ? SEL_NO_MEMORY : sel_list_new(offsets, 4, outer, 1, true, &below[0], &made));
+    READS("list< utf8 >", "[[\"ada\", \"a, b] c\"], null, []]", "[[\"ada\",\"a, b] c\"],null,[]]", &made);
+    free_all(below, 1);
+    below[0] = numbers(values, 4, 11);
+    DONE(below[0].at == NULL ? SEL_NO_MEMORY : sel_fixed_list_new(2, 2, first, 1, true, &below[0], &made));
+    READS("fixed<2,i64>", "[[1,2],null]", "[[1,2],null]", &made);
+    free_all(below, 1);
+    below[0] = numbers(values, 2, 3), below[1] = truths(1, 2, 3);
+    if (all_made(below, 2)) {
+        DONE(sel_struct_new(2, first, 1, true, below, 2, &made));
+    }
+    READS("struct<i64, bool>", "[(1, true), null]", "[(1,true),null]", &made);
+    free_all(below, 2);
+}
+
+/* The call tells the number, and the place where it tells one, and the column of `out` stays. */
+static void misreads(uint32_t status, const char *dtype, const char *text, size_t place, sel_column *out, int line) {
+    size_t at = 77;
+    const void *const before = out->at;
+    uint32_t answer = parse(dtype, text, &at, out);
+    is(answer == status || (refused && answer == SEL_NO_MEMORY), text, line);
+    is(at == (answer == status ? place : 77), dtype, line);
+    is(out->at == before && prints(out, "[1,2]"), "the column stays", line);
+}
+
+#define MISREADS(status, dtype, text, place) misreads((status), (dtype), (text), (place), &out, __LINE__)
+
+void test_misread_texts(void) {
+    const int64_t values[2] = {1, 2};
+    char deep[65 * 6 + 3] = "";
+    sel_column out = numbers(values, 2, 3);
+    for (size_t i = 0; i < 65; i += 1) {
+        memcpy(deep + 5 * i, "list<", 5);
+        deep[65 * 5 + 2 + i] = '>';
+    }
+    memcpy(deep + 65 * 5, "i8", 2);
+    MISREADS(SEL_TYPE_SYNTAX, "", "[]", 0);
+    MISREADS(SEL_TYPE_SYNTAX, "i7", "[]", 0);
+    MISREADS(SEL_TYPE_SYNTAX, "list< float >", "[]", 6);
+    MISREADS(SEL_TYPE_SYNTAX, "list<i8", "[]", 7);
+    MISREADS(SEL_TYPE_SYNTAX, "i8\xFF", "[]", 2);
+    MISREADS(SEL_TEXT_SYNTAX, "i8", "", 0);
+    MISREADS(SEL_TEXT_SYNTAX, "i8", "[1, ]", 4);
+    MISREADS(SEL_TEXT_SYNTAX, "i8", "[1] 2", 4);
+    MISREADS(SEL_TEXT_SYNTAX, "utf8", "[\"a\xFF\"]", 3);
+    MISREADS(SEL_TEXT_MISFIT, "i8", "[0, 128]", 4);
+    MISREADS(SEL_TEXT_MISFIT, "list<bool>", "[[true], 2]", 9);
+    MISREADS(SEL_TEXT_LIMIT, deep, "[]", 77);
+    MISREADS(SEL_TEXT_LIMIT, "fixed<4294967296,i8>", "[]", 77);
+    MISREADS(SEL_TEXT_LIMIT, "fixed<18446744073709551616,i8>", "[]", 77);
+    sel_free(&out);
 }

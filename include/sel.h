@@ -111,7 +111,15 @@ enum sel_status {
     /* A view's prefix is not the first four bytes that it names. */
     SEL_VIEW_PREFIX = 27,
     /* A valid row of a column of texts is not UTF-8. */
-    SEL_UTF8 = 28
+    SEL_UTF8 = 28,
+    /* From a place on, a text names no type. */
+    SEL_TYPE_SYNTAX = 32,
+    /* From a place on, a text is none of rows. */
+    SEL_TEXT_SYNTAX = 33,
+    /* What begins at a place in a text does not fit the type. */
+    SEL_TEXT_MISFIT = 34,
+    /* A text names a column past a limit, or a type nested more deeply than 64 levels. */
+    SEL_TEXT_LIMIT = 35
 };
 
 /* The kinds of columns. */
@@ -588,7 +596,7 @@ uint32_t sel_collect_rows(
  * `values` not of texts; SEL_OUT_OF_BOUNDS: a key that is not null names no value. */
 uint32_t sel_propagate_dictionary(sel_column *keys, sel_column *values, sel_column *out_keys, sel_column *out_values);
 
-/* ---- Rows compared, and as a text. ---- */
+/* ---- Rows compared, as a text, and read from one. ---- */
 
 /* Writes whether the two columns have the same rows. The values decide and not the types: 1 is the same number in
  * columns of any numbers, and what lies beneath a null is not looked at. It takes no memory. SEL_NO_COLUMN: `of` or
@@ -599,6 +607,21 @@ uint32_t sel_equal_rows(sel_column *of, sel_column *other, bool *equal);
  * for, and into `len` how many it has. Texts stand between quotes as in JSON, bytes as in `h"00ff"`, lists between
  * brackets, tuples between parentheses. SEL_NO_COLUMN: there is no column. */
 uint32_t sel_print(sel_column *of, uint8_t *out, size_t out_len, size_t *len);
+
+/* Makes the column of the type that `dtype` names, as in `struct<list<i8>,fixed<2,utf8>>`, with the rows of `text`,
+ * which is written as by `sel_print`; both are UTF-8, and spaces between their parts are passed over. Types are
+ * null, bool, i8 to i128, u8 to u128, binary (bytes between offsets), binview and utf8 (by views), list<..>,
+ * fixed<n,..> and struct<..>. SEL_TYPE_SYNTAX: `dtype` names no type; SEL_TEXT_SYNTAX: `text` is none of rows;
+ * SEL_TEXT_MISFIT: a row does not fit the type. With these three, `at` is the place of the first byte at which that
+ * text goes wrong, counted from 0, or its length where it ends too soon; with any other number `at` stays.
+ * SEL_TEXT_LIMIT: the column would pass a limit, or the type has more than 64 levels of children. */
+uint32_t sel_parse(
+    const uint8_t *dtype,
+    size_t dtype_len,
+    const uint8_t *text,
+    size_t text_len,
+    size_t *at,
+    sel_column *out);
 
 /* ---- The children of lists and the fields of tuples, which share buffers with their column. ---- */
 

@@ -7,11 +7,11 @@ Column(i64, [31,null,45])
 """
 
 from ._column import Column, choose, collect_rows, flatten, propagate_dictionary
-from ._errors import BrokenRule, LimitPassed, OutOfBounds, OutOfMemory, SelError, WrongArgument
+from ._errors import BrokenRule, BrokenText, LimitPassed, OutOfBounds, OutOfMemory, SelError, WrongArgument
 from ._types import Type, parse_type
 
 __all__ = [
-    "BrokenRule", "Column", "LimitPassed", "OutOfBounds", "OutOfMemory", "SelError", "Type", "WrongArgument",
+    "BrokenRule", "BrokenText", "Column", "LimitPassed", "OutOfBounds", "OutOfMemory", "SelError", "Type", "WrongArgument",
     "choose", "collect_rows", "flatten", "parse_type", "propagate_dictionary",
 ]
 __version__ = "0.2.0"

@@ -8,8 +8,8 @@ from collections.abc import Iterable, Iterator, Sequence
 from ctypes import addressof, byref, c_bool, c_size_t, c_uint8, create_string_buffer
 from typing import TYPE_CHECKING, Any
 
-from ._errors import OutOfBounds
-from ._library import Handle, Pick, Slice, View, Wide, call, lib
+from ._errors import BrokenText, OutOfBounds, error_of
+from ._library import Handle, Pick, Slice, View, Wide, call, lib, status_of
 from ._types import KINDS, NUMBERS, Type, parse_type, type_of_values
 
 if TYPE_CHECKING:
@@ -65,6 +65,23 @@ class Column:
         """The column of Python values, `None` for null: of the type, or else of the one that the values tell."""
         wanted = type_of_values(values) if type is None else parse_type(type) if isinstance(type, str) else type
         return _MAKERS.get(wanted.kind, _make_numbers)(values, wanted)
+
+    @staticmethod
+    def parse(type: str | Type, rows: str) -> Column:
+        """The column of a type with the rows of a text, both as `str` prints them, with spaces between their parts or without.
+
+        >>> Column.parse("list<utf8>", '[["Ada", "Grace"], null]')
+        Column(list<utf8>, [["Ada","Grace"],null])
+        """
+        column, place = Column(), c_size_t()
+        name, text = str(type).encode(), rows.encode()
+        status = lib.sel_parse(name, len(name), text, len(text), byref(place), byref(column._handle))
+        if status in (32, 33, 34):
+            before = (name if status == 32 else text)[: place.value]
+            raise BrokenText(status, status_of(status), len(before.decode(errors="ignore")))
+        if status != 0:
+            raise error_of(status, status_of(status))
+        return column
 
     @staticmethod
     def from_numpy(values: numpy.ndarray[Any, Any], valid: Sequence[bool] | numpy.ndarray[Any, Any] | None = None) -> Column:

@@ -2,7 +2,7 @@
 
 from __future__ import annotations
 
-__all__ = ["BrokenRule", "LimitPassed", "OutOfBounds", "OutOfMemory", "SelError", "WrongArgument"]
+__all__ = ["BrokenRule", "BrokenText", "LimitPassed", "OutOfBounds", "OutOfMemory", "SelError", "WrongArgument"]
 
 
 class SelError(Exception):
@@ -34,6 +34,17 @@ class BrokenRule(SelError, ValueError):
     """Parts that are no column, or an array that is none here."""
 
 
+class BrokenText(SelError, ValueError):
+    """A text that names no type, is none of rows, or has a row that does not fit the type.
+
+    `place` is the index of the character from which on it is so, the text's length where it ends too soon.
+    """
+
+    def __init__(self, status: int, text: str, place: int) -> None:
+        super().__init__(status, f"{text}, from place {place} on")
+        self.place = place
+
+
 def error_of(status: int, text: str) -> SelError:
     """The exception of a status that is not `SEL_DONE`."""
     if status == 1:
@@ -42,6 +53,6 @@ def error_of(status: int, text: str) -> SelError:
         return WrongArgument(status, text)
     if status in (6, 7):
         return OutOfBounds(status, text)
-    if 8 <= status <= 11:
+    if 8 <= status <= 11 or status == 35:
         return LimitPassed(status, text)
     return BrokenRule(status, text)

@@ -50,6 +50,38 @@ class Columns(unittest.TestCase):
             self.assertEqual(again.type, wanted)
             self.assertTrue(again.equals(part))
 
+    def test_random_columns_through_texts(self) -> None:
+        rng = random.Random(10)
+        for _ in range(CASES):
+            wanted = model.random_type(rng, 3)
+            rows = model.random_rows(rng, wanted, rng.randrange(12))
+            column = model.laid_out(rng, rows, wanted)
+            again = Column.parse(wanted, str(column))
+            self.assertEqual(again.to_pylist(), rows)
+            self.assertEqual(again.type, wanted)
+            self.assertTrue(again.equals(column))
+            self.assertEqual(str(again), str(column))
+
+    def test_parsed(self) -> None:
+        self.assertEqual(Column.parse(" struct< list<i8> , utf8 > ", ' [ ([1, null], "a b"), null ] ').to_pylist(), [([1, None], "a b"), None])
+        self.assertEqual(Column.parse("struct<>", "[(), null]").to_pylist(), [(), None])
+        self.assertEqual(Column.parse(Type("fixed", (Type("bool"),), 2), "[[true, null]]").to_pylist(), [[True, None]])
+        self.assertEqual(Column.parse("binary", '[h"", null, h"610062"]').to_pylist(), [b"", None, b"a\0b"])
+
+    def test_texts_that_are_none(self) -> None:
+        for status, wanted, text, place in (
+            (32, "", "[]", 0), (32, "list<i7>", "[]", 5), (32, "list<i8", "[]", 7), (32, "\u00e9", "[]", 0),
+            (33, "i8", "[1", 2), (33, "i8", "[1, ]", 4), (33, "utf8", '["\u00e9";]', 4), (33, "struct<i8,bool>", "[(1)]", 3),
+            (34, "i8", "[0, 128]", 4), (34, "list<utf8>", '[["\u00e9\u00e9"], 2]', 9), (34, "null", "[0]", 1),
+        ):
+            with self.assertRaises(sel.BrokenText, msg=text) as caught:
+                Column.parse(wanted, text)
+            self.assertEqual((caught.exception.status, caught.exception.place), (status, place), (wanted, text))
+            self.assertIn(f"from place {place} on", str(caught.exception))
+        for wanted in ("list<" * 65 + "i8" + ">" * 65, "fixed<4294967296,i8>"):
+            with self.assertRaises(sel.LimitPassed):
+                Column.parse(wanted, "[]")
+
     def test_shown(self) -> None:
         self.assertEqual(repr(Column.from_pylist([1, None])), "Column(i64, [1,null])")
         self.assertEqual(repr(Column.from_pylist(list(range(13)), "u8")), "Column(u8, [0,1,2,3,4,5,6,7,8,9,10,11, ... 1 more])")

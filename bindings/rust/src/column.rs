@@ -123,6 +123,32 @@ impl Column {
         })
     }
 
+    /// The column of a type with the rows of a text, both as they are printed, with spaces between their parts or without.
+    ///
+    /// ```
+    /// use sel::{Column, Error, Kind};
+    /// # fn main() -> Result<(), Error> {
+    /// let names = Column::parse("list<utf8>", r#"[["Ada", "Grace"], null, []]"#)?;
+    /// assert_eq!((names.kind(), names.len(), names.null_count()), (Kind::LargeList, 3, 1));
+    /// assert_eq!(names.to_text()?, r#"[["Ada","Grace"],null,[]]"#);
+    /// assert_eq!(Column::parse("i64", "[1, null, -3]")?.to_options::<i64>()?, [Some(1), None, Some(-3)]);
+    ///
+    /// let fault = Column::parse("i8", "[1, 300]").unwrap_err();
+    /// assert_eq!(fault, Error::Text { status: 34, at: 4 });
+    /// assert_eq!(fault.to_string(), "a row in a text does not fit the type, from byte 4 on");
+    /// assert_eq!(Column::parse("list<i7>", "[]").unwrap_err(), Error::Text { status: 32, at: 5 });
+    /// assert_eq!(Column::parse("i8", "[1").unwrap_err(), Error::Text { status: 33, at: 2 });
+    /// assert_eq!(Column::parse("fixed<4294967296,i8>", "[]").unwrap_err(), Error::Limit(35));
+    /// # Ok(())
+    /// # }
+    /// ```
+    pub fn parse(dtype: &str, rows: &str) -> Result<Column, Error> {
+        let (column, mut at) = (Column::empty(), 0);
+        // SAFETY: the texts are as many bytes as are told, and the handle is empty.
+        let status = unsafe { raw::sel_parse(dtype.as_ptr(), dtype.len(), rows.as_ptr(), rows.len(), &mut at, column.at()) };
+        if status == 0 { Ok(column) } else { Err(Error::of_text(status, at)) }
+    }
+
     /// How many rows there are.
     pub fn len(&self) -> usize {
         // SAFETY: the handle is ours, and the call leaves it as it was.

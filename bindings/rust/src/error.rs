@@ -17,6 +17,14 @@ pub enum Error {
     Limit(u32),
     /// The parts of a column break a rule.
     Malformed(u32),
+    /// A text names no type (status 32), is none of rows (33) or has a row that does not fit the type (34): from the byte
+    /// `at` on, which is the text's length where it ends too soon.
+    Text {
+        /// The library's number for it.
+        status: u32,
+        /// The place, counted in bytes from 0.
+        at: usize,
+    },
 }
 
 impl Error {
@@ -25,8 +33,16 @@ impl Error {
             1 => Error::OutOfMemory,
             2..=5 => Error::WrongArgument(status),
             6 | 7 => Error::OutOfBounds(status),
-            8..=11 => Error::Limit(status),
+            8..=11 | 35 => Error::Limit(status),
             _ => Error::Malformed(status),
+        }
+    }
+
+    /// The same of a call that reads texts, which tells a place with some of its numbers.
+    pub(crate) fn of_text(status: u32, at: usize) -> Error {
+        match status {
+            32..=34 => Error::Text { status, at },
+            _ => Error::of(status),
         }
     }
 
@@ -35,6 +51,7 @@ impl Error {
         match self {
             Error::OutOfMemory => 1,
             Error::WrongArgument(status) | Error::OutOfBounds(status) | Error::Limit(status) | Error::Malformed(status) => status,
+            Error::Text { status, .. } => status,
         }
     }
 }
@@ -44,7 +61,11 @@ impl fmt::Display for Error {
         let mut text = [0u8; 128];
         // SAFETY: the pointer is valid for the length that is given.
         let len = unsafe { raw::sel_arrow_text(self.status(), text.as_mut_ptr(), text.len()) };
-        f.write_str(&String::from_utf8_lossy(&text[..len.min(text.len())]))
+        f.write_str(&String::from_utf8_lossy(&text[..len.min(text.len())]))?;
+        match self {
+            Error::Text { at, .. } => write!(f, ", from byte {at} on"),
+            _ => Ok(()),
+        }
     }
 }
 

@@ -91,5 +91,6 @@ calls! {
     fn sel_share(of: *mut Handle, out: *mut Handle) -> u32;
     fn sel_equal_rows(of: *mut Handle, other: *mut Handle, equal: *mut bool) -> u32;
     fn sel_print(of: *mut Handle, out: *mut u8, out_len: usize, len: *mut usize) -> u32;
+    fn sel_parse(dtype: *const u8, dtype_len: usize, text: *const u8, text_len: usize, at: *mut usize, out: *mut Handle) -> u32;
     fn sel_free(of: *mut Handle);
 }

@@ -1,11 +1,17 @@
-//! Rows compared, and as a text.
+//! Rows compared, as a text, and read from one.
 
-ghost use Rattle.std.specs.Prelude.{◌≡◌, ◌↔◌, [], ◌∷◌, length, IsTrue};
-ghost use Rattle.sel_arrow.specs.Rows.{rows};
+ghost use Rattle.std.specs.Prelude.{◌≡◌, ◌≤◌, ◌↔◌, List, [], ◌∷◌, length, IsTrue};
+ghost use Rattle.sel_arrow.specs.Rows.{rows, type_of};
+ghost use Rattle.sel_arrow.specs.Shape.{Shape};
+ghost use Rattle.sel_arrow.specs.Value.{Value};
+ghost use Rattle.sel_calls.specs.Parsed.{IsRowsText, IsTypeText};
 ghost use Rattle.sel_calls.specs.Printed.{filled, held_text};
-ghost use Rattle.sel_handle.specs.Status.{done, no_memory, no_column, held_rows, Demands, HasColumn, IsOneOf};
+ghost use Rattle.sel_handle.specs.Status.{done, no_memory, no_column, type_syntax, text_syntax, text_misfit, text_limit, held_rows, Demands, HasColumn, IsOneOf, Makes};
+ghost use Rattle.sel_text.specs.Spaces.{spaceless};
+ghost use Rattle.sel_text.specs.Texts.{text_of};
+ghost use Rattle.sel_text.specs.Types.{type_text};
 
-use sel_calls::texts::print_into;
+use sel_calls::texts::{parse_into, print_into};
 use sel_handle::handle::Handle;
 use sel_handle::status::{DONE, NO_COLUMN};
 use sel_text::equal::equal_rows;
@@ -58,4 +64,38 @@ pub extern "C" fn sel_print(alloc: Global, of: &mut Handle, out: &mut [u8], len:
     let status = print_into(alloc, &column, out, len);
     *of = Handle::of(column);
     status
+}
+
+/// Makes the column of the type that `dtype` names, as in `struct<list<i8>,fixed<2,utf8>>`, with the rows of `text`, which
+/// is written as by `sel_print`; both are UTF-8, and spaces between their parts are passed over. Types are null, bool, i8
+/// to i128, u8 to u128, binary (bytes between offsets), binview and utf8 (by views), list<..>, fixed<n,..> and struct<..>.
+/// SEL_TYPE_SYNTAX: `dtype` names no type; SEL_TEXT_SYNTAX: `text` is none of rows; SEL_TEXT_MISFIT: a row does not fit the
+/// type. With these three, `at` is the place of the first byte at which that text goes wrong, counted from 0, or its length
+/// where it ends too soon; with any other number `at` stays. SEL_TEXT_LIMIT: the column would pass a limit, or the type has
+/// more than 64 levels of children.
+#[unsafe(no_mangle)]
+pub extern "C" fn sel_parse(
+    alloc: Global,
+    dtype: &[u8],
+    text: &[u8],
+    at: &mut usize,
+    out: &mut Handle,
+) -> u32
+    ensures dtype { Makes result out.old.tree out.new.tree
+        (λ made. type_text (type_of made.column) ≡ spaceless dtype.now) }
+    ensures rows { Makes result out.old.tree out.new.tree
+        (λ made. text_of (type_of made.column) (rows made.column) ≡ spaceless text.now) }
+    ensures named { result ≡ type_syntax → (shape : Shape) → IsTypeText shape dtype.now → ⊥ }
+    ensures typed { IsOneOf result (text_syntax ∷ text_misfit ∷ []) →
+        (shape : Shape) × (type_text shape ≡ spaceless dtype.now) }
+    ensures accepted { (shape : Shape) (values : List Value) →
+        IsTypeText shape dtype.now → IsRowsText shape values text.now →
+        IsOneOf result (done ∷ no_memory ∷ text_limit ∷ []) }
+    ensures type_place { result ≡ type_syntax → at.new ≤ length dtype.now }
+    ensures place { IsOneOf result (text_syntax ∷ text_misfit ∷ []) → at.new ≤ length text.now }
+    ensures no_place { IsOneOf result (done ∷ no_memory ∷ text_limit ∷ []) → at.new ≡ at.old }
+    ensures status { IsOneOf result
+        (done ∷ no_memory ∷ type_syntax ∷ text_syntax ∷ text_misfit ∷ text_limit ∷ []) }
+{
+    parse_into(alloc, dtype, text, at, out)
 }

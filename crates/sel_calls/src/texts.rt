@@ -1,15 +1,30 @@
-//! Rows compared, and as a text.
+//! Rows compared, as a text, and read from one.
 
-ghost use Rattle.std.specs.Prelude.{◌≡◌, [], ◌∷◌, length};
+ghost use Rattle.std.specs.Prelude.{◌≡◌, ◌≢◌, ◌≤◌, ℕ, List, [], ◌∷◌, length, IfOk, IfErr, IsTrue};
+ghost use Rattle.sel_arrow.specs.DataType.{shape_of};
 ghost use Rattle.sel_arrow.specs.Rows.{rows, type_of};
+ghost use Rattle.sel_arrow.specs.Shape.{Shape};
+ghost use Rattle.sel_arrow.specs.Value.{Value};
+ghost use Rattle.sel_calls.specs.Parsed.{IsRowsText, IsTypeText};
 ghost use Rattle.sel_calls.specs.Printed.{filled};
-ghost use Rattle.sel_handle.specs.Status.{done, no_memory, IsOneOf};
+ghost use Rattle.sel_handle.specs.Status.{done, no_memory, type_syntax, text_syntax, text_misfit, text_limit, IsOneOf, Makes};
+ghost use Rattle.sel_text.specs.Spaces.{spaceless};
+ghost use Rattle.sel_text.specs.TextErrors.{IsShortage, IsWithin};
 ghost use Rattle.sel_text.specs.Texts.{text_of};
+ghost use Rattle.sel_text.specs.Types.{type_text};
+ghost use Rattle.sel_text.specs.Written.{widths_written};
 
 use sel_arrow::array_ref::ArrayRef;
-use sel_handle::status::{DONE, NO_MEMORY};
+use sel_arrow::datatype::ArrowDataType;
+use sel_handle::handle::Handle;
+use sel_handle::status::{DONE, NO_MEMORY, TEXT_LIMIT, TEXT_MISFIT, TEXT_SYNTAX, TYPE_SYNTAX, put};
+use sel_text::build::Beneath;
+use sel_text::parse::parse_column;
 use sel_text::print::print_rows;
+use sel_text::read_type::parse_dtype;
+use sel_text::text_error::TextError;
 use std::alloc::Global;
+use std::str;
 
 /// Writes the rows as text, as much as there is room for, and how many bytes the whole has.
 pub fn print_into(alloc: Global, column: &ArrayRef, out: &mut [u8], len: &mut usize) -> u32
@@ -34,4 +49,120 @@ fn fill(text: &[u8], out: &mut [u8])
 {
     let count = text.len().min(out.len());
     out[..count].copy_from_slice(&text[..count]);
+}
+
+/// The column of the type and with the rows that two texts name. The statuses are those of the call for C.
+pub fn parse_into(alloc: Global, name: &[u8], text: &[u8], at: &mut usize, out: &mut Handle) -> u32
+    ensures dtype { Makes result out.old.tree out.new.tree
+        (λ made. type_text (type_of made.column) ≡ spaceless name.now) }
+    ensures rows { Makes result out.old.tree out.new.tree
+        (λ made. text_of (type_of made.column) (rows made.column) ≡ spaceless text.now) }
+    ensures named { result ≡ type_syntax → (shape : Shape) → IsTypeText shape name.now → ⊥ }
+    ensures typed { IsOneOf result (text_syntax ∷ text_misfit ∷ []) →
+        (shape : Shape) × (type_text shape ≡ spaceless name.now) }
+    ensures accepted { (shape : Shape) (values : List Value) →
+        IsTypeText shape name.now → IsRowsText shape values text.now →
+        IsOneOf result (done ∷ no_memory ∷ text_limit ∷ []) }
+    ensures type_place { result ≡ type_syntax → at.new ≤ length name.now }
+    ensures place { IsOneOf result (text_syntax ∷ text_misfit ∷ []) → at.new ≤ length text.now }
+    ensures no_place { IsOneOf result (done ∷ no_memory ∷ text_limit ∷ []) → at.new ≡ at.old }
+    ensures status { IsOneOf result
+        (done ∷ no_memory ∷ type_syntax ∷ text_syntax ∷ text_misfit ∷ text_limit ∷ []) }
+{
+    let dtype = match read_dtype(alloc, name) {
+        Ok(dtype) => dtype,
+        Err(fault) => return type_refusal(fault, at),
+    };
+    let made = read_rows(alloc, &dtype, text);
+    drop(dtype);
+    match made {
+        Ok(column) => put(alloc, column, out),
+        Err(fault) => rows_refusal(fault, at),
+    }
+}
+
+/// The type that the bytes name. One whose lists of one length are longer than a column may be is past a limit, since no
+/// column has it.
+fn read_dtype(alloc: Global, bytes: &[u8]) -> Result<ArrowDataType, TextError>
+    ensures text { IfOk result (λ dtype. type_text (shape_of dtype) ≡ spaceless bytes.now) }
+    ensures narrow { IfOk result (λ dtype. IsTrue (widths_written (shape_of dtype))) }
+    ensures refused { IfErr result (λ error. (shape : Shape) →
+        IsTypeText shape bytes.now → IsShortage error) }
+    ensures place { IfErr result (IsWithin (length bytes.now)) }
+{
+    let text = match str::from_utf8(bytes) {
+        Ok(text) => text,
+        Err(fault) => {
+            return Err(TextError::Syntax {
+                at: fault.valid_up_to(),
+            });
+        }
+    };
+    let dtype = match parse_dtype(alloc, text) {
+        Ok(dtype) => dtype,
+        Err(fault) => return Err(fault),
+    };
+    if !dtype.widths_fit() {
+        drop(dtype);
+        return Err(TextError::Limit);
+    }
+    Ok(dtype)
+}
+
+/// The column of this type with the rows that the bytes name.
+fn read_rows(alloc: Global, dtype: &ArrowDataType, bytes: &[u8]) -> Result<ArrayRef, TextError>
+    ensures dtype { IfOk result (λ made. type_of made.column ≡ shape_of dtype.now) }
+    ensures text { IfOk result (λ made.
+        text_of (shape_of dtype.now) (rows made.column) ≡ spaceless bytes.now) }
+    ensures refused { IfErr result (λ error. (values : List Value) →
+        IsRowsText (shape_of dtype.now) values bytes.now → IsShortage error) }
+    ensures place { IfErr result (IsWithin (length bytes.now)) }
+{
+    match str::from_utf8(bytes) {
+        Ok(text) => parse_column(alloc, dtype, text, Beneath::Zeros),
+        Err(fault) => Err(TextError::Syntax {
+            at: fault.valid_up_to(),
+        }),
+    }
+}
+
+/// The number that tells why a text names no type, and the place where there is one.
+fn type_refusal(fault: TextError, at: &mut usize) -> u32
+    ensures refused { result ≢ done }
+    ensures short { IsShortage fault → IsOneOf result (no_memory ∷ text_limit ∷ []) }
+    ensures place { (count : ℕ) → IsWithin count fault → result ≡ type_syntax → at.new ≤ count }
+    ensures no_place { IsOneOf result (no_memory ∷ text_limit ∷ []) → at.new ≡ at.old }
+    ensures status { IsOneOf result (no_memory ∷ type_syntax ∷ text_limit ∷ []) }
+{
+    match fault {
+        TextError::Syntax { at: place } | TextError::Type { at: place } => {
+            *at = place;
+            TYPE_SYNTAX
+        }
+        TextError::Limit => TEXT_LIMIT,
+        TextError::OutOfMemory => NO_MEMORY,
+    }
+}
+
+/// The number that tells why a text is none of rows of a type, and the place where there is one.
+fn rows_refusal(fault: TextError, at: &mut usize) -> u32
+    ensures refused { result ≢ done }
+    ensures short { IsShortage fault → IsOneOf result (no_memory ∷ text_limit ∷ []) }
+    ensures place { (count : ℕ) → IsWithin count fault →
+        IsOneOf result (text_syntax ∷ text_misfit ∷ []) → at.new ≤ count }
+    ensures no_place { IsOneOf result (no_memory ∷ text_limit ∷ []) → at.new ≡ at.old }
+    ensures status { IsOneOf result (no_memory ∷ text_syntax ∷ text_misfit ∷ text_limit ∷ []) }
+{
+    match fault {
+        TextError::Syntax { at: place } => {
+            *at = place;
+            TEXT_SYNTAX
+        }
+        TextError::Type { at: place } => {
+            *at = place;
+            TEXT_MISFIT
+        }
+        TextError::Limit => TEXT_LIMIT,
+        TextError::OutOfMemory => NO_MEMORY,
+    }
 }

@@ -49,6 +49,22 @@ out_of_bounds = 6
 abbrev pub get_out_of_bounds : ℕ
 get_out_of_bounds = 7
 
+-- from a place on, a text names no type (own)
+abbrev pub type_syntax : ℕ
+type_syntax = 32
+
+-- from a place on, a text is none of rows (own)
+abbrev pub text_syntax : ℕ
+text_syntax = 33
+
+-- what begins at a place in a text does not fit the type (own)
+abbrev pub text_misfit : ℕ
+text_misfit = 34
+
+-- a text names a column past a limit, or a type that is nested too deeply (own)
+abbrev pub text_limit : ℕ
+text_limit = 35
+
 -- which number tells a passed limit (own)
 abbrev pub limit_status : Limit → ℕ
 limit_status limit.Rows = 8

@@ -83,6 +83,18 @@ pub const VIEW_PREFIX: u32 = 27;
 /// A valid row of a column of texts is not UTF-8.
 pub const UTF8: u32 = 28;
 
+/// From a place on, a text names no type.
+pub const TYPE_SYNTAX: u32 = 32;
+
+/// From a place on, a text is none of rows.
+pub const TEXT_SYNTAX: u32 = 33;
+
+/// What begins at a place in a text does not fit the type.
+pub const TEXT_MISFIT: u32 = 34;
+
+/// A text names a column past a limit, or a type nested more deeply than 64 levels.
+pub const TEXT_LIMIT: u32 = 35;
+
 /// The number of a kernel's error.
 pub fn status_of(error: PolarsError) -> u32
     ensures number { result ≡ error_status error }

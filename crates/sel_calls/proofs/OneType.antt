@@ -1,0 +1,116 @@
+-- Types with one text are one type.
+use Rattle.std.proofs.Common.{◌≡◌, ℕ, ◌≤◌, ◌<◌, true, true≢false, List, [], ◌∷◌, ◌++◌, drop, get_or, refl, ap, sym, ◌∙◌, arith, lit<, append_assoc, append-nil}
+use Rattle.std.specs.Prelude.{◌^◌, ◌&&◌, codes, nat_lt, IsTrue}
+use Rattle.std.specs.Fmt.{decimal}
+use Rattle.std.proofs.lemmas.Bool.Decides.{nat_tests}
+use Rattle.sel_arrow.specs.DataType.{shape_of, shapes_of_each, widths_fit, all_widths_fit}
+use Rattle.sel_arrow.specs.Masked.{is_few}
+use Rattle.sel_arrow.specs.Shape.{Shape, Shapes, no_shapes, next_shape, of_large_list, of_fixed_size_list, of_struct}
+use Rattle.sel_arrow.specs.declared.datatype.ArrowDataType.{ArrowDataType, Row_of-ArrowDataType, end_of-ArrowDataType, more_of-ArrowDataType}
+use Rattle.sel_arrow.specs.declared.datatype.ArrowDataType.TheVariants.{LargeList', FixedSizeList', Struct'}
+use Rattle.sel_arrow.proofs.Lists.{and_first, and_second, both}
+use Rattle.sel_text.specs.Types.{angled, type_text, type_texts}
+use Rattle.sel_text.specs.Written.{widths_written, all_widths_written}
+use Rattle.sel_text.proofs.Ends.{numbers_told}
+use Rattle.sel_text.proofs.Fields.{behind_first, behind_bracket, block_narrow, no_types, some_types}
+use Rattle.sel_text.proofs.TypesTold.{plain_told, blocks_told, tuples_told}
+
+-- ---- widths that a column may have are written
+
+few_written : (size : ℕ) → is_few size ≡ true → nat_lt size (2 ^ 64) ≡ true
+few_written size few =
+    let small : size ≤ 4294967295 = grind (arith, nat_tests, few) in
+    let wide : 4294967295 < 2 ^ 64 = lit< tt in
+    let less : size < 2 ^ 64 = omega (arith, small, wide) in
+    grind (arith, nat_tests, less)
+
+mutual
+  pub fit_written : (dtype : ArrowDataType) → widths_fit dtype ≡ true → widths_written (shape_of dtype) ≡ true
+  fit_written (LargeList' p child) fit = fit_written child fit
+  fit_written (FixedSizeList' p child size) fit =
+      both (nat_lt size (2 ^ 64)) (widths_written (shape_of child)) (few_written size (and_first (is_few size) (widths_fit child) fit)) (fit_written child (and_second (is_few size) (widths_fit child) fit))
+  fit_written (Struct' n fields) fit = all_fit_written fields fit
+  fit_written dtype fit = refl
+
+  all_fit_written : {n : _} (dtypes : Row_of-ArrowDataType n) → all_widths_fit dtypes ≡ true → all_widths_written (shapes_of_each dtypes) ≡ true
+  all_fit_written end_of-ArrowDataType fit = refl
+  all_fit_written (more_of-ArrowDataType dtype dtypes) fit =
+      both (widths_written (shape_of dtype)) (all_widths_written (shapes_of_each dtypes)) (fit_written dtype (and_first (widths_fit dtype) (all_widths_fit dtypes) fit)) (all_fit_written dtypes (and_second (widths_fit dtype) (all_widths_fit dtypes) fit))
+
+-- ---- texts that begin with one type
+
+-- a text that begins with the type begins with no other one
+record Tells (s : Shape) : Type 0 where
+  told : (t : Shape) (more rest : List ℕ) → widths_written s ≡ true → widths_written t ≡ true → type_text s ++ more ≡ type_text t ++ rest → (s ≡ t) × (more ≡ rest)
+
+-- the same of types with a comma before each
+record TellsLeft (ss : Shapes) : Type 0 where
+  told : (ts : Shapes) (more rest : List ℕ) → all_widths_written ss ≡ true → all_widths_written ts ≡ true → behind_first ss more ≡ behind_first ts rest → (ss ≡ ts) × (more ≡ rest)
+
+lists_told : (s : Shape) (text more : List ℕ) → codes "list" ++ text ≡ type_text s ++ more → (child : Shape) × (s ≡ of_large_list child) × (text ≡ 60 ∷ (type_text child ++ (62 ∷ more)))
+lists_told (of_large_list c) text more is = (c, refl, ap (drop 4) is ∙ ap (λ l. 60 ∷ l) (append_assoc (type_text c) (62 ∷ []) more))
+lists_told s text more is = let first = ap (λ l. get_or l 0 0) is in absurd (omega (arith, first))
+
+list_case : (c : Shape) → Tells c → (t : Shape) (more rest : List ℕ) → widths_written (of_large_list c) ≡ true → widths_written t ≡ true → type_text (of_large_list c) ++ more ≡ type_text t ++ rest → (of_large_list c ≡ t) × (more ≡ rest)
+list_case c tells t more rest narrow narrow_other is =
+    let start : codes "list" ++ (60 ∷ (type_text c ++ (62 ∷ more))) ≡ type_text t ++ rest = ap (λ l. codes "list" ++ (60 ∷ l)) (sym (append_assoc (type_text c) (62 ∷ []) more)) ∙ is in
+    let other = lists_told t (60 ∷ (type_text c ++ (62 ∷ more))) rest start in
+    let child = tells.told other.0 (62 ∷ more) (62 ∷ rest) narrow (ap widths_written (sym other.1) ∙ narrow_other) (ap (drop 1) other.2) in
+    (ap of_large_list child.0 ∙ sym other.1, ap (drop 1) child.1)
+
+block_case : (c : Shape) (n : ℕ) → Tells c → (t : Shape) (more rest : List ℕ) → widths_written (of_fixed_size_list c n) ≡ true → widths_written t ≡ true → type_text (of_fixed_size_list c n) ++ more ≡ type_text t ++ rest → (of_fixed_size_list c n ≡ t) × (more ≡ rest)
+block_case c n tells t more rest narrow narrow_other is =
+    let behind : List ℕ = 44 ∷ (type_text c ++ (62 ∷ more)) in
+    let parts = append_assoc (decimal n ++ (44 ∷ type_text c)) (62 ∷ []) more ∙ append_assoc (decimal n) (44 ∷ type_text c) (62 ∷ more) in
+    let start : codes "fixed" ++ (60 ∷ (decimal n ++ (44 ∷ (type_text c ++ (62 ∷ more))))) ≡ type_text t ++ rest = ap (λ l. codes "fixed" ++ (60 ∷ l)) (sym parts) ∙ is in
+    let other = blocks_told t (60 ∷ (decimal n ++ (44 ∷ (type_text c ++ (62 ∷ more))))) rest start in
+    let own = block_narrow c n narrow in
+    let theirs = block_narrow other.0 other.1 (ap widths_written (sym other.2) ∙ narrow_other) in
+    let sizes = numbers_told n other.1 (decimal n ++ (44 ∷ (type_text c ++ (62 ∷ more)))) (44 ∷ (type_text c ++ (62 ∷ more))) (44 ∷ (type_text other.0 ++ (62 ∷ rest))) (wider n own.0) (wider other.1 theirs.0) (omega arith) (omega arith) refl (ap (drop 1) other.3) in
+    let child = tells.told other.0 (62 ∷ more) (62 ∷ rest) own.1 theirs.1 (ap (drop 1) sizes.1) in
+    (ap (of_fixed_size_list c) sizes.0 ∙ ap (λ x. of_fixed_size_list x other.1) child.0 ∙ sym other.2, ap (drop 1) child.1)
+  where
+    wider : (n : ℕ) → n < 2 ^ 64 → n < 2 ^ 128
+    wider n small = let more : 2 ^ 64 < 2 ^ 128 = lit< tt in omega (arith, small, more)
+
+no_more : (ts : Shapes) (more rest : List ℕ) → 62 ∷ more ≡ behind_first ts rest → (no_shapes ≡ ts) × (more ≡ rest)
+no_more no_shapes more rest is = (refl, ap (drop 1) is)
+no_more (next_shape t ts) more rest is = let first = ap (λ l. get_or l 0 0) is in absurd (omega (arith, first))
+
+next_case : (s : Shape) (ss : Shapes) → Tells s → TellsLeft ss → (ts : Shapes) (more rest : List ℕ) → all_widths_written (next_shape s ss) ≡ true → all_widths_written ts ≡ true →
+    behind_first (next_shape s ss) more ≡ behind_first ts rest → (next_shape s ss ≡ ts) × (more ≡ rest)
+next_case s ss tells left no_shapes more rest narrow narrow_others is = let first = ap (λ l. get_or l 0 0) is in absurd (omega (arith, first))
+next_case s ss tells left (next_shape t ts) more rest narrow narrow_others is =
+    let first = tells.told t (behind_first ss more) (behind_first ts rest) (and_first (widths_written s) (all_widths_written ss) narrow) (and_first (widths_written t) (all_widths_written ts) narrow_others) (ap (drop 1) is) in
+    let others = left.told ts more rest (and_second (widths_written s) (all_widths_written ss) narrow) (and_second (widths_written t) (all_widths_written ts) narrow_others) first.1 in
+    (ap (λ x. next_shape x ss) first.0 ∙ ap (next_shape t) others.0, others.1)
+
+-- types between angle brackets
+parts_told : (ss : Shapes) → TellsLeft ss → (ts : Shapes) (more rest : List ℕ) → all_widths_written ss ≡ true → all_widths_written ts ≡ true → angled (type_texts ss) ++ more ≡ angled (type_texts ts) ++ rest → (ss ≡ ts) × (more ≡ rest)
+parts_told no_shapes left ts more rest narrow narrow_others is = let none = no_types ts more rest is in (sym none.0, none.1)
+parts_told (next_shape s ss) left no_shapes more rest narrow narrow_others is = let none = no_types (next_shape s ss) rest more (sym is) in (none.0, sym none.1)
+parts_told (next_shape s ss) left (next_shape t ts) more rest narrow narrow_others is =
+    let one = behind_bracket s ss (drop 1 (angled (type_texts (next_shape s ss)) ++ more)) more refl in
+    let other = behind_bracket t ts (drop 1 (angled (type_texts (next_shape s ss)) ++ more)) rest is in
+    left.told (next_shape t ts) more rest narrow narrow_others (ap (λ l. 44 ∷ l) (sym one ∙ other))
+
+tuple_case : (ss : Shapes) → TellsLeft ss → (t : Shape) (more rest : List ℕ) → widths_written (of_struct ss) ≡ true → widths_written t ≡ true → type_text (of_struct ss) ++ more ≡ type_text t ++ rest → (of_struct ss ≡ t) × (more ≡ rest)
+tuple_case ss left t more rest narrow narrow_other is =
+    let other = tuples_told t (angled (type_texts ss) ++ more) rest is in
+    let parts = parts_told ss left other.0 more rest narrow (ap widths_written (sym other.1) ∙ narrow_other) other.2 in
+    (ap of_struct parts.0 ∙ sym other.1, parts.1)
+
+mutual
+  tells : (s : Shape) → Tells s
+  tells (of_large_list c) = record { told = list_case c (tells c) }
+  tells (of_fixed_size_list c n) = record { told = block_case c n (tells c) }
+  tells (of_struct ss) = record { told = tuple_case ss (tells_left ss) }
+  tells s = record { told = λ t more rest narrow narrow_other is. plain_told s t (type_text s ++ more) more rest refl refl is }
+
+  tells_left : (ss : Shapes) → TellsLeft ss
+  tells_left no_shapes = record { told = λ ts more rest narrow narrow_others is. no_more ts more rest is }
+  tells_left (next_shape s ss) = record { told = next_case s ss (tells s) (tells_left ss) }
+
+-- types with one text are one, where each width is of 64 bits
+pub one_type : (s t : Shape) → widths_written s ≡ true → widths_written t ≡ true → type_text s ≡ type_text t → s ≡ t
+one_type s t narrow narrow_other same = ((tells s).told t [] [] narrow narrow_other (ap (λ l. l ++ []) same)).0

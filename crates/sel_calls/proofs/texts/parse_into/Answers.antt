@@ -1,0 +1,22 @@
+use Rattle.std.proofs.Common.{◌≡◌, Bool, true, false, length, refl, sym, ◌∙◌, subst}
+use Rattle.std.specs.Prelude.{◌||◌}
+use Rattle.sel_arrow.specs.DataType.{shape_of}
+use Rattle.sel_calls.specs.Parsed.{IsRowsText}
+use Rattle.sel_calls.proofs.OneType.{one_type}
+use Rattle.sel_calls.proofs.texts.parse_into.Goals as goal
+
+or_second : (a b : Bool) → b ≡ true → (a || b) ≡ true
+or_second true b is = refl
+or_second false b is = is
+
+pub returns-in-Err-clause-type_place : goal.returns-in-Err-clause-type_place
+returns-in-Err-clause-type_place c = λ is. c.type_refusal.ensures.place (length c.args.name.now) c.in-Err.ensures.place is
+
+pub returns-in-Err-made-clause-accepted : goal.returns-in-Err-made-clause-accepted
+returns-in-Err-made-clause-accepted c = λ shape values named texts.
+    let same : shape_of c.in-Ok.dtype ≡ shape = one_type (shape_of c.in-Ok.dtype) shape c.in-Ok.ensures.narrow named.0 (c.in-Ok.ensures.text ∙ named.2) in
+    let short = c.in-Err-made.ensures.refused values (subst (λ s. IsRowsText s values c.args.text.now) (sym same) texts) in
+    or_second _ _ (c.rows_refusal.ensures.short short)
+
+pub returns-in-Err-made-clause-place : goal.returns-in-Err-made-clause-place
+returns-in-Err-made-clause-place c = λ is. c.rows_refusal.ensures.place (length c.args.text.now) c.in-Err-made.ensures.place is

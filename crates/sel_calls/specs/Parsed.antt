@@ -1,0 +1,19 @@
+-- Texts that are read, of a type and of rows.
+use Rattle.std.specs.Prelude.{◌≡◌, ℕ, List, IsTrue}
+use Rattle.std.specs.List.{list_all}
+use Rattle.std.specs.Str.{is_utf8}
+use Rattle.sel_arrow.specs.Shape.{Shape}
+use Rattle.sel_arrow.specs.Value.{Value}
+use Rattle.sel_text.specs.Fits.{fits}
+use Rattle.sel_text.specs.Spaces.{spaceless}
+use Rattle.sel_text.specs.Texts.{text_of}
+use Rattle.sel_text.specs.Types.{type_text}
+use Rattle.sel_text.specs.Written.{widths_written}
+
+-- bytes are the text of a type, with spaces between its parts or without (own)
+abbrev pub IsTypeText : Shape → List ℕ → Type 0
+IsTypeText shape bytes = IsTrue (widths_written shape) × IsTrue (is_utf8 bytes) × (spaceless bytes ≡ type_text shape)
+
+-- bytes are the text of values that fit a type, with spaces between its parts or without (own)
+abbrev pub IsRowsText : Shape → List Value → List ℕ → Type 0
+IsRowsText shape values bytes = IsTrue (list_all (fits shape) values) × IsTrue (is_utf8 bytes) × (spaceless bytes ≡ text_of shape values)
