@@ -4,7 +4,7 @@ pub mod ChosenPicks
 pub mod Entries
 pub mod Limits
 pub mod Made
-pub mod OneType
 pub mod PickWords
 pub mod SameNeeds
 pub mod Shown
+pub mod WrittenWidths

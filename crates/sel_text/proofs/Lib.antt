@@ -14,6 +14,7 @@ pub mod ItemParts
 pub mod ItemRows
 pub mod Making
 pub mod Numbers
+pub mod OneType
 pub mod PartRows
 pub mod Printed
 pub mod Quotes

@@ -2,7 +2,7 @@ use Rattle.std.proofs.Common.{◌≡◌, Bool, true, false, length, refl, sym, �
 use Rattle.std.specs.Prelude.{◌||◌}
 use Rattle.sel_arrow.specs.DataType.{shape_of}
 use Rattle.sel_calls.specs.Parsed.{IsRowsText}
-use Rattle.sel_calls.proofs.OneType.{one_type}
+use Rattle.sel_text.proofs.OneType.{one_type}
 use Rattle.sel_calls.proofs.texts.parse_into.Goals as goal
 
 or_second : (a b : Bool) → b ≡ true → (a || b) ≡ true

@@ -1,6 +1,6 @@
 use Rattle.std.proofs.Common.{sym, ◌∙◌}
 use Rattle.std.proofs.lemmas.Str.{IsUtf8-from_is_utf8}
-use Rattle.sel_calls.proofs.OneType.{fit_written}
+use Rattle.sel_calls.proofs.WrittenWidths.{fit_written}
 use Rattle.sel_calls.proofs.texts.read_dtype.Goals as goal
 
 pub returns-in-Err-clause-refused : goal.returns-in-Err-clause-refused

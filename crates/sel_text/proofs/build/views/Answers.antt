@@ -50,7 +50,7 @@ returns-in_err-try_new-clause-limit c =
     let so = subst (λ l. Views store c.loop-item.views.items (stored_bytes c.args.beneath l)) (take_all c.loop-item.item-index items (omega arith)) c.loop-item.invariant in
     let viewed = c.buffers.view_is ∙ c.in_ok-buffers.ensures.items ∙ c.in_ok-vec.ensures.items ∙ ap (λ d. d ∷ []) c.in_ok-data.ensures.items in
     let count : length views ≡ length (rows_read items) =
-        ap length c.in_ok-views-2.ensures.items ∙ views_count store c.loop-item.views.items (stored_bytes c.args.beneath items) so ∙ stored_count c.args.beneath items in
+    ap length c.in_ok-views-2.ensures.items ∙ views_count store c.loop-item.views.items (stored_bytes c.args.beneath items) so ∙ stored_count c.args.beneath items in
     let placed = subst (λ v. IsTrue (all_placed (store ∷ []) v)) (sym c.in_ok-views-2.ensures.items) so.placed in
     let covers = subst (Covers validity) (sym (rows_count items)) c.in_ok-validity_of.ensures.covers in
     let fallen = subst (λ b. IsFault (binview_fault views b validity) error) viewed c.in_err-try_new.ensures.refused in
