@@ -237,20 +237,21 @@ fn views(alloc: Global, items: &[&Item], beneath: Beneath) -> Result<BinaryViewA
 }
 
 /// The view of these bytes, of which more than 12 are put behind the others in a data buffer.
-fn view_behind(data: &mut Vec<u8>, bytes: &[u8]) -> Result<View, Fault>
-    ensures view { IfOk result (λ view. view ≡ view_of bytes.now 0 (length data.old.items)) }
+fn view_behind(placed: &mut Vec<u8>, bytes: &[u8]) -> Result<View, Fault>
+    ensures view { IfOk result (λ view. view ≡ view_of bytes.now 0 (length placed.old.items)) }
     ensures inline { IfOk result (λ view. length bytes.now ≤ 12 → inline_bytes view ≡ bytes.now) }
-    ensures data { IfOk result (λ _. data.new.items ≡ data.old.items ++ bytes_behind bytes.now) }
+    ensures placed { IfOk result (λ _.
+        placed.new.items ≡ placed.old.items ++ bytes_behind bytes.now) }
     ensures limit { IfErr result (λ fault.
-        IsTold (is_past (length data.old.items + length (bytes_behind bytes.now))) fault) }
+        IsTold (is_past (length placed.old.items + length (bytes_behind bytes.now))) fault) }
 {
     if bytes.len() <= 12 {
         return Ok(View::new_from_bytes(bytes, 0, 0));
     }
-    let (Ok(_), Ok(start)) = (u32::try_from(bytes.len()), u32::try_from(data.len())) else {
+    let (Ok(_), Ok(start)) = (u32::try_from(bytes.len()), u32::try_from(placed.len())) else {
         return Err(Fault::Limit);
     };
-    data.extend_from_slice(bytes)?;
+    placed.extend_from_slice(bytes)?;
     Ok(View::new_from_bytes(bytes, 0, start))
 }
 

@@ -32,8 +32,8 @@ returns-in_err-view_behind-clause-limit c =
 pub loop-item-preserved : goal.loop-item-preserved
 loop-item-preserved c =
     let all = stored_more c.args.beneath c.args.items.now c.loop-item.item-index c.item-item.result c.bytes_in.result.now (omega arith) c.item-item.is c.bytes_in.ensures in
-    subst (Views c.view_behind.new.data.items c.push.new.self.items) (sym all)
-    (views_more c.loop-item.data.items _ c.loop-item.views.items _ _ c.bytes_in.result.now _ c.loop-item.invariant c.in_ok-view_behind.ensures.view c.in_ok-view_behind.ensures.inline c.in_ok-view_behind.ensures.data c.in_ok-push.ensures.items)
+    subst (Views c.view_behind.new.placed.items c.push.new.self.items) (sym all)
+    (views_more c.loop-item.data.items _ c.loop-item.views.items _ _ c.bytes_in.result.now _ c.loop-item.invariant c.in_ok-view_behind.ensures.view c.in_ok-view_behind.ensures.inline c.in_ok-view_behind.ensures.placed c.in_ok-push.ensures.items)
 
 pub returns-in_err-validity_of-clause-limit : goal.returns-in_err-validity_of-clause-limit
 returns-in_err-validity_of-clause-limit c =
