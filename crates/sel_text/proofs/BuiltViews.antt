@@ -1,6 +1,6 @@
 -- Views over one data buffer that grows.
-use Rattle.std.proofs.Common.{◌≡◌, ℕ, zero, suc, ◌+◌, ◌-◌, ◌≤◌, ◌<◌, Bool, true, false, true≢false, ◌&&◌, cond, Bor, List, [], ◌∷◌, ◌++◌, length, take, drop, map, get_or, arith, append-nil, refl, ap, sym, subst, ◌∙◌, length-append, length-drop}
-use Rattle.std.specs.Prelude.{leb, ltb, nat_le, nat_lt, ◌==◌, IsTrue}
+use Rattle.std.proofs.Common.{◌≡◌, ℕ, zero, suc, ◌+◌, ◌-◌, ◌≤◌, ◌<◌, Bool, true, false, true≢false, ◌&&◌, cond, Bor, List, [], ◌∷◌, ◌++◌, length, take, drop, map, get_or, arith, refl, ap, sym, subst, ◌∙◌, length-append, length-drop}
+use Rattle.std.specs.Prelude.{leb, ltb, ◌==◌, IsTrue}
 use Rattle.std.specs.List.{slice_range, list_all}
 use Rattle.std.proofs.lemmas.Bool.{leb-true, le-leb, ltb-true, eq-eqb}
 use Rattle.std.proofs.lemmas.Bool.Decides.{nat_tests}

@@ -14,7 +14,6 @@ use Rattle.sel_text.specs.Limits.{Shows, is_view_shape}
 use Rattle.sel_text.specs.Stored.{bytes_stored, truth_stored}
 use Rattle.sel_text.specs.Texts.{item_shape, part_shapes}
 use Rattle.sel_text.specs.declared.build.Beneath.{Beneath}
-use Rattle.sel_text.specs.declared.build.Beneath.TheVariants.{Zeros, Others}
 use Rattle.sel_text.specs.declared.item.Item.{Item}
 
 -- the first row is shown, and then the others
