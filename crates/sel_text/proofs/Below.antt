@@ -1,5 +1,5 @@
 -- What stands below lists.
-use Rattle.std.proofs.Common.{◌≡◌, ℕ, zero, suc, ◌+◌, ◌*◌, ◌-◌, ◌<◌, ◌≤◌, ℤ, pos, Bool, true, false, ◌&&◌, ◌||◌, ◌==◌, List, [], ◌∷◌, ◌++◌, map, length, take, drop, get_or, replicate, Option, Some, None, refl, sym, ap, subst, ◌∙◌, arith, append_assoc, length-append, not, w64, FitsSigned, to_z, of_z}
+use Rattle.std.proofs.Common.{◌≡◌, ℕ, zero, suc, ◌+◌, ◌*◌, ◌<◌, ◌≤◌, ℤ, pos, Bool, true, false, ◌||◌, ◌==◌, List, [], ◌∷◌, ◌++◌, map, length, replicate, Option, Some, None, refl, sym, ap, subst, ◌∙◌, arith, append_assoc, length-append, not, w64, FitsSigned, to_z, of_z}
 use Rattle.std.specs.Prelude.{nat_lt, slice_index}
 use Rattle.std.specs.List.{flat_map, list_all, slice_range, range_with_len}
 use Rattle.std.proofs.lemmas.Bool.Decides.{nat_tests}
@@ -9,8 +9,7 @@ use Rattle.std.proofs.lemmas.List.{append-nil, length-replicate, map-append}
 use Rattle.std.proofs.lemmas.List.Concat.{flat_map-cons, flat_map-append}
 use Rattle.std.proofs.lemmas.List.Folds.{list_all-append}
 use Rattle.sel_bits.specs.Bits.{Bits}
-use Rattle.sel_bits.specs.Faults.{first_broken}
-use Rattle.sel_bits.specs.Offsets.{falls_after, has_fall, has_negative, offsets_fault}
+use Rattle.sel_bits.specs.Offsets.{falls_after, has_negative, offsets_fault}
 use Rattle.sel_bits.specs.declared.faults.Malformed.{Malformed}
 use Rattle.sel_bits.specs.declared.faults.Malformed.TheVariants.{ChildLength, OffsetRange, TooManyRows, ValidityLength, Width}
 use Rattle.sel_arrow.specs.Masked.{masked, too_many, validity_differs, Covers}
@@ -23,7 +22,7 @@ use Rattle.sel_arrow.specs.Value.{Value, Null, Truth, Number, Bytes, Items, Tupl
 use Rattle.sel_arrow.specs.declared.column.Column.{Column}
 use Rattle.sel_arrow.proofs.Lists.{both, and_first, and_second}
 use Rattle.sel_text.specs.Below.{ends_below, offsets_below}
-use Rattle.sel_text.specs.Fits.{fits, fits_count, all_fit}
+use Rattle.sel_text.specs.Fits.{fits, all_fit}
 use Rattle.sel_text.specs.Limits.{block_in, entries_in, Shows}
 use Rattle.sel_text.specs.declared.build.Beneath.{Beneath}
 use Rattle.sel_text.specs.declared.build.Beneath.TheVariants.{Zeros, Others}

@@ -2,7 +2,7 @@
 use Rattle.std.proofs.Common.{◌≡◌, ◌≢◌, ℕ, ℤ, Bool, true, false, true≢false, List, ◌++◌, [], length, drop, append-nil, refl, ap, sym, ◌∙◌}
 use Rattle.std.specs.Prelude.{codes}
 use Rattle.std.specs.Fmt.{signed_decimal}
-use Rattle.sel_arrow.specs.Shape.{Shape, Shapes, of_null, of_boolean, of_large_list, of_fixed_size_list, of_struct, is_struct_shape}
+use Rattle.sel_arrow.specs.Shape.{Shape, Shapes, of_large_list, of_fixed_size_list, of_struct, is_struct_shape}
 use Rattle.sel_arrow.specs.Value.{Value, Null, Truth, Number, Bytes, Items, Tuple, Values, listed, values_of}
 use Rattle.sel_arrow.proofs.Lists.{and_first, and_second}
 use Rattle.sel_text.specs.Digits.{NoDigit}

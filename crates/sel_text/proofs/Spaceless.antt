@@ -1,5 +1,5 @@
 -- Texts without spaces, byte by byte.
-use Rattle.std.proofs.Common.{◌≡◌, ℕ, ◌+◌, ◌<◌, List, [], ◌∷◌, length, drop, get_or, ap}
+use Rattle.std.proofs.Common.{◌≡◌, ℕ, ◌+◌, ◌<◌, List, ◌∷◌, length, drop, get_or, ap}
 use Rattle.std.proofs.lemmas.List.{drop_more}
 use Rattle.sel_text.specs.Spaces.{spaceless_from}
 use Rattle.sel_text.specs.declared.spaces.Place.{Place}

@@ -1,12 +1,11 @@
-use Rattle.std.proofs.Common.{◌≡◌, ◌<◌, ◌||◌, ◌+◌, [], ◌∷◌, ◌++◌, List, map, length, take, get_or, replicate, true, refl, sym, ap, subst, ◌∙◌, arith}
+use Rattle.std.proofs.Common.{◌≡◌, ◌<◌, ◌||◌, map, length, replicate, true, refl, sym, ap, subst, ◌∙◌, arith}
 use Rattle.std.specs.List.{flat_map, list_all}
 use Rattle.std.proofs.lemmas.List.{length-map, get_or-map}
 use Rattle.sel_arrow.specs.DataType.{shape_of}
 use Rattle.sel_arrow.specs.Masked.{Covers}
-use Rattle.sel_arrow.specs.Nested.{list_rows, block_rows}
 use Rattle.sel_arrow.specs.Rows.{rows, row_count, type_of}
-use Rattle.sel_arrow.specs.Shape.{of_null, of_large_list, of_fixed_size_list, of_struct, shapes_of}
-use Rattle.sel_arrow.specs.Value.{Value, Null}
+use Rattle.sel_arrow.specs.Shape.{of_large_list, of_fixed_size_list, of_struct, shapes_of}
+use Rattle.sel_arrow.specs.Value.{Null}
 use Rattle.sel_arrow.proofs.NestedRows.{length-rows}
 use Rattle.sel_arrow.proofs.Types.{struct_shape}
 use Rattle.sel_text.specs.Fits.{fits}

@@ -1,18 +1,14 @@
-use Rattle.std.proofs.Common.{◌≡◌, ◌+◌, true, List, [], ◌∷◌, ap, sym, subst, refl, ◌∙◌, length, map, arith}
+use Rattle.std.proofs.Common.{◌≡◌, ◌+◌, [], ◌∷◌, ap, sym, subst, refl, ◌∙◌, length, map, arith}
 use Rattle.std.specs.Prelude.{IsTrue}
-use Rattle.std.specs.List.{list_all}
 use Rattle.std.proofs.lemmas.List.{take_all}
 use Rattle.sel_bits.specs.Faults.{IsFault}
 use Rattle.sel_arrow.specs.Makers.{binview_fault}
 use Rattle.sel_arrow.specs.Masked.{Covers, masked}
-use Rattle.sel_arrow.specs.Shape.{Shape}
 use Rattle.sel_arrow.specs.Value.{Bytes}
 use Rattle.sel_arrow.specs.Views.{all_placed, view_rows}
-use Rattle.sel_text.specs.Fits.{fits}
 use Rattle.sel_text.specs.ItemValues.{rows_read}
-use Rattle.sel_text.specs.Limits.{is_past, is_view_shape, past_limit, IsTold}
+use Rattle.sel_text.specs.Limits.{is_past, past_limit}
 use Rattle.sel_text.specs.Stored.{bytes_behind}
-use Rattle.sel_text.specs.declared.text_error.Fault.{Fault}
 use Rattle.sel_text.proofs.BuiltViews.{Views, past_bytes, views_count, views_more}
 use Rattle.sel_text.proofs.Refusals.{binview_told, bytes_past, if_made, if_told, told_more, wanting_told}
 use Rattle.sel_text.proofs.Shown.{bytes_shown, of_views, rows_count, stored_bytes, stored_count, stored_more}
