@@ -6,28 +6,18 @@
 #[cfg(test)]
 mod choices;
 #[cfg(test)]
-mod columns;
-#[cfg(test)]
 mod dictionaries;
 #[cfg(test)]
-mod elements;
-#[cfg(test)]
 mod filters;
-#[cfg(test)]
-mod joined;
 #[cfg(test)]
 mod laws;
 #[cfg(test)]
 mod limits;
-#[cfg(test)]
-mod list_scalars;
 #[cfg(test)]
 mod made;
 #[cfg(test)]
 mod nested;
 #[cfg(test)]
 mod refused;
-#[cfg(test)]
-mod scalars;
 #[cfg(test)]
 mod takes;

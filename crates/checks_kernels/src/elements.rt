@@ -5,17 +5,17 @@ use checks_lines::marks::{begins, begins_free, begins_line, ends, ends_answered,
 use checks_lines::read::{Form, as_any, column, with_same, with_same_of};
 use checks_lines::table::{Memory, wrong_line, wrong_test};
 use checks_lines::typed::{blocks, lists, numbers};
-use polars_compute::gather::sublist::fixed_size_list::{
-    sub_fixed_size_list_get, sub_fixed_size_list_get_literal,
-};
-use polars_compute::gather::sublist::list::{
-    array_to_unit_list, index_is_oob, sublist_get, sublist_get_indexes,
-};
 use sel_arrow::array::Array;
 use sel_arrow::array_ref::ArrayRef;
 use sel_arrow::fixed_size_list::FixedSizeListArray;
 use sel_arrow::primitive::PrimitiveArray;
 use sel_bits::faults::PolarsResult;
+use sel_sublists::sublist::fixed_size_list::{
+    sub_fixed_size_list_get, sub_fixed_size_list_get_literal,
+};
+use sel_sublists::sublist::list::{
+    array_to_unit_list, index_is_oob, sublist_get, sublist_get_indexes,
+};
 use std::alloc::Global;
 use std::test::Fail;
 

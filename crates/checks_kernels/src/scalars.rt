@@ -8,7 +8,6 @@ use checks_lines::marks::{begins, ends_line};
 use checks_lines::read::{Form, as_any, with_same_of};
 use checks_lines::table::{Memory, wrong_line};
 use checks_lines::typed::{mask, numbers, texts, views};
-use polars_compute::if_then_else::IfThenElseKernel;
 use sel_arrow::array::Array;
 use sel_arrow::array_ref::ArrayRef;
 use sel_arrow::binview::BinaryViewArray;
@@ -18,6 +17,7 @@ use sel_arrow::primitive::{ArrowPrimitive, PrimitiveArray};
 use sel_arrow::utf8view::Utf8ViewArray;
 use sel_bits::bitmap::Bitmap;
 use sel_bits::faults::PolarsResult;
+use sel_choices::if_then_else::IfThenElseKernel;
 use std::alloc::Global;
 use std::test::Fail;
 
