@@ -1,6 +1,6 @@
 //! The calls of bits, pieces and columns of one kind as tests, between two marks: `tools/refuse` runs them with each growth of
 //! memory in a call refused in turn. The calls that take none run with every growth refused. The kernels on columns of every kind
-//! stand in `checks_tables`.
+//! stand in `checks_kernels` and `checks_tables`.
 #![tactic(auto)]
 
 #[cfg(test)]
