@@ -40,8 +40,8 @@ fn have_same_rows(left: ArrayRef, right: ArrayRef) -> Result<bool, Fail> {
 
 /// Of a type and rows, and of others: whether the rows are the same.
 fn are_equal(alloc: Global, line: &Line, form: Form) -> Result<bool, Fail> {
-    let (dtype, rows) = (line.field(2)?, line.field(3)?);
-    let left = column(alloc, line.field(0)?, line.field(1)?, form)?;
+    let (dtype, rows) = (line.field(2), line.field(3));
+    let left = column(alloc, line.field(0), line.field(1), form)?;
     match over_zeros(alloc, dtype, rows) {
         Ok(right) => have_same_rows(left, right),
         Err(fail) => {

@@ -45,7 +45,7 @@ fn told(alloc: Global, printed: Result<String, TextError>) -> Result<String, Fai
 fn over_zeros(alloc: Global, line: &Line) -> Result<String, Fail> {
     told(
         alloc,
-        reads(alloc, line.field(0)?, line.field(1)?, Beneath::Zeros),
+        reads(alloc, line.field(0), line.field(1), Beneath::Zeros),
     )
 }
 
@@ -53,13 +53,13 @@ fn over_zeros(alloc: Global, line: &Line) -> Result<String, Fail> {
 fn over_others(alloc: Global, line: &Line) -> Result<String, Fail> {
     told(
         alloc,
-        reads(alloc, line.field(0)?, line.field(1)?, Beneath::Others),
+        reads(alloc, line.field(0), line.field(1), Beneath::Others),
     )
 }
 
 /// Of a type: what it is printed as.
 fn types(alloc: Global, line: &Line) -> Result<String, Fail> {
-    told(alloc, reads_type(alloc, line.field(0)?))
+    told(alloc, reads_type(alloc, line.field(0)))
 }
 
 /// A type, rows of it, and what they are printed as.

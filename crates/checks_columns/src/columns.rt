@@ -324,13 +324,35 @@ fn check_numbers<T: ArrowPrimitive + Debug + PartialEq + Drop>(
     Ok(())
 }
 
+/// The column of one kind that was taken out of one of any type.
+fn taken<A>(found: Result<A, ArrayRef>) -> Result<A, Fail> {
+    match found {
+        Ok(column) => Ok(column),
+        Err(back) => {
+            drop(back);
+            Err(Fail::from("another type"))
+        }
+    }
+}
+
+/// The column of any type that is none of one kind.
+fn kept<A: Drop>(found: Result<A, ArrayRef>) -> Result<ArrayRef, Fail> {
+    match found {
+        Ok(column) => {
+            drop(column);
+            Err(Fail::from("taken for another type"))
+        }
+        Err(back) => Ok(back),
+    }
+}
+
 /// Whether these numbers lie in the column of any type.
 fn are_numbers<T: ArrowPrimitive + PartialEq>(
     alloc: Global,
     erased: ArrayRef,
     values: &[T; 3],
 ) -> Result<bool, Fail> {
-    let column = erased.into_primitive::<T>().ok().ok_or("another type")?;
+    let column = taken(erased.into_primitive::<T>())?;
     let bits = validity(alloc, &[false, true, true])?;
     Ok(keeps_numbers(column, bits, values))
 }
@@ -405,7 +427,13 @@ fn is_refused<T: Drop, E: Drop>(answer: Result<T, E>) -> bool {
 fn one_index(alloc: Global) -> Result<(Buffer<u32>, Option<Bitmap>), Fail> {
     let indices = IdxArr::try_new(buffer(alloc, &[5u32])?, None)?;
     let ArrayRef { column } = indices.into_ref();
-    Ok(u32::from_column(column).ok().ok_or("another type")?)
+    match u32::from_column(column) {
+        Ok(index) => Ok(index),
+        Err(column) => {
+            drop(column);
+            Err(Fail::from("another type"))
+        }
+    }
 }
 
 #[test]
@@ -418,8 +446,8 @@ fn numbers_are_a_kind_of_column(rt: HostRuntime) -> Result<(), Fail> {
 
 /// How many rows the column of nulls has that lies in one of any type.
 fn nulls_again(erased: ArrayRef) -> Result<usize, Fail> {
-    let erased = erased.into_boolean().err().ok_or("taken for truth values")?;
-    Ok(erased.into_null().ok().ok_or("another type")?.len())
+    let erased = kept(erased.into_boolean())?;
+    Ok(taken(erased.into_null())?.len())
 }
 
 #[test]
@@ -431,9 +459,8 @@ fn columns_hold_nulls(rt: HostRuntime) -> Result<(), Fail> {
 
 /// The column of truth values that lies in one of any type.
 fn truths_again(erased: ArrayRef) -> Result<BooleanArray, Fail> {
-    let erased = erased.into_null().err().ok_or("taken for nulls")?;
-    let column = erased.into_boolean().ok().ok_or("another type")?;
-    Ok(column)
+    let erased = kept(erased.into_null())?;
+    taken(erased.into_boolean())
 }
 
 /// Whether the truth values are these, and without the validity the second is true.
@@ -462,9 +489,8 @@ fn three_pieces<O: Offset>(alloc: Global, offsets: &[O]) -> Result<BinaryArray<O
 
 /// The column of bytes that lies in one of any type.
 fn bytes_again(erased: ArrayRef) -> Result<BinaryArray<i64>, Fail> {
-    let erased = erased.into_binview().err().ok_or("taken for views")?;
-    let column = erased.into_binary().ok().ok_or("another type")?;
-    Ok(column)
+    let erased = kept(erased.into_binview())?;
+    taken(erased.into_binary())
 }
 
 /// Whether a part of such a column shares its bytes.
@@ -473,7 +499,10 @@ fn shares_bytes(alloc: Global, column: &BinaryArray<i64>) -> PolarsResult<bool> 
         return Ok(false);
     }
     let part = column.sliced(alloc, 1, 1)?;
-    Ok(part.offsets().as_slice() == [3i64, 3].as_slice() && part.values().len() == 6)
+    let are_shared = part.values().len() == 6;
+    let are_none = part.offsets().as_slice() == [3i64, 3].as_slice();
+    drop(part);
+    Ok(are_shared && are_none)
 }
 
 #[test]
@@ -521,9 +550,8 @@ fn three_views(alloc: Global) -> Result<BinaryViewArray, Fail> {
 
 /// The column of views that lies in one of any type.
 fn views_again(erased: ArrayRef) -> Result<BinaryViewArray, Fail> {
-    let erased = erased.into_utf8view().err().ok_or("taken for texts")?;
-    let column = erased.into_binview().ok().ok_or("another type")?;
-    Ok(column)
+    let erased = kept(erased.into_utf8view())?;
+    taken(erased.into_binview())
 }
 
 /// Whether there are three views of texts over one data buffer.
@@ -553,9 +581,8 @@ fn columns_hold_views(rt: HostRuntime) -> Result<(), Fail> {
 
 /// The column of texts that lies in one of any type.
 fn texts_again(erased: ArrayRef) -> Result<Utf8ViewArray, Fail> {
-    let erased = erased.into_binary().err().ok_or("taken for bytes")?;
-    let column = erased.into_utf8view().ok().ok_or("another type")?;
-    Ok(column)
+    let erased = kept(erased.into_binary())?;
+    taken(erased.into_utf8view())
 }
 
 /// The views as a column of texts.

@@ -77,9 +77,7 @@ fn values_of<T: NativeType>(
 
 /// One data buffer of these bytes.
 pub fn one_buffer(alloc: Global, bytes: &[u8]) -> PolarsResult<Buffer<Buffer<u8>>> {
-    let bytes = buffer(alloc, bytes)?;
-    let mut buffers = Vec::new(alloc);
-    buffers.push(bytes)?;
+    let buffers = vec![in alloc; buffer(alloc, bytes)?]?;
     Buffer::from_vec(buffers)
 }
 

@@ -3,8 +3,8 @@
 use checks_lines::line::Line;
 use checks_lines::marks::{begins, begins_free, begins_line, ends_answered, ends_line};
 use checks_lines::read::{Form, column, with_same};
-use checks_lines::table::{Memory, wrong_line, wrong_test};
-use checks_lines::typed::{mask, numbers};
+use checks_lines::table::{Memory, or_wrong_line, wrong_line, wrong_test};
+use checks_lines::typed::{bits, numbers};
 use sel_arrow::array::Array;
 use sel_arrow::array_ref::ArrayRef;
 use sel_arrow::datatype::ArrowDataType;
@@ -44,8 +44,8 @@ fn part(
 
 /// Of a type, rows, a place and a length: so many rows from there on.
 pub fn parts(alloc: Global, line: &Line, form: Form) -> Result<PolarsResult<ArrayRef>, Fail> {
-    let (dtype, text) = (line.field(0)?, line.field(1)?);
-    let (at, len) = (line.count(2)?, line.count(3)?);
+    let (dtype, text) = (line.field(0), line.field(1));
+    let (at, len) = (line.count(2), line.count(3));
     let rows = column(alloc, dtype, text, form)?;
     let answer = part(alloc, dtype, &rows, at, len);
     with_same(alloc, rows, text, answer)
@@ -53,7 +53,7 @@ pub fn parts(alloc: Global, line: &Line, form: Form) -> Result<PolarsResult<Arra
 
 /// Of a type and rows: a copy of these.
 pub fn copies(alloc: Global, line: &Line, form: Form) -> Result<PolarsResult<ArrayRef>, Fail> {
-    let (dtype, text) = (line.field(0)?, line.field(1)?);
+    let (dtype, text) = (line.field(0), line.field(1));
     let rows = column(alloc, dtype, text, form)?;
     begins_line(alloc, is_flat(dtype));
     let answer = rows.try_clone(alloc);
@@ -87,7 +87,7 @@ fn empty_of(
 
 /// Of a type: the column without rows.
 pub fn empties(alloc: Global, line: &Line, _form: Form) -> Result<PolarsResult<ArrayRef>, Fail> {
-    let name = line.field(0)?;
+    let name = line.field(0);
     let Ok(dtype) = parse_dtype(alloc, name) else {
         return Err(Fail::from("no type"));
     };
@@ -123,8 +123,8 @@ fn of_type(
 
 /// Of a type and rows: the rows, where their type is the one.
 pub fn types(alloc: Global, line: &Line, form: Form) -> Result<PolarsResult<ArrayRef>, Fail> {
-    let name = line.field(0)?;
-    let rows = column(alloc, name, line.field(1)?, form)?;
+    let name = line.field(0);
+    let rows = column(alloc, name, line.field(1), form)?;
     begins_line(alloc, is_flat(name));
     let answer = rows.dtype(alloc);
     ends_line(alloc, &answer);
@@ -155,17 +155,24 @@ fn ends_made<A>(alloc: Global, answer: &Result<A, MakeError>) {
     ends_line(alloc, &told);
 }
 
-// The bits of a text of truth values.
-fn bits(alloc: Global, text: &str) -> Result<Option<Bitmap>, Fail> {
-    Ok(Some(mask(alloc, text, Form::Whole)?.values))
+// The truth values of a text as a validity.
+fn validity(alloc: Global, text: &str) -> Result<Option<Bitmap>, Fail> {
+    Ok(Some(bits(alloc, text, Form::Whole)?))
+}
+
+// The numbers of a text as offsets.
+fn offsets(alloc: Global, text: &str) -> Result<OffsetsBuffer<i64>, Fail> {
+    let ends = numbers::<i64>(alloc, "i64", text, Form::Whole)?;
+    let offsets = Vec::from_slice(alloc, ends.values().as_slice());
+    drop(ends);
+    Ok(OffsetsBuffer::try_from(offsets?)?)
 }
 
 /// Of a type, rows, where lists of them begin and end, and which lists are valid: the lists.
 pub fn lists_over(alloc: Global, line: &Line, form: Form) -> Result<PolarsResult<ArrayRef>, Fail> {
-    let ends = numbers::<i64>(alloc, "i64", line.field(2)?, Form::Whole)?;
-    let offsets = OffsetsBuffer::try_from(Vec::from_slice(alloc, ends.values().as_slice())?)?;
-    let validity = bits(alloc, line.field(3)?)?;
-    let child = column(alloc, line.field(0)?, line.field(1)?, form)?;
+    let offsets = offsets(alloc, line.field(2))?;
+    let validity = validity(alloc, line.field(3))?;
+    let child = column(alloc, line.field(0), line.field(1), form)?;
     begins(alloc);
     let answer = ListArray::try_new(alloc, offsets, child, validity);
     ends_made(alloc, &answer);
@@ -174,9 +181,9 @@ pub fn lists_over(alloc: Global, line: &Line, form: Form) -> Result<PolarsResult
 
 /// Of a type, rows, how many of them are in a list, how many lists there are, and which are valid: the lists.
 pub fn blocks_over(alloc: Global, line: &Line, form: Form) -> Result<PolarsResult<ArrayRef>, Fail> {
-    let (size, len) = (line.count(2)?, line.count(3)?);
-    let validity = bits(alloc, line.field(4)?)?;
-    let child = column(alloc, line.field(0)?, line.field(1)?, form)?;
+    let (size, len) = (line.count(2), line.count(3));
+    let validity = validity(alloc, line.field(4))?;
+    let child = column(alloc, line.field(0), line.field(1), form)?;
     begins(alloc);
     let answer = FixedSizeListArray::try_new(alloc, size, len, child, validity);
     ends_made(alloc, &answer);
@@ -186,14 +193,14 @@ pub fn blocks_over(alloc: Global, line: &Line, form: Form) -> Result<PolarsResul
 // One field.
 fn one_field(alloc: Global, line: &Line, form: Form) -> Result<Vec<ArrayRef>, Fail> {
     let mut fields = Vec::with_capacity(alloc, 1)?;
-    fields.push_reserved(column(alloc, line.field(0)?, line.field(1)?, form)?);
+    fields.push_reserved(column(alloc, line.field(0), line.field(1), form)?);
     Ok(fields)
 }
 
 /// Of a type, rows, how many tuples of one of them there are, and which are valid: the tuples.
 pub fn tuples_over(alloc: Global, line: &Line, form: Form) -> Result<PolarsResult<ArrayRef>, Fail> {
-    let len = line.count(2)?;
-    let validity = bits(alloc, line.field(3)?)?;
+    let len = line.count(2);
+    let validity = validity(alloc, line.field(3))?;
     let fields = one_field(alloc, line, form)?;
     begins(alloc);
     let answer = StructArray::try_new(alloc, len, fields, validity);
@@ -203,10 +210,10 @@ pub fn tuples_over(alloc: Global, line: &Line, form: Form) -> Result<PolarsResul
 
 // What a column tells of itself: its length, how many of its rows are null, and whether it has a validity.
 fn tells_of(alloc: Global, line: &Line, rows: &ArrayRef, form: Form) -> Result<bool, Fail> {
-    let (wanted, nulls) = (line.count(2)?, line.count(3)?);
-    let is_null = line.field(0)? == "null";
+    let (wanted, nulls) = (line.count(2), line.count(3));
+    let is_null = line.field(0) == "null";
     // (a part keeps the validity of the column that it is of)
-    let with_validity = line.is(4)? || matches!(form, Form::Part) && !is_null;
+    let with_validity = line.is(4) || matches!(form, Form::Part) && !is_null;
     begins_free(alloc);
     let len = rows.len();
     let is_empty = rows.is_empty();
@@ -224,40 +231,48 @@ fn tells_of(alloc: Global, line: &Line, rows: &ArrayRef, form: Form) -> Result<b
 
 /// Of a type, rows, how many there are, how many of them are null, and whether there is a validity: whether a column tells so.
 pub fn tells(alloc: Global, line: &Line, form: Form) -> Result<bool, Fail> {
-    let rows = column(alloc, line.field(0)?, line.field(1)?, form)?;
+    let rows = column(alloc, line.field(0), line.field(1), form)?;
     let is_told = tells_of(alloc, line, &rows, form);
     drop(rows);
     is_told
 }
 
+// A column of one kind as one of any type.
+fn erased<A: Array>(found: Result<A, ArrayRef>) -> Result<ArrayRef, ArrayRef> {
+    match found {
+        Ok(column) => Ok(column.into_ref()),
+        Err(column) => Err(column),
+    }
+}
+
 // A column as one of its own kind, and that as one of any type.
 fn turned(dtype: &str, column: ArrayRef) -> Result<ArrayRef, ArrayRef> {
     match dtype {
-        "null" => Ok(column.into_null()?.into_ref()),
-        "bool" => Ok(column.into_boolean()?.into_ref()),
-        "i8" => Ok(column.into_primitive::<i8>()?.into_ref()),
-        "i16" => Ok(column.into_primitive::<i16>()?.into_ref()),
-        "i32" => Ok(column.into_primitive::<i32>()?.into_ref()),
-        "i64" => Ok(column.into_primitive::<i64>()?.into_ref()),
-        "i128" => Ok(column.into_primitive::<i128>()?.into_ref()),
-        "u8" => Ok(column.into_primitive::<u8>()?.into_ref()),
-        "u16" => Ok(column.into_primitive::<u16>()?.into_ref()),
-        "u32" => Ok(column.into_primitive::<u32>()?.into_ref()),
-        "u64" => Ok(column.into_primitive::<u64>()?.into_ref()),
-        "u128" => Ok(column.into_primitive::<u128>()?.into_ref()),
+        "null" => erased(column.into_null()),
+        "bool" => erased(column.into_boolean()),
+        "i8" => erased(column.into_primitive::<i8>()),
+        "i16" => erased(column.into_primitive::<i16>()),
+        "i32" => erased(column.into_primitive::<i32>()),
+        "i64" => erased(column.into_primitive::<i64>()),
+        "i128" => erased(column.into_primitive::<i128>()),
+        "u8" => erased(column.into_primitive::<u8>()),
+        "u16" => erased(column.into_primitive::<u16>()),
+        "u32" => erased(column.into_primitive::<u32>()),
+        "u64" => erased(column.into_primitive::<u64>()),
+        "u128" => erased(column.into_primitive::<u128>()),
         _ => turned_other(dtype, column),
     }
 }
 
 fn turned_other(dtype: &str, column: ArrayRef) -> Result<ArrayRef, ArrayRef> {
     match dtype {
-        "binary" => Ok(column.into_binary()?.into_ref()),
-        "binview" => Ok(column.into_binview()?.into_ref()),
-        "utf8" => Ok(column.into_utf8view()?.into_ref()),
+        "binary" => erased(column.into_binary()),
+        "binview" => erased(column.into_binview()),
+        "utf8" => erased(column.into_utf8view()),
         _ => match dtype.as_bytes().first() {
-            Some(b'l') => Ok(column.into_list()?.into_ref()),
-            Some(b'f') => Ok(column.into_fixed_size_list()?.into_ref()),
-            _ => Ok(column.into_struct()?.into_ref()),
+            Some(b'l') => erased(column.into_list()),
+            Some(b'f') => erased(column.into_fixed_size_list()),
+            _ => erased(column.into_struct()),
         },
     }
 }
@@ -268,8 +283,8 @@ pub fn there_and_back(
     line: &Line,
     form: Form,
 ) -> Result<PolarsResult<ArrayRef>, Fail> {
-    let dtype = line.field(0)?;
-    let rows = column(alloc, dtype, line.field(1)?, form)?;
+    let dtype = line.field(0);
+    let rows = column(alloc, dtype, line.field(1), form)?;
     begins_free(alloc);
     let back = turned(dtype, rows);
     ends_answered(alloc);
@@ -376,35 +391,14 @@ fn what_columns_tell(rt: HostRuntime) -> Result<(), Fail> {
 
 /// The first line of these tables that does not hold.
 pub fn wrong(alloc: Global, memory: Memory) -> Result<Option<String>, Fail> {
-    let wrong = wrong_line(alloc, PARTS, memory, parts)?;
-    if wrong.is_some() {
-        return Ok(wrong);
-    }
-    let wrong = wrong_line(alloc, ROWS, memory, copies)?;
-    if wrong.is_some() {
-        return Ok(wrong);
-    }
-    let wrong = wrong_line(alloc, ROWS, memory, types)?;
-    if wrong.is_some() {
-        return Ok(wrong);
-    }
-    let wrong = wrong_line(alloc, ROWS, memory, there_and_back)?;
-    if wrong.is_some() {
-        return Ok(wrong);
-    }
-    let wrong = wrong_line(alloc, NONE, memory, empties)?;
-    if wrong.is_some() {
-        return Ok(wrong);
-    }
-    let wrong = wrong_line(alloc, LISTS, memory, lists_over)?;
-    if wrong.is_some() {
-        return Ok(wrong);
-    }
-    let wrong = wrong_line(alloc, BLOCKS, memory, blocks_over)?;
-    if wrong.is_some() {
-        return Ok(wrong);
-    }
-    wrong_line(alloc, TUPLES, memory, tuples_over)
+    let wrong = wrong_line(alloc, PARTS, memory, parts);
+    let wrong = or_wrong_line(wrong, alloc, ROWS, memory, copies);
+    let wrong = or_wrong_line(wrong, alloc, ROWS, memory, types);
+    let wrong = or_wrong_line(wrong, alloc, ROWS, memory, there_and_back);
+    let wrong = or_wrong_line(wrong, alloc, NONE, memory, empties);
+    let wrong = or_wrong_line(wrong, alloc, LISTS, memory, lists_over);
+    let wrong = or_wrong_line(wrong, alloc, BLOCKS, memory, blocks_over);
+    or_wrong_line(wrong, alloc, TUPLES, memory, tuples_over)
 }
 
 #[test]

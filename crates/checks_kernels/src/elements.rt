@@ -3,7 +3,7 @@
 use checks_lines::line::Line;
 use checks_lines::marks::{begins, begins_free, begins_line, ends, ends_answered, ends_line};
 use checks_lines::read::{Form, as_any, column, with_same, with_same_of};
-use checks_lines::table::{Memory, wrong_line, wrong_test};
+use checks_lines::table::{Memory, or_wrong_line, wrong_line, wrong_test};
 use checks_lines::typed::{blocks, lists, numbers};
 use sel_arrow::array::Array;
 use sel_arrow::array_ref::ArrayRef;
@@ -21,8 +21,8 @@ use std::test::Fail;
 
 /// Of a type, lists and an index: the elements there.
 pub fn elements_at(alloc: Global, line: &Line, form: Form) -> Result<PolarsResult<ArrayRef>, Fail> {
-    let (text, index) = (line.field(1)?, line.number(2)?);
-    let lists = lists(alloc, line.field(0)?, text, form)?;
+    let (text, index) = (line.field(1), line.number(2));
+    let lists = lists(alloc, line.field(0), text, form)?;
     begins(alloc);
     let answer = sublist_get(alloc, &lists, index);
     ends_line(alloc, &answer);
@@ -33,8 +33,8 @@ pub fn elements_at(alloc: Global, line: &Line, form: Form) -> Result<PolarsResul
 
 /// Of a type, lists and an index: whether some list lacks the place.
 pub fn is_outside(alloc: Global, line: &Line, form: Form) -> Result<bool, Fail> {
-    let index = line.number(2)?;
-    let lists = lists(alloc, line.field(0)?, line.field(1)?, form)?;
+    let index = line.number(2);
+    let lists = lists(alloc, line.field(0), line.field(1), form)?;
     begins_free(alloc);
     let is_outside = index_is_oob(&lists, index);
     ends_answered(alloc);
@@ -44,8 +44,8 @@ pub fn is_outside(alloc: Global, line: &Line, form: Form) -> Result<bool, Fail> 
 
 /// Of a type, lists and an index: the places of the elements there in a child that begins with the first list.
 pub fn places_at(alloc: Global, line: &Line, _form: Form) -> Result<PolarsResult<ArrayRef>, Fail> {
-    let (text, index) = (line.field(1)?, line.number(2)?);
-    let lists = lists(alloc, line.field(0)?, text, Form::Whole)?;
+    let (text, index) = (line.field(1), line.number(2));
+    let lists = lists(alloc, line.field(0), text, Form::Whole)?;
     begins(alloc);
     let answer = sublist_get_indexes(alloc, &lists, index);
     ends_line(alloc, &answer);
@@ -56,8 +56,8 @@ pub fn places_at(alloc: Global, line: &Line, _form: Form) -> Result<PolarsResult
 
 /// Of a type and rows: each of them in a list of its own.
 pub fn units_of(alloc: Global, line: &Line, form: Form) -> Result<PolarsResult<ArrayRef>, Fail> {
-    let text = line.field(1)?;
-    let rows = column(alloc, line.field(0)?, text, form)?;
+    let text = line.field(1);
+    let rows = column(alloc, line.field(0), text, form)?;
     begins(alloc);
     let answer = array_to_unit_list(alloc, rows);
     ends(alloc, answer.is_err());
@@ -68,15 +68,15 @@ pub fn units_of(alloc: Global, line: &Line, form: Form) -> Result<PolarsResult<A
 }
 
 // Whether some list lacks a place, and is to: that is told without memory.
-fn is_refused(line: &Line) -> Result<bool, Fail> {
-    Ok(line.answer()? == "get index is out of bounds")
+fn is_refused(line: &Line) -> bool {
+    line.answer() == "get index is out of bounds"
 }
 
 /// Of a type, lists of one length, an index, and whether null is an answer: the entries there.
 pub fn entries_at(alloc: Global, line: &Line, form: Form) -> Result<PolarsResult<ArrayRef>, Fail> {
-    let (text, index, null_on_oob) = (line.field(1)?, line.number(2)?, line.is(3)?);
-    let takes_none = is_refused(line)?;
-    let blocks = blocks(alloc, line.field(0)?, text, form)?;
+    let (text, index, null_on_oob) = (line.field(1), line.number(2), line.is(3));
+    let takes_none = is_refused(line);
+    let blocks = blocks(alloc, line.field(0), text, form)?;
     begins_line(alloc, takes_none);
     let answer = sub_fixed_size_list_get_literal(alloc, &blocks, index, null_on_oob);
     ends_line(alloc, &answer);
@@ -89,15 +89,16 @@ pub fn entries_at(alloc: Global, line: &Line, form: Form) -> Result<PolarsResult
 fn entries_at_each(
     alloc: Global,
     blocks: &FixedSizeListArray,
-    indices: &PrimitiveArray<i64>,
+    indices: Result<PrimitiveArray<i64>, Fail>,
     null_on_oob: bool,
     takes_none: bool,
 ) -> Result<PolarsResult<ArrayRef>, Fail> {
+    let indices = indices?;
     if indices.len() != blocks.len() {
         return Err(Fail::from("not an index for each list"));
     }
     begins_line(alloc, takes_none);
-    let answer = sub_fixed_size_list_get(alloc, blocks, indices, null_on_oob);
+    let answer = sub_fixed_size_list_get(alloc, blocks, &indices, null_on_oob);
     ends_line(alloc, &answer);
     Ok(answer)
 }
@@ -108,11 +109,11 @@ pub fn entries_at_indices(
     line: &Line,
     form: Form,
 ) -> Result<PolarsResult<ArrayRef>, Fail> {
-    let (text, null_on_oob) = (line.field(1)?, line.is(3)?);
-    let takes_none = is_refused(line)?;
-    let indices = numbers::<i64>(alloc, "i64", line.field(2)?, form)?;
-    let blocks = blocks(alloc, line.field(0)?, text, form)?;
-    let answer = entries_at_each(alloc, &blocks, &indices, null_on_oob, takes_none);
+    let (text, null_on_oob) = (line.field(1), line.is(3));
+    let takes_none = is_refused(line);
+    let blocks = blocks(alloc, line.field(0), text, form)?;
+    let indices = numbers::<i64>(alloc, "i64", line.field(2), form);
+    let answer = entries_at_each(alloc, &blocks, indices, null_on_oob, takes_none);
     let answer = with_same_of(alloc, &blocks, text, answer);
     drop(blocks);
     answer
@@ -207,23 +208,11 @@ fn places_that_lists_lack(rt: HostRuntime) -> Result<(), Fail> {
 
 /// The first line of these tables that does not hold.
 pub fn wrong(alloc: Global, memory: Memory) -> Result<Option<String>, Fail> {
-    let wrong = wrong_line(alloc, ELEMENTS, memory, elements_at)?;
-    if wrong.is_some() {
-        return Ok(wrong);
-    }
-    let wrong = wrong_line(alloc, PLACES, memory, places_at)?;
-    if wrong.is_some() {
-        return Ok(wrong);
-    }
-    let wrong = wrong_line(alloc, UNITS, memory, units_of)?;
-    if wrong.is_some() {
-        return Ok(wrong);
-    }
-    let wrong = wrong_line(alloc, ENTRIES, memory, entries_at)?;
-    if wrong.is_some() {
-        return Ok(wrong);
-    }
-    wrong_line(alloc, ENTRIES_AT_EACH, memory, entries_at_indices)
+    let wrong = wrong_line(alloc, ELEMENTS, memory, elements_at);
+    let wrong = or_wrong_line(wrong, alloc, PLACES, memory, places_at);
+    let wrong = or_wrong_line(wrong, alloc, UNITS, memory, units_of);
+    let wrong = or_wrong_line(wrong, alloc, ENTRIES, memory, entries_at);
+    or_wrong_line(wrong, alloc, ENTRIES_AT_EACH, memory, entries_at_indices)
 }
 
 #[test]

@@ -5,7 +5,7 @@ ghost use Rattle.sel_arrow.specs.Rows.{IsWellFormed};
 use checks_lines::line::Line;
 use checks_lines::marks::{begins, begins_line, ends_line};
 use checks_lines::read::{Form, column, two, with_same};
-use checks_lines::table::{Memory, wrong_line, wrong_test};
+use checks_lines::table::{Memory, or_wrong_line, wrong_line, wrong_test};
 use sel_arrow::array::Array;
 use sel_arrow::array_ref::ArrayRef;
 use sel_arrow::column::Column;
@@ -30,17 +30,21 @@ fn with_same_two(
     with_same(alloc, second, texts.1, answer)
 }
 
-// Two columns of one type in a list.
-fn listed(
+// Two columns, each of its type.
+fn pair(
     alloc: Global,
     dtypes: (&str, &str),
     texts: (&str, &str),
     form: Form,
-) -> Result<Vec<ArrayRef>, Fail> {
-    let mut columns = Vec::with_capacity(alloc, 2)?;
-    columns.push_reserved(column(alloc, dtypes.0, texts.0, form)?);
-    columns.push_reserved(column(alloc, dtypes.1, texts.1, form)?);
-    Ok(columns)
+) -> Result<[ArrayRef; 2], Fail> {
+    let first = column(alloc, dtypes.0, texts.0, form)?;
+    match column(alloc, dtypes.1, texts.1, form) {
+        Ok(second) => Ok([first, second]),
+        Err(fail) => {
+            drop(first);
+            Err(fail)
+        }
+    }
 }
 
 // The columns side by side, where they may be.
@@ -59,87 +63,73 @@ fn flattened(
     Ok(answer)
 }
 
-// The answer, where the columns of a list still have the rows of their texts.
-fn with_same_list(
-    alloc: Global,
-    columns: Vec<ArrayRef>,
-    texts: (&str, &str),
-    answer: Result<PolarsResult<ArrayRef>, Fail>,
-) -> Result<PolarsResult<ArrayRef>, Fail> {
-    let mut left = columns;
-    let (second, first) = (left.pop(), left.pop());
-    drop(left);
-    match (first, second) {
-        (Some(first), Some(second)) => with_same_two(alloc, (first, second), texts, answer),
-        (first, second) => {
-            drop(first);
-            drop(second);
-            answer
-        }
-    }
-}
-
 /// Of a type, two columns, their widths, and how many rows: these, side by side.
 pub fn flat_rows(alloc: Global, line: &Line, form: Form) -> Result<PolarsResult<ArrayRef>, Fail> {
-    let (dtype, texts) = (line.field(0)?, (line.field(1)?, line.field(2)?));
-    let (widths, height) = (line.counts(alloc, 3)?, line.count(4)?);
-    let columns = listed(alloc, (dtype, dtype), texts, form)?;
+    let (dtype, texts) = (line.field(0), (line.field(1), line.field(2)));
+    let (widths, height) = (line.counts(alloc, 3)?, line.count(4));
+    let columns = pair(alloc, (dtype, dtype), texts, form)?;
     let answer = flattened(alloc, &columns, &widths, height);
-    with_same_list(alloc, columns, texts, answer)
+    let [first, second] = columns;
+    with_same_two(alloc, (first, second), texts, answer)
 }
 
 // Of two types with rows each, their widths, and how many rows: whether they may be put side by side.
 fn may_flatten(alloc: Global, line: &Line, form: Form) -> Result<bool, Fail> {
-    let dtypes = (line.field(0)?, line.field(2)?);
-    let texts = (line.field(1)?, line.field(3)?);
-    let (widths, height) = (line.counts(alloc, 4)?, line.count(5)?);
-    let columns = listed(alloc, dtypes, texts, form)?;
+    let dtypes = (line.field(0), line.field(2));
+    let texts = (line.field(1), line.field(3));
+    let (widths, height) = (line.counts(alloc, 4)?, line.count(5));
+    let columns = pair(alloc, dtypes, texts, form)?;
     let is_safe = flatten_is_safe(&columns, &widths, height);
     drop(columns);
     Ok(is_safe)
 }
 
 // A number before a mark, and one behind it.
-fn split_numbers(text: &str, mark: char) -> Result<(u32, u32), Fail> {
-    let (first, second) = text.split_once(mark).ok_or("no two numbers")?;
-    let first = first.parse::<u32>().ok().ok_or("no number")?;
-    Ok((first, second.parse::<u32>().ok().ok_or("no number")?))
+fn split_numbers(text: &str, mark: char) -> Option<(u32, u32)> {
+    let (first, second) = text.split_once(mark)?;
+    match (first.parse::<u32>(), second.parse::<u32>()) {
+        (Ok(first), Ok(second)) => Some((first, second)),
+        _ => None,
+    }
 }
 
 // Picks, as in `1:0 _`: a column and a row, or a null.
 fn picks_of(alloc: Global, text: &str) -> Result<Vec<Option<(u32, u32)>>, Fail> {
     let mut picks = Vec::new(alloc);
     for word in text.split_whitespace() {
-        picks.push(if word == "_" {
-            None
-        } else {
-            Some(split_numbers(word, ':')?)
-        })?;
+        let pick = split_numbers(word, ':');
+        if pick.is_none() && word != "_" {
+            return Err(Fail::from("no pick"));
+        }
+        picks.push(pick)?;
     }
     Ok(picks)
 }
 
-// Runs, as in `1:0+2 _+3`: a column, a row and how many rows from there on, or how many nulls.
+// A run, as in `1:0+2` or `_+3`: a column, a row and how many rows from there on, or how many nulls.
+fn run_of(word: &str) -> Option<Run> {
+    let (from, len) = word.split_once('+')?;
+    match (len.parse::<u32>(), split_numbers(from, ':')) {
+        (Ok(len), Some((source, start))) => Some(Run {
+            source: Some(source),
+            start,
+            len,
+        }),
+        (Ok(len), None) if from == "_" => Some(nulls_of(len)),
+        _ => None,
+    }
+}
+
+// The runs of a text, with spaces between them.
 fn runs_of(alloc: Global, text: &str) -> Result<Vec<Run>, Fail> {
     let mut runs = Vec::new(alloc);
     for word in text.split_whitespace() {
-        runs.push(run_of(word)?)?;
+        match run_of(word) {
+            Some(run) => runs.push(run)?,
+            None => return Err(Fail::from("no run")),
+        }
     }
     Ok(runs)
-}
-
-fn run_of(word: &str) -> Result<Run, Fail> {
-    let (from, len) = word.split_once('+').ok_or("no run")?;
-    let len = len.parse::<u32>().ok().ok_or("no length")?;
-    if from == "_" {
-        return Ok(nulls_of(len));
-    }
-    let (source, start) = split_numbers(from, ':')?;
-    Ok(Run {
-        source: Some(source),
-        start,
-        len,
-    })
 }
 
 // The rows that picks name, where the sources are of one type and have them.
@@ -162,9 +152,9 @@ fn collected<'a>(
 
 /// Of a type, two columns and picks: the rows that they name.
 pub fn picked(alloc: Global, line: &Line, form: Form) -> Result<PolarsResult<ArrayRef>, Fail> {
-    let texts = (line.field(1)?, line.field(2)?);
-    let picks = picks_of(alloc, line.field(3)?)?;
-    let (first, second) = two(alloc, line.field(0)?, texts.0, texts.1, form)?;
+    let texts = (line.field(1), line.field(2));
+    let picks = picks_of(alloc, line.field(3))?;
+    let (first, second) = two(alloc, line.field(0), texts.0, texts.1, form)?;
     let answer = collected(alloc, &[first.as_column(), second.as_column()], &picks);
     with_same_two(alloc, (first, second), texts, answer)
 }
@@ -207,8 +197,8 @@ fn as_formed(answer: PolarsResult<Column>) -> Result<PolarsResult<ArrayRef>, Fai
 
 /// Of a type, two columns and runs: the rows that they pick.
 pub fn run_rows(alloc: Global, line: &Line, form: Form) -> Result<PolarsResult<ArrayRef>, Fail> {
-    let (dtype, texts) = (line.field(0)?, (line.field(1)?, line.field(2)?));
-    let runs = runs_of(alloc, line.field(3)?)?;
+    let (dtype, texts) = (line.field(0), (line.field(1), line.field(2)));
+    let runs = runs_of(alloc, line.field(3))?;
     let (first, second) = two(alloc, dtype, texts.0, texts.1, form)?;
     let answer = collected_runs(
         alloc,
@@ -250,8 +240,8 @@ pub fn run_rows_of_one(
     line: &Line,
     form: Form,
 ) -> Result<PolarsResult<ArrayRef>, Fail> {
-    let (dtype, text) = (line.field(0)?, line.field(1)?);
-    let runs = runs_of(alloc, line.field(2)?)?;
+    let (dtype, text) = (line.field(0), line.field(1));
+    let runs = runs_of(alloc, line.field(2))?;
     let rows = column(alloc, dtype, text, form)?;
     let answer = collected_one(alloc, dtype, rows.as_column(), &runs);
     with_same(alloc, rows, text, answer)
@@ -330,19 +320,10 @@ fn what_may_stand_side_by_side(rt: HostRuntime) -> Result<(), Fail> {
 
 /// The first line of these tables that does not hold.
 pub fn wrong(alloc: Global, memory: Memory) -> Result<Option<String>, Fail> {
-    let wrong = wrong_line(alloc, FLAT, memory, flat_rows)?;
-    if wrong.is_some() {
-        return Ok(wrong);
-    }
-    let wrong = wrong_line(alloc, PICKS, memory, picked)?;
-    if wrong.is_some() {
-        return Ok(wrong);
-    }
-    let wrong = wrong_line(alloc, RUNS, memory, run_rows)?;
-    if wrong.is_some() {
-        return Ok(wrong);
-    }
-    wrong_line(alloc, RUNS_OF_ONE, memory, run_rows_of_one)
+    let wrong = wrong_line(alloc, FLAT, memory, flat_rows);
+    let wrong = or_wrong_line(wrong, alloc, PICKS, memory, picked);
+    let wrong = or_wrong_line(wrong, alloc, RUNS, memory, run_rows);
+    or_wrong_line(wrong, alloc, RUNS_OF_ONE, memory, run_rows_of_one)
 }
 
 #[test]

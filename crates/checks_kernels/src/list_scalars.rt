@@ -4,8 +4,8 @@ use crate::scalars::between_scalars;
 use checks_lines::line::Line;
 use checks_lines::marks::{begins, ends_line};
 use checks_lines::read::{Form, as_any, column, two, with_same, with_same_of};
-use checks_lines::table::{Memory, wrong_line};
-use checks_lines::typed::mask;
+use checks_lines::table::{Memory, or_wrong_line, wrong_line};
+use checks_lines::typed::bits;
 use sel_arrow::array::Array;
 use sel_arrow::array_ref::ArrayRef;
 use sel_arrow::datatype::ArrowDataType;
@@ -97,10 +97,10 @@ fn chosen_by(
     form: Form,
     one: &ArrayRef,
 ) -> Result<PolarsResult<ArrayRef>, Fail> {
-    let (text, is_true) = (line.field(2)?, line.is(5)?);
-    let mask = mask(alloc, line.field(1)?, form)?;
-    let lists = column(alloc, line.field(0)?, text, form)?;
-    chosen(alloc, mask.values(), (lists, text), one, is_true)
+    let (text, is_true) = (line.field(2), line.is(5));
+    let mask = bits(alloc, line.field(1), form)?;
+    let lists = column(alloc, line.field(0), text, form)?;
+    chosen(alloc, &mask, (lists, text), one, is_true)
 }
 
 /// Of a type of lists, a mask, lists, the type of the entries, those of one list, and whether it is the true side: the rows of the
@@ -110,8 +110,8 @@ pub fn chosen_with_list(
     line: &Line,
     form: Form,
 ) -> Result<PolarsResult<ArrayRef>, Fail> {
-    let entries = line.field(4)?;
-    let one = column(alloc, line.field(3)?, entries, form)?;
+    let entries = line.field(4);
+    let one = column(alloc, line.field(3), entries, form)?;
     let answer = chosen_by(alloc, line, form, &one);
     with_same(alloc, one, entries, answer)
 }
@@ -148,19 +148,19 @@ pub fn chosen_of_two(
     line: &Line,
     form: Form,
 ) -> Result<PolarsResult<ArrayRef>, Fail> {
-    let texts = (line.field(3)?, line.field(4)?);
-    let mask = mask(alloc, line.field(2)?, form)?;
-    let Ok(dtype) = parse_dtype(alloc, line.field(0)?) else {
+    let texts = (line.field(3), line.field(4));
+    let mask = bits(alloc, line.field(2), form)?;
+    let Ok(dtype) = parse_dtype(alloc, line.field(0)) else {
         return Err(Fail::from("no type"));
     };
-    let (if_true, if_false) = match two(alloc, line.field(1)?, texts.0, texts.1, form) {
+    let (if_true, if_false) = match two(alloc, line.field(1), texts.0, texts.1, form) {
         Ok(sides) => sides,
         Err(fail) => {
             drop(dtype);
             return Err(fail);
         }
     };
-    let answer = of_two(alloc, dtype, mask.values(), &if_true, &if_false);
+    let answer = of_two(alloc, dtype, &mask, &if_true, &if_false);
     let answer = with_same(alloc, if_true, texts.0, answer);
     with_same(alloc, if_false, texts.1, answer)
 }
@@ -190,11 +190,8 @@ fixed<2,i64> | i64 | [true,true,false,true,false] | [3,5] | [1,5] | [[3,5],[3,5]
 
 /// The first line of these tables that does not hold.
 pub fn wrong(alloc: Global, memory: Memory) -> Result<Option<String>, Fail> {
-    let wrong = wrong_line(alloc, LISTS, memory, chosen_with_list)?;
-    if wrong.is_some() {
-        return Ok(wrong);
-    }
-    wrong_line(alloc, TWO_LISTS, memory, chosen_of_two)
+    let wrong = wrong_line(alloc, LISTS, memory, chosen_with_list);
+    or_wrong_line(wrong, alloc, TWO_LISTS, memory, chosen_of_two)
 }
 
 #[test]

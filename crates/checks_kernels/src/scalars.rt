@@ -6,8 +6,8 @@ ghost use Rattle.sel_arrow.specs.DataType.{shape_of};
 use checks_lines::line::Line;
 use checks_lines::marks::{begins, ends_line};
 use checks_lines::read::{Form, as_any, with_same_of};
-use checks_lines::table::{Memory, wrong_line};
-use checks_lines::typed::{mask, numbers, texts, views};
+use checks_lines::table::{Memory, or_wrong_line, wrong_line};
+use checks_lines::typed::{bits, mask, numbers, texts, views};
 use sel_arrow::array::Array;
 use sel_arrow::array_ref::ArrayRef;
 use sel_arrow::binview::BinaryViewArray;
@@ -49,56 +49,87 @@ fn with_scalar<C: IfThenElseKernel>(
 ) -> Result<PolarsResult<ArrayRef>, Fail>
     requires { C.fits scalar.now (C.shape column.now) }
 {
-    let (text, is_true) = (line.field(2)?, line.is(4)?);
-    let mask = mask(alloc, line.field(1)?, form)?;
-    let bits = mask.values();
-    if column.len() != bits.len() {
+    let (text, is_true) = (line.field(2), line.is(4));
+    let mask = bits(alloc, line.field(1), form)?;
+    if column.len() != mask.len() {
         return Err(Fail::from("another length"));
     }
     begins(alloc);
     let answer = if is_true {
-        C::if_then_else_broadcast_true(alloc, bits, scalar, column)
+        C::if_then_else_broadcast_true(alloc, &mask, scalar, column)
     } else {
-        C::if_then_else_broadcast_false(alloc, bits, column, scalar)
+        C::if_then_else_broadcast_false(alloc, &mask, column, scalar)
     };
     ends_line(alloc, &answer);
     with_same_of(alloc, column, text, Ok(as_any(answer)))
 }
 
+// The value that one row is.
+fn value<T>(found: Option<T>) -> Result<T, Fail> {
+    match found {
+        Some(value) => Ok(value),
+        None => Err(Fail::from("not one valid row")),
+    }
+}
+
+// The number, where there is one row and it is valid.
+fn one_number<T: ArrowPrimitive>(numbers: &PrimitiveArray<T>) -> Option<T> {
+    if numbers.len() != 1 {
+        return None;
+    }
+    numbers.get(0)
+}
+
 // The one number of a text.
 fn number<T: ArrowPrimitive>(alloc: Global, dtype: &str, text: &str) -> Result<T, Fail> {
     let numbers = numbers::<T>(alloc, dtype, text, Form::Whole)?;
-    if numbers.len() != 1 {
-        return Err(Fail::from("not one number"));
+    value(one_number(&numbers))
+}
+
+// The truth value, where there is one row and it is valid.
+fn one_truth(truths: &BooleanArray) -> Option<bool> {
+    if truths.len() != 1 {
+        return None;
     }
-    Ok(numbers.get(0).ok_or("a null")?)
+    truths.get(0)
 }
 
 // The one truth value of a text.
 fn truth(alloc: Global, text: &str) -> Result<bool, Fail> {
     let truths = mask(alloc, text, Form::Whole)?;
-    if truths.len() != 1 {
-        return Err(Fail::from("not one truth value"));
+    value(one_truth(&truths))
+}
+
+// The bytes, where there is one row and it is valid.
+fn one_of_bytes(alloc: Global, views: &BinaryViewArray) -> PolarsResult<Option<Vec<u8>>> {
+    if views.len() != 1 {
+        return Ok(None);
     }
-    Ok(truths.get(0).ok_or("a null")?)
+    views.get(alloc, 0)
 }
 
 // The bytes of the one row of a text.
 fn bytes(alloc: Global, text: &str) -> Result<Vec<u8>, Fail> {
     let views = views(alloc, text, Form::Whole)?;
-    if views.len() != 1 {
-        return Err(Fail::from("not one row"));
+    let found = one_of_bytes(alloc, &views);
+    drop(views);
+    value(found?)
+}
+
+// The text, where there is one row and it is valid.
+fn one_of_texts(alloc: Global, texts: &Utf8ViewArray) -> PolarsResult<Option<String>> {
+    if texts.len() != 1 {
+        return Ok(None);
     }
-    Ok(views.get(alloc, 0)?.ok_or("a null")?)
+    texts.get(alloc, 0)
 }
 
 // The one text of a text of rows.
 fn one_text(alloc: Global, text: &str) -> Result<String, Fail> {
     let texts = texts(alloc, text, Form::Whole)?;
-    if texts.len() != 1 {
-        return Err(Fail::from("not one row"));
-    }
-    Ok(texts.get(alloc, 0)?.ok_or("a null")?)
+    let found = one_of_texts(alloc, &texts);
+    drop(texts);
+    value(found?)
 }
 
 fn numbers_with_one<T: ArrowPrimitive + Drop>(
@@ -106,38 +137,35 @@ fn numbers_with_one<T: ArrowPrimitive + Drop>(
     line: &Line,
     form: Form,
 ) -> Result<PolarsResult<ArrayRef>, Fail> {
-    let scalar = number::<T>(alloc, line.field(0)?, line.field(3)?)?;
-    let column = numbers::<T>(alloc, line.field(0)?, line.field(2)?, form)?;
-    with_scalar(alloc, line, form, &column, &scalar)
+    let one = number::<T>(alloc, line.field(0), line.field(3))?;
+    let column = numbers::<T>(alloc, line.field(0), line.field(2), form)?;
+    let answer = with_scalar(alloc, line, form, &column, &one);
+    drop(column);
+    answer
 }
 
-fn others_with_one(alloc: Global, line: &Line, form: Form) -> Result<PolarsResult<ArrayRef>, Fail> {
-    let (text, one) = (line.field(2)?, line.field(3)?);
-    match line.field(0)? {
-        "bool" => with_scalar(
-            alloc,
-            line,
-            form,
-            &mask(alloc, text, form)?,
-            &truth(alloc, one)?,
-        ),
-        "binview" => {
-            with_scalar(
-                alloc,
-                line,
-                form,
-                &views(alloc, text, form)?,
-                &bytes(alloc, one)?,
-            )
-        }
-        _ => with_scalar(
-            alloc,
-            line,
-            form,
-            &texts(alloc, text, form)?,
-            &one_text(alloc, one)?,
-        ),
-    }
+fn truths_with_one(alloc: Global, line: &Line, form: Form) -> Result<PolarsResult<ArrayRef>, Fail> {
+    let one = truth(alloc, line.field(3))?;
+    let column = mask(alloc, line.field(2), form)?;
+    let answer = with_scalar(alloc, line, form, &column, &one);
+    drop(column);
+    answer
+}
+
+fn bytes_with_one(alloc: Global, line: &Line, form: Form) -> Result<PolarsResult<ArrayRef>, Fail> {
+    let one = bytes(alloc, line.field(3))?;
+    let column = views(alloc, line.field(2), form)?;
+    let answer = with_scalar(alloc, line, form, &column, &one);
+    drop(column);
+    answer
+}
+
+fn texts_with_one(alloc: Global, line: &Line, form: Form) -> Result<PolarsResult<ArrayRef>, Fail> {
+    let one = one_text(alloc, line.field(3))?;
+    let column = texts(alloc, line.field(2), form)?;
+    let answer = with_scalar(alloc, line, form, &column, &one);
+    drop(column);
+    answer
 }
 
 /// Of a type, a mask, rows, one row, and whether it is the true side: the rows of the choice.
@@ -146,7 +174,7 @@ pub fn chosen_with_one(
     line: &Line,
     form: Form,
 ) -> Result<PolarsResult<ArrayRef>, Fail> {
-    match line.field(0)? {
+    match line.field(0) {
         "i8" => numbers_with_one::<i8>(alloc, line, form),
         "i16" => numbers_with_one::<i16>(alloc, line, form),
         "i32" => numbers_with_one::<i32>(alloc, line, form),
@@ -157,7 +185,9 @@ pub fn chosen_with_one(
         "u32" => numbers_with_one::<u32>(alloc, line, form),
         "u64" => numbers_with_one::<u64>(alloc, line, form),
         "u128" => numbers_with_one::<u128>(alloc, line, form),
-        _ => others_with_one(alloc, line, form),
+        "bool" => truths_with_one(alloc, line, form),
+        "binview" => bytes_with_one(alloc, line, form),
+        _ => texts_with_one(alloc, line, form),
     }
 }
 
@@ -166,34 +196,35 @@ fn two_numbers<T: ArrowPrimitive + Drop>(
     line: &Line,
     form: Form,
 ) -> Result<PolarsResult<ArrayRef>, Fail> {
-    let if_true = number::<T>(alloc, line.field(0)?, line.field(2)?)?;
-    let if_false = number::<T>(alloc, line.field(0)?, line.field(3)?)?;
-    let mask = mask(alloc, line.field(1)?, form)?;
+    let if_true = number::<T>(alloc, line.field(0), line.field(2))?;
+    let if_false = number::<T>(alloc, line.field(0), line.field(3))?;
+    let mask = bits(alloc, line.field(1), form)?;
     let dtype = T::column_dtype();
-    Ok(between_scalars::<PrimitiveArray<T>>(alloc, dtype, mask.values(), &if_true, &if_false))
+    Ok(between_scalars::<PrimitiveArray<T>>(alloc, dtype, &mask, &if_true, &if_false))
 }
 
-fn two_others(alloc: Global, line: &Line, form: Form) -> Result<PolarsResult<ArrayRef>, Fail> {
-    let (one, other) = (line.field(2)?, line.field(3)?);
-    let mask = mask(alloc, line.field(1)?, form)?;
-    let bits = mask.values();
-    match line.field(0)? {
-        "bool" => {
-            let (one, other) = (truth(alloc, one)?, truth(alloc, other)?);
-            let dtype = ArrowDataType::Boolean;
-            Ok(between_scalars::<BooleanArray>(alloc, dtype, bits, &one, &other))
-        }
-        "binview" => {
-            let (one, other) = (bytes(alloc, one)?, bytes(alloc, other)?);
-            let dtype = ArrowDataType::BinaryView;
-            Ok(between_scalars::<BinaryViewArray>(alloc, dtype, bits, &one, &other))
-        }
-        _ => {
-            let (one, other) = (one_text(alloc, one)?, one_text(alloc, other)?);
-            let dtype = ArrowDataType::Utf8View;
-            Ok(between_scalars::<Utf8ViewArray>(alloc, dtype, bits, &one, &other))
-        }
-    }
+fn two_truths(alloc: Global, line: &Line, form: Form) -> Result<PolarsResult<ArrayRef>, Fail> {
+    let (one, other) = (truth(alloc, line.field(2))?, truth(alloc, line.field(3))?);
+    let mask = bits(alloc, line.field(1), form)?;
+    let dtype = ArrowDataType::Boolean;
+    Ok(between_scalars::<BooleanArray>(alloc, dtype, &mask, &one, &other))
+}
+
+fn two_of_bytes(alloc: Global, line: &Line, form: Form) -> Result<PolarsResult<ArrayRef>, Fail> {
+    let (one, other) = (bytes(alloc, line.field(2))?, bytes(alloc, line.field(3))?);
+    let mask = bits(alloc, line.field(1), form)?;
+    let dtype = ArrowDataType::BinaryView;
+    Ok(between_scalars::<BinaryViewArray>(alloc, dtype, &mask, &one, &other))
+}
+
+fn two_texts(alloc: Global, line: &Line, form: Form) -> Result<PolarsResult<ArrayRef>, Fail> {
+    let (one, other) = (
+        one_text(alloc, line.field(2))?,
+        one_text(alloc, line.field(3))?,
+    );
+    let mask = bits(alloc, line.field(1), form)?;
+    let dtype = ArrowDataType::Utf8View;
+    Ok(between_scalars::<Utf8ViewArray>(alloc, dtype, &mask, &one, &other))
 }
 
 /// Of a type, a mask and two rows: the rows of the choice.
@@ -202,7 +233,7 @@ pub fn chosen_of_two(
     line: &Line,
     form: Form,
 ) -> Result<PolarsResult<ArrayRef>, Fail> {
-    match line.field(0)? {
+    match line.field(0) {
         "i8" => two_numbers::<i8>(alloc, line, form),
         "i16" => two_numbers::<i16>(alloc, line, form),
         "i32" => two_numbers::<i32>(alloc, line, form),
@@ -213,7 +244,9 @@ pub fn chosen_of_two(
         "u32" => two_numbers::<u32>(alloc, line, form),
         "u64" => two_numbers::<u64>(alloc, line, form),
         "u128" => two_numbers::<u128>(alloc, line, form),
-        _ => two_others(alloc, line, form),
+        "bool" => two_truths(alloc, line, form),
+        "binview" => two_of_bytes(alloc, line, form),
+        _ => two_texts(alloc, line, form),
     }
 }
 
@@ -245,11 +278,8 @@ utf8 | [false,true] | ["first"] | ["second"] | ["second","first"]
 
 /// The first line of these tables that does not hold.
 pub fn wrong(alloc: Global, memory: Memory) -> Result<Option<String>, Fail> {
-    let wrong = wrong_line(alloc, ONE, memory, chosen_with_one)?;
-    if wrong.is_some() {
-        return Ok(wrong);
-    }
-    wrong_line(alloc, TWO, memory, chosen_of_two)
+    let wrong = wrong_line(alloc, ONE, memory, chosen_with_one);
+    or_wrong_line(wrong, alloc, TWO, memory, chosen_of_two)
 }
 
 #[test]

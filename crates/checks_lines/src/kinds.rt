@@ -93,7 +93,7 @@ fn push_part(filled: &mut String, part: &str, kind: &Line) -> Result<(), Fail> {
         Some(digit) => digit.to_digit(10).ok_or("no digit")? as usize,
         None => return Err(Fail::from("nothing stands behind a $")),
     };
-    filled.push_str(kind.field(place)?)?;
+    filled.push_str(kind.field(place))?;
     filled.push_str(letters.as_str())?;
     Ok(())
 }

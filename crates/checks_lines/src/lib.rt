@@ -1,7 +1,6 @@
 //! Tables of tests: columns, arguments and answers are written as texts, a call a line.
 #![tactic(auto)]
 
-pub mod bits;
 pub mod kinds;
 pub mod line;
 pub mod marks;

@@ -25,52 +25,52 @@ impl Line {
         &self.text
     }
 
-    /// The field at a place.
-    pub fn field(&self, place: usize) -> Result<&str, Fail> {
-        for (at, field) in self.text.split(BETWEEN).enumerate() {
-            if at == place {
-                return Ok(field);
-            }
+    /// The field at a place, which is empty where there are too few.
+    pub fn field(&self, place: usize) -> &str {
+        match self.text.split(BETWEEN).nth(place) {
+            Some(field) => field,
+            None => "",
         }
-        Err(Fail::from("too few fields"))
     }
 
     /// The last field.
-    pub fn answer(&self) -> Result<&str, Fail> {
-        let mut last = None;
-        for field in self.text.split(BETWEEN) {
-            last = Some(field);
+    pub fn answer(&self) -> &str {
+        match self.text.rsplit_once(BETWEEN) {
+            Some((_, last)) => last,
+            None => "",
         }
-        Ok(last.ok_or("no field")?)
     }
 
-    /// The number in a field.
-    pub fn number(&self, place: usize) -> Result<i64, Fail> {
-        let number = self.field(place)?.parse::<i64>();
-        Ok(number.ok().ok_or("no number")?)
+    /// The number in a field, the least one where it is none.
+    pub fn number(&self, place: usize) -> i64 {
+        match self.field(place).parse::<i64>() {
+            Ok(number) => number,
+            Err(_) => i64::MIN,
+        }
     }
 
-    /// The count in a field.
-    pub fn count(&self, place: usize) -> Result<usize, Fail> {
-        let count = self.field(place)?.parse::<usize>();
-        Ok(count.ok().ok_or("no count")?)
+    /// The count in a field, the greatest one where it is none: no column is as long.
+    pub fn count(&self, place: usize) -> usize {
+        match self.field(place).parse::<usize>() {
+            Ok(count) => count,
+            Err(_) => usize::MAX,
+        }
     }
 
     /// The counts in a field, with spaces between them.
     pub fn counts(&self, alloc: Global, place: usize) -> Result<Vec<usize>, Fail> {
         let mut counts = Vec::new(alloc);
-        for word in self.field(place)?.split_whitespace() {
-            counts.push(word.parse::<usize>().ok().ok_or("no count")?)?;
+        for word in self.field(place).split_whitespace() {
+            match word.parse::<usize>() {
+                Ok(count) => counts.push(count)?,
+                Err(_) => return Err(Fail::from("no count")),
+            }
         }
         Ok(counts)
     }
 
-    /// Whether a field is `true`; else it is `false`.
-    pub fn is(&self, place: usize) -> Result<bool, Fail> {
-        match self.field(place)? {
-            "true" => Ok(true),
-            "false" => Ok(false),
-            _ => Err(Fail::from("no truth value")),
-        }
+    /// Whether a field is `true`.
+    pub fn is(&self, place: usize) -> bool {
+        self.field(place) == "true"
     }
 }

@@ -52,11 +52,6 @@ pub fn ends_by<T>(alloc: Global, answer: &PolarsResult<T>) {
     ends(alloc, is_refused(answer));
 }
 
-/// The call, which passes a limit, ended by want of memory or by that limit: either may come where a growth was refused.
-pub fn ends_limited(alloc: Global) {
-    mark(alloc, ENDS_LIMITED);
-}
-
 /// The call of a line ended by this answer. It may take memory, or none; a refusal of a limit or of a place may come before it does.
 pub fn ends_line<T>(alloc: Global, answer: &PolarsResult<T>) {
     let bytes = match answer {

@@ -1,12 +1,11 @@
 //! Tables of lines, tried.
 
-use crate::bits::spelled;
 use crate::kinds::push_lines;
 use crate::line::Line;
 use crate::marks::is_refused;
 use crate::read::{FORMS, Form, is_text};
 use sel_arrow::array_ref::ArrayRef;
-use sel_bits::faults::{PolarsError, PolarsResult};
+use sel_bits::faults::PolarsResult;
 use std::alloc::Global;
 use std::test::Fail;
 
@@ -61,6 +60,24 @@ where
     Ok(None)
 }
 
+/// What was found wrong, or the first such line of one more table.
+pub fn or_wrong_line<F>(
+    wrong: Result<Option<String>, Fail>,
+    alloc: Global,
+    table: &str,
+    memory: Memory,
+    call: F,
+) -> Result<Option<String>, Fail>
+where
+    F: Fn(Global, &Line, Form) -> Result<PolarsResult<ArrayRef>, Fail> + Drop,
+    requires { F.IsAlwaysCallable call }
+{
+    match wrong? {
+        None => wrong_line(alloc, table, memory, call),
+        wrong => Ok(wrong),
+    }
+}
+
 /// The text of a line that does not hold.
 fn told(alloc: Global, line: &Line) -> Result<Option<String>, Fail> {
     Ok(Some(String::from_str(alloc, line.text())?))
@@ -73,14 +90,7 @@ fn is_right(
     line: &Line,
     memory: Memory,
 ) -> Result<bool, Fail> {
-    let answer = answer?;
-    match line.answer() {
-        Ok(text) => is_answer(alloc, answer, text, memory),
-        Err(fail) => {
-            drop(answer);
-            Err(fail)
-        }
-    }
+    is_answer(alloc, answer?, line.answer(), memory)
 }
 
 /// Whether an answer is this text, or want of memory where that may come.
@@ -118,7 +128,7 @@ where
 /// Whether a test told whether the last field of the line is `true`.
 fn is_truth(answer: Result<bool, Fail>, line: &Line) -> Result<bool, Fail> {
     let word = if answer? { "true" } else { "false" };
-    Ok(word == line.answer()?)
+    Ok(word == line.answer())
 }
 
 /// The first line whose call does not answer the text that its last field is.
@@ -140,40 +150,5 @@ where
 /// Whether a call answered the text that the last field of the line is.
 fn is_same_text(answer: Result<String, Fail>, line: &Line) -> Result<bool, Fail> {
     let answer = answer?;
-    Ok(answer.as_str() == line.answer()?)
-}
-
-/// The first line whose call does not answer the bits and numbers, or the refusal, that its last field is.
-pub fn wrong_words<F>(
-    alloc: Global,
-    table: &str,
-    memory: Memory,
-    call: F,
-) -> Result<Option<String>, Fail>
-where
-    F: Fn(Global, &Line) -> Result<PolarsResult<String>, Fail> + Drop,
-    requires { F.IsAlwaysCallable call }
-{
-    let lines = lines_of(alloc, table)?;
-    for line in &lines {
-        let answer = call(alloc, line);
-        if !are_words(alloc, answer, line, memory)? {
-            return told(alloc, line);
-        }
-    }
-    Ok(None)
-}
-
-/// Whether a call answered the words that the last field of the line spells, or want of memory where that may come.
-fn are_words(
-    alloc: Global,
-    answer: Result<PolarsResult<String>, Fail>,
-    line: &Line,
-    memory: Memory,
-) -> Result<bool, Fail> {
-    match answer? {
-        Ok(words) => Ok(words.as_str() == spelled(alloc, line.answer()?)?.as_str()),
-        Err(PolarsError::OutOfMemory) => Ok(memory.may_be_refused()),
-        Err(_) => Ok(false),
-    }
+    Ok(answer.as_str() == line.answer())
 }

@@ -10,6 +10,7 @@ use sel_arrow::list::ListArray;
 use sel_arrow::primitive::{ArrowPrimitive, PrimitiveArray};
 use sel_arrow::structure::StructArray;
 use sel_arrow::utf8view::Utf8ViewArray;
+use sel_bits::bitmap::Bitmap;
 use std::alloc::Global;
 use std::test::Fail;
 
@@ -27,6 +28,11 @@ fn of_kind<A>(found: Result<A, ArrayRef>) -> Result<A, Fail> {
 /// A column of truth values.
 pub fn mask(alloc: Global, rows: &str, form: Form) -> Result<BooleanArray, Fail> {
     of_kind(column(alloc, "bool", rows, form)?.into_boolean())
+}
+
+/// The bits of a column of truth values.
+pub fn bits(alloc: Global, rows: &str, form: Form) -> Result<Bitmap, Fail> {
+    Ok(mask(alloc, rows, form)?.values)
 }
 
 /// A column of numbers of one type.

@@ -27,16 +27,36 @@ fn columns_of(
 }
 
 // What is answered where the rows are there.
-fn selected(
+fn selected_at(
     alloc: Global,
     columns: &[ArrayRef],
     mask: &BooleanArray,
-    indices: &IdxArr,
+    indices: Result<IdxArr, Fail>,
 ) -> Result<PolarsResult<Vec<ArrayRef>>, Fail> {
-    if !select_is_safe(columns, mask, indices) {
+    let indices = indices?;
+    if !select_is_safe(columns, mask, &indices) {
         return Err(Fail::from("not safe"));
     }
-    Ok(select_rows(alloc, columns, mask, indices))
+    Ok(select_rows(alloc, columns, mask, &indices))
+}
+
+// The same, of a mask and indices as texts.
+fn selected(
+    alloc: Global,
+    columns: &[ArrayRef],
+    truths: &str,
+    places: &str,
+    form: Form,
+) -> Result<PolarsResult<Vec<ArrayRef>>, Fail> {
+    let mask = mask(alloc, truths, form)?;
+    let answer = selected_at(
+        alloc,
+        columns,
+        &mask,
+        numbers::<u32>(alloc, "u32", places, form),
+    );
+    drop(mask);
+    answer
 }
 
 // Whether the columns are these texts, the last of each part.
@@ -69,10 +89,8 @@ fn holds(
     form: Form,
 ) -> Result<bool, Fail> {
     let (parts, truths, places) = *line;
-    let mask = mask(alloc, truths, form)?;
-    let indices = numbers::<u32>(alloc, "u32", places, form)?;
     let columns = columns_of(alloc, parts, form)?;
-    let answer = selected(alloc, &columns, &mask, &indices);
+    let answer = selected(alloc, &columns, truths, places, form);
     drop(columns);
     are_texts(alloc, answer??, parts)
 }
@@ -103,15 +121,36 @@ fn rows_of_several_columns(rt: HostRuntime) -> Result<(), Fail> {
     Ok(())
 }
 
-// Whether the rows of a column of numbers at these indices among those that the mask keeps are there.
+// Whether the rows at these indices among those that the mask keeps are there.
+fn may_select(
+    columns: &[ArrayRef],
+    mask: &BooleanArray,
+    indices: Result<IdxArr, Fail>,
+) -> Result<bool, Fail> {
+    Ok(select_is_safe(columns, mask, &indices?))
+}
+
+// The same, of a mask and indices as texts.
+fn may_select_by(
+    alloc: Global,
+    columns: &[ArrayRef],
+    truths: &str,
+    places: &str,
+    form: Form,
+) -> Result<bool, Fail> {
+    let mask = mask(alloc, truths, form)?;
+    let is_safe = may_select(columns, &mask, numbers::<u32>(alloc, "u32", places, form));
+    drop(mask);
+    is_safe
+}
+
+// The same, of a column of numbers.
 fn is_safe(alloc: Global, line: &(&str, &str, &str), form: Form) -> Result<bool, Fail> {
     let (rows, truths, places) = *line;
-    let mask = mask(alloc, truths, form)?;
-    let indices = numbers::<u32>(alloc, "u32", places, form)?;
     let columns = columns_of(alloc, &[("i64", rows, "")], form)?;
-    let is_safe = select_is_safe(&columns, &mask, &indices);
+    let is_safe = may_select_by(alloc, &columns, truths, places, form);
     drop(columns);
-    Ok(is_safe)
+    is_safe
 }
 
 #[test]
@@ -142,10 +181,8 @@ fn number_and_wide_list(alloc: Global) -> Result<Vec<ArrayRef>, Fail> {
 
 #[test]
 fn rows_of_several_columns_have_a_limit(rt: HostRuntime) -> Result<(), Fail> {
-    let mask = mask(rt.alloc(), "[true]", Form::Whole)?;
-    let indices = numbers::<u32>(rt.alloc(), "u32", "[0,0]", Form::Whole)?;
     let columns = number_and_wide_list(rt.alloc())?;
-    let answer = selected(rt.alloc(), &columns, &mask, &indices);
+    let answer = selected(rt.alloc(), &columns, "[true]", "[0,0]", Form::Whole);
     drop(columns);
     assert!(rt; answer?.err() == Some(PolarsError::SizeLimit(Limit::Rows)));
     Ok(())

@@ -4,7 +4,7 @@ use checks_lines::line::Line;
 use checks_lines::marks::{begins, ends_line};
 use checks_lines::read::{Form, as_any, two, with_same_of};
 use checks_lines::table::{Memory, wrong_line};
-use checks_lines::typed::mask;
+use checks_lines::typed::bits;
 use polars_compute::if_then_else::IfThenElseKernel;
 use sel_arrow::array_ref::ArrayRef;
 use sel_arrow::primitive::ArrowPrimitive;
@@ -143,10 +143,10 @@ fn of_dtype(
 
 /// Of a type, a mask and two columns: the rows of the choice.
 pub fn chosen(alloc: Global, line: &Line, form: Form) -> Result<PolarsResult<ArrayRef>, Fail> {
-    let (dtype, texts) = (line.field(0)?, (line.field(2)?, line.field(3)?));
-    let mask = mask(alloc, line.field(1)?, form)?;
+    let (dtype, texts) = (line.field(0), (line.field(2), line.field(3)));
+    let mask = bits(alloc, line.field(1), form)?;
     let sides = two(alloc, dtype, texts.0, texts.1, form)?;
-    of_dtype(alloc, dtype, mask.values(), sides, texts)
+    of_dtype(alloc, dtype, &mask, sides, texts)
 }
 
 /// A type, a mask, two columns, and the rows of the choice.

@@ -3,7 +3,7 @@
 use checks_lines::line::Line;
 use checks_lines::marks::{begins, ends_line};
 use checks_lines::read::{Form, with_same_of};
-use checks_lines::table::{Memory, wrong_line, wrong_test};
+use checks_lines::table::{Memory, or_wrong_line, wrong_line, wrong_test};
 use checks_lines::typed::{numbers, texts};
 use polars_compute::propagate_dictionary::{keys_in_bounds, propagate_dictionary_value_nulls};
 use sel_arrow::array::Array;
@@ -38,6 +38,23 @@ fn keys_alone(
     Ok(keys.into_ref())
 }
 
+// The keys of the dictionary of these keys without its null values; the keys keep the rows of their text.
+fn keys_over(
+    alloc: Global,
+    keys: Result<PrimitiveArray<u32>, Fail>,
+    text: &str,
+    values: &Utf8ViewArray,
+) -> Result<PolarsResult<ArrayRef>, Fail> {
+    let keys = keys?;
+    let answer = match propagated(alloc, &keys, values) {
+        Ok(answer) => Ok(keys_alone(answer)),
+        Err(fail) => Err(fail),
+    };
+    let answer = with_same_of(alloc, &keys, text, answer);
+    drop(keys);
+    answer
+}
+
 // The values of a dictionary that is needed no more, where they have no validity.
 fn values_alone(
     answer: PolarsResult<(PrimitiveArray<u32>, Utf8ViewArray)>,
@@ -56,25 +73,40 @@ fn values_alone(
 
 /// Of texts and keys of them: the keys of the dictionary without its null values.
 pub fn keys_of(alloc: Global, line: &Line, form: Form) -> Result<PolarsResult<ArrayRef>, Fail> {
-    let (rows, places) = (line.field(0)?, line.field(1)?);
-    let keys = numbers::<u32>(alloc, "u32", places, form)?;
+    let (rows, places) = (line.field(0), line.field(1));
     let values = texts(alloc, rows, form)?;
-    let answer = keys_alone(propagated(alloc, &keys, &values)?);
-    let answer = with_same_of(alloc, &keys, places, Ok(answer));
-    with_same_of(alloc, &values, rows, answer)
+    let keys = numbers::<u32>(alloc, "u32", places, form);
+    let answer = keys_over(alloc, keys, places, &values);
+    let answer = with_same_of(alloc, &values, rows, answer);
+    drop(values);
+    answer
+}
+
+// The values of the dictionary of these keys without its null values.
+fn values_under(
+    alloc: Global,
+    keys: Result<PrimitiveArray<u32>, Fail>,
+    values: &Utf8ViewArray,
+) -> Result<PolarsResult<ArrayRef>, Fail> {
+    let keys = keys?;
+    let answer = propagated(alloc, &keys, values);
+    drop(keys);
+    values_alone(answer?)
 }
 
 /// Of texts and keys of them: the values of the dictionary without its null values, which have no validity.
 pub fn values_of(alloc: Global, line: &Line, form: Form) -> Result<PolarsResult<ArrayRef>, Fail> {
-    let keys = numbers::<u32>(alloc, "u32", line.field(1)?, form)?;
-    let values = texts(alloc, line.field(0)?, form)?;
-    values_alone(propagated(alloc, &keys, &values)?)
+    let values = texts(alloc, line.field(0), form)?;
+    let keys = numbers::<u32>(alloc, "u32", line.field(1), form);
+    let answer = values_under(alloc, keys, &values);
+    drop(values);
+    answer
 }
 
 // Of keys and a number of values: whether each key names one.
 fn are_in_bounds(alloc: Global, line: &Line, form: Form) -> Result<bool, Fail> {
-    let keys = numbers::<u32>(alloc, "u32", line.field(0)?, form)?;
-    Ok(keys_in_bounds(&keys, line.count(1)?))
+    let keys = numbers::<u32>(alloc, "u32", line.field(0), form)?;
+    Ok(keys_in_bounds(&keys, line.count(1)))
 }
 
 /// Texts, keys of them, and the keys of the dictionary without its null values.
@@ -105,11 +137,8 @@ fn keys_out_of_bounds(rt: HostRuntime) -> Result<(), Fail> {
 
 /// The first line of these tables that does not hold.
 pub fn wrong(alloc: Global, memory: Memory) -> Result<Option<String>, Fail> {
-    let wrong = wrong_line(alloc, KEYS, memory, keys_of)?;
-    if wrong.is_some() {
-        return Ok(wrong);
-    }
-    wrong_line(alloc, VALUES, memory, values_of)
+    let wrong = wrong_line(alloc, KEYS, memory, keys_of);
+    or_wrong_line(wrong, alloc, VALUES, memory, values_of)
 }
 
 #[test]

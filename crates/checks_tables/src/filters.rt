@@ -3,8 +3,8 @@
 use checks_lines::line::Line;
 use checks_lines::marks::{begins, begins_line, ends_line};
 use checks_lines::read::{Form, column, with_same};
-use checks_lines::table::{Memory, wrong_line};
-use checks_lines::typed::mask;
+use checks_lines::table::{Memory, or_wrong_line, wrong_line};
+use checks_lines::typed::{bits, mask};
 use polars_compute::filter::{filter, filter_with_bitmap};
 use sel_arrow::array::Array;
 use sel_arrow::array_ref::ArrayRef;
@@ -18,23 +18,23 @@ use std::test::Fail;
 fn kept(
     alloc: Global,
     rows: &ArrayRef,
-    mask: &BooleanArray,
+    mask: Result<BooleanArray, Fail>,
 ) -> Result<PolarsResult<ArrayRef>, Fail> {
+    let mask = mask?;
     if rows.len() != mask.len() {
         return Err(Fail::from("another length"));
     }
     begins(alloc);
-    let answer = filter(alloc, rows, mask);
+    let answer = filter(alloc, rows, &mask);
     ends_line(alloc, &answer);
     Ok(answer)
 }
 
 /// Of a type, rows and a mask: the rows that it keeps.
 pub fn filtered(alloc: Global, line: &Line, form: Form) -> Result<PolarsResult<ArrayRef>, Fail> {
-    let text = line.field(1)?;
-    let mask = mask(alloc, line.field(2)?, form)?;
-    let rows = column(alloc, line.field(0)?, text, form)?;
-    let answer = kept(alloc, &rows, &mask);
+    let text = line.field(1);
+    let rows = column(alloc, line.field(0), text, form)?;
+    let answer = kept(alloc, &rows, mask(alloc, line.field(2), form));
     with_same(alloc, rows, text, answer)
 }
 
@@ -43,13 +43,14 @@ fn kept_by_bits(
     alloc: Global,
     dtype: &str,
     rows: &ArrayRef,
-    mask: &Bitmap,
+    mask: Result<Bitmap, Fail>,
 ) -> Result<PolarsResult<ArrayRef>, Fail> {
+    let mask = mask?;
     if rows.len() != mask.len() {
         return Err(Fail::from("another length"));
     }
     begins_line(alloc, dtype == "null");
-    let answer = filter_with_bitmap(alloc, rows, mask);
+    let answer = filter_with_bitmap(alloc, rows, &mask);
     ends_line(alloc, &answer);
     Ok(answer)
 }
@@ -60,10 +61,9 @@ pub fn filtered_by_bits(
     line: &Line,
     form: Form,
 ) -> Result<PolarsResult<ArrayRef>, Fail> {
-    let (dtype, text) = (line.field(0)?, line.field(1)?);
-    let mask = mask(alloc, line.field(2)?, form)?;
+    let (dtype, text) = (line.field(0), line.field(1));
     let rows = column(alloc, dtype, text, form)?;
-    let answer = kept_by_bits(alloc, dtype, &rows, mask.values());
+    let answer = kept_by_bits(alloc, dtype, &rows, bits(alloc, line.field(2), form));
     with_same(alloc, rows, text, answer)
 }
 
@@ -112,15 +112,9 @@ binary | [h"6263",h"",h"646566"] | [true,false,true] | [h"6263",h"646566"]
 
 /// The first line of these tables that does not hold.
 pub fn wrong(alloc: Global, memory: Memory) -> Result<Option<String>, Fail> {
-    let wrong = wrong_line(alloc, MASKS, memory, filtered)?;
-    if wrong.is_some() {
-        return Ok(wrong);
-    }
-    let wrong = wrong_line(alloc, BITS, memory, filtered)?;
-    if wrong.is_some() {
-        return Ok(wrong);
-    }
-    wrong_line(alloc, BITS, memory, filtered_by_bits)
+    let wrong = wrong_line(alloc, MASKS, memory, filtered);
+    let wrong = or_wrong_line(wrong, alloc, BITS, memory, filtered);
+    or_wrong_line(wrong, alloc, BITS, memory, filtered_by_bits)
 }
 
 #[test]

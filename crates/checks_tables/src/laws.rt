@@ -6,7 +6,7 @@ use crate::takes::rows_of;
 use checks_lines::line::Line;
 use checks_lines::read::{Form, column};
 use checks_lines::table::{Memory, wrong_line};
-use checks_lines::typed::{mask, numbers};
+use checks_lines::typed::{bits, numbers};
 use polars_compute::filter::filter_with_bitmap;
 use sel_arrow::array::Array;
 use sel_arrow::array_ref::ArrayRef;
@@ -18,57 +18,65 @@ use std::test::Fail;
 
 // The indices of this field.
 fn indices(alloc: Global, line: &Line, field: usize, form: Form) -> Result<IdxArr, Fail> {
-    numbers::<u32>(alloc, "u32", line.field(field)?, form)
+    numbers::<u32>(alloc, "u32", line.field(field), form)
 }
 
 /// Of a type, rows, a mask and the places that it keeps: the rows at these places.
 fn taken_in_place(alloc: Global, line: &Line, form: Form) -> Result<PolarsResult<ArrayRef>, Fail> {
-    let indices = indices(alloc, line, 3, form)?;
-    let rows = column(alloc, line.field(0)?, line.field(1)?, form)?;
-    rows_of(alloc, rows, &indices)
+    let dtype = line.field(0);
+    let rows = column(alloc, dtype, line.field(1), form)?;
+    rows_of(alloc, dtype, rows, indices(alloc, line, 3, form))
 }
 
 /// Of a type, rows, indices and indices among the rows there: the rows at these.
 fn taken_twice(alloc: Global, line: &Line, form: Form) -> Result<PolarsResult<ArrayRef>, Fail> {
-    let (first, second) = (
-        indices(alloc, line, 2, form)?,
-        indices(alloc, line, 3, form)?,
-    );
-    let rows = column(alloc, line.field(0)?, line.field(1)?, form)?;
-    match rows_of(alloc, rows, &first)? {
-        Ok(rows) => rows_of(alloc, rows, &second),
+    let dtype = line.field(0);
+    let rows = column(alloc, dtype, line.field(1), form)?;
+    match rows_of(alloc, dtype, rows, indices(alloc, line, 2, form))? {
+        Ok(rows) => rows_of(alloc, dtype, rows, indices(alloc, line, 3, form)),
         Err(fault) => Ok(Err(fault)),
     }
 }
 
 /// Of a type, rows, indices, indices among the rows there, and these as indices of the rows: the rows there.
 fn taken_once(alloc: Global, line: &Line, form: Form) -> Result<PolarsResult<ArrayRef>, Fail> {
-    let indices = indices(alloc, line, 4, form)?;
-    let rows = column(alloc, line.field(0)?, line.field(1)?, form)?;
-    rows_of(alloc, rows, &indices)
+    let dtype = line.field(0);
+    let rows = column(alloc, dtype, line.field(1), form)?;
+    rows_of(alloc, dtype, rows, indices(alloc, line, 4, form))
 }
 
-// The rows whose bits are true, of a column that is needed no more.
-fn kept(alloc: Global, rows: ArrayRef, mask: &Bitmap) -> Result<PolarsResult<ArrayRef>, Fail> {
+// The rows whose bits are true.
+fn kept_by(
+    alloc: Global,
+    rows: &ArrayRef,
+    mask: Result<Bitmap, Fail>,
+) -> Result<PolarsResult<ArrayRef>, Fail> {
+    let mask = mask?;
     if rows.len() != mask.len() {
-        drop(rows);
         return Err(Fail::from("another length"));
     }
-    let answer = filter_with_bitmap(alloc, &rows, mask);
-    drop(rows);
-    Ok(answer)
+    Ok(filter_with_bitmap(alloc, rows, &mask))
 }
 
-// The rows of a choice whose bits are true.
-fn kept_of(
+// The same of a column that is needed no more.
+fn kept(
     alloc: Global,
-    answer: PolarsResult<ArrayRef>,
-    mask: &Bitmap,
+    rows: ArrayRef,
+    mask: Result<Bitmap, Fail>,
 ) -> Result<PolarsResult<ArrayRef>, Fail> {
-    match answer {
-        Ok(rows) => kept(alloc, rows, mask),
-        Err(fault) => Ok(Err(fault)),
-    }
+    let answer = kept_by(alloc, &rows, mask);
+    drop(rows);
+    answer
+}
+
+// The bits of the mask of a line.
+fn mask(alloc: Global, line: &Line, form: Form) -> Result<Bitmap, Fail> {
+    bits(alloc, line.field(1), form)
+}
+
+// The opposite of these.
+fn rest(alloc: Global, line: &Line, form: Form) -> Result<Bitmap, Fail> {
+    Ok(mask(alloc, line, form)?.not(alloc)?)
 }
 
 /// Of a type, a mask and two columns: the rows of the choice that the mask keeps.
@@ -77,9 +85,10 @@ fn choice_under_mask(
     line: &Line,
     form: Form,
 ) -> Result<PolarsResult<ArrayRef>, Fail> {
-    let mask = mask(alloc, line.field(1)?, form)?;
-    let answer = chosen(alloc, line, form)?;
-    kept_of(alloc, answer, mask.values())
+    match chosen(alloc, line, form)? {
+        Ok(rows) => kept(alloc, rows, mask(alloc, line, form)),
+        Err(fault) => Ok(Err(fault)),
+    }
 }
 
 /// Of a type, a mask and two columns: the rows of the first one that the mask keeps.
@@ -88,9 +97,8 @@ fn first_under_mask(
     line: &Line,
     form: Form,
 ) -> Result<PolarsResult<ArrayRef>, Fail> {
-    let mask = mask(alloc, line.field(1)?, form)?;
-    let rows = column(alloc, line.field(0)?, line.field(2)?, form)?;
-    kept(alloc, rows, mask.values())
+    let rows = column(alloc, line.field(0), line.field(2), form)?;
+    kept(alloc, rows, mask(alloc, line, form))
 }
 
 /// Of a type, a mask and two columns: the rows of the choice that the mask does not keep.
@@ -99,9 +107,10 @@ fn choice_beside_mask(
     line: &Line,
     form: Form,
 ) -> Result<PolarsResult<ArrayRef>, Fail> {
-    let rest = mask(alloc, line.field(1)?, form)?.values().not(alloc)?;
-    let answer = chosen(alloc, line, form)?;
-    kept_of(alloc, answer, &rest)
+    match chosen(alloc, line, form)? {
+        Ok(rows) => kept(alloc, rows, rest(alloc, line, form)),
+        Err(fault) => Ok(Err(fault)),
+    }
 }
 
 /// Of a type, a mask and two columns: the rows of the second one that the mask does not keep.
@@ -110,9 +119,8 @@ fn second_beside_mask(
     line: &Line,
     form: Form,
 ) -> Result<PolarsResult<ArrayRef>, Fail> {
-    let rest = mask(alloc, line.field(1)?, form)?.values().not(alloc)?;
-    let rows = column(alloc, line.field(0)?, line.field(3)?, form)?;
-    kept(alloc, rows, &rest)
+    let rows = column(alloc, line.field(0), line.field(3), form)?;
+    kept(alloc, rows, rest(alloc, line, form))
 }
 
 /// A type, rows, a mask, the places that it keeps, and the rows there.

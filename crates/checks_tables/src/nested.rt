@@ -3,7 +3,7 @@
 use checks_lines::line::Line;
 use checks_lines::read::{Form, as_any, column, is_text};
 use checks_lines::table::{Memory, wrong_line, wrong_test};
-use checks_lines::typed::{blocks, lists, mask, tuples};
+use checks_lines::typed::{bits, blocks, lists, tuples};
 use sel_arrow::array::Array;
 use sel_arrow::array_ref::ArrayRef;
 use sel_arrow::datatype::ArrowDataType;
@@ -29,11 +29,11 @@ fn part_of<A: Array + Drop>(
     line: &Line,
     rows: A,
 ) -> Result<PolarsResult<ArrayRef>, Fail> {
-    let (at, len) = (line.count(2)?, line.count(3)?);
+    let (at, len) = (line.count(2), line.count(3));
     if at > rows.len() || len > rows.len() - at {
         return Err(Fail::from("out of bounds"));
     }
-    if !is_copied(alloc, &rows, line.field(1)?)? {
+    if !is_copied(alloc, &rows, line.field(1))? {
         return Err(Fail::from("no copy"));
     }
     Ok(as_any(rows.sliced(alloc, at, len)))
@@ -41,7 +41,7 @@ fn part_of<A: Array + Drop>(
 
 // Of a type, rows, a place and a length: so many rows from there on.
 fn parts(alloc: Global, line: &Line, form: Form) -> Result<PolarsResult<ArrayRef>, Fail> {
-    let (dtype, text) = (line.field(0)?, line.field(1)?);
+    let (dtype, text) = (line.field(0), line.field(1));
     match dtype.as_bytes().first() {
         Some(b'l') => part_of(alloc, line, lists(alloc, dtype, text, form)?),
         Some(b'f') => part_of(alloc, line, blocks(alloc, dtype, text, form)?),
@@ -56,7 +56,7 @@ fn lists_under(
     form: Form,
     bits: Bitmap,
 ) -> Result<PolarsResult<ArrayRef>, Fail> {
-    let rows = lists(alloc, line.field(0)?, line.field(1)?, form)?;
+    let rows = lists(alloc, line.field(0), line.field(1), form)?;
     if rows.len() != bits.len() {
         drop(rows);
         return Err(Fail::from("another length"));
@@ -71,7 +71,7 @@ fn blocks_under(
     form: Form,
     bits: Bitmap,
 ) -> Result<PolarsResult<ArrayRef>, Fail> {
-    let rows = blocks(alloc, line.field(0)?, line.field(1)?, form)?;
+    let rows = blocks(alloc, line.field(0), line.field(1), form)?;
     if rows.len() != bits.len() {
         drop(rows);
         return Err(Fail::from("another length"));
@@ -86,7 +86,7 @@ fn tuples_under(
     form: Form,
     bits: Bitmap,
 ) -> Result<PolarsResult<ArrayRef>, Fail> {
-    let rows = tuples(alloc, line.field(0)?, line.field(1)?, form)?;
+    let rows = tuples(alloc, line.field(0), line.field(1), form)?;
     if rows.len() != bits.len() {
         drop(rows);
         return Err(Fail::from("another length"));
@@ -96,8 +96,8 @@ fn tuples_under(
 
 // Of a type, rows and bits: the rows under these bits.
 fn under_others(alloc: Global, line: &Line, form: Form) -> Result<PolarsResult<ArrayRef>, Fail> {
-    let bits = mask(alloc, line.field(2)?, form)?.values;
-    match line.field(0)?.as_bytes().first() {
+    let bits = bits(alloc, line.field(2), form)?;
+    match line.field(0).as_bytes().first() {
         Some(b'l') => lists_under(alloc, line, form, bits),
         Some(b'f') => blocks_under(alloc, line, form, bits),
         _ => tuples_under(alloc, line, form, bits),
@@ -117,8 +117,8 @@ fn back_of<A: Drop>(taken: Result<A, ArrayRef>) -> Result<PolarsResult<ArrayRef>
 
 // Of a type, rows, and another kind: the rows, which come back.
 fn backs(alloc: Global, line: &Line, form: Form) -> Result<PolarsResult<ArrayRef>, Fail> {
-    let kind = line.field(2)?;
-    let rows = column(alloc, line.field(0)?, line.field(1)?, form)?;
+    let kind = line.field(2);
+    let rows = column(alloc, line.field(0), line.field(1), form)?;
     match kind.as_bytes().first() {
         Some(b'l') => back_of(rows.into_list()),
         Some(b'f') => back_of(rows.into_fixed_size_list()),
@@ -150,12 +150,12 @@ fn fits_lists(column: ArrayRef, row: &ArrayRef) -> bool {
 
 // Whether a row can be one of the lists, and whether their type says the same.
 fn fits_both(alloc: Global, line: &Line, form: Form, row: &ArrayRef) -> Result<bool, Fail> {
-    let Ok(dtype) = parse_dtype(alloc, line.field(0)?) else {
+    let Ok(dtype) = parse_dtype(alloc, line.field(0)) else {
         return Err(Fail::from("no type"));
     };
     let fits_type = dtype.scalar_fits(row);
     drop(dtype);
-    let fits = fits_lists(column(alloc, line.field(0)?, line.field(1)?, form)?, row);
+    let fits = fits_lists(column(alloc, line.field(0), line.field(1), form)?, row);
     if fits != fits_type {
         return Err(Fail::from("a type says something else than its column"));
     }
@@ -164,7 +164,7 @@ fn fits_both(alloc: Global, line: &Line, form: Form, row: &ArrayRef) -> Result<b
 
 // Of a type, rows, and the type and the rows of another column: whether that can be one of the lists.
 fn fits(alloc: Global, line: &Line, form: Form) -> Result<bool, Fail> {
-    let row = column(alloc, line.field(2)?, line.field(3)?, form)?;
+    let row = column(alloc, line.field(2), line.field(3), form)?;
     let fits = fits_both(alloc, line, form, &row);
     drop(row);
     fits
@@ -172,14 +172,14 @@ fn fits(alloc: Global, line: &Line, form: Form) -> Result<bool, Fail> {
 
 // Of two types with rows each: whether both columns are of one type.
 fn are_alike(alloc: Global, line: &Line, form: Form) -> Result<bool, Fail> {
-    let first = column(alloc, line.field(0)?, line.field(1)?, form)?;
+    let first = column(alloc, line.field(0), line.field(1), form)?;
     let are = is_like(alloc, line, form, &first);
     drop(first);
     are
 }
 
 fn is_like(alloc: Global, line: &Line, form: Form, first: &ArrayRef) -> Result<bool, Fail> {
-    let second = column(alloc, line.field(2)?, line.field(3)?, form)?;
+    let second = column(alloc, line.field(2), line.field(3), form)?;
     let is_like = first.same_dtype(&second);
     let is_liked = second.same_dtype(first);
     drop(second);
@@ -191,7 +191,7 @@ fn is_like(alloc: Global, line: &Line, form: Form, first: &ArrayRef) -> Result<b
 
 // Of a type: whether its columns can be.
 fn widths_fit(alloc: Global, line: &Line, _form: Form) -> Result<bool, Fail> {
-    let Ok(dtype) = parse_dtype(alloc, line.field(0)?) else {
+    let Ok(dtype) = parse_dtype(alloc, line.field(0)) else {
         return Err(Fail::from("no type"));
     };
     let fit = dtype.widths_fit();

@@ -18,39 +18,37 @@ fn rows_at(
     alloc: Global,
     dtype: &str,
     rows: &ArrayRef,
-    indices: &IdxArr,
+    indices: Result<IdxArr, Fail>,
 ) -> Result<PolarsResult<ArrayRef>, Fail> {
-    if !indices_in_bounds(indices, rows.len()) {
+    let indices = indices?;
+    if !indices_in_bounds(&indices, rows.len()) {
         return Err(Fail::from("out of bounds"));
     }
     begins_line(alloc, dtype == "null");
-    let answer = take_unchecked(alloc, rows, indices);
+    let answer = take_unchecked(alloc, rows, &indices);
     ends_line(alloc, &answer);
     Ok(answer)
 }
 
 /// Of a type, rows and indices: the rows there.
 pub fn taken(alloc: Global, line: &Line, form: Form) -> Result<PolarsResult<ArrayRef>, Fail> {
-    let (dtype, text) = (line.field(0)?, line.field(1)?);
-    let indices = numbers::<u32>(alloc, "u32", line.field(2)?, form)?;
+    let (dtype, text) = (line.field(0), line.field(1));
     let rows = column(alloc, dtype, text, form)?;
-    let answer = rows_at(alloc, dtype, &rows, &indices);
+    let indices = numbers::<u32>(alloc, "u32", line.field(2), form);
+    let answer = rows_at(alloc, dtype, &rows, indices);
     with_same(alloc, rows, text, answer)
 }
 
-/// The rows at the indices, of a column that is needed no more.
+/// The rows at the indices, of a column of some type that is needed no more.
 pub fn rows_of(
     alloc: Global,
+    dtype: &str,
     rows: ArrayRef,
-    indices: &IdxArr,
+    indices: Result<IdxArr, Fail>,
 ) -> Result<PolarsResult<ArrayRef>, Fail> {
-    if !indices_in_bounds(indices, rows.len()) {
-        drop(rows);
-        return Err(Fail::from("out of bounds"));
-    }
-    let answer = take_unchecked(alloc, &rows, indices);
+    let answer = rows_at(alloc, dtype, &rows, indices);
     drop(rows);
-    Ok(answer)
+    answer
 }
 
 /// A type, rows, indices, and the rows there.

@@ -1,7 +1,7 @@
 //! Bitmaps that begin inside a byte and have odd lengths, with all bits outside of them set, and with all of them clear, beside
 //! loops over single bits.
 
-use crate::made::has_bits;
+use crate::fixtures::has_bits;
 use sel_bits::aligned_words::AlignedWords;
 use sel_bits::bitmap::Bitmap;
 use sel_bits::block_copy::BlockCopy;

@@ -1,13 +1,25 @@
 //! What the readers give out, and how they count it.
 
-ghost use Rattle.std.specs.Prelude.{◌≡◌, length};
+ghost use Rattle.std.specs.Prelude.{◌≡◌, length, IfOk};
 
-use crate::made::three_words;
 use sel_bits::aligned_words::AlignedWords;
 use sel_bits::bitmap::Bitmap;
 use sel_bits::blocks::U56Blocks;
 use sel_bits::counted_bits::CountedBits;
+use sel_bits::faults::PolarsResult;
+use std::alloc::Global;
 use std::test::Fail;
+
+/// The bits of three words: 0xB123456789ABCDEF, 0xFEDDBA987654321D and 0x0F1E2D3C4B5A6978.
+fn three_words(alloc: Global) -> PolarsResult<Bitmap>
+    ensures { IfOk result (λ bitmap. length bitmap.bits ≡ 192) }
+{
+    let bytes = [
+        0xEFu8, 0xCD, 0xAB, 0x89, 0x67, 0x45, 0x23, 0xB1, 0x1D, 0x32, 0x54, 0x76, 0x98, 0xBA, 0xDD,
+        0xFE, 0x78, 0x69, 0x5A, 0x4B, 0x3C, 0x2D, 0x1E, 0x0F,
+    ];
+    Bitmap::from_u8_vec(bytes.to_vec(alloc)?, 192)
+}
 
 /// Whether 113 bits are two blocks of 56 and one with a single bit, and are counted as three.
 fn gives_blocks(bitmap: &Bitmap) -> bool {

@@ -2,7 +2,7 @@
 
 ghost use Rattle.std.specs.Prelude.{◌≡◌, length, IfOk};
 
-use crate::made::{begins_with, has_bits};
+use crate::fixtures::{begins_with, has_bits};
 use sel_bits::aligned_words::AlignedWords;
 use sel_bits::bitmap::Bitmap;
 use sel_bits::blocks::U56Blocks;
