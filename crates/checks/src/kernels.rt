@@ -1,8 +1,7 @@
 //! Filters and takes of columns without children, and the kernels of bits, numbers and bytes beneath them.
 
-use checks_columns::fixtures::{
-    begins_with, column, has_bits, has_bytes, has_numbers, numbers, validity_of,
-};
+use checks_bits::fixtures::{begins_with, has_bits};
+use checks_columns::fixtures::{column, has_bytes, has_numbers, numbers, validity_of};
 use polars_compute::filter::boolean::filter_bitmap_and_validity;
 use polars_compute::filter::filter_boolean_kernel;
 use polars_compute::filter::primitive::{filter_values, filter_values_and_validity};
@@ -32,25 +31,32 @@ fn bytes_of(alloc: Global, rows: &[Option<&[u8]>]) -> PolarsResult<Buffer<u8>> {
     Buffer::from_vec(bytes)
 }
 
-// Where those bytes begin and end.
-fn offsets_of<O: Offset>(alloc: Global, rows: &[Option<&[u8]>]) -> Result<OffsetsBuffer<O>, Fail> {
-    let mut offsets = Vec::new(alloc);
+// Where those bytes begin and end, as far as the offsets' type has these places.
+fn ends_of<O: Offset>(alloc: Global, rows: &[Option<&[u8]>]) -> PolarsResult<Vec<O>> {
+    let mut ends = Vec::new(alloc);
     let mut end = 0usize;
-    offsets.push(O::from_usize(end).ok_or("no zero")?)?;
+    push_end(&mut ends, end)?;
     for row in rows {
         let len = match row {
             Some(row) => row.len(),
             None => 1,
         };
-        end = end.checked_add(len).ok_or("too long")?;
-        offsets.push(O::from_usize(end).ok_or("too long")?)?;
+        end = end.saturating_add(len);
+        push_end(&mut ends, end)?;
     }
-    Ok(OffsetsBuffer::try_from(offsets)?)
+    Ok(ends)
+}
+
+fn push_end<O: Offset>(ends: &mut Vec<O>, end: usize) -> PolarsResult<()> {
+    if let Some(end) = O::from_usize(end) {
+        ends.push(end)?;
+    }
+    Ok(())
 }
 
 // A column of bytes; none is null over one hidden byte.
 fn bytes_column<O: Offset>(alloc: Global, rows: &[Option<&[u8]>]) -> Result<BinaryArray<O>, Fail> {
-    let offsets = offsets_of(alloc, rows)?;
+    let offsets = OffsetsBuffer::try_from(ends_of(alloc, rows)?)?;
     let bytes = bytes_of(alloc, rows)?;
     Ok(BinaryArray::try_new(offsets, bytes, Some(validity_of(alloc, rows)?))?)
 }

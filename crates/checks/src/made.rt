@@ -1,6 +1,7 @@
 //! Columns of bytes and of texts, made of their parts.
 
-use checks_columns::fixtures::{buffer, offsets, one_buffer, validity};
+use checks_bits::fixtures::buffer;
+use checks_columns::fixtures::{offsets, one_buffer, validity};
 use sel_arrow::array::Array;
 use sel_arrow::array_ref::ArrayRef;
 use sel_arrow::binary::BinaryArray;

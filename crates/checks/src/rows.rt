@@ -1,6 +1,7 @@
 //! Rows of several columns, by picks and by runs.
 
-use checks_columns::fixtures::{buffer, has_bytes, has_bytes_at, one_buffer, validity};
+use checks_bits::fixtures::buffer;
+use checks_columns::fixtures::{has_bytes, has_bytes_at, one_buffer, validity};
 use polars_compute::gather::{collect_rows, picks_in_bounds};
 use sel_arrow::array::Array;
 use sel_arrow::array_ref::ArrayRef;

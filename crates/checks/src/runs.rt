@@ -3,7 +3,8 @@
 ghost use Rattle.sel_arrow.specs.Rows.{IsWellFormed};
 
 use crate::rows::views;
-use checks_columns::fixtures::{buffer, has_bits, has_bytes_at};
+use checks_bits::fixtures::{buffer, has_bits};
+use checks_columns::fixtures::has_bytes_at;
 use sel_arrow::array::Array;
 use sel_arrow::binview::BinaryViewArray;
 use sel_arrow::column::Column;

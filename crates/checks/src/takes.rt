@@ -1,6 +1,7 @@
 //! Takes of bits, of truth values and of columns of any type at indices, null where an index is.
 
-use checks_columns::fixtures::{column, has_bits, has_truths, truths};
+use checks_bits::fixtures::has_bits;
+use checks_columns::fixtures::{column, has_truths, truths};
 use polars_compute::gather::bitmap::{take_bitmap_nulls_unchecked, take_bitmap_unchecked};
 use polars_compute::gather::{boolean, idx_slice_in_bounds, indices_in_bounds};
 use sel_arrow::array::Array;

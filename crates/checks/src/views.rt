@@ -1,7 +1,8 @@
 //! Which views and data buffers a choice between columns of views has; what its rows are is told by tables.
 
 use crate::masks::is_as_long;
-use checks_columns::fixtures::{buffer, has_bytes_at, one_buffer};
+use checks_bits::fixtures::buffer;
+use checks_columns::fixtures::{has_bytes_at, one_buffer};
 use sel_arrow::array::Array;
 use sel_arrow::binview::BinaryViewArray;
 use sel_arrow::view::View;

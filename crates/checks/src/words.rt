@@ -1,7 +1,7 @@
 //! The kernels of one word, the words of masks and validities.
 
 use crate::masks::{long_bit, long_mask};
-use checks_columns::fixtures::has_bits;
+use checks_bits::fixtures::has_bits;
 use sel_arrow::view::View;
 use sel_bits::aligned_words::AlignedWords;
 use sel_bits::bitmap::Bitmap;

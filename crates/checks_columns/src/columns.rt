@@ -4,9 +4,10 @@ ghost use Rattle.sel_arrow.specs.Masked.{Covers};
 ghost use Rattle.sel_arrow.specs.Rows.{IsWellFormed};
 
 use crate::fixtures::{
-    buffer, copy_tells, has_bytes, has_bytes_at, has_numbers, has_own_dtype, has_text, has_truths,
-    numbers, one_buffer, part_tells, tells, truths, validity,
+    copy_tells, has_bytes, has_bytes_at, has_numbers, has_own_dtype, has_text, has_truths, numbers,
+    one_buffer, part_tells, tells, truths, validity,
 };
+use checks_bits::fixtures::buffer;
 use sel_arrow::array::Array;
 use sel_arrow::array_ref::ArrayRef;
 use sel_arrow::binary::BinaryArray;
@@ -598,22 +599,36 @@ fn has_texts(alloc: Global, texts: &Utf8ViewArray) -> PolarsResult<bool> {
         return Ok(false);
     }
     let part = texts.sliced(alloc, 1, 2)?;
+    let are_so = are_a_text_and_a_null(alloc, &part);
+    drop(part);
+    are_so
+}
+
+/// Whether there are a short text and a null.
+fn are_a_text_and_a_null(alloc: Global, texts: &Utf8ViewArray) -> PolarsResult<bool> {
     Ok(
-        part.len() == 2
-            && has_text(alloc, &part, 0, Some("abcd"))?
-            && has_text(alloc, &part, 1, None)?,
+        texts.len() == 2
+            && has_text(alloc, texts, 0, Some("abcd"))?
+            && has_text(alloc, texts, 1, None)?,
     )
 }
 
 /// Whether the bytes of the texts are the same three rows, over the same data buffers.
 fn has_bytes_of_texts(alloc: Global, texts: &Utf8ViewArray) -> PolarsResult<bool> {
     let bytes = texts.to_binview(alloc)?;
+    let are_so = are_bytes_of_texts(alloc, &bytes);
+    drop(bytes);
+    are_so
+}
+
+/// Whether there are the bytes of a long text and of a short one and a null, over one data buffer.
+fn are_bytes_of_texts(alloc: Global, bytes: &BinaryViewArray) -> PolarsResult<bool> {
     Ok(
         bytes.len() == 3
             && bytes.data_buffers().len() == 1
-            && has_bytes_at(alloc, &bytes, 0, Some(b"abcdefghijklm"))?
-            && has_bytes_at(alloc, &bytes, 1, Some(b"abcd"))?
-            && has_bytes_at(alloc, &bytes, 2, None)?,
+            && has_bytes_at(alloc, bytes, 0, Some(b"abcdefghijklm"))?
+            && has_bytes_at(alloc, bytes, 1, Some(b"abcd"))?
+            && has_bytes_at(alloc, bytes, 2, None)?,
     )
 }
 

@@ -3,6 +3,7 @@
 ghost use Rattle.std.specs.Prelude.{length, IfOk};
 ghost use Rattle.sel_arrow.specs.Masked.{Covers};
 
+use checks_bits::fixtures::buffer;
 use sel_arrow::array::Array;
 use sel_arrow::array_ref::ArrayRef;
 use sel_arrow::binary::BinaryArray;
@@ -20,11 +21,6 @@ use sel_bits::native::{NativeType, Offset};
 use sel_bits::offsets::OffsetsBuffer;
 use std::alloc::Global;
 use std::test::Fail;
-
-/// The values as a buffer.
-pub fn buffer<T: Copy>(alloc: Global, values: &[T]) -> PolarsResult<Buffer<T>> {
-    Buffer::from_vec(Vec::from_slice(alloc, values)?)
-}
 
 /// Offsets that rise.
 pub fn offsets(alloc: Global, offsets: &[i64]) -> Result<OffsetsBuffer<i64>, Fail> {
@@ -95,24 +91,6 @@ pub fn column<T: NativeType>(
 pub fn truths(alloc: Global, values: &[bool], validity: &[bool]) -> Result<BooleanArray, Fail> {
     let values = Bitmap::from_bools(alloc, values)?;
     Ok(BooleanArray::try_new(values, Some(Bitmap::from_bools(alloc, validity)?))?)
-}
-
-/// Whether the bitmap begins with these bits.
-pub fn begins_with(bitmap: &Bitmap, bits: &[bool]) -> bool {
-    if bitmap.len() < bits.len() {
-        return false;
-    }
-    for (i, bit) in bits.iter().enumerate() {
-        if bitmap.get_bit(i) != *bit {
-            return false;
-        }
-    }
-    true
-}
-
-/// Whether the bitmap is these bits.
-pub fn has_bits(bitmap: &Bitmap, bits: &[bool]) -> bool {
-    bitmap.len() == bits.len() && begins_with(bitmap, bits)
 }
 
 /// Whether the column is these truth values; none is null.

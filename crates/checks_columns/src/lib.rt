@@ -1,19 +1,6 @@
-//! The worked rows of bitmaps, buffers, numbers and columns, of the counted readers, and of what masks keep of bits and of words, and
-//! each of their public calls once, as tests.
+//! The worked rows of columns without children, and each of their public calls once, as tests.
 #![tactic(auto)]
 
 #[cfg(test)]
-mod bits;
-#[cfg(test)]
 mod columns;
 pub mod fixtures;
-#[cfg(test)]
-mod kernels;
-#[cfg(test)]
-mod odd;
-#[cfg(test)]
-mod readers;
-#[cfg(test)]
-mod values;
-#[cfg(test)]
-mod words;

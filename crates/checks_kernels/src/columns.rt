@@ -1,6 +1,6 @@
 //! Parts, copies and types of columns, columns without rows, and columns over others.
 
-use checks_lines::line::Line;
+use checks_lines::line::{Line, misspelled};
 use checks_lines::marks::{begins, begins_free, begins_line, ends_answered, ends_line};
 use checks_lines::read::{Form, column, with_same};
 use checks_lines::table::{Memory, or_wrong_line, wrong_line, wrong_test};
@@ -45,7 +45,9 @@ fn part(
 /// Of a type, rows, a place and a length: so many rows from there on.
 pub fn parts(alloc: Global, line: &Line, form: Form) -> Result<PolarsResult<ArrayRef>, Fail> {
     let (dtype, text) = (line.field(0), line.field(1));
-    let (at, len) = (line.count(2), line.count(3));
+    let (Some(at), Some(len)) = (line.count(2), line.count(3)) else {
+        return Err(misspelled());
+    };
     let rows = column(alloc, dtype, text, form)?;
     let answer = part(alloc, dtype, &rows, at, len);
     with_same(alloc, rows, text, answer)
@@ -181,7 +183,9 @@ pub fn lists_over(alloc: Global, line: &Line, form: Form) -> Result<PolarsResult
 
 /// Of a type, rows, how many of them are in a list, how many lists there are, and which are valid: the lists.
 pub fn blocks_over(alloc: Global, line: &Line, form: Form) -> Result<PolarsResult<ArrayRef>, Fail> {
-    let (size, len) = (line.count(2), line.count(3));
+    let (Some(size), Some(len)) = (line.count(2), line.count(3)) else {
+        return Err(misspelled());
+    };
     let validity = validity(alloc, line.field(4))?;
     let child = column(alloc, line.field(0), line.field(1), form)?;
     begins(alloc);
@@ -199,7 +203,9 @@ fn one_field(alloc: Global, line: &Line, form: Form) -> Result<Vec<ArrayRef>, Fa
 
 /// Of a type, rows, how many tuples of one of them there are, and which are valid: the tuples.
 pub fn tuples_over(alloc: Global, line: &Line, form: Form) -> Result<PolarsResult<ArrayRef>, Fail> {
-    let len = line.count(2);
+    let Some(len) = line.count(2) else {
+        return Err(misspelled());
+    };
     let validity = validity(alloc, line.field(3))?;
     let fields = one_field(alloc, line, form)?;
     begins(alloc);
@@ -210,10 +216,15 @@ pub fn tuples_over(alloc: Global, line: &Line, form: Form) -> Result<PolarsResul
 
 // What a column tells of itself: its length, how many of its rows are null, and whether it has a validity.
 fn tells_of(alloc: Global, line: &Line, rows: &ArrayRef, form: Form) -> Result<bool, Fail> {
-    let (wanted, nulls) = (line.count(2), line.count(3));
+    let (Some(wanted), Some(nulls)) = (line.count(2), line.count(3)) else {
+        return Err(misspelled());
+    };
+    let Some(has_own) = line.flag(4) else {
+        return Err(misspelled());
+    };
     let is_null = line.field(0) == "null";
     // (a part keeps the validity of the column that it is of)
-    let with_validity = line.is(4) || matches!(form, Form::Part) && !is_null;
+    let with_validity = has_own || matches!(form, Form::Part) && !is_null;
     begins_free(alloc);
     let len = rows.len();
     let is_empty = rows.is_empty();

@@ -1,6 +1,6 @@
 //! Elements of lists.
 
-use checks_lines::line::Line;
+use checks_lines::line::{Line, misspelled};
 use checks_lines::marks::{begins, begins_free, begins_line, ends, ends_answered, ends_line};
 use checks_lines::read::{Form, as_any, column, with_same, with_same_of};
 use checks_lines::table::{Memory, or_wrong_line, wrong_line, wrong_test};
@@ -21,7 +21,10 @@ use std::test::Fail;
 
 /// Of a type, lists and an index: the elements there.
 pub fn elements_at(alloc: Global, line: &Line, form: Form) -> Result<PolarsResult<ArrayRef>, Fail> {
-    let (text, index) = (line.field(1), line.number(2));
+    let text = line.field(1);
+    let Some(index) = line.number(2) else {
+        return Err(misspelled());
+    };
     let lists = lists(alloc, line.field(0), text, form)?;
     begins(alloc);
     let answer = sublist_get(alloc, &lists, index);
@@ -33,7 +36,9 @@ pub fn elements_at(alloc: Global, line: &Line, form: Form) -> Result<PolarsResul
 
 /// Of a type, lists and an index: whether some list lacks the place.
 pub fn is_outside(alloc: Global, line: &Line, form: Form) -> Result<bool, Fail> {
-    let index = line.number(2);
+    let Some(index) = line.number(2) else {
+        return Err(misspelled());
+    };
     let lists = lists(alloc, line.field(0), line.field(1), form)?;
     begins_free(alloc);
     let is_outside = index_is_oob(&lists, index);
@@ -44,7 +49,10 @@ pub fn is_outside(alloc: Global, line: &Line, form: Form) -> Result<bool, Fail> 
 
 /// Of a type, lists and an index: the places of the elements there in a child that begins with the first list.
 pub fn places_at(alloc: Global, line: &Line, _form: Form) -> Result<PolarsResult<ArrayRef>, Fail> {
-    let (text, index) = (line.field(1), line.number(2));
+    let text = line.field(1);
+    let Some(index) = line.number(2) else {
+        return Err(misspelled());
+    };
     let lists = lists(alloc, line.field(0), text, Form::Whole)?;
     begins(alloc);
     let answer = sublist_get_indexes(alloc, &lists, index);
@@ -74,7 +82,10 @@ fn is_refused(line: &Line) -> bool {
 
 /// Of a type, lists of one length, an index, and whether null is an answer: the entries there.
 pub fn entries_at(alloc: Global, line: &Line, form: Form) -> Result<PolarsResult<ArrayRef>, Fail> {
-    let (text, index, null_on_oob) = (line.field(1), line.number(2), line.is(3));
+    let text = line.field(1);
+    let (Some(index), Some(null_on_oob)) = (line.number(2), line.flag(3)) else {
+        return Err(misspelled());
+    };
     let takes_none = is_refused(line);
     let blocks = blocks(alloc, line.field(0), text, form)?;
     begins_line(alloc, takes_none);
@@ -109,7 +120,10 @@ pub fn entries_at_indices(
     line: &Line,
     form: Form,
 ) -> Result<PolarsResult<ArrayRef>, Fail> {
-    let (text, null_on_oob) = (line.field(1), line.is(3));
+    let text = line.field(1);
+    let Some(null_on_oob) = line.flag(3) else {
+        return Err(misspelled());
+    };
     let takes_none = is_refused(line);
     let blocks = blocks(alloc, line.field(0), text, form)?;
     let indices = numbers::<i64>(alloc, "i64", line.field(2), form);

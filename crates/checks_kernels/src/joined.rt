@@ -2,7 +2,7 @@
 
 ghost use Rattle.sel_arrow.specs.Rows.{IsWellFormed};
 
-use checks_lines::line::Line;
+use checks_lines::line::{Line, misspelled};
 use checks_lines::marks::{begins, begins_line, ends_line};
 use checks_lines::read::{Form, column, two, with_same};
 use checks_lines::table::{Memory, or_wrong_line, wrong_line, wrong_test};
@@ -66,7 +66,10 @@ fn flattened(
 /// Of a type, two columns, their widths, and how many rows: these, side by side.
 pub fn flat_rows(alloc: Global, line: &Line, form: Form) -> Result<PolarsResult<ArrayRef>, Fail> {
     let (dtype, texts) = (line.field(0), (line.field(1), line.field(2)));
-    let (widths, height) = (line.counts(alloc, 3)?, line.count(4));
+    let Some(height) = line.count(4) else {
+        return Err(misspelled());
+    };
+    let widths = line.counts(alloc, 3)?;
     let columns = pair(alloc, (dtype, dtype), texts, form)?;
     let answer = flattened(alloc, &columns, &widths, height);
     let [first, second] = columns;
@@ -77,7 +80,10 @@ pub fn flat_rows(alloc: Global, line: &Line, form: Form) -> Result<PolarsResult<
 fn may_flatten(alloc: Global, line: &Line, form: Form) -> Result<bool, Fail> {
     let dtypes = (line.field(0), line.field(2));
     let texts = (line.field(1), line.field(3));
-    let (widths, height) = (line.counts(alloc, 4)?, line.count(5));
+    let Some(height) = line.count(5) else {
+        return Err(misspelled());
+    };
+    let widths = line.counts(alloc, 4)?;
     let columns = pair(alloc, dtypes, texts, form)?;
     let is_safe = flatten_is_safe(&columns, &widths, height);
     drop(columns);

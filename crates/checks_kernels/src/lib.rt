@@ -14,3 +14,5 @@ mod list_scalars;
 mod refused;
 #[cfg(test)]
 mod scalars;
+#[cfg(test)]
+mod spelled;

@@ -1,7 +1,7 @@
 //! Choices between columns of lists and single lists, and between two lists.
 
 use crate::scalars::between_scalars;
-use checks_lines::line::Line;
+use checks_lines::line::{Line, misspelled};
 use checks_lines::marks::{begins, ends_line};
 use checks_lines::read::{Form, as_any, column, two, with_same, with_same_of};
 use checks_lines::table::{Memory, or_wrong_line, wrong_line};
@@ -97,7 +97,10 @@ fn chosen_by(
     form: Form,
     one: &ArrayRef,
 ) -> Result<PolarsResult<ArrayRef>, Fail> {
-    let (text, is_true) = (line.field(2), line.is(5));
+    let text = line.field(2);
+    let Some(is_true) = line.flag(5) else {
+        return Err(misspelled());
+    };
     let mask = bits(alloc, line.field(1), form)?;
     let lists = column(alloc, line.field(0), text, form)?;
     chosen(alloc, &mask, (lists, text), one, is_true)

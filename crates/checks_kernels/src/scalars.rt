@@ -3,7 +3,7 @@
 ghost use Rattle.std.specs.Prelude.{◌≡◌};
 ghost use Rattle.sel_arrow.specs.DataType.{shape_of};
 
-use checks_lines::line::Line;
+use checks_lines::line::{Line, misspelled};
 use checks_lines::marks::{begins, ends_line};
 use checks_lines::read::{Form, as_any, with_same_of};
 use checks_lines::table::{Memory, or_wrong_line, wrong_line};
@@ -49,7 +49,10 @@ fn with_scalar<C: IfThenElseKernel>(
 ) -> Result<PolarsResult<ArrayRef>, Fail>
     requires { C.fits scalar.now (C.shape column.now) }
 {
-    let (text, is_true) = (line.field(2), line.is(4));
+    let text = line.field(2);
+    let Some(is_true) = line.flag(4) else {
+        return Err(misspelled());
+    };
     let mask = bits(alloc, line.field(1), form)?;
     if column.len() != mask.len() {
         return Err(Fail::from("another length"));

@@ -37,24 +37,18 @@ impl Line {
     pub fn answer(&self) -> &str {
         match self.text.rsplit_once(BETWEEN) {
             Some((_, last)) => last,
-            None => "",
+            None => &self.text,
         }
     }
 
-    /// The number in a field, the least one where it is none.
-    pub fn number(&self, place: usize) -> i64 {
-        match self.field(place).parse::<i64>() {
-            Ok(number) => number,
-            Err(_) => i64::MIN,
-        }
+    /// The number in a field, where it is one.
+    pub fn number(&self, place: usize) -> Option<i64> {
+        self.field(place).parse::<i64>().ok()
     }
 
-    /// The count in a field, the greatest one where it is none: no column is as long.
-    pub fn count(&self, place: usize) -> usize {
-        match self.field(place).parse::<usize>() {
-            Ok(count) => count,
-            Err(_) => usize::MAX,
-        }
+    /// The count in a field, where it is one.
+    pub fn count(&self, place: usize) -> Option<usize> {
+        self.field(place).parse::<usize>().ok()
     }
 
     /// The counts in a field, with spaces between them.
@@ -63,14 +57,23 @@ impl Line {
         for word in self.field(place).split_whitespace() {
             match word.parse::<usize>() {
                 Ok(count) => counts.push(count)?,
-                Err(_) => return Err(Fail::from("no count")),
+                Err(_) => return Err(misspelled()),
             }
         }
         Ok(counts)
     }
 
-    /// Whether a field is `true`.
-    pub fn is(&self, place: usize) -> bool {
-        self.field(place) == "true"
+    /// The truth value in a field, where it is one.
+    pub fn flag(&self, place: usize) -> Option<bool> {
+        match self.field(place) {
+            "true" => Some(true),
+            "false" => Some(false),
+            _ => None,
+        }
     }
+}
+
+/// Why a line is not tried of which a number, a count or a truth value is none.
+pub fn misspelled() -> Fail {
+    Fail::from("a field is misspelled")
 }

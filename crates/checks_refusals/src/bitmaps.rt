@@ -1,6 +1,6 @@
 //! Bitmaps, buffers and offsets: their makers, their operations and the packer.
 
-use checks_columns::fixtures::has_bits;
+use checks_bits::fixtures::has_bits;
 use checks_lines::marks::{begins, begins_free, ends, ends_answered, ends_by};
 use sel_bits::bitmap::Bitmap;
 use sel_bits::buffer::Buffer;
@@ -71,7 +71,7 @@ const FIRST: [bool; 4] = [true, true, false, false];
 const SECOND: [bool; 4] = [true, false, true, false];
 
 /// The operations on two bitmaps, by what they answer for the bits above.
-#[derive(Debug, Clone, Copy)]
+#[derive(Clone, Copy)]
 enum Operation {
     And,
     Or,
@@ -81,13 +81,13 @@ enum Operation {
     Choose,
 }
 
-const OPERATIONS: [(Operation, [bool; 4]); 6] = [
-    (Operation::And, [true, false, false, false]),
-    (Operation::Or, [true, true, true, false]),
-    (Operation::AndNot, [false, true, false, false]),
-    (Operation::OrNot, [true, true, false, true]),
-    (Operation::Not, [false, false, true, true]),
-    (Operation::Choose, [true, true, true, false]),
+const OPERATIONS: [(&str, Operation, [bool; 4]); 6] = [
+    ("and", Operation::And, [true, false, false, false]),
+    ("or", Operation::Or, [true, true, true, false]),
+    ("and_not", Operation::AndNot, [false, true, false, false]),
+    ("or_not", Operation::OrNot, [true, true, false, true]),
+    ("not", Operation::Not, [false, false, true, true]),
+    ("choose", Operation::Choose, [true, true, true, false]),
 ];
 
 /// Whether an operation answers these bits, and leaves both bitmaps as they were.
@@ -118,10 +118,10 @@ fn operates(
 fn operation_on_bitmaps(rt: HostRuntime) -> Result<(), Fail> {
     let first = Bitmap::from_bools(rt.alloc(), &FIRST)?;
     let second = Bitmap::from_bools(rt.alloc(), &SECOND)?;
-    for (operation, bits) in OPERATIONS {
+    for (name, operation, bits) in OPERATIONS {
         assert!(rt;
             operates(rt.alloc(), operation, &first, &second, &bits),
-            "{operation:?}"
+            "{name}"
         );
     }
     Ok(())

@@ -1,7 +1,8 @@
 //! The calls on columns that take no memory, with every growth refused.
 
 use crate::made::{LISTS, NUMBERS, PAIRS, VIEWS};
-use checks_columns::fixtures::{buffer, column, offsets, one_buffer, validity};
+use checks_bits::fixtures::buffer;
+use checks_columns::fixtures::{column, offsets, one_buffer, validity};
 use checks_lines::marks::{begins_free, ends_answered};
 use checks_lines::read::{Form, column as read};
 use checks_lines::typed::{blocks, lists, numbers, views};

@@ -1,7 +1,7 @@
 //! Other validities of columns, and parts of validities, which take no memory, with every growth refused.
 
 use crate::made::{LISTS, NUMBERS, PAIRS, PIECES, TRUTHS, TUPLES, VIEWS, is_column};
-use checks_columns::fixtures::has_bits;
+use checks_bits::fixtures::has_bits;
 use checks_lines::marks::{begins_free, ends_answered};
 use checks_lines::read::Form;
 use checks_lines::typed::{blocks, lists, mask, numbers, pieces, tuples, views};
@@ -71,15 +71,16 @@ fn masked_tuples(column: StructArray, bits: Option<Bitmap>) -> StructArray {
     column.with_validity(bits)
 }
 
-/// Whether a column takes another validity without memory.
+/// Whether a column that was to be made takes another validity without memory.
 fn masks<A: Array + Drop, F: FnOnce(A, Option<Bitmap>) -> A + Drop>(
     alloc: Global,
-    column: A,
+    made: Result<A, Fail>,
     mask: F,
     rows: &str,
 ) -> Result<bool, Fail>
     requires { F.IsAlwaysCallable mask }
 {
+    let column = made?;
     let bits = match Bitmap::from_bools(alloc, &BITS) {
         Ok(bits) => bits,
         Err(fault) => {
@@ -96,14 +97,14 @@ fn masks<A: Array + Drop, F: FnOnce(A, Option<Bitmap>) -> A + Drop>(
 #[test]
 fn no_memory_for_another_validity(rt: HostRuntime) -> Result<(), Fail> {
     let alloc = rt.alloc();
-    let column = mask(alloc, TRUTHS, Form::Whole)?;
+    let column = mask(alloc, TRUTHS, Form::Whole);
     assert!(rt; masks(alloc, column, masked_truths, "[true,null,false,true,null]")?);
-    let column = numbers::<i64>(alloc, "i64", NUMBERS, Form::Whole)?;
+    let column = numbers::<i64>(alloc, "i64", NUMBERS, Form::Whole);
     assert!(rt; masks(alloc, column, masked_numbers, "[1,null,2,7,null]")?);
-    let column = pieces(alloc, PIECES, Form::Whole)?;
+    let column = pieces(alloc, PIECES, Form::Whole);
     let rows = r#"[h"01",null,h"0202",h"07070707070707",null]"#;
     assert!(rt; masks(alloc, column, masked_bytes, rows)?);
-    let column = views(alloc, VIEWS, Form::Whole)?;
+    let column = views(alloc, VIEWS, Form::Whole);
     let rows =
         r#"[h"6262626262626262626262626262",null,h"63636363",h"6868686868686868686868686868",null]"#;
     assert!(rt; masks(alloc, column, masked_views, rows)?);
@@ -113,7 +114,7 @@ fn no_memory_for_another_validity(rt: HostRuntime) -> Result<(), Fail> {
 #[test]
 fn no_memory_for_another_validity_of_lists(rt: HostRuntime) -> Result<(), Fail> {
     let alloc = rt.alloc();
-    let column = lists(alloc, "list<i64>", LISTS, Form::Whole)?;
+    let column = lists(alloc, "list<i64>", LISTS, Form::Whole);
     assert!(rt;
         masks(
             alloc,
@@ -122,7 +123,7 @@ fn no_memory_for_another_validity_of_lists(rt: HostRuntime) -> Result<(), Fail> 
             "[[1],null,[2,null],[7,7],null]"
         )?
     );
-    let column = blocks(alloc, "fixed<2,i64>", PAIRS, Form::Whole)?;
+    let column = blocks(alloc, "fixed<2,i64>", PAIRS, Form::Whole);
     assert!(rt;
         masks(
             alloc,
@@ -131,7 +132,7 @@ fn no_memory_for_another_validity_of_lists(rt: HostRuntime) -> Result<(), Fail> 
             "[[1,5],null,[2,5],[7,5],null]"
         )?
     );
-    let column = tuples(alloc, "struct<i64,utf8>", TUPLES, Form::Whole)?;
+    let column = tuples(alloc, "struct<i64,utf8>", TUPLES, Form::Whole);
     let rows = r#"[(1,"b"),null,(2,"c"),(7,"h"),null]"#;
     assert!(rt; masks(alloc, column, masked_tuples, rows)?);
     Ok(())

@@ -1,6 +1,7 @@
 //! The calls on bitmaps, buffers, words and readers that take no memory, with every growth refused.
 
-use checks_columns::fixtures::{buffer, has_bits, offsets};
+use checks_bits::fixtures::{buffer, has_bits};
+use checks_columns::fixtures::offsets;
 use checks_lines::marks::{begins_free, ends_answered};
 use polars_compute::filter::boolean::pext64_polyfill;
 use polars_compute::if_then_else::scalar::{

@@ -1,7 +1,7 @@
 //! What masks keep of bits and of values, beneath the filters of columns.
 
 use crate::bitmaps::are_bits;
-use checks_columns::fixtures::has_bits;
+use checks_bits::fixtures::has_bits;
 use checks_lines::marks::{begins, begins_free, ends_answered, ends_by};
 use polars_compute::filter::boolean::{
     filter_bitmap_and_validity, filter_boolean_kernel_pext, filter_boolean_kernel_sparse,

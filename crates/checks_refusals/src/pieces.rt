@@ -1,7 +1,7 @@
 //! The pieces of the kernels: copies of items, runs, validities, data buffers, the bytes and texts of views, and choices by words.
 
 use crate::made::{LETTERS, TEXTS, VIEWS, is_column};
-use checks_columns::fixtures::{buffer, has_bits};
+use checks_bits::fixtures::{buffer, has_bits};
 use checks_lines::marks::{begins, ends_by};
 use checks_lines::read::Form;
 use checks_lines::typed::{texts, views};

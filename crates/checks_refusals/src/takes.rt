@@ -1,8 +1,9 @@
 //! The takes of columns without children, beneath the take of any column.
 
 use crate::bitmaps::are_bits;
-use crate::made::{NUMBERS, TRUTHS, is_answer, is_column, still_has};
-use checks_columns::fixtures::{buffer, column, has_bits, has_bytes, validity};
+use crate::made::{NUMBERS, TRUTHS, is_answer, still_has};
+use checks_bits::fixtures::{buffer, has_bits};
+use checks_columns::fixtures::{column, has_bytes, validity};
 use checks_lines::marks::{begins, ends_by};
 use checks_lines::read::Form;
 use checks_lines::typed::{mask, numbers};
@@ -20,7 +21,7 @@ use sel_bits::bitmap::Bitmap;
 use sel_bits::block_copy::BlockCopy;
 use sel_bits::buffer::Buffer;
 use sel_bits::faults::{PolarsError, PolarsResult};
-use sel_bits::native::{Index, Offset};
+use sel_bits::native::{Index, NativeType, Offset};
 use sel_bits::offsets::OffsetsBuffer;
 use std::alloc::Global;
 use std::test::Fail;
@@ -53,42 +54,57 @@ fn take_of_truth_values(rt: HostRuntime) -> Result<(), Fail> {
     Ok(())
 }
 
+fn takes_from<T: ArrowPrimitive>(
+    alloc: Global,
+    values: &PrimitiveArray<T>,
+    places: &IdxArr,
+) -> Result<bool, Fail> {
+    if !indices_in_bounds(places, values.len()) {
+        return Err(Fail::from("out of bounds"));
+    }
+    begins(alloc);
+    let answer = take_primitive_unchecked(alloc, values, places);
+    ends_by(alloc, &answer);
+    let is_so = is_answer(alloc, answer, "[4,null,1,null]")?;
+    Ok(is_so && still_has(alloc, values, NUMBERS)?)
+}
+
 fn takes_numbers<T: ArrowPrimitive + Drop>(
     alloc: Global,
     dtype: &str,
     places: &IdxArr,
 ) -> Result<bool, Fail> {
     let values = numbers::<T>(alloc, dtype, NUMBERS, Form::Whole)?;
-    if !indices_in_bounds(places, values.len()) {
-        drop(values);
-        return Err(Fail::from("out of bounds"));
-    }
-    begins(alloc);
-    let answer = take_primitive_unchecked(alloc, &values, places);
-    ends_by(alloc, &answer);
-    match is_answer(alloc, answer, "[4,null,1,null]") {
-        Ok(is_so) => Ok(is_column(alloc, values, NUMBERS)? && is_so),
-        Err(fault) => {
-            drop(values);
-            Err(fault)
-        }
-    }
+    let are_taken = takes_from(alloc, &values, places);
+    drop(values);
+    are_taken
 }
 
-/// Of numbers of every type.
-fn takes_all_numbers(alloc: Global, places: &IdxArr) -> Result<bool, Fail> {
+/// Of signed numbers of every type.
+fn takes_signed_numbers(alloc: Global, places: &IdxArr) -> Result<bool, Fail> {
     Ok(
         takes_numbers::<i8>(alloc, "i8", places)?
             && takes_numbers::<i16>(alloc, "i16", places)?
             && takes_numbers::<i32>(alloc, "i32", places)?
             && takes_numbers::<i64>(alloc, "i64", places)?
-            && takes_numbers::<i128>(alloc, "i128", places)?
-            && takes_numbers::<u8>(alloc, "u8", places)?
+            && takes_numbers::<i128>(alloc, "i128", places)?,
+    )
+}
+
+/// Of those without a sign.
+fn takes_unsigned_numbers(alloc: Global, places: &IdxArr) -> Result<bool, Fail> {
+    Ok(
+        takes_numbers::<u8>(alloc, "u8", places)?
             && takes_numbers::<u16>(alloc, "u16", places)?
             && takes_numbers::<u32>(alloc, "u32", places)?
             && takes_numbers::<u64>(alloc, "u64", places)?
             && takes_numbers::<u128>(alloc, "u128", places)?,
     )
+}
+
+/// Of numbers of every type.
+fn takes_all_numbers(alloc: Global, places: &IdxArr) -> Result<bool, Fail> {
+    Ok(takes_signed_numbers(alloc, places)? && takes_unsigned_numbers(alloc, places)?)
 }
 
 #[test]
@@ -115,24 +131,27 @@ fn are_bytes<O: Offset + Drop>(
     }
 }
 
+/// These numbers, of which each type has all.
+fn of_type<T: NativeType>(alloc: Global, numbers: &[usize]) -> PolarsResult<Vec<T>> {
+    let mut found = Vec::with_capacity(alloc, numbers.len())?;
+    for number in numbers {
+        if let Some(number) = T::from_usize(*number) {
+            found.push(number)?;
+        }
+    }
+    Ok(found)
+}
+
 /// The rows of two bytes, a null over one byte, and one byte.
 fn three_rows<O: Offset>(alloc: Global) -> Result<BinaryArray<O>, Fail> {
-    let mut ends = Vec::new(alloc);
-    for end in [0usize, 2, 3, 4] {
-        ends.push(O::from_usize(end).ok_or("no offset")?)?;
-    }
-    let offsets = OffsetsBuffer::try_from(ends)?;
+    let offsets = OffsetsBuffer::try_from(of_type(alloc, &[0, 2, 3, 4])?)?;
     let bytes = buffer(alloc, &[2u8, 2, 0, 1])?;
     Ok(BinaryArray::try_new(offsets, bytes, validity(alloc, &[true, false, true])?)?)
 }
 
 /// The places 2, none, 0 and 1.
 fn four_places<I: Index>(alloc: Global) -> Result<PrimitiveArray<I>, Fail> {
-    let mut places = Vec::new(alloc);
-    for place in [2usize, 0, 0, 1] {
-        places.push(I::from_usize(place).ok_or("no index")?)?;
-    }
-    let places = Buffer::from_vec(places)?;
+    let places = Buffer::from_vec(of_type(alloc, &[2, 0, 0, 1])?)?;
     Ok(PrimitiveArray::try_new(places, validity(alloc, &[true, false, true, true])?)?)
 }
 
@@ -153,8 +172,8 @@ fn takes_bytes<O: Offset + Drop, I: Index + Drop>(
     Ok(are_taken && has_bytes(values, &[Some(&[2, 2]), None, Some(&[1])]))
 }
 
-/// By indices of every type.
-fn takes_bytes_by_all<O: Offset + Drop>(
+/// By indices of every type with a sign.
+fn takes_bytes_by_signed<O: Offset + Drop>(
     alloc: Global,
     values: &BinaryArray<O>,
 ) -> Result<bool, Fail> {
@@ -162,24 +181,42 @@ fn takes_bytes_by_all<O: Offset + Drop>(
         takes_bytes::<O, i8>(alloc, values)?
             && takes_bytes::<O, i16>(alloc, values)?
             && takes_bytes::<O, i32>(alloc, values)?
-            && takes_bytes::<O, i64>(alloc, values)?
-            && takes_bytes::<O, u8>(alloc, values)?
+            && takes_bytes::<O, i64>(alloc, values)?,
+    )
+}
+
+/// By those of every type without one.
+fn takes_bytes_by_unsigned<O: Offset + Drop>(
+    alloc: Global,
+    values: &BinaryArray<O>,
+) -> Result<bool, Fail> {
+    Ok(
+        takes_bytes::<O, u8>(alloc, values)?
             && takes_bytes::<O, u16>(alloc, values)?
             && takes_bytes::<O, u32>(alloc, values)?
             && takes_bytes::<O, u64>(alloc, values)?,
     )
 }
 
+/// By indices of every type.
+fn takes_bytes_by_all<O: Offset + Drop>(
+    alloc: Global,
+    values: &BinaryArray<O>,
+) -> Result<bool, Fail> {
+    Ok(takes_bytes_by_signed(alloc, values)? && takes_bytes_by_unsigned(alloc, values)?)
+}
+
+fn takes_all_bytes<O: Offset + Drop>(alloc: Global) -> Result<bool, Fail> {
+    let values = three_rows::<O>(alloc)?;
+    let are_taken = takes_bytes_by_all(alloc, &values);
+    drop(values);
+    are_taken
+}
+
 #[test]
 fn take_of_bytes_by_indices_of_every_type(rt: HostRuntime) -> Result<(), Fail> {
-    let values = three_rows::<i32>(rt.alloc())?;
-    let are_taken = takes_bytes_by_all(rt.alloc(), &values);
-    drop(values);
-    assert!(rt; are_taken?);
-    let values = three_rows::<i64>(rt.alloc())?;
-    let are_taken = takes_bytes_by_all(rt.alloc(), &values);
-    drop(values);
-    assert!(rt; are_taken?);
+    assert!(rt; takes_all_bytes::<i32>(rt.alloc())?);
+    assert!(rt; takes_all_bytes::<i64>(rt.alloc())?);
     Ok(())
 }
 

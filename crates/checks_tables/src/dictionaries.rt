@@ -1,6 +1,6 @@
 //! Dictionaries whose values are null in places.
 
-use checks_lines::line::Line;
+use checks_lines::line::{Line, misspelled};
 use checks_lines::marks::{begins, ends_line};
 use checks_lines::read::{Form, with_same_of};
 use checks_lines::table::{Memory, or_wrong_line, wrong_line, wrong_test};
@@ -105,8 +105,11 @@ pub fn values_of(alloc: Global, line: &Line, form: Form) -> Result<PolarsResult<
 
 // Of keys and a number of values: whether each key names one.
 fn are_in_bounds(alloc: Global, line: &Line, form: Form) -> Result<bool, Fail> {
+    let Some(count) = line.count(1) else {
+        return Err(misspelled());
+    };
     let keys = numbers::<u32>(alloc, "u32", line.field(0), form)?;
-    Ok(keys_in_bounds(&keys, line.count(1)))
+    Ok(keys_in_bounds(&keys, count))
 }
 
 /// Texts, keys of them, and the keys of the dictionary without its null values.

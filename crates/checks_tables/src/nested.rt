@@ -1,6 +1,6 @@
 //! Columns with children as columns of their kind: parts, copies, other validities, and rows that can be one of their lists.
 
-use checks_lines::line::Line;
+use checks_lines::line::{Line, misspelled};
 use checks_lines::read::{Form, as_any, column, is_text};
 use checks_lines::table::{Memory, wrong_line, wrong_test};
 use checks_lines::typed::{bits, blocks, lists, tuples};
@@ -29,7 +29,9 @@ fn part_of<A: Array + Drop>(
     line: &Line,
     rows: A,
 ) -> Result<PolarsResult<ArrayRef>, Fail> {
-    let (at, len) = (line.count(2), line.count(3));
+    let (Some(at), Some(len)) = (line.count(2), line.count(3)) else {
+        return Err(misspelled());
+    };
     if at > rows.len() || len > rows.len() - at {
         return Err(Fail::from("out of bounds"));
     }

@@ -1,10 +1,11 @@
 //! Choices: when a mask is true the rows of one column, otherwise those of another.
 
 use crate::made::{numbers, texts};
-use crate::page::{show, title};
+use crate::page::{show_answer, title};
 use crate::stop::Stop;
 use polars_compute::if_then_else::IfThenElseKernel;
 use sel_arrow::array::Array;
+use sel_arrow::array_ref::ArrayRef;
 use sel_arrow::primitive::PrimitiveArray;
 use sel_arrow::utf8view::Utf8ViewArray;
 use sel_bits::bitmap::Bitmap;
@@ -13,32 +14,22 @@ use std::alloc::Global;
 /// A choice between two columns, and between a column and one value.
 pub fn choices(alloc: Global, page: &mut String) -> Result<(), Stop> {
     title(page, "if_then_else: row by row the one or the other")?;
-    show(
-        alloc,
-        page,
-        "of two columns",
-        cheap_or_dear(alloc)?.into_ref(),
-    )?;
-    show(
-        alloc,
-        page,
-        "of texts and one text",
-        names_or_one(alloc)?.into_ref(),
-    )
+    show_answer(alloc, page, "of two columns", cheap_or_dear(alloc))?;
+    show_answer(alloc, page, "of texts and one text", names_or_one(alloc))
 }
 
 fn mask(alloc: Global) -> Result<Bitmap, Stop> {
     Ok(Bitmap::from_bools(alloc, &[true, false, true])?)
 }
 
-fn cheap_or_dear(alloc: Global) -> Result<PrimitiveArray<i64>, Stop> {
+fn cheap_or_dear(alloc: Global) -> Result<ArrayRef, Stop> {
     let mask = mask(alloc)?;
     let cheap = numbers(alloc, &[Some(1i64), None, Some(3)])?;
     let dear = numbers(alloc, &[Some(10i64), Some(20), None])?;
     chosen(alloc, &mask, &cheap, &dear)
 }
 
-fn names_or_one(alloc: Global) -> Result<Utf8ViewArray, Stop> {
+fn names_or_one(alloc: Global) -> Result<ArrayRef, Stop> {
     let mask = mask(alloc)?;
     let names = texts(alloc, &[Some("a"), Some("b"), None])?;
     named(alloc, &mask, &names)
@@ -50,18 +41,19 @@ fn chosen(
     mask: &Bitmap,
     if_true: &PrimitiveArray<i64>,
     if_false: &PrimitiveArray<i64>,
-) -> Result<PrimitiveArray<i64>, Stop> {
+) -> Result<ArrayRef, Stop> {
     if if_true.len() != mask.len() || if_false.len() != mask.len() {
         return Err(Stop::Unmet);
     }
-    Ok(PrimitiveArray::if_then_else(alloc, mask, if_true, if_false)?)
+    Ok(PrimitiveArray::if_then_else(alloc, mask, if_true, if_false)?.into_ref())
 }
 
 /// The texts where the mask is true, else one text.
-fn named(alloc: Global, mask: &Bitmap, names: &Utf8ViewArray) -> Result<Utf8ViewArray, Stop> {
+fn named(alloc: Global, mask: &Bitmap, names: &Utf8ViewArray) -> Result<ArrayRef, Stop> {
     if names.len() != mask.len() {
         return Err(Stop::Unmet);
     }
     let nobody = String::from_str(alloc, "nobody")?;
-    Ok(Utf8ViewArray::if_then_else_broadcast_false(alloc, mask, names, &nobody)?)
+    let rows = Utf8ViewArray::if_then_else_broadcast_false(alloc, mask, names, &nobody)?;
+    Ok(rows.into_ref())
 }

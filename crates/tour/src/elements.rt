@@ -1,7 +1,7 @@
 //! Elements of lists.
 
 use crate::made::{blocks, lists, numbers};
-use crate::page::{line, show, title};
+use crate::page::{line, show, show_answer, title};
 use crate::stop::Stop;
 use polars_compute::gather::sublist::fixed_size_list::{
     sub_fixed_size_list_get, sub_fixed_size_list_get_literal,
@@ -33,15 +33,24 @@ fn six(alloc: Global) -> Result<ArrayRef, Stop> {
     .into_ref())
 }
 
+/// A column of one kind as one of any.
+fn as_any<A: Array>(made: Result<A, Stop>) -> Result<ArrayRef, Stop> {
+    Ok(made?.into_ref())
+}
+
 // (each column is made anew, so that only one is held at a time)
 fn list(alloc: Global) -> Result<ListArray<i64>, Stop> {
-    lists(alloc, &[Some(3), None, Some(1), Some(2)], six(alloc)?)
+    lists(alloc, &[Some(3), None, Some(1), Some(2)], six(alloc))
 }
 
 fn of_lists(alloc: Global, page: &mut String) -> Result<(), Stop> {
-    show(alloc, page, "lists", list(alloc)?.into_ref())?;
-    show(alloc, page, "the last of each", element(alloc, -1)?)?;
-    show(alloc, page, "the second of each", element(alloc, 1)?)?;
+    show_answer(alloc, page, "lists", as_any(list(alloc)))?;
+    show_answer(alloc, page, "the last of each", element(alloc, -1))?;
+    show_answer(alloc, page, "the second of each", element(alloc, 1))?;
+    lacks(alloc, page)
+}
+
+fn lacks(alloc: Global, page: &mut String) -> Result<(), Stop> {
     let text = match lacks_a_second(alloc)? {
         true => "yes",
         false => "no",
@@ -64,13 +73,13 @@ fn lacks_a_second(alloc: Global) -> Result<bool, Stop> {
 }
 
 fn block(alloc: Global) -> Result<FixedSizeListArray, Stop> {
-    blocks(alloc, 2, &[true, false, true], six(alloc)?)
+    blocks(alloc, 2, &[true, false, true], six(alloc))
 }
 
 fn of_blocks(alloc: Global, page: &mut String) -> Result<(), Stop> {
-    show(alloc, page, "lists of one length", block(alloc)?.into_ref())?;
-    show(alloc, page, "the second of each", entry(alloc, 1)?)?;
-    show(alloc, page, "at the indices [1,0,-1]", entry_each(alloc)?)
+    show_answer(alloc, page, "lists of one length", as_any(block(alloc)))?;
+    show_answer(alloc, page, "the second of each", entry(alloc, 1))?;
+    show_answer(alloc, page, "at the indices [1,0,-1]", entry_each(alloc))
 }
 
 fn entry(alloc: Global, index: i64) -> Result<ArrayRef, Stop> {

@@ -2,7 +2,7 @@
 
 use crate::made::{numbers, truths};
 use crate::nested::people;
-use crate::page::{show, title};
+use crate::page::{show_answer, title};
 use crate::stop::Stop;
 use polars_compute::filter::{filter, filter_with_bitmap};
 use sel_arrow::array::Array;
@@ -17,17 +17,17 @@ pub fn filters(alloc: Global, page: &mut String) -> Result<(), Stop> {
         page,
         "filter: the rows where the mask is true; a null in it counts as false",
     )?;
-    show(
+    show_answer(
         alloc,
         page,
         "ages by [true,true,null,true]",
-        ages_kept(alloc)?,
+        ages_kept(alloc),
     )?;
-    show(
+    show_answer(
         alloc,
         page,
         "structs by the bits 0, 1, 1",
-        people_kept(alloc)?,
+        people_kept(alloc),
     )
 }
 

@@ -1,7 +1,7 @@
 //! Several columns: side by side, and rows picked from each.
 
 use crate::made::{numbers, texts};
-use crate::page::{show, title};
+use crate::page::{show_answer, title};
 use crate::stop::Stop;
 use polars_compute::gather::{collect_rows, picks_in_bounds};
 use polars_compute::horizontal_flatten::{flatten_is_safe, horizontal_flatten_unchecked};
@@ -17,18 +17,18 @@ pub fn joined(alloc: Global, page: &mut String) -> Result<(), Stop> {
         page,
         "horizontal_flatten: row by row the parts of all columns",
     )?;
-    show(
+    show_answer(
         alloc,
         page,
         "two numbers, then one, three times",
-        side_by_side(alloc)?,
+        side_by_side(alloc),
     )?;
     title(page, "collect_rows: rows of several columns, by picks")?;
-    show(
+    show_answer(
         alloc,
         page,
         "the second's first, nobody, the first's second",
-        picked(alloc)?,
+        picked(alloc),
     )
 }
 

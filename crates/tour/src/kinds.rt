@@ -1,9 +1,8 @@
 //! Columns of each kind without children: their types, and their rows.
 
 use crate::made::{bytes, numbers, texts, truths};
-use crate::page::{show_typed, title};
+use crate::page::{show_made, title};
 use crate::stop::Stop;
-use sel_arrow::array::Array;
 use sel_arrow::null::NullArray;
 use std::alloc::Global;
 
@@ -13,21 +12,33 @@ pub fn kinds(alloc: Global, page: &mut String) -> Result<(), Stop> {
         page,
         "Columns: a type, and a list of rows of which each may be null",
     )?;
-    let ages = numbers(alloc, &[Some(31i64), None, Some(27), Some(45)])?;
-    show_typed(alloc, page, ages.into_ref())?;
-    let small = numbers(alloc, &[Some(200u8), Some(0), None])?;
-    show_typed(alloc, page, small.into_ref())?;
-    let answers = truths(alloc, &[Some(true), None, Some(false)])?;
-    show_typed(alloc, page, answers.into_ref())?;
+    of_values(alloc, page)?;
+    of_bytes(alloc, page)?;
+    show_made(alloc, page, nulls(2))
+}
+
+fn of_values(alloc: Global, page: &mut String) -> Result<(), Stop> {
+    let ages = numbers(alloc, &[Some(31i64), None, Some(27), Some(45)]);
+    show_made(alloc, page, ages)?;
+    let small = numbers(alloc, &[Some(200u8), Some(0), None]);
+    show_made(alloc, page, small)?;
+    let answers = truths(alloc, &[Some(true), None, Some(false)]);
+    show_made(alloc, page, answers)
+}
+
+fn of_bytes(alloc: Global, page: &mut String) -> Result<(), Stop> {
     let pieces = bytes(
         alloc,
         &[Some(b"\x00\xff".as_slice()), None, Some(b"a".as_slice())],
-    )?;
-    show_typed(alloc, page, pieces.into_ref())?;
+    );
+    show_made(alloc, page, pieces)?;
     let names = texts(
         alloc,
         &[Some("Ada"), Some("a text of more than twelve bytes"), None],
-    )?;
-    show_typed(alloc, page, names.into_ref())?;
-    show_typed(alloc, page, NullArray::try_new(2)?.into_ref())
+    );
+    show_made(alloc, page, names)
+}
+
+fn nulls(rows: usize) -> Result<NullArray, Stop> {
+    Ok(NullArray::try_new(rows)?)
 }

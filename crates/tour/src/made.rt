@@ -12,6 +12,7 @@ use sel_arrow::utf8view::Utf8ViewArray;
 use sel_arrow::view::View;
 use sel_bits::bitmap::Bitmap;
 use sel_bits::buffer::Buffer;
+use sel_bits::faults::PolarsResult;
 use sel_bits::native::NativeType;
 use sel_bits::offsets::OffsetsBuffer;
 use std::alloc::Global;
@@ -40,18 +41,29 @@ pub fn truths(alloc: Global, rows: &[Option<bool>]) -> Result<BooleanArray, Stop
 
 /// Rows of bytes: all bytes behind one another, and the offsets between which each row lies.
 pub fn bytes(alloc: Global, rows: &[Option<&[u8]>]) -> Result<BinaryArray<i64>, Stop> {
+    let (ends, values) = joined(alloc, rows)?;
+    let offsets = OffsetsBuffer::try_from(ends)?;
+    Ok(BinaryArray::try_new(offsets, Buffer::from_vec(values)?, validity(alloc, rows)?)?)
+}
+
+fn joined(alloc: Global, rows: &[Option<&[u8]>]) -> PolarsResult<(Vec<i64>, Vec<u8>)> {
     let mut values = Vec::new(alloc);
-    let mut offsets = vec![in alloc; 0i64]?;
+    let mut ends = vec![in alloc; 0i64]?;
     for row in rows {
         values.extend_from_slice(row.unwrap_or(b"".as_slice()))?;
-        offsets.push(values.len() as i64)?;
+        ends.push(values.len() as i64)?;
     }
-    let offsets = OffsetsBuffer::try_from(offsets)?;
-    Ok(BinaryArray::try_new(offsets, Buffer::from_vec(values)?, validity(alloc, rows)?)?)
+    Ok((ends, values))
 }
 
 /// Texts: a view each, which holds up to 12 bytes itself and else names a place in the one data buffer.
 pub fn texts(alloc: Global, rows: &[Option<&str>]) -> Result<Utf8ViewArray, Stop> {
+    let (views, data) = viewed(alloc, rows)?;
+    let buffers = one_buffer(alloc, data)?;
+    Ok(Utf8ViewArray::try_new(Buffer::from_vec(views)?, buffers, validity(alloc, rows)?)?)
+}
+
+fn viewed(alloc: Global, rows: &[Option<&str>]) -> Result<(Vec<View>, Vec<u8>), Stop> {
     let mut views = Vec::with_capacity(alloc, rows.len())?;
     let mut data = Vec::new(alloc);
     for row in rows {
@@ -62,17 +74,21 @@ pub fn texts(alloc: Global, rows: &[Option<&str>]) -> Result<Utf8ViewArray, Stop
         views.push(View::new_from_bytes(text, 0, data.len() as u32))?;
         data.extend_from_slice(text)?;
     }
-    let buffers = vec![in alloc; Buffer::from_vec(data)?]?;
-    let buffers = Buffer::from_vec(buffers)?;
-    Ok(Utf8ViewArray::try_new(Buffer::from_vec(views)?, buffers, validity(alloc, rows)?)?)
+    Ok((views, data))
+}
+
+fn one_buffer(alloc: Global, data: Vec<u8>) -> PolarsResult<Buffer<Buffer<u8>>> {
+    let data = Buffer::from_vec(data)?;
+    Buffer::from_vec(vec![in alloc; data]?)
 }
 
 /// Lists of these lengths over a child; beneath a null stands none of its rows.
 pub fn lists(
     alloc: Global,
     lengths: &[Option<u32>],
-    child: ArrayRef,
+    child: Result<ArrayRef, Stop>,
 ) -> Result<ListArray<i64>, Stop> {
+    let child = child?;
     match bounds(alloc, lengths) {
         Ok((offsets, valid)) => Ok(ListArray::try_new(alloc, offsets, child, valid)?),
         Err(stop) => {
@@ -106,8 +122,9 @@ pub fn blocks(
     alloc: Global,
     size: usize,
     valid: &[bool],
-    child: ArrayRef,
+    child: Result<ArrayRef, Stop>,
 ) -> Result<FixedSizeListArray, Stop> {
+    let child = child?;
     match Bitmap::from_bools(alloc, valid) {
         Ok(bits) => {
             Ok(FixedSizeListArray::try_new(alloc, size, valid.len(), child, Some(bits))?)
@@ -123,18 +140,30 @@ pub fn blocks(
 pub fn pairs(
     alloc: Global,
     valid: &[bool],
-    first: ArrayRef,
+    first: Result<ArrayRef, Stop>,
     second: ArrayRef,
 ) -> Result<StructArray, Stop> {
+    let fields = both(alloc, first, second)?;
     match Bitmap::from_bools(alloc, valid) {
-        Ok(bits) => {
-            let fields = vec![in alloc; first, second]?;
-            Ok(StructArray::try_new(alloc, valid.len(), fields, Some(bits))?)
-        }
+        Ok(bits) => Ok(StructArray::try_new(alloc, valid.len(), fields, Some(bits))?),
         Err(fault) => {
-            drop(first);
-            drop(second);
+            drop(fields);
             Err(Stop::from(fault))
+        }
+    }
+}
+
+/// Two columns behind one another.
+fn both(
+    alloc: Global,
+    first: Result<ArrayRef, Stop>,
+    second: ArrayRef,
+) -> Result<Vec<ArrayRef>, Stop> {
+    match first {
+        Ok(first) => Ok(vec![in alloc; first, second]?),
+        Err(stop) => {
+            drop(second);
+            Err(stop)
         }
     }
 }

@@ -32,15 +32,30 @@ fn main(rt: HostRuntime) -> ExitCode {
 /// All that the tour prints.
 fn tour(alloc: Global) -> Result<String, Stop> {
     let mut page = String::new(alloc);
-    kinds::kinds(alloc, &mut page)?;
-    nested::nested(alloc, &mut page)?;
-    parts::parts(alloc, &mut page)?;
-    filters::filters(alloc, &mut page)?;
-    takes::takes(alloc, &mut page)?;
-    choices::choices(alloc, &mut page)?;
-    elements::elements(alloc, &mut page)?;
-    joined::joined(alloc, &mut page)?;
-    dictionaries::dictionaries(alloc, &mut page)?;
+    columns(alloc, &mut page)?;
+    chosen(alloc, &mut page)?;
+    arranged(alloc, &mut page)?;
     refusals::refusals(alloc, &mut page)?;
     Ok(page)
+}
+
+/// Columns and their parts.
+fn columns(alloc: Global, page: &mut String) -> Result<(), Stop> {
+    kinds::kinds(alloc, page)?;
+    nested::nested(alloc, page)?;
+    parts::parts(alloc, page)
+}
+
+/// The kernels that choose among rows.
+fn chosen(alloc: Global, page: &mut String) -> Result<(), Stop> {
+    filters::filters(alloc, page)?;
+    takes::takes(alloc, page)?;
+    choices::choices(alloc, page)
+}
+
+/// Those that take columns apart, or put several together.
+fn arranged(alloc: Global, page: &mut String) -> Result<(), Stop> {
+    elements::elements(alloc, page)?;
+    joined::joined(alloc, page)?;
+    dictionaries::dictionaries(alloc, page)
 }

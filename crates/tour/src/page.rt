@@ -12,19 +12,12 @@ pub fn title(page: &mut String, text: &str) -> Result<(), Stop> {
     if !page.is_empty() {
         page.push('\n')?;
     }
-    page.push_str(text)?;
-    page.push('\n')?;
-    Ok(())
+    Ok(write!(page, "{text}\n")?)
 }
 
 /// A line `name: text`.
 pub fn line(page: &mut String, name: &str, text: &str) -> Result<(), Stop> {
-    page.push_str("  ")?;
-    page.push_str(name)?;
-    page.push_str(": ")?;
-    page.push_str(text)?;
-    page.push('\n')?;
-    Ok(())
+    Ok(write!(page, "  {name}: {text}\n")?)
 }
 
 /// A line with the rows of a column.
@@ -40,6 +33,16 @@ pub fn show(alloc: Global, page: &mut String, name: &str, column: ArrayRef) -> R
     shown
 }
 
+/// The same of an answer.
+pub fn show_answer(
+    alloc: Global,
+    page: &mut String,
+    name: &str,
+    answer: Result<ArrayRef, Stop>,
+) -> Result<(), Stop> {
+    show(alloc, page, name, answer?)
+}
+
 /// A line with the type and the rows of a column that is needed no more.
 pub fn show_typed(alloc: Global, page: &mut String, column: ArrayRef) -> Result<(), Stop> {
     let dtype = type_text(alloc, &column);
@@ -50,6 +53,15 @@ pub fn show_typed(alloc: Global, page: &mut String, column: ArrayRef) -> Result<
             Err(stop)
         }
     }
+}
+
+/// The same of a column of one kind that was to be made.
+pub fn show_made<A: Array>(
+    alloc: Global,
+    page: &mut String,
+    made: Result<A, Stop>,
+) -> Result<(), Stop> {
+    show_typed(alloc, page, made?.into_ref())
 }
 
 fn type_text(alloc: Global, column: &ArrayRef) -> Result<String, Stop> {

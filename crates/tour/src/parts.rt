@@ -2,7 +2,7 @@
 
 use crate::made::numbers;
 use crate::nested::people;
-use crate::page::{show, title};
+use crate::page::{show_answer, title};
 use crate::stop::Stop;
 use sel_arrow::array::Array;
 use sel_arrow::array_ref::ArrayRef;
@@ -11,23 +11,24 @@ use std::alloc::Global;
 /// A slice of a column, and one of a column over columns.
 pub fn parts(alloc: Global, page: &mut String) -> Result<(), Stop> {
     title(page, "Slices: a part of the rows, without a copy")?;
-    let ages = numbers(alloc, &[Some(31i64), None, Some(27), Some(45)])?.into_ref();
-    show(
-        alloc,
-        page,
-        "two rows from the second on",
-        sliced(alloc, ages, 1, 2)?,
-    )?;
-    show(
-        alloc,
-        page,
-        "of structs, the last two",
-        sliced(alloc, people(alloc)?, 1, 2)?,
-    )
+    let part = sliced(alloc, ages(alloc), 1, 2);
+    show_answer(alloc, page, "two rows from the second on", part)?;
+    let part = sliced(alloc, people(alloc), 1, 2);
+    show_answer(alloc, page, "of structs, the last two", part)
+}
+
+fn ages(alloc: Global) -> Result<ArrayRef, Stop> {
+    Ok(numbers(alloc, &[Some(31i64), None, Some(27), Some(45)])?.into_ref())
 }
 
 /// So many rows from a place on, where the column has them: the condition of a slice.
-fn sliced(alloc: Global, column: ArrayRef, start: usize, len: usize) -> Result<ArrayRef, Stop> {
+fn sliced(
+    alloc: Global,
+    column: Result<ArrayRef, Stop>,
+    start: usize,
+    len: usize,
+) -> Result<ArrayRef, Stop> {
+    let column = column?;
     let rows = column.len();
     if start > rows || len > rows - start {
         drop(column);

@@ -23,9 +23,9 @@ pub fn refusals(alloc: Global, page: &mut String) -> Result<(), Stop> {
         alloc,
         page,
         "a list of 4294967295 rows, twice",
-        too_long(alloc)?,
+        too_long(alloc),
     )?;
-    refusal(alloc, page, "the third of two", outside(alloc)?)?;
+    refusal(alloc, page, "the third of two", outside(alloc))?;
     broken_rule(alloc, page)
 }
 
@@ -33,9 +33,9 @@ fn refusal(
     alloc: Global,
     page: &mut String,
     name: &str,
-    answer: PolarsResult<ArrayRef>,
+    answer: Result<PolarsResult<ArrayRef>, Stop>,
 ) -> Result<(), Stop> {
-    match answer {
+    match answer? {
         Ok(column) => {
             drop(column);
             Err(Stop::Unmet)
@@ -69,20 +69,27 @@ fn too_long(alloc: Global) -> Result<PolarsResult<ArrayRef>, Stop> {
     taken
 }
 
+fn two(alloc: Global) -> Result<ArrayRef, Stop> {
+    Ok(numbers(alloc, &[Some(1i64), Some(2)])?.into_ref())
+}
+
 /// The third entry of lists of two, where that is not to be null.
 fn outside(alloc: Global) -> Result<PolarsResult<ArrayRef>, Stop> {
-    let child = numbers(alloc, &[Some(1i64), Some(2)])?.into_ref();
-    let block = blocks(alloc, 2, &[true], child)?;
+    let block = blocks(alloc, 2, &[true], two(alloc))?;
     let third = sub_fixed_size_list_get_literal(alloc, &block, 2, false);
     drop(block);
     Ok(third)
 }
 
 /// Lists whose last offset is past the end of their child.
-fn broken_rule(alloc: Global, page: &mut String) -> Result<(), Stop> {
+fn past_the_end(alloc: Global) -> Result<Result<ListArray<i64>, MakeError>, Stop> {
     let offsets = OffsetsBuffer::try_from(vec![in alloc; 0i64, 3]?)?;
-    let child = numbers(alloc, &[Some(1i64), Some(2)])?.into_ref();
-    match ListArray::try_new(alloc, offsets, child, None) {
+    Ok(ListArray::try_new(alloc, offsets, two(alloc)?, None))
+}
+
+/// What is said of them.
+fn broken_rule(alloc: Global, page: &mut String) -> Result<(), Stop> {
+    match past_the_end(alloc)? {
         Ok(list) => {
             drop(list);
             Err(Stop::Unmet)

@@ -2,7 +2,7 @@
 
 use crate::made::numbers;
 use crate::nested::people;
-use crate::page::{line, show, title};
+use crate::page::{line, show_answer, title};
 use crate::stop::Stop;
 use polars_compute::gather::{indices_in_bounds, take_unchecked};
 use sel_arrow::array::Array;
@@ -16,8 +16,12 @@ pub fn takes(alloc: Global, page: &mut String) -> Result<(), Stop> {
         page,
         "take: the rows at indices, null where an index is null",
     )?;
-    show(alloc, page, "ages at [3,null,1,3]", ages_taken(alloc)?)?;
-    show(alloc, page, "structs at [2,0]", people_taken(alloc)?)?;
+    show_answer(alloc, page, "ages at [3,null,1,3]", ages_taken(alloc))?;
+    show_answer(alloc, page, "structs at [2,0]", people_taken(alloc))?;
+    bounds(alloc, page)
+}
+
+fn bounds(alloc: Global, page: &mut String) -> Result<(), Stop> {
     let text = match indices_in_bounds(&places(alloc)?, 3) {
         true => "yes",
         false => "no",

@@ -1,6 +1,6 @@
 use Rattle.std.proofs.Common.{arith, length-append}
 use Rattle.sel_bits.proofs.Packs.{length_bits}
-use Rattle.checks_columns.proofs.bits.packed_bits_stand_behind_one_another.Goals as goal
+use Rattle.checks_bits.proofs.bits.packed_bits_stand_behind_one_another.Goals as goal
 
 pub into_bitmap-requires : goal.into_bitmap-requires
 into_bitmap-requires g c =

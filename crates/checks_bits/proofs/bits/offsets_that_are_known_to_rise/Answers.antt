@@ -1,6 +1,6 @@
 use Rattle.std.proofs.Common.{ℤ, pos, [], ◌∷◌, refl}
 use Rattle.sel_bits.proofs.OffsetLemmas.{accepted}
-use Rattle.checks_columns.proofs.bits.offsets_that_are_known_to_rise.Goals as goal
+use Rattle.checks_bits.proofs.bits.offsets_that_are_known_to_rise.Goals as goal
 
 -- no rule is broken by these three
 pub of_rising-requires : goal.of_rising-requires

@@ -147,29 +147,43 @@ fn is_extended(packed: &Bitmap, source: &Bitmap) -> bool {
     begins_with(packed, &[true, false, true])
 }
 
-#[test]
-fn packer_takes_parts_and_copies(rt: HostRuntime) -> Result<(), Fail> {
-    let source = mixed_bits(rt.alloc(), 7, 9)?;
-    let mut packer = BitPacker::with_capacity(rt.alloc(), 193)?;
+/// Three bits, 120 of the source, and seventy true ones.
+fn packs_parts_and_copies(alloc: Global, source: &Bitmap) -> PolarsResult<Bitmap>
+    requires { length source.now.bits ≡ 130 }
+{
+    let mut packer = BitPacker::with_capacity(alloc, 193)?;
     packer.push(true)?;
     packer.push(false)?;
     packer.push(true)?;
-    packer.extend_from_bitmap(&source, 5, 120)?;
+    packer.extend_from_bitmap(source, 5, 120)?;
     packer.extend_constant(70, true)?;
-    let packed = packer.into_bitmap(193)?;
+    packer.into_bitmap(193)
+}
+
+#[test]
+fn packer_takes_parts_and_copies(rt: HostRuntime) -> Result<(), Fail> {
+    let source = mixed_bits(rt.alloc(), 7, 9)?;
+    let packed = packs_parts_and_copies(rt.alloc(), &source)?;
     assert!(rt; is_extended(&packed, &source));
     Ok(())
+}
+
+/// Two false bits, none of the source, no true ones, and one.
+fn packs_false_copies_and_none(alloc: Global, source: &Bitmap) -> PolarsResult<Bitmap>
+    requires { length source.now.bits ≡ 130 }
+{
+    let mut packer = BitPacker::with_capacity(alloc, 3)?;
+    packer.extend_constant(2, false)?;
+    packer.extend_from_bitmap(source, 130, 0)?;
+    packer.extend_constant(0, true)?;
+    packer.push(true)?;
+    packer.into_bitmap(3)
 }
 
 #[test]
 fn packer_takes_false_copies_and_none(rt: HostRuntime) -> Result<(), Fail> {
     let source = mixed_bits(rt.alloc(), 7, 9)?;
-    let mut packer = BitPacker::with_capacity(rt.alloc(), 3)?;
-    packer.extend_constant(2, false)?;
-    packer.extend_from_bitmap(&source, 130, 0)?;
-    packer.extend_constant(0, true)?;
-    packer.push(true)?;
-    let packed = packer.into_bitmap(3)?;
+    let packed = packs_false_copies_and_none(rt.alloc(), &source)?;
     assert!(rt; has_bits(&packed, &[false, false, true]));
     Ok(())
 }
