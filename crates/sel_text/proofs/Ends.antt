@@ -68,6 +68,12 @@ pub numeral_told : (bytes digits rest : List ℕ) → bytes ≡ digits ++ rest �
 numeral_told bytes digits rest is all end n more small ends begins =
     digits_apart digits (decimal n) rest more all (numeral_has n small).1 end ends (sym is ∙ begins)
 
+-- whose number is theirs
+pub value_told : (bytes digits rest : List ℕ) → bytes ≡ digits ++ rest → AllDigits 10 digits → NoDigit rest → (n : ℕ) (more : List ℕ) → n < 2 ^ 128 → NoDigit more → bytes ≡ decimal n ++ more →
+    digits_value 10 digits ≡ n
+value_told bytes digits rest is all end n more small ends begins =
+    ap (digits_value 10) (numeral_told bytes digits rest is all end n more small ends begins).0 ∙ (numeral_is n small).1
+
 -- no digit is no numeral
 pub no_numeral : (bytes : List ℕ) (count : ℕ) → count ≡ 0 → NoDigit (drop count bytes) → (n : ℕ) (more : List ℕ) → n < 2 ^ 128 → NoDigit more → bytes ≢ decimal n ++ more
 no_numeral bytes count none end n more small ends begins =

@@ -1,15 +1,18 @@
 -- The texts of types that are still to be read.
-use Rattle.std.proofs.Common.{◌≡◌, ◌≢◌, ℕ, ◌<◌, true, List, [], ◌∷◌, ◌++◌, length, map, get_or, drop, refl, ap, sym, ◌∙◌, arith, append_assoc, length-append}
+use Rattle.std.proofs.Common.{◌≡◌, ◌≢◌, ℕ, ◌+◌, ◌-◌, ◌<◌, ◌≤◌, Bool, true, List, [], ◌∷◌, ◌++◌, length, map, get_or, drop, refl, ap, sym, ◌∙◌, arith, append_assoc, length-append, subst}
 use Rattle.std.specs.List.{join_with_byte}
 use Rattle.std.specs.Prelude.{◌^◌, nat_lt, IsTrue}
 use Rattle.std.proofs.lemmas.Bool.Decides.{nat_tests}
 use Rattle.std.proofs.lemmas.List.{map-append}
 use Rattle.sel_arrow.specs.DataType.{shape_of}
-use Rattle.sel_arrow.specs.Shape.{Shape, Shapes, no_shapes, next_shape, shapes_of, of_large_list, of_fixed_size_list}
+use Rattle.sel_arrow.specs.Shape.{Shape, Shapes, no_shapes, next_shape, shapes_of, of_large_list, of_fixed_size_list, of_struct}
 use Rattle.sel_arrow.specs.declared.datatype.ArrowDataType.{ArrowDataType}
 use Rattle.sel_arrow.proofs.Lists.{and_first, and_second}
 use Rattle.sel_text.specs.Types.{angled, type_text, type_texts}
-use Rattle.sel_text.specs.Written.{widths_written, all_widths_written}
+use Rattle.sel_text.specs.Limits.{IsTold}
+use Rattle.sel_text.specs.Written.{widths_written, all_widths_written, deepest, depth}
+use Rattle.sel_text.specs.declared.text_error.Fault.{Fault}
+use Rattle.sel_text.specs.declared.text_error.Fault.TheVariants.{Syntax, «Type», Limit, OutOfMemory}
 
 -- what stands behind the first of several types
 abbrev pub behind_first : Shapes → List ℕ → List ℕ
@@ -127,3 +130,35 @@ some_types (next_shape s ss) text more is none = (s, ss, refl)
 -- the width and the child's widths of a type of lists of one length
 pub block_narrow : (s : Shape) (size : ℕ) → widths_written (of_fixed_size_list s size) ≡ true → (size < 2 ^ 64) × (widths_written s ≡ true)
 block_narrow s size narrow = (grind (arith, nat_tests, and_first (nat_lt size (2 ^ 64)) (widths_written s) narrow), and_second (nat_lt size (2 ^ 64)) (widths_written s) narrow)
+
+-- a limit that one condition tells is told by one that follows from it
+told_more : (one other : Bool) (fault : Fault) → (one ≡ true → other ≡ true) → IsTold one fault → IsTold other fault
+told_more one other Limit follows told = follows told
+told_more one other OutOfMemory follows told = tt
+told_more one other (Syntax at) follows told = absurd told
+told_more one other («Type» at) follows told = absurd told
+
+-- none of several types is deeper than the deepest
+first_depth : (read : List Shape) (s : Shape) (ss : Shapes) → depth s ≤ deepest (shapes_then read (next_shape s ss))
+first_depth [] s ss = omega arith
+first_depth (r ∷ read) s ss = let others = first_depth read s ss in omega (arith, others)
+
+-- so a field that is too deep makes the tuples so
+pub field_told : (all : Shapes) (read : List ArrowDataType) (rest more : List ℕ) (left : IsLeft all read rest more) (levels : ℕ) (fault : Fault) → 0 < levels →
+    IsTold (nat_lt (levels - 1) (depth left.first)) fault → IsTold (nat_lt levels (depth (of_struct all))) fault
+field_told all read rest more left levels fault some told = told_more (nat_lt (levels - 1) (depth left.first)) (nat_lt levels (depth (of_struct all))) fault deeper told
+  where
+    inside : depth left.first ≤ deepest all
+    inside = subst (λ ss. depth left.first ≤ deepest ss) left.whole (first_depth (map shape_of read) left.first left.others)
+
+    deeper : nat_lt (levels - 1) (depth left.first) ≡ true → nat_lt levels (depth (of_struct all)) ≡ true
+    deeper past = let deep : levels - 1 < depth left.first = grind (arith, nat_tests, past) in let all_deep : levels < deepest all + 1 = omega (arith, deep, inside, some) in grind (arith, nat_tests, all_deep)
+
+-- one type more is deeper only where it is itself
+pub grown_depth : (read grown : List ArrowDataType) (field : ArrowDataType) (levels : ℕ) → grown ≡ read ++ field ∷ [] → deepest (shapes_of (map shape_of read)) < levels → depth (shape_of field) < levels →
+    deepest (shapes_of (map shape_of grown)) < levels
+grown_depth read grown field levels is few one = subst (λ l. deepest (shapes_of (map shape_of l)) < levels) (sym is) (go read few)
+  where
+    go : (read : List ArrowDataType) → deepest (shapes_of (map shape_of read)) < levels → deepest (shapes_of (map shape_of (read ++ field ∷ []))) < levels
+    go [] few = omega (arith, one, few)
+    go (r ∷ read) few = let others = go read (omega (arith, few)) in omega (arith, few, others)

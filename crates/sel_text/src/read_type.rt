@@ -1,13 +1,14 @@
 //! Types of columns, read.
 
-ghost use Rattle.std.specs.Prelude.{◌≡◌, ◌≢◌, ◌<◌, ◌∷◌, ◌++◌, ◌^◌, ℕ, List, true, IfOk, IfErr, IfSome, IfNone, MatchResult, IsTrue, map, length, codes};
+ghost use Rattle.std.specs.Prelude.{◌≡◌, ◌≢◌, ◌<◌, ◌≤◌, ◌∷◌, ◌++◌, ◌^◌, ℕ, List, true, IfOk, IfErr, IfSome, IfNone, IsOkAnd, MatchResult, IsTrue, map, length, nat_lt, codes};
 ghost use Rattle.std.specs.Fmt.{decimal};
 ghost use Rattle.sel_arrow.specs.DataType.{shape_of};
 ghost use Rattle.sel_text.specs.Spaces.{spaceless};
-ghost use Rattle.sel_arrow.specs.Shape.{Shape, Shapes, next_shape, shapes_of};
+ghost use Rattle.sel_arrow.specs.Shape.{Shape, Shapes, next_shape, shapes_of, of_struct};
 ghost use Rattle.sel_text.specs.Digits.{NoDigit};
-ghost use Rattle.sel_text.specs.TextErrors.{IsShort, IsShortage, IsWithin};
-ghost use Rattle.sel_text.specs.Written.{all_widths_written, is_plain, widths_written};
+ghost use Rattle.sel_text.specs.Limits.{IsTold};
+ghost use Rattle.sel_text.specs.TextErrors.{IsShortage, IsWithin};
+ghost use Rattle.sel_text.specs.Written.{all_widths_written, deepest, depth, is_plain, widths_written};
 ghost use Rattle.sel_text.specs.Types.{angled, type_text, type_texts};
 
 use crate::numerals::{behind, expect, number_of, read_digits};
@@ -24,8 +25,11 @@ pub const DEEPEST: usize = 64;
 /// width past 18,446,744,073,709,551,615; and for want of memory.
 pub fn parse_dtype(alloc: Global, text: &str) -> Result<ArrowDataType, TextError>
     ensures text { IfOk result (λ dtype. type_text (shape_of dtype) ≡ spaceless text.now) }
+    ensures levels { IfOk result (λ dtype. depth (shape_of dtype) ≤ 64) }
     ensures refused { IfErr result (λ error. (shape : Shape) → IsTrue (widths_written shape) →
         spaceless text.now ≡ type_text shape → IsShortage error) }
+    ensures limit { IfErr result (λ error. error ≡ TextError.Limit → (shape : Shape) →
+        IsTrue (widths_written shape) → spaceless text.now ≡ type_text shape → 64 < depth shape) }
     ensures place { IfErr result (IsWithin (length text.now)) }
 {
     let Ok(bytes) = without_spaces(alloc, text) else {
@@ -40,8 +44,9 @@ pub fn parse_dtype(alloc: Global, text: &str) -> Result<ArrowDataType, TextError
 /// The type whose text this is.
 fn read_whole(alloc: Global, bytes: &[u8]) -> Result<ArrowDataType, Fault>
     ensures text { IfOk result (λ dtype. type_text (shape_of dtype) ≡ bytes.now) }
+    ensures levels { IfOk result (λ dtype. depth (shape_of dtype) ≤ 64) }
     ensures refused { IfErr result (λ fault. (shape : Shape) → IsTrue (widths_written shape) →
-        bytes.now ≡ type_text shape → IsShort fault) }
+        bytes.now ≡ type_text shape → IsTold (nat_lt 64 (depth shape)) fault) }
 {
     let (dtype, rest) = match read_type(alloc, bytes, DEEPEST) {
         Ok(read) => read,
@@ -57,9 +62,11 @@ fn read_whole(alloc: Global, bytes: &[u8]) -> Result<ArrowDataType, Fault>
 #[cycle(reading_types)]
 fn read_type(alloc: Global, bytes: &[u8], levels: usize) -> Result<(ArrowDataType, &[u8]), Fault>
     ensures text { IfOk result (λ read. bytes.now ≡ type_text (shape_of read.0) ++ read.1.now) }
+    ensures levels { IfOk result (λ read. depth (shape_of read.0) ≤ levels) }
     ensures whole { (shape : Shape) (more : List ℕ) → IsTrue (widths_written shape) →
         bytes.now ≡ type_text shape ++ more →
-        MatchResult result (λ read. (shape_of read.0 ≡ shape) × (read.1.now ≡ more)) IsShort }
+        MatchResult result (λ read. (shape_of read.0 ≡ shape) × (read.1.now ≡ more))
+        (IsTold (nat_lt levels (depth shape))) }
 {
     if let Some(read) = read_plain(bytes) {
         return Ok(read);
@@ -175,9 +182,11 @@ fn read_list(alloc: Global, bytes: &[u8], levels: usize) -> Result<(ArrowDataTyp
     requires { 0 < levels }
     ensures text { IfOk result (λ read.
         codes "list" ++ bytes.now ≡ type_text (shape_of read.0) ++ read.1.now) }
+    ensures levels { IfOk result (λ read. depth (shape_of read.0) ≤ levels) }
     ensures whole { (shape : Shape) (more : List ℕ) → IsTrue (widths_written shape) →
         codes "list" ++ bytes.now ≡ type_text shape ++ more →
-        MatchResult result (λ read. (shape_of read.0 ≡ shape) × (read.1.now ≡ more)) IsShort }
+        MatchResult result (λ read. (shape_of read.0 ≡ shape) × (read.1.now ≡ more))
+        (IsTold (nat_lt levels (depth shape))) }
 {
     let rest = expect(bytes, b"<")?;
     let (child, rest) = read_type(alloc, rest, levels - 1)?;
@@ -192,9 +201,11 @@ fn read_blocks(alloc: Global, bytes: &[u8], levels: usize) -> Result<(ArrowDataT
     requires { 0 < levels }
     ensures text { IfOk result (λ read.
         codes "fixed" ++ bytes.now ≡ type_text (shape_of read.0) ++ read.1.now) }
+    ensures levels { IfOk result (λ read. depth (shape_of read.0) ≤ levels) }
     ensures whole { (shape : Shape) (more : List ℕ) → IsTrue (widths_written shape) →
         codes "fixed" ++ bytes.now ≡ type_text shape ++ more →
-        MatchResult result (λ read. (shape_of read.0 ≡ shape) × (read.1.now ≡ more)) IsShort }
+        MatchResult result (λ read. (shape_of read.0 ≡ shape) × (read.1.now ≡ more))
+        (IsTold (nat_lt levels (depth shape))) }
 {
     let rest = expect(bytes, b"<")?;
     let (size, rest) = read_size(rest)?;
@@ -210,7 +221,7 @@ fn read_size(bytes: &[u8]) -> Result<(usize, &[u8]), Fault>
     ensures text { IfOk result (λ read. bytes.now ≡ decimal read.0 ++ read.1.now) }
     ensures whole { (size : ℕ) (more : List ℕ) → size < 2 ^ 64 → NoDigit more →
         bytes.now ≡ decimal size ++ more →
-        MatchResult result (λ read. (read.0 ≡ size) × (read.1.now ≡ more)) IsShort }
+        IsOkAnd result (λ read. (read.0 ≡ size) × (read.1.now ≡ more)) }
 {
     let (digits, rest) = read_digits(bytes)?;
     let Some(number) = number_of(digits) else {
@@ -228,9 +239,11 @@ fn read_tuples(alloc: Global, bytes: &[u8], levels: usize) -> Result<(ArrowDataT
     requires { 0 < levels }
     ensures text { IfOk result (λ read.
         codes "struct" ++ bytes.now ≡ type_text (shape_of read.0) ++ read.1.now) }
+    ensures levels { IfOk result (λ read. depth (shape_of read.0) ≤ levels) }
     ensures whole { (shape : Shape) (more : List ℕ) → IsTrue (widths_written shape) →
         codes "struct" ++ bytes.now ≡ type_text shape ++ more →
-        MatchResult result (λ read. (shape_of read.0 ≡ shape) × (read.1.now ≡ more)) IsShort }
+        MatchResult result (λ read. (shape_of read.0 ≡ shape) × (read.1.now ≡ more))
+        (IsTold (nat_lt levels (depth shape))) }
 {
     let rest = expect(bytes, b"<")?;
     if let Some(rest) = behind(rest, b">") {
@@ -250,11 +263,14 @@ fn read_fields(
     requires { 0 < levels }
     ensures text { IfOk result (λ read. 60 ∷ bytes.now ≡
         angled (map (λ dtype. type_text (shape_of dtype)) read.0.items) ++ read.1.now) }
+    ensures levels { IfOk result (λ read.
+        deepest (shapes_of (map shape_of read.0.items)) < levels) }
     ensures whole { (first : Shape) (others : Shapes) (more : List ℕ) →
         all_widths_written (next_shape first others) ≡ true →
         60 ∷ bytes.now ≡ angled (type_texts (next_shape first others)) ++ more →
         MatchResult result (λ read. (shapes_of (map shape_of read.0.items) ≡
-        next_shape first others) × (read.1.now ≡ more)) IsShort }
+        next_shape first others) × (read.1.now ≡ more))
+        (IsTold (nat_lt levels (depth (of_struct (next_shape first others))))) }
 {
     let mut fields = Vec::new(alloc);
     let mut rest = bytes;

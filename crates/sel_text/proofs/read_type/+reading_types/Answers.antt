@@ -1,12 +1,12 @@
-use Rattle.std.proofs.Common.{◌≡◌, ◌++◌, ◌∷◌, [], true, length, drop, map, ap, sym, refl, subst, arith, ◌∙◌, length-append}
+use Rattle.std.proofs.Common.{◌≡◌, ◌<◌, ◌≤◌, ◌++◌, ◌∷◌, [], true, length, drop, map, ap, sym, refl, subst, arith, ◌∙◌, length-append}
 use Rattle.std.proofs.lemmas.List.{map-append}
 use Rattle.sel_arrow.specs.DataType.{shape_of}
 use Rattle.sel_arrow.specs.Shape.{next_shape, shapes_of, of_struct, of_fixed_size_list}
 use Rattle.sel_arrow.proofs.Types.{shape_of-Struct}
 use Rattle.sel_text.specs.Types.{angled, type_texts}
-use Rattle.sel_text.specs.Written.{widths_written, all_widths_written}
+use Rattle.sel_text.specs.Written.{widths_written, all_widths_written, deepest, depth}
 use Rattle.sel_text.proofs.Commas.{commas, comma_more, comma_last}
-use Rattle.sel_text.proofs.Fields.{IsLeft, behind_first, all_left, last_read, more_left, bracket_or_comma, left_narrow, no_types, some_types, block_narrow}
+use Rattle.sel_text.proofs.Fields.{IsLeft, behind_first, all_left, last_read, more_left, bracket_or_comma, left_narrow, no_types, some_types, block_narrow, field_told, grown_depth}
 use Rattle.sel_text.proofs.TypeTexts.{text_of_type, struct_behind}
 use Rattle.sel_text.proofs.TypesTold.{tuples_told, blocks_told}
 use Rattle.sel_text.proofs.read_type.+reading_types.Goals as goal
@@ -14,6 +14,7 @@ use Rattle.sel_text.proofs.read_type.+reading_types.Goals as goal
 pub read_fields-loop-init : goal.read_fields-loop-init
 read_fields-loop-init t c = record {
   text = sym (ap (λ l. commas (map text_of_type l) ++ c.args.bytes.now) c.new-fields.ensures.items);
+  levels = subst (λ l. deepest (shapes_of (map shape_of l)) < c.args.levels) (sym c.new-fields.ensures.items) c.requires;
   room = omega arith;
   left = λ s ss more narrow is. subst (λ l. IsLeft (next_shape s ss) l c.args.bytes.now more) (sym c.new-fields.ensures.items) (all_left s ss c.args.bytes.now more narrow is);
 }
@@ -23,6 +24,16 @@ read_fields-returns-in-Some-clause-text t c =
     let text = text_of_type c.in-Ok.read.0 in
     let grown = ap (map text_of_type) c.in_ok-push.ensures.items ∙ map-append text_of_type c.loop.fields.items (c.in-Ok.read.0 ∷ []) in
     comma_last 60 62 _ _ text _ _ _ grown c.loop.invariant.text (c.in-Ok.ensures.text ∙ ap (λ l. text ++ l) c.in-Some.ensures)
+
+pub read_fields-returns-in-Some-clause-levels : goal.read_fields-returns-in-Some-clause-levels
+read_fields-returns-in-Some-clause-levels t c =
+    grown_depth c.loop.fields.items c.push.new.self.items c.in-Ok.read.0 c.args.levels c.in_ok-push.ensures.items c.loop.invariant.levels (omega (arith, c.in-Ok.ensures.levels, c.requires))
+
+pub read_fields-returns-in-Err-clause-whole : goal.read_fields-returns-in-Err-clause-whole
+read_fields-returns-in-Err-clause-whole t c = λ s ss more narrow is.
+    let left = c.loop.invariant.left s ss more narrow is in
+    let told = c.in-Err.ensures.whole left.first (behind_first left.others more) (left_narrow _ _ _ _ left) left.text in
+    field_told (next_shape s ss) c.loop.fields.items c.loop.rest.now more left c.args.levels c.in-Err.fault c.requires told
 
 pub read_fields-returns-in-Some-clause-whole : goal.read_fields-returns-in-Some-clause-whole
 read_fields-returns-in-Some-clause-whole t c = λ s ss more narrow is.
@@ -45,6 +56,7 @@ read_fields-loop-preserved t c =
     let parts = length-append text (44 ∷ c.in-Some-behind.next.now) in
     record {
       text = comma_more _ _ text _ _ _ grown c.loop.invariant.text here;
+      levels = grown_depth c.loop.fields.items c.push.new.self.items c.in-Ok.read.0 c.args.levels c.in_ok-push.ensures.items c.loop.invariant.levels (omega (arith, c.in-Ok.ensures.levels, c.requires));
       room = omega (arith, long, parts, c.loop.invariant.room);
       left = λ s ss more narrow is.
           let left = c.loop.invariant.left s ss more narrow is in
@@ -58,6 +70,15 @@ read_tuples-returns-in-Some-clause-text t c =
 
 pub read_tuples-returns-clause-text : goal.read_tuples-returns-clause-text
 read_tuples-returns-clause-text t c = struct_behind c.in_ok-fields.fields _ _ _ refl (c.in_ok-rest.ensures.rest ∙ c.in_ok-fields.ensures.text)
+
+pub read_tuples-returns-in-Some-clause-levels : goal.read_tuples-returns-in-Some-clause-levels
+read_tuples-returns-in-Some-clause-levels t c =
+    let none = shape_of-Struct c.new.result ∙ ap (λ l. of_struct (shapes_of (map shape_of l))) c.new.ensures.items in
+    subst (λ s. depth s ≤ c.args.levels) (sym none) c.requires
+
+pub read_tuples-returns-clause-levels : goal.read_tuples-returns-clause-levels
+read_tuples-returns-clause-levels t c =
+    subst (λ s. depth s ≤ c.args.levels) (sym (shape_of-Struct c.in_ok-fields.fields)) (omega (arith, c.in_ok-fields.ensures.levels))
 
 pub read_tuples-returns-in-Some-clause-whole : goal.read_tuples-returns-in-Some-clause-whole
 read_tuples-returns-in-Some-clause-whole t c = λ s more few is.

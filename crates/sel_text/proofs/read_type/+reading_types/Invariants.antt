@@ -1,8 +1,9 @@
 -- Each level takes three calls at most. The types so far, with a comma behind each.
-use Rattle.std.proofs.Common.{◌≡◌, ◌+◌, ◌*◌, ◌≤◌, true, ℕ, List, ◌∷◌, ◌++◌, length, map}
-use Rattle.sel_arrow.specs.Shape.{Shape, Shapes, next_shape}
+use Rattle.std.proofs.Common.{◌≡◌, ◌+◌, ◌*◌, ◌<◌, ◌≤◌, true, ℕ, List, ◌∷◌, ◌++◌, length, map}
+use Rattle.sel_arrow.specs.DataType.{shape_of}
+use Rattle.sel_arrow.specs.Shape.{Shape, Shapes, next_shape, shapes_of}
 use Rattle.sel_text.specs.Types.{angled, type_texts}
-use Rattle.sel_text.specs.Written.{all_widths_written}
+use Rattle.sel_text.specs.Written.{all_widths_written, deepest}
 use Rattle.sel_text.proofs.Fields.{IsLeft}
 use Rattle.sel_text.proofs.Commas.{commas}
 use Rattle.sel_text.proofs.TypeTexts.{text_of_type}
@@ -26,6 +27,7 @@ decreases-read_fields l = 3 * l.levels + 1
 abbrev pub invariant-read_fields-loop : goal.invariant-read_fields-loop
 invariant-read_fields-loop l = record {
   text : l.fn.bytes ≡ commas (map text_of_type l.fields.items) ++ l.rest;
+  levels : deepest (shapes_of (map shape_of l.fields.items)) < l.fn.levels;
   room : length l.rest + l.counter ≤ length l.fn.bytes;
   left : (first : Shape) (others : Shapes) (more : List ℕ) → all_widths_written (next_shape first others) ≡ true → 60 ∷ l.fn.bytes ≡ angled (type_texts (next_shape first others)) ++ more →
       IsLeft (next_shape first others) l.fields.items l.rest more;

@@ -1,8 +1,8 @@
-use Rattle.std.proofs.Common.{◌≡◌, ◌<◌, ◌^◌, ap, sym, ◌∙◌, ◌++◌, arith}
+use Rattle.std.proofs.Common.{◌≡◌, ◌<◌, ◌^◌, ap, sym, ◌∙◌, ◌++◌, arith, lit<}
 use Rattle.std.specs.Fmt.{decimal}
 use Rattle.std.specs.Str.Parse.{digits_value}
 use Rattle.sel_text.proofs.Decimals.{printed_back}
-use Rattle.sel_text.proofs.Ends.{numbers_told}
+use Rattle.sel_text.proofs.Ends.{numbers_told, value_told}
 use Rattle.sel_text.proofs.read_type.read_size.Goals as goal
 
 pub returns-in-Ok : goal.returns-in-Ok
@@ -12,3 +12,16 @@ returns-in-Ok c =
     let small : digits_value 10 c.in_ok-digits.digits.now < 2 ^ 64 = omega (arith, c.in-Ok.ensures.0, c.in-Some.ensures) in
     let text : c.args.bytes.now ≡ decimal c.in-Ok.size ++ c.in_ok-digits.rest.now = read.parts ∙ ap (λ l. l ++ c.in_ok-digits.rest.now) (sym (ap decimal size ∙ printed_back _ read.digits read.some read.zero small)) in
     record { text = text; whole = λ n more few end is. numbers_told c.in-Ok.size n _ _ more (omega (arith, size, small)) (omega (arith, few)) read.end end text is }
+
+-- digits of a number past 64 bits are no numeral of a lesser one
+pub returns-in_default-clause-whole : goal.returns-in_default-clause-whole
+returns-in_default-clause-whole c = λ n more few end is.
+    let read = c.in_ok-digits.ensures in
+    let value = value_told c.args.bytes.now c.in_ok-digits.digits.now c.in_ok-digits.rest.now read.parts read.digits read.end n more (omega (arith, few)) end is in
+    omega (arith, value, few, c.in_default.ensures)
+
+pub returns-in-Err-clause-whole : goal.returns-in-Err-clause-whole
+returns-in-Err-clause-whole c = λ n more few end is.
+    let read = c.in_ok-digits.ensures in
+    let value = value_told c.args.bytes.now c.in_ok-digits.digits.now c.in_ok-digits.rest.now read.parts read.digits read.end n more (omega (arith, few)) end is in
+    omega (arith, value, few, c.in-Some.ensures, c.in-Err.ensures)
