@@ -7,12 +7,12 @@ use Rattle.std.proofs.lemmas.List.{map-append}
 use Rattle.sel_arrow.specs.DataType.{shape_of}
 use Rattle.sel_arrow.specs.Shape.{Shape, Shapes, no_shapes, next_shape, shapes_of, of_large_list, of_fixed_size_list, of_struct}
 use Rattle.sel_arrow.specs.declared.datatype.ArrowDataType.{ArrowDataType}
-use Rattle.sel_arrow.proofs.Lists.{and_first, and_second}
+use Rattle.sel_arrow.proofs.Lists.{and_first, and_second, both}
 use Rattle.sel_text.specs.Types.{angled, type_text, type_texts}
 use Rattle.sel_text.specs.Limits.{IsTold}
 use Rattle.sel_text.specs.Written.{widths_written, all_widths_written, deepest, depth}
 use Rattle.sel_text.specs.declared.text_error.Fault.{Fault}
-use Rattle.sel_text.specs.declared.text_error.Fault.TheVariants.{Syntax, «Type», Limit, OutOfMemory}
+use Rattle.sel_text.proofs.Making.{told_more}
 
 -- what stands behind the first of several types
 abbrev pub behind_first : Shapes → List ℕ → List ℕ
@@ -131,13 +131,6 @@ some_types (next_shape s ss) text more is none = (s, ss, refl)
 pub block_narrow : (s : Shape) (size : ℕ) → widths_written (of_fixed_size_list s size) ≡ true → (size < 2 ^ 64) × (widths_written s ≡ true)
 block_narrow s size narrow = (grind (arith, nat_tests, and_first (nat_lt size (2 ^ 64)) (widths_written s) narrow), and_second (nat_lt size (2 ^ 64)) (widths_written s) narrow)
 
--- a limit that one condition tells is told by one that follows from it
-told_more : (one other : Bool) (fault : Fault) → (one ≡ true → other ≡ true) → IsTold one fault → IsTold other fault
-told_more one other Limit follows told = follows told
-told_more one other OutOfMemory follows told = tt
-told_more one other (Syntax at) follows told = absurd told
-told_more one other («Type» at) follows told = absurd told
-
 -- none of several types is deeper than the deepest
 first_depth : (read : List Shape) (s : Shape) (ss : Shapes) → depth s ≤ deepest (shapes_then read (next_shape s ss))
 first_depth [] s ss = omega arith
@@ -162,3 +155,12 @@ grown_depth read grown field levels is few one = subst (λ l. deepest (shapes_of
     go : (read : List ArrowDataType) → deepest (shapes_of (map shape_of read)) < levels → deepest (shapes_of (map shape_of (read ++ field ∷ []))) < levels
     go [] few = omega (arith, one, few)
     go (r ∷ read) few = let others = go read (omega (arith, few)) in omega (arith, few, others)
+
+-- and has a width past 64 bits only where it is its own
+pub grown_narrow : (read grown : List ArrowDataType) (field : ArrowDataType) → grown ≡ read ++ field ∷ [] → all_widths_written (shapes_of (map shape_of read)) ≡ true → widths_written (shape_of field) ≡ true →
+    all_widths_written (shapes_of (map shape_of grown)) ≡ true
+grown_narrow read grown field is narrow one = subst (λ l. all_widths_written (shapes_of (map shape_of l)) ≡ true) (sym is) (go read narrow)
+  where
+    go : (read : List ArrowDataType) → all_widths_written (shapes_of (map shape_of read)) ≡ true → all_widths_written (shapes_of (map shape_of (read ++ field ∷ []))) ≡ true
+    go [] narrow = both (widths_written (shape_of field)) true one refl
+    go (r ∷ read) narrow = both (widths_written (shape_of r)) (all_widths_written (shapes_of (map shape_of (read ++ field ∷ [])))) (and_first _ _ narrow) (go read (and_second _ _ narrow))

@@ -26,6 +26,7 @@ pub const DEEPEST: usize = 64;
 pub fn parse_dtype(alloc: Global, text: &str) -> Result<ArrowDataType, TextError>
     ensures text { IfOk result (λ dtype. type_text (shape_of dtype) ≡ spaceless text.now) }
     ensures levels { IfOk result (λ dtype. depth (shape_of dtype) ≤ 64) }
+    ensures widths { IfOk result (λ dtype. IsTrue (widths_written (shape_of dtype))) }
     ensures refused { IfErr result (λ error. (shape : Shape) → IsTrue (widths_written shape) →
         spaceless text.now ≡ type_text shape → IsShortage error) }
     ensures limit { IfErr result (λ error. error ≡ TextError.Limit → (shape : Shape) →
@@ -45,6 +46,7 @@ pub fn parse_dtype(alloc: Global, text: &str) -> Result<ArrowDataType, TextError
 fn read_whole(alloc: Global, bytes: &[u8]) -> Result<ArrowDataType, Fault>
     ensures text { IfOk result (λ dtype. type_text (shape_of dtype) ≡ bytes.now) }
     ensures levels { IfOk result (λ dtype. depth (shape_of dtype) ≤ 64) }
+    ensures widths { IfOk result (λ dtype. IsTrue (widths_written (shape_of dtype))) }
     ensures refused { IfErr result (λ fault. (shape : Shape) → IsTrue (widths_written shape) →
         bytes.now ≡ type_text shape → IsTold (nat_lt 64 (depth shape)) fault) }
 {
@@ -63,6 +65,7 @@ fn read_whole(alloc: Global, bytes: &[u8]) -> Result<ArrowDataType, Fault>
 fn read_type(alloc: Global, bytes: &[u8], levels: usize) -> Result<(ArrowDataType, &[u8]), Fault>
     ensures text { IfOk result (λ read. bytes.now ≡ type_text (shape_of read.0) ++ read.1.now) }
     ensures levels { IfOk result (λ read. depth (shape_of read.0) ≤ levels) }
+    ensures widths { IfOk result (λ read. IsTrue (widths_written (shape_of read.0))) }
     ensures whole { (shape : Shape) (more : List ℕ) → IsTrue (widths_written shape) →
         bytes.now ≡ type_text shape ++ more →
         MatchResult result (λ read. (shape_of read.0 ≡ shape) × (read.1.now ≡ more))
@@ -183,6 +186,7 @@ fn read_list(alloc: Global, bytes: &[u8], levels: usize) -> Result<(ArrowDataTyp
     ensures text { IfOk result (λ read.
         codes "list" ++ bytes.now ≡ type_text (shape_of read.0) ++ read.1.now) }
     ensures levels { IfOk result (λ read. depth (shape_of read.0) ≤ levels) }
+    ensures widths { IfOk result (λ read. IsTrue (widths_written (shape_of read.0))) }
     ensures whole { (shape : Shape) (more : List ℕ) → IsTrue (widths_written shape) →
         codes "list" ++ bytes.now ≡ type_text shape ++ more →
         MatchResult result (λ read. (shape_of read.0 ≡ shape) × (read.1.now ≡ more))
@@ -202,6 +206,7 @@ fn read_blocks(alloc: Global, bytes: &[u8], levels: usize) -> Result<(ArrowDataT
     ensures text { IfOk result (λ read.
         codes "fixed" ++ bytes.now ≡ type_text (shape_of read.0) ++ read.1.now) }
     ensures levels { IfOk result (λ read. depth (shape_of read.0) ≤ levels) }
+    ensures widths { IfOk result (λ read. IsTrue (widths_written (shape_of read.0))) }
     ensures whole { (shape : Shape) (more : List ℕ) → IsTrue (widths_written shape) →
         codes "fixed" ++ bytes.now ≡ type_text shape ++ more →
         MatchResult result (λ read. (shape_of read.0 ≡ shape) × (read.1.now ≡ more))
@@ -240,6 +245,7 @@ fn read_tuples(alloc: Global, bytes: &[u8], levels: usize) -> Result<(ArrowDataT
     ensures text { IfOk result (λ read.
         codes "struct" ++ bytes.now ≡ type_text (shape_of read.0) ++ read.1.now) }
     ensures levels { IfOk result (λ read. depth (shape_of read.0) ≤ levels) }
+    ensures widths { IfOk result (λ read. IsTrue (widths_written (shape_of read.0))) }
     ensures whole { (shape : Shape) (more : List ℕ) → IsTrue (widths_written shape) →
         codes "struct" ++ bytes.now ≡ type_text shape ++ more →
         MatchResult result (λ read. (shape_of read.0 ≡ shape) × (read.1.now ≡ more))
@@ -265,6 +271,8 @@ fn read_fields(
         angled (map (λ dtype. type_text (shape_of dtype)) read.0.items) ++ read.1.now) }
     ensures levels { IfOk result (λ read.
         deepest (shapes_of (map shape_of read.0.items)) < levels) }
+    ensures widths { IfOk result (λ read.
+        all_widths_written (shapes_of (map shape_of read.0.items)) ≡ true) }
     ensures whole { (first : Shape) (others : Shapes) (more : List ℕ) →
         all_widths_written (next_shape first others) ≡ true →
         60 ∷ bytes.now ≡ angled (type_texts (next_shape first others)) ++ more →

@@ -6,7 +6,7 @@ use Rattle.sel_arrow.proofs.Types.{shape_of-Struct}
 use Rattle.sel_text.specs.Types.{angled, type_texts}
 use Rattle.sel_text.specs.Written.{widths_written, all_widths_written, deepest, depth}
 use Rattle.sel_text.proofs.Commas.{commas, comma_more, comma_last}
-use Rattle.sel_text.proofs.Fields.{IsLeft, behind_first, all_left, last_read, more_left, bracket_or_comma, left_narrow, no_types, some_types, block_narrow, field_told, grown_depth}
+use Rattle.sel_text.proofs.Fields.{IsLeft, behind_first, all_left, last_read, more_left, bracket_or_comma, left_narrow, no_types, some_types, block_narrow, field_told, grown_depth, grown_narrow}
 use Rattle.sel_text.proofs.TypeTexts.{text_of_type, struct_behind}
 use Rattle.sel_text.proofs.TypesTold.{tuples_told, blocks_told}
 use Rattle.sel_text.proofs.read_type.+reading_types.Goals as goal
@@ -15,6 +15,7 @@ pub read_fields-loop-init : goal.read_fields-loop-init
 read_fields-loop-init t c = record {
   text = sym (ap (λ l. commas (map text_of_type l) ++ c.args.bytes.now) c.new-fields.ensures.items);
   levels = subst (λ l. deepest (shapes_of (map shape_of l)) < c.args.levels) (sym c.new-fields.ensures.items) c.requires;
+  widths = ap (λ l. all_widths_written (shapes_of (map shape_of l))) c.new-fields.ensures.items;
   room = omega arith;
   left = λ s ss more narrow is. subst (λ l. IsLeft (next_shape s ss) l c.args.bytes.now more) (sym c.new-fields.ensures.items) (all_left s ss c.args.bytes.now more narrow is);
 }
@@ -28,6 +29,9 @@ read_fields-returns-in-Some-clause-text t c =
 pub read_fields-returns-in-Some-clause-levels : goal.read_fields-returns-in-Some-clause-levels
 read_fields-returns-in-Some-clause-levels t c =
     grown_depth c.loop.fields.items c.push.new.self.items c.in-Ok.read.0 c.args.levels c.in_ok-push.ensures.items c.loop.invariant.levels (omega (arith, c.in-Ok.ensures.levels, c.requires))
+
+pub read_fields-returns-in-Some-clause-widths : goal.read_fields-returns-in-Some-clause-widths
+read_fields-returns-in-Some-clause-widths t c = grown_narrow c.loop.fields.items c.push.new.self.items c.in-Ok.read.0 c.in_ok-push.ensures.items c.loop.invariant.widths c.in-Ok.ensures.widths
 
 pub read_fields-returns-in-Err-clause-whole : goal.read_fields-returns-in-Err-clause-whole
 read_fields-returns-in-Err-clause-whole t c = λ s ss more narrow is.
@@ -57,6 +61,7 @@ read_fields-loop-preserved t c =
     record {
       text = comma_more _ _ text _ _ _ grown c.loop.invariant.text here;
       levels = grown_depth c.loop.fields.items c.push.new.self.items c.in-Ok.read.0 c.args.levels c.in_ok-push.ensures.items c.loop.invariant.levels (omega (arith, c.in-Ok.ensures.levels, c.requires));
+      widths = grown_narrow c.loop.fields.items c.push.new.self.items c.in-Ok.read.0 c.in_ok-push.ensures.items c.loop.invariant.widths c.in-Ok.ensures.widths;
       room = omega (arith, long, parts, c.loop.invariant.room);
       left = λ s ss more narrow is.
           let left = c.loop.invariant.left s ss more narrow is in
@@ -79,6 +84,14 @@ read_tuples-returns-in-Some-clause-levels t c =
 pub read_tuples-returns-clause-levels : goal.read_tuples-returns-clause-levels
 read_tuples-returns-clause-levels t c =
     subst (λ s. depth s ≤ c.args.levels) (sym (shape_of-Struct c.in_ok-fields.fields)) (omega (arith, c.in_ok-fields.ensures.levels))
+
+pub read_tuples-returns-in-Some-clause-widths : goal.read_tuples-returns-in-Some-clause-widths
+read_tuples-returns-in-Some-clause-widths t c =
+    let none = shape_of-Struct c.new.result ∙ ap (λ l. of_struct (shapes_of (map shape_of l))) c.new.ensures.items in
+    ap widths_written none
+
+pub read_tuples-returns-clause-widths : goal.read_tuples-returns-clause-widths
+read_tuples-returns-clause-widths t c = ap widths_written (shape_of-Struct c.in_ok-fields.fields) ∙ c.in_ok-fields.ensures.widths
 
 pub read_tuples-returns-in-Some-clause-whole : goal.read_tuples-returns-in-Some-clause-whole
 read_tuples-returns-in-Some-clause-whole t c = λ s more few is.

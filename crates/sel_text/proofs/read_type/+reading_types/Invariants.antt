@@ -28,6 +28,7 @@ abbrev pub invariant-read_fields-loop : goal.invariant-read_fields-loop
 invariant-read_fields-loop l = record {
   text : l.fn.bytes ≡ commas (map text_of_type l.fields.items) ++ l.rest;
   levels : deepest (shapes_of (map shape_of l.fields.items)) < l.fn.levels;
+  widths : all_widths_written (shapes_of (map shape_of l.fields.items)) ≡ true;
   room : length l.rest + l.counter ≤ length l.fn.bytes;
   left : (first : Shape) (others : Shapes) (more : List ℕ) → all_widths_written (next_shape first others) ≡ true → 60 ∷ l.fn.bytes ≡ angled (type_texts (next_shape first others)) ++ more →
       IsLeft (next_shape first others) l.fields.items l.rest more;
