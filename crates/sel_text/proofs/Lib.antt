@@ -1,5 +1,4 @@
 pub mod Below
-pub mod BuiltPieces
 pub mod BuiltViews
 pub mod CellRows
 pub mod Commas
@@ -14,6 +13,7 @@ pub mod ItemParts
 pub mod ItemRows
 pub mod Making
 pub mod Numbers
+pub mod OffsetsBelow
 pub mod OneType
 pub mod PartRows
 pub mod Printed

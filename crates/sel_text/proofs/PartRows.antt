@@ -27,10 +27,10 @@ use Rattle.sel_text.specs.Below.{parts_below, HasParts}
 use Rattle.sel_text.specs.Fits.{fits, parts_fit}
 use Rattle.sel_text.specs.Limits.{any_past, part_in, past_limit, Shows}
 use Rattle.sel_text.specs.declared.build.Beneath.{Beneath}
-use Rattle.sel_text.proofs.Below.{show_next}
 use Rattle.sel_text.proofs.ItemRows.{values_back}
 use Rattle.sel_text.proofs.Making.{first_of_three, or_first, or_second}
 use Rattle.sel_text.proofs.Refusals.{no_difference}
+use Rattle.sel_text.proofs.Shown.{show_next}
 
 -- ---- the parts fit their types
 

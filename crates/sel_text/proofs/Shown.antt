@@ -1,5 +1,5 @@
 -- Values that show rows once the nulls are hidden.
-use Rattle.std.proofs.Common.{◌≡◌, ℕ, zero, suc, ℤ, pos, ◌+◌, ◌<◌, Bool, true, false, true≢false, List, [], ◌∷◌, ◌++◌, length, map, take, get_or, refl, ap, sym, ◌∙◌, subst, arith}
+use Rattle.std.proofs.Common.{◌≡◌, ℕ, zero, suc, ℤ, ◌+◌, ◌<◌, Bool, true, false, true≢false, List, [], ◌∷◌, ◌++◌, length, map, take, get_or, refl, ap, sym, ◌∙◌, subst, arith}
 use Rattle.std.specs.Prelude.{if◌then◌else◌}
 use Rattle.std.specs.Borrow.{Bor}
 use Rattle.std.specs.List.{list_all}
@@ -8,7 +8,7 @@ use Rattle.sel_arrow.specs.Masked.{hidden}
 use Rattle.sel_arrow.specs.Shape.{Shape, of_null, of_boolean, of_int8, of_int16, of_int32, of_int64, of_int128, of_uint8, of_uint16, of_uint32, of_uint64, of_uint128, of_large_binary, of_binary_view, of_utf8_view, of_large_list, of_fixed_size_list, of_struct, is_struct_shape}
 use Rattle.sel_arrow.specs.Value.{Value, Null, Truth, Number, Bytes, Items, Tuple, is_valid, listed}
 use Rattle.sel_arrow.proofs.Lists.{and_first, and_second}
-use Rattle.sel_text.specs.Fits.{fits, fits_bytes, fits_count, fits_number, is_truth_shape, all_fit, parts_fit}
+use Rattle.sel_text.specs.Fits.{fits, fits_count, fits_number, is_truth_shape, all_fit, parts_fit}
 use Rattle.sel_text.specs.ItemValues.{item_value, rows_read}
 use Rattle.sel_text.specs.Limits.{Shows, is_view_shape}
 use Rattle.sel_text.specs.Stored.{bytes_stored, truth_stored}
@@ -25,13 +25,14 @@ each_shown (Bytes bs) rows v vs s = (sym s.0, s.1)
 each_shown (Items es) rows v vs s = (sym s.0, s.1)
 each_shown (Tuple es) rows v vs s = (sym s.0, s.1)
 
-and_then : (row : Value) (rows : List Value) (v : Value) (vs : List Value) → (is_valid row ≡ true → row ≡ v) → Shows rows vs → Shows (row ∷ rows) (v ∷ vs)
-and_then Null rows v vs same s = s
-and_then (Truth b) rows v vs same s = (same refl, s)
-and_then (Number z) rows v vs same s = (same refl, s)
-and_then (Bytes bs) rows v vs same s = (same refl, s)
-and_then (Items es) rows v vs same s = (same refl, s)
-and_then (Tuple es) rows v vs same s = (same refl, s)
+-- a row before others that are shown
+pub show_next : (row v : Value) (rows vs : List Value) → (is_valid row ≡ true → row ≡ v) → Shows rows vs → Shows (row ∷ rows) (v ∷ vs)
+show_next Null v rows vs same s = s
+show_next (Truth b) v rows vs same s = (same refl, s)
+show_next (Number z) v rows vs same s = (same refl, s)
+show_next (Bytes bs) v rows vs same s = (same refl, s)
+show_next (Items es) v rows vs same s = (same refl, s)
+show_next (Tuple es) v rows vs same s = (same refl, s)
 
 never_none : (row : Value) (rows : List Value) → Shows (row ∷ rows) [] → ⊥
 never_none Null rows s = s
@@ -73,7 +74,7 @@ shown_append [] (v ∷ vs) others more s t = absurd s
 shown_append (row ∷ rows) [] others more s t = absurd (never_none row rows s)
 shown_append (row ∷ rows) (v ∷ vs) others more s t =
     let both = each_shown row rows v vs s in
-    and_then row (rows ++ others) v (vs ++ more) (λ valid. sym both.0 ∙ ap (λ b. if b then v else Null) valid) (shown_append rows vs others more both.1 t)
+    show_next row v (rows ++ others) (vs ++ more) (λ valid. sym both.0 ∙ ap (λ b. if b then v else Null) valid) (shown_append rows vs others more both.1 t)
 
 -- ---- the rows that were read
 
@@ -129,7 +130,7 @@ truths_shown beneath (item ∷ items) fit =
     let row = item_value item.now in
     let first = and_first (fits of_boolean row) (list_all (fits of_boolean) (rows_read items)) fit in
     let rest = and_second (fits of_boolean row) (list_all (fits of_boolean) (rows_read items)) fit in
-    and_then row (rows_read items) (Truth (truth_stored beneath row)) (map Truth (map (λ item. truth_stored beneath (item_value item.now)) items)) (same row first) (truths_shown beneath items rest)
+    show_next row (Truth (truth_stored beneath row)) (rows_read items) (map Truth (map (λ item. truth_stored beneath (item_value item.now)) items)) (same row first) (truths_shown beneath items rest)
   where
     same : (row : Value) → fits of_boolean row ≡ true → is_valid row ≡ true → row ≡ Truth (truth_stored beneath row)
     same Null fit valid = no_truth valid
@@ -138,44 +139,6 @@ truths_shown beneath (item ∷ items) fit =
     same (Bytes bs) fit valid = no_truth fit
     same (Items es) fit valid = no_truth fit
     same (Tuple es) fit valid = no_truth fit
-
--- ---- numbers
-
--- a type of numbers is of no other kind
-record IsNumeric (s : Shape) : Type 0 where
-  truths : is_truth_shape s ≡ false
-  bytes : (bs : List ℕ) → fits_bytes s bs ≡ false
-  counts : (n : ℕ) → fits_count s n ≡ false
-  tuples : is_struct_shape s ≡ false
-
-is_numeric : (s : Shape) → fits_number s (pos 0) ≡ true → IsNumeric s
-is_numeric of_int8 has = record { truths = refl; bytes = λ bs. refl; counts = λ n. refl; tuples = refl }
-is_numeric of_int16 has = record { truths = refl; bytes = λ bs. refl; counts = λ n. refl; tuples = refl }
-is_numeric of_int32 has = record { truths = refl; bytes = λ bs. refl; counts = λ n. refl; tuples = refl }
-is_numeric of_int64 has = record { truths = refl; bytes = λ bs. refl; counts = λ n. refl; tuples = refl }
-is_numeric of_int128 has = record { truths = refl; bytes = λ bs. refl; counts = λ n. refl; tuples = refl }
-is_numeric of_uint8 has = record { truths = refl; bytes = λ bs. refl; counts = λ n. refl; tuples = refl }
-is_numeric of_uint16 has = record { truths = refl; bytes = λ bs. refl; counts = λ n. refl; tuples = refl }
-is_numeric of_uint32 has = record { truths = refl; bytes = λ bs. refl; counts = λ n. refl; tuples = refl }
-is_numeric of_uint64 has = record { truths = refl; bytes = λ bs. refl; counts = λ n. refl; tuples = refl }
-is_numeric of_uint128 has = record { truths = refl; bytes = λ bs. refl; counts = λ n. refl; tuples = refl }
-is_numeric of_null has = no_truth has
-is_numeric of_boolean has = no_truth has
-is_numeric of_large_binary has = no_truth has
-is_numeric of_binary_view has = no_truth has
-is_numeric of_utf8_view has = no_truth has
-is_numeric (of_large_list s) has = no_truth has
-is_numeric (of_fixed_size_list s size) has = no_truth has
-is_numeric (of_struct ss) has = no_truth has
-
--- a row of a type of numbers is shown by its number
-pub number_shown : (s : Shape) (row : Value) (y : ℤ) → fits_number s (pos 0) ≡ true → fits s row ≡ true → ((z : ℤ) → row ≡ Number z → fits_number s z ≡ true → y ≡ z) → Shows (row ∷ []) (Number y ∷ [])
-number_shown s Null y has fit same = tt
-number_shown s (Truth b) y has fit same = no_truth (sym (is_numeric s has).truths ∙ fit)
-number_shown s (Number z) y has fit same = (ap Number (sym (same z refl fit)), tt)
-number_shown s (Bytes bs) y has fit same = no_truth (sym ((is_numeric s has).bytes bs) ∙ fit)
-number_shown s (Items es) y has fit same = no_truth (sym ((is_numeric s has).counts (length (listed es))) ∙ and_first (fits_count s (length (listed es))) (all_fit (item_shape s) es) fit)
-number_shown s (Tuple es) y has fit same = no_truth (sym (is_numeric s has).tuples ∙ and_first (is_struct_shape s) (parts_fit (part_shapes s) es) fit)
 
 -- ---- bytes
 
@@ -209,12 +172,16 @@ of_views (of_large_list s) has = no_truth has
 of_views (of_fixed_size_list s size) has = no_truth has
 of_views (of_struct ss) has = no_truth has
 
--- what is stored for each row
+-- what is stored for a row
+abbrev pub stored_in : Beneath → Bor Item → List ℕ
+stored_in beneath item = bytes_stored beneath (item_value item.now)
+
+-- and for each
 abbrev pub stored_bytes : Beneath → List (Bor Item) → List (List ℕ)
-stored_bytes beneath items = map (λ item. bytes_stored beneath (item_value item.now)) items
+stored_bytes beneath items = map (stored_in beneath) items
 
 pub stored_count : (beneath : Beneath) (items : List (Bor Item)) → length (stored_bytes beneath items) ≡ length (rows_read items)
-stored_count beneath items = length-map items (λ (item : Bor Item). bytes_stored beneath (item_value item.now)) ∙ sym (rows_count items)
+stored_count beneath items = length-map items (stored_in beneath) ∙ sym (rows_count items)
 
 pub bytes_shown : (s : Shape) → IsOfBytes s → (beneath : Beneath) (items : List (Bor Item)) → list_all (fits s) (rows_read items) ≡ true → Shows (rows_read items) (map Bytes (stored_bytes beneath items))
 bytes_shown s of beneath [] fit = tt
@@ -222,7 +189,7 @@ bytes_shown s of beneath (item ∷ items) fit =
     let row = item_value item.now in
     let first = and_first (fits s row) (list_all (fits s) (rows_read items)) fit in
     let rest = and_second (fits s row) (list_all (fits s) (rows_read items)) fit in
-    and_then row (rows_read items) (Bytes (bytes_stored beneath row)) (map Bytes (stored_bytes beneath items)) (same row first) (bytes_shown s of beneath items rest)
+    show_next row (Bytes (bytes_stored beneath row)) (rows_read items) (map Bytes (stored_bytes beneath items)) (same row first) (bytes_shown s of beneath items rest)
   where
     same : (row : Value) → fits s row ≡ true → is_valid row ≡ true → row ≡ Bytes (bytes_stored beneath row)
     same Null fit valid = no_truth valid
@@ -236,5 +203,4 @@ bytes_shown s of beneath (item ∷ items) fit =
 pub stored_more : (beneath : Beneath) (items : List (Bor Item)) (i : ℕ) (item : Bor Item) (bytes : List ℕ) → i < length items → item ≡ get_or items i item → bytes ≡ bytes_stored beneath (item_value item.now) →
     stored_bytes beneath (take (i + 1) items) ≡ stored_bytes beneath (take i items) ++ bytes ∷ []
 stored_more beneath items i item bytes inside is here =
-    let stored = λ (item : Bor Item). bytes_stored beneath (item_value item.now) in
-    map_more stored items i item inside ∙ ap (λ x. map stored (take i items) ++ x ∷ []) (ap stored (sym is) ∙ sym here)
+    map_more (stored_in beneath) items i item inside ∙ ap (λ x. stored_bytes beneath (take i items) ++ x ∷ []) (ap (stored_in beneath) (sym is) ∙ sym here)

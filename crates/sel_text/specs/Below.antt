@@ -8,12 +8,12 @@ use Rattle.sel_arrow.specs.declared.array_ref.ArrayRef.{ArrayRef}
 use Rattle.sel_text.specs.Limits.{part_in}
 
 -- where the entries of each row end, the first of which begin at a place (Arrow columnar format: variable-size list layout)
-abbrev pub ends_below : (Value → List Value) → ℕ → List Value → List ℕ
+abbrev pub ends_below : {A B : Type 0} → (A → List B) → ℕ → List A → List ℕ
 ends_below below place [] = []
 ends_below below place (row ∷ rows) = (place + length (below row)) ∷ ends_below below (place + length (below row)) rows
 
 -- where each begins and ends (Arrow columnar format: variable-size list layout)
-abbrev pub offsets_below : (Value → List Value) → List Value → List ℕ
+abbrev pub offsets_below : {A B : Type 0} → (A → List B) → List A → List ℕ
 offsets_below below rows = 0 ∷ ends_below below 0 rows
 
 -- the parts of tuples at the first places (Arrow columnar format: struct layout)

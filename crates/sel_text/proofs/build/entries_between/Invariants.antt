@@ -1,14 +1,10 @@
 -- The entries and the ends so far.
-use Rattle.std.proofs.Common.{◌≡◌, map, pos, take}
-use Rattle.std.specs.List.{flat_map}
+use Rattle.std.proofs.Common.{◌≡◌, take}
 use Rattle.sel_arrow.specs.Value.{Null}
-use Rattle.sel_text.specs.Below.{offsets_below}
 use Rattle.sel_text.specs.ItemValues.{item_value, rows_read}
 use Rattle.sel_text.specs.Limits.{entries_in}
+use Rattle.sel_text.proofs.OffsetsBelow.{Holds}
 use Rattle.sel_text.proofs.build.entries_between.Given as goal
 
 abbrev pub invariant-loop-item : goal.invariant-loop-item
-invariant-loop-item l =
-    item_value l.null ≡ Null →
-    (rows_read l.entries.items ≡ flat_map (entries_in l.beneath) (rows_read (take l.item-index l.items)))
-    × (l.ends.items ≡ map pos (offsets_below (entries_in l.beneath) (rows_read (take l.item-index l.items))))
+invariant-loop-item l = item_value l.null ≡ Null → Holds (entries_in l.beneath) (rows_read (take l.item-index l.items)) (rows_read l.entries.items) l.ends.items

@@ -1,0 +1,104 @@
+-- Offsets of rows of any type, by the entries below each of them.
+use Rattle.std.proofs.Common.{◌≡◌, ℕ, ◌+◌, ◌<◌, ℤ, pos, suc, false, ◌||◌, List, [], ◌∷◌, ◌++◌, length, map, None, refl, ap, sym, subst, ◌∙◌, arith, append_assoc, length-append, w64, FitsSigned, to_z, of_z}
+use Rattle.std.specs.Prelude.{nat_lt, slice_index}
+use Rattle.std.specs.List.{flat_map, slice_range}
+use Rattle.std.proofs.lemmas.Bool.Decides.{nat_tests}
+use Rattle.std.proofs.lemmas.Grind.{common_steps}
+use Rattle.std.proofs.lemmas.Int.{to_z-of_z}
+use Rattle.std.proofs.lemmas.List.{append-nil, map-append, map-id}
+use Rattle.std.proofs.lemmas.List.Concat.{flat_map-append}
+use Rattle.sel_bits.specs.Offsets.{falls_after, has_negative, offsets_fault}
+use Rattle.sel_arrow.specs.Pieces.{last_offset, pieces, pieces_after, rows_between}
+use Rattle.sel_text.specs.Below.{ends_below, offsets_below}
+
+-- a place that is stored as an offset
+pub end_kept : (z : ℤ) (n : ℕ) → z ≡ pos n → n < 9223372036854775808 → to_z w64 (of_z w64 z) ≡ pos n
+end_kept z n is small = to_z-of_z w64 z (subst (FitsSigned w64) (sym is) (record { sfits = small })) ∙ is
+
+same_numbers : (ms ns : List ℕ) → map pos ms ≡ map pos ns → ms ≡ ns
+same_numbers [] [] e = refl
+same_numbers [] (n ∷ ns) e = cc
+same_numbers (m ∷ ms) [] e = cc
+same_numbers (m ∷ ms) (n ∷ ns) e =
+    let here : m ≡ n = cc in
+    let rest : map pos ms ≡ map pos ns = cc in
+    cc (here, same_numbers ms ns rest)
+
+none_negative : (ns : List ℕ) → has_negative (λ z. z) (map pos ns) ≡ false
+none_negative [] = refl
+none_negative (n ∷ ns) = none_negative ns
+
+from_none : (n : ℕ) → 0 + n ≡ n
+from_none n = omega arith
+
+-- the part of a list behind another
+pub slice_here : {B : Type 0} (pre xs ys : List B) (a b : ℕ) → a ≡ length pre → b ≡ a + length xs → slice_range (pre ++ (xs ++ ys)) a b ≡ xs
+slice_here pre xs ys a b start end = grind (arith, common_steps)
+
+-- entries and offsets hold rows
+pub record Holds {A B : Type 0} (below : A → List B) (rows : List A) (entries : List B) (ends : List ℤ) : Type 0 where
+  pub entries_are : entries ≡ flat_map below rows
+  pub ends_are : ends ≡ map pos (offsets_below below rows)
+
+module _ {A B : Type 0} (below : A → List B) where
+  behind : (place : ℕ) (row : A) (rows : List A) → place + length (below row) + length (flat_map below rows) ≡ place + length (flat_map below (row ∷ rows))
+  behind place row rows = omega (arith, length-append (below row) (flat_map below rows))
+
+  count_ends : (place : ℕ) (rows : List A) → length (ends_below below place rows) ≡ length rows
+  count_ends place [] = refl
+  count_ends place (row ∷ rows) = ap suc (count_ends (place + length (below row)) rows)
+
+  last_end : (place : ℕ) (rows : List A) → slice_index (place ∷ ends_below below place rows) (length rows) ≡ place + length (flat_map below rows)
+  last_end place [] = omega arith
+  last_end place (row ∷ rows) = last_end (place + length (below row)) rows ∙ behind place row rows
+
+  none_falls : (place : ℕ) (rows : List A) → falls_after (λ z. z) (pos place) (map pos (ends_below below place rows)) ≡ false
+  none_falls place [] = refl
+  none_falls place (row ∷ rows) =
+      let above : nat_lt (place + length (below row)) place ≡ false = grind (arith, nat_tests) in
+      ap (λ b. b || falls_after (λ z. z) (pos (place + length (below row))) (map pos (ends_below below (place + length (below row)) rows))) above ∙ none_falls (place + length (below row)) rows
+
+  ends_more : (place : ℕ) (rows : List A) (row : A) → ends_below below place (rows ++ row ∷ []) ≡ ends_below below place rows ++ (place + length (flat_map below (rows ++ row ∷ []))) ∷ []
+  ends_more place [] row = ap (λ l. (place + length l) ∷ []) (sym (append-nil (below row)))
+  ends_more place (first ∷ rows) row =
+      ap (λ l. (place + length (below first)) ∷ l) (ends_more (place + length (below first)) rows row ∙ ap (λ n. ends_below below (place + length (below first)) rows ++ n ∷ []) (behind place first (rows ++ row ∷ [])))
+
+  parts_back : (pre : List B) (rows : List A) → pieces_after (length pre) (ends_below below (length pre) rows) (pre ++ flat_map below rows) ≡ map below rows
+  parts_back pre [] = refl
+  parts_back pre (row ∷ rows) =
+      let here = slice_here pre (below row) (flat_map below rows) (length pre) (length pre + length (below row)) refl refl in
+      let rest = rw (length-append pre (below row), append_assoc pre (below row) (flat_map below rows)) at (parts_back (pre ++ below row) rows) in
+      cc (here, rest)
+
+  -- one row more
+  pub holds_more : (before after : List A) (row : A) (old new : List B) (ends more : List ℤ) (end : ℤ) (place : ℕ) → Holds below before old ends → after ≡ before ++ row ∷ [] → new ≡ old ++ below row → more ≡ ends ++ end ∷ [] → end ≡ pos place → place ≡ length new →
+      Holds below after new more
+  holds_more before after row old new ends more end place so grows put adds is there =
+      let all : new ≡ flat_map below (before ++ row ∷ []) = put ∙ ap (λ l. l ++ below row) so.entries_are ∙ ap (λ l. flat_map below before ++ l) (sym (append-nil (below row))) ∙ sym (flat_map-append below before (row ∷ [])) in
+      let last : end ≡ pos (0 + length (flat_map below (before ++ row ∷ []))) = is ∙ ap pos (there ∙ ap length all ∙ sym (from_none (length (flat_map below (before ++ row ∷ []))))) in
+      subst (λ rows. Holds below rows new more) (sym grows) (record {
+        entries_are = all;
+        ends_are = adds ∙ ap (λ l. l ++ end ∷ []) so.ends_are ∙ ap (λ z. map pos (offsets_below below before) ++ z ∷ []) last
+            ∙ sym (map-append pos (offsets_below below before) ((0 + length (flat_map below (before ++ row ∷ []))) ∷ [])) ∙ ap (λ l. pos 0 ∷ map pos l) (sym (ends_more 0 before row));
+      })
+
+  -- they break no rule
+  pub no_offsets_fault : (rows : List A) (entries : List B) (ends : List ℤ) → Holds below rows entries ends → offsets_fault (λ (z : ℤ). z) ends ≡ None
+  no_offsets_fault rows entries ends so = ap (offsets_fault (λ (z : ℤ). z)) so.ends_are ∙ rw (none_negative (offsets_below below rows), none_falls 0 rows) refl
+
+  -- the numbers that were read from them
+  pub offsets_read : (rows : List A) (entries : List B) (ends : List ℤ) (offsets : List ℕ) → Holds below rows entries ends → map (λ (z : ℤ). z) ends ≡ map pos offsets → offsets ≡ offsets_below below rows
+  offsets_read rows entries ends offsets so shown = same_numbers offsets (offsets_below below rows) (sym shown ∙ map-id ends ∙ so.ends_are)
+
+  module _ (rows : List A) (offsets : List ℕ) (are : offsets ≡ offsets_below below rows) where
+    pub count_between : rows_between offsets ≡ length rows
+    count_between = omega (arith, ap length are, count_ends 0 rows)
+
+    pub ends_inside : (count : ℕ) → count ≡ length (flat_map below rows) → nat_lt count (last_offset offsets) ≡ false
+    ends_inside count long =
+        let last : last_offset offsets ≡ 0 + length (flat_map below rows) = ap (λ n. slice_index offsets n) count_between ∙ ap (λ l. slice_index l (length rows)) are ∙ last_end 0 rows in
+        grind (arith, nat_tests, last, long)
+
+    -- what lies between them
+    pub parts_between : (entries : List B) → entries ≡ flat_map below rows → pieces offsets entries ≡ map below rows
+    parts_between entries all = ap (λ l. pieces l entries) are ∙ ap (pieces (offsets_below below rows)) all ∙ parts_back [] rows
