@@ -1,11 +1,12 @@
 //! Rows chosen between two sides by a mask: when-then-otherwise.
 
-ghost use Rattle.std.specs.Prelude.{◌≡◌, ◌++◌, length, true, false};
+ghost use Rattle.std.specs.Prelude.{◌≡◌, ◌++◌, ◌∷◌, length, true, false};
 ghost use Rattle.sel_arrow.specs.Rows.{rows, type_of};
 ghost use Rattle.sel_arrow.specs.Shape.{of_boolean};
 ghost use Rattle.sel_calls.specs.Chosen.{first_row};
+ghost use Rattle.sel_calls.specs.Order.{limit_statuses, DemandsBefore};
 ghost use Rattle.sel_choices.specs.Choose.{choose, choose_one, choose_or_one, choose_of_two};
-ghost use Rattle.sel_handle.specs.Status.{no_column, other_kind, other_type, other_length, held_columns, held_rows, held_type, Demands, HasColumn, Makes, TellsLimits};
+ghost use Rattle.sel_handle.specs.Status.{done, no_memory, no_column, other_kind, other_type, other_length, held_columns, held_rows, held_type, HasColumn, IsOneOf, Makes, TellsLimits};
 ghost use Rattle.sel_runs.specs.Need.{past_taken};
 ghost use Rattle.polars_compute.specs.Select.{in_force};
 
@@ -30,12 +31,16 @@ pub extern "C" fn sel_choose(
         (held_rows if_true.old.tree) (held_rows if_false.old.tree)) }
     ensures dtype { Makes result out.old.tree out.new.tree
         (λ made. type_of made.column ≡ held_type if_true.old.tree) }
-    ensures column { Demands result no_column (HasColumn mask.old.tree ×
+    ensures status { IsOneOf result (done ∷ no_memory ∷ no_column ∷ other_kind ∷
+        other_type ∷ other_length ∷ limit_statuses) }
+    ensures column { DemandsBefore result no_column
+        (other_kind ∷ other_type ∷ other_length ∷ limit_statuses) (HasColumn mask.old.tree ×
         HasColumn if_true.old.tree × HasColumn if_false.old.tree) }
-    ensures kind { Demands result other_kind (held_type mask.old.tree ≡ of_boolean) }
-    ensures alike { Demands result other_type
+    ensures kind { DemandsBefore result other_kind
+        (other_type ∷ other_length ∷ limit_statuses) (held_type mask.old.tree ≡ of_boolean) }
+    ensures alike { DemandsBefore result other_type (other_length ∷ limit_statuses)
         (held_type if_true.old.tree ≡ held_type if_false.old.tree) }
-    ensures length { Demands result other_length
+    ensures length { DemandsBefore result other_length limit_statuses
         ((length (held_rows if_true.old.tree) ≡ length (held_rows mask.old.tree)) ×
         (length (held_rows if_false.old.tree) ≡ length (held_rows mask.old.tree))) }
     ensures limits { TellsLimits result (past_taken (held_type if_true.old.tree)
@@ -66,12 +71,16 @@ pub extern "C" fn sel_choose_one(
         (first_row (held_rows if_true.old.tree)) (held_rows if_false.old.tree)) }
     ensures dtype { Makes result out.old.tree out.new.tree
         (λ made. type_of made.column ≡ held_type if_true.old.tree) }
-    ensures column { Demands result no_column (HasColumn mask.old.tree ×
+    ensures status { IsOneOf result (done ∷ no_memory ∷ no_column ∷ other_kind ∷
+        other_type ∷ other_length ∷ limit_statuses) }
+    ensures column { DemandsBefore result no_column
+        (other_kind ∷ other_type ∷ other_length ∷ limit_statuses) (HasColumn mask.old.tree ×
         HasColumn if_true.old.tree × HasColumn if_false.old.tree) }
-    ensures kind { Demands result other_kind (held_type mask.old.tree ≡ of_boolean) }
-    ensures alike { Demands result other_type
+    ensures kind { DemandsBefore result other_kind
+        (other_type ∷ other_length ∷ limit_statuses) (held_type mask.old.tree ≡ of_boolean) }
+    ensures alike { DemandsBefore result other_type (other_length ∷ limit_statuses)
         (held_type if_true.old.tree ≡ held_type if_false.old.tree) }
-    ensures length { Demands result other_length
+    ensures length { DemandsBefore result other_length limit_statuses
         ((length (held_rows if_true.old.tree) ≡ 1) ×
         (length (held_rows if_false.old.tree) ≡ length (held_rows mask.old.tree))) }
     ensures limits { TellsLimits result (past_taken (held_type if_true.old.tree)
@@ -102,12 +111,16 @@ pub extern "C" fn sel_choose_or_one(
         (held_rows if_true.old.tree) (first_row (held_rows if_false.old.tree))) }
     ensures dtype { Makes result out.old.tree out.new.tree
         (λ made. type_of made.column ≡ held_type if_true.old.tree) }
-    ensures column { Demands result no_column (HasColumn mask.old.tree ×
+    ensures status { IsOneOf result (done ∷ no_memory ∷ no_column ∷ other_kind ∷
+        other_type ∷ other_length ∷ limit_statuses) }
+    ensures column { DemandsBefore result no_column
+        (other_kind ∷ other_type ∷ other_length ∷ limit_statuses) (HasColumn mask.old.tree ×
         HasColumn if_true.old.tree × HasColumn if_false.old.tree) }
-    ensures kind { Demands result other_kind (held_type mask.old.tree ≡ of_boolean) }
-    ensures alike { Demands result other_type
+    ensures kind { DemandsBefore result other_kind
+        (other_type ∷ other_length ∷ limit_statuses) (held_type mask.old.tree ≡ of_boolean) }
+    ensures alike { DemandsBefore result other_type (other_length ∷ limit_statuses)
         (held_type if_true.old.tree ≡ held_type if_false.old.tree) }
-    ensures length { Demands result other_length
+    ensures length { DemandsBefore result other_length limit_statuses
         ((length (held_rows if_true.old.tree) ≡ length (held_rows mask.old.tree)) ×
         (length (held_rows if_false.old.tree) ≡ 1)) }
     ensures limits { TellsLimits result (past_taken (held_type if_true.old.tree)
@@ -138,12 +151,17 @@ pub extern "C" fn sel_choose_of_two(
         (first_row (held_rows if_true.old.tree)) (first_row (held_rows if_false.old.tree))) }
     ensures dtype { Makes result out.old.tree out.new.tree
         (λ made. type_of made.column ≡ held_type if_true.old.tree) }
-    ensures column { Demands result no_column (HasColumn mask.old.tree ×
+    ensures status { IsOneOf result (done ∷ no_memory ∷ no_column ∷ other_kind ∷
+        other_type ∷ other_length ∷ limit_statuses) }
+    ensures column { DemandsBefore result no_column
+        (other_kind ∷ other_type ∷ other_length ∷ limit_statuses) (HasColumn mask.old.tree ×
         HasColumn if_true.old.tree × HasColumn if_false.old.tree) }
-    ensures kind { Demands result other_kind (held_type mask.old.tree ≡ of_boolean) }
-    ensures alike { Demands result other_type
+    ensures kind { DemandsBefore result other_kind
+        (other_type ∷ other_length ∷ limit_statuses) (held_type mask.old.tree ≡ of_boolean) }
+    ensures alike { DemandsBefore result other_type (other_length ∷ limit_statuses)
         (held_type if_true.old.tree ≡ held_type if_false.old.tree) }
-    ensures length { Demands result other_length ((length (held_rows if_true.old.tree) ≡ 1) ×
+    ensures length { DemandsBefore result other_length limit_statuses
+        ((length (held_rows if_true.old.tree) ≡ 1) ×
         (length (held_rows if_false.old.tree) ≡ 1)) }
     ensures limits { TellsLimits result (past_taken (held_type if_true.old.tree)
         (held_columns if_true.old.tree ++ held_columns if_false.old.tree)

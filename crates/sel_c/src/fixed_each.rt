@@ -1,11 +1,12 @@
 //! Entries of lists of one length, at an index for each of them.
 
-ghost use Rattle.std.specs.Prelude.{◌≡◌, length, false, IsTrue};
+ghost use Rattle.std.specs.Prelude.{◌≡◌, ◌∷◌, length, false, IsTrue};
 ghost use Rattle.sel_arrow.specs.Rows.{rows, type_of};
 ghost use Rattle.sel_arrow.specs.Shape.{of_int64, is_block_shape};
 ghost use Rattle.sel_calls.specs.Entries.{entries_at_each, refuses_some, past_entries_at_each};
+ghost use Rattle.sel_calls.specs.Order.{limit_statuses, DemandsBefore};
 ghost use Rattle.sel_calls.specs.Types.{entry_type};
-ghost use Rattle.sel_handle.specs.Status.{no_column, other_kind, other_length, get_out_of_bounds, held_rows, held_type, Demands, HasColumn, Makes, TellsLimits};
+ghost use Rattle.sel_handle.specs.Status.{done, no_memory, no_column, other_kind, other_length, get_out_of_bounds, held_rows, held_type, Demands, HasColumn, IsOneOf, Makes, TellsLimits};
 
 use sel_calls::fixed_each::fixed_get_each_into;
 use sel_handle::handle::Handle;
@@ -30,11 +31,16 @@ pub extern "C" fn sel_fixed_get_each(
         (held_rows indices.old.tree)) }
     ensures dtype { Makes result out.old.tree out.new.tree
         (λ made. type_of made.column ≡ entry_type (held_type of.old.tree)) }
-    ensures column { Demands result no_column (HasColumn of.old.tree × HasColumn indices.old.tree) }
-    ensures kind { Demands result other_kind
+    ensures status { IsOneOf result (done ∷ no_memory ∷ no_column ∷ other_kind ∷ other_length ∷
+        get_out_of_bounds ∷ limit_statuses) }
+    ensures column { DemandsBefore result no_column
+        (other_kind ∷ other_length ∷ get_out_of_bounds ∷ limit_statuses)
+        (HasColumn of.old.tree × HasColumn indices.old.tree) }
+    ensures kind { DemandsBefore result other_kind
+        (other_length ∷ get_out_of_bounds ∷ limit_statuses)
         (IsTrue (is_block_shape (held_type of.old.tree)) ×
         (held_type indices.old.tree ≡ of_int64)) }
-    ensures length { Demands result other_length
+    ensures length { DemandsBefore result other_length (get_out_of_bounds ∷ limit_statuses)
         (length (held_rows indices.old.tree) ≡ length (held_rows of.old.tree)) }
     ensures bounds { Demands result get_out_of_bounds
         (refuses_some null_on_oob (held_rows of.old.tree) (held_type of.old.tree)

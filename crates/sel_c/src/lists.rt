@@ -1,10 +1,11 @@
 //! Elements of lists.
 
-ghost use Rattle.std.specs.Prelude.{◌≡◌, IsTrue};
+ghost use Rattle.std.specs.Prelude.{◌≡◌, ◌∷◌, [], IsTrue};
 ghost use Rattle.sel_arrow.specs.Rows.{rows, type_of};
 ghost use Rattle.sel_arrow.specs.Shape.{of_large_list, is_list_shape};
+ghost use Rattle.sel_calls.specs.Order.{limit_statuses, DemandsBefore};
 ghost use Rattle.sel_calls.specs.Types.{entry_type};
-ghost use Rattle.sel_handle.specs.Status.{done, no_column, other_kind, held_rows, held_type, Demands, HasColumn, Makes, TellsLimits};
+ghost use Rattle.sel_handle.specs.Status.{done, no_memory, no_column, other_kind, held_rows, held_type, Demands, HasColumn, IsOneOf, Makes, TellsLimits};
 ghost use Rattle.sel_runs.specs.Need.{past};
 ghost use Rattle.sel_sublists.specs.Lists.{list_get, oob, unit_lists};
 
@@ -29,8 +30,11 @@ pub extern "C" fn sel_sublist_get(
         (λ made. rows made.column ≡ list_get (held_rows of.old.tree) index) }
     ensures dtype { Makes result out.old.tree out.new.tree
         (λ made. type_of made.column ≡ entry_type (held_type of.old.tree)) }
-    ensures column { Demands result no_column (HasColumn of.old.tree) }
-    ensures kind { Demands result other_kind (IsTrue (is_list_shape (held_type of.old.tree))) }
+    ensures status { IsOneOf result (done ∷ no_memory ∷ no_column ∷ other_kind ∷ limit_statuses) }
+    ensures column { DemandsBefore result no_column (other_kind ∷ limit_statuses)
+        (HasColumn of.old.tree) }
+    ensures kind { DemandsBefore result other_kind limit_statuses
+        (IsTrue (is_list_shape (held_type of.old.tree))) }
     ensures limits { TellsLimits result
         (past (entry_type (held_type of.old.tree)) (list_get (held_rows of.old.tree) index)) }
     ensures unchanged { of.new.tree ≡ of.old.tree }
@@ -53,7 +57,8 @@ pub extern "C" fn sel_index_is_oob(
     out: &mut bool,
 ) -> u32
     ensures told { result ≡ done → out.new ≡ oob (held_rows of.old.tree) index }
-    ensures column { Demands result no_column (HasColumn of.old.tree) }
+    ensures status { IsOneOf result (done ∷ no_memory ∷ no_column ∷ other_kind ∷ []) }
+    ensures column { DemandsBefore result no_column (other_kind ∷ []) (HasColumn of.old.tree) }
     ensures kind { Demands result other_kind (IsTrue (is_list_shape (held_type of.old.tree))) }
     ensures unchanged { of.new.tree ≡ of.old.tree }
 {
@@ -72,6 +77,7 @@ pub extern "C" fn sel_unit_list(alloc: Global, of: &mut Handle, out: &mut Handle
         (λ made. rows made.column ≡ unit_lists (held_rows of.old.tree)) }
     ensures dtype { Makes result out.old.tree out.new.tree
         (λ made. type_of made.column ≡ of_large_list (held_type of.old.tree)) }
+    ensures status { IsOneOf result (done ∷ no_memory ∷ no_column ∷ []) }
     ensures column { Demands result no_column (HasColumn of.old.tree) }
     ensures unchanged { of.new.tree ≡ of.old.tree }
 {

@@ -1,14 +1,15 @@
 //! Rows of several columns: side by side, and picked.
 
-ghost use Rattle.std.specs.Prelude.{◌≡◌, ◌≤◌, ◌<◌, All, false, length, map, IsTrue};
+ghost use Rattle.std.specs.Prelude.{◌≡◌, ◌≤◌, ◌<◌, ◌∷◌, All, false, length, map, IsTrue};
 ghost use Rattle.std.specs.List.{flat_map};
 ghost use Rattle.sel_bits.specs.declared.faults.Malformed.TheVariants.{TooManyRows, ValidityLength};
 ghost use Rattle.sel_arrow.specs.Rows.{rows, type_of};
 ghost use Rattle.sel_arrow.specs.Value.{Null};
+ghost use Rattle.sel_calls.specs.Order.{limit_statuses, DemandsBefore};
 ghost use Rattle.sel_calls.specs.Several.{first_shape, picks_in, AreAlike};
 ghost use Rattle.sel_flatten.specs.Flatten.{flatten, parts_fit, past_flattened};
 ghost use Rattle.sel_handle.specs.Inputs.{lacks_bits};
-ghost use Rattle.sel_handle.specs.Status.{no_column, other_type, other_length, out_of_bounds, rule_status, held_columns, held_rows, held_type, Demands, HasColumn, Makes, TellsLimits};
+ghost use Rattle.sel_handle.specs.Status.{done, no_memory, no_column, other_type, other_length, out_of_bounds, rule_status, held_columns, held_rows, held_type, HasColumn, IsOneOf, Makes, TellsLimits};
 ghost use Rattle.sel_runs.specs.Need.{past_taken};
 ghost use Rattle.sel_runs.specs.Picks.{pick, PickFits};
 
@@ -34,10 +35,14 @@ pub extern "C" fn sel_flatten(
         flatten (map (λ column. held_rows column.tree) columns.old) widths.now height) }
     ensures dtype { Makes result out.old.tree out.new.tree (λ made. type_of made.column ≡
         first_shape (map (λ column. held_type column.tree) columns.old)) }
-    ensures column { Demands result no_column (All (λ column. HasColumn column.tree) columns.old) }
-    ensures alike { Demands result other_type
+    ensures status { IsOneOf result
+        (done ∷ no_memory ∷ no_column ∷ other_type ∷ other_length ∷ limit_statuses) }
+    ensures column { DemandsBefore result no_column (other_type ∷ other_length ∷ limit_statuses)
+        (All (λ column. HasColumn column.tree) columns.old) }
+    ensures alike { DemandsBefore result other_type (other_length ∷ limit_statuses)
         (AreAlike (map (λ column. held_type column.tree) columns.old)) }
-    ensures length { Demands result other_length ((0 < length columns.old) × IsTrue
+    ensures length { DemandsBefore result other_length limit_statuses
+        ((0 < length columns.old) × IsTrue
         (parts_fit height (map (λ column. held_rows column.tree) columns.old) widths.now)) }
     ensures limits { TellsLimits result
         (past_flattened height (first_shape (map (λ column. held_type column.tree) columns.old))
@@ -75,14 +80,23 @@ pub extern "C" fn sel_collect_rows(
         (picks_in picks.now bits.now has_bits)) }
     ensures dtype { Makes result out.old.tree out.new.tree (λ made. type_of made.column ≡
         first_shape (map (λ source. held_type source.tree) sources.old)) }
-    ensures column { Demands result no_column (All (λ source. HasColumn source.tree) sources.old) }
-    ensures few { Demands result (rule_status TooManyRows) (length picks.now ≤ 4294967295) }
-    ensures validity { Demands result (rule_status ValidityLength)
+    ensures status { IsOneOf result
+        (done ∷ no_memory ∷ no_column ∷ rule_status TooManyRows ∷ rule_status ValidityLength ∷
+        other_length ∷ other_type ∷ out_of_bounds ∷ limit_statuses) }
+    ensures column { DemandsBefore result no_column
+        (rule_status TooManyRows ∷ rule_status ValidityLength ∷ other_length ∷ other_type ∷
+        out_of_bounds ∷ limit_statuses) (All (λ source. HasColumn source.tree) sources.old) }
+    ensures few { DemandsBefore result (rule_status TooManyRows) (rule_status ValidityLength ∷
+        other_length ∷ other_type ∷ out_of_bounds ∷ limit_statuses)
+        (length picks.now ≤ 4294967295) }
+    ensures validity { DemandsBefore result (rule_status ValidityLength)
+        (other_length ∷ other_type ∷ out_of_bounds ∷ limit_statuses)
         (lacks_bits bits.now has_bits (length picks.now) ≡ false) }
-    ensures some { Demands result other_length (0 < length sources.old) }
-    ensures alike { Demands result other_type
+    ensures some { DemandsBefore result other_length
+        (other_type ∷ out_of_bounds ∷ limit_statuses) (0 < length sources.old) }
+    ensures alike { DemandsBefore result other_type (out_of_bounds ∷ limit_statuses)
         (AreAlike (map (λ source. held_type source.tree) sources.old)) }
-    ensures bounds { Demands result out_of_bounds
+    ensures bounds { DemandsBefore result out_of_bounds limit_statuses
         (All (PickFits (map (λ source. held_rows source.tree) sources.old))
         (picks_in picks.now bits.now has_bits)) }
     ensures limits { TellsLimits result

@@ -1,11 +1,13 @@
 //! The rows at indices.
 
-ghost use Rattle.std.specs.Prelude.{◌≡◌, length, pos, IsTrue};
+ghost use Rattle.std.specs.Prelude.{◌≡◌, ◌≤◌, ◌∷◌, false, length, pos, IsTrue};
+ghost use Rattle.sel_bits.specs.declared.faults.Malformed.TheVariants.{TooManyRows, ValidityLength};
 ghost use Rattle.sel_arrow.specs.Masked.{number_rows};
 ghost use Rattle.sel_arrow.specs.Rows.{rows, type_of};
 ghost use Rattle.sel_arrow.specs.Shape.{of_uint32};
-ghost use Rattle.sel_handle.specs.Inputs.{validity_in};
-ghost use Rattle.sel_handle.specs.Status.{no_column, other_kind, out_of_bounds, held_rows, held_type, Demands, HasColumn, Makes, TellsLimits};
+ghost use Rattle.sel_calls.specs.Order.{limit_statuses, DemandsBefore};
+ghost use Rattle.sel_handle.specs.Inputs.{lacks_bits, validity_in};
+ghost use Rattle.sel_handle.specs.Status.{done, no_memory, no_column, other_kind, out_of_bounds, held_rows, held_type, rule_status, HasColumn, IsOneOf, Makes, TellsLimits};
 ghost use Rattle.sel_runs.specs.Need.{past};
 ghost use Rattle.polars_compute.specs.Pick.{all_within, take_rows};
 
@@ -28,9 +30,13 @@ pub extern "C" fn sel_take(
         take_rows (held_rows of.old.tree) (held_rows indices.old.tree)) }
     ensures dtype { Makes result out.old.tree out.new.tree
         (λ made. type_of made.column ≡ held_type of.old.tree) }
-    ensures column { Demands result no_column (HasColumn of.old.tree × HasColumn indices.old.tree) }
-    ensures kind { Demands result other_kind (held_type indices.old.tree ≡ of_uint32) }
-    ensures bounds { Demands result out_of_bounds
+    ensures status { IsOneOf result
+        (done ∷ no_memory ∷ no_column ∷ other_kind ∷ out_of_bounds ∷ limit_statuses) }
+    ensures column { DemandsBefore result no_column (other_kind ∷ out_of_bounds ∷ limit_statuses)
+        (HasColumn of.old.tree × HasColumn indices.old.tree) }
+    ensures kind { DemandsBefore result other_kind (out_of_bounds ∷ limit_statuses)
+        (held_type indices.old.tree ≡ of_uint32) }
+    ensures bounds { DemandsBefore result out_of_bounds limit_statuses
         (IsTrue (all_within (length (held_rows of.old.tree)) (held_rows indices.old.tree))) }
     ensures limits { TellsLimits result (past (held_type of.old.tree)
         (take_rows (held_rows of.old.tree) (held_rows indices.old.tree))) }
@@ -68,8 +74,17 @@ pub extern "C" fn sel_take_rows(
         (number_rows pos indices.now (validity_in bits.now has_bits (length indices.now)))) }
     ensures dtype { Makes result out.old.tree out.new.tree
         (λ made. type_of made.column ≡ held_type of.old.tree) }
-    ensures column { Demands result no_column (HasColumn of.old.tree) }
-    ensures bounds { Demands result out_of_bounds
+    ensures status { IsOneOf result (done ∷ no_memory ∷ no_column ∷ rule_status TooManyRows ∷
+        rule_status ValidityLength ∷ out_of_bounds ∷ limit_statuses) }
+    ensures column { DemandsBefore result no_column (rule_status TooManyRows ∷
+        rule_status ValidityLength ∷ out_of_bounds ∷ limit_statuses) (HasColumn of.old.tree) }
+    ensures few { DemandsBefore result (rule_status TooManyRows)
+        (rule_status ValidityLength ∷ out_of_bounds ∷ limit_statuses)
+        (length indices.now ≤ 4294967295) }
+    ensures validity { DemandsBefore result (rule_status ValidityLength)
+        (out_of_bounds ∷ limit_statuses)
+        (lacks_bits bits.now has_bits (length indices.now) ≡ false) }
+    ensures bounds { DemandsBefore result out_of_bounds limit_statuses
         (IsTrue (all_within (length (held_rows of.old.tree))
         (number_rows pos indices.now (validity_in bits.now has_bits (length indices.now))))) }
     ensures limits { TellsLimits result (past (held_type of.old.tree)

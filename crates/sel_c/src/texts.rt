@@ -4,7 +4,7 @@ ghost use Rattle.std.specs.Prelude.{◌≡◌, ◌≤◌, ◌↔◌, List, [], �
 ghost use Rattle.sel_arrow.specs.Rows.{rows, type_of};
 ghost use Rattle.sel_arrow.specs.Shape.{Shape};
 ghost use Rattle.sel_arrow.specs.Value.{Value};
-ghost use Rattle.sel_calls.specs.Parsed.{IsRowsText, IsTypeText};
+ghost use Rattle.sel_calls.specs.Parsed.{passes_limit, IsRowsText, IsTypeText};
 ghost use Rattle.sel_calls.specs.Printed.{filled, held_text};
 ghost use Rattle.sel_handle.specs.Status.{done, no_memory, no_column, type_syntax, text_syntax, text_misfit, text_limit, held_rows, Demands, HasColumn, IsOneOf, Makes};
 ghost use Rattle.sel_text.specs.Spaces.{spaceless};
@@ -91,6 +91,9 @@ pub extern "C" fn sel_parse(
     ensures accepted { (shape : Shape) (values : List Value) →
         IsTypeText shape dtype.now → IsRowsText shape values text.now →
         IsOneOf result (done ∷ no_memory ∷ text_limit ∷ []) }
+    ensures limit { result ≡ text_limit → (shape : Shape) (values : List Value) →
+        IsTypeText shape dtype.now → IsRowsText shape values text.now →
+        IsTrue (passes_limit shape values) }
     ensures type_place { result ≡ type_syntax → at.new ≤ length dtype.now }
     ensures place { IsOneOf result (text_syntax ∷ text_misfit ∷ []) → at.new ≤ length text.now }
     ensures no_place { IsOneOf result (done ∷ no_memory ∷ text_limit ∷ []) → at.new ≡ at.old }

@@ -6,7 +6,8 @@ ghost use Rattle.sel_arrow.specs.Rows.{rows, type_of};
 ghost use Rattle.sel_arrow.specs.Shape.{of_boolean};
 ghost use Rattle.sel_calls.specs.Chosen.{chosen_rows};
 ghost use Rattle.sel_calls.specs.ChosenPicks.{SideFits};
-ghost use Rattle.sel_handle.specs.Status.{no_memory, no_column, other_kind, other_type, other_length, held_columns, held_rows, held_type, Demands, HasColumn, IsOneOf, Makes, TellsLimits};
+ghost use Rattle.sel_calls.specs.Order.{limit_statuses, DemandsBefore};
+ghost use Rattle.sel_handle.specs.Status.{done, no_memory, no_column, other_kind, other_type, other_length, held_columns, held_rows, held_type, HasColumn, IsOneOf, Makes, TellsLimits};
 ghost use Rattle.sel_runs.specs.Need.{past_taken};
 ghost use Rattle.polars_compute.specs.Select.{in_force};
 
@@ -37,12 +38,16 @@ pub fn choose_handles(
         (held_rows if_true.old.tree) (held_rows if_false.old.tree)) }
     ensures dtype { Makes result out.old.tree out.new.tree
         (λ made. type_of made.column ≡ held_type if_true.old.tree) }
-    ensures column { Demands result no_column (HasColumn mask.old.tree ×
+    ensures status { IsOneOf result (done ∷ no_memory ∷ no_column ∷ other_kind ∷
+        other_type ∷ other_length ∷ limit_statuses) }
+    ensures column { DemandsBefore result no_column
+        (other_kind ∷ other_type ∷ other_length ∷ limit_statuses) (HasColumn mask.old.tree ×
         HasColumn if_true.old.tree × HasColumn if_false.old.tree) }
-    ensures kind { Demands result other_kind (held_type mask.old.tree ≡ of_boolean) }
-    ensures alike { Demands result other_type
+    ensures kind { DemandsBefore result other_kind
+        (other_type ∷ other_length ∷ limit_statuses) (held_type mask.old.tree ≡ of_boolean) }
+    ensures alike { DemandsBefore result other_type (other_length ∷ limit_statuses)
         (held_type if_true.old.tree ≡ held_type if_false.old.tree) }
-    ensures length { Demands result other_length (
+    ensures length { DemandsBefore result other_length limit_statuses (
         SideFits true_column (length (held_rows if_true.old.tree))
         (length (held_rows mask.old.tree)) ×
         SideFits false_column (length (held_rows if_false.old.tree))
@@ -89,10 +94,13 @@ fn choose_into(
     ensures dtype { Makes result out.old.tree out.new.tree
         (λ made. type_of made.column ≡ type_of if_true.now.column) }
     ensures column { result ≢ no_column }
-    ensures kind { Demands result other_kind (type_of mask.now.column ≡ of_boolean) }
-    ensures alike { Demands result other_type
+    ensures status { IsOneOf result
+        (done ∷ no_memory ∷ other_kind ∷ other_type ∷ other_length ∷ limit_statuses) }
+    ensures kind { DemandsBefore result other_kind
+        (other_type ∷ other_length ∷ limit_statuses) (type_of mask.now.column ≡ of_boolean) }
+    ensures alike { DemandsBefore result other_type (other_length ∷ limit_statuses)
         (type_of if_true.now.column ≡ type_of if_false.now.column) }
-    ensures length { Demands result other_length (
+    ensures length { DemandsBefore result other_length limit_statuses (
         SideFits true_column (length (rows if_true.now.column)) (length (rows mask.now.column)) ×
         SideFits false_column (length (rows if_false.now.column))
         (length (rows mask.now.column))) }

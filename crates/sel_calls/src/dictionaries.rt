@@ -4,6 +4,7 @@ ghost use Rattle.std.specs.Prelude.{◌≡◌, ◌≢◌, ◌≤◌, [], ◌∷�
 ghost use Rattle.sel_arrow.specs.Columns.{primitive_rows, utf8view_rows};
 ghost use Rattle.sel_arrow.specs.Rows.{rows, type_of};
 ghost use Rattle.sel_arrow.specs.Shape.{of_uint32, of_utf8_view};
+ghost use Rattle.sel_calls.specs.Order.{DemandsBefore};
 ghost use Rattle.sel_handle.specs.Status.{done, no_memory, no_column, other_kind, out_of_bounds, Demands, IsOneOf, Makes};
 ghost use Rattle.polars_compute.specs.Dictionary.{propagated_keys, valid_values};
 ghost use Rattle.polars_compute.specs.Pick.{all_within};
@@ -35,7 +36,7 @@ pub fn propagate_columns_into(
     ensures value_dtype { Makes result out_values.old.tree out_values.new.tree
         (λ made. type_of made.column ≡ of_utf8_view) }
     ensures column { result ≢ no_column }
-    ensures kind { Demands result other_kind
+    ensures kind { DemandsBefore result other_kind (out_of_bounds ∷ [])
         ((type_of keys.now.column ≡ of_uint32) × (type_of values.now.column ≡ of_utf8_view)) }
     ensures bounds { Demands result out_of_bounds
         (IsTrue (all_within (length (rows values.now.column)) (rows keys.now.column))) }
@@ -70,7 +71,8 @@ fn propagate_keys_into(
     ensures value_dtype { Makes result out_values.old.tree out_values.new.tree
         (λ made. type_of made.column ≡ of_utf8_view) }
     ensures column { result ≢ no_column }
-    ensures kind { Demands result other_kind (type_of values.now.column ≡ of_utf8_view) }
+    ensures kind { DemandsBefore result other_kind (out_of_bounds ∷ [])
+        (type_of values.now.column ≡ of_utf8_view) }
     ensures bounds { Demands result out_of_bounds
         (IsTrue (all_within (length (rows values.now.column)) (primitive_rows keys.now))) }
     ensures status { IsOneOf result (done ∷ no_memory ∷ other_kind ∷ out_of_bounds ∷ []) }

@@ -4,6 +4,7 @@ ghost use Rattle.std.specs.Prelude.{◌≡◌, ◌≢◌, ◌≤◌, ◌*◌, []
 ghost use Rattle.sel_bits.specs.Bits.{bits_from};
 ghost use Rattle.sel_arrow.specs.Rows.{rows, type_of};
 ghost use Rattle.sel_arrow.specs.Shape.{of_boolean};
+ghost use Rattle.sel_calls.specs.Order.{DemandsBefore};
 ghost use Rattle.sel_handle.specs.Status.{done, no_memory, no_column, other_kind, other_length, Demands, IsOneOf, Makes};
 ghost use Rattle.polars_compute.specs.Select.{select, in_force};
 
@@ -22,7 +23,8 @@ pub fn filter_into(alloc: Global, column: &ArrayRef, mask: &ArrayRef, out: &mut 
         select (rows column.now.column) (in_force (rows mask.now.column))) }
     ensures dtype { Makes result out.old.tree out.new.tree
         (λ made. type_of made.column ≡ type_of column.now.column) }
-    ensures kind { Demands result other_kind (type_of mask.now.column ≡ of_boolean) }
+    ensures kind { DemandsBefore result other_kind (other_length ∷ [])
+        (type_of mask.now.column ≡ of_boolean) }
     ensures length { Demands result other_length
         (length (rows column.now.column) ≡ length (rows mask.now.column)) }
     ensures status { IsOneOf result

@@ -1,13 +1,14 @@
 //! Entries of lists of one length, at an index for each of them.
 
-ghost use Rattle.std.specs.Prelude.{◌≡◌, ◌≢◌, length, false, IsTrue};
+ghost use Rattle.std.specs.Prelude.{◌≡◌, ◌∷◌, ◌≢◌, length, false, IsTrue};
 ghost use Rattle.sel_arrow.specs.Columns.{primitive_rows};
 ghost use Rattle.sel_arrow.specs.NestedArrays.{block_column};
 ghost use Rattle.sel_arrow.specs.Rows.{rows, type_of};
 ghost use Rattle.sel_arrow.specs.Shape.{of_int64, is_block_shape};
 ghost use Rattle.sel_calls.specs.Entries.{entries_at_each, refuses_some, past_entries_at_each};
+ghost use Rattle.sel_calls.specs.Order.{limit_statuses, DemandsBefore};
 ghost use Rattle.sel_calls.specs.Types.{entry_type};
-ghost use Rattle.sel_handle.specs.Status.{no_column, other_kind, other_length, get_out_of_bounds, Demands, Makes, TellsLimits};
+ghost use Rattle.sel_handle.specs.Status.{done, no_memory, no_column, other_kind, other_length, get_out_of_bounds, Demands, IsOneOf, Makes, TellsLimits};
 
 use sel_arrow::array::Array;
 use sel_arrow::array_ref::ArrayRef;
@@ -32,10 +33,13 @@ pub fn fixed_get_each_into(
     ensures dtype { Makes result out.old.tree out.new.tree
         (λ made. type_of made.column ≡ entry_type (type_of column.now.column)) }
     ensures column { result ≢ no_column }
-    ensures kind { Demands result other_kind
+    ensures status { IsOneOf result (done ∷ no_memory ∷ other_kind ∷ other_length ∷
+        get_out_of_bounds ∷ limit_statuses) }
+    ensures kind { DemandsBefore result other_kind
+        (other_length ∷ get_out_of_bounds ∷ limit_statuses)
         (IsTrue (is_block_shape (type_of column.now.column)) ×
         (type_of indices.now.column ≡ of_int64)) }
-    ensures length { Demands result other_length
+    ensures length { DemandsBefore result other_length (get_out_of_bounds ∷ limit_statuses)
         (length (rows indices.now.column) ≡ length (rows column.now.column)) }
     ensures bounds { Demands result get_out_of_bounds
         (refuses_some null_on_oob (rows column.now.column) (type_of column.now.column)
@@ -70,8 +74,12 @@ fn entries_of_column_into(
     ensures dtype { Makes result out.old.tree out.new.tree
         (λ made. type_of made.column ≡ entry_type (type_of column.now.column)) }
     ensures column { result ≢ no_column }
-    ensures kind { Demands result other_kind (IsTrue (is_block_shape (type_of column.now.column))) }
-    ensures length { Demands result other_length
+    ensures status { IsOneOf result (done ∷ no_memory ∷ other_kind ∷ other_length ∷
+        get_out_of_bounds ∷ limit_statuses) }
+    ensures kind { DemandsBefore result other_kind
+        (other_length ∷ get_out_of_bounds ∷ limit_statuses)
+        (IsTrue (is_block_shape (type_of column.now.column))) }
+    ensures length { DemandsBefore result other_length (get_out_of_bounds ∷ limit_statuses)
         (length (primitive_rows indices.now) ≡ length (rows column.now.column)) }
     ensures bounds { Demands result get_out_of_bounds
         (refuses_some null_on_oob (rows column.now.column) (type_of column.now.column)
@@ -108,7 +116,9 @@ fn entries_into(
     ensures dtype { Makes result out.old.tree out.new.tree
         (λ made. type_of made.column ≡ entry_type (type_of (block_column lists.now))) }
     ensures own { (result ≢ no_column) × (result ≢ other_kind) }
-    ensures length { Demands result other_length
+    ensures status { IsOneOf result
+        (done ∷ no_memory ∷ other_length ∷ get_out_of_bounds ∷ limit_statuses) }
+    ensures length { DemandsBefore result other_length (get_out_of_bounds ∷ limit_statuses)
         (length (primitive_rows indices.now) ≡ length (rows (block_column lists.now))) }
     ensures bounds { Demands result get_out_of_bounds (refuses_some null_on_oob
         (rows (block_column lists.now)) (type_of (block_column lists.now))

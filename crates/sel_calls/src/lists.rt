@@ -1,11 +1,12 @@
 //! Elements of lists.
 
-ghost use Rattle.std.specs.Prelude.{◌≡◌, ◌≢◌, IsTrue};
+ghost use Rattle.std.specs.Prelude.{◌≡◌, ◌∷◌, [], ◌≢◌, IsTrue};
 ghost use Rattle.sel_arrow.specs.NestedArrays.{list_column};
 ghost use Rattle.sel_arrow.specs.Rows.{rows, type_of};
 ghost use Rattle.sel_arrow.specs.Shape.{is_list_shape};
+ghost use Rattle.sel_calls.specs.Order.{limit_statuses, DemandsBefore};
 ghost use Rattle.sel_calls.specs.Types.{entry_type};
-ghost use Rattle.sel_handle.specs.Status.{done, no_column, other_kind, Demands, Makes, TellsLimits};
+ghost use Rattle.sel_handle.specs.Status.{done, no_memory, no_column, other_kind, Demands, IsOneOf, Makes, TellsLimits};
 ghost use Rattle.sel_runs.specs.Need.{past};
 ghost use Rattle.sel_sublists.specs.Lists.{list_get, oob};
 
@@ -24,7 +25,9 @@ pub fn sublist_get_into(alloc: Global, column: &ArrayRef, index: i64, out: &mut 
     ensures dtype { Makes result out.old.tree out.new.tree
         (λ made. type_of made.column ≡ entry_type (type_of column.now.column)) }
     ensures column { result ≢ no_column }
-    ensures kind { Demands result other_kind (IsTrue (is_list_shape (type_of column.now.column))) }
+    ensures status { IsOneOf result (done ∷ no_memory ∷ other_kind ∷ limit_statuses) }
+    ensures kind { DemandsBefore result other_kind limit_statuses
+        (IsTrue (is_list_shape (type_of column.now.column))) }
     ensures limits { TellsLimits result
         (past (entry_type (type_of column.now.column)) (list_get (rows column.now.column) index)) }
 {
@@ -49,6 +52,7 @@ fn element_into(alloc: Global, lists: &ListArray<i64>, index: i64, out: &mut Han
     ensures dtype { Makes result out.old.tree out.new.tree
         (λ made. type_of made.column ≡ entry_type (type_of (list_column lists.now))) }
     ensures own { (result ≢ no_column) × (result ≢ other_kind) }
+    ensures status { IsOneOf result (done ∷ no_memory ∷ limit_statuses) }
     ensures limits { TellsLimits result (past (entry_type (type_of (list_column lists.now)))
         (list_get (rows (list_column lists.now)) index)) }
 {
@@ -62,6 +66,7 @@ fn element_into(alloc: Global, lists: &ListArray<i64>, index: i64, out: &mut Han
 pub fn index_is_oob_into(alloc: Global, column: &ArrayRef, index: i64, out: &mut bool) -> u32
     ensures told { result ≡ done → out.new ≡ oob (rows column.now.column) index }
     ensures column { result ≢ no_column }
+    ensures status { IsOneOf result (done ∷ no_memory ∷ other_kind ∷ []) }
     ensures kind { Demands result other_kind (IsTrue (is_list_shape (type_of column.now.column))) }
 {
     let Ok(copy) = column.try_clone(alloc) else {

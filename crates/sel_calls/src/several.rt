@@ -1,14 +1,15 @@
 //! Rows of several columns: side by side, and picked.
 
-ghost use Rattle.std.specs.Prelude.{◌≡◌, ◌≢◌, ◌≤◌, ◌<◌, ◌↔◌, All, false, length, map, IsTrue, IfOk, IfErr};
+ghost use Rattle.std.specs.Prelude.{◌≡◌, ◌≢◌, ◌≤◌, ◌<◌, ◌∷◌, ◌↔◌, All, false, length, map, IsTrue, IfOk, IfErr};
 ghost use Rattle.sel_bits.specs.declared.faults.Malformed.TheVariants.{TooManyRows, ValidityLength};
 ghost use Rattle.sel_arrow.specs.Masked.{Covers};
 ghost use Rattle.sel_arrow.specs.Rows.{rows, type_of};
 ghost use Rattle.sel_arrow.specs.Value.{Null};
+ghost use Rattle.sel_calls.specs.Order.{limit_statuses, DemandsBefore};
 ghost use Rattle.sel_calls.specs.Several.{first_shape, picks_from, picks_in, AreAlike};
 ghost use Rattle.sel_flatten.specs.Flatten.{array_columns, flatten, parts_fit, past_flattened};
 ghost use Rattle.sel_handle.specs.Inputs.{lacks_bits};
-ghost use Rattle.sel_handle.specs.Status.{no_column, other_type, other_length, out_of_bounds, rule_status, Demands, Makes, TellsLimits};
+ghost use Rattle.sel_handle.specs.Status.{done, no_memory, no_column, other_type, other_length, out_of_bounds, rule_status, IsOneOf, Makes, TellsLimits};
 ghost use Rattle.sel_runs.specs.Need.{past_taken};
 ghost use Rattle.sel_runs.specs.Picks.{pick, PickFits};
 
@@ -53,9 +54,12 @@ pub fn flatten_into(
     ensures dtype { Makes result out.old.tree out.new.tree (λ made. type_of made.column ≡
         first_shape (map (λ array. type_of array.column) arrays.now)) }
     ensures column { result ≢ no_column }
-    ensures alike { Demands result other_type
+    ensures status { IsOneOf result
+        (done ∷ no_memory ∷ other_type ∷ other_length ∷ limit_statuses) }
+    ensures alike { DemandsBefore result other_type (other_length ∷ limit_statuses)
         (AreAlike (map (λ array. type_of array.column) arrays.now)) }
-    ensures length { Demands result other_length ((0 < length arrays.now) × IsTrue
+    ensures length { DemandsBefore result other_length limit_statuses
+        ((0 < length arrays.now) × IsTrue
         (parts_fit height (map (λ array. rows array.column) arrays.now) widths.now)) }
     ensures one_type { TellsLimits result
         (λ _. AreAlike (map (λ array. type_of array.column) arrays.now)) }
@@ -106,13 +110,19 @@ pub fn collect_into(
     ensures dtype { Makes result out.old.tree out.new.tree (λ made. type_of made.column ≡
         first_shape (map (λ array. type_of array.column) arrays.now)) }
     ensures column { result ≢ no_column }
-    ensures few { Demands result (rule_status TooManyRows) (length words.now ≤ 4294967295) }
-    ensures validity { Demands result (rule_status ValidityLength)
+    ensures status { IsOneOf result (done ∷ no_memory ∷ rule_status TooManyRows ∷
+        rule_status ValidityLength ∷ other_length ∷ other_type ∷ out_of_bounds ∷ limit_statuses) }
+    ensures few { DemandsBefore result (rule_status TooManyRows) (rule_status ValidityLength ∷
+        other_length ∷ other_type ∷ out_of_bounds ∷ limit_statuses)
+        (length words.now ≤ 4294967295) }
+    ensures validity { DemandsBefore result (rule_status ValidityLength)
+        (other_length ∷ other_type ∷ out_of_bounds ∷ limit_statuses)
         (lacks_bits bits.now has_bits (length words.now) ≡ false) }
-    ensures some { Demands result other_length (0 < length arrays.now) }
-    ensures alike { Demands result other_type
+    ensures some { DemandsBefore result other_length
+        (other_type ∷ out_of_bounds ∷ limit_statuses) (0 < length arrays.now) }
+    ensures alike { DemandsBefore result other_type (out_of_bounds ∷ limit_statuses)
         (AreAlike (map (λ array. type_of array.column) arrays.now)) }
-    ensures bounds { Demands result out_of_bounds
+    ensures bounds { DemandsBefore result out_of_bounds limit_statuses
         (All (PickFits (map (λ array. rows array.column) arrays.now))
         (picks_in words.now bits.now has_bits)) }
     ensures one_type { TellsLimits result
@@ -150,10 +160,13 @@ fn collect_picks_into(
         first_shape (map (λ array. type_of array.column) arrays.now)) }
     ensures own { (result ≢ no_column) × (result ≢ rule_status TooManyRows) ×
         (result ≢ rule_status ValidityLength) }
-    ensures some { Demands result other_length (0 < length arrays.now) }
-    ensures alike { Demands result other_type
+    ensures status { IsOneOf result
+        (done ∷ no_memory ∷ other_length ∷ other_type ∷ out_of_bounds ∷ limit_statuses) }
+    ensures some { DemandsBefore result other_length
+        (other_type ∷ out_of_bounds ∷ limit_statuses) (0 < length arrays.now) }
+    ensures alike { DemandsBefore result other_type (out_of_bounds ∷ limit_statuses)
         (AreAlike (map (λ array. type_of array.column) arrays.now)) }
-    ensures bounds { Demands result out_of_bounds
+    ensures bounds { DemandsBefore result out_of_bounds limit_statuses
         (All (PickFits (map (λ array. rows array.column) arrays.now))
         (picks_from 0 validity.now words.now)) }
     ensures one_type { TellsLimits result

@@ -1,12 +1,14 @@
 //! The rows at indices.
 
-ghost use Rattle.std.specs.Prelude.{◌≡◌, ◌≢◌, length, pos, IsTrue};
+ghost use Rattle.std.specs.Prelude.{◌≡◌, ◌≢◌, ◌≤◌, ◌∷◌, false, length, pos, IsTrue};
+ghost use Rattle.sel_bits.specs.declared.faults.Malformed.TheVariants.{TooManyRows, ValidityLength};
 ghost use Rattle.sel_arrow.specs.Columns.{primitive_rows};
 ghost use Rattle.sel_arrow.specs.Masked.{number_rows};
 ghost use Rattle.sel_arrow.specs.Rows.{rows, type_of};
 ghost use Rattle.sel_arrow.specs.Shape.{of_uint32};
-ghost use Rattle.sel_handle.specs.Inputs.{validity_in};
-ghost use Rattle.sel_handle.specs.Status.{no_column, other_kind, out_of_bounds, Demands, Makes, TellsLimits};
+ghost use Rattle.sel_calls.specs.Order.{limit_statuses, DemandsBefore};
+ghost use Rattle.sel_handle.specs.Inputs.{lacks_bits, validity_in};
+ghost use Rattle.sel_handle.specs.Status.{done, no_memory, no_column, other_kind, out_of_bounds, rule_status, IsOneOf, Makes, TellsLimits};
 ghost use Rattle.sel_runs.specs.Need.{past};
 ghost use Rattle.polars_compute.specs.Pick.{all_within, take_rows};
 
@@ -27,8 +29,11 @@ pub fn take_into(alloc: Global, column: &ArrayRef, indices: &ArrayRef, out: &mut
     ensures dtype { Makes result out.old.tree out.new.tree
         (λ made. type_of made.column ≡ type_of column.now.column) }
     ensures column { result ≢ no_column }
-    ensures kind { Demands result other_kind (type_of indices.now.column ≡ of_uint32) }
-    ensures bounds { Demands result out_of_bounds
+    ensures status { IsOneOf result
+        (done ∷ no_memory ∷ other_kind ∷ out_of_bounds ∷ limit_statuses) }
+    ensures kind { DemandsBefore result other_kind (out_of_bounds ∷ limit_statuses)
+        (type_of indices.now.column ≡ of_uint32) }
+    ensures bounds { DemandsBefore result out_of_bounds limit_statuses
         (IsTrue (all_within (length (rows column.now.column)) (rows indices.now.column))) }
     ensures limits { TellsLimits result (past (type_of column.now.column)
         (take_rows (rows column.now.column) (rows indices.now.column))) }
@@ -53,7 +58,8 @@ fn take_at_into(alloc: Global, column: &ArrayRef, indices: &IdxArr, out: &mut Ha
         (λ made. type_of made.column ≡ type_of column.now.column) }
     ensures column { result ≢ no_column }
     ensures kind { result ≢ other_kind }
-    ensures bounds { Demands result out_of_bounds
+    ensures status { IsOneOf result (done ∷ no_memory ∷ out_of_bounds ∷ limit_statuses) }
+    ensures bounds { DemandsBefore result out_of_bounds limit_statuses
         (IsTrue (all_within (length (rows column.now.column)) (primitive_rows indices.now))) }
     ensures limits { TellsLimits result (past (type_of column.now.column)
         (take_rows (rows column.now.column) (primitive_rows indices.now))) }
@@ -82,7 +88,15 @@ pub fn take_rows_into(
     ensures dtype { Makes result out.old.tree out.new.tree
         (λ made. type_of made.column ≡ type_of column.now.column) }
     ensures column { result ≢ no_column }
-    ensures bounds { Demands result out_of_bounds
+    ensures status { IsOneOf result (done ∷ no_memory ∷ rule_status TooManyRows ∷
+        rule_status ValidityLength ∷ out_of_bounds ∷ limit_statuses) }
+    ensures few { DemandsBefore result (rule_status TooManyRows)
+        (rule_status ValidityLength ∷ out_of_bounds ∷ limit_statuses)
+        (length indices.now ≤ 4294967295) }
+    ensures validity { DemandsBefore result (rule_status ValidityLength)
+        (out_of_bounds ∷ limit_statuses)
+        (lacks_bits bits.now has_bits (length indices.now) ≡ false) }
+    ensures bounds { DemandsBefore result out_of_bounds limit_statuses
         (IsTrue (all_within (length (rows column.now.column))
         (number_rows pos indices.now (validity_in bits.now has_bits (length indices.now))))) }
     ensures limits { TellsLimits result (past (type_of column.now.column)

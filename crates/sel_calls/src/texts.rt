@@ -5,9 +5,10 @@ ghost use Rattle.sel_arrow.specs.DataType.{shape_of};
 ghost use Rattle.sel_arrow.specs.Rows.{rows, type_of};
 ghost use Rattle.sel_arrow.specs.Shape.{Shape};
 ghost use Rattle.sel_arrow.specs.Value.{Value};
-ghost use Rattle.sel_calls.specs.Parsed.{IsRowsText, IsTypeText};
+ghost use Rattle.sel_calls.specs.Parsed.{passes_limit, IsRowsText, IsTypeText};
 ghost use Rattle.sel_calls.specs.Printed.{filled};
 ghost use Rattle.sel_handle.specs.Status.{done, no_memory, type_syntax, text_syntax, text_misfit, text_limit, IsOneOf, Makes};
+ghost use Rattle.sel_text.specs.Limits.{past_limit};
 ghost use Rattle.sel_text.specs.Spaces.{spaceless};
 ghost use Rattle.sel_text.specs.TextErrors.{IsShortage, IsWithin};
 ghost use Rattle.sel_text.specs.Texts.{text_of};
@@ -63,6 +64,9 @@ pub fn parse_into(alloc: Global, name: &[u8], text: &[u8], at: &mut usize, out: 
     ensures accepted { (shape : Shape) (values : List Value) →
         IsTypeText shape name.now → IsRowsText shape values text.now →
         IsOneOf result (done ∷ no_memory ∷ text_limit ∷ []) }
+    ensures limit { result ≡ text_limit → (shape : Shape) (values : List Value) →
+        IsTypeText shape name.now → IsRowsText shape values text.now →
+        IsTrue (passes_limit shape values) }
     ensures type_place { result ≡ type_syntax → at.new ≤ length name.now }
     ensures place { IsOneOf result (text_syntax ∷ text_misfit ∷ []) → at.new ≤ length text.now }
     ensures no_place { IsOneOf result (done ∷ no_memory ∷ text_limit ∷ []) → at.new ≡ at.old }
@@ -88,6 +92,9 @@ fn read_dtype(alloc: Global, bytes: &[u8]) -> Result<ArrowDataType, TextError>
     ensures narrow { IfOk result (λ dtype. IsTrue (widths_written (shape_of dtype))) }
     ensures refused { IfErr result (λ error. (shape : Shape) →
         IsTypeText shape bytes.now → IsShortage error) }
+    ensures limit { IfErr result (λ error. error ≡ TextError.Limit →
+        (shape : Shape) (values : List Value) → IsTypeText shape bytes.now →
+        IsTrue (passes_limit shape values)) }
     ensures place { IfErr result (IsWithin (length bytes.now)) }
 {
     let text = match str::from_utf8(bytes) {
@@ -116,6 +123,9 @@ fn read_rows(alloc: Global, dtype: &ArrowDataType, bytes: &[u8]) -> Result<Array
         text_of (shape_of dtype.now) (rows made.column) ≡ spaceless bytes.now) }
     ensures refused { IfErr result (λ error. (values : List Value) →
         IsRowsText (shape_of dtype.now) values bytes.now → IsShortage error) }
+    ensures limit { IfErr result (λ error. error ≡ TextError.Limit → (values : List Value) →
+        IsRowsText (shape_of dtype.now) values bytes.now →
+        IsTrue (past_limit Beneath.Zeros (shape_of dtype.now) values)) }
     ensures place { IfErr result (IsWithin (length bytes.now)) }
 {
     match str::from_utf8(bytes) {
@@ -130,6 +140,7 @@ fn read_rows(alloc: Global, dtype: &ArrowDataType, bytes: &[u8]) -> Result<Array
 fn type_refusal(fault: TextError, at: &mut usize) -> u32
     ensures refused { result ≢ done }
     ensures short { IsShortage fault → IsOneOf result (no_memory ∷ text_limit ∷ []) }
+    ensures limit { result ≡ text_limit → fault ≡ TextError.Limit }
     ensures place { (count : ℕ) → IsWithin count fault → result ≡ type_syntax → at.new ≤ count }
     ensures no_place { IsOneOf result (no_memory ∷ text_limit ∷ []) → at.new ≡ at.old }
     ensures status { IsOneOf result (no_memory ∷ type_syntax ∷ text_limit ∷ []) }
@@ -148,6 +159,7 @@ fn type_refusal(fault: TextError, at: &mut usize) -> u32
 fn rows_refusal(fault: TextError, at: &mut usize) -> u32
     ensures refused { result ≢ done }
     ensures short { IsShortage fault → IsOneOf result (no_memory ∷ text_limit ∷ []) }
+    ensures limit { result ≡ text_limit → fault ≡ TextError.Limit }
     ensures place { (count : ℕ) → IsWithin count fault →
         IsOneOf result (text_syntax ∷ text_misfit ∷ []) → at.new ≤ count }
     ensures no_place { IsOneOf result (no_memory ∷ text_limit ∷ []) → at.new ≡ at.old }

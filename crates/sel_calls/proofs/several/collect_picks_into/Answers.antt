@@ -73,6 +73,14 @@ returns-in-Ok-collect_plan-clause-bounds c =
       λ is _. let low = c.put.ensures.status in absurd (omega (arith, is, low)),
     )
 
+pub returns-clause-bounds : goal.returns-clause-bounds
+returns-clause-bounds c =
+    let picks = picks_from 0 c.args.validity.now c.args.words.now in
+    let lengths = c.deref.ensures.value ∙ c.in-Ok.ensures.lengths in (
+      λ _. rows_fit c.args.arrays.now picks (subst (λ (ls : List ℕ). All (HasRow ls) picks) lengths (c.are_in_bounds.ensures.0 c.if-not-are_in_bounds.false)),
+      λ is _. c.status_of.ensures.own.5 is,
+    )
+
 pub returns-clause-limits : goal.returns-clause-limits
 returns-clause-limits c =
     let some : 0 < length c.args.arrays.now = search rules in
