@@ -1,11 +1,11 @@
 //! The children of lists and the fields of tuples, which share buffers with their column.
 
-ghost use Rattle.std.specs.Prelude.{◌≡◌, ◌<◌, length, IsTrue};
+ghost use Rattle.std.specs.Prelude.{◌≡◌, [], ◌∷◌, ◌<◌, length, IsTrue};
 ghost use Rattle.sel_arrow.specs.Rows.{rows, type_of};
 ghost use Rattle.sel_arrow.specs.Shape.{is_block_shape, is_struct_shape};
 ghost use Rattle.sel_calls.specs.Below.{held_child_rows, held_child_type, held_fields, held_field_rows, held_field_type};
 ghost use Rattle.sel_calls.specs.Types.{width_of};
-ghost use Rattle.sel_handle.specs.Status.{done, no_column, other_kind, out_of_bounds, held_type, Demands, HasColumn, Makes};
+ghost use Rattle.sel_handle.specs.Status.{done, no_memory, no_column, other_kind, out_of_bounds, held_type, Demands, DemandsFirst, HasColumn, IsOneOf, Makes};
 ghost use Rattle.sel_runs.specs.Children.{child, field, is_listing};
 
 use sel_calls::children::{child_into, field_count_into, field_into, width_into};
@@ -21,7 +21,8 @@ pub extern "C" fn sel_child(alloc: Global, of: &mut Handle, out: &mut Handle) ->
         (λ made. rows made.column ≡ held_child_rows of.old.tree) }
     ensures dtype { Makes result out.old.tree out.new.tree
         (λ made. type_of made.column ≡ held_child_type of.old.tree) }
-    ensures column { Demands result no_column (HasColumn of.old.tree) }
+    ensures status { IsOneOf result (done ∷ no_memory ∷ no_column ∷ other_kind ∷ []) }
+    ensures column { DemandsFirst result no_column (HasColumn of.old.tree) }
     ensures kind { Demands result other_kind (IsTrue (is_listing (held_type of.old.tree))) }
     ensures unchanged { of.new.tree ≡ of.old.tree }
 {
@@ -38,7 +39,8 @@ pub extern "C" fn sel_child(alloc: Global, of: &mut Handle, out: &mut Handle) ->
 #[unsafe(no_mangle)]
 pub extern "C" fn sel_width(alloc: Global, of: &mut Handle, width: &mut usize) -> u32
     ensures width { result ≡ done → width.new ≡ width_of (held_type of.old.tree) }
-    ensures column { Demands result no_column (HasColumn of.old.tree) }
+    ensures status { IsOneOf result (done ∷ no_column ∷ other_kind ∷ []) }
+    ensures column { DemandsFirst result no_column (HasColumn of.old.tree) }
     ensures kind { Demands result other_kind (IsTrue (is_block_shape (held_type of.old.tree))) }
     ensures unchanged { of.new.tree ≡ of.old.tree }
 {
@@ -55,7 +57,8 @@ pub extern "C" fn sel_width(alloc: Global, of: &mut Handle, width: &mut usize) -
 #[unsafe(no_mangle)]
 pub extern "C" fn sel_field_count(alloc: Global, of: &mut Handle, count: &mut usize) -> u32
     ensures count { result ≡ done → count.new ≡ length (held_fields of.old.tree) }
-    ensures column { Demands result no_column (HasColumn of.old.tree) }
+    ensures status { IsOneOf result (done ∷ no_column ∷ other_kind ∷ []) }
+    ensures column { DemandsFirst result no_column (HasColumn of.old.tree) }
     ensures kind { Demands result other_kind (IsTrue (is_struct_shape (held_type of.old.tree))) }
     ensures unchanged { of.new.tree ≡ of.old.tree }
 {
@@ -75,7 +78,8 @@ pub extern "C" fn sel_field(alloc: Global, of: &mut Handle, i: usize, out: &mut 
         (λ made. rows made.column ≡ held_field_rows of.old.tree i) }
     ensures dtype { Makes result out.old.tree out.new.tree
         (λ made. type_of made.column ≡ held_field_type of.old.tree i) }
-    ensures column { Demands result no_column (HasColumn of.old.tree) }
+    ensures status { IsOneOf result (done ∷ no_memory ∷ no_column ∷ out_of_bounds ∷ []) }
+    ensures column { DemandsFirst result no_column (HasColumn of.old.tree) }
     ensures bounds { Demands result out_of_bounds (i < length (held_fields of.old.tree)) }
     ensures unchanged { of.new.tree ≡ of.old.tree }
 {

@@ -3,8 +3,7 @@
 ghost use Rattle.std.specs.Prelude.{◌≡◌, [], ◌∷◌, length, IsTrue};
 ghost use Rattle.sel_arrow.specs.Rows.{rows, type_of};
 ghost use Rattle.sel_arrow.specs.Shape.{of_uint32, of_utf8_view};
-ghost use Rattle.sel_calls.specs.Order.{DemandsBefore};
-ghost use Rattle.sel_handle.specs.Status.{done, no_memory, no_column, other_kind, out_of_bounds, held_rows, held_type, Demands, HasColumn, IsOneOf, Makes};
+ghost use Rattle.sel_handle.specs.Status.{done, no_memory, no_column, other_kind, out_of_bounds, held_rows, held_type, Demands, DemandsBefore, DemandsFirst, HasColumn, IsOneOf, Makes};
 ghost use Rattle.polars_compute.specs.Dictionary.{propagated_keys, valid_values};
 ghost use Rattle.polars_compute.specs.Pick.{all_within};
 
@@ -33,7 +32,7 @@ pub extern "C" fn sel_propagate_dictionary(
         (λ made. type_of made.column ≡ of_uint32) }
     ensures value_dtype { Makes result out_values.old.tree out_values.new.tree
         (λ made. type_of made.column ≡ of_utf8_view) }
-    ensures column { DemandsBefore result no_column (other_kind ∷ out_of_bounds ∷ [])
+    ensures column { DemandsFirst result no_column
         (HasColumn keys.old.tree × HasColumn values.old.tree) }
     ensures kind { DemandsBefore result other_kind (out_of_bounds ∷ [])
         ((held_type keys.old.tree ≡ of_uint32) × (held_type values.old.tree ≡ of_utf8_view)) }

@@ -4,8 +4,7 @@ ghost use Rattle.std.specs.Prelude.{◌≡◌, ◌≤◌, ◌*◌, [], ◌∷◌
 ghost use Rattle.sel_bits.specs.Bits.{bits_from};
 ghost use Rattle.sel_arrow.specs.Rows.{rows, type_of};
 ghost use Rattle.sel_arrow.specs.Shape.{of_boolean};
-ghost use Rattle.sel_calls.specs.Order.{DemandsBefore};
-ghost use Rattle.sel_handle.specs.Status.{done, no_memory, no_column, other_kind, other_length, held_rows, held_type, Demands, HasColumn, IsOneOf, Makes};
+ghost use Rattle.sel_handle.specs.Status.{done, no_memory, no_column, other_kind, other_length, held_rows, held_type, Demands, DemandsBefore, DemandsFirst, HasColumn, IsOneOf, Makes};
 ghost use Rattle.polars_compute.specs.Select.{select, in_force};
 
 use sel_calls::filters::{filter_bits_into, filter_into};
@@ -27,7 +26,7 @@ pub extern "C" fn sel_filter(
         select (held_rows of.old.tree) (in_force (held_rows mask.old.tree))) }
     ensures dtype { Makes result out.old.tree out.new.tree
         (λ made. type_of made.column ≡ held_type of.old.tree) }
-    ensures column { DemandsBefore result no_column (other_kind ∷ other_length ∷ [])
+    ensures column { DemandsFirst result no_column
         (HasColumn of.old.tree × HasColumn mask.old.tree) }
     ensures kind { DemandsBefore result other_kind (other_length ∷ [])
         (held_type mask.old.tree ≡ of_boolean) }
@@ -65,7 +64,7 @@ pub extern "C" fn sel_filter_bits(
         select (held_rows of.old.tree) (bits_from mask.now 0 len)) }
     ensures dtype { Makes result out.old.tree out.new.tree
         (λ made. type_of made.column ≡ held_type of.old.tree) }
-    ensures column { DemandsBefore result no_column (other_length ∷ []) (HasColumn of.old.tree) }
+    ensures column { DemandsFirst result no_column (HasColumn of.old.tree) }
     ensures length { Demands result other_length
         ((len ≡ length (held_rows of.old.tree)) × (len ≤ 8 * length mask.now)) }
     ensures status { IsOneOf result (done ∷ no_memory ∷ no_column ∷ other_length ∷ []) }

@@ -4,9 +4,8 @@ ghost use Rattle.std.specs.Prelude.{◌≡◌, ◌∷◌, false, IsTrue};
 ghost use Rattle.sel_arrow.specs.Rows.{rows, type_of};
 ghost use Rattle.sel_arrow.specs.Shape.{is_block_shape};
 ghost use Rattle.sel_calls.specs.Entries.{entries_at, refuses_index, past_entries_at};
-ghost use Rattle.sel_calls.specs.Order.{limit_statuses, DemandsBefore};
 ghost use Rattle.sel_calls.specs.Types.{entry_type};
-ghost use Rattle.sel_handle.specs.Status.{done, no_memory, no_column, other_kind, get_out_of_bounds, held_rows, held_type, Demands, HasColumn, IsOneOf, Makes, TellsLimits};
+ghost use Rattle.sel_handle.specs.Status.{done, no_memory, no_column, other_kind, get_out_of_bounds, limit_statuses, held_rows, held_type, Demands, DemandsBefore, DemandsFirst, HasColumn, IsOneOf, Makes, TellsLimits};
 
 use sel_calls::fixed::fixed_get_into;
 use sel_handle::handle::Handle;
@@ -31,8 +30,7 @@ pub extern "C" fn sel_fixed_get(
         (λ made. type_of made.column ≡ entry_type (held_type of.old.tree)) }
     ensures status { IsOneOf result
         (done ∷ no_memory ∷ no_column ∷ other_kind ∷ get_out_of_bounds ∷ limit_statuses) }
-    ensures column { DemandsBefore result no_column
-        (other_kind ∷ get_out_of_bounds ∷ limit_statuses) (HasColumn of.old.tree) }
+    ensures column { DemandsFirst result no_column (HasColumn of.old.tree) }
     ensures kind { DemandsBefore result other_kind (get_out_of_bounds ∷ limit_statuses)
         (IsTrue (is_block_shape (held_type of.old.tree))) }
     ensures bounds { Demands result get_out_of_bounds

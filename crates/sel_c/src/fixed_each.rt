@@ -4,9 +4,8 @@ ghost use Rattle.std.specs.Prelude.{◌≡◌, ◌∷◌, length, false, IsTrue}
 ghost use Rattle.sel_arrow.specs.Rows.{rows, type_of};
 ghost use Rattle.sel_arrow.specs.Shape.{of_int64, is_block_shape};
 ghost use Rattle.sel_calls.specs.Entries.{entries_at_each, refuses_some, past_entries_at_each};
-ghost use Rattle.sel_calls.specs.Order.{limit_statuses, DemandsBefore};
 ghost use Rattle.sel_calls.specs.Types.{entry_type};
-ghost use Rattle.sel_handle.specs.Status.{done, no_memory, no_column, other_kind, other_length, get_out_of_bounds, held_rows, held_type, Demands, HasColumn, IsOneOf, Makes, TellsLimits};
+ghost use Rattle.sel_handle.specs.Status.{done, no_memory, no_column, other_kind, other_length, get_out_of_bounds, limit_statuses, held_rows, held_type, Demands, DemandsBefore, DemandsFirst, HasColumn, IsOneOf, Makes, TellsLimits};
 
 use sel_calls::fixed_each::fixed_get_each_into;
 use sel_handle::handle::Handle;
@@ -33,8 +32,7 @@ pub extern "C" fn sel_fixed_get_each(
         (λ made. type_of made.column ≡ entry_type (held_type of.old.tree)) }
     ensures status { IsOneOf result (done ∷ no_memory ∷ no_column ∷ other_kind ∷ other_length ∷
         get_out_of_bounds ∷ limit_statuses) }
-    ensures column { DemandsBefore result no_column
-        (other_kind ∷ other_length ∷ get_out_of_bounds ∷ limit_statuses)
+    ensures column { DemandsFirst result no_column
         (HasColumn of.old.tree × HasColumn indices.old.tree) }
     ensures kind { DemandsBefore result other_kind
         (other_length ∷ get_out_of_bounds ∷ limit_statuses)

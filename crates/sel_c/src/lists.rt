@@ -3,9 +3,8 @@
 ghost use Rattle.std.specs.Prelude.{◌≡◌, ◌∷◌, [], IsTrue};
 ghost use Rattle.sel_arrow.specs.Rows.{rows, type_of};
 ghost use Rattle.sel_arrow.specs.Shape.{of_large_list, is_list_shape};
-ghost use Rattle.sel_calls.specs.Order.{limit_statuses, DemandsBefore};
 ghost use Rattle.sel_calls.specs.Types.{entry_type};
-ghost use Rattle.sel_handle.specs.Status.{done, no_memory, no_column, other_kind, held_rows, held_type, Demands, HasColumn, IsOneOf, Makes, TellsLimits};
+ghost use Rattle.sel_handle.specs.Status.{done, no_memory, no_column, other_kind, limit_statuses, held_rows, held_type, Demands, DemandsBefore, DemandsFirst, HasColumn, IsOneOf, Makes, TellsLimits};
 ghost use Rattle.sel_runs.specs.Need.{past};
 ghost use Rattle.sel_sublists.specs.Lists.{list_get, oob, unit_lists};
 
@@ -31,8 +30,7 @@ pub extern "C" fn sel_sublist_get(
     ensures dtype { Makes result out.old.tree out.new.tree
         (λ made. type_of made.column ≡ entry_type (held_type of.old.tree)) }
     ensures status { IsOneOf result (done ∷ no_memory ∷ no_column ∷ other_kind ∷ limit_statuses) }
-    ensures column { DemandsBefore result no_column (other_kind ∷ limit_statuses)
-        (HasColumn of.old.tree) }
+    ensures column { DemandsFirst result no_column (HasColumn of.old.tree) }
     ensures kind { DemandsBefore result other_kind limit_statuses
         (IsTrue (is_list_shape (held_type of.old.tree))) }
     ensures limits { TellsLimits result
@@ -58,7 +56,7 @@ pub extern "C" fn sel_index_is_oob(
 ) -> u32
     ensures told { result ≡ done → out.new ≡ oob (held_rows of.old.tree) index }
     ensures status { IsOneOf result (done ∷ no_memory ∷ no_column ∷ other_kind ∷ []) }
-    ensures column { DemandsBefore result no_column (other_kind ∷ []) (HasColumn of.old.tree) }
+    ensures column { DemandsFirst result no_column (HasColumn of.old.tree) }
     ensures kind { Demands result other_kind (IsTrue (is_list_shape (held_type of.old.tree))) }
     ensures unchanged { of.new.tree ≡ of.old.tree }
 {
@@ -78,7 +76,7 @@ pub extern "C" fn sel_unit_list(alloc: Global, of: &mut Handle, out: &mut Handle
     ensures dtype { Makes result out.old.tree out.new.tree
         (λ made. type_of made.column ≡ of_large_list (held_type of.old.tree)) }
     ensures status { IsOneOf result (done ∷ no_memory ∷ no_column ∷ []) }
-    ensures column { Demands result no_column (HasColumn of.old.tree) }
+    ensures column { DemandsFirst result no_column (HasColumn of.old.tree) }
     ensures unchanged { of.new.tree ≡ of.old.tree }
 {
     let Some(column) = of.take(alloc) else {

@@ -8,7 +8,7 @@ ghost use Rattle.sel_arrow.specs.Rows.{rows, type_of};
 ghost use Rattle.sel_arrow.specs.Shape.{of_null, of_boolean, of_int8, of_int16, of_int32, of_int64, of_uint8, of_uint16, of_uint32, of_uint64};
 ghost use Rattle.sel_arrow.specs.Value.{Null};
 ghost use Rattle.sel_handle.specs.Inputs.{validity_in, flat_rules};
-ghost use Rattle.sel_handle.specs.Status.{other_length, Demands, Makes, Tells};
+ghost use Rattle.sel_handle.specs.Status.{other_length, DemandsFirst, Makes, Tells};
 
 use sel_arrow::array::Array;
 use sel_arrow::null::NullArray;
@@ -47,7 +47,7 @@ pub extern "C" fn sel_boolean_new(
         truth_rows (bits_from values.now 0 len) (validity_in bits.now has_bits len)) }
     ensures dtype { Makes result out.old.tree out.new.tree
         (λ made. type_of made.column ≡ of_boolean) }
-    ensures length { Demands result other_length (len ≤ 8 * length values.now) }
+    ensures length { DemandsFirst result other_length (len ≤ 8 * length values.now) }
     ensures status { len ≤ 8 * length values.now → Tells result (flat_rules len bits.now has_bits) }
 {
     if values.len() < len.div_ceil(8) {

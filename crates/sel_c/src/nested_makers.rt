@@ -6,7 +6,7 @@ ghost use Rattle.sel_arrow.specs.Pieces.{byte_rows, rows_between};
 ghost use Rattle.sel_arrow.specs.Rows.{rows, type_of};
 ghost use Rattle.sel_arrow.specs.Shape.{of_large_binary, of_large_list, of_fixed_size_list, of_struct, shapes_of};
 ghost use Rattle.sel_handle.specs.Inputs.{positions, validity_in, binary_rules, list_rules, block_rules, struct_rules};
-ghost use Rattle.sel_handle.specs.Status.{done, no_column, held_count, held_rows, held_type, Demands, HasColumn, Makes, Names};
+ghost use Rattle.sel_handle.specs.Status.{done, no_column, held_count, held_rows, held_type, DemandsFirst, HasColumn, Makes, Names};
 
 use sel_handle::handle::Handle;
 use sel_handle::nested::{binary_of, blocks_of, lists_of, tuples_of};
@@ -57,7 +57,7 @@ pub extern "C" fn sel_list_new(
         (validity_in bits.now has_bits (rows_between (positions offsets.now)))) }
     ensures dtype { Makes result out.old.tree out.new.tree
         (λ made. type_of made.column ≡ of_large_list (held_type child.old.tree)) }
-    ensures column { Demands result no_column (HasColumn child.old.tree) }
+    ensures column { DemandsFirst result no_column (HasColumn child.old.tree) }
     ensures status { HasColumn child.old.tree →
         Names result (list_rules offsets.now (held_count child.old.tree) bits.now has_bits) }
     ensures taken { child.new.tree ≡ None }
@@ -88,7 +88,7 @@ pub extern "C" fn sel_fixed_list_new(
         block_rows width len (held_rows child.old.tree) (validity_in bits.now has_bits len)) }
     ensures dtype { Makes result out.old.tree out.new.tree
         (λ made. type_of made.column ≡ of_fixed_size_list (held_type child.old.tree) width) }
-    ensures column { Demands result no_column (HasColumn child.old.tree) }
+    ensures column { DemandsFirst result no_column (HasColumn child.old.tree) }
     ensures status { HasColumn child.old.tree →
         Names result (block_rules width len (held_count child.old.tree) bits.now has_bits) }
     ensures taken { child.new.tree ≡ None }
@@ -118,7 +118,8 @@ pub extern "C" fn sel_struct_new(
         (map (λ field. held_rows field.tree) fields.old) (validity_in bits.now has_bits len)) }
     ensures dtype { Makes result out.old.tree out.new.tree (λ made. type_of made.column ≡
         of_struct (shapes_of (map (λ field. held_type field.tree) fields.old))) }
-    ensures column { Demands result no_column (All (λ field. HasColumn field.tree) fields.old) }
+    ensures column { DemandsFirst result no_column
+        (All (λ field. HasColumn field.tree) fields.old) }
     ensures status { result ≢ no_column → Names result
         (struct_rules len (map (λ field. held_count field.tree) fields.old) bits.now has_bits) }
     ensures taken { result ≡ done → All (λ field. field.tree ≡ None) fields.new }

@@ -4,7 +4,7 @@ ghost use Rattle.std.specs.Prelude.{◌≡◌, ◌≢◌, None, Some, [], ◌∷
 ghost use Rattle.std.specs.Option.{option_map};
 ghost use Rattle.sel_handle.specs.Inputs.{positions};
 ghost use Rattle.sel_handle.specs.Layout.{held_offsets, held_bytes};
-ghost use Rattle.sel_handle.specs.Status.{done, no_column, other_kind, other_length, Demands, HasColumn, IsOneOf};
+ghost use Rattle.sel_handle.specs.Status.{done, no_column, other_kind, other_length, Demands, DemandsBefore, DemandsFirst, HasColumn, IsOneOf};
 
 use sel_handle::handle::Handle;
 use sel_handle::parts::{bytes_into, bytes_len_into, offsets_into};
@@ -17,9 +17,9 @@ use std::alloc::Global;
 #[unsafe(no_mangle)]
 pub extern "C" fn sel_offsets(alloc: Global, of: &mut Handle, out: &mut [i64]) -> u32
     ensures offsets { result ≡ done → Some (positions out.new) ≡ held_offsets of.old.tree }
-    ensures column { Demands result no_column (HasColumn of.old.tree) }
+    ensures column { DemandsFirst result no_column (HasColumn of.old.tree) }
     ensures kind { HasColumn of.old.tree →
-        Demands result other_kind (held_offsets of.old.tree ≢ None) }
+        DemandsBefore result other_kind (other_length ∷ []) (held_offsets of.old.tree ≢ None) }
     ensures length { result ≡ other_length →
         Some (length out.old) ≢ option_map length (held_offsets of.old.tree) }
     ensures status { IsOneOf result (done ∷ no_column ∷ other_kind ∷ other_length ∷ []) }
@@ -38,7 +38,7 @@ pub extern "C" fn sel_offsets(alloc: Global, of: &mut Handle, out: &mut [i64]) -
 #[unsafe(no_mangle)]
 pub extern "C" fn sel_bytes_len(alloc: Global, of: &mut Handle, len: &mut usize) -> u32
     ensures len { result ≡ done → Some len.new ≡ option_map length (held_bytes of.old.tree) }
-    ensures column { Demands result no_column (HasColumn of.old.tree) }
+    ensures column { DemandsFirst result no_column (HasColumn of.old.tree) }
     ensures kind { HasColumn of.old.tree →
         Demands result other_kind (held_bytes of.old.tree ≢ None) }
     ensures status { IsOneOf result (done ∷ no_column ∷ other_kind ∷ []) }
@@ -58,9 +58,9 @@ pub extern "C" fn sel_bytes_len(alloc: Global, of: &mut Handle, len: &mut usize)
 #[unsafe(no_mangle)]
 pub extern "C" fn sel_bytes(alloc: Global, of: &mut Handle, out: &mut [u8]) -> u32
     ensures bytes { result ≡ done → Some out.new ≡ held_bytes of.old.tree }
-    ensures column { Demands result no_column (HasColumn of.old.tree) }
+    ensures column { DemandsFirst result no_column (HasColumn of.old.tree) }
     ensures kind { HasColumn of.old.tree →
-        Demands result other_kind (held_bytes of.old.tree ≢ None) }
+        DemandsBefore result other_kind (other_length ∷ []) (held_bytes of.old.tree ≢ None) }
     ensures length { result ≡ other_length →
         Some (length out.old) ≢ option_map length (held_bytes of.old.tree) }
     ensures status { IsOneOf result (done ∷ no_column ∷ other_kind ∷ other_length ∷ []) }

@@ -8,7 +8,7 @@ ghost use Rattle.sel_arrow.specs.Value.{is_null};
 ghost use Rattle.sel_handle.specs.Inputs.{validity_in};
 ghost use Rattle.sel_handle.specs.Kinds.{held_kind};
 ghost use Rattle.sel_handle.specs.Outputs.{Shows, numbers, truths};
-ghost use Rattle.sel_handle.specs.Status.{done, no_memory, no_column, other_kind, other_length, held_rows, held_type, Demands, HasColumn, IsOneOf};
+ghost use Rattle.sel_handle.specs.Status.{done, no_memory, no_column, other_kind, other_length, held_rows, held_type, Demands, DemandsBefore, DemandsFirst, HasColumn, IsOneOf};
 
 use sel_arrow::array::Array;
 use sel_handle::handle::Handle;
@@ -78,7 +78,7 @@ pub extern "C" fn sel_validity(
 ) -> u32
     ensures validity { result ≡ done → TellsNulls (held_type of.old.tree)
         (validity_in out.new has.new (length (held_rows of.old.tree))) (held_rows of.old.tree) }
-    ensures column { Demands result no_column (HasColumn of.old.tree) }
+    ensures column { DemandsFirst result no_column (HasColumn of.old.tree) }
     ensures length { result ≡ other_length →
         length out.old ≢ (length (held_rows of.old.tree) + 7) / 8 }
     ensures status { IsOneOf result (done ∷ no_memory ∷ no_column ∷ other_length ∷ []) }
@@ -98,8 +98,9 @@ pub extern "C" fn sel_validity(
 pub extern "C" fn sel_boolean_values(alloc: Global, of: &mut Handle, out: &mut [u8]) -> u32
     ensures values { result ≡ done → Shows
         (truths (bits_from out.new 0 (length (held_rows of.old.tree)))) (held_rows of.old.tree) }
-    ensures column { Demands result no_column (HasColumn of.old.tree) }
-    ensures kind { Demands result other_kind (held_type of.old.tree ≡ of_boolean) }
+    ensures column { DemandsFirst result no_column (HasColumn of.old.tree) }
+    ensures kind { DemandsBefore result other_kind (other_length ∷ [])
+        (held_type of.old.tree ≡ of_boolean) }
     ensures length { Demands result other_length
         (length out.old ≡ (length (held_rows of.old.tree) + 7) / 8) }
     ensures status { IsOneOf result
@@ -119,8 +120,9 @@ pub extern "C" fn sel_boolean_values(alloc: Global, of: &mut Handle, out: &mut [
 #[unsafe(no_mangle)]
 pub extern "C" fn sel_int8_values(alloc: Global, of: &mut Handle, out: &mut [i8]) -> u32
     ensures values { result ≡ done → Shows (numbers (λ x. x) out.new) (held_rows of.old.tree) }
-    ensures column { Demands result no_column (HasColumn of.old.tree) }
-    ensures kind { Demands result other_kind (held_type of.old.tree ≡ of_int8) }
+    ensures column { DemandsFirst result no_column (HasColumn of.old.tree) }
+    ensures kind { DemandsBefore result other_kind (other_length ∷ [])
+        (held_type of.old.tree ≡ of_int8) }
     ensures length { Demands result other_length (length out.old ≡ length (held_rows of.old.tree)) }
     ensures status { IsOneOf result
         (done ∷ no_memory ∷ no_column ∷ other_kind ∷ other_length ∷ []) }
@@ -134,8 +136,9 @@ pub extern "C" fn sel_int8_values(alloc: Global, of: &mut Handle, out: &mut [i8]
 #[unsafe(no_mangle)]
 pub extern "C" fn sel_int16_values(alloc: Global, of: &mut Handle, out: &mut [i16]) -> u32
     ensures values { result ≡ done → Shows (numbers (λ x. x) out.new) (held_rows of.old.tree) }
-    ensures column { Demands result no_column (HasColumn of.old.tree) }
-    ensures kind { Demands result other_kind (held_type of.old.tree ≡ of_int16) }
+    ensures column { DemandsFirst result no_column (HasColumn of.old.tree) }
+    ensures kind { DemandsBefore result other_kind (other_length ∷ [])
+        (held_type of.old.tree ≡ of_int16) }
     ensures length { Demands result other_length (length out.old ≡ length (held_rows of.old.tree)) }
     ensures status { IsOneOf result
         (done ∷ no_memory ∷ no_column ∷ other_kind ∷ other_length ∷ []) }
@@ -149,8 +152,9 @@ pub extern "C" fn sel_int16_values(alloc: Global, of: &mut Handle, out: &mut [i1
 #[unsafe(no_mangle)]
 pub extern "C" fn sel_int32_values(alloc: Global, of: &mut Handle, out: &mut [i32]) -> u32
     ensures values { result ≡ done → Shows (numbers (λ x. x) out.new) (held_rows of.old.tree) }
-    ensures column { Demands result no_column (HasColumn of.old.tree) }
-    ensures kind { Demands result other_kind (held_type of.old.tree ≡ of_int32) }
+    ensures column { DemandsFirst result no_column (HasColumn of.old.tree) }
+    ensures kind { DemandsBefore result other_kind (other_length ∷ [])
+        (held_type of.old.tree ≡ of_int32) }
     ensures length { Demands result other_length (length out.old ≡ length (held_rows of.old.tree)) }
     ensures status { IsOneOf result
         (done ∷ no_memory ∷ no_column ∷ other_kind ∷ other_length ∷ []) }
@@ -164,8 +168,9 @@ pub extern "C" fn sel_int32_values(alloc: Global, of: &mut Handle, out: &mut [i3
 #[unsafe(no_mangle)]
 pub extern "C" fn sel_int64_values(alloc: Global, of: &mut Handle, out: &mut [i64]) -> u32
     ensures values { result ≡ done → Shows (numbers (λ x. x) out.new) (held_rows of.old.tree) }
-    ensures column { Demands result no_column (HasColumn of.old.tree) }
-    ensures kind { Demands result other_kind (held_type of.old.tree ≡ of_int64) }
+    ensures column { DemandsFirst result no_column (HasColumn of.old.tree) }
+    ensures kind { DemandsBefore result other_kind (other_length ∷ [])
+        (held_type of.old.tree ≡ of_int64) }
     ensures length { Demands result other_length (length out.old ≡ length (held_rows of.old.tree)) }
     ensures status { IsOneOf result
         (done ∷ no_memory ∷ no_column ∷ other_kind ∷ other_length ∷ []) }
@@ -179,8 +184,9 @@ pub extern "C" fn sel_int64_values(alloc: Global, of: &mut Handle, out: &mut [i6
 #[unsafe(no_mangle)]
 pub extern "C" fn sel_uint8_values(alloc: Global, of: &mut Handle, out: &mut [u8]) -> u32
     ensures values { result ≡ done → Shows (numbers pos out.new) (held_rows of.old.tree) }
-    ensures column { Demands result no_column (HasColumn of.old.tree) }
-    ensures kind { Demands result other_kind (held_type of.old.tree ≡ of_uint8) }
+    ensures column { DemandsFirst result no_column (HasColumn of.old.tree) }
+    ensures kind { DemandsBefore result other_kind (other_length ∷ [])
+        (held_type of.old.tree ≡ of_uint8) }
     ensures length { Demands result other_length (length out.old ≡ length (held_rows of.old.tree)) }
     ensures status { IsOneOf result
         (done ∷ no_memory ∷ no_column ∷ other_kind ∷ other_length ∷ []) }
@@ -194,8 +200,9 @@ pub extern "C" fn sel_uint8_values(alloc: Global, of: &mut Handle, out: &mut [u8
 #[unsafe(no_mangle)]
 pub extern "C" fn sel_uint16_values(alloc: Global, of: &mut Handle, out: &mut [u16]) -> u32
     ensures values { result ≡ done → Shows (numbers pos out.new) (held_rows of.old.tree) }
-    ensures column { Demands result no_column (HasColumn of.old.tree) }
-    ensures kind { Demands result other_kind (held_type of.old.tree ≡ of_uint16) }
+    ensures column { DemandsFirst result no_column (HasColumn of.old.tree) }
+    ensures kind { DemandsBefore result other_kind (other_length ∷ [])
+        (held_type of.old.tree ≡ of_uint16) }
     ensures length { Demands result other_length (length out.old ≡ length (held_rows of.old.tree)) }
     ensures status { IsOneOf result
         (done ∷ no_memory ∷ no_column ∷ other_kind ∷ other_length ∷ []) }
@@ -209,8 +216,9 @@ pub extern "C" fn sel_uint16_values(alloc: Global, of: &mut Handle, out: &mut [u
 #[unsafe(no_mangle)]
 pub extern "C" fn sel_uint32_values(alloc: Global, of: &mut Handle, out: &mut [u32]) -> u32
     ensures values { result ≡ done → Shows (numbers pos out.new) (held_rows of.old.tree) }
-    ensures column { Demands result no_column (HasColumn of.old.tree) }
-    ensures kind { Demands result other_kind (held_type of.old.tree ≡ of_uint32) }
+    ensures column { DemandsFirst result no_column (HasColumn of.old.tree) }
+    ensures kind { DemandsBefore result other_kind (other_length ∷ [])
+        (held_type of.old.tree ≡ of_uint32) }
     ensures length { Demands result other_length (length out.old ≡ length (held_rows of.old.tree)) }
     ensures status { IsOneOf result
         (done ∷ no_memory ∷ no_column ∷ other_kind ∷ other_length ∷ []) }
@@ -224,8 +232,9 @@ pub extern "C" fn sel_uint32_values(alloc: Global, of: &mut Handle, out: &mut [u
 #[unsafe(no_mangle)]
 pub extern "C" fn sel_uint64_values(alloc: Global, of: &mut Handle, out: &mut [u64]) -> u32
     ensures values { result ≡ done → Shows (numbers pos out.new) (held_rows of.old.tree) }
-    ensures column { Demands result no_column (HasColumn of.old.tree) }
-    ensures kind { Demands result other_kind (held_type of.old.tree ≡ of_uint64) }
+    ensures column { DemandsFirst result no_column (HasColumn of.old.tree) }
+    ensures kind { DemandsBefore result other_kind (other_length ∷ [])
+        (held_type of.old.tree ≡ of_uint64) }
     ensures length { Demands result other_length (length out.old ≡ length (held_rows of.old.tree)) }
     ensures status { IsOneOf result
         (done ∷ no_memory ∷ no_column ∷ other_kind ∷ other_length ∷ []) }

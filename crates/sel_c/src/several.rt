@@ -5,11 +5,10 @@ ghost use Rattle.std.specs.List.{flat_map};
 ghost use Rattle.sel_bits.specs.declared.faults.Malformed.TheVariants.{TooManyRows, ValidityLength};
 ghost use Rattle.sel_arrow.specs.Rows.{rows, type_of};
 ghost use Rattle.sel_arrow.specs.Value.{Null};
-ghost use Rattle.sel_calls.specs.Order.{limit_statuses, DemandsBefore};
 ghost use Rattle.sel_calls.specs.Several.{first_shape, picks_in, AreAlike};
 ghost use Rattle.sel_flatten.specs.Flatten.{flatten, parts_fit, past_flattened};
 ghost use Rattle.sel_handle.specs.Inputs.{lacks_bits};
-ghost use Rattle.sel_handle.specs.Status.{done, no_memory, no_column, other_type, other_length, out_of_bounds, rule_status, held_columns, held_rows, held_type, HasColumn, IsOneOf, Makes, TellsLimits};
+ghost use Rattle.sel_handle.specs.Status.{done, no_memory, no_column, other_type, other_length, out_of_bounds, rule_status, limit_statuses, held_columns, held_rows, held_type, DemandsBefore, DemandsFirst, HasColumn, IsOneOf, Makes, TellsLimits};
 ghost use Rattle.sel_runs.specs.Need.{past_taken};
 ghost use Rattle.sel_runs.specs.Picks.{pick, PickFits};
 
@@ -37,7 +36,7 @@ pub extern "C" fn sel_flatten(
         first_shape (map (λ column. held_type column.tree) columns.old)) }
     ensures status { IsOneOf result
         (done ∷ no_memory ∷ no_column ∷ other_type ∷ other_length ∷ limit_statuses) }
-    ensures column { DemandsBefore result no_column (other_type ∷ other_length ∷ limit_statuses)
+    ensures column { DemandsFirst result no_column
         (All (λ column. HasColumn column.tree) columns.old) }
     ensures alike { DemandsBefore result other_type (other_length ∷ limit_statuses)
         (AreAlike (map (λ column. held_type column.tree) columns.old)) }
@@ -83,9 +82,8 @@ pub extern "C" fn sel_collect_rows(
     ensures status { IsOneOf result
         (done ∷ no_memory ∷ no_column ∷ rule_status TooManyRows ∷ rule_status ValidityLength ∷
         other_length ∷ other_type ∷ out_of_bounds ∷ limit_statuses) }
-    ensures column { DemandsBefore result no_column
-        (rule_status TooManyRows ∷ rule_status ValidityLength ∷ other_length ∷ other_type ∷
-        out_of_bounds ∷ limit_statuses) (All (λ source. HasColumn source.tree) sources.old) }
+    ensures column { DemandsFirst result no_column
+        (All (λ source. HasColumn source.tree) sources.old) }
     ensures few { DemandsBefore result (rule_status TooManyRows) (rule_status ValidityLength ∷
         other_length ∷ other_type ∷ out_of_bounds ∷ limit_statuses)
         (length picks.now ≤ 4294967295) }

@@ -5,9 +5,8 @@ ghost use Rattle.sel_bits.specs.declared.faults.Malformed.TheVariants.{TooManyRo
 ghost use Rattle.sel_arrow.specs.Masked.{number_rows};
 ghost use Rattle.sel_arrow.specs.Rows.{rows, type_of};
 ghost use Rattle.sel_arrow.specs.Shape.{of_uint32};
-ghost use Rattle.sel_calls.specs.Order.{limit_statuses, DemandsBefore};
 ghost use Rattle.sel_handle.specs.Inputs.{lacks_bits, validity_in};
-ghost use Rattle.sel_handle.specs.Status.{done, no_memory, no_column, other_kind, out_of_bounds, held_rows, held_type, rule_status, HasColumn, IsOneOf, Makes, TellsLimits};
+ghost use Rattle.sel_handle.specs.Status.{done, no_memory, no_column, other_kind, out_of_bounds, rule_status, limit_statuses, held_rows, held_type, DemandsBefore, DemandsFirst, HasColumn, IsOneOf, Makes, TellsLimits};
 ghost use Rattle.sel_runs.specs.Need.{past};
 ghost use Rattle.polars_compute.specs.Pick.{all_within, take_rows};
 
@@ -32,7 +31,7 @@ pub extern "C" fn sel_take(
         (λ made. type_of made.column ≡ held_type of.old.tree) }
     ensures status { IsOneOf result
         (done ∷ no_memory ∷ no_column ∷ other_kind ∷ out_of_bounds ∷ limit_statuses) }
-    ensures column { DemandsBefore result no_column (other_kind ∷ out_of_bounds ∷ limit_statuses)
+    ensures column { DemandsFirst result no_column
         (HasColumn of.old.tree × HasColumn indices.old.tree) }
     ensures kind { DemandsBefore result other_kind (out_of_bounds ∷ limit_statuses)
         (held_type indices.old.tree ≡ of_uint32) }
@@ -76,8 +75,7 @@ pub extern "C" fn sel_take_rows(
         (λ made. type_of made.column ≡ held_type of.old.tree) }
     ensures status { IsOneOf result (done ∷ no_memory ∷ no_column ∷ rule_status TooManyRows ∷
         rule_status ValidityLength ∷ out_of_bounds ∷ limit_statuses) }
-    ensures column { DemandsBefore result no_column (rule_status TooManyRows ∷
-        rule_status ValidityLength ∷ out_of_bounds ∷ limit_statuses) (HasColumn of.old.tree) }
+    ensures column { DemandsFirst result no_column (HasColumn of.old.tree) }
     ensures few { DemandsBefore result (rule_status TooManyRows)
         (rule_status ValidityLength ∷ out_of_bounds ∷ limit_statuses)
         (length indices.now ≤ 4294967295) }

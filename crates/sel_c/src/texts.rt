@@ -6,7 +6,7 @@ ghost use Rattle.sel_arrow.specs.Shape.{Shape};
 ghost use Rattle.sel_arrow.specs.Value.{Value};
 ghost use Rattle.sel_calls.specs.Parsed.{passes_limit, IsRowsText, IsTypeText};
 ghost use Rattle.sel_calls.specs.Printed.{filled, held_text};
-ghost use Rattle.sel_handle.specs.Status.{done, no_memory, no_column, type_syntax, text_syntax, text_misfit, text_limit, held_rows, Demands, HasColumn, IsOneOf, Makes};
+ghost use Rattle.sel_handle.specs.Status.{done, no_memory, no_column, type_syntax, text_syntax, text_misfit, text_limit, held_rows, DemandsFirst, HasColumn, IsOneOf, Makes};
 ghost use Rattle.sel_text.specs.Spaces.{spaceless};
 ghost use Rattle.sel_text.specs.Texts.{text_of};
 ghost use Rattle.sel_text.specs.Types.{type_text};
@@ -29,7 +29,8 @@ pub extern "C" fn sel_equal_rows(
 ) -> u32
     ensures told { result ≡ done →
         (IsTrue equal.new ↔ (held_rows of.old.tree ≡ held_rows other.old.tree)) }
-    ensures column { Demands result no_column (HasColumn of.old.tree × HasColumn other.old.tree) }
+    ensures column { DemandsFirst result no_column
+        (HasColumn of.old.tree × HasColumn other.old.tree) }
     ensures status { IsOneOf result (done ∷ no_column ∷ []) }
     ensures unchanged { of.new.tree ≡ of.old.tree }
     ensures other { other.new.tree ≡ other.old.tree }
@@ -54,7 +55,7 @@ pub extern "C" fn sel_equal_rows(
 pub extern "C" fn sel_print(alloc: Global, of: &mut Handle, out: &mut [u8], len: &mut usize) -> u32
     ensures text { result ≡ done → out.new ≡ filled (held_text of.old.tree) out.old }
     ensures len { result ≡ done → len.new ≡ length (held_text of.old.tree) }
-    ensures column { Demands result no_column (HasColumn of.old.tree) }
+    ensures column { DemandsFirst result no_column (HasColumn of.old.tree) }
     ensures status { IsOneOf result (done ∷ no_memory ∷ no_column ∷ []) }
     ensures unchanged { of.new.tree ≡ of.old.tree }
 {

@@ -7,7 +7,7 @@ ghost use Rattle.sel_arrow.specs.Shape.{of_binary_view, of_utf8_view};
 ghost use Rattle.sel_arrow.specs.Views.{view_rows};
 ghost use Rattle.sel_handle.specs.Inputs.{validity_in, views_in, binview_rules, utf8view_rules};
 ghost use Rattle.sel_handle.specs.Layout.{held_buffers, held_views};
-ghost use Rattle.sel_handle.specs.Status.{done, no_column, other_kind, other_length, out_of_bounds, Demands, HasColumn, IsOneOf, Makes, Names};
+ghost use Rattle.sel_handle.specs.Status.{done, no_column, other_kind, other_length, out_of_bounds, Demands, DemandsBefore, DemandsFirst, HasColumn, IsOneOf, Makes, Names};
 
 use sel_handle::handle::Handle;
 use sel_handle::status::{NO_COLUMN, put, status_of_maker};
@@ -72,9 +72,9 @@ pub extern "C" fn sel_utf8view_new(
 #[unsafe(no_mangle)]
 pub extern "C" fn sel_views(alloc: Global, of: &mut Handle, out: &mut [ViewWords]) -> u32
     ensures views { result ≡ done → Some (views_in out.new) ≡ held_views of.old.tree }
-    ensures column { Demands result no_column (HasColumn of.old.tree) }
+    ensures column { DemandsFirst result no_column (HasColumn of.old.tree) }
     ensures kind { HasColumn of.old.tree →
-        Demands result other_kind (held_views of.old.tree ≢ None) }
+        DemandsBefore result other_kind (other_length ∷ []) (held_views of.old.tree ≢ None) }
     ensures length { result ≡ other_length →
         Some (length out.old) ≢ option_map length (held_views of.old.tree) }
     ensures status { IsOneOf result (done ∷ no_column ∷ other_kind ∷ other_length ∷ []) }
@@ -93,7 +93,7 @@ pub extern "C" fn sel_views(alloc: Global, of: &mut Handle, out: &mut [ViewWords
 #[unsafe(no_mangle)]
 pub extern "C" fn sel_buffer_count(alloc: Global, of: &mut Handle, count: &mut usize) -> u32
     ensures count { result ≡ done → Some count.new ≡ option_map length (held_buffers of.old.tree) }
-    ensures column { Demands result no_column (HasColumn of.old.tree) }
+    ensures column { DemandsFirst result no_column (HasColumn of.old.tree) }
     ensures kind { HasColumn of.old.tree →
         Demands result other_kind (held_views of.old.tree ≢ None) }
     ensures status { IsOneOf result (done ∷ no_column ∷ other_kind ∷ []) }
@@ -113,9 +113,9 @@ pub extern "C" fn sel_buffer_count(alloc: Global, of: &mut Handle, count: &mut u
 pub extern "C" fn sel_buffer_len(alloc: Global, of: &mut Handle, i: usize, len: &mut usize) -> u32
     ensures len { result ≡ done → option_map (λ buffers. option_map length (slice_get buffers i))
         (held_buffers of.old.tree) ≡ Some (Some len.new) }
-    ensures column { Demands result no_column (HasColumn of.old.tree) }
+    ensures column { DemandsFirst result no_column (HasColumn of.old.tree) }
     ensures kind { HasColumn of.old.tree →
-        Demands result other_kind (held_views of.old.tree ≢ None) }
+        DemandsBefore result other_kind (out_of_bounds ∷ []) (held_views of.old.tree ≢ None) }
     ensures bounds { result ≡ out_of_bounds →
         option_map (λ buffers. slice_get buffers i) (held_buffers of.old.tree) ≡ Some None }
     ensures status { IsOneOf result (done ∷ no_column ∷ other_kind ∷ out_of_bounds ∷ []) }
@@ -136,13 +136,16 @@ pub extern "C" fn sel_buffer_len(alloc: Global, of: &mut Handle, i: usize, len: 
 pub extern "C" fn sel_buffer(alloc: Global, of: &mut Handle, i: usize, out: &mut [u8]) -> u32
     ensures bytes { result ≡ done → option_map (λ buffers. slice_get buffers i)
         (held_buffers of.old.tree) ≡ Some (Some out.new) }
-    ensures column { Demands result no_column (HasColumn of.old.tree) }
+    ensures column { DemandsFirst result no_column (HasColumn of.old.tree) }
     ensures kind { HasColumn of.old.tree →
-        Demands result other_kind (held_views of.old.tree ≢ None) }
+        DemandsBefore result other_kind (out_of_bounds ∷ other_length ∷ [])
+        (held_views of.old.tree ≢ None) }
     ensures bounds { result ≡ out_of_bounds →
         option_map (λ buffers. slice_get buffers i) (held_buffers of.old.tree) ≡ Some None }
     ensures length { result ≡ other_length → option_map (λ buffers. option_map length
         (slice_get buffers i)) (held_buffers of.old.tree) ≢ Some (Some (length out.old)) }
+    ensures inside { result ≡ other_length →
+        option_map (λ buffers. slice_get buffers i) (held_buffers of.old.tree) ≢ Some None }
     ensures status { IsOneOf result
         (done ∷ no_column ∷ other_kind ∷ other_length ∷ out_of_bounds ∷ []) }
     ensures unchanged { of.new.tree ≡ of.old.tree }

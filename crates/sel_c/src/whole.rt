@@ -2,7 +2,7 @@
 
 ghost use Rattle.std.specs.Prelude.{◌≡◌, ◌≤◌, ◌+◌, [], ◌∷◌, length, take, drop, None};
 ghost use Rattle.sel_arrow.specs.Rows.{rows, type_of};
-ghost use Rattle.sel_handle.specs.Status.{done, no_memory, no_column, out_of_bounds, held_rows, held_type, Demands, HasColumn, IsOneOf, Makes};
+ghost use Rattle.sel_handle.specs.Status.{done, no_memory, no_column, out_of_bounds, held_rows, held_type, Demands, DemandsFirst, HasColumn, IsOneOf, Makes};
 
 use sel_arrow::array::Array;
 use sel_handle::handle::Handle;
@@ -23,7 +23,7 @@ pub extern "C" fn sel_sliced(
         (λ made. rows made.column ≡ take len (drop off (held_rows of.old.tree))) }
     ensures dtype { Makes result out.old.tree out.new.tree
         (λ made. type_of made.column ≡ held_type of.old.tree) }
-    ensures column { Demands result no_column (HasColumn of.old.tree) }
+    ensures column { DemandsFirst result no_column (HasColumn of.old.tree) }
     ensures bounds { Demands result out_of_bounds (off + len ≤ length (held_rows of.old.tree)) }
     ensures status { IsOneOf result (done ∷ no_memory ∷ no_column ∷ out_of_bounds ∷ []) }
     ensures unchanged { of.new.tree ≡ of.old.tree }
@@ -51,7 +51,7 @@ pub extern "C" fn sel_share(alloc: Global, of: &mut Handle, out: &mut Handle) ->
         (λ made. rows made.column ≡ held_rows of.old.tree) }
     ensures dtype { Makes result out.old.tree out.new.tree
         (λ made. type_of made.column ≡ held_type of.old.tree) }
-    ensures column { Demands result no_column (HasColumn of.old.tree) }
+    ensures column { DemandsFirst result no_column (HasColumn of.old.tree) }
     ensures status { IsOneOf result (done ∷ no_memory ∷ no_column ∷ []) }
     ensures unchanged { of.new.tree ≡ of.old.tree }
 {

@@ -7,7 +7,7 @@ ghost use Rattle.sel_arrow.specs.Shape.{of_int128, of_uint128};
 ghost use Rattle.sel_calls.specs.Wides.{signed_wide, unsigned_wide};
 ghost use Rattle.sel_handle.specs.Inputs.{validity_in, flat_rules};
 ghost use Rattle.sel_handle.specs.Outputs.{Shows, numbers};
-ghost use Rattle.sel_handle.specs.Status.{done, no_memory, no_column, other_kind, other_length, held_rows, held_type, Demands, HasColumn, IsOneOf, Makes, Names};
+ghost use Rattle.sel_handle.specs.Status.{done, no_memory, no_column, other_kind, other_length, held_rows, held_type, Demands, DemandsBefore, DemandsFirst, HasColumn, IsOneOf, Makes, Names};
 
 use sel_arrow::primitive::ArrowPrimitive;
 use sel_calls::wides::{Wide, wides_into, wides_of};
@@ -42,8 +42,9 @@ pub extern "C" fn sel_int128_new(
 #[unsafe(no_mangle)]
 pub extern "C" fn sel_int128_values(alloc: Global, of: &mut Handle, out: &mut [Wide]) -> u32
     ensures values { result ≡ done → Shows (numbers signed_wide out.new) (held_rows of.old.tree) }
-    ensures column { Demands result no_column (HasColumn of.old.tree) }
-    ensures kind { Demands result other_kind (held_type of.old.tree ≡ of_int128) }
+    ensures column { DemandsFirst result no_column (HasColumn of.old.tree) }
+    ensures kind { DemandsBefore result other_kind (other_length ∷ [])
+        (held_type of.old.tree ≡ of_int128) }
     ensures length { Demands result other_length (length out.old ≡ length (held_rows of.old.tree)) }
     ensures status { IsOneOf result
         (done ∷ no_memory ∷ no_column ∷ other_kind ∷ other_length ∷ []) }
@@ -84,8 +85,9 @@ pub extern "C" fn sel_uint128_new(
 #[unsafe(no_mangle)]
 pub extern "C" fn sel_uint128_values(alloc: Global, of: &mut Handle, out: &mut [Wide]) -> u32
     ensures values { result ≡ done → Shows (numbers unsigned_wide out.new) (held_rows of.old.tree) }
-    ensures column { Demands result no_column (HasColumn of.old.tree) }
-    ensures kind { Demands result other_kind (held_type of.old.tree ≡ of_uint128) }
+    ensures column { DemandsFirst result no_column (HasColumn of.old.tree) }
+    ensures kind { DemandsBefore result other_kind (other_length ∷ [])
+        (held_type of.old.tree ≡ of_uint128) }
     ensures length { Demands result other_length (length out.old ≡ length (held_rows of.old.tree)) }
     ensures status { IsOneOf result
         (done ∷ no_memory ∷ no_column ∷ other_kind ∷ other_length ∷ []) }

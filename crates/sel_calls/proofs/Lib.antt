@@ -4,7 +4,6 @@ pub mod ChosenPicks
 pub mod Entries
 pub mod Limits
 pub mod Made
-pub mod Order
 pub mod PickWords
 pub mod SameNeeds
 pub mod Shown

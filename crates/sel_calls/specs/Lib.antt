@@ -2,7 +2,6 @@ pub mod Below
 pub mod Chosen
 pub mod ChosenPicks
 pub mod Entries
-pub mod Order
 pub mod Parsed
 pub mod PickLengths
 pub mod Printed

@@ -1,10 +1,10 @@
 //! The children of lists and the fields of tuples, which share buffers with their column.
 
-ghost use Rattle.std.specs.Prelude.{◌≡◌, ◌≢◌, ◌<◌, ◌≤◌, length, IfSome, IfNone, IsTrue, true, false, []};
+ghost use Rattle.std.specs.Prelude.{◌≡◌, ◌∷◌, ◌≢◌, ◌<◌, ◌≤◌, length, IfSome, IfNone, IsTrue, true, false, []};
 ghost use Rattle.sel_arrow.specs.Rows.{rows, type_of, IsWellFormed};
 ghost use Rattle.sel_arrow.specs.Shape.{is_block_shape, is_struct_shape};
 ghost use Rattle.sel_calls.specs.Types.{width_of};
-ghost use Rattle.sel_handle.specs.Status.{done, no_column, other_kind, out_of_bounds, Demands, Makes};
+ghost use Rattle.sel_handle.specs.Status.{done, no_memory, no_column, other_kind, out_of_bounds, Demands, IsOneOf, Makes};
 ghost use Rattle.sel_runs.specs.Children.{child, field, fields_of, is_listing};
 
 use sel_arrow::array_ref::ArrayRef;
@@ -19,6 +19,7 @@ pub fn child_into(alloc: Global, column: &ArrayRef, out: &mut Handle) -> u32
         (λ made. rows made.column ≡ rows (child column.now.column)) }
     ensures dtype { Makes result out.old.tree out.new.tree
         (λ made. type_of made.column ≡ type_of (child column.now.column)) }
+    ensures status { IsOneOf result (done ∷ no_memory ∷ other_kind ∷ []) }
     ensures column { result ≢ no_column }
     ensures kind { Demands result other_kind (IsTrue (is_listing (type_of column.now.column))) }
 {
@@ -49,6 +50,7 @@ fn child_of(column: &ArrayRef) -> Option<&Column>
 /// How many entries each list has. OTHER_KIND: the column is none of lists of one length.
 pub fn width_into(column: &Column, width: &mut usize) -> u32
     ensures width { result ≡ done → width.new ≡ width_of (type_of column.now) }
+    ensures status { IsOneOf result (done ∷ other_kind ∷ []) }
     ensures column { result ≢ no_column }
     ensures kind { Demands result other_kind (IsTrue (is_block_shape (type_of column.now))) }
 {
@@ -64,6 +66,7 @@ pub fn width_into(column: &Column, width: &mut usize) -> u32
 /// How many fields the tuples have. OTHER_KIND: the column is none of tuples.
 pub fn field_count_into(column: &ArrayRef, count: &mut usize) -> u32
     ensures count { result ≡ done → count.new ≡ length (fields_of column.now.column) }
+    ensures status { IsOneOf result (done ∷ other_kind ∷ []) }
     ensures column { result ≢ no_column }
     ensures kind { Demands result other_kind
         (IsTrue (is_struct_shape (type_of column.now.column))) }
@@ -97,6 +100,7 @@ pub fn field_into(alloc: Global, column: &ArrayRef, i: usize, out: &mut Handle) 
         (λ made. rows made.column ≡ rows (field i column.now.column)) }
     ensures dtype { Makes result out.old.tree out.new.tree
         (λ made. type_of made.column ≡ type_of (field i column.now.column)) }
+    ensures status { IsOneOf result (done ∷ no_memory ∷ out_of_bounds ∷ []) }
     ensures column { result ≢ no_column }
     ensures bounds { Demands result out_of_bounds (i < length (fields_of column.now.column)) }
 {

@@ -6,8 +6,7 @@ ghost use Rattle.sel_arrow.specs.Rows.{rows, type_of};
 ghost use Rattle.sel_arrow.specs.Shape.{of_boolean};
 ghost use Rattle.sel_calls.specs.Chosen.{chosen_rows};
 ghost use Rattle.sel_calls.specs.ChosenPicks.{SideFits};
-ghost use Rattle.sel_calls.specs.Order.{limit_statuses, DemandsBefore};
-ghost use Rattle.sel_handle.specs.Status.{done, no_memory, no_column, other_kind, other_type, other_length, held_columns, held_rows, held_type, HasColumn, IsOneOf, Makes, TellsLimits};
+ghost use Rattle.sel_handle.specs.Status.{done, no_memory, no_column, other_kind, other_type, other_length, limit_statuses, held_columns, held_rows, held_type, DemandsBefore, DemandsFirst, HasColumn, IsOneOf, Makes, TellsLimits};
 ghost use Rattle.sel_runs.specs.Need.{past_taken};
 ghost use Rattle.polars_compute.specs.Select.{in_force};
 
@@ -40,8 +39,7 @@ pub fn choose_handles(
         (λ made. type_of made.column ≡ held_type if_true.old.tree) }
     ensures status { IsOneOf result (done ∷ no_memory ∷ no_column ∷ other_kind ∷
         other_type ∷ other_length ∷ limit_statuses) }
-    ensures column { DemandsBefore result no_column
-        (other_kind ∷ other_type ∷ other_length ∷ limit_statuses) (HasColumn mask.old.tree ×
+    ensures column { DemandsFirst result no_column (HasColumn mask.old.tree ×
         HasColumn if_true.old.tree × HasColumn if_false.old.tree) }
     ensures kind { DemandsBefore result other_kind
         (other_type ∷ other_length ∷ limit_statuses) (held_type mask.old.tree ≡ of_boolean) }

@@ -4,8 +4,7 @@ ghost use Rattle.std.specs.Prelude.{◌≡◌, ◌≢◌, ◌≤◌, [], ◌∷�
 ghost use Rattle.sel_arrow.specs.Columns.{primitive_rows, utf8view_rows};
 ghost use Rattle.sel_arrow.specs.Rows.{rows, type_of};
 ghost use Rattle.sel_arrow.specs.Shape.{of_uint32, of_utf8_view};
-ghost use Rattle.sel_calls.specs.Order.{DemandsBefore};
-ghost use Rattle.sel_handle.specs.Status.{done, no_memory, no_column, other_kind, out_of_bounds, Demands, IsOneOf, Makes};
+ghost use Rattle.sel_handle.specs.Status.{done, no_memory, no_column, other_kind, out_of_bounds, Demands, DemandsBefore, IsOneOf, Makes};
 ghost use Rattle.polars_compute.specs.Dictionary.{propagated_keys, valid_values};
 ghost use Rattle.polars_compute.specs.Pick.{all_within};
 

@@ -5,9 +5,8 @@ ghost use Rattle.sel_arrow.specs.NestedArrays.{block_column};
 ghost use Rattle.sel_arrow.specs.Rows.{rows, type_of};
 ghost use Rattle.sel_arrow.specs.Shape.{is_block_shape};
 ghost use Rattle.sel_calls.specs.Entries.{entries_at, refuses_index, past_entries_at};
-ghost use Rattle.sel_calls.specs.Order.{limit_statuses, DemandsBefore};
 ghost use Rattle.sel_calls.specs.Types.{entry_type};
-ghost use Rattle.sel_handle.specs.Status.{done, no_memory, no_column, other_kind, get_out_of_bounds, Demands, IsOneOf, Makes, TellsLimits};
+ghost use Rattle.sel_handle.specs.Status.{done, no_memory, no_column, other_kind, get_out_of_bounds, limit_statuses, Demands, DemandsBefore, IsOneOf, Makes, TellsLimits};
 
 use sel_arrow::array::Array;
 use sel_arrow::array_ref::ArrayRef;

@@ -4,9 +4,8 @@ ghost use Rattle.std.specs.Prelude.{◌≡◌, ◌∷◌, [], ◌≢◌, IsTrue}
 ghost use Rattle.sel_arrow.specs.NestedArrays.{list_column};
 ghost use Rattle.sel_arrow.specs.Rows.{rows, type_of};
 ghost use Rattle.sel_arrow.specs.Shape.{is_list_shape};
-ghost use Rattle.sel_calls.specs.Order.{limit_statuses, DemandsBefore};
 ghost use Rattle.sel_calls.specs.Types.{entry_type};
-ghost use Rattle.sel_handle.specs.Status.{done, no_memory, no_column, other_kind, Demands, IsOneOf, Makes, TellsLimits};
+ghost use Rattle.sel_handle.specs.Status.{done, no_memory, no_column, other_kind, limit_statuses, Demands, DemandsBefore, IsOneOf, Makes, TellsLimits};
 ghost use Rattle.sel_runs.specs.Need.{past};
 ghost use Rattle.sel_sublists.specs.Lists.{list_get, oob};
 

@@ -6,9 +6,8 @@ ghost use Rattle.sel_arrow.specs.Columns.{primitive_rows};
 ghost use Rattle.sel_arrow.specs.Masked.{number_rows};
 ghost use Rattle.sel_arrow.specs.Rows.{rows, type_of};
 ghost use Rattle.sel_arrow.specs.Shape.{of_uint32};
-ghost use Rattle.sel_calls.specs.Order.{limit_statuses, DemandsBefore};
 ghost use Rattle.sel_handle.specs.Inputs.{lacks_bits, validity_in};
-ghost use Rattle.sel_handle.specs.Status.{done, no_memory, no_column, other_kind, out_of_bounds, rule_status, IsOneOf, Makes, TellsLimits};
+ghost use Rattle.sel_handle.specs.Status.{done, no_memory, no_column, other_kind, out_of_bounds, rule_status, limit_statuses, DemandsBefore, IsOneOf, Makes, TellsLimits};
 ghost use Rattle.sel_runs.specs.Need.{past};
 ghost use Rattle.polars_compute.specs.Pick.{all_within, take_rows};
 

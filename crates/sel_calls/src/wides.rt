@@ -6,7 +6,7 @@ ghost use Rattle.sel_arrow.specs.Rows.{rows, type_of};
 ghost use Rattle.sel_calls.specs.Wides.{joined, signed_wide, unsigned_wide};
 ghost use Rattle.sel_handle.specs.Inputs.{validity_in, flat_rules, IsRuleOrMemory};
 ghost use Rattle.sel_handle.specs.Outputs.{Shows, numbers};
-ghost use Rattle.sel_handle.specs.Status.{done, no_memory, no_column, other_kind, other_length, Demands, IsOneOf};
+ghost use Rattle.sel_handle.specs.Status.{done, no_memory, no_column, other_kind, other_length, Demands, DemandsBefore, IsOneOf};
 
 use sel_arrow::array::Array;
 use sel_arrow::array_ref::ArrayRef;
@@ -128,7 +128,8 @@ pub fn wides_of<T: InWords>(
 #[tactic(auto, using(crate::proofs::Shown::words))]
 pub fn wides_into<T: InWords>(alloc: Global, column: &ArrayRef, out: &mut [Wide]) -> u32
     ensures values { result ≡ done → Shows (numbers T.shown_by out.new) (rows column.now.column) }
-    ensures kind { Demands result other_kind (type_of column.now.column ≡ T.shape) }
+    ensures kind { DemandsBefore result other_kind (other_length ∷ [])
+        (type_of column.now.column ≡ T.shape) }
     ensures length { Demands result other_length
         (length out.old ≡ length (rows column.now.column)) }
     ensures status { IsOneOf result

@@ -72,6 +72,10 @@ limit_status limit.Bytes = 9
 limit_status limit.Buffers = 10
 limit_status limit.ViewBytes = 11
 
+-- those of all limits (own)
+abbrev pub limit_statuses : List ℕ
+limit_statuses = limit_status limit.Rows ∷ limit_status limit.Bytes ∷ limit_status limit.Buffers ∷ limit_status limit.ViewBytes ∷ []
+
 -- which number tells a kernel's error (own)
 abbrev pub error_status : PolarsError → ℕ
 error_status error.OutOfMemory = no_memory
@@ -121,9 +125,17 @@ held_type (Some column) = type_of column.column
 abbrev pub Demands : ℕ → ℕ → Type 0 → Type 0
 Demands status code Right = (status ≡ done → Right) × (status ≡ code → Right → ⊥)
 
+-- a condition that is asked first: any other number but that of want of memory is told only where it holds, and its own only where it does not (own)
+abbrev pub DemandsFirst : ℕ → ℕ → Type 0 → Type 0
+DemandsFirst status code Right = (status ≢ no_memory → status ≢ code → Right) × (status ≡ code → Right → ⊥)
+
 -- the number is one of these (own)
 abbrev pub IsOneOf : ℕ → List ℕ → Type 0
 IsOneOf status codes = list_any (λ code. code == status) codes ≡ true
+
+-- a condition that is asked before others: a call is done, or tells one of these other numbers, only where it holds, and its own only where it does not (own)
+abbrev pub DemandsBefore : ℕ → ℕ → List ℕ → Type 0 → Type 0
+DemandsBefore status code others Right = (IsOneOf status (done ∷ others) → Right) × (status ≡ code → Right → ⊥)
 
 -- a handle has a column (own)
 abbrev pub HasColumn : Held → Type 0

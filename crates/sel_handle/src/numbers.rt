@@ -5,7 +5,7 @@ ghost use Rattle.sel_arrow.specs.Masked.{number_rows};
 ghost use Rattle.sel_arrow.specs.Rows.{rows, type_of};
 ghost use Rattle.sel_handle.specs.Inputs.{validity_in, flat_rules};
 ghost use Rattle.sel_handle.specs.Outputs.{Shows, numbers};
-ghost use Rattle.sel_handle.specs.Status.{done, no_memory, no_column, other_kind, other_length, held_rows, held_type, Demands, HasColumn, IsOneOf, Makes, Tells};
+ghost use Rattle.sel_handle.specs.Status.{done, no_memory, no_column, other_kind, other_length, held_rows, held_type, Demands, DemandsBefore, DemandsFirst, HasColumn, IsOneOf, Makes, Tells};
 
 use crate::handle::Handle;
 use crate::inputs::numbers_of;
@@ -38,8 +38,9 @@ pub fn make_numbers<T: ArrowPrimitive>(
 /// `OTHER_KIND`: it is of another kind; `OTHER_LENGTH`: `out` is of another length.
 pub fn held_numbers_into<T: ArrowPrimitive>(alloc: Global, of: &mut Handle, out: &mut [T]) -> u32
     ensures values { result ≡ done → Shows (numbers T.number out.new) (held_rows of.old.tree) }
-    ensures column { Demands result no_column (HasColumn of.old.tree) }
-    ensures kind { Demands result other_kind (held_type of.old.tree ≡ T.shape) }
+    ensures column { DemandsFirst result no_column (HasColumn of.old.tree) }
+    ensures kind { DemandsBefore result other_kind (other_length ∷ [])
+        (held_type of.old.tree ≡ T.shape) }
     ensures length { Demands result other_length (length out.old ≡ length (held_rows of.old.tree)) }
     ensures status { IsOneOf result
         (done ∷ no_memory ∷ no_column ∷ other_kind ∷ other_length ∷ []) }

@@ -7,7 +7,7 @@ ghost use Rattle.sel_arrow.specs.Rows.{rows, type_of};
 ghost use Rattle.sel_arrow.specs.Shape.{of_boolean};
 ghost use Rattle.sel_handle.specs.Inputs.{validity_in};
 ghost use Rattle.sel_handle.specs.Outputs.{Shows, numbers, truths};
-ghost use Rattle.sel_handle.specs.Status.{done, no_memory, no_column, other_kind, other_length, IsOneOf, Demands};
+ghost use Rattle.sel_handle.specs.Status.{done, no_memory, no_column, other_kind, other_length, Demands, DemandsBefore, IsOneOf};
 
 use crate::status::{DONE, NO_MEMORY, OTHER_KIND, OTHER_LENGTH};
 use sel_arrow::array::Array;
@@ -22,7 +22,8 @@ use std::alloc::Global;
 #[tactic(auto, using(crate::proofs::Shown::shows))]
 pub fn numbers_into<T: ArrowPrimitive>(alloc: Global, column: &ArrayRef, out: &mut [T]) -> u32
     ensures values { result ≡ done → Shows (numbers T.number out.new) (rows column.now.column) }
-    ensures kind { Demands result other_kind (type_of column.now.column ≡ T.shape) }
+    ensures kind { DemandsBefore result other_kind (other_length ∷ [])
+        (type_of column.now.column ≡ T.shape) }
     ensures length { Demands result other_length
         (length out.old ≡ length (rows column.now.column)) }
     ensures status { IsOneOf result
@@ -106,7 +107,8 @@ pub fn validity_into(alloc: Global, column: &ArrayRef, out: &mut [u8], has: &mut
 pub fn booleans_into(alloc: Global, column: &ArrayRef, out: &mut [u8]) -> u32
     ensures values { result ≡ done → Shows
         (truths (bits_from out.new 0 (length (rows column.now.column)))) (rows column.now.column) }
-    ensures kind { Demands result other_kind (type_of column.now.column ≡ of_boolean) }
+    ensures kind { DemandsBefore result other_kind (other_length ∷ [])
+        (type_of column.now.column ≡ of_boolean) }
     ensures length { Demands result other_length
         (length out.old ≡ (length (rows column.now.column) + 7) / 8) }
     ensures status { IsOneOf result

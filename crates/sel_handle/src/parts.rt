@@ -4,7 +4,7 @@ ghost use Rattle.std.specs.Prelude.{◌≡◌, ◌≢◌, length, Some, None, []
 ghost use Rattle.std.specs.Option.{option_copied, option_map};
 ghost use Rattle.sel_handle.specs.Layout.{offsets_in, bytes_in};
 ghost use Rattle.sel_handle.specs.Inputs.{positions};
-ghost use Rattle.sel_handle.specs.Status.{done, other_kind, other_length, Demands, IsOneOf};
+ghost use Rattle.sel_handle.specs.Status.{done, other_kind, other_length, Demands, DemandsBefore, IsOneOf};
 
 use crate::status::{DONE, OTHER_KIND, OTHER_LENGTH};
 use sel_arrow::column::Column;
@@ -35,7 +35,7 @@ fn bytes_of_column(column: &Column) -> Option<&[u8]>
 #[tactic(auto, using(crate::proofs::Positions::shown))]
 pub fn offsets_into(column: &Column, out: &mut [i64]) -> u32
     ensures offsets { result ≡ done → Some (positions out.new) ≡ offsets_in column.now }
-    ensures kind { Demands result other_kind (offsets_in column.now ≢ None) }
+    ensures kind { DemandsBefore result other_kind (other_length ∷ []) (offsets_in column.now ≢ None) }
     ensures length { result ≡ other_length →
         Some (length out.old) ≢ option_map length (offsets_in column.now) }
     ensures status { IsOneOf result (done ∷ other_kind ∷ other_length ∷ []) }
@@ -54,7 +54,7 @@ pub fn offsets_into(column: &Column, out: &mut [i64]) -> u32
 /// Writes the bytes, those outside of the rows too, into a slice of as many.
 pub fn bytes_into(column: &Column, out: &mut [u8]) -> u32
     ensures bytes { result ≡ done → Some out.new ≡ bytes_in column.now }
-    ensures kind { Demands result other_kind (bytes_in column.now ≢ None) }
+    ensures kind { DemandsBefore result other_kind (other_length ∷ []) (bytes_in column.now ≢ None) }
     ensures length { result ≡ other_length →
         Some (length out.old) ≢ option_map length (bytes_in column.now) }
     ensures status { IsOneOf result (done ∷ other_kind ∷ other_length ∷ []) }

@@ -4,7 +4,7 @@ ghost use Rattle.std.specs.Prelude.{◌≡◌, ◌≢◌, ◌<◌, None, Some, [
 ghost use Rattle.std.specs.Option.{option_copied, option_map};
 ghost use Rattle.sel_handle.specs.Inputs.{views_in};
 ghost use Rattle.sel_handle.specs.Layout.{views_of};
-ghost use Rattle.sel_handle.specs.Status.{done, other_kind, other_length, out_of_bounds, Demands, IsOneOf};
+ghost use Rattle.sel_handle.specs.Status.{done, other_kind, other_length, out_of_bounds, Demands, DemandsBefore, IsOneOf};
 
 use crate::status::{DONE, OTHER_KIND, OTHER_LENGTH, OUT_OF_BOUNDS};
 use crate::views::ViewWords;
@@ -27,7 +27,7 @@ fn views_lent(column: &Column) -> Option<&BinaryViewArray>
 pub fn views_into(column: &Column, out: &mut [ViewWords]) -> u32
     ensures views { result ≡ done →
         Some (views_in out.new) ≡ option_map (λ array. array.views) (views_of column.now) }
-    ensures kind { Demands result other_kind (views_of column.now ≢ None) }
+    ensures kind { DemandsBefore result other_kind (other_length ∷ []) (views_of column.now ≢ None) }
     ensures length { result ≡ other_length →
         Some (length out.old) ≢ option_map (λ array. length array.views) (views_of column.now) }
     ensures status { IsOneOf result (done ∷ other_kind ∷ other_length ∷ []) }
@@ -78,7 +78,7 @@ pub fn buffer_count_into(column: &Column, count: &mut usize) -> u32
 pub fn buffer_len_into(column: &Column, i: usize, len: &mut usize) -> u32
     ensures len { result ≡ done → option_map (λ array. option_map length
         (slice_get array.buffers i)) (views_of column.now) ≡ Some (Some len.new) }
-    ensures kind { Demands result other_kind (views_of column.now ≢ None) }
+    ensures kind { DemandsBefore result other_kind (out_of_bounds ∷ []) (views_of column.now ≢ None) }
     ensures bounds { result ≡ out_of_bounds →
         option_map (λ array. slice_get array.buffers i) (views_of column.now) ≡ Some None }
     ensures status { IsOneOf result (done ∷ other_kind ∷ out_of_bounds ∷ []) }
@@ -98,11 +98,14 @@ pub fn buffer_len_into(column: &Column, i: usize, len: &mut usize) -> u32
 pub fn buffer_into(column: &Column, i: usize, out: &mut [u8]) -> u32
     ensures bytes { result ≡ done → option_map (λ array. slice_get array.buffers i)
         (views_of column.now) ≡ Some (Some out.new) }
-    ensures kind { Demands result other_kind (views_of column.now ≢ None) }
+    ensures kind { DemandsBefore result other_kind (out_of_bounds ∷ other_length ∷ [])
+        (views_of column.now ≢ None) }
     ensures bounds { result ≡ out_of_bounds →
         option_map (λ array. slice_get array.buffers i) (views_of column.now) ≡ Some None }
     ensures length { result ≡ other_length → option_map (λ array. option_map length
         (slice_get array.buffers i)) (views_of column.now) ≢ Some (Some (length out.old)) }
+    ensures inside { result ≡ other_length →
+        option_map (λ array. slice_get array.buffers i) (views_of column.now) ≢ Some None }
     ensures status { IsOneOf result
         (done ∷ other_kind ∷ other_length ∷ out_of_bounds ∷ []) }
 {

@@ -2,8 +2,7 @@ use Rattle.std.proofs.Common.{List, ◌∷◌, ap, map, subst, ◌∙◌}
 use Rattle.sel_arrow.specs.Rows.{rows, type_of, buffers_held}
 use Rattle.sel_arrow.specs.Shape.{Shape}
 use Rattle.sel_arrow.specs.declared.array_ref.ArrayRef.{ArrayRef}
-use Rattle.sel_handle.specs.Status.{other_type, other_length}
-use Rattle.sel_calls.specs.Order.{limit_statuses, DemandsBefore}
+use Rattle.sel_handle.specs.Status.{limit_statuses, other_type, other_length, DemandsBefore}
 use Rattle.sel_calls.specs.Several.{AreAlike}
 use Rattle.sel_calls.proofs.SameNeeds.{flat_limits}
 use Rattle.sel_c.proofs.several.sel_flatten.Goals as goal

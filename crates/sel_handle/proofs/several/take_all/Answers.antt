@@ -1,4 +1,4 @@
-use Rattle.std.proofs.Common.{rules, arith, None, Some, ◌≡◌, ◌≤◌, get_or, All, length, subst}
+use Rattle.std.proofs.Common.{rules, arith, None, Some, ◌≡◌, get_or, All, subst}
 use Rattle.std.proofs.lemmas.Grind.{common_steps}
 use Rattle.sel_handle.proofs.Taken.{taken_more, left_more, emptied_more, rows_taken, types_taken, counts_taken, all_held, one_lacks}
 use Rattle.sel_handle.specs.declared.handle.Handle.{Handle}
