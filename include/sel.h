@@ -15,7 +15,7 @@
  * - Handles that are read have the same column afterwards. Those that are taken (the children of a maker) are {0}.
  * - SEL_NO_MEMORY may come from each call that answers a status; a call may be tried again then.
  * - Of several numbers that are due, a call tells the one that its comment names first; but sel_parse tells a type past a
- *   limit before it looks at `text`, and of an index without a place and a passed limit a getter may tell either.
+ *   limit before it looks at `text`.
  * - Bits are packed, the lowest bit of a byte first: bit i is bit i % 8 of byte i / 8.
  * - A validity is passed as `bits`, of at least (rows + 7) / 8 bytes, and `has_bits`; where that is false, `bits` is not
  *   looked at and each row is valid. A row whose bit is 0 is null.

@@ -5,7 +5,7 @@ ghost use Rattle.sel_arrow.specs.Rows.{rows, type_of};
 ghost use Rattle.sel_arrow.specs.Shape.{is_block_shape};
 ghost use Rattle.sel_calls.specs.Entries.{entries_at, refuses_index, past_entries_at};
 ghost use Rattle.sel_calls.specs.Types.{entry_type};
-ghost use Rattle.sel_handle.specs.Status.{done, no_memory, no_column, other_kind, get_out_of_bounds, limit_statuses, held_rows, held_type, Demands, DemandsBefore, DemandsFirst, HasColumn, IsOneOf, Makes, TellsLimits};
+ghost use Rattle.sel_handle.specs.Status.{done, no_memory, no_column, other_kind, get_out_of_bounds, limit_statuses, held_rows, held_type, DemandsBefore, DemandsFirst, HasColumn, IsOneOf, Makes, TellsLimits};
 
 use sel_calls::fixed::fixed_get_into;
 use sel_handle::handle::Handle;
@@ -33,7 +33,7 @@ pub extern "C" fn sel_fixed_get(
     ensures column { DemandsFirst result no_column (HasColumn of.old.tree) }
     ensures kind { DemandsBefore result other_kind (get_out_of_bounds ∷ limit_statuses)
         (IsTrue (is_block_shape (held_type of.old.tree))) }
-    ensures bounds { Demands result get_out_of_bounds
+    ensures bounds { DemandsBefore result get_out_of_bounds limit_statuses
         (refuses_index null_on_oob (held_rows of.old.tree) (held_type of.old.tree) index ≡ false) }
     ensures limits { TellsLimits result
         (past_entries_at (held_rows of.old.tree) (held_type of.old.tree) index) }

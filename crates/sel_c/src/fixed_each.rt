@@ -5,7 +5,7 @@ ghost use Rattle.sel_arrow.specs.Rows.{rows, type_of};
 ghost use Rattle.sel_arrow.specs.Shape.{of_int64, is_block_shape};
 ghost use Rattle.sel_calls.specs.Entries.{entries_at_each, refuses_some, past_entries_at_each};
 ghost use Rattle.sel_calls.specs.Types.{entry_type};
-ghost use Rattle.sel_handle.specs.Status.{done, no_memory, no_column, other_kind, other_length, get_out_of_bounds, limit_statuses, held_rows, held_type, Demands, DemandsBefore, DemandsFirst, HasColumn, IsOneOf, Makes, TellsLimits};
+ghost use Rattle.sel_handle.specs.Status.{done, no_memory, no_column, other_kind, other_length, get_out_of_bounds, limit_statuses, held_rows, held_type, DemandsBefore, DemandsFirst, HasColumn, IsOneOf, Makes, TellsLimits};
 
 use sel_calls::fixed_each::fixed_get_each_into;
 use sel_handle::handle::Handle;
@@ -40,7 +40,7 @@ pub extern "C" fn sel_fixed_get_each(
         (held_type indices.old.tree ≡ of_int64)) }
     ensures length { DemandsBefore result other_length (get_out_of_bounds ∷ limit_statuses)
         (length (held_rows indices.old.tree) ≡ length (held_rows of.old.tree)) }
-    ensures bounds { Demands result get_out_of_bounds
+    ensures bounds { DemandsBefore result get_out_of_bounds limit_statuses
         (refuses_some null_on_oob (held_rows of.old.tree) (held_type of.old.tree)
         (held_rows indices.old.tree) ≡ false) }
     ensures limits { TellsLimits result

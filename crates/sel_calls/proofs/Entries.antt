@@ -1,5 +1,5 @@
 -- What a getter of lists of one length answers, by the rows and the type of the lists.
-use Rattle.std.proofs.Common.{◌≡◌, ℕ, ℤ, Bool, false, length, List, replicate, w64, FitsSigned, to_z, of_z, ap, sym, ◌∙◌, arith}
+use Rattle.std.proofs.Common.{◌≡◌, ℕ, ℤ, Bool, false, true≢false, length, List, ◌∷◌, replicate, w64, FitsSigned, to_z, of_z, ap, sym, subst, ◌∙◌, arith}
 use Rattle.std.proofs.lemmas.Int.{to_z-of_z}
 use Rattle.sel_bits.specs.declared.faults.PolarsError.{PolarsError}
 use Rattle.sel_bits.specs.declared.faults.PolarsError.TheVariants.{OutOfMemory, SizeLimit, ComputeError}
@@ -8,7 +8,7 @@ use Rattle.sel_arrow.specs.Rows.{rows}
 use Rattle.sel_arrow.specs.Value.{Value, Number}
 use Rattle.sel_arrow.specs.declared.fixed_size_list.FixedSizeListArray.{FixedSizeListArray}
 use Rattle.sel_arrow.proofs.NestedRows.{length-rows}
-use Rattle.sel_handle.specs.Status.{error_status, get_out_of_bounds, TellsLimits}
+use Rattle.sel_handle.specs.Status.{done, error_status, get_out_of_bounds, limit_statuses, IsOneOf, TellsLimits}
 use Rattle.sel_sublists.specs.Entries.{at_each, out_of_bounds, past_entries, IsGetRefusal}
 use Rattle.sel_calls.proofs.Limits.{limit_high, tells-none, tells-passed}
 
@@ -20,6 +20,12 @@ pub get-limits : (status : ℕ) (null_on_oob : Bool) (arr : FixedSizeListArray) 
 get-limits status null_on_oob arr indices OutOfMemory number refusal = tells-passed status (past_entries arr indices) OutOfMemory number refusal.1
 get-limits status null_on_oob arr indices (SizeLimit limit) number refusal = tells-passed status (past_entries arr indices) (SizeLimit limit) number refusal.1
 get-limits status null_on_oob arr indices ComputeError number refusal = tells-none status (past_entries arr indices) (omega (arith, number))
+
+-- a number that tells no index without a place is told where each has one
+pub get-inside : (status : ℕ) (null_on_oob : Bool) (arr : FixedSizeListArray) (indices : List Value) (fault : PolarsError) → status ≡ error_status fault → IsGetRefusal null_on_oob arr indices fault → IsOneOf status (done ∷ limit_statuses) → out_of_bounds null_on_oob arr indices ≡ false
+get-inside status null_on_oob arr indices OutOfMemory number refusal one = refusal.0
+get-inside status null_on_oob arr indices (SizeLimit limit) number refusal one = refusal.0
+get-inside status null_on_oob arr indices ComputeError number refusal one = absurd (true≢false (sym (subst (λ s. IsOneOf s (done ∷ limit_statuses)) number one)))
 
 pub get-bounds : (status : ℕ) (null_on_oob : Bool) (arr : FixedSizeListArray) (indices : List Value) (fault : PolarsError) → status ≡ error_status fault → IsGetRefusal null_on_oob arr indices fault → status ≡ get_out_of_bounds → out_of_bounds null_on_oob arr indices ≡ false → ⊥
 get-bounds status null_on_oob arr indices OutOfMemory number refusal same inside = absurd (omega (arith, number, same))

@@ -6,7 +6,7 @@ ghost use Rattle.sel_arrow.specs.Rows.{rows, type_of};
 ghost use Rattle.sel_arrow.specs.Shape.{is_block_shape};
 ghost use Rattle.sel_calls.specs.Entries.{entries_at, refuses_index, past_entries_at};
 ghost use Rattle.sel_calls.specs.Types.{entry_type};
-ghost use Rattle.sel_handle.specs.Status.{done, no_memory, no_column, other_kind, get_out_of_bounds, limit_statuses, Demands, DemandsBefore, IsOneOf, Makes, TellsLimits};
+ghost use Rattle.sel_handle.specs.Status.{done, no_memory, no_column, other_kind, get_out_of_bounds, limit_statuses, DemandsBefore, IsOneOf, Makes, TellsLimits};
 
 use sel_arrow::array::Array;
 use sel_arrow::array_ref::ArrayRef;
@@ -33,7 +33,7 @@ pub fn fixed_get_into(
         (done ∷ no_memory ∷ other_kind ∷ get_out_of_bounds ∷ limit_statuses) }
     ensures kind { DemandsBefore result other_kind (get_out_of_bounds ∷ limit_statuses)
         (IsTrue (is_block_shape (type_of column.now.column))) }
-    ensures bounds { Demands result get_out_of_bounds
+    ensures bounds { DemandsBefore result get_out_of_bounds limit_statuses
         (refuses_index null_on_oob (rows column.now.column) (type_of column.now.column) index
         ≡ false) }
     ensures limits { TellsLimits result
@@ -67,8 +67,8 @@ fn entry_into(
         (λ made. type_of made.column ≡ entry_type (type_of (block_column lists.now))) }
     ensures own { (result ≢ no_column) × (result ≢ other_kind) }
     ensures status { IsOneOf result (done ∷ no_memory ∷ get_out_of_bounds ∷ limit_statuses) }
-    ensures bounds { Demands result get_out_of_bounds (refuses_index null_on_oob
-        (rows (block_column lists.now)) (type_of (block_column lists.now)) index ≡ false) }
+    ensures bounds { DemandsBefore result get_out_of_bounds limit_statuses
+        (refuses_index null_on_oob (rows (block_column lists.now)) (type_of (block_column lists.now)) index ≡ false) }
     ensures limits { TellsLimits result (past_entries_at
         (rows (block_column lists.now)) (type_of (block_column lists.now)) index) }
 {

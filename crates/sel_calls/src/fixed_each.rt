@@ -7,7 +7,7 @@ ghost use Rattle.sel_arrow.specs.Rows.{rows, type_of};
 ghost use Rattle.sel_arrow.specs.Shape.{of_int64, is_block_shape};
 ghost use Rattle.sel_calls.specs.Entries.{entries_at_each, refuses_some, past_entries_at_each};
 ghost use Rattle.sel_calls.specs.Types.{entry_type};
-ghost use Rattle.sel_handle.specs.Status.{done, no_memory, no_column, other_kind, other_length, get_out_of_bounds, limit_statuses, Demands, DemandsBefore, IsOneOf, Makes, TellsLimits};
+ghost use Rattle.sel_handle.specs.Status.{done, no_memory, no_column, other_kind, other_length, get_out_of_bounds, limit_statuses, DemandsBefore, IsOneOf, Makes, TellsLimits};
 
 use sel_arrow::array::Array;
 use sel_arrow::array_ref::ArrayRef;
@@ -40,7 +40,7 @@ pub fn fixed_get_each_into(
         (type_of indices.now.column ≡ of_int64)) }
     ensures length { DemandsBefore result other_length (get_out_of_bounds ∷ limit_statuses)
         (length (rows indices.now.column) ≡ length (rows column.now.column)) }
-    ensures bounds { Demands result get_out_of_bounds
+    ensures bounds { DemandsBefore result get_out_of_bounds limit_statuses
         (refuses_some null_on_oob (rows column.now.column) (type_of column.now.column)
         (rows indices.now.column) ≡ false) }
     ensures limits { TellsLimits result
@@ -80,7 +80,7 @@ fn entries_of_column_into(
         (IsTrue (is_block_shape (type_of column.now.column))) }
     ensures length { DemandsBefore result other_length (get_out_of_bounds ∷ limit_statuses)
         (length (primitive_rows indices.now) ≡ length (rows column.now.column)) }
-    ensures bounds { Demands result get_out_of_bounds
+    ensures bounds { DemandsBefore result get_out_of_bounds limit_statuses
         (refuses_some null_on_oob (rows column.now.column) (type_of column.now.column)
         (primitive_rows indices.now) ≡ false) }
     ensures limits { TellsLimits result
@@ -119,8 +119,8 @@ fn entries_into(
         (done ∷ no_memory ∷ other_length ∷ get_out_of_bounds ∷ limit_statuses) }
     ensures length { DemandsBefore result other_length (get_out_of_bounds ∷ limit_statuses)
         (length (primitive_rows indices.now) ≡ length (rows (block_column lists.now))) }
-    ensures bounds { Demands result get_out_of_bounds (refuses_some null_on_oob
-        (rows (block_column lists.now)) (type_of (block_column lists.now))
+    ensures bounds { DemandsBefore result get_out_of_bounds limit_statuses
+        (refuses_some null_on_oob (rows (block_column lists.now)) (type_of (block_column lists.now))
         (primitive_rows indices.now) ≡ false) }
     ensures limits { TellsLimits result (past_entries_at_each
         (rows (block_column lists.now)) (type_of (block_column lists.now))

@@ -5,7 +5,7 @@ use Rattle.sel_arrow.specs.Value.{Value}
 use Rattle.sel_calls.specs.Entries.{entries_at}
 use Rattle.sel_handle.specs.Status.{TellsLimits}
 use Rattle.sel_sublists.specs.Entries.{fixed_get, at_each, out_of_bounds, past_entries}
-use Rattle.sel_calls.proofs.Entries.{same-indices, get-limits, get-bounds}
+use Rattle.sel_calls.proofs.Entries.{same-indices, get-limits, get-inside, get-bounds}
 use Rattle.sel_calls.proofs.Made.{makes-put}
 use Rattle.sel_calls.proofs.fixed.entry_into.Goals as goal
 
@@ -23,7 +23,8 @@ returns-in-Ok-clause-bounds c = (
 
 pub returns-in-Err-clause-bounds : goal.returns-in-Err-clause-bounds
 returns-in-Err-clause-bounds c = (
-  λ is. absurd (c.status_of.ensures.own.0 is),
+  λ one. subst (λ (is : List Value). out_of_bounds c.args.null_on_oob c.args.lists.now is ≡ false) (same-indices c.args.lists.now c.args.index c.ranges.index)
+      (get-inside c.status_of.result c.args.null_on_oob c.args.lists.now (at_each c.args.lists.now (to_z w64 (of_z w64 c.args.index))) c.in-Err.fault c.status_of.ensures.number c.in-Err.ensures.refusal one),
   λ is inside. get-bounds c.status_of.result c.args.null_on_oob c.args.lists.now (at_each c.args.lists.now (to_z w64 (of_z w64 c.args.index))) c.in-Err.fault c.status_of.ensures.number c.in-Err.ensures.refusal is
       (subst (λ (is : List Value). out_of_bounds c.args.null_on_oob c.args.lists.now is ≡ false) (sym (same-indices c.args.lists.now c.args.index c.ranges.index)) inside),
 )
