@@ -372,8 +372,9 @@ uint32_t sel_binview_new(
     sel_column *out);
 
 /* Makes the column of the UTF-8 texts that views name, in themselves up to 12 bytes and else in a data buffer. The
- * first rule of these, in this order, that is broken: SEL_VALIDITY_LENGTH, SEL_TOO_MANY_ROWS, SEL_TOO_MANY_BUFFERS,
- * and then, view by view, beneath nulls too, SEL_VIEW_RANGE, SEL_VIEW_PREFIX, SEL_UTF8. */
+ * first rule of these, in this order, that is broken: SEL_VALIDITY_LENGTH, SEL_TOO_MANY_ROWS, SEL_TOO_MANY_BUFFERS;
+ * then, view by view, beneath nulls too, SEL_VIEW_RANGE, SEL_VIEW_PREFIX; and last SEL_UTF8, of rows that are not
+ * null. */
 uint32_t sel_utf8view_new(
     const sel_view *views,
     size_t views_len,

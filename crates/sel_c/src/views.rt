@@ -42,8 +42,8 @@ pub extern "C" fn sel_binview_new(
 }
 
 /// Makes the column of the UTF-8 texts that views name, in themselves up to 12 bytes and else in a data buffer. The first rule
-/// of these, in this order, that is broken: SEL_VALIDITY_LENGTH, SEL_TOO_MANY_ROWS, SEL_TOO_MANY_BUFFERS, and then, view
-/// by view, beneath nulls too, SEL_VIEW_RANGE, SEL_VIEW_PREFIX, SEL_UTF8.
+/// of these, in this order, that is broken: SEL_VALIDITY_LENGTH, SEL_TOO_MANY_ROWS, SEL_TOO_MANY_BUFFERS; then, view by view,
+/// beneath nulls too, SEL_VIEW_RANGE, SEL_VIEW_PREFIX; and last SEL_UTF8, of rows that are not null.
 #[unsafe(no_mangle)]
 pub extern "C" fn sel_utf8view_new(
     alloc: Global,

@@ -68,7 +68,8 @@ fn entry_into(
     ensures own { (result ≢ no_column) × (result ≢ other_kind) }
     ensures status { IsOneOf result (done ∷ no_memory ∷ get_out_of_bounds ∷ limit_statuses) }
     ensures bounds { DemandsBefore result get_out_of_bounds limit_statuses
-        (refuses_index null_on_oob (rows (block_column lists.now)) (type_of (block_column lists.now)) index ≡ false) }
+        (refuses_index null_on_oob (rows (block_column lists.now))
+        (type_of (block_column lists.now)) index ≡ false) }
     ensures limits { TellsLimits result (past_entries_at
         (rows (block_column lists.now)) (type_of (block_column lists.now)) index) }
 {

@@ -35,7 +35,8 @@ fn bytes_of_column(column: &Column) -> Option<&[u8]>
 #[tactic(auto, using(crate::proofs::Positions::shown))]
 pub fn offsets_into(column: &Column, out: &mut [i64]) -> u32
     ensures offsets { result ≡ done → Some (positions out.new) ≡ offsets_in column.now }
-    ensures kind { DemandsBefore result other_kind (other_length ∷ []) (offsets_in column.now ≢ None) }
+    ensures kind { DemandsBefore result other_kind (other_length ∷ [])
+        (offsets_in column.now ≢ None) }
     ensures length { result ≡ other_length →
         Some (length out.old) ≢ option_map length (offsets_in column.now) }
     ensures status { IsOneOf result (done ∷ other_kind ∷ other_length ∷ []) }
@@ -54,7 +55,8 @@ pub fn offsets_into(column: &Column, out: &mut [i64]) -> u32
 /// Writes the bytes, those outside of the rows too, into a slice of as many.
 pub fn bytes_into(column: &Column, out: &mut [u8]) -> u32
     ensures bytes { result ≡ done → Some out.new ≡ bytes_in column.now }
-    ensures kind { DemandsBefore result other_kind (other_length ∷ []) (bytes_in column.now ≢ None) }
+    ensures kind { DemandsBefore result other_kind (other_length ∷ [])
+        (bytes_in column.now ≢ None) }
     ensures length { result ≡ other_length →
         Some (length out.old) ≢ option_map length (bytes_in column.now) }
     ensures status { IsOneOf result (done ∷ other_kind ∷ other_length ∷ []) }

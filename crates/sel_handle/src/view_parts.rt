@@ -27,7 +27,8 @@ fn views_lent(column: &Column) -> Option<&BinaryViewArray>
 pub fn views_into(column: &Column, out: &mut [ViewWords]) -> u32
     ensures views { result ≡ done →
         Some (views_in out.new) ≡ option_map (λ array. array.views) (views_of column.now) }
-    ensures kind { DemandsBefore result other_kind (other_length ∷ []) (views_of column.now ≢ None) }
+    ensures kind { DemandsBefore result other_kind (other_length ∷ [])
+        (views_of column.now ≢ None) }
     ensures length { result ≡ other_length →
         Some (length out.old) ≢ option_map (λ array. length array.views) (views_of column.now) }
     ensures status { IsOneOf result (done ∷ other_kind ∷ other_length ∷ []) }
@@ -78,7 +79,8 @@ pub fn buffer_count_into(column: &Column, count: &mut usize) -> u32
 pub fn buffer_len_into(column: &Column, i: usize, len: &mut usize) -> u32
     ensures len { result ≡ done → option_map (λ array. option_map length
         (slice_get array.buffers i)) (views_of column.now) ≡ Some (Some len.new) }
-    ensures kind { DemandsBefore result other_kind (out_of_bounds ∷ []) (views_of column.now ≢ None) }
+    ensures kind { DemandsBefore result other_kind (out_of_bounds ∷ [])
+        (views_of column.now ≢ None) }
     ensures bounds { result ≡ out_of_bounds →
         option_map (λ array. slice_get array.buffers i) (views_of column.now) ≡ Some None }
     ensures status { IsOneOf result (done ∷ other_kind ∷ out_of_bounds ∷ []) }
