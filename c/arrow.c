@@ -1,6 +1,7 @@
 /* The Arrow C Data Interface over the calls of sel.h. Columns are copied both ways: no pointer into the library's memory
- * is ever held, and none of the other side's after its release. What a column must obey is tested by the makers; here is
- * tested what no slice can say: counts of buffers and children, missing ones, lengths below zero, the format. */
+ * is kept, and no pointer into the producer's memory after its release. The calls that make columns check the rules of a
+ * column. This file checks what comes before them: the format, the counts of buffers and children, missing pointers,
+ * lengths and offsets. Every count is checked before it is used in arithmetic or a buffer is read. */
 #include "sel_arrow.h"
 
 #include <limits.h>
@@ -10,19 +11,27 @@
 
 enum { DEEPEST = 256 };
 
-/* A slice without items still has a pointer that is not null and is aligned. */
+/* The most rows of a column, with those before its offset; a 32-bit index reaches each of them. */
+#define MAX_ROWS UINT32_MAX
+
+/* The most buffers and children of an array: the indices of both are signed 32-bit integers. */
+#define MAX_COUNT INT32_MAX
+
+/* An empty slice still has a pointer that is not null and is aligned. */
 static const int64_t nothing[2];
 
 typedef struct ArrowArray Array;
 typedef struct ArrowSchema Schema;
 
-/* ---- bits and buffers that come in */
+/* ---- import: bits and buffers */
 
-static bool bit_at(const uint8_t *bits, size_t place) { return bits[place / 8] >> (place % 8) & 1; }
+static size_t bytes_of_bits(size_t len) { return len / 8 + (len % 8 != 0); }
 
-/* The `len` bits from `from` on, packed from the first bit of the answer on; NULL where there is no memory. */
+static bool bit_at(const uint8_t *bits, size_t i) { return bits[i / 8] >> (i % 8) & 1; }
+
+/* Returns a copy of the `len` bits from bit `from` on, packed from bit 0 on, or NULL if out of memory. */
 static uint8_t *packed_bits(const uint8_t *bits, size_t from, size_t len) {
-    size_t bytes = len / 8 + (len % 8 != 0), shift = from % 8;
+    size_t bytes = bytes_of_bits(len), shift = from % 8;
     uint8_t *out = calloc(bytes + 1, 1);
     if (!out) return NULL;
     if (shift == 0) {
@@ -34,23 +43,20 @@ static uint8_t *packed_bits(const uint8_t *bits, size_t from, size_t len) {
     return out;
 }
 
-/* What one level of a tree gives the makers. */
+/* One level of an array that is imported, as the calls that make columns take it. */
 typedef struct level {
     const Array *array;
     const Schema *schema;
-    size_t len, from;   /* how many rows, from which one of the buffers on */
-    uint8_t *bits;      /* the validity, packed from its first bit on; NULL where every row is valid */
+    size_t len, from;   /* the number of rows, and the first row in the buffers */
+    uint8_t *bits;      /* the validity, packed from bit 0 on; NULL if every row is valid */
     size_t bits_len;
-    void *copy;         /* what a maker's slice had to be copied to, or NULL */
+    void *copy;         /* an aligned copy of a buffer, or NULL */
     unsigned depth;
 } level;
 
 #define VALIDITY(l) (l)->bits ? (l)->bits : (const uint8_t *)nothing, (l)->bits_len, (l)->bits != NULL
 
-/* Whether items of 16 bytes would end where a pointer can point to. */
-static bool has_room(const level *l) { return l->len <= PTRDIFF_MAX / 64 && l->from <= PTRDIFF_MAX / 64; }
-
-/* The items of a buffer from the level's first row on, aligned; NULL where there is no memory. */
+/* Returns the items of a buffer from the level's first row on, aligned, or NULL if out of memory. */
 static const void *items(level *l, int64_t buffer, size_t size, size_t count) {
     if (count == 0) return nothing;
     const char *at = (const char *)l->array->buffers[buffer] + l->from * size;
@@ -60,28 +66,20 @@ static const void *items(level *l, int64_t buffer, size_t size, size_t count) {
     return l->copy ? memcpy(l->copy, at, count * size) : NULL;
 }
 
-/* Whether there are so many buffers, and each of them but a validity where there are rows. */
-static uint32_t buffers_missing(const level *l, int64_t count) {
-    if (l->array->n_buffers != count || (count > 0 && !l->array->buffers)) return SEL_ARROW_BUFFERS;
-    for (int64_t i = 1; i < count; i++)
-        if (l->len > 0 && !l->array->buffers[i]) return SEL_ARROW_BUFFERS;
-    return SEL_DONE;
-}
-
 static uint32_t read_validity(level *l) {
-    const uint8_t *bits = l->array->n_buffers > 0 && l->array->buffers ? l->array->buffers[0] : NULL;
+    const uint8_t *bits = l->array->buffers ? l->array->buffers[0] : NULL;
     if (!bits || l->array->null_count == 0) return SEL_DONE;
     l->bits = packed_bits(bits, l->from, l->len);
-    l->bits_len = l->len / 8 + (l->len % 8 != 0);
+    l->bits_len = bytes_of_bits(l->len);
     return l->bits ? SEL_DONE : SEL_NO_MEMORY;
 }
 
-/* ---- leaves that come in */
+/* ---- import: columns without children */
 
 static uint32_t import_bits(level *l, sel_column *out) {
     uint8_t *values = l->len ? packed_bits(l->array->buffers[1], l->from, l->len) : calloc(1, 1);
     if (!values) return SEL_NO_MEMORY;
-    uint32_t status = sel_boolean_new(values, l->len / 8 + (l->len % 8 != 0), l->len, VALIDITY(l), out);
+    uint32_t status = sel_boolean_new(values, bytes_of_bits(l->len), l->len, VALIDITY(l), out);
     free(values);
     return status;
 }
@@ -106,15 +104,16 @@ static uint32_t import_numbers(level *l, char format, sel_column *out) {
     }
 }
 
-/* The offsets of the level's rows, widened, less the first one; none is below the one before, so that no byte is read
- * that is not between the first and the last. */
+/* Reads the offsets of the level's rows as 64-bit integers, relative to the first of them. Checks that they do not
+ * decrease, so that only bytes between the first and the last offset are read. The offsets of an array without rows are
+ * not read: their buffer may be empty. */
 static uint32_t read_offsets(level *l, bool wide, int64_t **out, int64_t *first, int64_t *last) {
     int64_t *offsets = calloc(l->len + 1, sizeof *offsets);
     *out = offsets;
     *first = *last = 0;
     if (!offsets) return SEL_NO_MEMORY;
     const char *at = l->array->buffers[1];
-    if (!at) return SEL_DONE;
+    if (l->len == 0) return SEL_DONE;
     for (size_t i = 0; i <= l->len; i++) {
         int32_t narrow;
         if (wide) memcpy(&offsets[i], at + (l->from + i) * 8, 8);
@@ -129,7 +128,7 @@ static uint32_t read_offsets(level *l, bool wide, int64_t **out, int64_t *first,
     return SEL_DONE;
 }
 
-/* The view of bytes: up to 12 lie in it. */
+/* Returns the view of bytes, which holds up to 12 of them itself. */
 static sel_view view_of(const uint8_t *bytes, size_t len, uint32_t buffer, uint32_t offset) {
     sel_view view = {(uint32_t)len, 0, 0, 0};
     uint8_t space[12] = {0};
@@ -145,19 +144,27 @@ static sel_view view_of(const uint8_t *bytes, size_t len, uint32_t buffer, uint3
     return view;
 }
 
-/* Texts between offsets, as views over slices of their bytes, none of which is longer than an offset of a view shows. */
+/* Returns a bound of the number of slices that import_texts makes: at most one a row, and any two next to each other
+ * cover more than INT32_MAX bytes. */
+static size_t most_slices(size_t rows, int64_t bytes) {
+    size_t by_bytes = (size_t)(bytes / (INT32_MAX / 2)) + 2;
+    return rows + 1 < by_bytes ? rows + 1 : by_bytes;
+}
+
+/* Imports strings with offsets as views over slices of their bytes, each at most as long as a view's offset can reach. */
 static uint32_t import_texts(level *l, const int64_t *offsets, const uint8_t *bytes, sel_column *out) {
     sel_view *views = calloc(l->len + 1, sizeof *views);
-    sel_slice *slices = malloc((size_t)(offsets[l->len] / (INT32_MAX / 2) + 2) * sizeof *slices);
+    sel_slice *slices = malloc(most_slices(l->len, offsets[l->len]) * sizeof *slices);
     size_t count = 0;
     uint32_t status = views && slices ? SEL_DONE : SEL_NO_MEMORY;
     int64_t begin = 0, end = 0;
     for (size_t i = 0; status == SEL_DONE && i < l->len; i++) {
         int64_t len = offsets[i + 1] - offsets[i];
+        if (l->bits && !bit_at(l->bits, i)) continue;
         if (len > INT32_MAX) status = SEL_ARROW_RANGE;
-        if (status != SEL_DONE || (l->bits && !bit_at(l->bits, i))) continue;
+        if (status != SEL_DONE) break;
         if (offsets[i + 1] - begin > INT32_MAX) {
-            slices[count++] = (sel_slice){bytes + begin, (size_t)(end - begin)};
+            if (end > begin) slices[count++] = (sel_slice){bytes + begin, (size_t)(end - begin)};
             begin = offsets[i];
         }
         views[i] = view_of(bytes + offsets[i], (size_t)len, (uint32_t)count, (uint32_t)(offsets[i] - begin));
@@ -177,7 +184,7 @@ static uint32_t import_bytes(level *l, bool wide, bool texts, sel_column *out) {
     uint32_t status = read_offsets(l, wide, &offsets, &first, &last);
     const uint8_t *bytes = l->array->buffers[2];
     if (status == SEL_DONE && last > first && !bytes) status = SEL_ARROW_BUFFERS;
-    bytes = bytes ? bytes + first : (const uint8_t *)nothing;
+    if (status == SEL_DONE) bytes = last > first ? bytes + first : (const uint8_t *)nothing;
     if (status == SEL_DONE)
         status = texts ? import_texts(l, offsets, bytes, out)
                        : sel_binary_new(offsets, l->len + 1, bytes, (size_t)(last - first), VALIDITY(l), out);
@@ -185,27 +192,33 @@ static uint32_t import_bytes(level *l, bool wide, bool texts, sel_column *out) {
     return status;
 }
 
+/* Reads the data buffers of a column of views; the last buffer holds their lengths, maybe unaligned. */
+static uint32_t read_data_buffers(const level *l, int64_t count, sel_slice *slices) {
+    const char *lengths = l->array->buffers[count + 2];
+    if (count > 0 && !lengths) return SEL_ARROW_BUFFERS;
+    for (int64_t i = 0; i < count; i++) {
+        const uint8_t *bytes = l->array->buffers[i + 2];
+        int64_t length;
+        memcpy(&length, lengths + i * 8, 8);
+        if (length < 0) return SEL_ARROW_LENGTH;
+        if (length > 0 && !bytes) return SEL_ARROW_BUFFERS;
+        slices[i] = (sel_slice){bytes ? bytes : (const uint8_t *)nothing, (size_t)length};
+    }
+    return SEL_DONE;
+}
+
 static uint32_t import_views(level *l, bool texts, sel_column *out) {
     int64_t count = l->array->n_buffers - 3;
-    if (count < 0 || !l->array->buffers) return SEL_ARROW_BUFFERS;
-    const int64_t *lengths = l->array->buffers[count + 2];
-    if ((l->len > 0 && !l->array->buffers[1]) || (count > 0 && !lengths)) return SEL_ARROW_BUFFERS;
     const sel_view *views = items(l, 1, sizeof *views, l->len);
     sel_slice *slices = malloc(((size_t)count + 1) * sizeof *slices);
-    uint32_t status = views && slices ? SEL_DONE : SEL_NO_MEMORY;
-    for (int64_t i = 0; status == SEL_DONE && i < count; i++) {
-        const uint8_t *bytes = l->array->buffers[i + 2];
-        if (lengths[i] < 0) status = SEL_ARROW_LENGTH;
-        else if (lengths[i] > 0 && !bytes) status = SEL_ARROW_BUFFERS;
-        else slices[i] = (sel_slice){bytes ? bytes : (const uint8_t *)nothing, (size_t)lengths[i]};
-    }
+    uint32_t status = views && slices ? read_data_buffers(l, count, slices) : SEL_NO_MEMORY;
     if (status == SEL_DONE)
         status = (texts ? sel_utf8view_new : sel_binview_new)(views, l->len, slices, (size_t)count, VALIDITY(l), out);
     free(slices);
     return status;
 }
 
-/* ---- trees that come in */
+/* ---- import: columns with children */
 
 static uint32_t import_node(const Array *array, const Schema *schema, unsigned depth, sel_column *out);
 
@@ -216,13 +229,13 @@ static uint32_t import_child(const level *l, int64_t i, sel_column *out) {
     return import_node(array, schema, l->depth + 1, out);
 }
 
-/* The child's rows from the level's first one on, `width` for each of its rows. */
+/* Imports the rows of child `i` that belong to the level's rows, `width` for each of them. */
 static uint32_t import_part(const level *l, int64_t i, size_t width, sel_column *out) {
     sel_column whole = {0};
     uint32_t status = import_child(l, i, &whole);
     if (status == SEL_DONE) {
-        size_t long_enough = sel_len(&whole);
-        if (width > 0 && (l->from + l->len) > long_enough / width) status = SEL_ARROW_LENGTH;
+        size_t rows = sel_len(&whole);
+        if (width > 0 && l->from + l->len > rows / width) status = SEL_ARROW_LENGTH;
         else status = sel_sliced(&whole, l->from * width, l->len * width, out);
     }
     sel_free(&whole);
@@ -244,10 +257,8 @@ static uint32_t import_list(level *l, bool wide, sel_column *out) {
 }
 
 static uint32_t import_fixed_list(level *l, const char *digits, sel_column *out) {
-    char *end;
     sel_column child = {0};
-    unsigned long long width = strtoull(digits, &end, 10);
-    if (*digits < '0' || *digits > '9' || *end) return SEL_ARROW_FORMAT;
+    unsigned long long width = strtoull(digits, NULL, 10);
     if (width > UINT32_MAX) return SEL_WIDTH;
     uint32_t status = import_part(l, 0, (size_t)width, &child);
     if (status == SEL_DONE) status = sel_fixed_list_new((size_t)width, l->len, VALIDITY(l), &child, out);
@@ -266,40 +277,74 @@ static uint32_t import_struct(level *l, sel_column *out) {
     return status;
 }
 
-/* Whether a format is that of whole numbers of 128 bits: d:P,0 or d:P,0,128. */
-static bool is_wide_number(const char *format) {
-    unsigned precision;
-    int read = 0;
-    if (sscanf(format, "d:%2u,0%n", &precision, &read) != 1 || read == 0) return false;
-    return !format[read] || !strcmp(format + read, ",128");
+static bool is_number(const char *text) { return *text && text[strspn(text, "0123456789")] == 0; }
+
+/* Tests whether a format is that of decimals which are whole numbers of 128 bits: d:P,0 or d:P,0,128, with a precision
+ * P from 1 to 38. */
+static bool is_whole_decimal(const char *format) {
+    if (strncmp(format, "d:", 2) != 0) return false;
+    const char *at = format + 2;
+    unsigned precision = 0;
+    if (*at < '1' || *at > '9') return false;
+    for (; *at >= '0' && *at <= '9' && precision <= 38; at++) precision = precision * 10 + (unsigned)(*at - '0');
+    return precision <= 38 && (!strcmp(at, ",0") || !strcmp(at, ",0,128"));
 }
 
-/* How many children a format has; -1: any number. */
-static int64_t children_of(const char *format) { return format[0] != '+' ? 0 : format[1] == 's' ? -1 : 1; }
+/* The layouts of Arrow that are imported. */
+enum layout { NO_LAYOUT, NULLS, BITS, NUMBERS, OFFSET_BYTES, VIEWS, LISTS, FIXED_LISTS, STRUCTS };
 
-static uint32_t import_format(level *l, const char *f, sel_column *out) {
-    uint32_t status = SEL_DONE;
-    bool one = f[0] && !f[1];
-    if (!strcmp(f, "n")) return sel_null_new(l->len, out);
-    if ((one && strchr("bcCsSiIlL", f[0])) || is_wide_number(f)) {
-        if ((status = buffers_missing(l, 2)) != SEL_DONE) return status;
-        return f[0] == 'b' ? import_bits(l, out) : import_numbers(l, f[0], out);
-    }
-    if (one && strchr("zZuU", f[0])) {
-        if (l->array->n_buffers != 3 || !l->array->buffers || (l->len && !l->array->buffers[1])) return SEL_ARROW_BUFFERS;
-        return import_bytes(l, f[0] == 'Z' || f[0] == 'U', f[0] == 'u' || f[0] == 'U', out);
-    }
-    if (!strcmp(f, "vz") || !strcmp(f, "vu")) return import_views(l, f[1] == 'u', out);
-    if (!strcmp(f, "+l") || !strcmp(f, "+L"))
-        return (status = buffers_missing(l, 2)) != SEL_DONE ? status : import_list(l, f[1] == 'L', out);
-    if ((status = buffers_missing(l, 1)) != SEL_DONE) return status;
-    return f[1] == 's' ? import_struct(l, out) : import_fixed_list(l, f + 3, out);
+static enum layout layout_of(const char *format) {
+    static const struct { const char *format; enum layout layout; } known[] = {
+        {"n", NULLS}, {"b", BITS}, {"c", NUMBERS}, {"C", NUMBERS}, {"s", NUMBERS}, {"S", NUMBERS}, {"i", NUMBERS},
+        {"I", NUMBERS}, {"l", NUMBERS}, {"L", NUMBERS}, {"z", OFFSET_BYTES}, {"Z", OFFSET_BYTES}, {"u", OFFSET_BYTES},
+        {"U", OFFSET_BYTES}, {"vz", VIEWS}, {"vu", VIEWS}, {"+l", LISTS}, {"+L", LISTS}, {"+s", STRUCTS},
+    };
+    for (size_t i = 0; i < sizeof known / sizeof *known; i++)
+        if (!strcmp(known[i].format, format)) return known[i].layout;
+    if (!strncmp(format, "+w:", 3) && is_number(format + 3)) return FIXED_LISTS;
+    return is_whole_decimal(format) ? NUMBERS : NO_LAYOUT;
 }
 
-static bool is_known(const char *f) {
-    bool one = f[0] && !f[1] && strchr("nbcCsSiIlLzZuU", f[0]);
-    return one || is_wide_number(f) || !strcmp(f, "vz") || !strcmp(f, "vu") || !strcmp(f, "+l") || !strcmp(f, "+L")
-        || !strcmp(f, "+s") || !strncmp(f, "+w:", 3);
+/* Checks the number of children, in the array and in the schema. */
+static uint32_t check_children(const level *l, enum layout layout) {
+    int64_t count = l->array->n_children;
+    if (count < 0 || count > MAX_COUNT || count != l->schema->n_children) return SEL_ARROW_CHILDREN;
+    bool has_one = layout == LISTS || layout == FIXED_LISTS;
+    if (layout != STRUCTS && count != (has_one ? 1 : 0)) return SEL_ARROW_CHILDREN;
+    return count > 0 && (!l->array->children || !l->schema->children) ? SEL_ARROW_CHILDREN : SEL_DONE;
+}
+
+/* Checks the number of buffers, and that none is missing which a row needs; a validity may be missing. */
+static uint32_t check_buffers(const level *l, enum layout layout) {
+    static const int64_t counts[] = {[BITS] = 2, [NUMBERS] = 2, [OFFSET_BYTES] = 3, [VIEWS] = 3, [LISTS] = 2,
+                                     [FIXED_LISTS] = 1, [STRUCTS] = 1};
+    int64_t count = l->array->n_buffers;
+    if (layout == NULLS) return SEL_DONE;
+    if (count < 0 || count > MAX_COUNT || !l->array->buffers) return SEL_ARROW_BUFFERS;
+    if (layout == VIEWS ? count < counts[VIEWS] : count != counts[layout]) return SEL_ARROW_BUFFERS;
+    bool needs_second = l->len > 0 && counts[layout] > 1;
+    return needs_second && !l->array->buffers[1] ? SEL_ARROW_BUFFERS : SEL_DONE;
+}
+
+/* Checks the number of rows, the offset and the number of nulls. */
+static uint32_t check_rows(const Array *array) {
+    if (array->length < 0 || array->offset < 0) return SEL_ARROW_LENGTH;
+    if (array->length > MAX_ROWS || array->offset > MAX_ROWS - array->length) return SEL_TOO_MANY_ROWS;
+    return array->null_count < -1 || array->null_count > array->length ? SEL_ARROW_LENGTH : SEL_DONE;
+}
+
+static uint32_t import_layout(level *l, enum layout layout, sel_column *out) {
+    const char *format = l->schema->format;
+    switch (layout) {
+    case NULLS: return sel_null_new(l->len, out);
+    case BITS: return import_bits(l, out);
+    case NUMBERS: return import_numbers(l, format[0], out);
+    case OFFSET_BYTES: return import_bytes(l, format[0] == 'Z' || format[0] == 'U', format[0] == 'u' || format[0] == 'U', out);
+    case VIEWS: return import_views(l, format[1] == 'u', out);
+    case LISTS: return import_list(l, format[1] == 'L', out);
+    case FIXED_LISTS: return import_fixed_list(l, format + 3, out);
+    default: return import_struct(l, out);
+    }
 }
 
 static uint32_t import_node(const Array *array, const Schema *schema, unsigned depth, sel_column *out) {
@@ -307,16 +352,15 @@ static uint32_t import_node(const Array *array, const Schema *schema, unsigned d
     if (depth > DEEPEST) return SEL_ARROW_DEPTH;
     if (!array->release || !schema->release) return SEL_ARROW_RELEASED;
     if (array->dictionary || schema->dictionary) return SEL_ARROW_DICTIONARY;
-    if (!schema->format || !is_known(schema->format)) return SEL_ARROW_FORMAT;
-    if (array->length < 0 || array->offset < 0) return SEL_ARROW_LENGTH;
-    int64_t children = children_of(schema->format);
-    if (array->n_children != schema->n_children || array->n_children < 0) return SEL_ARROW_CHILDREN;
-    if (children >= 0 && array->n_children != children) return SEL_ARROW_CHILDREN;
+    enum layout layout = schema->format ? layout_of(schema->format) : NO_LAYOUT;
+    if (layout == NO_LAYOUT) return SEL_ARROW_FORMAT;
+    uint32_t status = check_rows(array);
+    if (status != SEL_DONE) return status;
     l.len = (size_t)array->length;
     l.from = (size_t)array->offset;
-    if (!has_room(&l)) return SEL_ARROW_LENGTH;
-    uint32_t status = schema->format[0] == 'n' ? SEL_DONE : read_validity(&l);
-    if (status == SEL_DONE) status = import_format(&l, schema->format, out);
+    if ((status = check_children(&l, layout)) != SEL_DONE || (status = check_buffers(&l, layout)) != SEL_DONE) return status;
+    if (layout != NULLS) status = read_validity(&l);
+    if (status == SEL_DONE) status = import_layout(&l, layout, out);
     free(l.bits);
     free(l.copy);
     return status;
@@ -328,7 +372,7 @@ uint32_t sel_import(struct ArrowArray *array, const struct ArrowSchema *schema, 
     return status;
 }
 
-/* ---- columns that go out */
+/* ---- export */
 
 static void release_array(Array *array) {
     for (int64_t i = 0; i < array->n_children; i++) {
@@ -353,15 +397,16 @@ static void release_schema(Schema *schema) {
     schema->release = NULL;
 }
 
-/* A level that goes out: the two structures that are being filled. All that hangs on them is freed by their releases. */
+/* One level of a column that is exported: the two structures that are filled. Their releases free all that they hold. */
 typedef struct target {
     sel_column *of;
     Array *array;
     Schema *schema;
     size_t len;
+    const uint8_t *shown; /* a bit for each row: set if no null list or struct above hides it; NULL if none is hidden */
 } target;
 
-/* Room for a buffer of so many bytes, which the array owns from then on. */
+/* Returns zeroed room for `count` items of `size` bytes as buffer `i` of the array, or NULL if out of memory. */
 static void *buffer(target *t, int64_t i, size_t count, size_t size) {
     if (count > SIZE_MAX / 32) return NULL;
     void *at = calloc(count * size + 8, 1);
@@ -378,7 +423,7 @@ static bool with_buffers(target *t, int64_t count) {
 
 static uint32_t export_validity(target *t) {
     bool has = false;
-    size_t bytes = t->len / 8 + (t->len % 8 != 0);
+    size_t bytes = bytes_of_bits(t->len);
     uint8_t *bits = buffer(t, 0, bytes, 1);
     if (!bits) return SEL_NO_MEMORY;
     uint32_t status = sel_validity(t->of, bits, bytes, &has);
@@ -389,13 +434,15 @@ static uint32_t export_validity(target *t) {
     return status;
 }
 
-static bool row_is_valid(const target *t, size_t row) {
-    const uint8_t *bits = t->array->buffers[0];
-    return !bits || bit_at(bits, row);
+/* Tests whether a row's value can be seen: it is not null, and neither is a list or struct above it. The value in a null
+ * slot has no meaning: it never makes an error, and is not exported. */
+static bool is_seen(const target *t, size_t row) {
+    const uint8_t *valid = t->array->buffers[0];
+    return (!valid || bit_at(valid, row)) && (!t->shown || bit_at(t->shown, row));
 }
 
 static uint32_t export_bits(target *t) {
-    size_t bytes = t->len / 8 + (t->len % 8 != 0);
+    size_t bytes = bytes_of_bits(t->len);
     uint8_t *values = buffer(t, 1, bytes, 1);
     return values ? sel_boolean_values(t->of, values, bytes) : SEL_NO_MEMORY;
 }
@@ -406,7 +453,7 @@ static uint32_t export_bits(target *t) {
         return values ? read(t->of, values, t->len) : SEL_NO_MEMORY;                                                    \
     } while (0)
 
-/* Whether a number of 128 bits with a sign has at most 38 digits: its size is below 10 to the 38th. */
+/* Tests whether a signed 128-bit integer has at most 38 digits: its absolute value is below 10 to the 38th. */
 static bool has_38_digits(sel_wide number) {
     bool negative = number.high >> 63;
     uint64_t high = negative ? ~number.high + (number.low == 0) : number.high;
@@ -420,7 +467,7 @@ static uint32_t export_wide(target *t) {
     if (!values) return SEL_NO_MEMORY;
     uint32_t status = sel_int128_values(t->of, values, t->len);
     for (size_t i = 0; status == SEL_DONE && i < t->len; i++) {
-        if (!row_is_valid(t, i)) values[i] = (sel_wide){0, 0};
+        if (!is_seen(t, i)) values[i] = (sel_wide){0, 0};
         else if (!has_38_digits(values[i])) status = SEL_ARROW_RANGE;
     }
     return status;
@@ -451,11 +498,11 @@ static uint32_t export_bytes(target *t) {
     return bytes ? sel_bytes(t->of, bytes, len) : SEL_NO_MEMORY;
 }
 
-/* Views: what is past the bytes of a short one is cleared, as the format wants it, and so is a null row's. */
+/* Clears the bytes behind a short view's own, as the format requires, and the views that cannot be seen. */
 static uint32_t clean_views(const target *t, sel_view *views) {
     for (size_t i = 0; i < t->len; i++) {
         uint8_t space[12];
-        if (!row_is_valid(t, i)) memset(&views[i], 0, sizeof views[i]);
+        if (!is_seen(t, i)) memset(&views[i], 0, sizeof views[i]);
         if (views[i].length > 12) {
             if (views[i].length > INT32_MAX || views[i].offset > INT32_MAX || views[i].buffer > INT32_MAX) return SEL_ARROW_RANGE;
             continue;
@@ -482,7 +529,36 @@ static uint32_t export_views(target *t) {
     return status == SEL_DONE ? clean_views(t, views) : status;
 }
 
-static uint32_t export_node(sel_column *of, Array *array, Schema *schema);
+static uint32_t export_node(sel_column *of, const uint8_t *shown, Array *array, Schema *schema);
+
+static void set_bits(uint8_t *bits, size_t from, size_t to) {
+    while (from < to && from % 8) bits[from / 8] |= (uint8_t)(1u << (from % 8)), from++;
+    while (from < to && to % 8) to--, bits[to / 8] |= (uint8_t)(1u << (to % 8));
+    if (from < to) memset(bits + from / 8, 0xff, (to - from) / 8);
+}
+
+/* Tests whether an export looks at the values of a kind, or of its children. */
+static bool looks_at_values(uint32_t kind) {
+    return kind == SEL_INT128 || kind == SEL_BINARY_VIEW || kind == SEL_UTF8_VIEW || kind == SEL_LARGE_LIST
+        || kind == SEL_FIXED_SIZE_LIST || kind == SEL_STRUCT;
+}
+
+/* Finds which rows of a child with `len` rows can be seen: those of the level's rows that can. Row `i` has the child's
+ * rows from offsets[i] to offsets[i + 1], or `width` rows each without offsets. `out` is NULL if all can be seen, or if no
+ * value of the child is looked at; else the caller frees it. */
+static uint32_t find_shown(const target *t, sel_column *child, const int64_t *offsets, size_t width, size_t len, uint8_t **out) {
+    *out = NULL;
+    if ((!t->array->buffers[0] && !t->shown) || !looks_at_values(sel_kind(child))) return SEL_DONE;
+    uint8_t *bits = calloc(bytes_of_bits(len) + 1, 1);
+    if (!bits) return SEL_NO_MEMORY;
+    for (size_t i = 0; i < t->len; i++) {
+        if (!is_seen(t, i)) continue;
+        if (offsets) set_bits(bits, (size_t)offsets[i], (size_t)offsets[i + 1]);
+        else set_bits(bits, i * width, (i + 1) * width);
+    }
+    *out = bits;
+    return SEL_DONE;
+}
 
 static bool with_children(target *t, size_t count) {
     t->array->children = calloc(count + 1, sizeof *t->array->children);
@@ -492,14 +568,17 @@ static bool with_children(target *t, size_t count) {
     return true;
 }
 
-/* Child i, which is freed here, under its place as its name. */
-static uint32_t export_child(target *t, size_t i, const char *name, sel_column *child) {
+/* Exports child `i` under a name, and frees the child. Offsets or the width say which of its rows are whose. */
+static uint32_t export_child(target *t, size_t i, const char *name, const int64_t *offsets, size_t width, sel_column *child) {
     Array *array = calloc(1, sizeof *array);
     Schema *schema = calloc(1, sizeof *schema);
+    uint8_t *shown = NULL;
     t->array->children[i] = array;
     t->schema->children[i] = schema;
-    uint32_t status = array && schema ? export_node(child, array, schema) : SEL_NO_MEMORY;
+    uint32_t status = array && schema ? find_shown(t, child, offsets, width, sel_len(child), &shown) : SEL_NO_MEMORY;
+    if (status == SEL_DONE) status = export_node(child, shown, array, schema);
     if (status == SEL_DONE) schema->name = name;
+    free(shown);
     sel_free(child);
     return status;
 }
@@ -515,10 +594,10 @@ static uint32_t export_list(target *t) {
         for (size_t i = 0; i <= t->len; i++) offsets[i] -= first;
     }
     sel_free(&child);
-    return status == SEL_DONE ? export_child(t, 0, "item", &part) : status;
+    return status == SEL_DONE ? export_child(t, 0, "item", offsets, 0, &part) : status;
 }
 
-/* The text of a number behind `before`, kept for the schema's life. */
+/* Returns the digits of a number behind `before`, which live as long as the schema. */
 static char *numbered(Schema *schema, size_t room, const char *before, size_t number) {
     char *text = schema->private_data ? (char *)schema->private_data + room * 24 : malloc(32);
     if (!schema->private_data) schema->private_data = text;
@@ -532,7 +611,7 @@ static uint32_t export_fixed_list(target *t) {
     uint32_t status = sel_width(t->of, &width);
     if (status == SEL_DONE && (!with_children(t, 1) || !(t->schema->format = numbered(t->schema, 0, "+w:", width)))) status = SEL_NO_MEMORY;
     if (status == SEL_DONE) status = sel_child(t->of, &child);
-    return status == SEL_DONE ? export_child(t, 0, "item", &child) : status;
+    return status == SEL_DONE ? export_child(t, 0, "item", NULL, width, &child) : status;
 }
 
 static uint32_t export_struct(target *t) {
@@ -544,7 +623,7 @@ static uint32_t export_struct(target *t) {
     for (size_t i = 0; status == SEL_DONE && i < count; i++) {
         sel_column field = {0};
         status = sel_field(t->of, i, &field);
-        if (status == SEL_DONE) status = export_child(t, i, numbered(t->schema, i, "", i), &field);
+        if (status == SEL_DONE) status = export_child(t, i, numbered(t->schema, i, "", i), NULL, 1, &field);
     }
     return status;
 }
@@ -567,8 +646,8 @@ static uint32_t export_level(target *t, uint32_t kind) {
     return kind == SEL_STRUCT ? export_struct(t) : export_numbers(t, kind);
 }
 
-static uint32_t export_node(sel_column *of, Array *array, Schema *schema) {
-    target t = {of, array, schema, sel_len(of)};
+static uint32_t export_node(sel_column *of, const uint8_t *shown, Array *array, Schema *schema) {
+    target t = {of, array, schema, sel_len(of), shown};
     uint32_t kind = sel_kind(of);
     memset(array, 0, sizeof *array);
     memset(schema, 0, sizeof *schema);
@@ -585,7 +664,7 @@ static uint32_t export_node(sel_column *of, Array *array, Schema *schema) {
 }
 
 uint32_t sel_export(sel_column *of, struct ArrowArray *array, struct ArrowSchema *schema) {
-    uint32_t status = export_node(of, array, schema);
+    uint32_t status = export_node(of, NULL, array, schema);
     if (status == SEL_DONE) return status;
     if (array->release) array->release(array);
     if (schema->release) schema->release(schema);
@@ -627,7 +706,7 @@ const char *sel_status_text(uint32_t status) {
         {SEL_ARROW_FORMAT, "a format that has no kind of column here"},
         {SEL_ARROW_BUFFERS, "a buffer is missing, or there are others than the format has"},
         {SEL_ARROW_CHILDREN, "a child is missing, or there are others than the format has"},
-        {SEL_ARROW_LENGTH, "a length or an offset is below zero, or a child is too short"},
+        {SEL_ARROW_LENGTH, "a length, an offset or a null count is out of range, or a child is too short"},
         {SEL_ARROW_DICTIONARY, "an array of keys into a dictionary"},
         {SEL_ARROW_DEPTH, "more than 256 levels of children"},
         {SEL_ARROW_RANGE, "a value or a place that the format cannot show"},

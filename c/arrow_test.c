@@ -146,7 +146,11 @@ static void leaves_are_refused(void) {
     for (size_t i = 0; i < sizeof unknown / sizeof *unknown; i++) refuses(SEL_ARROW_FORMAT, unknown[i], 2, 0, 2, two);
     refuses(SEL_ARROW_LENGTH, "l", -1, 0, 2, two);
     refuses(SEL_ARROW_LENGTH, "l", 1, -1, 2, two);
-    refuses(SEL_ARROW_LENGTH, "l", INT64_MAX, INT64_MAX, 2, two);
+    refuses(SEL_TOO_MANY_ROWS, "l", INT64_MAX, INT64_MAX, 2, two);
+    refuses(SEL_TOO_MANY_ROWS, "l", (int64_t)UINT32_MAX + 1, 0, 2, two);
+    refuses(SEL_TOO_MANY_ROWS, "b", (int64_t)UINT32_MAX + 1, 0, 2, two);
+    refuses(SEL_ARROW_BUFFERS, "vu", 1, 0, INT64_MIN, two);
+    refuses(SEL_ARROW_BUFFERS, "vz", 1, 0, INT64_MIN + 2, two);
     refuses(SEL_ARROW_BUFFERS, "l", 2, 0, 1, two);
     refuses(SEL_ARROW_BUFFERS, "l", 2, 0, 3, two);
     refuses(SEL_ARROW_BUFFERS, "l", 2, 0, 2, missing);
@@ -290,6 +294,90 @@ static void exports_are_released(void) {
     sel_free(&column);
 }
 
+/* Exports a column and checks the status; if it is SEL_DONE, imports the arrays again and compares the rows. Returns the
+ * values of the 128-bit integers that lie `depth` levels below. */
+static void export_wide_below(sel_column *of, int depth, uint32_t wanted, sel_wide *values, size_t count) {
+    struct ArrowArray array;
+    struct ArrowSchema schema;
+    sel_column again = {0};
+    bool is_equal = false;
+    CHECK(sel_export(of, &array, &schema) == wanted);
+    if (wanted != SEL_DONE) return;
+    const struct ArrowArray *below = &array;
+    for (int i = 0; i < depth; i++) below = below->children[0];
+    CHECK((size_t)below->length == count && below->n_buffers == 2);
+    memcpy(values, below->buffers[1], count * sizeof *values);
+    CHECK(sel_import(&array, &schema, &again) == SEL_DONE);
+    CHECK(sel_equal_rows(of, &again, &is_equal) == SEL_DONE && is_equal);
+    schema.release(&schema);
+    sel_free(&again);
+}
+
+static const sel_wide too_long = {UINT64_MAX, INT64_MAX};
+
+static bool is_wide(sel_wide value, uint64_t low) { return value.low == low && value.high == 0; }
+
+/* Makes three rows of 128-bit integers, of which only the second has at most 38 digits. */
+static void make_wide(sel_column *out) {
+    const sel_wide rows[3] = {too_long, {10, 0}, too_long};
+    CHECK(sel_int128_new(rows, 3, some_bits, 0, false, out) == SEL_DONE);
+}
+
+static const uint8_t second_valid[1] = {2}, last_two_valid[1] = {6};
+static const int64_t one_each[4] = {0, 1, 2, 3};
+
+/* Makes a struct, a list or a fixed-size list over three 128-bit integers, one for each row. */
+static void make_over(int kind, const uint8_t *bits, sel_column *child, sel_column *out) {
+    if (kind == 0) CHECK(sel_struct_new(3, bits, 1, true, child, 1, out) == SEL_DONE);
+    if (kind == 1) CHECK(sel_list_new(one_each, 4, bits, 1, true, child, out) == SEL_DONE);
+    if (kind == 2) CHECK(sel_fixed_list_new(1, 3, bits, 1, true, child, out) == SEL_DONE);
+}
+
+/* The value in a null slot has no meaning: it is no error, and is not exported. */
+static void values_in_null_slots_are_not_exported(void) {
+    sel_column child = {0}, over = {0}, outer = {0}, part = {0};
+    sel_wide values[3];
+    for (int kind = 0; kind < 3; kind++) {
+        make_wide(&child);
+        make_over(kind, second_valid, &child, &over);
+        export_wide_below(&over, 1, SEL_DONE, values, 3);
+        CHECK(is_wide(values[0], 0) && is_wide(values[1], 10) && is_wide(values[2], 0));
+        CHECK(sel_sliced(&over, 1, 1, &part) == SEL_DONE);
+        export_wide_below(&part, 1, SEL_DONE, values, 1);
+        CHECK(is_wide(values[0], 10));
+        make_wide(&child);
+        make_over(kind, last_two_valid, &child, &over);
+        export_wide_below(&over, 1, SEL_ARROW_RANGE, values, 0);
+        for (int inner = 0; inner < 3; inner++) {
+            make_wide(&child);
+            make_over(inner, last_two_valid, &child, &over);
+            make_over(kind, second_valid, &over, &outer);
+            export_wide_below(&outer, 2, SEL_DONE, values, 3);
+            CHECK(is_wide(values[0], 0) && is_wide(values[1], 10) && is_wide(values[2], 0));
+        }
+    }
+    sel_free(&over);
+    sel_free(&outer);
+    sel_free(&part);
+}
+
+/* A view that a null struct hides is exported as an empty one. */
+static void views_in_null_slots_are_cleared(void) {
+    const sel_view views[3] = {{13, 0x64636261, 0, 0}, {1, 'a', 0, 0}, {13, 0x64636261, 0, 0}}, empty = {0, 0, 0, 0};
+    const sel_slice slice = {(const uint8_t *)"abcdefghijklm", 13};
+    sel_column child = {0}, over = {0};
+    struct ArrowArray array;
+    struct ArrowSchema schema;
+    CHECK(sel_utf8view_new(views, 3, &slice, 1, some_bits, 0, false, &child) == SEL_DONE);
+    make_over(0, second_valid, &child, &over);
+    CHECK(sel_export(&over, &array, &schema) == SEL_DONE);
+    const sel_view *rows = array.children[0]->buffers[1];
+    CHECK(!memcmp(&rows[0], &empty, 16) && !memcmp(&rows[1], &views[1], 16) && !memcmp(&rows[2], &empty, 16));
+    array.release(&array);
+    schema.release(&schema);
+    sel_free(&over);
+}
+
 /* Tuples of a list of texts and a list of two numbers each. */
 static void make_tree(sel_column *out) {
     const sel_view views[3] = {{1, 'a', 0, 0}, {13, 0x64636261, 0, 0}, {0, 0, 0, 0}};
@@ -365,6 +453,8 @@ int main(void) {
     trees_are_refused();
     depth_has_an_end();
     exports_are_released();
+    values_in_null_slots_are_not_exported();
+    views_in_null_slots_are_cleared();
     each_allocation_is_refused();
     texts_of_statuses();
     printf("arrow: %d failed\n", failures);

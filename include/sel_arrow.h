@@ -49,7 +49,7 @@ enum sel_arrow_status {
     SEL_ARROW_FORMAT = 65,     /* a format that has no kind of column here */
     SEL_ARROW_BUFFERS = 66,    /* another number of buffers than the format has, or one that is missing */
     SEL_ARROW_CHILDREN = 67,   /* another number of children than the format has, or one that is missing */
-    SEL_ARROW_LENGTH = 68,     /* a length or an offset below zero, or a child that is too short */
+    SEL_ARROW_LENGTH = 68,     /* a length, an offset or a null count out of range, or a child that is too short */
     SEL_ARROW_DICTIONARY = 69, /* an array of keys into a dictionary */
     SEL_ARROW_DEPTH = 70,      /* more than 256 levels of children */
     SEL_ARROW_RANGE = 71       /* a value or a place that the format cannot show */
@@ -57,22 +57,27 @@ enum sel_arrow_status {
 
 /* Makes a column of an array, at every depth, and releases the array, whatever the status is; the schema is only read.
  *
- * Formats: n, b, c, C, s, S, i, I, l, L; d:P,0 and d:P,0,128 (whole numbers of 128 bits); z and Z (bytes), u and U
- * (texts, as views), vz, vu; +l and +L (lists), +w:N (lists of one length), +s (tuples). Offsets of 32 bits are widened.
- * Any other format is refused. The rules of columns are tested; that the buffers are as long as the format says is the
- * promise of whoever made the array.
+ * Formats: n, b, c, C, s, S, i, I, l, L; d:P,0 and d:P,0,128 with P from 1 to 38 (128-bit integers); z and Z (binary),
+ * u and U (strings, as views), vz, vu; +l and +L (lists), +w:N (fixed-size lists), +s (structs). 32-bit offsets are
+ * widened. Any other format is SEL_ARROW_FORMAT.
  *
- * SEL_DONE; SEL_NO_MEMORY; the status of a rule that is broken, or of enum sel_arrow_status. Where it is not SEL_DONE,
- * `out` is as before. */
+ * Before a buffer is read, the counts of every level are checked: the length and the offset are not negative and are at
+ * most 4,294,967,295 together (SEL_TOO_MANY_ROWS), the null count is -1 or at most the length, the array has as many
+ * buffers and children as its format, and no more than 2,147,483,647. Then the rules of columns are checked. The producer
+ * ensures that the buffers are as long as the length, the offset and the offsets buffer say: no call can check that.
+ *
+ * Errors: SEL_NO_MEMORY, the status of the rule of columns that is broken, or one of enum sel_arrow_status. On error
+ * `out` is unchanged. */
 uint32_t sel_import(struct ArrowArray *array, const struct ArrowSchema *schema, sel_column *out);
 
-/* Writes a copy of the column to two structures, which the caller releases. The column stays as it was.
+/* Writes a copy of the column to two structures, which the caller releases. The column is unchanged.
  *
- * Bytes go out as Z, views as vz and vu, lists as +L, numbers of 128 bits with a sign as d:38,0,128; those without one
- * have no format (SEL_ARROW_FORMAT). Fields are named by their places, "0", "1", ...
+ * Binary columns are exported as Z, views as vz and vu, lists as +L, signed 128-bit integers as d:38,0,128; unsigned ones
+ * have no format (SEL_ARROW_FORMAT). Fields are named by their numbers, "0", "1", ... A 128-bit integer or a view in a
+ * null slot, also in that of a list or struct above it, is exported as 0 or as an empty view.
  *
- * SEL_DONE; SEL_NO_COLUMN; SEL_NO_MEMORY; SEL_ARROW_FORMAT; SEL_ARROW_RANGE where a number has more than 38 digits or a
- * place in a data buffer is past 2,147,483,647. Where it is not SEL_DONE, nothing is left to release. */
+ * Errors: SEL_NO_COLUMN, SEL_NO_MEMORY, SEL_ARROW_FORMAT; SEL_ARROW_RANGE if a row shows an integer with more than 38
+ * digits or a view beyond byte 2,147,483,647 of a data buffer. On error there is nothing to release. */
 uint32_t sel_export(sel_column *of, struct ArrowArray *array, struct ArrowSchema *schema);
 
 /* The text of a status of either enum, which nobody frees. */
