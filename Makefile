@@ -1,14 +1,18 @@
-# `make tour` shows columns of each kind, each kernel and each refusal once; `make run` runs the program on the stored input, or on another: make run INPUT=file; `make build` proves and builds it;
-# `make lib` builds the library for C into build/, `make install PREFIX=folder` puts it and its header there; either for newer processors: make lib CPU=x86-64-v3;
-# `make bench` times its kernels beside numpy, plain loops and a copy, and what it does not export beside loops, and writes docs/BENCHMARKS.md (make bench QUICK=1: their answers alone);
-# `make test` is the whole gate: `rt ci`, and beside it, over what it has proved so far, wrong bodies and the library for C with its
-# bindings and examples; then each growth of memory refused, stored runs and the answers of the benchmark; `make api` writes the reference anew; `make test-lib` builds the
-# library for C over kept proofs, and tries it and what stands around it; `make edits` tries every edit that must fail, those beside the gate's too.
+# make test      runs every check; docs/TESTING.md says what is checked and how long it takes
+# make check     proves what has changed over cached proofs, then runs the fast checks: for everyday work
+# make setup     installs what the checks use besides the toolchain, and says what for
+# make tour      prints columns of each kind, each kernel once and each error once
+# make run       runs the program on its stored input, or on a file: make run INPUT=file; make build proves and builds it
+# make lib       builds the C library into build/; for newer processors: make lib CPU=x86-64-v3
+# make install   copies the C library and its headers: make install PREFIX=folder
+# make bench     times the kernels and writes docs/BENCHMARKS.md; make bench QUICK=1 only compares their answers
+# make edits     tries every mutant, not only those of make test
+# make api       writes the API reference, the picture and the C header
 
 INPUT ?= crates/sel_bench/stdin
 PREFIX ?= /usr/local
 
-.PHONY: run tour build lib install bench test test-lib edits api
+.PHONY: run tour build lib install bench test check setup edits api
 
 run:
 	@tools/run sel_bench $(INPUT)
@@ -29,17 +33,13 @@ bench:
 	tools/bench/run $(if $(QUICK),quick)
 
 test:
-	tools/api --check
-	tools/picture --check
-	tools/header --check
-	tools/links
-	tools/refused --texts
-	tools/beside rt ci
+	tools/gate.py $(if $(ANEW),anew)
 
-test-lib:
-	tools/clib --check
-	tools/bindings
-	tools/bench/run quick
+check:
+	tools/gate.py check
+
+setup:
+	tools/gate.py setup
 
 edits:
 	tools/refused --all

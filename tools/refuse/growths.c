@@ -15,9 +15,7 @@ enum {
     BEGINS = 1000003,       /* a call begins */
     BEGINS_FREE = 1000033,  /* a call begins that takes no memory */
     ENDS = 1000037,         /* it ended, and answered */
-    ENDS_REFUSED = 1000039, /* it ended with its want of memory */
-    ENDS_LIMITED = 1000081, /* it ended by a limit, or with its want of memory */
-    ENDS_EITHER = 1000099   /* it ended, and answered; it may take memory, or none */
+    ENDS_REFUSED = 1000039  /* it ended, and is out of memory */
 };
 
 extern void *__libc_malloc(size_t);
@@ -116,12 +114,6 @@ static int is_mark(size_t bytes)
         return 1;
     case ENDS_REFUSED:
         end_call("refused");
-        return 1;
-    case ENDS_LIMITED:
-        end_call(is_free ? "free" : "limited");
-        return 1;
-    case ENDS_EITHER:
-        end_call(is_free ? "free" : "either");
         return 1;
     default:
         return 0;

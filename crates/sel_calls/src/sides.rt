@@ -1,8 +1,9 @@
 //! Choices between the rows of two columns of one type.
 
 ghost use Rattle.std.specs.Prelude.{◌≡◌, ◌≤◌, ◌∷◌, [], length, IfOk, IfErr, IfSome};
-ghost use Rattle.sel_arrow.specs.Columns.{primitive_rows};
+ghost use Rattle.sel_arrow.specs.Columns.{boolean_rows, primitive_rows};
 ghost use Rattle.sel_arrow.specs.Rows.{rows, type_of};
+ghost use Rattle.sel_arrow.specs.Shape.{of_boolean};
 ghost use Rattle.sel_calls.specs.Chosen.{chosen_rows, first_row};
 ghost use Rattle.sel_calls.specs.ChosenPicks.{bit_pick, chosen_picks, place_on, SideFits};
 ghost use Rattle.sel_choices.specs.Choose.{choose, choose_one, choose_or_one};
@@ -11,6 +12,7 @@ ghost use Rattle.sel_runs.specs.Need.{past_taken, IsRefusal};
 
 use sel_arrow::array::Array;
 use sel_arrow::array_ref::ArrayRef;
+use sel_arrow::boolean::BooleanArray;
 use sel_arrow::column::Column;
 use sel_arrow::primitive::{ArrowPrimitive, PrimitiveArray};
 use sel_bits::bitmap::Bitmap;
@@ -47,6 +49,10 @@ pub(crate) fn choice(
     if let Some(chosen) = quick {
         return Ok(chosen);
     }
+    let quick = boolean_choice(alloc, mask, if_true, if_false, true_column, false_column)?;
+    if let Some(chosen) = quick {
+        return Ok(chosen);
+    }
     if true_column && false_column {
         let quick = kernel_choice(alloc, mask, if_true, if_false)?;
         if let Some(chosen) = quick {
@@ -56,7 +62,7 @@ pub(crate) fn choice(
     picked_choice(alloc, mask, if_true, if_false, true_column, false_column)
 }
 
-// The choice between two columns of truth values or of views, by the words of the mask; none where they are of other types.
+// Chooses between two columns of views by the words of the mask. Returns none if they have another type.
 fn kernel_choice(
     alloc: Global,
     mask: &Bitmap,
@@ -74,9 +80,6 @@ fn kernel_choice(
         (rows if_true.now.column) (rows if_false.now.column)))) }
 {
     match (if_true.as_column(), if_false.as_column()) {
-        (Column::Boolean(first), Column::Boolean(second)) => {
-            chosen_columns(alloc, mask, first, second)
-        }
         (Column::BinaryView(first), Column::BinaryView(second)) => {
             chosen_columns(alloc, mask, first, second)
         }
@@ -84,6 +87,112 @@ fn kernel_choice(
             chosen_columns(alloc, mask, first, second)
         }
         _ => Ok(None),
+    }
+}
+
+// Chooses between boolean columns, or a column and one boolean, by the words of the mask. Returns none if the columns have another
+// type, if both sides are scalars, or if a scalar is null.
+fn boolean_choice(
+    alloc: Global,
+    mask: &Bitmap,
+    if_true: &ArrayRef,
+    if_false: &ArrayRef,
+    true_column: bool,
+    false_column: bool,
+) -> PolarsResult<Option<ArrayRef>>
+    requires true_side { SideFits true_column (length (rows if_true.now.column))
+        (length mask.now.bits) }
+    requires false_side { SideFits false_column (length (rows if_false.now.column))
+        (length mask.now.bits) }
+    ensures rows { IfOk result (λ made. IfSome made (λ chosen. rows chosen.column ≡
+        chosen_rows true_column false_column
+        mask.now.bits (rows if_true.now.column) (rows if_false.now.column))) }
+    ensures dtype { IfOk result (λ made. IfSome made (λ chosen.
+        type_of chosen.column ≡ type_of if_true.now.column)) }
+    ensures refusal { IfErr result (IsRefusal (λ _. ⊥)) }
+{
+    match (if_true.as_column(), if_false.as_column()) {
+        (Column::Boolean(first), Column::Boolean(second)) => {
+            chosen_booleans(alloc, mask, first, second, true_column, false_column)
+        }
+        _ => Ok(None),
+    }
+}
+
+// The same of boolean columns. Returns none if both sides are scalars, or if a scalar is null.
+fn chosen_booleans(
+    alloc: Global,
+    mask: &Bitmap,
+    if_true: &BooleanArray,
+    if_false: &BooleanArray,
+    true_column: bool,
+    false_column: bool,
+) -> PolarsResult<Option<ArrayRef>>
+    requires true_side { SideFits true_column (length (boolean_rows if_true.now))
+        (length mask.now.bits) }
+    requires false_side { SideFits false_column (length (boolean_rows if_false.now))
+        (length mask.now.bits) }
+    ensures rows { IfOk result (λ made. IfSome made (λ chosen. rows chosen.column ≡
+        chosen_rows true_column false_column
+        mask.now.bits (boolean_rows if_true.now) (boolean_rows if_false.now))) }
+    ensures dtype { IfOk result (λ made. IfSome made (λ chosen. type_of chosen.column ≡ of_boolean)) }
+    ensures refusal { IfErr result (IsRefusal (λ _. ⊥)) }
+{
+    if true_column {
+        if false_column {
+            return chosen_columns(alloc, mask, if_true, if_false);
+        }
+        return boolean_or_one(alloc, mask, if_true, if_false);
+    }
+    if false_column {
+        return one_or_boolean(alloc, mask, if_true, if_false);
+    }
+    Ok(None)
+}
+
+// Chooses between the first boolean of a column and the booleans of another. Returns none if the first one is null.
+fn one_or_boolean(
+    alloc: Global,
+    mask: &Bitmap,
+    if_true: &BooleanArray,
+    if_false: &BooleanArray,
+) -> PolarsResult<Option<ArrayRef>>
+    requires true_side { length (boolean_rows if_true.now) ≡ 1 }
+    requires false_side { length (boolean_rows if_false.now) ≡ length mask.now.bits }
+    ensures rows { IfOk result (λ made. IfSome made (λ chosen. rows chosen.column ≡ choose_one
+        mask.now.bits (first_row (boolean_rows if_true.now)) (boolean_rows if_false.now))) }
+    ensures dtype { IfOk result (λ made. IfSome made (λ chosen. type_of chosen.column ≡ of_boolean)) }
+    ensures refusal { IfErr result (IsRefusal (λ _. ⊥)) }
+{
+    let Some(value) = if_true.get(0) else {
+        return Ok(None);
+    };
+    match BooleanArray::if_then_else_broadcast_true(alloc, mask, &value, if_false) {
+        Ok(chosen) => Ok(Some(chosen.into_ref())),
+        Err(fault) => Err(fault),
+    }
+}
+
+// Chooses between the booleans of a column and the first boolean of another. Returns none if the first one is null.
+fn boolean_or_one(
+    alloc: Global,
+    mask: &Bitmap,
+    if_true: &BooleanArray,
+    if_false: &BooleanArray,
+) -> PolarsResult<Option<ArrayRef>>
+    requires true_side { length (boolean_rows if_true.now) ≡ length mask.now.bits }
+    requires false_side { length (boolean_rows if_false.now) ≡ 1 }
+    ensures rows { IfOk result (λ made. IfSome made (λ chosen. rows chosen.column ≡ choose_or_one
+        mask.now.bits (boolean_rows if_true.now) (first_row (boolean_rows if_false.now)))) }
+    ensures dtype { IfOk result (λ made. IfSome made (λ chosen. type_of chosen.column ≡ of_boolean)) }
+    ensures refusal { IfErr result (IsRefusal (λ _. ⊥)) }
+{
+    let Some(value) = if_false.get(0) else {
+        return Ok(None);
+    };
+    match BooleanArray::if_then_else_broadcast_false(alloc, mask, if_true, &value) {
+        Ok(chosen) => Ok(Some(chosen.into_ref())),
+        Err(fault) => Err(fault),
     }
 }
 

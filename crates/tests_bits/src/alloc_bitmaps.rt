@@ -1,0 +1,294 @@
+//! Bitmaps, buffers and offsets: their makers, their operations and the packer.
+
+use crate::fixtures::has_bits;
+use crate::marks::{begins, begins_free, ends, ends_answered, ends_by};
+use sel_bits::bitmap::Bitmap;
+use sel_bits::buffer::Buffer;
+use sel_bits::faults::{MakeError, PolarsError, PolarsResult};
+use sel_bits::offsets::OffsetsBuffer;
+use sel_bits::packer::BitPacker;
+use std::alloc::Global;
+use std::test::Fail;
+
+/// Whether a call answered these bits, or want of memory.
+pub fn are_bits(answer: PolarsResult<Bitmap>, bits: &[bool]) -> bool {
+    match answer {
+        Ok(bitmap) => has_bits(&bitmap, bits),
+        Err(fault) => fault == PolarsError::OutOfMemory,
+    }
+}
+
+#[test]
+fn bitmap_of_no_bits(rt: HostRuntime) {
+    let alloc = rt.alloc();
+    begins(alloc);
+    let answer = Bitmap::new(alloc);
+    ends_by(alloc, &answer);
+    assert!(rt; are_bits(answer, &[]));
+}
+
+#[test]
+fn bitmap_of_equal_bits(rt: HostRuntime) {
+    let alloc = rt.alloc();
+    begins(alloc);
+    let answer = Bitmap::new_with_value(alloc, true, 9);
+    ends_by(alloc, &answer);
+    assert!(rt; are_bits(answer, &[true; 9]));
+    begins(alloc);
+    let answer = Bitmap::new_zeroed(alloc, 3);
+    ends_by(alloc, &answer);
+    assert!(rt; are_bits(answer, &[false; 3]));
+}
+
+fn takes_bytes(alloc: Global, bytes: Vec<u8>) -> bool {
+    if bytes.len() != 1 {
+        return false;
+    }
+    begins(alloc);
+    let answer = Bitmap::from_u8_vec(bytes, 4);
+    ends_by(alloc, &answer);
+    are_bits(answer, &[true, false, true, false])
+}
+
+#[test]
+fn bitmap_of_bytes(rt: HostRuntime) -> Result<(), Fail> {
+    assert!(rt; takes_bytes(rt.alloc(), vec![in rt.alloc(); 0b101u8]?));
+    Ok(())
+}
+
+#[test]
+fn bitmap_of_truth_values(rt: HostRuntime) {
+    let alloc = rt.alloc();
+    let bits = [true, false, false, true, true, false, false, true, true];
+    begins(alloc);
+    let answer = Bitmap::from_bools(alloc, &bits);
+    ends_by(alloc, &answer);
+    assert!(rt; are_bits(answer, &bits));
+}
+
+const FIRST: [bool; 4] = [true, true, false, false];
+
+const SECOND: [bool; 4] = [true, false, true, false];
+
+/// The operations on two bitmaps, by what they answer for the bits above.
+#[derive(Clone, Copy)]
+enum Operation {
+    And,
+    Or,
+    AndNot,
+    OrNot,
+    Not,
+    Choose,
+}
+
+const OPERATIONS: [(&str, Operation, [bool; 4]); 6] = [
+    ("and", Operation::And, [true, false, false, false]),
+    ("or", Operation::Or, [true, true, true, false]),
+    ("and_not", Operation::AndNot, [false, true, false, false]),
+    ("or_not", Operation::OrNot, [true, true, false, true]),
+    ("not", Operation::Not, [false, false, true, true]),
+    ("choose", Operation::Choose, [true, true, true, false]),
+];
+
+/// Whether an operation answers these bits, and leaves both bitmaps as they were.
+fn operates(
+    alloc: Global,
+    operation: Operation,
+    first: &Bitmap,
+    second: &Bitmap,
+    bits: &[bool],
+) -> bool {
+    if first.len() != second.len() {
+        return false;
+    }
+    begins(alloc);
+    let answer = match operation {
+        Operation::And => first.and(alloc, second),
+        Operation::Or => first.or(alloc, second),
+        Operation::AndNot => first.and_not(alloc, second),
+        Operation::OrNot => first.or_not(alloc, second),
+        Operation::Not => first.not(alloc),
+        Operation::Choose => Bitmap::choose(alloc, first, first, second),
+    };
+    ends_by(alloc, &answer);
+    are_bits(answer, bits) && has_bits(first, &FIRST) && has_bits(second, &SECOND)
+}
+
+#[test]
+fn operation_on_bitmaps(rt: HostRuntime) -> Result<(), Fail> {
+    let first = Bitmap::from_bools(rt.alloc(), &FIRST)?;
+    let second = Bitmap::from_bools(rt.alloc(), &SECOND)?;
+    for (name, operation, bits) in OPERATIONS {
+        assert!(rt;
+            operates(rt.alloc(), operation, &first, &second, &bits),
+            "{name}"
+        );
+    }
+    Ok(())
+}
+
+/// Whether a call answered these values, or want of memory.
+fn are_values(answer: PolarsResult<Buffer<u16>>, values: &[u16]) -> bool {
+    match answer {
+        Ok(buffer) => buffer.as_slice() == values,
+        Err(fault) => fault == PolarsError::OutOfMemory,
+    }
+}
+
+#[test]
+fn buffer_of_values(rt: HostRuntime) -> Result<(), Fail> {
+    let alloc = rt.alloc();
+    let values = vec![in alloc; 7u16, 8, 9]?;
+    begins(alloc);
+    let answer = Buffer::from_vec(values);
+    ends_by(alloc, &answer);
+    assert!(rt; are_values(answer, &[7, 8, 9]));
+    Ok(())
+}
+
+/// Whether a call answered these offsets, or want of memory.
+fn are_offsets(answer: Result<OffsetsBuffer<i64>, MakeError>, offsets: &[i64]) -> bool {
+    match answer {
+        Ok(made) => made.as_slice() == offsets,
+        Err(fault) => fault == MakeError::OutOfMemory,
+    }
+}
+
+#[test]
+fn offsets_that_rise(rt: HostRuntime) -> Result<(), Fail> {
+    let alloc = rt.alloc();
+    let values = vec![in alloc; 0i64, 2, 5]?;
+    begins(alloc);
+    let answer = OffsetsBuffer::try_from(values);
+    ends(alloc, answer.is_err());
+    assert!(rt; are_offsets(answer, &[0, 2, 5]));
+    Ok(())
+}
+
+/// Whether a call answered the offsets 0, 0 and 7, or want of memory.
+fn are_rising(answer: PolarsResult<OffsetsBuffer<i64>>) -> bool {
+    match answer {
+        Ok(made) => made.as_slice() == [0, 0, 7].as_slice(),
+        Err(fault) => fault == PolarsError::OutOfMemory,
+    }
+}
+
+#[test]
+fn offsets_that_are_known_to_rise(rt: HostRuntime) -> Result<(), Fail> {
+    let alloc = rt.alloc();
+    let values = Vec::from_array(alloc, [0i64, 0, 7])?;
+    begins(alloc);
+    let answer = OffsetsBuffer::of_rising(values);
+    ends_by(alloc, &answer);
+    assert!(rt; are_rising(answer));
+    Ok(())
+}
+
+/// Whether copies of a bitmap and of a buffer are made without memory.
+fn copies_freely(alloc: Global, bitmap: &Bitmap, buffer: &Buffer<u16>) -> bool {
+    begins_free(alloc);
+    let bits = bitmap.try_clone();
+    let values = buffer.try_clone();
+    ends_answered(alloc);
+    bits.is_ok() && values.is_ok() && are_bits(bits, &FIRST) && are_values(values, &[7, 8])
+}
+
+/// The same of offsets.
+fn copies_offsets(alloc: Global, offsets: &OffsetsBuffer<i64>) -> bool {
+    begins_free(alloc);
+    let copy = offsets.try_clone();
+    ends_answered(alloc);
+    match copy {
+        Ok(copy) => copy.as_slice() == [0, 2].as_slice(),
+        Err(_) => false,
+    }
+}
+
+#[test]
+fn no_memory_for_copies_of_shared_parts(rt: HostRuntime) -> Result<(), Fail> {
+    let bitmap = Bitmap::from_bools(rt.alloc(), &FIRST)?;
+    let buffer = Buffer::from_vec(vec![in rt.alloc(); 7u16, 8]?)?;
+    assert!(rt; copies_freely(rt.alloc(), &bitmap, &buffer));
+    Ok(())
+}
+
+#[test]
+fn no_memory_for_copies_of_offsets(rt: HostRuntime) -> Result<(), Fail> {
+    let offsets = OffsetsBuffer::try_from(vec![in rt.alloc(); 0i64, 2]?)?;
+    assert!(rt; copies_offsets(rt.alloc(), &offsets));
+    Ok(())
+}
+
+/// Two words of 56 bits, of which the first and the last one are true.
+fn packs_words(alloc: Global) -> PolarsResult<Bitmap> {
+    let mut packer = BitPacker::with_capacity(alloc, 0)?;
+    packer.append(1, 56)?;
+    packer.append(1 << 55, 56)?;
+    packer.into_bitmap(112)
+}
+
+/// Three bits one by one.
+fn packs_bits(alloc: Global) -> PolarsResult<Bitmap> {
+    let mut packer = BitPacker::with_capacity(alloc, 3)?;
+    packer.push(true)?;
+    packer.push(false)?;
+    packer.push(true)?;
+    packer.into_bitmap(3)
+}
+
+/// Seventy equal bits.
+fn packs_copies(alloc: Global) -> PolarsResult<Bitmap> {
+    let mut packer = BitPacker::with_capacity(alloc, 0)?;
+    packer.extend_constant(70, true)?;
+    packer.into_bitmap(70)
+}
+
+/// All bits but the first.
+fn packs_part(alloc: Global, source: &Bitmap) -> PolarsResult<Bitmap> {
+    let mut packer = BitPacker::with_capacity(alloc, 0)?;
+    if source.len() != 4 {
+        return Bitmap::new(alloc);
+    }
+    packer.extend_from_bitmap(source, 1, 3)?;
+    packer.into_bitmap(3)
+}
+
+/// Whether a call answered so many bits, of which so many are true, or want of memory.
+fn are_counted(answer: PolarsResult<Bitmap>, len: usize, set: usize) -> bool {
+    match answer {
+        Ok(bitmap) => bitmap.len() == len && bitmap.set_bits() == set,
+        Err(fault) => fault == PolarsError::OutOfMemory,
+    }
+}
+
+#[test]
+fn words_and_bits_packed(rt: HostRuntime) {
+    let alloc = rt.alloc();
+    begins(alloc);
+    let answer = packs_words(alloc);
+    ends_by(alloc, &answer);
+    assert!(rt; are_counted(answer, 112, 2));
+    begins(alloc);
+    let answer = packs_bits(alloc);
+    ends_by(alloc, &answer);
+    assert!(rt; are_bits(answer, &[true, false, true]));
+}
+
+#[test]
+fn copies_packed(rt: HostRuntime) {
+    let alloc = rt.alloc();
+    begins(alloc);
+    let answer = packs_copies(alloc);
+    ends_by(alloc, &answer);
+    assert!(rt; are_counted(answer, 70, 70));
+}
+
+#[test]
+fn parts_packed(rt: HostRuntime) -> Result<(), Fail> {
+    let source = Bitmap::from_bools(rt.alloc(), &FIRST)?;
+    begins(rt.alloc());
+    let answer = packs_part(rt.alloc(), &source);
+    ends_by(rt.alloc(), &answer);
+    assert!(rt; are_bits(answer, &[true, false, false]) && has_bits(&source, &FIRST));
+    Ok(())
+}

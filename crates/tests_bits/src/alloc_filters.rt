@@ -1,0 +1,201 @@
+//! What masks keep of bits and of values, beneath the filters of columns.
+
+use crate::alloc_bitmaps::are_bits;
+use crate::fixtures::has_bits;
+use crate::marks::{begins, begins_free, ends_answered, ends_by};
+use sel_bits::aligned_words::AlignedWords;
+use sel_bits::bitmap::Bitmap;
+use sel_bits::block_copy::BlockCopy;
+use sel_bits::blocks::U56Blocks;
+use sel_bits::counted_bits::CountedBits;
+use sel_bits::faults::{PolarsError, PolarsResult};
+use sel_filter::boolean::{
+    filter_boolean_kernel, filter_boolean_kernel_pext, filter_boolean_kernel_sparse,
+};
+use sel_filter::primitive::{filter_runs, filter_values};
+use sel_filter::scalar::{scalar_filter, scalar_filter_offset};
+use std::alloc::Global;
+use std::test::Fail;
+
+const VALUES: [bool; 5] = [true, false, true, true, false];
+
+const MASK: [bool; 5] = [false, true, true, false, true];
+
+const KEPT: [bool; 3] = [false, true, false];
+
+/// The kernels that keep bits.
+#[derive(Debug, Clone, Copy)]
+enum Kernel {
+    Chosen,
+    Sparse,
+    Packed,
+}
+
+/// Whether a kernel keeps these bits, and leaves both bitmaps as they were.
+fn keeps_bits(alloc: Global, kernel: Kernel, values: &Bitmap, mask: &Bitmap) -> bool {
+    if values.len() != mask.len() {
+        return false;
+    }
+    begins(alloc);
+    let answer = match kernel {
+        Kernel::Chosen => filter_boolean_kernel(alloc, values, mask),
+        Kernel::Sparse => filter_boolean_kernel_sparse(
+            alloc,
+            &mut CountedBits::new(values),
+            &mut AlignedWords::new(mask),
+        ),
+        Kernel::Packed => filter_boolean_kernel_pext(
+            alloc,
+            &mut U56Blocks::new(values),
+            &mut U56Blocks::new(mask),
+        ),
+    };
+    ends_by(alloc, &answer);
+    are_bits(answer, &KEPT) && has_bits(values, &VALUES) && has_bits(mask, &MASK)
+}
+
+#[test]
+fn kept_bits(rt: HostRuntime) -> Result<(), Fail> {
+    let values = Bitmap::from_bools(rt.alloc(), &VALUES)?;
+    let mask = Bitmap::from_bools(rt.alloc(), &MASK)?;
+    for kernel in [Kernel::Chosen, Kernel::Sparse, Kernel::Packed] {
+        assert!(rt;
+            keeps_bits(rt.alloc(), kernel, &values, &mask),
+            "{kernel:?}"
+        );
+    }
+    Ok(())
+}
+
+const NUMBERS: [u32; 5] = [10, 20, 30, 40, 50];
+
+const KEPT_NUMBERS: [u32; 3] = [20, 30, 50];
+
+/// Whether a call answered the kept numbers, or want of memory.
+fn are_numbers(answer: PolarsResult<Vec<u32>>) -> bool {
+    match answer {
+        Ok(kept) => kept.as_slice() == KEPT_NUMBERS.as_slice(),
+        Err(fault) => fault == PolarsError::OutOfMemory,
+    }
+}
+
+fn keeps_numbers(alloc: Global, mask: &Bitmap) -> bool {
+    if mask.len() != 5 {
+        return false;
+    }
+    begins(alloc);
+    let answer = filter_values(alloc, &NUMBERS, mask);
+    ends_by(alloc, &answer);
+    are_numbers(answer) && has_bits(mask, &MASK)
+}
+
+#[test]
+fn kept_numbers(rt: HostRuntime) -> Result<(), Fail> {
+    let mask = Bitmap::from_bools(rt.alloc(), &MASK)?;
+    assert!(rt; keeps_numbers(rt.alloc(), &mask));
+    Ok(())
+}
+
+/// Whether runs of numbers are copied, or a beginning of them where memory was wanting.
+fn copies_runs(alloc: Global, mask: &Bitmap) -> bool {
+    if mask.len() != 5 {
+        return false;
+    }
+    let mut out = BlockCopy::new(alloc, NUMBERS.as_slice());
+    let mut words = AlignedWords::new(mask);
+    begins(alloc);
+    let answer = filter_runs(&mut out, &mut words);
+    ends_by(alloc, &answer);
+    let items = out.into_vec();
+    match answer {
+        Ok(()) => items.as_slice() == KEPT_NUMBERS.as_slice(),
+        Err(fault) => {
+            fault == PolarsError::OutOfMemory
+                && items.len() < 3
+                && items.as_slice() == &KEPT_NUMBERS[..items.len()]
+        }
+    }
+}
+
+#[test]
+fn kept_runs(rt: HostRuntime) -> Result<(), Fail> {
+    let mask = Bitmap::from_bools(rt.alloc(), &MASK)?;
+    assert!(rt; copies_runs(rt.alloc(), &mask));
+    Ok(())
+}
+
+#[test]
+fn numbers_behind_others(rt: HostRuntime) -> Result<(), Fail> {
+    let mut out = vec![in rt.alloc(); 7u32]?;
+    begins(rt.alloc());
+    let answer = scalar_filter(&NUMBERS, &[0b10110], &mut out);
+    ends_by(rt.alloc(), &answer);
+    match answer {
+        Ok(()) => assert!(rt; out.as_slice() == [7, 20, 30, 50].as_slice()),
+        Err(fault) => {
+            assert_eq!(rt; fault, PolarsError::OutOfMemory);
+            assert!(rt; out.as_slice() == [7].as_slice());
+        }
+    }
+    Ok(())
+}
+
+/// The bits of a byte from the sixth on, and two more: the last three and the first two of the numbers' mask.
+fn late_mask(alloc: Global) -> Result<Bitmap, Fail> {
+    let bits = [
+        false, false, false, false, false, false, true, true, false, true,
+    ];
+    let all = Bitmap::from_bools(alloc, &bits)?;
+    if all.len() != 10 {
+        return Err(Fail::from("another length"));
+    }
+    Ok(all.sliced(5, 5))
+}
+
+/// Whether the numbers before a byte boundary are put behind 7, and where memory was wanting nothing.
+fn keeps_first(alloc: Global, mask: &Bitmap, out: &mut Vec<u32>) -> Result<bool, Fail> {
+    if mask.len() != 5 {
+        return Err(Fail::from("another length"));
+    }
+    begins(alloc);
+    let answer = scalar_filter_offset(&NUMBERS, mask, out);
+    ends_by(alloc, &answer);
+    Ok(match answer {
+        Ok((values, bytes)) => {
+            out.as_slice() == [7, 20, 30].as_slice()
+                && values == [40, 50].as_slice()
+                && bytes == [0b10].as_slice()
+        }
+        Err(fault) => fault == PolarsError::OutOfMemory && out.as_slice() == [7].as_slice(),
+    })
+}
+
+#[test]
+fn first_numbers_behind_others(rt: HostRuntime) -> Result<(), Fail> {
+    let mask = late_mask(rt.alloc())?;
+    let mut out = vec![in rt.alloc(); 7u32]?;
+    assert!(rt; keeps_first(rt.alloc(), &mask, &mut out)?);
+    Ok(())
+}
+
+/// Whether a mask that begins at a byte leaves all numbers for later, without memory.
+fn keeps_none_first(alloc: Global, mask: &Bitmap) -> Result<bool, Fail> {
+    if mask.len() != 5 {
+        return Err(Fail::from("another length"));
+    }
+    let mut out = Vec::new(alloc);
+    begins_free(alloc);
+    let answer = scalar_filter_offset(&NUMBERS, mask, &mut out);
+    ends_answered(alloc);
+    Ok(match answer {
+        Ok((values, _)) => out.is_empty() && values == NUMBERS.as_slice(),
+        Err(_) => false,
+    })
+}
+
+#[test]
+fn no_memory_at_a_byte_boundary(rt: HostRuntime) -> Result<(), Fail> {
+    let mask = Bitmap::from_bools(rt.alloc(), &MASK)?;
+    assert!(rt; keeps_none_first(rt.alloc(), &mask)?);
+    Ok(())
+}

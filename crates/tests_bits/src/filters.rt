@@ -1,0 +1,248 @@
+//! Filters of bits and of values, the extraction of the bits of a word under a mask, and copies of blocks.
+
+ghost use Rattle.std.specs.Prelude.{◌≡◌, ◌≤◌, length, IfOk};
+
+use crate::fixtures::begins_with;
+use sel_bits::bitmap::Bitmap;
+use sel_bits::block_copy::BlockCopy;
+use sel_bits::faults::PolarsResult;
+use sel_filter::boolean::{filter_boolean_kernel, pext64_polyfill};
+use sel_filter::primitive::filter_values;
+use sel_filter::scalar::{scalar_filter, scalar_filter_offset};
+use std::alloc::Global;
+use std::test::Fail;
+
+#[test]
+fn bits_under_masks(rt: HostRuntime) {
+    let rows = [
+        (0b10110100, 0b11001100, 4, 0b1001),
+        (0b10110100, 0b11111000, 5, 0b10110),
+        (u64::MAX, u64::MAX, 64, u64::MAX),
+        (0x8000000000000001, 0xF00000000000000F, 8, 0x81),
+        (0x8000000000000000, 0xAAAAAAAAAAAAAAAA, 32, 0x80000000),
+        (0, 0, 0, 0),
+    ];
+    for (value, mask, count, packed) in rows {
+        assert_eq!(rt; mask.count_ones(), count);
+        assert_eq!(rt; pext64_polyfill(value, mask, mask.count_ones()), packed);
+    }
+}
+
+// The extraction bit by bit, the highest kept bit first.
+fn extracted(value: u64, mask: u64) -> u64 {
+    let mut packed = 0u64;
+    for place in (0..64u32).rev() {
+        if mask & (1u64 << place) != 0 {
+            packed = packed.wrapping_mul(2) | (value >> place) & 1;
+        }
+    }
+    packed
+}
+
+// The `count` lowest set bits.
+fn lowest_bits(word: u64, count: u32) -> u64 {
+    let mut kept = 0u64;
+    let mut left = word;
+    for _ in 0..count {
+        let lowest = left & left.wrapping_neg();
+        kept |= lowest;
+        left ^= lowest;
+    }
+    kept
+}
+
+#[test]
+fn bits_of_many_words(rt: HostRuntime) {
+    let mut word = 1u64;
+    let mut next = || {
+        word = word
+            .wrapping_mul(6364136223846793005)
+            .wrapping_add(1442695040888963407);
+        word
+    };
+    for n in 0..100u32 {
+        let x = next();
+        let y = next();
+        let few = lowest_bits(y, n % 9);
+        for (value, mask) in [
+            (x, y),
+            (x, 0),
+            (x, u64::MAX),
+            (x, few),
+            (0, y),
+            (u64::MAX, y),
+        ] {
+            let packed = pext64_polyfill(value, mask, mask.count_ones());
+            assert_eq!(rt; packed, extracted(value, mask));
+        }
+    }
+}
+
+// 512 bits, true at these two places alone, which may be one.
+fn two_of_many(alloc: Global, first: usize, second: usize) -> PolarsResult<Bitmap> {
+    let mut bits = Vec::new(alloc);
+    for i in 0..512 {
+        bits.push(i == first || i == second)?;
+    }
+    Bitmap::from_bools(alloc, &bits)
+}
+
+// Whether the bits of the values under the mask are false and true.
+fn keeps_last(alloc: Global, values: &Bitmap, mask: &Bitmap) -> PolarsResult<bool> {
+    if values.len() != mask.len() {
+        return Ok(false);
+    }
+    let kept = filter_boolean_kernel(alloc, values, mask)?;
+    Ok(kept.len() == 2 && !kept.get_bit(0) && kept.get_bit(1))
+}
+
+#[test]
+fn two_bits_of_many(rt: HostRuntime) -> Result<(), Fail> {
+    let values = two_of_many(rt.alloc(), 511, 511)?;
+    let mask = two_of_many(rt.alloc(), 63, 511)?;
+    assert!(rt; keeps_last(rt.alloc(), &values, &mask) == Ok(true));
+    Ok(())
+}
+
+/// The numbers from 0 to 64.
+fn many_values(alloc: Global) -> PolarsResult<Vec<u64>> {
+    let mut values = Vec::new(alloc);
+    for i in 0..65u64 {
+        values.push(i)?;
+    }
+    Ok(values)
+}
+
+// Whether the values under these bytes of bits are four.
+fn keeps_few(alloc: Global, values: &[u64]) -> PolarsResult<bool> {
+    let bytes = [0b100101, 0, 0, 0, 0, 0, 0, 0, 0xFF];
+    if values.len() > 8 * bytes.len() {
+        return Ok(false);
+    }
+    let mut out = Vec::new(alloc);
+    scalar_filter(values, &bytes, &mut out)?;
+    Ok(out.as_slice() == [0, 2, 5, 64].as_slice())
+}
+
+#[test]
+fn values_by_bytes(rt: HostRuntime) -> Result<(), Fail> {
+    let values = many_values(rt.alloc())?;
+    assert!(rt; keeps_few(rt.alloc(), &values) == Ok(true));
+    Ok(())
+}
+
+// `len` true bits at bit offset 5.
+fn true_bits(alloc: Global, len: usize) -> PolarsResult<Bitmap>
+    requires { len ≤ 4 }
+    ensures { IfOk result (λ bits. length bits.bits ≡ len) }
+{
+    let bytes = Vec::from_slice(alloc, &[0xFF, 0xFF])?;
+    Ok(Bitmap::from_u8_vec(bytes, 16)?.sliced(5, len))
+}
+
+#[test]
+fn values_up_to_a_byte(rt: HostRuntime) -> Result<(), Fail> {
+    let alloc = rt.alloc();
+    let mask = true_bits(alloc, 4)?;
+    let mut out = Vec::new(alloc);
+    let (others, bytes) = scalar_filter_offset(&[10u32, 20, 30, 40], &mask, &mut out)?;
+    assert!(rt; out.as_slice() == [10, 20, 30].as_slice());
+    assert!(rt; others == [40].as_slice());
+    assert!(rt; bytes == [0xFF].as_slice());
+    scalar_filter(others, bytes, &mut out)?;
+    assert!(rt; out.as_slice() == [10, 20, 30, 40].as_slice());
+    Ok(())
+}
+
+#[test]
+fn no_values_behind_an_offset(rt: HostRuntime) -> Result<(), Fail> {
+    let alloc = rt.alloc();
+    let bytes = Vec::from_slice(alloc, &[0xFF])?;
+    let empty = Bitmap::from_u8_vec(bytes, 8)?.sliced(3, 0);
+    let none: [u32; 0] = [];
+    let mut out = Vec::new(alloc);
+    let (others, bytes) = scalar_filter_offset(&none, &empty, &mut out)?;
+    assert!(rt; out.is_empty() && others.is_empty() && bytes.is_empty());
+    Ok(())
+}
+
+// 112 bits at bit offset 3, true at even places.
+fn even_bits(alloc: Global) -> Result<Bitmap, Fail> {
+    let mut values = Vec::new(alloc);
+    for _ in 0..3 {
+        values.push(false)?;
+    }
+    for i in 0..112 {
+        values.push(i % 2 == 0)?;
+    }
+    let all = Bitmap::from_bools(alloc, &values)?;
+    if all.len() != 115 {
+        return Err(Fail::from("another length"));
+    }
+    Ok(all.sliced(3, 112))
+}
+
+// 112 bits, true at 0, 1, 2 and from 56 on.
+fn late_bits(alloc: Global) -> PolarsResult<Bitmap> {
+    let mut mask = Vec::new(alloc);
+    for i in 0..112 {
+        mask.push(i < 3 || i >= 56)?;
+    }
+    Bitmap::from_bools(alloc, &mask)
+}
+
+// Whether the bits of the values under the mask are so many, begin so, and half of them are true.
+fn keeps_even_bits(alloc: Global, values: &Bitmap, mask: &Bitmap) -> PolarsResult<bool> {
+    if (values.len(), mask.len()) != (112, 112) {
+        return Ok(false);
+    }
+    let kept = filter_boolean_kernel(alloc, values, mask)?;
+    Ok(
+        kept.len() == 59
+            && kept.set_bits() == 30
+            && begins_with(&kept, &[true, false, true, true, false]),
+    )
+}
+
+#[test]
+fn filter_keeps_even_bits(rt: HostRuntime) -> Result<(), Fail> {
+    let values = even_bits(rt.alloc())?;
+    let mask = late_bits(rt.alloc())?;
+    assert!(rt; keeps_even_bits(rt.alloc(), &values, &mask) == Ok(true));
+    Ok(())
+}
+
+// 65 bits, true at 0, 2, 5 and 64.
+fn few_bits(alloc: Global) -> PolarsResult<Bitmap> {
+    let mut mask = [false; 65];
+    mask[0] = true;
+    mask[2] = true;
+    mask[5] = true;
+    mask[64] = true;
+    Bitmap::from_bools(alloc, &mask)
+}
+
+#[test]
+fn filter_keeps_few_values(rt: HostRuntime) -> Result<(), Fail> {
+    let values = many_values(rt.alloc())?;
+    let mask = few_bits(rt.alloc())?;
+    if values.len() != mask.len() {
+        return Err(Fail::from("lengths do not match"));
+    }
+    let kept = filter_values(rt.alloc(), &values, &mask)?;
+    assert!(rt; kept.as_slice() == [0, 2, 5, 64].as_slice());
+    Ok(())
+}
+
+#[test]
+fn parts_and_equal_values(rt: HostRuntime) -> Result<(), Fail> {
+    let source = [1u8, 2, 3];
+    let mut out = BlockCopy::new(rt.alloc(), source.as_slice());
+    assert!(rt; out.source_len() == 3 && out.copies() == 0);
+    out.reserve(4)?;
+    out.copy(1, 2)?;
+    out.fill(9, 2)?;
+    assert!(rt; out.copies() == 2);
+    assert!(rt; out.into_vec().as_slice() == [2u8, 3, 9, 9].as_slice());
+    Ok(())
+}

@@ -1,0 +1,255 @@
+//! The pieces of the kernels: copies of items, runs, validities, data buffers, the bytes and texts of views, and choices by words.
+
+use polars_compute::if_then_else::if_then_else_validity;
+use polars_compute::if_then_else::scalar::if_then_else_words;
+use sel_arrow::array::Array;
+use sel_arrow::binview::BinaryViewArray;
+use sel_arrow::utf8view::Utf8ViewArray;
+use sel_arrow::view::View;
+use sel_bits::aligned_words::AlignedWords;
+use sel_bits::bitmap::Bitmap;
+use sel_bits::block_copy::BlockCopy;
+use sel_bits::buffer::Buffer;
+use sel_bits::faults::{PolarsError, PolarsResult};
+use sel_bits::packer::BitPacker;
+use sel_runs::bits::{push_validity, validity_from};
+use sel_runs::run::{Run, nulls_of, push_run, runs_of_picks};
+use sel_runs::view::push_buffers;
+use std::alloc::Global;
+use std::test::Fail;
+use tests_bits::fixtures::{buffer, has_bits};
+use tests_bits::marks::{begins, ends_by};
+use tests_columns::fixtures::one_buffer;
+
+// The bytes of the only row of a column of views.
+const LETTERS: &str = "hhhhhhhhhhhhhh";
+
+/// Whether a call answered that it is done, or want of memory.
+fn is_done(answer: &PolarsResult<()>) -> bool {
+    match answer {
+        Ok(()) => true,
+        Err(fault) => *fault == PolarsError::OutOfMemory,
+    }
+}
+
+/// Whether room is made, a part copied and a value filled in, each of which changes nothing where memory was wanting.
+fn copies_items(alloc: Global) -> bool {
+    let source = [1u8, 2, 3];
+    let mut out = BlockCopy::new(alloc, source.as_slice());
+    begins(alloc);
+    let reserved = out.reserve(1);
+    ends_by(alloc, &reserved);
+    begins(alloc);
+    let filled = out.fill(9, 40);
+    ends_by(alloc, &filled);
+    let items = out.into_vec();
+    let len = if filled.is_ok() { 40 } else { 0 };
+    is_done(&reserved) && is_done(&filled) && items.as_slice() == &[9u8; 40][..len]
+}
+
+/// The same of a part.
+fn copies_part(alloc: Global) -> bool {
+    let source = [1u8, 2, 3];
+    let mut out = BlockCopy::new(alloc, source.as_slice());
+    begins(alloc);
+    let copied = out.copy(1, 2);
+    ends_by(alloc, &copied);
+    let items = out.into_vec();
+    let len = if copied.is_ok() { 2 } else { 0 };
+    is_done(&copied) && items.as_slice() == &[2u8, 3][..len]
+}
+
+#[test]
+fn items_copied(rt: HostRuntime) {
+    assert!(rt; copies_items(rt.alloc()));
+    assert!(rt; copies_part(rt.alloc()));
+}
+
+/// Whether the runs are two rows of source 0 from row 1 on, and a null.
+fn are_runs(answer: PolarsResult<Vec<Run>>) -> bool {
+    match answer {
+        Ok(runs) => {
+            runs.len() == 2
+                && runs[0].source == Some(0)
+                && runs[0].start == 1
+                && runs[0].len == 2
+                && runs[1].source.is_none()
+                && runs[1].len == 1
+        }
+        Err(fault) => fault == PolarsError::OutOfMemory,
+    }
+}
+
+#[test]
+fn runs_of_picked_rows(rt: HostRuntime) {
+    let alloc = rt.alloc();
+    begins(alloc);
+    let answer = runs_of_picks(alloc, &[Some((0, 1)), Some((0, 2)), None]);
+    ends_by(alloc, &answer);
+    assert!(rt; are_runs(answer));
+}
+
+/// Whether a run is put behind none, or want of memory was told and there is still none.
+fn pushes_run(alloc: Global) -> bool {
+    let mut runs = Vec::new(alloc);
+    begins(alloc);
+    let answer = push_run(&mut runs, nulls_of(2));
+    ends_by(alloc, &answer);
+    let count = if answer.is_ok() { 1 } else { 0 };
+    is_done(&answer) && runs.len() == count
+}
+
+#[test]
+fn run_behind_others(rt: HostRuntime) {
+    assert!(rt; pushes_run(rt.alloc()));
+}
+
+/// Two true bits, and behind them the last two of three, as a validity.
+fn joins_validities(alloc: Global, bits: &Bitmap) -> PolarsResult<Option<Bitmap>> {
+    let mut packer = BitPacker::with_capacity(alloc, 0)?;
+    if bits.len() != 3 {
+        return Ok(None);
+    }
+    push_validity(&mut packer, None, 0, 2)?;
+    push_validity(&mut packer, Some(bits), 1, 2)?;
+    validity_from(packer, 4)
+}
+
+/// Whether a call answered these bits as a validity, or want of memory.
+fn is_validity(answer: PolarsResult<Option<Bitmap>>, bits: &[bool]) -> bool {
+    match answer {
+        Ok(Some(validity)) => has_bits(&validity, bits),
+        Ok(None) => false,
+        Err(fault) => fault == PolarsError::OutOfMemory,
+    }
+}
+
+#[test]
+fn validities_joined(rt: HostRuntime) -> Result<(), Fail> {
+    let alloc = rt.alloc();
+    let bits = Bitmap::from_bools(alloc, &[true, false, true])?;
+    begins(alloc);
+    let answer = joins_validities(alloc, &bits);
+    ends_by(alloc, &answer);
+    assert!(rt; is_validity(answer, &[true, true, false, true]));
+    assert!(rt; has_bits(&bits, &[true, false, true]));
+    Ok(())
+}
+
+/// Whether data buffers are those behind the first one, or a beginning of them.
+fn are_joined(joined: &[Buffer<u8>], is_whole: bool) -> bool {
+    match joined {
+        [first] => !is_whole && first.as_slice() == [1].as_slice(),
+        [first, second] => {
+            is_whole && first.as_slice() == [1].as_slice() && second.as_slice() == [2, 3].as_slice()
+        }
+        _ => false,
+    }
+}
+
+#[test]
+fn data_buffers_joined(rt: HostRuntime) -> Result<(), Fail> {
+    let alloc = rt.alloc();
+    let mut joined = Vec::with_capacity(alloc, 1)?;
+    joined.push(buffer(alloc, &[1u8])?)?;
+    let others = vec![in alloc; buffer(alloc, &[2u8, 3])?]?;
+    begins(alloc);
+    let answer = push_buffers(&mut joined, &others);
+    ends_by(alloc, &answer);
+    assert!(rt; is_done(&answer) && are_joined(&joined, answer.is_ok()));
+    drop(joined);
+    drop(others);
+    Ok(())
+}
+
+/// Whether the bytes of a row are 14 letters, or want of memory was told.
+fn are_letters(answer: PolarsResult<Option<Vec<u8>>>) -> bool {
+    match answer {
+        Ok(Some(bytes)) => bytes.as_slice() == LETTERS.as_bytes(),
+        Ok(None) => false,
+        Err(fault) => fault == PolarsError::OutOfMemory,
+    }
+}
+
+/// The same of a text.
+fn is_text(answer: PolarsResult<Option<String>>) -> bool {
+    match answer {
+        Ok(Some(text)) => text.as_str() == LETTERS,
+        Ok(None) => false,
+        Err(fault) => fault == PolarsError::OutOfMemory,
+    }
+}
+
+fn gets_bytes(alloc: Global, bytes: &BinaryViewArray) -> bool {
+    if bytes.len() != 1 {
+        return false;
+    }
+    begins(alloc);
+    let answer = bytes.get(alloc, 0);
+    ends_by(alloc, &answer);
+    are_letters(answer)
+}
+
+fn gets_text(alloc: Global, texts: &Utf8ViewArray) -> bool {
+    if texts.len() != 1 {
+        return false;
+    }
+    begins(alloc);
+    let answer = texts.get(alloc, 0);
+    ends_by(alloc, &answer);
+    is_text(answer)
+}
+
+#[test]
+fn row_of_binary_and_string_views(rt: HostRuntime) -> Result<(), Fail> {
+    let alloc = rt.alloc();
+    let view = View::new_from_bytes(LETTERS.as_bytes(), 0, 0);
+    let data = one_buffer(alloc, LETTERS.as_bytes())?;
+    let bytes = BinaryViewArray::try_new(buffer(alloc, &[view])?, data, None)?;
+    assert!(rt; gets_bytes(alloc, &bytes));
+    drop(bytes);
+    let data = one_buffer(alloc, LETTERS.as_bytes())?;
+    let texts = Utf8ViewArray::try_new(buffer(alloc, &[view])?, data, None)?;
+    assert!(rt; gets_text(alloc, &texts));
+    drop(texts);
+    Ok(())
+}
+
+#[test]
+fn validity_of_a_choice(rt: HostRuntime) -> Result<(), Fail> {
+    let alloc = rt.alloc();
+    let mask = Bitmap::from_bools(alloc, &[true, false])?;
+    let bits = Bitmap::from_bools(alloc, &[false, false])?;
+    if bits.len() != mask.len() {
+        return Err(Fail::from("another length"));
+    }
+    begins(alloc);
+    let answer = if_then_else_validity(alloc, &mask, None, Some(&bits));
+    ends_by(alloc, &answer);
+    assert!(rt; is_validity(answer, &[true, false]));
+    assert!(rt; has_bits(&mask, &[true, false]) && has_bits(&bits, &[false, false]));
+    Ok(())
+}
+
+/// Whether a call answered these numbers, or want of memory.
+fn are_numbers(answer: PolarsResult<Vec<u64>>, numbers: &[u64]) -> bool {
+    match answer {
+        Ok(chosen) => chosen.as_slice() == numbers,
+        Err(fault) => fault == PolarsError::OutOfMemory,
+    }
+}
+
+#[test]
+fn values_of_a_choice(rt: HostRuntime) -> Result<(), Fail> {
+    let alloc = rt.alloc();
+    let mask = Bitmap::from_bools(alloc, &[true, false, true])?;
+    if mask.len() != 3 {
+        return Err(Fail::from("another length"));
+    }
+    let mut words = AlignedWords::new(&mask);
+    begins(alloc);
+    let answer = if_then_else_words(alloc, &mut words, &[1u64, 2, 3], &[4, 5, 6]);
+    ends_by(alloc, &answer);
+    assert!(rt; are_numbers(answer, &[1, 5, 3]));
+    Ok(())
+}

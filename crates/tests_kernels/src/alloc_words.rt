@@ -1,0 +1,114 @@
+//! The calls on words, views, runs and validities that must not allocate, with every allocation refused.
+
+use polars_compute::if_then_else::scalar::{
+    if_then_else_broadcast_both_scalar_64, if_then_else_broadcast_both_scalar_rest,
+    if_then_else_broadcast_false_scalar_64, if_then_else_broadcast_false_scalar_rest,
+    if_then_else_scalar_64, if_then_else_scalar_rest,
+};
+use polars_compute::if_then_else::view::{
+    if_then_else_broadcast_false_view_64, if_then_else_view_64, if_then_else_view_rest,
+    views_can_rise,
+};
+use sel_arrow::validity::{clone_validity, has_other_length, is_valid_at, sliced_validity};
+use sel_arrow::view::View;
+use sel_bits::bitmap::Bitmap;
+use sel_bits::faults::PolarsResult;
+use sel_runs::run::{nulls_of, run_of_pick};
+use sel_runs::view::raised_view;
+use std::alloc::Global;
+use std::test::Fail;
+use tests_bits::fixtures::has_bits;
+use tests_bits::marks::{begins_free, ends_answered};
+
+/// Whether values are chosen by a few bits of a word.
+fn chooses_few(alloc: Global) -> bool {
+    let (mut both, mut one, mut none) = ([0u8; 3], [0u8; 3], [0u8; 3]);
+    begins_free(alloc);
+    if_then_else_scalar_rest(0b101, &[1, 2, 3], &[4, 5, 6], &mut both);
+    if_then_else_broadcast_false_scalar_rest(0b101, &[1, 2, 3], 9, &mut one);
+    if_then_else_broadcast_both_scalar_rest(0b110, 7, 8, &mut none);
+    ends_answered(alloc);
+    both == [1, 5, 3] && one == [1, 9, 3] && none == [8, 7, 7]
+}
+
+/// Whether values are chosen by all bits of a word.
+fn chooses_many(alloc: Global) -> bool {
+    let (mut both, mut one, mut none) = ([0u8; 64], [0u8; 64], [0u8; 64]);
+    begins_free(alloc);
+    if_then_else_scalar_64(u64::MAX, &[1; 64], &[2; 64], &mut both);
+    if_then_else_broadcast_false_scalar_64(0, &[3; 64], 4, &mut one);
+    if_then_else_broadcast_both_scalar_64(u64::MAX, 5, 6, &mut none);
+    ends_answered(alloc);
+    both == [1; 64] && one == [4; 64] && none == [5; 64]
+}
+
+/// Whether runs of one row and of nulls are made, and a view is raised.
+fn makes_runs(alloc: Global) -> bool {
+    let far = View::new_from_bytes(b"abcdefghijklm", 2, 5);
+    begins_free(alloc);
+    let one = run_of_pick(Some((2, 7)));
+    let none = nulls_of(3);
+    let raised = raised_view(far, 3);
+    ends_answered(alloc);
+    let is_one = one.source == Some(2) && one.start == 7 && one.len == 1;
+    is_one && none.source.is_none() && none.len == 3 && raised.buffer_idx == 5
+}
+
+#[test]
+fn no_memory_for_one_run(rt: HostRuntime) {
+    assert!(rt; makes_runs(rt.alloc()));
+}
+
+/// Whether views are chosen by the bits of a word.
+fn chooses_views(alloc: Global) -> bool {
+    let far = View::new_from_bytes(b"abcdefghijklm", 0, 0);
+    let raised = View::new_from_bytes(b"abcdefghijklm", 1, 0);
+    let falses = [far; 64];
+    let (mut few, mut many, mut one) = ([far; 2], [far; 64], [far; 64]);
+    begins_free(alloc);
+    let can_rise = views_can_rise(&falses, 1) && views_can_rise(&[far; 2], 1);
+    if can_rise {
+        if_then_else_view_rest(0b10, &[far; 2], &[far; 2], &mut few, 1);
+        if_then_else_view_64(0, &[far; 64], &falses, &mut many, 1);
+    }
+    if_then_else_broadcast_false_view_64(0, &[far; 64], raised, &mut one);
+    ends_answered(alloc);
+    can_rise && few == [raised, far] && many == [raised; 64] && one == [raised; 64]
+}
+
+#[test]
+fn no_memory_for_choices_by_a_word(rt: HostRuntime) {
+    assert!(rt; chooses_few(rt.alloc()));
+    assert!(rt; chooses_many(rt.alloc()));
+    assert!(rt; chooses_views(rt.alloc()));
+}
+
+const BITS: [bool; 5] = [true, false, true, true, false];
+
+/// Whether a call answered these bits as a validity.
+fn is_validity(answer: PolarsResult<Option<Bitmap>>, bits: &[bool]) -> bool {
+    match answer {
+        Ok(Some(validity)) => has_bits(&validity, bits),
+        Ok(None) => false,
+        Err(_) => false,
+    }
+}
+
+fn parts_validity(alloc: Global, validity: &Option<Bitmap>) -> bool {
+    if has_other_length(validity, 5) {
+        return false;
+    }
+    begins_free(alloc);
+    let is_first = is_valid_at(validity, 0);
+    let part = sliced_validity(validity, 1, 2);
+    let copy = clone_validity(validity);
+    ends_answered(alloc);
+    is_first && is_validity(part, &[false, true]) && is_validity(copy, &BITS)
+}
+
+#[test]
+fn no_memory_for_parts_of_validities(rt: HostRuntime) -> Result<(), Fail> {
+    let validity = Some(Bitmap::from_bools(rt.alloc(), &BITS)?);
+    assert!(rt; parts_validity(rt.alloc(), &validity));
+    Ok(())
+}

@@ -1,0 +1,293 @@
+//! If-then-else between a typed array and a single value, and between two values.
+
+ghost use Rattle.std.specs.Prelude.{◌≡◌};
+ghost use Rattle.sel_arrow.specs.DataType.{shape_of};
+
+use crate::parsed::{fixed_lists, lists, parsed, returns};
+use sel_arrow::array::Array;
+use sel_arrow::array_ref::ArrayRef;
+use sel_arrow::binview::BinaryViewArray;
+use sel_arrow::boolean::BooleanArray;
+use sel_arrow::datatype::ArrowDataType;
+use sel_arrow::fixed_size_list::FixedSizeListArray;
+use sel_arrow::list::ListArray;
+use sel_arrow::primitive::{ArrowPrimitive, PrimitiveArray};
+use sel_arrow::utf8view::Utf8ViewArray;
+use sel_bits::bitmap::Bitmap;
+use sel_bits::faults::PolarsResult;
+use sel_choices::if_then_else::IfThenElseKernel;
+use sel_text::read_type::parse_dtype;
+use std::alloc::Global;
+use std::test::Fail;
+use tests_columns::fixtures::{column, truths};
+
+const MASK: [bool; 5] = [true, true, false, true, false];
+
+// Returns whether the value is the true rows, and then the false rows, of the result.
+fn broadcasts<C: IfThenElseKernel>(
+    alloc: Global,
+    values: &C,
+    scalar: &C::Scalar,
+    as_true: &str,
+    as_false: &str,
+) -> Result<bool, Fail>
+    requires { C.fits scalar.now (C.shape values.now) }
+{
+    let mask = Bitmap::from_bools(alloc, &MASK)?;
+    if values.len() != mask.len() {
+        return Err(Fail::from("lengths do not match"));
+    }
+    let made = C::if_then_else_broadcast_true(alloc, &mask, scalar, values);
+    if !returns(alloc, made, as_true)? {
+        return Ok(false);
+    }
+    let made = C::if_then_else_broadcast_false(alloc, &mask, values, scalar);
+    returns(alloc, made, as_false)
+}
+
+// Returns whether the rows between two values are these.
+fn broadcasts_both<C: IfThenElseKernel>(
+    alloc: Global,
+    dtype: ArrowDataType,
+    if_true: &C::Scalar,
+    if_false: &C::Scalar,
+    rows: &str,
+) -> Result<bool, Fail>
+    requires own { C.is_own (shape_of dtype) }
+    requires true_fits { C.fits if_true.now (shape_of dtype) }
+    requires false_fits { C.fits if_false.now (shape_of dtype) }
+{
+    let mask = Bitmap::from_bools(alloc, &MASK)?;
+    returns(
+        alloc,
+        C::if_then_else_broadcast_both(alloc, dtype, &mask, if_true, if_false),
+        rows,
+    )
+}
+
+#[test]
+fn broadcast_numbers(rt: HostRuntime) -> Result<(), Fail> {
+    let alloc = rt.alloc();
+    let values = column(alloc, &[Some(1i64), None, Some(2), Some(7), Some(4)], 9)?;
+    let is_so = broadcasts(alloc, &values, &3, "[3,3,2,3,4]", "[1,null,3,7,3]");
+    drop(values);
+    assert!(rt; is_so?);
+    let dtype = i64::column_dtype();
+    assert!(rt; broadcasts_both::<PrimitiveArray<i64>>(alloc, dtype, &3, &1, "[3,3,1,3,1]")?);
+    Ok(())
+}
+
+#[test]
+fn broadcast_booleans(rt: HostRuntime) -> Result<(), Fail> {
+    let alloc = rt.alloc();
+    let valid = [true, false, true, true, true];
+    let values = truths(alloc, &[false, true, false, true, true], &valid)?;
+    let as_true = "[true,true,false,true,true]";
+    let is_so = broadcasts(
+        alloc,
+        &values,
+        &true,
+        as_true,
+        "[false,null,true,true,true]",
+    );
+    drop(values);
+    assert!(rt; is_so?);
+    let rows = "[true,true,false,true,false]";
+    assert!(rt;
+        broadcasts_both::<BooleanArray>(alloc, ArrowDataType::Boolean, &true, &false, rows)?
+    );
+    Ok(())
+}
+
+const BYTES: &str = r#"[h"61",null,h"63",h"6768696a6b6c6d6e6f70717273",h"65"]"#;
+
+const LONG: &[u8; 13] = b"nopqrstuvwxyz";
+
+fn views(alloc: Global) -> Result<BinaryViewArray, Fail> {
+    match parsed(alloc, "binview", BYTES)?.into_binview() {
+        Ok(views) => Ok(views),
+        Err(back) => {
+            drop(back);
+            Err(Fail::from("a column of another type"))
+        }
+    }
+}
+
+#[test]
+fn broadcast_binary_views(rt: HostRuntime) -> Result<(), Fail> {
+    let alloc = rt.alloc();
+    let long = Vec::from_slice(alloc, LONG)?;
+    let values = views(alloc)?;
+    let is_so = broadcasts(
+        alloc,
+        &values,
+        &long,
+        r#"[h"6e6f707172737475767778797a",h"6e6f707172737475767778797a",h"63",h"6e6f707172737475767778797a",h"65"]"#,
+        r#"[h"61",null,h"6e6f707172737475767778797a",h"6768696a6b6c6d6e6f70717273",h"6e6f707172737475767778797a"]"#,
+    );
+    drop(values);
+    assert!(rt; is_so?);
+    let short = Vec::from_slice(alloc, b"x")?;
+    let rows = r#"[h"78",h"78",h"6e6f707172737475767778797a",h"78",h"6e6f707172737475767778797a"]"#;
+    assert!(rt;
+        broadcasts_both::<BinaryViewArray>(alloc, ArrowDataType::BinaryView, &short, &long, rows)?
+    );
+    Ok(())
+}
+
+fn texts(alloc: Global) -> Result<Utf8ViewArray, Fail> {
+    match parsed(
+        alloc,
+        "utf8",
+        r#"["a",null,"c","a string of many bytes","e"]"#,
+    )?
+    .into_utf8view()
+    {
+        Ok(texts) => Ok(texts),
+        Err(back) => {
+            drop(back);
+            Err(Fail::from("a column of another type"))
+        }
+    }
+}
+
+#[test]
+fn broadcast_strings(rt: HostRuntime) -> Result<(), Fail> {
+    let alloc = rt.alloc();
+    let word = String::from_str(alloc, "word")?;
+    let values = texts(alloc)?;
+    let as_true = r#"["word","word","c","word","e"]"#;
+    let as_false = r#"["a",null,"word","a string of many bytes","word"]"#;
+    let is_so = broadcasts(alloc, &values, &word, as_true, as_false);
+    drop(values);
+    assert!(rt; is_so?);
+    let other = String::from_str(alloc, "another string of many bytes")?;
+    let rows =
+        r#"["word","word","another string of many bytes","word","another string of many bytes"]"#;
+    assert!(rt;
+        broadcasts_both::<Utf8ViewArray>(alloc, ArrowDataType::Utf8View, &word, &other, rows)?
+    );
+    Ok(())
+}
+
+fn broadcasts_lists(
+    alloc: Global,
+    values: &ListArray<i64>,
+    scalar: &ArrayRef,
+    as_true: &str,
+    as_false: &str,
+) -> Result<bool, Fail> {
+    if !values.scalar_fits(scalar) {
+        return Err(Fail::from("the list does not fit"));
+    }
+    broadcasts(alloc, values, scalar, as_true, as_false)
+}
+
+fn broadcasts_fixed_lists(
+    alloc: Global,
+    values: &FixedSizeListArray,
+    scalar: &ArrayRef,
+    as_true: &str,
+    as_false: &str,
+) -> Result<bool, Fail> {
+    if !values.scalar_fits(scalar) {
+        return Err(Fail::from("the list does not fit"));
+    }
+    broadcasts(alloc, values, scalar, as_true, as_false)
+}
+
+#[test]
+fn broadcast_lists(rt: HostRuntime) -> Result<(), Fail> {
+    let alloc = rt.alloc();
+    let values = lists(alloc, "list<i64>", "[[1],null,[2,null],[7],[]]")?;
+    let scalar = parsed(alloc, "i64", "[3,null,3]")?;
+    let as_true = "[[3,null,3],[3,null,3],[2,null],[3,null,3],[]]";
+    let as_false = "[[1],null,[3,null,3],[7],[3,null,3]]";
+    let is_so = broadcasts_lists(alloc, &values, &scalar, as_true, as_false);
+    drop(values);
+    drop(scalar);
+    assert!(rt; is_so?);
+    Ok(())
+}
+
+#[test]
+fn broadcast_fixed_size_lists(rt: HostRuntime) -> Result<(), Fail> {
+    let alloc = rt.alloc();
+    let values = fixed_lists(alloc, "fixed<2,i64>", "[[1,5],null,[2,5],[7,null],[4,5]]")?;
+    let scalar = parsed(alloc, "i64", "[3,9]")?;
+    let as_true = "[[3,9],[3,9],[2,5],[3,9],[4,5]]";
+    let as_false = "[[1,5],null,[3,9],[7,null],[3,9]]";
+    let is_so = broadcasts_fixed_lists(alloc, &values, &scalar, as_true, as_false);
+    drop(values);
+    drop(scalar);
+    assert!(rt; is_so?);
+    Ok(())
+}
+
+// Returns the rows between two lists of a type.
+fn between_lists(
+    alloc: Global,
+    dtype: ArrowDataType,
+    if_true: &ArrayRef,
+    if_false: &ArrayRef,
+    rows: &str,
+) -> Result<bool, Fail> {
+    if !dtype.scalar_fits(if_true) || !dtype.scalar_fits(if_false) {
+        drop(dtype);
+        return Err(Fail::from("the lists do not fit"));
+    }
+    match dtype {
+        ArrowDataType::LargeList(_) => {
+            broadcasts_both::<ListArray<i64>>(alloc, dtype, if_true, if_false, rows)
+        }
+        ArrowDataType::FixedSizeList(..) => {
+            broadcasts_both::<FixedSizeListArray>(alloc, dtype, if_true, if_false, rows)
+        }
+        dtype => {
+            drop(dtype);
+            Err(Fail::from("not a type of lists"))
+        }
+    }
+}
+
+fn between(
+    alloc: Global,
+    dtype: &str,
+    first: &str,
+    second: &str,
+    rows: &str,
+) -> Result<bool, Fail> {
+    let Ok(dtype) = parse_dtype(alloc, dtype) else {
+        return Err(Fail::from("not a type"));
+    };
+    let if_true = match parsed(alloc, "i64", first) {
+        Ok(if_true) => if_true,
+        Err(fail) => {
+            drop(dtype);
+            return Err(fail);
+        }
+    };
+    match parsed(alloc, "i64", second) {
+        Ok(if_false) => {
+            let is_so = between_lists(alloc, dtype, &if_true, &if_false, rows);
+            drop(if_true);
+            drop(if_false);
+            is_so
+        }
+        Err(fail) => {
+            drop(if_true);
+            drop(dtype);
+            Err(fail)
+        }
+    }
+}
+
+#[test]
+fn broadcast_two_lists(rt: HostRuntime) -> Result<(), Fail> {
+    let alloc = rt.alloc();
+    let rows = "[[3,null],[3,null],[],[3,null],[]]";
+    assert!(rt; between(alloc, "list<i64>", "[3,null]", "[]", rows)?);
+    let rows = "[[3,5],[3,5],[1,null],[3,5],[1,null]]";
+    assert!(rt; between(alloc, "fixed<2,i64>", "[3,5]", "[1,null]", rows)?);
+    Ok(())
+}

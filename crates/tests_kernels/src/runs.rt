@@ -1,0 +1,125 @@
+//! The pieces by which rows are copied in runs: runs of picks, rows of one column, validities, views and data buffers.
+
+use sel_arrow::view::View;
+use sel_bits::bitmap::Bitmap;
+use sel_bits::buffer::Buffer;
+use sel_bits::faults::PolarsResult;
+use sel_bits::packer::BitPacker;
+use sel_runs::bits::{push_validity, validity_from};
+use sel_runs::run::{Run, nulls_of, push_run, run_of_pick, runs_of_picks};
+use sel_runs::sources::picked_rows;
+use sel_runs::view::{push_buffers, raised_view};
+use std::alloc::Global;
+use std::test::Fail;
+use tests_bits::fixtures::{buffer, has_bits};
+
+// Whether the run is so many rows of this source from this row on.
+fn is_run(run: &Run, source: u32, start: u32, len: u32) -> bool {
+    run.source == Some(source) && run.start == start && run.len == len
+}
+
+// Whether the run is so many nulls.
+fn is_run_of_nulls(run: &Run, len: u32) -> bool {
+    run.source.is_none() && run.len == len
+}
+
+#[test]
+fn a_pick_is_a_run_of_one(rt: HostRuntime) {
+    assert!(rt; is_run(&run_of_pick(Some((2, 7))), 2, 7, 1));
+    assert!(rt; is_run_of_nulls(&run_of_pick(None), 1));
+    assert!(rt; is_run_of_nulls(&nulls_of(3), 3));
+}
+
+#[test]
+fn picks_that_go_on_are_one_run(rt: HostRuntime) -> Result<(), Fail> {
+    let picks = [
+        Some((0, 1)),
+        Some((0, 2)),
+        None,
+        None,
+        Some((1, 3)),
+        Some((0, 3)),
+    ];
+    let runs = runs_of_picks(rt.alloc(), &picks)?;
+    assert!(rt; runs.len() == 4);
+    assert!(rt; is_run(&runs[0], 0, 1, 2) && is_run_of_nulls(&runs[1], 2));
+    assert!(rt; is_run(&runs[2], 1, 3, 1) && is_run(&runs[3], 0, 3, 1));
+    Ok(())
+}
+
+// Two true bits, and behind them the last three of four.
+fn two_and_three_bits(alloc: Global) -> PolarsResult<Option<Bitmap>> {
+    let bits = Bitmap::from_bools(alloc, &[false, true, false, true])?;
+    let mut packer = BitPacker::with_capacity(alloc, 5)?;
+    push_validity(&mut packer, None, 0, 2)?;
+    push_validity(&mut packer, Some(&bits), 1, 3)?;
+    validity_from(packer, 5)
+}
+
+// Three true bits, and behind them the last of two.
+fn three_and_one_bit(alloc: Global) -> PolarsResult<Option<Bitmap>> {
+    let bits = Bitmap::from_bools(alloc, &[false, true])?;
+    let mut packer = BitPacker::with_capacity(alloc, 4)?;
+    push_validity(&mut packer, None, 7, 3)?;
+    push_validity(&mut packer, Some(&bits), 1, 1)?;
+    validity_from(packer, 4)
+}
+
+#[test]
+fn validities_behind_one_another(rt: HostRuntime) -> Result<(), Fail> {
+    let bits = two_and_three_bits(rt.alloc())?.ok_or("all are true")?;
+    assert!(rt; has_bits(&bits, &[true, true, true, false, true]));
+    assert!(rt; three_and_one_bit(rt.alloc())?.is_none());
+    Ok(())
+}
+
+#[test]
+fn long_views_alone_are_raised(rt: HostRuntime) {
+    let long = View::new_from_bytes(b"abcdefghijklm", 2, 5);
+    let raised = View::new_from_bytes(b"abcdefghijklm", 5, 5);
+    assert!(rt; raised_view(long, 3) == raised);
+    let short = View::new_from_bytes(b"abcdefghijkl", 0, 0);
+    assert!(rt; raised_view(short, 4_294_967_295) == short);
+}
+
+// The data buffers of 1, of 2 and 3, and of nothing.
+fn three_buffers(alloc: Global) -> PolarsResult<Vec<Buffer<u8>>> {
+    let mut joined = vec![in alloc; buffer(alloc, &[1u8])?]?;
+    let others = vec![in alloc; buffer(alloc, &[2u8, 3])?, buffer(alloc, &[])?]?;
+    push_buffers(&mut joined, &others)?;
+    Ok(joined)
+}
+
+// Whether these are those buffers.
+fn are_three_buffers(buffers: &[Buffer<u8>]) -> bool {
+    buffers.len() == 3
+        && buffers[0].as_slice() == [1].as_slice()
+        && buffers[1].as_slice() == [2, 3].as_slice()
+        && buffers[2].as_slice().is_empty()
+}
+
+#[test]
+fn data_buffers_behind_one_another(rt: HostRuntime) -> Result<(), Fail> {
+    let buffers = three_buffers(rt.alloc())?;
+    assert!(rt; are_three_buffers(&buffers));
+    drop(buffers);
+    Ok(())
+}
+
+// Two runs that go on from one another, and nulls.
+fn some_runs(alloc: Global) -> PolarsResult<Vec<Run>> {
+    let mut runs = Vec::new(alloc);
+    for (source, start, len) in [(Some(0), 1, 1), (Some(0), 2, 1), (None, 0, 2)] {
+        if picked_rows(&runs) <= 10 && len <= 10 {
+            push_run(&mut runs, Run { source, start, len })?;
+        }
+    }
+    Ok(runs)
+}
+
+#[test]
+fn runs_that_go_on_are_one(rt: HostRuntime) -> Result<(), Fail> {
+    let runs = some_runs(rt.alloc())?;
+    assert!(rt; runs.len() == 2 && picked_rows(&runs) == 4);
+    Ok(())
+}

@@ -1,0 +1,147 @@
+//! `select_rows`: the rows of several columns at indices among those that a mask keeps.
+
+use crate::parsed::{parsed, prints};
+use sel_arrow::array::Array;
+use sel_arrow::array_ref::ArrayRef;
+use sel_arrow::boolean::BooleanArray;
+use sel_arrow::fixed_size_list::FixedSizeListArray;
+use sel_arrow::null::NullArray;
+use sel_arrow::primitive::IdxArr;
+use sel_bits::faults::{Limit, PolarsError, PolarsResult};
+use sel_lines::select::{select_is_safe, select_rows};
+use std::alloc::Global;
+use std::test::Fail;
+use tests_columns::fixtures::{column, truths};
+
+// A column as its type, its rows, and the rows that are selected of it.
+type Part = (&'static str, &'static str, &'static str);
+
+fn columns_of(alloc: Global, parts: &[Part]) -> Result<Vec<ArrayRef>, Fail> {
+    let mut columns = Vec::with_capacity(alloc, parts.len())?;
+    for (dtype, rows, _) in parts {
+        columns.push(parsed(alloc, *dtype, *rows)?)?;
+    }
+    Ok(columns)
+}
+
+// Returns the selected rows, if the precondition holds.
+fn selected_at(
+    alloc: Global,
+    columns: &[ArrayRef],
+    mask: &BooleanArray,
+    indices: Result<IdxArr, Fail>,
+) -> Result<PolarsResult<Vec<ArrayRef>>, Fail> {
+    let indices = indices?;
+    if !select_is_safe(columns, mask, &indices) {
+        return Err(Fail::from("not safe"));
+    }
+    Ok(select_rows(alloc, columns, mask, &indices))
+}
+
+fn selected(
+    alloc: Global,
+    columns: &[ArrayRef],
+    mask: Result<BooleanArray, Fail>,
+    indices: &[Option<u32>],
+) -> Result<PolarsResult<Vec<ArrayRef>>, Fail> {
+    let mask = mask?;
+    let result = selected_at(alloc, columns, &mask, column(alloc, indices, 0));
+    drop(mask);
+    result
+}
+
+// Returns whether the columns print as the last text of each part, and drops the columns.
+fn are_rows(alloc: Global, columns: Vec<ArrayRef>, parts: &[Part]) -> Result<bool, Fail> {
+    let mut left = columns;
+    for (_, _, text) in parts.iter().rev() {
+        let Some(last) = left.pop() else {
+            drop(left);
+            return Ok(false);
+        };
+        let is_right = prints(alloc, last, *text);
+        if !is_right? {
+            drop(left);
+            return Ok(false);
+        }
+    }
+    let is_all = left.is_empty();
+    drop(left);
+    Ok(is_all)
+}
+
+#[test]
+fn select_rows_of_several_columns(rt: HostRuntime) -> Result<(), Fail> {
+    let alloc = rt.alloc();
+    let parts = [
+        ("utf8", "[\"a\",null,\"c\",\"d\"]", "[\"d\",null,\"a\"]"),
+        ("list<i64>", "[[1,2],null,[3],[]]", "[[],null,[1,2]]"),
+        (
+            "struct<i64,i64>",
+            "[(1,5),(2,6),null,(null,8)]",
+            "[(null,8),null,(1,5)]",
+        ),
+    ];
+    let columns = columns_of(alloc, &parts)?;
+    let mask = truths(alloc, &[true, true, true, true], &[true, false, true, true]);
+    let result = selected(alloc, &columns, mask, &[Some(2), None, Some(0)]);
+    drop(columns);
+    assert!(rt; are_rows(alloc, result??, &parts)?);
+    Ok(())
+}
+
+#[test]
+fn select_rows_of_no_columns(rt: HostRuntime) -> Result<(), Fail> {
+    let alloc = rt.alloc();
+    let mask = truths(alloc, &[true, true], &[true, false]);
+    let result = selected(alloc, &[], mask, &[Some(0), None])?;
+    assert!(rt; are_rows(alloc, result?, &[])?);
+    Ok(())
+}
+
+// Returns whether the precondition holds for columns of these numbers.
+fn is_safe(
+    alloc: Global,
+    rows: &'static str,
+    mask: Result<BooleanArray, Fail>,
+    indices: &[Option<u32>],
+) -> Result<bool, Fail> {
+    let mask = mask?;
+    let indices = column(alloc, indices, 0)?;
+    let columns = columns_of(alloc, &[("i64", rows, "")])?;
+    let is_safe = select_is_safe(&columns, &mask, &indices);
+    drop(columns);
+    Ok(is_safe)
+}
+
+#[test]
+fn select_is_safe_checks_lengths_and_indices(rt: HostRuntime) -> Result<(), Fail> {
+    let alloc = rt.alloc();
+    let three = || truths(alloc, &[true, true, true], &[true, false, true]);
+    let none = || truths(alloc, &[], &[]);
+    assert!(rt; is_safe(alloc, "[1,2,3]", three(), &[Some(1), None, Some(0)])?);
+    assert!(rt; !is_safe(alloc, "[1,2,3]", three(), &[Some(2)])?);
+    assert!(rt; !is_safe(alloc, "[1,2]", three(), &[Some(0)])?);
+    assert!(rt; !is_safe(alloc, "[]", none(), &[Some(0)])?);
+    assert!(rt; is_safe(alloc, "[]", none(), &[None])?);
+    Ok(())
+}
+
+// Returns one row of a number, and one row of a list of 2,147,483,648 nulls.
+fn number_and_wide_list(alloc: Global) -> Result<Vec<ArrayRef>, Fail> {
+    let mut columns = Vec::with_capacity(alloc, 2)?;
+    columns.push(parsed(alloc, "i64", "[7]")?)?;
+    let child = NullArray::try_new(2147483648)?.into_ref();
+    columns.push(FixedSizeListArray::try_new(alloc, 2147483648, 1, child, None)?.into_ref())?;
+    Ok(columns)
+}
+
+#[test]
+fn select_rows_exceeds_the_row_limit(rt: HostRuntime) -> Result<(), Fail> {
+    let alloc = rt.alloc();
+    let columns = number_and_wide_list(alloc)?;
+    let mask = truths(alloc, &[true], &[true]);
+    let result = selected(alloc, &columns, mask, &[Some(0), Some(0)]);
+    drop(columns);
+    assert!(rt; result?.err() == Some(PolarsError::SizeLimit(Limit::Rows)));
+    Ok(())
+}

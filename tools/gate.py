@@ -1,0 +1,252 @@
+#!/usr/bin/env python3
+"""Runs the checks of the repository, and prints a table of their results and the line `N passed, M failed`.
+
+tools/gate.py         every check: what `make test` runs. Proofs that `rt ci` has done on this machine before count
+tools/gate.py anew    the same with every proof from nothing, to measure the time: what `make test ANEW=1` runs
+tools/gate.py check   proves what has changed over cached proofs and runs the fast checks: what `make check` runs
+tools/gate.py setup   installs the optional programs and libraries that the checks use: what `make setup` runs
+
+Checks that only need some of the proved libraries run beside `rt ci`, as soon as those are proved, at a lower priority. The
+others run after it. What a check leaves out because the machine lacks something is listed in the table.
+"""
+
+from __future__ import annotations
+
+import dataclasses
+import os
+import pathlib
+import re
+import shutil
+import subprocess
+import sys
+import threading
+import time
+from concurrent.futures import Future, ThreadPoolExecutor
+
+ROOT = pathlib.Path(__file__).resolve().parent.parent
+sys.dont_write_bytecode = True
+sys.path.insert(0, str(ROOT / "tools"))
+
+from prover import crates_below, lines  # noqa: E402
+
+BEGUN = time.monotonic()
+
+# the optional programs and libraries, and what they are used for
+SETUP = {
+    "valgrind": "finds reads and writes outside of a buffer, and leaks, in the C library",
+    "sanitizers": "find the same, and undefined behaviour, in the C code around the library",
+    "c++": "compiles the headers as C++",
+    "numpy": "gives the answers that the benchmark's kernels are compared with",
+    "dask": "runs the example on partitions",
+    "venv": "installs the Python wheel in an environment of its own",
+    "cargo": "builds and tests the Rust package",
+}
+
+# how many crates' mutants are tried at once beside the proofs
+AT_ONCE = 2
+
+
+@dataclasses.dataclass
+class Result:
+    """How a check ended: what it printed, how long it took, and what it left out."""
+
+    name: str
+    passed: bool
+    seconds: float
+    left_out: list[str]
+
+
+class Board:
+    """The results so far. It prints a line whenever something begins or ends."""
+
+    def __init__(self, total: int) -> None:
+        self.results: list[Result] = []
+        self.total, self.lock = total, threading.Lock()
+
+    def say(self, text: str) -> None:
+        elapsed = int(time.monotonic() - BEGUN)
+        with self.lock:
+            done = len(self.results)
+            print(f"[{elapsed // 60:3}:{elapsed % 60:02}, {done} of {self.total} done] {text}", flush=True)
+
+    def add(self, result: Result) -> None:
+        with self.lock:
+            self.results.append(result)
+        self.say(f"{result.name}: {'passed' if result.passed else 'FAILED'} in {result.seconds:.0f} s")
+
+    def table(self) -> bool:
+        """Prints the table; returns whether every check passed."""
+        width = max(len(result.name) for result in self.results)
+        print(f"\n{'check':{width}}  result  seconds  left out")
+        for result in self.results:
+            print(f"{result.name:{width}}  {'passed' if result.passed else 'FAILED'}  {result.seconds:7.0f}  {'; '.join(result.left_out)}")
+        failed = sum(not result.passed for result in self.results)
+        elapsed = int(time.monotonic() - BEGUN)
+        spent = os.times()
+        processor = int(spent.user + spent.system + spent.children_user + spent.children_system)
+        print(f"elapsed {elapsed // 60} min {elapsed % 60} s, processor time {processor // 60} min {processor % 60} s")
+        print(f"{len(self.results) - failed} passed, {failed} failed")
+        return failed == 0 and len(self.results) == self.total
+
+
+class Proofs:
+    """A run of `rt ci`: the crates that it has proved so far, and how it ended."""
+
+    def __init__(self, board: Board, anew: bool) -> None:
+        self.board, self.changed = board, threading.Condition()
+        self.command = ["rt", "ci", *(["--anew"] if anew else [])]
+        self.proved: set[str] = set()
+        self.status: int | None = None
+
+    def run(self) -> None:
+        """Runs `rt ci`, prints what it prints, and notes the crates that it reports as proved."""
+        begun, total = time.monotonic(), len(lines())
+        # libraries that other commands built would be put back in the place of those that `rt ci` builds
+        for kept in (ROOT / "crates").glob("*/out/rlib"):
+            shutil.rmtree(kept)
+        status = 1
+        try:
+            with subprocess.Popen(self.command, cwd=ROOT, text=True, errors="replace", stdin=subprocess.DEVNULL,
+                                  stdout=subprocess.PIPE, stderr=subprocess.STDOUT) as ran:
+                for line in ran.stdout or ():
+                    print(line, end="", flush=True)
+                    found = re.fullmatch(r"rt: (\w+) (?:proved|is kept: .*)\n", line)
+                    if found:
+                        self.note(found[1], total)
+            status = ran.returncode
+        finally:
+            self.board.add(Result("proofs", status == 0, time.monotonic() - begun, []))
+            with self.changed:
+                self.status = status
+                self.changed.notify_all()
+
+    def note(self, crate: str, total: int) -> None:
+        with self.changed:
+            self.proved.add(crate)
+            count = len(self.proved)
+            self.changed.notify_all()
+        self.board.say(f"proofs: {crate}, {count} of {total} crates")
+
+    def wait_for(self, crates: list[str]) -> bool:
+        """Waits until these crates are proved; returns False if the run has failed."""
+        with self.changed:
+            self.changed.wait_for(lambda: self.status is not None or self.proved.issuperset(crates))
+            return not self.status
+
+    def wait(self) -> bool:
+        with self.changed:
+            self.changed.wait_for(lambda: self.status is not None)
+            return self.status == 0
+
+
+def run_check(board: Board, name: str, command: list[str], beside: bool = False) -> bool:
+    """Runs one check, prints its output when it has ended, and returns whether it passed."""
+    begun = time.monotonic()
+    board.say(f"{name}: begins")
+    prefix = ["nice", "-n", "19"] if beside else []
+    ran = subprocess.run([*prefix, *command], cwd=ROOT, stdout=subprocess.PIPE, stderr=subprocess.STDOUT, stdin=subprocess.DEVNULL,
+                         text=True, errors="replace", check=False)
+    print(ran.stdout, end="", flush=True)
+    left_out = re.findall(r"(?m)^not run: (.*)$", ran.stdout)
+    board.add(Result(name, ran.returncode == 0, time.monotonic() - begun, left_out))
+    return ran.returncode == 0
+
+
+DOCUMENTS = [
+    ("API reference", ["tools/api", "--check"]),
+    ("pictures", ["tools/picture", "--check"]),
+    ("C header", ["tools/header", "--check"]),
+    ("links", ["tools/links"]),
+    ("texts of the mutants", ["tools/refused", "--texts"]),
+]
+AFTER_LIBRARY = [
+    ("Arrow interface in C", ["tools/bindings", "c"]),
+    ("Rust package", ["tools/bindings", "rust"]),
+    ("Python package", ["tools/bindings", "python"]),
+    ("Dask example", ["tools/bindings", "dask"]),
+]
+AFTER_PROOFS = [
+    ("refused allocations", ["tools/refuse/run"]),
+    ("program runs", ["tools/runs"]),
+    ("benchmark answers", ["tools/bench/run", "quick"]),
+]
+
+
+def below(crate: str) -> list[str]:
+    """The libraries that a crate depends on."""
+    return crates_below(crate, {name: used for name, (_, used) in lines().items()})
+
+
+def mutants_by_crate() -> dict[str, list[str]]:
+    """The mutants that tools/refused.txt lists, by crate; the crates with the fewest dependencies first."""
+    found: dict[str, list[str]] = {}
+    for label in (ROOT / "tools" / "refused.txt").read_text().split("\n"):
+        if label and not label.startswith("#"):
+            found.setdefault(label.partition("/")[0], []).append(label)
+    return dict(sorted(found.items(), key=lambda item: (len(below(item[0])), item[0])))
+
+
+def try_mutants(board: Board, proofs: Proofs, crate: str, labels: list[str]) -> bool:
+    return proofs.wait_for(below(crate)) and run_check(board, f"mutants of {crate}", ["tools/refused", *labels], beside=True)
+
+
+def try_library(board: Board, proofs: Proofs) -> bool:
+    """Builds and tests the C library, and what is written over it, as soon as the crates below it are proved."""
+    if not proofs.wait_for(below("sel_c")) or not run_check(board, "C library", ["tools/clib", "--gate"], beside=True):
+        return False
+    return all([run_check(board, name, command, beside=True) for name, command in AFTER_LIBRARY])
+
+
+def run_all(anew: bool) -> int:
+    mutants = mutants_by_crate()
+    board = Board(1 + len(DOCUMENTS) + len(mutants) + 1 + len(AFTER_LIBRARY) + len(AFTER_PROOFS))
+    setup()
+    for name, command in DOCUMENTS:
+        if not run_check(board, name, command):
+            board.table()
+            return 1
+    proofs = Proofs(board, anew)
+    with ThreadPoolExecutor(2) as pool, ThreadPoolExecutor(AT_ONCE) as trials:
+        waited: list[Future[bool]] = [pool.submit(try_library, board, proofs)]
+        waited += [trials.submit(try_mutants, board, proofs, crate, labels) for crate, labels in mutants.items()]
+        pool.submit(proofs.run)
+        if proofs.wait():
+            for future in waited:
+                future.result()
+            for name, command in AFTER_PROOFS:
+                run_check(board, name, command)
+    return 0 if board.table() else 1
+
+
+def run_fast() -> int:
+    """Proves what has changed over cached proofs, builds the C library, and runs the fast checks."""
+    board = Board(len(DOCUMENTS) + 1 + len(AFTER_LIBRARY))
+    built = run_check(board, "C library", ["tools/clib", "--check"])
+    for name, command in DOCUMENTS + (AFTER_LIBRARY if built else []):
+        run_check(board, name, command)
+    return 0 if board.table() else 1
+
+
+def setup() -> int:
+    """Says what is missing and what it is for, and installs it where the system's packages allow that."""
+    need = str(ROOT / "tools" / "need")
+    missing = [name for name in SETUP if subprocess.run([need, "--only-look", name], stderr=subprocess.DEVNULL, check=False).returncode]
+    for name in missing:
+        print(f"missing: {name}, which {SETUP[name]}; it is installed from the system's packages if that is possible", flush=True)
+    if missing:
+        subprocess.run([need, *missing], check=False)
+    return 0
+
+
+def main() -> int:
+    if sys.argv[1:] == ["setup"]:
+        return setup()
+    if sys.argv[1:] == ["check"]:
+        return run_fast()
+    if sys.argv[1:] not in ([], ["anew"]):
+        sys.exit(__doc__)
+    return run_all(sys.argv[1:] == ["anew"])
+
+
+if __name__ == "__main__":
+    sys.exit(main())
