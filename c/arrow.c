@@ -66,12 +66,24 @@ static const void *items(level *l, int64_t buffer, size_t size, size_t count) {
     return l->copy ? memcpy(l->copy, at, count * size) : NULL;
 }
 
+static int64_t count_nulls(const level *l) {
+    size_t valid = 0, whole = l->len / 8;
+    for (size_t i = 0; i < whole; i++)
+        for (unsigned byte = l->bits[i]; byte; byte &= byte - 1) valid++;
+    for (size_t i = whole * 8; i < l->len; i++) valid += bit_at(l->bits, i);
+    return (int64_t)(l->len - valid);
+}
+
+/* Reads the validity, and compares it with the null count if that is known. A null count of 0 says that there is none. */
 static uint32_t read_validity(level *l) {
     const uint8_t *bits = l->array->buffers ? l->array->buffers[0] : NULL;
-    if (!bits || l->array->null_count == 0) return SEL_DONE;
+    int64_t nulls = l->array->null_count;
+    if (nulls == 0) return SEL_DONE;
+    if (!bits) return nulls > 0 ? SEL_ARROW_LENGTH : SEL_DONE;
     l->bits = packed_bits(bits, l->from, l->len);
     l->bits_len = bytes_of_bits(l->len);
-    return l->bits ? SEL_DONE : SEL_NO_MEMORY;
+    if (!l->bits) return SEL_NO_MEMORY;
+    return nulls > 0 && nulls != count_nulls(l) ? SEL_ARROW_LENGTH : SEL_DONE;
 }
 
 /* ---- import: columns without children */
@@ -207,9 +219,23 @@ static uint32_t read_data_buffers(const level *l, int64_t count, sel_slice *slic
     return SEL_DONE;
 }
 
+/* Replaces the views in null slots, which may be any bytes, by empty ones. Returns NULL if out of memory. */
+static const sel_view *without_null_slots(level *l, const sel_view *views) {
+    if (!views || !l->bits || l->len == 0) return views;
+    if (!l->copy) {
+        l->copy = malloc(l->len * sizeof *views);
+        if (!l->copy) return NULL;
+        memcpy(l->copy, views, l->len * sizeof *views);
+    }
+    sel_view *copy = l->copy;
+    for (size_t i = 0; i < l->len; i++)
+        if (!bit_at(l->bits, i)) memset(&copy[i], 0, sizeof copy[i]);
+    return copy;
+}
+
 static uint32_t import_views(level *l, bool texts, sel_column *out) {
     int64_t count = l->array->n_buffers - 3;
-    const sel_view *views = items(l, 1, sizeof *views, l->len);
+    const sel_view *views = without_null_slots(l, items(l, 1, sizeof *views, l->len));
     sel_slice *slices = malloc(((size_t)count + 1) * sizeof *slices);
     uint32_t status = views && slices ? read_data_buffers(l, count, slices) : SEL_NO_MEMORY;
     if (status == SEL_DONE)
@@ -368,11 +394,14 @@ static uint32_t import_node(const Array *array, const Schema *schema, unsigned d
 
 uint32_t sel_import(struct ArrowArray *array, const struct ArrowSchema *schema, sel_column *out) {
     uint32_t status = import_node(array, schema, 0, out);
-    if (array->release) array->release(array);
+    if (status == SEL_DONE) array->release(array);
     return status;
 }
 
 /* ---- export */
+
+/* The Arrow format of each kind; an unsigned 128-bit integer has none. */
+static const char *const formats[] = {"n", "b", "c", "s", "i", "l", "d:38,0,128", "C", "S", "I", "L", NULL, "Z", "vz", "vu", "+L", "+w:", "+s"};
 
 static void release_array(Array *array) {
     for (int64_t i = 0; i < array->n_children; i++) {
@@ -531,6 +560,24 @@ static uint32_t export_views(target *t) {
 
 static uint32_t export_node(sel_column *of, const uint8_t *shown, Array *array, Schema *schema);
 
+/* Checks that every level has an Arrow format, and that there are not more levels than an import accepts. */
+static uint32_t check_formats(sel_column *of, unsigned depth) {
+    uint32_t kind = sel_kind(of), status = SEL_DONE;
+    size_t count = 1;
+    if (kind >= SEL_NO_KIND) return SEL_NO_COLUMN;
+    if (depth > DEEPEST) return SEL_ARROW_DEPTH;
+    if (!formats[kind]) return SEL_ARROW_FORMAT;
+    if (kind != SEL_LARGE_LIST && kind != SEL_FIXED_SIZE_LIST && kind != SEL_STRUCT) return SEL_DONE;
+    if (kind == SEL_STRUCT) status = sel_field_count(of, &count);
+    for (size_t i = 0; status == SEL_DONE && i < count; i++) {
+        sel_column child = {0};
+        status = kind == SEL_STRUCT ? sel_field(of, i, &child) : sel_child(of, &child);
+        if (status == SEL_DONE) status = check_formats(&child, depth + 1);
+        sel_free(&child);
+    }
+    return status;
+}
+
 static void set_bits(uint8_t *bits, size_t from, size_t to) {
     while (from < to && from % 8) bits[from / 8] |= (uint8_t)(1u << (from % 8)), from++;
     while (from < to && to % 8) to--, bits[to / 8] |= (uint8_t)(1u << (to % 8));
@@ -628,8 +675,6 @@ static uint32_t export_struct(target *t) {
     return status;
 }
 
-static const char *const formats[] = {"n", "b", "c", "s", "i", "l", "d:38,0,128", "C", "S", "I", "L", NULL, "Z", "vz", "vu", "+L", "+w:", "+s"};
-
 static uint32_t export_level(target *t, uint32_t kind) {
     size_t count = 0;
     uint32_t status = SEL_DONE;
@@ -651,8 +696,6 @@ static uint32_t export_node(sel_column *of, const uint8_t *shown, Array *array, 
     uint32_t kind = sel_kind(of);
     memset(array, 0, sizeof *array);
     memset(schema, 0, sizeof *schema);
-    if (kind >= SEL_NO_KIND) return SEL_NO_COLUMN;
-    if (!formats[kind]) return SEL_ARROW_FORMAT;
     array->length = (int64_t)t.len;
     array->null_count = (int64_t)sel_null_count(of);
     array->release = release_array;
@@ -664,7 +707,10 @@ static uint32_t export_node(sel_column *of, const uint8_t *shown, Array *array, 
 }
 
 uint32_t sel_export(sel_column *of, struct ArrowArray *array, struct ArrowSchema *schema) {
-    uint32_t status = export_node(of, NULL, array, schema);
+    memset(array, 0, sizeof *array);
+    memset(schema, 0, sizeof *schema);
+    uint32_t status = check_formats(of, 0);
+    if (status == SEL_DONE) status = export_node(of, NULL, array, schema);
     if (status == SEL_DONE) return status;
     if (array->release) array->release(array);
     if (schema->release) schema->release(schema);

@@ -58,14 +58,19 @@ static struct ArrowSchema type(const char *format) {
     return (struct ArrowSchema){.format = format, .name = "", .flags = ARROW_FLAG_NULLABLE, .release = release_schema};
 }
 
-/* What an import of one level answers; the column, if there is one, goes to `out`. */
-static uint32_t import(const char *format, int64_t length, int64_t offset, int64_t n_buffers, const void **buffers, sel_column *out) {
-    struct ArrowArray array = {.length = length, .null_count = -1, .offset = offset, .n_buffers = n_buffers, .buffers = buffers, .release = release_array};
+/* Imports one level with a null count, and returns the status. The array is released if the import succeeds, and only
+ * then. */
+static uint32_t import_nulls(const char *format, int64_t length, int64_t offset, int64_t nulls, int64_t n_buffers, const void **buffers, sel_column *out) {
+    struct ArrowArray array = {.length = length, .null_count = nulls, .offset = offset, .n_buffers = n_buffers, .buffers = buffers, .release = release_array};
     struct ArrowSchema schema = type(format);
     released = 0;
     uint32_t status = sel_import(&array, &schema, out);
-    CHECK(released == 1 && !array.release);
+    CHECK(status == SEL_DONE ? released == 1 && !array.release : released == 0 && array.release == release_array);
     return status;
+}
+
+static uint32_t import(const char *format, int64_t length, int64_t offset, int64_t n_buffers, const void **buffers, sel_column *out) {
+    return import_nulls(format, length, offset, -1, n_buffers, buffers, out);
 }
 
 /* An import that is refused so, and leaves `out` as it was. */
@@ -188,6 +193,37 @@ static void views_are_refused(void) {
     refuses(SEL_UTF8, "u", 1, 0, 3, text);
 }
 
+/* A null count that is known is compared with the validity. */
+static void null_counts_are_checked(void) {
+    const int64_t values[4] = {1, 2, 3, 4};
+    const void *buffers[2] = {some_bits, values}, *all_valid[2] = {NULL, values}; /* of the first four rows one is null */
+    sel_column column = {0};
+    for (int64_t nulls = -1; nulls <= 4; nulls++) {
+        bool is_right = nulls <= 1;
+        CHECK(import_nulls("l", 4, 0, nulls, 2, buffers, &column) == (is_right ? SEL_DONE : SEL_ARROW_LENGTH));
+        if (is_right) CHECK(sel_null_count(&column) == (nulls == 0 ? 0 : 1));
+        CHECK(import_nulls("l", 4, 0, nulls, 2, all_valid, &column) == (nulls <= 0 ? SEL_DONE : SEL_ARROW_LENGTH));
+    }
+    sel_free(&column);
+}
+
+/* A view in a null slot may be any bytes. */
+static void views_in_null_slots_are_not_read(void) {
+    const sel_view wild = {UINT32_MAX, 0x64636261, 7, UINT32_MAX}, bad_text = {2, 0xffff, 0, 0}, letter = {1, 'a', 0, 0};
+    const sel_view rows[9] = {letter, wild, letter, letter, bad_text, letter, letter, wild, letter}; /* null where wild or bad */
+    char unaligned[1 + sizeof rows];
+    memcpy(unaligned + 1, rows, sizeof rows);
+    for (int i = 0; i < 2; i++) {
+        const void *buffers[3] = {some_bits, i ? (const void *)(unaligned + 1) : rows, NULL};
+        sel_column column = {0};
+        sel_view out[9];
+        CHECK(import("vu", 9, 0, 3, buffers, &column) == SEL_DONE && sel_null_count(&column) == 3);
+        CHECK(sel_views(&column, out, 9) == SEL_DONE && !memcmp(&out[8], &letter, 16) && out[1].length == 0 && out[4].length == 0);
+        CHECK(import_nulls("vu", 9, 0, 0, 3, buffers, &column) == SEL_VIEW_RANGE);
+        sel_free(&column);
+    }
+}
+
 /* A level with one child of four numbers, and what an import of it answers. */
 static uint32_t import_over(const char *format, const char *below, int64_t length, int64_t offset, const void *own, sel_column *out) {
     static const int64_t values[4] = {10, 11, 12, 13};
@@ -239,7 +275,7 @@ static void trees_are_refused(void) {
     struct ArrowSchema list = type("+w:1");
     const void *buffers[1] = {NULL};
     none.buffers = buffers;
-    CHECK(sel_import(&none, &list, &out) == SEL_ARROW_CHILDREN && !none.release);
+    CHECK(sel_import(&none, &list, &out) == SEL_ARROW_CHILDREN && none.release == release_array);
     struct ArrowArray keyed = {.n_buffers = 1, .buffers = buffers, .dictionary = &none, .release = release_array};
     CHECK(sel_import(&keyed, &list, &out) == SEL_ARROW_DICTIONARY && !out.at);
 }
@@ -292,6 +328,40 @@ static void exports_are_released(void) {
     CHECK(sel_export(&column, &array, &schema) == SEL_ARROW_FORMAT && !array.release);
     sel_free(&column);
     sel_free(&column);
+}
+
+/* A type without a format is reported before a value without one, in whatever order the fields are. */
+static void formats_are_checked_before_values(void) {
+    const sel_wide most = {UINT64_MAX, INT64_MAX};
+    struct ArrowArray array;
+    struct ArrowSchema schema;
+    for (int signed_first = 0; signed_first < 2; signed_first++) {
+        sel_column fields[2] = {{0}, {0}}, both = {0};
+        CHECK(sel_int128_new(&most, 1, some_bits, 0, false, &fields[!signed_first]) == SEL_DONE);
+        CHECK(sel_uint128_new(&most, 1, some_bits, 0, false, &fields[signed_first]) == SEL_DONE);
+        CHECK(sel_struct_new(1, some_bits, 0, false, fields, 2, &both) == SEL_DONE);
+        CHECK(sel_export(&both, &array, &schema) == SEL_ARROW_FORMAT && !array.release && !schema.release);
+        sel_free(&both);
+    }
+}
+
+/* An export has at most as many levels as an import accepts. */
+static void exported_depth_has_an_end(void) {
+    struct ArrowArray array;
+    struct ArrowSchema schema;
+    sel_column lists = {0}, again = {0};
+    CHECK(sel_null_new(1, &lists) == SEL_DONE);
+    for (int level = 1; level <= 257; level++) {
+        sel_column child = lists;
+        lists.at = NULL;
+        CHECK(sel_fixed_list_new(1, 1, some_bits, 0, false, &child, &lists) == SEL_DONE);
+        if (level != 256) continue;
+        CHECK(sel_export(&lists, &array, &schema) == SEL_DONE && sel_import(&array, &schema, &again) == SEL_DONE);
+        schema.release(&schema);
+    }
+    CHECK(sel_export(&lists, &array, &schema) == SEL_ARROW_DEPTH && !array.release && !schema.release);
+    sel_free(&again);
+    sel_free(&lists);
 }
 
 /* Exports a column and checks the status; if it is SEL_DONE, imports the arrays again and compares the rows. Returns the
@@ -405,7 +475,8 @@ static bool passes_refused(sel_column *tree, long number, bool refuse_import) {
         is_over = refuse_import ? until_refused >= 0 : is_over;
         until_refused = -1;
         CHECK(answer == SEL_DONE || (refuse_import && !is_over && answer == SEL_NO_MEMORY));
-        CHECK((answer == SEL_DONE) == (again.at != NULL) && !array.release);
+        CHECK((answer == SEL_DONE) == (again.at != NULL) && (answer == SEL_DONE) == !array.release);
+        if (answer != SEL_DONE) CHECK(sel_import(&array, &schema, &again) == SEL_DONE && !array.release); /* tried again */
         schema.release(&schema);
     } else {
         until_refused = -1;
@@ -452,7 +523,11 @@ int main(void) {
     trees_come_in();
     trees_are_refused();
     depth_has_an_end();
+    null_counts_are_checked();
+    views_in_null_slots_are_not_read();
     exports_are_released();
+    formats_are_checked_before_values();
+    exported_depth_has_an_end();
     values_in_null_slots_are_not_exported();
     views_in_null_slots_are_cleared();
     each_allocation_is_refused();

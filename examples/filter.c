@@ -1,35 +1,43 @@
-/* Keeps the rows of a column that a mask names.  cc filter.c -I../include -L../build -lsel */
+/* Filters a column by a mask, and takes rows of it by their numbers.  cc filter.c -I../include -L../build -lsel */
 #include "sel_arrow.h"
 
 #include <inttypes.h>
 #include <stdio.h>
 
-static int refused(const char *call, uint32_t status) {
-    fprintf(stderr, "%s: %s\n", call, sel_status_text(status));
+static int fail(uint32_t status) {
+    fprintf(stderr, "%s\n", sel_status_text(status));
     return 1;
 }
 
-int main(void) {
-    const int64_t ages[4] = {31, 0, 27, 45};
-    const uint8_t valid = 0x0d, keep = 0x0b; /* bit i belongs to row i: row 1 is null; rows 0, 1 and 3 are kept */
-    sel_column column = {0}, kept = {0};
-
-    uint32_t status = sel_int64_new(ages, 4, &valid, 1, true, &column);
-    if (status != SEL_DONE) return refused("sel_int64_new", status);
-    status = sel_filter_bits(&column, &keep, 1, 4, &kept);
-    sel_free(&column);
-    if (status != SEL_DONE) return refused("sel_filter_bits", status);
-
-    int64_t rows[4];
-    uint8_t bits = 0xff;
-    bool has;
-    size_t count = sel_len(&kept);
-    if ((status = sel_int64_values(&kept, rows, count)) != SEL_DONE) return refused("sel_int64_values", status);
-    if ((status = sel_validity(&kept, &bits, 1, &has)) != SEL_DONE) return refused("sel_validity", status);
-    for (size_t i = 0; i < count; i++) {
-        if (bits >> i & 1) printf("%" PRId64 "\n", rows[i]);
+/* Prints the rows of a column of at most 8 integers. */
+static uint32_t print(sel_column *column) {
+    int64_t values[8];
+    uint8_t valid = 0;
+    bool has_validity = false;
+    size_t len = sel_len(column);
+    uint32_t status = sel_int64_values(column, values, len);
+    if (status == SEL_DONE) status = sel_validity(column, &valid, 1, &has_validity);
+    for (size_t i = 0; status == SEL_DONE && i < len; i++) {
+        if (!has_validity || (valid >> i & 1)) printf("%" PRId64 "\n", values[i]);
         else printf("null\n");
     }
+    return status;
+}
+
+int main(void) {
+    /* bit i of a byte belongs to row i: row 1 is null, and the mask keeps rows 0, 1 and 3 */
+    const int64_t values[4] = {31, 0, 27, 45};
+    const uint8_t valid = 0x0d, mask = 0x0b;
+    const uint32_t rows[2] = {3, 0};
+    sel_column ages = {0}, kept = {0}, taken = {0};
+    uint32_t status = sel_int64_new(values, 4, &valid, 1, true, &ages);
+    if (status == SEL_DONE) status = sel_filter_bits(&ages, &mask, 1, 4, &kept);              /* 31, null, 45 */
+    if (status == SEL_DONE) status = sel_take_rows(&ages, rows, 2, &valid, 0, false, &taken); /* 45, 31 */
+    sel_free(&ages);
+
+    if (status == SEL_DONE) status = print(&kept);
+    if (status == SEL_DONE) status = print(&taken);
     sel_free(&kept);
-    return 0;
+    sel_free(&taken);
+    return status == SEL_DONE ? 0 : fail(status);
 }

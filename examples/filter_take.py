@@ -1,21 +1,25 @@
-"""Rows kept by a mask and taken by their places, of columns of numbers and of nested ones."""
+"""Filters and takes rows of columns, of integers and of nested values."""
 
 import sel
 
-prices = sel.Column.from_pylist([10, None, 30, 40])
-sold = sel.Column.from_pylist([True, False, None, True])
-print(prices.filter(sold))
-print(prices.take([3, None, 0]))
+ages = sel.Column.from_pylist([31, None, 27, 45])
+kept = ages.filter([True, True, False, True])
+taken = ages.take([3, 0])
+assert kept.to_pylist() == [31, None, 45]
+assert taken.to_pylist() == [45, 31]
 
-# Lists of tuples are rows like any other.
+# Lists of structs are rows like any other.
 orders = sel.Column.from_pylist([[("a", [1])], None, [], [("b", [2, None])]])
-print(orders.filter(sold))
+print(orders.filter([True, False, None, True]))
 
-# Through Arrow and back: any library's array goes in so.
+# A null index gives a null row.
+print(ages.take([3, None, 0]))
+
+# Any library's Arrow array can be imported like this.
 print(sel.Column.from_arrow(orders[1:]))
 
-# A refusal is an exception with its text.
+# An error is an exception with a message.
 try:
-    prices.filter([True])
+    ages.filter([True])
 except sel.WrongArgument as error:
     print(error)

@@ -55,7 +55,8 @@ enum sel_arrow_status {
     SEL_ARROW_RANGE = 71       /* a value or a place that the format cannot show */
 };
 
-/* Makes a column of an array, at every depth, and releases the array, whatever the status is; the schema is only read.
+/* Makes a column of an array, at every depth, and releases the array. The schema is only read. On error the array is not
+ * released and `out` is unchanged, so that the call can be tried again.
  *
  * Formats: n, b, c, C, s, S, i, I, l, L; d:P,0 and d:P,0,128 with P from 1 to 38 (128-bit integers); z and Z (binary),
  * u and U (strings, as views), vz, vu; +l and +L (lists), +w:N (fixed-size lists), +s (structs). 32-bit offsets are
@@ -63,11 +64,11 @@ enum sel_arrow_status {
  *
  * Before a buffer is read, the counts of every level are checked: the length and the offset are not negative and are at
  * most 4,294,967,295 together (SEL_TOO_MANY_ROWS), the null count is -1 or at most the length, the array has as many
- * buffers and children as its format, and no more than 2,147,483,647. Then the rules of columns are checked. The producer
- * ensures that the buffers are as long as the length, the offset and the offsets buffer say: no call can check that.
+ * buffers and children as its format, and no more than 2,147,483,647. Then the rules of columns are checked; a null count
+ * above 0 is the number of nulls in the validity, and a view in a null slot may be any bytes. The producer ensures that
+ * the buffers are as long as the length, the offset and the offsets buffer say: no call can check that.
  *
- * Errors: SEL_NO_MEMORY, the status of the rule of columns that is broken, or one of enum sel_arrow_status. On error
- * `out` is unchanged. */
+ * Errors: SEL_NO_MEMORY, the status of the rule of columns that is broken, or one of enum sel_arrow_status. */
 uint32_t sel_import(struct ArrowArray *array, const struct ArrowSchema *schema, sel_column *out);
 
 /* Writes a copy of the column to two structures, which the caller releases. The column is unchanged.
@@ -76,8 +77,8 @@ uint32_t sel_import(struct ArrowArray *array, const struct ArrowSchema *schema, 
  * have no format (SEL_ARROW_FORMAT). Fields are named by their numbers, "0", "1", ... A 128-bit integer or a view in a
  * null slot, also in that of a list or struct above it, is exported as 0 or as an empty view.
  *
- * Errors: SEL_NO_COLUMN, SEL_NO_MEMORY, SEL_ARROW_FORMAT; SEL_ARROW_RANGE if a row shows an integer with more than 38
- * digits or a view beyond byte 2,147,483,647 of a data buffer. On error there is nothing to release. */
+ * Errors: SEL_NO_COLUMN, SEL_NO_MEMORY, SEL_ARROW_DEPTH, SEL_ARROW_FORMAT; then SEL_ARROW_RANGE if a row shows an integer
+ * with more than 38 digits or a view beyond byte 2,147,483,647 of a data buffer. On error there is nothing to release. */
 uint32_t sel_export(sel_column *of, struct ArrowArray *array, struct ArrowSchema *schema);
 
 /* The text of a status of either enum, which nobody frees. */
