@@ -32,5 +32,7 @@ void test_equal_rows(void);
 void test_prints(void);
 void test_parses(void);
 void test_misread_texts(void);
+void test_flatten_limits(void);
+void test_list_limits(void);
 
 #endif

@@ -1,4 +1,5 @@
-/* Calls on several columns: choices, flatten, rows that are picked, dictionaries, and rows compared, printed and read. */
+/* Calls on several columns: if_then_else, flatten, picked rows, dictionaries; rows compared, printed and read; and limits that
+ * columns of nulls reach without memory. */
 
 #include "test.h"
 
@@ -353,10 +354,75 @@ void test_misread_texts(void) {
     MISREADS(SEL_TEXT_SYNTAX, "i8", "[1, ]", 4);
     MISREADS(SEL_TEXT_SYNTAX, "i8", "[1] 2", 4);
     MISREADS(SEL_TEXT_SYNTAX, "utf8", "[\"a\xFF\"]", 3);
+    MISREADS(SEL_TEXT_SYNTAX, "utf8", "[\"\n\"]", 2);
     MISREADS(SEL_TEXT_MISFIT, "i8", "[0, 128]", 4);
     MISREADS(SEL_TEXT_MISFIT, "list<bool>", "[[true], 2]", 9);
     MISREADS(SEL_TEXT_LIMIT, deep, "[]", 77);
     MISREADS(SEL_TEXT_LIMIT, "fixed<4294967296,i8>", "[]", 77);
     MISREADS(SEL_TEXT_LIMIT, "fixed<18446744073709551616,i8>", "[]", 77);
     sel_free(&out);
+}
+
+/* ---- limits that columns of nulls reach without memory ---- */
+
+static const int64_t most_rows = 4294967295;
+
+/* Builds lists of nulls between offsets. */
+static void lists_of_nulls(const int64_t *offsets, size_t len, uint8_t bits, sel_column *out) {
+    sel_column child = {0};
+    DONE(sel_null_new((size_t)offsets[len], &child));
+    DONE(child.at == NULL ? SEL_NO_MEMORY : sel_list_new(offsets, len + 1, &bits, 1, true, &child, out));
+}
+
+/* Checks the status of a call and the length of its result, which is freed. */
+static void has_rows(uint32_t status, uint32_t wanted, size_t len, sel_column *out, int line) {
+    is(status == wanted || (refused && status == SEL_NO_MEMORY), "the status of a limit", line);
+    is(sel_len(out) == (status == SEL_DONE ? len : 0), "the length of the result", line);
+    sel_free(out);
+}
+
+#define HAS_ROWS(call, len, out) has_rows((call), SEL_DONE, (len), (out), __LINE__)
+#define EXCEEDS(call, out) has_rows((call), SEL_LIMIT_ROWS, 0, (out), __LINE__)
+
+void test_flatten_limits(void) {
+    const size_t widths[2] = {65536, 65537};
+    sel_column out = {0}, given[2] = {{0}, {0}};
+    DONE(sel_null_new(widths[0], &given[0]));
+    DONE(sel_null_new(widths[1], &given[1]));
+    if (all_made(given, 2)) {
+        EXCEEDS(sel_flatten(&given[0], 1, &widths[0], 1, 65536, &out), &out);
+        HAS_ROWS(sel_flatten(&given[1], 1, &widths[1], 1, 65535, &out), (size_t)most_rows, &out);
+    }
+    free_all(given, 2);
+}
+
+/* The longest list, a null list over as many items, two lists of which the longest is the first or the second, the mask
+ * true, false, and the longest list again. */
+void test_list_limits(void) {
+    const int64_t one[2] = {0, most_rows}, first[3] = {0, most_rows, most_rows}, second[3] = {0, 0, most_rows};
+    const uint32_t twice[2] = {0, 0};
+    const sel_pick picks[2] = {{0, 0}, {1, 0}};
+    const size_t widths[1] = {1};
+    sel_column out = {0}, given[6] = {{0}, {0}, {0}, {0}, truths(1, 2, 3), {0}};
+    lists_of_nulls(one, 1, 1, &given[0]);
+    lists_of_nulls(one, 1, 0, &given[1]);
+    lists_of_nulls(first, 2, 3, &given[2]);
+    lists_of_nulls(second, 2, 3, &given[3]);
+    lists_of_nulls(one, 1, 1, &given[5]);
+    if (all_made(given, 6)) {
+        EXCEEDS(sel_take_rows(&given[0], twice, 2, no_bits, 0, false, &out), &out);
+        HAS_ROWS(sel_take_rows(&given[0], twice, 1, no_bits, 0, false, &out), 1, &out);
+        HAS_ROWS(sel_take_rows(&given[1], twice, 2, no_bits, 0, false, &out), 2, &out);
+        HAS_ROWS(sel_sublist_get(&given[0], -1, &out), 1, &out);
+        EXCEEDS(sel_choose(&given[4], &given[2], &given[3], &out), &out);
+        HAS_ROWS(sel_choose(&given[4], &given[3], &given[2], &out), 2, &out);
+        EXCEEDS(sel_choose_one(&given[4], &given[0], &given[3], &out), &out);
+        HAS_ROWS(sel_choose_one(&given[4], &given[0], &given[2], &out), 2, &out);
+        EXCEEDS(sel_choose_or_one(&given[4], &given[2], &given[0], &out), &out);
+        EXCEEDS(sel_choose_of_two(&given[4], &given[0], &given[5], &out), &out);
+        EXCEEDS(sel_collect_rows(given, 2, (const sel_pick[2]){picks[0], picks[0]}, 2, no_bits, 0, false, &out), &out);
+        HAS_ROWS(sel_collect_rows(given, 2, picks, 2, no_bits, 0, false, &out), 2, &out);
+        EXCEEDS(sel_flatten(given, 1, widths, 1, 2, &out), &out);
+    }
+    free_all(given, 6);
 }

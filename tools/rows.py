@@ -1,0 +1,171 @@
+#!/usr/bin/env python3
+"""Runs the conformance suite of tests/ over the C library.
+
+tools/rows.py [LIBRARY]    LIBRARY is the archive to link, build/libsel.a if none is named
+
+Builds tests/run plainly and with the address and undefined behaviour sanitizers, and runs all files of tests/rows by both, and at
+one offset under valgrind. Then tests/wrong.txt, each line of which must fail, and tests/faults.txt: each fault of tests/faults.c
+must be found by its line. What the machine lacks is named in the last line.
+Writes into build/, prints what failed and one line that sums up, and exits with status 1 if anything failed.
+"""
+
+from __future__ import annotations
+
+import os
+import pathlib
+import re
+import shutil
+import subprocess
+import sys
+import tempfile
+import time
+from typing import Dict, List, NamedTuple, Optional, Tuple
+
+ROOT = pathlib.Path(__file__).resolve().parent.parent
+TESTS = ROOT / "tests"
+BUILD = ROOT / "build"
+CC = os.environ.get("CC", "cc")
+FLAGS = ["-std=c11", "-g", "-Wall", "-Wextra", "-pedantic", "-Werror", "-I", str(ROOT / "include")]
+SANITIZERS = ["-fsanitize=address,undefined", "-fno-sanitize-recover=all", "-fno-omit-frame-pointer"]
+VALGRIND = ("valgrind", "--quiet", "--error-exitcode=3", "--leak-check=full")
+ALLOCATOR = ("malloc", "calloc", "realloc", "free")
+COUNTS = re.compile(r"(\d+) lines, (\d+) cases, (\d+) allocations refused, (\d+) failed")
+
+
+class Counts(NamedTuple):
+    """The numbers of a run's last line, and its exit status."""
+
+    lines: int
+    cases: int
+    refused: int
+    failed: int
+    status: int
+
+
+class Fault(NamedTuple):
+    """A fault of faults.c, the runner's options for it, what its failure says, and the line that finds it."""
+
+    name: str
+    options: List[str]
+    says: str
+    line: str
+
+
+def sources() -> List[str]:
+    """Returns the sources of the runner, without the faults."""
+    return [str(path) for path in sorted(TESTS.glob("*.c")) if path.name != "faults.c"]
+
+
+def wrapped(names: Tuple[str, ...]) -> List[str]:
+    """Returns the linker's options that hand calls of these names to wrappers."""
+    return [f"-Wl,--wrap={name}" for name in names]
+
+
+def build(library: pathlib.Path, name: str, more: List[str]) -> pathlib.Path:
+    """Compiles the runner under a name; ends the program if that fails."""
+    program = BUILD / name
+    command = [CC, *FLAGS, *more, *sources(), str(library), *wrapped(ALLOCATOR), "-o", str(program)]
+    if subprocess.run(command, check=False).returncode != 0:
+        sys.exit(f"failed: {' '.join(command)}")
+    return program
+
+
+def has_sanitizers() -> bool:
+    """Returns whether the compiler can build and run a program with the sanitizers."""
+    with tempfile.TemporaryDirectory() as folder:
+        source, program = pathlib.Path(folder) / "empty.c", pathlib.Path(folder) / "empty"
+        source.write_text("int main(void) { return 0; }\n")
+        made = subprocess.run([CC, *SANITIZERS, str(source), "-o", str(program)], stderr=subprocess.DEVNULL, check=False)
+        return made.returncode == 0 and subprocess.run([str(program)], stderr=subprocess.DEVNULL, check=False).returncode == 0
+
+
+def run(program: pathlib.Path, *words: str, fault: Optional[str] = None, under: Tuple[str, ...] = ()) -> Counts:
+    """Runs the runner, under another program if one is named, prints what it says but its counts, and returns these."""
+    # most of a run with sanitizers goes into the traces of allocations, which are kept short
+    env: Dict[str, str] = {"ASAN_OPTIONS": "malloc_context_size=4", **os.environ}
+    if fault is not None:
+        env["SEL_FAULT"] = fault
+    done = subprocess.run([*under, str(program), *words], stdout=subprocess.PIPE, stderr=subprocess.STDOUT, encoding="utf-8", errors="replace", env=env,
+                          check=False)
+    found = COUNTS.search(done.stdout)
+    for line in done.stdout.splitlines():
+        if not COUNTS.fullmatch(line):
+            print(line)
+    if found is None:
+        return Counts(0, 0, 0, 1, done.returncode or 1)
+    lines, cases, refused, failed = (int(number) for number in found.groups())
+    return Counts(lines, cases, refused, failed, done.returncode)
+
+
+def run_checked(library: pathlib.Path, plain: pathlib.Path) -> Tuple[bool, str]:
+    """Runs all files with sanitizers and under valgrind. Returns whether nothing failed, and what was run."""
+    is_right, said = True, []
+    if has_sanitizers():
+        is_right = run(build(library, "rows_sanitized", ["-O1", *SANITIZERS])).status == 0
+        said.append("the same with sanitizers" if is_right else "FAILED with sanitizers")
+    else:
+        said.append("not run with sanitizers, which the compiler lacks")
+    if shutil.which("valgrind") is None:
+        said.append("not run under valgrind, which is missing")
+    else:
+        under = run(plain, "--layout", "7", "--no-refusals", under=VALGRIND)
+        is_right = is_right and under.status == 0
+        said.append(f"{under.cases} cases under valgrind" if under.status == 0 else "FAILED under valgrind")
+    return is_right, "; ".join(said)
+
+
+def read_faults() -> List[Fault]:
+    """Reads faults.txt: a heading `== FAULT [OPTION ..]: TEXT`, and the line behind it."""
+    lines = [line for line in (TESTS / "faults.txt").read_text(encoding="utf-8").split("\n") if line and not line.startswith("#")]
+    faults: List[Fault] = []
+    for heading, line in zip(lines[::2], lines[1::2]):
+        words, _, says = heading[len("== "):].partition(": ")
+        name, *options = words.split()
+        faults.append(Fault(name, options, says, line))
+    return faults
+
+
+def wraps_of_faults() -> Tuple[str, ...]:
+    """Returns the calls that faults.c makes wrong."""
+    text = (TESTS / "faults.c").read_text(encoding="utf-8")
+    return tuple(sorted({first or second for first, second in re.findall(r"^WRAP\((\w+),|^size_t __wrap_(\w+)\(", text, re.MULTILINE)}))
+
+
+def missed_faults(library: pathlib.Path, faults: List[Fault]) -> List[str]:
+    """Returns the faults that their lines do not find, or whose lines fail without them."""
+    program = build(library, "rows_faults", ["-O1", str(TESTS / "faults.c"), *wrapped(wraps_of_faults())])
+    path, missed = BUILD / "fault.txt", []
+    for fault in faults:
+        path.write_text(f"#! {fault.says}\n{fault.line}\n", encoding="utf-8")
+        is_found = run(program, *fault.options, "--must-fail", str(path), fault=fault.name).status == 0
+        passes = run(program, str(path)).status == 0
+        if not is_found or not passes:
+            missed.append(fault.name)
+            print(f"faults.txt: {fault.name}: {'its line fails without it' if is_found else 'not found'}")
+    path.unlink()
+    return missed
+
+
+def main() -> None:
+    if len(sys.argv) > 2 or sys.argv[1:2] == ["--help"]:
+        sys.exit(__doc__)
+    library = pathlib.Path(sys.argv[1]).resolve() if len(sys.argv) == 2 else BUILD / "libsel.a"
+    if not library.exists():
+        sys.exit(f"{library} is not there: make lib builds it")
+    BUILD.mkdir(exist_ok=True)
+    start = time.monotonic()
+    plain = build(library, "rows", ["-O1"])
+    counts = run(plain)
+    is_checked, said = run_checked(library, plain)
+    wrong = run(plain, "--must-fail", str(TESTS / "wrong.txt"))
+    faults = read_faults()
+    missed = missed_faults(library, faults)
+    is_right = counts.status == 0 and is_checked and wrong.status == 0 and not missed
+    print(f"rows: {'ok' if is_right else 'FAILED'}: {counts.lines} lines, {counts.cases} cases, {counts.refused} allocations refused, "
+          f"{counts.failed} failed; {said}; {wrong.lines - wrong.failed} of {wrong.lines} wrong lines and "
+          f"{len(faults) - len(missed)} of {len(faults)} faults found; {time.monotonic() - start:.0f} seconds")
+    sys.exit(0 if is_right else 1)
+
+
+if __name__ == "__main__":
+    main()
