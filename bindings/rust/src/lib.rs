@@ -34,11 +34,33 @@
 //!
 //! A column is neither `Send` nor `Sync`: columns that share memory stay on one thread.
 
+#![deny(
+    clippy::as_conversions,
+    clippy::cast_lossless,
+    clippy::cast_possible_truncation,
+    clippy::cast_possible_wrap,
+    clippy::cast_precision_loss,
+    clippy::cast_sign_loss,
+    clippy::undocumented_unsafe_blocks,
+    missing_docs,
+    unsafe_op_in_unsafe_fn
+)]
+
+mod bits;
 mod column;
 mod error;
+mod handle;
+mod kernels;
+mod kind;
+mod leaves;
+mod memory;
+mod nested;
 mod number;
 mod raw;
+mod views;
 
-pub use column::{choose, choose_of_two, choose_one, choose_or_one, collect_rows, flatten, propagate_dictionary, Column, Kind};
+pub use column::Column;
 pub use error::Error;
+pub use kernels::{choose, choose_of_two, choose_one, choose_or_one, collect_rows, flatten, propagate_dictionary};
+pub use kind::Kind;
 pub use number::Number;

@@ -1,20 +1,41 @@
-//! The number types of columns.
+//! The integer types of columns.
 
-use crate::column::Kind;
+use crate::bits::Validity;
+use crate::column::Column;
+use crate::error::{checked, Error};
+use crate::kind::Kind;
+use crate::memory::zeroed;
 use crate::raw::{self, Handle};
 
 mod sealed {
     pub trait Sealed {}
 }
 
-/// A number type that a column can have. No other type can be one.
+/// An integer type that the rows of a column can have. The trait is sealed.
 pub trait Number: Copy + Default + sealed::Sealed {
-    /// The kind of its columns.
+    /// The kind of the columns.
     const KIND: Kind;
     #[doc(hidden)]
     const MAKE: unsafe extern "C" fn(*const Self, usize, *const u8, usize, bool, *mut Handle) -> u32;
     #[doc(hidden)]
     const READ: unsafe extern "C" fn(*mut Handle, *mut Self, usize) -> u32;
+}
+
+/// Makes a column of integers.
+pub(crate) fn make<T: Number>(values: &[T], validity: &Validity) -> Result<Column, Error> {
+    Column::made_with(validity, |bits, bits_len, has_bits, out| {
+        // SAFETY: both slices are valid for their lengths, and the handle is empty.
+        unsafe { T::MAKE(values.as_ptr(), values.len(), bits, bits_len, has_bits, out) }
+    })
+}
+
+/// Returns the integers of a column, those in null slots too.
+pub(crate) fn read<T: Number>(column: &Column) -> Result<Vec<T>, Error> {
+    column.expect_kind(T::KIND)?;
+    let mut values = zeroed::<T>(column.len())?;
+    // SAFETY: the values are valid for their length, and the handle is owned by the column.
+    checked(unsafe { T::READ(column.at(), values.as_mut_ptr(), values.len()) })?;
+    Ok(values)
 }
 
 macro_rules! numbers {

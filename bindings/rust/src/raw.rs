@@ -1,10 +1,15 @@
-//! The calls of `include/sel.h` that the safe types use, as they are declared there.
+//! Declares the functions and structures of `include/sel.h` that the crate uses.
 
 use std::ffi::c_void;
 
 #[repr(C)]
 pub struct Handle {
     pub at: *mut c_void,
+}
+
+impl Handle {
+    /// A handle without a column.
+    pub const EMPTY: Handle = Handle { at: std::ptr::null_mut() };
 }
 
 #[repr(C)]
