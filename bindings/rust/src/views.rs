@@ -122,3 +122,74 @@ impl Column {
         Ok(bytes)
     }
 }
+
+#[cfg(test)]
+mod tests {
+    use super::*;
+
+    /// Makes a string column of views over one buffer, with bit `i` of `valid` for row `i`.
+    fn made(views: &[RawView], buffer: &[u8], valid: u8) -> Result<Column, Error> {
+        let (bits, buffers) = ([valid], [RawSlice { at: buffer.as_ptr(), len: buffer.len() }]);
+        Column::made(|out| {
+            // SAFETY: all slices are valid for their lengths, and the handle is empty.
+            unsafe {
+                let (views, len) = (views.as_ptr(), views.len());
+                raw::sel_utf8view_new(views, len, buffers.as_ptr(), 1, bits.as_ptr(), 1, true, out)
+            }
+        })
+    }
+
+    fn inline(length: u32, bytes: [u8; 12]) -> RawView {
+        let [a, b, c, d, e, f, g, h, i, j, k, l] = bytes;
+        let word = u32::from_le_bytes;
+        RawView { length, prefix: word([a, b, c, d]), buffer: word([e, f, g, h]), offset: word([i, j, k, l]) }
+    }
+
+    #[test]
+    fn null_slots_with_bytes_that_are_not_utf8_are_read_as_nulls() -> Result<(), Error> {
+        let wrong = inline(3, [0xff; 12]);
+        let long = RawView { length: 13, prefix: u32::from_le_bytes([0xc3; 4]), buffer: 0, offset: 1 };
+        let column =
+            made(&[wrong, long, inline(2, *b"ab\xff\xff\xff\xff\xff\xff\xff\xff\xff\xff")], &[0xc3; 16], 0b100)?;
+        assert_eq!(column.to_texts()?, [None, None, Some("ab".to_string())]);
+        assert_eq!(column.sliced(1, 2)?.to_texts()?, [None, Some("ab".to_string())]);
+        assert_eq!(made(&[wrong], &[], 1).err(), Some(Error::of(status::UTF8)));
+        Ok(())
+    }
+
+    #[test]
+    fn a_view_outside_of_its_buffers_is_an_error() {
+        let buffers = [b"twenty bytes of text".to_vec()];
+        let view = |length, buffer, offset| RawView { length, prefix: 0, buffer, offset };
+        for wrong in
+            [view(21, 0, 0), view(20, 0, 1), view(13, 1, 0), view(u32::MAX, 0, u32::MAX), view(13, u32::MAX, 0)]
+        {
+            assert_eq!(bytes_of(&wrong, &buffers), Err(Error::of(status::VIEW_RANGE)));
+        }
+        assert_eq!(bytes_of(&view(13, 0, 7), &buffers), Ok(b"bytes of text".to_vec()));
+    }
+
+    #[test]
+    fn a_full_data_buffer_is_followed_by_a_new_one() -> Result<(), Error> {
+        let values: [&[u8]; 5] = [b"thirteen byte", b"short", b"another value", b"twelve bytes", b"the third of 13"];
+        let mut builder = ViewBuilder::new(30);
+        values.iter().try_for_each(|value| builder.push(value))?;
+        let lengths: Vec<usize> = builder.buffers.iter().map(Vec::len).collect();
+        assert_eq!(lengths, [26, 15]);
+        for (view, value) in builder.views.iter().zip(values) {
+            assert_eq!(bytes_of(view, &builder.buffers)?, value);
+        }
+        Ok(())
+    }
+
+    #[test]
+    fn a_value_longer_than_a_data_buffer_has_one_of_its_own() -> Result<(), Error> {
+        let mut builder = ViewBuilder::new(10);
+        for value in ["longer than ten bytes", "and this one is as well"] {
+            builder.push(value.as_bytes())?;
+        }
+        let at: Vec<(u32, u32)> = builder.views.iter().map(|view| (view.buffer, view.offset)).collect();
+        assert_eq!(at, [(0, 0), (1, 0)]);
+        Ok(())
+    }
+}
