@@ -20,14 +20,26 @@ pub(crate) fn bit_at(bits: &[u8], i: usize) -> bool {
 }
 
 /// The validity of a column that is made: packed bits, or none where every row is valid.
-pub(crate) struct Validity {
+// Public only for the signatures of sealed traits; the module is private.
+pub struct Validity {
     pub(crate) bits: Vec<u8>,
     pub(crate) is_present: bool,
+    /// Whether there is not one item for each row, although the library may find enough bits.
+    pub(crate) has_wrong_length: bool,
 }
 
 impl Validity {
     /// The validity of a column without nulls.
-    pub(crate) const ALL: Validity = Validity { bits: Vec::new(), is_present: false };
+    pub(crate) const ALL: Validity = Validity { bits: Vec::new(), is_present: false, has_wrong_length: false };
+
+    /// Returns the validity of `rows` rows; one of a wrong length has no bits, which the library reports in its order.
+    pub(crate) fn new(valid: Option<&[bool]>, rows: usize) -> Result<Validity, Error> {
+        match valid {
+            None => Ok(Validity::ALL),
+            Some(valid) if valid.len() == rows => Validity::packed(valid.iter().copied()),
+            Some(_) => Ok(Validity { bits: Vec::new(), is_present: true, has_wrong_length: true }),
+        }
+    }
 
     /// Returns the validity of rows that are null where they are `None`.
     pub(crate) fn of_options<T>(rows: &[Option<T>]) -> Result<Validity, Error> {
@@ -35,7 +47,7 @@ impl Validity {
     }
 
     fn packed(flags: impl ExactSizeIterator<Item = bool>) -> Result<Validity, Error> {
-        Ok(Validity { bits: pack(flags)?, is_present: true })
+        Ok(Validity { bits: pack(flags)?, is_present: true, has_wrong_length: false })
     }
 }
 

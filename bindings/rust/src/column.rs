@@ -1,4 +1,4 @@
-//! Columns as a whole: their length, kind and validity; slices and second handles; rows as text.
+//! Columns as a whole: their length, kind and validity, slices, clones, comparison, and rows as text.
 
 use crate::bits::{bit_at, Validity};
 use crate::error::{checked, status, Error};
@@ -6,9 +6,29 @@ use crate::handle::OwnedHandle;
 use crate::kind::Kind;
 use crate::memory::{collect, zeroed};
 use crate::raw::{self, Handle};
-use std::fmt;
+use std::alloc::{handle_alloc_error, Layout};
+use std::{fmt, ptr};
 
 /// A column of rows, each of which is a value or null. It is immutable.
+///
+/// Slices, clones and children share the memory of their column. A column is neither `Send` nor `Sync`.
+///
+/// # Equality
+/// Two columns are equal by `==` if they have the same type and the same rows; values in null slots are ignored.
+/// [`equals`](Column::equals) ignores the types. Comparison, [`Clone`], [`fmt::Display`] and [`fmt::Debug`] cannot return an
+/// error: if an allocation fails, they call [`handle_alloc_error`], which aborts, as collections of the standard library
+/// do. [`try_clone`](Column::try_clone), [`equals`](Column::equals) and [`to_text`](Column::to_text) return the error.
+///
+/// ```
+/// # use sel::{Column, Error};
+/// # fn main() -> Result<(), Error> {
+/// let (small, large) = (Column::from_values(&[1i8, 2])?, Column::from_values(&[1i64, 2])?);
+/// assert!(small.equals(&large)? && small != large);
+/// assert_eq!(small.clone(), small);
+/// assert_eq!(format!("{small} {small:?}"), "[1,2] i8 [1,2]");
+/// # Ok(())
+/// # }
+/// ```
 pub struct Column {
     handle: OwnedHandle,
     kind: Kind,
@@ -28,7 +48,11 @@ impl Column {
         call: impl FnOnce(*const u8, usize, bool, *mut Handle) -> u32,
     ) -> Result<Column, Error> {
         let bits = &validity.bits;
-        Column::made(|out| call(bits.as_ptr(), bits.len(), validity.is_present, out))
+        let column = Column::made(|out| call(bits.as_ptr(), bits.len(), validity.is_present, out))?;
+        if validity.has_wrong_length {
+            return Err(Error::of(status::VALIDITY_LENGTH));
+        }
+        Ok(column)
     }
 
     /// Returns the column of a handle; a kind that the crate does not know is an error.
@@ -58,8 +82,8 @@ impl Column {
 
     /// Parses rows of a type, both in the notation that [`to_text`](Column::to_text) prints.
     ///
-    /// Spaces between the parts are skipped. Types are `null`, `bool`, `i8` to `i128`, `u8` to `u128`, `binary` (with 64-bit
-    /// offsets), `binview`, `utf8` (string views), `list<TYPE>`, `fixed<SIZE,TYPE>` and `struct<TYPE,..>`.
+    /// Spaces between the parts are skipped. Types are `null`, `bool`, `i8` to `i128`, `u8` to `u128`, `binary` (with
+    /// 64-bit offsets), `binview`, `utf8` (string views), `list<TYPE>`, `fixed<SIZE,TYPE>` and `struct<TYPE,..>`.
     ///
     /// # Errors
     /// [`Error::Text`] with the offset of the first wrong byte; [`Error::Limit`] if a size limit would be exceeded or the
@@ -120,21 +144,31 @@ impl Column {
     /// ```
     /// # fn main() -> Result<(), sel::Error> {
     /// assert_eq!(sel::Column::from_options(&[Some(7i64), None])?.valid()?, [true, false]);
+    /// assert_eq!(sel::Column::new_null(2)?.valid()?, [false, false]);
     /// # Ok(())
     /// # }
     /// ```
     pub fn valid(&self) -> Result<Vec<bool>, Error> {
-        let (bits, is_present) = self.validity_bits()?;
         let all = self.kind != Kind::Null;
-        collect((0..self.len()).map(|row| if is_present { bit_at(&bits, row) } else { all }))
+        self.validity()?.map_or_else(|| collect((0..self.len()).map(|_| all)), Ok)
     }
 
-    /// Returns the packed validity, and whether there is one.
-    pub(crate) fn validity_bits(&self) -> Result<(Vec<u8>, bool), Error> {
+    /// Returns the validity: for each row whether it is valid, or `None` if the column has no validity.
+    ///
+    /// Without a validity all rows are valid, except that those of the type `null` are null.
+    ///
+    /// ```
+    /// # fn main() -> Result<(), sel::Error> {
+    /// assert_eq!(sel::Column::from_options(&[Some(7i64), None])?.validity()?, Some(vec![true, false]));
+    /// assert_eq!(sel::Column::from_values(&[7i64])?.validity()?, None);
+    /// # Ok(())
+    /// # }
+    /// ```
+    pub fn validity(&self) -> Result<Option<Vec<bool>>, Error> {
         let (mut bits, mut is_present) = (zeroed(self.len().div_ceil(8))?, false);
         // SAFETY: as in `len`; the bits are valid for their length.
         checked(unsafe { raw::sel_validity(self.at(), bits.as_mut_ptr(), bits.len(), &mut is_present) })?;
-        Ok((bits, is_present))
+        is_present.then(|| collect((0..self.len()).map(|row| bit_at(&bits, row)))).transpose()
     }
 
     /// Returns the `len` rows from `offset` on, which share the memory of the column.
@@ -145,36 +179,101 @@ impl Column {
     /// ```
     /// # fn main() -> Result<(), sel::Error> {
     /// let numbers = sel::Column::from_values(&[1i64, 2, 3, 4])?;
-    /// assert_eq!(numbers.sliced(1, 2)?.to_text()?, "[2,3]");
-    /// assert_eq!(numbers.sliced(1, usize::MAX).unwrap_err(), sel::Error::OutOfBounds(6));
+    /// assert_eq!(numbers.slice(1, 2)?.to_text()?, "[2,3]");
+    /// assert_eq!(numbers.slice(1, usize::MAX).unwrap_err(), sel::Error::OutOfBounds(6));
     /// # Ok(())
     /// # }
     /// ```
-    pub fn sliced(&self, offset: usize, len: usize) -> Result<Column, Error> {
+    pub fn slice(&self, offset: usize, len: usize) -> Result<Column, Error> {
         // SAFETY: two distinct handles.
         Column::made(|out| unsafe { raw::sel_sliced(self.at(), offset, len, out) })
     }
 
+    /// Returns the same as [`slice`](Column::slice).
+    ///
+    /// ```
+    /// # fn main() -> Result<(), sel::Error> {
+    /// assert_eq!(sel::Column::from_values(&[1i64, 2, 3])?.sliced(2, 1)?.to_text()?, "[3]");
+    /// # Ok(())
+    /// # }
+    /// ```
+    pub fn sliced(&self, offset: usize, len: usize) -> Result<Column, Error> {
+        self.slice(offset, len)
+    }
+
     /// Returns a second column of the same rows, which shares the memory of the column.
-    pub fn share(&self) -> Result<Column, Error> {
+    ///
+    /// # Errors
+    /// [`Error::OutOfMemory`].
+    ///
+    /// ```
+    /// # fn main() -> Result<(), sel::Error> {
+    /// let numbers = sel::Column::from_values(&[1i64, 2])?;
+    /// assert_eq!(numbers.try_clone()?, numbers);
+    /// # Ok(())
+    /// # }
+    /// ```
+    pub fn try_clone(&self) -> Result<Column, Error> {
         // SAFETY: two distinct handles.
         Column::made(|out| unsafe { raw::sel_share(self.at(), out) })
+    }
+
+    /// Returns the same as [`try_clone`](Column::try_clone).
+    ///
+    /// ```
+    /// # fn main() -> Result<(), sel::Error> {
+    /// assert_eq!(sel::Column::from_values(&[1i64, 2])?.share()?.to_text()?, "[1,2]");
+    /// # Ok(())
+    /// # }
+    /// ```
+    pub fn share(&self) -> Result<Column, Error> {
+        self.try_clone()
     }
 
     /// Returns whether both columns have the same rows; their types may differ.
     ///
     /// Integers are compared by their values, whatever their width; values in null slots are ignored.
+    ///
+    /// # Errors
+    /// [`Error::OutOfMemory`].
+    ///
+    /// ```
+    /// # use sel::{Column, Error};
+    /// # fn main() -> Result<(), Error> {
+    /// assert!(Column::from_values(&[1i8])?.equals(&Column::from_values(&[1u64])?)?);
+    /// assert!(!Column::from_values(&[1i8])?.equals(&Column::new_null(1)?)?);
+    /// # Ok(())
+    /// # }
+    /// ```
     pub fn equals(&self, other: &Column) -> Result<bool, Error> {
-        let (other, mut is_equal) = (other.share()?, false);
+        let (other, mut is_equal) = (other.try_clone()?, false);
         // SAFETY: two distinct handles.
         checked(unsafe { raw::sel_equal_rows(self.at(), other.at(), &mut is_equal) })?;
         Ok(is_equal)
+    }
+
+    /// Returns whether both columns have the same type and the same rows.
+    fn try_eq(&self, other: &Column) -> Result<bool, Error> {
+        let may_be_equal = self.kind == other.kind && self.len() == other.len();
+        Ok(may_be_equal && self.data_type()? == other.data_type()? && self.equals(other)?)
     }
 
     /// Prints the rows, as in `[1,null,-3]`.
     ///
     /// Strings are quoted as in JSON, binary values are written as `h"00ff"`, lists in brackets and struct values in
     /// parentheses.
+    ///
+    /// # Errors
+    /// [`Error::OutOfMemory`].
+    ///
+    /// ```
+    /// # use sel::{Column, Error};
+    /// # fn main() -> Result<(), Error> {
+    /// let rows = Column::new_struct(1, vec![Column::from_values(&["Ada"])?, Column::from_bytes(&[None])?], None)?;
+    /// assert_eq!(rows.to_text()?, r#"[("Ada",null)]"#);
+    /// # Ok(())
+    /// # }
+    /// ```
     pub fn to_text(&self) -> Result<String, Error> {
         let (mut bytes, mut len) = (Vec::new(), 0);
         // SAFETY: as in `len`; nothing is written to a length of 0.
@@ -186,8 +285,43 @@ impl Column {
     }
 }
 
-impl fmt::Debug for Column {
+/// Returns the value, or ends as the standard library does after a failed allocation.
+fn infallible<T>(result: Result<T, Error>) -> T {
+    match result {
+        Ok(value) => value,
+        Err(Error::OutOfMemory) => handle_alloc_error(Layout::new::<Column>()),
+        Err(error) => panic!("{error}"),
+    }
+}
+
+impl Clone for Column {
+    /// Returns a second column of the same rows, which shares the memory of the column.
+    ///
+    /// If an allocation fails, this calls [`handle_alloc_error`]; [`try_clone`](Column::try_clone) returns an error.
+    fn clone(&self) -> Column {
+        infallible(self.try_clone())
+    }
+}
+
+impl PartialEq for Column {
+    /// Returns whether both columns have the same type and the same rows.
+    fn eq(&self, other: &Column) -> bool {
+        ptr::eq(self, other) || infallible(self.try_eq(other))
+    }
+}
+
+impl Eq for Column {}
+
+impl fmt::Display for Column {
+    /// Prints the rows as [`to_text`](Column::to_text) does.
     fn fmt(&self, f: &mut fmt::Formatter<'_>) -> fmt::Result {
-        f.write_str(&self.to_text().map_err(|_| fmt::Error)?)
+        f.write_str(&infallible(self.to_text()))
+    }
+}
+
+impl fmt::Debug for Column {
+    /// Prints the type and the rows.
+    fn fmt(&self, f: &mut fmt::Formatter<'_>) -> fmt::Result {
+        write!(f, "{} {}", infallible(self.data_type()), infallible(self.to_text()))
     }
 }

@@ -8,7 +8,10 @@ pub(crate) mod status {
     pub(crate) const DONE: u32 = 0;
     pub(crate) const OUT_OF_MEMORY: u32 = 1;
     pub(crate) const WRONG_KIND: u32 = 3;
+    pub(crate) const LIMIT_BYTES: u32 = 9;
     pub(crate) const LIMIT_VIEW_BYTES: u32 = 11;
+    pub(crate) const OFFSET_RANGE: u32 = 22;
+    pub(crate) const VALIDITY_LENGTH: u32 = 25;
     pub(crate) const VIEW_RANGE: u32 = 26;
     pub(crate) const UTF8: u32 = 28;
 }
@@ -121,6 +124,7 @@ impl std::error::Error for Error {}
 #[cfg(test)]
 mod tests {
     use super::*;
+    use std::ffi::CStr;
 
     /// Returns the numbers of the header's enumerators `SEL_.. = NUMBER`, by their names.
     fn enumerators(header: &str, name: &str) -> Vec<(String, u32)> {
@@ -155,7 +159,10 @@ mod tests {
         assert_eq!(of("SEL_DONE"), Some(status::DONE));
         assert_eq!(of("SEL_NO_MEMORY"), Some(status::OUT_OF_MEMORY));
         assert_eq!(of("SEL_OTHER_KIND"), Some(status::WRONG_KIND));
+        assert_eq!(of("SEL_LIMIT_BYTES"), Some(status::LIMIT_BYTES));
         assert_eq!(of("SEL_LIMIT_VIEW_BYTES"), Some(status::LIMIT_VIEW_BYTES));
+        assert_eq!(of("SEL_OFFSET_RANGE"), Some(status::OFFSET_RANGE));
+        assert_eq!(of("SEL_VALIDITY_LENGTH"), Some(status::VALIDITY_LENGTH));
         assert_eq!(of("SEL_VIEW_RANGE"), Some(status::VIEW_RANGE));
         assert_eq!(of("SEL_UTF8"), Some(status::UTF8));
     }
@@ -166,6 +173,16 @@ mod tests {
             assert_eq!(Error::of(unknown), Error::UnknownStatus(unknown));
             assert_eq!(checked(unknown), Err(Error::UnknownStatus(unknown)));
             assert!(Error::of(unknown).to_string().ends_with(&format!(" (status {unknown})")));
+        }
+    }
+
+    #[test]
+    fn texts_are_those_of_the_library() {
+        for status in statuses().iter().map(|(_, status)| *status).filter(|status| *status != status::DONE) {
+            // SAFETY: the function returns a text that is never freed.
+            let text = unsafe { CStr::from_ptr(raw::sel_status_text(status)) };
+            assert!(!text.to_bytes().is_empty());
+            assert_eq!(Error::of(status).to_string().split(" (status ").next(), text.to_str().ok(), "{status}");
         }
     }
 

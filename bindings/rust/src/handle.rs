@@ -1,7 +1,7 @@
 //! Handles of the library, which are freed when they are dropped.
 
 use crate::column::Column;
-use crate::error::{checked, Error};
+use crate::error::Error;
 use crate::raw::{self, Handle};
 use std::cell::UnsafeCell;
 use std::mem;
@@ -52,10 +52,7 @@ impl HandleArray {
     pub(crate) fn shares(columns: &[&Column]) -> Result<HandleArray, Error> {
         let mut array = HandleArray::with_capacity(columns.len())?;
         for column in columns {
-            let second = OwnedHandle::empty();
-            // SAFETY: the two handles are distinct, and the second one is empty.
-            checked(unsafe { raw::sel_share(column.at(), second.at()) })?;
-            array.handles.push(second.into_raw());
+            array.handles.push(column.try_clone()?.into_handle().into_raw());
         }
         Ok(array)
     }

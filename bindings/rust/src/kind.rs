@@ -68,6 +68,12 @@ impl TryFrom<u32> for Kind {
     type Error = Error;
 
     /// Returns the kind with this number in `include/sel.h`, or [`Error::UnknownKind`].
+    ///
+    /// ```
+    /// # use sel::{Error, Kind};
+    /// assert_eq!(Kind::try_from(1), Ok(Kind::Boolean));
+    /// assert_eq!(Kind::try_from(1000), Err(Error::UnknownKind(1000)));
+    /// ```
     fn try_from(number: u32) -> Result<Kind, Error> {
         let place = usize::try_from(number).map_err(|_| Error::UnknownKind(number))?;
         KINDS.get(place).copied().ok_or(Error::UnknownKind(number))

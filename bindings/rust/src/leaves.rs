@@ -1,41 +1,65 @@
-//! Columns of integers and booleans, made of slices and read into vectors.
+//! Columns of nulls and of booleans.
 
 use crate::bits::{bit_at, pack, Validity};
 use crate::column::Column;
 use crate::error::{checked, Error};
 use crate::kind::Kind;
 use crate::memory::{collect, zeroed};
-use crate::number::{self, Number};
 use crate::raw;
 
 impl Column {
-    /// Returns a column of integers without nulls.
-    pub fn from_values<T: Number>(values: &[T]) -> Result<Column, Error> {
-        number::make(values, &Validity::ALL)
+    /// Makes a column of `len` nulls, of the type `null`.
+    ///
+    /// # Errors
+    /// [`Error::Malformed`] for more than 4,294,967,295 rows; [`Error::OutOfMemory`].
+    ///
+    /// ```
+    /// # use sel::{Column, Error};
+    /// # fn main() -> Result<(), Error> {
+    /// assert_eq!(Column::new_null(2)?.to_text()?, "[null,null]");
+    /// assert_eq!(Column::new_null(usize::MAX).err(), Some(Error::Malformed(19)));
+    /// # Ok(())
+    /// # }
+    /// ```
+    pub fn new_null(len: usize) -> Result<Column, Error> {
+        // SAFETY: the handle is empty.
+        Column::made(|out| unsafe { raw::sel_null_new(len, out) })
     }
 
-    /// Returns a column of integers, null where a row is `None`.
-    pub fn from_options<T: Number>(rows: &[Option<T>]) -> Result<Column, Error> {
-        let values = collect(rows.iter().map(|row| row.unwrap_or_default()))?;
-        number::make(&values, &Validity::of_options(rows)?)
-    }
-
-    /// Returns a column of booleans without nulls.
-    pub fn from_bools(values: &[bool]) -> Result<Column, Error> {
-        let packed = pack(values.iter().copied())?;
-        Column::made_with(&Validity::ALL, |bits, bits_len, has_bits, out| {
+    pub(crate) fn made_of_bools(
+        values: impl ExactSizeIterator<Item = bool>,
+        validity: &Validity,
+    ) -> Result<Column, Error> {
+        let (len, packed) = (values.len(), pack(values)?);
+        Column::made_with(validity, |bits, bits_len, has_bits, out| {
             // SAFETY: both slices are valid for their lengths, and the handle is empty.
-            unsafe { raw::sel_boolean_new(packed.as_ptr(), packed.len(), values.len(), bits, bits_len, has_bits, out) }
+            unsafe { raw::sel_boolean_new(packed.as_ptr(), packed.len(), len, bits, bits_len, has_bits, out) }
         })
     }
 
-    /// Returns the rows of a column of integers of this type.
-    pub fn to_options<T: Number>(&self) -> Result<Vec<Option<T>>, Error> {
-        let rows = number::read::<T>(self)?.into_iter().zip(self.valid()?);
-        collect(rows.map(|(value, valid)| valid.then_some(value)))
+    /// Makes a boolean column without nulls; [`from_options`](Column::from_options) makes one with nulls.
+    ///
+    /// ```
+    /// # use sel::{Column, Error};
+    /// # fn main() -> Result<(), Error> {
+    /// assert_eq!(Column::from_bools(&[true, false])?.to_text()?, "[true,false]");
+    /// assert_eq!(Column::from_options(&[Some(true), None])?.to_bools()?, [Some(true), None]);
+    /// # Ok(())
+    /// # }
+    /// ```
+    pub fn from_bools(values: &[bool]) -> Result<Column, Error> {
+        Column::from_values(values)
     }
 
     /// Returns the rows of a boolean column.
+    ///
+    /// ```
+    /// # use sel::{Column, Error};
+    /// # fn main() -> Result<(), Error> {
+    /// assert_eq!(Column::parse("bool", "[true,null]")?.to_bools()?, [Some(true), None]);
+    /// # Ok(())
+    /// # }
+    /// ```
     pub fn to_bools(&self) -> Result<Vec<Option<bool>>, Error> {
         self.expect_kind(Kind::Boolean)?;
         let mut bits = zeroed(self.len().div_ceil(8))?;

@@ -1,10 +1,28 @@
-//! String columns, whose rows are views into data buffers.
+//! Columns of views: strings and binary values of up to 12 bytes in the view, longer ones in data buffers.
 
 use crate::bits::Validity;
 use crate::column::Column;
 use crate::error::{checked, status, Error};
+use crate::kind::Kind;
 use crate::memory::{append, collect, copy, try_collect, zeroed};
-use crate::raw::{self, RawSlice, RawView};
+use crate::raw::{self, Handle, RawSlice};
+
+/// A view of the Arrow format, as four little-endian words: `sel_view`.
+///
+/// With a length of up to 12 the bytes lie in the other three words, zeros behind them. Else the first four bytes are in
+/// `prefix`, and all of them at `offset` of the data buffer with the number `buffer`.
+#[repr(C)]
+#[derive(Clone, Copy, Debug, Default, PartialEq, Eq, Hash)]
+pub struct View {
+    /// The number of bytes.
+    pub length: u32,
+    /// The first four bytes.
+    pub prefix: u32,
+    /// The number of the data buffer, or the next four bytes.
+    pub buffer: u32,
+    /// The offset in the data buffer, or the last four bytes.
+    pub offset: u32,
+}
 
 /// The most bytes that lie in the view itself.
 const INLINE: usize = 12;
@@ -14,7 +32,7 @@ const MOST_BUFFER_BYTES: usize = 0x7fff_ffff;
 
 /// Views under construction and their data buffers.
 struct ViewBuilder {
-    views: Vec<RawView>,
+    views: Vec<View>,
     buffers: Vec<Vec<u8>>,
     most_buffer_bytes: usize,
 }
@@ -36,7 +54,7 @@ impl ViewBuilder {
             false => self.store(value)?,
         };
         self.views.try_reserve(1).map_err(|_| Error::OutOfMemory)?;
-        self.views.push(RawView { length, prefix, buffer, offset });
+        self.views.push(View { length, prefix, buffer, offset });
         Ok(())
     }
 
@@ -58,7 +76,7 @@ impl ViewBuilder {
 }
 
 /// Returns the bytes of a view, which lie in it or in a data buffer.
-fn bytes_of(view: &RawView, buffers: &[Vec<u8>]) -> Result<Vec<u8>, Error> {
+fn bytes_of(view: &View, buffers: &[Vec<u8>]) -> Result<Vec<u8>, Error> {
     let out_of_range = |_| Error::of(status::VIEW_RANGE);
     let len = usize::try_from(view.length).map_err(out_of_range)?;
     if len <= INLINE {
@@ -71,41 +89,185 @@ fn bytes_of(view: &RawView, buffers: &[Vec<u8>]) -> Result<Vec<u8>, Error> {
     copy(bytes.ok_or(Error::of(status::VIEW_RANGE))?)
 }
 
-fn text_of(view: &RawView, buffers: &[Vec<u8>]) -> Result<String, Error> {
-    String::from_utf8(bytes_of(view, buffers)?).map_err(|_| Error::of(status::UTF8))
+fn text_of(bytes: Vec<u8>) -> Result<String, Error> {
+    String::from_utf8(bytes).map_err(|_| Error::of(status::UTF8))
+}
+
+type Maker =
+    unsafe extern "C" fn(*const View, usize, *const RawSlice, usize, *const u8, usize, bool, *mut Handle) -> u32;
+
+fn make_by(call: Maker, views: &[View], buffers: &[RawSlice], validity: &Validity) -> Result<Column, Error> {
+    Column::made_with(validity, |bits, bits_len, has_bits, out| {
+        let (buffers, count) = (buffers.as_ptr(), buffers.len());
+        // SAFETY: all slices are valid for their lengths, and the handle is empty.
+        unsafe { call(views.as_ptr(), views.len(), buffers, count, bits, bits_len, has_bits, out) }
+    })
+}
+
+fn make_of_values<'a>(
+    call: Maker,
+    values: impl Iterator<Item = &'a [u8]>,
+    validity: &Validity,
+) -> Result<Column, Error> {
+    let mut builder = ViewBuilder::new(MOST_BUFFER_BYTES);
+    for value in values {
+        builder.push(value)?;
+    }
+    let buffers = collect(builder.buffers.iter().map(|buffer| RawSlice::of(buffer)))?;
+    make_by(call, &builder.views, &buffers, validity)
 }
 
 impl Column {
-    /// Returns a column of strings, null where a row is `None`.
+    /// Makes a string column, null where a row is `None`; [`from_values`](Column::from_values) takes strings without
+    /// nulls.
+    ///
+    /// # Errors
+    /// [`Error::Malformed`] for more than 4,294,967,295 rows; [`Error::Limit`] for a string of more bytes than that;
+    /// [`Error::OutOfMemory`].
+    ///
+    /// ```
+    /// # use sel::{Column, Error};
+    /// # fn main() -> Result<(), Error> {
+    /// let names = Column::from_texts(&[Some("Ada"), None])?;
+    /// assert_eq!(names.to_texts()?, [Some("Ada".to_string()), None]);
+    /// # Ok(())
+    /// # }
+    /// ```
     pub fn from_texts(rows: &[Option<&str>]) -> Result<Column, Error> {
-        let mut builder = ViewBuilder::new(MOST_BUFFER_BYTES);
-        rows.iter().try_for_each(|row| builder.push(row.unwrap_or("").as_bytes()))?;
-        let (views, validity) = (&builder.views, Validity::of_options(rows)?);
-        let buffers =
-            collect(builder.buffers.iter().map(|buffer| RawSlice { at: buffer.as_ptr(), len: buffer.len() }))?;
-        Column::made_with(&validity, |bits, bits_len, has_bits, out| {
-            let (buffers, count) = (buffers.as_ptr(), buffers.len());
-            // SAFETY: all slices are valid for their lengths, and the handle is empty.
-            unsafe { raw::sel_utf8view_new(views.as_ptr(), views.len(), buffers, count, bits, bits_len, has_bits, out) }
-        })
+        Column::from_options(rows)
+    }
+
+    pub(crate) fn made_of_strings<'a>(
+        values: impl Iterator<Item = &'a [u8]>,
+        validity: &Validity,
+    ) -> Result<Column, Error> {
+        make_of_values(raw::sel_utf8view_new, values, validity)
+    }
+
+    /// Makes a column of binary views, null where a row is `None`.
+    ///
+    /// # Errors
+    /// As [`from_texts`](Column::from_texts).
+    ///
+    /// ```
+    /// # use sel::{Column, Error, Kind};
+    /// # fn main() -> Result<(), Error> {
+    /// let column = Column::from_byte_views(&[Some(b"a"), None])?;
+    /// assert_eq!((column.kind(), column.to_text()?), (Kind::BinaryView, r#"[h"61",null]"#.to_string()));
+    /// # Ok(())
+    /// # }
+    /// ```
+    pub fn from_byte_views(rows: &[Option<&[u8]>]) -> Result<Column, Error> {
+        let values = rows.iter().map(|row| row.unwrap_or_default());
+        make_of_values(raw::sel_binview_new, values, &Validity::of_options(rows)?)
+    }
+
+    /// Makes a column of binary views into data buffers; row `i` is null where `validity[i]` is false.
+    ///
+    /// # Errors
+    /// [`Error::Malformed`] if a view, in a null slot too, refers to bytes that its buffers do not have, or its prefix is
+    /// not that of the bytes, or the validity has not one item for each row; [`Error::OutOfMemory`].
+    ///
+    /// ```
+    /// # use sel::{Column, Error, View};
+    /// # fn main() -> Result<(), Error> {
+    /// let view = View { length: 13, prefix: u32::from_le_bytes(*b"hirt"), buffer: 0, offset: 1 };
+    /// let column = Column::new_binary_view(&[view, view], &[b"thirteen bytes"], Some(&[true, false]))?;
+    /// assert_eq!(column.to_bytes()?, [Some(b"hirteen bytes".to_vec()), None]);
+    /// let wrong = View { offset: 2, ..view };
+    /// assert_eq!(Column::new_binary_view(&[wrong], &[b"thirteen bytes"], None).err(), Some(Error::Malformed(26)));
+    /// # Ok(())
+    /// # }
+    /// ```
+    pub fn new_binary_view(views: &[View], buffers: &[&[u8]], validity: Option<&[bool]>) -> Result<Column, Error> {
+        let buffers = collect(buffers.iter().map(|buffer| RawSlice::of(buffer)))?;
+        make_by(raw::sel_binview_new, views, &buffers, &Validity::new(validity, views.len())?)
+    }
+
+    /// Makes a string column of views into data buffers; row `i` is null where `validity[i]` is false.
+    ///
+    /// # Errors
+    /// As [`new_binary_view`](Column::new_binary_view), and [`Error::Malformed`] if a valid row is not UTF-8.
+    ///
+    /// ```
+    /// # use sel::{Column, Error, View};
+    /// # fn main() -> Result<(), Error> {
+    /// let view = View { length: 2, prefix: u32::from_le_bytes([0xc3, 0xa9, 0, 0]), buffer: 0, offset: 0 };
+    /// assert_eq!(Column::new_utf8_view(&[view], &[], None)?.to_texts()?, [Some("é".to_string())]);
+    /// let half = View { length: 1, ..view };
+    /// assert_eq!(Column::new_utf8_view(&[half], &[], None).err(), Some(Error::Malformed(28)));
+    /// assert_eq!(Column::new_utf8_view(&[half], &[], Some(&[false]))?.to_texts()?, [None]);
+    /// # Ok(())
+    /// # }
+    /// ```
+    pub fn new_utf8_view(views: &[View], buffers: &[&[u8]], validity: Option<&[bool]>) -> Result<Column, Error> {
+        let buffers = collect(buffers.iter().map(|buffer| RawSlice::of(buffer)))?;
+        make_by(raw::sel_utf8view_new, views, &buffers, &Validity::new(validity, views.len())?)
     }
 
     /// Returns the rows of a string column.
+    ///
+    /// # Errors
+    /// [`Error::WrongArgument`] if the column has another kind; [`Error::OutOfMemory`].
+    ///
+    /// ```
+    /// # use sel::{Column, Error};
+    /// # fn main() -> Result<(), Error> {
+    /// assert_eq!(Column::parse("utf8", r#"["Ada",null]"#)?.to_texts()?, [Some("Ada".to_string()), None]);
+    /// # Ok(())
+    /// # }
+    /// ```
     pub fn to_texts(&self) -> Result<Vec<Option<String>>, Error> {
-        let (views, buffers) = (self.views()?, self.buffers()?);
-        let rows = views.iter().zip(self.valid()?);
-        try_collect(rows.map(|(view, valid)| valid.then(|| text_of(view, &buffers)).transpose()))
+        self.expect_kind(Kind::Utf8View)?;
+        let rows = self.view_bytes()?.into_iter();
+        try_collect(rows.map(|bytes| bytes.map(text_of).transpose()))
     }
 
-    fn views(&self) -> Result<Vec<RawView>, Error> {
-        self.expect_kind(crate::Kind::Utf8View)?;
-        let mut views = zeroed::<RawView>(self.len())?;
+    /// Returns the rows of a column of views.
+    pub(crate) fn view_bytes(&self) -> Result<Vec<Option<Vec<u8>>>, Error> {
+        let (views, buffers) = (self.views()?, self.buffers()?);
+        let rows = views.iter().zip(self.valid()?);
+        try_collect(rows.map(|(view, valid)| valid.then(|| bytes_of(view, &buffers)).transpose()))
+    }
+
+    /// Returns the views of a string column or of binary views; those in null slots are whatever the column holds there.
+    ///
+    /// # Errors
+    /// [`Error::WrongArgument`] if the column has another kind; [`Error::OutOfMemory`].
+    ///
+    /// ```
+    /// # use sel::{Column, Error};
+    /// # fn main() -> Result<(), Error> {
+    /// let texts = Column::from_values(&["Ada", "a text of 21 bytes..."])?;
+    /// let lengths: Vec<u32> = texts.views()?.iter().map(|view| view.length).collect();
+    /// assert_eq!(lengths, [3, 21]);
+    /// assert_eq!(texts.buffers()?, [b"a text of 21 bytes..."]);
+    /// # Ok(())
+    /// # }
+    /// ```
+    pub fn views(&self) -> Result<Vec<View>, Error> {
+        if self.kind() != Kind::BinaryView {
+            self.expect_kind(Kind::Utf8View)?;
+        }
+        let mut views = zeroed::<View>(self.len())?;
         // SAFETY: the views are valid for their length, and the handle is owned by the column.
         checked(unsafe { raw::sel_views(self.at(), views.as_mut_ptr(), views.len()) })?;
         Ok(views)
     }
 
-    fn buffers(&self) -> Result<Vec<Vec<u8>>, Error> {
+    /// Returns the data buffers that the [`views`](Column::views) refer to.
+    ///
+    /// # Errors
+    /// [`Error::WrongArgument`] if the column has another kind; [`Error::OutOfMemory`].
+    ///
+    /// ```
+    /// # use sel::{Column, Error};
+    /// # fn main() -> Result<(), Error> {
+    /// assert!(Column::from_values(&["Ada"])?.buffers()?.is_empty());
+    /// # Ok(())
+    /// # }
+    /// ```
+    pub fn buffers(&self) -> Result<Vec<Vec<u8>>, Error> {
         let mut count = 0;
         // SAFETY: the handle is owned by the column.
         checked(unsafe { raw::sel_buffer_count(self.at(), &mut count) })?;
@@ -117,7 +279,7 @@ impl Column {
         // SAFETY: the handle is owned by the column.
         checked(unsafe { raw::sel_buffer_len(self.at(), i, &mut len) })?;
         let mut bytes = zeroed::<u8>(len)?;
-        // SAFETY: the bytes are valid for their length.
+        // SAFETY: the bytes are valid for their length, and the handle is owned by the column.
         checked(unsafe { raw::sel_buffer(self.at(), i, bytes.as_mut_ptr(), bytes.len()) })?;
         Ok(bytes)
     }
@@ -127,40 +289,29 @@ impl Column {
 mod tests {
     use super::*;
 
-    /// Makes a string column of views over one buffer, with bit `i` of `valid` for row `i`.
-    fn made(views: &[RawView], buffer: &[u8], valid: u8) -> Result<Column, Error> {
-        let (bits, buffers) = ([valid], [RawSlice { at: buffer.as_ptr(), len: buffer.len() }]);
-        Column::made(|out| {
-            // SAFETY: all slices are valid for their lengths, and the handle is empty.
-            unsafe {
-                let (views, len) = (views.as_ptr(), views.len());
-                raw::sel_utf8view_new(views, len, buffers.as_ptr(), 1, bits.as_ptr(), 1, true, out)
-            }
-        })
-    }
-
-    fn inline(length: u32, bytes: [u8; 12]) -> RawView {
+    fn inline(length: u32, bytes: [u8; 12]) -> View {
         let [a, b, c, d, e, f, g, h, i, j, k, l] = bytes;
         let word = u32::from_le_bytes;
-        RawView { length, prefix: word([a, b, c, d]), buffer: word([e, f, g, h]), offset: word([i, j, k, l]) }
+        View { length, prefix: word([a, b, c, d]), buffer: word([e, f, g, h]), offset: word([i, j, k, l]) }
     }
 
     #[test]
     fn null_slots_with_bytes_that_are_not_utf8_are_read_as_nulls() -> Result<(), Error> {
         let wrong = inline(3, [0xff; 12]);
-        let long = RawView { length: 13, prefix: u32::from_le_bytes([0xc3; 4]), buffer: 0, offset: 1 };
-        let column =
-            made(&[wrong, long, inline(2, *b"ab\xff\xff\xff\xff\xff\xff\xff\xff\xff\xff")], &[0xc3; 16], 0b100)?;
+        let long = View { length: 13, prefix: u32::from_le_bytes([0xc3; 4]), buffer: 0, offset: 1 };
+        let padded = inline(2, *b"ab\xff\xff\xff\xff\xff\xff\xff\xff\xff\xff");
+        let validity = Some(&[false, false, true][..]);
+        let column = Column::new_utf8_view(&[wrong, long, padded], &[&[0xc3; 16]], validity)?;
         assert_eq!(column.to_texts()?, [None, None, Some("ab".to_string())]);
         assert_eq!(column.sliced(1, 2)?.to_texts()?, [None, Some("ab".to_string())]);
-        assert_eq!(made(&[wrong], &[], 1).err(), Some(Error::of(status::UTF8)));
+        assert_eq!(Column::new_utf8_view(&[wrong], &[], None).err(), Some(Error::of(status::UTF8)));
         Ok(())
     }
 
     #[test]
     fn a_view_outside_of_its_buffers_is_an_error() {
         let buffers = [b"twenty bytes of text".to_vec()];
-        let view = |length, buffer, offset| RawView { length, prefix: 0, buffer, offset };
+        let view = |length, buffer, offset| View { length, prefix: 0, buffer, offset };
         for wrong in
             [view(21, 0, 0), view(20, 0, 1), view(13, 1, 0), view(u32::MAX, 0, u32::MAX), view(13, u32::MAX, 0)]
         {
