@@ -1,44 +1,141 @@
-//! Selection kernels over Arrow columns that are proved to pick the rows of their definition: filter, take,
-//! when-then-otherwise, getters of lists, flatten, dictionaries. Safe types over the C library `libsel`.
+//! Filters, gathers and combines Arrow columns of any nesting: safe types over the proved kernels of the C library
+//! `libsel`.
+//!
+//! A [`Column`] is made of values ([`Column::from_values`], [`Column::from_options`], `TryFrom`), of other columns
+//! ([`Column::new_list`], [`Column::new_struct`]), from text ([`Column::parse`]) or from an Arrow array
+//! ([`Column::from_arrow`]). The kernels return new columns:
 //!
 //! ```
 //! use sel::Column;
 //! # fn main() -> Result<(), sel::Error> {
-//! let ages = Column::from_options(&[Some(31i64), None, Some(27), Some(45)])?;
-//! let mask = Column::from_bools(&[true, true, false, true])?;
-//! assert_eq!(ages.filter(&mask)?.to_options::<i64>()?, [Some(31), None, Some(45)]);
+//! let ages = Column::try_from([Some(31i64), None, Some(27), Some(45)])?;
+//! let mask = Column::try_from([true, true, false, true])?;
+//! let kept = ages.filter(&mask)?;
+//! assert_eq!(kept.to_options::<i64>()?, [Some(31), None, Some(45)]);
+//! assert_eq!(kept.iter::<i64>()?.flatten().max(), Some(45));
+//! assert_eq!(kept, Column::parse("i64", "[31, null, 45]")?);
 //! # Ok(())
 //! # }
 //! ```
 //!
-//! Rows of several columns are chosen, put side by side or picked, and shown as a text:
+//! Functions over several columns:
 //!
 //! ```
-//! use sel::{choose, choose_of_two, choose_one, choose_or_one, collect_rows, flatten, propagate_dictionary, Column};
+//! use sel::{collect_rows, flatten, if_then_else, if_then_else_broadcast_true, propagate_dictionary, Column};
 //! # fn main() -> Result<(), sel::Error> {
-//! let (ages, others) = (Column::from_options(&[Some(31i64), None])?, Column::from_values(&[1i64, 2])?);
-//! let (mask, zero) = (Column::from_bools(&[true, false])?, Column::from_values(&[0i64])?);
-//! assert_eq!(choose(&mask, &ages, &others)?.to_text()?, "[31,2]");
-//! assert_eq!(choose_one(&mask, &zero, &ages)?.to_text()?, "[0,null]");
-//! assert_eq!(choose_or_one(&mask, &ages, &zero)?.to_text()?, "[31,0]");
-//! assert_eq!(choose_of_two(&mask, &zero, &zero)?.to_text()?, "[0,0]");
-//! assert_eq!(flatten(&[&ages, &zero], &[1, 1], 2)?.to_text()?, "[31,0,null,0]");
-//! assert_eq!(collect_rows(&[&ages, &others], &[Some((1, 1)), None, Some((0, 0))])?.to_text()?, "[2,null,31]");
-//! let keys = Column::from_values(&[0u32, 1])?;
-//! let (keys, texts) = propagate_dictionary(&keys, &Column::from_texts(&[None, Some("Ada")])?)?;
-//! assert!(keys.equals(&Column::from_options(&[None, Some(0u32)])?)?);
-//! assert_eq!(format!("{texts:?}"), "[\"Ada\"]");
+//! let (ages, others) = (Column::try_from([Some(31i64), None])?, Column::try_from([1i64, 2])?);
+//! let (mask, zero) = (Column::try_from([true, false])?, Column::try_from([0i64])?);
+//! assert_eq!(if_then_else(&mask, &ages, &others)?.to_string(), "[31,2]");
+//! assert_eq!(if_then_else_broadcast_true(&mask, &zero, &ages)?.to_string(), "[0,null]");
+//! assert_eq!(flatten(&[&ages, &zero], &[1, 1], 2)?.to_string(), "[31,0,null,0]");
+//! assert_eq!(collect_rows(&[&ages, &others], &[Some((1, 1)), None, Some((0, 0))])?.to_string(), "[2,null,31]");
+//! let (keys, names) = (Column::try_from([0u32, 1])?, Column::try_from([None, Some("Ada")])?);
+//! let (keys, names) = propagate_dictionary(&keys, &names)?;
+//! assert_eq!((keys.to_string(), names.to_string()), ("[null,0]".to_string(), r#"["Ada"]"#.to_string()));
 //! # Ok(())
 //! # }
 //! ```
+//!
+//! # Requirements
+//! The crate has no dependencies and requires Rust 1.73. It links `libsel.a` from the folder that the environment variable
+//! `SEL_LIBRARY_DIR` names at build time, or else from the checkout's `build`.
 //!
 //! A column is neither `Send` nor `Sync`: columns that share memory stay on one thread.
+//!
+//! No function panics, except that cloning, comparison and formatting cannot return an error: see [`Column`].
+//!
+//! # The functions of the C headers
+//!
+//! | in the headers | in this crate |
+//! |---|---|
+//! | `sel_sliced` | [`Column::slice`], [`Column::sliced`] |
+//! | `sel_share` | [`Column::try_clone`], [`Column::share`], [`Clone`] |
+//! | `sel_free` | dropping a [`Column`] |
+//! | `sel_null_new` | [`Column::new_null`] |
+//! | `sel_boolean_new` | [`Column::from_bools`]; [`Column::from_values`], [`Column::from_options`] and [`Column::from_values_with_validity`] of `bool` |
+//! | `sel_int8_new`, `sel_int16_new`, `sel_int32_new`, `sel_int64_new`, `sel_int128_new` | the same of `i8` to `i128` |
+//! | `sel_uint8_new`, `sel_uint16_new`, `sel_uint32_new`, `sel_uint64_new`, `sel_uint128_new` | the same of `u8` to `u128` |
+//! | `sel_int8_values`, `sel_int16_values`, `sel_int32_values`, `sel_int64_values`, `sel_int128_values` | [`Column::values`], [`Column::to_options`] and [`Column::iter`] of `i8` to `i128` |
+//! | `sel_uint8_values`, `sel_uint16_values`, `sel_uint32_values`, `sel_uint64_values`, `sel_uint128_values` | the same of `u8` to `u128` |
+//! | `sel_boolean_values` | [`Column::to_bools`]; [`Column::to_options`] and [`Column::iter`] of `bool` |
+//! | `sel_binary_new` | [`Column::new_binary`], [`Column::from_bytes`]; [`Column::from_values`] and [`Column::from_options`] of `&[u8]` and `Vec<u8>` |
+//! | `sel_bytes_len`, `sel_bytes` | [`Column::bytes`], [`Column::to_bytes`] |
+//! | `sel_list_new` | [`Column::new_list`], [`Column::lists`] |
+//! | `sel_fixed_list_new` | [`Column::new_fixed_size_list`], [`Column::fixed_lists`] |
+//! | `sel_struct_new` | [`Column::new_struct`], [`Column::tuples`] |
+//! | `sel_binview_new` | [`Column::new_binary_view`], [`Column::from_byte_views`] |
+//! | `sel_utf8view_new` | [`Column::new_utf8_view`], [`Column::from_texts`]; [`Column::from_values`] and [`Column::from_options`] of `&str` and `String` |
+//! | `sel_views` | [`Column::views`], [`Column::to_texts`], [`Column::to_bytes`] |
+//! | `sel_buffer_count`, `sel_buffer_len`, `sel_buffer` | [`Column::buffers`], [`Column::to_texts`], [`Column::to_bytes`] |
+//! | `sel_len` | [`Column::len`] |
+//! | `sel_null_count` | [`Column::null_count`] |
+//! | `sel_kind` | [`Column::kind`], [`Column::data_type`] |
+//! | `sel_validity` | [`Column::validity`], [`Column::valid`] |
+//! | `sel_offsets` | [`Column::offsets`] |
+//! | `sel_filter` | [`Column::filter`] |
+//! | `sel_filter_bits` | [`Column::filter_bits`] |
+//! | `sel_take` | [`Column::take`] |
+//! | `sel_take_rows` | [`Column::take_rows`] |
+//! | `sel_choose` | [`if_then_else`], [`choose`] |
+//! | `sel_choose_one` | [`if_then_else_broadcast_true`], [`choose_one`] |
+//! | `sel_choose_or_one` | [`if_then_else_broadcast_false`], [`choose_or_one`] |
+//! | `sel_choose_of_two` | [`if_then_else_broadcast_both`], [`choose_of_two`] |
+//! | `sel_sublist_get` | [`Column::sublist_get`] |
+//! | `sel_index_is_oob` | [`Column::index_is_oob`] |
+//! | `sel_unit_list` | [`Column::unit_list`] |
+//! | `sel_fixed_get` | [`Column::fixed_get`] |
+//! | `sel_fixed_get_each` | [`Column::fixed_get_each`] |
+//! | `sel_flatten` | [`flatten`] |
+//! | `sel_collect_rows` | [`collect_rows`] |
+//! | `sel_propagate_dictionary` | [`propagate_dictionary`] |
+//! | `sel_equal_rows` | [`Column::equals`], `==` |
+//! | `sel_print` | [`Column::to_text`], [`Display`](std::fmt::Display) |
+//! | `sel_parse` | [`Column::parse`], the [`FromStr`](std::str::FromStr) of [`DataType`] |
+//! | `sel_child` | [`Column::child`] |
+//! | `sel_width` | [`Column::list_size`] |
+//! | `sel_field_count` | [`Column::field_count`] |
+//! | `sel_field` | [`Column::field`] |
+//! | `sel_import` | [`Column::from_arrow`] |
+//! | `sel_export` | [`Column::to_arrow`] |
+//! | `sel_arrow_text`, `sel_status_text` | the [`Display`](std::fmt::Display) of [`Error`] |
+#![deny(
+    clippy::as_conversions,
+    clippy::cast_lossless,
+    clippy::cast_possible_truncation,
+    clippy::cast_possible_wrap,
+    clippy::cast_precision_loss,
+    clippy::cast_sign_loss,
+    clippy::undocumented_unsafe_blocks,
+    missing_docs,
+    unsafe_op_in_unsafe_fn
+)]
 
+mod arrow;
+mod binary;
+mod bits;
 mod column;
+mod data_type;
 mod error;
+mod handle;
+mod kernels;
+mod kind;
+mod leaves;
+mod memory;
+mod nested;
 mod number;
 mod raw;
+mod value;
+mod views;
 
-pub use column::{choose, choose_of_two, choose_one, choose_or_one, collect_rows, flatten, propagate_dictionary, Column, Kind};
+pub use arrow::{ArrowArray, ArrowSchema};
+pub use column::Column;
+pub use data_type::DataType;
 pub use error::Error;
+pub use kernels::{
+    choose, choose_of_two, choose_one, choose_or_one, collect_rows, flatten, if_then_else, if_then_else_broadcast_both,
+    if_then_else_broadcast_false, if_then_else_broadcast_true, propagate_dictionary,
+};
+pub use kind::Kind;
 pub use number::Number;
+pub use value::{Iter, OwnedValue, Value};
+pub use views::View;

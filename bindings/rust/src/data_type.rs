@@ -1,0 +1,177 @@
+//! The types of columns.
+
+use crate::column::Column;
+use crate::error::Error;
+use crate::kind::Kind;
+use crate::memory::try_collect;
+use std::fmt;
+use std::str::FromStr;
+
+/// The type of a column: its kind, with the types of its children.
+///
+/// A type is printed and parsed in the notation of [`Column::parse`].
+///
+/// ```
+/// use sel::DataType;
+/// # fn main() -> Result<(), sel::Error> {
+/// let lists: DataType = "list<struct<i64, fixed<2, utf8>>>".parse()?;
+/// let pair = DataType::FixedSizeList(Box::new(DataType::Utf8View), 2);
+/// assert_eq!(lists, DataType::LargeList(Box::new(DataType::Struct(vec![DataType::Int64, pair]))));
+/// assert_eq!(lists.to_string(), "list<struct<i64,fixed<2,utf8>>>");
+/// # Ok(())
+/// # }
+/// ```
+#[derive(Clone, Debug, PartialEq, Eq, Hash)]
+pub enum DataType {
+    /// Nulls only: `null`.
+    Null,
+    /// Booleans: `bool`.
+    Boolean,
+    /// Signed 8-bit integers: `i8`.
+    Int8,
+    /// Signed 16-bit integers: `i16`.
+    Int16,
+    /// Signed 32-bit integers: `i32`.
+    Int32,
+    /// Signed 64-bit integers: `i64`.
+    Int64,
+    /// Signed 128-bit integers: `i128`.
+    Int128,
+    /// Unsigned 8-bit integers: `u8`.
+    UInt8,
+    /// Unsigned 16-bit integers: `u16`.
+    UInt16,
+    /// Unsigned 32-bit integers: `u32`.
+    UInt32,
+    /// Unsigned 64-bit integers: `u64`.
+    UInt64,
+    /// Unsigned 128-bit integers: `u128`.
+    UInt128,
+    /// Binary values with 64-bit offsets: `binary`.
+    LargeBinary,
+    /// Binary views: `binview`.
+    BinaryView,
+    /// String views (UTF-8): `utf8`.
+    Utf8View,
+    /// Lists with 64-bit offsets: `list<TYPE>`.
+    LargeList(Box<DataType>),
+    /// Fixed-size lists, with their list size: `fixed<SIZE,TYPE>`.
+    FixedSizeList(Box<DataType>, usize),
+    /// Struct values: `struct<TYPE,..>`.
+    Struct(Vec<DataType>),
+}
+
+impl DataType {
+    /// Returns the kind of the type's columns.
+    pub fn kind(&self) -> Kind {
+        match self {
+            DataType::Null => Kind::Null,
+            DataType::Boolean => Kind::Boolean,
+            DataType::Int8 => Kind::Int8,
+            DataType::Int16 => Kind::Int16,
+            DataType::Int32 => Kind::Int32,
+            DataType::Int64 => Kind::Int64,
+            DataType::Int128 => Kind::Int128,
+            DataType::UInt8 => Kind::UInt8,
+            DataType::UInt16 => Kind::UInt16,
+            DataType::UInt32 => Kind::UInt32,
+            DataType::UInt64 => Kind::UInt64,
+            DataType::UInt128 => Kind::UInt128,
+            DataType::LargeBinary => Kind::LargeBinary,
+            DataType::BinaryView => Kind::BinaryView,
+            DataType::Utf8View => Kind::Utf8View,
+            DataType::LargeList(_) => Kind::LargeList,
+            DataType::FixedSizeList(..) => Kind::FixedSizeList,
+            DataType::Struct(_) => Kind::Struct,
+        }
+    }
+
+    /// Returns the name of a type without children.
+    fn name(&self) -> &'static str {
+        match self {
+            DataType::Null => "null",
+            DataType::Boolean => "bool",
+            DataType::Int8 => "i8",
+            DataType::Int16 => "i16",
+            DataType::Int32 => "i32",
+            DataType::Int64 => "i64",
+            DataType::Int128 => "i128",
+            DataType::UInt8 => "u8",
+            DataType::UInt16 => "u16",
+            DataType::UInt32 => "u32",
+            DataType::UInt64 => "u64",
+            DataType::UInt128 => "u128",
+            DataType::LargeBinary => "binary",
+            DataType::BinaryView => "binview",
+            DataType::Utf8View => "utf8",
+            DataType::LargeList(_) => "list",
+            DataType::FixedSizeList(..) => "fixed",
+            DataType::Struct(_) => "struct",
+        }
+    }
+}
+
+impl fmt::Display for DataType {
+    fn fmt(&self, f: &mut fmt::Formatter<'_>) -> fmt::Result {
+        f.write_str(self.name())?;
+        match self {
+            DataType::LargeList(child) => write!(f, "<{child}>"),
+            DataType::FixedSizeList(child, list_size) => write!(f, "<{list_size},{child}>"),
+            DataType::Struct(fields) => {
+                f.write_str("<")?;
+                for (i, field) in fields.iter().enumerate() {
+                    let comma = if i == 0 { "" } else { "," };
+                    write!(f, "{comma}{field}")?;
+                }
+                f.write_str(">")
+            }
+            _ => Ok(()),
+        }
+    }
+}
+
+impl FromStr for DataType {
+    type Err = Error;
+
+    /// Parses a type; the errors are those of [`Column::parse`].
+    fn from_str(text: &str) -> Result<DataType, Error> {
+        Column::parse(text, "[]")?.data_type()
+    }
+}
+
+impl Column {
+    /// Returns the type of the column.
+    ///
+    /// ```
+    /// # use sel::{Column, DataType, Error};
+    /// # fn main() -> Result<(), Error> {
+    /// let lists = Column::from_values(&[1i64, 2])?.unit_list()?;
+    /// assert_eq!(lists.data_type()?, DataType::LargeList(Box::new(DataType::Int64)));
+    /// # Ok(())
+    /// # }
+    /// ```
+    pub fn data_type(&self) -> Result<DataType, Error> {
+        Ok(match self.kind() {
+            Kind::Null => DataType::Null,
+            Kind::Boolean => DataType::Boolean,
+            Kind::Int8 => DataType::Int8,
+            Kind::Int16 => DataType::Int16,
+            Kind::Int32 => DataType::Int32,
+            Kind::Int64 => DataType::Int64,
+            Kind::Int128 => DataType::Int128,
+            Kind::UInt8 => DataType::UInt8,
+            Kind::UInt16 => DataType::UInt16,
+            Kind::UInt32 => DataType::UInt32,
+            Kind::UInt64 => DataType::UInt64,
+            Kind::UInt128 => DataType::UInt128,
+            Kind::LargeBinary => DataType::LargeBinary,
+            Kind::BinaryView => DataType::BinaryView,
+            Kind::Utf8View => DataType::Utf8View,
+            Kind::LargeList => DataType::LargeList(Box::new(self.child()?.data_type()?)),
+            Kind::FixedSizeList => DataType::FixedSizeList(Box::new(self.child()?.data_type()?), self.list_size()?),
+            Kind::Struct => {
+                DataType::Struct(try_collect((0..self.field_count()?).map(|i| self.field(i)?.data_type()))?)
+            }
+        })
+    }
+}
