@@ -160,6 +160,7 @@ DOCUMENTS = [
     ("texts of the mutants", ["tools/refused", "--texts"]),
 ]
 AFTER_LIBRARY = [
+    ("conformance suite", ["tools/rows.py"]),
     ("Arrow interface in C", ["tools/bindings", "c"]),
     ("Rust package", ["tools/bindings", "rust"]),
     ("Python package", ["tools/bindings", "python"]),
