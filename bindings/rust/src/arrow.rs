@@ -146,7 +146,7 @@ macro_rules! structures {
 structures! { ArrowArray ArrowSchema }
 
 impl Column {
-    /// Copies an array of the Arrow C data interface into a column, and releases the array, also on an error.
+    /// Copies an array of the Arrow C data interface into a column. The array is dropped, also on an error.
     ///
     /// Strings and binary values with 32-bit offsets are widened; strings become views. Formats that have no kind of column
     /// here, such as floating-point numbers, times and dictionaries, are errors.
@@ -182,8 +182,8 @@ impl Column {
     /// of struct values have their numbers as names.
     ///
     /// # Errors
-    /// [`Error::Arrow`] for unsigned 128-bit integers, which have no format, for a signed one of more than 38 digits, and
-    /// for an offset in a data buffer of more than 2,147,483,647; [`Error::OutOfMemory`].
+    /// [`Error::Arrow`] for more than 256 levels, for unsigned 128-bit integers, which have no format, for a signed one of
+    /// more than 38 digits, and for an offset in a data buffer of more than 2,147,483,647; [`Error::OutOfMemory`].
     ///
     /// ```
     /// # use sel::{Column, Error};

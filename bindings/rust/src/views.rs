@@ -9,7 +9,7 @@ use crate::raw::{self, Handle, RawSlice};
 
 /// A view of the Arrow format, as four little-endian words: `sel_view`.
 ///
-/// With a length of up to 12 the bytes lie in the other three words, zeros behind them. Else the first four bytes are in
+/// With a length of up to 12 the bytes are in the other three words, followed by zeros. Else the first four bytes are in
 /// `prefix`, and all of them at `offset` of the data buffer with the number `buffer`.
 #[repr(C)]
 #[derive(Clone, Copy, Debug, Default, PartialEq, Eq, Hash)]

@@ -218,6 +218,17 @@ fn columns_without_a_format_are_errors() -> Result<(), Error> {
 }
 
 #[test]
+fn columns_of_too_many_levels_are_not_exported() -> Result<(), Error> {
+    let mut lists = Column::from_values(&[1i8])?;
+    for _ in 0..256 {
+        lists = lists.unit_list()?;
+    }
+    assert_eq!(lists.to_arrow().map(|_| ()), Ok(()));
+    assert_eq!(lists.unit_list()?.to_arrow().err(), Some(Error::Arrow(70)));
+    Ok(())
+}
+
+#[test]
 fn a_consumer_reads_and_releases_what_is_exported() -> Result<(), Error> {
     let (mut array, mut schema) = Column::parse("list<i32>", "[[7,null],[9]]")?.to_arrow()?;
     // SAFETY: the types have the layout of the C structures, which the consumer moves out.

@@ -1,25 +1,25 @@
-//! Each allocation of the crate is refused in turn: a call returns `OutOfMemory` if one was refused, and else its result.
+//! Each allocation of the crate fails in turn: a call returns `OutOfMemory` if one failed, and else its result.
 
 use sel::{collect_rows, flatten, Column, Error};
 use std::alloc::{GlobalAlloc, Layout, System};
 use std::cell::Cell;
 
 thread_local! {
-    /// How many allocations of this thread succeed before one is refused; `None` refuses none.
+    /// How many allocations of this thread succeed before one fails; with `None` all succeed.
     static LEFT: Cell<Option<usize>> = const { Cell::new(None) };
-    /// Whether an allocation was refused.
-    static WAS_REFUSED: Cell<bool> = const { Cell::new(false) };
+    /// Whether an allocation failed.
+    static HAS_FAILED: Cell<bool> = const { Cell::new(false) };
 }
 
-/// The allocator of the system, which refuses one allocation.
-struct Refusing;
+/// The allocator of the system, one allocation of which fails.
+struct Failing;
 
-fn is_refused() -> bool {
+fn fails() -> bool {
     match LEFT.get() {
         None => false,
         Some(0) => {
             LEFT.set(None);
-            WAS_REFUSED.set(true);
+            HAS_FAILED.set(true);
             true
         }
         Some(left) => {
@@ -30,9 +30,9 @@ fn is_refused() -> bool {
 }
 
 // SAFETY: all memory comes from the allocator of the system.
-unsafe impl GlobalAlloc for Refusing {
+unsafe impl GlobalAlloc for Failing {
     unsafe fn alloc(&self, layout: Layout) -> *mut u8 {
-        if is_refused() {
+        if fails() {
             return std::ptr::null_mut();
         }
         // SAFETY: as the caller ensures.
@@ -45,7 +45,7 @@ unsafe impl GlobalAlloc for Refusing {
     }
 
     unsafe fn realloc(&self, at: *mut u8, layout: Layout, size: usize) -> *mut u8 {
-        if is_refused() {
+        if fails() {
             return std::ptr::null_mut();
         }
         // SAFETY: as the caller ensures.
@@ -54,22 +54,22 @@ unsafe impl GlobalAlloc for Refusing {
 }
 
 #[global_allocator]
-static ALLOCATOR: Refusing = Refusing;
+static ALLOCATOR: Failing = Failing;
 
-/// Refuses each allocation of a call in turn; returns how many there are.
-fn refuse_each<T>(call: impl Fn() -> Result<T, Error>) -> usize {
+/// Lets each allocation of a call fail in turn; returns how many there are.
+fn fail_each<T>(call: impl Fn() -> Result<T, Error>) -> usize {
     for number in 0.. {
-        WAS_REFUSED.set(false);
+        HAS_FAILED.set(false);
         LEFT.set(Some(number));
         let result = call();
         LEFT.set(None);
         match result.err() {
             None => {
-                assert!(!WAS_REFUSED.get(), "allocation {number} was refused, and the call did not fail");
+                assert!(!HAS_FAILED.get(), "allocation {number} failed, and the call did not");
                 return number;
             }
             Some(error) => {
-                assert!(WAS_REFUSED.get(), "{error:?}, although no allocation was refused");
+                assert!(HAS_FAILED.get(), "{error:?}, although no allocation failed");
                 assert_eq!(error, Error::OutOfMemory);
             }
         }
@@ -80,37 +80,37 @@ fn refuse_each<T>(call: impl Fn() -> Result<T, Error>) -> usize {
 #[test]
 fn columns_are_made_or_out_of_memory() {
     let texts = [Some("a text of 21 bytes..."), None, Some("short"), Some("another long text....")];
-    assert!(refuse_each(|| Column::from_options(&[Some(1i64), None])) >= 2);
-    assert!(refuse_each(|| Column::from_options(&[Some(1i128), None])) >= 2);
-    assert!(refuse_each(|| Column::from_values(&[true, false])) >= 1);
-    assert!(refuse_each(|| Column::from_texts(&texts)) >= 3);
-    assert!(refuse_each(|| Column::from_bytes(&[Some(b"abc"), None])) >= 3);
-    assert!(refuse_each(|| Column::from_byte_views(&[Some(b"thirteen bytes"), None])) >= 3);
-    assert!(refuse_each(|| Column::try_from_iter((0..100u8).map(Some).filter(Option::is_some))) >= 3);
-    assert!(refuse_each(|| Column::new_binary(&[0, 1], b"a", Some(&[false]))) >= 1);
+    assert!(fail_each(|| Column::from_options(&[Some(1i64), None])) >= 2);
+    assert!(fail_each(|| Column::from_options(&[Some(1i128), None])) >= 2);
+    assert!(fail_each(|| Column::from_values(&[true, false])) >= 1);
+    assert!(fail_each(|| Column::from_texts(&texts)) >= 3);
+    assert!(fail_each(|| Column::from_bytes(&[Some(b"abc"), None])) >= 3);
+    assert!(fail_each(|| Column::from_byte_views(&[Some(b"thirteen bytes"), None])) >= 3);
+    assert!(fail_each(|| Column::try_from_iter((0..100u8).map(Some).filter(Option::is_some))) >= 3);
+    assert!(fail_each(|| Column::new_binary(&[0, 1], b"a", Some(&[false]))) >= 1);
 }
 
 #[test]
 fn columns_are_read_or_out_of_memory() {
     let of = |dtype: &str, rows: &str| Column::parse(dtype, rows).expect("a column");
     let (numbers, wide) = (of("i64", "[1,null]"), of("u128", "[1,null]"));
-    assert!(refuse_each(|| numbers.to_options::<i64>()) >= 4);
-    assert!(refuse_each(|| wide.to_options::<u128>()) >= 4);
-    assert!(refuse_each(|| numbers.iter::<i64>()) >= 4);
-    assert!(refuse_each(|| numbers.validity()) >= 2);
-    assert!(refuse_each(|| of("bool", "[true,null]").to_bools()) >= 3);
-    assert!(refuse_each(|| of("utf8", r#"["a",null,"a text of 21 bytes..."]"#).to_texts()) >= 6);
-    assert!(refuse_each(|| of("binary", r#"[h"61",null]"#).to_bytes()) >= 5);
-    assert!(refuse_each(|| of("list<i8>", "[[1],null]").offsets()) >= 1);
-    assert!(refuse_each(|| numbers.to_text()) >= 1);
+    assert!(fail_each(|| numbers.to_options::<i64>()) >= 4);
+    assert!(fail_each(|| wide.to_options::<u128>()) >= 4);
+    assert!(fail_each(|| numbers.iter::<i64>()) >= 4);
+    assert!(fail_each(|| numbers.validity()) >= 2);
+    assert!(fail_each(|| of("bool", "[true,null]").to_bools()) >= 3);
+    assert!(fail_each(|| of("utf8", r#"["a",null,"a text of 21 bytes..."]"#).to_texts()) >= 6);
+    assert!(fail_each(|| of("binary", r#"[h"61",null]"#).to_bytes()) >= 5);
+    assert!(fail_each(|| of("list<i8>", "[[1],null]").offsets()) >= 1);
+    assert!(fail_each(|| numbers.to_text()) >= 1);
 }
 
 #[test]
 fn kernels_return_columns_or_are_out_of_memory() {
     let numbers = Column::from_values(&[1i64, 2]).expect("a column");
-    assert!(refuse_each(|| numbers.take_rows(&[Some(1), None])) >= 2);
-    assert!(refuse_each(|| collect_rows(&[&numbers, &numbers], &[Some((1, 0)), None])) >= 3);
-    assert!(refuse_each(|| flatten(&[&numbers, &numbers], &[1, 1], 2)) >= 1);
-    assert!(refuse_each(|| Column::new_struct(2, Vec::new(), Some(&[true, false]))) >= 1);
-    assert_eq!(refuse_each(|| numbers.slice(0, 1)), 0);
+    assert!(fail_each(|| numbers.take_rows(&[Some(1), None])) >= 2);
+    assert!(fail_each(|| collect_rows(&[&numbers, &numbers], &[Some((1, 0)), None])) >= 3);
+    assert!(fail_each(|| flatten(&[&numbers, &numbers], &[1, 1], 2)) >= 1);
+    assert!(fail_each(|| Column::new_struct(2, Vec::new(), Some(&[true, false]))) >= 1);
+    assert_eq!(fail_each(|| numbers.slice(0, 1)), 0);
 }

@@ -6,7 +6,7 @@ use sel::DataType;
 /// What a field of a line is.
 #[derive(Clone, Copy)]
 pub enum Field {
-    /// A type, which the rows behind it have.
+    /// A type, which the following rows have.
     Type,
     /// Rows of the last type.
     Rows,

@@ -3,10 +3,10 @@
 use super::notation::Value;
 use sel::{Column, DataType, Error, Number, View};
 
-/// How many rows of another column come before those of a slice; 0 stands for the plain layout, which is no slice.
+/// How many rows of another column come before those of a slice; 0 is the plain layout, without a slice.
 pub const OFFSETS: [usize; 6] = [0, 1, 7, 8, 63, 64];
 
-const ROWS_BEHIND: usize = 3;
+const ROWS_AFTER: usize = 3;
 
 /// The longest fixed-size lists that are laid out as slices: longer ones would take too much memory.
 const MOST_ITEMS: usize = 1000;
@@ -30,8 +30,8 @@ pub fn build(offset: usize, dtype: &DataType, rows: &[Value]) -> Result<Column, 
         return build_plain(dtype, rows);
     }
     let before = (0..offset).map(|place| padding(dtype, place));
-    let behind = (0..ROWS_BEHIND).map(|place| padding(dtype, place));
-    let all: Vec<Value> = before.chain(rows.iter().cloned()).chain(behind).collect();
+    let after = (0..ROWS_AFTER).map(|place| padding(dtype, place));
+    let all: Vec<Value> = before.chain(rows.iter().cloned()).chain(after).collect();
     build_whole(offset, dtype, &all)?.slice(offset, rows.len())
 }
 
@@ -63,7 +63,7 @@ fn other_value(dtype: &DataType, seed: usize) -> Value {
     }
 }
 
-/// Returns a row before or behind those of a slice: null or another value.
+/// Returns a row before or after those of a slice: null or another value.
 fn padding(dtype: &DataType, place: usize) -> Value {
     if place % 3 == 1 {
         Value::Null
@@ -167,16 +167,16 @@ impl Slots<'_> {
         })
     }
 
-    /// Builds binary values; in other layouts than the plain one there are bytes before and behind them.
+    /// Builds binary values; in other layouts than the plain one there are bytes before and after them.
     fn binary(&self) -> Result<Column, Error> {
-        let (before, behind): (&[u8], &[u8]) = if self.offset == 0 { (b"", b"") } else { (b"bef", b"be") };
+        let (before, after): (&[u8], &[u8]) = if self.offset == 0 { (b"", b"") } else { (b"bef", b"be") };
         let mut bytes = before.to_vec();
         let mut offsets = vec![place(bytes.len())];
         for value in self.bytes() {
             bytes.extend_from_slice(value);
             offsets.push(place(bytes.len()));
         }
-        bytes.extend_from_slice(behind);
+        bytes.extend_from_slice(after);
         Column::new_binary(&offsets, &bytes, self.validity())
     }
 
@@ -204,16 +204,16 @@ impl Slots<'_> {
         })
     }
 
-    /// Builds lists; in other layouts than the plain one there are items before the first list and behind the last.
+    /// Builds lists; in other layouts than the plain one there are items before the first list and after the last.
     fn lists(&self, child: &DataType) -> Result<Column, Error> {
-        let (before, behind) = if self.offset == 0 { (0, 0) } else { (2, 1) };
+        let (before, after) = if self.offset == 0 { (0, 0) } else { (2, 1) };
         let mut items: Vec<Value> = (0..before).map(|place| padding(child, place)).collect();
         let mut offsets = vec![place(items.len())];
         for list in self.items() {
             items.extend_from_slice(list);
             offsets.push(place(items.len()));
         }
-        items.extend((0..behind).map(|place| padding(child, place)));
+        items.extend((0..after).map(|place| padding(child, place)));
         Column::new_list(&offsets, build(self.offset, child, &items)?, self.validity())
     }
 
@@ -241,9 +241,9 @@ fn place(len: usize) -> i64 {
 }
 
 /// Returns the view of bytes, which are appended to the buffer if they are more than 12.
-fn view_of(value: &[u8], number: usize, buffer: &mut Vec<u8>, behind: u8) -> View {
+fn view_of(value: &[u8], number: usize, buffer: &mut Vec<u8>, after: u8) -> View {
     let word = |number: usize| u32::try_from(number).expect("a length of the suite fits a view");
-    let mut space = [behind; 12];
+    let mut space = [after; 12];
     if value.len() > 12 {
         space[..4].copy_from_slice(&value[..4]);
         space[4..8].copy_from_slice(&word(number).to_le_bytes());
