@@ -15,7 +15,7 @@ STEM = f"sel-{VERSION}"
 
 
 def _metadata() -> str:
-    return f"Metadata-Version: 2.1\nName: sel\nVersion: {VERSION}\nSummary: Proved selection kernels over Arrow columns\nRequires-Python: >=3.9\n"
+    return f"Metadata-Version: 2.1\nName: sel\nVersion: {VERSION}\nSummary: Proved selection kernels over Arrow columns\nRequires-Python: >=3.8\n"
 
 
 def _files() -> dict[str, bytes]:

@@ -1,4 +1,4 @@
-"""Proved selection kernels over Arrow columns: filter, take, choose, getters of lists, flatten.
+"""Proved selection kernels over Arrow columns: filter, take, if-then-else, list access, flatten.
 
 >>> import sel
 >>> ages = sel.Column.from_pylist([31, None, 27, 45])

@@ -1,15 +1,13 @@
-"""Columns in and out by the Arrow PyCapsule interface."""
+"""Columns exported and imported by the Arrow PyCapsule interface."""
 
 from __future__ import annotations
 
 import ctypes
 from ctypes import CFUNCTYPE, byref, c_char_p, c_void_p, py_object
-from typing import TYPE_CHECKING, Any
+from typing import Any
 
 from ._library import ArrowArray, ArrowSchema, call
-
-if TYPE_CHECKING:
-    from ._column import Column
+from ._owner import Owner
 
 __all__ = ["export", "import_array"]
 
@@ -28,20 +26,19 @@ _Release = CFUNCTYPE(None, c_void_p)
 
 
 def _release(address: int, kind: Any) -> None:
-    """Releases what stands at an address, where nobody has taken it over."""
+    """Releases the structure at an address, unless it was moved."""
     there = kind.from_address(address)
     if there.release:
         _Release(there.release)(address)
 
 
 def _destructor(kind: Any, name: c_char_p) -> Any:
-    @ctypes.PYFUNCTYPE(None, c_void_p)
     def destroy(capsule: int) -> None:
         address = _address_in(capsule, name)
         _release(address, kind)
         _give_back(address)
 
-    return destroy
+    return ctypes.PYFUNCTYPE(None, c_void_p)(destroy)
 
 
 _DESTROY_SCHEMA, _DESTROY_ARRAY = _destructor(ArrowSchema, _SCHEMA), _destructor(ArrowArray, _ARRAY)
@@ -55,8 +52,8 @@ def _room(kind: Any) -> int:
     return int(address)
 
 
-def export(column: Column) -> tuple[object, object]:
-    """The two capsules, of the type and of a copy of the rows."""
+def export(column: Owner) -> tuple[object, object]:
+    """Returns two capsules, of the type and of a copy of the rows."""
     schema, array = _room(ArrowSchema), _room(ArrowArray)
     first = _api.PyCapsule_New(schema, _SCHEMA, ctypes.cast(_DESTROY_SCHEMA, c_void_p))
     second = _api.PyCapsule_New(array, _ARRAY, ctypes.cast(_DESTROY_ARRAY, c_void_p))
@@ -64,14 +61,12 @@ def export(column: Column) -> tuple[object, object]:
     return first, second
 
 
-def import_array(source: Any) -> Column:
-    """A copy of the one array that a source gives."""
-    from ._column import Column
-
+def import_array(source: Any) -> Owner:
+    """Returns a copy of the array of a source."""
     if not hasattr(source, "__arrow_c_array__"):
-        raise TypeError(f"{type(source).__name__} has no __arrow_c_array__; a column in chunks is to be made one first")
+        raise TypeError(f"{type(source).__name__} has no __arrow_c_array__; combine the chunks of a column first")
     schema, array = source.__arrow_c_array__()
-    column = Column()
+    column = Owner()
     found = ArrowArray.from_address(_api.PyCapsule_GetPointer(array, _ARRAY))
     call("sel_import", byref(found), ArrowSchema.from_address(_api.PyCapsule_GetPointer(schema, _SCHEMA)), byref(column._handle))
     return column

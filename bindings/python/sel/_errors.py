@@ -1,12 +1,15 @@
-"""What a call refuses."""
+"""The exceptions of the package, one class for each group of statuses of the library."""
 
 from __future__ import annotations
 
 __all__ = ["BrokenRule", "BrokenText", "LimitPassed", "OutOfBounds", "OutOfMemory", "SelError", "WrongArgument"]
 
+# The status of an index out of bounds (SEL_OUT_OF_BOUNDS in include/sel.h).
+OUT_OF_BOUNDS = 6
+
 
 class SelError(Exception):
-    """A refusal: its text, and the number that the library gave it."""
+    """An error of the library: its text and its status, as include/sel.h numbers them."""
 
     def __init__(self, status: int, text: str) -> None:
         super().__init__(text)
@@ -15,29 +18,29 @@ class SelError(Exception):
 
 
 class OutOfMemory(SelError, MemoryError):
-    """Memory was wanting."""
+    """An allocation failed."""
 
 
 class WrongArgument(SelError, TypeError):
-    """A column of another kind, type or length than the call takes."""
+    """A column has another kind, type or length than the call takes."""
 
 
 class OutOfBounds(SelError, IndexError):
-    """An index, a key or a part that names a row that there is not."""
+    """An index is out of bounds: there is no such row, column, field or list element."""
 
 
 class LimitPassed(SelError, OverflowError):
-    """The answer would be more than a column may have."""
+    """The result would exceed a size limit of columns."""
 
 
 class BrokenRule(SelError, ValueError):
-    """Parts that are no column, or an array that is none here."""
+    """The parts of a column break a rule of its layout, or an Arrow array has no column here."""
 
 
 class BrokenText(SelError, ValueError):
-    """A text that names no type, is none of rows, or has a row that does not fit the type.
+    """A text is not a type or not rows, or it has a row that does not fit the type.
 
-    `place` is the index of the character from which on it is so, the text's length where it ends too soon.
+    `place` is the index of the first wrong character; it is the text's length if the text ends too soon.
     """
 
     def __init__(self, status: int, text: str, place: int) -> None:
@@ -46,12 +49,12 @@ class BrokenText(SelError, ValueError):
 
 
 def error_of(status: int, text: str) -> SelError:
-    """The exception of a status that is not `SEL_DONE`."""
+    """Returns the exception of a status that is not `SEL_DONE`."""
     if status == 1:
         return OutOfMemory(status, text)
     if status in (2, 3, 4, 5):
         return WrongArgument(status, text)
-    if status in (6, 7):
+    if status in (OUT_OF_BOUNDS, 7):
         return OutOfBounds(status, text)
     if 8 <= status <= 11 or status == 35:
         return LimitPassed(status, text)

@@ -1,16 +1,17 @@
-"""The library's calls, by ctypes. Their conditions are told in include/sel.h."""
+"""The library's calls, by ctypes; include/sel.h documents them. `attempt` makes them, and checks every integer that it passes."""
 
 from __future__ import annotations
 
 import ctypes
 import os
-from ctypes import POINTER, Structure, c_bool, c_char_p, c_int64, c_size_t, c_uint8, c_uint32, c_uint64, c_void_p
+from ctypes import POINTER, Structure, c_bool, c_char_p, c_int64, c_size_t, c_uint8, c_uint32, c_void_p
 from pathlib import Path
 from typing import Any
 
+from ._checks import shown
 from ._errors import error_of
 
-__all__ = ["ArrowArray", "ArrowSchema", "Handle", "Pick", "Slice", "View", "Wide", "call", "lib", "status_of"]
+__all__ = ["ArrowArray", "ArrowSchema", "Handle", "Slice", "attempt", "call", "lib", "status_of"]
 
 
 class Handle(Structure):
@@ -19,32 +20,15 @@ class Handle(Structure):
     _fields_ = [("at", c_void_p)]
 
 
-class Wide(Structure):
-    """A number of 128 bits in two words."""
-
-    _fields_ = [("low", c_uint64), ("high", c_uint64)]
-
-
-class View(Structure):
-    """A view of 16 bytes."""
-
-    _fields_ = [("length", c_uint32), ("prefix", c_uint32), ("buffer", c_uint32), ("offset", c_uint32)]
-
-
 class Slice(Structure):
-    """A slice of bytes."""
+    """`sel_slice`: the address and the length of bytes. Views, picks and 128-bit integers are passed as arrays of words,
+    which Python itself checks, and not as structures, which would wrap their integers."""
 
     _fields_ = [("at", c_void_p), ("len", c_size_t)]
 
 
-class Pick(Structure):
-    """A row of one of several columns."""
-
-    _fields_ = [("source", c_uint32), ("row", c_uint32)]
-
-
 class ArrowSchema(Structure):
-    """The type of an array, as the Arrow C Data Interface lays it down."""
+    """The type of an array, as defined by the Arrow C Data Interface."""
 
 
 ArrowSchema._fields_ = [
@@ -54,7 +38,7 @@ ArrowSchema._fields_ = [
 
 
 class ArrowArray(Structure):
-    """An array, as the Arrow C Data Interface lays it down."""
+    """An array, as defined by the Arrow C Data Interface."""
 
 
 ArrowArray._fields_ = [
@@ -65,21 +49,21 @@ ArrowArray._fields_ = [
 
 
 def _places() -> list[str]:
-    """Where the library may lie: as told, beside this file, in a checkout's build folder, or where the system finds it."""
+    """Returns the paths to try: $SEL_LIBRARY, next to this file, the build folder of a checkout, and the system's own search."""
     here = Path(__file__).resolve()
     told = [os.environ["SEL_LIBRARY"]] if "SEL_LIBRARY" in os.environ else []
-    built = [str(up / "build" / "libsel.so") for up in here.parents[2:4]]
+    built = [str(up / "build" / "libsel.so") for up in list(here.parents)[2:4]]
     return told + [place for place in [str(here.parent / "libsel.so"), *built] if os.path.exists(place)] + ["libsel.so.0"]
 
 
 def _load() -> Any:
     for place in _places():
         try:
-            # The interpreter's lock is held over each call: two calls never run at once.
+            # PyDLL keeps the interpreter's lock during each call: two calls never run at once.
             return ctypes.PyDLL(place)
         except OSError as error:
             fault = error
-    raise ImportError(f"libsel is not found (make lib builds it; SEL_LIBRARY names it): {fault}")
+    raise ImportError(f"libsel was not found (build it by make lib, or set SEL_LIBRARY to its path): {fault}")
 
 
 lib = _load()
@@ -151,14 +135,56 @@ def _declare() -> None:
 _declare()
 
 
+_SIZE_BITS = 8 * ctypes.sizeof(c_size_t)
+_ADDRESS_BITS = 8 * ctypes.sizeof(c_void_p)
+
+# The ranges of the integer types in the declarations above; an address is passed as an integer and is not null.
+_RANGES: dict[Any, tuple[int, int]] = {
+    c_size_t: (0, (1 << _SIZE_BITS) - 1),
+    c_uint32: (0, (1 << 32) - 1),
+    c_int64: (-(1 << 63), (1 << 63) - 1),
+    c_void_p: (1, (1 << _ADDRESS_BITS) - 1),
+}
+
+# Of each call: the positions, counted from 1, and the ranges of its arguments that are integers or addresses.
+_INTEGERS = {name: [(position, kind is c_void_p, *_RANGES[kind]) for position, kind in enumerate(kinds, 1) if kind in _RANGES]
+             for name, kinds in _CALLS.items()}
+_BOOLEANS = {name: [position for position, kind in enumerate(kinds, 1) if kind is c_bool] for name, kinds in _CALLS.items()}
+
+
 def status_of(status: int) -> str:
-    """The text of a status."""
+    """Returns the text of a status."""
     room = (c_uint8 * 128)()
     return bytes(room[: lib.sel_arrow_text(status, room, len(room))]).decode()
 
 
+def _check(name: str, arguments: tuple[Any, ...]) -> None:
+    """Raises OverflowError for an integer that its declared type cannot hold, and TypeError for an argument of another type.
+
+    Callers check before, and say more in their messages. This is the last check before ctypes, which wraps integers silently.
+    """
+    if len(arguments) != len(_CALLS[name]):
+        raise TypeError(f"{name} takes {len(_CALLS[name])} arguments, not {len(arguments)}")
+    for position, is_address, least, most in _INTEGERS[name]:
+        value = arguments[position - 1]
+        if type(value) is int:
+            if not least <= value <= most:
+                raise OverflowError(f"{name}: argument {position} is {shown(value)}, which is outside [{least}, {most}]")
+        elif not is_address or value is None or isinstance(value, int):
+            raise TypeError(f"{name}: argument {position} is {shown(value)}, of type {type(value).__name__} and not int")
+    for position in _BOOLEANS[name]:
+        if type(arguments[position - 1]) is not bool:
+            raise TypeError(f"{name}: argument {position} is {shown(arguments[position - 1])}, not a bool")
+
+
+def attempt(name: str, *arguments: Any) -> int:
+    """Makes a call whose arguments fit its declaration, and returns its status."""
+    _check(name, arguments)
+    return int(getattr(lib, name)(*arguments))
+
+
 def call(name: str, *arguments: Any) -> None:
-    """Makes a call, and raises what it refuses."""
-    status = getattr(lib, name)(*arguments)
+    """Makes a call, and raises the exception of its status unless it is done."""
+    status = attempt(name, *arguments)
     if status != 0:
         raise error_of(status, status_of(status))

@@ -6,23 +6,28 @@ from collections.abc import Sequence
 from dataclasses import dataclass
 from typing import Any
 
-__all__ = ["NUMBERS", "Type", "parse_type", "type_of_values"]
+from ._checks import LIST_SIZE, integer_within, is_boolean, is_integer
+
+__all__ = ["KINDS", "NUMBERS", "Type", "parse_type", "type_of_values"]
 
 # The kinds in the order of their numbers in sel.h, as they are written in a type.
 KINDS = ("null", "bool", "i8", "i16", "i32", "i64", "i128", "u8", "u16", "u32", "u64", "u128", "binary", "binview", "utf8", "list", "fixed", "struct")
 
-# A number type's name in the calls of the library, and its bits; a negative count has a sign.
+# The name of an integer type in the calls of the library, and its number of bits, negative if the type is signed.
 NUMBERS = {"i8": ("int8", -8), "i16": ("int16", -16), "i32": ("int32", -32), "i64": ("int64", -64), "i128": ("int128", -128),
            "u8": ("uint8", 8), "u16": ("uint16", 16), "u32": ("uint32", 32), "u64": ("uint64", 64), "u128": ("uint128", 128)}
 
 
 @dataclass(frozen=True)
 class Type:
-    """A column's type: its kind, the types below it, and how many values each list of one length has."""
+    """The type of a column: its kind, the types of its children, and the list size of fixed-size lists."""
 
     kind: str
     children: tuple[Type, ...] = ()
     width: int = 0
+
+    def __post_init__(self) -> None:
+        object.__setattr__(self, "width", integer_within(self.width, "width", LIST_SIZE))
 
     def __str__(self) -> str:
         inner = ",".join(map(str, self.children))
@@ -32,11 +37,14 @@ class Type:
 
 
 def parse_type(text: str) -> Type:
-    """The type that a text writes; spaces are passed over."""
+    """Returns the type that a text names; spaces are skipped.
+
+    Raises ValueError if it names none, and OverflowError if a list size is more than 4,294,967,295.
+    """
     plain = "".join(text.split())
     found, rest = _read(plain)
     if rest:
-        raise ValueError(f"no type is written {text!r}")
+        raise ValueError(f"{text!r} has {rest!r} after the end of its type")
     return found
 
 
@@ -44,17 +52,14 @@ def _read(text: str) -> tuple[Type, str]:
     end = next((place for place, letter in enumerate(text) if letter in "<>,"), len(text))
     kind, rest = text[:end], text[end:]
     if kind not in KINDS:
-        raise ValueError(f"no type is called {kind!r}")
+        raise ValueError(f"there is no type {kind!r}")
     if kind not in ("list", "fixed", "struct"):
         return Type(kind), rest
     if not rest.startswith("<"):
-        raise ValueError(f"{kind} wants the types below it, as in {kind}<i64>")
+        raise ValueError(f"{kind} must be followed by the types of its children, as in {kind}<i64>")
     rest, width = rest[1:], 0
     if kind == "fixed":
-        digits, comma, rest = rest.partition(",")
-        if not comma or not digits.isdecimal():
-            raise ValueError("fixed wants a length, as in fixed<2,i64>")
-        width = int(digits)
+        width, rest = _read_width(rest)
     children: list[Type] = []
     while not rest.startswith(">"):
         child, rest = _read(rest)
@@ -63,19 +68,30 @@ def _read(text: str) -> tuple[Type, str]:
             break
         rest = rest[1:]
     if not rest.startswith(">") or (kind != "struct" and len(children) != 1):
-        raise ValueError(f"{kind} is not closed, or has another number of types below it than one")
+        raise ValueError(f"{kind} is not closed, or it does not have exactly one child type")
     return Type(kind, tuple(children), width), rest[1:]
 
 
+def _read_width(text: str) -> tuple[int, str]:
+    digits, comma, rest = text.partition(",")
+    if not comma or not (digits.isascii() and digits.isdecimal()):
+        raise ValueError("fixed must begin with a list size, as in fixed<2,i64>")
+    significant = digits.lstrip("0")
+    # Python may refuse to convert a text of thousands of digits.
+    if len(significant) > 100:
+        raise OverflowError(f"list size: {significant[:20]}.. of {len(significant)} digits is outside [{LIST_SIZE.least}, {LIST_SIZE.most}]")
+    return integer_within(int(significant or "0"), "list size", LIST_SIZE), rest
+
+
 def type_of_values(values: Sequence[Any]) -> Type:
-    """The type that Python values tell: of nothing but `None` it is `null`."""
+    """Returns the type of Python values by the first that is not `None`; `null` if there is none. Integers have type `i64`."""
     there = [value for value in values if value is not None]
     if not there:
         return Type("null")
     first = there[0]
-    if isinstance(first, bool):
+    if is_boolean(first):
         return Type("bool")
-    if isinstance(first, int):
+    if is_integer(first):
         return Type("i64")
     if isinstance(first, str):
         return Type("utf8")
@@ -83,7 +99,9 @@ def type_of_values(values: Sequence[Any]) -> Type:
         return Type("binview")
     if isinstance(first, tuple):
         fields = range(len(first))
+        if any(isinstance(row, tuple) and len(row) != len(first) for row in there):
+            raise ValueError(f"values: some tuples have {len(first)} values, and some do not")
         return Type("struct", tuple(type_of_values([row[place] for row in there]) for place in fields))
     if isinstance(first, list):
         return Type("list", (type_of_values([item for row in there for item in row]),))
-    raise TypeError(f"no column has values of type {type(first).__name__}")
+    raise TypeError(f"no type of column has values of type {type(first).__name__}")

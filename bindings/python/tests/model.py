@@ -3,13 +3,15 @@
 from __future__ import annotations
 
 import random
-from array import array
 from ctypes import byref
+from itertools import accumulate
 from typing import Any
-from unittest.mock import patch
 
 from sel import Column, Type
-from sel import _column as inside
+from sel._library import call
+from sel._makers import made_of
+from sel._memory import validity_of, words
+from sel._owner import Owner, from_several
 
 LEAVES = ("null", "bool", "i8", "i16", "i32", "i64", "i128", "u8", "u16", "u32", "u64", "u128", "binary", "binview", "utf8")
 
@@ -41,7 +43,7 @@ def random_value(rng: random.Random, wanted: Type) -> Any:
     if wanted.kind == "utf8":
         return "".join(rng.choice("aé√\U0001f600\"\\\n") for _ in range(rng.choice((0, 1, 3, 4, 20))))
     if wanted.kind in ("binary", "binview"):
-        return rng.randbytes(rng.choice((0, 1, 12, 13, 40)))
+        return bytes(rng.randrange(256) for _ in range(rng.choice((0, 1, 12, 13, 40))))
     if wanted.kind == "list":
         return random_rows(rng, wanted.children[0], rng.randrange(4))
     if wanted.kind == "fixed":
@@ -63,45 +65,68 @@ def plain_value(rng: random.Random, wanted: Type) -> Any:
     return value
 
 
+class Layout:
+    """Lays rows out as a column that was sliced twice at each depth, and has other values in its null slots.
+
+    `fronts` are the numbers of rows that the slices may have before them. Other values are drawn anew, or out of a pool
+    for each type, which is faster for many columns of few types.
+    """
+
+    def __init__(self, rng: random.Random, fronts: tuple[int, ...] = (0, 1, 2), pools: dict[Type, list[Any]] | None = None) -> None:
+        self.rng, self.fronts, self.pools = rng, fronts, pools
+
+    def column(self, rows: list[Any], wanted: Type) -> Column:
+        front, back = self.rng.choice(self.fronts), self.rng.randrange(3)
+        padded = self._others(wanted, front) + rows + self._others(wanted, back)
+        valid = [row is not None for row in padded]
+        column = Column._owning(self._with_nulls([self._value(wanted) if row is None else row for row in padded], valid, wanted))
+        first = self.rng.randrange(front + 1)
+        return column.sliced(first, len(padded) - first).sliced(front - first, len(rows))
+
+    def _pool(self, wanted: Type) -> list[Any]:
+        pools = {} if self.pools is None else self.pools
+        if wanted not in pools:
+            pools[wanted] = random_rows(self.rng, wanted, 100) + [plain_value(self.rng, wanted) for _ in range(20)]
+        return pools[wanted]
+
+    def _others(self, wanted: Type, count: int) -> list[Any]:
+        """Returns other rows, null ones too."""
+        if self.pools is None:
+            return random_rows(self.rng, wanted, count)
+        first = self.rng.randrange(100 - count)
+        return self._pool(wanted)[first : first + count]
+
+    def _value(self, wanted: Type) -> Any:
+        """Returns a value that is not null, if the type has one."""
+        return plain_value(self.rng, wanted) if self.pools is None else self._pool(wanted)[-1 - self.rng.randrange(20)]
+
+    def _with_nulls(self, values: list[Any], valid: list[bool], wanted: Type) -> Owner:
+        """Returns the column of the values in which the rows that are not valid are null."""
+        if wanted.kind in ("list", "fixed", "struct"):
+            return {"list": self._lists, "fixed": self._fixed_lists, "struct": self._structs}[wanted.kind](values, valid, wanted)
+        return made_of(values, wanted, valid=valid)
+
+    def _lists(self, values: list[Any], valid: list[bool], wanted: Type) -> Owner:
+        made, offsets = Owner(), words("q", accumulate(map(len, values), initial=0))
+        child = self.column([item for value in values for item in value], wanted.children[0])
+        call("sel_list_new", offsets, len(values) + 1, *validity_of(valid), child._at(), byref(made._handle))
+        return made
+
+    def _fixed_lists(self, values: list[Any], valid: list[bool], wanted: Type) -> Owner:
+        made = Owner()
+        child = self.column([item for value in values for item in value], wanted.children[0])
+        call("sel_fixed_list_new", wanted.width, len(values), *validity_of(valid), child._at(), byref(made._handle))
+        return made
+
+    def _structs(self, values: list[Any], valid: list[bool], wanted: Type) -> Owner:
+        fields = [self.column([value[place] for value in values], child) for place, child in enumerate(wanted.children)]
+        return from_several(fields, lambda handles, made: call(
+            "sel_struct_new", len(values), *validity_of(valid), handles, len(fields), byref(made._handle)))
+
+
 def laid_out(rng: random.Random, rows: list[Any], wanted: Type) -> Column:
-    """A column with these rows, which at each depth was sliced twice and has other values beneath its nulls."""
-    front, back = rng.randrange(3), rng.randrange(3)
-    padded = random_rows(rng, wanted, front) + rows + random_rows(rng, wanted, back)
-    valid = [row is not None for row in padded]
-    column = _with_nulls(rng, [plain_value(rng, wanted) if row is None else row for row in padded], valid, wanted)
-    first = rng.randrange(front + 1)
-    return column.sliced(first, len(padded) - first).sliced(front - first, len(rows))
-
-
-def _with_nulls(rng: random.Random, values: list[Any], valid: list[bool], wanted: Type) -> Column:
-    """The column of the values, of which those that are not valid are hidden."""
-    if wanted.kind in ("list", "fixed", "struct"):
-        return {"list": _lists, "fixed": _fixed_lists, "struct": _structs}[wanted.kind](rng, values, valid, wanted)
-    validity = inside._validity(valid)
-    with patch.object(inside, "_validity", lambda _: validity):
-        return Column.from_pylist(values, wanted)
-
-
-def _lists(rng: random.Random, values: list[Any], valid: list[bool], wanted: Type) -> Column:
-    column, ends = Column(), array("q", [0])
-    for value in values:
-        ends.append(ends[-1] + len(value))
-    child = laid_out(rng, [item for value in values for item in value], wanted.children[0])
-    inside.call("sel_list_new", *ends.buffer_info(), *inside._validity(valid), child._at(), byref(column._handle))
-    return column
-
-
-def _fixed_lists(rng: random.Random, values: list[Any], valid: list[bool], wanted: Type) -> Column:
-    column = Column()
-    child = laid_out(rng, [item for value in values for item in value], wanted.children[0])
-    inside.call("sel_fixed_list_new", wanted.width, len(values), *inside._validity(valid), child._at(), byref(column._handle))
-    return column
-
-
-def _structs(rng: random.Random, values: list[Any], valid: list[bool], wanted: Type) -> Column:
-    fields = [laid_out(rng, [value[place] for value in values], child) for place, child in enumerate(wanted.children)]
-    return inside._with_handles(fields, lambda handles, made: inside.call(
-        "sel_struct_new", len(values), *inside._validity(valid), handles, len(fields), byref(made._handle)))
+    """Returns a column with these rows in a random layout."""
+    return Layout(rng).column(rows, wanted)
 
 
 def kept(rows: list[Any], mask: list[bool | None]) -> list[Any]:

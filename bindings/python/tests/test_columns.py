@@ -2,11 +2,13 @@
 
 from __future__ import annotations
 
+import copy
 import random
 import unittest
 
 import model
 import sel
+from cases import table
 from sel import Column, Type
 
 CASES = 1000
@@ -14,7 +16,7 @@ CASES = 1000
 
 class Columns(unittest.TestCase):
     def test_every_kind_in_and_out(self) -> None:
-        for text, rows in (
+        for text, rows in table(
             ("null", [None, None]), ("bool", [True, None, False]), ("i8", [-128, None, 127]), ("u16", [65535, 0]),
             ("i128", [-(2**127), None, 2**127 - 1]), ("u128", [2**128 - 1]), ("binary", [b"", None, b"a\0b"]),
             ("binview", [b"twelve bytes", b"thirteen byte", None]), ("utf8", ["", "é√", None, "longer than twelve"]),
@@ -87,6 +89,22 @@ class Columns(unittest.TestCase):
         self.assertEqual(repr(Column.from_pylist(list(range(13)), "u8")), "Column(u8, [0,1,2,3,4,5,6,7,8,9,10,11, ... 1 more])")
         self.assertEqual(str(Column.from_pylist([[("\u00e9\n", b"\x00")], None])), '[[("\u00e9\\n",h"00")],null]')
         self.assertEqual(Column.from_pylist(["a", "b"])[-1], "b")
+
+    def test_copies_outlive_their_column(self) -> None:
+        for copied in table(copy.copy, copy.deepcopy, Column.share):
+            column = Column.from_pylist(["a", None])
+            other = copied(column)
+            del column
+            self.assertEqual(other.to_pylist(), ["a", None])
+
+    def test_nulls_of_wide_lists_take_no_memory(self) -> None:
+        """The elements of null lists are not made one by one if they are all of type null."""
+        for wanted in ("fixed<4294967295,null>", "struct<fixed<4294967295,null>,i8>", "list<fixed<4294967295,null>>"):
+            column = Column.from_pylist([None], wanted)
+            self.assertEqual((str(column.type), column.to_pylist(), column[0]), (wanted, [None], None))
+        with self.assertRaises(TypeError):
+            Column.from_pylist([[None, 1], None], "fixed<2,null>")
+        self.assertEqual(Column.from_pylist([[None, None], None], "fixed<2,null>").to_pylist(), [[None, None], None])
 
     def test_types_are_read(self) -> None:
         self.assertEqual(sel.parse_type(" fixed< 2 , list<i8> > "), Type("fixed", (Type("list", (Type("i8"),)),), 2))
@@ -219,7 +237,7 @@ class Kernels(unittest.TestCase):
 class Refusals(unittest.TestCase):
     def test_each_has_its_text(self) -> None:
         column = Column.from_pylist([1, 2])
-        for error, call in (
+        for error, call in table(
             (sel.WrongArgument, lambda: column.filter([True])),
             (sel.WrongArgument, lambda: column.sublist_get(0)),
             (sel.WrongArgument, lambda: sel.choose([True, True], column, Column.from_pylist(["a", "b"]))),
@@ -236,39 +254,19 @@ class Refusals(unittest.TestCase):
         self.assertEqual(column.to_pylist(), [1, 2])
 
     def test_values_of_another_type(self) -> None:
-        for rows, wanted in (([1.5], "i64"), ([True], "i8"), (["a"], "binary"), ([b"a"], "utf8"), ([1], "list<i64>"), ([(1,)], "list<i64>"), ([1], "null"), ([1], "bool")):
+        for rows, wanted in table(([1.5], "i64"), ([True], "i8"), (["a"], "binary"), ([b"a"], "utf8"), ([1], "list<i64>"), ([(1,)], "list<i64>"), ([1], "null"), ([1], "bool")):
             with self.assertRaises(TypeError):
                 Column.from_pylist(rows, wanted)
-        for rows, wanted in (([[1]], "fixed<2,i64>"), ([(1, 2)], "struct<i64>")):
+        for rows, wanted in table(([[1]], "fixed<2,i64>"), ([(1, 2)], "struct<i64>"), ([(1, 2), (3,)], None), ([(1,), (2, 3)], None)):
             with self.assertRaises(ValueError):
                 Column.from_pylist(rows, wanted)
+        for wanted in table(5, b"i64", ["i64"]):
+            with self.assertRaises(TypeError):
+                Column.from_pylist([1], wanted)
         with self.assertRaises(OverflowError):
             Column.from_pylist([128], "i8")
         with self.assertRaises(TypeError):
             Column.from_arrow([1])
-
-
-try:
-    import numpy
-except ImportError:
-    numpy = None
-
-
-@unittest.skipIf(numpy is None, "numpy is not there")
-class Numpy(unittest.TestCase):
-    def test_in_and_out(self) -> None:
-        for name in ("int8", "int16", "int32", "int64", "uint8", "uint16", "uint32", "uint64", "bool"):
-            values = numpy.array([1, 0, 1, 1, 0, 1, 0, 0, 1], dtype=name)
-            column = Column.from_numpy(values)
-            numpy.testing.assert_array_equal(column.to_numpy(), values)
-            masked = Column.from_numpy(values, valid=values == 1)
-            self.assertEqual(masked.to_pylist(), [value if value == 1 else None for value in values.tolist()])
-            numpy.testing.assert_array_equal(masked.to_numpy().mask, values != 1)
-            numpy.testing.assert_array_equal(column.filter(values == 1).to_numpy(), values[values == 1])
-            numpy.testing.assert_array_equal(Column.from_numpy(values[::2]).to_numpy(), values[::2])
-        self.assertEqual(Column.from_numpy(numpy.array([], dtype="int64")).to_pylist(), [])
-        with self.assertRaises(TypeError):
-            Column.from_numpy(numpy.array([1.5]))
 
 
 if __name__ == "__main__":

@@ -1,0 +1,82 @@
+"""Arguments of kernels, made of columns, arrays or iterables after their checks."""
+
+from __future__ import annotations
+
+from collections.abc import Iterable
+from typing import Any
+
+from . import _arrays
+from ._checks import ROW_INDEX, SIZE, integers_within, shown
+from ._makers import made_of
+from ._memory import SIZE_CODE, Memory, validity_of, words
+from ._owner import Owner
+from ._types import Type
+
+__all__ = ["column_of", "columns_of", "indices_of", "mask_of", "picks_of", "sizes_of"]
+
+
+def _array_or_list(values: Any, name: str, dimensions: int = 1) -> tuple[Any, Any]:
+    """Returns either a masked array of numpy's own types, or an iterable of Python values."""
+    if not _arrays.is_array(values):
+        return None, values
+    array = _arrays.opened(values, name, dimensions)
+    return (None, array.tolist()) if _arrays.is_of_objects(array) else (array, None)
+
+
+def indices_of(values: Any, name: str) -> Owner:
+    """Returns the column of row indices; `None` and masked values are null."""
+    if isinstance(values, Owner):
+        return values
+    array, entries = _array_or_list(values, name)
+    if array is None:
+        return made_of(integers_within(entries, name, ROW_INDEX, nulls=True), Type("u32"), name)
+    return _arrays.made_of_array(_arrays.checked(array, name, "iu", ROW_INDEX).astype("uint32"), name)
+
+
+def mask_of(values: Any, name: str) -> Owner:
+    """Returns the column of a mask of booleans; `None` and masked values are null."""
+    if isinstance(values, Owner):
+        return values
+    array, entries = _array_or_list(values, name)
+    if array is None:
+        return made_of(list(entries), Type("bool"), name)
+    return _arrays.made_of_array(_arrays.checked(array, name, "b"), name)
+
+
+def sizes_of(values: Any, name: str) -> Memory:
+    """Returns sizes as an array of size_t."""
+    array, entries = _array_or_list(values, name)
+    if array is not None:
+        entries = _arrays.checked(array, name, "iu").tolist()
+    return words(SIZE_CODE, integers_within(entries, name, SIZE))
+
+
+def column_of(value: Any, name: str) -> Owner:
+    """Returns the column. Raises TypeError for another value."""
+    if not isinstance(value, Owner):
+        raise TypeError(f"{name}: {shown(value)} is of type {type(value).__name__}, not a column")
+    return value
+
+
+def columns_of(values: Iterable[Any], name: str) -> list[Owner]:
+    """Returns the columns as a list. Raises TypeError for a value that is not a column."""
+    return [column_of(value, f"{name}[{position}]") for position, value in enumerate(values)]
+
+
+def _pair(pick: Any, name: str) -> list[int]:
+    """Returns a column number and a row number."""
+    try:
+        column, row = pick
+    except (TypeError, ValueError):
+        raise ValueError(f"{name}: {shown(pick)} is not a pair of a column number and a row number") from None
+    return integers_within((column, row), name, ROW_INDEX)
+
+
+def picks_of(values: Any, name: str) -> tuple[Memory, int, tuple[Memory, int, bool]]:
+    """Returns picks, two words each, their number, and their validity: `None` is null, and so is a pick with a masked number."""
+    array, entries = _array_or_list(values, name, dimensions=2)
+    if array is not None:
+        return _arrays.picks_of_array(array, name)
+    pairs = [None if pick is None else _pair(pick, f"{name}[{position}]") for position, pick in enumerate(entries)]
+    numbers = words("I", [number for pair in pairs for number in pair or (0, 0)])
+    return numbers, len(pairs), validity_of([pair is not None for pair in pairs])

@@ -1,0 +1,147 @@
+"""Columns made of numpy's arrays, and arrays made of columns. Numpy is imported only if it is used."""
+
+from __future__ import annotations
+
+import importlib
+from ctypes import byref
+from typing import Any
+
+from ._checks import ROW_INDEX, Limits, booleans, error_outside
+from ._library import call
+from ._makers import CODES
+from ._memory import NO_VALIDITY, Memory, room_for_bits
+from ._owner import Owner
+from ._readers import validity_bits
+from ._types import NUMBERS
+
+__all__ = ["array_of", "checked", "is_array", "is_of_objects", "made_of_array", "opened", "picks_of_array"]
+
+
+def _numpy() -> Any:
+    return importlib.import_module("numpy")
+
+
+def _memory_of(array: Any) -> Memory:
+    return Memory(array, int(array.ctypes.data) if array.size else 0)
+
+
+def _bits_of(flags: Any) -> Memory:
+    return _memory_of(_numpy().packbits(flags, bitorder="little"))
+
+
+def _validity_of(flags: Any) -> tuple[Memory, int, bool]:
+    """Returns the three arguments of a validity."""
+    if flags.all():
+        return NO_VALIDITY
+    bits = _bits_of(flags)
+    return bits, bits.size(), True
+
+
+def is_array(values: object) -> bool:
+    """Returns whether the value is an array of numpy, or an object that numpy can make one of."""
+    return hasattr(values, "__array__")
+
+
+def opened(values: Any, name: str, dimensions: int = 1) -> Any:
+    """Returns an array as a masked array. Raises ValueError if it has another number of dimensions."""
+    array = _numpy().ma.asarray(values)
+    if array.ndim != dimensions:
+        raise ValueError(f"{name}: an array of {array.ndim} dimensions, where {dimensions} is needed")
+    return array
+
+
+def checked(array: Any, name: str, kinds: str, limits: Limits | None = None) -> Any:
+    """Returns a masked array after checks of its type, by numpy's letters for kinds, and of the range of what is not masked."""
+    if array.dtype.kind not in kinds:
+        raise TypeError(f"{name}: an array of type {array.dtype}, where {'booleans are' if kinds == 'b' else 'integers are'} needed")
+    if limits is None:
+        return array
+    numpy = _numpy()
+    values, info = numpy.ma.getdata(array), numpy.iinfo(array.dtype)
+    outside = numpy.zeros(values.shape, dtype=bool)
+    # A bound that the type of the array cannot hold is not compared: no value is beyond it.
+    if info.min < limits.least:
+        outside |= values < limits.least
+    if info.max > limits.most:
+        outside |= values > limits.most
+    outside &= ~numpy.ma.getmaskarray(array)
+    if outside.any():
+        position = numpy.unravel_index(int(outside.argmax()), values.shape)
+        raise error_outside(int(values[position]), name + "".join(f"[{int(place)}]" for place in position), limits)
+    return array
+
+
+def is_of_objects(values: Any) -> bool:
+    """Returns whether an array holds Python objects, which are checked one by one as those of a list."""
+    return bool(values.dtype.kind == "O")
+
+
+def _valid_flags(valid: Any, name: str, count: int) -> Any:
+    """Returns as an array of booleans which rows are valid, of an array or an iterable with one boolean for each row."""
+    numpy = _numpy()
+    array = opened(valid, name) if is_array(valid) else None
+    if array is None or is_of_objects(array):
+        flags = numpy.array(booleans(valid if array is None else array.tolist(), name), dtype=bool)
+    else:
+        checked(array, name, "b")
+        if numpy.ma.getmaskarray(array).any():
+            raise TypeError(f"{name}: a masked value is not a boolean")
+        flags = numpy.ma.getdata(array)
+    if len(flags) != count:
+        raise ValueError(f"{name}: {len(flags)} booleans for {count} rows")
+    return flags
+
+
+def picks_of_array(array: Any, name: str) -> tuple[Memory, int, tuple[Memory, int, bool]]:
+    """Returns the picks of a masked array with two integers in each row. A pick is null if one of its integers is masked."""
+    numpy = _numpy()
+    if array.shape[1] != 2:
+        raise ValueError(f"{name}: an array of shape {array.shape}, where each row must be a column number and a row number")
+    numbers = numpy.ma.getdata(checked(array, name, "iu", ROW_INDEX))
+    numbers = numpy.ascontiguousarray(numbers, dtype=numpy.uint32)
+    return _memory_of(numbers), len(array), _validity_of(~numpy.ma.getmaskarray(array).any(axis=1))
+
+
+def made_of_array(array: Any, name: str, valid: Any = None) -> Owner:
+    """Returns the column of a masked array of integers of 8 to 64 bits or booleans. Rows that are masked, or not valid, are null."""
+    numpy, made, count = _numpy(), Owner(), len(array)
+    kind, is_boolean = array.dtype, array.dtype.kind == "b"
+    if not is_boolean and not (kind.kind in "iu" and kind.name in CODES):
+        raise TypeError(f"{name}: no column has values of type {kind}")
+    flags = ~numpy.ma.getmaskarray(array)
+    if valid is not None:
+        flags &= _valid_flags(valid, "valid", count)
+    validity = _validity_of(flags)
+    plain = numpy.ma.getdata(array)
+    if is_boolean:
+        values = _bits_of(plain)
+        call("sel_boolean_new", values, values.size(), count, *validity, byref(made._handle))
+    else:
+        # The library reads aligned integers in the order of bytes of this machine.
+        values = _memory_of(numpy.require(plain, kind.newbyteorder("="), ["C_CONTIGUOUS", "ALIGNED"]))
+        call(f"sel_{kind.name}_new", values, count, *validity, byref(made._handle))
+    return made
+
+
+def _unpacked(bits: Memory, count: int) -> Any:
+    numpy = _numpy()
+    return numpy.unpackbits(numpy.frombuffer(bits.items, dtype=numpy.uint8), count=count, bitorder="little").astype(numpy.bool_)
+
+
+def array_of(owner: Owner) -> Any:
+    """Returns the integers of 8 to 64 bits or booleans as an array, a masked one if some row is null."""
+    numpy, kind, count = _numpy(), owner._kind(), len(owner)
+    if kind == "bool":
+        bits = room_for_bits(count)
+        call("sel_boolean_values", owner._at(), bits, bits.size())
+        values = _unpacked(bits, count)
+    elif kind in NUMBERS and NUMBERS[kind][0] in CODES:
+        values = numpy.empty(count, dtype=NUMBERS[kind][0])
+        call(f"sel_{NUMBERS[kind][0]}_values", owner._at(), _memory_of(values), count)
+    else:
+        raise TypeError(f"no array has values of type {kind}")
+    validity = validity_bits(owner)
+    if validity is None:
+        return values
+    valid = _unpacked(validity, count)
+    return values if valid.all() else numpy.ma.masked_array(values, mask=~valid)
