@@ -19,12 +19,15 @@ static long blocks = 0;
 static long until_refused = -1;
 bool refused = false;
 
+/* an allocation was refused since the last check */
+static bool is_pending = false;
+
 static bool refuses(void) {
     if (until_refused < 0) {
         return false;
     }
     if (until_refused == 0) {
-        refused = true;
+        refused = is_pending = true;
         until_refused = -1;
         return true;
     }
@@ -64,9 +67,15 @@ void is(bool holds, const char *what, int line) {
     }
 }
 
-bool done(uint32_t status) {
-    return status == SEL_DONE || (refused && status == SEL_NO_MEMORY);
+bool was_refused(void) {
+    const bool was = is_pending;
+    is_pending = false;
+    return was;
 }
+
+bool gives(uint32_t status, uint32_t wanted) { return status == (was_refused() ? (uint32_t)SEL_NO_MEMORY : wanted); }
+
+bool done(uint32_t status) { return gives(status, SEL_DONE); }
 
 const uint8_t no_bits[1] = {0};
 
@@ -98,7 +107,7 @@ static void test_booleans(void) {
     IS(sel_boolean_values(&column, read, 2) == SEL_NO_COLUMN);
     IS(sel_validity(&column, read, 2, &has) == SEL_NO_COLUMN);
     IS(sel_boolean_new(values, 1, 9, bits, 2, true, &column) == SEL_OTHER_LENGTH);
-    IS(sel_boolean_new(values, 2, 9, bits, 1, true, &column) == SEL_VALIDITY_LENGTH || refused);
+    IS(gives(sel_boolean_new(values, 2, 9, bits, 1, true, &column), SEL_VALIDITY_LENGTH));
     DONE(sel_boolean_new(values, 2, 9, bits, 2, true, &column));
     if (column.at != NULL) {
         IS(sel_len(&column) == 9 && sel_null_count(&column) == 1 && sel_kind(&column) == SEL_BOOLEAN);
@@ -129,7 +138,7 @@ static void test_booleans(void) {
         bool has = false;                                                                               \
         sel_column column = {0};                                                                        \
         IS(sel_##name##_values(&column, read, 3) == SEL_NO_COLUMN);                                     \
-        IS(sel_##name##_new(values, 3, no_bits, 0, true, &column) == SEL_VALIDITY_LENGTH || refused);   \
+        IS(gives(sel_##name##_new(values, 3, no_bits, 0, true, &column), SEL_VALIDITY_LENGTH));   \
         DONE(sel_##name##_new(values, 3, bits, 1, true, &column));                                      \
         if (column.at != NULL) {                                                                        \
             IS(sel_kind(&column) == kind && sel_len(&column) == 3 && sel_null_count(&column) == 1);     \
@@ -158,7 +167,7 @@ NUMBERS(uint64, uint64_t, SEL_UINT64)
         sel_wide read[3] = {{0, 0}, {0, 0}, {0, 0}};                                                    \
         sel_column column = {0};                                                                        \
         IS(sel_##name##_values(&column, read, 3) == SEL_NO_COLUMN);                                     \
-        IS(sel_##name##_new(values, 3, no_bits, 0, true, &column) == SEL_VALIDITY_LENGTH || refused);   \
+        IS(gives(sel_##name##_new(values, 3, no_bits, 0, true, &column), SEL_VALIDITY_LENGTH));   \
         DONE(sel_##name##_new(values, 3, bits, 1, true, &column));                                      \
         if (column.at != NULL) {                                                                        \
             int8_t small[3];                                                                            \
@@ -225,11 +234,11 @@ static void test_filters(void) {
     if (column.at != NULL && mask.at != NULL) {
         DONE(sel_filter(&column, &mask, &out));
         IS(out.at == NULL || holds(&out, kept, 2));
-        IS(sel_filter(&column, &out, &mask) == SEL_OTHER_KIND || refused);
+        IS(refused || gives(sel_filter(&column, &out, &mask), SEL_OTHER_KIND));
         IS(sel_filter_bits(&column, values, 1, 3, &out) == SEL_OTHER_LENGTH);
         IS(sel_filter_bits(&column, values, 0, 4, &out) == SEL_OTHER_LENGTH);
         DONE(sel_boolean_new(values, 1, 3, bits, 1, true, &mask));
-        IS(sel_filter(&column, &mask, &out) == SEL_OTHER_LENGTH || refused);
+        IS(refused || gives(sel_filter(&column, &mask, &out), SEL_OTHER_LENGTH));
         uint32_t status = sel_filter_bits(&column, values, 1, 4, &out);
         IS(done(status) && (status != SEL_DONE || holds(&out, by_bits, 3)));
         IS(sel_len(&column) == 4);
@@ -255,13 +264,13 @@ static void test_takes(void) {
             IS(sel_int64_values(&out, read, 3) == SEL_DONE && read[0] == 40 && read[2] == 10);
         }
         DONE(sel_uint32_new(at, 3, no_bits, 0, false, &indices));
-        IS(sel_take(&column, &indices, &out) == SEL_OUT_OF_BOUNDS || refused);
+        IS(refused || gives(sel_take(&column, &indices, &out), SEL_OUT_OF_BOUNDS));
         DONE(sel_share(&column, &indices));
-        IS(sel_take(&column, &indices, &out) == SEL_OTHER_KIND || refused);
+        IS(refused || gives(sel_take(&column, &indices, &out), SEL_OTHER_KIND));
         status = sel_take_rows(&column, at, 3, bits, 1, true, &out);
         IS(done(status) && (status != SEL_DONE || (sel_len(&out) == 3 && sel_null_count(&out) == 1)));
-        IS(sel_take_rows(&column, at, 3, bits, 0, true, &out) == SEL_VALIDITY_LENGTH || refused);
-        IS(sel_take_rows(&column, at, 2, bits, 0, false, &out) == SEL_OUT_OF_BOUNDS || refused);
+        IS(gives(sel_take_rows(&column, at, 3, bits, 0, true, &out), SEL_VALIDITY_LENGTH));
+        IS(gives(sel_take_rows(&column, at, 2, bits, 0, false, &out), SEL_OUT_OF_BOUNDS));
     }
     sel_free(&column);
     sel_free(&indices);
@@ -274,11 +283,11 @@ static void test_bytes(void) {
     const int64_t offsets[4] = {0, 1, 1, 3}, falls[2] = {2, 1}, negative[2] = {-1, 1}, far[2] = {0, 4};
     const uint8_t text[3] = {'a', 'b', 'c'}, bits[1] = {5};
     sel_column column = {0};
-    IS(sel_binary_new(offsets, 0, text, 3, no_bits, 0, false, &column) == SEL_OFFSET_COUNT || refused);
-    IS(sel_binary_new(negative, 2, text, 3, no_bits, 0, false, &column) == SEL_OFFSET_NEGATIVE || refused);
-    IS(sel_binary_new(falls, 2, text, 3, no_bits, 0, false, &column) == SEL_OFFSET_ORDER || refused);
-    IS(sel_binary_new(far, 2, text, 3, no_bits, 0, false, &column) == SEL_OFFSET_RANGE || refused);
-    IS(sel_binary_new(offsets, 4, text, 3, no_bits, 0, true, &column) == SEL_VALIDITY_LENGTH || refused);
+    IS(gives(sel_binary_new(offsets, 0, text, 3, no_bits, 0, false, &column), SEL_OFFSET_COUNT));
+    IS(gives(sel_binary_new(negative, 2, text, 3, no_bits, 0, false, &column), SEL_OFFSET_NEGATIVE));
+    IS(gives(sel_binary_new(falls, 2, text, 3, no_bits, 0, false, &column), SEL_OFFSET_ORDER));
+    IS(gives(sel_binary_new(far, 2, text, 3, no_bits, 0, false, &column), SEL_OFFSET_RANGE));
+    IS(gives(sel_binary_new(offsets, 4, text, 3, no_bits, 0, true, &column), SEL_VALIDITY_LENGTH));
     DONE(sel_binary_new(offsets, 4, text, 3, bits, 1, true, &column));
     if (column.at != NULL) {
         int64_t places[4] = {9, 9, 9, 9};
@@ -303,26 +312,26 @@ static void test_each(sel_column *lists) {
     IS(sel_fixed_get_each(&out, lists, false, &at) == SEL_NO_COLUMN);
     DONE(sel_int64_new(places, 2, no_bits, 0, false, &at));
     if (at.at != NULL) {
-        IS(flat.at == NULL || sel_fixed_get_each(&flat, &at, false, &out) == SEL_OTHER_KIND || refused);
+        IS(flat.at == NULL || gives(sel_fixed_get_each(&flat, &at, false, &out), SEL_OTHER_KIND));
         DONE(sel_fixed_get_each(lists, &at, false, &out));
-        IS(out.at == NULL || holds(&out, wanted, 2) || refused);
+        IS(refused || holds(&out, wanted, 2));
     }
     sel_free(&flat);
     DONE(sel_int64_new(places, 1, no_bits, 0, false, &at));
     if (at.at != NULL && sel_len(&at) == 1) {
-        IS(sel_fixed_get_each(lists, &at, false, &out) == SEL_OTHER_LENGTH || refused);
+        IS(gives(sel_fixed_get_each(lists, &at, false, &out), SEL_OTHER_LENGTH));
     }
     sel_free(&at);
     DONE(sel_int64_new(far, 2, no_bits, 0, false, &at));
     if (at.at != NULL) {
-        IS(sel_fixed_get_each(lists, &at, false, &out) == SEL_GET_OUT_OF_BOUNDS || refused);
+        IS(gives(sel_fixed_get_each(lists, &at, false, &out), SEL_GET_OUT_OF_BOUNDS));
         sel_free(&out);
         DONE(sel_fixed_get_each(lists, &at, true, &out));
         IS(out.at == NULL || (sel_len(&out) == 2 && sel_null_count(&out) == 1));
     }
     sel_free(&at);
     DONE(sel_int8_new((const int8_t[2]){0, 0}, 2, no_bits, 0, false, &at));
-    IS(at.at == NULL || sel_fixed_get_each(lists, &at, true, &out) == SEL_OTHER_KIND || refused);
+    IS(at.at == NULL || gives(sel_fixed_get_each(lists, &at, true, &out), SEL_OTHER_KIND));
     sel_free(&at);
     sel_free(&out);
 }
@@ -336,15 +345,15 @@ static void test_lists(void) {
     IS(sel_sublist_get(&child, 0, &lists) == SEL_NO_COLUMN);
     child = tens();
     if (child.at != NULL) {
-        IS(sel_index_is_oob(&child, 0, &lacks) == SEL_OTHER_KIND || refused);
+        IS(gives(sel_index_is_oob(&child, 0, &lacks), SEL_OTHER_KIND));
         DONE(sel_unit_list(&child, &units));
         if (units.at != NULL) {
             IS(sel_len(&units) == 4 && sel_kind(&units) == SEL_LARGE_LIST);
             IS(done(sel_index_is_oob(&units, 1, &lacks)));
-            IS(lacks || refused);
+            IS(refused || lacks);
         }
-        IS(sel_sublist_get(&child, 0, &lists) == SEL_OTHER_KIND || refused);
-        IS(sel_list_new(far, 2, no_bits, 0, false, &child, &lists) == SEL_OFFSET_RANGE || refused);
+        IS(gives(sel_sublist_get(&child, 0, &lists), SEL_OTHER_KIND));
+        IS(gives(sel_list_new(far, 2, no_bits, 0, false, &child, &lists), SEL_OFFSET_RANGE));
         IS(child.at == NULL);
     }
     child = tens();
@@ -363,18 +372,18 @@ static void test_lists(void) {
             /* the last element of each list, then the second one, which the first list lacks */
             const int64_t last[2] = {10, 40};
             DONE(sel_sublist_get(&lists, -1, &child));
-            IS(child.at == NULL || holds(&child, last, 2) || refused);
+            IS(refused || holds(&child, last, 2));
             DONE(sel_sublist_get(&lists, 1, &child));
-            IS(child.at == NULL || (sel_len(&child) == 2 && sel_null_count(&child) == 1) || refused);
+            IS(refused || (sel_len(&child) == 2 && sel_null_count(&child) == 1));
             DONE(sel_child(&lists, &child));
-            IS(child.at == NULL || holds(&child, all, 4) || refused);
+            IS(refused || holds(&child, all, 4));
             IS(child.at == NULL || sel_child(&child, &units) == SEL_OTHER_KIND);
             sel_free(&child);
         }
     }
     child = tens();
     if (child.at != NULL) {
-        IS(sel_fixed_list_new(3, 2, no_bits, 0, false, &child, &lists) == SEL_CHILD_LENGTH || refused);
+        IS(gives(sel_fixed_list_new(3, 2, no_bits, 0, false, &child, &lists), SEL_CHILD_LENGTH));
         IS(child.at == NULL);
     }
     child = tens();
@@ -389,11 +398,11 @@ static void test_lists(void) {
         /* the last entry of each list, then one that lists of two have not */
         const int64_t last[2] = {20, 40};
         DONE(sel_fixed_get(&lists, -1, false, &child));
-        IS(child.at == NULL || holds(&child, last, 2) || refused);
-        IS(child.at == NULL || sel_fixed_get(&child, 0, false, &units) == SEL_OTHER_KIND || refused);
-        IS(sel_fixed_get(&lists, 2, false, &child) == SEL_GET_OUT_OF_BOUNDS || refused);
+        IS(refused || holds(&child, last, 2));
+        IS(child.at == NULL || gives(sel_fixed_get(&child, 0, false, &units), SEL_OTHER_KIND));
+        IS(gives(sel_fixed_get(&lists, 2, false, &child), SEL_GET_OUT_OF_BOUNDS));
         DONE(sel_fixed_get(&lists, 2, true, &child));
-        IS(child.at == NULL || (sel_len(&child) == 2 && sel_null_count(&child) == 2) || refused);
+        IS(refused || (sel_len(&child) == 2 && sel_null_count(&child) == 2));
         sel_free(&child);
         IS(sel_fixed_get(&child, 0, false, &units) == SEL_NO_COLUMN);
         test_each(&lists);
@@ -408,7 +417,7 @@ static void test_structs(void) {
     const uint8_t bits[1] = {13};
     sel_column fields[2] = {{0}, {0}}, column = {0}, field = {0};
     fields[0] = tens();
-    IS(sel_struct_new(4, no_bits, 0, false, fields, 2, &column) == SEL_NO_COLUMN || refused);
+    IS(gives(sel_struct_new(4, no_bits, 0, false, fields, 2, &column), SEL_NO_COLUMN));
     sel_free(&fields[0]);
     fields[0] = tens();
     DONE(sel_null_new(4, &fields[1]));
@@ -421,13 +430,13 @@ static void test_structs(void) {
             IS(sel_field_count(&column, &count) == SEL_DONE && count == 2);
             IS(sel_field(&column, 2, &field) == SEL_OUT_OF_BOUNDS);
             DONE(sel_field(&column, 0, &field));
-            IS(field.at == NULL || holds(&field, all, 4) || refused);
+            IS(refused || holds(&field, all, 4));
         }
     }
     sel_free(&fields[0]);
     sel_free(&fields[1]);
     fields[0] = tens();
-    IS(sel_struct_new(3, no_bits, 0, false, fields, 1, &column) == SEL_FIELD_LENGTH || refused);
+    IS(refused || gives(sel_struct_new(3, no_bits, 0, false, fields, 1, &column), SEL_FIELD_LENGTH));
     sel_free(&fields[0]);
     sel_free(&field);
     sel_free(&column);
@@ -470,19 +479,19 @@ static void test_views(void) {
         IS(sel_buffer_len(&column, 0, &count) == SEL_DONE && count == 25);
         IS(sel_buffer(&column, 0, bytes, 24) == SEL_OTHER_LENGTH);
         IS(sel_buffer(&column, 0, bytes, 25) == SEL_DONE && memcmp(bytes, far, 25) == 0);
-        IS(sel_binary_new((int64_t[1]){0}, 1, bytes, 0, no_bits, 0, false, &column) == SEL_DONE || refused);
+        IS(gives(sel_binary_new((int64_t[1]){0}, 1, bytes, 0, no_bits, 0, false, &column), SEL_DONE));
     }
     if (texts.at != NULL) {
         IS(sel_kind(&texts) == SEL_UTF8_VIEW && sel_len(&texts) == 2);
         IS(sel_views(&texts, read, 2) == SEL_DONE && memcmp(read, views, sizeof views) == 0);
     }
     views[1].offset = 3;
-    IS(sel_binview_new(views, 2, buffers, 1, no_bits, 0, false, &column) == SEL_VIEW_RANGE || refused);
+    IS(gives(sel_binview_new(views, 2, buffers, 1, no_bits, 0, false, &column), SEL_VIEW_RANGE));
     views[1].offset = 1;
-    IS(sel_binview_new(views, 2, buffers, 1, no_bits, 0, false, &column) == SEL_VIEW_PREFIX || refused);
-    IS(sel_utf8view_new(views, 2, buffers, 1, no_bits, 0, true, &column) == SEL_VALIDITY_LENGTH || refused);
+    IS(gives(sel_binview_new(views, 2, buffers, 1, no_bits, 0, false, &column), SEL_VIEW_PREFIX));
+    IS(gives(sel_utf8view_new(views, 2, buffers, 1, no_bits, 0, true, &column), SEL_VALIDITY_LENGTH));
     views[0] = view_of("\xFF", 1, 0);
-    IS(sel_utf8view_new(views, 1, buffers, 1, no_bits, 0, false, &column) == SEL_UTF8 || refused);
+    IS(gives(sel_utf8view_new(views, 1, buffers, 1, no_bits, 0, false, &column), SEL_UTF8));
     sel_free(&column);
     sel_free(&texts);
 }
@@ -503,10 +512,10 @@ int main(void) {
         /* again, with the first allocation refused, then the second, and so on */
         for (long n = 0;; n += 1) {
             until_refused = n;
-            refused = false;
+            refused = is_pending = false;
             tests[i]();
             until_refused = -1;
-            IS(blocks == 0);
+            IS(blocks == 0 && !was_refused()); /* each refusal was seen by the check of its call */
             if (!refused) {
                 break;
             }

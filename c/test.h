@@ -4,14 +4,20 @@
 
 #include "sel.h"
 
-/* an allocation was refused in this run of a test */
+/* an allocation was refused in this run of a test, so that a column may be missing */
 extern bool refused;
+
+/* Tests whether an allocation was refused since the last check. */
+bool was_refused(void);
+
+/* Tests whether the status is the wanted one, or out of memory exactly if an allocation was refused since the last check. */
+bool gives(uint32_t status, uint32_t wanted);
 
 void is(bool holds, const char *what, int line);
 
 #define IS(holds) is((holds), #holds, __LINE__)
 
-/* A status that stands for want of memory only where an allocation was refused. */
+/* The same for a call that succeeds. */
 bool done(uint32_t status);
 
 #define DONE(call) is(done(call), #call, __LINE__)

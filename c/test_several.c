@@ -85,10 +85,10 @@ void test_choices(void) {
     if (all_made(sides, 5)) {
         ANSWERS(sel_choose(&sides[0], &sides[1], &sides[2], &out), &out, "[null,null,3,40]");
         ANSWERS(sel_choose(&sides[0], &sides[2], &sides[1], &out), &out, "[10,2,30,4]");
-        IS(sel_choose(&sides[1], &sides[2], &sides[3], &out) == SEL_OTHER_KIND || refused);
-        IS(sel_choose(&sides[0], &sides[1], &sides[4], &out) == SEL_OTHER_TYPE || refused);
-        IS(sel_choose(&sides[0], &sides[1], &sides[3], &out) == SEL_OTHER_LENGTH || refused);
-        IS(sel_choose(&sides[0], &sides[3], &sides[1], &out) == SEL_OTHER_LENGTH || refused);
+        IS(gives(sel_choose(&sides[1], &sides[2], &sides[3], &out), SEL_OTHER_KIND));
+        IS(gives(sel_choose(&sides[0], &sides[1], &sides[4], &out), SEL_OTHER_TYPE));
+        IS(gives(sel_choose(&sides[0], &sides[1], &sides[3], &out), SEL_OTHER_LENGTH));
+        IS(gives(sel_choose(&sides[0], &sides[3], &sides[1], &out), SEL_OTHER_LENGTH));
         IS(out.at == NULL && prints(&sides[0], "[true,null,true,false]"));
         IS(prints(&sides[1], "[null,2,3,4]") && prints(&sides[2], "[10,null,30,40]"));
     }
@@ -109,11 +109,11 @@ void test_broadcasts(void) {
         ANSWERS(sel_choose_of_two(&given[0], &given[2], &given[3], &out), &out, "[3,null,3]");
         ANSWERS(sel_choose_of_two(&given[0], &given[3], &given[2], &out), &out, "[null,3,null]");
         IS(sel_choose_one(&given[0], &given[1], &given[1], &out) != SEL_DONE);
-        IS(sel_choose_or_one(&given[0], &given[2], &given[3], &out) == SEL_OTHER_LENGTH || refused);
-        IS(sel_choose_of_two(&given[0], &given[1], &given[2], &out) == SEL_OTHER_LENGTH || refused);
-        IS(sel_choose_one(&given[0], &given[2], &given[3], &out) == SEL_OTHER_LENGTH || refused);
+        IS(gives(sel_choose_or_one(&given[0], &given[2], &given[3], &out), SEL_OTHER_LENGTH));
+        IS(gives(sel_choose_of_two(&given[0], &given[1], &given[2], &out), SEL_OTHER_LENGTH));
+        IS(gives(sel_choose_one(&given[0], &given[2], &given[3], &out), SEL_OTHER_LENGTH));
         IS(sel_choose_one(&given[0], &given[2], &given[0], &out) != SEL_DONE);
-        IS(sel_choose_of_two(&given[1], &given[2], &given[3], &out) == SEL_OTHER_KIND || refused);
+        IS(gives(sel_choose_of_two(&given[1], &given[2], &given[3], &out), SEL_OTHER_KIND));
     }
     free_all(given, 5);
     sel_free(&out);
@@ -169,20 +169,20 @@ void test_flattens(void) {
     const int64_t values[4] = {1, 2, 3, 4};
     const size_t widths[2] = {2, 1}, none[2] = {2, 0};
     sel_column out = {0}, given[2] = {{0}, {0}};
-    IS(sel_flatten(given, 0, widths, 0, 2, &out) == SEL_OTHER_LENGTH || refused);
+    IS(gives(sel_flatten(given, 0, widths, 0, 2, &out), SEL_OTHER_LENGTH));
     given[0] = numbers(values, 4, 15);
-    IS(sel_flatten(given, 2, widths, 2, 2, &out) == SEL_NO_COLUMN || refused);
+    IS(gives(sel_flatten(given, 2, widths, 2, 2, &out), SEL_NO_COLUMN));
     given[1] = numbers(values + 3, 1, 0);
     if (all_made(given, 2)) {
         ANSWERS(sel_flatten(given, 2, widths, 2, 2, &out), &out, "[1,2,null,3,4,null]");
-        IS(sel_flatten(given, 2, widths, 1, 2, &out) == SEL_OTHER_LENGTH || refused);
-        IS(sel_flatten(given, 2, none, 2, 2, &out) == SEL_OTHER_LENGTH || refused);
-        IS(sel_flatten(given, 2, widths, 2, 3, &out) == SEL_OTHER_LENGTH || refused);
-        IS(sel_flatten(given + 1, 1, widths + 1, 1, (size_t)4294967296, &out) == SEL_LIMIT_ROWS || refused);
+        IS(gives(sel_flatten(given, 2, widths, 1, 2, &out), SEL_OTHER_LENGTH));
+        IS(gives(sel_flatten(given, 2, none, 2, 2, &out), SEL_OTHER_LENGTH));
+        IS(gives(sel_flatten(given, 2, widths, 2, 3, &out), SEL_OTHER_LENGTH));
+        IS(gives(sel_flatten(given + 1, 1, widths + 1, 1, (size_t)4294967296, &out), SEL_LIMIT_ROWS));
         ANSWERS(sel_flatten(given + 1, 1, widths + 1, 1, 3, &out), &out, "[null,null,null]");
         sel_free(&given[1]);
         given[1] = truths(1, 1, 1);
-        IS(given[1].at == NULL || sel_flatten(given, 2, widths, 2, 2, &out) == SEL_OTHER_TYPE || refused);
+        IS(given[1].at == NULL || gives(sel_flatten(given, 2, widths, 2, 2, &out), SEL_OTHER_TYPE));
         IS(sel_len(&given[0]) == 4);
     }
     free_all(given, 2);
@@ -193,20 +193,20 @@ void test_collected_rows(void) {
     const sel_pick picks[4] = {{1, 1}, {0, 2}, {9, 9}, {1, 0}};
     const uint8_t bits[1] = {11};
     sel_column out = {0}, given[2] = {{0}, {0}};
-    IS(sel_collect_rows(given, 0, picks, 0, no_bits, 0, false, &out) == SEL_OTHER_LENGTH || refused);
+    IS(gives(sel_collect_rows(given, 0, picks, 0, no_bits, 0, false, &out), SEL_OTHER_LENGTH));
     given[0] = numbers(values, 3, 7);
-    IS(sel_collect_rows(given, 2, picks, 0, no_bits, 0, false, &out) == SEL_NO_COLUMN || refused);
+    IS(gives(sel_collect_rows(given, 2, picks, 0, no_bits, 0, false, &out), SEL_NO_COLUMN));
     given[1] = numbers(values + 1, 2, 2);
     if (all_made(given, 2)) {
         ANSWERS(sel_collect_rows(given, 2, picks, 4, bits, 1, true, &out), &out, "[3,3,null,null]");
         ANSWERS(sel_collect_rows(given, 2, picks, 0, no_bits, 0, false, &out), &out, "[]");
-        IS(sel_collect_rows(given, 2, picks, 4, no_bits, 0, false, &out) == SEL_OUT_OF_BOUNDS || refused);
-        IS(sel_collect_rows(given, 1, picks, 1, no_bits, 0, false, &out) == SEL_OUT_OF_BOUNDS || refused);
-        IS(sel_collect_rows(given, 2, picks, 4, no_bits, 0, true, &out) == SEL_VALIDITY_LENGTH || refused);
-        IS(sel_collect_rows(given, 2, picks, (size_t)4294967296, no_bits, 0, false, &out) == SEL_TOO_MANY_ROWS || refused);
+        IS(gives(sel_collect_rows(given, 2, picks, 4, no_bits, 0, false, &out), SEL_OUT_OF_BOUNDS));
+        IS(gives(sel_collect_rows(given, 1, picks, 1, no_bits, 0, false, &out), SEL_OUT_OF_BOUNDS));
+        IS(gives(sel_collect_rows(given, 2, picks, 4, no_bits, 0, true, &out), SEL_VALIDITY_LENGTH));
+        IS(gives(sel_collect_rows(given, 2, picks, (size_t)4294967296, no_bits, 0, false, &out), SEL_TOO_MANY_ROWS));
         sel_free(&given[1]);
         given[1] = truths(1, 1, 1);
-        IS(given[1].at == NULL || sel_collect_rows(given, 2, picks, 0, no_bits, 0, false, &out) == SEL_OTHER_TYPE || refused);
+        IS(given[1].at == NULL || gives(sel_collect_rows(given, 2, picks, 0, no_bits, 0, false, &out), SEL_OTHER_TYPE));
         IS(prints(&given[0], "[1,2,3]"));
     }
     free_all(given, 2);
@@ -228,9 +228,9 @@ void test_dictionaries(void) {
         IS(done(status) && (out[0].at == NULL) == (status != SEL_DONE) && (out[1].at == NULL) == (status != SEL_DONE));
         IS(status != SEL_DONE || (prints(&out[0], "[0,null,1,null]") && prints(&out[1], "[\"a\",\"c\"]")));
         IS(prints(&given[0], "[0,1,2,null]") && prints(&given[1], "[\"a\",null,\"c\"]"));
-        IS(sel_propagate_dictionary(&given[1], &given[0], &out[0], &out[1]) == SEL_OTHER_KIND || refused);
+        IS(gives(sel_propagate_dictionary(&given[1], &given[0], &out[0], &out[1]), SEL_OTHER_KIND));
         DONE(sel_uint32_new(far, 1, no_bits, 0, false, &given[0]));
-        IS(sel_propagate_dictionary(&given[0], &given[1], &out[0], &out[1]) == SEL_OUT_OF_BOUNDS || refused);
+        IS(refused || gives(sel_propagate_dictionary(&given[0], &given[1], &out[0], &out[1]), SEL_OUT_OF_BOUNDS));
     }
     free_all(given, 2);
     free_all(out, 2);
@@ -309,11 +309,11 @@ void test_parses(void) {
     made = truths(1, 3, 5);
     READS("bool", "[true,null,false]", "[true,null,false]", &made);
     below[0] = texts(words, 2, 3);
-    DONE(below[0].at == NULL ? SEL_NO_MEMORY : sel_list_new(offsets, 4, outer, 1, true, &below[0], &made));
+    IS(below[0].at == NULL || done(sel_list_new(offsets, 4, outer, 1, true, &below[0], &made)));
     READS("list< utf8 >", "[[\"ada\", \"a, b] c\"], null, []]", "[[\"ada\",\"a, b] c\"],null,[]]", &made);
     free_all(below, 1);
     below[0] = numbers(values, 4, 11);
-    DONE(below[0].at == NULL ? SEL_NO_MEMORY : sel_fixed_list_new(2, 2, first, 1, true, &below[0], &made));
+    IS(below[0].at == NULL || done(sel_fixed_list_new(2, 2, first, 1, true, &below[0], &made)));
     READS("fixed<2,i64>", "[[1,2],null]", "[[1,2],null]", &made);
     free_all(below, 1);
     below[0] = numbers(values, 2, 3), below[1] = truths(1, 2, 3);
@@ -329,7 +329,7 @@ static void misreads(uint32_t status, const char *dtype, const char *text, size_
     size_t at = 77;
     const void *const before = out->at;
     uint32_t answer = parse(dtype, text, &at, out);
-    is(answer == status || (refused && answer == SEL_NO_MEMORY), text, line);
+    is(gives(answer, status), text, line);
     is(at == (answer == status ? place : 77), dtype, line);
     is(out->at == before && prints(out, "[1,2]"), "the column stays", line);
 }
@@ -371,12 +371,12 @@ static const int64_t most_rows = 4294967295;
 static void lists_of_nulls(const int64_t *offsets, size_t len, uint8_t bits, sel_column *out) {
     sel_column child = {0};
     DONE(sel_null_new((size_t)offsets[len], &child));
-    DONE(child.at == NULL ? SEL_NO_MEMORY : sel_list_new(offsets, len + 1, &bits, 1, true, &child, out));
+    IS(child.at == NULL || done(sel_list_new(offsets, len + 1, &bits, 1, true, &child, out)));
 }
 
 /* Checks the status of a call and the length of its result, which is freed. */
 static void has_rows(uint32_t status, uint32_t wanted, size_t len, sel_column *out, int line) {
-    is(status == wanted || (refused && status == SEL_NO_MEMORY), "the status of a limit", line);
+    is(gives(status, wanted), "the status of a limit", line);
     is(sel_len(out) == (status == SEL_DONE ? len : 0), "the length of the result", line);
     sel_free(out);
 }
