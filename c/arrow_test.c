@@ -508,9 +508,9 @@ static void texts_of_statuses(void) {
     uint8_t text[128];
     for (uint32_t status = SEL_ARROW_RELEASED; status <= SEL_ARROW_RANGE; status++) CHECK(sel_arrow_text(status, text, sizeof text) > 10);
     size_t len = sel_arrow_text(SEL_ARROW_FORMAT, text, 8);
-    CHECK(len > 8 && !memcmp(text, "a format", 8));
+    CHECK(len > 8 && !memcmp(text, "unsuppor", 8));
     CHECK(sel_arrow_text(SEL_NO_MEMORY, text, sizeof text) > 5);
-    CHECK(!strcmp(sel_status_text(SEL_DONE), "done") && !strcmp(sel_status_text(15), "no status of these calls"));
+    CHECK(!strcmp(sel_status_text(SEL_DONE), "done") && !strcmp(sel_status_text(15), "unknown status"));
 }
 
 int main(void) {

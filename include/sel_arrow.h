@@ -1,5 +1,5 @@
-/* Columns in and out by the Arrow C Data Interface: whole trees, copied both ways, so that neither side holds memory of
- * the other. Declared beside sel.h, whose conditions on handles hold here too. */
+/* Import and export of columns through the Arrow C Data Interface. Columns are copied both ways, with all their children,
+ * so that neither side keeps memory of the other. The rules for handles in sel.h hold here too. */
 #ifndef SEL_ARROW_H
 #define SEL_ARROW_H
 
@@ -9,7 +9,7 @@
 extern "C" {
 #endif
 
-/* The two structures as the Arrow format lays them down; other headers that declare them use the same guard. */
+/* The two structures of the Arrow format; other headers that declare them use the same guard. */
 #ifndef ARROW_C_DATA_INTERFACE
 #define ARROW_C_DATA_INTERFACE
 
@@ -43,16 +43,16 @@ struct ArrowArray {
 };
 #endif
 
-/* Statuses of the two calls below, beside those of sel.h. */
+/* Statuses of the two calls below, in addition to those of sel.h. */
 enum sel_arrow_status {
     SEL_ARROW_RELEASED = 64,   /* the array or the schema, or one below it, was released */
-    SEL_ARROW_FORMAT = 65,     /* a format that has no kind of column here */
-    SEL_ARROW_BUFFERS = 66,    /* another number of buffers than the format has, or one that is missing */
-    SEL_ARROW_CHILDREN = 67,   /* another number of children than the format has, or one that is missing */
+    SEL_ARROW_FORMAT = 65,     /* an unsupported format */
+    SEL_ARROW_BUFFERS = 66,    /* another number of buffers than the format has, or a missing one */
+    SEL_ARROW_CHILDREN = 67,   /* another number of children than the format has, or a missing one */
     SEL_ARROW_LENGTH = 68,     /* a length, an offset or a null count out of range, or a child that is too short */
-    SEL_ARROW_DICTIONARY = 69, /* an array of keys into a dictionary */
+    SEL_ARROW_DICTIONARY = 69, /* a dictionary-encoded array */
     SEL_ARROW_DEPTH = 70,      /* more than 256 levels of children */
-    SEL_ARROW_RANGE = 71       /* a value or a place that the format cannot show */
+    SEL_ARROW_RANGE = 71       /* a value or an offset that the format cannot represent */
 };
 
 /* Makes a column of an array, at every depth, and releases the array. The schema is only read. On error the array is not
@@ -81,10 +81,10 @@ uint32_t sel_import(struct ArrowArray *array, const struct ArrowSchema *schema, 
  * with more than 38 digits or a view beyond byte 2,147,483,647 of a data buffer. On error there is nothing to release. */
 uint32_t sel_export(sel_column *of, struct ArrowArray *array, struct ArrowSchema *schema);
 
-/* The text of a status of either enum, which nobody frees. */
+/* Returns the text of a status of either enum, a constant. */
 const char *sel_status_text(uint32_t status);
 
-/* The same without a zero at its end: as many bytes as there is room for; the answer is how many it has. */
+/* Writes the text of a status without a terminating zero, as much of it as fits; returns its length. */
 size_t sel_arrow_text(uint32_t status, uint8_t *out, size_t out_len);
 
 #ifdef __cplusplus

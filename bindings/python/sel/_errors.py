@@ -44,7 +44,7 @@ class BrokenText(SelError, ValueError):
     """
 
     def __init__(self, status: int, text: str, place: int) -> None:
-        super().__init__(status, f"{text}, from place {place} on")
+        super().__init__(status, f"{text} at character {place}")
         self.place = place
 
 

@@ -79,7 +79,7 @@ class Columns(unittest.TestCase):
             with self.assertRaises(sel.BrokenText, msg=text) as caught:
                 Column.parse(wanted, text)
             self.assertEqual((caught.exception.status, caught.exception.place), (status, place), (wanted, text))
-            self.assertIn(f"from place {place} on", str(caught.exception))
+            self.assertIn(f"at character {place}", str(caught.exception))
         for wanted in ("list<" * 65 + "i8" + ">" * 65, "fixed<4294967296,i8>"):
             with self.assertRaises(sel.LimitPassed):
                 Column.parse(wanted, "[]")

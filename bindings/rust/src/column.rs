@@ -99,7 +99,7 @@ impl Column {
     ///
     /// let error = Column::parse("i8", "[1, 300]").unwrap_err();
     /// assert_eq!(error, Error::Text { status: 34, at: 4 });
-    /// assert!(error.to_string().ends_with(", from byte 4 on"));
+    /// assert!(error.to_string().ends_with(" at byte 4"));
     /// assert_eq!(Column::parse("list<i7>", "[]").unwrap_err(), Error::Text { status: 32, at: 5 });
     /// assert_eq!(Column::parse("i8", "[1").unwrap_err(), Error::Text { status: 33, at: 2 });
     /// assert_eq!(Column::parse("fixed<4294967296,i8>", "[]").unwrap_err(), Error::Limit(35));

@@ -111,7 +111,7 @@ impl fmt::Display for Error {
         let len = unsafe { raw::sel_arrow_text(self.status(), space.as_mut_ptr(), space.len()) };
         f.write_str(&String::from_utf8_lossy(space.get(..len).unwrap_or(&space)))?;
         match self {
-            Error::Text { at, .. } => write!(f, ", from byte {at} on"),
+            Error::Text { at, .. } => write!(f, " at byte {at}"),
             Error::UnknownStatus(status) => write!(f, " (status {status})"),
             Error::UnknownKind(kind) => write!(f, " (kind {kind})"),
             _ => Ok(()),
