@@ -157,7 +157,7 @@ DOCUMENTS = [
     ("pictures", ["tools/picture", "--check"]),
     ("C header", ["tools/header", "--check"]),
     ("links", ["tools/links"]),
-    ("texts of the mutants", ["tools/refused", "--texts"]),
+    ("texts of the mutants", ["tools/mutants", "--texts"]),
 ]
 AFTER_LIBRARY = [
     ("conformance suite", ["tools/rows.py"]),
@@ -179,7 +179,7 @@ def below(crate: str) -> list[str]:
 
 
 def mutants_by_crate() -> dict[str, list[str]]:
-    """The mutants that tools/refused.txt lists, by crate; the crates with the fewest dependencies first."""
+    """The mutants that tools/mutants.txt lists, by crate; the crates with the fewest dependencies first."""
     found: dict[str, list[str]] = {}
     for label in (ROOT / "tools" / "refused.txt").read_text().split("\n"):
         if label and not label.startswith("#"):
@@ -188,7 +188,7 @@ def mutants_by_crate() -> dict[str, list[str]]:
 
 
 def try_mutants(board: Board, proofs: Proofs, crate: str, labels: list[str]) -> bool:
-    return proofs.wait_for(below(crate)) and run_check(board, f"mutants of {crate}", ["tools/refused", *labels], beside=True)
+    return proofs.wait_for(below(crate)) and run_check(board, f"mutants of {crate}", ["tools/mutants", *labels], beside=True)
 
 
 def try_library(board: Board, proofs: Proofs) -> bool:
