@@ -7,7 +7,7 @@
 # make install   copies the C library and its headers: make install PREFIX=folder
 # make bench     times the kernels and writes docs/BENCHMARKS.md; make bench QUICK=1 only compares their answers
 # make mutants   tries every mutant, not only those of make test
-# make api       writes the API reference, the picture and the C header
+# make api       writes the API reference and the C header
 
 INPUT ?= crates/sel_bench/stdin
 PREFIX ?= /usr/local
@@ -46,5 +46,4 @@ mutants:
 
 api:
 	tools/api
-	tools/picture
 	tools/header
