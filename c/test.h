@@ -11,7 +11,7 @@ void is(bool holds, const char *what, int line);
 
 #define IS(holds) is((holds), #holds, __LINE__)
 
-/* A status that stands for want of memory only where an allocation was refused. */
+/* Returns whether the status is SEL_DONE, or SEL_NO_MEMORY after a failed allocation. */
 bool done(uint32_t status);
 
 #define DONE(call) is(done(call), #call, __LINE__)

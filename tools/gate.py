@@ -156,6 +156,7 @@ DOCUMENTS = [
     ("API reference", ["tools/api", "--check"]),
     ("C header", ["tools/header", "--check"]),
     ("links", ["tools/links"]),
+    ("terms", ["tools/terms"]),
     ("mutant texts", ["tools/mutants", "--texts"]),
 ]
 AFTER_LIBRARY = [
@@ -180,7 +181,7 @@ def below(crate: str) -> list[str]:
 def mutants_by_crate() -> dict[str, list[str]]:
     """Returns the mutants that tools/mutants.txt lists, by crate; the crates with the fewest dependencies first."""
     found: dict[str, list[str]] = {}
-    for label in (ROOT / "tools" / "refused.txt").read_text().split("\n"):
+    for label in (ROOT / "tools" / "mutants.txt").read_text().split("\n"):
         if label and not label.startswith("#"):
             found.setdefault(label.partition("/")[0], []).append(label)
     return dict(sorted(found.items(), key=lambda item: (len(below(item[0])), item[0])))
