@@ -6,13 +6,13 @@
 # make lib       builds the C library into build/; for newer processors: make lib CPU=x86-64-v3
 # make install   copies the C library and its headers: make install PREFIX=folder
 # make bench     times the kernels and writes docs/BENCHMARKS.md; make bench QUICK=1 only compares their answers
-# make edits     tries every mutant, not only those of make test
-# make api       writes the API reference, the picture and the C header
+# make mutants   tries every mutant, not only those of make test
+# make api       writes the API reference and the C header
 
 INPUT ?= crates/sel_bench/stdin
 PREFIX ?= /usr/local
 
-.PHONY: run tour build lib install bench test check setup edits api
+.PHONY: run tour build lib install bench test check setup mutants api
 
 run:
 	@tools/run sel_bench $(INPUT)
@@ -41,10 +41,9 @@ check:
 setup:
 	tools/gate.py setup
 
-edits:
-	tools/refused --all
+mutants:
+	tools/mutants --all
 
 api:
 	tools/api
-	tools/picture
 	tools/header

@@ -1,4 +1,4 @@
-/* Arrays in and out: each format, slices at every depth, and what is refused. Run under a checker of memory. */
+/* Arrow arrays in and out: each format, slices at every depth, and each error. Run under valgrind. */
 #include "sel_arrow.h"
 
 #include <stdio.h>
@@ -487,7 +487,7 @@ static bool passes_refused(sel_column *tree, long number, bool refuse_import) {
     return is_over;
 }
 
-/* Each allocation refused in turn: want of memory is told, and nothing is lost. */
+/* Each allocation fails in turn: the call returns SEL_NO_MEMORY and leaks nothing. */
 static void each_allocation_is_refused(void) {
     sel_column tree = {0};
     make_tree(&tree);

@@ -6,7 +6,7 @@
 #include <stdlib.h>
 #include <string.h>
 
-/* ---- the allocator, which counts blocks and refuses where it is told to ---- */
+/* ---- the allocator, which counts blocks and fails on request ---- */
 
 void *__real_malloc(size_t size);
 void *__real_realloc(void *block, size_t size);

@@ -18,7 +18,7 @@ static sel_column truths(uint8_t values, size_t len, uint8_t bits) {
     return column;
 }
 
-/* The column of texts of up to 12 bytes. */
+/* Returns the string column of these strings of up to 12 bytes. */
 static sel_column texts(const char *const *words, size_t len, uint8_t bits) {
     sel_view views[8];
     const sel_slice nothing[1] = {{no_bits, 0}};
@@ -30,7 +30,7 @@ static sel_column texts(const char *const *words, size_t len, uint8_t bits) {
     return column;
 }
 
-/* The column has the text, or want of memory hides it. */
+/* Returns whether the column prints as this text, or an allocation failed. */
 static bool prints(sel_column *column, const char *text) {
     uint8_t room[256];
     size_t len = 0;
@@ -163,7 +163,7 @@ void test_chosen_kinds(void) {
     }
 }
 
-/* ---- columns side by side, and rows that are picked ---- */
+/* ---- flatten and collect_rows ---- */
 
 void test_flattens(void) {
     const int64_t values[4] = {1, 2, 3, 4};
@@ -324,7 +324,7 @@ void test_parses(void) {
     free_all(below, 2);
 }
 
-/* The call tells the number, and the place where it tells one, and the column of `out` stays. */
+/* Checks that sel_parse returns the status, writes the place of a fault, and leaves the column of `out`. */
 static void misreads(uint32_t status, const char *dtype, const char *text, size_t place, sel_column *out, int line) {
     size_t at = 77;
     const void *const before = out->at;

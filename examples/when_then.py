@@ -16,7 +16,7 @@ print(sel.choose(sold, first, second))
 # The last element of each list, where it has one.
 print(first.sublist_get(-1))
 
-# A refusal is an exception with its text.
+# An error is an exception with its message.
 try:
     prices.filter([True])
 except sel.WrongArgument as error:

@@ -21,7 +21,7 @@ struct arena {
 };
 
 /* Returns zeroed room for `count` items of `size` bytes; ends the program if there is no memory. Room of no bytes is a
- * valid pointer, too. Each piece of room is a block of the allocator of its own, so that a checker of memory sees its end. */
+ * valid pointer, too. Each piece of room is a block of the allocator of its own, so that valgrind sees its end. */
 void *arena_take(struct arena *arena, size_t count, size_t size);
 
 /* Returns a copy of `len` bytes with a zero behind them. */

@@ -125,7 +125,7 @@ static bool read_fields(struct reader *reader, struct type *out) {
     return expects(reader, ">", "the fields do not end with >");
 }
 
-/* Reads what stands between the brackets of a type with children. */
+/* Reads the text between the brackets of a type with children. */
 static bool read_children(struct reader *reader, struct type *out) {
     wide number = 0;
     if (!expects(reader, "<", "no < after the name of a nested type")) {

@@ -2,12 +2,12 @@
 """Runs the checks of the repository, and prints a table of their results and the line `N passed, M failed`.
 
 tools/gate.py         every check: what `make test` runs. Proofs that `rt ci` has done on this machine before count
-tools/gate.py anew    the same with every proof from nothing, to measure the time: what `make test ANEW=1` runs
+tools/gate.py anew    the same as a clean build, to measure the time: what `make test ANEW=1` runs
 tools/gate.py check   proves what has changed over cached proofs and runs the fast checks: what `make check` runs
 tools/gate.py setup   installs the optional programs and libraries that the checks use: what `make setup` runs
 
-Checks that only need some of the proved libraries run beside `rt ci`, as soon as those are proved, at a lower priority. The
-others run after it. What a check leaves out because the machine lacks something is listed in the table.
+Checks that need only some of the proved libraries run while `rt ci` runs, as soon as those are proved, at a lower priority. The
+others run after it. The table lists what a check leaves out because an optional dependency is missing.
 """
 
 from __future__ import annotations
@@ -36,19 +36,19 @@ SETUP = {
     "valgrind": "finds reads and writes outside of a buffer, and leaks, in the C library",
     "sanitizers": "find the same, and undefined behaviour, in the C code around the library",
     "c++": "compiles the headers as C++",
-    "numpy": "gives the answers that the benchmark's kernels are compared with",
+    "numpy": "computes the results that the benchmark compares with",
     "dask": "runs the example on partitions",
-    "venv": "installs the Python wheel in an environment of its own",
+    "venv": "installs the Python wheel in a virtual environment",
     "cargo": "builds and tests the Rust package",
 }
 
-# how many crates' mutants are tried at once beside the proofs
+# the number of crates whose mutants are tried at once while the proofs run
 AT_ONCE = 2
 
 
 @dataclasses.dataclass
 class Result:
-    """How a check ended: what it printed, how long it took, and what it left out."""
+    """The result of a check: whether it passed, how long it took, and what it left out."""
 
     name: str
     passed: bool
@@ -57,7 +57,7 @@ class Result:
 
 
 class Board:
-    """The results so far. It prints a line whenever something begins or ends."""
+    """The results so far. Prints a line whenever a check begins or ends."""
 
     def __init__(self, total: int) -> None:
         self.results: list[Result] = []
@@ -90,7 +90,7 @@ class Board:
 
 
 class Proofs:
-    """A run of `rt ci`: the crates that it has proved so far, and how it ended."""
+    """A run of `rt ci`: the crates that it has proved so far, and its exit status."""
 
     def __init__(self, board: Board, anew: bool) -> None:
         self.board, self.changed = board, threading.Condition()
@@ -99,9 +99,9 @@ class Proofs:
         self.status: int | None = None
 
     def run(self) -> None:
-        """Runs `rt ci`, prints what it prints, and notes the crates that it reports as proved."""
+        """Runs `rt ci`, prints its output, and notes the crates that it reports as proved."""
         begun, total = time.monotonic(), len(lines())
-        # libraries that other commands built would be put back in the place of those that `rt ci` builds
+        # otherwise libraries that other commands built would replace those that `rt ci` builds
         for kept in (ROOT / "crates").glob("*/out/rlib"):
             shutil.rmtree(kept)
         status = 1
@@ -154,10 +154,10 @@ def run_check(board: Board, name: str, command: list[str], beside: bool = False)
 
 DOCUMENTS = [
     ("API reference", ["tools/api", "--check"]),
-    ("pictures", ["tools/picture", "--check"]),
     ("C header", ["tools/header", "--check"]),
     ("links", ["tools/links"]),
-    ("texts of the mutants", ["tools/refused", "--texts"]),
+    ("terms", ["tools/terms"]),
+    ("mutant texts", ["tools/mutants", "--texts"]),
 ]
 AFTER_LIBRARY = [
     ("conformance suite", ["tools/rows.py"]),
@@ -174,25 +174,25 @@ AFTER_PROOFS = [
 
 
 def below(crate: str) -> list[str]:
-    """The libraries that a crate depends on."""
+    """Returns the libraries that a crate depends on."""
     return crates_below(crate, {name: used for name, (_, used) in lines().items()})
 
 
 def mutants_by_crate() -> dict[str, list[str]]:
-    """The mutants that tools/refused.txt lists, by crate; the crates with the fewest dependencies first."""
+    """Returns the mutants that tools/mutants.txt lists, by crate; the crates with the fewest dependencies first."""
     found: dict[str, list[str]] = {}
-    for label in (ROOT / "tools" / "refused.txt").read_text().split("\n"):
+    for label in (ROOT / "tools" / "mutants.txt").read_text().split("\n"):
         if label and not label.startswith("#"):
             found.setdefault(label.partition("/")[0], []).append(label)
     return dict(sorted(found.items(), key=lambda item: (len(below(item[0])), item[0])))
 
 
 def try_mutants(board: Board, proofs: Proofs, crate: str, labels: list[str]) -> bool:
-    return proofs.wait_for(below(crate)) and run_check(board, f"mutants of {crate}", ["tools/refused", *labels], beside=True)
+    return proofs.wait_for(below(crate)) and run_check(board, f"mutants of {crate}", ["tools/mutants", *labels], beside=True)
 
 
 def try_library(board: Board, proofs: Proofs) -> bool:
-    """Builds and tests the C library, and what is written over it, as soon as the crates below it are proved."""
+    """Builds and tests the C library and what uses it, as soon as the crates that it depends on are proved."""
     if not proofs.wait_for(below("sel_c")) or not run_check(board, "C library", ["tools/clib", "--gate"], beside=True):
         return False
     return all([run_check(board, name, command, beside=True) for name, command in AFTER_LIBRARY])
@@ -229,7 +229,7 @@ def run_fast() -> int:
 
 
 def setup() -> int:
-    """Says what is missing and what it is for, and installs it where the system's packages allow that."""
+    """Prints what is missing and what it is for, and installs it from the system's packages if possible."""
     need = str(ROOT / "tools" / "need")
     missing = [name for name in SETUP if subprocess.run([need, "--only-look", name], stderr=subprocess.DEVNULL, check=False).returncode]
     for name in missing:

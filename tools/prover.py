@@ -1,4 +1,4 @@
-"""The toolchain's prover, called over the libraries that `rt ci` has proved and built in crates/NAME/out/rlib."""
+"""Runs the toolchain's prover over the libraries that `rt ci` has proved and built in crates/NAME/out/rlib."""
 
 from __future__ import annotations
 
@@ -9,13 +9,13 @@ ROOT = pathlib.Path(__file__).resolve().parent.parent
 
 
 def kit() -> pathlib.Path:
-    """The folder of the toolchain."""
+    """Returns the folder of the toolchain."""
     page = subprocess.run(["rt", "doc"], capture_output=True, text=True, check=True).stdout.strip()
     return pathlib.Path(page).parent
 
 
 def lines() -> dict[str, tuple[list[str], list[str]]]:
-    """Of each crate of crates.txt what it is marked as, and the libraries that it names."""
+    """Returns for each crate of crates.txt its marks and the libraries that it depends on."""
     found = {}
     for line in (ROOT / "crates.txt").read_text().split("\n"):
         if line and not line.startswith("#"):
@@ -25,7 +25,7 @@ def lines() -> dict[str, tuple[list[str], list[str]]]:
 
 
 def crates_below(name: str, uses: dict[str, list[str]]) -> list[str]:
-    """The crates that a crate stands on, each behind those that it stands on itself."""
+    """Returns the crates that a crate depends on, directly or not, each after its own dependencies."""
     found: list[str] = []
     for library in uses.get(name, []):
         found += [it for it in [*crates_below(library, uses), library] if it not in found]
@@ -33,7 +33,7 @@ def crates_below(name: str, uses: dict[str, list[str]]) -> list[str]:
 
 
 def words(verb: str, name: str, folder: pathlib.Path) -> list[str]:
-    """The prover's words for a crate, or for a copy of it in the folder."""
+    """Returns the prover's command line for a crate, or for a copy of it in the folder."""
     place, marks = kit(), lines()[name][0]
     uses = {crate: below for crate, (_, below) in lines().items()}
     root = "src/main.rt" if (folder / "src" / "main.rt").exists() else "src/lib.rt"

@@ -5,7 +5,7 @@ tools/rows.py [LIBRARY]    LIBRARY is the archive to link, build/libsel.a if non
 
 Builds tests/run plainly and with the address and undefined behaviour sanitizers, and runs all files of tests/rows by both, and at
 one offset under valgrind. Then tests/wrong.txt, each line of which must fail, and tests/faults.txt: each fault of tests/faults.c
-must be found by its line. What the machine lacks is named in the last line.
+must be found by its line. The last line lists missing optional dependencies.
 Writes into build/, prints what failed and one line that sums up, and exits with status 1 if anything failed.
 """
 

@@ -1,6 +1,6 @@
-/* What tools/bench/run times, one contender at a time: calls of libsel, the plain loops that a user would write in their
- * place, and a copy of the bytes that must be read and written. Each does the whole of its job, its result's memory too,
- * so many times as it is told, and answers how many nanoseconds of this thread that took. */
+/* The contenders that tools/bench/run times: calls of libsel, the plain loops that a user would write instead, and a copy of the
+ * bytes that must be read and written. Each repeats its whole job, with the allocation of the result, and returns the time of this
+ * thread in nanoseconds. */
 #define _POSIX_C_SOURCE 200809L
 #include "sel.h"
 
@@ -8,14 +8,14 @@
 #include <string.h>
 #include <time.h>
 
-/* A job; which parts are set depends on the contender. Masks and bits have 64 bits of room behind their last one. */
+/* A job. The contender determines which fields are set. 64 more bits can be read after the last bit of a mask. */
 typedef struct job {
-    size_t rows, made;          /* rows of the first column, and of the answer */
-    size_t size;                /* bytes of a number */
+    size_t rows, made;          /* rows of the first column, and of the result */
+    size_t size;                /* bytes of a value */
     size_t copied;              /* bytes that the copy reads, and writes */
     size_t width, height;
-    const uint8_t *mask, *valid; /* packed; no validity where it is null */
-    const uint8_t *values, *others; /* numbers, 16-byte views, or packed bits */
+    const uint8_t *mask, *valid; /* packed; `valid` may be null */
+    const uint8_t *values, *others; /* values, 16-byte views, or packed bits */
     const int64_t *offsets;
     const uint32_t *indices;
     const uint8_t *source;      /* what the copy reads */
@@ -31,7 +31,7 @@ static double now_ns(void) {
 
 static volatile uint8_t sink;
 
-/* An answer is written to, and freed. */
+/* Reads a result, so that it is not optimized away, and frees it. */
 static void keep(uint8_t *at) {
     sink = *(volatile uint8_t *)at;
     free(at);
@@ -103,7 +103,7 @@ static bool copy(job *j) {
 }
 TIMED(copy)
 
-/* ---- loops that filter: they count what they keep before they take its memory, as all do that are not told */
+/* ---- filter loops: they count the kept rows before they allocate, since they do not know the number */
 
 static size_t kept_of(const job *j) {
     size_t count = 0;
@@ -113,7 +113,7 @@ static size_t kept_of(const job *j) {
 
 typedef struct wide { uint64_t low, high; } wide;
 
-/* Of each word of the mask: nothing, a copy, the bits that are set, or each value written and kept where its bit is set. */
+/* For each word of the mask: copies the whole block, the values of the set bits, or writes each value and keeps it if its bit is set. */
 #define FILTER(name, type)                                           \
     static size_t name(const job *j, const uint8_t *from, type *out) { \
         const type *values = (const type *)from;                     \
@@ -141,7 +141,7 @@ FILTER(kept_4, uint32_t)
 FILTER(kept_8, uint64_t)
 FILTER(kept_16, wide)
 
-/* The bits of v under m, packed, by six rounds, each of which moves by a power of two. */
+/* Returns the bits of v where m is set, packed, in six rounds, each of which moves bits by a power of two. */
 static uint64_t compress(uint64_t v, uint64_t m) {
     v &= m;
     uint64_t below = ~m << 1;
@@ -212,7 +212,7 @@ static bool loop_filter_pairs(job *j) {
 }
 TIMED(loop_filter_pairs)
 
-/* Lists of one length, of numbers of 8 bytes; and lists between offsets. */
+/* Fixed-size lists of 8-byte values; then lists with offsets. */
 static bool loop_filter_blocks(job *j) {
     size_t bytes = j->width * 8, count = 0;
     uint8_t *out = room(kept_of(j) * bytes);
@@ -252,7 +252,7 @@ TIMED(loop_filter_lists)
 static bool loop_take_lists(job *j) { return lists_of(j, true); }
 TIMED(loop_take_lists)
 
-/* ---- loops that take */
+/* ---- take loops */
 
 #define TAKE(type)                                                   \
     for (size_t i = 0; i < j->made; i++) ((type *)out)[i] = ((const type *)j->values)[j->indices[i]];
@@ -288,7 +288,7 @@ static bool loop_take_bits(job *j) {
 }
 TIMED(loop_take_bits)
 
-/* ---- loops that choose */
+/* ---- if-then-else loops */
 
 static bool loop_choose(job *j) {
     uint64_t *out = (uint64_t *)room((j->rows + 64) * 8);
@@ -363,7 +363,7 @@ static bool loop_flatten(job *j) {
 }
 TIMED(loop_flatten)
 
-/* Picks among two columns of numbers; `values` are the picks, `offsets` holds the two columns' addresses. */
+/* Gathers rows from two columns: `values` are the row references, `others` and `offsets` the values of the two columns. */
 static bool loop_collect_rows(job *j) {
     const uint64_t *const sources[2] = {(const uint64_t *)j->others, (const uint64_t *)j->offsets};
     const sel_pick *picks = (const sel_pick *)j->values;
@@ -374,7 +374,7 @@ static bool loop_collect_rows(job *j) {
 }
 TIMED(loop_collect_rows)
 
-/* Keys of values of which `mask` tells which are there; the views of these values are `values`. */
+/* Drops the null values of a dictionary: `mask` is the validity of the values, `values` are their views, `indices` the keys. */
 static bool loop_propagate(job *j) {
     uint32_t *ranks = (uint32_t *)room(j->height * 4), *keys = (uint32_t *)room(j->rows * 4), rank = 0;
     wide *views = (wide *)room(j->height * 16);

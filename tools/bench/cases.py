@@ -1,4 +1,4 @@
-"""What is timed: each case has its data, the contenders' names in bench.c, what numpy does, and how its answer is compared."""
+"""The timed cases. Each has its data, the names of its contenders in bench.c, the numpy call, and a check of the result."""
 
 from __future__ import annotations
 
@@ -18,7 +18,7 @@ NUMBERS = {1: np.uint8, 2: np.uint16, 4: np.uint32, 8: np.uint64}
 
 
 class Job(ctypes.Structure):
-    """The job of bench.c."""
+    """`struct job` of bench.c."""
 
     _fields_ = [(name, c_size_t) for name in ("rows", "made", "size", "copied", "width", "height")] \
         + [(name, c_void_p) for name in ("mask", "valid", "values", "others", "offsets", "indices", "source")] + [("index", c_int64)] \
@@ -29,7 +29,7 @@ class Case:
     """One row of the table."""
 
     def __init__(self, kernel, rows, varied, calls, check, numpy=None, keep=(), read=0, written=0, **parts):
-        """`read` and `written` are the bytes that any way of doing it must read and write; the copy moves as many in all."""
+        """`read` and `written` are the bytes that any implementation must read and write; the copy moves as many in total."""
         self.kernel, self.rows, self.varied, self.calls, self.check, self.numpy = kernel, rows, varied, calls, check, numpy
         copied = (read + written + 1) // 2
         self.job, self.keep = Job(rows=rows, copied=copied), [keep]
@@ -40,7 +40,7 @@ class Case:
 
 
 def place_of(part):
-    """Where an array or a column's handle lies; a number itself."""
+    """Returns the address of an array or of a column's handle. Returns a number unchanged."""
     if isinstance(part, np.ndarray):
         return part.ctypes.data
     if isinstance(part, Column):
@@ -52,14 +52,14 @@ def place_of(part):
 
 def equal(found, wanted, what):
     if not np.array_equal(np.asarray(found), np.asarray(wanted)):
-        raise SystemExit(f"another answer: {what}")
+        raise SystemExit(f"wrong result: {what}")
 
 
 # ---- data
 
 
 def padded(values):
-    """The same values with room behind, so that whole blocks of 64 can be read."""
+    """Returns the same values with spare memory after them, so that whole blocks of 64 can be read."""
     room = np.zeros(len(values) + 64, dtype=values.dtype)
     room[:len(values)] = values
     return room[:len(values)]
@@ -74,7 +74,7 @@ def random_mask(rows, density):
 
 
 def long_runs(rows, density):
-    """Runs of some hundred rows that are kept or dropped."""
+    """Returns a mask of runs of some hundred rows."""
     mask, at, keep = np.zeros(rows, dtype=bool), 0, False
     while at < rows:
         run = 1 + int(RNG.exponential(512 * (density if keep else 1 - density) * 2))
@@ -88,7 +88,7 @@ def mask_column(mask, offset=0):
 
 
 def wides(values):
-    """The column of pairs of words."""
+    """Returns the UInt128 column of pairs of words."""
     column = Column()
     call("sel_uint128_new", values.ctypes.data, len(values), _NOTHING, 0, False, byref(column._handle))
     return column
@@ -101,7 +101,7 @@ def read_wides(column):
 
 
 def views_of(rows):
-    """Texts of eight letters, which lie in their views."""
+    """Returns the views of strings of eight letters, stored inline."""
     views = np.zeros((rows + 64, 4), dtype=np.uint32)
     views[:rows, 0] = 8
     views[:rows, 1:3] = RNG.integers(97, 123, (rows, 8), dtype=np.uint8).view(np.uint32)
@@ -146,7 +146,7 @@ def binaries(offsets, values):
 
 
 def several(columns):
-    """The handles of second columns, behind one another, and the columns that own them."""
+    """Returns an array of handles that share the columns, and the columns that own the handles."""
     shares = [column.share() for column in columns]
     handles = (Handle * len(shares))(*[share._handle for share in shares])
     return handles, shares
@@ -180,7 +180,7 @@ def filter_of_wides(rows, density):
     values = np.zeros((rows + 64, 2), dtype=np.uint64)[:rows]
     values[:] = RNG.integers(0, 2 ** 63, (rows, 2), dtype=np.uint64)
     column, flags, pairs = wides(values), mask_column(mask), values.view(np.complex128).reshape(-1)
-    return Case("filter, 16 bytes", rows, f"{density:g} random", ("filter", "loop_filter"), lambda: equal(read_wides(column.filter(flags)), values[mask], "wides"),
+    return Case("filter, 16 bytes", rows, f"{density:g} random", ("filter", "loop_filter"), lambda: equal(read_wides(column.filter(flags)), values[mask], "UInt128 values"),
                 lambda: pairs[mask], made=int(mask.sum()), size=16, read=rows // 8 + int(mask.sum()) * 16, written=int(mask.sum()) * 16, mask=packed(mask), values=values, first=column, second=flags)
 
 
@@ -210,8 +210,8 @@ def filter_of_lists(rows, density):
 
     def check():
         found, items = read_lists(column.filter(flags))
-        equal(found, lengths[mask], "lengths of lists")
-        equal(items, values[np.repeat(mask, lengths)], "items of lists")
+        equal(found, lengths[mask], "list lengths")
+        equal(items, values[np.repeat(mask, lengths)], "list items")
 
     return Case("filter, lists", rows, f"{density:g} random", ("filter", "loop_filter_lists"), check, made=kept, size=8, read=rows // 8 + int(lengths[mask].sum() * 8 + kept * 8), written=int(lengths[mask].sum() * 8 + kept * 8),
                 mask=packed(mask), values=values, offsets=offsets, first=column, second=flags)
@@ -257,7 +257,7 @@ def take_of_numbers(rows, size, order, nulls=False):
         answer = column.take(indices).to_numpy()
         there = np.ones(rows, dtype=bool) if valid is None else valid[places]
         equal(~np.ma.getmaskarray(answer), there, "nulls of a take")
-        equal(np.ma.getdata(answer)[there], values[places][there], "numbers of a take")
+        equal(np.ma.getdata(answer)[there], values[places][there], "values of a take")
 
     by_numpy = (lambda: np.take(values, places)) if valid is None else (lambda: (np.take(values, places), np.take(valid, places)))
     parts = {} if valid is None else {"valid": packed(valid)}
@@ -304,7 +304,7 @@ def take_of_others(rows):
                values=text, offsets=offsets, indices=places, first=joined, second=indices)
 
 
-# ---- choices
+# ---- if-then-else
 
 
 def choices(rows):
@@ -313,18 +313,18 @@ def choices(rows):
     flags, bits, one = mask_column(mask), packed(mask), Column.from_numpy(first)
     two, scalar, other = Column.from_numpy(second), Column.from_numpy(first[:1]), Column.from_numpy(second[:1])
     parts = {"made": rows, "size": 8, "read": rows // 8 + rows * 8, "written": rows * 8, "mask": bits, "values": first, "others": second}
-    yield Case("choose, 8 bytes", rows, "both columns", ("choose", "loop_choose"), lambda: equal(sel.choose(flags, one, two).to_numpy(), np.where(mask, first, second), "a choice"),
+    yield Case("choose, 8 bytes", rows, "both columns", ("choose", "loop_choose"), lambda: equal(sel.choose(flags, one, two).to_numpy(), np.where(mask, first, second), "if-then-else"),
                lambda: np.where(mask, first, second), first=flags, second=one, third=two, **parts)
     yield Case("choose, 8 bytes", rows, "one scalar", ("choose_one", "loop_choose_one"),
-               lambda: equal(flags._new("sel_choose_one", scalar, two).to_numpy(), np.where(mask, first[0], second), "a choice with a scalar"),
+               lambda: equal(flags._new("sel_choose_one", scalar, two).to_numpy(), np.where(mask, first[0], second), "if-then-else with a scalar"),
                lambda: np.where(mask, first[0], second), first=flags, second=scalar, third=two, **parts)
     yield Case("choose, 8 bytes", rows, "two scalars", ("choose_of_two", "loop_choose_of_two"),
-               lambda: equal(flags._new("sel_choose_of_two", scalar, other).to_numpy(), np.where(mask, first[0], second[0]), "a choice of scalars"),
+               lambda: equal(flags._new("sel_choose_of_two", scalar, other).to_numpy(), np.where(mask, first[0], second[0]), "if-then-else of scalars"),
                lambda: np.where(mask, first[0], second[0]), first=flags, second=scalar, third=other, **parts)
     views, others = views_of(rows), views_of(rows)
     left, right = texts(views), texts(others)
     yield Case("choose, views", rows, "both columns", ("choose", "loop_choose_views"),
-               lambda: equal(read_views(sel.choose(flags, left, right)), np.where(mask[:, None], views, others), "a choice of views"),
+               lambda: equal(read_views(sel.choose(flags, left, right)), np.where(mask[:, None], views, others), "if-then-else of views"),
                made=rows, size=16, read=rows // 8 + rows * 16, written=rows * 16, mask=bits, values=views, others=others, first=flags, second=left, third=right)
 
 
@@ -337,14 +337,14 @@ def lists_and_several(rows):
 
     def check_get():
         answer, there = column.sublist_get(1).to_numpy(), lengths > 1
-        equal(~np.ma.getmaskarray(answer), there, "which lists have an element")
-        equal(np.ma.getdata(answer)[there], values[offsets[:-1][there] + 1], "elements of lists")
+        equal(~np.ma.getmaskarray(answer), there, "validity of list elements")
+        equal(np.ma.getdata(answer)[there], values[offsets[:-1][there] + 1], "list elements")
 
     yield Case("sublist_get", rows, "index 1", ("sublist_get", "loop_sublist_get"), check_get, made=rows, read=rows * 16, written=rows * 8, index=1,
                values=values, offsets=offsets, first=column)
     numbers = RNG.integers(0, 2 ** 62, rows * 4)
     fixed = blocks(4, numbers)
-    yield Case("fixed_get", rows, "index 1 of four", ("fixed_get", "loop_fixed_get"), lambda: equal(fixed.fixed_get(1).to_numpy(), numbers[1::4], "entries"),
+    yield Case("fixed_get", rows, "index 1 of four", ("fixed_get", "loop_fixed_get"), lambda: equal(fixed.fixed_get(1).to_numpy(), numbers[1::4], "list elements"),
                lambda: numbers[1::4].copy(), made=rows, width=4, read=rows * 8, written=rows * 8, index=1, values=numbers, first=fixed)
     one, two, high = RNG.integers(0, 2 ** 62, rows), RNG.integers(0, 2 ** 62, rows), rows // 4
     pair = [Column.from_numpy(one), Column.from_numpy(two)]
@@ -359,7 +359,7 @@ def lists_and_several(rows):
     def check_picks():
         answer, given = Column(), several(pair)
         call("sel_collect_rows", given[0], 2, picks.ctypes.data, rows, _NOTHING, 0, False, byref(answer._handle))
-        equal(answer.to_numpy(), both[picks[:, 0], picks[:, 1]], "picked rows")
+        equal(answer.to_numpy(), both[picks[:, 0], picks[:, 1]], "gathered rows")
 
     yield Case("collect_rows", rows, "random, of two", ("collect_rows", "loop_collect_rows"), check_picks, lambda: both[picks[:, 0], picks[:, 1]],
                keep=shares, made=rows, read=rows * 16, written=rows * 8, values=picks, others=one, offsets=two, first=handles)
@@ -370,9 +370,9 @@ def lists_and_several(rows):
     def check_dictionary():
         new_keys, new_values = sel.propagate_dictionary(named, dictionary)
         found = new_keys.to_numpy()
-        equal(~np.ma.getmaskarray(found), there[keys], "keys that stay")
-        equal(np.ma.getdata(found)[there[keys]], (np.cumsum(there) - 1)[keys[there[keys]]], "the keys' numbers")
-        equal(read_views(new_values), views[there], "values that stay")
+        equal(~np.ma.getmaskarray(found), there[keys], "validity of the keys")
+        equal(np.ma.getdata(found)[there[keys]], (np.cumsum(there) - 1)[keys[there[keys]]], "the keys")
+        equal(read_views(new_values), views[there], "the values")
 
     yield Case("propagate_dictionary", rows, ".9 of the values valid", ("propagate", "loop_propagate"), check_dictionary, made=rows, height=count, read=rows * 4 + count * 16, written=rows * 4 + rows // 8 + count * 16,
                mask=packed(there), values=views, indices=keys, first=named, second=dictionary)
@@ -382,7 +382,7 @@ def lists_and_several(rows):
 
 
 def at_size(rows):
-    """The cases of one size."""
+    """Yields the cases of one size."""
     for density in DENSITIES:
         yield filter_of_bits(rows, density)
         for runs in (False, True):
@@ -405,7 +405,7 @@ def at_size(rows):
 
 
 def at_scale(most):
-    """A filter and a take from 2^12 rows on, four times as many each time."""
+    """Yields a filter and a take at 2^12 rows, and at four times as many each time up to `most`."""
     rows = 2 ** 12
     while rows <= most:
         yield filter_of_numbers(rows, 8, .5)

@@ -1,4 +1,4 @@
-"""The page of the benchmark, and its pictures."""
+"""Writes the page of the benchmark and its charts."""
 
 from __future__ import annotations
 
@@ -11,34 +11,34 @@ import sys
 
 import numpy
 
-# Why a row is slower than a peer, by the beginning of its kernel's name; the first that fits counts.
+# why a row is slower than a peer, by a prefix of its kernel's name; the first match counts
 CAUSES = (
-    ("filter, bits", "the library is built for any processor of x86-64-v2, the loops for this one; the kept bits are counted and the ends of the mask trimmed first"),
-    ("filter, lists", "the kept rows are listed as runs, these are gone over once for the ends of the lists and the runs of their items; a run of up to eight items is copied as eight, a longer one by a call"),
-    ("filter, two fields", "the mask is gone over once for each field, as for a column of the field's kind"),
-    ("filter, views", "the ends of the mask are trimmed and its kept rows counted first, and each data buffer is shared by a count"),
-    ("filter", "the library is built for any processor of x86-64-v2, the loops and numpy use this one's; the ends of the mask are trimmed and its kept rows counted first"),
-    ("take, views", "each index is tested to have a row first, and each data buffer is shared by a count"),
-    ("take, bits", "each index is tested to have a row first, and each read works out its byte and its place in it"),
-    ("take, lists", "the items of each index are listed as a run; a run of up to eight is copied as eight, a longer one by a call"),
-    ("take, bytes", "each index is tested to have a row first, and the bytes of each row are put behind the others by a call"),
-    ("take", "each index is tested to have a row first; the loop tests none"),
-    ("choose, views", "the library is built for any processor of x86-64-v2; where views of the second column move behind the first one's data buffers, each is tested to hold its bytes itself"),
-    ("choose, 8 bytes", "choices with a scalar on each side are made of picks, one a row; the others go by the mask's words, built for any processor of x86-64-v2"),
-    ("sublist_get", "each place is worked out by a plan, whatever the source, and bits are packed beside the values"),
-    ("fixed_get", "each place is worked out by a plan, whatever the source"),
-    ("flatten", "a plan goes from column to column for each row, where the loop knows how wide they are"),
-    ("collect_rows", "each pick is tested to have a row first, in a walk of its own; the loop tests none"),
-    ("propagate_dictionary", "each key is tested to have a value first; both answers are columns of their own"),
+    ("filter, bits", "the library is built for any processor of x86-64-v2, the loops for this one; the library counts the set bits and trims the ends of the mask first"),
+    ("filter, lists", "the kept rows are listed as runs, from which one pass makes the offsets and the runs of child rows; a run of up to eight child rows is copied as eight, a longer one by a call"),
+    ("filter, two fields", "the mask is read once for each field, as for a column of the field's type"),
+    ("filter, views", "the library trims the ends of the mask and counts its set bits first, and shares each data buffer by a reference count"),
+    ("filter", "the library is built for any processor of x86-64-v2, the loops and numpy use this one's instructions; the library trims the ends of the mask and counts its set bits first"),
+    ("take, views", "each index is bounds-checked first, and each data buffer is shared by a reference count"),
+    ("take, bits", "each index is bounds-checked first, and each read computes the byte and the bit in it"),
+    ("take, lists", "the child rows of each index are listed as a run; a run of up to eight is copied as eight, a longer one by a call"),
+    ("take, bytes", "each index is bounds-checked first, and the bytes of each row are appended by a call"),
+    ("take", "each index is bounds-checked first; the loop checks none"),
+    ("choose, views", "the library is built for any processor of x86-64-v2; where the buffer index of a view of the second column may change, the library tests whether the view is inline"),
+    ("choose, 8 bytes", "if-then-else with two scalars gathers one row reference a row; the others go by the mask's words, built for any processor of x86-64-v2"),
+    ("sublist_get", "each row reference is computed by an iterator that serves every type, and validity bits are packed next to the values"),
+    ("fixed_get", "each row reference is computed by an iterator that serves every type"),
+    ("flatten", "an iterator goes from column to column for each row, while the loop knows their widths"),
+    ("collect_rows", "each row reference is bounds-checked first, in a pass of its own; the loop checks none"),
+    ("propagate_dictionary", "each key is bounds-checked first; both results are new columns"),
 )
 
 COLORS = (("sel", "#2a6fdb", "#7fb0ff"), ("loop", "#2f8f4e", "#7bd598"), ("numpy", "#b8681c", "#f0a860"), ("copy", "#777777", "#aaaaaa"))
 
 
 def built_for() -> str:
-    """The processors that tools/clib has built the library for."""
-    told = pathlib.Path(__file__).resolve().parents[2] / "build" / "cpu"
-    return told.read_text().strip() if told.exists() else "x86-64-v2"
+    """Returns the processors that tools/clib has built the library for."""
+    path = pathlib.Path(__file__).resolve().parents[2] / "build" / "cpu"
+    return path.read_text().strip() if path.exists() else "x86-64-v2"
 
 
 def cause_of(kernel: str) -> str:
@@ -70,7 +70,7 @@ def version_of(words: list[str]) -> str:
 
 
 def spread(times: dict) -> float:
-    """How far the median of the library's times lies above the best."""
+    """Returns by which fraction the median of the library's times exceeds the best."""
     best, median = times["sel"]
     return median / best - 1
 
@@ -95,18 +95,18 @@ def machine(load: list[float], compiler: str, flags: list[str]) -> list[str]:
     cores = os.cpu_count() or 1
     busy = max(load)
     lines = [
-        f"- Machine: {processor()}, {cores} cores; {platform.system()} {platform.release()}; one core is used, in one process, and each contender has its turn in each round.",
+        f"- Machine: {processor()}, {cores} cores; {platform.system()} {platform.release()}; one core is used, in one process, and the contenders take turns in each round.",
         f"- Date: {datetime.date.today().isoformat()}. Library: proved, built by the toolchain for {built_for()}. Loops: `{version_of([compiler, '--version'])}` with `{' '.join(flags[:2])}`. "
         f"Python {sys.version.split()[0]}, numpy {numpy.__version__}.",
-        f"- Load of the machine, as it tells it (1 is this process): {', '.join(f'{each:.1f}' for each in load)}.",
+        f"- Reported load of the machine (1 is this process): {', '.join(f'{each:.1f}' for each in load)}.",
     ]
     if busy > 1.5:
-        lines.append(f"- **Other processes shared the machine** (load up to {busy:.1f} on {cores} cores): these numbers do not repeat within 10 percent, and ratios are the better guide than times.")
+        lines.append(f"- **Other processes shared the machine** (load up to {busy:.1f} on {cores} cores): these times do not repeat within 10 percent; ratios are a better guide.")
     return lines
 
 
-def picture(path: pathlib.Path, title: str, labels: list[str], lines: dict[str, list[float]]) -> None:
-    """Lines over labels, both axes by even steps; the height is the logarithm of the time."""
+def chart(path: pathlib.Path, title: str, labels: list[str], lines: dict[str, list[float]]) -> None:
+    """Draws a line chart with evenly spaced labels and a logarithmic time axis."""
     import math
 
     values = [value for line in lines.values() for value in line if value > 0]
@@ -149,28 +149,28 @@ def lines_of(results: list) -> dict[str, list[float]]:
     return {name: [times[name][0] for _, _, _, times in results] for name in names}
 
 
-def pictures(docs: pathlib.Path, results: list, scale: list) -> None:
+def charts(docs: pathlib.Path, results: list, scale: list) -> None:
     densities = [each for each in results if each[0] == "filter, 8 bytes" and each[1] > 2 ** 16 and each[2].split()[-1] == "random"]
-    picture(docs / "bench-density.svg", "Filter of 1,048,576 numbers of 8 bytes: ns a row, by the share that is kept", [each[2].split()[0] for each in densities], lines_of(densities))
+    chart(docs / "bench-density.svg", "Filter of 1,048,576 8-byte values: ns per row, by the share of rows kept", [each[2].split()[0] for each in densities], lines_of(densities))
     for kernel, name in (("filter", "filter"), ("take", "take")):
         found = [each for each in scale if each[0].startswith(kernel)]
         labels = [f"2^{each[1].bit_length() - 1}" for each in found]
-        picture(docs / f"bench-{name}-size.svg", f"{kernel.capitalize()} of numbers of 8 bytes: ns a row, by the number of rows", labels, lines_of(found))
+        chart(docs / f"bench-{name}-size.svg", f"{kernel.capitalize()} of 8-byte values: ns per row, by the number of rows", labels, lines_of(found))
 
 
 def write(docs: pathlib.Path, results: list, scale: list, words: list[str], load: list[float], compiler: str, flags: list[str]) -> None:
     rows = sorted((row_of(each) for each in results), key=lambda row: -row[0])
     worse, others = [row for row in rows if row[0] > 1], [row for row in rows if row[0] <= 1]
     repeats = sum(spread(each[3]) <= .1 for each in results)
-    text = ["# Benchmarks", "", "Written by `make bench`; the text is the tool's too. Times are ns a row of the first column: the best of many rounds, and the median in parentheses. "
-            "Each answer was compared with numpy's before it was timed, and each contender makes the whole result, its memory too. "
-            "`loop` is a plain loop of C, compiled for this processor; `numpy` stands where numpy has the operation, and is called from Python; `copy` moves as many bytes as any way of doing it must read and write.", ""]
+    text = ["# Benchmarks", "", "`make bench` writes this page. Times are ns per row of the first column: the best of many rounds, and the median in parentheses. "
+            "Each result was compared with numpy's before it was timed, and each contender makes the whole result, with its memory. "
+            "`loop` is a plain C loop, compiled for this processor; `numpy` is the numpy operation, called from Python, if there is one; `copy` moves as many bytes as any implementation must read and write.", ""]
     text += machine(load, compiler, flags)
-    text += [f"- Of {len(results)} rows the library's median lies within 10 percent of its best in {repeats}.", ""]
-    text += ["![Time of a filter by the share that is kept](bench-density.svg)", "", "![Time of a filter by the number of rows](bench-filter-size.svg)", "",
+    text += [f"- Of {len(results)} rows, the library's median is within 10 percent of its best in {repeats}.", ""]
+    text += ["![Time of a filter by the share of rows kept](bench-density.svg)", "", "![Time of a filter by the number of rows](bench-filter-size.svg)", "",
              "![Time of a take by the number of rows](bench-take-size.svg)", ""]
     text += [f"## Slower than the best peer: {len(worse)} of {len(rows)} rows", "", *table(worse, True), ""]
     text += [f"## As fast or faster: {len(others)} rows", "", *table(others, False), ""]
     text += ["## By the number of rows", "", *table([row_of(each) for each in scale], False), "", *words]
     (docs / "BENCHMARKS.md").write_text("\n".join(text))
-    pictures(docs, results, scale)
+    charts(docs, results, scale)

@@ -1,6 +1,6 @@
-/* The loops that a user would write in place of the operations of crates/bench_words and crates/bench_indices: by the same lines
- * of stdin, over the same data, with the same numbers of their answers. A line is `NAME ROWS LEFT RIGHT REPEATS`.
- * `pext_bits` and `pext_four_bits` go from bit to bit, where `pext` and `pext_four` have the processor's instruction. */
+/* The loops that a user would write instead of the operations of crates/bench_words: they read the same lines of stdin, use the
+ * same data and print the same checksums. A line is `NAME ROWS LEFT RIGHT REPEATS`.
+ * `pext_bits` and `pext_four_bits` go bit by bit; `pext` and `pext_four` use the processor's instruction. */
 #include <inttypes.h>
 #include <stdbool.h>
 #include <stdint.h>
@@ -11,7 +11,7 @@
 #include <immintrin.h>
 #endif
 
-/* Each repeat is a call of its own, whatever the compiler knows of the ones before. */
+/* Keeps the compiler from merging repeated calls. */
 #define CALL __attribute__((noinline, noipa)) static
 
 enum { LEFT = 1, RIGHT = 2, NULLS = 3 };
@@ -32,7 +32,7 @@ static uint64_t word_of_four(uint64_t word) {
 
 static uint64_t same(uint64_t word) { return word; }
 
-/* Room for so many words, and for two more, so that each can be read with the one behind it. */
+/* Allocates `count` words and two more, so that each word can be read with the next one. */
 static uint64_t *room(size_t count) {
     uint64_t *at = malloc((count + 2) * sizeof *at);
     if (!at) exit(1);
@@ -49,14 +49,14 @@ static uint64_t *words(uint64_t state, size_t count, uint64_t (*made)(uint64_t))
     return at;
 }
 
-/* The bits of one side, and behind them as many as the second part of them takes. */
+/* Returns the bits of one operand, with 64 more for the repeats that begin later. */
 static const uint8_t *side(uint64_t seed, size_t offset, size_t rows) {
     return (const uint8_t *)words(seed, (offset + rows + 64 + 63) / 64, same);
 }
 
 /* ---- the operations */
 
-/* The 64 bits of word k from bit `shift` of the first byte on. */
+/* Returns word k of the bits that begin at bit `shift` of the first byte. */
 static inline uint64_t word_at(const uint8_t *first, unsigned shift, size_t k) {
     uint64_t low, high;
     memcpy(&low, first + 8 * k, 8);
@@ -104,7 +104,7 @@ CALL uint64_t sum_of(const uint64_t *values, const uint64_t *masks, size_t rows,
 }
 #endif
 
-/* (numbers of 32 bits, so that several rows go at once) */
+/* (32-bit integers, so that the compiler can vectorize) */
 CALL bool in_bounds(const uint32_t *indices, size_t rows, uint32_t len) {
     uint32_t all = 1;
     for (size_t i = 0; i < rows; i++) all &= indices[i] < len;
@@ -125,7 +125,7 @@ typedef struct job {
     uint64_t repeats;
 } job;
 
-/* Every second repeat begins 64 bits behind the others. */
+/* Every second repeat begins 64 bits later. */
 static size_t first(size_t offset, uint64_t repeat) { return repeat % 2 ? offset + 64 : offset; }
 
 static uint64_t repeat_and(const job *j) {
@@ -170,7 +170,7 @@ static uint64_t repeat_indices(const job *j, bool with_nulls) {
     return total;
 }
 
-static bool answer(const job *j, uint64_t *number) {
+static bool compute(const job *j, uint64_t *number) {
     const char *name = j->name;
     if (!strcmp(name, "and")) *number = repeat_and(j);
     else if (!strcmp(name, "set_bits")) *number = repeat_set_bits(j);
@@ -190,7 +190,7 @@ int main(void) {
     job j;
     while (scanf("%31s %zu %zu %zu %" SCNu64, j.name, &j.rows, &j.left, &j.right, &j.repeats) == 5) {
         uint64_t number;
-        if (j.rows > 0 && answer(&j, &number)) printf("%" PRIu64 "\n", number);
+        if (j.rows > 0 && compute(&j, &number)) printf("%" PRIu64 "\n", number);
         else puts("no answer");
     }
     return 0;

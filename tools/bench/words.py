@@ -1,11 +1,11 @@
 #!/usr/bin/env python3
-"""Times what the library for C does not export: crates/bench_words, a program of Rattle, beside the loops of words.c.
+"""Times the operations that the C library does not export: the Rattle program crates/bench_words against the loops of words.c.
 
 tools/bench/words.py        prints the table
-tools/bench/words.py quick  compares the numbers that both print, and times nothing
+tools/bench/words.py quick  compares the checksums that both print, and times nothing
 
-Neither has a clock. What is taken is the processor time of a whole process at many repeats, less that at one.
-The program is the one that `rt ci` or `rt run` built; where it is missing or older than its sources, it is proved and built first.
+Neither program has a clock. A time is the processor time of a whole process at many repeats, minus that at one repeat.
+Uses the program that `rt ci` or `rt run` built. If it is missing or older than its sources, proves and builds it first.
 """
 
 from __future__ import annotations
@@ -30,7 +30,7 @@ sys.path.insert(0, str(HERE.parent))
 
 from prover import crates_below, lines  # noqa: E402
 
-# What is told, its name in a line, its row, the first bits of the left and the right side, and the loop: what it is, its name in a line.
+# for each case: its title, its name in a line, its row, the first bits of the left and the right operand, and the loop's title and name
 CASES = (
     ("`and`", "and", "bit", 0, 0, "words", "and"),
     ("`and`", "and", "bit", 3, 3, "words", "and"),
@@ -47,7 +47,7 @@ CASES = (
 
 
 def program() -> pathlib.Path | None:
-    """The program, where it is built and no older than what it is made of."""
+    """Returns the program if it is built and not older than its sources, else None."""
     uses = {crate: below for crate, (_, below) in lines().items()}
     made = CRATE / "out" / CRATE.name
     parts = [ROOT / "crates" / crate / part for crate in [CRATE.name, *crates_below(CRATE.name, uses)] for part in ("src", "specs", "proofs")]
@@ -57,9 +57,9 @@ def program() -> pathlib.Path | None:
 
 
 def built() -> pathlib.Path | None:
-    """The program, proved and built where it has to be; none where that fails."""
+    """Returns the program, proved and built first if necessary, or None if that fails."""
     if program() is None:
-        print("crates/bench_words is proved and built first", file=sys.stderr)
+        print("proving and building crates/bench_words first", file=sys.stderr)
         try:
             done = subprocess.run(["rt", "run"], cwd=CRATE, stdin=subprocess.DEVNULL, stdout=subprocess.DEVNULL, check=False)
         except OSError as error:
@@ -71,14 +71,14 @@ def built() -> pathlib.Path | None:
 
 
 def loops(folder: pathlib.Path) -> pathlib.Path:
-    """The loops, built."""
+    """Builds the loops. Returns their program."""
     made = folder / "words"
     subprocess.run([CC, *FLAGS, HERE / "words.c", "-o", made], check=True)
     return made
 
 
 def run(made: pathlib.Path, line: str) -> tuple[float, str]:
-    """The seconds of processor time that a program took for a line, and what it printed."""
+    """Runs a program on a line. Returns its seconds of processor time and its output."""
     child = subprocess.Popen([made], stdin=subprocess.PIPE, stdout=subprocess.PIPE, text=True)
     child.stdin.write(f"{line}\n")
     child.stdin.close()
@@ -87,12 +87,12 @@ def run(made: pathlib.Path, line: str) -> tuple[float, str]:
     _, status, used = os.wait4(child.pid, 0)
     child.returncode = os.WEXITSTATUS(status) if os.WIFEXITED(status) else -os.WTERMSIG(status)
     if child.returncode:
-        raise SystemExit(f"{made.name} ended with {child.returncode} at: {line}")
+        raise SystemExit(f"{made.name} exited with status {child.returncode} at: {line}")
     return used.ru_utime + used.ru_stime, said.strip()
 
 
 class Contender:
-    """One of the two programs at one operation."""
+    """One of the two programs, for one operation."""
 
     def __init__(self, made: pathlib.Path, name: str, rows: int, left: int, right: int) -> None:
         self.made, self.rows, self.job = made, rows, f"{name} {rows} {left} {right}"
@@ -105,7 +105,7 @@ class Contender:
         return run(self.made, f"{self.job} {repeats}")[0]
 
     def choose_repeats(self) -> None:
-        """As many repeats as take some 0.3 seconds."""
+        """Chooses as many repeats as take about 0.3 seconds."""
         once = min(self.time(1), self.time(1))
         taken = self.time(self.repeats) - once
         while taken < SECONDS / 5 and self.repeats < MOST_REPEATS:
@@ -118,12 +118,12 @@ class Contender:
         self.short.append(self.time(1))
 
     def ns(self, which) -> float:
-        """The time of a row, in ns, by the best or the median times."""
+        """Returns the time per row in ns, by the best or the median times."""
         return (which(self.long) - which(self.short)) * 1e9 / (self.repeats - 1) / self.rows
 
 
 def compared(ours: pathlib.Path, theirs: pathlib.Path) -> list[tuple]:
-    """Each case at each size, and its two contenders, whose numbers are the same."""
+    """Returns each case at each size with its two contenders, after comparing their checksums."""
     found = []
     for rows in SIZES:
         for case in CASES:
@@ -131,16 +131,16 @@ def compared(ours: pathlib.Path, theirs: pathlib.Path) -> list[tuple]:
             pair = Contender(ours, name, rows, left, right), Contender(theirs, loop, rows, left, right)
             numbers = [each.number(3) for each in pair]
             if numbers[1] == "no answer":
-                print(f"not run: {loop}, which this processor has no instruction for", file=sys.stderr)
+                print(f"not run: {loop}, for which this processor has no instruction", file=sys.stderr)
                 continue
             if numbers[0] != numbers[1]:
-                raise SystemExit(f"{pair[0].job} 3: the program says {numbers[0]}, the loop {numbers[1]}")
+                raise SystemExit(f"{pair[0].job} 3: the program prints {numbers[0]}, the loop {numbers[1]}")
             found.append((case, rows, *pair))
     return found
 
 
 def measured(ours: pathlib.Path | None) -> list[tuple] | None:
-    """Each case at each size, and its two contenders, timed in turn; none where there is no program."""
+    """Returns each case at each size with its two contenders, timed in turn, or None without a program."""
     if ours is None:
         return None
     folder = pathlib.Path(tempfile.mkdtemp())
@@ -158,14 +158,14 @@ def measured(ours: pathlib.Path | None) -> list[tuple] | None:
 
 
 def compare() -> None:
-    """Compares the numbers alone, where the program is there."""
+    """Compares the checksums, if the program is built."""
     ours = program()
     if ours is None:
         print("not run: crates/bench_words, which is not built", file=sys.stderr)
         return
     folder = pathlib.Path(tempfile.mkdtemp())
     try:
-        print(f"{len(compared(ours, loops(folder)))} numbers are those of the loops")
+        print(f"{len(compared(ours, loops(folder)))} checksums equal those of the loops")
     finally:
         shutil.rmtree(folder, ignore_errors=True)
 
@@ -175,18 +175,18 @@ def cell(each: Contender) -> str:
 
 
 def section(found: list[tuple] | None) -> list[str]:
-    """The lines of the page."""
+    """Returns the lines of the page."""
     text = ["## Words and bits", ""]
     if found is None:
         return [*text, "Not measured: the program `crates/bench_words` was not built.", ""]
-    text += ["What the library for C does not export is called by a program of its own, `crates/bench_words`, proved and built for x86-64-v2; the loops are `tools/bench/words.c`, "
-             f"compiled for this processor. Neither has a clock: a time is the processor time of the whole process at so many repeats that they take some {SECONDS} seconds, less that at one, "
-             f"over the repeats between them, in ns a row: the best of {ROUNDS} rounds, and the median in parentheses. A row is a bit, a word of 64 bits or an index. "
-             "Offsets are those of the first bits. Both programs printed the same numbers of their answers.", "",
+    text += ["The operations that the C library does not export are called by a program of their own, `crates/bench_words`, proved and built for x86-64-v2; the loops are `tools/bench/words.c`, "
+             f"compiled for this processor. Neither has a clock: a time is the processor time of the whole process at enough repeats to take about {SECONDS} seconds, minus that at one repeat, "
+             f"divided by the difference in repeats, in ns per row: the best of {ROUNDS} rounds, and the median in parentheses. A row is a bit, a 64-bit word or an index. "
+             "Offsets are the positions of the first bits. Both programs printed the same checksums.", "",
              "| operation | row | rows | offsets | loop | sel | loop's time | to the loop |", "|---|---|---|---|---|---|---|---|"]
-    for (told, name, row, left, right, loop, _), rows, ours, theirs in found:
+    for (title, name, row, left, right, loop, _), rows, ours, theirs in found:
         offsets = {"and": f"{left}, {right}", "set_bits": f"{left}"}.get(name, "-")
-        text.append(f"| {told} | {row} | {rows:,} | {offsets} | {loop} | {cell(ours)} | {cell(theirs)} | {ours.ns(min) / theirs.ns(min):.2f} |")
+        text.append(f"| {title} | {row} | {rows:,} | {offsets} | {loop} | {cell(ours)} | {cell(theirs)} | {ours.ns(min) / theirs.ns(min):.2f} |")
     return [*text, ""]
 
 

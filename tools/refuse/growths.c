@@ -1,21 +1,21 @@
-/* Refuses growths of memory in the program that it is preloaded into, and tells what came of each call.
+/* Makes allocations fail in the program that it is preloaded into, and reports how each call ended.
  *
- * A growth is a call of malloc, calloc, realloc or aligned_alloc. REFUSE_AT=N refuses the N-th growth that is counted, and none
- * where N is 0; with REFUSE_ON=1 all after it are refused too. What is told goes into the file REFUSE_TOLD.
+ * An allocation is a call of malloc, calloc, realloc or aligned_alloc. REFUSE_AT=N makes the N-th counted allocation fail, or none
+ * if N is 0; with REFUSE_ON=1 all later ones fail too. The reports are appended to the file REFUSE_REPORT.
  *
- * Of a program (REFUSE_ALL=1) each growth is counted, and one line is told at its end. A test says itself where a call begins and
- * ends: it asks for so many bytes, which no other growth is of, and a line is told of each call. Growths are counted between the
- * two alone, so that all that a test makes ready and compares has its memory. A call that is to take none has a beginning of its
- * own: each growth in it is refused.
+ * In a program (REFUSE_ALL=1) each allocation is counted, and one line is written at the exit. A test marks where a call begins and
+ * ends, by allocations of sizes that occur nowhere else, and one line is written for each call. Only allocations between the two
+ * marks are counted, so that the setup and the comparisons of a test do not fail. A call that must not allocate has a begin mark of
+ * its own: every allocation in it fails.
  */
 typedef __SIZE_TYPE__ size_t;
 #define NULL ((void *)0)
 
 enum {
     BEGINS = 1000003,       /* a call begins */
-    BEGINS_FREE = 1000033,  /* a call begins that takes no memory */
-    ENDS = 1000037,         /* it ended, and answered */
-    ENDS_REFUSED = 1000039  /* it ended, and is out of memory */
+    BEGINS_FREE = 1000033,  /* a call begins that must not allocate */
+    ENDS = 1000037,         /* the call ended and returned a result */
+    ENDS_REFUSED = 1000039  /* the call ended and returned out of memory */
 };
 
 extern void *__libc_malloc(size_t);
@@ -30,7 +30,7 @@ extern int *__errno_location(void);
 static unsigned long at, counted, met, refused;
 static int file = -1, goes_on, is_program, is_in, is_free;
 
-/* The number that the environment has under a name; none is 0. */
+/* Returns the number in an environment variable, or 0 if it is not set. */
 static unsigned long number(const char *name)
 {
     unsigned long made = 0;
@@ -40,7 +40,7 @@ static unsigned long number(const char *name)
     return made;
 }
 
-/* Puts a number behind a line that is so long; answers how long it is then. */
+/* Appends a number to a line of length `end`. Returns the new length. */
 static size_t put(char *line, size_t end, unsigned long value)
 {
     char digits[24];
@@ -54,8 +54,8 @@ static size_t put(char *line, size_t end, unsigned long value)
     return end;
 }
 
-/* Writes a line: a word, how many growths the call met and how many of them were refused. */
-static void tell(const char *word)
+/* Writes a line: a word, the number of allocations of the call, and how many of them failed. */
+static void report(const char *word)
 {
     char line[96];
     size_t end = 0;
@@ -70,7 +70,7 @@ static void tell(const char *word)
 
 __attribute__((constructor)) static void begin(void)
 {
-    const char *name = getenv("REFUSE_TOLD");
+    const char *name = getenv("REFUSE_REPORT");
     at = number("REFUSE_AT");
     goes_on = number("REFUSE_ON") != 0;
     is_program = number("REFUSE_ALL") != 0;
@@ -81,27 +81,27 @@ __attribute__((constructor)) static void begin(void)
 __attribute__((destructor)) static void end(void)
 {
     if (is_program)
-        tell("ended");
+        report("ended");
     else if (is_in)
-        tell("unended");
+        report("unended");
 }
 
-static void begin_call(int takes_none)
+static void begin_call(int must_not_allocate)
 {
     if (is_in)
-        tell("unended");
+        report("unended");
     is_in = 1;
-    is_free = takes_none;
+    is_free = must_not_allocate;
     met = refused = 0;
 }
 
 static void end_call(const char *word)
 {
-    tell(is_in ? word : "unbegun");
+    report(is_in ? word : "unbegun");
     is_in = 0;
 }
 
-/* Sees whether so many bytes say that a call begins or ends. */
+/* Returns whether an allocation of this size is a mark, and begins or ends the call if it is. */
 static int is_mark(size_t bytes)
 {
     switch (is_program ? 0 : bytes) {
@@ -110,7 +110,7 @@ static int is_mark(size_t bytes)
         begin_call(bytes == BEGINS_FREE);
         return 1;
     case ENDS:
-        end_call(is_free ? "free" : "answered");
+        end_call(is_free ? "free" : "returned");
         return 1;
     case ENDS_REFUSED:
         end_call("refused");
@@ -120,7 +120,7 @@ static int is_mark(size_t bytes)
     }
 }
 
-/* Whether this growth is refused. */
+/* Returns whether this allocation must fail. */
 static int is_refused(size_t bytes)
 {
     int is;

@@ -207,7 +207,7 @@ impl Column {
     /// A row of the field at a null struct value is whatever the column holds there.
     ///
     /// # Errors
-    /// [`Error::OutOfBounds`] if there is no such field, as in a column of another kind; [`Error::OutOfMemory`].
+    /// [`Error::OutOfBounds`] if there is no such field, as in a column of a different type; [`Error::OutOfMemory`].
     ///
     /// ```
     /// # use sel::{Column, Error};

@@ -160,7 +160,7 @@ fn extreme_numbers_of_nulls_are_errors() {
     for len in [usize::MAX, MOST_ROWS + 1] {
         assert_eq!(Column::new_null(len).err(), Some(Error::Malformed(19)), "{len}");
     }
-    let most = Column::new_null(MOST_ROWS).expect("a column of nulls takes no memory");
+    let most = Column::new_null(MOST_ROWS).expect("a column of nulls has no buffers");
     assert_eq!((most.len(), most.null_count()), (MOST_ROWS, MOST_ROWS));
     assert_eq!(most.to_options::<i64>().err(), Some(Error::WrongArgument(3)));
     assert_eq!(most.views().err(), Some(Error::WrongArgument(3)));

@@ -20,7 +20,7 @@ pub enum Field {
     Strings,
     /// Columns, each a type and rows.
     Columns,
-    /// A length, an offset, or another number without a sign.
+    /// A length, an offset, or another unsigned integer.
     Number,
     /// An index into lists.
     Index,
