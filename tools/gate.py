@@ -220,11 +220,14 @@ def run_all(anew: bool) -> int:
 
 
 def run_fast() -> int:
-    """Proves what has changed over cached proofs, builds the C library, and runs the fast checks."""
+    """Proves what has changed over cached proofs, builds the C library, and runs the fast checks side by side."""
     board = Board(len(DOCUMENTS) + 1 + len(AFTER_LIBRARY))
     built = run_check(board, "C library", ["tools/clib", "--check"])
-    for name, command in DOCUMENTS + (AFTER_LIBRARY if built else []):
+    for name, command in DOCUMENTS:
         run_check(board, name, command)
+    with ThreadPoolExecutor(len(AFTER_LIBRARY)) as pool:
+        for name, command in AFTER_LIBRARY if built else []:
+            pool.submit(run_check, board, name, command)
     return 0 if board.table() else 1
 
 
