@@ -1,24 +1,24 @@
-/* Columns of the Arrow layout for C and C++: made, read, filtered, taken and chosen. Written by tools/header from the
- * sources. The calls are proved; DEFINITIONS.md in docs/ says what their clauses mean.
+/* sel.h: filters, gathers and combines Arrow columns of any nesting. Written by tools/header from the sources. The
+ * functions are proved; docs/DEFINITIONS.md defines the words of their contracts.
  *
- * What a caller owes, which nothing checks:
- * - A handle starts as {0}, is written by these calls alone, and is moved but never copied: sel_share makes a second one.
- * - The handles of one call are distinct, and what one pointer is written through no other pointer of the call reaches.
- * - Handles that share buffers (by sel_share, sel_sliced, sel_child, sel_field or a kernel) stay on one thread.
- * - A pointer is not null, is aligned for its type, and is valid for the length given, also where that is 0: pass the
- *   address of any object of the type for an empty slice.
- * - A bool is 0 or 1. malloc, realloc and free are of one allocator.
+ * Ownership: a handle is empty, {0}, or has a column. Initialize it with {0} and free it with sel_free. A handle may
+ * be moved but not copied: sel_share makes a second column. Arrays that are passed in are copied, and no pointer to
+ * them is kept. A function that returns a column in `out` frees the column that `out` had before. Functions leave the
+ * columns that they read unchanged; sel_list_new, sel_fixed_list_new and sel_struct_new take their children.
  *
- * What all calls keep:
- * - What is passed in is copied, and no pointer is kept.
- * - A call that makes a column into `out`, and answers SEL_DONE, frees the column that `out` had; else `out` stays.
- * - Handles that are read have the same column afterwards. Those that are taken (the children of a maker) are {0}.
- * - SEL_NO_MEMORY may come from each call that answers a status; a call may be tried again then.
- * - Of several numbers that are due, a call tells the one that its comment names first; but sel_parse tells a type past a
- *   limit before it looks at `text`.
- * - Bits are packed, the lowest bit of a byte first: bit i is bit i % 8 of byte i / 8.
- * - A validity is passed as `bits`, of at least (rows + 7) / 8 bytes, and `has_bits`; where that is false, `bits` is not
- *   looked at and each row is valid. A row whose bit is 0 is null.
+ * Threads: handles that share buffers (by sel_share, sel_sliced, sel_child and sel_field, and the arguments and the
+ * result of a kernel) must stay on one thread.
+ *
+ * Errors: if several errors apply, the first one listed is returned. On error `out` is unchanged. Each function that
+ * returns a status may also return SEL_NO_MEMORY.
+ *
+ * Arguments: a pointer must not be null, must be aligned for its type, and must be valid for the given length, even
+ * if that is 0: for an empty array pass the address of any object of the type. The handles of a call must be
+ * different objects, and memory that a call writes must not overlap its other arguments. A bool is 0 or 1. malloc,
+ * realloc and free must be of the same allocator.
+ *
+ * Validity: passed as `bits`, of at least (rows + 7) / 8 bytes, and `has_bits`; if `has_bits` is false, `bits` is
+ * ignored and all rows are valid. Bits are packed, the least significant bit first. A row whose bit is 0 is null.
  */
 #ifndef SEL_H
 #define SEL_H
@@ -31,18 +31,18 @@
 extern "C" {
 #endif
 
-/* A column, or none where it is {0}. */
+/* A handle to a column; {0} is an empty handle. */
 typedef struct sel_column {
     void *at;
 } sel_column;
 
-/* A number of 128 bits, as its two words. */
+/* A 128-bit integer as two words. */
 typedef struct sel_wide {
     uint64_t low;
     uint64_t high;
 } sel_wide;
 
-/* A view: the 16 bytes of Arrow as four little-endian words. */
+/* An Arrow view, as four little-endian words; a value of up to 12 bytes is in the last three. */
 typedef struct sel_view {
     uint32_t length;
     uint32_t prefix;
@@ -50,19 +50,19 @@ typedef struct sel_view {
     uint32_t offset;
 } sel_view;
 
-/* Bytes of a caller. */
+/* `len` bytes of the caller. */
 typedef struct sel_slice {
     const uint8_t *at;
     size_t len;
 } sel_slice;
 
-/* A row of one of several columns. */
+/* A row reference: a row of one of several columns. */
 typedef struct sel_pick {
     uint32_t source;
     uint32_t row;
 } sel_pick;
 
-/* What a call answers. */
+/* The statuses that functions return. */
 enum sel_status {
     /* Done. */
     SEL_DONE = 0,
@@ -124,7 +124,7 @@ enum sel_status {
     SEL_TEXT_LIMIT = 35
 };
 
-/* The kinds of columns. */
+/* The types of columns. */
 enum sel_kind_number {
     /* Nulls alone. */
     SEL_NULL = 0,
@@ -166,25 +166,28 @@ enum sel_kind_number {
     SEL_NO_KIND = 18
 };
 
-/* ---- Columns as a whole: shared, sliced and freed. ---- */
+/* ---- Columns: slice, share, free. ---- */
 
-/* Makes the column of the `len` rows from row `off` on; it shares the buffers of `of`. SEL_NO_COLUMN: `of` has no
- * column; SEL_OUT_OF_BOUNDS: it has fewer than `off + len` rows. */
+/* Returns in `out` the `len` rows of `of` from row `off` on. The result shares the buffers of `of`.
+ * Errors: SEL_NO_COLUMN: `of` is empty. SEL_OUT_OF_BOUNDS: `of` has fewer than `off + len` rows. */
 uint32_t sel_sliced(sel_column *of, size_t off, size_t len, sel_column *out);
 
-/* Makes a second column of the same rows; it shares the buffers of `of`. SEL_NO_COLUMN: `of` has no column. */
+/* Returns in `out` a second column with the same rows, which shares the buffers of `of`.
+ * Errors: SEL_NO_COLUMN: `of` is empty. */
 uint32_t sel_share(sel_column *of, sel_column *out);
 
-/* Frees the column, if there is one; the handle is `{0}` afterwards. */
+/* Frees the column of `of`, if there is one. `of` is empty afterwards. */
 void sel_free(sel_column *of);
 
-/* ---- Columns made of slices, which are copied. ---- */
+/* ---- Columns from arrays of values, which are copied. ---- */
 
-/* Makes a column of `len` nulls. SEL_TOO_MANY_ROWS: more than 4,294,967,295. */
+/* Returns in `out` a column of `len` nulls.
+ * Errors: SEL_TOO_MANY_ROWS: `len` is more than 4,294,967,295. */
 uint32_t sel_null_new(size_t len, sel_column *out);
 
-/* Makes the column of `len` truth values, packed in `values`. SEL_OTHER_LENGTH: fewer bytes than `len` bits need;
- * SEL_TOO_MANY_ROWS: more than 4,294,967,295 rows; SEL_VALIDITY_LENGTH: fewer bytes of validity than the rows need. */
+/* Returns in `out` the boolean column of `len` bits packed in `values`.
+ * Errors: SEL_OTHER_LENGTH: `values` has fewer than (len + 7) / 8 bytes. SEL_TOO_MANY_ROWS: `len` is more than
+ * 4,294,967,295. SEL_VALIDITY_LENGTH: the validity is too short. */
 uint32_t sel_boolean_new(
     const uint8_t *values,
     size_t values_len,
@@ -194,8 +197,8 @@ uint32_t sel_boolean_new(
     bool has_bits,
     sel_column *out);
 
-/* Makes the column of these numbers. SEL_TOO_MANY_ROWS: more than 4,294,967,295; SEL_VALIDITY_LENGTH: fewer bytes of
- * validity than the rows need. */
+/* Returns in `out` the column of these 8-bit integers.
+ * Errors: SEL_TOO_MANY_ROWS: more than 4,294,967,295 values. SEL_VALIDITY_LENGTH: the validity is too short. */
 uint32_t sel_int8_new(
     const int8_t *values,
     size_t values_len,
@@ -204,8 +207,8 @@ uint32_t sel_int8_new(
     bool has_bits,
     sel_column *out);
 
-/* Makes the column of these numbers. SEL_TOO_MANY_ROWS: more than 4,294,967,295; SEL_VALIDITY_LENGTH: fewer bytes of
- * validity than the rows need. */
+/* Returns in `out` the column of these 16-bit integers.
+ * Errors: SEL_TOO_MANY_ROWS: more than 4,294,967,295 values. SEL_VALIDITY_LENGTH: the validity is too short. */
 uint32_t sel_int16_new(
     const int16_t *values,
     size_t values_len,
@@ -214,8 +217,8 @@ uint32_t sel_int16_new(
     bool has_bits,
     sel_column *out);
 
-/* Makes the column of these numbers. SEL_TOO_MANY_ROWS: more than 4,294,967,295; SEL_VALIDITY_LENGTH: fewer bytes of
- * validity than the rows need. */
+/* Returns in `out` the column of these 32-bit integers.
+ * Errors: SEL_TOO_MANY_ROWS: more than 4,294,967,295 values. SEL_VALIDITY_LENGTH: the validity is too short. */
 uint32_t sel_int32_new(
     const int32_t *values,
     size_t values_len,
@@ -224,8 +227,8 @@ uint32_t sel_int32_new(
     bool has_bits,
     sel_column *out);
 
-/* Makes the column of these numbers. SEL_TOO_MANY_ROWS: more than 4,294,967,295; SEL_VALIDITY_LENGTH: fewer bytes of
- * validity than the rows need. */
+/* Returns in `out` the column of these 64-bit integers.
+ * Errors: SEL_TOO_MANY_ROWS: more than 4,294,967,295 values. SEL_VALIDITY_LENGTH: the validity is too short. */
 uint32_t sel_int64_new(
     const int64_t *values,
     size_t values_len,
@@ -234,8 +237,8 @@ uint32_t sel_int64_new(
     bool has_bits,
     sel_column *out);
 
-/* Makes the column of these numbers. SEL_TOO_MANY_ROWS: more than 4,294,967,295; SEL_VALIDITY_LENGTH: fewer bytes of
- * validity than the rows need. */
+/* Returns in `out` the column of these unsigned 8-bit integers.
+ * Errors: SEL_TOO_MANY_ROWS: more than 4,294,967,295 values. SEL_VALIDITY_LENGTH: the validity is too short. */
 uint32_t sel_uint8_new(
     const uint8_t *values,
     size_t values_len,
@@ -244,8 +247,8 @@ uint32_t sel_uint8_new(
     bool has_bits,
     sel_column *out);
 
-/* Makes the column of these numbers. SEL_TOO_MANY_ROWS: more than 4,294,967,295; SEL_VALIDITY_LENGTH: fewer bytes of
- * validity than the rows need. */
+/* Returns in `out` the column of these unsigned 16-bit integers.
+ * Errors: SEL_TOO_MANY_ROWS: more than 4,294,967,295 values. SEL_VALIDITY_LENGTH: the validity is too short. */
 uint32_t sel_uint16_new(
     const uint16_t *values,
     size_t values_len,
@@ -254,8 +257,8 @@ uint32_t sel_uint16_new(
     bool has_bits,
     sel_column *out);
 
-/* Makes the column of these numbers. SEL_TOO_MANY_ROWS: more than 4,294,967,295; SEL_VALIDITY_LENGTH: fewer bytes of
- * validity than the rows need. */
+/* Returns in `out` the column of these unsigned 32-bit integers.
+ * Errors: SEL_TOO_MANY_ROWS: more than 4,294,967,295 values. SEL_VALIDITY_LENGTH: the validity is too short. */
 uint32_t sel_uint32_new(
     const uint32_t *values,
     size_t values_len,
@@ -264,8 +267,8 @@ uint32_t sel_uint32_new(
     bool has_bits,
     sel_column *out);
 
-/* Makes the column of these numbers. SEL_TOO_MANY_ROWS: more than 4,294,967,295; SEL_VALIDITY_LENGTH: fewer bytes of
- * validity than the rows need. */
+/* Returns in `out` the column of these unsigned 64-bit integers.
+ * Errors: SEL_TOO_MANY_ROWS: more than 4,294,967,295 values. SEL_VALIDITY_LENGTH: the validity is too short. */
 uint32_t sel_uint64_new(
     const uint64_t *values,
     size_t values_len,
@@ -274,10 +277,10 @@ uint32_t sel_uint64_new(
     bool has_bits,
     sel_column *out);
 
-/* ---- Columns of numbers of 128 bits, which pass as two words each. ---- */
+/* ---- Columns of 128-bit integers, passed as two words each. ---- */
 
-/* Makes the column of the numbers, each in two's complement. The first rule of these, in this order, that is broken:
- * SEL_TOO_MANY_ROWS, more than 4,294,967,295; SEL_VALIDITY_LENGTH, fewer bytes of validity than the rows need. */
+/* Returns in `out` the column of these 128-bit integers in two's complement.
+ * Errors: SEL_TOO_MANY_ROWS: more than 4,294,967,295 values. SEL_VALIDITY_LENGTH: the validity is too short. */
 uint32_t sel_int128_new(
     const sel_wide *values,
     size_t values_len,
@@ -286,12 +289,13 @@ uint32_t sel_int128_new(
     bool has_bits,
     sel_column *out);
 
-/* Writes the numbers, those beneath nulls too, into `out`, which has a place for each row. SEL_NO_COLUMN: there is
- * no column; SEL_OTHER_KIND: it is of another kind; SEL_OTHER_LENGTH: `out` is of another length. */
+/* Copies the values to `out`, including those in null slots.
+ * Errors: SEL_NO_COLUMN: `of` is empty. SEL_OTHER_KIND: its type is not SEL_INT128. SEL_OTHER_LENGTH: `out_len` is
+ * not the number of rows. */
 uint32_t sel_int128_values(sel_column *of, sel_wide *out, size_t out_len);
 
-/* Makes the column of the numbers, each unsigned. The first rule of these, in this order, that is broken:
- * SEL_TOO_MANY_ROWS, more than 4,294,967,295; SEL_VALIDITY_LENGTH, fewer bytes of validity than the rows need. */
+/* Returns in `out` the column of these unsigned 128-bit integers.
+ * Errors: SEL_TOO_MANY_ROWS: more than 4,294,967,295 values. SEL_VALIDITY_LENGTH: the validity is too short. */
 uint32_t sel_uint128_new(
     const sel_wide *values,
     size_t values_len,
@@ -300,15 +304,17 @@ uint32_t sel_uint128_new(
     bool has_bits,
     sel_column *out);
 
-/* Writes the numbers, those beneath nulls too, into `out`, which has a place for each row. SEL_NO_COLUMN: there is
- * no column; SEL_OTHER_KIND: it is of another kind; SEL_OTHER_LENGTH: `out` is of another length. */
+/* Copies the values to `out`, including those in null slots.
+ * Errors: SEL_NO_COLUMN: `of` is empty. SEL_OTHER_KIND: its type is not SEL_UINT128. SEL_OTHER_LENGTH: `out_len` is
+ * not the number of rows. */
 uint32_t sel_uint128_values(sel_column *of, sel_wide *out, size_t out_len);
 
-/* ---- Columns of bytes, lists and tuples, made of slices and of columns that the calls take. ---- */
+/* ---- Binary, list and struct columns, from offsets and child columns. ---- */
 
-/* Makes the column whose row i is the bytes from `offsets[i]` up to `offsets[i + 1]`. SEL_OFFSET_COUNT,
- * SEL_OFFSET_NEGATIVE, SEL_OFFSET_ORDER, SEL_VALIDITY_LENGTH, SEL_TOO_MANY_ROWS, SEL_OFFSET_RANGE: the first rule of
- * these, in this order, that is broken. */
+/* Returns in `out` the binary column whose row i is the bytes of `values` from `offsets[i]` up to `offsets[i + 1]`,
+ * exclusive.
+ * Errors: SEL_OFFSET_COUNT, SEL_OFFSET_NEGATIVE, SEL_OFFSET_ORDER, SEL_VALIDITY_LENGTH, SEL_TOO_MANY_ROWS,
+ * SEL_OFFSET_RANGE. */
 uint32_t sel_binary_new(
     const int64_t *offsets,
     size_t offsets_len,
@@ -319,10 +325,10 @@ uint32_t sel_binary_new(
     bool has_bits,
     sel_column *out);
 
-/* Makes the column whose row i is the list of the rows of `child` from `offsets[i]` up to `offsets[i + 1]`. It takes
- * `child`, whatever it answers. SEL_NO_COLUMN: `child` has no column; SEL_OFFSET_COUNT, SEL_OFFSET_NEGATIVE,
- * SEL_OFFSET_ORDER, SEL_VALIDITY_LENGTH, SEL_TOO_MANY_ROWS, SEL_OFFSET_RANGE: the first rule of these, in this
- * order, that is broken. */
+/* Returns in `out` the list column whose row i is the rows of `child` from `offsets[i]` up to `offsets[i + 1]`,
+ * exclusive. Takes `child`: it is empty afterwards, on error too.
+ * Errors: SEL_NO_COLUMN: `child` is empty. SEL_OFFSET_COUNT, SEL_OFFSET_NEGATIVE, SEL_OFFSET_ORDER,
+ * SEL_VALIDITY_LENGTH, SEL_TOO_MANY_ROWS, SEL_OFFSET_RANGE. */
 uint32_t sel_list_new(
     const int64_t *offsets,
     size_t offsets_len,
@@ -332,9 +338,9 @@ uint32_t sel_list_new(
     sel_column *child,
     sel_column *out);
 
-/* Makes the column of `len` lists of `width` rows of `child` each, one list after the other. It takes `child`,
- * whatever it answers. SEL_NO_COLUMN: `child` has no column; SEL_VALIDITY_LENGTH, SEL_TOO_MANY_ROWS, SEL_WIDTH,
- * SEL_CHILD_LENGTH: the first rule of these, in this order, that is broken. */
+/* Returns in `out` the column of `len` fixed-size lists of `width` rows of `child` each, one list after the other.
+ * Takes `child`: it is empty afterwards, on error too.
+ * Errors: SEL_NO_COLUMN: `child` is empty. SEL_VALIDITY_LENGTH, SEL_TOO_MANY_ROWS, SEL_WIDTH, SEL_CHILD_LENGTH. */
 uint32_t sel_fixed_list_new(
     size_t width,
     size_t len,
@@ -344,9 +350,9 @@ uint32_t sel_fixed_list_new(
     sel_column *child,
     sel_column *out);
 
-/* Makes the column of `len` tuples of the fields, in order. It takes `fields`: where it answers SEL_DONE each of
- * them is `{0}`; else some may be, and the others still have to be freed. SEL_NO_COLUMN: a field has no column;
- * SEL_VALIDITY_LENGTH, SEL_TOO_MANY_ROWS, SEL_FIELD_LENGTH: the first rule of these, in this order, that is broken. */
+/* Returns in `out` the struct column of `len` rows with these fields, in order. Takes the fields: on success each of
+ * them is empty afterwards; on error some may be, and the caller still has to free the others.
+ * Errors: SEL_NO_COLUMN: a field is empty. SEL_VALIDITY_LENGTH, SEL_TOO_MANY_ROWS, SEL_FIELD_LENGTH. */
 uint32_t sel_struct_new(
     size_t len,
     const uint8_t *bits,
@@ -356,11 +362,12 @@ uint32_t sel_struct_new(
     size_t fields_len,
     sel_column *out);
 
-/* ---- Columns of bytes and texts that views name. ---- */
+/* ---- Binary and string columns of views. ---- */
 
-/* Makes the column of the bytes that views name, in themselves up to 12 bytes and else in a data buffer. The first
- * rule of these, in this order, that is broken: SEL_VALIDITY_LENGTH, SEL_TOO_MANY_ROWS, SEL_TOO_MANY_BUFFERS, and
- * then, view by view, beneath nulls too, SEL_VIEW_RANGE, SEL_VIEW_PREFIX. */
+/* Returns in `out` the binary column of these views: a value of up to 12 bytes is stored in its view, a longer one
+ * in a data buffer.
+ * Errors: SEL_VALIDITY_LENGTH, SEL_TOO_MANY_ROWS, SEL_TOO_MANY_BUFFERS; then for each view in order, in null slots
+ * too, SEL_VIEW_RANGE, SEL_VIEW_PREFIX. */
 uint32_t sel_binview_new(
     const sel_view *views,
     size_t views_len,
@@ -371,10 +378,10 @@ uint32_t sel_binview_new(
     bool has_bits,
     sel_column *out);
 
-/* Makes the column of the UTF-8 texts that views name, in themselves up to 12 bytes and else in a data buffer. The
- * first rule of these, in this order, that is broken: SEL_VALIDITY_LENGTH, SEL_TOO_MANY_ROWS, SEL_TOO_MANY_BUFFERS;
- * then, view by view, beneath nulls too, SEL_VIEW_RANGE, SEL_VIEW_PREFIX; and last SEL_UTF8, of rows that are not
- * null. */
+/* Returns in `out` the string column of these views: a value of up to 12 bytes is stored in its view, a longer one
+ * in a data buffer.
+ * Errors: SEL_VALIDITY_LENGTH, SEL_TOO_MANY_ROWS, SEL_TOO_MANY_BUFFERS; then for each view in order, in null slots
+ * too, SEL_VIEW_RANGE, SEL_VIEW_PREFIX; then SEL_UTF8, for rows that are not null. */
 uint32_t sel_utf8view_new(
     const sel_view *views,
     size_t views_len,
@@ -385,114 +392,126 @@ uint32_t sel_utf8view_new(
     bool has_bits,
     sel_column *out);
 
-/* Writes the views, those beneath nulls too, into `out`, which has a place for each row. SEL_NO_COLUMN: there is no
- * column; SEL_OTHER_KIND: it is not of views; SEL_OTHER_LENGTH: `out` is of another length. */
+/* Copies the views to `out`, including those in null slots.
+ * Errors: SEL_NO_COLUMN: `of` is empty. SEL_OTHER_KIND: its type is not SEL_BINARY_VIEW or SEL_UTF8_VIEW.
+ * SEL_OTHER_LENGTH: `out_len` is not the number of rows. */
 uint32_t sel_views(sel_column *of, sel_view *out, size_t out_len);
 
-/* Writes how many data buffers a column of views has. SEL_NO_COLUMN: there is no column; SEL_OTHER_KIND: it is not
- * of views. */
+/* Returns in `count` the number of data buffers of a view column.
+ * Errors: SEL_NO_COLUMN: `of` is empty. SEL_OTHER_KIND: its type is not SEL_BINARY_VIEW or SEL_UTF8_VIEW. */
 uint32_t sel_buffer_count(sel_column *of, size_t *count);
 
-/* Writes how many bytes data buffer `i` has, counted from 0. SEL_NO_COLUMN: there is no column; SEL_OTHER_KIND: it
- * is not of views; SEL_OUT_OF_BOUNDS: it has no such buffer. */
+/* Returns in `len` the number of bytes of data buffer `i`, counted from 0.
+ * Errors: SEL_NO_COLUMN: `of` is empty. SEL_OTHER_KIND: its type is not SEL_BINARY_VIEW or SEL_UTF8_VIEW.
+ * SEL_OUT_OF_BOUNDS: there is no data buffer `i`. */
 uint32_t sel_buffer_len(sel_column *of, size_t i, size_t *len);
 
-/* Writes the bytes of data buffer `i` into `out`, which has a place for each. SEL_NO_COLUMN: there is no column;
- * SEL_OTHER_KIND: it is not of views; SEL_OUT_OF_BOUNDS: it has no such buffer; SEL_OTHER_LENGTH: `out` is of
- * another length. */
+/* Copies the bytes of data buffer `i`, counted from 0, to `out`.
+ * Errors: SEL_NO_COLUMN: `of` is empty. SEL_OTHER_KIND: its type is not SEL_BINARY_VIEW or SEL_UTF8_VIEW.
+ * SEL_OUT_OF_BOUNDS: there is no data buffer `i`. SEL_OTHER_LENGTH: `out_len` is not the length of the buffer. */
 uint32_t sel_buffer(sel_column *of, size_t i, uint8_t *out, size_t out_len);
 
-/* ---- What is read of a column, which stays where it is. ---- */
+/* ---- Properties and values of a column. ---- */
 
-/* How many rows there are, 0 where there is no column. */
+/* Returns the number of rows, or 0 if `of` is empty. */
 size_t sel_len(sel_column *of);
 
-/* How many rows are null, 0 where there is no column. */
+/* Returns the number of null rows, or 0 if `of` is empty. */
 size_t sel_null_count(sel_column *of);
 
-/* The number of the column's kind (`enum sel_kind_number`), SEL_NO_KIND where there is no column. */
+/* Returns the type of the column, one of `enum sel_kind_number`, or SEL_NO_KIND if `of` is empty. */
 uint32_t sel_kind(sel_column *of);
 
-/* Writes the bits of the validity into `out`, which has (rows + 7) / 8 bytes, and into `has` whether there is a
- * validity; without one `out` may be of any length and stays as it is: each row is valid then, or in a column of
- * nulls none. SEL_NO_COLUMN: there is no column; SEL_OTHER_LENGTH: `out` is of another length. */
+/* Copies the validity to `out`, of (rows + 7) / 8 bytes, and returns in `has` whether the column has one. If it has
+ * none, `out` is unchanged and may have any length: each row is valid, or, in a column of SEL_NULL, null.
+ * Errors: SEL_NO_COLUMN: `of` is empty. SEL_OTHER_LENGTH: `out_len` is not (rows + 7) / 8. */
 uint32_t sel_validity(sel_column *of, uint8_t *out, size_t out_len, bool *has);
 
-/* Writes the truth values, those beneath nulls too, packed into `out`, which has (rows + 7) / 8 bytes.
- * SEL_NO_COLUMN: there is no column; SEL_OTHER_KIND: it is not of truth values; SEL_OTHER_LENGTH: `out` is of
- * another length. */
+/* Copies the values, including those in null slots, as packed bits to `out`.
+ * Errors: SEL_NO_COLUMN: `of` is empty. SEL_OTHER_KIND: its type is not SEL_BOOLEAN. SEL_OTHER_LENGTH: `out_len` is
+ * not (rows + 7) / 8. */
 uint32_t sel_boolean_values(sel_column *of, uint8_t *out, size_t out_len);
 
-/* Writes the numbers, those beneath nulls too, into `out`, which has a place for each row. SEL_NO_COLUMN: there is
- * no column; SEL_OTHER_KIND: it is of another kind; SEL_OTHER_LENGTH: `out` is of another length. */
+/* Copies the values to `out`, including those in null slots.
+ * Errors: SEL_NO_COLUMN: `of` is empty. SEL_OTHER_KIND: its type is not SEL_INT8. SEL_OTHER_LENGTH: `out_len` is not
+ * the number of rows. */
 uint32_t sel_int8_values(sel_column *of, int8_t *out, size_t out_len);
 
-/* Writes the numbers, those beneath nulls too, into `out`, which has a place for each row. SEL_NO_COLUMN: there is
- * no column; SEL_OTHER_KIND: it is of another kind; SEL_OTHER_LENGTH: `out` is of another length. */
+/* Copies the values to `out`, including those in null slots.
+ * Errors: SEL_NO_COLUMN: `of` is empty. SEL_OTHER_KIND: its type is not SEL_INT16. SEL_OTHER_LENGTH: `out_len` is
+ * not the number of rows. */
 uint32_t sel_int16_values(sel_column *of, int16_t *out, size_t out_len);
 
-/* Writes the numbers, those beneath nulls too, into `out`, which has a place for each row. SEL_NO_COLUMN: there is
- * no column; SEL_OTHER_KIND: it is of another kind; SEL_OTHER_LENGTH: `out` is of another length. */
+/* Copies the values to `out`, including those in null slots.
+ * Errors: SEL_NO_COLUMN: `of` is empty. SEL_OTHER_KIND: its type is not SEL_INT32. SEL_OTHER_LENGTH: `out_len` is
+ * not the number of rows. */
 uint32_t sel_int32_values(sel_column *of, int32_t *out, size_t out_len);
 
-/* Writes the numbers, those beneath nulls too, into `out`, which has a place for each row. SEL_NO_COLUMN: there is
- * no column; SEL_OTHER_KIND: it is of another kind; SEL_OTHER_LENGTH: `out` is of another length. */
+/* Copies the values to `out`, including those in null slots.
+ * Errors: SEL_NO_COLUMN: `of` is empty. SEL_OTHER_KIND: its type is not SEL_INT64. SEL_OTHER_LENGTH: `out_len` is
+ * not the number of rows. */
 uint32_t sel_int64_values(sel_column *of, int64_t *out, size_t out_len);
 
-/* Writes the numbers, those beneath nulls too, into `out`, which has a place for each row. SEL_NO_COLUMN: there is
- * no column; SEL_OTHER_KIND: it is of another kind; SEL_OTHER_LENGTH: `out` is of another length. */
+/* Copies the values to `out`, including those in null slots.
+ * Errors: SEL_NO_COLUMN: `of` is empty. SEL_OTHER_KIND: its type is not SEL_UINT8. SEL_OTHER_LENGTH: `out_len` is
+ * not the number of rows. */
 uint32_t sel_uint8_values(sel_column *of, uint8_t *out, size_t out_len);
 
-/* Writes the numbers, those beneath nulls too, into `out`, which has a place for each row. SEL_NO_COLUMN: there is
- * no column; SEL_OTHER_KIND: it is of another kind; SEL_OTHER_LENGTH: `out` is of another length. */
+/* Copies the values to `out`, including those in null slots.
+ * Errors: SEL_NO_COLUMN: `of` is empty. SEL_OTHER_KIND: its type is not SEL_UINT16. SEL_OTHER_LENGTH: `out_len` is
+ * not the number of rows. */
 uint32_t sel_uint16_values(sel_column *of, uint16_t *out, size_t out_len);
 
-/* Writes the numbers, those beneath nulls too, into `out`, which has a place for each row. SEL_NO_COLUMN: there is
- * no column; SEL_OTHER_KIND: it is of another kind; SEL_OTHER_LENGTH: `out` is of another length. */
+/* Copies the values to `out`, including those in null slots.
+ * Errors: SEL_NO_COLUMN: `of` is empty. SEL_OTHER_KIND: its type is not SEL_UINT32. SEL_OTHER_LENGTH: `out_len` is
+ * not the number of rows. */
 uint32_t sel_uint32_values(sel_column *of, uint32_t *out, size_t out_len);
 
-/* Writes the numbers, those beneath nulls too, into `out`, which has a place for each row. SEL_NO_COLUMN: there is
- * no column; SEL_OTHER_KIND: it is of another kind; SEL_OTHER_LENGTH: `out` is of another length. */
+/* Copies the values to `out`, including those in null slots.
+ * Errors: SEL_NO_COLUMN: `of` is empty. SEL_OTHER_KIND: its type is not SEL_UINT64. SEL_OTHER_LENGTH: `out_len` is
+ * not the number of rows. */
 uint32_t sel_uint64_values(sel_column *of, uint64_t *out, size_t out_len);
 
-/* ---- What is read of columns of bytes between offsets and of lists. ---- */
+/* ---- Offsets and bytes of binary and list columns. ---- */
 
-/* Writes the offsets of a column of bytes or lists into `out`, which has one place more than there are rows; the
- * first one is above 0 where rows were cut off before. SEL_NO_COLUMN: there is no column; SEL_OTHER_KIND: it has no
- * offsets; SEL_OTHER_LENGTH: `out` is of another length. */
+/* Copies the offsets of a binary or list column to `out`. In a sliced column the first one may be above 0.
+ * Errors: SEL_NO_COLUMN: `of` is empty. SEL_OTHER_KIND: its type has no offsets. SEL_OTHER_LENGTH: `out_len` is not
+ * the number of rows plus 1. */
 uint32_t sel_offsets(sel_column *of, int64_t *out, size_t out_len);
 
-/* Writes how many bytes a column of bytes between offsets has. SEL_NO_COLUMN: there is no column; SEL_OTHER_KIND: it
- * is of another kind. */
+/* Returns in `len` the number of bytes of a binary column with offsets, including bytes outside of the rows.
+ * Errors: SEL_NO_COLUMN: `of` is empty. SEL_OTHER_KIND: its type is not SEL_LARGE_BINARY. */
 uint32_t sel_bytes_len(sel_column *of, size_t *len);
 
-/* Writes the bytes of a column of bytes between offsets, those outside of the rows too, into `out`, which has a
- * place for each. SEL_NO_COLUMN: there is no column; SEL_OTHER_KIND: it is of another kind; SEL_OTHER_LENGTH: `out`
- * is of another length. */
+/* Copies the bytes of a binary column with offsets to `out`, including bytes outside of the rows.
+ * Errors: SEL_NO_COLUMN: `of` is empty. SEL_OTHER_KIND: its type is not SEL_LARGE_BINARY. SEL_OTHER_LENGTH:
+ * `out_len` is not what `sel_bytes_len` returns. */
 uint32_t sel_bytes(sel_column *of, uint8_t *out, size_t out_len);
 
-/* ---- The rows that a mask keeps. ---- */
+/* ---- Filter. ---- */
 
-/* Makes the column of the rows where the mask, a column of truth values, is the valid value true; a null in it
- * counts as false. SEL_NO_COLUMN: `of` or `mask` has no column; SEL_OTHER_KIND: `mask` is not of truth values;
- * SEL_OTHER_LENGTH: `mask` has not as many rows as `of`. */
+/* Returns in `out` the rows of `of` where the boolean column `mask` is true. A null in the mask counts as false.
+ * Errors: SEL_NO_COLUMN: `of` or `mask` is empty. SEL_OTHER_KIND: the type of `mask` is not SEL_BOOLEAN.
+ * SEL_OTHER_LENGTH: `of` and `mask` have different lengths. */
 uint32_t sel_filter(sel_column *of, sel_column *mask, sel_column *out);
 
-/* Makes the column of the rows where the bit is true, of `len` bits packed in `mask`. SEL_NO_COLUMN: `of` has no
- * column; SEL_OTHER_LENGTH: it has not `len` rows, or `mask` has fewer bytes than `len` bits need. */
+/* Returns in `out` the rows of `of` whose bit is set in `mask`, which has `len` packed bits.
+ * Errors: SEL_NO_COLUMN: `of` is empty. SEL_OTHER_LENGTH: `of` does not have `len` rows, or `mask` has fewer than
+ * (len + 7) / 8 bytes. */
 uint32_t sel_filter_bits(sel_column *of, const uint8_t *mask, size_t mask_len, size_t len, sel_column *out);
 
-/* ---- The rows at indices. ---- */
+/* ---- Take (gather). ---- */
 
-/* Makes the column whose row k is the row of `of` at index k, or null where index k is null. SEL_NO_COLUMN: `of` or
- * `indices` has no column; SEL_OTHER_KIND: `indices` is not of unsigned numbers of 32 bits; SEL_OUT_OF_BOUNDS: an
- * index that is not null names no row; SEL_LIMIT_ROWS, SEL_LIMIT_BYTES: the rows that are asked for need more. */
+/* Returns in `out` the rows of `of` at `indices`. A null index gives a null row.
+ * Errors: SEL_NO_COLUMN: `of` or `indices` is empty. SEL_OTHER_KIND: the type of `indices` is not SEL_UINT32.
+ * SEL_OUT_OF_BOUNDS: an index that is not null is out of bounds. SEL_LIMIT_ROWS, SEL_LIMIT_BYTES: the result exceeds
+ * a size limit. */
 uint32_t sel_take(sel_column *of, sel_column *indices, sel_column *out);
 
-/* Makes the column whose row k is the row of `of` at `indices[k]`, or null where bit k of the validity is 0.
- * SEL_NO_COLUMN: `of` has no column; SEL_TOO_MANY_ROWS: there are more than 4,294,967,295 indices;
- * SEL_VALIDITY_LENGTH: fewer bytes of validity than the indices need; SEL_OUT_OF_BOUNDS: an index that is not null
- * names no row; SEL_LIMIT_ROWS, SEL_LIMIT_BYTES: the rows that are asked for need more. */
+/* Returns in `out` the rows of `of` at `indices`. An index whose validity bit is 0 gives a null row.
+ * Errors: SEL_NO_COLUMN: `of` is empty. SEL_TOO_MANY_ROWS: more than 4,294,967,295 indices. SEL_VALIDITY_LENGTH: the
+ * validity is too short. SEL_OUT_OF_BOUNDS: an index that is not null is out of bounds. SEL_LIMIT_ROWS,
+ * SEL_LIMIT_BYTES: the result exceeds a size limit. */
 uint32_t sel_take_rows(
     sel_column *of,
     const uint32_t *indices,
@@ -502,72 +521,81 @@ uint32_t sel_take_rows(
     bool has_bits,
     sel_column *out);
 
-/* ---- Rows chosen between two sides by a mask: when-then-otherwise. ---- */
+/* ---- If-then-else. ---- */
 
-/* Makes the column whose row k is row k of `if_true` where row k of `mask`, a column of truth values, is the valid
- * value true, else row k of `if_false`. SEL_NO_COLUMN: `mask`, `if_true` or `if_false` has no column;
- * SEL_OTHER_KIND: `mask` is not of truth values; SEL_OTHER_TYPE: the sides are not of one type; SEL_OTHER_LENGTH: a
- * side has not as many rows as `mask`; SEL_LIMIT_ROWS, SEL_LIMIT_BYTES, SEL_LIMIT_BUFFERS: the answer needs more. */
+/* Returns in `out` the column whose row k is row k of `if_true` where the boolean column `mask` is true, else row k
+ * of `if_false`. A null in the mask counts as false.
+ * Errors: SEL_NO_COLUMN: `mask`, `if_true` or `if_false` is empty. SEL_OTHER_KIND: the type of `mask` is not
+ * SEL_BOOLEAN. SEL_OTHER_TYPE: `if_true` and `if_false` have different types. SEL_OTHER_LENGTH: `if_true` or
+ * `if_false` does not have as many rows as `mask`. SEL_LIMIT_ROWS, SEL_LIMIT_BYTES, SEL_LIMIT_BUFFERS: the result
+ * exceeds a size limit. */
 uint32_t sel_choose(sel_column *mask, sel_column *if_true, sel_column *if_false, sel_column *out);
 
-/* As `sel_choose`, with one row on the side of the mask's true rows: `if_true` is a column of one row, null too,
- * which stands at every position. SEL_NO_COLUMN: `mask`, `if_true` or `if_false` has no column; SEL_OTHER_KIND:
- * `mask` is not of truth values; SEL_OTHER_TYPE: the sides are not of one type; SEL_OTHER_LENGTH: `if_true` has not
- * one row, or `if_false` not as many as `mask`; SEL_LIMIT_ROWS, SEL_LIMIT_BYTES, SEL_LIMIT_BUFFERS: the answer needs
- * more. */
+/* As `sel_choose`, with the true value broadcast: `if_true` has one row, which may be null.
+ * Errors: SEL_NO_COLUMN: `mask`, `if_true` or `if_false` is empty. SEL_OTHER_KIND: the type of `mask` is not
+ * SEL_BOOLEAN. SEL_OTHER_TYPE: `if_true` and `if_false` have different types. SEL_OTHER_LENGTH: `if_true` does not
+ * have one row, or `if_false` does not have as many rows as `mask`. SEL_LIMIT_ROWS, SEL_LIMIT_BYTES,
+ * SEL_LIMIT_BUFFERS: the result exceeds a size limit. */
 uint32_t sel_choose_one(sel_column *mask, sel_column *if_true, sel_column *if_false, sel_column *out);
 
-/* As `sel_choose`, with one row on the side of the mask's other rows: `if_false` is a column of one row, null too,
- * which stands at every position. SEL_NO_COLUMN: `mask`, `if_true` or `if_false` has no column; SEL_OTHER_KIND:
- * `mask` is not of truth values; SEL_OTHER_TYPE: the sides are not of one type; SEL_OTHER_LENGTH: `if_false` has not
- * one row, or `if_true` not as many as `mask`; SEL_LIMIT_ROWS, SEL_LIMIT_BYTES, SEL_LIMIT_BUFFERS: the answer needs
- * more. */
+/* As `sel_choose`, with the false value broadcast: `if_false` has one row, which may be null.
+ * Errors: SEL_NO_COLUMN: `mask`, `if_true` or `if_false` is empty. SEL_OTHER_KIND: the type of `mask` is not
+ * SEL_BOOLEAN. SEL_OTHER_TYPE: `if_true` and `if_false` have different types. SEL_OTHER_LENGTH: `if_false` does not
+ * have one row, or `if_true` does not have as many rows as `mask`. SEL_LIMIT_ROWS, SEL_LIMIT_BYTES,
+ * SEL_LIMIT_BUFFERS: the result exceeds a size limit. */
 uint32_t sel_choose_or_one(sel_column *mask, sel_column *if_true, sel_column *if_false, sel_column *out);
 
-/* As `sel_choose`, with one row on each side: `if_true` and `if_false` are columns of one row, null too, and the
- * answer has as many rows as `mask`. SEL_NO_COLUMN: `mask`, `if_true` or `if_false` has no column; SEL_OTHER_KIND:
- * `mask` is not of truth values; SEL_OTHER_TYPE: the sides are not of one type; SEL_OTHER_LENGTH: a side has not one
- * row; SEL_LIMIT_ROWS, SEL_LIMIT_BYTES, SEL_LIMIT_BUFFERS: the answer needs more. */
+/* As `sel_choose`, with both values broadcast: `if_true` and `if_false` have one row each, which may be null. The
+ * result has as many rows as `mask`.
+ * Errors: SEL_NO_COLUMN: `mask`, `if_true` or `if_false` is empty. SEL_OTHER_KIND: the type of `mask` is not
+ * SEL_BOOLEAN. SEL_OTHER_TYPE: `if_true` and `if_false` have different types. SEL_OTHER_LENGTH: `if_true` or
+ * `if_false` does not have one row. SEL_LIMIT_ROWS, SEL_LIMIT_BYTES, SEL_LIMIT_BUFFERS: the result exceeds a size
+ * limit. */
 uint32_t sel_choose_of_two(sel_column *mask, sel_column *if_true, sel_column *if_false, sel_column *out);
 
-/* ---- Elements of lists. ---- */
+/* ---- List element access. ---- */
 
-/* Makes the column whose row k is the element of list k at the index, or null where the list is null or has no such
- * place; a negative index counts from the end. SEL_NO_COLUMN: `of` has no column; SEL_OTHER_KIND: it is not of lists
- * between offsets; SEL_LIMIT_ROWS, SEL_LIMIT_BYTES: the elements need more. */
+/* Returns in `out` the column whose row k is the element of list k at `index`, or null if the list is null or the
+ * index is out of bounds. A negative index counts from the end of the list.
+ * Errors: SEL_NO_COLUMN: `of` is empty. SEL_OTHER_KIND: the type of `of` is not SEL_LARGE_LIST. SEL_LIMIT_ROWS,
+ * SEL_LIMIT_BYTES: the result exceeds a size limit. */
 uint32_t sel_sublist_get(sel_column *of, int64_t index, sel_column *out);
 
-/* Writes whether the index has no place in some list that is not null. SEL_NO_COLUMN: `of` has no column;
- * SEL_OTHER_KIND: it is not of lists between offsets. */
+/* Returns in `out` whether `index` is out of bounds in some list that is not null.
+ * Errors: SEL_NO_COLUMN: `of` is empty. SEL_OTHER_KIND: the type of `of` is not SEL_LARGE_LIST. */
 uint32_t sel_index_is_oob(sel_column *of, int64_t index, bool *out);
 
-/* Makes the column whose row k is the list of row k alone. SEL_NO_COLUMN: `of` has no column. */
+/* Returns in `out` the column whose row k is a list of one element, row k of `of`.
+ * Errors: SEL_NO_COLUMN: `of` is empty. */
 uint32_t sel_unit_list(sel_column *of, sel_column *out);
 
-/* ---- Entries of lists of one length. ---- */
+/* ---- Fixed-size list element access. ---- */
 
-/* Makes the column whose row k is the entry of list k at the index, or null where the list is null or, with
- * `null_on_oob`, the lists have no such place; a negative index counts from the end. SEL_NO_COLUMN: `of` has no
- * column; SEL_OTHER_KIND: it is not of lists of one length; SEL_GET_OUT_OF_BOUNDS: without `null_on_oob`, the index
- * has no place and some list is not null; SEL_LIMIT_ROWS, SEL_LIMIT_BYTES: the entries need more. */
+/* Returns in `out` the column whose row k is the element of fixed-size list k at `index`, or null if the list is
+ * null or, with `null_on_oob`, the index is out of bounds. A negative index counts from the end of the list.
+ * Errors: SEL_NO_COLUMN: `of` is empty. SEL_OTHER_KIND: the type of `of` is not SEL_FIXED_SIZE_LIST.
+ * SEL_GET_OUT_OF_BOUNDS: without `null_on_oob`, the index is out of bounds and some list is not null.
+ * SEL_LIMIT_ROWS, SEL_LIMIT_BYTES: the result exceeds a size limit. */
 uint32_t sel_fixed_get(sel_column *of, int64_t index, bool null_on_oob, sel_column *out);
 
-/* ---- Entries of lists of one length, at an index for each of them. ---- */
+/* ---- Fixed-size list element access with an index for each row. ---- */
 
-/* Makes the column whose row k is the entry of list k at index k, or null where the list is null or, with
- * `null_on_oob`, the index is null or has no place; a negative index counts from the end. SEL_NO_COLUMN: `of` or
- * `indices` has no column; SEL_OTHER_KIND: `of` is not of lists of one length, or `indices` not of numbers of 64
- * bits; SEL_OTHER_LENGTH: there are not as many indices as lists; SEL_GET_OUT_OF_BOUNDS: without `null_on_oob`, an
- * index is null or has no place and its list is not null; SEL_LIMIT_ROWS, SEL_LIMIT_BYTES: the entries need more. */
+/* Returns in `out` the column whose row k is the element of fixed-size list k at index k, or null if the list is
+ * null or, with `null_on_oob`, the index is null or out of bounds. A negative index counts from the end of the list.
+ * Errors: SEL_NO_COLUMN: `of` or `indices` is empty. SEL_OTHER_KIND: the type of `of` is not SEL_FIXED_SIZE_LIST, or
+ * the type of `indices` is not SEL_INT64. SEL_OTHER_LENGTH: `of` and `indices` have different lengths.
+ * SEL_GET_OUT_OF_BOUNDS: without `null_on_oob`, an index is null or out of bounds and its list is not null.
+ * SEL_LIMIT_ROWS, SEL_LIMIT_BYTES: the result exceeds a size limit. */
 uint32_t sel_fixed_get_each(sel_column *of, sel_column *indices, bool null_on_oob, sel_column *out);
 
-/* ---- Rows of several columns: side by side, and picked. ---- */
+/* ---- Several columns: flatten and gather rows. ---- */
 
-/* Makes the column of the rows side by side: row r of `height` has of each column, in their order, its `widths[i]`
- * rows from `r * widths[i]` on, or its only `widths[i]` rows where it has no more; all of them stand behind one
- * another. SEL_NO_COLUMN: one of `columns` has no column; SEL_OTHER_TYPE: not all are of one type; SEL_OTHER_LENGTH:
- * there are no columns, or not as many widths, a width is 0, or a column has neither so many rows for each row of
- * the answer nor for one alone; SEL_LIMIT_ROWS, SEL_LIMIT_BYTES, SEL_LIMIT_BUFFERS: the answer needs more. */
+/* Concatenates columns row by row. Returns in `out`, for each r below `height`, in order, `widths[i]` rows of each
+ * column i: those from row `r * widths[i]` on, or, where the column has only `widths[i]` rows, all of them.
+ * Errors: SEL_NO_COLUMN: a column is empty. SEL_OTHER_TYPE: the columns have different types. SEL_OTHER_LENGTH:
+ * there are no columns, `widths_len` is not `columns_len`, a width is 0, or a column has neither `height *
+ * widths[i]` nor `widths[i]` rows. SEL_LIMIT_ROWS, SEL_LIMIT_BYTES, SEL_LIMIT_BUFFERS: the result exceeds a size
+ * limit. */
 uint32_t sel_flatten(
     sel_column *columns,
     size_t columns_len,
@@ -576,11 +604,12 @@ uint32_t sel_flatten(
     size_t height,
     sel_column *out);
 
-/* Makes the column whose row k is row `picks[k].row` of `sources[picks[k].source]`, or null where bit k of the
- * validity is 0. SEL_NO_COLUMN: one of `sources` has no column; SEL_TOO_MANY_ROWS: there are more than 4,294,967,295
- * picks; SEL_VALIDITY_LENGTH: fewer bytes of validity than the picks need; SEL_OTHER_LENGTH: there are no sources;
- * SEL_OTHER_TYPE: not all are of one type; SEL_OUT_OF_BOUNDS: a pick that is not null names no row; SEL_LIMIT_ROWS,
- * SEL_LIMIT_BYTES, SEL_LIMIT_BUFFERS: the rows that are picked need more. */
+/* Returns in `out` the column whose row k is row `picks[k].row` of `sources[picks[k].source]`, or null if bit k of
+ * the validity is 0.
+ * Errors: SEL_NO_COLUMN: a source is empty. SEL_TOO_MANY_ROWS: more than 4,294,967,295 picks. SEL_VALIDITY_LENGTH:
+ * the validity is too short. SEL_OTHER_LENGTH: there are no sources. SEL_OTHER_TYPE: the sources have different
+ * types. SEL_OUT_OF_BOUNDS: the source or the row of a pick that is not null is out of bounds. SEL_LIMIT_ROWS,
+ * SEL_LIMIT_BYTES, SEL_LIMIT_BUFFERS: the result exceeds a size limit. */
 uint32_t sel_collect_rows(
     sel_column *sources,
     size_t sources_len,
@@ -591,33 +620,36 @@ uint32_t sel_collect_rows(
     bool has_bits,
     sel_column *out);
 
-/* ---- Dictionaries: keys that name texts. ---- */
+/* ---- Dictionaries. ---- */
 
-/* Makes the keys and the values of a dictionary without its null values: the values are those that are not null, in
- * order; a key is null where it was or where its value is null, else it names the same value as before.
- * SEL_NO_COLUMN: `keys` or `values` has no column; SEL_OTHER_KIND: `keys` is not of unsigned numbers of 32 bits, or
- * `values` not of texts; SEL_OUT_OF_BOUNDS: a key that is not null names no value. */
+/* Removes the null values of a dictionary: returns in `out_values` the values that are not null, in order, and in
+ * `out_keys` the keys of these. A key is null if it was null or if its value was null; else it refers to the same
+ * value as before.
+ * Errors: SEL_NO_COLUMN: `keys` or `values` is empty. SEL_OTHER_KIND: the type of `keys` is not SEL_UINT32, or the
+ * type of `values` is not SEL_UTF8_VIEW. SEL_OUT_OF_BOUNDS: a key that is not null is out of bounds. */
 uint32_t sel_propagate_dictionary(sel_column *keys, sel_column *values, sel_column *out_keys, sel_column *out_values);
 
-/* ---- Rows compared, as a text, and read from one. ---- */
+/* ---- Comparison, printing and parsing. ---- */
 
-/* Writes whether the two columns have the same rows. The values decide and not the types: 1 is the same number in
- * columns of any numbers, and what lies beneath a null is not looked at. It takes no memory. SEL_NO_COLUMN: `of` or
- * `other` has no column. */
+/* Returns in `equal` whether two columns have the same rows. It compares values, not types: 1 is equal to 1 in
+ * columns of any integer types. Values in null slots are ignored. Does not allocate.
+ * Errors: SEL_NO_COLUMN: `of` or `other` is empty. */
 uint32_t sel_equal_rows(sel_column *of, sel_column *other, bool *equal);
 
-/* Writes the rows as a text, as in `[1,null,-3]`, without a zero behind it: as many of its bytes as `out` has room
- * for, and into `len` how many it has. Texts stand between quotes as in JSON, bytes as in `h"00ff"`, lists between
- * brackets, tuples between parentheses. SEL_NO_COLUMN: there is no column. */
+/* Writes the rows as text, such as `[1,null,-3]`, without a terminating zero: as many bytes as fit into `out`.
+ * Returns in `len` the number of bytes of the whole text. Strings are quoted as in JSON; binary is written as
+ * `h"00ff"`, a list in brackets, a struct in parentheses.
+ * Errors: SEL_NO_COLUMN: `of` is empty. */
 uint32_t sel_print(sel_column *of, uint8_t *out, size_t out_len, size_t *len);
 
-/* Makes the column of the type that `dtype` names, as in `struct<list<i8>,fixed<2,utf8>>`, with the rows of `text`,
- * which is written as by `sel_print`; both are UTF-8, and spaces between their parts are passed over. Types are
- * null, bool, i8 to i128, u8 to u128, binary (bytes between offsets), binview and utf8 (by views), list<..>,
- * fixed<n,..> and struct<..>. SEL_TYPE_SYNTAX: `dtype` names no type; SEL_TEXT_SYNTAX: `text` is none of rows;
- * SEL_TEXT_MISFIT: a row does not fit the type. With these three, `at` is the place of the first byte at which that
- * text goes wrong, counted from 0, or its length where it ends too soon; with any other number `at` stays.
- * SEL_TEXT_LIMIT: the column would pass a limit, or the type has more than 64 levels of children. */
+/* Returns in `out` the column of the type `dtype`, such as `struct<list<i8>,fixed<2,utf8>>`, with the rows of
+ * `text`, in the format that `sel_print` writes. Both are UTF-8. Spaces between tokens are ignored. The types are
+ * null, bool, i8 to i128, u8 to u128, binary (with offsets), binview and utf8 (views), list<..>, fixed<n,..> and
+ * struct<..>.
+ * Errors: SEL_TYPE_SYNTAX: syntax error in `dtype`. SEL_TEXT_SYNTAX: syntax error in `text`. SEL_TEXT_MISFIT: a
+ * value in `text` does not fit the type. With these three, `at` is the index of the first wrong byte, or the length
+ * if the text ends too soon; else `at` is unchanged. SEL_TEXT_LIMIT: the column exceeds a size limit, or the type
+ * has more than 64 levels of children; if the type exceeds it, this is returned before later errors. */
 uint32_t sel_parse(
     const uint8_t *dtype,
     size_t dtype_len,
@@ -626,23 +658,24 @@ uint32_t sel_parse(
     size_t *at,
     sel_column *out);
 
-/* ---- The children of lists and the fields of tuples, which share buffers with their column. ---- */
+/* ---- Children of lists and fields of structs. ---- */
 
-/* Makes the column of the child of a column of lists, those rows too that are in no list; it shares the buffers of
- * `of`. SEL_NO_COLUMN: `of` has no column; SEL_OTHER_KIND: it is not of lists. */
+/* Returns in `out` the child of a list column, including rows outside of the lists. The result shares the buffers of
+ * `of`.
+ * Errors: SEL_NO_COLUMN: `of` is empty. SEL_OTHER_KIND: its type is not SEL_LARGE_LIST or SEL_FIXED_SIZE_LIST. */
 uint32_t sel_child(sel_column *of, sel_column *out);
 
-/* Writes how many entries each list of a column of lists of one length has. SEL_NO_COLUMN: there is no column;
- * SEL_OTHER_KIND: it is of another kind. */
+/* Returns in `width` the list size of a column of fixed-size lists.
+ * Errors: SEL_NO_COLUMN: `of` is empty. SEL_OTHER_KIND: its type is not SEL_FIXED_SIZE_LIST. */
 uint32_t sel_width(sel_column *of, size_t *width);
 
-/* Writes how many fields a column of tuples has. SEL_NO_COLUMN: there is no column; SEL_OTHER_KIND: it is of another
- * kind. */
+/* Returns in `count` the number of fields of a struct column.
+ * Errors: SEL_NO_COLUMN: `of` is empty. SEL_OTHER_KIND: its type is not SEL_STRUCT. */
 uint32_t sel_field_count(sel_column *of, size_t *count);
 
-/* Makes the column of field `i` of a column of tuples, counted from 0; it shares the buffers of `of`. Rows of the
- * field at null tuples are as they are laid out. SEL_NO_COLUMN: `of` has no column; SEL_OUT_OF_BOUNDS: it has no
- * such field. */
+/* Returns in `out` field `i` of a struct column, counted from 0. The result shares the buffers of `of`. A field's
+ * value in a null struct is returned as stored.
+ * Errors: SEL_NO_COLUMN: `of` is empty. SEL_OUT_OF_BOUNDS: the column has no such field. */
 uint32_t sel_field(sel_column *of, size_t i, sel_column *out);
 
 #ifdef __cplusplus

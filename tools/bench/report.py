@@ -32,6 +32,15 @@ CAUSES = (
     ("propagate_dictionary", "each key is bounds-checked first; both results are new columns"),
 )
 
+# the rows of the summary: one for each kernel and kind of column, at 1,048,576 rows
+SUMMARY = (
+    ("filter, 8 bytes", "0.01 random"), ("filter, 8 bytes", "0.5 random"), ("filter, 8 bytes", "0.99 random"), ("filter, bits", "0.5 random"),
+    ("filter, views", "0.5 random"), ("filter, lists", "0.5 random"), ("take, 8 bytes", "random"), ("take, bits", "random"),
+    ("take, views", "random"), ("take, lists", "random"), ("choose, 8 bytes", "both columns"), ("sublist_get", "index 1"),
+    ("fixed_get", "index 1 of four"), ("flatten", "two by four"), ("collect_rows", "random, of two"),
+)
+SUMMARY_ROWS = 2 ** 20
+
 COLORS = (("sel", "#2a6fdb", "#7fb0ff"), ("loop", "#2f8f4e", "#7bd598"), ("numpy", "#b8681c", "#f0a860"), ("copy", "#777777", "#aaaaaa"))
 
 
@@ -88,6 +97,16 @@ def table(rows: list[tuple], with_cause: bool) -> list[str]:
     for ratio, name, to_copy, kernel, count, varied, times in rows:
         cells = [kernel, f"{count:,}", varied, *(ns(times, each) for each in ("sel", "loop", "numpy", "copy")), f"{ratio:.2f} ({name})", f"{to_copy:.2f}"]
         lines.append("| " + " | ".join(cells + ([cause_of(kernel)] if with_cause else [])) + " |")
+    return lines
+
+
+def summary(rows: list[tuple]) -> list[str]:
+    """Returns the table of the rows that SUMMARY names, in its order."""
+    found = {(kernel, varied): row for row in rows for _, _, _, kernel, count, varied, _ in [row] if count == SUMMARY_ROWS}
+    lines = ["| kernel | varied | this library | best peer | copy | library to best peer |", "|---|---|---|---|---|---|"]
+    for kernel, varied in SUMMARY:
+        ratio, name, _, _, _, _, times = found[kernel, varied]
+        lines.append(f"| {kernel} | {varied} | {times['sel'][0]:.3f} | {times[name][0]:.3f} ({name}) | {times['copy'][0]:.3f} | {ratio:.2f} |")
     return lines
 
 
@@ -165,10 +184,11 @@ def write(docs: pathlib.Path, results: list, scale: list, words: list[str], load
     text = ["# Benchmarks", "", "`make bench` writes this page. Times are ns per row of the first column: the best of many rounds, and the median in parentheses. "
             "Each result was compared with numpy's before it was timed, and each contender makes the whole result, with its memory. "
             "`loop` is a plain C loop, compiled for this processor; `numpy` is the numpy operation, called from Python, if there is one; `copy` moves as many bytes as any implementation must read and write.", ""]
-    text += machine(load, compiler, flags)
-    text += [f"- Of {len(results)} rows, the library's median is within 10 percent of its best in {repeats}.", ""]
+    text += ["## Summary", "", f"Best times in ns per row at {SUMMARY_ROWS:,} rows; the kernel `choose` is if-then-else.", "", *summary(rows), ""]
     text += ["![Time of a filter by the share of rows kept](bench-density.svg)", "", "![Time of a filter by the number of rows](bench-filter-size.svg)", "",
              "![Time of a take by the number of rows](bench-take-size.svg)", ""]
+    text += ["## Machine", "", *machine(load, compiler, flags),
+             f"- Of {len(results)} rows, the library's median is within 10 percent of its best in {repeats}.", ""]
     text += [f"## Slower than the best peer: {len(worse)} of {len(rows)} rows", "", *table(worse, True), ""]
     text += [f"## As fast or faster: {len(others)} rows", "", *table(others, False), ""]
     text += ["## By the number of rows", "", *table([row_of(each) for each in scale], False), "", *words]

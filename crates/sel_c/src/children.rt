@@ -1,4 +1,4 @@
-//! The children of lists and the fields of tuples, which share buffers with their column.
+//! Children of lists and fields of structs.
 
 ghost use Rattle.std.specs.Prelude.{◌≡◌, [], ◌∷◌, ◌<◌, length, IsTrue};
 ghost use Rattle.sel_arrow.specs.Rows.{rows, type_of};
@@ -13,8 +13,11 @@ use sel_handle::handle::Handle;
 use sel_handle::status::NO_COLUMN;
 use std::alloc::Global;
 
-/// Makes the column of the child of a column of lists, those rows too that are in no list; it shares the buffers of
-/// `of`. SEL_NO_COLUMN: `of` has no column; SEL_OTHER_KIND: it is not of lists.
+/// Returns in `out` the child of a list column, including rows outside of the lists. The result
+/// shares the buffers of `of`.
+///
+/// Errors: SEL_NO_COLUMN: `of` is empty. SEL_OTHER_KIND: its type is not SEL_LARGE_LIST or
+/// SEL_FIXED_SIZE_LIST.
 #[unsafe(no_mangle)]
 pub extern "C" fn sel_child(alloc: Global, of: &mut Handle, out: &mut Handle) -> u32
     ensures rows { Makes result out.old.tree out.new.tree
@@ -34,8 +37,9 @@ pub extern "C" fn sel_child(alloc: Global, of: &mut Handle, out: &mut Handle) ->
     status
 }
 
-/// Writes how many entries each list of a column of lists of one length has. SEL_NO_COLUMN: there is no column;
-/// SEL_OTHER_KIND: it is of another kind.
+/// Returns in `width` the list size of a column of fixed-size lists.
+///
+/// Errors: SEL_NO_COLUMN: `of` is empty. SEL_OTHER_KIND: its type is not SEL_FIXED_SIZE_LIST.
 #[unsafe(no_mangle)]
 pub extern "C" fn sel_width(alloc: Global, of: &mut Handle, width: &mut usize) -> u32
     ensures width { result ≡ done → width.new ≡ width_of (held_type of.old.tree) }
@@ -52,8 +56,9 @@ pub extern "C" fn sel_width(alloc: Global, of: &mut Handle, width: &mut usize) -
     status
 }
 
-/// Writes how many fields a column of tuples has. SEL_NO_COLUMN: there is no column; SEL_OTHER_KIND: it is of another
-/// kind.
+/// Returns in `count` the number of fields of a struct column.
+///
+/// Errors: SEL_NO_COLUMN: `of` is empty. SEL_OTHER_KIND: its type is not SEL_STRUCT.
 #[unsafe(no_mangle)]
 pub extern "C" fn sel_field_count(alloc: Global, of: &mut Handle, count: &mut usize) -> u32
     ensures count { result ≡ done → count.new ≡ length (held_fields of.old.tree) }
@@ -70,8 +75,10 @@ pub extern "C" fn sel_field_count(alloc: Global, of: &mut Handle, count: &mut us
     status
 }
 
-/// Makes the column of field `i` of a column of tuples, counted from 0; it shares the buffers of `of`. Rows of the field
-/// at null tuples are as they are laid out. SEL_NO_COLUMN: `of` has no column; SEL_OUT_OF_BOUNDS: it has no such field.
+/// Returns in `out` field `i` of a struct column, counted from 0. The result shares the buffers of
+/// `of`. A field's value in a null struct is returned as stored.
+///
+/// Errors: SEL_NO_COLUMN: `of` is empty. SEL_OUT_OF_BOUNDS: the column has no such field.
 #[unsafe(no_mangle)]
 pub extern "C" fn sel_field(alloc: Global, of: &mut Handle, i: usize, out: &mut Handle) -> u32
     ensures rows { Makes result out.old.tree out.new.tree

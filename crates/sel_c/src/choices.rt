@@ -1,4 +1,4 @@
-//! Rows chosen between two sides by a mask: when-then-otherwise.
+//! If-then-else.
 
 ghost use Rattle.std.specs.Prelude.{◌≡◌, ◌++◌, ◌∷◌, length, true, false};
 ghost use Rattle.sel_arrow.specs.Rows.{rows, type_of};
@@ -13,10 +13,13 @@ use sel_calls::choices::choose_handles;
 use sel_handle::handle::Handle;
 use std::alloc::Global;
 
-/// Makes the column whose row k is row k of `if_true` where row k of `mask`, a column of truth values, is the valid value
-/// true, else row k of `if_false`. SEL_NO_COLUMN: `mask`, `if_true` or `if_false` has no column; SEL_OTHER_KIND: `mask` is
-/// not of truth values; SEL_OTHER_TYPE: the sides are not of one type; SEL_OTHER_LENGTH: a side has not as many rows as
-/// `mask`; SEL_LIMIT_ROWS, SEL_LIMIT_BYTES, SEL_LIMIT_BUFFERS: the answer needs more.
+/// Returns in `out` the column whose row k is row k of `if_true` where the boolean column `mask`
+/// is true, else row k of `if_false`. A null in the mask counts as false.
+///
+/// Errors: SEL_NO_COLUMN: `mask`, `if_true` or `if_false` is empty. SEL_OTHER_KIND: the type of
+/// `mask` is not SEL_BOOLEAN. SEL_OTHER_TYPE: `if_true` and `if_false` have different types.
+/// SEL_OTHER_LENGTH: `if_true` or `if_false` does not have as many rows as `mask`. SEL_LIMIT_ROWS,
+/// SEL_LIMIT_BYTES, SEL_LIMIT_BUFFERS: the result exceeds a size limit.
 #[unsafe(no_mangle)]
 pub extern "C" fn sel_choose(
     alloc: Global,
@@ -52,10 +55,12 @@ pub extern "C" fn sel_choose(
     choose_handles(alloc, mask, if_true, if_false, true, true, out)
 }
 
-/// As `sel_choose`, with one row on the side of the mask's true rows: `if_true` is a column of one row, null too, which
-/// stands at every position. SEL_NO_COLUMN: `mask`, `if_true` or `if_false` has no column; SEL_OTHER_KIND: `mask` is not of
-/// truth values; SEL_OTHER_TYPE: the sides are not of one type; SEL_OTHER_LENGTH: `if_true` has not one row, or `if_false`
-/// not as many as `mask`; SEL_LIMIT_ROWS, SEL_LIMIT_BYTES, SEL_LIMIT_BUFFERS: the answer needs more.
+/// As `sel_choose`, with the true value broadcast: `if_true` has one row, which may be null.
+///
+/// Errors: SEL_NO_COLUMN: `mask`, `if_true` or `if_false` is empty. SEL_OTHER_KIND: the type of
+/// `mask` is not SEL_BOOLEAN. SEL_OTHER_TYPE: `if_true` and `if_false` have different types.
+/// SEL_OTHER_LENGTH: `if_true` does not have one row, or `if_false` does not have as many rows as
+/// `mask`. SEL_LIMIT_ROWS, SEL_LIMIT_BYTES, SEL_LIMIT_BUFFERS: the result exceeds a size limit.
 #[unsafe(no_mangle)]
 pub extern "C" fn sel_choose_one(
     alloc: Global,
@@ -91,10 +96,12 @@ pub extern "C" fn sel_choose_one(
     choose_handles(alloc, mask, if_true, if_false, false, true, out)
 }
 
-/// As `sel_choose`, with one row on the side of the mask's other rows: `if_false` is a column of one row, null too, which
-/// stands at every position. SEL_NO_COLUMN: `mask`, `if_true` or `if_false` has no column; SEL_OTHER_KIND: `mask` is not of
-/// truth values; SEL_OTHER_TYPE: the sides are not of one type; SEL_OTHER_LENGTH: `if_false` has not one row, or `if_true`
-/// not as many as `mask`; SEL_LIMIT_ROWS, SEL_LIMIT_BYTES, SEL_LIMIT_BUFFERS: the answer needs more.
+/// As `sel_choose`, with the false value broadcast: `if_false` has one row, which may be null.
+///
+/// Errors: SEL_NO_COLUMN: `mask`, `if_true` or `if_false` is empty. SEL_OTHER_KIND: the type of
+/// `mask` is not SEL_BOOLEAN. SEL_OTHER_TYPE: `if_true` and `if_false` have different types.
+/// SEL_OTHER_LENGTH: `if_false` does not have one row, or `if_true` does not have as many rows as
+/// `mask`. SEL_LIMIT_ROWS, SEL_LIMIT_BYTES, SEL_LIMIT_BUFFERS: the result exceeds a size limit.
 #[unsafe(no_mangle)]
 pub extern "C" fn sel_choose_or_one(
     alloc: Global,
@@ -130,10 +137,13 @@ pub extern "C" fn sel_choose_or_one(
     choose_handles(alloc, mask, if_true, if_false, true, false, out)
 }
 
-/// As `sel_choose`, with one row on each side: `if_true` and `if_false` are columns of one row, null too, and the answer has
-/// as many rows as `mask`. SEL_NO_COLUMN: `mask`, `if_true` or `if_false` has no column; SEL_OTHER_KIND: `mask` is not of
-/// truth values; SEL_OTHER_TYPE: the sides are not of one type; SEL_OTHER_LENGTH: a side has not one row; SEL_LIMIT_ROWS,
-/// SEL_LIMIT_BYTES, SEL_LIMIT_BUFFERS: the answer needs more.
+/// As `sel_choose`, with both values broadcast: `if_true` and `if_false` have one row each, which
+/// may be null. The result has as many rows as `mask`.
+///
+/// Errors: SEL_NO_COLUMN: `mask`, `if_true` or `if_false` is empty. SEL_OTHER_KIND: the type of
+/// `mask` is not SEL_BOOLEAN. SEL_OTHER_TYPE: `if_true` and `if_false` have different types.
+/// SEL_OTHER_LENGTH: `if_true` or `if_false` does not have one row. SEL_LIMIT_ROWS,
+/// SEL_LIMIT_BYTES, SEL_LIMIT_BUFFERS: the result exceeds a size limit.
 #[unsafe(no_mangle)]
 pub extern "C" fn sel_choose_of_two(
     alloc: Global,

@@ -1,4 +1,4 @@
-//! Dictionaries: keys that name texts.
+//! Dictionaries.
 
 ghost use Rattle.std.specs.Prelude.{◌≡◌, [], ◌∷◌, length, IsTrue};
 ghost use Rattle.sel_arrow.specs.Rows.{rows, type_of};
@@ -12,10 +12,13 @@ use sel_handle::handle::Handle;
 use sel_handle::status::NO_COLUMN;
 use std::alloc::Global;
 
-/// Makes the keys and the values of a dictionary without its null values: the values are those that are not null, in
-/// order; a key is null where it was or where its value is null, else it names the same value as before. SEL_NO_COLUMN:
-/// `keys` or `values` has no column; SEL_OTHER_KIND: `keys` is not of unsigned numbers of 32 bits, or `values` not of
-/// texts; SEL_OUT_OF_BOUNDS: a key that is not null names no value.
+/// Removes the null values of a dictionary: returns in `out_values` the values that are not null,
+/// in order, and in `out_keys` the keys of these. A key is null if it was null or if its value was
+/// null; else it refers to the same value as before.
+///
+/// Errors: SEL_NO_COLUMN: `keys` or `values` is empty. SEL_OTHER_KIND: the type of `keys` is not
+/// SEL_UINT32, or the type of `values` is not SEL_UTF8_VIEW. SEL_OUT_OF_BOUNDS: a key that is not
+/// null is out of bounds.
 #[unsafe(no_mangle)]
 pub extern "C" fn sel_propagate_dictionary(
     alloc: Global,

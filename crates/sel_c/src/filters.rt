@@ -1,4 +1,4 @@
-//! The rows that a mask keeps.
+//! Filter.
 
 ghost use Rattle.std.specs.Prelude.{◌≡◌, ◌≤◌, ◌*◌, [], ◌∷◌, length};
 ghost use Rattle.sel_bits.specs.Bits.{bits_from};
@@ -12,9 +12,11 @@ use sel_handle::handle::Handle;
 use sel_handle::status::NO_COLUMN;
 use std::alloc::Global;
 
-/// Makes the column of the rows where the mask, a column of truth values, is the valid value true; a null in it counts
-/// as false. SEL_NO_COLUMN: `of` or `mask` has no column; SEL_OTHER_KIND: `mask` is not of truth values;
-/// SEL_OTHER_LENGTH: `mask` has not as many rows as `of`.
+/// Returns in `out` the rows of `of` where the boolean column `mask` is true. A null in the mask
+/// counts as false.
+///
+/// Errors: SEL_NO_COLUMN: `of` or `mask` is empty. SEL_OTHER_KIND: the type of `mask` is not
+/// SEL_BOOLEAN. SEL_OTHER_LENGTH: `of` and `mask` have different lengths.
 #[unsafe(no_mangle)]
 pub extern "C" fn sel_filter(
     alloc: Global,
@@ -50,8 +52,10 @@ pub extern "C" fn sel_filter(
     status
 }
 
-/// Makes the column of the rows where the bit is true, of `len` bits packed in `mask`. SEL_NO_COLUMN: `of` has no
-/// column; SEL_OTHER_LENGTH: it has not `len` rows, or `mask` has fewer bytes than `len` bits need.
+/// Returns in `out` the rows of `of` whose bit is set in `mask`, which has `len` packed bits.
+///
+/// Errors: SEL_NO_COLUMN: `of` is empty. SEL_OTHER_LENGTH: `of` does not have `len` rows, or
+/// `mask` has fewer than (len + 7) / 8 bytes.
 #[unsafe(no_mangle)]
 pub extern "C" fn sel_filter_bits(
     alloc: Global,

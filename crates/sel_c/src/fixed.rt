@@ -1,4 +1,4 @@
-//! Entries of lists of one length.
+//! Fixed-size list element access.
 
 ghost use Rattle.std.specs.Prelude.{◌≡◌, ◌∷◌, false, IsTrue};
 ghost use Rattle.sel_arrow.specs.Rows.{rows, type_of};
@@ -12,10 +12,13 @@ use sel_handle::handle::Handle;
 use sel_handle::status::NO_COLUMN;
 use std::alloc::Global;
 
-/// Makes the column whose row k is the entry of list k at the index, or null where the list is null or, with
-/// `null_on_oob`, the lists have no such place; a negative index counts from the end. SEL_NO_COLUMN: `of` has no column;
-/// SEL_OTHER_KIND: it is not of lists of one length; SEL_GET_OUT_OF_BOUNDS: without `null_on_oob`, the index has no place
-/// and some list is not null; SEL_LIMIT_ROWS, SEL_LIMIT_BYTES: the entries need more.
+/// Returns in `out` the column whose row k is the element of fixed-size list k at `index`, or null
+/// if the list is null or, with `null_on_oob`, the index is out of bounds. A negative index counts
+/// from the end of the list.
+///
+/// Errors: SEL_NO_COLUMN: `of` is empty. SEL_OTHER_KIND: the type of `of` is not
+/// SEL_FIXED_SIZE_LIST. SEL_GET_OUT_OF_BOUNDS: without `null_on_oob`, the index is out of bounds
+/// and some list is not null. SEL_LIMIT_ROWS, SEL_LIMIT_BYTES: the result exceeds a size limit.
 #[unsafe(no_mangle)]
 pub extern "C" fn sel_fixed_get(
     alloc: Global,

@@ -1,4 +1,4 @@
-//! Entries of lists of one length, at an index for each of them.
+//! Fixed-size list element access with an index for each row.
 
 ghost use Rattle.std.specs.Prelude.{◌≡◌, ◌∷◌, length, false, IsTrue};
 ghost use Rattle.sel_arrow.specs.Rows.{rows, type_of};
@@ -12,11 +12,15 @@ use sel_handle::handle::Handle;
 use sel_handle::status::NO_COLUMN;
 use std::alloc::Global;
 
-/// Makes the column whose row k is the entry of list k at index k, or null where the list is null or, with
-/// `null_on_oob`, the index is null or has no place; a negative index counts from the end. SEL_NO_COLUMN: `of` or
-/// `indices` has no column; SEL_OTHER_KIND: `of` is not of lists of one length, or `indices` not of numbers of 64 bits;
-/// SEL_OTHER_LENGTH: there are not as many indices as lists; SEL_GET_OUT_OF_BOUNDS: without `null_on_oob`, an index is
-/// null or has no place and its list is not null; SEL_LIMIT_ROWS, SEL_LIMIT_BYTES: the entries need more.
+/// Returns in `out` the column whose row k is the element of fixed-size list k at index k, or null
+/// if the list is null or, with `null_on_oob`, the index is null or out of bounds. A negative
+/// index counts from the end of the list.
+///
+/// Errors: SEL_NO_COLUMN: `of` or `indices` is empty. SEL_OTHER_KIND: the type of `of` is not
+/// SEL_FIXED_SIZE_LIST, or the type of `indices` is not SEL_INT64. SEL_OTHER_LENGTH: `of` and
+/// `indices` have different lengths. SEL_GET_OUT_OF_BOUNDS: without `null_on_oob`, an index is
+/// null or out of bounds and its list is not null. SEL_LIMIT_ROWS, SEL_LIMIT_BYTES: the result
+/// exceeds a size limit.
 #[unsafe(no_mangle)]
 pub extern "C" fn sel_fixed_get_each(
     alloc: Global,

@@ -1,4 +1,4 @@
-//! The calls of the library for C, and for all that can call C.
+//! The functions of the C interface.
 #![tactic(auto)]
 
 mod children;

@@ -1,4 +1,4 @@
-//! Elements of lists.
+//! List element access.
 
 ghost use Rattle.std.specs.Prelude.{◌≡◌, ◌∷◌, [], IsTrue};
 ghost use Rattle.sel_arrow.specs.Rows.{rows, type_of};
@@ -15,9 +15,11 @@ use sel_handle::status::{NO_COLUMN, NO_MEMORY, put};
 use sel_sublists::sublist::list::array_to_unit_list;
 use std::alloc::Global;
 
-/// Makes the column whose row k is the element of list k at the index, or null where the list is null or has no such
-/// place; a negative index counts from the end. SEL_NO_COLUMN: `of` has no column; SEL_OTHER_KIND: it is not of lists
-/// between offsets; SEL_LIMIT_ROWS, SEL_LIMIT_BYTES: the elements need more.
+/// Returns in `out` the column whose row k is the element of list k at `index`, or null if the
+/// list is null or the index is out of bounds. A negative index counts from the end of the list.
+///
+/// Errors: SEL_NO_COLUMN: `of` is empty. SEL_OTHER_KIND: the type of `of` is not SEL_LARGE_LIST.
+/// SEL_LIMIT_ROWS, SEL_LIMIT_BYTES: the result exceeds a size limit.
 #[unsafe(no_mangle)]
 pub extern "C" fn sel_sublist_get(
     alloc: Global,
@@ -45,8 +47,9 @@ pub extern "C" fn sel_sublist_get(
     status
 }
 
-/// Writes whether the index has no place in some list that is not null. SEL_NO_COLUMN: `of` has no column;
-/// SEL_OTHER_KIND: it is not of lists between offsets.
+/// Returns in `out` whether `index` is out of bounds in some list that is not null.
+///
+/// Errors: SEL_NO_COLUMN: `of` is empty. SEL_OTHER_KIND: the type of `of` is not SEL_LARGE_LIST.
 #[unsafe(no_mangle)]
 pub extern "C" fn sel_index_is_oob(
     alloc: Global,
@@ -68,7 +71,9 @@ pub extern "C" fn sel_index_is_oob(
     status
 }
 
-/// Makes the column whose row k is the list of row k alone. SEL_NO_COLUMN: `of` has no column.
+/// Returns in `out` the column whose row k is a list of one element, row k of `of`.
+///
+/// Errors: SEL_NO_COLUMN: `of` is empty.
 #[unsafe(no_mangle)]
 pub extern "C" fn sel_unit_list(alloc: Global, of: &mut Handle, out: &mut Handle) -> u32
     ensures rows { Makes result out.old.tree out.new.tree

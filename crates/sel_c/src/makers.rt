@@ -1,4 +1,4 @@
-//! Columns made of slices, which are copied.
+//! Columns from arrays of values, which are copied.
 
 ghost use Rattle.std.specs.Prelude.{◌≡◌, ◌≤◌, ◌*◌, length, pos, replicate};
 ghost use Rattle.sel_bits.specs.Bits.{bits_from};
@@ -18,7 +18,9 @@ use sel_handle::numbers::make_numbers;
 use sel_handle::status::{OTHER_LENGTH, put, status_of_maker};
 use std::alloc::Global;
 
-/// Makes a column of `len` nulls. SEL_TOO_MANY_ROWS: more than 4,294,967,295.
+/// Returns in `out` a column of `len` nulls.
+///
+/// Errors: SEL_TOO_MANY_ROWS: `len` is more than 4,294,967,295.
 #[unsafe(no_mangle)]
 pub extern "C" fn sel_null_new(alloc: Global, len: usize, out: &mut Handle) -> u32
     ensures rows { Makes result out.old.tree out.new.tree
@@ -32,8 +34,10 @@ pub extern "C" fn sel_null_new(alloc: Global, len: usize, out: &mut Handle) -> u
     }
 }
 
-/// Makes the column of `len` truth values, packed in `values`. SEL_OTHER_LENGTH: fewer bytes than `len` bits need;
-/// SEL_TOO_MANY_ROWS: more than 4,294,967,295 rows; SEL_VALIDITY_LENGTH: fewer bytes of validity than the rows need.
+/// Returns in `out` the boolean column of `len` bits packed in `values`.
+///
+/// Errors: SEL_OTHER_LENGTH: `values` has fewer than (len + 7) / 8 bytes. SEL_TOO_MANY_ROWS: `len`
+/// is more than 4,294,967,295. SEL_VALIDITY_LENGTH: the validity is too short.
 #[unsafe(no_mangle)]
 pub extern "C" fn sel_boolean_new(
     alloc: Global,
@@ -59,8 +63,10 @@ pub extern "C" fn sel_boolean_new(
     }
 }
 
-/// Makes the column of these numbers. SEL_TOO_MANY_ROWS: more than 4,294,967,295; SEL_VALIDITY_LENGTH: fewer bytes of
-/// validity than the rows need.
+/// Returns in `out` the column of these 8-bit integers.
+///
+/// Errors: SEL_TOO_MANY_ROWS: more than 4,294,967,295 values. SEL_VALIDITY_LENGTH: the validity is
+/// too short.
 #[unsafe(no_mangle)]
 pub extern "C" fn sel_int8_new(
     alloc: Global,
@@ -78,8 +84,10 @@ pub extern "C" fn sel_int8_new(
     make_numbers(alloc, values, bits, has_bits, out)
 }
 
-/// Makes the column of these numbers. SEL_TOO_MANY_ROWS: more than 4,294,967,295; SEL_VALIDITY_LENGTH: fewer bytes of
-/// validity than the rows need.
+/// Returns in `out` the column of these 16-bit integers.
+///
+/// Errors: SEL_TOO_MANY_ROWS: more than 4,294,967,295 values. SEL_VALIDITY_LENGTH: the validity is
+/// too short.
 #[unsafe(no_mangle)]
 pub extern "C" fn sel_int16_new(
     alloc: Global,
@@ -97,8 +105,10 @@ pub extern "C" fn sel_int16_new(
     make_numbers(alloc, values, bits, has_bits, out)
 }
 
-/// Makes the column of these numbers. SEL_TOO_MANY_ROWS: more than 4,294,967,295; SEL_VALIDITY_LENGTH: fewer bytes of
-/// validity than the rows need.
+/// Returns in `out` the column of these 32-bit integers.
+///
+/// Errors: SEL_TOO_MANY_ROWS: more than 4,294,967,295 values. SEL_VALIDITY_LENGTH: the validity is
+/// too short.
 #[unsafe(no_mangle)]
 pub extern "C" fn sel_int32_new(
     alloc: Global,
@@ -116,8 +126,10 @@ pub extern "C" fn sel_int32_new(
     make_numbers(alloc, values, bits, has_bits, out)
 }
 
-/// Makes the column of these numbers. SEL_TOO_MANY_ROWS: more than 4,294,967,295; SEL_VALIDITY_LENGTH: fewer bytes of
-/// validity than the rows need.
+/// Returns in `out` the column of these 64-bit integers.
+///
+/// Errors: SEL_TOO_MANY_ROWS: more than 4,294,967,295 values. SEL_VALIDITY_LENGTH: the validity is
+/// too short.
 #[unsafe(no_mangle)]
 pub extern "C" fn sel_int64_new(
     alloc: Global,
@@ -135,8 +147,10 @@ pub extern "C" fn sel_int64_new(
     make_numbers(alloc, values, bits, has_bits, out)
 }
 
-/// Makes the column of these numbers. SEL_TOO_MANY_ROWS: more than 4,294,967,295; SEL_VALIDITY_LENGTH: fewer bytes of
-/// validity than the rows need.
+/// Returns in `out` the column of these unsigned 8-bit integers.
+///
+/// Errors: SEL_TOO_MANY_ROWS: more than 4,294,967,295 values. SEL_VALIDITY_LENGTH: the validity is
+/// too short.
 #[unsafe(no_mangle)]
 pub extern "C" fn sel_uint8_new(
     alloc: Global,
@@ -154,8 +168,10 @@ pub extern "C" fn sel_uint8_new(
     make_numbers(alloc, values, bits, has_bits, out)
 }
 
-/// Makes the column of these numbers. SEL_TOO_MANY_ROWS: more than 4,294,967,295; SEL_VALIDITY_LENGTH: fewer bytes of
-/// validity than the rows need.
+/// Returns in `out` the column of these unsigned 16-bit integers.
+///
+/// Errors: SEL_TOO_MANY_ROWS: more than 4,294,967,295 values. SEL_VALIDITY_LENGTH: the validity is
+/// too short.
 #[unsafe(no_mangle)]
 pub extern "C" fn sel_uint16_new(
     alloc: Global,
@@ -173,8 +189,10 @@ pub extern "C" fn sel_uint16_new(
     make_numbers(alloc, values, bits, has_bits, out)
 }
 
-/// Makes the column of these numbers. SEL_TOO_MANY_ROWS: more than 4,294,967,295; SEL_VALIDITY_LENGTH: fewer bytes of
-/// validity than the rows need.
+/// Returns in `out` the column of these unsigned 32-bit integers.
+///
+/// Errors: SEL_TOO_MANY_ROWS: more than 4,294,967,295 values. SEL_VALIDITY_LENGTH: the validity is
+/// too short.
 #[unsafe(no_mangle)]
 pub extern "C" fn sel_uint32_new(
     alloc: Global,
@@ -192,8 +210,10 @@ pub extern "C" fn sel_uint32_new(
     make_numbers(alloc, values, bits, has_bits, out)
 }
 
-/// Makes the column of these numbers. SEL_TOO_MANY_ROWS: more than 4,294,967,295; SEL_VALIDITY_LENGTH: fewer bytes of
-/// validity than the rows need.
+/// Returns in `out` the column of these unsigned 64-bit integers.
+///
+/// Errors: SEL_TOO_MANY_ROWS: more than 4,294,967,295 values. SEL_VALIDITY_LENGTH: the validity is
+/// too short.
 #[unsafe(no_mangle)]
 pub extern "C" fn sel_uint64_new(
     alloc: Global,

@@ -1,4 +1,4 @@
-//! Columns of bytes, lists and tuples, made of slices and of columns that the calls take.
+//! Binary, list and struct columns, from offsets and child columns.
 
 ghost use Rattle.std.specs.Prelude.{◌≡◌, ◌≢◌, All, None, map};
 ghost use Rattle.sel_arrow.specs.Nested.{list_rows, block_rows, tuple_rows};
@@ -14,9 +14,11 @@ use sel_handle::several::take_all;
 use sel_handle::status::{NO_COLUMN, NO_MEMORY, put, status_of_maker};
 use std::alloc::Global;
 
-/// Makes the column whose row i is the bytes from `offsets[i]` up to `offsets[i + 1]`. SEL_OFFSET_COUNT,
-/// SEL_OFFSET_NEGATIVE, SEL_OFFSET_ORDER, SEL_VALIDITY_LENGTH, SEL_TOO_MANY_ROWS, SEL_OFFSET_RANGE: the first rule of
-/// these, in this order, that is broken.
+/// Returns in `out` the binary column whose row i is the bytes of `values` from `offsets[i]` up to
+/// `offsets[i + 1]`, exclusive.
+///
+/// Errors: SEL_OFFSET_COUNT, SEL_OFFSET_NEGATIVE, SEL_OFFSET_ORDER, SEL_VALIDITY_LENGTH,
+/// SEL_TOO_MANY_ROWS, SEL_OFFSET_RANGE.
 #[unsafe(no_mangle)]
 pub extern "C" fn sel_binary_new(
     alloc: Global,
@@ -39,10 +41,11 @@ pub extern "C" fn sel_binary_new(
     }
 }
 
-/// Makes the column whose row i is the list of the rows of `child` from `offsets[i]` up to `offsets[i + 1]`. It takes
-/// `child`, whatever it answers. SEL_NO_COLUMN: `child` has no column; SEL_OFFSET_COUNT, SEL_OFFSET_NEGATIVE,
-/// SEL_OFFSET_ORDER, SEL_VALIDITY_LENGTH, SEL_TOO_MANY_ROWS, SEL_OFFSET_RANGE: the first rule of these, in this order,
-/// that is broken.
+/// Returns in `out` the list column whose row i is the rows of `child` from `offsets[i]` up to
+/// `offsets[i + 1]`, exclusive. Takes `child`: it is empty afterwards, on error too.
+///
+/// Errors: SEL_NO_COLUMN: `child` is empty. SEL_OFFSET_COUNT, SEL_OFFSET_NEGATIVE,
+/// SEL_OFFSET_ORDER, SEL_VALIDITY_LENGTH, SEL_TOO_MANY_ROWS, SEL_OFFSET_RANGE.
 #[unsafe(no_mangle)]
 pub extern "C" fn sel_list_new(
     alloc: Global,
@@ -71,9 +74,11 @@ pub extern "C" fn sel_list_new(
     }
 }
 
-/// Makes the column of `len` lists of `width` rows of `child` each, one list after the other. It takes `child`,
-/// whatever it answers. SEL_NO_COLUMN: `child` has no column; SEL_VALIDITY_LENGTH, SEL_TOO_MANY_ROWS, SEL_WIDTH,
-/// SEL_CHILD_LENGTH: the first rule of these, in this order, that is broken.
+/// Returns in `out` the column of `len` fixed-size lists of `width` rows of `child` each, one list
+/// after the other. Takes `child`: it is empty afterwards, on error too.
+///
+/// Errors: SEL_NO_COLUMN: `child` is empty. SEL_VALIDITY_LENGTH, SEL_TOO_MANY_ROWS, SEL_WIDTH,
+/// SEL_CHILD_LENGTH.
 #[unsafe(no_mangle)]
 pub extern "C" fn sel_fixed_list_new(
     alloc: Global,
@@ -102,9 +107,12 @@ pub extern "C" fn sel_fixed_list_new(
     }
 }
 
-/// Makes the column of `len` tuples of the fields, in order. It takes `fields`: where it answers SEL_DONE each of them is
-/// `{0}`; else some may be, and the others still have to be freed. SEL_NO_COLUMN: a field has no column;
-/// SEL_VALIDITY_LENGTH, SEL_TOO_MANY_ROWS, SEL_FIELD_LENGTH: the first rule of these, in this order, that is broken.
+/// Returns in `out` the struct column of `len` rows with these fields, in order. Takes the fields:
+/// on success each of them is empty afterwards; on error some may be, and the caller still has to
+/// free the others.
+///
+/// Errors: SEL_NO_COLUMN: a field is empty. SEL_VALIDITY_LENGTH, SEL_TOO_MANY_ROWS,
+/// SEL_FIELD_LENGTH.
 #[unsafe(no_mangle)]
 pub extern "C" fn sel_struct_new(
     alloc: Global,

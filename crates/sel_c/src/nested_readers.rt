@@ -1,4 +1,4 @@
-//! What is read of columns of bytes between offsets and of lists.
+//! Offsets and bytes of binary and list columns.
 
 ghost use Rattle.std.specs.Prelude.{◌≡◌, ◌≢◌, None, Some, [], ◌∷◌, length};
 ghost use Rattle.std.specs.Option.{option_map};
@@ -11,9 +11,11 @@ use sel_handle::parts::{bytes_into, bytes_len_into, offsets_into};
 use sel_handle::status::NO_COLUMN;
 use std::alloc::Global;
 
-/// Writes the offsets of a column of bytes or lists into `out`, which has one place more than there are rows; the first
-/// one is above 0 where rows were cut off before. SEL_NO_COLUMN: there is no column; SEL_OTHER_KIND: it has no offsets;
-/// SEL_OTHER_LENGTH: `out` is of another length.
+/// Copies the offsets of a binary or list column to `out`. In a sliced column the first one may be
+/// above 0.
+///
+/// Errors: SEL_NO_COLUMN: `of` is empty. SEL_OTHER_KIND: its type has no offsets.
+/// SEL_OTHER_LENGTH: `out_len` is not the number of rows plus 1.
 #[unsafe(no_mangle)]
 pub extern "C" fn sel_offsets(alloc: Global, of: &mut Handle, out: &mut [i64]) -> u32
     ensures offsets { result ≡ done → Some (positions out.new) ≡ held_offsets of.old.tree }
@@ -33,8 +35,10 @@ pub extern "C" fn sel_offsets(alloc: Global, of: &mut Handle, out: &mut [i64]) -
     status
 }
 
-/// Writes how many bytes a column of bytes between offsets has. SEL_NO_COLUMN: there is no column; SEL_OTHER_KIND: it is
-/// of another kind.
+/// Returns in `len` the number of bytes of a binary column with offsets, including bytes outside
+/// of the rows.
+///
+/// Errors: SEL_NO_COLUMN: `of` is empty. SEL_OTHER_KIND: its type is not SEL_LARGE_BINARY.
 #[unsafe(no_mangle)]
 pub extern "C" fn sel_bytes_len(alloc: Global, of: &mut Handle, len: &mut usize) -> u32
     ensures len { result ≡ done → Some len.new ≡ option_map length (held_bytes of.old.tree) }
@@ -52,9 +56,10 @@ pub extern "C" fn sel_bytes_len(alloc: Global, of: &mut Handle, len: &mut usize)
     status
 }
 
-/// Writes the bytes of a column of bytes between offsets, those outside of the rows too, into `out`, which has a place
-/// for each. SEL_NO_COLUMN: there is no column; SEL_OTHER_KIND: it is of another kind; SEL_OTHER_LENGTH: `out` is of
-/// another length.
+/// Copies the bytes of a binary column with offsets to `out`, including bytes outside of the rows.
+///
+/// Errors: SEL_NO_COLUMN: `of` is empty. SEL_OTHER_KIND: its type is not SEL_LARGE_BINARY.
+/// SEL_OTHER_LENGTH: `out_len` is not what `sel_bytes_len` returns.
 #[unsafe(no_mangle)]
 pub extern "C" fn sel_bytes(alloc: Global, of: &mut Handle, out: &mut [u8]) -> u32
     ensures bytes { result ≡ done → Some out.new ≡ held_bytes of.old.tree }

@@ -1,4 +1,4 @@
-//! What is read of a column, which stays where it is.
+//! Properties and values of a column.
 
 ghost use Rattle.std.specs.Prelude.{◌≡◌, ◌≢◌, ◌+◌, ◌/◌, [], ◌∷◌, length, pos, count_by};
 ghost use Rattle.sel_bits.specs.Bits.{bits_from};
@@ -18,7 +18,7 @@ use sel_handle::outputs::{booleans_into, validity_into};
 use sel_handle::status::NO_COLUMN;
 use std::alloc::Global;
 
-/// How many rows there are, 0 where there is no column.
+/// Returns the number of rows, or 0 if `of` is empty.
 #[unsafe(no_mangle)]
 pub extern "C" fn sel_len(alloc: Global, of: &mut Handle) -> usize
     ensures rows { result ≡ length (held_rows of.old.tree) }
@@ -34,7 +34,7 @@ pub extern "C" fn sel_len(alloc: Global, of: &mut Handle) -> usize
     }
 }
 
-/// How many rows are null, 0 where there is no column.
+/// Returns the number of null rows, or 0 if `of` is empty.
 #[unsafe(no_mangle)]
 pub extern "C" fn sel_null_count(alloc: Global, of: &mut Handle) -> usize
     ensures rows { result ≡ count_by is_null (held_rows of.old.tree) }
@@ -50,7 +50,7 @@ pub extern "C" fn sel_null_count(alloc: Global, of: &mut Handle) -> usize
     }
 }
 
-/// The number of the column's kind (`enum sel_kind_number`), SEL_NO_KIND where there is no column.
+/// Returns the type of the column, one of `enum sel_kind_number`, or SEL_NO_KIND if `of` is empty.
 #[unsafe(no_mangle)]
 pub extern "C" fn sel_kind(alloc: Global, of: &mut Handle) -> u32
     ensures kind { result ≡ held_kind of.old.tree }
@@ -66,9 +66,11 @@ pub extern "C" fn sel_kind(alloc: Global, of: &mut Handle) -> u32
     }
 }
 
-/// Writes the bits of the validity into `out`, which has (rows + 7) / 8 bytes, and into `has` whether there is a
-/// validity; without one `out` may be of any length and stays as it is: each row is valid then, or in a column of nulls
-/// none. SEL_NO_COLUMN: there is no column; SEL_OTHER_LENGTH: `out` is of another length.
+/// Copies the validity to `out`, of (rows + 7) / 8 bytes, and returns in `has` whether the column
+/// has one. If it has none, `out` is unchanged and may have any length: each row is valid, or, in
+/// a column of SEL_NULL, null.
+///
+/// Errors: SEL_NO_COLUMN: `of` is empty. SEL_OTHER_LENGTH: `out_len` is not (rows + 7) / 8.
 #[unsafe(no_mangle)]
 pub extern "C" fn sel_validity(
     alloc: Global,
@@ -92,8 +94,10 @@ pub extern "C" fn sel_validity(
     status
 }
 
-/// Writes the truth values, those beneath nulls too, packed into `out`, which has (rows + 7) / 8 bytes. SEL_NO_COLUMN:
-/// there is no column; SEL_OTHER_KIND: it is not of truth values; SEL_OTHER_LENGTH: `out` is of another length.
+/// Copies the values, including those in null slots, as packed bits to `out`.
+///
+/// Errors: SEL_NO_COLUMN: `of` is empty. SEL_OTHER_KIND: its type is not SEL_BOOLEAN.
+/// SEL_OTHER_LENGTH: `out_len` is not (rows + 7) / 8.
 #[unsafe(no_mangle)]
 pub extern "C" fn sel_boolean_values(alloc: Global, of: &mut Handle, out: &mut [u8]) -> u32
     ensures values { result ≡ done → Shows
@@ -115,8 +119,10 @@ pub extern "C" fn sel_boolean_values(alloc: Global, of: &mut Handle, out: &mut [
     status
 }
 
-/// Writes the numbers, those beneath nulls too, into `out`, which has a place for each row. SEL_NO_COLUMN: there is no
-/// column; SEL_OTHER_KIND: it is of another kind; SEL_OTHER_LENGTH: `out` is of another length.
+/// Copies the values to `out`, including those in null slots.
+///
+/// Errors: SEL_NO_COLUMN: `of` is empty. SEL_OTHER_KIND: its type is not SEL_INT8.
+/// SEL_OTHER_LENGTH: `out_len` is not the number of rows.
 #[unsafe(no_mangle)]
 pub extern "C" fn sel_int8_values(alloc: Global, of: &mut Handle, out: &mut [i8]) -> u32
     ensures values { result ≡ done → Shows (numbers (λ x. x) out.new) (held_rows of.old.tree) }
@@ -131,8 +137,10 @@ pub extern "C" fn sel_int8_values(alloc: Global, of: &mut Handle, out: &mut [i8]
     held_numbers_into(alloc, of, out)
 }
 
-/// Writes the numbers, those beneath nulls too, into `out`, which has a place for each row. SEL_NO_COLUMN: there is no
-/// column; SEL_OTHER_KIND: it is of another kind; SEL_OTHER_LENGTH: `out` is of another length.
+/// Copies the values to `out`, including those in null slots.
+///
+/// Errors: SEL_NO_COLUMN: `of` is empty. SEL_OTHER_KIND: its type is not SEL_INT16.
+/// SEL_OTHER_LENGTH: `out_len` is not the number of rows.
 #[unsafe(no_mangle)]
 pub extern "C" fn sel_int16_values(alloc: Global, of: &mut Handle, out: &mut [i16]) -> u32
     ensures values { result ≡ done → Shows (numbers (λ x. x) out.new) (held_rows of.old.tree) }
@@ -147,8 +155,10 @@ pub extern "C" fn sel_int16_values(alloc: Global, of: &mut Handle, out: &mut [i1
     held_numbers_into(alloc, of, out)
 }
 
-/// Writes the numbers, those beneath nulls too, into `out`, which has a place for each row. SEL_NO_COLUMN: there is no
-/// column; SEL_OTHER_KIND: it is of another kind; SEL_OTHER_LENGTH: `out` is of another length.
+/// Copies the values to `out`, including those in null slots.
+///
+/// Errors: SEL_NO_COLUMN: `of` is empty. SEL_OTHER_KIND: its type is not SEL_INT32.
+/// SEL_OTHER_LENGTH: `out_len` is not the number of rows.
 #[unsafe(no_mangle)]
 pub extern "C" fn sel_int32_values(alloc: Global, of: &mut Handle, out: &mut [i32]) -> u32
     ensures values { result ≡ done → Shows (numbers (λ x. x) out.new) (held_rows of.old.tree) }
@@ -163,8 +173,10 @@ pub extern "C" fn sel_int32_values(alloc: Global, of: &mut Handle, out: &mut [i3
     held_numbers_into(alloc, of, out)
 }
 
-/// Writes the numbers, those beneath nulls too, into `out`, which has a place for each row. SEL_NO_COLUMN: there is no
-/// column; SEL_OTHER_KIND: it is of another kind; SEL_OTHER_LENGTH: `out` is of another length.
+/// Copies the values to `out`, including those in null slots.
+///
+/// Errors: SEL_NO_COLUMN: `of` is empty. SEL_OTHER_KIND: its type is not SEL_INT64.
+/// SEL_OTHER_LENGTH: `out_len` is not the number of rows.
 #[unsafe(no_mangle)]
 pub extern "C" fn sel_int64_values(alloc: Global, of: &mut Handle, out: &mut [i64]) -> u32
     ensures values { result ≡ done → Shows (numbers (λ x. x) out.new) (held_rows of.old.tree) }
@@ -179,8 +191,10 @@ pub extern "C" fn sel_int64_values(alloc: Global, of: &mut Handle, out: &mut [i6
     held_numbers_into(alloc, of, out)
 }
 
-/// Writes the numbers, those beneath nulls too, into `out`, which has a place for each row. SEL_NO_COLUMN: there is no
-/// column; SEL_OTHER_KIND: it is of another kind; SEL_OTHER_LENGTH: `out` is of another length.
+/// Copies the values to `out`, including those in null slots.
+///
+/// Errors: SEL_NO_COLUMN: `of` is empty. SEL_OTHER_KIND: its type is not SEL_UINT8.
+/// SEL_OTHER_LENGTH: `out_len` is not the number of rows.
 #[unsafe(no_mangle)]
 pub extern "C" fn sel_uint8_values(alloc: Global, of: &mut Handle, out: &mut [u8]) -> u32
     ensures values { result ≡ done → Shows (numbers pos out.new) (held_rows of.old.tree) }
@@ -195,8 +209,10 @@ pub extern "C" fn sel_uint8_values(alloc: Global, of: &mut Handle, out: &mut [u8
     held_numbers_into(alloc, of, out)
 }
 
-/// Writes the numbers, those beneath nulls too, into `out`, which has a place for each row. SEL_NO_COLUMN: there is no
-/// column; SEL_OTHER_KIND: it is of another kind; SEL_OTHER_LENGTH: `out` is of another length.
+/// Copies the values to `out`, including those in null slots.
+///
+/// Errors: SEL_NO_COLUMN: `of` is empty. SEL_OTHER_KIND: its type is not SEL_UINT16.
+/// SEL_OTHER_LENGTH: `out_len` is not the number of rows.
 #[unsafe(no_mangle)]
 pub extern "C" fn sel_uint16_values(alloc: Global, of: &mut Handle, out: &mut [u16]) -> u32
     ensures values { result ≡ done → Shows (numbers pos out.new) (held_rows of.old.tree) }
@@ -211,8 +227,10 @@ pub extern "C" fn sel_uint16_values(alloc: Global, of: &mut Handle, out: &mut [u
     held_numbers_into(alloc, of, out)
 }
 
-/// Writes the numbers, those beneath nulls too, into `out`, which has a place for each row. SEL_NO_COLUMN: there is no
-/// column; SEL_OTHER_KIND: it is of another kind; SEL_OTHER_LENGTH: `out` is of another length.
+/// Copies the values to `out`, including those in null slots.
+///
+/// Errors: SEL_NO_COLUMN: `of` is empty. SEL_OTHER_KIND: its type is not SEL_UINT32.
+/// SEL_OTHER_LENGTH: `out_len` is not the number of rows.
 #[unsafe(no_mangle)]
 pub extern "C" fn sel_uint32_values(alloc: Global, of: &mut Handle, out: &mut [u32]) -> u32
     ensures values { result ≡ done → Shows (numbers pos out.new) (held_rows of.old.tree) }
@@ -227,8 +245,10 @@ pub extern "C" fn sel_uint32_values(alloc: Global, of: &mut Handle, out: &mut [u
     held_numbers_into(alloc, of, out)
 }
 
-/// Writes the numbers, those beneath nulls too, into `out`, which has a place for each row. SEL_NO_COLUMN: there is no
-/// column; SEL_OTHER_KIND: it is of another kind; SEL_OTHER_LENGTH: `out` is of another length.
+/// Copies the values to `out`, including those in null slots.
+///
+/// Errors: SEL_NO_COLUMN: `of` is empty. SEL_OTHER_KIND: its type is not SEL_UINT64.
+/// SEL_OTHER_LENGTH: `out_len` is not the number of rows.
 #[unsafe(no_mangle)]
 pub extern "C" fn sel_uint64_values(alloc: Global, of: &mut Handle, out: &mut [u64]) -> u32
     ensures values { result ≡ done → Shows (numbers pos out.new) (held_rows of.old.tree) }

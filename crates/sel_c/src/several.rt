@@ -1,4 +1,4 @@
-//! Rows of several columns: side by side, and picked.
+//! Several columns: flatten and gather rows.
 
 ghost use Rattle.std.specs.Prelude.{◌≡◌, ◌≤◌, ◌<◌, ◌∷◌, All, false, length, map, IsTrue};
 ghost use Rattle.std.specs.List.{flat_map};
@@ -17,11 +17,14 @@ use sel_handle::handle::Handle;
 use sel_handle::several::share_all;
 use std::alloc::Global;
 
-/// Makes the column of the rows side by side: row r of `height` has of each column, in their order, its `widths[i]` rows
-/// from `r * widths[i]` on, or its only `widths[i]` rows where it has no more; all of them stand behind one another.
-/// SEL_NO_COLUMN: one of `columns` has no column; SEL_OTHER_TYPE: not all are of one type; SEL_OTHER_LENGTH: there are no
-/// columns, or not as many widths, a width is 0, or a column has neither so many rows for each row of the answer nor for
-/// one alone; SEL_LIMIT_ROWS, SEL_LIMIT_BYTES, SEL_LIMIT_BUFFERS: the answer needs more.
+/// Concatenates columns row by row. Returns in `out`, for each r below `height`, in order,
+/// `widths[i]` rows of each column i: those from row `r * widths[i]` on, or, where the column has
+/// only `widths[i]` rows, all of them.
+///
+/// Errors: SEL_NO_COLUMN: a column is empty. SEL_OTHER_TYPE: the columns have different types.
+/// SEL_OTHER_LENGTH: there are no columns, `widths_len` is not `columns_len`, a width is 0, or a
+/// column has neither `height * widths[i]` nor `widths[i]` rows. SEL_LIMIT_ROWS, SEL_LIMIT_BYTES,
+/// SEL_LIMIT_BUFFERS: the result exceeds a size limit.
 #[unsafe(no_mangle)]
 pub extern "C" fn sel_flatten(
     alloc: Global,
@@ -60,11 +63,14 @@ pub extern "C" fn sel_flatten(
     }
 }
 
-/// Makes the column whose row k is row `picks[k].row` of `sources[picks[k].source]`, or null where bit k of the validity
-/// is 0. SEL_NO_COLUMN: one of `sources` has no column; SEL_TOO_MANY_ROWS: there are more than 4,294,967,295 picks;
-/// SEL_VALIDITY_LENGTH: fewer bytes of validity than the picks need; SEL_OTHER_LENGTH: there are no sources;
-/// SEL_OTHER_TYPE: not all are of one type; SEL_OUT_OF_BOUNDS: a pick that is not null names no row; SEL_LIMIT_ROWS,
-/// SEL_LIMIT_BYTES, SEL_LIMIT_BUFFERS: the rows that are picked need more.
+/// Returns in `out` the column whose row k is row `picks[k].row` of `sources[picks[k].source]`, or
+/// null if bit k of the validity is 0.
+///
+/// Errors: SEL_NO_COLUMN: a source is empty. SEL_TOO_MANY_ROWS: more than 4,294,967,295 picks.
+/// SEL_VALIDITY_LENGTH: the validity is too short. SEL_OTHER_LENGTH: there are no sources.
+/// SEL_OTHER_TYPE: the sources have different types. SEL_OUT_OF_BOUNDS: the source or the row of a
+/// pick that is not null is out of bounds. SEL_LIMIT_ROWS, SEL_LIMIT_BYTES, SEL_LIMIT_BUFFERS: the
+/// result exceeds a size limit.
 #[unsafe(no_mangle)]
 pub extern "C" fn sel_collect_rows(
     alloc: Global,

@@ -1,4 +1,4 @@
-//! The rows at indices.
+//! Take (gather).
 
 ghost use Rattle.std.specs.Prelude.{◌≡◌, ◌≤◌, ◌∷◌, false, length, pos, IsTrue};
 ghost use Rattle.sel_bits.specs.declared.faults.Malformed.TheVariants.{TooManyRows, ValidityLength};
@@ -15,9 +15,11 @@ use sel_handle::handle::Handle;
 use sel_handle::status::NO_COLUMN;
 use std::alloc::Global;
 
-/// Makes the column whose row k is the row of `of` at index k, or null where index k is null. SEL_NO_COLUMN: `of` or
-/// `indices` has no column; SEL_OTHER_KIND: `indices` is not of unsigned numbers of 32 bits; SEL_OUT_OF_BOUNDS: an
-/// index that is not null names no row; SEL_LIMIT_ROWS, SEL_LIMIT_BYTES: the rows that are asked for need more.
+/// Returns in `out` the rows of `of` at `indices`. A null index gives a null row.
+///
+/// Errors: SEL_NO_COLUMN: `of` or `indices` is empty. SEL_OTHER_KIND: the type of `indices` is not
+/// SEL_UINT32. SEL_OUT_OF_BOUNDS: an index that is not null is out of bounds. SEL_LIMIT_ROWS,
+/// SEL_LIMIT_BYTES: the result exceeds a size limit.
 #[unsafe(no_mangle)]
 pub extern "C" fn sel_take(
     alloc: Global,
@@ -55,10 +57,12 @@ pub extern "C" fn sel_take(
     status
 }
 
-/// Makes the column whose row k is the row of `of` at `indices[k]`, or null where bit k of the validity is 0.
-/// SEL_NO_COLUMN: `of` has no column; SEL_TOO_MANY_ROWS: there are more than 4,294,967,295 indices;
-/// SEL_VALIDITY_LENGTH: fewer bytes of validity than the indices need; SEL_OUT_OF_BOUNDS: an index that is not null names
-/// no row; SEL_LIMIT_ROWS, SEL_LIMIT_BYTES: the rows that are asked for need more.
+/// Returns in `out` the rows of `of` at `indices`. An index whose validity bit is 0 gives a null
+/// row.
+///
+/// Errors: SEL_NO_COLUMN: `of` is empty. SEL_TOO_MANY_ROWS: more than 4,294,967,295 indices.
+/// SEL_VALIDITY_LENGTH: the validity is too short. SEL_OUT_OF_BOUNDS: an index that is not null is
+/// out of bounds. SEL_LIMIT_ROWS, SEL_LIMIT_BYTES: the result exceeds a size limit.
 #[unsafe(no_mangle)]
 pub extern "C" fn sel_take_rows(
     alloc: Global,

@@ -1,4 +1,4 @@
-//! Rows compared, as a text, and read from one.
+//! Comparison, printing and parsing.
 
 ghost use Rattle.std.specs.Prelude.{◌≡◌, ◌≤◌, ◌↔◌, List, [], ◌∷◌, length, IsTrue};
 ghost use Rattle.sel_arrow.specs.Rows.{rows, type_of};
@@ -17,9 +17,11 @@ use sel_handle::status::{DONE, NO_COLUMN};
 use sel_text::equal::equal_rows;
 use std::alloc::Global;
 
-/// Writes whether the two columns have the same rows. The values decide and not the types: 1 is the same number in columns
-/// of any numbers, and what lies beneath a null is not looked at. It takes no memory. SEL_NO_COLUMN: `of` or `other` has no
-/// column.
+/// Returns in `equal` whether two columns have the same rows. It compares values, not types: 1 is
+/// equal to 1 in columns of any integer types. Values in null slots are ignored. Does not
+/// allocate.
+///
+/// Errors: SEL_NO_COLUMN: `of` or `other` is empty.
 #[unsafe(no_mangle)]
 pub extern "C" fn sel_equal_rows(
     alloc: Global,
@@ -48,9 +50,11 @@ pub extern "C" fn sel_equal_rows(
     DONE
 }
 
-/// Writes the rows as a text, as in `[1,null,-3]`, without a zero behind it: as many of its bytes as `out` has room for,
-/// and into `len` how many it has. Texts stand between quotes as in JSON, bytes as in `h"00ff"`, lists between brackets,
-/// tuples between parentheses. SEL_NO_COLUMN: there is no column.
+/// Writes the rows as text, such as `[1,null,-3]`, without a terminating zero: as many bytes as
+/// fit into `out`. Returns in `len` the number of bytes of the whole text. Strings are quoted as
+/// in JSON; binary is written as `h"00ff"`, a list in brackets, a struct in parentheses.
+///
+/// Errors: SEL_NO_COLUMN: `of` is empty.
 #[unsafe(no_mangle)]
 pub extern "C" fn sel_print(alloc: Global, of: &mut Handle, out: &mut [u8], len: &mut usize) -> u32
     ensures text { result ≡ done → out.new ≡ filled (held_text of.old.tree) out.old }
@@ -67,13 +71,16 @@ pub extern "C" fn sel_print(alloc: Global, of: &mut Handle, out: &mut [u8], len:
     status
 }
 
-/// Makes the column of the type that `dtype` names, as in `struct<list<i8>,fixed<2,utf8>>`, with the rows of `text`, which
-/// is written as by `sel_print`; both are UTF-8, and spaces between their parts are passed over. Types are null, bool, i8
-/// to i128, u8 to u128, binary (bytes between offsets), binview and utf8 (by views), list<..>, fixed<n,..> and struct<..>.
-/// SEL_TYPE_SYNTAX: `dtype` names no type; SEL_TEXT_SYNTAX: `text` is none of rows; SEL_TEXT_MISFIT: a row does not fit the
-/// type. With these three, `at` is the place of the first byte at which that text goes wrong, counted from 0, or its length
-/// where it ends too soon; with any other number `at` stays. SEL_TEXT_LIMIT: the column would pass a limit, or the type has
-/// more than 64 levels of children.
+/// Returns in `out` the column of the type `dtype`, such as `struct<list<i8>,fixed<2,utf8>>`, with
+/// the rows of `text`, in the format that `sel_print` writes. Both are UTF-8. Spaces between
+/// tokens are ignored. The types are null, bool, i8 to i128, u8 to u128, binary (with offsets),
+/// binview and utf8 (views), list<..>, fixed<n,..> and struct<..>.
+///
+/// Errors: SEL_TYPE_SYNTAX: syntax error in `dtype`. SEL_TEXT_SYNTAX: syntax error in `text`.
+/// SEL_TEXT_MISFIT: a value in `text` does not fit the type. With these three, `at` is the index
+/// of the first wrong byte, or the length if the text ends too soon; else `at` is unchanged.
+/// SEL_TEXT_LIMIT: the column exceeds a size limit, or the type has more than 64 levels of
+/// children; if the type exceeds it, this is returned before later errors.
 #[unsafe(no_mangle)]
 pub extern "C" fn sel_parse(
     alloc: Global,

@@ -1,4 +1,4 @@
-//! Columns of bytes and texts that views name.
+//! Binary and string columns of views.
 
 ghost use Rattle.std.specs.Prelude.{◌≡◌, ◌≢◌, None, Some, [], ◌∷◌, length, map, slice_get};
 ghost use Rattle.std.specs.Option.{option_map};
@@ -15,9 +15,11 @@ use sel_handle::view_parts::{buffer_count_into, buffer_into, buffer_len_into, vi
 use sel_handle::views::{ViewWords, binview_of, utf8view_of};
 use std::alloc::Global;
 
-/// Makes the column of the bytes that views name, in themselves up to 12 bytes and else in a data buffer. The first rule
-/// of these, in this order, that is broken: SEL_VALIDITY_LENGTH, SEL_TOO_MANY_ROWS, SEL_TOO_MANY_BUFFERS, and then, view
-/// by view, beneath nulls too, SEL_VIEW_RANGE, SEL_VIEW_PREFIX.
+/// Returns in `out` the binary column of these views: a value of up to 12 bytes is stored in its
+/// view, a longer one in a data buffer.
+///
+/// Errors: SEL_VALIDITY_LENGTH, SEL_TOO_MANY_ROWS, SEL_TOO_MANY_BUFFERS; then for each view in
+/// order, in null slots too, SEL_VIEW_RANGE, SEL_VIEW_PREFIX.
 #[unsafe(no_mangle)]
 pub extern "C" fn sel_binview_new(
     alloc: Global,
@@ -41,9 +43,12 @@ pub extern "C" fn sel_binview_new(
     }
 }
 
-/// Makes the column of the UTF-8 texts that views name, in themselves up to 12 bytes and else in a data buffer. The first rule
-/// of these, in this order, that is broken: SEL_VALIDITY_LENGTH, SEL_TOO_MANY_ROWS, SEL_TOO_MANY_BUFFERS; then, view by view,
-/// beneath nulls too, SEL_VIEW_RANGE, SEL_VIEW_PREFIX; and last SEL_UTF8, of rows that are not null.
+/// Returns in `out` the string column of these views: a value of up to 12 bytes is stored in its
+/// view, a longer one in a data buffer.
+///
+/// Errors: SEL_VALIDITY_LENGTH, SEL_TOO_MANY_ROWS, SEL_TOO_MANY_BUFFERS; then for each view in
+/// order, in null slots too, SEL_VIEW_RANGE, SEL_VIEW_PREFIX; then SEL_UTF8, for rows that are not
+/// null.
 #[unsafe(no_mangle)]
 pub extern "C" fn sel_utf8view_new(
     alloc: Global,
@@ -67,8 +72,10 @@ pub extern "C" fn sel_utf8view_new(
     }
 }
 
-/// Writes the views, those beneath nulls too, into `out`, which has a place for each row. SEL_NO_COLUMN: there is no
-/// column; SEL_OTHER_KIND: it is not of views; SEL_OTHER_LENGTH: `out` is of another length.
+/// Copies the views to `out`, including those in null slots.
+///
+/// Errors: SEL_NO_COLUMN: `of` is empty. SEL_OTHER_KIND: its type is not SEL_BINARY_VIEW or
+/// SEL_UTF8_VIEW. SEL_OTHER_LENGTH: `out_len` is not the number of rows.
 #[unsafe(no_mangle)]
 pub extern "C" fn sel_views(alloc: Global, of: &mut Handle, out: &mut [ViewWords]) -> u32
     ensures views { result ≡ done → Some (views_in out.new) ≡ held_views of.old.tree }
@@ -88,8 +95,10 @@ pub extern "C" fn sel_views(alloc: Global, of: &mut Handle, out: &mut [ViewWords
     status
 }
 
-/// Writes how many data buffers a column of views has. SEL_NO_COLUMN: there is no column; SEL_OTHER_KIND: it is not of
-/// views.
+/// Returns in `count` the number of data buffers of a view column.
+///
+/// Errors: SEL_NO_COLUMN: `of` is empty. SEL_OTHER_KIND: its type is not SEL_BINARY_VIEW or
+/// SEL_UTF8_VIEW.
 #[unsafe(no_mangle)]
 pub extern "C" fn sel_buffer_count(alloc: Global, of: &mut Handle, count: &mut usize) -> u32
     ensures count { result ≡ done → Some count.new ≡ option_map length (held_buffers of.old.tree) }
@@ -107,8 +116,10 @@ pub extern "C" fn sel_buffer_count(alloc: Global, of: &mut Handle, count: &mut u
     status
 }
 
-/// Writes how many bytes data buffer `i` has, counted from 0. SEL_NO_COLUMN: there is no column; SEL_OTHER_KIND: it is not
-/// of views; SEL_OUT_OF_BOUNDS: it has no such buffer.
+/// Returns in `len` the number of bytes of data buffer `i`, counted from 0.
+///
+/// Errors: SEL_NO_COLUMN: `of` is empty. SEL_OTHER_KIND: its type is not SEL_BINARY_VIEW or
+/// SEL_UTF8_VIEW. SEL_OUT_OF_BOUNDS: there is no data buffer `i`.
 #[unsafe(no_mangle)]
 pub extern "C" fn sel_buffer_len(alloc: Global, of: &mut Handle, i: usize, len: &mut usize) -> u32
     ensures len { result ≡ done → option_map (λ buffers. option_map length (slice_get buffers i))
@@ -129,9 +140,11 @@ pub extern "C" fn sel_buffer_len(alloc: Global, of: &mut Handle, i: usize, len: 
     status
 }
 
-/// Writes the bytes of data buffer `i` into `out`, which has a place for each. SEL_NO_COLUMN: there is no column;
-/// SEL_OTHER_KIND: it is not of views; SEL_OUT_OF_BOUNDS: it has no such buffer; SEL_OTHER_LENGTH: `out` is of another
-/// length.
+/// Copies the bytes of data buffer `i`, counted from 0, to `out`.
+///
+/// Errors: SEL_NO_COLUMN: `of` is empty. SEL_OTHER_KIND: its type is not SEL_BINARY_VIEW or
+/// SEL_UTF8_VIEW. SEL_OUT_OF_BOUNDS: there is no data buffer `i`. SEL_OTHER_LENGTH: `out_len` is
+/// not the length of the buffer.
 #[unsafe(no_mangle)]
 pub extern "C" fn sel_buffer(alloc: Global, of: &mut Handle, i: usize, out: &mut [u8]) -> u32
     ensures bytes { result ≡ done → option_map (λ buffers. slice_get buffers i)

@@ -1,4 +1,4 @@
-//! Columns as a whole: shared, sliced and freed.
+//! Columns: slice, share, free.
 
 ghost use Rattle.std.specs.Prelude.{◌≡◌, ◌≤◌, ◌+◌, [], ◌∷◌, length, take, drop, None};
 ghost use Rattle.sel_arrow.specs.Rows.{rows, type_of};
@@ -9,8 +9,10 @@ use sel_handle::handle::Handle;
 use sel_handle::status::{NO_COLUMN, NO_MEMORY, OUT_OF_BOUNDS, put};
 use std::alloc::Global;
 
-/// Makes the column of the `len` rows from row `off` on; it shares the buffers of `of`. SEL_NO_COLUMN: `of` has no
-/// column; SEL_OUT_OF_BOUNDS: it has fewer than `off + len` rows.
+/// Returns in `out` the `len` rows of `of` from row `off` on. The result shares the buffers of
+/// `of`.
+///
+/// Errors: SEL_NO_COLUMN: `of` is empty. SEL_OUT_OF_BOUNDS: `of` has fewer than `off + len` rows.
 #[unsafe(no_mangle)]
 pub extern "C" fn sel_sliced(
     alloc: Global,
@@ -44,7 +46,9 @@ pub extern "C" fn sel_sliced(
     }
 }
 
-/// Makes a second column of the same rows; it shares the buffers of `of`. SEL_NO_COLUMN: `of` has no column.
+/// Returns in `out` a second column with the same rows, which shares the buffers of `of`.
+///
+/// Errors: SEL_NO_COLUMN: `of` is empty.
 #[unsafe(no_mangle)]
 pub extern "C" fn sel_share(alloc: Global, of: &mut Handle, out: &mut Handle) -> u32
     ensures rows { Makes result out.old.tree out.new.tree
@@ -66,7 +70,7 @@ pub extern "C" fn sel_share(alloc: Global, of: &mut Handle, out: &mut Handle) ->
     }
 }
 
-/// Frees the column, if there is one; the handle is `{0}` afterwards.
+/// Frees the column of `of`, if there is one. `of` is empty afterwards.
 #[unsafe(no_mangle)]
 pub extern "C" fn sel_free(alloc: Global, of: &mut Handle)
     ensures { of.new.tree ≡ None }

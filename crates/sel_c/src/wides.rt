@@ -1,4 +1,4 @@
-//! Columns of numbers of 128 bits, which pass as two words each.
+//! Columns of 128-bit integers, passed as two words each.
 
 ghost use Rattle.std.specs.Prelude.{◌≡◌, [], ◌∷◌, length};
 ghost use Rattle.sel_arrow.specs.Masked.{number_rows};
@@ -15,8 +15,10 @@ use sel_handle::handle::Handle;
 use sel_handle::status::{NO_COLUMN, put, status_of_maker};
 use std::alloc::Global;
 
-/// Makes the column of the numbers, each in two's complement. The first rule of these, in this order, that is broken:
-/// SEL_TOO_MANY_ROWS, more than 4,294,967,295; SEL_VALIDITY_LENGTH, fewer bytes of validity than the rows need.
+/// Returns in `out` the column of these 128-bit integers in two's complement.
+///
+/// Errors: SEL_TOO_MANY_ROWS: more than 4,294,967,295 values. SEL_VALIDITY_LENGTH: the validity is
+/// too short.
 #[unsafe(no_mangle)]
 pub extern "C" fn sel_int128_new(
     alloc: Global,
@@ -37,8 +39,10 @@ pub extern "C" fn sel_int128_new(
     }
 }
 
-/// Writes the numbers, those beneath nulls too, into `out`, which has a place for each row. SEL_NO_COLUMN: there is no
-/// column; SEL_OTHER_KIND: it is of another kind; SEL_OTHER_LENGTH: `out` is of another length.
+/// Copies the values to `out`, including those in null slots.
+///
+/// Errors: SEL_NO_COLUMN: `of` is empty. SEL_OTHER_KIND: its type is not SEL_INT128.
+/// SEL_OTHER_LENGTH: `out_len` is not the number of rows.
 #[unsafe(no_mangle)]
 pub extern "C" fn sel_int128_values(alloc: Global, of: &mut Handle, out: &mut [Wide]) -> u32
     ensures values { result ≡ done → Shows (numbers signed_wide out.new) (held_rows of.old.tree) }
@@ -58,8 +62,10 @@ pub extern "C" fn sel_int128_values(alloc: Global, of: &mut Handle, out: &mut [W
     status
 }
 
-/// Makes the column of the numbers, each unsigned. The first rule of these, in this order, that is broken:
-/// SEL_TOO_MANY_ROWS, more than 4,294,967,295; SEL_VALIDITY_LENGTH, fewer bytes of validity than the rows need.
+/// Returns in `out` the column of these unsigned 128-bit integers.
+///
+/// Errors: SEL_TOO_MANY_ROWS: more than 4,294,967,295 values. SEL_VALIDITY_LENGTH: the validity is
+/// too short.
 #[unsafe(no_mangle)]
 pub extern "C" fn sel_uint128_new(
     alloc: Global,
@@ -80,8 +86,10 @@ pub extern "C" fn sel_uint128_new(
     }
 }
 
-/// Writes the numbers, those beneath nulls too, into `out`, which has a place for each row. SEL_NO_COLUMN: there is no
-/// column; SEL_OTHER_KIND: it is of another kind; SEL_OTHER_LENGTH: `out` is of another length.
+/// Copies the values to `out`, including those in null slots.
+///
+/// Errors: SEL_NO_COLUMN: `of` is empty. SEL_OTHER_KIND: its type is not SEL_UINT128.
+/// SEL_OTHER_LENGTH: `out_len` is not the number of rows.
 #[unsafe(no_mangle)]
 pub extern "C" fn sel_uint128_values(alloc: Global, of: &mut Handle, out: &mut [Wide]) -> u32
     ensures values { result ≡ done → Shows (numbers unsigned_wide out.new) (held_rows of.old.tree) }
