@@ -1,4 +1,4 @@
--- Several columns of one type, and the columns that are lent of them.
+-- Several columns of one type.
 use Rattle.std.proofs.Common.{◌≡◌, ℕ, ◌<◌, All, Some, List, [], ◌∷◌, length, map, refl, sym, ap, ◌∙◌, get_or}
 use Rattle.std.specs.List.{slice_get}
 use Rattle.std.proofs.lemmas.Option.{get_or_from_slice_get}
@@ -14,7 +14,7 @@ pub first_same : (arrays : List ArrayRef) → first_shape (map (λ array. type_o
 first_same [] = refl
 first_same (array ∷ arrays) = refl
 
--- of one type, said of the columns and of their types
+-- columns of one type have types that are all the same
 pub alike_types : (arrays : List ArrayRef) → All (λ a. type_of a.column ≡ first_shape (map (λ array. type_of array.column) arrays)) arrays → AreAlike (map (λ array. type_of array.column) arrays)
 alike_types arrays all = All-map (λ (s : Shape). s ≡ first_shape (map (λ (array : ArrayRef). type_of array.column) arrays)) (λ (array : ArrayRef). type_of array.column) arrays all
 
@@ -23,7 +23,7 @@ alike_columns arrays all k d below =
     let there : k < length (map (λ (array : ArrayRef). type_of array.column) arrays) = rw length-map below in
     sym (get_or-map (λ (array : ArrayRef). type_of array.column) arrays k d (type_of d.column) below) ∙ all k (type_of d.column) there ∙ first_same arrays
 
--- where one is of another type than the first, they are not of one type
+-- if a column has a different type from the first, the types are not all the same
 pub not_alike : (arrays : List ArrayRef) (k : ℕ) (a d : ArrayRef) → k < length arrays → a ≡ get_or arrays k d → (type_of a.column ≡ first_shape (map (λ array. type_of array.column) arrays) → ⊥) → AreAlike (map (λ array. type_of array.column) arrays) → ⊥
 not_alike arrays k a d below is other all =
     other (ap (λ (x : ArrayRef). type_of x.column) is ∙ alike_columns arrays all k d below ∙ sym (first_same arrays))

@@ -1,4 +1,4 @@
--- What lies below a well-formed column is well-formed.
+-- Children and fields of a well-formed column are well-formed.
 use Rattle.std.proofs.Common.{◌≡◌, ℕ, ◌<◌, true, length, arith, Option, Vec, Global, sym, ap, ◌∙◌}
 use Rattle.sel_arrow.specs.Rows.{type_of, well_formed, all_well_formed}
 use Rattle.sel_bits.specs.Bits.{Bits}
@@ -20,7 +20,7 @@ child_is_formed c formed is = child_formed c is formed
 pub fields_found : (c : Column) (len : ℕ) (fields : Vec Column Global) (validity : Option Bits) → c ≡ Struct len fields validity → fields.items ≡ fields_of c
 fields_found c len fields validity is = sym (ap fields_of is ∙ fields_of-Struct len fields validity)
 
--- the same of a column that is known to be the field
+-- a column that is the field is well-formed
 pub part_is_formed : (c x : Column) (j : ℕ) → x ≡ field j c → well_formed c ≡ true → j < length (fields_of c) → well_formed x ≡ true
 part_is_formed c x j same formed h = ap well_formed same ∙ field_is_formed c j formed h
 

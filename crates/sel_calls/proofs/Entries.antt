@@ -1,4 +1,4 @@
--- What a getter of lists of one length answers, by the rows and the type of the lists.
+-- Results of element access for fixed-size lists, by the rows and the type of the lists.
 use Rattle.std.proofs.Common.{◌≡◌, ℕ, ℤ, Bool, false, true≢false, length, List, ◌∷◌, replicate, w64, FitsSigned, to_z, of_z, ap, sym, subst, ◌∙◌, arith}
 use Rattle.std.proofs.lemmas.Int.{to_z-of_z}
 use Rattle.sel_bits.specs.declared.faults.PolarsError.{PolarsError}
@@ -12,7 +12,7 @@ use Rattle.sel_handle.specs.Status.{done, error_status, get_out_of_bounds, limit
 use Rattle.sel_sublists.specs.Entries.{at_each, out_of_bounds, past_entries, IsGetRefusal}
 use Rattle.sel_calls.proofs.Limits.{limit_high, tells-none, tells-passed}
 
--- the index that the call hands on, for each list, is the one given, for each row
+-- the index that the call passes for each list is the given index for each row
 pub same-indices : (arr : FixedSizeListArray) (index : ℤ) → FitsSigned w64 index → at_each arr (to_z w64 (of_z w64 index)) ≡ replicate (length (rows (block_column arr))) (Number index)
 same-indices arr index fits = ap (λ i. at_each arr i) (to_z-of_z w64 index fits) ∙ ap (λ n. replicate n (Number index)) (sym (length-rows (block_column arr)))
 
@@ -21,7 +21,7 @@ get-limits status null_on_oob arr indices OutOfMemory number refusal = tells-pas
 get-limits status null_on_oob arr indices (SizeLimit limit) number refusal = tells-passed status (past_entries arr indices) (SizeLimit limit) number refusal.1
 get-limits status null_on_oob arr indices ComputeError number refusal = tells-none status (past_entries arr indices) (omega (arith, number))
 
--- a number that tells no index without a place is told where each has one
+-- a limit status implies that there is no error for an index
 pub get-inside : (status : ℕ) (null_on_oob : Bool) (arr : FixedSizeListArray) (indices : List Value) (fault : PolarsError) → status ≡ error_status fault → IsGetRefusal null_on_oob arr indices fault → IsOneOf status (done ∷ limit_statuses) → out_of_bounds null_on_oob arr indices ≡ false
 get-inside status null_on_oob arr indices OutOfMemory number refusal one = refusal.0
 get-inside status null_on_oob arr indices (SizeLimit limit) number refusal one = refusal.0

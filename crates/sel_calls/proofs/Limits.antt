@@ -1,4 +1,4 @@
--- The numbers of limits tell them apart.
+-- The statuses of limits are distinct.
 use Rattle.std.proofs.Common.{◌≡◌, ℕ, ◌<◌, ◌≤◌, refl, subst, sym, ◌∙◌, arith}
 use Rattle.sel_bits.specs.declared.faults.Limit.{Limit}
 use Rattle.sel_bits.specs.declared.faults.Limit.TheVariants.{Rows, Bytes, Buffers, ViewBytes}
@@ -13,7 +13,7 @@ limit_high Bytes = omega arith
 limit_high Buffers = omega arith
 limit_high ViewBytes = omega arith
 
--- a number below those of limits tells none
+-- a status less than 8 is not that of a limit
 pub tells-none : (status : ℕ) (Past : Limit → Type 0) → status < 8 → TellsLimits status Past
 tells-none status Past low limit same = let high = limit_high limit in absurd (omega (arith, same, low, high))
 
@@ -35,7 +35,7 @@ apart ViewBytes Bytes same = absurd (omega (arith, same))
 apart ViewBytes Buffers same = absurd (omega (arith, same))
 apart ViewBytes ViewBytes same = refl
 
--- the number of an error that a passed limit explains tells that limit
+-- an error for an exceeded limit has the status of this limit
 pub tells-passed : (status : ℕ) (Past : Limit → Type 0) (fault : PolarsError) → status ≡ error_status fault → IsRefusal Past fault → TellsLimits status Past
 tells-passed status Past OutOfMemory is past other same = tells-none status Past (omega (arith, is)) other same
 tells-passed status Past (SizeLimit limit) is past other same = subst Past (apart limit other (sym is ∙ same)) past

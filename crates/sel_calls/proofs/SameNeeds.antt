@@ -1,4 +1,4 @@
--- What rows need of columns depends on the types and the data buffers of these alone.
+-- The limits that rows exceed depend only on the types and the data buffers of their columns.
 use Rattle.std.proofs.Common.{◌≡◌, inl, inr, ℕ, zero, suc, ◌+◌, ◌<◌, ◌⊎◌, Bool, true, false, All, Option, None, Some, List, [], ◌∷◌, ◌++◌, length, take, drop, map, refl, sym, ap, subst, ◌∙◌, arith, get_or, length-append}
 use Rattle.std.specs.Bool.{⊤}
 use Rattle.std.specs.List.{flat_map}
@@ -22,7 +22,7 @@ use Rattle.sel_runs.specs.Picks.{pick}
 use Rattle.sel_calls.specs.Several.{first_shape, AreAlike}
 use Rattle.sel_calls.proofs.Alike.{alike_columns, first_same}
 
--- how many columns of views there are in a column of this type
+-- the number of view columns in a column of this type
 abbrev mutual
   leaves : Shape → ℕ
   leaves of_binary_view = 1
@@ -48,13 +48,13 @@ mutual
   each_long n (more_of-Column column columns) =
       length-append (buffers_held column) (buffers_of_each columns) ∙ ap (λ n. n + length (buffers_of_each columns)) (held_long column) ∙ ap (λ n. leaves (type_of column) + n) (each_long _ columns)
 
--- two columns of one type that hold the same data buffers
+-- two columns of one type with the same data buffers
 pub record Like (s : Shape) (c d : Column) : Type 0 where
   pub first : type_of c ≡ s
   pub second : type_of d ≡ s
   pub held : buffers_held c ≡ buffers_held d
 
--- the same of several, one by one
+-- the same of two lists of columns, pairwise
 abbrev pub AllLike : Shape → List Column → List Column → Type 0
 AllLike s [] [] = ⊤
 AllLike s [] (d ∷ ds) = ⊥
@@ -67,7 +67,7 @@ mapped s t f each [] (d ∷ ds) like = absurd like
 mapped s t f each (c ∷ cs) [] like = absurd like
 mapped s t f each (c ∷ cs) (d ∷ ds) like = (each c d like.0, mapped s t f each cs ds like.1)
 
--- ---- columns of views
+-- ---- view columns
 
 abbrev is_viewed : Shape → Bool
 is_viewed of_binary_view = true
@@ -158,10 +158,10 @@ fields_like ss k below c d like =
     let two = field_piece d ss like.second k below in
     record { first = one.0; second = two.0; held = one.1 ∙ ap (piece k ss) like.held ∙ sym two.1 }
 
--- ---- all of them
+-- ---- all types
 
 mutual
-  -- which limits rows pass, of columns that are alike
+  -- rows exceed the same limits with columns of the same type and data buffers
   pub same_needs : (s : Shape) (cs ds : List Column) → AllLike s cs ds → (vs : List Value) (limit : Limit) → past_taken s cs vs limit → past_taken s ds vs limit
   same_needs of_large_binary cs ds like vs limit past = past
   same_needs of_binary_view cs ds like vs limit past = subst (λ n. IsPastBuffers n limit) (joined of_binary_view refl cs ds like) past
@@ -188,7 +188,7 @@ mutual
       inr (same_fields ss (j + 1) cs ds (λ k below. let place : j + suc k ≡ (j + 1) + k = omega arith in
       subst (λ n. AllLike (get_or (shape_list ss) k of_null) (map (field n) cs) (map (field n) ds)) place (like (suc k) (omega (arith, below)))) vs limit past)
 
--- ---- columns of handles, and what is shared of them
+-- ---- columns of handles and their clones
 
 likes : (s : Shape) (cs ds : List Column) → All (λ c. type_of c ≡ s) cs → map type_of cs ≡ map type_of ds → map buffers_held cs ≡ map buffers_held ds → AllLike s cs ds
 likes s [] [] of types held = tt
@@ -210,7 +210,7 @@ buffers_told : (t : Held) → HasColumn t → (cs : List Column) → map buffers
 buffers_told None has cs = absurd has
 buffers_told (Some a) has cs = refl
 
--- the types and the data buffers of the columns that handles have
+-- the types and the data buffers of the columns of handles
 types_held : (hs : List Handle) → All (λ h. HasColumn h.tree) hs → map type_of (flat_map (λ h. held_columns h.tree) hs) ≡ map (λ h. held_type h.tree) hs
 types_held [] full = refl
 types_held (h ∷ hs) full =
@@ -221,7 +221,7 @@ buffers_of_handles [] full = refl
 buffers_of_handles (h ∷ hs) full =
     buffers_told h.tree (full 0 h (omega arith)) (flat_map (λ x. held_columns x.tree) hs) ∙ ap (λ l. held_buffer_lists h.tree ∷ l) (buffers_of_handles hs (λ k d below. full (suc k) d (omega (arith, below))))
 
--- what rows need of second columns of handles they need of the handles' own
+-- rows that exceed a limit with the clones exceed it with the columns of the handles
 pub shared_needs : (s : Shape) (arrays : List ArrayRef) (hs : List Handle) → All (λ a. type_of a.column ≡ s) arrays → All (λ h. HasColumn h.tree) hs →
     map (λ a. type_of a.column) arrays ≡ map (λ h. held_type h.tree) hs → map (λ a. buffers_held a.column) arrays ≡ map (λ h. held_buffer_lists h.tree) hs →
     (vs : List Value) (limit : Limit) → past_taken s (map (λ a. a.column) arrays) vs limit → past_taken s (flat_map (λ h. held_columns h.tree) hs) vs limit
@@ -233,7 +233,7 @@ shared_needs s arrays hs alike full types held vs limit past =
     (map-map buffers_held (λ (a : ArrayRef). a.column) arrays ∙ held ∙ sym (buffers_of_handles hs full)))
     vs limit past
 
--- ---- the limits that a call tells, of second columns and of the handles' own
+-- ---- limit statuses, with the clones and with the columns of the handles
 
 alike_at : (arrays : List ArrayRef) → AreAlike (map (λ a. type_of a.column) arrays) → All (λ a. type_of a.column ≡ first_shape (map (λ x. type_of x.column) arrays)) arrays
 alike_at arrays alike k d below = alike_columns arrays alike k d below ∙ sym (first_same arrays)
@@ -242,7 +242,7 @@ either : {P Q R : Type 0} → (Q → R) → P ⊎ Q → P ⊎ R
 either more (inl p) = inl p
 either more (inr q) = inr (more q)
 
--- of a flatten
+-- of the horizontal flatten
 pub flat_limits : (status h : ℕ) (arrays : List ArrayRef) (hs : List Handle) (ws : List ℕ) → All (λ h. HasColumn h.tree) hs →
     map (λ a. rows a.column) arrays ≡ map (λ h. held_rows h.tree) hs → map (λ a. type_of a.column) arrays ≡ map (λ h. held_type h.tree) hs → map (λ a. buffers_held a.column) arrays ≡ map (λ h. held_buffer_lists h.tree) hs →
     TellsLimits status (λ limit. AreAlike (map (λ a. type_of a.column) arrays)) →
@@ -257,7 +257,7 @@ flat_limits status h arrays hs ws full same types held alike limits limit is =
     subst (λ (xss : List (List Value)). past_flattened h (first_shape (map (λ (h : Handle). held_type h.tree) hs)) own (flatten xss ws h) limit) same
     (subst (λ (ts : List Shape). past_flattened h (first_shape ts) own vs limit) types (past.0, either more past.1))
 
--- of rows that are picked
+-- of gathered rows
 pub pick_limits : (status : ℕ) (arrays : List ArrayRef) (hs : List Handle) (ps : List (Option (ℕ × ℕ))) → All (λ h. HasColumn h.tree) hs →
     map (λ a. rows a.column) arrays ≡ map (λ h. held_rows h.tree) hs → map (λ a. type_of a.column) arrays ≡ map (λ h. held_type h.tree) hs → map (λ a. buffers_held a.column) arrays ≡ map (λ h. held_buffer_lists h.tree) hs →
     TellsLimits status (λ limit. AreAlike (map (λ a. type_of a.column) arrays)) →

@@ -1,4 +1,4 @@
--- Rows of a type whose lists of one length are too long pass a limit.
+-- Rows of a type whose list sizes are too large exceed a limit.
 use Rattle.std.proofs.Common.{◌≡◌, ℕ, ◌+◌, Bool, true, false, true≢false, ◌||◌, ◌&&◌, List, length, map, refl, arith}
 use Rattle.std.specs.List.{flat_map}
 use Rattle.std.proofs.lemmas.Bool.Decides.{nat_tests}
@@ -11,7 +11,7 @@ use Rattle.sel_text.specs.Limits.{any_past, block_in, entries_in, is_past, part_
 use Rattle.sel_text.specs.declared.build.Beneath.{Beneath}
 use Rattle.sel_text.proofs.Making.{or_first, or_second}
 
--- of two conditions the one or the other does not hold
+-- one of two conditions does not hold
 one_fails : (a b : Bool) → (a && b) ≡ false → (p q : Bool) → (a ≡ false → p ≡ true) → (b ≡ false → q ≡ true) → (p || q) ≡ true
 one_fails false b fails p q one other = or_first p q (one refl)
 one_fails true b fails p q one other = or_second p q (other fails)

@@ -1,4 +1,4 @@
--- What lies below the column that a handle has.
+-- Children and fields of a handle's column.
 use Rattle.std.specs.Prelude.{ℕ, List, [], None, Some}
 use Rattle.sel_arrow.specs.Rows.{rows, type_of}
 use Rattle.sel_arrow.specs.Shape.{Shape, of_null}
@@ -7,7 +7,7 @@ use Rattle.sel_arrow.specs.declared.column.Column.{Column}
 use Rattle.sel_handle.specs.Held.{Held}
 use Rattle.sel_runs.specs.Children.{child, field, fields_of}
 
--- the child of a column of lists (Arrow columnar format: list layouts)
+-- the rows, and the type, of the child of a list column (Arrow columnar format: list layouts)
 abbrev pub held_child_rows : Held → List Value
 held_child_rows None = []
 held_child_rows (Some column) = rows (child column.column)
@@ -16,7 +16,8 @@ abbrev pub held_child_type : Held → Shape
 held_child_type None = of_null
 held_child_type (Some column) = type_of (child column.column)
 
--- the fields of a column of tuples, and the one at a place (Arrow columnar format: struct layout)
+-- the fields of a struct column, and the rows and the type of field j (Arrow columnar format:
+-- struct layout)
 abbrev pub held_fields : Held → List Column
 held_fields None = []
 held_fields (Some column) = fields_of column.column

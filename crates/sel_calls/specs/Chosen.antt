@@ -1,13 +1,13 @@
--- Choices whose sides are columns, or columns of one row that stands at every position.
+-- If-then-else between columns or scalars.
 use Rattle.std.specs.Prelude.{Bool, true, false, List, slice_index_or}
 use Rattle.sel_arrow.specs.Value.{Value, Null}
 use Rattle.sel_choices.specs.Choose.{choose, choose_one, choose_or_one, choose_of_two}
 
--- the first row; null where there is none (own)
+-- the first row; null if there is none
 abbrev pub first_row : List Value → Value
 first_row rows = slice_index_or rows 0 Null
 
--- the choice between two sides, each of which is a column where its truth value is true, else the first row of one (when-then-otherwise with scalars) (own)
+-- the if-then-else of two columns; if its flag is false, the first row of a column is broadcast
 abbrev pub chosen_rows : Bool → Bool → List Bool → List Value → List Value → List Value
 chosen_rows true true mask ts fs = choose mask ts fs
 chosen_rows true false mask ts fs = choose_or_one mask ts (first_row fs)

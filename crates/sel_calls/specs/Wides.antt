@@ -1,13 +1,14 @@
--- Numbers of 128 bits in two words.
+-- 128-bit integers in two words.
 use Rattle.std.specs.Prelude.{ℕ, ℤ, ◌+◌, ◌*◌, pos}
 use Rattle.std.specs.Int.{w128, cast_signed}
 use Rattle.sel_calls.specs.declared.wides.Wide.{Wide}
 
--- the number whose low and high halves the words are (Arrow columnar format: little-endian numbers)
+-- the unsigned integer with these low and high words (Arrow columnar format: little-endian numbers)
 abbrev pub joined : Wide → ℕ
 joined wide = wide.low + 18446744073709551616 * wide.high
 
--- as an unsigned number, and as one in two's complement (Arrow columnar format: fixed-size primitive layout)
+-- the words as an unsigned integer, and as one in two's complement (Arrow columnar format:
+-- fixed-size primitive layout)
 abbrev pub unsigned_wide : Wide → ℤ
 unsigned_wide wide = pos (joined wide)
 

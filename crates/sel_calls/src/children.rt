@@ -1,4 +1,4 @@
-//! The children of lists and the fields of tuples, which share buffers with their column.
+//! List children and struct fields as columns, which share the buffers of their parent.
 
 ghost use Rattle.std.specs.Prelude.{◌≡◌, ◌∷◌, ◌≢◌, ◌<◌, ◌≤◌, length, IfSome, IfNone, IsTrue, true, false, []};
 ghost use Rattle.sel_arrow.specs.Rows.{rows, type_of, IsWellFormed};
@@ -13,7 +13,9 @@ use sel_handle::handle::Handle;
 use sel_handle::status::{DONE, NO_MEMORY, OTHER_KIND, OUT_OF_BOUNDS, put};
 use std::alloc::Global;
 
-/// The child of a column of lists, as a column of its own. OTHER_KIND: the column is none of lists.
+/// Stores the child of a list or fixed-size list column in `out`.
+///
+/// Errors: `OTHER_KIND` if the column has another type; `NO_MEMORY`.
 pub fn child_into(alloc: Global, column: &ArrayRef, out: &mut Handle) -> u32
     ensures rows { Makes result out.old.tree out.new.tree
         (λ made. rows made.column ≡ rows (child column.now.column)) }
@@ -32,7 +34,7 @@ pub fn child_into(alloc: Global, column: &ArrayRef, out: &mut Handle) -> u32
     }
 }
 
-/// The child of a column of lists.
+/// Returns the child of a list or fixed-size list column, or none for another type.
 #[tactic(auto, using(crate::proofs::Below::below))]
 fn child_of(column: &ArrayRef) -> Option<&Column>
     ensures child { IfSome result (λ entries. entries.now ≡ child column.now.column) }
@@ -47,7 +49,9 @@ fn child_of(column: &ArrayRef) -> Option<&Column>
     }
 }
 
-/// How many entries each list has. OTHER_KIND: the column is none of lists of one length.
+/// Writes the list size of a fixed-size list column to `width`.
+///
+/// Errors: `OTHER_KIND` if the column has another type.
 pub fn width_into(column: &Column, width: &mut usize) -> u32
     ensures width { result ≡ done → width.new ≡ width_of (type_of column.now) }
     ensures status { IsOneOf result (done ∷ other_kind ∷ []) }
@@ -63,7 +67,9 @@ pub fn width_into(column: &Column, width: &mut usize) -> u32
     }
 }
 
-/// How many fields the tuples have. OTHER_KIND: the column is none of tuples.
+/// Writes the number of fields of a struct column to `count`.
+///
+/// Errors: `OTHER_KIND` if the column has another type.
 pub fn field_count_into(column: &ArrayRef, count: &mut usize) -> u32
     ensures count { result ≡ done → count.new ≡ length (fields_of column.now.column) }
     ensures status { IsOneOf result (done ∷ other_kind ∷ []) }
@@ -78,7 +84,7 @@ pub fn field_count_into(column: &ArrayRef, count: &mut usize) -> u32
     DONE
 }
 
-/// The fields of a column of tuples.
+/// Returns the fields of a struct column, or none for another type.
 fn fields_lent(column: &ArrayRef) -> Option<&[Column]>
     ensures fields { IfSome result (λ fields. fields.now ≡ fields_of column.now.column) }
     ensures some { IfSome result (λ _. is_struct_shape (type_of column.now.column) ≡ true) }
@@ -92,8 +98,9 @@ fn fields_lent(column: &ArrayRef) -> Option<&[Column]>
     }
 }
 
-/// Field `i` of the tuples, as a column of its own. OTHER_KIND: the column is none of tuples; OUT_OF_BOUNDS: it has
-/// fewer fields.
+/// Stores field `i` of a struct column in `out`.
+///
+/// Errors: `OUT_OF_BOUNDS` if the column has no field `i`, or is not a struct column; `NO_MEMORY`.
 #[tactic(auto, using(crate::proofs::Below::below))]
 pub fn field_into(alloc: Global, column: &ArrayRef, i: usize, out: &mut Handle) -> u32
     ensures rows { Makes result out.old.tree out.new.tree
@@ -113,7 +120,7 @@ pub fn field_into(alloc: Global, column: &ArrayRef, i: usize, out: &mut Handle) 
     }
 }
 
-/// Field `i` of a column of tuples.
+/// Returns field `i` of a struct column; none if it has fewer fields, or for another type.
 fn field_of(column: &ArrayRef, i: usize) -> Option<&Column>
     ensures field { IfSome result (λ part. part.now ≡ field i column.now.column) }
     ensures some { IfSome result (λ _. i < length (fields_of column.now.column)) }

@@ -1,4 +1,4 @@
-//! Rows chosen between two sides by a mask: when-then-otherwise.
+//! If-then-else between two columns or scalars by a boolean mask.
 
 ghost use Rattle.std.specs.Prelude.{◌≡◌, ◌≢◌, ◌≤◌, ◌++◌, ◌∷◌, [], length, true, false, IfOk, IfErr};
 ghost use Rattle.sel_arrow.specs.Columns.{boolean_rows};
@@ -22,7 +22,16 @@ use sel_handle::status::{
 };
 use std::alloc::Global;
 
-/// The choice between sides that are columns, or columns of one row where `true_column` or `false_column` is false.
+/// Stores in `out` the row of `if_true` where the mask is true and valid, else the row of
+/// `if_false`.
+///
+/// If `true_column` is false, `if_true` has one row, which is broadcast; likewise for
+/// `false_column` and `if_false`.
+///
+/// Errors: `NO_COLUMN` if a handle has no column; `OTHER_KIND` if the mask is not boolean;
+/// `OTHER_TYPE` if `if_true` and `if_false` have different types; `OTHER_LENGTH` if a column does
+/// not have as many rows as the mask, or a scalar does not have one row; `NO_MEMORY`; a `LIMIT_`
+/// status if the result would exceed a limit.
 pub fn choose_handles(
     alloc: Global,
     mask: &mut Handle,
@@ -126,7 +135,7 @@ fn choose_into(
     }
 }
 
-// Whether a side has as many rows as the mask, or one where it is a scalar.
+// Returns whether a column has as many rows as the mask, or a scalar has one row.
 fn side_fits(side: &ArrayRef, is_column: bool, len: usize) -> bool
     ensures right { result ≡ true → SideFits is_column (length (rows side.now.column)) len }
     ensures wrong { result ≡ false → SideFits is_column (length (rows side.now.column)) len → ⊥ }
@@ -138,7 +147,9 @@ fn side_fits(side: &ArrayRef, is_column: bool, len: usize) -> bool
     }
 }
 
-// Which rows of a column of truth values are the valid value true. Refuses a column of another kind, and for want of memory.
+// Returns the effective mask: the bits that are true where the mask is true and valid.
+//
+// Errors: `OTHER_KIND` if the mask is not boolean; `NO_MEMORY`.
 fn bits_of_mask(alloc: Global, mask: &ArrayRef) -> Result<Bitmap, u32>
     ensures bits { IfOk result (λ bits. bits.bits ≡ in_force (rows mask.now.column)) }
     ensures len { IfOk result (λ bits. length bits.bits ≡ length (rows mask.now.column)) }
@@ -164,7 +175,7 @@ fn bits_of_mask(alloc: Global, mask: &ArrayRef) -> Result<Bitmap, u32>
     }
 }
 
-// Which rows are the valid value true. Refuses only for want of memory.
+// Returns the effective mask. Errors: `OutOfMemory`.
 fn bits_in_force(alloc: Global, mask: &BooleanArray) -> PolarsResult<Bitmap>
     ensures bits { IfOk result (λ bits. bits.bits ≡ in_force (boolean_rows mask.now)) }
     ensures len { IfOk result (λ bits. length bits.bits ≡ length (boolean_rows mask.now)) }

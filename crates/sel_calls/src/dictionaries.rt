@@ -1,4 +1,4 @@
-//! Dictionaries: keys that name texts.
+//! Dictionaries: keys into string values.
 
 ghost use Rattle.std.specs.Prelude.{◌≡◌, ◌≢◌, ◌≤◌, [], ◌∷◌, length, IfSome, IsTrue};
 ghost use Rattle.sel_arrow.specs.Columns.{primitive_rows, utf8view_rows};
@@ -17,8 +17,13 @@ use sel_handle::handle::Handle;
 use sel_handle::status::{DONE, NO_MEMORY, OTHER_KIND, OUT_OF_BOUNDS};
 use std::alloc::Global;
 
-/// The keys and values of a dictionary whose null values are handed on to the keys. The statuses are those of the call
-/// for C.
+/// Makes the keys of null values null, and drops the null values of a dictionary.
+///
+/// Stores in `out_keys` the keys, renumbered to the values that are left, and in `out_values` these
+/// values. On error both are unchanged.
+///
+/// Errors: `OTHER_KIND` if the keys are not 32-bit unsigned integers or the values are not string
+/// views; `OUT_OF_BOUNDS` if a valid key is not less than the number of values; `NO_MEMORY`.
 pub fn propagate_columns_into(
     alloc: Global,
     keys: &ArrayRef,
@@ -124,7 +129,8 @@ fn propagate_texts_into(
     }
 }
 
-// Puts a column into each of two handles, or neither where memory is wanting.
+// Stores a column in each of two handles, or in neither if an allocation fails. Errors:
+// `NO_MEMORY`.
 fn put_both(
     alloc: Global,
     first: ArrayRef,
@@ -149,7 +155,7 @@ fn put_both(
     DONE
 }
 
-// The column in a box; none where memory is wanting.
+// Moves the column into a box; returns none and frees the column if the allocation fails.
 fn boxed(alloc: Global, column: ArrayRef) -> Option<Box<ArrayRef>>
     ensures { IfSome result (λ boxed. boxed.value ≡ column) }
 {

@@ -1,4 +1,4 @@
-//! The rows that a mask keeps.
+//! Filters: the rows that a mask selects.
 
 ghost use Rattle.std.specs.Prelude.{◌≡◌, ◌≢◌, ◌≤◌, ◌*◌, [], ◌∷◌, length};
 ghost use Rattle.sel_bits.specs.Bits.{bits_from};
@@ -15,8 +15,10 @@ use sel_handle::handle::Handle;
 use sel_handle::status::{NO_MEMORY, OTHER_KIND, OTHER_LENGTH, put};
 use std::alloc::Global;
 
-/// The rows where the mask is the valid value true. OTHER_KIND: the mask is not of truth values; OTHER_LENGTH: it has
-/// another number of rows.
+/// Stores in `out` the rows of `column` where the mask is true and valid.
+///
+/// Errors: `OTHER_KIND` if the mask is not boolean; `OTHER_LENGTH` if the mask and the column have
+/// different numbers of rows; `NO_MEMORY`.
 pub fn filter_into(alloc: Global, column: &ArrayRef, mask: &ArrayRef, out: &mut Handle) -> u32
     ensures rows { Makes result out.old.tree out.new.tree (λ made. rows made.column ≡
         select (rows column.now.column) (in_force (rows mask.now.column))) }
@@ -49,8 +51,10 @@ pub fn filter_into(alloc: Global, column: &ArrayRef, mask: &ArrayRef, out: &mut 
     }
 }
 
-/// The rows where the bit is true, of `len` packed bits. OTHER_LENGTH: the column has another number of rows, or there
-/// are fewer bytes than the bits need.
+/// Stores in `out` the rows of `column` whose bit in `mask` is set, least significant bit first.
+///
+/// Errors: `OTHER_LENGTH` if the column does not have `len` rows, or `mask` has fewer than `len`
+/// bits; `NO_MEMORY`.
 pub fn filter_bits_into(
     alloc: Global,
     column: &ArrayRef,

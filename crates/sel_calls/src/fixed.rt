@@ -1,4 +1,4 @@
-//! Entries of lists of one length.
+//! Element access for fixed-size lists, at one index.
 
 ghost use Rattle.std.specs.Prelude.{◌≡◌, ◌∷◌, ◌≢◌, false, IsTrue};
 ghost use Rattle.sel_arrow.specs.NestedArrays.{block_column};
@@ -16,7 +16,13 @@ use sel_handle::status::{NO_MEMORY, OTHER_KIND, put, status_of};
 use sel_sublists::sublist::fixed_size_list::sub_fixed_size_list_get_literal;
 use std::alloc::Global;
 
-/// The entry at one index of each list of one length. The statuses are those of the call for C.
+/// Stores in `out` the element at `index` of each fixed-size list; a null list gives a null row.
+///
+/// With `null_on_oob`, an index out of bounds gives a null row too.
+///
+/// Errors: `OTHER_KIND` if the column has another type; `GET_OUT_OF_BOUNDS` if `null_on_oob` is
+/// false and a list that is not null has no element at `index`; `NO_MEMORY`; a `LIMIT_` status if
+/// the result would exceed a limit.
 pub fn fixed_get_into(
     alloc: Global,
     column: &ArrayRef,

@@ -1,4 +1,4 @@
-//! Entries of lists of one length, at an index for each of them.
+//! Element access for fixed-size lists, at an index for each list.
 
 ghost use Rattle.std.specs.Prelude.{◌≡◌, ◌∷◌, ◌≢◌, length, false, IsTrue};
 ghost use Rattle.sel_arrow.specs.Columns.{primitive_rows};
@@ -18,7 +18,15 @@ use sel_handle::status::{NO_MEMORY, OTHER_KIND, OTHER_LENGTH, put, status_of};
 use sel_sublists::sublist::fixed_size_list::sub_fixed_size_list_get;
 use std::alloc::Global;
 
-/// Of each list of one length the entry at its own index. The statuses are those of the call for C.
+/// Stores in `out` the element of each fixed-size list at its own index; a null list gives a null
+/// row.
+///
+/// With `null_on_oob`, an index that is null or out of bounds gives a null row too.
+///
+/// Errors: `OTHER_KIND` if the column is not a fixed-size list or the indices are not 64-bit signed
+/// integers; `OTHER_LENGTH` if there are not as many indices as lists; `GET_OUT_OF_BOUNDS` if
+/// `null_on_oob` is false and the index of a list that is not null is null or out of bounds;
+/// `NO_MEMORY`; a `LIMIT_` status if the result would exceed a limit.
 pub fn fixed_get_each_into(
     alloc: Global,
     column: &ArrayRef,

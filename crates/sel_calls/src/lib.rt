@@ -1,4 +1,4 @@
-//! What the calls for C do once they have taken the columns from their handles.
+//! The functions of the C interface, on columns taken from their handles.
 #![tactic(auto)]
 
 pub mod children;

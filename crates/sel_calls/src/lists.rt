@@ -1,4 +1,4 @@
-//! Elements of lists.
+//! Element access for lists with 64-bit offsets.
 
 ghost use Rattle.std.specs.Prelude.{◌≡◌, ◌∷◌, [], ◌≢◌, IsTrue};
 ghost use Rattle.sel_arrow.specs.NestedArrays.{list_column};
@@ -17,7 +17,11 @@ use sel_handle::status::{DONE, NO_MEMORY, OTHER_KIND, put, status_of};
 use sel_sublists::sublist::list::{index_is_oob, sublist_get};
 use std::alloc::Global;
 
-/// The element at one index of each list. The statuses are those of the call for C.
+/// Stores in `out` the element at `index` of each list; a null list or an index out of bounds gives
+/// a null row.
+///
+/// Errors: `OTHER_KIND` if the column is not a list with 64-bit offsets; `NO_MEMORY`; a `LIMIT_`
+/// status if the result would exceed a limit.
 pub fn sublist_get_into(alloc: Global, column: &ArrayRef, index: i64, out: &mut Handle) -> u32
     ensures rows { Makes result out.old.tree out.new.tree
         (λ made. rows made.column ≡ list_get (rows column.now.column) index) }
@@ -61,7 +65,9 @@ fn element_into(alloc: Global, lists: &ListArray<i64>, index: i64, out: &mut Han
     }
 }
 
-/// Whether some list that is not null lacks the place. OTHER_KIND: the column is none of lists.
+/// Writes to `out` whether `index` is out of bounds for a list that is not null.
+///
+/// Errors: `OTHER_KIND` if the column is not a list with 64-bit offsets; `NO_MEMORY`.
 pub fn index_is_oob_into(alloc: Global, column: &ArrayRef, index: i64, out: &mut bool) -> u32
     ensures told { result ≡ done → out.new ≡ oob (rows column.now.column) index }
     ensures column { result ≢ no_column }

@@ -1,4 +1,4 @@
-//! Picks that callers pass.
+//! Row references that callers pass.
 
 ghost use Rattle.std.specs.Prelude.{◌≡◌, ◌≤◌, ◌<◌, ◌↔◌, All, length, map, slice_index_or, IsTrue, IfOk, IfErr};
 ghost use Rattle.sel_arrow.specs.Masked.{Covers};
@@ -15,7 +15,7 @@ use sel_bits::faults::{PolarsError, PolarsResult};
 use sel_runs::plan::Places;
 use std::alloc::Global;
 
-/// The picks of words, none where one is hidden: they are read from the words themselves, so that none is listed.
+/// Row references read from `words` on access, without a copy; null where the validity is false.
 #[derive(Drop)]
 pub(crate) struct WordPlaces<'a> {
     pub words: &'a [PickWords],
@@ -51,7 +51,7 @@ impl Places for WordPlaces<'_> {
     }
 }
 
-// The words of pick `k`.
+// Returns the words of row reference `k`.
 #[inline(always)]
 fn words_at(words: &[PickWords], k: usize) -> PickWords
     requires { k < length words.now }
@@ -60,7 +60,7 @@ fn words_at(words: &[PickWords], k: usize) -> PickWords
     words[k]
 }
 
-// The pick of words, none where they are hidden.
+// Returns the row reference in the words, or none if it is null.
 #[inline(always)]
 fn pick_of(words: PickWords, valid: bool) -> Option<(u32, u32)>
     ensures { result ≡ pick_in words valid }
@@ -72,7 +72,7 @@ fn pick_of(words: PickWords, valid: bool) -> Option<(u32, u32)>
     }
 }
 
-/// Whether each pick names a row, of columns of these lengths.
+/// Returns whether each row reference is null or in bounds, for columns of these lengths.
 pub(crate) fn are_in_bounds(lengths: &[usize], places: &WordPlaces) -> bool
     ensures { IsTrue result ↔ All (HasRow lengths.now)
         (picks_from 0 places.now.validity.now places.now.words.now) }
@@ -85,7 +85,7 @@ pub(crate) fn are_in_bounds(lengths: &[usize], places: &WordPlaces) -> bool
     true
 }
 
-// Whether a pick names a row, of columns of these lengths.
+// Returns whether a row reference is null or in bounds, for columns of these lengths.
 #[inline(always)]
 fn has_row(lengths: &[usize], pick: Option<(u32, u32)>) -> bool
     ensures { IsTrue result ↔ HasRow lengths.now pick }
@@ -99,7 +99,10 @@ fn has_row(lengths: &[usize], pick: Option<(u32, u32)>) -> bool
     }
 }
 
-/// How many rows each column has. Refuses only for want of memory.
+/// Returns the number of rows of each column.
+///
+/// # Errors
+/// `OutOfMemory`.
 pub(crate) fn lengths_of(alloc: Global, arrays: &[ArrayRef]) -> PolarsResult<Vec<usize>>
     ensures lengths { IfOk result (λ found. found.items ≡
         map (λ array. length (rows array.column)) arrays.now) }

@@ -1,4 +1,4 @@
-//! Rows of several columns: side by side, and picked.
+//! Several columns: horizontal flatten, and gathered rows.
 
 ghost use Rattle.std.specs.Prelude.{◌≡◌, ◌≢◌, ◌≤◌, ◌<◌, ◌∷◌, ◌↔◌, All, false, length, map, IsTrue, IfOk, IfErr};
 ghost use Rattle.sel_bits.specs.declared.faults.Malformed.TheVariants.{TooManyRows, ValidityLength};
@@ -30,17 +30,24 @@ use sel_runs::plan::Walk;
 use sel_runs::planned::collect_plan;
 use std::alloc::Global;
 
-/// A row of one of several columns: of which one, and which, both counted from 0.
+/// A row reference: a row of one of several columns, both counted from 0.
 #[repr(C)]
 #[derive(Clone, Copy)]
 pub struct PickWords {
-    /// Which column.
+    /// The index of the column.
     pub source: u32,
-    /// Which of its rows.
+    /// The index of the row in the column.
     pub row: u32,
 }
 
-/// Columns side by side, row by row. The statuses are those of the call for C.
+/// Stores in `out` the row-wise concatenation of the columns (horizontal flatten).
+///
+/// Each of `height` steps appends the next `widths[k]` rows of every column `k`; a column of only
+/// `widths[k]` rows is broadcast.
+///
+/// Errors: `OTHER_TYPE` if the columns have different types; `OTHER_LENGTH` if there are no
+/// columns, not as many widths as columns, a width is 0, or column `k` has neither `widths[k]` rows
+/// nor `height` times as many; `NO_MEMORY`; a `LIMIT_` status if the result would exceed a limit.
 pub fn flatten_into(
     alloc: Global,
     arrays: &[ArrayRef],
@@ -79,7 +86,7 @@ pub fn flatten_into(
     }
 }
 
-// Whether all columns are of one type.
+// Returns whether all columns have the same type.
 fn are_alike(arrays: &[ArrayRef]) -> bool
     ensures { IsTrue result ↔ AreAlike (map (λ array. type_of array.column) arrays.now) }
 {
@@ -94,7 +101,13 @@ fn are_alike(arrays: &[ArrayRef]) -> bool
     true
 }
 
-/// The rows that the picks name, of several columns. The statuses are those of the call for C.
+/// Stores in `out` the rows of several columns at the row references; a null reference gives a null
+/// row.
+///
+/// Errors: `TOO_MANY_ROWS` if there are more than 4,294,967,295 row references; `VALIDITY_LENGTH`
+/// if `bits` has fewer bits than there are references; `OTHER_LENGTH` if there are no columns;
+/// `OTHER_TYPE` if the columns have different types; `OUT_OF_BOUNDS` if a valid reference is out of
+/// bounds; `NO_MEMORY`; a `LIMIT_` status if the result would exceed a limit.
 pub fn collect_into(
     alloc: Global,
     arrays: &[ArrayRef],
@@ -198,7 +211,7 @@ fn collect_picks_into(
     }
 }
 
-// The columns themselves. Refuses only for want of memory.
+// Returns references to the columns. Errors: `OutOfMemory`.
 fn columns_of<'a>(alloc: Global, arrays: &'a [ArrayRef]) -> PolarsResult<Vec<&'a Column>>
     ensures columns { IfOk result (λ found. map (λ c. c.now) found.items ≡
         array_columns arrays.now) }

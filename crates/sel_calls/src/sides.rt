@@ -1,4 +1,4 @@
-//! Choices between the rows of two columns of one type.
+//! If-then-else between the rows of two columns of one type.
 
 ghost use Rattle.std.specs.Prelude.{◌≡◌, ◌≤◌, ◌∷◌, [], length, IfOk, IfErr, IfSome};
 ghost use Rattle.sel_arrow.specs.Columns.{boolean_rows, primitive_rows};
@@ -22,8 +22,17 @@ use sel_runs::plan::{Places, Walk};
 use sel_runs::planned::collect_plan;
 use std::alloc::Global;
 
-/// Row k of one column where bit k is true, else row k of the other; of a side that is no column but a scalar, its only
-/// row. Refuses for want of memory, and where the rows need more than a column may have.
+/// Returns row `k` of `if_true` where bit `k` of the mask is set, else row `k` of `if_false`.
+///
+/// If `true_column` is false, `if_true` has one row, which is broadcast; likewise for
+/// `false_column` and `if_false`.
+///
+/// # Requires
+/// Both have the same type. A column has as many rows as the mask has bits, and a scalar has one
+/// row. The mask has at most 4,294,967,295 bits.
+///
+/// # Errors
+/// `OutOfMemory`; `SizeLimit` if the result would exceed a limit.
 pub(crate) fn choice(
     alloc: Global,
     mask: &Bitmap,
@@ -62,7 +71,8 @@ pub(crate) fn choice(
     picked_choice(alloc, mask, if_true, if_false, true_column, false_column)
 }
 
-// Chooses between two columns of views by the words of the mask. Returns none if they have another type.
+// Computes the if-then-else of two view columns by the words of the mask. Returns none for other
+// types.
 fn kernel_choice(
     alloc: Global,
     mask: &Bitmap,
@@ -90,8 +100,8 @@ fn kernel_choice(
     }
 }
 
-// Chooses between boolean columns, or a column and one boolean, by the words of the mask. Returns none if the columns have another
-// type, if both sides are scalars, or if a scalar is null.
+// Computes the if-then-else of boolean columns, or a column and a boolean, by the words of the
+// mask. Returns none for other types, if both are scalars, or if a scalar is null.
 fn boolean_choice(
     alloc: Global,
     mask: &Bitmap,
@@ -119,7 +129,8 @@ fn boolean_choice(
     }
 }
 
-// The same of boolean columns. Returns none if both sides are scalars, or if a scalar is null.
+// Computes the if-then-else of boolean arrays. Returns none if both are scalars, or if a scalar is
+// null.
 fn chosen_booleans(
     alloc: Global,
     mask: &Bitmap,
@@ -150,7 +161,7 @@ fn chosen_booleans(
     Ok(None)
 }
 
-// Chooses between the first boolean of a column and the booleans of another. Returns none if the first one is null.
+// Computes the if-then-else with broadcast true. Returns none if the true value is null.
 fn one_or_boolean(
     alloc: Global,
     mask: &Bitmap,
@@ -173,7 +184,7 @@ fn one_or_boolean(
     }
 }
 
-// Chooses between the booleans of a column and the first boolean of another. Returns none if the first one is null.
+// Computes the if-then-else with broadcast false. Returns none if the false value is null.
 fn boolean_or_one(
     alloc: Global,
     mask: &Bitmap,
@@ -196,7 +207,7 @@ fn boolean_or_one(
     }
 }
 
-// The same of columns of any type, by picks.
+// Computes the if-then-else of columns of any type, by row references.
 fn picked_choice(
     alloc: Global,
     mask: &Bitmap,
@@ -228,7 +239,8 @@ fn picked_choice(
     Ok(ArrayRef { column })
 }
 
-// The same of columns of numbers, by the words of the mask; none where they are no numbers, or a scalar is null.
+// Computes the if-then-else of primitive columns, by the words of the mask. Returns none for other
+// types, if both are scalars, or if a scalar is null.
 fn number_choice(
     alloc: Global,
     mask: &Bitmap,
@@ -284,7 +296,8 @@ fn number_choice(
     }
 }
 
-// The same of columns of numbers of one type; none where they are of another, or a scalar is null.
+// Computes the if-then-else of columns of primitive type `T`. Returns none for another type, if
+// both are scalars, or if a scalar is null.
 fn choice_of<T: ArrowPrimitive>(
     alloc: Global,
     mask: &Bitmap,
@@ -320,7 +333,8 @@ fn choice_of<T: ArrowPrimitive>(
     chosen_numbers(alloc, mask, &first, &second, true_column, false_column)
 }
 
-// The numbers of a column; none where it is of another type. Refuses only for want of memory.
+// Returns the values of a column of primitive type `T`, or none for another type. Errors:
+// `OutOfMemory`.
 fn numbers_in<T: ArrowPrimitive>(
     alloc: Global,
     column: &ArrayRef,
@@ -343,7 +357,8 @@ fn numbers_in<T: ArrowPrimitive>(
     }
 }
 
-// The same of numbers; none where a scalar is null.
+// Computes the if-then-else of primitive arrays. Returns none if both are scalars, or if a scalar
+// is null.
 fn chosen_numbers<T: ArrowPrimitive>(
     alloc: Global,
     mask: &Bitmap,
@@ -374,7 +389,7 @@ fn chosen_numbers<T: ArrowPrimitive>(
     Ok(None)
 }
 
-// The choice between two columns that the words of a mask choose between.
+// Computes the if-then-else of two arrays by the kernel of their type.
 fn chosen_columns<A: IfThenElseKernel>(
     alloc: Global,
     mask: &Bitmap,
@@ -398,7 +413,7 @@ fn chosen_columns<A: IfThenElseKernel>(
     }
 }
 
-// The choice between the first number of a column and the numbers of another; none where the first one is null.
+// Computes the if-then-else with broadcast true. Returns none if the true value is null.
 fn chosen_one<T: ArrowPrimitive>(
     alloc: Global,
     mask: &Bitmap,
@@ -421,7 +436,7 @@ fn chosen_one<T: ArrowPrimitive>(
     }
 }
 
-// The choice between the numbers of a column and the first number of another; none where the first one is null.
+// Computes the if-then-else with broadcast false. Returns none if the false value is null.
 fn chosen_or_one<T: ArrowPrimitive>(
     alloc: Global,
     mask: &Bitmap,
@@ -444,7 +459,7 @@ fn chosen_or_one<T: ArrowPrimitive>(
     }
 }
 
-/// The picks of a choice, of sides that are columns or scalars.
+/// The row references of an if-then-else between columns or scalars.
 #[derive(Drop)]
 struct MaskPlaces<'a> {
     mask: &'a Bitmap,
@@ -482,7 +497,7 @@ impl Places for MaskPlaces<'_> {
     }
 }
 
-// The pick of one bit.
+// Returns the row reference that bit `i` of the mask gives.
 #[inline(always)]
 fn pick_by(bit: bool, true_column: bool, false_column: bool, i: usize) -> Option<(u32, u32)>
     requires { i ≤ 4294967295 }
@@ -495,7 +510,7 @@ fn pick_by(bit: bool, true_column: bool, false_column: bool, i: usize) -> Option
     }
 }
 
-// The place of a side's row.
+// Returns the row that position `i` takes: `i` of a column, 0 of a scalar.
 #[inline(always)]
 fn place_of(is_column: bool, i: usize) -> u32
     requires { i ≤ 4294967295 }

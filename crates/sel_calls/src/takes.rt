@@ -1,4 +1,4 @@
-//! The rows at indices.
+//! Gather: the rows at indices.
 
 ghost use Rattle.std.specs.Prelude.{◌≡◌, ◌≢◌, ◌≤◌, ◌∷◌, false, length, pos, IsTrue};
 ghost use Rattle.sel_bits.specs.declared.faults.Malformed.TheVariants.{TooManyRows, ValidityLength};
@@ -20,8 +20,11 @@ use sel_handle::inputs::numbers_of;
 use sel_handle::status::{NO_MEMORY, OTHER_KIND, OUT_OF_BOUNDS, put, status_of, status_of_maker};
 use std::alloc::Global;
 
-/// The rows at the indices, a column of 32-bit numbers; null where an index is. OTHER_KIND, OUT_OF_BOUNDS: as of the
-/// call for C.
+/// Stores in `out` the rows of `column` at `indices`; a null index gives a null row.
+///
+/// Errors: `OTHER_KIND` if the indices are not 32-bit unsigned integers; `OUT_OF_BOUNDS` if a valid
+/// index is not less than the number of rows; `NO_MEMORY`; a `LIMIT_` status if the result would
+/// exceed a limit.
 pub fn take_into(alloc: Global, column: &ArrayRef, indices: &ArrayRef, out: &mut Handle) -> u32
     ensures rows { Makes result out.old.tree out.new.tree (λ made. rows made.column ≡
         take_rows (rows column.now.column) (rows indices.now.column)) }
@@ -72,7 +75,11 @@ fn take_at_into(alloc: Global, column: &ArrayRef, indices: &IdxArr, out: &mut Ha
     }
 }
 
-/// The rows at the indices of a slice, null where the validity is false. The statuses are those of the call for C.
+/// Stores in `out` the rows of `column` at `indices`; null where the validity in `bits` is false.
+///
+/// Errors: `TOO_MANY_ROWS` if there are more than 4,294,967,295 indices; `VALIDITY_LENGTH` if
+/// `bits` has fewer bits than there are indices; `OUT_OF_BOUNDS` if a valid index is not less than
+/// the number of rows; `NO_MEMORY`; a `LIMIT_` status if the result would exceed a limit.
 pub fn take_rows_into(
     alloc: Global,
     column: &ArrayRef,

@@ -1,4 +1,4 @@
-//! Rows compared, as a text, and read from one.
+//! Columns printed as row text and parsed from it.
 
 ghost use Rattle.std.specs.Prelude.{◌≡◌, ◌≢◌, ◌≤◌, ℕ, List, [], ◌∷◌, length, IfOk, IfErr, IsTrue};
 ghost use Rattle.sel_arrow.specs.DataType.{shape_of};
@@ -27,7 +27,10 @@ use sel_text::text_error::TextError;
 use std::alloc::Global;
 use std::str;
 
-/// Writes the rows as text, as much as there is room for, and how many bytes the whole has.
+/// Writes the row text of the column into `out`, truncated to its length, and the length of the
+/// whole text to `len`.
+///
+/// Errors: `NO_MEMORY`.
 pub fn print_into(alloc: Global, column: &ArrayRef, out: &mut [u8], len: &mut usize) -> u32
     ensures text { result ≡ done → out.new ≡
         filled (text_of (type_of column.now.column) (rows column.now.column)) out.old }
@@ -44,7 +47,7 @@ pub fn print_into(alloc: Global, column: &ArrayRef, out: &mut [u8], len: &mut us
     DONE
 }
 
-// Writes as many bytes as there is room for.
+// Copies as many bytes as fit.
 fn fill(text: &[u8], out: &mut [u8])
     ensures { out.new ≡ filled text.now out.old }
 {
@@ -52,7 +55,12 @@ fn fill(text: &[u8], out: &mut [u8])
     out[..count].copy_from_slice(&text[..count]);
 }
 
-/// The column of the type and with the rows that two texts name. The statuses are those of the call for C.
+/// Parses the type `name` and the row text `text`, and stores the column in `out`.
+///
+/// Errors: `TYPE_SYNTAX` if `name` is not a type, with its byte position in `at`; `TEXT_SYNTAX` if
+/// `text` is not row text, and `TEXT_MISFIT` if a value does not fit the type, with the byte
+/// position in `text`; `TEXT_LIMIT` if the type or the rows exceed a size limit, or the type is
+/// nested more than 64 levels deep; `NO_MEMORY`. On error `out` is unchanged.
 pub fn parse_into(alloc: Global, name: &[u8], text: &[u8], at: &mut usize, out: &mut Handle) -> u32
     ensures dtype { Makes result out.old.tree out.new.tree
         (λ made. type_text (type_of made.column) ≡ spaceless name.now) }
@@ -85,8 +93,11 @@ pub fn parse_into(alloc: Global, name: &[u8], text: &[u8], at: &mut usize, out: 
     }
 }
 
-/// The type that the bytes name. One whose lists of one length are longer than a column may be is past a limit, since no
-/// column has it.
+/// Parses a type.
+///
+/// # Errors
+/// `Syntax` or `Type` with the byte position; `Limit`, also if a list size exceeds what a column
+/// can have; `OutOfMemory`.
 fn read_dtype(alloc: Global, bytes: &[u8]) -> Result<ArrowDataType, TextError>
     ensures text { IfOk result (λ dtype. type_text (shape_of dtype) ≡ spaceless bytes.now) }
     ensures narrow { IfOk result (λ dtype. IsTrue (widths_written (shape_of dtype))) }
@@ -116,7 +127,10 @@ fn read_dtype(alloc: Global, bytes: &[u8]) -> Result<ArrowDataType, TextError>
     Ok(dtype)
 }
 
-/// The column of this type with the rows that the bytes name.
+/// Parses row text of this type.
+///
+/// # Errors
+/// `Syntax` or `Type` with the byte position; `Limit`; `OutOfMemory`.
 fn read_rows(alloc: Global, dtype: &ArrowDataType, bytes: &[u8]) -> Result<ArrayRef, TextError>
     ensures dtype { IfOk result (λ made. type_of made.column ≡ shape_of dtype.now) }
     ensures text { IfOk result (λ made.
@@ -136,7 +150,7 @@ fn read_rows(alloc: Global, dtype: &ArrowDataType, bytes: &[u8]) -> Result<Array
     }
 }
 
-/// The number that tells why a text names no type, and the place where there is one.
+/// Returns the status code of an error in the type, and writes its byte position, if any, to `at`.
 fn type_refusal(fault: TextError, at: &mut usize) -> u32
     ensures refused { result ≢ done }
     ensures short { IsShortage fault → IsOneOf result (no_memory ∷ text_limit ∷ []) }
@@ -155,7 +169,8 @@ fn type_refusal(fault: TextError, at: &mut usize) -> u32
     }
 }
 
-/// The number that tells why a text is none of rows of a type, and the place where there is one.
+/// Returns the status code of an error in the row text, and writes its byte position, if any, to
+/// `at`.
 fn rows_refusal(fault: TextError, at: &mut usize) -> u32
     ensures refused { result ≢ done }
     ensures short { IsShortage fault → IsOneOf result (no_memory ∷ text_limit ∷ []) }

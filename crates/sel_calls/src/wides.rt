@@ -1,4 +1,4 @@
-//! Columns of numbers of 128 bits, which pass as two words each.
+//! Columns of 128-bit integers, exchanged as two 64-bit words each.
 
 ghost use Rattle.std.specs.Prelude.{◌≡◌, ◌≢◌, [], ◌∷◌, ℤ, length, map, None, IfOk, IfErr};
 ghost use Rattle.sel_arrow.specs.Masked.{number_rows};
@@ -16,7 +16,7 @@ use sel_handle::inputs::numbers_of;
 use sel_handle::status::{DONE, NO_MEMORY, OTHER_KIND, OTHER_LENGTH};
 use std::alloc::Global;
 
-/// A number of 128 bits as two words, as it lies in the memory of a little-endian machine.
+/// A 128-bit integer as two 64-bit words, in the memory layout of a little-endian machine.
 #[repr(C)]
 #[derive(Clone, Copy)]
 pub struct Wide {
@@ -26,18 +26,18 @@ pub struct Wide {
     pub high: u64,
 }
 
-/// A number that passes as two words.
+/// A 128-bit integer type that is exchanged as two words.
 pub trait InWords: ArrowPrimitive {
     ghost use Rattle.sel_calls.specs.declared.wides.Wide.{Wide};
 
-    /// The number that two words show.
+    /// The integer that two words represent.
     ghost shown_by: { Wide → ℤ };
 
-    /// The number of the words.
+    /// Returns the integer of the words.
     fn of_words(words: Wide) -> Self
         ensures { Self.number result ≡ shown_by words };
 
-    /// The words of the number.
+    /// Returns the words of the integer.
     fn to_words(self) -> Wide
         ensures { shown_by result ≡ Self.number self };
 }
@@ -81,7 +81,10 @@ fn split(number: u128) -> Wide
     }
 }
 
-/// The numbers of the words. Refuses only for want of memory.
+/// Returns the integers of the words.
+///
+/// # Errors
+/// `OutOfMemory`.
 fn joined_all<T: InWords>(alloc: Global, words: &[Wide]) -> PolarsResult<Vec<T>>
     ensures numbers { IfOk result (λ numbers.
         map T.number numbers.items ≡ map T.shown_by words.now) }
@@ -93,7 +96,10 @@ fn joined_all<T: InWords>(alloc: Global, words: &[Wide]) -> PolarsResult<Vec<T>>
     Ok(numbers)
 }
 
-/// Writes the words of the numbers into a slice of as many.
+/// Writes the words of the integers into `out`.
+///
+/// # Requires
+/// `out.len() == numbers.len()`.
 fn split_all<T: InWords>(numbers: &[T], out: &mut [Wide])
     requires { length out.old ≡ length numbers.now }
     ensures numbers { map T.number numbers.now ≡ map T.shown_by out.new }
@@ -105,7 +111,10 @@ fn split_all<T: InWords>(numbers: &[T], out: &mut [Wide])
     }
 }
 
-/// The column of the numbers. Refuses the first broken rule, or for want of memory.
+/// Builds a column of 128-bit integers from copies of the words and of the validity in `bytes`.
+///
+/// # Errors
+/// The first of these rules that is broken: `TooManyRows`, `ValidityLength`; or `OutOfMemory`.
 pub fn wides_of<T: InWords>(
     alloc: Global,
     words: &[Wide],
@@ -124,7 +133,10 @@ pub fn wides_of<T: InWords>(
     numbers_of(alloc, &numbers, bytes, has)
 }
 
-/// Writes the numbers, those beneath nulls too, into a slice of as many.
+/// Copies the values, also those in null slots, into `out`.
+///
+/// Errors: `OTHER_KIND` if the column's type is not that of `T`; `OTHER_LENGTH` if the length of
+/// `out` is not the number of rows; `NO_MEMORY`.
 #[tactic(auto, using(crate::proofs::Shown::words))]
 pub fn wides_into<T: InWords>(alloc: Global, column: &ArrayRef, out: &mut [Wide]) -> u32
     ensures values { result ≡ done → Shows (numbers T.shown_by out.new) (rows column.now.column) }

@@ -1,4 +1,5 @@
--- A bare pointer with its allocator, and what they own, as entries of a walk. Assumes `Logic`.
+-- A raw pointer with its allocator, and what they own, as entries of a proof context. Assumes
+-- `Logic`.
 --     both                     the machine value of a pointer beside an allocator
 --     loose_out, loose_in      a `Loose` by value is [what the box owned; the allocator], and back
 use Rattle.std.proofs.Common.{◌≡◌, ℕ, List, [], ◌∷◌, ◌++◌, refl, subst}

@@ -1,4 +1,4 @@
--- The positions that offsets show.
+-- Offsets as natural numbers.
 use Rattle.std.proofs.Common.{◌≡◌, ℕ, ℤ, List, [], ◌∷◌, map, refl, ap, sym, ◌∙◌}
 use Rattle.std.specs.Prelude.{pos}
 use Rattle.sel_bits.specs.Signs.{magnitude}

@@ -1,4 +1,4 @@
--- The values beneath a validity show the rows.
+-- The values with a validity give the rows.
 use Rattle.std.proofs.Common.{◌≡◌, ℤ, Bool, true, List, [], ◌∷◌, length, Option, Some, None, replicate, refl, ap, sym, ◌∙◌}
 use Rattle.sel_bits.specs.Bits.{Bits}
 use Rattle.sel_arrow.specs.Masked.{hidden, masked, Covers, number_rows, truth_rows}

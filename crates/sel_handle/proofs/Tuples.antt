@@ -1,4 +1,4 @@
--- Tuples over the fields that callers pass.
+-- Struct columns over the fields that callers pass.
 use Rattle.std.proofs.Common.{◌≡◌, List, [], ◌∷◌, map, refl, ap, ◌∙◌}
 use Rattle.sel_arrow.specs.Nested.{tuple_rows}
 use Rattle.sel_arrow.specs.NestedArrays.{tuple_column}

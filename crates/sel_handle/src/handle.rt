@@ -1,4 +1,4 @@
-//! What a caller outside holds of a column.
+//! The handle through which a C caller owns a column.
 
 ghost use Rattle.std.specs.Prelude.{◌≡◌};
 ghost use Rattle.std.specs.Option.{MatchOption};
@@ -12,7 +12,9 @@ use std::marker::Model;
 use std::mem::replace;
 use std::ptr::null_mut;
 
-/// A column, or none where the pointer is null. A caller starts with null, moves it and never copies it.
+/// An owned column, or none if the pointer is null.
+///
+/// A caller initializes it to null, may move it, and must not copy it.
 #[repr(C)]
 pub struct Handle {
     at: *mut u8,
@@ -25,7 +27,7 @@ impl Model for Handle {
 }
 
 impl Handle {
-    /// No column.
+    /// Returns a handle without a column.
     pub fn empty(alloc: Global) -> Handle
         ensures { result.tree ≡ None }
     {
@@ -59,14 +61,14 @@ impl Handle {
         }
     }
 
-    /// The column.
+    /// Returns a handle that owns `column`.
     pub fn of(column: Box<ArrayRef>) -> Handle
         ensures { result.tree ≡ Some column.value }
     {
         Handle::of_loose(Loose::of(column))
     }
 
-    /// The column, if there is one.
+    /// Returns the column, or none if the handle has none.
     pub fn into_box(self) -> Option<Box<ArrayRef>>
         ensures { MatchOption result (self.tree ≡ None) (λ column. self.tree ≡ Some column.value) }
     {
@@ -76,7 +78,7 @@ impl Handle {
         }
     }
 
-    /// The column, if there is one; the handle has none afterwards.
+    /// Takes the column out of the handle, which has none afterwards; returns none if it had none.
     pub fn take(&mut self, alloc: Global) -> Option<Box<ArrayRef>>
         ensures taken { self.new.tree ≡ None }
         ensures column { MatchOption result (self.old.tree ≡ None)

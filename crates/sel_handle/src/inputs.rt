@@ -1,4 +1,4 @@
-//! Columns of the parts that callers pass as slices, which are copied.
+//! Columns built from copies of the slices that callers pass.
 
 ghost use Rattle.std.specs.Prelude.{◌≡◌, ◌≤◌, ◌*◌, IfOk, IfErr, length, None, Some, false, [], ◌∷◌};
 ghost use Rattle.sel_bits.specs.Faults.{first_broken, IsFaultOrMemory};
@@ -18,7 +18,10 @@ use sel_bits::buffer::Buffer;
 use sel_bits::faults::{MakeError, Malformed};
 use std::alloc::Global;
 
-/// The validity of `len` rows in bytes. Refuses bytes that have too few bits, and else only for want of memory.
+/// Copies the validity of `len` rows from `bytes`; returns none if `has` is false.
+///
+/// # Errors
+/// `ValidityLength` if `bytes` has fewer than `len` bits; `OutOfMemory`.
 pub fn validity_of(
     alloc: Global,
     bytes: &[u8],
@@ -46,8 +49,13 @@ pub fn validity_of(
     }
 }
 
-/// The column of these numbers. Refuses more rows than 4,294,967,295, then a validity of too few bits, and else only
-/// for want of memory.
+/// Builds a primitive column from copies of `values` and of the validity in `bytes`.
+///
+/// Without `has`, the column has no validity.
+///
+/// # Errors
+/// `TooManyRows` if there are more than 4,294,967,295 values; `ValidityLength` if `bytes` has fewer
+/// bits than there are values; `OutOfMemory`.
 pub fn numbers_of<T: ArrowPrimitive>(
     alloc: Global,
     values: &[T],
@@ -78,7 +86,17 @@ pub fn numbers_of<T: ArrowPrimitive>(
     .into_ref())
 }
 
-/// The column of the `len` truth values in bytes. Refuses as `numbers_of` does.
+/// Builds a boolean column from copies of the first `len` bits of `values`, least significant bit
+/// first, and of the validity in `bytes`.
+///
+/// Without `has`, the column has no validity.
+///
+/// # Requires
+/// `len <= 8 * values.len()`.
+///
+/// # Errors
+/// `TooManyRows` if `len` exceeds 4,294,967,295; `ValidityLength` if `bytes` has fewer than `len`
+/// bits; `OutOfMemory`.
 pub fn booleans_of(
     alloc: Global,
     values: &[u8],

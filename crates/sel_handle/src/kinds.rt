@@ -1,4 +1,4 @@
-//! The kinds of columns, as numbers.
+//! The types of columns, as numbers.
 
 ghost use Rattle.std.specs.Prelude.{◌≡◌};
 ghost use Rattle.sel_arrow.specs.Rows.{type_of};
@@ -6,64 +6,64 @@ ghost use Rattle.sel_handle.specs.Kinds.{kind_number};
 
 use sel_arrow::column::Column;
 
-/// Nulls alone.
+/// Nulls only.
 pub const NULL: u32 = 0;
 
-/// Truth values.
+/// Booleans.
 pub const BOOLEAN: u32 = 1;
 
-/// Numbers of 8 bits.
+/// 8-bit signed integers.
 pub const INT8: u32 = 2;
 
-/// Numbers of 16 bits.
+/// 16-bit signed integers.
 pub const INT16: u32 = 3;
 
-/// Numbers of 32 bits.
+/// 32-bit signed integers.
 pub const INT32: u32 = 4;
 
-/// Numbers of 64 bits.
+/// 64-bit signed integers.
 pub const INT64: u32 = 5;
 
-/// Numbers of 128 bits.
+/// 128-bit signed integers.
 pub const INT128: u32 = 6;
 
-/// Unsigned numbers of 8 bits.
+/// 8-bit unsigned integers.
 pub const UINT8: u32 = 7;
 
-/// Unsigned numbers of 16 bits.
+/// 16-bit unsigned integers.
 pub const UINT16: u32 = 8;
 
-/// Unsigned numbers of 32 bits.
+/// 32-bit unsigned integers.
 pub const UINT32: u32 = 9;
 
-/// Unsigned numbers of 64 bits.
+/// 64-bit unsigned integers.
 pub const UINT64: u32 = 10;
 
-/// Unsigned numbers of 128 bits.
+/// 128-bit unsigned integers.
 pub const UINT128: u32 = 11;
 
-/// Bytes between offsets of 64 bits.
+/// Binary with 64-bit offsets.
 pub const LARGE_BINARY: u32 = 12;
 
-/// Bytes that views name.
+/// Binary views.
 pub const BINARY_VIEW: u32 = 13;
 
-/// UTF-8 texts that views name.
+/// UTF-8 string views.
 pub const UTF8_VIEW: u32 = 14;
 
-/// Lists between offsets of 64 bits.
+/// Lists with 64-bit offsets.
 pub const LARGE_LIST: u32 = 15;
 
-/// Lists of one length.
+/// Fixed-size lists.
 pub const FIXED_SIZE_LIST: u32 = 16;
 
-/// Tuples.
+/// Structs.
 pub const STRUCT: u32 = 17;
 
 /// The handle has no column.
 pub const NO_KIND: u32 = 18;
 
-/// The number of the column's kind.
+/// Returns the number of the column's type.
 pub fn kind_of(column: &Column) -> u32
     ensures { result ≡ kind_number (type_of column.now) }
 {

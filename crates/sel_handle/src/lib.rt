@@ -1,4 +1,4 @@
-//! Columns for callers outside: the handle of a column, the numbers that calls answer, and columns made of slices.
+//! Column handles for C callers, status codes, and the exchange of columns with slices.
 #![tactic(auto)]
 
 pub mod handle;

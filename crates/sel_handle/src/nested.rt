@@ -1,4 +1,4 @@
-//! Columns of bytes, lists and tuples, of the parts that callers pass.
+//! Binary, list, fixed-size list and struct columns built from parts that callers pass.
 
 ghost use Rattle.std.specs.Prelude.{◌≡◌, None, IfOk, IfErr, length, map, pos};
 ghost use Rattle.sel_bits.specs.Faults.{IsFaultOrMemory};
@@ -21,7 +21,10 @@ use sel_bits::faults::MakeError;
 use sel_bits::offsets::OffsetsBuffer;
 use std::alloc::Global;
 
-/// The offsets, copied. Refuses the first broken rule, or for want of memory.
+/// Copies the offsets.
+///
+/// # Errors
+/// `OffsetCount`, `OffsetNegative` or `OffsetOrder`; `OutOfMemory`.
 #[tactic(auto, using(crate::proofs::Positions::shown))]
 pub fn offsets_of(alloc: Global, offsets: &[i64]) -> Result<OffsetsBuffer<i64>, MakeError>
     ensures value { IfOk result (λ buffer. buffer ≡ positions offsets.now) }
@@ -34,7 +37,11 @@ pub fn offsets_of(alloc: Global, offsets: &[i64]) -> Result<OffsetsBuffer<i64>, 
     OffsetsBuffer::try_from(copied)
 }
 
-/// The column of the bytes between offsets. Refuses the first broken rule, or for want of memory.
+/// Builds a binary column with 64-bit offsets from copies of its offsets, values and validity.
+///
+/// # Errors
+/// The first of these rules that is broken: those of [`offsets_of`], `ValidityLength`,
+/// `TooManyRows`, `OffsetRange`; or `OutOfMemory`.
 pub fn binary_of(
     alloc: Global,
     offsets: &[i64],
@@ -63,7 +70,13 @@ pub fn binary_of(
     }
 }
 
-/// The column of the lists between offsets over the child. Refuses the first broken rule, or for want of memory.
+/// Builds a column of lists with 64-bit offsets over `child`.
+///
+/// Copies the offsets and the validity.
+///
+/// # Errors
+/// The first of these rules that is broken: those of [`offsets_of`], `ValidityLength`,
+/// `TooManyRows`, `OffsetRange`; or `OutOfMemory`. On error `child` is freed.
 pub fn lists_of(
     alloc: Global,
     offsets: &[i64],
@@ -100,7 +113,13 @@ pub fn lists_of(
     }
 }
 
-/// The column of `len` lists of `width` rows of the child each. Refuses the first broken rule, or for want of memory.
+/// Builds a column of `len` fixed-size lists of `width` rows of `child` each.
+///
+/// Copies the validity.
+///
+/// # Errors
+/// The first of these rules that is broken: `ValidityLength`, `TooManyRows`, `Width`,
+/// `ChildLength`; or `OutOfMemory`. On error `child` is freed.
 pub fn blocks_of(
     alloc: Global,
     width: usize,
@@ -131,7 +150,13 @@ pub fn blocks_of(
     }
 }
 
-/// The column of `len` tuples of the fields. Refuses the first broken rule, or for want of memory.
+/// Builds a struct column of `len` rows from its fields.
+///
+/// Copies the validity.
+///
+/// # Errors
+/// The first of these rules that is broken: `ValidityLength`, `TooManyRows`, `FieldLength`; or
+/// `OutOfMemory`. On error the fields are freed.
 #[tactic(auto, using(crate::proofs::Tuples::tuples))]
 pub fn tuples_of(
     alloc: Global,

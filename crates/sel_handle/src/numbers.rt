@@ -1,4 +1,4 @@
-//! Columns of numbers in handles: made of slices, and written into slices.
+//! Primitive columns in handles: built from slices, and copied into slices.
 
 ghost use Rattle.std.specs.Prelude.{◌≡◌, [], ◌∷◌, length};
 ghost use Rattle.sel_arrow.specs.Masked.{number_rows};
@@ -14,8 +14,11 @@ use crate::status::{NO_COLUMN, put, status_of_maker};
 use sel_arrow::primitive::ArrowPrimitive;
 use std::alloc::Global;
 
-/// Makes the column of these numbers. `TOO_MANY_ROWS`: more than 4,294,967,295; `VALIDITY_LENGTH`: fewer bytes of validity
-/// than the rows need.
+/// Builds a primitive column from copies of `values` and of the validity in `bits`, and stores it
+/// in `out`.
+///
+/// Errors: `TOO_MANY_ROWS` if there are more than 4,294,967,295 values; `VALIDITY_LENGTH` if `bits`
+/// has fewer bits than there are values; `NO_MEMORY`. On error `out` is unchanged.
 pub fn make_numbers<T: ArrowPrimitive>(
     alloc: Global,
     values: &[T],
@@ -34,8 +37,10 @@ pub fn make_numbers<T: ArrowPrimitive>(
     }
 }
 
-/// Writes the numbers, those beneath nulls too, into `out`, which has a place for each row. `NO_COLUMN`: there is no column;
-/// `OTHER_KIND`: it is of another kind; `OTHER_LENGTH`: `out` is of another length.
+/// Copies the values of the column, also those in null slots, into `out`.
+///
+/// Errors: `NO_COLUMN` if the handle has no column; `OTHER_KIND` if its type is not that of `T`;
+/// `OTHER_LENGTH` if the length of `out` is not the number of rows; `NO_MEMORY`.
 pub fn held_numbers_into<T: ArrowPrimitive>(alloc: Global, of: &mut Handle, out: &mut [T]) -> u32
     ensures values { result ≡ done → Shows (numbers T.number out.new) (held_rows of.old.tree) }
     ensures column { DemandsFirst result no_column (HasColumn of.old.tree) }

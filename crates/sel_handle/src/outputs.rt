@@ -1,4 +1,4 @@
-//! What is written of columns into slices of callers.
+//! Values and validity of columns, copied into slices of callers.
 
 ghost use Rattle.std.specs.Prelude.{◌≡◌, ◌≢◌, ◌+◌, ◌/◌, ◌%◌, length, [], ◌∷◌, IfOk};
 ghost use Rattle.sel_bits.specs.Bits.{bits_from};
@@ -18,7 +18,10 @@ use sel_bits::faults::PolarsResult;
 use sel_bits::packer::BitPacker;
 use std::alloc::Global;
 
-/// Writes the numbers, those beneath nulls too, into a slice of as many.
+/// Copies the values, also those in null slots, into `out`.
+///
+/// Errors: `OTHER_KIND` if the column's type is not that of `T`; `OTHER_LENGTH` if the length of
+/// `out` is not the number of rows; `NO_MEMORY`.
 #[tactic(auto, using(crate::proofs::Shown::shows))]
 pub fn numbers_into<T: ArrowPrimitive>(alloc: Global, column: &ArrayRef, out: &mut [T]) -> u32
     ensures values { result ≡ done → Shows (numbers T.number out.new) (rows column.now.column) }
@@ -49,7 +52,10 @@ pub fn numbers_into<T: ArrowPrimitive>(alloc: Global, column: &ArrayRef, out: &m
     }
 }
 
-/// Writes the bits into as many bytes as they need, the first bit lowest; bits behind the last one are of any value.
+/// Copies the bits into `out`, least significant bit first. The bits after the last one are
+/// unspecified.
+///
+/// Errors: `OTHER_LENGTH` if `out` does not have `(bits.len() + 7) / 8` bytes; `NO_MEMORY`.
 pub fn bits_into(alloc: Global, bits: &Bitmap, out: &mut [u8]) -> u32
     ensures bits { result ≡ done → bits_from out.new 0 (length bits.now.bits) ≡ bits.now.bits }
     ensures length { Demands result other_length
@@ -67,7 +73,10 @@ pub fn bits_into(alloc: Global, bits: &Bitmap, out: &mut [u8]) -> u32
     DONE
 }
 
-/// The same bits, from the first bit of a byte on. Refuses only for want of memory.
+/// Returns the same bits, starting at the first bit of a byte.
+///
+/// # Errors
+/// `OutOfMemory`.
 fn moved_to_front(alloc: Global, bits: &Bitmap) -> PolarsResult<Bitmap>
     ensures bits { IfOk result (λ moved. moved.bits ≡ bits.now.bits) }
     ensures place { IfOk result (λ moved. moved.offset % 8 ≡ 0) }
@@ -81,7 +90,11 @@ fn moved_to_front(alloc: Global, bits: &Bitmap) -> PolarsResult<Bitmap>
     packer.into_bitmap(len)
 }
 
-/// Writes the bits of the validity into as many bytes as they need, and whether there is one; without one the bytes stay.
+/// Writes to `has` whether the column has a validity, and copies it into `out`, least significant
+/// bit first. Without a validity `out` is unchanged.
+///
+/// Errors: `OTHER_LENGTH` if there is a validity and `out` does not have one byte for each eight
+/// rows, rounded up; `NO_MEMORY`.
 pub fn validity_into(alloc: Global, column: &ArrayRef, out: &mut [u8], has: &mut bool) -> u32
     ensures validity { result ≡ done → TellsNulls (type_of column.now.column)
         (validity_in out.new has.new (length (rows column.now.column))) (rows column.now.column) }
@@ -102,7 +115,10 @@ pub fn validity_into(alloc: Global, column: &ArrayRef, out: &mut [u8], has: &mut
     }
 }
 
-/// Writes the truth values, those beneath nulls too, into as many bytes as they need.
+/// Copies the booleans, also those in null slots, into `out`, least significant bit first.
+///
+/// Errors: `OTHER_KIND` if the column is not boolean; `OTHER_LENGTH` if `out` does not have one
+/// byte for each eight rows, rounded up; `NO_MEMORY`.
 #[tactic(auto, using(crate::proofs::Shown::shows))]
 pub fn booleans_into(alloc: Global, column: &ArrayRef, out: &mut [u8]) -> u32
     ensures values { result ≡ done → Shows

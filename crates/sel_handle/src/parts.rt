@@ -1,4 +1,4 @@
-//! The parts of columns that are not values, as they are laid out.
+//! Offsets and bytes of columns, copied into slices of callers.
 
 ghost use Rattle.std.specs.Prelude.{◌≡◌, ◌≢◌, length, Some, None, [], ◌∷◌};
 ghost use Rattle.std.specs.Option.{option_copied, option_map};
@@ -10,7 +10,7 @@ use crate::status::{DONE, OTHER_KIND, OTHER_LENGTH};
 use sel_arrow::column::Column;
 use sel_bits::offsets::OffsetsBuffer;
 
-/// The offsets of a column of bytes or lists between offsets.
+/// Returns the offsets of a binary or list column with 64-bit offsets, or none for another type.
 fn offsets_of_column(column: &Column) -> Option<&OffsetsBuffer<i64>>
     ensures { option_copied result ≡ offsets_in column.now }
 {
@@ -21,7 +21,7 @@ fn offsets_of_column(column: &Column) -> Option<&OffsetsBuffer<i64>>
     }
 }
 
-/// The bytes of a column of bytes between offsets.
+/// Returns the bytes of a binary column with 64-bit offsets, or none for another type.
 fn bytes_of_column(column: &Column) -> Option<&[u8]>
     ensures { option_copied result ≡ bytes_in column.now }
 {
@@ -31,7 +31,10 @@ fn bytes_of_column(column: &Column) -> Option<&[u8]>
     }
 }
 
-/// Writes the offsets into a slice of as many.
+/// Copies the offsets into `out`.
+///
+/// Errors: `OTHER_KIND` if the column is neither binary nor a list with 64-bit offsets;
+/// `OTHER_LENGTH` if the length of `out` is not the number of offsets.
 #[tactic(auto, using(crate::proofs::Positions::shown))]
 pub fn offsets_into(column: &Column, out: &mut [i64]) -> u32
     ensures offsets { result ≡ done → Some (positions out.new) ≡ offsets_in column.now }
@@ -52,7 +55,10 @@ pub fn offsets_into(column: &Column, out: &mut [i64]) -> u32
     DONE
 }
 
-/// Writes the bytes, those outside of the rows too, into a slice of as many.
+/// Copies the bytes, also those outside of all rows, into `out`.
+///
+/// Errors: `OTHER_KIND` if the column is not binary with 64-bit offsets; `OTHER_LENGTH` if the
+/// length of `out` is not the number of bytes.
 pub fn bytes_into(column: &Column, out: &mut [u8]) -> u32
     ensures bytes { result ≡ done → Some out.new ≡ bytes_in column.now }
     ensures kind { DemandsBefore result other_kind (other_length ∷ [])
@@ -71,7 +77,9 @@ pub fn bytes_into(column: &Column, out: &mut [u8]) -> u32
     DONE
 }
 
-/// Writes how many bytes there are.
+/// Writes the number of bytes to `out`.
+///
+/// Errors: `OTHER_KIND` if the column is not binary with 64-bit offsets.
 pub fn bytes_len_into(column: &Column, out: &mut usize) -> u32
     ensures bytes { result ≡ done → Some out.new ≡ option_map length (bytes_in column.now) }
     ensures kind { Demands result other_kind (bytes_in column.now ≢ None) }

@@ -1,4 +1,4 @@
-//! Columns of several handles.
+//! The columns of several handles.
 
 ghost use Rattle.std.specs.Prelude.{◌≡◌, ◌≢◌, ◌≤◌, All, None, Some, map, IfOk, IfErr};
 ghost use Rattle.sel_arrow.specs.Rows.{rows, row_count, type_of, buffers_held};
@@ -10,8 +10,10 @@ use sel_arrow::array::Array;
 use sel_arrow::array_ref::ArrayRef;
 use std::alloc::Global;
 
-/// The columns of all handles, which have none afterwards. Refuses a handle without a column, and for want of memory;
-/// then some handles are empty, and their columns freed.
+/// Takes the columns out of all handles, which have none afterwards.
+///
+/// Errors: `NO_COLUMN` if a handle has no column; `NO_MEMORY`. On error some handles may have lost
+/// their columns, which are freed.
 pub fn take_all(alloc: Global, handles: &mut [Handle]) -> Result<Vec<ArrayRef>, u32>
     ensures columns { IfOk result (λ taken.
         map (λ column. Some column) taken.items ≡ map (λ handle. handle.tree) handles.old) }
@@ -49,8 +51,9 @@ pub fn take_all(alloc: Global, handles: &mut [Handle]) -> Result<Vec<ArrayRef>, 
     Ok(taken)
 }
 
-/// Second columns of all handles, in their order, which share the buffers. Refuses a handle without a column, and for want
-/// of memory.
+/// Clones the columns of all handles, in order. A clone shares the buffers of its column.
+///
+/// Errors: `NO_COLUMN` if a handle has no column; `NO_MEMORY`.
 pub fn share_all(alloc: Global, handles: &mut [Handle]) -> Result<Vec<ArrayRef>, u32>
     ensures rows { IfOk result (λ shared. map (λ column. rows column.column) shared.items ≡
         map (λ handle. held_rows handle.tree) handles.old) }
@@ -90,7 +93,9 @@ pub fn share_all(alloc: Global, handles: &mut [Handle]) -> Result<Vec<ArrayRef>,
     Ok(shared)
 }
 
-// A second column of a handle. Refuses one without a column, and for want of memory.
+// Clones the column of a handle. The clone shares its buffers.
+//
+// Errors: `NO_COLUMN` if the handle has no column; `NO_MEMORY`.
 fn share_one(alloc: Global, handle: &mut Handle) -> Result<ArrayRef, u32>
     ensures rows { IfOk result (λ shared. rows shared.column ≡ held_rows handle.old.tree) }
     ensures dtype { IfOk result (λ shared. type_of shared.column ≡ held_type handle.old.tree) }

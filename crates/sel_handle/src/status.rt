@@ -1,4 +1,4 @@
-//! The numbers that calls answer, and what they leave in a handle.
+//! Status codes, and storing a column in a handle.
 
 ghost use Rattle.std.specs.Prelude.{◌≡◌, ◌≤◌};
 ghost use Rattle.sel_handle.specs.Status.{no_memory, error_status, make_status, IsOwnError, Makes, TellsLimits};
@@ -8,94 +8,94 @@ use sel_arrow::array_ref::ArrayRef;
 use sel_bits::faults::{Limit, MakeError, Malformed, PolarsError};
 use std::alloc::Global;
 
-/// Done.
+/// Success.
 pub const DONE: u32 = 0;
 
-/// A growth was refused.
+/// Out of memory: an allocation failed.
 pub const NO_MEMORY: u32 = 1;
 
-/// A handle that was to be read has no column.
+/// A handle that has to have a column is empty.
 pub const NO_COLUMN: u32 = 2;
 
-/// The column is of a kind that the call is not for.
+/// The column has a type that the call does not support.
 pub const OTHER_KIND: u32 = 3;
 
-/// Columns that have to be of one type are of several.
+/// The columns do not have the same type.
 pub const OTHER_TYPE: u32 = 4;
 
-/// A slice, a mask or a column is of another length than it has to be.
+/// Lengths do not match.
 pub const OTHER_LENGTH: u32 = 5;
 
-/// An index, a key or a part names a row that there is not.
+/// An index, a key or a row reference is out of bounds.
 pub const OUT_OF_BOUNDS: u32 = 6;
 
 /// A list that is not null has no element at the index.
 pub const GET_OUT_OF_BOUNDS: u32 = 7;
 
-/// The result would have, at some depth, more than 4,294,967,295 rows.
+/// The result would have more than 4,294,967,295 rows at some depth.
 pub const LIMIT_ROWS: u32 = 8;
 
-/// A column of bytes in the result would have more bytes than an offset can show.
+/// A binary column of the result would exceed the range of its 64-bit offsets.
 pub const LIMIT_BYTES: u32 = 9;
 
-/// A column of views in the result would have more than 4,294,967,295 data buffers.
+/// A view column of the result would have more than 4,294,967,295 data buffers.
 pub const LIMIT_BUFFERS: u32 = 10;
 
-/// A view, or a scalar that stands at every row, would have more than 4,294,967,295 bytes.
+/// A view or a broadcast scalar would have more than 4,294,967,295 bytes.
 pub const LIMIT_VIEW_BYTES: u32 = 11;
 
-/// There is no offset.
+/// There are no offsets.
 pub const OFFSET_COUNT: u32 = 16;
 
 /// An offset is negative.
 pub const OFFSET_NEGATIVE: u32 = 17;
 
-/// An offset is less than the one before.
+/// An offset is less than the previous one.
 pub const OFFSET_ORDER: u32 = 18;
 
-/// More rows than 4,294,967,295.
+/// There are more than 4,294,967,295 rows.
 pub const TOO_MANY_ROWS: u32 = 19;
 
-/// More data buffers than 4,294,967,295.
+/// There are more than 4,294,967,295 data buffers.
 pub const TOO_MANY_BUFFERS: u32 = 20;
 
-/// Lists of one length are longer than 4,294,967,295.
+/// The list size of a fixed-size list exceeds 4,294,967,295.
 pub const WIDTH: u32 = 21;
 
-/// The last offset is past the end of what it points into.
+/// The last offset exceeds the length of the values or the child.
 pub const OFFSET_RANGE: u32 = 22;
 
-/// The child of lists of one length has not a row for each entry.
+/// The child of fixed-size lists does not have length times list size rows.
 pub const CHILD_LENGTH: u32 = 23;
 
-/// A field has another number of rows than its struct.
+/// A field does not have as many rows as its struct.
 pub const FIELD_LENGTH: u32 = 24;
 
-/// The bytes of the validity have fewer bits than there are rows.
+/// The validity has fewer bits than there are rows.
 pub const VALIDITY_LENGTH: u32 = 25;
 
-/// A view names bytes that its buffers do not have.
+/// A view points outside of its data buffer, or to a data buffer that does not exist.
 pub const VIEW_RANGE: u32 = 26;
 
-/// A view's prefix is not the first four bytes that it names.
+/// The prefix of a view differs from the first four bytes that the view points to.
 pub const VIEW_PREFIX: u32 = 27;
 
-/// A valid row of a column of texts is not UTF-8.
+/// A valid row of a string column is not UTF-8.
 pub const UTF8: u32 = 28;
 
-/// From a place on, a text names no type.
+/// Syntax error in the type.
 pub const TYPE_SYNTAX: u32 = 32;
 
-/// From a place on, a text is none of rows.
+/// Syntax error in the row text.
 pub const TEXT_SYNTAX: u32 = 33;
 
-/// What begins at a place in a text does not fit the type.
+/// A value in the row text does not fit the type.
 pub const TEXT_MISFIT: u32 = 34;
 
-/// A text names a column past a limit, or a type nested more deeply than 64 levels.
+/// The type or the rows exceed a size limit, or the type is nested more than 64 levels deep.
 pub const TEXT_LIMIT: u32 = 35;
 
-/// The number of a kernel's error.
+/// Returns the status code of a kernel's error.
 pub fn status_of(error: PolarsError) -> u32
     ensures number { result ≡ error_status error }
     ensures own { IsOwnError result }
@@ -112,7 +112,7 @@ pub fn status_of(error: PolarsError) -> u32
     }
 }
 
-/// The number of a maker's error.
+/// Returns the status code of an error in building a column.
 pub fn status_of_maker(error: MakeError) -> u32
     ensures number { result ≡ make_status error }
     ensures own { IsOwnError result }
@@ -138,7 +138,9 @@ pub fn status_of_maker(error: MakeError) -> u32
     }
 }
 
-/// Puts the column into the handle, in the place of the one that it has. Refuses only for want of memory.
+/// Stores the column in `out`, and frees the one that `out` had.
+///
+/// Errors: `NO_MEMORY`; then `out` is unchanged and `column` is freed.
 pub fn put(alloc: Global, column: ArrayRef, out: &mut Handle) -> u32
     ensures column { Makes result out.old.tree out.new.tree (λ made. made ≡ column) }
     ensures status { result ≤ no_memory }

@@ -1,4 +1,4 @@
-//! What is written of columns of views into slices of callers.
+//! Views and data buffers of columns, copied into slices of callers.
 
 ghost use Rattle.std.specs.Prelude.{◌≡◌, ◌≢◌, ◌<◌, None, Some, [], ◌∷◌, length, slice_get, take, map};
 ghost use Rattle.std.specs.Option.{option_copied, option_map};
@@ -12,7 +12,7 @@ use sel_arrow::binview::BinaryViewArray;
 use sel_arrow::column::Column;
 use sel_arrow::view::View;
 
-/// The column of views that holds bytes or texts.
+/// Returns the views and buffers of a binary view or string view column, or none for another type.
 fn views_lent(column: &Column) -> Option<&BinaryViewArray>
     ensures { option_copied result ≡ views_of column.now }
 {
@@ -23,7 +23,10 @@ fn views_lent(column: &Column) -> Option<&BinaryViewArray>
     }
 }
 
-/// Writes the views into a slice of as many.
+/// Copies the views into `out`.
+///
+/// Errors: `OTHER_KIND` if the column is not a view column; `OTHER_LENGTH` if the length of `out`
+/// is not the number of views.
 pub fn views_into(column: &Column, out: &mut [ViewWords]) -> u32
     ensures views { result ≡ done →
         Some (views_in out.new) ≡ option_map (λ array. array.views) (views_of column.now) }
@@ -61,7 +64,9 @@ fn write_views(views: &[View], out: &mut [ViewWords])
     }
 }
 
-/// Writes how many data buffers there are.
+/// Writes the number of data buffers to `count`.
+///
+/// Errors: `OTHER_KIND` if the column is not a view column.
 pub fn buffer_count_into(column: &Column, count: &mut usize) -> u32
     ensures count { result ≡ done →
         Some count.new ≡ option_map (λ array. length array.buffers) (views_of column.now) }
@@ -75,7 +80,10 @@ pub fn buffer_count_into(column: &Column, count: &mut usize) -> u32
     DONE
 }
 
-/// Writes how many bytes data buffer `i` has.
+/// Writes the number of bytes of data buffer `i` to `len`.
+///
+/// Errors: `OTHER_KIND` if the column is not a view column; `OUT_OF_BOUNDS` if there is no data
+/// buffer `i`.
 pub fn buffer_len_into(column: &Column, i: usize, len: &mut usize) -> u32
     ensures len { result ≡ done → option_map (λ array. option_map length
         (slice_get array.buffers i)) (views_of column.now) ≡ Some (Some len.new) }
@@ -96,7 +104,10 @@ pub fn buffer_len_into(column: &Column, i: usize, len: &mut usize) -> u32
     DONE
 }
 
-/// Writes the bytes of data buffer `i` into a slice of as many.
+/// Copies the bytes of data buffer `i` into `out`.
+///
+/// Errors: `OTHER_KIND` if the column is not a view column; `OUT_OF_BOUNDS` if there is no data
+/// buffer `i`; `OTHER_LENGTH` if the length of `out` is not the number of its bytes.
 pub fn buffer_into(column: &Column, i: usize, out: &mut [u8]) -> u32
     ensures bytes { result ≡ done → option_map (λ array. slice_get array.buffers i)
         (views_of column.now) ≡ Some (Some out.new) }

@@ -1,4 +1,4 @@
-//! Columns of views, of the views and the data buffers that callers pass.
+//! View columns built from copies of the views and data buffers that callers pass.
 
 ghost use Rattle.std.specs.Prelude.{◌≡◌, None, IfOk, IfErr, length, map};
 ghost use Rattle.sel_arrow.specs.Rows.{rows, type_of};
@@ -16,21 +16,24 @@ use sel_bits::buffer::Buffer;
 use sel_bits::faults::{MakeError, PolarsResult};
 use std::alloc::Global;
 
-/// A view as four words, which are the 16 bytes of Arrow on a little-endian machine.
+/// A view as four 32-bit words: the 16 bytes of an Arrow view on a little-endian machine.
 #[repr(C)]
 #[derive(Clone, Copy)]
 pub struct ViewWords {
-    /// How many bytes it names.
+    /// The number of bytes of the value.
     pub length: u32,
-    /// The first four of them.
+    /// The first four bytes of the value.
     pub prefix: u32,
-    /// In which data buffer they lie.
+    /// The index of the data buffer, unless the value is inline.
     pub buffer: u32,
-    /// Where they begin there.
+    /// The offset of the value in the data buffer, unless the value is inline.
     pub offset: u32,
 }
 
-/// The views of the words. Refuses only for want of memory.
+/// Copies the views.
+///
+/// # Errors
+/// `OutOfMemory`.
 fn views_of(alloc: Global, words: &[ViewWords]) -> PolarsResult<Buffer<View>>
     ensures views { IfOk result (λ views. views ≡ views_in words.now) }
 {
@@ -46,7 +49,10 @@ fn views_of(alloc: Global, words: &[ViewWords]) -> PolarsResult<Buffer<View>>
     Buffer::from_vec(views)
 }
 
-/// The bytes of each slice, copied. Refuses only for want of memory.
+/// Copies the bytes of each slice into a buffer.
+///
+/// # Errors
+/// `OutOfMemory`.
 fn buffers_of(alloc: Global, slices: &[&[u8]]) -> PolarsResult<Buffer<Buffer<u8>>>
     ensures buffers { IfOk result (λ buffers. buffers ≡ map (λ s. s.now) slices.now) }
 {
@@ -58,7 +64,11 @@ fn buffers_of(alloc: Global, slices: &[&[u8]]) -> PolarsResult<Buffer<Buffer<u8>
     Buffer::from_vec(buffers)
 }
 
-/// The column of the bytes that views name. Refuses the first broken rule, or for want of memory.
+/// Builds a binary view column from copies of its views, data buffers and validity.
+///
+/// # Errors
+/// The first of these rules that is broken: `ValidityLength`, `TooManyRows`, `TooManyBuffers`, then
+/// `ViewRange` and `ViewPrefix` of each view in order; or `OutOfMemory`.
 pub fn binview_of(
     alloc: Global,
     words: &[ViewWords],
@@ -87,7 +97,10 @@ pub fn binview_of(
     }
 }
 
-/// The column of the texts that views name. Refuses the first broken rule, or for want of memory.
+/// Builds a UTF-8 string view column from copies of its views, data buffers and validity.
+///
+/// # Errors
+/// The first of these rules that is broken: those of [`binview_of`], then `Utf8`; or `OutOfMemory`.
 pub fn utf8view_of(
     alloc: Global,
     words: &[ViewWords],

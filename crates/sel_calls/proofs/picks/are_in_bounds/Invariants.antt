@@ -1,4 +1,4 @@
--- The picks so far name rows.
+-- The row references so far are in bounds.
 use Rattle.std.proofs.Common.{All, take}
 use Rattle.sel_calls.specs.PickLengths.{HasRow}
 use Rattle.sel_calls.specs.Several.{picks_from}

@@ -1,4 +1,4 @@
--- Those so far are of the type of the first.
+-- The columns so far have the type of the first.
 use Rattle.std.proofs.Common.{◌≡◌, All, take}
 use Rattle.sel_arrow.specs.Rows.{type_of}
 use Rattle.sel_calls.proofs.several.are_alike.Given as goal

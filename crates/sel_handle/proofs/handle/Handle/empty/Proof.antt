@@ -1,4 +1,4 @@
--- `empty` keeps nothing at null.
+-- `empty` owns nothing at the null pointer.
 use Rattle.std.proofs.Common.{List, [], ◌∷◌, ◌++◌, refl, sym, subst}
 use mir.Val.{Val}
 use base.Logic.{SProp, ent, id⊢}

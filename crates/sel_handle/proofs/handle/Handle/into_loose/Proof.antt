@@ -1,4 +1,4 @@
--- `into_loose` tells null, which owns nothing, from a box.
+-- `into_loose` distinguishes the null pointer, which owns nothing, from a box.
 use Rattle.std.proofs.Common.{List, [], ◌∷◌, ◌++◌, refl, sym, ap, ◌∙◌, subst, lit<}
 use mir.Val.{Val, vptr, vcons, vnil}
 use base.Logic.{SProp, ent, id⊢}

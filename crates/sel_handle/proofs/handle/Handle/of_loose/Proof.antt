@@ -1,4 +1,4 @@
--- `of_loose` moves two fields, and what they own goes with them.
+-- `of_loose` moves two fields, and with them what they own.
 use Rattle.std.proofs.Common.{List, [], ◌∷◌, ◌++◌, refl, sym, subst}
 use mir.Val.{Val, vptr}
 use base.Logic.{SProp, ent, id⊢}

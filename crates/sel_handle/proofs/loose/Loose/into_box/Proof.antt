@@ -1,4 +1,4 @@
--- `into_box` hands the pointer and the allocator to a call.
+-- `into_box` passes the pointer and the allocator to a call.
 use Rattle.std.proofs.Common.{List, [], ◌∷◌, ◌++◌, refl, sym, ap, subst}
 use mathlib.Core.Path.{◌≡◌}
 use mathlib.Core.Bool.{true, ◌&&◌}

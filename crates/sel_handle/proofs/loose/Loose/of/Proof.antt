@@ -1,4 +1,4 @@
--- `of` takes the box apart by a call, and pairs the pointer with the allocator again.
+-- `of` splits the box by a call, and pairs the pointer with the allocator.
 use Rattle.std.proofs.Common.{List, [], ◌∷◌, ◌++◌, refl, sym, ap, ◌∙◌, subst}
 use mathlib.Core.Path.{◌≡◌}
 use mathlib.Core.Bool.{true, ◌&&◌}
