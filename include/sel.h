@@ -64,103 +64,103 @@ typedef struct sel_pick {
 
 /* The statuses that functions return. */
 enum sel_status {
-    /* Done. */
+    /* Success. */
     SEL_DONE = 0,
-    /* A growth was refused. */
+    /* Out of memory: an allocation failed. */
     SEL_NO_MEMORY = 1,
-    /* A handle that was to be read has no column. */
+    /* A handle that has to have a column is empty. */
     SEL_NO_COLUMN = 2,
-    /* The column is of a kind that the call is not for. */
+    /* The column has a type that the call does not support. */
     SEL_OTHER_KIND = 3,
-    /* Columns that have to be of one type are of several. */
+    /* The columns do not have the same type. */
     SEL_OTHER_TYPE = 4,
-    /* A slice, a mask or a column is of another length than it has to be. */
+    /* Lengths do not match. */
     SEL_OTHER_LENGTH = 5,
-    /* An index, a key or a part names a row that there is not. */
+    /* An index, a key or a row reference is out of bounds. */
     SEL_OUT_OF_BOUNDS = 6,
     /* A list that is not null has no element at the index. */
     SEL_GET_OUT_OF_BOUNDS = 7,
-    /* The result would have, at some depth, more than 4,294,967,295 rows. */
+    /* The result would have more than 4,294,967,295 rows at some depth. */
     SEL_LIMIT_ROWS = 8,
-    /* A column of bytes in the result would have more bytes than an offset can show. */
+    /* A binary column of the result would exceed the range of its 64-bit offsets. */
     SEL_LIMIT_BYTES = 9,
-    /* A column of views in the result would have more than 4,294,967,295 data buffers. */
+    /* A view column of the result would have more than 4,294,967,295 data buffers. */
     SEL_LIMIT_BUFFERS = 10,
-    /* A view, or a scalar that stands at every row, would have more than 4,294,967,295 bytes. */
+    /* A view or a broadcast scalar would have more than 4,294,967,295 bytes. */
     SEL_LIMIT_VIEW_BYTES = 11,
-    /* There is no offset. */
+    /* There are no offsets. */
     SEL_OFFSET_COUNT = 16,
     /* An offset is negative. */
     SEL_OFFSET_NEGATIVE = 17,
-    /* An offset is less than the one before. */
+    /* An offset is less than the previous one. */
     SEL_OFFSET_ORDER = 18,
-    /* More rows than 4,294,967,295. */
+    /* There are more than 4,294,967,295 rows. */
     SEL_TOO_MANY_ROWS = 19,
-    /* More data buffers than 4,294,967,295. */
+    /* There are more than 4,294,967,295 data buffers. */
     SEL_TOO_MANY_BUFFERS = 20,
-    /* Lists of one length are longer than 4,294,967,295. */
+    /* The list size of a fixed-size list exceeds 4,294,967,295. */
     SEL_WIDTH = 21,
-    /* The last offset is past the end of what it points into. */
+    /* The last offset exceeds the length of the values or the child. */
     SEL_OFFSET_RANGE = 22,
-    /* The child of lists of one length has not a row for each entry. */
+    /* The child of fixed-size lists does not have length times list size rows. */
     SEL_CHILD_LENGTH = 23,
-    /* A field has another number of rows than its struct. */
+    /* A field does not have as many rows as its struct. */
     SEL_FIELD_LENGTH = 24,
-    /* The bytes of the validity have fewer bits than there are rows. */
+    /* The validity has fewer bits than there are rows. */
     SEL_VALIDITY_LENGTH = 25,
-    /* A view names bytes that its buffers do not have. */
+    /* A view points outside of its data buffer, or to a data buffer that does not exist. */
     SEL_VIEW_RANGE = 26,
-    /* A view's prefix is not the first four bytes that it names. */
+    /* The prefix of a view differs from the first four bytes that the view points to. */
     SEL_VIEW_PREFIX = 27,
-    /* A valid row of a column of texts is not UTF-8. */
+    /* A valid row of a string column is not UTF-8. */
     SEL_UTF8 = 28,
-    /* From a place on, a text names no type. */
+    /* Syntax error in the type. */
     SEL_TYPE_SYNTAX = 32,
-    /* From a place on, a text is none of rows. */
+    /* Syntax error in the row text. */
     SEL_TEXT_SYNTAX = 33,
-    /* What begins at a place in a text does not fit the type. */
+    /* A value in the row text does not fit the type. */
     SEL_TEXT_MISFIT = 34,
-    /* A text names a column past a limit, or a type nested more deeply than 64 levels. */
+    /* The type or the rows exceed a size limit, or the type is nested more than 64 levels deep. */
     SEL_TEXT_LIMIT = 35
 };
 
 /* The types of columns. */
 enum sel_kind_number {
-    /* Nulls alone. */
+    /* Nulls only. */
     SEL_NULL = 0,
-    /* Truth values. */
+    /* Booleans. */
     SEL_BOOLEAN = 1,
-    /* Numbers of 8 bits. */
+    /* 8-bit signed integers. */
     SEL_INT8 = 2,
-    /* Numbers of 16 bits. */
+    /* 16-bit signed integers. */
     SEL_INT16 = 3,
-    /* Numbers of 32 bits. */
+    /* 32-bit signed integers. */
     SEL_INT32 = 4,
-    /* Numbers of 64 bits. */
+    /* 64-bit signed integers. */
     SEL_INT64 = 5,
-    /* Numbers of 128 bits. */
+    /* 128-bit signed integers. */
     SEL_INT128 = 6,
-    /* Unsigned numbers of 8 bits. */
+    /* 8-bit unsigned integers. */
     SEL_UINT8 = 7,
-    /* Unsigned numbers of 16 bits. */
+    /* 16-bit unsigned integers. */
     SEL_UINT16 = 8,
-    /* Unsigned numbers of 32 bits. */
+    /* 32-bit unsigned integers. */
     SEL_UINT32 = 9,
-    /* Unsigned numbers of 64 bits. */
+    /* 64-bit unsigned integers. */
     SEL_UINT64 = 10,
-    /* Unsigned numbers of 128 bits. */
+    /* 128-bit unsigned integers. */
     SEL_UINT128 = 11,
-    /* Bytes between offsets of 64 bits. */
+    /* Binary with 64-bit offsets. */
     SEL_LARGE_BINARY = 12,
-    /* Bytes that views name. */
+    /* Binary views. */
     SEL_BINARY_VIEW = 13,
-    /* UTF-8 texts that views name. */
+    /* UTF-8 string views. */
     SEL_UTF8_VIEW = 14,
-    /* Lists between offsets of 64 bits. */
+    /* Lists with 64-bit offsets. */
     SEL_LARGE_LIST = 15,
-    /* Lists of one length. */
+    /* Fixed-size lists. */
     SEL_FIXED_SIZE_LIST = 16,
-    /* Tuples. */
+    /* Structs. */
     SEL_STRUCT = 17,
     /* The handle has no column. */
     SEL_NO_KIND = 18
