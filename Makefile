@@ -4,7 +4,8 @@
 # make tour      prints columns of each kind, each kernel once and each error once
 # make run       runs the program on its stored input, or on a file: make run INPUT=file; make build proves and builds it
 # make lib       builds the C library into build/; for newer processors: make lib CPU=x86-64-v3
-# make install   copies the C library and its headers: make install PREFIX=folder
+# make install   copies the C library that make lib built: make install PREFIX=folder DESTDIR=folder; make uninstall removes it
+# make dist      packs it with its headers into build/sel-VERSION-linux-x86_64.tar.gz
 # make bench     times the kernels and writes docs/BENCHMARKS.md; make bench QUICK=1 only compares their answers
 # make mutants   tries every mutant, not only those of make test
 # make api       writes the API reference and the C header
@@ -12,7 +13,7 @@
 INPUT ?= crates/sel_bench/stdin
 PREFIX ?= /usr/local
 
-.PHONY: run tour build lib install bench test check setup mutants api
+.PHONY: run tour build lib install uninstall dist bench test check setup mutants api
 
 run:
 	@tools/run sel_bench $(INPUT)
@@ -27,7 +28,13 @@ lib:
 	tools/clib $(if $(CPU),--cpu $(CPU))
 
 install:
-	tools/clib --install $(PREFIX) $(if $(CPU),--cpu $(CPU))
+	@tools/dist --install '$(PREFIX)' --destdir '$(DESTDIR)' $(if $(CPU),--cpu $(CPU))
+
+uninstall:
+	@tools/dist --uninstall '$(PREFIX)' --destdir '$(DESTDIR)'
+
+dist:
+	@tools/dist
 
 bench:
 	tools/bench/run $(if $(QUICK),quick)

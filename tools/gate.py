@@ -40,6 +40,8 @@ SETUP = {
     "dask": "runs the example on partitions",
     "venv": "installs the Python wheel in a virtual environment",
     "cargo": "builds and tests the Rust package",
+    "pkg-config": "finds the packed C library for the examples",
+    "cmake": "finds it too, for projects that use CMake",
 }
 
 # the number of crates whose mutants are tried at once while the proofs run
@@ -165,6 +167,7 @@ AFTER_LIBRARY = [
     ("Rust package", ["tools/bindings", "rust"]),
     ("Python package", ["tools/bindings", "python"]),
     ("Dask example", ["tools/bindings", "dask"]),
+    ("archive", ["tools/dist", "--check"]),
 ]
 AFTER_PROOFS = [
     ("refused allocations", ["tools/refuse/run"]),
