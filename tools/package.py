@@ -113,21 +113,24 @@ def staged(prefix: str, destdir: str) -> pathlib.Path:
     return pathlib.Path(os.path.abspath(destdir) + prefix) if destdir else pathlib.Path(prefix)
 
 
-def install(prefix: str, destdir: str, cpu: Optional[str]) -> None:
-    """Copies the library that is built, its headers, sel.pc and the files for CMake."""
+def install(prefix: str, destdir: str, cpu: Optional[str]) -> int:
+    """Copies the library that is built, its headers, sel.pc and the files for CMake. Returns the number of files."""
     require_built(BUILD, cpu)
     report_newer_sources()
     folder = staged(prefix, destdir)
     for path, file in files(prefix).items():
         write(folder / path, file)
+    return len(paths())
 
 
-def uninstall(prefix: str, destdir: str) -> None:
-    """Removes the files that `install` copies, and the folder that has the library's name if it is empty then."""
-    folder = staged(prefix, destdir)
+def uninstall(prefix: str, destdir: str) -> int:
+    """Removes the files that `install` copies, and the folder lib/cmake/sel if it is empty then. Returns the number of removed files."""
+    folder, removed = staged(prefix, destdir), 0
     for path in paths():
         if (folder / path).is_symlink() or (folder / path).exists():
             (folder / path).unlink()
+            removed += 1
     own = folder / "lib" / "cmake" / "sel"
     if own.is_dir() and not any(own.iterdir()):
         own.rmdir()
+    return removed
