@@ -51,7 +51,14 @@ def built_for() -> str:
 
 
 def cause_of(kernel: str) -> str:
-    return next((cause for start, cause in CAUSES if kernel.startswith(start)), "not known").replace("x86-64-v2", built_for())
+    """Returns the number of the cause in the list of causes, or that it is not known."""
+    return next((str(number) for number, (start, _) in enumerate(CAUSES, 1) if kernel.startswith(start)), "not known")
+
+
+def causes(rows: list[tuple]) -> list[str]:
+    """Returns the numbered list of the causes of these rows."""
+    used = {cause_of(kernel) for _, _, _, kernel, _, _, _ in rows}
+    return [f"{number}. {start}: {cause.replace('x86-64-v2', built_for())}." for number, (start, cause) in enumerate(CAUSES, 1) if str(number) in used]
 
 
 def best_peer(times: dict) -> tuple[str, float]:
@@ -189,7 +196,8 @@ def write(docs: pathlib.Path, results: list, scale: list, words: list[str], load
              "![Time of a take by the number of rows](bench-take-size.svg)", ""]
     text += ["## Machine", "", *machine(load, compiler, flags),
              f"- Of {len(results)} rows, the library's median is within 10 percent of its best in {repeats}.", ""]
-    text += [f"## Slower than the best peer: {len(worse)} of {len(rows)} rows", "", *table(worse, True), ""]
+    text += [f"## Slower than the best peer: {len(worse)} of {len(rows)} rows", "", "The last column is the number of the cause:", "", *causes(worse), "",
+             *table(worse, True), ""]
     text += [f"## As fast or faster: {len(others)} rows", "", *table(others, False), ""]
     text += ["## By the number of rows", "", *table([row_of(each) for each in scale], False), "", *words]
     (docs / "BENCHMARKS.md").write_text("\n".join(text))
