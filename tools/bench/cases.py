@@ -89,7 +89,7 @@ def mask_column(mask, offset=0):
 
 def wides(values):
     """Returns the UInt128 column of pairs of words."""
-    column = Column()
+    column = Column._empty()
     call("sel_uint128_new", values.ctypes.data, len(values), _NOTHING, 0, False, byref(column._handle))
     return column
 
@@ -109,7 +109,7 @@ def views_of(rows):
 
 
 def texts(views, valid=None):
-    column, bits = Column(), packed(valid) if valid is not None else None
+    column, bits = Column._empty(), packed(valid) if valid is not None else None
     given = (_NOTHING, 0, False) if bits is None else (bits.ctypes.data, len(bits), True)
     call("sel_utf8view_new", views.ctypes.data, len(views), (Slice * 1)(), 0, *given, byref(column._handle))
     return column
@@ -122,7 +122,7 @@ def read_views(column):
 
 
 def lists(offsets, values):
-    column, child = Column(), Column.from_numpy(values)
+    column, child = Column._empty(), Column.from_numpy(values)
     call("sel_list_new", offsets.ctypes.data, len(offsets), _NOTHING, 0, False, byref(child._handle), byref(column._handle))
     return column
 
@@ -134,13 +134,13 @@ def read_lists(column):
 
 
 def blocks(width, values):
-    column, child = Column(), Column.from_numpy(values)
+    column, child = Column._empty(), Column.from_numpy(values)
     call("sel_fixed_list_new", width, len(values) // width, _NOTHING, 0, False, byref(child._handle), byref(column._handle))
     return column
 
 
 def binaries(offsets, values):
-    column = Column()
+    column = Column._empty()
     call("sel_binary_new", offsets.ctypes.data, len(offsets), values.ctypes.data, len(values), _NOTHING, 0, False, byref(column._handle))
     return column
 
@@ -227,7 +227,7 @@ def filter_of_blocks(rows, density):
 
 def filter_of_structs(rows, density):
     mask, first, second = random_mask(rows, density), padded(RNG.integers(0, 2 ** 62, rows)), padded(RNG.integers(0, 2 ** 62, rows))
-    column, (handles, shares) = Column(), several([Column.from_numpy(first), Column.from_numpy(second)])
+    column, (handles, shares) = Column._empty(), several([Column.from_numpy(first), Column.from_numpy(second)])
     call("sel_struct_new", rows, _NOTHING, 0, False, handles, 2, byref(column._handle))
     for share in shares:
         share._handle = Handle()
@@ -357,7 +357,7 @@ def lists_and_several(rows):
     both = np.stack([one, two])
 
     def check_picks():
-        answer, given = Column(), several(pair)
+        answer, given = Column._empty(), several(pair)
         call("sel_collect_rows", given[0], 2, picks.ctypes.data, rows, _NOTHING, 0, False, byref(answer._handle))
         equal(answer.to_numpy(), both[picks[:, 0], picks[:, 1]], "gathered rows")
 

@@ -6,7 +6,7 @@ import importlib
 from ctypes import byref
 from typing import Any
 
-from ._checks import ROW_INDEX, Limits, booleans, error_outside
+from ._checks import ROW_INDEX, Limits, booleans, error_out_of_bounds, error_outside
 from ._library import call
 from ._makers import CODES
 from ._memory import NO_VALIDITY, Memory, room_for_bits
@@ -14,7 +14,7 @@ from ._owner import Owner
 from ._readers import validity_bits
 from ._types import NUMBERS
 
-__all__ = ["array_of", "checked", "is_array", "is_of_objects", "made_of_array", "opened", "picks_of_array"]
+__all__ = ["array_of", "checked", "is_array", "is_of_objects", "made_of_array", "opened", "picks_of_array", "positions_of_array"]
 
 
 def _numpy() -> Any:
@@ -69,6 +69,25 @@ def checked(array: Any, name: str, kinds: str, limits: Limits | None = None) -> 
         position = numpy.unravel_index(int(outside.argmax()), values.shape)
         raise error_outside(int(values[position]), name + "".join(f"[{int(place)}]" for place in position), limits)
     return array
+
+
+def positions_of_array(array: Any, name: str, count: int) -> Any:
+    """Returns a masked array of integers as row numbers of a column of `count` rows; negative integers count from the end.
+
+    Raises IndexError for an integer that no row has. What is masked may be any integer, and stays masked.
+    """
+    numpy = _numpy()
+    mask, values = numpy.ma.getmaskarray(array), numpy.ma.getdata(checked(array, name, "iu"))
+    values = values.astype("int64" if values.dtype.kind == "i" else "uint64")
+    outside = values >= count
+    if values.dtype.kind == "i":
+        outside |= values < -count
+    outside &= ~mask
+    if outside.any():
+        position = int(outside.argmax())
+        raise error_out_of_bounds(int(values[position]), f"{name}[{position}]", count)
+    rows = numpy.where(values < 0, values + count, values) if values.dtype.kind == "i" else values
+    return numpy.ma.array(numpy.where(mask, 0, rows).astype("uint32"), mask=mask)
 
 
 def is_of_objects(values: Any) -> bool:

@@ -14,7 +14,8 @@ from typing import Any, NamedTuple
 from ._errors import OUT_OF_BOUNDS, OutOfBounds
 
 __all__ = ["FIELD_NUMBER", "LIST_INDEX", "LIST_SIZE", "ROW_INDEX", "ROW_OFFSET", "SIZE", "Limits",
-           "boolean", "booleans", "error_outside", "integer", "integer_within", "integers_within", "is_boolean", "is_integer", "shown"]
+           "boolean", "booleans", "error_out_of_bounds", "error_outside", "integer", "integer_within", "integers_within", "is_boolean", "is_integer",
+           "position_of", "shown"]
 
 
 class Limits(NamedTuple):
@@ -52,8 +53,13 @@ def _numpy() -> Any:
 
 
 def is_boolean(value: object) -> bool:
-    """Returns whether the value is a Python bool or a numpy.bool_."""
-    return isinstance(value, bool) or (_numpy() is not None and isinstance(value, _numpy().bool_))
+    """Returns whether the value is a Python bool or a numpy.bool_, which is known by its type's name and module.
+
+    >>> is_boolean(True), is_boolean(1)
+    (True, False)
+    """
+    kind = type(value)
+    return isinstance(value, bool) or (kind.__module__ == "numpy" and kind.__name__ in ("bool_", "bool") and hasattr(kind, "__bool__"))
 
 
 def _is_array_without_index(value: object) -> bool:
@@ -95,6 +101,25 @@ def error_outside(value: int, name: str, limits: Limits) -> Exception:
     if not limits.is_index:
         return OverflowError(text)
     return OutOfBounds(OUT_OF_BOUNDS, f"{text}; negative indices are not supported" if value < 0 == limits.least else text)
+
+
+def error_out_of_bounds(value: int, name: str, count: int) -> OutOfBounds:
+    """Returns the exception for an index that no row of a column has."""
+    return OutOfBounds(OUT_OF_BOUNDS, f"{name}: {shown(value)} is out of bounds of {count} rows")
+
+
+def position_of(value: object, name: str, count: int) -> int:
+    """Returns the row number that an index names in a column of `count` rows; a negative index counts from the end.
+
+    Raises TypeError if it is not an integer, and IndexError if no row has it.
+
+    >>> position_of(-1, "index", 3)
+    2
+    """
+    number = integer(value, name)
+    if not -count <= number < count:
+        raise error_out_of_bounds(number, name, count)
+    return number + count if number < 0 else number
 
 
 def integer_within(value: object, name: str, limits: Limits) -> int:

@@ -2,17 +2,19 @@
 
 from __future__ import annotations
 
-from collections.abc import Iterable, Iterator
+from collections.abc import Iterable, Iterator, Sequence
 from ctypes import byref, c_bool, c_size_t
-from typing import TYPE_CHECKING, Any
+from typing import TYPE_CHECKING, Any, overload
 
 from . import _arrays
 from ._arguments import column_of, columns_of, indices_of, mask_of, picks_of, sizes_of
-from ._checks import FIELD_NUMBER, LIST_INDEX, ROW_OFFSET, SIZE, boolean, integer, integer_within, shown
-from ._errors import OUT_OF_BOUNDS, BrokenText, OutOfBounds, error_of
+from ._checks import FIELD_NUMBER, LIST_INDEX, ROW_OFFSET, SIZE, boolean, integer_within, is_integer, position_of, shown
+from ._errors import OTHER_TYPE, BrokenText, WrongArgument, error_of
+from ._indexing import selected
 from ._library import attempt, call, lib, status_of
 from ._makers import made_of
-from ._memory import _NOTHING, unpacked
+from ._memory import _NOTHING, NO_VALIDITY, unpacked
+from ._names import VALID_NAMES, short_names
 from ._owner import Owner, derived, distinct, from_several
 from ._readers import printed, rows_of, validity_bits
 from ._types import Type, parse_type, type_of_values
@@ -26,7 +28,7 @@ if TYPE_CHECKING:
     Array = numpy.ndarray[Any, Any]
 
 # tools/bench imports _NOTHING from here.
-__all__ = ["_NOTHING", "Column", "choose", "collect_rows", "flatten", "propagate_dictionary"]
+__all__ = ["_NOTHING", "Column", "choose", "collect_rows", "concat", "flatten", "if_else", "propagate_dictionary"]
 
 
 class Column(Owner):
@@ -37,24 +39,41 @@ class Column(Owner):
     Indices and sizes are ints or other objects with `__index__`, such as numpy's integers. Booleans and floats raise TypeError.
     An index that no row has raises IndexError, as does an index of a list outside the 64-bit integers; a size outside its
     range raises OverflowError. No integer is wrapped.
+
+    Columns can be copied by `copy` and pickled. A copy shares memory with its column; a pickle has the type and the rows as
+    Python values, and its cost is in proportion to the rows.
+
+    >>> Column([1, 2, None])
+    Column(i64, [1,2,null])
+    >>> Column([1, None], "uint8")
+    Column(u8, [1,null])
     """
 
     __slots__ = ()
 
     # ---- making
 
-    @staticmethod
-    def from_pylist(values: Iterable[Any], type: str | Type | None = None) -> Column:
-        """Returns the column of Python values, of the type or of the one that the first value has; `None` is null.
+    def __init__(self, values: Iterable[Any], type: str | Type | None = None) -> None:
+        """Makes the column of Python values, of the type or of the one that the first value has; `None` is null.
 
         Integers of numpy and other objects with `__index__` are integers, a numpy.bool_ is a boolean, and neither is the other.
-        Raises TypeError for a value of another type, and OverflowError for an integer that the type cannot hold.
+        A column as the values keeps its type if none is given. Raises TypeError for a value of another type, and OverflowError
+        for an integer that the type cannot hold.
         """
-        rows = list(values)
-        wanted = type_of_values(rows) if type is None else parse_type(type) if isinstance(type, str) else type
-        if not isinstance(wanted, Type):
-            raise TypeError(f"type: {shown(type)} is neither a Type nor the text of one")
-        return Column._owning(made_of(rows, wanted))
+        if isinstance(values, Column) and type is None:
+            made = derived(values, "sel_share")
+        else:
+            rows = list(values)
+            wanted = type_of_values(rows) if type is None else parse_type(type) if isinstance(type, str) else type
+            if not isinstance(wanted, Type):
+                raise TypeError(f"type: {shown(type)} is neither a Type nor the text of one")
+            made = made_of(rows, wanted)
+        self._handle, made._handle = made._handle, self._handle
+
+    @staticmethod
+    def from_pylist(values: Iterable[Any], type: str | Type | None = None) -> Column:
+        """Returns the column of Python values, as `Column(values, type)` does."""
+        return Column(values, type)
 
     @staticmethod
     def parse(type: str | Type, rows: str) -> Column:
@@ -63,12 +82,15 @@ class Column(Owner):
         >>> Column.parse("list<utf8>", '[["Ada", "Grace"], null]')
         Column(list<utf8>, [["Ada","Grace"],null])
         """
-        column, place = Column(), c_size_t()
-        name, text = str(type).encode(), rows.encode()
+        column, place = Column._empty(), c_size_t()
+        short, places = short_names(str(type))
+        name, text = short.encode(), rows.encode()
         status = attempt("sel_parse", name, len(name), text, len(text), byref(place), byref(column._handle))
         if status in (32, 33, 34):
-            before = (name if status == 32 else text)[: place.value]
-            raise BrokenText(status, status_of(status), len(before.decode(errors="ignore")))
+            before = len((name if status == 32 else text)[: place.value].decode(errors="ignore"))
+            if status == 32:
+                raise BrokenText(status, status_of(status), places[before], f"; {VALID_NAMES}")
+            raise BrokenText(status, status_of(status), before)
         if status != 0:
             raise error_of(status, status_of(status))
         return column
@@ -121,21 +143,31 @@ class Column(Owner):
     def __iter__(self) -> Iterator[Any]:
         return iter(self.to_pylist())
 
-    def __getitem__(self, place: SupportsIndex | slice) -> Any:
-        """Returns a row as a Python value, or a slice of rows as a column, which shares memory with this one if its step is 1.
+    @overload
+    def __getitem__(self, place: slice | Column | Sequence[SupportsIndex] | Sequence[Boolean]) -> Column: ...
 
-        An index counts from the end if it is negative. The cost is in proportion to the rows that are returned.
+    @overload
+    def __getitem__(self, place: SupportsIndex | Array) -> Any: ...
+
+    def __getitem__(self, place: SupportsIndex | slice | Column | Sequence[SupportsIndex] | Sequence[Boolean] | Array) -> Any:
+        """Returns a row as a Python value, or the column of the rows that a slice, a sequence of integers or a mask selects.
+
+        Indices count from the end if they are negative. A slice shares memory with this column if its step is 1. A mask is a
+        sequence, an array or a column of booleans, one for each row. In an array or a column, a null index gives a null row and a
+        null boolean counts as false; in a sequence, `None` raises TypeError, because it does not say which of the two is meant.
+        The cost is in proportion to the rows that are returned, and to the key.
+
+        Raises IndexError for an index that no row has, and ValueError for a mask of another length.
+
+        >>> column = Column(["a", "b", "c"])
+        >>> column[-1]
+        'c'
+        >>> column[::-1], column[[2, 0]], column[[True, False, True]]
+        (Column(utf8, ["c","b","a"]), Column(utf8, ["c","a"]), Column(utf8, ["a","c"]))
         """
-        if isinstance(place, slice):
-            start, stop, step = _slice_of(place).indices(len(self))
-            if step != 1:
-                return self.take(range(start, stop, step))
-            return self.sliced(start, max(0, stop - start))
-        number, count = integer(place, "index"), len(self)
-        row = number + count if number < 0 else number
-        if not 0 <= row < count:
-            raise OutOfBounds(OUT_OF_BOUNDS, f"index: {shown(number)} is out of bounds of {count} rows")
-        return self.sliced(row, 1).to_pylist()[0]
+        if is_integer(place):
+            return self.sliced(position_of(place, "index", len(self)), 1).to_pylist()[0]
+        return Column._owning(selected(self, place, "index"))
 
     def __repr__(self) -> str:
         most = 12
@@ -189,6 +221,38 @@ class Column(Owner):
             return self._new("sel_fixed_get_each", distinct(index, self), flag)
         return self._new("sel_fixed_get", integer_within(index, "index", LIST_INDEX), flag)
 
+    def list_element(self, index: SupportsIndex) -> Column:
+        """Returns the element of each list or fixed-size list at the index, as `sublist_get` and `fixed_get` do.
+
+        >>> Column([[1, 2], [3], None]).list_element(1)
+        Column(i64, [2,null,null])
+        """
+        return self.fixed_get(index) if self._kind() == "fixed" else self.sublist_get(index)
+
+    def drop_null(self) -> Column:
+        """Returns the rows that are not null.
+
+        >>> Column([1, None, 3]).drop_null()
+        Column(i64, [1,3])
+        """
+        bits = validity_bits(self)
+        if bits is None:
+            return self.sliced(0, 0) if self._kind() == "null" else self.share()
+        return self._new("sel_filter_bits", bits, bits.size(), len(self))
+
+    def fill_null(self, value: Any) -> Column:
+        """Returns the rows with a value in place of each null. Raises TypeError or OverflowError if the type cannot hold the value.
+
+        >>> Column([1, None, 3]).fill_null(0)
+        Column(i64, [1,0,3])
+        """
+        one, bits = made_of([value], self.type, "value"), validity_bits(self)
+        if bits is None:  # no row is null, or all are and the type has no other value
+            return self.share()
+        mask = Owner()
+        call("sel_boolean_new", bits, bits.size(), len(self), *NO_VALIDITY, byref(mask._handle))
+        return Column._owning(derived(mask, "sel_choose_or_one", self, one))
+
     def unit_list(self) -> Column:
         """Returns a column of lists with one row each."""
         return self._new("sel_unit_list")
@@ -209,6 +273,10 @@ class Column(Owner):
 
     def __deepcopy__(self, memo: object) -> Column:
         return self.share()
+
+    def __reduce__(self) -> tuple[Any, ...]:
+        """Returns what `pickle` stores: the rows as Python values, and the text of the type."""
+        return Column, (self.to_pylist(), str(self.type))
 
     # ---- Arrow
 
@@ -231,10 +299,15 @@ class Column(Owner):
 
     # ---- internal
 
+    @classmethod
+    def _empty(cls) -> Column:
+        """Returns an empty handle, for a call to write over."""
+        return cls.__new__(cls)
+
     @staticmethod
     def _owning(owner: Owner) -> Column:
         """Moves the column of an owner into a new Column."""
-        column = Column()
+        column = Column._empty()
         column._handle, owner._handle = owner._handle, column._handle
         return column
 
@@ -246,13 +319,6 @@ class Column(Owner):
 
     def _field(self, number: SupportsIndex) -> Column:
         return self._new("sel_field", integer_within(number, "field", FIELD_NUMBER))
-
-
-def _slice_of(place: slice) -> slice:
-    """Returns a slice of ints and `None`. As in Python's own slices, bounds beyond the rows are cut off there."""
-    start, stop, step = (None if part is None else integer(part, f"slice {name}")
-                         for name, part in (("start", place.start), ("stop", place.stop), ("step", place.step)))
-    return slice(start, stop, step)
 
 
 # ---- kernels over several columns
@@ -270,6 +336,15 @@ def choose(mask: Column | Iterable[Boolean | None] | Array, if_true: Column | An
     name = {(True, True): "sel_choose", (False, True): "sel_choose_one", (True, False): "sel_choose_or_one", (False, False): "sel_choose_of_two"}[
         isinstance(if_true, Column), isinstance(if_false, Column)]
     return Column._owning(derived(distinct(mask_of(mask, "mask"), first, second), name, first, second))
+
+
+def if_else(mask: Column | Iterable[Boolean | None] | Array, if_true: Column | Any, if_false: Column | Any) -> Column:
+    """Returns the rows of `if_true` where the mask is true, and else those of `if_false`, as `choose` does.
+
+    >>> if_else([True, False], Column([1, 2]), 0)
+    Column(i64, [1,0])
+    """
+    return choose(mask, if_true, if_false)
 
 
 def flatten(columns: Iterable[Column], widths: Iterable[SupportsIndex] | Array, height: SupportsIndex) -> Column:
@@ -292,9 +367,30 @@ def collect_rows(columns: Iterable[Column], picks: Iterable[tuple[SupportsIndex,
         "sel_collect_rows", handles, len(owners), numbers, count, *validity, byref(made._handle))))
 
 
+def concat(columns: Iterable[Column]) -> Column:
+    """Returns the rows of all columns, one column after the other.
+
+    Raises ValueError if there is no column, and WrongArgument, a TypeError, if they have several types.
+
+    >>> concat([Column([1, None]), Column([3])])
+    Column(i64, [1,null,3])
+    """
+    given = list(columns)
+    columns_of(given, "columns")
+    if not given:
+        raise ValueError("columns: there is no column, and so no type of the result")
+    wanted = given[0].type
+    for position, column in enumerate(given):
+        if column.type != wanted:
+            raise WrongArgument(OTHER_TYPE, f"columns[{position}]: a column of type {column.type}, where columns[0] has type {wanted}")
+    # flatten takes no items of a column without rows
+    parts = [column for column in given if len(column) > 0]
+    return flatten(parts, map(len, parts), 1) if parts else given[0].share()
+
+
 def propagate_dictionary(keys: Column, values: Column) -> tuple[Column, Column]:
     """Returns 32-bit keys and strings without null strings: the key of a null string becomes null."""
-    new_keys, new_values = Column(), Column()
+    new_keys, new_values = Column._empty(), Column._empty()
     texts = distinct(column_of(values, "values"), column_of(keys, "keys"))
     call("sel_propagate_dictionary", keys._at(), texts._at(), byref(new_keys._handle), byref(new_values._handle))
     return new_keys, new_values

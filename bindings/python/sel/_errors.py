@@ -4,7 +4,8 @@ from __future__ import annotations
 
 __all__ = ["BrokenRule", "BrokenText", "LimitPassed", "OutOfBounds", "OutOfMemory", "SelError", "WrongArgument"]
 
-# The status of an index out of bounds (SEL_OUT_OF_BOUNDS in include/sel.h).
+# The statuses of columns of several types, and of an index out of bounds (SEL_OTHER_TYPE and SEL_OUT_OF_BOUNDS in include/sel.h).
+OTHER_TYPE = 4
 OUT_OF_BOUNDS = 6
 
 
@@ -43,8 +44,8 @@ class BrokenText(SelError, ValueError):
     `place` is the index of the first wrong character; it is the text's length if the text ends too soon.
     """
 
-    def __init__(self, status: int, text: str, place: int) -> None:
-        super().__init__(status, f"{text} at character {place}")
+    def __init__(self, status: int, text: str, place: int, hint: str = "") -> None:
+        super().__init__(status, f"{text} at character {place}{hint}")
         self.place = place
 
 

@@ -5,12 +5,14 @@ from __future__ import annotations
 import threading
 from collections.abc import Callable, Sequence
 from ctypes import byref, c_size_t
-from typing import Any
+from typing import Any, TypeVar
 
 from ._library import Handle, call, lib
 from ._types import KINDS
 
 __all__ = ["Owner", "derived", "distinct", "from_several"]
+
+_Self = TypeVar("_Self", bound="Owner")
 
 
 class Owner:
@@ -18,9 +20,15 @@ class Owner:
 
     __slots__ = ("_handle", "_thread")
 
-    def __init__(self) -> None:
-        self._handle = Handle()
-        self._thread = threading.get_ident()
+    _handle: Handle
+    _thread: int
+
+    def __new__(cls: type[_Self], *arguments: object, **more: object) -> _Self:
+        """Makes an owner without a column. It is set here, so that it can be freed even if `__init__` raises an exception."""
+        made = super().__new__(cls)
+        made._handle = Handle()
+        made._thread = threading.get_ident()
+        return made
 
     def __del__(self) -> None:
         lib.sel_free(byref(self._handle))

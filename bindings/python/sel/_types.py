@@ -7,6 +7,7 @@ from dataclasses import dataclass
 from typing import Any
 
 from ._checks import LIST_SIZE, integer_within, is_boolean, is_integer
+from ._names import VALID_NAMES, short_names
 
 __all__ = ["KINDS", "NUMBERS", "Type", "parse_type", "type_of_values"]
 
@@ -37,11 +38,14 @@ class Type:
 
 
 def parse_type(text: str) -> Type:
-    """Returns the type that a text names; spaces are skipped.
+    """Returns the type that a text names; spaces are skipped. Arrow's longer names are accepted, too, also with names of fields.
 
     Raises ValueError if it names none, and OverflowError if a list size is more than 4,294,967,295.
+
+    >>> str(parse_type("struct<id: int64, tags: list<item: string>>"))
+    'struct<i64,list<utf8>>'
     """
-    plain = "".join(text.split())
+    plain = "".join(short_names(text)[0].split())
     found, rest = _read(plain)
     if rest:
         raise ValueError(f"{text!r} has {rest!r} after the end of its type")
@@ -52,7 +56,7 @@ def _read(text: str) -> tuple[Type, str]:
     end = next((place for place, letter in enumerate(text) if letter in "<>,"), len(text))
     kind, rest = text[:end], text[end:]
     if kind not in KINDS:
-        raise ValueError(f"there is no type {kind!r}")
+        raise ValueError(f"there is no type {kind!r}; {VALID_NAMES}")
     if kind not in ("list", "fixed", "struct"):
         return Type(kind), rest
     if not rest.startswith("<"):

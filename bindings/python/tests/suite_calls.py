@@ -2,6 +2,7 @@
 
 from __future__ import annotations
 
+import pickle
 from collections.abc import Callable
 from ctypes import byref
 from typing import Any, NamedTuple
@@ -163,6 +164,11 @@ def _has_rows(given: Arguments, expected: Any) -> bool:
     return int(sum(given.others)) <= len(given.columns[0].values)
 
 
+def _is_mask(given: Arguments, expected: Any) -> bool:
+    """Returns whether a column of booleans has a row for each row of the first column: `column[mask]` raises ValueError for another."""
+    return given.has_type(1, "bool") and len(given.columns[0].values) == len(given.columns[1].values)
+
+
 def _items(given: Arguments, lists: Column) -> Any:
     """Returns the rows of the child that lie in lists which are not null, and the type of the child."""
     child, items = lists._child(), []
@@ -210,13 +216,16 @@ CALLS = {
     "rows": Call("tr", [
         Use(lambda given, column: str(column), expected=lambda given, expected: given.results[0]),
         Use(lambda given, column: column.share()),
+        Use(lambda given, column: pickle.loads(pickle.dumps(column))),
         Use(lambda given, column: Column.parse(given.type, str(column)))]),
     "filter": Call("trM", [
         Use(lambda given, column, mask: column.filter(mask)),
-        Use(lambda given, column, mask: column.filter(given.columns[1].values), lambda given, expected: given.has_type(1, "bool"))]),
+        Use(lambda given, column, mask: column.filter(given.columns[1].values), lambda given, expected: given.has_type(1, "bool")),
+        Use(lambda given, column, mask: column[mask], _is_mask)]),
     "take": Call("trU", [
         Use(lambda given, column, indices: column.take(indices)),
         Use(lambda given, column, indices: column.take(given.columns[1].values), lambda given, expected: given.has_type(1, "u32")),
+        Use(lambda given, column, indices: column[indices], lambda given, expected: given.has_type(1, "u32")),
         Use(_numpy_indices, lambda given, expected: numpy is not None and given.has_type(1, "u32"))]),
     "if_then_else": Call("tMrr", [
         Use(lambda given, mask, first, second: sel.choose(mask, first, second)),
@@ -230,7 +239,9 @@ CALLS = {
     "if_then_else_broadcast_both": Call("tMrr", [
         _broadcast("sel_choose_of_two"),
         Use(lambda given, mask, first, second: sel.choose(mask, given.columns[1].values[0], given.columns[2].values[0]), _are_two_values)]),
-    "list_get": Call("tri", [Use(lambda given, lists: lists.sublist_get(given.others[0]))], _type_of_item),
+    "list_get": Call("tri", [
+        Use(lambda given, lists: lists.sublist_get(given.others[0])),
+        Use(lambda given, lists: lists.list_element(given.others[0]), lambda given, expected: bool(given.type.kind == "list"))], _type_of_item),
     "index_is_oob": Call("tri", [Use(lambda given, lists: lists.index_is_oob(given.others[0]))], result="flag"),
     "fixed_size_list_get": Call("trif", [Use(lambda given, lists: lists.fixed_get(*given.others))], _type_of_item),
     "fixed_size_list_get_each": Call("trIf", [Use(lambda given, lists, indices: lists.fixed_get(indices, *given.others))], _type_of_item),

@@ -28,6 +28,10 @@ STRUCTS: Any = Column.from_pylist([(1, "a", True)])
 BYTE = Column.from_pylist([1], "u8")
 
 
+def row_at(value: Any) -> Any:
+    return NUMBERS[value]
+
+
 class Parameter(NamedTuple):
     """An integer parameter: of which call, its name in messages, a use of it, its range, what the ends of it give, and the
     exception outside of it. `nulls` says that `None` is a null there."""
@@ -49,7 +53,10 @@ def _number(kind: str, least: int, most: int) -> Parameter:
 
 # An exception at an end of a range is one of the library itself, which has seen the very number.
 PARAMETERS = [
-    Parameter("Column.__getitem__", "index", lambda value: NUMBERS[value], -3, 2, 10, 30, IndexError),
+    Parameter("Column.__getitem__", "index", row_at, -3, 2, 10, 30, IndexError),
+    Parameter("Column.__getitem__", "index", lambda value: NUMBERS[[0, value]][1:], -3, 2, [10], [30], IndexError),
+    Parameter("Column.list_element", "index", LISTS.list_element, -I64 - 1, I64, [None, None], [None, None], IndexError),
+    Parameter("Column.list_element", "index", PAIRS.list_element, -I64 - 1, I64, [None, None], [None, None], IndexError),
     Parameter("Column.take", "indices", lambda value: NUMBERS.take([value]), 0, U32, [10], sel.OutOfBounds, IndexError, True),
     Parameter("Column.take", "indices", lambda value: NUMBERS.take(iter((0, value)))[1:], 0, U32, [10], sel.OutOfBounds, IndexError, True),
     Parameter("Column.sublist_get", "index", LISTS.sublist_get, -I64 - 1, I64, [None, None], [None, None], IndexError),
@@ -63,6 +70,9 @@ PARAMETERS = [
     Parameter("collect_rows", "picks", lambda value: sel.collect_rows([NUMBERS], [(value, 0)]), 0, U32, [10], sel.OutOfBounds, IndexError),
     Parameter("collect_rows", "picks", lambda value: sel.collect_rows([NUMBERS], [(0, value)]), 0, U32, [10], sel.OutOfBounds, IndexError),
     Parameter("Type", "width", lambda value: Type("fixed", (Type("i8"),), value).width, 0, U32, 0, U32, OverflowError),
+    Parameter("if_else", "if_true", lambda value: sel.if_else([True], value, BYTE), 0, 255, [0], [255], OverflowError, True),
+    Parameter("Column.fill_null", "value", lambda value: Column([None], "u8").fill_null(value), 0, 255, [0], [255], OverflowError, True),
+    Parameter("Column", "values", lambda value: Column([value], "u8"), 0, 255, [0], [255], OverflowError, True),
     Parameter("choose", "if_true", lambda value: sel.choose([True], value, BYTE), 0, 255, [0], [255], OverflowError, True),
     Parameter("choose", "if_false", lambda value: sel.choose([False], BYTE, value), 0, 255, [0], [255], OverflowError, True),
     *[_number(f"i{bits}", -(1 << (bits - 1)), (1 << (bits - 1)) - 1) for bits in (8, 16, 32, 64, 128)],
@@ -87,6 +97,8 @@ FLAGS = [
     Flag("Column.fixed_get", "null_on_oob", lambda value: PAIRS.fixed_get(Column.from_pylist([2, 0]), value), [None, None], sel.OutOfBounds),
     Flag("Column.filter", "mask", lambda value: NUMBERS.filter([True, value, False]), [10, 20], [10], True),
     Flag("Column.filter", "mask", lambda value: NUMBERS.filter(iter((value, True, False))), [10, 20], [20], True),
+    Flag("Column.__getitem__", "index", lambda value: NUMBERS[[True, value, False]], [10, 20], [10]),
+    Flag("if_else", "mask", lambda value: sel.if_else([value], 7, BYTE), [7], [1], True),
     Flag("choose", "mask", lambda value: sel.choose([value], 7, BYTE), [7], [1], True),
     Flag("Column.from_pylist", "values", lambda value: Column.from_pylist([value], "bool"), [True], [False], True),
 ]
@@ -160,7 +172,7 @@ class Integers(unittest.TestCase):
             for value in (True, False, *NOT_NUMBERS, *(() if parameter.nulls else (None,))):
                 if inferred and isinstance(value, (bool, str, bytes, list, tuple)):
                     continue
-                if parameter.call == "Column.__getitem__" and isinstance(value, slice):
+                if parameter.use is row_at and isinstance(value, (list, tuple)):
                     continue
                 with self.assertRaises(TypeError, msg=(parameter, value)) as caught:
                     parameter.use(value)
@@ -344,6 +356,8 @@ class NumpyScalars(unittest.TestCase):
                         parameter.use(scalar)
                     self.assertNotIsInstance(caught.exception, sel.SelError)
             for array in (numpy.array([1]), numpy.array([[1]]), numpy.ma.array(1, mask=True), numpy.ma.masked, numpy.array(1, dtype=object)):
+                if parameter.use is row_at and array.ndim == 1:
+                    continue
                 with self.assertRaises(TypeError, msg=(parameter, array)):
                     parameter.use(array)
 
