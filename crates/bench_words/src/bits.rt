@@ -8,14 +8,15 @@ use sel_bits::bitmap::Bitmap;
 use sel_bits::faults::PolarsResult;
 use std::alloc::Global;
 
-/// How many bits of the last `and` are true, and how many of all answers have a true first bit.
+/// Returns the number of true bits of the last `and`, plus the number of results whose first bit is
+/// true.
 pub fn and(alloc: Global, job: &Job) -> PolarsResult<u64> {
     let left = side(alloc, LEFT, job.left, job.rows)?;
     let right = side(alloc, RIGHT, job.right, job.rows)?;
     and_of(alloc, job, &left, &right)
 }
 
-/// The rows from the offset on, in every second repeat from 64 bits behind it on.
+/// Returns `rows` bits from `offset` on; for an odd repeat, from 64 bits later on.
 fn part(side: &Bitmap, offset: usize, rows: usize, repeat: u64) -> PolarsResult<Bitmap>
     requires room { offset + rows + 64 ≤ length side.now.bits }
     requires small { offset + rows + 64 ≤ 67108992 }
@@ -39,7 +40,7 @@ fn and_of(alloc: Global, job: &Job, left: &Bitmap, right: &Bitmap) -> PolarsResu
     Ok(total)
 }
 
-/// The first bit of an answer, and of the last one how many bits are true.
+/// Returns the first bit of a result, plus the number of true bits of the last one.
 fn read(answer: &Bitmap, is_last: bool) -> u64 {
     if answer.is_empty() {
         return 0;
@@ -52,7 +53,7 @@ fn read(answer: &Bitmap, is_last: bool) -> u64 {
     }
 }
 
-/// How many bits are true, of all repeats together.
+/// Returns the number of true bits over all repeats.
 pub fn set_bits(alloc: Global, job: &Job) -> PolarsResult<u64> {
     let left = side(alloc, LEFT, job.left, job.rows)?;
     let mut total = 0u64;

@@ -1,4 +1,4 @@
-//! Whether indices name rows.
+//! Bounds checks of indices.
 
 ghost use Rattle.std.specs.Prelude.{◌<◌, ◌≤◌};
 
@@ -11,13 +11,13 @@ use sel_bits::buffer::Buffer;
 use sel_bits::faults::{PolarsError, PolarsResult};
 use std::alloc::Global;
 
-/// How many repeats found all indices in bounds.
+/// Returns the number of repeats in which all indices are in bounds.
 pub fn indices(alloc: Global, job: &Job) -> PolarsResult<u64> {
     let column = column(alloc, job, None)?;
     Ok(times_in_bounds(&column, job.rows, job.repeats))
 }
 
-/// The same, where about every second index is null.
+/// Returns the same with about every second index null.
 pub fn indices_null(alloc: Global, job: &Job) -> PolarsResult<u64> {
     let valid = side(alloc, NULLS, job.left, job.rows)?.sliced(job.left, job.rows);
     let column = column(alloc, job, Some(valid))?;
@@ -32,7 +32,7 @@ fn column(alloc: Global, job: &Job, validity: Option<Bitmap>) -> PolarsResult<Id
     }
 }
 
-/// As many numbers below `rows`.
+/// Returns `rows` integers less than `rows`.
 fn numbers(alloc: Global, rows: usize) -> PolarsResult<Vec<u32>>
     requires some { 0 < rows }
     requires few { rows ≤ 67108864 }
@@ -52,7 +52,8 @@ fn below(word: u64, rows: usize) -> u32
     (word % rows as u64) as u32
 }
 
-/// Each repeat asks for another number of rows.
+/// Returns the number of repeats in which all indices are in bounds; each repeat has a different
+/// number of rows.
 fn times_in_bounds(column: &IdxArr, rows: usize, repeats: u64) -> u64 {
     let mut total = 0u64;
     for repeat in 0..repeats {

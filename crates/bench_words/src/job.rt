@@ -1,10 +1,10 @@
-//! What a line asks for.
+//! The job of an input line.
 
 ghost use Rattle.std.specs.Prelude.{◌<◌, ◌≤◌};
 
 use std::alloc::Global;
 
-/// The operations that a line can name.
+/// The operations that a line can request.
 #[derive(Clone, Copy)]
 pub enum Operation {
     And,
@@ -29,13 +29,14 @@ impl Operation {
     }
 }
 
-/// The most rows of a job.
+/// The maximum number of rows of a job.
 const MOST_ROWS: usize = 67_108_864;
 
-/// The most bits before the first row.
+/// The maximum number of bits before the first row.
 const MOST_OFFSET: usize = 64;
 
-/// An operation, on how many bits or words, the places of the first bits in their bytes, and how often.
+/// An operation, the number of bits or words, the bit offsets of both bitmaps, and the number of
+/// repeats.
 #[derive(Clone, Copy)]
 pub struct Job {
     pub operation: Operation,
@@ -50,7 +51,7 @@ pub struct Job {
 }
 
 impl Job {
-    /// The job of a line; none where it is bad, or memory is wanting.
+    /// Returns the job of a line; none if the line is bad or an allocation fails.
     pub fn parse(alloc: Global, line: &str) -> Option<Job> {
         let words: Vec<&str> = line.split_whitespace().collect(alloc).ok()?;
         if words.len() != 5 {

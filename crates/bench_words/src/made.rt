@@ -1,4 +1,4 @@
-//! Words and bits that look random, and are the same in each run.
+//! Pseudorandom words and bits, which are the same in each run.
 
 ghost use Rattle.std.specs.Prelude.{◌+◌, ◌≤◌, length, IfOk};
 
@@ -6,7 +6,7 @@ use sel_bits::bitmap::Bitmap;
 use sel_bits::faults::{PolarsError, PolarsResult};
 use std::alloc::Global;
 
-/// What the words of the left and the right side, and those of validities, begin with.
+/// The seeds of the left and the right side, and of validities.
 pub const LEFT: u64 = 1;
 
 pub const RIGHT: u64 = 2;
@@ -19,13 +19,13 @@ fn next(state: u64) -> u64 {
         .wrapping_add(1_442_695_040_888_963_407)
 }
 
-/// A word of which every bit looks random.
+/// Returns a pseudorandom word.
 fn word_of(state: u64) -> u64 {
     let folded = (state ^ (state >> 32)).wrapping_mul(0xD6E8_FEB8_6659_FD93);
     folded ^ (folded >> 32)
 }
 
-/// A word with one bit in each of its four quarters.
+/// Returns a word with one set bit in each of its four quarters.
 fn word_of_four(word: u64) -> u64 {
     (1 << (word & 15))
         | (1 << (16 + (word >> 4 & 15)))
@@ -33,7 +33,7 @@ fn word_of_four(word: u64) -> u64 {
         | (1 << (48 + (word >> 12 & 15)))
 }
 
-/// So many words.
+/// Returns `count` words.
 pub fn words(alloc: Global, seed: u64, count: usize) -> PolarsResult<Vec<u64>> {
     let mut state = seed;
     let mut words = Vec::new(alloc);
@@ -44,7 +44,7 @@ pub fn words(alloc: Global, seed: u64, count: usize) -> PolarsResult<Vec<u64>> {
     Ok(words)
 }
 
-/// So many words with four bits each.
+/// Returns `count` words with four set bits each.
 pub fn words_of_four(alloc: Global, seed: u64, count: usize) -> PolarsResult<Vec<u64>> {
     let mut state = seed;
     let mut words = Vec::new(alloc);
@@ -55,7 +55,7 @@ pub fn words_of_four(alloc: Global, seed: u64, count: usize) -> PolarsResult<Vec
     Ok(words)
 }
 
-/// The bytes of so many words, each from its lowest byte on.
+/// Returns the bytes of `count` words in little-endian order.
 fn bytes(alloc: Global, seed: u64, count: usize) -> PolarsResult<Vec<u8>> {
     let mut state = seed;
     let mut bytes = Vec::new(alloc);
@@ -68,7 +68,7 @@ fn bytes(alloc: Global, seed: u64, count: usize) -> PolarsResult<Vec<u8>> {
     Ok(bytes)
 }
 
-/// The bits of one side, and behind them as many as the second part of them takes.
+/// Returns the bits of one side, with 64 more bits for the odd repeats.
 pub fn side(alloc: Global, seed: u64, offset: usize, rows: usize) -> PolarsResult<Bitmap>
     requires rows { rows ≤ 67108864 }
     requires offset { offset ≤ 64 }

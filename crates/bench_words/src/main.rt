@@ -1,7 +1,9 @@
-//! Repeats an operation on bits, words or indices as often as a line of stdin says, and prints a number that is made of its answers.
+//! Runs an operation on bits, words or indices with the repeats that a line of stdin requests, and
+//! prints a checksum of its results.
 //!
-//! A line is `NAME ROWS LEFT RIGHT REPEATS`, as `and 16384 3 5 1000`; NAME is one of `Operation::named`.
-//! tools/bench/words.py times it beside the loops of tools/bench/words.c, which print the same numbers.
+//! A line is `NAME ROWS LEFT RIGHT REPEATS`, for example `and 16384 3 5 1000`; NAME is one of
+//! `Operation::named`. tools/bench/words.py compares its time with that of the loops of
+//! tools/bench/words.c, which print the same checksums.
 #![tactic(auto)]
 
 mod bits;
@@ -25,7 +27,7 @@ fn main(rt: HostRuntime) -> io::Result<()> {
     Ok(())
 }
 
-/// The number for a line; none where the line is bad, or memory is wanting.
+/// Returns the checksum for a line; none if the line is bad or an allocation fails.
 fn answer_line(alloc: Global, line: &str) -> Option<u64> {
     let job = Job::parse(alloc, line)?;
     answer(alloc, &job).ok()

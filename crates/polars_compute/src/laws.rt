@@ -1,51 +1,65 @@
-//! What filters, takes and choices have to do with one another, what becomes of dictionaries, and that rows alone count.
+//! Theorems about filter, gather, if-then-else, dictionaries and equal columns.
 
 ghost use Rattle.sel_arrow.specs.Value.{Value};
 ghost use Rattle.polars_compute.specs.Meaning.{EqualMeaning, KeptNeedsNoMore, NeedsWithinLimits};
 ghost use Rattle.polars_compute.specs.Laws.{FilterIsTake, TakesCompose, KeepsThen, KeepsOtherwise, RepeatsThen, RepeatsOtherwise, RepeatsBoth, SelectedRowsAreTaken, PropagationDecodes, PropagationLeavesNoNull};
 
-/// A filter is the take of the places that its mask keeps. Filters and joins rely on it.
+/// Proves that a filter equals the gather of the positions at which its mask is true.
+///
+/// Filters and joins depend on it.
 pub fn law_filter_is_take()
     ensures { FilterIsTake Value }
 {}
 
-/// A take of a take is one take, by the composed picks. Filters and joins rely on it.
+/// Proves that a gather of a gather equals one gather by the composed row references.
+///
+/// Filters and joins depend on it.
 pub fn law_take_of_take()
     ensures { TakesCompose Value }
 {}
 
-/// The rows at indices among those that a mask keeps are a take of the source's rows, by picks that do not depend on the
-/// column. So row k of all columns that one mask and the same indices select comes from one source row. Executors over batches
-/// rely on it.
+/// Proves that a filter followed by a gather equals one gather of the source rows, by row
+/// references that do not depend on the column.
+///
+/// Row k of all columns selected by one mask and the same indices therefore comes from one source
+/// row. Batch executors depend on it.
 pub fn law_select_rows()
     ensures { SelectedRowsAreTaken }
 {}
 
-/// A choice filtered by its own mask is its first list filtered so, and by the mask's complement its second.
-/// Evaluators of when-then-otherwise rely on it.
+/// Proves that an if-then-else filtered by its own mask equals its true values filtered by that
+/// mask, and filtered by the complement of the mask equals its false values filtered likewise.
+///
+/// Evaluators of when-then-otherwise depend on it.
 pub fn law_choice_filtered()
     ensures chosen { KeepsThen Value }
     ensures otherwise { KeepsOtherwise Value }
 {}
 
-/// A choice with a single value, on either side or on both, is the choice with the list that repeats it.
-/// Evaluators of when-then-otherwise rely on it.
+/// Proves that an if-then-else with a broadcast true value, false value or both equals the
+/// if-then-else with the value repeated to the length of the mask.
+///
+/// Evaluators of when-then-otherwise depend on it.
 pub fn law_broadcast_is_repeat()
     ensures chosen { RepeatsThen Value }
     ensures otherwise { RepeatsOtherwise Value }
     ensures both { RepeatsBoth Value }
 {}
 
-/// A dictionary whose null values were handed on to its keys means the same as before, and has no null value.
-/// Dictionary encoders rely on it.
+/// Proves that propagating null values to the keys preserves the decoded dictionary and leaves no
+/// null value.
+///
+/// Dictionary encoders depend on it.
 pub fn law_propagate()
     ensures decodes { PropagationDecodes }
     ensures valid { PropagationLeavesNoNull }
 {}
 
-/// Two columns of one type with the same rows, however laid out, need the same and answer every selection alike; what a
-/// mask keeps needs no more than all rows do; and the rows of a well-formed column need nothing above its limit.
-/// Executors over batches rely on it.
+/// Proves three facts about the rows of a column.
+///
+/// Two columns of one type with equal rows have equal size requirements and give equal results in
+/// every kernel definition, whatever their layout. The rows that a mask keeps require no more than
+/// all rows. The rows of a well-formed column exceed no limit. Batch executors depend on it.
 pub fn law_equal_meaning()
     ensures alike { EqualMeaning }
     ensures kept { KeptNeedsNoMore }

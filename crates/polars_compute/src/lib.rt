@@ -1,4 +1,4 @@
-//! The selection kernels: which rows of columns, in which order.
+//! Selection kernels for Arrow columns: filter, gather, if-then-else and horizontal flatten.
 #![tactic(auto)]
 
 pub mod filter;

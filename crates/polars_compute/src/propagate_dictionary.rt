@@ -1,4 +1,4 @@
-//! Nulls of a dictionary's values, handed on to its keys.
+//! Propagation of null dictionary values to the keys.
 
 ghost use Rattle.std.specs.Prelude.{◌≡◌, ◌≤◌, ◌<◌, ◌+◌, if◌then◌else◌, Some, None, length, map, take, count_by, IsTrue, IfSome, IfNone, IfOk, IfErr};
 ghost use Rattle.std.specs.List.{range_with_len};
@@ -20,9 +20,18 @@ use sel_bits::buffer::Buffer;
 use sel_bits::faults::{PolarsError, PolarsResult};
 use std::alloc::Global;
 
-/// The keys and the values of a dictionary without its null values: the values are the old ones that are not null, in
-/// order, without a validity; key j is null where the old one or its value is null, else it names the same value as before.
-/// A number beneath a null key is never looked at. Refuses only for want of memory.
+/// Returns the keys and values of a dictionary without its null values.
+///
+/// The new values are the non-null values of `values`, in order, without a validity bitmap. Key j
+/// is null if `keys[j]` is null or refers to a null value; otherwise it refers to the same value as
+/// before. Without null values, the keys are unchanged. The values in null slots of `keys` are
+/// ignored.
+///
+/// # Requires
+/// Every non-null key is less than `values.len()`; check with [`keys_in_bounds`].
+///
+/// # Errors
+/// `OutOfMemory` if an allocation fails.
 pub fn propagate_dictionary_value_nulls(
     alloc: Global,
     keys: &PrimitiveArray<u32>,
@@ -53,14 +62,14 @@ pub fn propagate_dictionary_value_nulls(
     }
 }
 
-/// Whether each key that is not null names one of `len` values.
+/// Returns whether every non-null key is less than `len`.
 pub fn keys_in_bounds(keys: &PrimitiveArray<u32>, len: usize) -> bool
     ensures { result ≡ all_within len (primitive_rows keys.now) }
 {
     indices_in_bounds(keys, len)
 }
 
-// The validity, where some row is null.
+// Returns the validity bitmap if some row is null.
 fn validity_of_nulls(values: &Utf8ViewArray) -> Option<&Bitmap>
     ensures some { IfSome result (λ v. values.now.bytes.validity ≡ Some v.now) }
     ensures none { IfNone result (count_by is_null (utf8view_rows values.now) ≡ 0) }
@@ -72,7 +81,7 @@ fn validity_of_nulls(values: &Utf8ViewArray) -> Option<&Bitmap>
     }
 }
 
-// The same texts without a validity, where no row is null.
+// Returns the same strings without a validity bitmap; no row may be null.
 fn without_validity(values: Utf8ViewArray) -> Utf8ViewArray
     requires { count_by is_null (utf8view_rows values) ≡ 0 }
     ensures rows { utf8view_rows result ≡ utf8view_rows values }
@@ -92,7 +101,7 @@ fn without_validity(values: Utf8ViewArray) -> Utf8ViewArray
     Utf8ViewArray { bytes }
 }
 
-// At each true bit how many true bits stand before it, and null at the others. Refuses only for want of memory.
+// Returns the number of true bits before each bit, null where the bit is false.
 fn ranks_of(alloc: Global, validity: &Bitmap) -> PolarsResult<PrimitiveArray<u32>>
     requires { length validity.now.bits ≤ 4294967295 }
     ensures values { IfOk result (λ ranks. ranks.values ≡ map (λ i. count_true
@@ -109,7 +118,7 @@ fn ranks_of(alloc: Global, validity: &Bitmap) -> PolarsResult<PrimitiveArray<u32
     })
 }
 
-// How many true bits stand before each bit. Refuses only for want of memory.
+// Returns the number of true bits before each bit.
 fn counts_before(alloc: Global, bits: &Bitmap) -> PolarsResult<Vec<u32>>
     requires { length bits.now.bits ≤ 4294967295 }
     ensures counts { IfOk result (λ counts. counts.items ≡
@@ -125,7 +134,7 @@ fn counts_before(alloc: Global, bits: &Bitmap) -> PolarsResult<Vec<u32>>
     Ok(counts)
 }
 
-// One more where the bit is true.
+// Returns `count` plus one if `bit` is true.
 fn counted(count: u32, bit: bool) -> u32
     requires { count < 4294967295 }
     ensures { result ≡ count + (if bit then 1 else 0) }

@@ -1,4 +1,4 @@
-//! Rows of one column as runs of a mask, and as picks that indices make.
+//! Row references of one column, built from a mask or from indices.
 
 ghost use Rattle.std.specs.Prelude.{◌≡◌, ◌≤◌, ◌<◌, slice_index_or, length, map, IfOk, IfErr};
 ghost use Rattle.sel_arrow.specs.Columns.{primitive_rows};
@@ -15,7 +15,7 @@ use sel_runs::plan::Places;
 use sel_runs::run::{Run, push_run};
 use std::alloc::Global;
 
-/// The runs of the places where the bit is true, one for all that stand together. Refuses only for want of memory.
+/// Returns the maximal runs of true bits in `mask`, in order.
 pub(crate) fn runs_of_mask(alloc: Global, mask: &Bitmap) -> PolarsResult<Vec<Run>>
     requires { length mask.now.bits ≤ 4294967295 }
     ensures picks { IfOk result (λ runs. expand runs.items ≡ map place_pick (kept mask.now.bits)) }
@@ -34,7 +34,7 @@ pub(crate) fn runs_of_mask(alloc: Global, mask: &Bitmap) -> PolarsResult<Vec<Run
     Ok(runs)
 }
 
-/// The rows of one column that indices name, none for a null index.
+/// Row references into one column, given by indices; a null index refers to no row.
 #[derive(Drop)]
 pub(crate) struct Taken<'a> {
     pub(crate) indices: &'a IdxArr,
@@ -69,7 +69,7 @@ impl Places for Taken<'_> {
     }
 }
 
-// The pick that index `k` makes of one column; none for a null.
+// Returns the row reference of index `k`, or `None` if it is null.
 #[inline(always)]
 fn pick_at(indices: &IdxArr, k: usize) -> Option<(u32, u32)>
     requires { k < length (primitive_rows indices.now) }

@@ -1,4 +1,4 @@
-//! A column of any type that is well-formed at every depth.
+//! Columns of any type that are well-formed at every depth.
 
 ghost use Rattle.std.specs.Prelude.{◌≡◌, ◌≢◌, true, false, IfOk, IfErr, [], ◌∷◌};
 ghost use Rattle.sel_arrow.specs.Rows.{rows, type_of, well_formed, IsWellFormed, buffers_held};
@@ -32,7 +32,10 @@ impl ArrayRef {
     ghost use Rattle.sel_arrow.specs.NestedArrays.{list_column, block_column, tuple_column};
     ghost use Rattle.sel_arrow.specs.Shape.{is_list_shape, is_block_shape, is_struct_shape};
 
-    /// The column as one of any type, or the column back where it is not well-formed (`Column::is_well_formed`).
+    /// Wraps `column` if it is well-formed (`Column::is_well_formed`).
+    ///
+    /// # Errors
+    /// Returns `column` unchanged if it is not well-formed.
     pub fn try_new(column: Column) -> Result<ArrayRef, Column>
         ensures column { IfOk result (λ array. array.column ≡ column) }
         ensures back { IfErr result (λ back. back ≡ column) }
@@ -46,7 +49,7 @@ impl ArrayRef {
         }
     }
 
-    /// The column.
+    /// Returns a reference to the column.
     pub fn as_column(&self) -> &Column
         ensures column { result.now ≡ self.now.column }
         ensures formed { IsWellFormed result.now }
@@ -54,7 +57,10 @@ impl ArrayRef {
         &self.column
     }
 
-    /// The column of nulls, or the column back where it is of another type.
+    /// Returns the null column.
+    ///
+    /// # Errors
+    /// Returns the column unchanged if it has a different type.
     pub fn into_null(self) -> Result<NullArray, ArrayRef>
         ensures rows { IfOk result (λ array. null_rows array ≡ rows self.column) }
         ensures dtype { IfOk result (λ _. type_of self.column ≡ of_null) }
@@ -68,7 +74,10 @@ impl ArrayRef {
         }
     }
 
-    /// The column of truth values, or the column back where it is of another type.
+    /// Returns the boolean column.
+    ///
+    /// # Errors
+    /// Returns the column unchanged if it has a different type.
     pub fn into_boolean(self) -> Result<BooleanArray, ArrayRef>
         ensures rows { IfOk result (λ array. boolean_rows array ≡ rows self.column) }
         ensures dtype { IfOk result (λ _. type_of self.column ≡ of_boolean) }
@@ -82,7 +91,10 @@ impl ArrayRef {
         }
     }
 
-    /// The column of numbers of the type, or the column back where it is of another type.
+    /// Returns the primitive column with values of type `T`.
+    ///
+    /// # Errors
+    /// Returns the column unchanged if it has a different type.
     pub fn into_primitive<T: ArrowPrimitive>(self) -> Result<PrimitiveArray<T>, ArrayRef>
         ensures rows { IfOk result (λ array. primitive_rows array ≡ rows self.column) }
         ensures dtype { IfOk result (λ _. type_of self.column ≡ T.shape) }
@@ -96,7 +108,10 @@ impl ArrayRef {
         }
     }
 
-    /// The column of bytes between offsets, or the column back where it is of another type.
+    /// Returns the binary column with 64-bit offsets (LargeBinary).
+    ///
+    /// # Errors
+    /// Returns the column unchanged if it has a different type.
     pub fn into_binary(self) -> Result<BinaryArray<i64>, ArrayRef>
         ensures rows { IfOk result (λ array. binary_rows array ≡ rows self.column) }
         ensures dtype { IfOk result (λ _. type_of self.column ≡ of_large_binary) }
@@ -110,7 +125,10 @@ impl ArrayRef {
         }
     }
 
-    /// The column of bytes that views name, or the column back where it is of another type.
+    /// Returns the binary view column (BinaryView).
+    ///
+    /// # Errors
+    /// Returns the column unchanged if it has a different type.
     pub fn into_binview(self) -> Result<BinaryViewArray, ArrayRef>
         ensures rows { IfOk result (λ array. binview_rows array ≡ rows self.column) }
         ensures dtype { IfOk result (λ _. type_of self.column ≡ of_binary_view) }
@@ -125,7 +143,10 @@ impl ArrayRef {
         }
     }
 
-    /// The column of texts that views name, or the column back where it is of another type.
+    /// Returns the string view column (Utf8View).
+    ///
+    /// # Errors
+    /// Returns the column unchanged if it has a different type.
     pub fn into_utf8view(self) -> Result<Utf8ViewArray, ArrayRef>
         ensures rows { IfOk result (λ array. utf8view_rows array ≡ rows self.column) }
         ensures dtype { IfOk result (λ _. type_of self.column ≡ of_utf8_view) }
@@ -141,7 +162,10 @@ impl ArrayRef {
         }
     }
 
-    /// The column of lists between offsets, or the column back where it is of another type.
+    /// Returns the list column with 64-bit offsets (LargeList).
+    ///
+    /// # Errors
+    /// Returns the column unchanged if it has a different type.
     pub fn into_list(self) -> Result<ListArray<i64>, ArrayRef>
         ensures rows { IfOk result (λ array. rows (list_column array) ≡ rows self.column) }
         ensures dtype { IfOk result (λ array. type_of (list_column array) ≡ type_of self.column) }
@@ -168,7 +192,10 @@ impl ArrayRef {
         }
     }
 
-    /// The column of lists of one length, or the column back where it is of another type.
+    /// Returns the fixed-size list column.
+    ///
+    /// # Errors
+    /// Returns the column unchanged if it has a different type.
     pub fn into_fixed_size_list(self) -> Result<FixedSizeListArray, ArrayRef>
         ensures rows { IfOk result (λ array. rows (block_column array) ≡ rows self.column) }
         ensures dtype { IfOk result (λ array. type_of (block_column array) ≡ type_of self.column) }
@@ -197,7 +224,10 @@ impl ArrayRef {
         }
     }
 
-    /// The column of tuples, or the column back where it is of another type.
+    /// Returns the struct column.
+    ///
+    /// # Errors
+    /// Returns the column unchanged if it has a different type.
     pub fn into_struct(self) -> Result<StructArray, ArrayRef>
         ensures rows { IfOk result (λ array. rows (tuple_column array) ≡ rows self.column) }
         ensures dtype { IfOk result (λ array. type_of (tuple_column array) ≡ type_of self.column) }

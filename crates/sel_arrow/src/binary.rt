@@ -1,4 +1,4 @@
-//! A column of bytes between offsets.
+//! Binary columns with offsets.
 
 ghost use Rattle.std.specs.Prelude.{◌≡◌, ◌≤◌, ◌<◌, ◌+◌, ◌↔◌, length, count_by, slice_index_or, None, IfOk, IfErr, IsTrue, []};
 ghost use Rattle.std.specs.Option.{option_copied};
@@ -23,7 +23,8 @@ use sel_bits::native::Offset;
 use sel_bits::offsets::OffsetsBuffer;
 use std::alloc::Global;
 
-/// Bytes in which row i lies between offsets i and i + 1, under a validity.
+/// A binary column. Row i is the bytes from offset i up to offset i + 1, unless the validity marks
+/// it null.
 #[derive(Drop)]
 pub struct BinaryArray<O: Offset> {
     pub offsets: OffsetsBuffer<O>,
@@ -40,8 +41,12 @@ pub struct BinaryArray<O: Offset> {
 impl<O: Offset> BinaryArray<O> {
     ghost use Rattle.sel_arrow.specs.Columns.{binary_rows};
 
-    /// The column of these bytes. Refused are more rows than 4,294,967,295, then a last offset past the bytes, and
-    /// then a validity of another length.
+    /// Builds a binary column from its parts.
+    ///
+    /// # Errors
+    /// `Malformed` with the first rule broken, in this order: `TooManyRows` if there are more than
+    /// 4,294,967,295 rows, `OffsetRange` if the last offset exceeds the length of `values`,
+    /// `ValidityLength` if the length of the validity is not the number of rows.
     pub fn try_new(
         offsets: OffsetsBuffer<O>,
         values: Buffer<u8>,
@@ -70,21 +75,24 @@ impl<O: Offset> BinaryArray<O> {
         })
     }
 
-    /// The offsets, one more than there are rows.
+    /// Returns the offsets, one more than there are rows.
     pub fn offsets(&self) -> &OffsetsBuffer<O>
         ensures { result.now ≡ self.now.offsets }
     {
         &self.offsets
     }
 
-    /// The bytes, those outside of the rows too.
+    /// Returns the value bytes, including those outside every row.
     pub fn values(&self) -> &Buffer<u8>
         ensures { result.now ≡ self.now.values }
     {
         &self.values
     }
 
-    /// The bytes of row `i`: none where it is null.
+    /// Returns the bytes of row `i`, or `None` if the row is null.
+    ///
+    /// # Requires
+    /// `i` is less than the number of rows.
     pub fn get(&self, i: usize) -> Option<&[u8]>
         requires { i < length (binary_rows self.now) }
         ensures { bytes_value (option_copied result) ≡
@@ -97,7 +105,7 @@ impl<O: Offset> BinaryArray<O> {
         }
     }
 
-    /// How many rows there are: at most 4,294,967,295.
+    /// Returns the number of rows, at most 4,294,967,295.
     pub fn len(&self) -> usize
         ensures len { result ≡ length (binary_rows self.now) }
         ensures few { result ≤ 4294967295 }
@@ -105,21 +113,21 @@ impl<O: Offset> BinaryArray<O> {
         self.offsets.len_proxy()
     }
 
-    /// Whether there are no rows.
+    /// Returns whether the column has no rows.
     pub fn is_empty(&self) -> bool
         ensures { IsTrue result ↔ (length (binary_rows self.now) ≡ 0) }
     {
         self.len() == 0
     }
 
-    /// Which rows are valid. Without it each row is.
+    /// Returns the validity bitmap. Without one every row is valid.
     pub fn validity(&self) -> Option<&Bitmap>
         ensures { TellsNulls of_large_binary (option_copied result) (binary_rows self.now) }
     {
         self.validity.as_ref()
     }
 
-    /// How many rows are null.
+    /// Returns the number of null rows.
     pub fn null_count(&self) -> usize
         ensures { result ≡ count_by is_null (binary_rows self.now) }
     {
@@ -129,14 +137,17 @@ impl<O: Offset> BinaryArray<O> {
         }
     }
 
-    /// Whether some row is null.
+    /// Returns whether at least one row is null.
     pub fn has_nulls(&self) -> bool
         ensures { IsTrue result ↔ (0 < count_by is_null (binary_rows self.now)) }
     {
         self.null_count() > 0
     }
 
-    /// The same bytes under another validity of the same length.
+    /// Replaces the validity.
+    ///
+    /// # Requires
+    /// The length of `validity` is the number of rows; check with `has_other_length`.
     pub fn with_validity(self, validity: Option<Bitmap>) -> BinaryArray<O>
         requires { Covers validity (length (binary_rows self)) }
         ensures rows { binary_rows result ≡ byte_rows self.offsets self.values validity }

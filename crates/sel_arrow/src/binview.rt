@@ -1,4 +1,4 @@
-//! A column of bytes that views name.
+//! Binary view columns.
 
 ghost use Rattle.std.specs.Prelude.{◌≡◌, ◌≤◌, ◌<◌, ◌+◌, length, slice_index_or, None, IfOk, IfErr, IsTrue, [], ◌∷◌};
 ghost use Rattle.std.specs.Option.{option_copied, option_map};
@@ -23,10 +23,10 @@ use sel_bits::faults::{MakeError, Malformed, PolarsError, PolarsResult};
 use std::alloc::Global;
 use std::str;
 
-/// The most data buffers that a column can have.
+/// The maximum number of data buffers of a column.
 pub const MOST_BUFFERS: usize = 4_294_967_295;
 
-/// Views, each in range of the data buffers with the right prefix, under a validity.
+/// A binary view column. Each view is within range of the data buffers and has the right prefix.
 #[derive(Drop)]
 pub struct BinaryViewArray {
     pub views: Buffer<View>,
@@ -42,8 +42,14 @@ pub struct BinaryViewArray {
 impl BinaryViewArray {
     ghost use Rattle.sel_arrow.specs.Columns.{binview_rows, utf8view_rows};
 
-    /// The column of these views. Refused are more rows or more data buffers than 4,294,967,295, a validity of
-    /// another length, and then, view by view and beneath nulls too, one out of range or with another prefix.
+    /// Builds a binary view column from its parts.
+    ///
+    /// # Errors
+    /// `Malformed` with the first rule broken, in this order: `TooManyRows` if there are more than
+    /// 4,294,967,295 rows, `TooManyBuffers` if there are more than 4,294,967,295 data buffers,
+    /// `ValidityLength` if the length of the validity is not the number of rows, and then, view by
+    /// view and in null slots too, `ViewRange` if the view is out of range of the data buffers or
+    /// `ViewPrefix` if its prefix is not the first four bytes of its data.
     pub fn try_new(
         views: Buffer<View>,
         buffers: Buffer<Buffer<u8>>,
@@ -74,21 +80,27 @@ impl BinaryViewArray {
         })
     }
 
-    /// The views, those beneath nulls too.
+    /// Returns the views, including those in null slots.
     pub fn views(&self) -> &Buffer<View>
         ensures { result.now ≡ self.now.views }
     {
         &self.views
     }
 
-    /// The data buffers.
+    /// Returns the data buffers.
     pub fn data_buffers(&self) -> &Buffer<Buffer<u8>>
         ensures { result.now ≡ self.now.buffers }
     {
         &self.buffers
     }
 
-    /// The bytes of row `i`: none where it is null. Refuses only for want of memory.
+    /// Returns a copy of the bytes of row `i`, or `None` if the row is null.
+    ///
+    /// # Requires
+    /// `i` is less than the number of rows.
+    ///
+    /// # Errors
+    /// `OutOfMemory` if an allocation fails.
     pub fn get(&self, alloc: Global, i: usize) -> PolarsResult<Option<Vec<u8>>>
         requires { i < length (binview_rows self.now) }
         ensures row { IfOk result (λ row. bytes_value (option_map (λ bytes. bytes.items) row) ≡
@@ -105,7 +117,7 @@ impl BinaryViewArray {
         }
     }
 
-    /// Whether each valid row is UTF-8.
+    /// Returns whether every valid row is UTF-8.
     pub fn is_utf8(&self) -> bool
         ensures { result ≡ all_text (binview_rows self.now) }
     {
@@ -117,7 +129,7 @@ impl BinaryViewArray {
         true
     }
 
-    /// Whether row `i` is null or UTF-8.
+    /// Returns whether row `i` is null or UTF-8.
     fn is_row_utf8(&self, i: usize) -> bool
         requires { i < length (binview_rows self.now) }
         ensures { result ≡ is_text (slice_index_or (binview_rows self.now) i Null) }
@@ -131,7 +143,13 @@ impl BinaryViewArray {
         }
     }
 
-    /// The same rows as texts. Refuses only for want of memory.
+    /// Returns the same rows as a string view column, without checking that they are UTF-8.
+    ///
+    /// # Requires
+    /// Every valid row is UTF-8; check with `is_utf8`.
+    ///
+    /// # Errors
+    /// `OutOfMemory` if an allocation fails.
     pub fn to_utf8view_unchecked(&self, alloc: Global) -> PolarsResult<Utf8ViewArray>
         requires { IsTrue (all_text (binview_rows self.now)) }
         ensures rows { IfOk result (λ column. utf8view_rows column ≡ binview_rows self.now) }
@@ -142,7 +160,10 @@ impl BinaryViewArray {
         Ok(Utf8ViewArray { bytes })
     }
 
-    /// The same views under another validity of the same length.
+    /// Replaces the validity.
+    ///
+    /// # Requires
+    /// The length of `validity` is the number of rows; check with `has_other_length`.
     pub fn with_validity(self, validity: Option<Bitmap>) -> BinaryViewArray
         requires { Covers validity (length (binview_rows self)) }
         ensures rows { binview_rows result ≡ view_rows self.views self.buffers validity }
@@ -222,7 +243,7 @@ impl Array for BinaryViewArray {
     }
 }
 
-/// The first rule that a view breaks, view by view.
+/// Returns the first rule that the first malformed view breaks.
 fn fault_of_views(buffers: &[Buffer<u8>], views: &[View]) -> Option<Malformed>
     ensures { result ≡ views_fault buffers.now views.now }
 {
@@ -235,7 +256,7 @@ fn fault_of_views(buffers: &[Buffer<u8>], views: &[View]) -> Option<Malformed>
     None
 }
 
-/// The first rule that one view breaks.
+/// Returns the first rule that the view breaks.
 fn fault_of_view(buffers: &[Buffer<u8>], view: View) -> Option<Malformed>
     ensures { result ≡ view_fault buffers.now view }
 {
@@ -258,7 +279,11 @@ fn fault_of_view(buffers: &[Buffer<u8>], view: View) -> Option<Malformed>
     None
 }
 
-/// The bytes that a view names, without a copy; `space` is what lies in it (`View::inline_space`).
+/// Returns a reference to the bytes of `view`, without a copy.
+///
+/// # Requires
+/// The view is within range of `buffers` and has the right prefix; `space` is the result of
+/// `View::inline_space` for `view`.
 #[tactic(auto, using(crate::proofs::ViewRows::placing))]
 pub fn bytes_at<'a>(buffers: &'a [Buffer<u8>], view: View, space: &'a [u8; 12]) -> &'a [u8]
     requires placed { IsTrue (is_placed buffers.now view) }
@@ -273,7 +298,7 @@ pub fn bytes_at<'a>(buffers: &'a [Buffer<u8>], view: View, space: &'a [u8; 12]) 
     &bytes[start..start + view.length as usize]
 }
 
-/// Whether the bytes are UTF-8.
+/// Returns whether the bytes are UTF-8.
 #[tactic(auto, using(crate::proofs::Texts::utf8_tests))]
 fn is_bytes_utf8(bytes: &[u8]) -> bool
     ensures { result ≡ is_utf8 bytes.now }

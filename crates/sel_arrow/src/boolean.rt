@@ -1,4 +1,4 @@
-//! A column of truth values.
+//! Boolean columns.
 
 ghost use Rattle.std.specs.Prelude.{◌≡◌, ◌≤◌, ◌<◌, length, map, slice_index_or, None, IfOk, IfErr, []};
 ghost use Rattle.std.specs.Option.{option_copied};
@@ -17,7 +17,7 @@ use sel_bits::bitmap::Bitmap;
 use sel_bits::faults::{MakeError, Malformed, PolarsResult};
 use std::alloc::Global;
 
-/// Truth values, a bit each, under a validity.
+/// A boolean column, with one bit for each value.
 #[derive(Drop)]
 pub struct BooleanArray {
     pub values: Bitmap,
@@ -30,7 +30,12 @@ pub struct BooleanArray {
 impl BooleanArray {
     ghost use Rattle.sel_arrow.specs.Columns.{boolean_rows};
 
-    /// The column of these bits. Refused are more rows than 4,294,967,295, and then a validity of another length.
+    /// Builds a boolean column from its parts.
+    ///
+    /// # Errors
+    /// `Malformed` with the first rule broken, in this order: `TooManyRows` if there are more than
+    /// 4,294,967,295 rows, `ValidityLength` if the length of the validity is not the number of
+    /// rows.
     pub fn try_new(values: Bitmap, validity: Option<Bitmap>) -> Result<BooleanArray, MakeError>
         ensures values { IfOk result (λ column. column.values ≡ values) }
         ensures validity { IfOk result (λ column. column.validity ≡ validity) }
@@ -46,8 +51,12 @@ impl BooleanArray {
         Ok(BooleanArray { values, validity })
     }
 
-    /// The column of these rows, each null where it is none; beneath a null stands false. Refused are more rows than 4,294,967,295;
-    /// else it refuses only for want of memory.
+    /// Builds a boolean column from `rows`; `None` gives a null row. The value in a null slot is
+    /// false.
+    ///
+    /// # Errors
+    /// `Malformed(TooManyRows)` if there are more than 4,294,967,295 rows; `OutOfMemory` if an
+    /// allocation fails.
     pub fn from_options(alloc: Global, rows: &[Option<bool>]) -> Result<BooleanArray, MakeError>
         ensures rows { IfOk result (λ column. boolean_rows column ≡ map truth_value rows.now) }
         ensures accepted { IfOk result (λ _. null_fault (length rows.now) ≡ None) }
@@ -68,14 +77,17 @@ impl BooleanArray {
         }
     }
 
-    /// The bits, those beneath nulls too.
+    /// Returns the value bits, including those in null slots.
     pub fn values(&self) -> &Bitmap
         ensures { result.now ≡ self.now.values }
     {
         &self.values
     }
 
-    /// Row `i`: none where it is null.
+    /// Returns the value of row `i`, or `None` if the row is null.
+    ///
+    /// # Requires
+    /// `i` is less than the number of rows.
     pub fn get(&self, i: usize) -> Option<bool>
         requires { i < length (boolean_rows self.now) }
         ensures { truth_value result ≡ slice_index_or (boolean_rows self.now) i Null }
@@ -87,7 +99,10 @@ impl BooleanArray {
         }
     }
 
-    /// The same bits under another validity of the same length.
+    /// Replaces the validity.
+    ///
+    /// # Requires
+    /// The length of `validity` is the number of rows; check with `has_other_length`.
     pub fn with_validity(self, validity: Option<Bitmap>) -> BooleanArray
         requires { Covers validity (length (boolean_rows self)) }
         ensures rows { boolean_rows result ≡ truth_rows self.values.bits validity }

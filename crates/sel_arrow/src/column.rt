@@ -1,4 +1,4 @@
-//! Columns of every kind.
+//! Columns of every type.
 
 ghost use Rattle.std.specs.Prelude.{◌≡◌, ◌≤◌, ◌+◌, ◌↔◌, length, take, drop, map, All, IfOk, IfErr, IsTrue};
 ghost use Rattle.std.specs.Option.{option_copied};
@@ -61,7 +61,7 @@ pub enum Column {
 }
 
 impl Column {
-    /// How many rows there are: at most 4,294,967,295 where the column is well-formed.
+    /// Returns the number of rows, at most 4,294,967,295 if the column is well-formed.
     pub fn len(&self) -> usize
         ensures len { result ≡ length (rows self.now) }
         ensures few { IsWellFormed self.now → result ≤ 4294967295 }
@@ -88,7 +88,11 @@ impl Column {
         }
     }
 
-    /// Which rows are valid. Without it each row is, but in a column of nulls none.
+    /// Returns the validity bitmap. Without one every row is valid, except in a null column, where
+    /// no row is.
+    ///
+    /// # Requires
+    /// The column is well-formed; check with `is_well_formed`.
     pub fn validity(&self) -> Option<&Bitmap>
         requires { IsWellFormed self.now }
         ensures { TellsNulls (type_of self.now) (option_copied result) (rows self.now) }
@@ -115,9 +119,12 @@ impl Column {
         }
     }
 
-    /// Whether the column is well-formed. At every depth there are at most 4,294,967,295 rows, and a validity has a bit for each;
-    /// offsets rise, and end within the child; lists of one length have at most 4,294,967,295 entries each, and their child has
-    /// a row for each entry; each field of a struct has as many rows as the struct.
+    /// Returns whether the column is well-formed.
+    ///
+    /// At every depth: there are at most 4,294,967,295 rows, and a validity has one bit for each;
+    /// offsets do not decrease, and end within the child; the list size of a fixed-size list is at
+    /// most 4,294,967,295, and its child has one row for each entry; each field of a struct has as
+    /// many rows as the struct.
     #[cycle(forming)]
     pub fn is_well_formed(&self) -> bool
         ensures { result ≡ well_formed self.now }
@@ -145,7 +152,7 @@ impl Column {
         }
     }
 
-    /// Whether the column is of this type.
+    /// Returns whether the column has the type `dtype`.
     #[cycle(has_dtype)]
     pub fn has_dtype(&self, dtype: &ArrowDataType) -> bool
         ensures { IsTrue result ↔ (type_of self.now ≡ shape_of dtype.now) }
@@ -183,7 +190,7 @@ impl Column {
         }
     }
 
-    /// Whether the two columns are of one type.
+    /// Returns whether both columns have the same type.
     #[cycle(same_dtype)]
     pub fn same_dtype(&self, other: &Column) -> bool
         ensures { IsTrue result ↔ (type_of self.now ≡ type_of other.now) }
@@ -223,7 +230,10 @@ impl Column {
         }
     }
 
-    /// The type, read off the column. Refuses only for want of memory.
+    /// Returns the type of the column.
+    ///
+    /// # Errors
+    /// `OutOfMemory` if an allocation fails.
     #[cycle(dtype)]
     pub fn dtype(&self, alloc: Global) -> PolarsResult<ArrowDataType>
         ensures dtype { IfOk result (λ dtype. shape_of dtype ≡ type_of self.now) }
@@ -260,7 +270,14 @@ impl Column {
         }
     }
 
-    /// The `len` rows from row `off` on. Refuses only for want of memory.
+    /// Returns the `len` rows from row `off` on. Keeps all data buffers.
+    ///
+    /// # Requires
+    /// The column is well-formed (check with `is_well_formed`), and `off + len` is at most the
+    /// number of rows.
+    ///
+    /// # Errors
+    /// `OutOfMemory` if an allocation fails.
     #[cycle(slicing)]
     pub fn sliced(&self, alloc: Global, off: usize, len: usize) -> PolarsResult<Column>
         requires formed { IsWellFormed self.now }
@@ -317,7 +334,13 @@ impl Column {
         }
     }
 
-    /// The same column. Refuses only for want of memory.
+    /// Returns a column with the same rows, type and data buffers.
+    ///
+    /// # Requires
+    /// The column is well-formed; check with `is_well_formed`.
+    ///
+    /// # Errors
+    /// `OutOfMemory` if an allocation fails.
     #[cycle(copying)]
     pub fn try_clone(&self, alloc: Global) -> PolarsResult<Column>
         requires { IsWellFormed self.now }
@@ -365,7 +388,8 @@ impl Column {
     }
 }
 
-/// Whether there are as many columns as types, and each column is of the type at its place.
+/// Returns whether there are as many columns as types, and each column has the type at its
+/// position.
 #[cycle(has_dtype)]
 #[tactic(auto, using(crate::proofs::Types::both_lists))]
 pub(crate) fn have_dtypes(columns: &[Column], dtypes: &[ArrowDataType]) -> bool
@@ -382,7 +406,7 @@ pub(crate) fn have_dtypes(columns: &[Column], dtypes: &[ArrowDataType]) -> bool
     true
 }
 
-/// Whether there are as many columns on both sides, and those at each place are of one type.
+/// Returns whether both slices have the same length, and the same types in the same order.
 #[cycle(same_dtype)]
 #[tactic(auto, using(crate::proofs::Types::both_lists))]
 pub(crate) fn same_dtypes(columns: &[Column], others: &[Column]) -> bool
@@ -399,7 +423,7 @@ pub(crate) fn same_dtypes(columns: &[Column], others: &[Column]) -> bool
     true
 }
 
-/// The types of the columns, in order. Refuses only for want of memory.
+/// Returns the types of the columns, in order. Fails only with `OutOfMemory`.
 #[cycle(dtype)]
 pub(crate) fn dtypes_of(alloc: Global, columns: &[Column]) -> PolarsResult<Vec<ArrowDataType>>
     ensures dtypes { IfOk result (λ dtypes. map shape_of dtypes.items ≡ map type_of columns.now) }
@@ -412,7 +436,7 @@ pub(crate) fn dtypes_of(alloc: Global, columns: &[Column]) -> PolarsResult<Vec<A
     Ok(dtypes)
 }
 
-/// A part of a column of one kind, as a column of any kind. Refuses only for want of memory.
+/// Returns a slice of a column of one type as a `Column`. Fails only with `OutOfMemory`.
 fn part_of<A: Array + Drop>(
     column: &A,
     alloc: Global,
@@ -430,7 +454,7 @@ fn part_of<A: Array + Drop>(
     Ok(column)
 }
 
-/// A column of one kind once more, as a column of any kind. Refuses only for want of memory.
+/// Returns a copy of a column of one type as a `Column`. Fails only with `OutOfMemory`.
 fn copy_of<A: Array + Drop>(column: &A, alloc: Global) -> PolarsResult<Column>
     ensures rows { IfOk result (λ copy. rows copy ≡ A.rows column.now) }
     ensures dtype { IfOk result (λ copy. type_of copy ≡ A.shape column.now) }
@@ -442,7 +466,7 @@ fn copy_of<A: Array + Drop>(column: &A, alloc: Global) -> PolarsResult<Column>
     Ok(column)
 }
 
-/// Whether each column is well-formed and has `len` rows.
+/// Returns whether each column is well-formed and has `len` rows.
 #[cycle(forming)]
 fn are_fields(columns: &[Column], len: usize) -> bool
     ensures { IsTrue result ↔ All (IsField len) columns.now }

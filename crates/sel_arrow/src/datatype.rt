@@ -1,4 +1,4 @@
-//! The types of columns.
+//! Data types of columns.
 
 ghost use Rattle.std.specs.Prelude.{◌≡◌, ◌↔◌, IsTrue};
 ghost use Rattle.std.specs.List.{list_all};
@@ -8,8 +8,8 @@ use crate::array::Array;
 use crate::array_ref::ArrayRef;
 use crate::validity::MOST_ROWS;
 
-/// The type of a column: that of lists names its child's, that of lists of one length the length too, and that of structs those of
-/// the fields, in order.
+/// The data type of a column. A list type includes the type of its child, a fixed-size list type
+/// also the list size, and a struct type the types of its fields, in order.
 #[derive(Drop)]
 pub enum ArrowDataType {
     Null,
@@ -33,7 +33,8 @@ pub enum ArrowDataType {
 }
 
 impl ArrowDataType {
-    /// Whether lists of one length have at most 4,294,967,295 entries each, at every depth.
+    /// Returns whether the list size of every fixed-size list, at every depth, is at most
+    /// 4,294,967,295.
     #[cycle(widths_fit)]
     pub fn widths_fit(&self) -> bool
         ensures { result ≡ widths_fit self.now }
@@ -48,8 +49,9 @@ impl ArrowDataType {
         }
     }
 
-    /// Whether the column's rows can be one list of this type: they are of its child's type, and where the type says how many
-    /// entries a list has, there are as many. Never for a type that is not one of lists.
+    /// Returns whether the rows of `scalar` can be one list of this type: they have the type of its
+    /// child, and for a fixed-size list their count is the list size. Returns false if this is not
+    /// a list type.
     pub fn scalar_fits(&self, scalar: &ArrayRef) -> bool
         ensures { IsTrue result ↔ ScalarFits (shape_of self.now) scalar.now.column }
     {
@@ -63,7 +65,7 @@ impl ArrowDataType {
     }
 }
 
-/// Whether each type's widths fit.
+/// Returns whether `widths_fit` holds for every type.
 #[cycle(widths_fit)]
 #[tactic(auto, using(crate::proofs::Lists::all_lists))]
 fn all_widths_fit(dtypes: &[ArrowDataType]) -> bool

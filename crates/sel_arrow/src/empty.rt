@@ -22,7 +22,13 @@ use sel_bits::faults::{PolarsError, PolarsResult};
 use sel_bits::offsets::OffsetsBuffer;
 use std::alloc::Global;
 
-/// The column of this type that has no rows, if its widths fit. Refuses only for want of memory.
+/// Returns a column of type `dtype` without rows.
+///
+/// # Requires
+/// Every list size in `dtype` is at most 4,294,967,295; check with `ArrowDataType::widths_fit`.
+///
+/// # Errors
+/// `OutOfMemory` if an allocation fails.
 pub fn new_empty_array(alloc: Global, dtype: &ArrowDataType) -> PolarsResult<ArrayRef>
     requires { IsTrue (widths_fit dtype.now) }
     ensures rows { IfOk result (λ array. rows array.column ≡ []) }
@@ -33,7 +39,7 @@ pub fn new_empty_array(alloc: Global, dtype: &ArrowDataType) -> PolarsResult<Arr
     Ok(ArrayRef { column })
 }
 
-/// The same as a `Column`.
+/// Returns a column of type `dtype` without rows, as a `Column`. Fails only with `OutOfMemory`.
 #[cycle(empty_column)]
 fn empty_column(alloc: Global, dtype: &ArrowDataType) -> PolarsResult<Column>
     requires { IsTrue (widths_fit dtype.now) }
@@ -69,7 +75,7 @@ fn empty_column(alloc: Global, dtype: &ArrowDataType) -> PolarsResult<Column>
     }
 }
 
-/// The columns of these types that have no rows. Refuses only for want of memory.
+/// Returns one column without rows for each type. Fails only with `OutOfMemory`.
 #[cycle(empty_column)]
 #[tactic(auto, using(crate::proofs::Lists::all_at))]
 fn empty_columns(alloc: Global, dtypes: &[ArrowDataType]) -> PolarsResult<Vec<Column>>
@@ -85,7 +91,7 @@ fn empty_columns(alloc: Global, dtypes: &[ArrowDataType]) -> PolarsResult<Vec<Co
     Ok(columns)
 }
 
-/// No lists, of this child. Refuses only for want of memory.
+/// Returns a list column without rows over `child`. Fails only with `OutOfMemory`.
 fn no_lists(alloc: Global, offsets: OffsetsBuffer<i64>, child: Column) -> PolarsResult<Column>
     requires alone { offsets ≡ 0 ∷ [] }
     requires formed { IsWellFormed child }
@@ -102,7 +108,8 @@ fn no_lists(alloc: Global, offsets: OffsetsBuffer<i64>, child: Column) -> Polars
     })
 }
 
-/// No lists of `size` entries each, of this child without rows. Refuses only for want of memory.
+/// Returns a fixed-size list column without rows, of list size `size`, over an empty child. Fails
+/// only with `OutOfMemory`.
 fn no_blocks(alloc: Global, size: usize, child: Column) -> PolarsResult<Column>
     requires narrow { size ≤ 4294967295 }
     requires formed { IsWellFormed child }
@@ -122,7 +129,7 @@ fn no_blocks(alloc: Global, size: usize, child: Column) -> PolarsResult<Column>
     })
 }
 
-/// No tuples of these fields without rows.
+/// Returns a struct column without rows over empty fields.
 fn no_tuples(fields: Vec<Column>) -> Column
     requires { All (IsField 0) fields.items }
     ensures rows { rows result ≡ [] }
@@ -136,7 +143,7 @@ fn no_tuples(fields: Vec<Column>) -> Column
     }
 }
 
-/// No numbers.
+/// Returns a primitive column without rows. Fails only with `OutOfMemory`.
 fn empty_numbers<T: ArrowPrimitive>(alloc: Global) -> PolarsResult<Column>
     ensures rows { IfOk result (λ column. rows column ≡ []) }
     ensures dtype { IfOk result (λ column. type_of column ≡ T.shape) }
@@ -147,7 +154,7 @@ fn empty_numbers<T: ArrowPrimitive>(alloc: Global) -> PolarsResult<Column>
     Ok(T::into_column(values, None))
 }
 
-/// No truth values.
+/// Returns a boolean column without rows. Fails only with `OutOfMemory`.
 fn empty_truths(alloc: Global) -> PolarsResult<Column>
     ensures rows { IfOk result (λ column. rows column ≡ []) }
     ensures dtype { IfOk result (λ column. type_of column ≡ of_boolean) }
@@ -161,7 +168,8 @@ fn empty_truths(alloc: Global) -> PolarsResult<Column>
     }))
 }
 
-/// The offset that stands before any row.
+/// Returns the offsets of a column without rows: the single offset 0. Fails only with
+/// `OutOfMemory`.
 #[tactic(auto, using(crate::proofs::NoRows::no_bytes))]
 fn first_offset(alloc: Global) -> PolarsResult<OffsetsBuffer<i64>>
     ensures offsets { IfOk result (λ offsets. offsets ≡ 0 ∷ []) }
@@ -170,7 +178,7 @@ fn first_offset(alloc: Global) -> PolarsResult<OffsetsBuffer<i64>>
     Ok(OffsetsBuffer::of_rising(vec![in alloc; 0]?)?)
 }
 
-/// No bytes.
+/// Returns a binary column without rows. Fails only with `OutOfMemory`.
 #[tactic(auto, using(crate::proofs::NoRows::no_bytes))]
 fn empty_bytes(alloc: Global) -> PolarsResult<Column>
     ensures rows { IfOk result (λ column. rows column ≡ []) }
@@ -187,7 +195,7 @@ fn empty_bytes(alloc: Global) -> PolarsResult<Column>
     }))
 }
 
-/// No views.
+/// Returns a binary view array without rows. Fails only with `OutOfMemory`.
 fn empty_views(alloc: Global) -> PolarsResult<BinaryViewArray>
     ensures rows { IfOk result (λ column. binview_rows column ≡ []) }
     ensures refusal { IfErr result (λ fault. fault ≡ PolarsError.OutOfMemory) }
@@ -201,7 +209,7 @@ fn empty_views(alloc: Global) -> PolarsResult<BinaryViewArray>
     })
 }
 
-/// No views of bytes.
+/// Returns a binary view column without rows. Fails only with `OutOfMemory`.
 fn empty_binary_views(alloc: Global) -> PolarsResult<Column>
     ensures rows { IfOk result (λ column. rows column ≡ []) }
     ensures dtype { IfOk result (λ column. type_of column ≡ of_binary_view) }
@@ -211,7 +219,7 @@ fn empty_binary_views(alloc: Global) -> PolarsResult<Column>
     Ok(Column::BinaryView(empty_views(alloc)?))
 }
 
-/// No texts.
+/// Returns a string view column without rows. Fails only with `OutOfMemory`.
 fn empty_texts(alloc: Global) -> PolarsResult<Column>
     ensures rows { IfOk result (λ column. rows column ≡ []) }
     ensures dtype { IfOk result (λ column. type_of column ≡ of_utf8_view) }

@@ -1,4 +1,4 @@
-//! A column of lists of one length.
+//! Fixed-size list columns.
 
 ghost use Rattle.std.specs.Prelude.{◌≡◌, ◌*◌, ◌+◌, ◌≤◌, ◌↔◌, length, take, drop, None, IfOk, IfErr, IsTrue};
 ghost use Rattle.sel_bits.specs.Faults.{IsFaultOrMemory};
@@ -18,7 +18,8 @@ use sel_bits::bitmap::Bitmap;
 use sel_bits::faults::{MakeError, PolarsError, PolarsResult};
 use std::alloc::Global;
 
-/// `len` lists of `size` entries each, list i the child's rows from i * size up to (i + 1) * size, under a validity.
+/// A column of `len` lists of list size `size`. List i is the rows of the child from i * size up to
+/// (i + 1) * size, unless the validity marks it null.
 #[derive(Drop)]
 pub struct FixedSizeListArray {
     pub size: usize,
@@ -32,9 +33,13 @@ pub struct FixedSizeListArray {
 impl FixedSizeListArray {
     ghost use Rattle.sel_arrow.specs.NestedArrays.{block_column};
 
-    /// The column of `len` lists of `size` entries each over this child. Refused are more rows than 4,294,967,295, then a greater
-    /// size than 4,294,967,295, then a child that has not `len * size` rows, and then a validity of another length; what breaks
-    /// no rule is refused only for want of memory.
+    /// Builds a column of `len` lists of list size `size` over the child `values`.
+    ///
+    /// # Errors
+    /// `Malformed` with the first rule broken, in this order: `TooManyRows` if `len` exceeds
+    /// 4,294,967,295, `Width` if `size` exceeds 4,294,967,295, `ChildLength` if the child does not
+    /// have `len * size` rows, `ValidityLength` if the length of the validity is not `len`.
+    /// `OutOfMemory` if no rule is broken and an allocation fails.
     pub fn try_new(
         alloc: Global,
         size: usize,
@@ -70,7 +75,7 @@ impl FixedSizeListArray {
         }
     }
 
-    /// How many entries each list has: at most 4,294,967,295.
+    /// Returns the list size, at most 4,294,967,295.
     pub fn size(&self) -> usize
         ensures size { result ≡ self.now.size }
         ensures few { result ≤ 4294967295 }
@@ -78,7 +83,7 @@ impl FixedSizeListArray {
         self.size
     }
 
-    /// The child: the entries of the lists, one list after the other, those beneath nulls too.
+    /// Returns the child: the entries of all lists, concatenated, including those in null slots.
     pub fn values(&self) -> &Column
         ensures column { result.now ≡ self.now.values.value }
         ensures formed { IsWellFormed result.now }
@@ -86,7 +91,10 @@ impl FixedSizeListArray {
         &self.values
     }
 
-    /// The same lists under another validity of the same length.
+    /// Replaces the validity.
+    ///
+    /// # Requires
+    /// The length of `validity` is the number of rows; check with `has_other_length`.
     pub fn with_validity(self, validity: Option<Bitmap>) -> FixedSizeListArray
         requires { Covers validity (length (rows (block_column self))) }
         ensures rows { rows (block_column result) ≡
@@ -109,7 +117,8 @@ impl FixedSizeListArray {
         }
     }
 
-    /// Whether the scalar's rows can be one list of this column: they are of the child's type, and as many as a list has.
+    /// Returns whether the rows of `scalar` can be one list of this column: they have the type of
+    /// the child, and their count is the list size.
     pub fn scalar_fits(&self, scalar: &ArrayRef) -> bool
         ensures { IsTrue result ↔ ((type_of scalar.now.column ≡ type_of self.now.values.value) ×
             (length (rows scalar.now.column) ≡ self.now.size)) }
@@ -117,7 +126,7 @@ impl FixedSizeListArray {
         scalar.column.len() == self.size && scalar.column.same_dtype(&self.values)
     }
 
-    /// The column of these parts.
+    /// Converts the array to a `Column`.
     pub(crate) fn into_column(self) -> Column
         ensures column { result ≡ block_column self }
         ensures formed { IsWellFormed result }
@@ -136,7 +145,8 @@ impl FixedSizeListArray {
         }
     }
 
-    /// The `len` lists from list `off` on, of the `_count` lists of the other parts. Refuses only for want of memory.
+    /// Returns `len` lists from list `off` on, of the column with these parts. Fails only with
+    /// `OutOfMemory`.
     #[cycle(slicing)]
     pub(crate) fn part_of(
         size: usize,
@@ -171,7 +181,7 @@ impl FixedSizeListArray {
         })
     }
 
-    /// The same lists. Refuses only for want of memory.
+    /// Returns a copy of the column with these parts. Fails only with `OutOfMemory`.
     #[cycle(copying)]
     pub(crate) fn copy_of(
         size: usize,
@@ -242,7 +252,8 @@ impl Array for FixedSizeListArray {
         Ok(ArrowDataType::FixedSizeList(child, self.size))
     }
 
-    /// The `len` lists from list `off` on, over the same part of the child. Refuses only for want of memory.
+    /// Returns `len` lists from list `off` on, over the corresponding range of the child. Fails
+    /// only with `OutOfMemory`.
     fn sliced(&self, alloc: Global, off: usize, len: usize) -> PolarsResult<FixedSizeListArray>
         requires { off + len ≤ length (rows (block_column self.now)) }
         ensures rows { IfOk result (λ part. rows (block_column part) ≡

@@ -1,4 +1,4 @@
-//! A column of lists between offsets.
+//! List columns with offsets.
 
 ghost use Rattle.std.specs.Prelude.{◌≡◌, ◌+◌, ◌≤◌, ◌↔◌, length, take, drop, None, IfOk, IfErr, IsTrue};
 ghost use Rattle.sel_bits.specs.Faults.{IsFaultOrMemory};
@@ -20,12 +20,13 @@ use sel_bits::native::Offset;
 use sel_bits::offsets::OffsetsBuffer;
 use std::alloc::Global;
 
-/// A type of offsets that a column of lists can have: that of 64 bits alone, since only those lists are a kind of `Column`.
+/// An offset type of list columns. Only 64-bit offsets have a `Column` variant (LargeList).
 pub trait ListOffset: Offset {}
 
 impl ListOffset for i64 {}
 
-/// Lists, of which list i holds the child's rows between offsets i and i + 1, under a validity.
+/// A list column. List i is the rows of the child from offset i up to offset i + 1, unless the
+/// validity marks it null.
 #[derive(Drop)]
 pub struct ListArray<O: ListOffset> {
     pub offsets: OffsetsBuffer<O>,
@@ -38,8 +39,13 @@ pub struct ListArray<O: ListOffset> {
 impl ListArray<i64> {
     ghost use Rattle.sel_arrow.specs.NestedArrays.{list_column};
 
-    /// The column of the lists over this child. Refused are more rows than 4,294,967,295, then a last offset past the child's
-    /// rows, and then a validity of another length; what breaks no rule is refused only for want of memory.
+    /// Builds a list column over the child `values`.
+    ///
+    /// # Errors
+    /// `Malformed` with the first rule broken, in this order: `TooManyRows` if there are more than
+    /// 4,294,967,295 lists, `OffsetRange` if the last offset exceeds the number of rows of the
+    /// child, `ValidityLength` if the length of the validity is not the number of lists.
+    /// `OutOfMemory` if no rule is broken and an allocation fails.
     pub fn try_new(
         alloc: Global,
         offsets: OffsetsBuffer<i64>,
@@ -72,14 +78,14 @@ impl ListArray<i64> {
         }
     }
 
-    /// The offsets, one more than there are lists.
+    /// Returns the offsets, one more than there are lists.
     pub fn offsets(&self) -> &OffsetsBuffer<i64>
         ensures { result.now ≡ self.now.offsets }
     {
         &self.offsets
     }
 
-    /// The child, those rows too that are in no list.
+    /// Returns the child, including rows that are in no list.
     pub fn values(&self) -> &Column
         ensures column { result.now ≡ self.now.values.value }
         ensures formed { IsWellFormed result.now }
@@ -87,7 +93,10 @@ impl ListArray<i64> {
         &self.values
     }
 
-    /// The same lists under another validity of the same length.
+    /// Replaces the validity.
+    ///
+    /// # Requires
+    /// The length of `validity` is the number of rows; check with `has_other_length`.
     pub fn with_validity(self, validity: Option<Bitmap>) -> ListArray<i64>
         requires { Covers validity (length (rows (list_column self))) }
         ensures rows { rows (list_column result) ≡
@@ -108,14 +117,15 @@ impl ListArray<i64> {
         }
     }
 
-    /// Whether the scalar's rows can be one list of this column: they are of the child's type.
+    /// Returns whether the rows of `scalar` can be one list of this column: they have the type of
+    /// the child.
     pub fn scalar_fits(&self, scalar: &ArrayRef) -> bool
         ensures { IsTrue result ↔ (type_of scalar.now.column ≡ type_of self.now.values.value) }
     {
         scalar.column.same_dtype(&self.values)
     }
 
-    /// The column of these parts.
+    /// Converts the array to a `Column`.
     pub(crate) fn into_column(self) -> Column
         ensures column { result ≡ list_column self }
         ensures formed { IsWellFormed result }
@@ -132,7 +142,8 @@ impl ListArray<i64> {
         }
     }
 
-    /// The `len` lists from list `off` on, over the same child. Refuses only for want of memory.
+    /// Returns `len` lists from list `off` on, of the column with these parts. Fails only with
+    /// `OutOfMemory`.
     pub(crate) fn part_of(
         offsets: &OffsetsBuffer<i64>,
         values: &Box<Column>,
@@ -162,7 +173,7 @@ impl ListArray<i64> {
         })
     }
 
-    /// The same lists. Refuses only for want of memory.
+    /// Returns a copy of the column with these parts. Fails only with `OutOfMemory`.
     #[cycle(copying)]
     pub(crate) fn copy_of(
         offsets: &OffsetsBuffer<i64>,

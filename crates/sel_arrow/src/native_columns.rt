@@ -1,4 +1,4 @@
-//! The number types whose columns are a kind of `Column`.
+//! The primitive types that have a `Column` variant.
 
 ghost use Rattle.std.specs.Prelude.{◌≡◌, ◌≤◌, [], length, pos};
 ghost use Rattle.sel_arrow.specs.Masked.{Covers, number_rows};

@@ -1,4 +1,4 @@
-//! A column of nulls.
+//! Null columns.
 
 ghost use Rattle.std.specs.Prelude.{◌≡◌, ◌≤◌, None, IfOk, IfErr, []};
 ghost use Rattle.sel_bits.specs.Faults.{IsFault};
@@ -13,7 +13,7 @@ use sel_bits::bitmap::Bitmap;
 use sel_bits::faults::{MakeError, Malformed, PolarsResult};
 use std::alloc::Global;
 
-/// Rows that are all null.
+/// A column whose rows are all null.
 #[derive(Drop)]
 pub struct NullArray {
     pub length: usize,
@@ -21,7 +21,10 @@ pub struct NullArray {
 }
 
 impl NullArray {
-    /// `len` nulls, of which there are at most 4,294,967,295.
+    /// Builds a column of `len` nulls.
+    ///
+    /// # Errors
+    /// `Malformed(TooManyRows)` if `len` exceeds 4,294,967,295.
     pub fn try_new(len: usize) -> Result<NullArray, MakeError>
         ensures length { IfOk result (λ column. column.length ≡ len) }
         ensures accepted { IfOk result (λ _. null_fault len ≡ None) }

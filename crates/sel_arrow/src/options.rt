@@ -1,4 +1,4 @@
-//! Rows of which each may be missing, as the parts of a column.
+//! Conversion of optional rows to values and validity.
 #![tactic(auto)]
 
 ghost use Rattle.std.specs.Prelude.{◌≡◌, map, is_some, unwrap_or, IfOk, IfErr};
@@ -7,7 +7,7 @@ use sel_bits::bitmap::Bitmap;
 use sel_bits::faults::{PolarsError, PolarsResult};
 use std::alloc::Global;
 
-/// Which of the rows are there. Refuses only for want of memory.
+/// Returns a bitmap with a set bit for each row that is `Some`. Fails only with `OutOfMemory`.
 pub(crate) fn valid_rows<T: Copy>(alloc: Global, rows: &[Option<T>]) -> PolarsResult<Bitmap>
     ensures bits { IfOk result (λ valid. valid.bits ≡ map is_some rows.now) }
     ensures refusal { IfErr result (λ fault. fault ≡ PolarsError.OutOfMemory) }
@@ -19,7 +19,7 @@ pub(crate) fn valid_rows<T: Copy>(alloc: Global, rows: &[Option<T>]) -> PolarsRe
     Bitmap::from_bools(alloc, &valid)
 }
 
-/// The rows, with one value in the place of those that are missing. Refuses only for want of memory.
+/// Returns the rows, with `hidden` in place of each `None`. Fails only with `OutOfMemory`.
 pub(crate) fn values_or<T: Copy>(
     alloc: Global,
     rows: &[Option<T>],

@@ -1,4 +1,4 @@
-//! A column of numbers.
+//! Primitive columns.
 
 ghost use Rattle.std.specs.Prelude.{◌≡◌, ◌≢◌, ◌≤◌, ◌<◌, ◌↔◌, length, map, slice_index_or, None, IfOk, IfErr, IfSome, IfNone, IsTrue, []};
 ghost use Rattle.std.specs.Option.{option_copied};
@@ -20,7 +20,7 @@ use sel_bits::faults::{MakeError, Malformed, PolarsResult};
 use sel_bits::native::NativeType;
 use std::alloc::Global;
 
-/// Numbers of one type under a validity.
+/// A primitive column: values of one fixed-width type.
 #[derive(Drop)]
 pub struct PrimitiveArray<T: NativeType> {
     pub values: Buffer<T>,
@@ -36,7 +36,12 @@ pub type IdxArr = PrimitiveArray<u32>;
 impl<T: NativeType> PrimitiveArray<T> {
     ghost use Rattle.sel_arrow.specs.Columns.{primitive_rows};
 
-    /// The column of these numbers. Refused are more rows than 4,294,967,295, and then a validity of another length.
+    /// Builds a primitive column from its parts.
+    ///
+    /// # Errors
+    /// `Malformed` with the first rule broken, in this order: `TooManyRows` if there are more than
+    /// 4,294,967,295 rows, `ValidityLength` if the length of the validity is not the number of
+    /// rows.
     pub fn try_new(
         values: Buffer<T>,
         validity: Option<Bitmap>,
@@ -55,8 +60,12 @@ impl<T: NativeType> PrimitiveArray<T> {
         Ok(PrimitiveArray { values, validity })
     }
 
-    /// The column of these rows, each null where it is none; beneath a null stands the least number of the type. Refused are more
-    /// rows than 4,294,967,295; else it refuses only for want of memory.
+    /// Builds a primitive column from `rows`; `None` gives a null row. The value in a null slot is
+    /// the minimum of the type.
+    ///
+    /// # Errors
+    /// `Malformed(TooManyRows)` if there are more than 4,294,967,295 rows; `OutOfMemory` if an
+    /// allocation fails.
     pub fn from_options(alloc: Global, rows: &[Option<T>]) -> Result<PrimitiveArray<T>, MakeError>
         ensures rows { IfOk result (λ column. primitive_rows column ≡
             map (number_value T.number) rows.now) }
@@ -78,14 +87,17 @@ impl<T: NativeType> PrimitiveArray<T> {
         }
     }
 
-    /// The numbers, those beneath nulls too.
+    /// Returns the values, including those in null slots.
     pub fn values(&self) -> &Buffer<T>
         ensures { result.now ≡ self.now.values }
     {
         &self.values
     }
 
-    /// Row `i`: none where it is null.
+    /// Returns the value of row `i`, or `None` if the row is null.
+    ///
+    /// # Requires
+    /// `i` is less than the number of rows.
     pub fn get(&self, i: usize) -> Option<T>
         requires { i < length (primitive_rows self.now) }
         ensures { number_value T.number result ≡ slice_index_or (primitive_rows self.now) i Null }
@@ -97,7 +109,10 @@ impl<T: NativeType> PrimitiveArray<T> {
         }
     }
 
-    /// The same numbers under another validity of the same length.
+    /// Replaces the validity.
+    ///
+    /// # Requires
+    /// The length of `validity` is the number of rows; check with `has_other_length`.
     pub fn with_validity(self, validity: Option<Bitmap>) -> PrimitiveArray<T>
         requires { Covers validity (length (primitive_rows self)) }
         ensures rows { primitive_rows result ≡ number_rows T.number self.values validity }
@@ -111,23 +126,26 @@ impl<T: NativeType> PrimitiveArray<T> {
     }
 }
 
-/// A number type whose columns are a kind of `Column`.
+/// A primitive type that has a `Column` variant.
 pub trait ArrowPrimitive: NativeType {
     ghost use Rattle.sel_arrow.specs.DataType.{shape_of};
     ghost use Rattle.sel_arrow.specs.Rows.{rows, buffers_held, type_of, IsWellFormed};
 
-    /// The type of such a column.
+    /// The data type of such a column.
     ghost shape: { Shape };
 
-    /// The type of such a column.
+    /// Returns the data type of such a column.
     fn column_dtype() -> ArrowDataType
         ensures { shape_of result ≡ shape };
 
-    /// Whether it is the type of such a column.
+    /// Returns whether `dtype` is the data type of such a column.
     fn is_column_dtype(dtype: &ArrowDataType) -> bool
         ensures { IsTrue result ↔ (shape ≡ shape_of dtype.now) };
 
-    /// The column of these parts.
+    /// Builds a column from its parts.
+    ///
+    /// # Requires
+    /// There are at most 4,294,967,295 values, and the length of `validity` is their count.
     fn into_column(values: Buffer<Self>, validity: Option<Bitmap>) -> Column
         requires few { length values ≤ 4294967295 }
         requires covers { Covers validity (length values) }
@@ -136,7 +154,8 @@ pub trait ArrowPrimitive: NativeType {
         ensures buffers { buffers_held result ≡ [] }
         ensures formed { IsWellFormed result };
 
-    /// The values and the validity, lent; none where the column is of another type.
+    /// Returns references to the values and the validity, or `None` if the column has a different
+    /// type.
     fn of_column(column: &Column) -> Option<(&[Self], Option<&Bitmap>)>
         ensures rows { IfSome result (λ parts. number_rows Self.number parts.0.now
             (option_copied parts.1) ≡ rows column.now) }
@@ -144,7 +163,10 @@ pub trait ArrowPrimitive: NativeType {
             (option_copied parts.1) (length parts.0.now)) }
         ensures other { IfNone result (type_of column.now ≢ shape) };
 
-    /// The values and the validity, or the column back where it is of another type.
+    /// Returns the values and the validity.
+    ///
+    /// # Errors
+    /// Returns the column unchanged if it has a different type.
     fn from_column(column: Column) -> Result<(Buffer<Self>, Option<Bitmap>), Column>
         ensures rows { IfOk result (λ parts. number_rows Self.number parts.0 parts.1 ≡
             rows column) }
@@ -154,7 +176,7 @@ pub trait ArrowPrimitive: NativeType {
         ensures back { IfErr result (λ back. back ≡ column) }
         ensures other { IfErr result (λ _. type_of column ≢ shape) };
 
-    /// It is not the type of nulls.
+    /// The data type is not the null type.
     ghost no_null: { shape ≢ of_null };
 }
 

@@ -1,4 +1,4 @@
-//! The rules of columns that have children.
+//! Rules for the parts of nested columns.
 
 ghost use Rattle.std.specs.Prelude.{◌≡◌};
 ghost use Rattle.sel_bits.specs.Offsets.{IsRising};
@@ -10,7 +10,7 @@ use sel_bits::faults::Malformed;
 use sel_bits::native::Offset;
 use sel_bits::offsets::OffsetsBuffer;
 
-/// The first rule that lists over a child of `rows` rows break.
+/// Returns the first rule that lists over a child of `rows` rows break.
 pub(crate) fn fault_of_lists<O: Offset>(
     offsets: &OffsetsBuffer<O>,
     rows: usize,
@@ -31,7 +31,7 @@ pub(crate) fn fault_of_lists<O: Offset>(
     }
 }
 
-/// The first rule that `len` lists, each of `size` of a child's `rows` rows, break.
+/// Returns the first rule that `len` lists of list size `size` over a child of `rows` rows break.
 pub(crate) fn fault_of_blocks(
     size: usize,
     len: usize,
@@ -53,7 +53,8 @@ pub(crate) fn fault_of_blocks(
     }
 }
 
-/// The first rule that `len` tuples break; `fit` says whether each field has as many rows.
+/// Returns the first rule that a struct column of `len` rows breaks; `fit` is whether each field
+/// has `len` rows.
 pub(crate) fn fault_of_tuples(len: usize, fit: bool, validity: &Option<Bitmap>) -> Option<Malformed>
     ensures { result ≡ tuple_fault len fit validity.now }
 {

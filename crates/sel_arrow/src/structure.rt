@@ -1,4 +1,4 @@
-//! A column of tuples.
+//! Struct columns.
 
 ghost use Rattle.std.specs.Prelude.{◌≡◌, ◌+◌, ◌≤◌, ◌==◌, length, take, drop, map, All, None, IfOk, IfErr};
 ghost use Rattle.std.specs.List.{list_all};
@@ -19,7 +19,8 @@ use sel_bits::bitmap::Bitmap;
 use sel_bits::faults::{MakeError, PolarsError, PolarsResult};
 use std::alloc::Global;
 
-/// `len` tuples, tuple i row i of each field, under a validity.
+/// A struct column of `len` rows. Row i holds row i of each field, unless the validity marks it
+/// null.
 #[derive(Drop)]
 pub struct StructArray {
     pub len: usize,
@@ -32,8 +33,13 @@ pub struct StructArray {
 impl StructArray {
     ghost use Rattle.sel_arrow.specs.NestedArrays.{tuple_column};
 
-    /// The column of `len` tuples of these fields. Refused are more rows than 4,294,967,295, then a field that has not `len` rows,
-    /// and then a validity of another length; what breaks no rule is refused only for want of memory.
+    /// Builds a struct column of `len` rows from its fields.
+    ///
+    /// # Errors
+    /// `Malformed` with the first rule broken, in this order: `TooManyRows` if `len` exceeds
+    /// 4,294,967,295, `FieldLength` if a field does not have `len` rows, `ValidityLength` if the
+    /// length of the validity is not `len`. `OutOfMemory` if no rule is broken and an allocation
+    /// fails.
     pub fn try_new(
         alloc: Global,
         len: usize,
@@ -63,7 +69,7 @@ impl StructArray {
         }
     }
 
-    /// The fields, in order.
+    /// Returns the fields, in order.
     pub fn values(&self) -> &[Column]
         ensures columns { result.now ≡ self.now.fields.items }
         ensures formed { All (IsField self.now.len) result.now }
@@ -71,7 +77,10 @@ impl StructArray {
         &self.fields
     }
 
-    /// The same tuples under another validity of the same length.
+    /// Replaces the validity.
+    ///
+    /// # Requires
+    /// The length of `validity` is the number of rows; check with `has_other_length`.
     pub fn with_validity(self, validity: Option<Bitmap>) -> StructArray
         requires { Covers validity (length (rows (tuple_column self))) }
         ensures rows { rows (tuple_column result) ≡
@@ -92,7 +101,7 @@ impl StructArray {
         }
     }
 
-    /// The column of these parts.
+    /// Converts the array to a `Column`.
     pub(crate) fn into_column(self) -> Column
         ensures column { result ≡ tuple_column self }
         ensures formed { IsWellFormed result }
@@ -109,7 +118,8 @@ impl StructArray {
         }
     }
 
-    /// The `len` tuples from tuple `off` on, of the `_count` tuples of the other parts. Refuses only for want of memory.
+    /// Returns `len` rows from row `off` on, of the column with these parts. Fails only with
+    /// `OutOfMemory`.
     #[cycle(slicing)]
     pub(crate) fn part_of(
         _count: usize,
@@ -138,7 +148,7 @@ impl StructArray {
         })
     }
 
-    /// The same tuples. Refuses only for want of memory.
+    /// Returns a copy of the column with these parts. Fails only with `OutOfMemory`.
     #[cycle(copying)]
     pub(crate) fn copy_of(
         len: usize,
@@ -214,7 +224,7 @@ impl Array for StructArray {
     }
 }
 
-/// Whether each column has `len` rows.
+/// Returns whether each column has `len` rows.
 #[tactic(auto, using(crate::proofs::Lists::all_lists))]
 fn have_rows(columns: &[ArrayRef], len: usize) -> bool
     ensures { result ≡ list_all (λ column. row_count column.column == len) columns.now }
@@ -227,7 +237,7 @@ fn have_rows(columns: &[ArrayRef], len: usize) -> bool
     true
 }
 
-/// The columns, each known to be well-formed. Refuses only for want of memory.
+/// Unwraps the columns, all of which are well-formed. Fails only with `OutOfMemory`.
 fn columns_of(alloc: Global, arrays: Vec<ArrayRef>) -> PolarsResult<Vec<Column>>
     ensures columns { IfOk result (λ columns. columns.items ≡
         map (λ array. array.column) arrays.items) }
@@ -242,7 +252,7 @@ fn columns_of(alloc: Global, arrays: Vec<ArrayRef>) -> PolarsResult<Vec<Column>>
     Ok(columns)
 }
 
-/// The `len` rows from row `off` on of each column. Refuses only for want of memory.
+/// Returns the `len` rows from row `off` on of each column. Fails only with `OutOfMemory`.
 #[cycle(slicing)]
 fn parts_of(columns: &[Column], alloc: Global, off: usize, len: usize) -> PolarsResult<Vec<Column>>
     requires within { All (λ column. IsWellFormed column ×
@@ -262,7 +272,7 @@ fn parts_of(columns: &[Column], alloc: Global, off: usize, len: usize) -> Polars
     Ok(parts)
 }
 
-/// The same columns. Refuses only for want of memory.
+/// Returns copies of the columns. Fails only with `OutOfMemory`.
 #[cycle(copying)]
 fn copies_of(columns: &[Column], alloc: Global) -> PolarsResult<Vec<Column>>
     requires formed { All IsWellFormed columns.now }

@@ -1,4 +1,4 @@
-//! A column of texts that views name.
+//! String view columns.
 
 ghost use Rattle.std.specs.Prelude.{◌≡◌, ◌≤◌, ◌<◌, ◌+◌, length, slice_index_or, None, IfOk, IfErr, IsTrue, string_bytes, [], ◌∷◌};
 ghost use Rattle.std.specs.Option.{option_copied, option_map};
@@ -20,7 +20,7 @@ use sel_bits::buffer::Buffer;
 use sel_bits::faults::{MakeError, Malformed, PolarsError, PolarsResult};
 use std::alloc::Global;
 
-/// A column of views whose valid rows are UTF-8.
+/// A string view column: a binary view column whose valid rows are UTF-8.
 #[derive(Drop)]
 pub struct Utf8ViewArray {
     pub bytes: BinaryViewArray,
@@ -31,8 +31,11 @@ pub struct Utf8ViewArray {
 impl Utf8ViewArray {
     ghost use Rattle.sel_arrow.specs.Columns.{binview_rows, utf8view_rows};
 
-    /// The column of these views. Refused is what `BinaryViewArray::try_new` refuses, and after all of that a
-    /// valid row that is not UTF-8.
+    /// Builds a string view column from its parts.
+    ///
+    /// # Errors
+    /// The errors of `BinaryViewArray::try_new`, checked first; then `Malformed(Utf8)` if a valid
+    /// row is not UTF-8.
     pub fn try_new(
         views: Buffer<View>,
         buffers: Buffer<Buffer<u8>>,
@@ -56,21 +59,27 @@ impl Utf8ViewArray {
         }
     }
 
-    /// The views, those beneath nulls too.
+    /// Returns the views, including those in null slots.
     pub fn views(&self) -> &Buffer<View>
         ensures { result.now ≡ self.now.bytes.views }
     {
         self.bytes.views()
     }
 
-    /// The data buffers.
+    /// Returns the data buffers.
     pub fn data_buffers(&self) -> &Buffer<Buffer<u8>>
         ensures { result.now ≡ self.now.bytes.buffers }
     {
         self.bytes.data_buffers()
     }
 
-    /// The text of row `i`: none where it is null. Refuses only for want of memory.
+    /// Returns a copy of the string in row `i`, or `None` if the row is null.
+    ///
+    /// # Requires
+    /// `i` is less than the number of rows.
+    ///
+    /// # Errors
+    /// `OutOfMemory` if an allocation fails.
     pub fn get(&self, alloc: Global, i: usize) -> PolarsResult<Option<String>>
         requires { i < length (utf8view_rows self.now) }
         ensures row { IfOk result (λ row. bytes_value (option_map string_bytes row) ≡
@@ -83,7 +92,10 @@ impl Utf8ViewArray {
         }
     }
 
-    /// The same rows as bytes. Refuses only for want of memory.
+    /// Returns the same rows as a binary view column.
+    ///
+    /// # Errors
+    /// `OutOfMemory` if an allocation fails.
     pub fn to_binview(&self, alloc: Global) -> PolarsResult<BinaryViewArray>
         ensures rows { IfOk result (λ column. binview_rows column ≡ utf8view_rows self.now) }
         ensures buffers { IfOk result (λ column. column.buffers ≡ self.now.bytes.buffers) }

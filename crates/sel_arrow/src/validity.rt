@@ -1,4 +1,4 @@
-//! A validity, which may be missing: then each row is valid.
+//! Optional validity bitmaps; without one every row is valid.
 #![tactic(auto, using(crate::proofs::Rows::columns))]
 
 ghost use Rattle.std.specs.Prelude.{◌≡◌, ◌≤◌, ◌<◌, ◌+◌, length, IfOk, IfErr};
@@ -8,10 +8,10 @@ ghost use Rattle.sel_arrow.specs.Masked.{Covers, valid_at, validity_differs, par
 use sel_bits::bitmap::Bitmap;
 use sel_bits::faults::{PolarsError, PolarsResult};
 
-/// The most rows that a column can have.
+/// The maximum number of rows of a column.
 pub const MOST_ROWS: usize = 4_294_967_295;
 
-/// Whether a validity that is there has another length.
+/// Returns whether there is a validity and its length is not `len`.
 pub fn has_other_length(validity: &Option<Bitmap>, len: usize) -> bool
     ensures { result ≡ validity_differs validity.now len }
 {
@@ -21,7 +21,10 @@ pub fn has_other_length(validity: &Option<Bitmap>, len: usize) -> bool
     }
 }
 
-/// Whether row `i` is valid.
+/// Returns whether row `i` is valid.
+///
+/// # Requires
+/// If there is a validity, `i` is less than its length.
 pub fn is_valid_at(validity: &Option<Bitmap>, i: usize) -> bool
     requires { ForSome validity.now (λ v. i < length v.bits) }
     ensures { result ≡ valid_at validity.now i }
@@ -32,7 +35,13 @@ pub fn is_valid_at(validity: &Option<Bitmap>, i: usize) -> bool
     }
 }
 
-/// The validity of the `len` rows from row `off` on. Refuses only for want of memory.
+/// Returns the validity of the `len` rows from row `off` on.
+///
+/// # Requires
+/// If there is a validity, `off + len` is at most its length.
+///
+/// # Errors
+/// `OutOfMemory` if an allocation fails.
 pub fn sliced_validity(
     validity: &Option<Bitmap>,
     off: usize,
@@ -48,7 +57,10 @@ pub fn sliced_validity(
     }
 }
 
-/// The same validity. Refuses only for want of memory.
+/// Returns a copy of the validity.
+///
+/// # Errors
+/// `OutOfMemory` if an allocation fails.
 pub fn clone_validity(validity: &Option<Bitmap>) -> PolarsResult<Option<Bitmap>>
     ensures value { IfOk result (λ copy. copy ≡ validity.now) }
     ensures refusal { IfErr result (λ fault. fault ≡ PolarsError.OutOfMemory) }

@@ -1,28 +1,32 @@
-//! A view: a few bytes, or a place in a data buffer.
+//! Views of byte strings, inline or in a data buffer.
 
 ghost use Rattle.std.specs.Prelude.{◌≡◌, ◌≤◌, ◌<◌, ◌+◌, length, slice_index};
 ghost use Rattle.sel_arrow.specs.Views.{inline_bytes, inline_space, view_of, word_at};
 
-/// How many bytes a view can hold itself.
+/// The maximum length of an inline view.
 pub const INLINE_BYTES: u32 = 12;
 
-/// Up to 12 bytes, in the little-endian bytes of `prefix`, `buffer_idx` and `offset` in that order, or the place
-/// of more of them in a data buffer, with the first four as `prefix`. (Arrow columnar format: variable-size binary view layout.)
+/// A view of a byte string. Up to 12 bytes are inline, in the little-endian bytes of `prefix`,
+/// `buffer_idx` and `offset`, in this order. A longer byte string is in a data buffer, and `prefix`
+/// is its first four bytes. (Arrow columnar format: variable-size binary view layout.)
 #[derive(Debug, Clone, Copy, PartialEq, Eq)]
 pub struct View {
-    /// How many bytes it names.
+    /// The length in bytes.
     pub length: u32,
-    /// The first four of them, little-endian.
+    /// The first four bytes, little-endian.
     pub prefix: u32,
-    /// In which data buffer they lie.
+    /// The index of the data buffer.
     pub buffer_idx: u32,
-    /// Where they begin there.
+    /// The start offset in the data buffer.
     pub offset: u32,
 }
 
 impl View {
-    /// The view of these bytes, of which there are at most 4,294,967,295. Up to 12 lie in it with zeros after them;
-    /// else it names the place from `offset` on in data buffer `buffer_idx`.
+    /// Builds a view of `bytes`: inline, padded with zeros, if there are at most 12; otherwise a
+    /// reference to offset `offset` of data buffer `buffer_idx`.
+    ///
+    /// # Requires
+    /// There are at most 4,294,967,295 bytes.
     pub fn new_from_bytes(bytes: &[u8], buffer_idx: u32, offset: u32) -> View
         requires { length bytes.now ≤ 4294967295 }
         ensures view { result ≡ view_of bytes.now buffer_idx offset }
@@ -47,7 +51,7 @@ impl View {
         }
     }
 
-    /// The bytes of the last three numbers.
+    /// Returns the little-endian bytes of `prefix`, `buffer_idx` and `offset`.
     pub fn inline_space(self) -> [u8; 12]
         ensures { result ≡ inline_space self }
     {
@@ -58,7 +62,7 @@ impl View {
     }
 }
 
-/// Four bytes from `at` on as a number, the lowest first, with zeros past the end.
+/// Reads four bytes from `at` on as a little-endian integer, with zeros past the end.
 pub(crate) fn read_word(bytes: &[u8], at: usize) -> u32
     requires { at < 4294967296 }
     ensures { result ≡ word_at bytes.now at }
@@ -71,7 +75,7 @@ pub(crate) fn read_word(bytes: &[u8], at: usize) -> u32
     ])
 }
 
-/// The byte at `at`, or 0 past the end.
+/// Returns the byte at `at`, or 0 past the end.
 fn byte_at(bytes: &[u8], at: usize) -> u8
     ensures { result ≡ slice_index bytes.now at }
 {

@@ -1,4 +1,4 @@
-//! A reader or a writer that counts its failures.
+//! A reader or writer that counts its failures.
 ghost use Rattle.std.specs.Prelude.{◌≡◌, ℕ, ◌+◌, ◌-◌, ◌^◌, ◌<◌, ◌≤◌, min, is_err, is_ok, length, if◌then◌else◌, ◌||◌, ◌&&◌, ◌==◌, Ok, Err, true, false};
 ghost use Rattle.std.specs.Io.{ReadsAtMost, WritesAtMost};
 ghost use Rattle.std.specs.Io.KnownBytes.{Keeps, ReadConsumes, WriteAppends};
@@ -6,8 +6,8 @@ ghost use Rattle.std.specs.Io.KnownBytes.{Keeps, ReadConsumes, WriteAppends};
 use std::io;
 use std::io::{Read, Write};
 
-/// Passes reads, writes and flushes on, and counts those that answer an error
-/// and the writes that take none of some bytes. The count stays at `u64::MAX`.
+/// Forwards reads, writes and flushes, and counts those that return an error and the writes that
+/// accept none of some bytes. The count saturates at `u64::MAX`.
 #[derive(Drop)]
 pub struct Counted<T> {
     inner: T,
@@ -17,7 +17,7 @@ pub struct Counted<T> {
 impl<T> Counted<T> {
     ghost use Rattle.sel_bench.specs.Counted.{inner_of, failures_of, counted_up};
 
-    /// This reader or writer, of which nothing has failed yet.
+    /// Wraps a reader or writer with a failure count of 0.
     pub fn new(inner: T) -> Counted<T>
         ensures inner { inner_of result ≡ inner }
         ensures none_yet { failures_of result ≡ 0 }
@@ -25,14 +25,14 @@ impl<T> Counted<T> {
         Counted { inner, failures: 0 }
     }
 
-    /// How many of its calls failed.
+    /// Returns the number of calls that failed.
     pub fn failures(&self) -> u64
         ensures { result ≡ failures_of self.now }
     {
         self.failures
     }
 
-    /// The reader or writer itself.
+    /// Returns the inner reader or writer.
     pub fn into_inner(self) -> T
         ensures { result ≡ inner_of self }
     {

@@ -1,4 +1,4 @@
-//! Reads lines such as `take 5,n,7 2,n,1` and answers each by a line.
+//! Reads command lines such as `take 5,n,7 2,n,1` and writes one result line for each.
 #![tactic(auto)]
 
 mod counted;

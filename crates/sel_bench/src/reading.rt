@@ -1,4 +1,4 @@
-//! Reading a line, byte by byte, so that nothing of the next line is read.
+//! Reads a line byte by byte, so that no byte of the next line is consumed.
 ghost use Rattle.std.specs.Prelude.{◌≡◌, ◌≢◌, ℕ, List, is_err, IfOk, IfErr, OnErr, IfNone, None};
 ghost use Rattle.std.specs.Option.{option_to_list};
 ghost use Rattle.std.specs.Io.KnownBytes.{Consumes, Keeps, IsAtEnd};
@@ -12,18 +12,21 @@ use crate::run::RunError;
 use sel_lines::commands::LONGEST_LINE;
 use std::io::Read;
 
-/// How a line ended.
+/// The end of a line.
 #[derive(Clone, Copy, PartialEq)]
 pub enum LineEnd {
-    /// By a line feed, which was read.
+    /// A line feed, which was consumed.
     Feed,
-    /// By the end of the input.
+    /// The end of the input.
     Input,
-    /// One byte past the longest line: its rest is not read.
+    /// The line has one byte more than the longest allowed line; its rest is not read.
     TooLong,
 }
 
 /// Reads the next line into `line`, without its line feed.
+///
+/// # Errors
+/// `Input` if a read fails; `OutOfMemory` if an allocation fails.
 pub fn read_line<R: Read>(reader: &mut Counted<R>, line: &mut Vec<u8>) -> Result<LineEnd, RunError>
     ensures ok { IfOk result (λ end. HasNoFeed line.new.items
         × Consumes (R.remaining (inner_of reader.old)) (R.remaining (inner_of reader.new))
@@ -46,7 +49,7 @@ pub fn read_line<R: Read>(reader: &mut Counted<R>, line: &mut Vec<u8>) -> Result
     Ok(LineEnd::TooLong)
 }
 
-// The next byte, or `None` at the end.
+// Returns the next byte, or `None` at the end of the input. Errors: `Input` if the read fails.
 fn read_byte<R: Read>(reader: &mut Counted<R>) -> Result<Option<u8>, RunError>
     ensures ok { IfOk result (λ byte.
         Consumes (R.remaining (inner_of reader.old)) (R.remaining (inner_of reader.new))

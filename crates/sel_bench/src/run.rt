@@ -1,4 +1,4 @@
-//! From lines to answers.
+//! Runs the commands of an input, line by line.
 ghost use Rattle.std.specs.Prelude.{◌≡◌, ℕ, List, [], ◌∷◌, IfOk, string_bytes, if◌then◌else◌, None, Some, option_map};
 ghost use Rattle.sel_bench.specs.Counted.{inner_of, failures_of, counted_up};
 ghost use Rattle.sel_bench.specs.Output.{answer_at, output_from, first_bad_from, output};
@@ -14,17 +14,17 @@ use sel_lines::commands::answer_line;
 use std::alloc::{AllocError, AllocFailed, Global};
 use std::io::{Read, Write};
 
-/// The greatest number that a line may have.
+/// The maximum line number.
 pub const LAST_LINE: u64 = 4_294_967_295;
 
-/// How a run ended: with the last line, or at a bad one.
+/// The end of a run: the end of the input, or the number of the first bad line.
 #[derive(Debug, Clone, Copy, PartialEq, Eq)]
 pub enum Done {
     End,
     BadLine(u64),
 }
 
-/// What broke a run off: want of memory, or an error of the input or the output.
+/// The error of a run: out of memory, or a failed read or write.
 #[derive(Debug, Clone, Copy, PartialEq, Eq)]
 pub enum RunError {
     OutOfMemory,
@@ -48,8 +48,16 @@ impl<T: Drop> From<AllocFailed<T>> for RunError {
     }
 }
 
-/// Answers each line of the reader by a line of the writer, up to the first bad one.
-/// Nothing of the next line is read before a line's answer is written.
+/// Writes the result of each line of the reader to the writer, up to the first bad line.
+///
+/// Reads nothing of the next line before the result of a line is written.
+///
+/// # Requires
+/// The reader and the writer have counted no failures.
+///
+/// # Errors
+/// `OutOfMemory` if an allocation fails; `Input` if a read fails; `Output` if a write or flush
+/// fails, or a write accepts no bytes.
 pub fn run<R: Read, W: Write>(
     alloc: Global,
     reader: &mut Counted<R>,
@@ -73,7 +81,7 @@ pub fn run<R: Read, W: Write>(
     }
 }
 
-// Reads one line and answers it. `None`: there may be more lines.
+// Reads one line and writes its result. Returns `None` if there may be more lines.
 fn serve_line<R: Read, W: Write>(
     alloc: Global,
     number: u64,
@@ -105,14 +113,14 @@ fn serve_line<R: Read, W: Write>(
     Ok(Some(Done::End))
 }
 
-// What is written for a line, and whether the line is good.
+// The output for a line, and whether the line is good.
 #[derive(Drop)]
 struct Reply {
     text: String,
     is_good: bool,
 }
 
-// What is written for the bytes that were read, which have one line or none.
+// Returns the output for the bytes read, which are one line or none.
 #[tactic(auto, unfolding(crate::specs::Output::output_from, crate::specs::Output::first_bad_from))]
 fn reply_to(alloc: Global, number: u64, line: &[u8], end: LineEnd) -> Result<Reply, AllocError>
     ensures text { IfOk result (λ reply. string_bytes reply.text ≡

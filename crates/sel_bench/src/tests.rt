@@ -1,4 +1,4 @@
-//! Runs over readers and writers in memory, some of which fail.
+//! Runs over in-memory readers and writers, some of which fail.
 use crate::counted::Counted;
 use crate::reading::{LineEnd, read_line};
 use crate::run::{Done, RunError, run};
@@ -8,7 +8,7 @@ use std::io;
 use std::io::{ErrorKind, Read, Write};
 use std::test::Fail;
 
-// Gives its bytes and fails at one read.
+// A reader of `rest` that fails at read `fails_at`.
 #[derive(Drop)]
 struct FakeReader<'a> {
     rest: &'a [u8],
@@ -26,7 +26,7 @@ impl Read for FakeReader<'_> {
     }
 }
 
-// How a writer fails, and at which of its writes.
+// The failure of a writer, and the write at which it occurs.
 #[derive(Clone, Copy, PartialEq)]
 enum Fault {
     None,
@@ -35,7 +35,7 @@ enum Fault {
     Flush,
 }
 
-// Takes at most `piece` bytes in a write.
+// A writer that accepts at most `piece` bytes per write.
 #[derive(Drop)]
 struct FakeWriter {
     taken: Vec<u8>,
@@ -86,7 +86,7 @@ const TWO_LINES: &[u8] = b"filter 10,20,30,40 t,n,f,t\ntake 5,n,7 2,n,1\n";
 
 const TWO_ANSWERS: &[u8] = b"10,40\n7,n,n\n";
 
-// A run over the two lines, into a writer that takes them so.
+// Runs over the two lines, into a writer with this piece size and fault.
 fn run_into(
     alloc: Global,
     piece: usize,
@@ -99,7 +99,7 @@ fn run_into(
     (result, failures, writer.into_inner())
 }
 
-// Whether a run over the two lines ends by the one failure of this read, having written this.
+// Returns whether a run over the two lines fails at this read only, after writing `output`.
 fn fails_by_input(alloc: Global, fails_at: u64, output: &[u8]) -> bool {
     let fake = FakeReader {
         rest: TWO_LINES,

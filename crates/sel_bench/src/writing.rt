@@ -1,4 +1,4 @@
-//! Writing a text, in as many writes as it takes.
+//! Writes bytes completely, in as many writes as needed.
 ghost use Rattle.std.specs.Prelude.{◌≡◌, ℕ, is_err, take, OnOk, OnErr, IfErr};
 ghost use Rattle.std.specs.Io.KnownBytes.{Appends, Keeps};
 ghost use Rattle.sel_bench.specs.Counted.{inner_of, failures_of, counted_up};
@@ -7,7 +7,10 @@ use crate::counted::Counted;
 use crate::run::RunError;
 use std::io::Write;
 
-/// Writes all of the text. A write that takes nothing is a fault, and so is one that fails.
+/// Writes all of `text`.
+///
+/// # Errors
+/// `Output` if a write fails or accepts no bytes.
 pub fn send<W: Write>(writer: &mut Counted<W>, text: &[u8]) -> Result<(), RunError>
     ensures ok { OnOk result (Appends (W.contents (inner_of writer.old))
         (W.contents (inner_of writer.new)) text.now) }
@@ -31,7 +34,10 @@ pub fn send<W: Write>(writer: &mut Counted<W>, text: &[u8]) -> Result<(), RunErr
     Ok(())
 }
 
-/// Flushes the writer. Refuses with an error of the output.
+/// Flushes the writer.
+///
+/// # Errors
+/// `Output` if the flush fails.
 pub fn flush<W: Write>(writer: &mut Counted<W>) -> Result<(), RunError>
     ensures bytes { Keeps (W.contents (inner_of writer.old)) (W.contents (inner_of writer.new)) }
     ensures fault { IfErr result (λ e. e ≡ RunError.Output) }

@@ -1,4 +1,4 @@
-//! A reader that gives the bits of a bitmap out in words, and counts them.
+//! A reader of the bits of a bitmap in aligned words that counts the words read.
 
 ghost use Rattle.std.specs.Prelude.{◌≡◌, ◌≢◌, ◌+◌, ◌/◌, ◌<◌, ◌≤◌, length, take, drop, replicate, false, IfSome, IfNone, MatchOption};
 ghost use Rattle.sel_bits.specs.Reading.{after_word, next_bits, next_count, reached};
@@ -7,9 +7,10 @@ ghost use Rattle.sel_bits.specs.Words.{word_of};
 use crate::bitmap::Bitmap;
 use std::marker::Model;
 
-/// The bits of a bitmap in words, each of which ends at a boundary of 64 bits in the shared bytes, or with the last bit.
+/// A reader of a bitmap in words that end at multiples of 64 bits in the shared bytes, or at the
+/// last bit.
 ///
-/// Contracts see the bitmap and how many words were given out.
+/// Contract model: the bitmap and the number of words read.
 #[derive(Drop)]
 pub struct AlignedWords<'a> {
     bitmap: &'a Bitmap,
@@ -30,7 +31,7 @@ impl<'a> Model for AlignedWords<'a> {
 }
 
 impl<'a> AlignedWords<'a> {
-    /// A reader of this bitmap, unread.
+    /// Returns a reader at the start of the bitmap.
     pub fn new(bitmap: &'a Bitmap) -> AlignedWords<'a>
         ensures { result ≡ record { source = bitmap.now; words_read = 0 } }
     {
@@ -41,7 +42,7 @@ impl<'a> AlignedWords<'a> {
         }
     }
 
-    /// How many bits the bitmap has.
+    /// Returns the number of bits of the bitmap.
     pub fn len(&self) -> usize
         ensures { result ≡ length self.now.source.bits }
     {
@@ -49,7 +50,7 @@ impl<'a> AlignedWords<'a> {
         source.len()
     }
 
-    /// How many words were given out: at most two more than the bitmap has whole words.
+    /// Returns the number of words read: at most `len / 64 + 2`.
     pub fn words_read(&self) -> u64
         ensures count { result ≡ self.now.words_read }
         ensures bound { result ≤ length self.now.source.bits / 64 + 2 }
@@ -57,8 +58,11 @@ impl<'a> AlignedWords<'a> {
         self.words
     }
 
-    /// The next word, with zeros above its bits, and how many bits it has; none behind the last bit. The first word has the bits up
-    /// to a boundary of 64 in the shared bytes, the others 64 bits, the last one those that are left.
+    /// Returns the next word, with zeros above its bits, and its number of bits, or `None` after
+    /// the last bit.
+    ///
+    /// The first word ends at a multiple of 64 bits in the shared bytes or at the last bit, the
+    /// others have 64 bits, and the last word has the bits left.
     #[inline]
     pub fn next(&mut self) -> Option<(u64, usize)>
         ensures some { IfSome result (λ _. reached self.old < length self.old.source.bits) }
@@ -77,7 +81,7 @@ impl<'a> AlignedWords<'a> {
         let room = 64 - (bitmap.offset() + self.at) % 64;
         let count = left.min(room);
         self.words += 1;
-        // (whole words in the middle, of which nothing is cut off)
+        // (a whole word needs no mask)
         if count == 64 {
             let word = bitmap.whole_word_at(self.at);
             self.at += 64;
@@ -88,8 +92,8 @@ impl<'a> AlignedWords<'a> {
         Some((word, count))
     }
 
-    /// Passes over the next words as long as these have 64 bits, all of them false, each counted as given out, and answers how many
-    /// bits these had.
+    /// Skips the next words as long as they have 64 bits, all of them false, and returns the number
+    /// of bits skipped. Each skipped word counts as read.
     #[inline]
     pub fn skip_zeros(&mut self) -> usize
         ensures zeros { take result (drop (reached self.old) self.old.source.bits) ≡

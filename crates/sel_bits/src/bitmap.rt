@@ -1,4 +1,4 @@
-//! Truth values, eight to a byte from its lowest bit on, in bytes that several bitmaps can share.
+//! Bitmaps: boolean values, eight to a byte, least significant bit first, in shared bytes.
 #![tactic(auto, using(crate::proofs::BitLists::length_bits_from))]
 
 ghost use Rattle.std.specs.Prelude.{◌≡◌, ◌≢◌, ℕ, ◌+◌, ◌-◌, ◌*◌, ◌/◌, ◌%◌, ◌^◌, ◌<◌, ◌≤◌, [], ◌∷◌, ◌++◌, Bool, false, length, take, drop, slice_index_or, replicate, IfOk, IfErr, IsTrue, ◌↔◌, vec_len, if◌then◌else◌};
@@ -13,9 +13,9 @@ use std::alloc::Global;
 use std::marker::Model;
 use std::rc::RcSlice;
 
-/// A list of truth values. Its first one is bit `offset` of shared bytes.
+/// A list of booleans, the first of which is bit `offset` of shared bytes.
 ///
-/// Contracts see the list and the bit offset. (Arrow columnar format: validity bitmaps.)
+/// Contract model: the list and the bit offset. (Arrow columnar format: validity bitmaps.)
 #[derive(Drop)]
 pub struct Bitmap {
     bytes: RcSlice<u8>,
@@ -40,7 +40,10 @@ impl Model for Bitmap {
 }
 
 impl Bitmap {
-    /// No bits. Refuses only for want of memory.
+    /// Returns an empty bitmap.
+    ///
+    /// # Errors
+    /// `OutOfMemory` if an allocation fails.
     pub fn new(alloc: Global) -> PolarsResult<Bitmap>
         ensures value { IfOk result (λ bitmap. bitmap ≡ unsliced []) }
         ensures refusal { IfErr result (λ fault. fault ≡ PolarsError.OutOfMemory) }
@@ -48,7 +51,10 @@ impl Bitmap {
         Bitmap::from_u8_vec(Vec::new(alloc), 0)
     }
 
-    /// `len` bits, each of them `value`. Refuses only for want of memory.
+    /// Returns a bitmap of `len` bits, each of them `value`.
+    ///
+    /// # Errors
+    /// `OutOfMemory` if an allocation fails.
     pub fn new_with_value(alloc: Global, value: bool, len: usize) -> PolarsResult<Bitmap>
         ensures value { IfOk result (λ bitmap. bitmap ≡ unsliced (replicate len value)) }
         ensures refusal { IfErr result (λ fault. fault ≡ PolarsError.OutOfMemory) }
@@ -57,7 +63,10 @@ impl Bitmap {
         Bitmap::from_u8_vec(bytes, len)
     }
 
-    /// `len` bits, each of them false. Refuses only for want of memory.
+    /// Returns a bitmap of `len` false bits.
+    ///
+    /// # Errors
+    /// `OutOfMemory` if an allocation fails.
     pub fn new_zeroed(alloc: Global, len: usize) -> PolarsResult<Bitmap>
         ensures value { IfOk result (λ bitmap. bitmap ≡ unsliced (replicate len false)) }
         ensures refusal { IfErr result (λ fault. fault ≡ PolarsError.OutOfMemory) }
@@ -65,7 +74,13 @@ impl Bitmap {
         Bitmap::new_with_value(alloc, false, len)
     }
 
-    /// The first `len` bits of the bytes. Refuses only for want of memory.
+    /// Returns a bitmap of the first `len` bits of `bytes`.
+    ///
+    /// # Requires
+    /// `len` is at most the number of bits of `bytes`.
+    ///
+    /// # Errors
+    /// `OutOfMemory` if an allocation fails.
     pub fn from_u8_vec(bytes: Vec<u8>, len: usize) -> PolarsResult<Bitmap>
         requires { len ≤ 8 * vec_len bytes }
         ensures value { IfOk result (λ bitmap. bitmap ≡ unsliced (bits_from bytes.items 0 len)) }
@@ -80,7 +95,10 @@ impl Bitmap {
         })
     }
 
-    /// These bits. Refuses only for want of memory.
+    /// Returns a bitmap of these booleans.
+    ///
+    /// # Errors
+    /// `OutOfMemory` if an allocation fails.
     pub fn from_bools(alloc: Global, values: &[bool]) -> PolarsResult<Bitmap>
         ensures value { IfOk result (λ bitmap. bitmap ≡ unsliced values.now) }
         ensures refusal { IfErr result (λ fault. fault ≡ PolarsError.OutOfMemory) }
@@ -95,21 +113,21 @@ impl Bitmap {
         packer.into_bitmap(values.len())
     }
 
-    /// How many bits there are.
+    /// Returns the number of bits.
     pub fn len(&self) -> usize
         ensures { result ≡ length self.now.bits }
     {
         self.len
     }
 
-    /// Whether there are no bits.
+    /// Returns whether there are no bits.
     pub fn is_empty(&self) -> bool
         ensures { IsTrue result ↔ (length self.now.bits ≡ 0) }
     {
         self.len == 0
     }
 
-    /// Where the first bit stands among the bits of the shared bytes.
+    /// Returns the index of the first bit in the shared bytes.
     pub(crate) fn offset(&self) -> usize
         ensures value { result ≡ self.now.offset }
         ensures fits { self.now.offset + length self.now.bits < 2 ^ 64 }
@@ -117,7 +135,10 @@ impl Bitmap {
         self.offset
     }
 
-    /// Bit `i`.
+    /// Returns bit `i`.
+    ///
+    /// # Requires
+    /// `i` is less than the length.
     #[inline]
     pub fn get_bit(&self, i: usize) -> bool
         requires { i < length self.now.bits }
@@ -127,14 +148,14 @@ impl Bitmap {
         (self.bytes[at / 8] >> (at % 8)) & 1 == 1
     }
 
-    /// The word of the `len` bits from bit `at` on, with zeros above them.
+    /// Returns the word of the `len` bits from bit `at` on, with zeros above them.
     #[inline]
     pub(crate) fn word_at(&self, at: usize, len: usize) -> u64
         requires within { at + len ≤ length self.now.bits }
         requires few { len ≤ 64 }
         ensures { result ≡ word_of (take len (drop at self.now.bits)) }
     {
-        // (of whole words nothing is cut off, and their bytes are all there)
+        // (a whole word needs no mask, and its bytes all exist)
         if len == 64 {
             return self.whole_word_at(at);
         }
@@ -142,7 +163,7 @@ impl Bitmap {
         first_word(&self.bytes[first / 8..], first % 8, len)
     }
 
-    /// The word of the 64 bits from bit `at` on.
+    /// Returns the word of the 64 bits from bit `at` on.
     #[inline]
     pub(crate) fn whole_word_at(&self, at: usize) -> u64
         requires { at + 64 ≤ length self.now.bits }
@@ -152,7 +173,7 @@ impl Bitmap {
         whole_word(&self.bytes, first / 8, first % 8)
     }
 
-    /// How many words of 64 false bits stand behind one another from bit `at` on.
+    /// Returns the number of consecutive words of 64 false bits from bit `at` on.
     pub(crate) fn zero_words(&self, at: usize) -> usize
         requires { at ≤ length self.now.bits }
         ensures within { at + 64 * result ≤ length self.now.bits }
@@ -171,7 +192,7 @@ impl Bitmap {
         words
     }
 
-    /// How many bits are true.
+    /// Returns the number of true bits.
     pub fn set_bits(&self) -> usize
         ensures { result ≡ count_true self.now.bits }
     {
@@ -179,7 +200,7 @@ impl Bitmap {
         count_set(bytes, shift, len)
     }
 
-    /// Whether no bit is false. It looks no further than the first false bit.
+    /// Returns whether all bits are true. Stops at the first word with a false bit.
     #[tactic(auto, using(crate::proofs::AllTrue::all_true))]
     pub fn is_all_true(&self) -> bool
         ensures { IsTrue result ↔ (count_true self.now.bits ≡ length self.now.bits) }
@@ -187,14 +208,17 @@ impl Bitmap {
         self.leading_ones() == self.len()
     }
 
-    /// How many bits are false.
+    /// Returns the number of false bits.
     pub fn unset_bits(&self) -> usize
         ensures { result ≡ count_false self.now.bits }
     {
         self.len() - self.set_bits()
     }
 
-    /// The `len` bits from bit `off` on, of the same shared bytes.
+    /// Returns the `len` bits from bit `off` on, without a copy of the shared bytes.
+    ///
+    /// # Requires
+    /// `off + len` is at most the length.
     pub fn sliced(self, off: usize, len: usize) -> Bitmap
         requires { off + len ≤ length self.bits }
         ensures value { result ≡ record {
@@ -210,7 +234,7 @@ impl Bitmap {
         }
     }
 
-    /// Removes the false bits before the first true one, and answers how many there were.
+    /// Removes the false bits before the first true bit, and returns their number.
     pub fn take_leading_zeros(&mut self) -> usize
         ensures count { result ≡ leading_zeros self.old.bits }
         ensures rest { self.new ≡
@@ -221,7 +245,7 @@ impl Bitmap {
         count
     }
 
-    /// Removes the true bits before the first false one, and answers how many there were.
+    /// Removes the true bits before the first false bit, and returns their number.
     pub fn take_leading_ones(&mut self) -> usize
         ensures count { result ≡ leading_ones self.old.bits }
         ensures rest { self.new ≡
@@ -232,7 +256,7 @@ impl Bitmap {
         count
     }
 
-    /// Removes the false bits behind the last true one, and answers how many there were.
+    /// Removes the false bits after the last true bit, and returns their number.
     pub fn take_trailing_zeros(&mut self) -> usize
         ensures count { result ≡ trailing_zeros self.old.bits }
         ensures rest { self.new ≡ record {
@@ -257,7 +281,7 @@ impl Bitmap {
         self.len -= count;
     }
 
-    /// How many false bits stand before the first true one.
+    /// Returns the number of false bits before the first true bit.
     fn leading_zeros(&self) -> usize
         ensures count { result ≡ leading_zeros self.now.bits }
         ensures within { result ≤ length self.now.bits }
@@ -274,7 +298,7 @@ impl Bitmap {
         at
     }
 
-    /// How many true bits stand before the first false one.
+    /// Returns the number of true bits before the first false bit.
     fn leading_ones(&self) -> usize
         ensures count { result ≡ leading_ones self.now.bits }
         ensures within { result ≤ length self.now.bits }
@@ -291,7 +315,7 @@ impl Bitmap {
         at
     }
 
-    /// How many false bits stand behind the last true one.
+    /// Returns the number of false bits after the last true bit.
     fn trailing_zeros(&self) -> usize
         ensures count { result ≡ trailing_zeros self.now.bits }
         ensures within { result ≤ length self.now.bits }
@@ -308,8 +332,8 @@ impl Bitmap {
         self.len()
     }
 
-    /// The bytes that hold the bits, from the byte of the first one on; the place of the first bit in the first byte; and how many bits
-    /// there are.
+    /// Returns the bytes with the bits, from the byte of the first bit on, the index of the first
+    /// bit in the first byte, and the number of bits.
     pub fn as_slice(&self) -> (&[u8], usize, usize)
         ensures bits { self.now.bits ≡ bits_from result.0.now result.1 result.2 }
         ensures bytes { length result.0.now ≡ (result.1 + result.2 + 7) / 8 }
@@ -322,7 +346,10 @@ impl Bitmap {
         (&self.bytes[first..first + count], within, self.len)
     }
 
-    /// The same bits of the same shared bytes. Refuses only where they cannot be shared once more.
+    /// Returns a bitmap of the same bits, without a copy of the shared bytes.
+    ///
+    /// # Errors
+    /// `OutOfMemory` if the bytes cannot be shared once more.
     pub fn try_clone(&self) -> PolarsResult<Bitmap>
         ensures value { IfOk result (λ bitmap. bitmap ≡ self.now) }
         ensures refusal { IfErr result (λ fault. fault ≡ PolarsError.OutOfMemory) }
@@ -336,14 +363,14 @@ impl Bitmap {
     }
 }
 
-/// The byte of eight equal bits.
+/// Returns the byte of eight equal bits.
 fn byte_of(value: bool) -> u8
     ensures { result ≡ (if value then 255 else 0) }
 {
     if value { u8::MAX } else { 0 }
 }
 
-/// The word whose bits are these, from the lowest on, and then zeros.
+/// Returns the word of these bits, from the lowest on, with zeros above.
 fn word_of_bools(values: &[bool]) -> u64
     requires { length values.now ≤ 64 }
     ensures { result ≡ word_of values.now }

@@ -1,4 +1,4 @@
-//! Items that are copied from one source, block by block, and counted.
+//! A vector builder that copies slices of one source and counts the copies.
 
 ghost use Rattle.std.specs.Prelude.{◌≡◌, ◌+◌, ◌^◌, ◌<◌, ◌≤◌, [], length, IfErr, OnOk};
 ghost use Rattle.sel_bits.specs.Copying.{after_copy, after_fill};
@@ -7,9 +7,9 @@ use crate::faults::{PolarsError, PolarsResult};
 use std::alloc::Global;
 use std::marker::Model;
 
-/// A vector that grows by parts of its source and by equal values alone, and counts how often it grew.
+/// A vector builder that appends slices of its source and copies of a value, and counts both.
 ///
-/// Contracts see the source, the items so far and the count.
+/// Contract model: the source, the items so far and the count.
 #[derive(Drop)]
 pub struct BlockCopy<'a, T: Copy> {
     values: &'a [T],
@@ -30,7 +30,7 @@ impl<'a, T: Copy> Model for BlockCopy<'a, T> {
 }
 
 impl<'a, T: Copy> BlockCopy<'a, T> {
-    /// No items yet, of this source.
+    /// Returns an empty builder for this source.
     pub fn new(alloc: Global, values: &'a [T]) -> BlockCopy<'a, T>
         ensures { result ≡ record { source = values.now; items = []; copies = 0 } }
     {
@@ -41,21 +41,24 @@ impl<'a, T: Copy> BlockCopy<'a, T> {
         }
     }
 
-    /// How many items the source has.
+    /// Returns the number of items of the source.
     pub fn source_len(&self) -> usize
         ensures { result ≡ length self.now.source }
     {
         self.values.len()
     }
 
-    /// How many copies and fills there were.
+    /// Returns the number of copies and fills.
     pub fn copies(&self) -> u64
         ensures { result ≡ self.now.copies }
     {
         self.copies
     }
 
-    /// Makes room for `count` more items at once. Refuses only for want of memory; the items and the count stay either way.
+    /// Reserves capacity for `count` more items; the items and the count are unchanged.
+    ///
+    /// # Errors
+    /// `OutOfMemory` if an allocation fails.
     pub fn reserve(&mut self, count: usize) -> PolarsResult<()>
         ensures unchanged { self.new ≡ self.old }
         ensures refusal { IfErr result (λ fault. fault ≡ PolarsError.OutOfMemory) }
@@ -64,8 +67,13 @@ impl<'a, T: Copy> BlockCopy<'a, T> {
         Ok(())
     }
 
-    /// Puts the `len` items of the source from `at` on behind the others. Refuses only for want of memory, and then changes
-    /// nothing.
+    /// Appends the `len` items of the source from `at` on, and increments the count.
+    ///
+    /// # Requires
+    /// `at + len` is at most the length of the source, and the count is less than 2^64 - 1.
+    ///
+    /// # Errors
+    /// `OutOfMemory` if an allocation fails; the builder is unchanged.
     pub fn copy(&mut self, at: usize, len: usize) -> PolarsResult<()>
         requires inside { at + len ≤ length self.old.source }
         requires countable { self.old.copies + 1 < 2 ^ 64 }
@@ -79,7 +87,13 @@ impl<'a, T: Copy> BlockCopy<'a, T> {
         Ok(())
     }
 
-    /// Puts a value `len` times behind the others. Refuses only for want of memory, and then changes nothing.
+    /// Appends `len` copies of a value, and increments the count.
+    ///
+    /// # Requires
+    /// The count is less than 2^64 - 1.
+    ///
+    /// # Errors
+    /// `OutOfMemory` if an allocation fails or the new length overflows; the builder is unchanged.
     pub fn fill(&mut self, value: T, len: usize) -> PolarsResult<()>
         requires countable { self.old.copies + 1 < 2 ^ 64 }
         ensures filled { OnOk result (self.new ≡ after_fill self.old value len) }
@@ -94,7 +108,7 @@ impl<'a, T: Copy> BlockCopy<'a, T> {
         Ok(())
     }
 
-    /// The items.
+    /// Returns the items.
     pub fn into_vec(self) -> Vec<T>
         ensures { result.items ≡ self.entry.items }
     {

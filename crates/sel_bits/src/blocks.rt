@@ -1,4 +1,4 @@
-//! A reader that gives the bits of a bitmap out in blocks of 56, and counts them.
+//! A reader of the bits of a bitmap in blocks of 56 that counts the blocks read.
 
 ghost use Rattle.std.specs.Prelude.{◌≡◌, ◌+◌, ◌*◌, ◌/◌, ◌<◌, ◌≤◌, length, IfSome, IfNone, MatchOption};
 ghost use Rattle.sel_bits.specs.Reading.{after_block, block_bits};
@@ -7,12 +7,12 @@ ghost use Rattle.sel_bits.specs.Words.{word_of};
 use crate::bitmap::Bitmap;
 use std::marker::Model;
 
-/// The most bits of a block.
+/// The maximum number of bits of a block.
 const BLOCK_BITS: usize = 56;
 
-/// The bits of a bitmap in blocks of 56, of which the last one may have fewer.
+/// A reader of a bitmap in blocks of 56 bits; the last block may have fewer.
 ///
-/// Contracts see the bitmap and how many blocks were given out.
+/// Contract model: the bitmap and the number of blocks read.
 #[derive(Drop)]
 pub struct U56Blocks<'a> {
     bitmap: &'a Bitmap,
@@ -33,7 +33,7 @@ impl<'a> Model for U56Blocks<'a> {
 }
 
 impl<'a> U56Blocks<'a> {
-    /// A reader of this bitmap, unread.
+    /// Returns a reader at the start of the bitmap.
     pub fn new(bitmap: &'a Bitmap) -> U56Blocks<'a>
         ensures { result ≡ record { source = bitmap.now; blocks_read = 0 } }
     {
@@ -44,7 +44,7 @@ impl<'a> U56Blocks<'a> {
         }
     }
 
-    /// How many bits the bitmap has.
+    /// Returns the number of bits of the bitmap.
     pub fn len(&self) -> usize
         ensures { result ≡ length self.now.source.bits }
     {
@@ -52,7 +52,7 @@ impl<'a> U56Blocks<'a> {
         source.len()
     }
 
-    /// How many blocks were given out: at most as many as the bitmap has, the last part of one counted whole.
+    /// Returns the number of blocks read: at most the length divided by 56, rounded up.
     pub fn blocks_read(&self) -> u64
         ensures count { result ≡ self.now.blocks_read }
         ensures bound { result ≤ (length self.now.source.bits + 55) / 56 }
@@ -60,7 +60,7 @@ impl<'a> U56Blocks<'a> {
         self.blocks
     }
 
-    /// The next block as a word, with zeros above its bits; none behind the last bit.
+    /// Returns the next block as a word, with zeros above its bits, or `None` after the last bit.
     #[inline]
     pub fn next(&mut self) -> Option<u64>
         ensures some { IfSome result

@@ -1,4 +1,4 @@
-//! A part of shared values.
+//! A slice of shared values.
 
 ghost use Rattle.std.specs.Prelude.{◌≡◌, ◌+◌, ◌≤◌, length, take, drop, IfOk, IfErr};
 
@@ -6,7 +6,7 @@ use crate::faults::{PolarsError, PolarsResult};
 use std::marker::Model;
 use std::rc::RcSlice;
 
-/// Values that several buffers can share: a part of a shared slice. Contracts see their list.
+/// A slice of values that several buffers can share. Contract model: the list of the values.
 #[derive(Drop)]
 pub struct Buffer<T> {
     shared: RcSlice<T>,
@@ -26,7 +26,10 @@ impl<T> Model for Buffer<T> {
 }
 
 impl<T: Drop> Buffer<T> {
-    /// These values. Refuses only for want of memory.
+    /// Returns a buffer of these values.
+    ///
+    /// # Errors
+    /// `OutOfMemory` if an allocation fails.
     pub fn from_vec(values: Vec<T>) -> PolarsResult<Buffer<T>>
         ensures items { IfOk result (λ buffer. buffer ≡ values.items) }
         ensures refusal { IfErr result (λ fault. fault ≡ PolarsError.OutOfMemory) }
@@ -40,7 +43,7 @@ impl<T: Drop> Buffer<T> {
         })
     }
 
-    /// The values.
+    /// Returns the values as a slice.
     pub fn as_slice(&self) -> &[T]
         ensures { result.now ≡ self.now }
     {
@@ -48,14 +51,17 @@ impl<T: Drop> Buffer<T> {
         &all[self.start..self.start + self.count]
     }
 
-    /// How many values there are.
+    /// Returns the number of values.
     pub fn len(&self) -> usize
         ensures { result ≡ length self.now }
     {
         self.count
     }
 
-    /// The `len` values from `off` on, of the same shared slice.
+    /// Returns the `len` values from `off` on, without a copy.
+    ///
+    /// # Requires
+    /// `off + len` is at most the length.
     pub fn sliced(self, off: usize, len: usize) -> Buffer<T>
         requires { off + len ≤ length self }
         ensures { result ≡ take len (drop off self) }
@@ -67,7 +73,10 @@ impl<T: Drop> Buffer<T> {
         }
     }
 
-    /// The same values, of the same shared slice. Refuses only where it cannot be shared once more.
+    /// Returns a buffer of the same values, without a copy.
+    ///
+    /// # Errors
+    /// `OutOfMemory` if the slice cannot be shared once more.
     pub fn try_clone(&self) -> PolarsResult<Buffer<T>>
         ensures items { IfOk result (λ buffer. buffer ≡ self.now) }
         ensures refusal { IfErr result (λ fault. fault ≡ PolarsError.OutOfMemory) }

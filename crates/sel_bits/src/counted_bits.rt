@@ -1,4 +1,4 @@
-//! A reader that gives single bits of a bitmap out, and counts them.
+//! A reader of single bits of a bitmap that counts the bits read.
 
 ghost use Rattle.std.specs.Prelude.{◌≡◌, ◌<◌, length, slice_index_or, false};
 ghost use Rattle.sel_bits.specs.Reading.{after_bit};
@@ -6,9 +6,9 @@ ghost use Rattle.sel_bits.specs.Reading.{after_bit};
 use crate::bitmap::Bitmap;
 use std::marker::Model;
 
-/// The bits of a bitmap, each when it is asked for.
+/// A reader of single bits of a bitmap.
 ///
-/// Contracts see the bitmap and how many times a bit was given out.
+/// Contract model: the bitmap and the number of reads.
 #[derive(Drop)]
 pub struct CountedBits<'a> {
     bitmap: &'a Bitmap,
@@ -24,14 +24,14 @@ impl<'a> Model for CountedBits<'a> {
 }
 
 impl<'a> CountedBits<'a> {
-    /// A reader of this bitmap, unread.
+    /// Returns a reader of this bitmap, with no reads.
     pub fn new(bitmap: &'a Bitmap) -> CountedBits<'a>
         ensures { result ≡ record { source = bitmap.now; bits_read = 0 } }
     {
         CountedBits { bitmap, bits: 0 }
     }
 
-    /// How many bits the bitmap has.
+    /// Returns the number of bits of the bitmap.
     pub fn len(&self) -> usize
         ensures { result ≡ length self.now.source.bits }
     {
@@ -39,14 +39,17 @@ impl<'a> CountedBits<'a> {
         source.len()
     }
 
-    /// How many times a bit was given out.
+    /// Returns the number of reads.
     pub fn bits_read(&self) -> u64
         ensures { result ≡ self.now.bits_read }
     {
         self.bits
     }
 
-    /// Bit `i`; one more is read.
+    /// Returns bit `i`, and counts one read.
+    ///
+    /// # Requires
+    /// `i` is less than the length, and the number of reads is less than 2^64 - 1.
     #[inline]
     pub fn get(&mut self, i: usize) -> bool
         requires within { i < length self.old.source.bits }

@@ -1,4 +1,4 @@
-//! What a call answers in place of a result.
+//! Error types.
 ghost use Rattle.std.specs.Prelude.{◌≡◌, Some};
 ghost use Rattle.sel_bits.specs.Faults.{limit_text, error_text};
 ghost use Rattle.sel_bits.specs.declared.faults.PolarsError.TheVariants.{OutOfMemory};
@@ -6,23 +6,23 @@ ghost use Rattle.sel_bits.specs.declared.faults.PolarsError.TheVariants.{OutOfMe
 use std::alloc::{AllocError, AllocFailed};
 use std::fmt;
 
-/// What a kernel answers.
+/// The result type of the kernels.
 pub type PolarsResult<T> = Result<T, PolarsError>;
 
 /// A limit on the size of a column.
 #[derive(Debug, Clone, Copy, PartialEq, Eq)]
 pub enum Limit {
-    /// Rows of any column, children included: 4,294,967,295.
+    /// Rows of any column, including children: 4,294,967,295.
     Rows,
-    /// The last offset of a byte column: the greatest offset of its type.
+    /// The last offset of a binary or string column: the greatest value of its offset type.
     Bytes,
     /// Data buffers of one view column: 4,294,967,295.
     Buffers,
-    /// Bytes of one view, or of a scalar that stands at every row: 4,294,967,295.
+    /// Bytes of one view, or of a scalar that is broadcast to all rows: 4,294,967,295.
     ViewBytes,
 }
 
-/// The words behind `size limit`.
+/// Writes the limit as it follows `size limit` in an error message.
 impl fmt::Display for Limit {
     ghost output = { λ limit. Some (limit_text limit) };
 
@@ -36,14 +36,14 @@ impl fmt::Display for Limit {
     }
 }
 
-/// Why a kernel gives no result.
+/// An error of a kernel.
 #[derive(Debug, Clone, Copy, PartialEq, Eq)]
 pub enum PolarsError {
-    /// A growth in this call was refused.
+    /// An allocation failed.
     OutOfMemory,
-    /// The result, or what it is to be made of, is past a limit.
+    /// The result, or an intermediate value, exceeds a limit.
     SizeLimit(Limit),
-    /// A row has no element at the index.
+    /// An index is out of bounds for a row.
     ComputeError,
 }
 
@@ -75,16 +75,16 @@ impl<T: Drop> From<AllocFailed<T>> for PolarsError {
     }
 }
 
-/// Why parts make no column.
+/// An error in the construction of a column.
 #[derive(Debug, Clone, Copy, PartialEq, Eq)]
 pub enum MakeError {
     /// The first rule that the parts break.
     Malformed(Malformed),
-    /// The parts break no rule, and a growth was refused.
+    /// The parts break no rule, and an allocation failed.
     OutOfMemory,
 }
 
-/// A rule of columns that parts break.
+/// A rule of columns that the parts break.
 #[derive(Debug, Clone, Copy, PartialEq, Eq)]
 pub enum Malformed {
     /// There is no offset.
@@ -93,24 +93,24 @@ pub enum Malformed {
     OffsetNegative,
     /// An offset is less than the one before.
     OffsetOrder,
-    /// More rows than 4,294,967,295.
+    /// There are more than 4,294,967,295 rows.
     TooManyRows,
-    /// More data buffers than 4,294,967,295.
+    /// There are more than 4,294,967,295 data buffers.
     TooManyBuffers,
-    /// A fixed-size list is wider than 4,294,967,295.
+    /// The list size of a fixed-size list is greater than 4,294,967,295.
     Width,
-    /// The last offset is past the end of what it points into.
+    /// The last offset is greater than the length of the data or of the child.
     OffsetRange,
-    /// The child of a fixed-size list has not `width * length` rows.
+    /// The child of a fixed-size list does not have `width * length` rows.
     ChildLength,
-    /// A field has another number of rows than its struct.
+    /// A field and its struct have different lengths.
     FieldLength,
-    /// The validity has another length than the column.
+    /// The validity and the column have different lengths.
     ValidityLength,
-    /// A view names bytes that its buffers do not have.
+    /// A view refers to bytes that its buffers do not have.
     ViewRange,
-    /// A view's prefix is not the first four bytes that it names.
+    /// The prefix of a view differs from the first four bytes of its value.
     ViewPrefix,
-    /// A valid row of a text column is not UTF-8.
+    /// A valid row of a string column is not UTF-8.
     Utf8,
 }

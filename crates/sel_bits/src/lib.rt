@@ -1,4 +1,4 @@
-//! Faults, shared bitmaps and buffers, and the number types that columns hold.
+//! Error types, shared bitmaps and buffers, and the integer types of columns.
 #![tactic(auto)]
 
 pub mod aligned_words;

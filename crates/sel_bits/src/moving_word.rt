@@ -1,13 +1,13 @@
-//! A word whose bits are moved down, and a count of the moves.
+//! A word with counted shifts of its bits.
 
 ghost use Rattle.std.specs.Prelude.{◌≡◌, ◌<◌};
 ghost use Rattle.sel_bits.specs.Moving.{kept_under, moved_down};
 
 use std::marker::Model;
 
-/// A word that changes by masks and by counted moves alone, and remembers the word that it was made from.
+/// A word that changes only by masks and counted shifts, with the word that it started from.
 ///
-/// Contracts see both words and how many moves were made.
+/// Contract model: both words and the number of shifts.
 #[derive(Drop)]
 pub struct MovingWord {
     source: u64,
@@ -24,7 +24,7 @@ impl Model for MovingWord {
 }
 
 impl MovingWord {
-    /// This word, unmoved.
+    /// Returns this word, with no shifts.
     pub fn new(v: u64) -> MovingWord
         ensures { result ≡ record { source = v; word = v; moves = 0 } }
     {
@@ -35,35 +35,39 @@ impl MovingWord {
         }
     }
 
-    /// The word that it was made from.
+    /// Returns the word that it started from.
     pub fn source(&self) -> u64
         ensures { result ≡ self.now.source }
     {
         self.source
     }
 
-    /// The word as it is now.
+    /// Returns the current word.
     pub fn word(&self) -> u64
         ensures { result ≡ self.now.word }
     {
         self.word
     }
 
-    /// How many moves were made.
+    /// Returns the number of shifts.
     pub fn moves(&self) -> u64
         ensures { result ≡ self.now.moves }
     {
         self.moves
     }
 
-    /// Clears the bits that are not set in `m`. This is no move.
+    /// Clears the bits that are not set in `m`. Not counted as a shift.
     pub fn keep(&mut self, m: u64)
         ensures { self.new ≡ kept_under self.old m }
     {
         self.word &= m;
     }
 
-    /// Moves the bits under the set bits of `under` down by `by` places; what comes below the lowest place is lost. One move.
+    /// Shifts the bits selected by `under` right by `by`, and ORs them with the other bits; bits
+    /// shifted out are lost. Counted as one shift.
+    ///
+    /// # Requires
+    /// `by` is less than 64, and the number of shifts is less than 2^64 - 1.
     pub fn move_down(&mut self, under: u64, by: u32)
         requires by { by < 64 }
         requires moves { self.old.moves < 18446744073709551615 }

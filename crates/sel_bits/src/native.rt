@@ -1,12 +1,12 @@
-//! The number types that a column can hold.
+//! The integer types of columns.
 
 ghost use Rattle.std.specs.Prelude.{◌≡◌, ℕ, ℤ, pos, negsuc, ◌≤ℤ◌, ◌<ℤ◌, ◌^◌, ◌-◌, Some, MatchOption, IfSome};
 ghost use Rattle.sel_bits.specs.Ranges.{IsWithin, IsOutside};
 ghost use Rattle.sel_bits.specs.Signs.{is_negative, is_below};
 
-/// A number type of columns: the integers of 8 to 128 bits.
+/// An integer type of columns, of 8 to 128 bits.
 pub trait NativeType: Copy {
-    /// The whole number that a value shows.
+    /// The mathematical integer of a value.
     ghost number: { Self → ℤ };
 
     ghost LEAST: { Self };
@@ -19,12 +19,15 @@ pub trait NativeType: Copy {
     /// The greatest value of the type.
     const GREATEST: Self;
 
-    /// The number as a `usize`, or None where it does not fit.
+    /// Returns the value as a `usize`, or `None` if it does not fit.
     fn try_usize(self) -> Option<usize>
         ensures { MatchOption result (IsOutside (pos 0) (pos 18446744073709551615) (number self))
             (λ n. pos n ≡ number self) };
 
-    /// The number as a `usize`.
+    /// Returns the value as a `usize`.
+    ///
+    /// # Requires
+    /// The value is not negative and fits in a `usize`.
     fn to_usize(self) -> usize
         requires { IsWithin (pos 0) (pos 18446744073709551615) (number self) }
         ensures { pos result ≡ number self }
@@ -35,8 +38,9 @@ pub trait NativeType: Copy {
         }
     }
 
-    /// The value that shows a number, or None where no value of the type does. So a value that fits comes back as it was from its
-    /// number as a `usize`.
+    /// Returns the value of this type that equals `n`, or `None` if there is none.
+    ///
+    /// It is the inverse of the conversion to `usize` for each value that fits.
     fn from_usize(n: usize) -> Option<Self>
         ensures value { MatchOption result (number GREATEST <ℤ pos n)
             (λ value. number value ≡ pos n) }
@@ -44,26 +48,29 @@ pub trait NativeType: Copy {
         ensures back { (x : Self) → number x ≤ℤ number GREATEST →
             number x ≡ pos n → result ≡ Some x };
 
-    /// A value is the number that it shows.
+    /// Values with the same integer are equal.
     ghost shown: { (x y : Self) → number x ≡ number y → x ≡ y };
 }
 
-/// A type of offsets: no number of it is past what a `usize` can show.
+/// An integer type of offsets, each value of which is at most the greatest `usize`.
 pub trait Offset: NativeType {
-    /// Whether the number is below zero.
+    /// Returns whether the value is negative.
     fn is_negative(self) -> bool
         ensures { result ≡ is_negative (Self.number self) };
 
-    /// Whether the number is below another.
+    /// Returns whether the value is less than `other`.
     fn is_below(self, other: Self) -> bool
         ensures { result ≡ is_below (Self.number self) (Self.number other) };
 
-    /// The number as a position, which every number from zero on has.
+    /// Returns the value as a `usize`.
+    ///
+    /// # Requires
+    /// The value is not negative.
     fn to_position(self) -> usize
         requires { pos 0 ≤ℤ Self.number self }
         ensures { pos result ≡ Self.number self };
 
-    /// The greatest number of the type is a position.
+    /// The greatest value of the type fits in a `usize`.
     ghost room: { IsWithin (pos 0) (pos 18446744073709551615) (Self.number Self.GREATEST) };
 }
 
@@ -103,7 +110,7 @@ impl Offset for i64 {
     }
 }
 
-/// A type of indices: the integers of 8 to 64 bits.
+/// An integer type of indices, of 8 to 64 bits.
 pub trait Index: NativeType {}
 
 impl Index for i8 {}

@@ -1,11 +1,11 @@
-//! Words read from bytes, parities of bits, and places of indices.
+//! Little-endian loads, prefix parities, and indices that count from the end.
 
 ghost use Rattle.std.specs.Prelude.{◌≡◌, ℕ, ◌/◌, ◌%◌, ◌<◌, get_or};
 ghost use Rattle.std.specs.Int.{bit_at};
 ghost use Rattle.sel_bits.specs.Place.{place};
 ghost use Rattle.sel_bits.specs.Words.{padded_word, ones_below};
 
-/// The first eight bytes as a little-endian number; bytes that are missing count as 0.
+/// Returns the first eight bytes as a little-endian integer; missing bytes count as 0.
 #[inline]
 pub fn load_padded_le_u64(bytes: &[u8]) -> u64
     ensures value { result ≡ padded_word bytes.now }
@@ -18,7 +18,7 @@ pub fn load_padded_le_u64(bytes: &[u8]) -> u64
     }
 }
 
-/// The same of bytes that may be fewer than eight.
+/// Returns the same as `load_padded_le_u64`, by a copy of up to eight bytes.
 fn load_few(bytes: &[u8]) -> u64
     ensures value { result ≡ padded_word bytes.now }
     ensures bits { (i : ℕ) → i < 64 →
@@ -30,7 +30,9 @@ fn load_few(bytes: &[u8]) -> u64
     u64::from_le_bytes(eight)
 }
 
-/// The place of an index in a list of `len` entries, counted from its end where it is negative, or None where it has none.
+/// Returns the position of `index` in a list of `len` entries, or `None` if it is out of bounds.
+///
+/// A negative index counts from the end.
 pub fn negative_to_usize(index: i64, len: usize) -> Option<usize>
     ensures { result ≡ place index len }
 {
@@ -41,7 +43,7 @@ pub fn negative_to_usize(index: i64, len: usize) -> Option<usize>
     if at < len { Some(at) } else { None }
 }
 
-/// The word whose bit p tells whether an odd number of the bits of `x` below bit p are set.
+/// Returns the word whose bit p is the parity of the bits of `x` below bit p.
 pub fn prefix_xorsum(x: u64) -> u64
     ensures { (p : ℕ) → p < 64 → bit_at result p ≡ ones_below x p % 2 }
 {

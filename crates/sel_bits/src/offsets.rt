@@ -1,4 +1,4 @@
-//! Offsets, which say where each row of a column begins and ends.
+//! Offsets buffers of variable-size columns.
 
 ghost use Rattle.std.specs.Prelude.{◌≡◌, ◌≤ℤ◌, ◌+◌, ◌-◌, ◌≤◌, ◌<◌, slice_index, ℤ, pos, length, take, drop, map, Some, None, IfOk, IfErr};
 ghost use Rattle.sel_bits.specs.Faults.{IsFaultOrMemory};
@@ -9,9 +9,10 @@ use crate::faults::{MakeError, Malformed, PolarsError, PolarsResult};
 use crate::native::{NativeType, Offset};
 use std::marker::Model;
 
-/// At least one offset, none of them negative or less than the one before. The first need not be 0.
+/// At least one offset, none of them negative or less than the one before. The first may be
+/// greater than 0.
 ///
-/// Contracts see the list of the numbers that the offsets show. (Arrow columnar format: variable-size layouts.)
+/// Contract model: the list of the offsets. (Arrow columnar format: variable-size layouts.)
 #[derive(Drop)]
 pub struct OffsetsBuffer<O: Offset> {
     offsets: Buffer<O>,
@@ -29,7 +30,11 @@ impl<O: Offset> Model for OffsetsBuffer<O> {
 }
 
 impl<O: Offset> OffsetsBuffer<O> {
-    /// These offsets, or the first rule that they break. Refuses them otherwise only for want of memory.
+    /// Returns the offsets as a buffer after validation.
+    ///
+    /// # Errors
+    /// `Malformed` with the first rule that the offsets break, in this order: `OffsetCount`,
+    /// `OffsetNegative`, `OffsetOrder`. Otherwise `OutOfMemory` if an allocation fails.
     #[tactic(auto, using(crate::proofs::OffsetLemmas::accepting))]
     pub fn try_from(offsets: Vec<O>) -> Result<OffsetsBuffer<O>, MakeError>
         ensures value { IfOk result (λ buffer. map O.number offsets.items ≡ map pos buffer) }
@@ -45,7 +50,13 @@ impl<O: Offset> OffsetsBuffer<O> {
         }
     }
 
-    /// These offsets, which are known to break no rule. Refuses only for want of memory.
+    /// Returns the offsets as a buffer without validation.
+    ///
+    /// # Requires
+    /// There is at least one offset, and none is negative or less than the one before.
+    ///
+    /// # Errors
+    /// `OutOfMemory` if an allocation fails.
     pub fn of_rising(offsets: Vec<O>) -> PolarsResult<OffsetsBuffer<O>>
         requires { IsOffsets O.number offsets.items }
         ensures value { IfOk result (λ buffer. map O.number offsets.items ≡ map pos buffer) }
@@ -55,7 +66,7 @@ impl<O: Offset> OffsetsBuffer<O> {
         Ok(OffsetsBuffer { offsets })
     }
 
-    /// The offsets, of which there is one more than there are rows.
+    /// Returns the offsets, one more than there are rows.
     pub fn as_slice(&self) -> &[O]
         ensures numbers { map O.number result.now ≡ map pos self.now }
         ensures len { length result.now ≡ length self.now }
@@ -64,7 +75,10 @@ impl<O: Offset> OffsetsBuffer<O> {
         self.offsets.as_slice()
     }
 
-    /// Offset `i` as a position.
+    /// Returns offset `i` as a `usize`.
+    ///
+    /// # Requires
+    /// `i` is at most the number of rows.
     pub fn at(&self, i: usize) -> usize
         requires { i < length self.now }
         ensures value { result ≡ slice_index self.now i }
@@ -73,21 +87,21 @@ impl<O: Offset> OffsetsBuffer<O> {
         self.offset_at(i).to_position()
     }
 
-    /// The first offset.
+    /// Returns the first offset.
     pub fn first(&self) -> O
         ensures { O.number result ≡ pos (slice_index self.now 0) }
     {
         self.as_slice()[0]
     }
 
-    /// The last offset.
+    /// Returns the last offset.
     pub fn last(&self) -> O
         ensures { O.number result ≡ pos (slice_index self.now (length self.now - 1)) }
     {
         self.offset_at(self.len_proxy())
     }
 
-    /// How many rows lie between the offsets.
+    /// Returns the number of rows.
     pub fn len_proxy(&self) -> usize
         ensures count { result + 1 ≡ length self.now }
         ensures rising { IsRising self.now }
@@ -95,7 +109,10 @@ impl<O: Offset> OffsetsBuffer<O> {
         self.as_slice().len() - 1
     }
 
-    /// The `len + 1` offsets of the `len` rows from row `off` on.
+    /// Returns the `len + 1` offsets of the `len` rows from row `off` on, without a copy.
+    ///
+    /// # Requires
+    /// `off + len` is at most the number of rows.
     pub fn sliced(self, off: usize, len: usize) -> OffsetsBuffer<O>
         requires { off + len < length self }
         ensures { result ≡ take (len + 1) (drop off self) }
@@ -105,7 +122,10 @@ impl<O: Offset> OffsetsBuffer<O> {
         }
     }
 
-    /// The same offsets, of the same shared slice. Refuses only where it cannot be shared once more.
+    /// Returns a buffer of the same offsets, without a copy.
+    ///
+    /// # Errors
+    /// `OutOfMemory` if the slice cannot be shared once more.
     pub fn try_clone(&self) -> PolarsResult<OffsetsBuffer<O>>
         ensures value { IfOk result (λ buffer. buffer ≡ self.now) }
         ensures refusal { IfErr result (λ fault. fault ≡ PolarsError.OutOfMemory) }
@@ -114,7 +134,7 @@ impl<O: Offset> OffsetsBuffer<O> {
         Ok(OffsetsBuffer { offsets })
     }
 
-    /// Offset `i`.
+    /// Returns offset `i`.
     fn offset_at(&self, i: usize) -> O
         requires { i < length self.now }
         ensures value { O.number result ≡ pos (slice_index self.now i) }
@@ -124,7 +144,7 @@ impl<O: Offset> OffsetsBuffer<O> {
     }
 }
 
-/// The first rule of offsets that is broken.
+/// Returns the first rule that the offsets break, or `None`.
 fn fault_of<O: Offset>(offsets: &[O]) -> Option<Malformed>
     ensures { result ≡ offsets_fault O.number offsets.now }
 {
@@ -139,14 +159,14 @@ fn fault_of<O: Offset>(offsets: &[O]) -> Option<Malformed>
     }
 }
 
-/// Whether some offset is below zero.
+/// Returns whether some offset is negative.
 fn any_negative<O: Offset>(offsets: &[O]) -> bool
     ensures { result ≡ has_negative O.number offsets.now }
 {
     offsets.iter().any(|offset| offset.is_negative())
 }
 
-/// Whether some offset is below the one before it.
+/// Returns whether some offset is less than the one before.
 fn any_fall<O: Offset>(offsets: &[O]) -> bool
     ensures { result ≡ has_fall O.number offsets.now }
 {
@@ -156,7 +176,7 @@ fn any_fall<O: Offset>(offsets: &[O]) -> bool
     }
 }
 
-/// Whether some offset is below the one before it, the first of them below `first`.
+/// Returns whether some offset is less than the one before, with `first` before the first.
 fn any_fall_after<O: Offset>(first: O, offsets: &[O]) -> bool
     ensures { result ≡ falls_after O.number first offsets.now }
 {

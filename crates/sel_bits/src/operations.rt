@@ -1,4 +1,4 @@
-//! Bitmaps that are made of others, position by position.
+//! Bitwise operations on bitmaps.
 #![tactic(auto, using(crate::proofs::Combining::combining))]
 
 ghost use Rattle.std.specs.Prelude.{◌≡◌, ℕ, ◌+◌, ◌*◌, ◌/◌, ◌<◌, ◌≤◌, ◌&&◌, ◌||◌, Bool, not, map, length, take, drop, IfOk, IfErr, if◌then◌else◌};
@@ -13,7 +13,13 @@ use crate::words::low_bits;
 use std::alloc::Global;
 
 impl Bitmap {
-    /// True where both bits are. Refuses only for want of memory.
+    /// Returns a bitmap with the bitwise AND of two bitmaps.
+    ///
+    /// # Requires
+    /// Both bitmaps have the same length.
+    ///
+    /// # Errors
+    /// `OutOfMemory` if an allocation fails.
     pub fn and(&self, alloc: Global, other: &Bitmap) -> PolarsResult<Bitmap>
         requires { length self.now.bits ≡ length other.now.bits }
         ensures value { IfOk result (λ bitmap. bitmap ≡
@@ -23,7 +29,13 @@ impl Bitmap {
         combine::<And>(alloc, self, other, other)
     }
 
-    /// True where one bit is, or both. Refuses only for want of memory.
+    /// Returns a bitmap with the bitwise OR of two bitmaps.
+    ///
+    /// # Requires
+    /// Both bitmaps have the same length.
+    ///
+    /// # Errors
+    /// `OutOfMemory` if an allocation fails.
     pub fn or(&self, alloc: Global, other: &Bitmap) -> PolarsResult<Bitmap>
         requires { length self.now.bits ≡ length other.now.bits }
         ensures value { IfOk result (λ bitmap. bitmap ≡
@@ -33,7 +45,13 @@ impl Bitmap {
         combine::<Or>(alloc, self, other, other)
     }
 
-    /// True where this bit is and the other is not. Refuses only for want of memory.
+    /// Returns a bitmap with the bitwise AND of this bitmap and the negation of `other`.
+    ///
+    /// # Requires
+    /// Both bitmaps have the same length.
+    ///
+    /// # Errors
+    /// `OutOfMemory` if an allocation fails.
     pub fn and_not(&self, alloc: Global, other: &Bitmap) -> PolarsResult<Bitmap>
         requires { length self.now.bits ≡ length other.now.bits }
         ensures value { IfOk result (λ bitmap. bitmap ≡
@@ -43,7 +61,13 @@ impl Bitmap {
         combine::<AndNot>(alloc, self, other, other)
     }
 
-    /// True where this bit is or the other is not. Refuses only for want of memory.
+    /// Returns a bitmap with the bitwise OR of this bitmap and the negation of `other`.
+    ///
+    /// # Requires
+    /// Both bitmaps have the same length.
+    ///
+    /// # Errors
+    /// `OutOfMemory` if an allocation fails.
     pub fn or_not(&self, alloc: Global, other: &Bitmap) -> PolarsResult<Bitmap>
         requires { length self.now.bits ≡ length other.now.bits }
         ensures value { IfOk result (λ bitmap. bitmap ≡
@@ -53,7 +77,10 @@ impl Bitmap {
         combine::<OrNot>(alloc, self, other, other)
     }
 
-    /// True where the bit is not. Refuses only for want of memory.
+    /// Returns a bitmap with all bits negated.
+    ///
+    /// # Errors
+    /// `OutOfMemory` if an allocation fails.
     pub fn not(&self, alloc: Global) -> PolarsResult<Bitmap>
         ensures value { IfOk result (λ bitmap. bitmap ≡ unsliced (map not self.now.bits)) }
         ensures refusal { IfErr result (λ fault. fault ≡ PolarsError.OutOfMemory) }
@@ -61,7 +88,13 @@ impl Bitmap {
         combine::<Not>(alloc, self, self, self)
     }
 
-    /// The bit of `if_true` where the mask's bit is true, else that of `if_false`. Refuses only for want of memory.
+    /// Returns a bitmap with the bit of `if_true` where `mask` is set, else that of `if_false`.
+    ///
+    /// # Requires
+    /// All three bitmaps have the same length.
+    ///
+    /// # Errors
+    /// `OutOfMemory` if an allocation fails.
     pub fn choose(
         alloc: Global,
         mask: &Bitmap,
@@ -78,7 +111,7 @@ impl Bitmap {
     }
 }
 
-/// What is made of the bits of one position in three bitmaps, and so of as many words of them at once.
+/// A boolean function of three bits, applied to 64 positions at once.
 pub(crate) trait BitRule {
     ghost on_bits: { Bool → Bool → Bool → Bool };
 
@@ -159,7 +192,7 @@ impl BitRule for Choose {
     }
 }
 
-/// What the rule makes of the bits of each position. Refuses only for want of memory.
+/// Returns the function applied to the bits of three bitmaps, or `OutOfMemory`.
 fn combine<R: BitRule>(alloc: Global, x: &Bitmap, y: &Bitmap, z: &Bitmap) -> PolarsResult<Bitmap>
     requires second { length x.now.bits ≡ length y.now.bits }
     requires third { length x.now.bits ≡ length z.now.bits }
@@ -174,7 +207,7 @@ fn combine<R: BitRule>(alloc: Global, x: &Bitmap, y: &Bitmap, z: &Bitmap) -> Pol
     packer.into_bitmap(count)
 }
 
-/// What the rule makes of the bits in whole words of 64, with room for the rest. Refuses only for want of memory.
+/// Returns the result for the whole words, with capacity for the rest, or `OutOfMemory`.
 fn whole_words_by<R: BitRule>(
     alloc: Global,
     x: &Bitmap,
@@ -195,7 +228,7 @@ fn whole_words_by<R: BitRule>(
     Ok(packer)
 }
 
-/// The word of what the rule makes of the `len` bits from bit `at` on.
+/// Returns the word of the result for the `len` bits from bit `at` on.
 #[inline]
 pub(crate) fn word_by<R: BitRule>(x: &Bitmap, y: &Bitmap, z: &Bitmap, at: usize, len: usize) -> u64
     requires second { length x.now.bits ≡ length y.now.bits }

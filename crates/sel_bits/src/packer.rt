@@ -1,4 +1,4 @@
-//! Bits that are packed behind one another, up to 64 at a time.
+//! A bitmap builder that appends up to 64 bits at a time.
 #![tactic(auto, using(crate::proofs::BitLists::length_bits_from))]
 
 ghost use Rattle.std.specs.Prelude.{◌≡◌, ℕ, ◌+◌, ◌-◌, ◌*◌, ◌^◌, ◌<◌, ◌≤◌, [], ◌∷◌, ◌++◌, length, take, drop, replicate, IfOk, IfErr, OnOk};
@@ -11,12 +11,12 @@ use crate::words::low_bits;
 use std::alloc::Global;
 use std::marker::Model;
 
-/// The most bits that can be put behind the others at once.
+/// The maximum number of bits of one append.
 pub const MOST_BITS: usize = 64;
 
-/// A bitmap that grows at its end: whole words of 64 bits, and fewer than 64 bits that wait for their word to fill.
+/// A bitmap builder: whole words of 64 bits, and fewer than 64 pending bits.
 ///
-/// Contracts see the list of the bits so far.
+/// Contract model: the list of the bits so far.
 #[derive(Drop)]
 pub struct BitPacker {
     bytes: Vec<u8>,
@@ -36,12 +36,15 @@ impl Model for BitPacker {
 }
 
 impl BitPacker {
-    /// No bits, with room for `count` of them. Refuses only for want of memory.
+    /// Returns an empty builder with capacity for `count` bits.
+    ///
+    /// # Errors
+    /// `OutOfMemory` if an allocation fails.
     pub fn with_capacity(alloc: Global, count: usize) -> PolarsResult<BitPacker>
         ensures value { IfOk result (λ packer. packer ≡ []) }
         ensures refusal { IfErr result (λ fault. fault ≡ PolarsError.OutOfMemory) }
     {
-        // (the bits that wait at the end are written as a whole word)
+        // (the pending bits at the end are written as a whole word)
         let bytes = Vec::with_capacity(alloc, count.div_ceil(8) + 8)?;
         Ok(BitPacker {
             bytes,
@@ -50,7 +53,13 @@ impl BitPacker {
         })
     }
 
-    /// Puts the `count` lowest bits of `word` behind the others. Refuses only for want of memory, and then changes nothing.
+    /// Appends the `count` lowest bits of `word`.
+    ///
+    /// # Requires
+    /// `count` is at most 64, and the bits of `word` above them are zero.
+    ///
+    /// # Errors
+    /// `OutOfMemory` if an allocation fails; the builder is unchanged.
     #[inline(always)]
     pub fn append(&mut self, word: u64, count: u32) -> PolarsResult<()>
         requires count { count ≤ 64 }
@@ -67,13 +76,16 @@ impl BitPacker {
             return Ok(());
         }
         self.bytes.extend_from_slice(&full.to_le_bytes())?;
-        // (what did not fit: nothing where none waited, and no shift is by 64)
+        // (the bits that did not fit: none if none were pending; the two shifts avoid one by 64)
         self.pending = (word >> 1) >> (63 - self.held);
         self.held = held - 64;
         Ok(())
     }
 
-    /// Puts one bit behind the others. Refuses only for want of memory, and then changes nothing.
+    /// Appends one bit.
+    ///
+    /// # Errors
+    /// `OutOfMemory` if an allocation fails; the builder is unchanged.
     #[inline]
     pub fn push(&mut self, bit: bool) -> PolarsResult<()>
         ensures pushed { OnOk result (self.new ≡ self.old ++ bit ∷ []) }
@@ -83,8 +95,14 @@ impl BitPacker {
         self.append(u64::from(bit), 1)
     }
 
-    /// Puts the `len` bits of a bitmap from bit `start` on behind the others, many at a time. Refuses only for want of
-    /// memory; the bits that stood before are kept then, but some of the new ones may stand behind them.
+    /// Appends the `len` bits of a bitmap from bit `start` on, up to 64 at a time.
+    ///
+    /// # Requires
+    /// `start + len` is at most the length of `bits`.
+    ///
+    /// # Errors
+    /// `OutOfMemory` if an allocation fails; the earlier bits are kept, and some of the new bits
+    /// may have been appended.
     pub fn extend_from_bitmap(
         &mut self,
         bits: &Bitmap,
@@ -98,7 +116,7 @@ impl BitPacker {
         ensures kept { IfErr result (λ _. take (length self.old) self.new ≡ self.old) }
         ensures refusal { IfErr result (λ fault. fault ≡ PolarsError.OutOfMemory) }
     {
-        // (a bitmap has no more bits than a place can show)
+        // (the length of a bitmap fits in `usize`)
         let _whole = bits.len();
         let mut at = 0;
         while at < len {
@@ -109,8 +127,11 @@ impl BitPacker {
         Ok(())
     }
 
-    /// Puts the same bit `len` times behind the others, many at a time. Refuses only for want of memory; the bits that
-    /// stood before are kept then, but some of the new ones may stand behind them.
+    /// Appends `len` copies of a bit, up to 64 at a time.
+    ///
+    /// # Errors
+    /// `OutOfMemory` if an allocation fails; the earlier bits are kept, and some of the new bits
+    /// may have been appended.
     pub fn extend_constant(&mut self, len: usize, value: bool) -> PolarsResult<()>
         ensures extended { OnOk result (self.new ≡ self.old ++ replicate len value) }
         ensures len { OnOk result (length self.new ≡ length self.old + len) }
@@ -126,7 +147,13 @@ impl BitPacker {
         Ok(())
     }
 
-    /// The bits, `len` in number, as a bitmap. Refuses only for want of memory.
+    /// Returns the bits as a bitmap.
+    ///
+    /// # Requires
+    /// `len` is the number of bits.
+    ///
+    /// # Errors
+    /// `OutOfMemory` if an allocation fails.
     pub fn into_bitmap(mut self, len: usize) -> PolarsResult<Bitmap>
         requires { length self ≡ len }
         ensures value { IfOk result (λ bitmap. bitmap ≡ unsliced self) }
@@ -137,7 +164,7 @@ impl BitPacker {
     }
 }
 
-/// The word whose `count` lowest bits are this one, with zeros above them.
+/// Returns the word with `count` copies of a bit, from the lowest on, with zeros above.
 fn word_of_copies(value: bool, count: usize) -> u64
     requires { count ≤ 64 }
     ensures { result ≡ word_of (replicate count value) }

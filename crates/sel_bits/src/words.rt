@@ -1,4 +1,4 @@
-//! Words of up to 64 bits that begin at any bit of a byte, and how many bits of bytes are true.
+//! Words of up to 64 bits from any bit of a byte slice, and the number of set bits of a slice.
 
 ghost use Rattle.std.specs.Prelude.{◌≡◌, ℕ, ◌+◌, ◌*◌, ◌%◌, ◌^◌, ◌<◌, ◌≤◌, length, drop};
 ghost use Rattle.sel_bits.specs.Bits.{bits_from, count_true};
@@ -6,7 +6,7 @@ ghost use Rattle.sel_bits.specs.Words.{padded_word, word_of};
 
 use crate::number::load_padded_le_u64;
 
-/// How many of the `len` bits from bit `shift` of the first byte on are true.
+/// Returns the number of true bits among the `len` bits from bit `shift` of the first byte on.
 pub(crate) fn count_set(bytes: &[u8], shift: usize, len: usize) -> usize
     requires shift { shift < 8 }
     requires within { shift + len ≤ 8 * length bytes.now }
@@ -20,7 +20,10 @@ pub(crate) fn count_set(bytes: &[u8], shift: usize, len: usize) -> usize
     count + first_word(&bytes[done..], shift, len % 64).count_ones() as usize
 }
 
-/// The word of the 64 bits from bit `shift` of byte `at` on. No test of a length is left in it.
+/// Returns the word of the 64 bits from bit `shift` of byte `at` on.
+///
+/// # Requires
+/// `shift` is less than 8, and the 64 bits are within `bytes`.
 #[inline]
 pub fn whole_word(bytes: &[u8], at: usize, shift: usize) -> u64
     requires shift { shift < 8 }
@@ -34,7 +37,7 @@ pub fn whole_word(bytes: &[u8], at: usize, shift: usize) -> u64
     (low >> shift) | (u64::from(bytes[at + 8]) << (64 - shift))
 }
 
-/// The eight bytes from byte `at` on as a little-endian number.
+/// Returns the eight bytes from byte `at` on as a little-endian integer.
 #[inline]
 fn load_eight(bytes: &[u8], at: usize) -> u64
     requires { at + 8 ≤ length bytes.now }
@@ -52,7 +55,11 @@ fn load_eight(bytes: &[u8], at: usize) -> u64
     ])
 }
 
-/// The word of the `len` bits from bit `shift` of the first byte on, with zeros above them; bytes that are missing count as 0.
+/// Returns the word of the `len` bits from bit `shift` of the first byte on, with zeros above them.
+/// Missing bytes count as 0.
+///
+/// # Requires
+/// `shift` is less than 8, and `len` is at most 64.
 #[inline]
 pub fn first_word(bytes: &[u8], shift: usize, len: usize) -> u64
     requires shift { shift < 8 }
@@ -67,7 +74,7 @@ pub fn first_word(bytes: &[u8], shift: usize, len: usize) -> u64
     )
 }
 
-/// The `len` lowest bits of a word, with zeros above them.
+/// Returns the `len` lowest bits of a word, with zeros above them.
 #[inline(always)]
 pub(crate) fn low_bits(word: u64, len: usize) -> u64
     requires { len ≤ 64 }

@@ -1,4 +1,4 @@
-//! What the bits of words keep of blocks of up to 64 values.
+//! Filters for blocks of up to 64 values by the bits of a word.
 #![tactic(auto, using(crate::proofs::Dense::kept_steps))]
 
 ghost use Rattle.std.specs.Prelude.{◌≡◌, ◌≤◌, ◌<◌, ◌^◌, ◌++◌, ◌+◌, ◌*◌, count_ones, length, take, OnOk, OnErr, IfErr};
@@ -10,12 +10,15 @@ ghost use Rattle.sel_filter.specs.Select.{select};
 use sel_bits::faults::{PolarsError, PolarsResult};
 use sel_bits::words::{first_word, whole_word};
 
-/// Up to so many values of a block are kept one by one.
+/// The largest number of set bits for which the values of a block are appended one by one.
 const FEW: usize = 16;
 
-/// Appends the values whose bit is set, block by block of 64, and then the others; bit `shift` of the first byte is that of the
-/// first value, and there is to be room for `count` of them. Refuses only for want of memory, and then what stood there before
-/// still stands at the front.
+/// Appends the values whose bit is set, in blocks of 64 followed by the rest.
+///
+/// Bit `shift` of the first byte belongs to the first value. Reserves capacity for `count` values.
+///
+/// # Errors
+/// `OutOfMemory` if an allocation fails; the old items of `out` are then still at its front.
 pub(crate) fn append_blocks<T: Copy>(
     values: &[T],
     bytes: &[u8],
@@ -31,7 +34,7 @@ pub(crate) fn append_blocks<T: Copy>(
     ensures refusal { IfErr result (λ fault. fault ≡ PolarsError.OutOfMemory) }
 {
     let len = values.len();
-    // (a whole block is put behind the others before its values are moved together)
+    // `append_dense` appends a whole block before it compacts the values.
     out.reserve(count.saturating_add(64))?;
     for block in 0..len / 64 {
         let word = whole_word(bytes, 8 * block, shift);
@@ -44,8 +47,10 @@ pub(crate) fn append_blocks<T: Copy>(
     Ok(())
 }
 
-/// How many of the `len` bits from bit `shift` of the first byte on are true, and how many runs of true bits there are, each cut
-/// where words meet. Only room and speed rest on them.
+/// Returns the number of true bits and the number of runs of true bits, split at word boundaries.
+///
+/// Counts the `len` bits from bit `shift` of the first byte. Only capacity and speed depend on the
+/// result.
 pub(crate) fn count_runs(bytes: &[u8], shift: usize, len: usize) -> (usize, usize)
     requires shift { shift < 8 }
     requires within { shift + len ≤ 8 * length bytes.now }
@@ -64,8 +69,13 @@ pub(crate) fn count_runs(bytes: &[u8], shift: usize, len: usize) -> (usize, usiz
     )
 }
 
-/// Appends the values of a block whose bit is set: none, the block as it is, one by one where they are few, else side by side
-/// without a branch. Refuses only for want of memory, and then what stood there before still stands at the front.
+/// Appends the values of a block whose bit is set.
+///
+/// Copies the whole block if all bits are set, appends one by one if few are set or the block has
+/// fewer than 64 values, and otherwise compacts the block without branches.
+///
+/// # Errors
+/// `OutOfMemory` if an allocation fails; the old items of `out` are then still at its front.
 #[inline(always)]
 fn filter_block<T: Copy>(block: &[T], mask: u64, out: &mut Vec<T>) -> PolarsResult<()>
     requires block { length block.now ≤ 64 }
@@ -89,8 +99,10 @@ fn filter_block<T: Copy>(block: &[T], mask: u64, out: &mut Vec<T>) -> PolarsResu
     append_dense(block, mask, out)
 }
 
-/// Appends the values whose bit is set, from bit to bit. Refuses only for want of memory, and then what stood there before
-/// still stands at the front.
+/// Appends the values whose bit is set, one set bit at a time.
+///
+/// # Errors
+/// `OutOfMemory` if an allocation fails; the old items of `out` are then still at its front.
 #[inline(always)]
 fn append_few<T: Copy>(block: &[T], mask: u64, out: &mut Vec<T>) -> PolarsResult<()>
     requires block { length block.now ≤ 64 }
@@ -109,8 +121,10 @@ fn append_few<T: Copy>(block: &[T], mask: u64, out: &mut Vec<T>) -> PolarsResult
     Ok(())
 }
 
-/// Appends the values whose bit is set, side by side without a branch. Refuses only for want of memory, and then what stood there
-/// before still stands at the front.
+/// Appends the values whose bit is set, without branches.
+///
+/// # Errors
+/// `OutOfMemory` if an allocation fails; the old items of `out` are then still at its front.
 fn append_dense<T: Copy>(block: &[T], mask: u64, out: &mut Vec<T>) -> PolarsResult<()>
     requires block { length block.now ≡ 64 }
     ensures appended { OnOk result
@@ -125,7 +139,7 @@ fn append_dense<T: Copy>(block: &[T], mask: u64, out: &mut Vec<T>) -> PolarsResu
     Ok(())
 }
 
-/// Puts the values whose bit is set at the start of `buf`, in order, and answers how many they are.
+/// Moves the values whose bit is set to the front of `buf`, in order, and returns their number.
 fn dense_block<T: Copy>(block: &[T], mask: u64, buf: &mut [T]) -> usize
     requires block { length block.now ≡ 64 }
     requires room { 64 ≤ length buf.old }

@@ -1,4 +1,4 @@
-//! Bits that a mask keeps.
+//! Filters for bitmaps.
 
 ghost use Rattle.std.specs.Prelude.{◌≡◌, ◌+◌, ◌-◌, ◌/◌, ◌^◌, ◌<◌, ◌≤◌, ◌++◌, length, drop, IfOk, IfErr, OnOk};
 ghost use Rattle.sel_bits.specs.Bits.{count_true};
@@ -16,7 +16,13 @@ use sel_bits::packer::BitPacker;
 use sel_bits::words::{first_word, whole_word};
 use std::alloc::Global;
 
-/// The bits where the mask is true, in order. Refuses only for want of memory.
+/// Returns the bits of `values` where `mask` is true, in order.
+///
+/// # Requires
+/// `values` and `mask` have the same length.
+///
+/// # Errors
+/// `OutOfMemory` if an allocation fails.
 pub fn filter_boolean_kernel(alloc: Global, values: &Bitmap, mask: &Bitmap) -> PolarsResult<Bitmap>
     requires { length values.now.bits ≡ length mask.now.bits }
     ensures bits { IfOk result (λ kept. kept.bits ≡ select values.now.bits mask.now.bits) }
@@ -32,7 +38,7 @@ pub fn filter_boolean_kernel(alloc: Global, values: &Bitmap, mask: &Bitmap) -> P
     keep_words(alloc, count, values, mask)
 }
 
-/// The bits where the mask is true, in order, by words of 64; they are `count` in number. Refuses only for want of memory.
+/// Returns the bits where `mask` is true, by 64-bit words; `count` is the number of set mask bits.
 fn keep_words(alloc: Global, count: usize, values: &Bitmap, mask: &Bitmap) -> PolarsResult<Bitmap>
     requires long { length values.now.bits ≡ length mask.now.bits }
     requires count { count ≡ count_true mask.now.bits }
@@ -60,8 +66,15 @@ fn keep_words(alloc: Global, count: usize, values: &Bitmap, mask: &Bitmap) -> Po
     kept.into_bitmap(count)
 }
 
-/// The bits of `values` where `mask` is true, in order: each of them is read once, and no other. Refuses only for want of memory, and
-/// then both have been read in part.
+/// Returns the bits of `values` where `mask` is true, in order, reading each of them once.
+///
+/// No other bit of `values` is read.
+///
+/// # Requires
+/// Nothing has been read from either reader, and both sources have the same length.
+///
+/// # Errors
+/// `OutOfMemory` if an allocation fails; both readers may then have been read in part.
 pub fn filter_boolean_kernel_sparse(
     alloc: Global,
     values: &mut CountedBits<'_>,
@@ -78,7 +91,7 @@ pub fn filter_boolean_kernel_sparse(
     ensures mask_source { mask.new.source ≡ mask.old.source }
     ensures refusal { IfErr result (λ fault. fault ≡ PolarsError.OutOfMemory) }
 {
-    // (a bitmap has no more bits than a place can show)
+    // The number of bits fits in `usize`.
     let whole = mask.len();
     let mut kept = BitPacker::with_capacity(alloc, whole)?;
     let mut start = mask.skip_zeros();
@@ -90,7 +103,7 @@ pub fn filter_boolean_kernel_sparse(
     kept.into_bitmap(values.bits_read() as usize)
 }
 
-/// Puts the bits at the set places of `word`, counted from `start` on, behind the others.
+/// Appends the bits of `values` at `start` plus the position of each set bit of `word`.
 fn append_marked(
     values: &mut CountedBits<'_>,
     start: usize,
@@ -117,8 +130,13 @@ fn append_marked(
     Ok(())
 }
 
-/// The bits of `values` where `mask` is true, in order, 56 at a time. Refuses only for want of memory, and then both have been read in
-/// part.
+/// Returns the bits of `values` where `mask` is true, in order, 56 bits at a time.
+///
+/// # Requires
+/// Nothing has been read from either reader, and both sources have the same length.
+///
+/// # Errors
+/// `OutOfMemory` if an allocation fails; both readers may then have been read in part.
 pub fn filter_boolean_kernel_pext(
     alloc: Global,
     values: &mut U56Blocks<'_>,
@@ -135,7 +153,7 @@ pub fn filter_boolean_kernel_pext(
     ensures mask_source { mask.new.source ≡ mask.old.source }
     ensures refusal { IfErr result (λ fault. fault ≡ PolarsError.OutOfMemory) }
 {
-    // (a bitmap has no more bits than a place can show)
+    // The number of bits fits in `usize`.
     let whole = mask.len();
     let mut kept = BitPacker::with_capacity(alloc, whole)?;
     let mut count = 0;
@@ -147,7 +165,7 @@ pub fn filter_boolean_kernel_pext(
     kept.into_bitmap(count)
 }
 
-/// Puts the bits of `word` where `marks` has a set bit behind the others, in order. Refuses only for want of memory.
+/// Appends the bits of `word` where `marks` has a set bit, in order.
 #[inline(always)]
 fn append_kept(kept: &mut BitPacker, word: u64, marks: u64) -> PolarsResult<()>
     ensures appended { OnOk result (kept.new ≡ kept.old ++ select (bits 64 word) (bits 64 marks)) }

@@ -1,4 +1,4 @@
-//! What a mask keeps: of bits, of values, and of the bits of one word.
+//! Filter kernels for bitmaps, slices of values and the bits of a word.
 #![tactic(auto)]
 
 mod block;

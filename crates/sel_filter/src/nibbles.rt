@@ -1,9 +1,9 @@
-//! The bits of a word that another word keeps, four at a time by a table.
+//! Bit compression by a table for four bits at a time.
 
 ghost use Rattle.std.specs.Prelude.{◌≡◌};
 ghost use Rattle.sel_filter.specs.Compress.{compress};
 
-/// At 16 times four bits of a mask, and four bits of a word more: the bits of the word that the mask keeps, from the lowest on.
+/// The packed bits of `v` where `m` has a set bit, for 4-bit `m` and `v`, at index `16 * m + v`.
 #[rattlefmt::skip]
 const NIBBLES: [u8; 256] = [
     0, 0, 0, 0, 0, 0, 0, 0, 0, 0, 0, 0, 0, 0, 0, 0,
@@ -24,7 +24,7 @@ const NIBBLES: [u8; 256] = [
     0, 1, 2, 3, 4, 5, 6, 7, 8, 9, 10, 11, 12, 13, 14, 15,
 ];
 
-/// The bits of `v` where `m` has a set bit, packed from the lowest on, and then zeros: four at a time, whatever the mask.
+/// Returns the bits of `v` where `m` has a set bit, packed from bit 0, in 16 table steps.
 #[inline]
 pub(crate) fn compress_by_fours(v: u64, m: u64) -> u64
     ensures { result ≡ compress v m }

@@ -1,4 +1,4 @@
-//! The bits of a word that another word keeps, side by side.
+//! Parallel bit extract: the bits of a word selected by a mask, packed from bit 0.
 
 ghost use Rattle.std.specs.Prelude.{◌≡◌, ℕ, ◌%◌, ◌<◌, ◌≤◌, count_ones};
 ghost use Rattle.std.specs.Int.{bit_at};
@@ -8,10 +8,13 @@ ghost use Rattle.sel_filter.specs.Compress.{compress};
 use sel_bits::moving_word::MovingWord;
 use sel_bits::number::prefix_xorsum;
 
-/// The most set bits of a mask that are read one by one.
+/// The largest number of set mask bits that are read one by one.
 const FEW_BITS: u32 = 4;
 
-/// The bits of `v` where `m` has a set bit, packed from the lowest on, and then zeros; `m_popcnt` is the number of set bits of `m`.
+/// Returns the bits of `v` where `m` has a set bit, packed from bit 0 and followed by zeros.
+///
+/// # Requires
+/// `m_popcnt` is the number of set bits of `m`.
 pub fn pext64_polyfill(v: u64, m: u64, m_popcnt: u32) -> u64
     requires { m_popcnt ≡ count_ones m }
     ensures { result ≡ compress v m }
@@ -31,10 +34,14 @@ pub fn pext64_polyfill(v: u64, m: u64, m_popcnt: u32) -> u64
     word.word()
 }
 
-/// Makes of an unmoved word its bits where `m` has a set bit, packed from the lowest on, and then zeros, in at most six moves.
+/// Replaces the word by its bits where `m` has a set bit, packed from bit 0, in at most six moves.
 ///
-/// A kept bit has to pass each clear bit of the mask below it. In round i it passes `2^i` of them where the number of whole blocks of
-/// `2^i` clear bits below it is odd; `blocks` has one set bit for each such block.
+/// The remaining bits are zero. Each kept bit must move down by the number of clear mask bits below
+/// it. Round i moves it down by `2^i` if the number of whole blocks of `2^i` clear bits below it is
+/// odd; `blocks` has one set bit for each such block.
+///
+/// # Requires
+/// The word has not been moved or changed.
 pub fn pext64_rounds(word: &mut MovingWord, m: u64)
     requires unmoved { word.old.moves ≡ 0 }
     requires whole { word.old.word ≡ word.old.source }
@@ -55,14 +62,14 @@ pub fn pext64_rounds(word: &mut MovingWord, m: u64)
     }
 }
 
-/// The places above the set bit of a word that has one at most; none where it has none.
+/// Returns the bits above the set bit of a word with at most one set bit, or 0 without one.
 fn above_single(x: u64) -> u64
     ensures { ones_below x 64 ≤ 1 → (p : ℕ) → p < 64 → bit_at result p ≡ ones_below x p % 2 }
 {
     x.wrapping_neg() << 1
 }
 
-/// The bits of `v` where `m` has a set bit, one after another from the lowest on.
+/// Returns the bits of `v` where `m` has a set bit, packed from bit 0, one set bit at a time.
 fn pext64_few(v: u64, m: u64) -> u64
     ensures { result ≡ compress v m }
 {

@@ -1,4 +1,4 @@
-//! Values that a mask keeps.
+//! Filters for slices of values.
 
 ghost use Rattle.std.specs.Prelude.{◌≡◌, ◌+◌, ◌-◌, ◌/◌, ◌^◌, ◌<◌, ◌≤◌, ◌++◌, length, drop, false, IfOk, IfErr, OnOk};
 ghost use Rattle.sel_bits.specs.Copying.{IsBeginning};
@@ -13,10 +13,16 @@ use sel_bits::block_copy::BlockCopy;
 use sel_bits::faults::{PolarsError, PolarsResult};
 use std::alloc::Global;
 
-/// Kept values are copied run by run where a run, cut where words of the mask meet, has so many of them on average.
+/// The average length of runs, split at word boundaries, from which each run is one copy.
 const LONG_RUN: usize = 32;
 
-/// The values where the mask is true, in order. Refuses only for want of memory.
+/// Returns the values where `mask` is true, in order.
+///
+/// # Requires
+/// `values` and `mask` have the same length.
+///
+/// # Errors
+/// `OutOfMemory` if an allocation fails.
 pub fn filter_values<T: Copy>(alloc: Global, values: &[T], mask: &Bitmap) -> PolarsResult<Vec<T>>
     requires { length values.now ≡ length mask.now.bits }
     ensures items { IfOk result (λ kept. kept.items ≡ select values.now mask.now.bits) }
@@ -32,7 +38,7 @@ pub fn filter_values<T: Copy>(alloc: Global, values: &[T], mask: &Bitmap) -> Pol
     Ok(kept)
 }
 
-/// The values where the mask is true, each run of them by one copy, with room for `count`.
+/// Returns the values where `mask` is true, one copy per run; reserves capacity for `count`.
 fn filter_by_runs<T: Copy>(
     alloc: Global,
     values: &[T],
@@ -50,10 +56,16 @@ fn filter_by_runs<T: Copy>(
     Ok(out.into_vec())
 }
 
-/// Puts the items of the source where the mask is true behind the others, each run of them by one copy; a run that crosses
-/// words is cut there. The reader is read to its end.
+/// Appends the items of the source where `mask` is true, one copy per run of true bits.
 ///
-/// Refuses only for want of memory, and then the items are a beginning of that.
+/// A run that crosses a word boundary is split there. On success `mask` is read to its end.
+///
+/// # Requires
+/// `out` has made no copies, nothing has been read from `mask`, and the source of `out` has the
+/// same length as the source of `mask`.
+///
+/// # Errors
+/// `OutOfMemory` if an allocation fails. The items of `out` are then a prefix of the full result.
 pub fn filter_runs<T: Copy>(
     out: &mut BlockCopy<'_, T>,
     mask: &mut AlignedWords<'_>,
@@ -72,7 +84,7 @@ pub fn filter_runs<T: Copy>(
         (out.old.items ++ select out.old.source mask.old.source.bits) }
     ensures refusal { IfErr result (λ fault. fault ≡ PolarsError.OutOfMemory) }
 {
-    // (a bitmap has no more bits than a place can show)
+    // The number of bits fits in `usize`.
     let _whole = mask.len();
     let mut start = 0;
     while let Some((word, count)) = mask.next() {
@@ -82,8 +94,7 @@ pub fn filter_runs<T: Copy>(
     Ok(())
 }
 
-/// Puts the items at the set bits of a word behind the others, each run of them by one copy; its lowest bit is that of item
-/// `start`.
+/// Appends the items at the set bits of `word`, one copy per run; bit 0 belongs to item `start`.
 fn copy_runs<T: Copy>(out: &mut BlockCopy<'_, T>, start: usize, word: u64) -> PolarsResult<()>
     requires fits { length out.old.source < 2 ^ 64 }
     requires start { start ≤ length out.old.source }

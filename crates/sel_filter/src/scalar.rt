@@ -1,4 +1,4 @@
-//! Values that the bits of bytes keep, appended to a vector.
+//! Filters that append the kept values to a vector.
 
 ghost use Rattle.std.specs.Prelude.{◌≡◌, ℕ, ◌+◌, ◌-◌, ◌*◌, ◌/◌, ◌%◌, ◌<◌, ◌≤◌, ◌++◌, length, take, drop, OnOk, IfOk, IfErr, OnErr};
 ghost use Rattle.sel_bits.specs.Bits.{bits_from};
@@ -9,10 +9,15 @@ use crate::block::{append_blocks, count_runs};
 use sel_bits::bitmap::Bitmap;
 use sel_bits::faults::{PolarsError, PolarsResult};
 
-/// Appends the kept ones of the rows before the mask's next byte boundary; none where it begins at one.
-/// Answers the other values, and the bytes whose bits are their mask.
+/// Appends the kept values before the next byte boundary of the mask; none if it is byte-aligned.
 ///
-/// Refuses only for want of memory, and then the vector is unchanged.
+/// Returns the remaining values and the bytes of the remaining mask, which start at bit 0.
+///
+/// # Requires
+/// `values` and `mask` have the same length.
+///
+/// # Errors
+/// `OutOfMemory` if an allocation fails; the items of `out` are then unchanged.
 pub fn scalar_filter_offset<'a, T: Copy>(
     values: &'a [T],
     mask: &'a Bitmap,
@@ -39,9 +44,15 @@ pub fn scalar_filter_offset<'a, T: Copy>(
     Ok((&values[count..], &bytes[1..]))
 }
 
-/// Appends the values whose bit is set; bit i of the bytes is that of value i, and bits past the last value are not looked at.
+/// Appends the values whose bit is set; bit i of `mask_bytes` belongs to value i.
 ///
-/// Refuses only for want of memory, and then the vector is unchanged.
+/// Bits after the last value are ignored.
+///
+/// # Requires
+/// `mask_bytes` has at least one bit per value.
+///
+/// # Errors
+/// `OutOfMemory` if an allocation fails; the items of `out` are then unchanged.
 pub fn scalar_filter<T: Copy>(values: &[T], mask_bytes: &[u8], out: &mut Vec<T>) -> PolarsResult<()>
     requires { length values.now ≤ 8 * length mask_bytes.now }
     ensures appended { OnOk result (out.new.items ≡

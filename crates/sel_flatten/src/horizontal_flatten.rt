@@ -1,4 +1,4 @@
-//! Columns side by side: of each row the parts of all columns, behind one another.
+//! Horizontal flatten: row-wise concatenation of columns.
 
 ghost use Rattle.std.specs.Prelude.{◌≡◌, ◌≤◌, ◌<◌, ◌+◌, ◌*◌, ◌++◌, ◌↔◌, Some, All, length, map, take, drop, IsTrue, IfSome, IfNone, IfOk, IfErr, OnOk};
 ghost use Rattle.sel_arrow.specs.Rows.{rows, type_of};
@@ -16,14 +16,23 @@ use sel_bits::faults::{Limit, PolarsError, PolarsResult};
 use sel_runs::planned::collect_plan;
 use std::alloc::Global;
 
-// From so many rows on, parts are copied as runs.
+// The average part length from which parts are copied as runs.
 const LONG_PART: usize = 32;
 
-/// The rows of all columns side by side: row h of the answer, which is as wide as all `widths` together, has column by
-/// column its rows from `h * width` up to `(h + 1) * width`, or its only `width` rows where it has no more; the answer is
-/// all of them behind one another, for `output_height` rows.
+/// Returns the row-wise concatenation of `arrays`, for `output_height` rows, as one column.
 ///
-/// Refuses for want of memory, and where the answer passes a limit; one without rows passes none.
+/// For row h, each array in turn adds its `width` rows from `h * width` on, or all its rows if it
+/// has exactly `width` rows. The result has the type of the arrays, and as many rows as
+/// `output_height` times the sum of `widths`.
+///
+/// # Requires
+/// There is at least one array, all arrays have the same type, and each has a width other than 0
+/// and `width` or `width * output_height` rows; check with `flatten_is_safe`.
+///
+/// # Errors
+/// `OutOfMemory` if an allocation fails; `SizeLimit` if the result exceeds a limit: more than
+/// 4,294,967,295 rows at some depth, or the limits on bytes and data buffers of its type. With an
+/// `output_height` of 0 only `OutOfMemory`.
 pub fn horizontal_flatten_unchecked(
     alloc: Global,
     arrays: &[ArrayRef],
@@ -54,8 +63,11 @@ pub fn horizontal_flatten_unchecked(
     }
 }
 
-/// Whether `horizontal_flatten_unchecked` may be called: there are columns, all of one type, and for each a width other
-/// than 0 and so many rows for each row of the answer, or for one alone. It multiplies in wide numbers.
+/// Returns whether the precondition of `horizontal_flatten_unchecked` is met.
+///
+/// True if there is at least one array, all arrays have the same type, there is one width per
+/// array, and each array has a width other than 0 and `width` or `width * output_height` rows. The
+/// product is computed in 128 bits.
 pub fn flatten_is_safe(arrays: &[ArrayRef], widths: &[usize], output_height: usize) -> bool
     ensures { IsTrue result ↔
         ((0 < length arrays.now) ×
@@ -68,7 +80,7 @@ pub fn flatten_is_safe(arrays: &[ArrayRef], widths: &[usize], output_height: usi
     are_of_one_type(arrays) && do_parts_fit(arrays, widths, output_height)
 }
 
-// Whether each column is of the type of the first.
+// Returns whether each array has the type of the first.
 fn are_of_one_type(arrays: &[ArrayRef]) -> bool
     requires { 0 < length arrays.now }
     ensures { IsTrue result ↔
@@ -83,7 +95,7 @@ fn are_of_one_type(arrays: &[ArrayRef]) -> bool
     true
 }
 
-// Whether there is a width for each column, other than 0, and so many rows for each of `height` rows, or for one alone.
+// Returns whether each array has a width that fits, and there are as many widths as arrays.
 fn do_parts_fit(arrays: &[ArrayRef], widths: &[usize], height: usize) -> bool
     ensures { result ≡ parts_fit height (array_rows arrays.now) widths.now }
 {
@@ -98,14 +110,14 @@ fn do_parts_fit(arrays: &[ArrayRef], widths: &[usize], height: usize) -> bool
     true
 }
 
-// Whether a column of `len` rows has `width` of them, which is not 0, for each of `height` rows, or for one alone.
+// Returns whether `width` is not 0, and `len` is `width` or `width * height`.
 fn does_part_fit(len: usize, width: usize, height: usize) -> bool
     ensures { result ≡ part_fits height len width }
 {
     width > 0 && (len as u128 == width as u128 * height as u128 || len == width)
 }
 
-// How many rows the answer has; none where they are more than a column may have.
+// Returns the number of rows of the result, or `None` if there are more than 4,294,967,295.
 fn flat_rows(widths: &[usize], height: usize) -> Option<usize>
     requires { 0 < height }
     ensures len { IfSome result (λ len. len ≡ height * row_width widths.now) }
@@ -123,11 +135,11 @@ fn flat_rows(widths: &[usize], height: usize) -> Option<usize>
     Some(len as usize)
 }
 
-// How many rows of all columns one row of the answer has.
+// Returns the sum of the widths.
 fn width_of_row(widths: &[usize]) -> u128
     ensures { result ≡ row_width widths.now }
 {
-    // (there are no more widths than a place can show)
+    // (the length of a slice fits in `usize`)
     let _len = widths.len();
     let mut row = 0;
     for width in widths {
@@ -136,7 +148,7 @@ fn width_of_row(widths: &[usize]) -> u128
     row
 }
 
-// The rows side by side, `len` in all.
+// Returns the row-wise concatenation, of `len` rows.
 fn collect_flat(
     alloc: Global,
     arrays: &[ArrayRef],
@@ -179,7 +191,7 @@ fn collect_flat(
     Ok(ArrayRef { column })
 }
 
-// The columns themselves. Refuses only for want of memory.
+// Returns references to the columns, or `OutOfMemory`.
 fn columns_of<'a>(alloc: Global, arrays: &'a [ArrayRef]) -> PolarsResult<Vec<&'a Column>>
     ensures columns { IfOk result (λ found. map (λ c. c.now) found.items ≡
         array_columns arrays.now) }
@@ -192,7 +204,7 @@ fn columns_of<'a>(alloc: Global, arrays: &'a [ArrayRef]) -> PolarsResult<Vec<&'a
     Ok(found)
 }
 
-// What each row of the answer has of each column. Refuses only for want of memory.
+// Returns the lane of each array, or `OutOfMemory`.
 fn lanes_of_parts(alloc: Global, arrays: &[ArrayRef], widths: &[usize]) -> PolarsResult<Vec<Lane>>
     requires paired { length arrays.now ≡ length widths.now }
     requires few { row_width widths.now ≤ 4294967295 }
@@ -207,7 +219,7 @@ fn lanes_of_parts(alloc: Global, arrays: &[ArrayRef], widths: &[usize]) -> Polar
     Ok(lanes)
 }
 
-// What each row of the answer has of a column.
+// Returns the lane of an array.
 fn lane_of(array: &ArrayRef, width: usize) -> Lane
     requires { width ≤ 4294967295 }
     ensures { result ≡ lane_for (length (rows array.now.column)) width }

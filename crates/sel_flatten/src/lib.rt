@@ -1,4 +1,4 @@
-//! Columns side by side, flattened into one.
+//! Horizontal flatten: row-wise concatenation of columns into one column.
 #![tactic(auto)]
 
 pub mod horizontal_flatten;

@@ -1,4 +1,4 @@
-//! Picks of columns side by side.
+//! Row references of a horizontal flatten.
 
 ghost use Rattle.std.specs.Prelude.{◌≡◌, ◌≤◌, ◌<◌, ◌+◌, ◌*◌, All, length};
 ghost use Rattle.sel_flatten.specs.Lanes.{left_picks};
@@ -6,15 +6,17 @@ ghost use Rattle.sel_flatten.specs.Lanes.{left_picks};
 use sel_runs::plan::Plan;
 use sel_runs::run::Run;
 
-/// What each row has of one column: `width` rows, in row r from `r * step` on.
+/// The part of one column in each row: in row r, `width` rows from `r * step` on.
 #[derive(Clone, Copy, Drop)]
 pub struct Lane {
     pub width: u32,
     pub step: u32,
 }
 
-/// The picks of columns side by side, row by row: `part` more rows of column `source` from row `at` on, then what row `row`
-/// has of the lanes from `lane` on, then `below` rows more.
+/// An iterator over the row references of a horizontal flatten.
+///
+/// It has left `part` rows of column `source` from row `at` on, then row `row` of the lanes from
+/// `lane` on, then `below` more rows.
 #[derive(Drop)]
 pub struct Woven<'a> {
     pub lanes: &'a [Lane],
@@ -36,7 +38,7 @@ pub struct Woven<'a> {
 }
 
 impl Woven<'_> {
-    // Goes on to the next part that has rows, unless some of this one are left.
+    // Advances to the next part, unless rows of this one are left.
     #[inline(always)]
     fn ready(&mut self)
         requires { 0 < self.old.left }
@@ -58,7 +60,7 @@ impl Woven<'_> {
         self.turn_lane();
     }
 
-    // Goes on to the next lane.
+    // Advances to the next lane.
     #[inline(always)]
     fn turn_lane(&mut self)
         requires done { self.old.part ≡ 0 }
@@ -77,7 +79,7 @@ impl Woven<'_> {
         self.lane += 1;
     }
 
-    // Goes on to the next row.
+    // Advances to the next row.
     #[inline(always)]
     fn turn_row(&mut self)
         requires done { self.old.part ≡ 0 }
@@ -149,7 +151,7 @@ impl Plan for Woven<'_> {
         false
     }
 
-    // Whether the parts of a row are of more than one row on average.
+    // Returns whether the rows left per row of the result, rounded down, outnumber the lanes.
     #[inline(always)]
     fn is_wide(&self) -> bool {
         self.left as usize / (self.below as usize + 1) > self.lanes.len()

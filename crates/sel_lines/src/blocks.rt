@@ -1,4 +1,4 @@
-//! Lists of one length as words, and the columns of them that are made of these.
+//! Parsing of fixed-size lists, and the columns built from them.
 ghost use Rattle.std.specs.Prelude.{◌≡◌, ℕ, ◌≤◌, ◌++◌, ◌∷◌, [], IsTrue, List, All, length, map, option_map, IfOk, OnOk};
 ghost use Rattle.sel_arrow.specs.NestedArrays.{block_column};
 ghost use Rattle.sel_arrow.specs.Rows.{rows, type_of};
@@ -18,11 +18,10 @@ use crate::words::split_at_each;
 use sel_arrow::fixed_size_list::FixedSizeListArray;
 use std::alloc::{AllocError, Global};
 
-/// The most items of a list.
+/// The maximum list size.
 pub const WIDEST: usize = 16;
 
-/// Lists of one length that were read: their items behind one another, zeros beneath a null list, and which of the items are
-/// valid; and which lists are.
+/// Parsed fixed-size lists: concatenated items with zeros for a null list, and both validities.
 #[derive(Drop)]
 pub struct Blocks {
     pub values: Vec<i64>,
@@ -30,7 +29,7 @@ pub struct Blocks {
     pub validity: Vec<bool>,
 }
 
-/// How many items each list has, of a word.
+/// Parses a list size, or returns `None` if `word` is invalid or exceeds `WIDEST`.
 pub fn parse_width(word: &str) -> Option<usize>
     ensures { result ≡ width_of word.now }
 {
@@ -41,7 +40,13 @@ pub fn parse_width(word: &str) -> Option<usize>
     Some(width)
 }
 
-/// The lists of so many items that a word is the printing of.
+/// Parses lists of size `width`, or returns `None` if `word` is invalid.
+///
+/// # Requires
+/// `word` has at most `LONGEST_LINE` bytes, and `width` is at most `WIDEST`.
+///
+/// # Errors
+/// `AllocError` if an allocation fails.
 pub fn parse_blocks(alloc: Global, word: &str, width: usize) -> Result<Option<Blocks>, AllocError>
     requires short { length word.now ≤ longest_line }
     requires narrow { width ≤ widest }
@@ -80,7 +85,7 @@ fn no_blocks(alloc: Global) -> Blocks
     }
 }
 
-// A list of so many items, which may be null, of `_` or the items' printing.
+// Parses a list of size `width`: `_` for null, or its items.
 fn parse_block(
     alloc: Global,
     word: &str,
@@ -145,7 +150,13 @@ fn push_list(blocks: &mut Blocks, items: Rows<i64>, width: usize) -> Result<(), 
 }
 
 impl Blocks {
-    /// The column of these lists, which break no rule of its makers.
+    /// Returns the fixed-size list column of these lists.
+    ///
+    /// # Requires
+    /// The parts are consistent with list size `width` and within the row limit.
+    ///
+    /// # Errors
+    /// `AllocError` if an allocation fails.
     pub fn into_array(self, alloc: Global, width: usize) -> Result<FixedSizeListArray, AllocError>
         requires narrow { width ≤ widest }
         requires kept { AreKeptBlocks width self }

@@ -16,7 +16,10 @@ use sel_arrow::primitive::PrimitiveArray;
 use sel_bits::faults::{PolarsError, PolarsResult};
 use std::alloc::{AllocError, Global};
 
-/// The answer to the words behind `choose`, or `None` where the line is bad.
+/// Returns the output of `choose` for `words`, or `None` if they are invalid.
+///
+/// # Errors
+/// `AllocError` if an allocation fails.
 pub fn answer_choose(alloc: Global, words: &[&str]) -> Result<Option<String>, AllocError>
     requires { All (λ word. length word.now ≤ longest_line) words.now }
     ensures { IfOk result (λ answer.
@@ -69,7 +72,7 @@ fn choose_rows(
     choose_columns(alloc, &mask, &if_true, &if_false)
 }
 
-// The rows that the mask chooses, or `None` where it has a null or not all three are of one length.
+// Returns the if-then-else rows, or `None` if the mask has a null or the lengths differ.
 fn choose_columns(
     alloc: Global,
     mask: &BooleanArray,

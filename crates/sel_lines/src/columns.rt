@@ -1,4 +1,4 @@
-//! Columns as words.
+//! Parsing and formatting of columns.
 ghost use Rattle.std.specs.Prelude.{◌≡◌, ℕ, ◌+◌, ◌<◌, ◌≤◌, ◌++◌, List, Option, IfOk, OnOk, map, length, option_map, string_bytes, slice_index_or};
 ghost use Rattle.std.specs.List.{join_with_byte};
 ghost use Rattle.sel_arrow.specs.Columns.{primitive_rows};
@@ -16,7 +16,13 @@ use sel_arrow::primitive::PrimitiveArray;
 use sel_arrow::utf8view::Utf8ViewArray;
 use std::alloc::{AllocError, Global};
 
-/// The column that a word is the printing of.
+/// Parses a column, or returns `None` if `word` is invalid.
+///
+/// # Requires
+/// `word` has at most `LONGEST_LINE` bytes.
+///
+/// # Errors
+/// `AllocError` if an allocation fails.
 pub fn parse_column<T: Item>(alloc: Global, word: &str) -> Result<Option<Rows<T>>, AllocError>
     requires { length word.now ≤ longest_line }
     ensures { IfOk result (λ column. option_map (rows_of T.shown) column ≡
@@ -49,7 +55,7 @@ fn parse_rows<T: Item>(alloc: Global, words: &[&str]) -> Result<Option<Rows<T>>,
     Ok(Some(Rows { values, validity }))
 }
 
-// A row, which may be null, of the item's printing or `n`.
+// Parses a row: `n` for null, or an item.
 fn parse_row<T: Item>(word: &str) -> Option<Option<T>>
     ensures { option_map (shown_row T.shown) result ≡ row_of T.value_of word.now }
 {
@@ -62,7 +68,10 @@ fn parse_row<T: Item>(word: &str) -> Option<Option<T>>
     }
 }
 
-/// The printing of a column.
+/// Formats a column.
+///
+/// # Errors
+/// `AllocError` if an allocation fails.
 pub fn print_column<C: Printed>(alloc: Global, column: &C) -> Result<String, AllocError>
     ensures { IfOk result (λ text. string_bytes text ≡ column_text (C.rows column.now)) }
 {
@@ -86,9 +95,9 @@ fn print_rows<C: Printed>(alloc: Global, column: &C) -> Result<String, AllocErro
     Ok(text)
 }
 
-/// A column whose rows have a printing.
+/// A column whose rows can be formatted.
 pub trait Printed: Array {
-    /// Puts the printing of row `place` behind the text.
+    /// Appends row `place` to `text`.
     fn push_row(&self, alloc: Global, place: usize, text: &mut String) -> Result<(), AllocError>
         requires { place < length (Self.rows self.now) }
         ensures { OnOk result (string_bytes text.new ≡

@@ -1,4 +1,4 @@
-//! The answer to one line.
+//! Execution of one input line.
 ghost use Rattle.std.specs.Prelude.{◌≡◌, ◌≤◌, IfOk, All, length, string_bytes, option_map, map};
 ghost use Rattle.sel_lines.specs.Commands.{answer_of_command, answer_of_line, answer_of_words};
 ghost use Rattle.sel_lines.specs.Lines.{longest_line};
@@ -15,10 +15,13 @@ use crate::take::answer_take;
 use crate::words::split_at_each;
 use std::alloc::{AllocError, Global};
 
-/// The most bytes of a line that is answered, without its line feed.
+/// The maximum number of bytes of a line, without its line feed.
 pub const LONGEST_LINE: usize = 1_048_576;
 
-/// The answer to a line, or `None` where the line is bad.
+/// Returns the output for a line, or `None` if the line is invalid.
+///
+/// # Errors
+/// `AllocError` if an allocation fails.
 pub fn answer_line(alloc: Global, line: &[u8]) -> Result<Option<String>, AllocError>
     ensures { IfOk result (λ answer. option_map string_bytes answer ≡ answer_of_line line.now) }
 {

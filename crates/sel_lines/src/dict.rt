@@ -17,7 +17,10 @@ use sel_arrow::utf8view::Utf8ViewArray;
 use sel_bits::faults::{PolarsError, PolarsResult};
 use std::alloc::{AllocError, Global};
 
-/// The answer to the words behind `dict`, or `None` where the line is bad.
+/// Returns the output of `dict` for `words`, or `None` if they are invalid.
+///
+/// # Errors
+/// `AllocError` if an allocation fails.
 pub fn answer_dict(alloc: Global, words: &[&str]) -> Result<Option<String>, AllocError>
     requires { All (λ word. length word.now ≤ longest_line) words.now }
     ensures { IfOk result (λ answer.
@@ -50,7 +53,7 @@ fn answer_rows(
     }
 }
 
-// The keys, a space and the values.
+// Formats the keys and the values, separated by a space.
 fn print_both(
     alloc: Global,
     keys: &PrimitiveArray<u32>,
@@ -66,7 +69,7 @@ fn print_both(
     Ok(text)
 }
 
-// The keys and the values without null values, or `None` where a key names no value.
+// Returns the keys and values without null values, or `None` if a key is out of bounds.
 fn propagate_rows(
     alloc: Global,
     keys: Rows<u32>,

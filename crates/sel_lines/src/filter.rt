@@ -21,7 +21,10 @@ use sel_arrow::primitive::PrimitiveArray;
 use sel_bits::faults::{PolarsError, PolarsResult};
 use std::alloc::{AllocError, Global};
 
-/// The answer to the words behind `filter`, or `None` where the line is bad.
+/// Returns the output of `filter` for `words`, or `None` if they are invalid.
+///
+/// # Errors
+/// `AllocError` if an allocation fails.
 pub fn answer_filter(alloc: Global, words: &[&str]) -> Result<Option<String>, AllocError>
     requires { All (λ word. length word.now ≤ longest_line) words.now }
     ensures { IfOk result (λ answer.
@@ -54,7 +57,7 @@ fn answer_rows(
     }
 }
 
-// The rows that the mask keeps, or `None` where it is not as long as the column.
+// Returns the rows that the mask keeps, or `None` if the lengths differ.
 fn filter_rows(
     alloc: Global,
     column: Rows<i64>,
@@ -73,7 +76,7 @@ fn filter_rows(
     Ok(Some(filter_column(alloc, column, &mask)?))
 }
 
-// The rows that a mask of the same length keeps.
+// Returns the rows that a mask of the same length keeps.
 fn filter_column(
     alloc: Global,
     column: PrimitiveArray<i64>,
@@ -90,7 +93,7 @@ fn filter_column(
     Ok(numbers_of(kept?))
 }
 
-/// The column of numbers that a column of their type is.
+/// Returns the primitive column in `array`, which must have type int64.
 pub fn numbers_of(array: ArrayRef) -> PrimitiveArray<i64>
     requires { type_of array.column ≡ of_int64 }
     ensures { primitive_rows result ≡ rows array.column }

@@ -15,7 +15,10 @@ use polars_compute::gather::sublist::fixed_size_list::sub_fixed_size_list_get_li
 use sel_bits::faults::PolarsError;
 use std::alloc::{AllocError, Global};
 
-/// The answer to the words behind `fixed`, or `None` where the line is bad.
+/// Returns the output of `fixed` for `words`, or `None` if they are invalid.
+///
+/// # Errors
+/// `AllocError` if an allocation fails.
 pub fn answer_fixed(alloc: Global, words: &[&str]) -> Result<Option<String>, AllocError>
     requires { All (λ word. length word.now ≤ longest_line) words.now }
     ensures { IfOk result (λ answer.
@@ -39,7 +42,7 @@ pub fn answer_fixed(alloc: Global, words: &[&str]) -> Result<Option<String>, All
     Ok(Some(answer_blocks(alloc, blocks, width, index, null_on_oob)?))
 }
 
-// The entries at the index, printed, or why there are none.
+// Formats the elements at the index, or the error message if the index is out of bounds.
 fn answer_blocks(
     alloc: Global,
     blocks: Blocks,

@@ -21,14 +21,17 @@ use sel_arrow::primitive::PrimitiveArray;
 use sel_bits::faults::{PolarsError, PolarsResult};
 use std::alloc::{AllocError, Global};
 
-/// A column, and how many of its rows stand in one row of the answer.
+/// A column and its number of values per output row.
 #[derive(Drop)]
 pub struct Part {
     pub width: usize,
     pub column: PrimitiveArray<i64>,
 }
 
-/// The answer to the words behind `flatten`, or `None` where the line is bad.
+/// Returns the output of `flatten` for `words`, or `None` if they are invalid.
+///
+/// # Errors
+/// `AllocError` if an allocation fails.
 pub fn answer_flatten(alloc: Global, words: &[&str]) -> Result<Option<String>, AllocError>
     requires { All (λ word. length word.now ≤ longest_line) words.now }
     ensures { IfOk result (λ answer.
@@ -106,7 +109,7 @@ fn answer_parts(
     }
 }
 
-// The rows of all parts side by side, or `None` where the parts do not fit.
+// Returns the horizontal flatten of all parts, or `None` if there are none or lengths do not match.
 fn flatten_parts(
     alloc: Global,
     parts: Vec<Part>,
@@ -154,7 +157,7 @@ fn arrays_of(alloc: Global, parts: Vec<Part>) -> PolarsResult<Vec<ArrayRef>>
     Ok(arrays)
 }
 
-// The rows of all columns side by side, or `None` where these do not fit.
+// Returns the horizontal flatten of the columns, or `None` if `flatten_is_safe` returns false.
 fn flatten_columns(
     alloc: Global,
     arrays: &[ArrayRef],

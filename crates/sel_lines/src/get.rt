@@ -15,7 +15,10 @@ use crate::refusals::want_of_memory;
 use polars_compute::gather::sublist::list::sublist_get;
 use std::alloc::{AllocError, Global};
 
-/// The answer to the words behind `get`, or `None` where the line is bad.
+/// Returns the output of `get` for `words`, or `None` if they are invalid.
+///
+/// # Errors
+/// `AllocError` if an allocation fails.
 pub fn answer_get(alloc: Global, words: &[&str]) -> Result<Option<String>, AllocError>
     requires { All (λ word. length word.now ≤ longest_line) words.now }
     ensures { IfOk result (λ answer.

@@ -1,4 +1,4 @@
-//! What a line such as `take 5,n,7 2,n,1` says, and the line that answers it.
+//! Commands on text lines such as `take 5,n,7 2,n,1`, and the line that each command outputs.
 #![tactic(auto)]
 
 mod blocks;

@@ -1,4 +1,4 @@
-//! Lists as words, and the columns of lists that are made of them.
+//! Parsing of lists, and the list columns built from them.
 ghost use Rattle.std.specs.Prelude.{◌≡◌, ◌≤◌, ◌+◌, ◌++◌, ◌∷◌, [], List, All, length, map, option_map, IfOk, OnOk};
 ghost use Rattle.sel_bits.specs.Bits.{unsliced};
 ghost use Rattle.sel_arrow.specs.Masked.{hidden};
@@ -25,8 +25,7 @@ use sel_bits::buffer::Buffer;
 use sel_bits::offsets::OffsetsBuffer;
 use std::alloc::{AllocError, Global};
 
-/// Lists that were read: their items behind one another and which of them are valid, where each list begins and the last one
-/// ends, and which lists are valid.
+/// Parsed lists: concatenated items and their validity, list offsets, and list validity.
 #[derive(Drop)]
 pub struct Lists {
     pub values: Vec<i64>,
@@ -35,7 +34,13 @@ pub struct Lists {
     pub validity: Vec<bool>,
 }
 
-/// The lists that a word is the printing of.
+/// Parses lists, or returns `None` if `word` is invalid.
+///
+/// # Requires
+/// `word` has at most `LONGEST_LINE` bytes.
+///
+/// # Errors
+/// `AllocError` if an allocation fails.
 pub fn parse_lists(alloc: Global, word: &str) -> Result<Option<Lists>, AllocError>
     requires { length word.now ≤ longest_line }
     ensures { IfOk result (IsReading (lists_of word.now)) }
@@ -72,7 +77,7 @@ fn no_lists(alloc: Global) -> Result<Lists, AllocError>
     })
 }
 
-/// A list, which may be null, of `_` or the items' printing.
+/// Parses a list: `_` for null, or its items.
 pub fn parse_row(alloc: Global, word: &str) -> Result<Option<Option<Rows<i64>>>, AllocError>
     requires { length word.now ≤ longest_line }
     ensures { IfOk result (λ row. option_map shown_list row ≡ list_of_word word.now) }
@@ -118,7 +123,13 @@ fn push_list(lists: &mut Lists, items: Rows<i64>) -> Result<(), AllocError>
 }
 
 impl Lists {
-    /// The column of these lists, which break no rule of its makers.
+    /// Returns the list column of these lists.
+    ///
+    /// # Requires
+    /// The parts are consistent and within the row limit.
+    ///
+    /// # Errors
+    /// `AllocError` if an allocation fails.
     pub fn into_array(self, alloc: Global) -> Result<ListArray<i64>, AllocError>
         requires { AreKept self }
         ensures rows { IfOk result (λ array. (read : List Value) →
@@ -144,7 +155,7 @@ impl Lists {
     }
 }
 
-/// The bitmap of truth values.
+/// Returns the bitmap of `values`.
 pub fn bits_of(alloc: Global, values: &[bool]) -> Result<Bitmap, AllocError>
     ensures { IfOk result (λ bitmap. bitmap ≡ unsliced values.now) }
 {
@@ -154,7 +165,7 @@ pub fn bits_of(alloc: Global, values: &[bool]) -> Result<Bitmap, AllocError>
     }
 }
 
-/// The column of items, and of which of them are valid.
+/// Returns the int64 column of `values` with validity `flags`.
 pub fn items_of(alloc: Global, values: Vec<i64>, flags: &[bool]) -> Result<ArrayRef, AllocError>
     requires paired { length flags.now ≡ length values.items }
     requires few { length values.items ≤ most_rows }

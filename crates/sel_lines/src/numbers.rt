@@ -1,21 +1,21 @@
-//! Numbers and truth values as words.
+//! Parsing of integers and booleans.
 ghost use Rattle.std.specs.Prelude.{◌≡◌, ℕ, pos, List, Option, option_map, Decides};
 ghost use Rattle.sel_arrow.specs.Value.{Value, Number, Truth};
 ghost use Rattle.sel_lines.specs.Numbers.{number_of, index_of, size_of, truth_of};
 ghost use Rattle.sel_lines.specs.Parts.{HasOneSpelling};
 
-/// What a column has in a row that is not null.
+/// A value of a non-null row.
 pub trait Item: Copy {
-    /// The value that a word is the printing of.
+    /// The value that a word is parsed to.
     ghost value_of: { List ℕ → Option Value };
 
-    /// The value that an item is.
+    /// The value of an item.
     ghost shown: { Self → Value };
 
-    /// What stands beneath a null.
+    /// The item in null slots.
     const BENEATH_NULL: Self;
 
-    /// The item that a word is the printing of.
+    /// Parses an item, or returns `None` if `word` is invalid.
     fn parse(word: &str) -> Option<Self>
         ensures { option_map shown result ≡ value_of word.now };
 }
@@ -69,7 +69,7 @@ impl Item for bool {
     }
 }
 
-/// The number that a word is the printing of.
+/// Parses an unsigned 64-bit integer, or returns `None` if `word` is invalid.
 pub fn parse_size(word: &str) -> Option<usize>
     ensures { result ≡ size_of word.now }
 {
@@ -80,7 +80,8 @@ pub fn parse_size(word: &str) -> Option<usize>
     }
 }
 
-// No plus, no leading zero and no `-0`: what `parse` takes and printing never writes.
+// Returns whether the word has no plus sign, no leading zero and no zero after a minus sign.
+// `parse` accepts these, and formatting never produces them.
 fn has_one_spelling(word: &str) -> bool
     ensures { Decides result (HasOneSpelling word.now) }
 {

@@ -8,7 +8,10 @@ use std::alloc::{AllocError, Global};
 
 const MOST_DIGITS: usize = 16;
 
-/// The answer to the words behind `pext`, or `None` where the line is bad.
+/// Returns the output of `pext` for `words`, or `None` if they are invalid.
+///
+/// # Errors
+/// `AllocError` if an allocation fails.
 pub fn answer_pext(alloc: Global, words: &[&str]) -> Result<Option<String>, AllocError>
     ensures { IfOk result (λ answer.
         option_map string_bytes answer ≡ pext_words (map (λ word. word.now) words.now)) }
@@ -26,7 +29,7 @@ pub fn answer_pext(alloc: Global, words: &[&str]) -> Result<Option<String>, Allo
     Ok(Some(format!(in alloc; "{packed:x}")?))
 }
 
-// The word that hexadecimal digits write.
+// Parses hexadecimal digits as a 64-bit integer.
 fn parse_hex(word: &str) -> Option<u64>
     ensures { result ≡ word_of_hex word.now }
 {
@@ -37,7 +40,8 @@ fn parse_hex(word: &str) -> Option<u64>
     }
 }
 
-// One digit to 16 in lower case: no sign and no capital letter, which `from_str_radix` takes too.
+// Returns whether the word is 1 to 16 lower-case hexadecimal digits; `from_str_radix` accepts more:
+// signs and upper-case digits.
 fn is_hex(word: &str) -> bool
     ensures { result ≡ is_hex_word word.now }
 {

@@ -1,10 +1,13 @@
-//! What a kernel's refusal is to the program.
+//! Conversion of kernel errors to `AllocError`.
 ghost use Rattle.std.specs.Prelude.{◌≡◌, alloc_error};
 
 use sel_bits::faults::{MakeError, PolarsError};
 use std::alloc::AllocError;
 
-/// The refusal of a kernel that refuses only for want of memory.
+/// Converts the error of a kernel to `AllocError`.
+///
+/// # Requires
+/// `fault` is `OutOfMemory`.
 pub fn want_of_memory(fault: PolarsError) -> AllocError
     requires { fault ≡ PolarsError.OutOfMemory }
     ensures { result ≡ alloc_error }
@@ -15,7 +18,10 @@ pub fn want_of_memory(fault: PolarsError) -> AllocError
     }
 }
 
-/// The refusal of a maker whose rules all hold.
+/// Converts the error of a column constructor to `AllocError`.
+///
+/// # Requires
+/// `fault` is `OutOfMemory`.
 pub fn want_of_parts(fault: MakeError) -> AllocError
     requires { fault ≡ MakeError.OutOfMemory }
     ensures { result ≡ alloc_error }

@@ -1,4 +1,4 @@
-//! The rows of a column that was read, and the columns that are made of them.
+//! Parsed rows of a column, and the columns built from them.
 ghost use Rattle.std.specs.Prelude.{◌≡◌, ◌+◌, ◌≤◌, length, IfOk, IfErr};
 ghost use Rattle.sel_arrow.specs.Columns.{boolean_rows, primitive_rows};
 ghost use Rattle.sel_arrow.specs.Value.{Number, Truth};
@@ -12,7 +12,7 @@ use sel_bits::faults::{PolarsError, PolarsResult};
 use sel_bits::native::NativeType;
 use std::alloc::Global;
 
-/// The items of a column, and which of its rows are valid.
+/// The values and the validity of parsed rows.
 #[derive(Drop)]
 pub struct Rows<T> {
     pub values: Vec<T>,
@@ -24,7 +24,10 @@ pub struct Rows<T> {
 impl<T: NativeType> Rows<T> {
     ghost use Rattle.sel_lines.specs.Rows.{rows_of};
 
-    /// The column of these numbers. Refuses only for want of memory.
+    /// Returns the primitive column of these rows.
+    ///
+    /// # Errors
+    /// `OutOfMemory` if an allocation fails.
     pub fn into_primitive(self, alloc: Global) -> PolarsResult<PrimitiveArray<T>>
         ensures rows { IfOk result (λ column. primitive_rows column ≡
             rows_of (λ x. Number (T.number x)) self) }
@@ -43,7 +46,10 @@ impl<T: NativeType> Rows<T> {
 impl Rows<bool> {
     ghost use Rattle.sel_lines.specs.Rows.{rows_of};
 
-    /// The column of these truth values. Refuses only for want of memory.
+    /// Returns the boolean column of these rows.
+    ///
+    /// # Errors
+    /// `OutOfMemory` if an allocation fails.
     pub fn into_boolean(self, alloc: Global) -> PolarsResult<BooleanArray>
         ensures rows { IfOk result (λ column. boolean_rows column ≡ rows_of Truth self) }
         ensures refusal { IfErr result (λ fault. fault ≡ PolarsError.OutOfMemory) }

@@ -1,4 +1,4 @@
-//! Rows of several columns: each column is filtered by one mask, and then taken by the same indices.
+//! Selection of rows from several columns: a filter by one mask, then a gather by the same indices.
 ghost use Rattle.std.specs.Prelude.{◌≡◌, IsTrue, IfOk, IfErr, count_by, length};
 ghost use Rattle.sel_arrow.specs.Columns.{boolean_rows, primitive_rows};
 ghost use Rattle.sel_arrow.specs.Rows.{rows, type_of};
@@ -16,9 +16,17 @@ use sel_arrow::primitive::IdxArr;
 use sel_bits::faults::PolarsResult;
 use std::alloc::Global;
 
-/// Of each column the rows at the indices among those that the mask keeps, with the column's type: row k is null where index k
-/// is. So row k of all columns comes from one source row. Refuses for want of memory, and where a limit is passed by the rows
-/// that are asked for of some column.
+/// Returns for each column the rows at `indices` among the rows that `mask` keeps.
+///
+/// Each result has the type of its column; a null index gives a null row. Row k of all results
+/// comes from one source row.
+///
+/// # Requires
+/// Every column has the length of `mask`, and every non-null index is less than the number of mask
+/// rows that are true and valid; check with [`select_is_safe`].
+///
+/// # Errors
+/// `SizeLimit` if the result for some column exceeds a limit; `OutOfMemory` if an allocation fails.
 pub fn select_rows(
     alloc: Global,
     columns: &[ArrayRef],
@@ -49,7 +57,7 @@ pub fn select_rows(
     Ok(selected)
 }
 
-// The rows of one column at the indices among those that the mask keeps.
+// Returns the rows of one column at `indices` among the rows that `mask` keeps.
 fn select_column(
     alloc: Global,
     column: &ArrayRef,
@@ -73,8 +81,10 @@ fn select_column(
     taken
 }
 
-/// Whether each column is as long as the mask, and each index that is not null is below the number of mask rows in force.
-/// Takes no memory.
+/// Returns whether [`select_rows`] may be called with these arguments.
+///
+/// That is, every column has the length of `mask`, and every non-null index is less than the number
+/// of mask rows that are true and valid. Does not allocate.
 pub fn select_is_safe(columns: &[ArrayRef], mask: &BooleanArray, indices: &IdxArr) -> bool
     ensures { result ≡ selection_fits
         (rows_of_each columns.now) (boolean_rows mask.now) (primitive_rows indices.now) }
@@ -87,7 +97,7 @@ pub fn select_is_safe(columns: &[ArrayRef], mask: &BooleanArray, indices: &IdxAr
     indices_in_bounds(indices, rows_in_force(mask))
 }
 
-// How many rows of the mask are the valid value true.
+// Returns the number of mask rows that are true and valid.
 fn rows_in_force(mask: &BooleanArray) -> usize
     ensures { result ≡ count_by is_true (boolean_rows mask.now) }
 {

@@ -24,7 +24,10 @@ use sel_arrow::primitive::IdxArr;
 use sel_bits::faults::{PolarsError, PolarsResult};
 use std::alloc::{AllocError, Global};
 
-/// The answer to the words behind `table`, or `None` where the line is bad.
+/// Returns the output of `table` for `words`, or `None` if they are invalid.
+///
+/// # Errors
+/// `AllocError` if an allocation fails.
 pub fn answer_table(alloc: Global, words: &[&str]) -> Result<Option<String>, AllocError>
     requires { All (λ word. length word.now ≤ longest_line) words.now }
     ensures { IfOk result (λ answer.
@@ -47,7 +50,7 @@ pub fn answer_table(alloc: Global, words: &[&str]) -> Result<Option<String>, All
     answer
 }
 
-// The columns that the words are the printing of.
+// Parses one column from each word.
 fn parse_columns(alloc: Global, words: &[&str]) -> Result<Option<Vec<ArrayRef>>, AllocError>
     requires { All (λ word. length word.now ≤ longest_line) words.now }
     ensures rows { IfOk result (λ columns.
@@ -130,7 +133,8 @@ fn select_read(
     select_columns(alloc, &mask, &indices, columns)
 }
 
-// The rows at the indices among those that the mask keeps, or `None` where these do not fit.
+// Returns the rows at `indices` among the rows that `mask` keeps, or `None` if `select_is_safe`
+// returns false.
 fn select_columns(
     alloc: Global,
     mask: &BooleanArray,
@@ -152,7 +156,7 @@ fn select_columns(
     Ok(Some(select_rows(alloc, columns, mask, indices)?))
 }
 
-// The columns of numbers, with a space between them.
+// Formats int64 columns, separated by spaces.
 fn print_columns(alloc: Global, columns: &[ArrayRef]) -> Result<String, AllocError>
     requires { AreNumbers columns.now }
     ensures { IfOk result (λ text. string_bytes text ≡ columns_text (rows_of_each columns.now)) }

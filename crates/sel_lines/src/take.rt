@@ -17,7 +17,10 @@ use sel_arrow::primitive::{IdxArr, PrimitiveArray};
 use sel_bits::faults::{PolarsError, PolarsResult};
 use std::alloc::{AllocError, Global};
 
-/// The answer to the words behind `take`, or `None` where the line is bad.
+/// Returns the output of `take` for `words`, or `None` if they are invalid.
+///
+/// # Errors
+/// `AllocError` if an allocation fails.
 pub fn answer_take(alloc: Global, words: &[&str]) -> Result<Option<String>, AllocError>
     requires { All (λ word. length word.now ≤ longest_line) words.now }
     ensures { IfOk result (λ answer.
@@ -50,7 +53,7 @@ fn answer_rows(
     }
 }
 
-// The rows at the indices, or `None` where an index has none.
+// Returns the rows at `indices`, or `None` if an index is out of bounds.
 fn take_rows(
     alloc: Global,
     column: Rows<i64>,
@@ -69,7 +72,7 @@ fn take_rows(
     taken
 }
 
-// The rows of a column at the indices, or `None` where an index has none.
+// Returns the rows of a column at `indices`, or `None` if an index is out of bounds.
 fn take_column(
     alloc: Global,
     column: &PrimitiveArray<i64>,

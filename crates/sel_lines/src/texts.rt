@@ -1,4 +1,4 @@
-//! Columns of texts as words.
+//! Parsing of string columns.
 ghost use Rattle.std.specs.Prelude.{◌≡◌, ◌≤◌, ◌∷◌, [], IsTrue, IfOk, IfErr, length, map, option_map};
 ghost use Rattle.sel_arrow.specs.Columns.{utf8view_rows};
 ghost use Rattle.sel_arrow.specs.Masked.{hidden};
@@ -19,7 +19,13 @@ use sel_bits::buffer::Buffer;
 use sel_bits::faults::{PolarsError, PolarsResult};
 use std::alloc::{AllocError, Global};
 
-/// The column of texts that a word is the printing of.
+/// Parses a string column, or returns `None` if `word` is invalid.
+///
+/// # Requires
+/// `word` has at most `LONGEST_LINE` bytes.
+///
+/// # Errors
+/// `AllocError` if an allocation fails.
 pub fn parse_texts(alloc: Global, word: &str) -> Result<Option<Utf8ViewArray>, AllocError>
     requires { length word.now ≤ longest_line }
     ensures { IfOk result (λ column. option_map utf8view_rows column ≡ column_of text_of word.now) }
@@ -63,7 +69,7 @@ fn parse_words<'a>(
     Ok(Some(rows))
 }
 
-// A row, which may be null, of a text behind `=` or `n`.
+// Parses a row: `n` for null, or `=` followed by the string.
 fn parse_row(word: &str) -> Option<Option<&str>>
     ensures { option_map text_row result ≡ row_of text_of word.now }
 {
@@ -76,7 +82,7 @@ fn parse_row(word: &str) -> Option<Option<&str>>
     }
 }
 
-/// Views of texts, the one data buffer with the bytes of all of them, and which of them are valid.
+/// Views of strings, the data buffer with all their bytes, and their validity.
 #[derive(Drop)]
 pub struct Texts {
     pub views: Vec<View>,
@@ -92,7 +98,7 @@ pub struct Texts {
 impl Texts {
     ghost use Rattle.sel_lines.specs.ViewedTexts.{rows_of_texts};
 
-    // The texts of the rows, with an empty one beneath a null.
+    // Builds the views of the rows, with an empty string in null slots.
     fn of_rows(alloc: Global, rows: &[Option<&str>]) -> Result<Texts, AllocError>
         requires few { length rows.now ≤ 4294967295 }
         requires bytes { bytes_needed (map text_row rows.now) ≤ 4294967295 }
@@ -114,7 +120,7 @@ impl Texts {
         })
     }
 
-    // The column of these texts. Refuses only for want of memory.
+    // Returns the string column of these views.
     fn into_column(self, alloc: Global) -> PolarsResult<Utf8ViewArray>
         ensures rows { IfOk result (λ column. utf8view_rows column ≡ rows_of_texts self) }
         ensures refusal { IfErr result (λ fault. fault ≡ PolarsError.OutOfMemory) }

@@ -1,10 +1,16 @@
-//! A text cut at a separator.
+//! Splitting of a line at a separator.
 ghost use Rattle.std.specs.Prelude.{◌≡◌, ◌==◌, ◌+◌, ◌<◌, ◌≤◌, IfOk, map, length, All};
 ghost use Rattle.std.specs.List.{slice_split};
 
 use std::alloc::{AllocError, Global};
 
-/// The parts of a text between its separators, at least one.
+/// Returns the parts of `text` between separators, at least one.
+///
+/// # Requires
+/// `separator` is an ASCII character.
+///
+/// # Errors
+/// `AllocError` if an allocation fails.
 pub fn split_at_each(alloc: Global, text: &str, separator: char) -> Result<Vec<&str>, AllocError>
     requires { separator < 128 }
     ensures parts { IfOk result (λ parts. map (λ part. part.now) parts.items ≡

@@ -1,4 +1,4 @@
-//! Bytes collected by runs of rows.
+//! Binary columns, collected by runs of rows.
 
 ghost use Rattle.std.specs.Prelude.{◌≡◌, ◌≤◌, ◌+◌, ◌*◌, ◌∷◌, ◌++◌, [], true, pos, All, length, map, take, drop, replicate, IfOk, IfErr, OnOk};
 ghost use Rattle.sel_arrow.specs.Columns.{binary_rows};
@@ -21,7 +21,8 @@ use sel_bits::offsets::OffsetsBuffer;
 use sel_bits::packer::BitPacker;
 use std::alloc::Global;
 
-/// Rows joined behind one another: a 0 and where each row ends, their bytes, and one bit a row.
+/// The rows so far: a leading 0 and the end offset of each row, the value bytes, and one validity
+/// bit per row.
 #[derive(Drop)]
 struct Joined {
     ends: Vec<i64>,
@@ -29,9 +30,18 @@ struct Joined {
     validity: BitPacker,
 }
 
-/// The rows that runs pick of columns of bytes, `len` in all; each run of a source is of rows that are not null, whose
-/// bytes are copied at once. Refuses where they need more bytes than an offset can show, and only there, and for want of
-/// memory.
+/// Returns the rows of several binary columns that runs refer to, in order; a run without a source
+/// gives null rows.
+///
+/// The value bytes of each run are copied at once.
+///
+/// # Requires
+/// Every run is within the rows of its source, and a run with a source contains no null row. The
+/// runs have `len` rows in total, at most 2^32 - 1.
+///
+/// # Errors
+/// `OutOfMemory` if an allocation fails; `SizeLimit(Limit::Bytes)` if the rows have more than 2^63
+/// - 1 value bytes.
 pub fn collect_binary<'a>(
     alloc: Global,
     sources: &'a [&'a BinaryArray<i64>],
@@ -69,7 +79,7 @@ pub fn collect_binary<'a>(
     })
 }
 
-// How many bytes the rows need that runs pick.
+// Returns the number of value bytes of the rows that runs refer to.
 fn count_bytes(sources: &[&BinaryArray<i64>], runs: &[Run]) -> u128
     requires fits { All (PickFits (binaries sources.now)) (expand runs.now) }
     requires live { All (IsLive (binaries sources.now)) (expand runs.now) }
@@ -83,7 +93,7 @@ fn count_bytes(sources: &[&BinaryArray<i64>], runs: &[Run]) -> u128
     total
 }
 
-// How many bytes the rows of one run need.
+// Returns the number of value bytes of the rows of one run.
 fn count_run(sources: &[&BinaryArray<i64>], run: Run) -> u128
     requires fits { All (PickFits (binaries sources.now)) (unrolled run) }
     requires live { All (IsLive (binaries sources.now)) (unrolled run) }
@@ -96,7 +106,7 @@ fn count_run(sources: &[&BinaryArray<i64>], run: Run) -> u128
     bytes_of(sources, run).len() as u128
 }
 
-// The bytes of the rows of one run, which stand together; none of nulls.
+// Returns the value bytes of the rows of one run, which are contiguous; none for a run of nulls.
 fn bytes_of<'a>(sources: &[&'a BinaryArray<i64>], run: Run) -> &'a [u8]
     requires fits { All (PickFits (binaries sources.now)) (unrolled run) }
     requires live { All (IsLive (binaries sources.now)) (unrolled run) }
@@ -115,7 +125,7 @@ fn bytes_of<'a>(sources: &[&'a BinaryArray<i64>], run: Run) -> &'a [u8]
     }
 }
 
-// The bytes of the `len` rows from `start` on, of which none is null.
+// Returns the value bytes of the `len` rows from `start` on, none of which is null.
 fn part_of(array: &BinaryArray<i64>, start: usize, len: usize) -> &[u8]
     requires inside { start + len ≤ length (binary_rows array.now) }
     requires live { validities (take len (drop start (binary_rows array.now))) ≡
@@ -126,7 +136,7 @@ fn part_of(array: &BinaryArray<i64>, start: usize, len: usize) -> &[u8]
     &array.values.as_slice()[array.offsets.at(start)..end]
 }
 
-// No rows yet, with room for `len` of them and `need` bytes. Refuses only for want of memory.
+// Returns no rows, with capacity for `len` rows and `need` bytes. Errors: `OutOfMemory`.
 fn with_room(alloc: Global, len: usize, need: usize) -> PolarsResult<Joined>
     requires { len ≤ 4294967295 }
     ensures ends { IfOk result (λ joined. joined.ends.items ≡ pos 0 ∷ []) }
@@ -143,7 +153,7 @@ fn with_room(alloc: Global, len: usize, need: usize) -> PolarsResult<Joined>
     })
 }
 
-// Puts the rows that runs pick behind the others. Refuses only for want of memory.
+// Appends the rows that runs refer to. Errors: `OutOfMemory`.
 fn push_runs(joined: &mut Joined, sources: &[&BinaryArray<i64>], runs: &[Run]) -> PolarsResult<()>
     requires fits { All (PickFits (binaries sources.now)) (expand runs.now) }
     requires live { All (IsLive (binaries sources.now)) (expand runs.now) }
@@ -158,7 +168,7 @@ fn push_runs(joined: &mut Joined, sources: &[&BinaryArray<i64>], runs: &[Run]) -
     Ok(())
 }
 
-// Puts the rows of one run behind the others, their bytes at once. Refuses only for want of memory.
+// Appends the rows of one run, their bytes at once. Errors: `OutOfMemory`.
 fn push_run(joined: &mut Joined, sources: &[&BinaryArray<i64>], run: Run) -> PolarsResult<()>
     requires fits { All (PickFits (binaries sources.now)) (unrolled run) }
     requires live { All (IsLive (binaries sources.now)) (unrolled run) }
@@ -176,8 +186,8 @@ fn push_run(joined: &mut Joined, sources: &[&BinaryArray<i64>], run: Run) -> Pol
     Ok(())
 }
 
-// Puts where each row of a run ends behind the others, if they are joined behind `before` bytes. Refuses only for want
-// of memory.
+// Appends the end offset of each row of a run, whose bytes begin at offset `before`. Errors:
+// `OutOfMemory`.
 fn push_ends(
     ends: &mut Vec<i64>,
     sources: &[&BinaryArray<i64>],
@@ -206,7 +216,7 @@ fn push_ends(
     }
 }
 
-// Puts `before` behind the others `len` times: so many nulls end where they begin. Refuses only for want of memory.
+// Appends `before` `len` times, as the end offsets of null rows. Errors: `OutOfMemory`.
 fn push_same_ends(ends: &mut Vec<i64>, before: usize, len: usize) -> PolarsResult<()>
     requires { before ≤ 9223372036854775807 }
     ensures ends { OnOk result (ends.new.items ≡ ends.old.items ++ replicate len (pos before)) }
@@ -218,8 +228,8 @@ fn push_same_ends(ends: &mut Vec<i64>, before: usize, len: usize) -> PolarsResul
     Ok(())
 }
 
-// Puts where each of the `len` rows from `start` on ends behind the others, if they are joined behind `before` bytes.
-// Refuses only for want of memory.
+// Appends the end offset of each of the `len` rows from `start` on, whose bytes begin at offset
+// `before`. Errors: `OutOfMemory`.
 fn push_row_ends(
     ends: &mut Vec<i64>,
     array: &BinaryArray<i64>,

@@ -1,4 +1,4 @@
-//! Validities that are put behind one another.
+//! Concatenation of validity bitmaps.
 
 ghost use Rattle.std.specs.Prelude.{◌≡◌, ◌≤◌, ◌+◌, ◌++◌, length, IfOk, IfErr, OnOk};
 ghost use Rattle.std.specs.Option.{ForSome, option_copied};
@@ -9,7 +9,13 @@ use sel_bits::bitmap::Bitmap;
 use sel_bits::faults::{PolarsError, PolarsResult};
 use sel_bits::packer::BitPacker;
 
-/// Puts a validity's `len` bits from `start` on behind the others, all true where there is none. Refuses only for want of memory.
+/// Appends the `len` validity bits from `start` on; without a bitmap, appends `len` true bits.
+///
+/// # Requires
+/// If there is a bitmap, it has at least `start + len` bits.
+///
+/// # Errors
+/// `OutOfMemory` if an allocation fails.
 pub fn push_validity(
     packer: &mut BitPacker,
     validity: Option<&Bitmap>,
@@ -27,7 +33,13 @@ pub fn push_validity(
     }
 }
 
-/// The validity of rows with these bits; none where all of them are true. Refuses only for want of memory.
+/// Returns the validity of `len` rows with these bits; none if all bits are true.
+///
+/// # Requires
+/// `packer` has `len` bits.
+///
+/// # Errors
+/// `OutOfMemory` if an allocation fails.
 pub fn validity_from(packer: BitPacker, len: usize) -> PolarsResult<Option<Bitmap>>
     requires { length packer ≡ len }
     ensures bits { IfOk result (λ validity. bits_for len validity ≡ packer) }

@@ -1,4 +1,4 @@
-//! Truth values that grow by those of other columns.
+//! Boolean columns, collected by runs of rows or gathered by row references.
 
 ghost use Rattle.std.specs.Prelude.{◌≡◌, ◌≤◌, ◌+◌, ◌++◌, Some, All, length, map, take, drop, IfOk, IfErr, OnOk};
 ghost use Rattle.std.specs.Option.{option_copied};
@@ -24,7 +24,7 @@ use sel_bits::faults::{PolarsError, PolarsResult};
 use sel_bits::packer::BitPacker;
 use std::alloc::Global;
 
-/// The truth values so far, and the validity, one bit a truth value.
+/// The values so far, and one validity bit per value.
 #[derive(Drop)]
 struct GrowableBoolean<'a> {
     sources: &'a [&'a BooleanArray],
@@ -70,7 +70,7 @@ impl Growable for GrowableBoolean<'_> {
     }
 }
 
-// Puts a part of a source behind the others.
+// Appends the `len` rows of a source from `start` on. Errors: `OutOfMemory`.
 fn push_part(
     values: &mut BitPacker,
     validity: &mut BitPacker,
@@ -89,7 +89,7 @@ fn push_part(
     push_validity(validity, from.validity.as_ref(), start, len)
 }
 
-/// The columns by their layout. Refuses only for want of memory.
+/// Returns the boolean arrays of the columns. Errors: `OutOfMemory`.
 fn booleans_of<'a>(alloc: Global, sources: &'a [&'a Column]) -> PolarsResult<Vec<&'a BooleanArray>>
     requires { All (λ c. type_of c.now ≡ of_boolean) sources.now }
     ensures rows { IfOk result (λ found. map (λ s. boolean_rows s.now) found.items ≡
@@ -106,7 +106,15 @@ fn booleans_of<'a>(alloc: Global, sources: &'a [&'a Column]) -> PolarsResult<Vec
     Ok(found)
 }
 
-/// The rows that runs pick of columns of truth values, `len` in all. Refuses only for want of memory.
+/// Returns the rows of several boolean columns that runs refer to, in order; a run without a source
+/// gives null rows.
+///
+/// # Requires
+/// All sources are boolean columns, and every run is within the rows of its source. The runs have
+/// `len` rows in total, at most 2^32 - 1.
+///
+/// # Errors
+/// `OutOfMemory` if an allocation fails.
 pub fn collect_boolean<'a>(
     alloc: Global,
     sources: &'a [&'a Column],
@@ -138,7 +146,14 @@ pub fn collect_boolean<'a>(
     Ok(Column::Boolean(BooleanArray { values, validity }))
 }
 
-/// The rows that picks name of columns of truth values. Refuses only for want of memory.
+/// Returns the rows of several boolean columns at the row references of `plan`; a null reference
+/// gives a null row.
+///
+/// # Requires
+/// All sources are boolean columns, and every non-null row reference refers to a row of a source.
+///
+/// # Errors
+/// `OutOfMemory` if an allocation fails.
 pub fn gather_boolean<'a, P: Plan>(
     alloc: Global,
     sources: &'a [&'a Column],
@@ -165,7 +180,7 @@ pub fn gather_boolean<'a, P: Plan>(
     Ok(Column::Boolean(BooleanArray { values, validity }))
 }
 
-// The truth values of each source. Refuses only for want of memory.
+// Returns the values bitmap of each source. Errors: `OutOfMemory`.
 fn values_of<'a>(
     alloc: Global,
     arrays: &[&'a BooleanArray],
@@ -181,7 +196,7 @@ fn values_of<'a>(
     Ok(maps)
 }
 
-// The validity of each source. Refuses only for want of memory.
+// Returns the validity of each source. Errors: `OutOfMemory`.
 fn validities_of<'a>(
     alloc: Global,
     arrays: &[&'a BooleanArray],

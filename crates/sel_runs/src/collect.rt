@@ -1,4 +1,4 @@
-//! Rows of columns of any one type.
+//! Gathers rows from several columns of one type.
 
 ghost use Rattle.std.specs.Prelude.{◌≡◌, ◌≤◌, ◌<◌, All, length, map, pos, true, IfOk, IfErr};
 ghost use Rattle.sel_arrow.specs.Rows.{rows, type_of, IsField, IsWellFormed};
@@ -29,9 +29,20 @@ use sel_arrow::utf8view::Utf8ViewArray;
 use sel_bits::faults::{Limit, PolarsError, PolarsResult};
 use std::alloc::Global;
 
-/// Row k is null where pick k is none, else the row that it names of one of the sources. Refuses for want of memory, and
-/// where at some depth the rows need more rows or more bytes, or the sources have more data buffers, than a column may
-/// have.
+/// Returns the rows of `sources` at the row references `picks`, in order; a null reference gives a
+/// null row.
+///
+/// Reference `(s, i)` refers to row `i` of source `s`.
+///
+/// # Requires
+/// There is at least one source, and all sources have the type of the first (check with
+/// `are_alike`) and are well-formed (check with `are_well_formed`). Every non-null reference refers
+/// to a row of a source, and there are at most 2^32 - 1 references (check with `picks_in_bounds`).
+///
+/// # Errors
+/// `OutOfMemory` if an allocation fails; `SizeLimit` if at some depth the result would have more
+/// than 2^32 - 1 rows (`Limit::Rows`) or 2^63 - 1 value bytes (`Limit::Bytes`), or the sources have
+/// more than 2^32 - 1 data buffers in total (`Limit::Buffers`).
 pub fn collect_rows<'a>(
     alloc: Global,
     sources: &'a [&'a Column],
@@ -55,7 +66,17 @@ pub fn collect_rows<'a>(
     Ok(ArrayRef { column })
 }
 
-/// The rows that runs pick of columns of one type, `len` in all. Refuses as `collect_rows` does.
+/// Returns the rows of `sources` that `runs` refer to, in order; a run without a source gives null
+/// rows.
+///
+/// # Requires
+/// There is at least one source, and all sources have the type of the first (check with
+/// `are_alike`) and are well-formed (check with `are_well_formed`). Every run is within the rows of
+/// its source (check with `runs_fit`). The runs have `len` rows in total (`picked_rows`), at most
+/// 2^32 - 1.
+///
+/// # Errors
+/// Those of [`collect_rows`].
 pub fn collect_runs<'a>(
     alloc: Global,
     sources: &'a [&'a Column],
@@ -80,7 +101,7 @@ pub fn collect_runs<'a>(
     collect_like(alloc, first, sources, runs, len)
 }
 
-// The rows that runs pick of columns of the type of `first`, `len` in all.
+// Returns the rows of columns of the type of `first` that runs refer to, `len` in total.
 #[cycle(collecting)]
 fn collect_like<'a>(
     alloc: Global,
@@ -127,7 +148,7 @@ fn collect_like<'a>(
     }
 }
 
-// The lists that runs pick, whose child is of the type of `child`.
+// Returns the lists that runs refer to; `child` has the type of their items.
 #[cycle(collecting)]
 fn collect_lists<'a>(
     alloc: Global,
@@ -159,7 +180,7 @@ fn collect_lists<'a>(
     Ok(column)
 }
 
-// The lists of `size` rows that runs pick, whose child is of the type of `child`.
+// Returns the fixed-size lists that runs refer to; `child` has the type of their items.
 #[cycle(collecting)]
 fn collect_blocks<'a>(
     alloc: Global,
@@ -195,8 +216,10 @@ fn collect_blocks<'a>(
     Ok(column)
 }
 
-// The rows that lists hold which runs pick, `need` in all, `width` nulls for each null; they are of the type of `first`.
-// Where that is the type of nulls, nothing is listed for them: as many nulls as are needed are all there is to know.
+// Returns the `need` items of the lists that runs refer to, and `width` nulls for each null list.
+//
+// The items have the type of `first`. For the null type the result is `need` nulls, and no runs are
+// built.
 #[cycle(collecting)]
 fn collect_items<'a>(
     alloc: Global,
@@ -231,7 +254,7 @@ fn collect_items<'a>(
     Ok(values)
 }
 
-// The tuples that runs pick, whose fields are of the types of `firsts`.
+// Returns the struct rows that runs refer to; `firsts` have the types of their fields.
 #[cycle(collecting)]
 fn collect_tuples<'a>(
     alloc: Global,
@@ -261,7 +284,7 @@ fn collect_tuples<'a>(
     Ok(column)
 }
 
-// The fields of the tuples that runs pick, which are of the types of `firsts`.
+// Returns the fields of the struct rows that runs refer to; `firsts` have their types.
 #[cycle(collecting)]
 fn collect_fields<'a>(
     alloc: Global,
@@ -298,7 +321,9 @@ fn collect_fields<'a>(
     Ok(fields)
 }
 
-/// The rows that runs pick of columns of bytes, whose null rows may lie over bytes that are not theirs.
+/// Returns the rows of binary columns that runs refer to.
+///
+/// First replaces null rows by runs of nulls, since a null slot may have value bytes.
 fn collect_large_binary<'a>(
     alloc: Global,
     sources: &'a [&'a Column],
@@ -324,7 +349,7 @@ fn collect_large_binary<'a>(
     Ok(Column::LargeBinary(array))
 }
 
-/// The rows that runs pick of columns of views.
+/// Returns the rows of binary view columns that runs refer to.
 fn collect_binview<'a>(
     alloc: Global,
     sources: &'a [&'a Column],
@@ -348,7 +373,7 @@ fn collect_binview<'a>(
     Ok(Column::BinaryView(array))
 }
 
-/// The rows that runs pick of columns of texts, by their views.
+/// Returns the rows of string view columns that runs refer to.
 fn collect_utf8view<'a>(
     alloc: Global,
     sources: &'a [&'a Column],

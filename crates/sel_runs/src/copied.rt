@@ -1,4 +1,4 @@
-//! Values without a validity, copied run by run.
+//! Values without validity, copied run by run.
 
 ghost use Rattle.std.specs.Prelude.{◌≡◌, ◌≤◌, ◌+◌, ◌++◌, All, false, is_none, length, map, take, drop, IfOk, IfErr, OnOk};
 ghost use Rattle.sel_runs.specs.Picks.{pick, PickFits};
@@ -11,17 +11,19 @@ use crate::run::Run;
 use sel_bits::faults::{PolarsError, PolarsResult};
 use std::alloc::Global;
 
-// So many values or fewer are copied as so many, a move of a known size in place of a call; the rest is cut off again.
+// The run length up to which a copy moves this many values, a constant size, and truncates the
+// rest.
 const SHORT_RUN: usize = 8;
 
-/// Whether some run is one of nulls.
+/// Returns whether some run has no source.
 pub(crate) fn is_any_null(runs: &[Run]) -> bool
     ensures { result ≡ false → All (λ run. is_none run.source ≡ false) runs.now }
 {
     runs.iter().any(|run| run.source.is_none())
 }
 
-/// The values that runs pick, `len` in all, and `zero` for none. Refuses only for want of memory.
+/// Returns the values that runs refer to, `len` in total, and `zero` for runs without a source.
+/// Errors: `OutOfMemory`.
 pub(crate) fn copy_runs<T: Copy + Drop>(
     alloc: Global,
     parts: &[Part<T>],
@@ -35,7 +37,7 @@ pub(crate) fn copy_runs<T: Copy + Drop>(
         pick zero (map (λ s. s.values.now) parts.now) (expand runs.now)) }
     ensures refusal { IfErr result (λ fault. fault ≡ PolarsError.OutOfMemory) }
 {
-    // (with room for what is cut off behind the last run)
+    // (includes room for the values that are truncated after the last run)
     let mut values = Vec::with_capacity(alloc, len.saturating_add(SHORT_RUN))?;
     for run in runs {
         copy_run(&mut values, parts, *run, zero)?;
@@ -43,7 +45,8 @@ pub(crate) fn copy_runs<T: Copy + Drop>(
     Ok(values)
 }
 
-/// The values that a plan picks, copied by its runs, and `zero` for none. Refuses only for want of memory.
+/// Returns the values at the row references of a plan, copied by its runs, and `zero` for null
+/// references. Errors: `OutOfMemory`.
 pub(crate) fn copy_plan<P: Plan, T: Copy + Drop>(
     alloc: Global,
     plan: &P,
@@ -67,7 +70,7 @@ pub(crate) fn copy_plan<P: Plan, T: Copy + Drop>(
     Ok(values)
 }
 
-// Puts the values that a run picks behind the others, `zero` for none. Refuses only for want of memory.
+// Appends the values of a run, or `zero` for each row if it has no source. Errors: `OutOfMemory`.
 #[inline(always)]
 fn copy_run<T: Copy + Drop>(
     values: &mut Vec<T>,
@@ -94,7 +97,7 @@ fn copy_run<T: Copy + Drop>(
     }
 }
 
-// Puts the `len` values from `start` on behind the others. Refuses only for want of memory.
+// Appends the `len` values from `start` on. Errors: `OutOfMemory`.
 #[inline(always)]
 fn copy_part<T: Copy + Drop>(
     values: &mut Vec<T>,

@@ -1,10 +1,16 @@
-//! One value many times.
+//! Appends repeated values.
 
 ghost use Rattle.std.specs.Prelude.{◌≡◌, ◌<◌, ◌+◌, ◌++◌, ◌^◌, length, replicate, IfErr, OnOk};
 
 use sel_bits::faults::{PolarsError, PolarsResult};
 
-/// Puts the same value `count` times behind the others. Refuses only for want of memory.
+/// Appends `value` `count` times.
+///
+/// # Requires
+/// The resulting length is less than 2^64.
+///
+/// # Errors
+/// `OutOfMemory` if an allocation fails.
 #[tactic(auto, using(crate::proofs::Windows::resized))]
 pub fn push_values<T: Copy>(items: &mut Vec<T>, value: T, count: usize) -> PolarsResult<()>
     requires { length items.old.items + count < 2 ^ 64 }

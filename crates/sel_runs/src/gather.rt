@@ -1,4 +1,4 @@
-//! Values and bits of several sources, found pick by pick.
+//! Gathers values and bits from several sources, one row reference at a time.
 
 ghost use Rattle.std.specs.Prelude.{◌≡◌, ◌≤◌, ◌<◌, ◌+◌, ◌∷◌, ◌++◌, [], All, None, false, length, slice_index_or, map, take, drop, vec_len, vec_capacity, IfOk, IfErr};
 ghost use Rattle.std.specs.Option.{ForSome, option_copied};
@@ -24,7 +24,7 @@ pub(crate) struct Part<'a, T: Copy> {
     pub ghost covers: { Covers (option_copied validity) (length values.now) },
 }
 
-/// The value that each pick names, and `zero` for none. Refuses only for want of memory.
+/// Returns the value at each row reference, and `zero` for null references. Errors: `OutOfMemory`.
 pub(crate) fn gather_values<P: Plan, T: Copy + Drop>(
     alloc: Global,
     plan: &P,
@@ -52,7 +52,8 @@ pub(crate) fn gather_values<P: Plan, T: Copy + Drop>(
     Ok(values)
 }
 
-// The value of one source that each pick names, and `zero` for none: the source is looked up once. Refuses only for want of memory.
+// Returns the value of a single source at each row reference, and `zero` for null references.
+// Errors: `OutOfMemory`.
 fn gather_one<P: Plan, T: Copy + Drop>(
     alloc: Global,
     plan: &P,
@@ -74,7 +75,7 @@ fn gather_one<P: Plan, T: Copy + Drop>(
     Ok(values)
 }
 
-// The value of one source that a pick names, and `zero` for none.
+// Returns the value of a single source at a row reference, or `zero` if it is null.
 #[inline(always)]
 fn value_of_place<T: Copy>(values: &[T], pick: Option<(u32, u32)>, zero: T) -> T
     requires { PickFits (values.now ∷ []) pick }
@@ -86,7 +87,7 @@ fn value_of_place<T: Copy>(values: &[T], pick: Option<(u32, u32)>, zero: T) -> T
     }
 }
 
-// The value that a pick names, and `zero` for none.
+// Returns the value at a row reference, or `zero` if it is null.
 #[inline(always)]
 fn value_of_pick<T: Copy + Drop>(parts: &[Part<T>], pick: Option<(u32, u32)>, zero: T) -> T
     requires { PickFits (map (λ s. s.values.now) parts.now) pick }
@@ -101,7 +102,6 @@ fn value_of_pick<T: Copy + Drop>(parts: &[Part<T>], pick: Option<(u32, u32)>, ze
     }
 }
 
-// Value `i`.
 #[inline(always)]
 fn value_in<T: Copy>(values: &[T], i: usize) -> T
     requires { i < length values.now }
@@ -110,8 +110,10 @@ fn value_in<T: Copy>(values: &[T], i: usize) -> T
     values[i]
 }
 
-/// The value that each pick names, `zero` for none, and the validity of the rows that picks name; none where each row is valid.
-/// Where some row may be null, each pick is worked out once for both. Refuses only for want of memory.
+/// Returns the value at each row reference, `zero` for null references, and the validity of these
+/// rows, none if all are valid.
+///
+/// If some row may be null, evaluates each row reference once for both. Errors: `OutOfMemory`.
 pub(crate) fn gather_parts<P: Plan, T: Copy + Drop>(
     alloc: Global,
     plan: &P,
@@ -136,14 +138,15 @@ pub(crate) fn gather_parts<P: Plan, T: Copy + Drop>(
     Ok((values, validity))
 }
 
-/// Whether some source has a validity.
+/// Returns whether some source has a validity bitmap.
 pub(crate) fn is_any_hidden<T: Copy>(parts: &[Part<T>]) -> bool
     ensures { result ≡ false → All (λ s. option_copied s.validity ≡ None) parts.now }
 {
     parts.iter().any(|part| part.validity.is_some())
 }
 
-// The value that each pick names, `zero` for none, and the bit of its validity, false for none. Refuses only for want of memory.
+// Returns the value and the validity bit at each row reference; `zero` and false for null
+// references. Errors: `OutOfMemory`.
 fn gather_hidden<P: Plan, T: Copy + Drop>(
     alloc: Global,
     plan: &P,
@@ -171,8 +174,8 @@ fn gather_hidden<P: Plan, T: Copy + Drop>(
     Ok((values, bits))
 }
 
-// Puts the values that the next `count` picks name behind the others, and answers the word of their bits. The picks are left no
-// longer.
+// Appends the values at the next `count` row references, consumes these references, and returns
+// their validity bits as one word.
 #[inline(always)]
 fn push_word<P: Plan, T: Copy + Drop>(
     values: &mut Vec<T>,
@@ -203,7 +206,7 @@ fn push_word<P: Plan, T: Copy + Drop>(
     word
 }
 
-// The value that a pick names and the bit of its validity; `zero` and false for none.
+// Returns the value and the validity bit at a row reference; `zero` and false if it is null.
 #[inline(always)]
 fn row_of_pick<T: Copy + Drop>(parts: &[Part<T>], pick: Option<(u32, u32)>, zero: T) -> (T, bool)
     requires { PickFits (map (λ s. s.values.now) parts.now) pick }
@@ -220,8 +223,8 @@ fn row_of_pick<T: Copy + Drop>(parts: &[Part<T>], pick: Option<(u32, u32)>, zero
     }
 }
 
-/// The validity of the rows that picks name, of sources with these validities; none where each row is valid. Refuses only for
-/// want of memory.
+/// Returns the validity of the gathered rows, given the validity of each source; none if all rows
+/// are valid. Errors: `OutOfMemory`.
 pub(crate) fn gather_validity<P: Plan>(
     alloc: Global,
     plan: &P,
@@ -242,14 +245,22 @@ pub(crate) fn gather_validity<P: Plan>(
     Ok(validity)
 }
 
-/// Whether some bitmap is there.
+/// Returns whether some bitmap is present.
 pub(crate) fn is_any_there(maps: &[Option<&Bitmap>]) -> bool
     ensures { result ≡ false → All (λ map. option_copied map ≡ None) maps.now }
 {
     maps.iter().any(|map| map.is_some())
 }
 
-/// The bit that each pick names, true where that bitmap is not there; false for none. Refuses only for want of memory.
+/// Returns the bit at each row reference: true if the source has no bitmap, false for null
+/// references.
+///
+/// # Requires
+/// Every non-null row reference refers to an entry of `maps`, and to a bit of that bitmap if it is
+/// present.
+///
+/// # Errors
+/// `OutOfMemory` if an allocation fails.
 pub fn gather_bits<P: Plan>(
     alloc: Global,
     plan: &P,
@@ -272,7 +283,7 @@ pub fn gather_bits<P: Plan>(
     Ok(bits)
 }
 
-// The word of the bits that the next `count` picks name, which are left no longer.
+// Consumes the next `count` row references, and returns the bits at them as one word.
 #[inline(always)]
 fn word_of_picks<P: Plan>(plan: &mut P, maps: &[Option<&Bitmap>], count: usize) -> u64
     requires fits { All (HasBit (map option_copied maps.now)) (P.picks plan.old) }
@@ -290,7 +301,8 @@ fn word_of_picks<P: Plan>(plan: &mut P, maps: &[Option<&Bitmap>], count: usize) 
     word
 }
 
-// The bit that a pick names.
+// Returns the bit at a row reference: true if the source has no bitmap, false if the reference is
+// null.
 #[inline(always)]
 fn bit_of_pick(maps: &[Option<&Bitmap>], pick: Option<(u32, u32)>) -> bool
     requires { HasBit (map option_copied maps.now) pick }
@@ -302,7 +314,7 @@ fn bit_of_pick(maps: &[Option<&Bitmap>], pick: Option<(u32, u32)>) -> bool
     }
 }
 
-// Whether row `i` is valid.
+// Returns whether row `i` is valid.
 #[inline(always)]
 fn is_valid_in(validity: Option<&Bitmap>, i: usize) -> bool
     requires { ForSome (option_copied validity) (λ v. i < length v.bits) }

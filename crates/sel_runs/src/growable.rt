@@ -1,4 +1,4 @@
-//! Columns that grow by rows of others.
+//! Columns under construction, to which rows of other columns are appended.
 
 ghost use Rattle.std.specs.Prelude.{◌≡◌, ◌≤◌, ◌<◌, ◌+◌, ◌++◌, All, List, length, take, drop, replicate, slice_index_or, [], IfOk, IfErr};
 ghost use Rattle.sel_arrow.specs.Value.{Value, Null};
@@ -8,7 +8,7 @@ ghost use Rattle.sel_runs.specs.Runs.{expand, unrolled};
 use crate::run::Run;
 use sel_bits::faults::{PolarsError, PolarsResult};
 
-/// A column that grows at its end, by rows of given sources and by nulls.
+/// A column to which rows of given sources and nulls can be appended.
 pub trait Growable: Sized {
     /// The rows of each source.
     ghost sources: { Self → List (List Value) };
@@ -16,7 +16,13 @@ pub trait Growable: Sized {
     /// The rows so far.
     ghost grown: { Self → List Value };
 
-    /// Puts the `len` rows of a source from row `start` on behind the others. Refuses only for want of memory.
+    /// Appends the `len` rows of a source from row `start` on.
+    ///
+    /// # Requires
+    /// The source exists and has at least `start + len` rows; the result has at most 2^32 - 1 rows.
+    ///
+    /// # Errors
+    /// `OutOfMemory` if an allocation fails.
     fn extend(self, source: u32, start: u32, len: u32) -> PolarsResult<Self>
         requires source { source < length (sources self) }
         requires inside { start + len ≤ length (slice_index_or (sources self) source []) }
@@ -26,7 +32,13 @@ pub trait Growable: Sized {
         ensures sources { IfOk result (λ longer. sources longer ≡ sources self) }
         ensures refusal { IfErr result (λ fault. fault ≡ PolarsError.OutOfMemory) };
 
-    /// Puts `len` nulls behind the others. Refuses only for want of memory.
+    /// Appends `len` nulls.
+    ///
+    /// # Requires
+    /// The result has at most 2^32 - 1 rows.
+    ///
+    /// # Errors
+    /// `OutOfMemory` if an allocation fails.
     fn extend_nulls(self, len: u32) -> PolarsResult<Self>
         requires room { length (grown self) + len ≤ 4294967295 }
         ensures rows { IfOk result (λ longer. grown longer ≡ grown self ++ replicate len Null) }
@@ -34,7 +46,13 @@ pub trait Growable: Sized {
         ensures refusal { IfErr result (λ fault. fault ≡ PolarsError.OutOfMemory) };
 }
 
-/// Puts the rows that runs pick behind the others. Refuses only for want of memory.
+/// Appends the rows that runs refer to, in order.
+///
+/// # Requires
+/// Every run is within the rows of its source; the result has at most 2^32 - 1 rows.
+///
+/// # Errors
+/// `OutOfMemory` if an allocation fails.
 pub fn extend_runs<G: Growable>(mut growable: G, runs: &[Run]) -> PolarsResult<G>
     requires fits { All (PickFits (G.sources growable)) (expand runs.now) }
     requires room { length (G.grown growable) + length (expand runs.now) ≤ 4294967295 }

@@ -1,4 +1,4 @@
-//! Columns of any kind as columns of one.
+//! Columns as arrays of their physical layout.
 
 ghost use Rattle.std.specs.Prelude.{◌≡◌, All, length, map, IfOk, IfErr, IsTrue};
 ghost use Rattle.sel_arrow.specs.Columns.{binary_rows, binview_rows};
@@ -14,7 +14,13 @@ use sel_arrow::column::Column;
 use sel_bits::faults::{PolarsError, PolarsResult};
 use std::alloc::Global;
 
-/// The columns of bytes. Refuses only for want of memory.
+/// Returns the binary array of each column.
+///
+/// # Requires
+/// All sources are binary columns.
+///
+/// # Errors
+/// `OutOfMemory` if an allocation fails.
 pub fn binaries_of<'a>(
     alloc: Global,
     sources: &'a [&'a Column],
@@ -34,7 +40,13 @@ pub fn binaries_of<'a>(
     Ok(found)
 }
 
-/// The columns of views. Refuses only for want of memory.
+/// Returns the view array of each column.
+///
+/// # Requires
+/// All sources are binary view columns.
+///
+/// # Errors
+/// `OutOfMemory` if an allocation fails.
 pub fn views_of<'a>(
     alloc: Global,
     sources: &'a [&'a Column],
@@ -56,7 +68,13 @@ pub fn views_of<'a>(
     Ok(found)
 }
 
-/// The columns of texts, as those of their views. Refuses only for want of memory.
+/// Returns the view array of each string view column.
+///
+/// # Requires
+/// All sources are string view columns.
+///
+/// # Errors
+/// `OutOfMemory` if an allocation fails.
 pub fn texts_of<'a>(
     alloc: Global,
     sources: &'a [&'a Column],

@@ -1,4 +1,4 @@
-//! Rows of several columns, copied by runs of rows that stand together.
+//! Gathers rows from several columns, copied by runs of consecutive rows.
 #![tactic(auto)]
 
 mod binary;

@@ -1,4 +1,4 @@
-//! Rows of children that rows of lists hold.
+//! Offsets and child rows of gathered lists.
 
 ghost use Rattle.std.specs.Prelude.{◌≡◌, ◌≤◌, ◌<◌, ◌+◌, ◌*◌, ◌∷◌, ◌++◌, true, pos, All, length, map, take, drop, slice_index_or, IfSome, IfNone, IfOk, IfErr, OnOk};
 ghost use Rattle.sel_arrow.specs.Nested.{list_of};
@@ -17,7 +17,13 @@ use sel_arrow::validity::is_valid_at;
 use sel_bits::faults::{PolarsError, PolarsResult};
 use std::alloc::Global;
 
-/// The children of columns of lists. Refuses only for want of memory.
+/// Returns the child of each list column.
+///
+/// # Requires
+/// All sources are list or fixed-size list columns.
+///
+/// # Errors
+/// `OutOfMemory` if an allocation fails.
 pub fn children_of<'a>(alloc: Global, sources: &[&'a Column]) -> PolarsResult<Vec<&'a Column>>
     requires lists { All (λ c. is_listing (type_of c.now) ≡ true) sources.now }
     ensures children { IfOk result (λ found. map (λ c. c.now) found.items ≡
@@ -31,7 +37,7 @@ pub fn children_of<'a>(alloc: Global, sources: &[&'a Column]) -> PolarsResult<Ve
     Ok(found)
 }
 
-// The child of a column of lists.
+// Returns the child of a list column, or the column itself for another type.
 fn child_of<'a>(column: &'a Column) -> &'a Column
     ensures { result.now ≡ child column.now }
 {
@@ -42,7 +48,7 @@ fn child_of<'a>(column: &'a Column) -> &'a Column
     }
 }
 
-// Where the child's rows in row `i` begin, and how many there are; none where the row is null.
+// Returns the start and the number of the child rows of row `i`; none if it is null.
 #[inline(always)]
 fn part_of_row(column: &Column, i: usize) -> Option<(u32, u32)>
     requires lists { is_listing (type_of column.now) ≡ true }
@@ -75,7 +81,11 @@ fn part_of_row(column: &Column, i: usize) -> Option<(u32, u32)>
     }
 }
 
-/// The child's rows in row `i` of a run; `width` nulls where it is null.
+/// Returns the run of the child rows of row `i` of a run; `width` nulls if the row is null.
+///
+/// # Requires
+/// All sources are well-formed list or fixed-size list columns, the run is within the rows of its
+/// source, and `i` is less than `run.len`.
 #[inline(always)]
 pub fn run_of_row(sources: &[&Column], run: Run, i: u32, width: u32) -> Run
     requires lists { All (λ c. is_listing (type_of c.now) ≡ true) sources.now }
@@ -101,7 +111,12 @@ pub fn run_of_row(sources: &[&Column], run: Run, i: u32, width: u32) -> Run
     }
 }
 
-/// How many rows of the children the rows hold that runs pick of columns of lists; `width` for each null.
+/// Returns the number of child rows of the lists that runs refer to, counting `width` for each null
+/// list.
+///
+/// # Requires
+/// All sources are well-formed list or fixed-size list columns, and every run is within the rows of
+/// its source. The runs have at most 2^32 - 1 rows in total.
 pub fn count_items(sources: &[&Column], runs: &[Run], width: u32) -> u128
     requires lists { All (λ c. is_listing (type_of c.now) ≡ true) sources.now }
     requires formed { All (λ c. IsWellFormed c.now) sources.now }
@@ -116,7 +131,7 @@ pub fn count_items(sources: &[&Column], runs: &[Run], width: u32) -> u128
     total
 }
 
-// How many the rows of one run hold.
+// Returns the number of child rows of the lists of one run.
 fn count_run(sources: &[&Column], run: Run, width: u32) -> u128
     requires lists { All (λ c. is_listing (type_of c.now) ≡ true) sources.now }
     requires formed { All (λ c. IsWellFormed c.now) sources.now }
@@ -131,8 +146,17 @@ fn count_run(sources: &[&Column], run: Run, width: u32) -> u128
     total
 }
 
-/// The runs of the children's rows that the rows hold which runs pick of columns of lists, `width` nulls for each null.
-/// Neighbours are joined. Refuses only for want of memory.
+/// Returns the runs of the child rows of the lists that runs refer to, with `width` nulls for each
+/// null list.
+///
+/// Adjacent runs are merged if they are contiguous.
+///
+/// # Requires
+/// All sources are well-formed list or fixed-size list columns, and every run is within the rows of
+/// its source. The result has at most 2^32 - 1 rows in total.
+///
+/// # Errors
+/// `OutOfMemory` if an allocation fails.
 pub fn child_runs(
     alloc: Global,
     sources: &[&Column],
@@ -156,7 +180,7 @@ pub fn child_runs(
     Ok(below)
 }
 
-// Puts the children's rows that the rows of a run hold behind the others. Refuses only for want of memory.
+// Appends the runs of the child rows of the lists of a run. Errors: `OutOfMemory`.
 fn push_items(below: &mut Vec<Run>, sources: &[&Column], run: Run, width: u32) -> PolarsResult<()>
     requires lists { All (λ c. is_listing (type_of c.now) ≡ true) sources.now }
     requires formed { All (λ c. IsWellFormed c.now) sources.now }
@@ -176,7 +200,15 @@ fn push_items(below: &mut Vec<Run>, sources: &[&Column], run: Run, width: u32) -
     Ok(())
 }
 
-/// A 0 and where each list ends that runs pick, `len` lists in all. Refuses only for want of memory.
+/// Returns a 0 followed by the end offset of each list that runs refer to; a null list is empty.
+///
+/// # Requires
+/// All sources are well-formed list or fixed-size list columns, and every run is within the rows of
+/// its source. The runs have `len` lists in total, and these at most 2^32 - 1 child rows; `len` is
+/// at most 2^32 - 1.
+///
+/// # Errors
+/// `OutOfMemory` if an allocation fails.
 pub fn ends_of(
     alloc: Global,
     sources: &[&Column],
@@ -202,7 +234,7 @@ pub fn ends_of(
     Ok(ends)
 }
 
-// Puts the ends of the lists of a run behind the others, and answers the last one. Refuses only for want of memory.
+// Appends the end offsets of the lists of a run, and returns the last one. Errors: `OutOfMemory`.
 fn push_ends(ends: &mut Vec<i64>, sources: &[&Column], run: Run, start: u32) -> PolarsResult<u32>
     requires lists { All (λ c. is_listing (type_of c.now) ≡ true) sources.now }
     requires formed { All (λ c. IsWellFormed c.now) sources.now }

@@ -1,4 +1,4 @@
-//! Columns with children over children that are collected already.
+//! Nested columns over children that are already collected.
 
 ghost use Rattle.std.specs.Prelude.{◌≡◌, ◌≤◌, ◌∷◌, All, pos, length, map, IfOk, IfErr};
 ghost use Rattle.sel_arrow.specs.Rows.{rows, type_of, IsField, IsWellFormed};
@@ -18,8 +18,15 @@ use sel_bits::faults::{PolarsError, PolarsResult};
 use sel_bits::offsets::OffsetsBuffer;
 use std::alloc::Global;
 
-/// The lists that runs pick of columns of lists, `len` in all, over the rows that they hold. Refuses only for want of
-/// memory.
+/// Returns the lists that runs refer to, over their concatenated items `values`.
+///
+/// # Requires
+/// All sources are well-formed list columns whose child has the type of `values`, and every run is
+/// within the rows of its source. The runs have `len` rows in total, at most 2^32 - 1. `values` is
+/// well-formed and has the items of these lists, in order.
+///
+/// # Errors
+/// `OutOfMemory` if an allocation fails.
 pub fn lists_over(
     alloc: Global,
     values: Column,
@@ -46,7 +53,7 @@ pub fn lists_over(
     lists_with(alloc, values, ends, sources, runs, len)
 }
 
-/// The same, where it is known where they end.
+/// Returns the lists of [`lists_over`], given their offsets `ends`. Errors: `OutOfMemory`.
 pub(crate) fn lists_with(
     alloc: Global,
     values: Column,
@@ -84,8 +91,16 @@ pub(crate) fn lists_with(
     })
 }
 
-/// The lists of `size` rows that runs pick of columns of such lists, `len` in all, over the rows that they hold.
-/// Refuses only for want of memory.
+/// Returns the fixed-size lists that runs refer to, over their concatenated items `values`.
+///
+/// # Requires
+/// All sources are well-formed fixed-size list columns with list size `size`, at most 2^32 - 1,
+/// whose child has the type of `values`, and every run is within the rows of its source. The runs
+/// have `len` rows in total, at most 2^32 - 1. `values` is well-formed and has the items of these
+/// lists, in order, with `size` nulls for each null list.
+///
+/// # Errors
+/// `OutOfMemory` if an allocation fails.
 pub fn blocks_over(
     alloc: Global,
     size: usize,
@@ -122,7 +137,16 @@ pub fn blocks_over(
     })
 }
 
-/// The tuples that runs pick of columns of structs, `len` in all, over their parts. Refuses only for want of memory.
+/// Returns the struct rows that runs refer to, over their fields.
+///
+/// # Requires
+/// All sources are well-formed struct columns whose fields have the types of `fields`, and every
+/// run is within the rows of its source. The runs have `len` rows in total, at most 2^32 - 1.
+/// `fields` are well-formed and have the field values of these rows, in order, with nulls for each
+/// null row.
+///
+/// # Errors
+/// `OutOfMemory` if an allocation fails.
 pub fn tuples_over(
     alloc: Global,
     fields: Vec<Column>,

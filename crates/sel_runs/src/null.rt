@@ -1,4 +1,4 @@
-//! Nulls picked of columns of nulls.
+//! Null columns, collected by runs of rows.
 
 ghost use Rattle.std.specs.Prelude.{◌≡◌, ◌≤◌, All, length, map};
 ghost use Rattle.sel_arrow.specs.Rows.{rows, type_of, IsWellFormed};
@@ -12,7 +12,10 @@ use crate::run::Run;
 use sel_arrow::column::Column;
 use sel_arrow::null::NullArray;
 
-/// The rows that runs pick of columns of nulls, `len` in all: each is null, and nothing is listed for them.
+/// Returns the rows of null columns that runs refer to: `len` nulls.
+///
+/// # Requires
+/// All sources are null columns. The runs have `len` rows in total, at most 2^32 - 1.
 pub fn collect_null(sources: &[&Column], runs: &[Run], len: usize) -> Column
     requires alike { All (λ c. type_of c.now ≡ of_null) sources.now }
     requires len { length (expand runs.now) ≡ len }

@@ -1,4 +1,4 @@
-//! Picks that are worked out as they are asked for, so that none is listed.
+//! Iterators over row references, which compute each reference on demand.
 
 ghost use Rattle.std.specs.Prelude.{◌≡◌, ℕ, ◌<◌, ◌≤◌, ◌∷◌, ◌+◌, ◌++◌, All, List, Option, None, length, drop, slice_index_or, false, IfOk, IfErr};
 ghost use Rattle.sel_runs.specs.Plans.{IsPicked};
@@ -8,40 +8,47 @@ use crate::run::{Run, push_run, run_of_pick};
 use sel_bits::faults::{PolarsError, PolarsResult};
 use std::alloc::Global;
 
-/// A list of picks, each of which is worked out as it is asked for. A plan is small: who walks over its picks copies it first.
+/// An iterator over row references. It is small, so that it can be copied before each pass.
 pub trait Plan: Sized + Drop {
-    /// The picks that are left.
+    /// The row references that are left.
     ghost picks: { Self → List (Option (ℕ × ℕ)) };
 
-    /// How many picks are left: at most 4,294,967,295.
+    /// Returns the number of row references that are left, at most 2^32 - 1.
     fn len(&self) -> usize
         ensures len { result ≡ length (picks self.now) }
         ensures few { result ≤ 4294967295 };
 
-    /// The next pick, which is left no longer.
+    /// Returns the next row reference and consumes it.
+    ///
+    /// # Requires
+    /// At least one row reference is left.
     fn next(&mut self) -> Option<(u32, u32)>
         requires { 0 < length (picks self.old) }
         ensures { picks self.old ≡ result ∷ picks self.new };
 
-    /// The next picks as one run, at least one, which are left no longer.
+    /// Returns the next row references as one run of at least one row, and consumes them.
+    ///
+    /// # Requires
+    /// At least one row reference is left.
     fn next_run(&mut self) -> Run
         requires { 0 < length (picks self.old) }
         ensures picks { picks self.old ≡ unrolled result ++ picks self.new }
         ensures some { 0 < result.len };
 
-    /// The same picks.
+    /// Returns an iterator over the same row references.
     fn again(&self) -> Self
         ensures { picks result ≡ picks self.now };
 
-    /// Whether some pick may be none.
+    /// Returns false only if no row reference is null.
     fn has_nulls(&self) -> bool
         ensures { result ≡ false → All IsPicked (picks self.now) };
 
-    /// Whether most runs are of more than one row, so that they are better copied as runs. It says nothing of the picks.
+    /// Returns whether most runs have more than one row, so that copying by runs is faster. The
+    /// contract leaves the result open.
     fn is_wide(&self) -> bool;
 }
 
-/// Picks that are listed.
+/// An iterator over a slice of row references.
 #[derive(Drop)]
 pub struct Listed<'a> {
     pub picks: &'a [Option<(u32, u32)>],
@@ -83,31 +90,34 @@ impl Plan for Listed<'_> {
     }
 }
 
-/// A list of picks, each of which can be worked out by itself.
+/// A random-access sequence of row references, which computes each reference on demand.
 pub trait Places: Sized + Drop {
-    /// The picks.
+    /// The row references.
     ghost picks: { Self → List (Option (ℕ × ℕ)) };
 
-    /// How many picks there are: at most 4,294,967,295.
+    /// Returns the number of row references, at most 2^32 - 1.
     fn len(&self) -> usize
         ensures len { result ≡ length (picks self.now) }
         ensures few { result ≤ 4294967295 };
 
-    /// Pick `k`.
+    /// Returns row reference `k`.
+    ///
+    /// # Requires
+    /// `k` is less than `len()`.
     fn get(&self, k: usize) -> Option<(u32, u32)>
         requires { k < length (picks self.now) }
         ensures { result ≡ slice_index_or (picks self.now) k None };
 
-    /// The same picks.
+    /// Returns the same row references.
     fn again(&self) -> Self
         ensures { picks result ≡ picks self.now };
 
-    /// Whether some pick may be none.
+    /// Returns false only if no row reference is null.
     fn has_nulls(&self) -> bool
         ensures { result ≡ false → All IsPicked (picks self.now) };
 }
 
-/// The picks of places, from one on.
+/// An iterator over the row references of `places` from index `at` on.
 #[derive(Drop)]
 pub struct Walk<G: Places> {
     pub places: G,
@@ -125,7 +135,7 @@ impl<G: Places> Plan for Walk<G> {
 
     #[inline(always)]
     fn next(&mut self) -> Option<(u32, u32)> {
-        // (there are no more picks than a place can show)
+        // (there are no more row references than an index can address)
         let _len = self.places.len();
         let next = self.places.get(self.at);
         self.at += 1;
@@ -156,7 +166,10 @@ impl<G: Places> Plan for Walk<G> {
     }
 }
 
-/// The runs of a plan's picks, neighbours joined. Refuses only for want of memory.
+/// Returns the runs of the row references of a plan; contiguous runs are merged.
+///
+/// # Errors
+/// `OutOfMemory` if an allocation fails.
 pub fn runs_of_plan<P: Plan>(alloc: Global, plan: &P) -> PolarsResult<Vec<Run>>
     ensures picks { IfOk result (λ runs. expand runs.items ≡ P.picks plan.now) }
     ensures refusal { IfErr result (λ fault. fault ≡ PolarsError.OutOfMemory) }

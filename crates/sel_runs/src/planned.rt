@@ -1,7 +1,8 @@
-//! Rows of columns of any one type, as a plan picks them.
+//! Gathers rows from several columns of one type at the row references of a plan.
 //!
-//! Of numbers and truth values each pick is looked up as it is asked for. Lists are gone over once, and list runs of their items
-//! alone. For all other types the picks are listed as runs, since what lies below a row is copied by runs too.
+//! Integers and booleans are gathered one row reference at a time. Lists are read once, and only
+//! the runs of their items are built. For all other types the row references are first converted to
+//! runs, since nested rows are copied by runs too.
 
 ghost use Rattle.std.specs.Prelude.{◌≡◌, ◌≤◌, ◌<◌, All, length, map, IfOk, IfErr};
 ghost use Rattle.sel_arrow.specs.Rows.{rows, type_of, IsWellFormed};
@@ -19,8 +20,19 @@ use sel_arrow::column::Column;
 use sel_bits::faults::PolarsResult;
 use std::alloc::Global;
 
-/// The rows that a plan picks of columns of one type, by its runs where `in_runs` is true: where they are long, that is faster, and
-/// the answer is the same. Refuses as `collect_rows` does.
+/// Returns the rows of `sources` at the row references of `plan`, in order; a null reference gives
+/// a null row.
+///
+/// If `in_runs` is true, copies the rows by runs, which is faster for long runs and gives the same
+/// rows.
+///
+/// # Requires
+/// There is at least one source, and all sources have the type of the first (check with
+/// `are_alike`) and are well-formed (check with `are_well_formed`). Every non-null row reference
+/// refers to a row of a source.
+///
+/// # Errors
+/// Those of `collect_rows`.
 pub fn collect_plan<'a, P: Plan>(
     alloc: Global,
     sources: &'a [&'a Column],
@@ -47,7 +59,7 @@ pub fn collect_plan<'a, P: Plan>(
     gather_like(alloc, first, sources, plan)
 }
 
-// The same, looked up pick by pick where that serves columns of the type of `first`.
+// Returns the rows for columns of the type of `first`, by row references if the type supports it.
 fn gather_like<'a, P: Plan>(
     alloc: Global,
     first: &Column,
@@ -85,7 +97,7 @@ fn gather_like<'a, P: Plan>(
     }
 }
 
-// The same by runs, which are listed for it.
+// Returns the rows by runs, after converting the row references to runs.
 fn collect_listed<'a, P: Plan>(
     alloc: Global,
     sources: &'a [&'a Column],

@@ -1,4 +1,4 @@
-//! Numbers that grow by those of other columns.
+//! Integer columns, collected by runs of rows or gathered by row references.
 
 ghost use Rattle.std.specs.Prelude.{◌≡◌, ◌≤◌, ◌+◌, ◌++◌, All, length, map, take, drop, IfOk, IfErr, OnOk};
 ghost use Rattle.std.specs.Option.{option_copied};
@@ -24,7 +24,7 @@ use sel_bits::faults::{PolarsError, PolarsResult};
 use sel_bits::packer::BitPacker;
 use std::alloc::Global;
 
-/// The numbers so far, and the validity, one bit a number.
+/// The values so far, and one validity bit per value.
 #[derive(Drop)]
 struct GrowablePrimitive<'a, T: ArrowPrimitive> {
     sources: &'a [Part<'a, T>],
@@ -71,7 +71,7 @@ impl<T: ArrowPrimitive + Drop> Growable for GrowablePrimitive<'_, T> {
     }
 }
 
-// Puts a part of a source behind the others.
+// Appends the `len` rows of a source from `start` on. Errors: `OutOfMemory`.
 fn push_part<T: ArrowPrimitive>(
     values: &mut Vec<T>,
     validity: &mut BitPacker,
@@ -90,7 +90,7 @@ fn push_part<T: ArrowPrimitive>(
     push_validity(validity, from.validity, start, len)
 }
 
-/// What each source has. Refuses only for want of memory.
+/// Returns the values and the validity of each source. Errors: `OutOfMemory`.
 fn numbers_of<'a, T: ArrowPrimitive>(
     alloc: Global,
     sources: &'a [&'a Column],
@@ -110,7 +110,15 @@ fn numbers_of<'a, T: ArrowPrimitive>(
     Ok(found)
 }
 
-/// The rows that runs pick of columns of one type of numbers, `len` in all. Refuses only for want of memory.
+/// Returns the rows of several columns of one integer type that runs refer to, in order; a run
+/// without a source gives null rows.
+///
+/// # Requires
+/// All sources have the type of `T`, and every run is within the rows of its source. The runs have
+/// `len` rows in total, at most 2^32 - 1.
+///
+/// # Errors
+/// `OutOfMemory` if an allocation fails.
 pub fn collect_primitive<'a, T: ArrowPrimitive + Drop>(
     alloc: Global,
     sources: &'a [&'a Column],
@@ -148,7 +156,14 @@ pub fn collect_primitive<'a, T: ArrowPrimitive + Drop>(
     Ok(T::into_column(values, validity))
 }
 
-/// The rows that picks name of columns of one type of numbers. Refuses only for want of memory.
+/// Returns the rows of several columns of one integer type at the row references of `plan`; a null
+/// reference gives a null row.
+///
+/// # Requires
+/// All sources have the type of `T`, and every non-null row reference refers to a row of a source.
+///
+/// # Errors
+/// `OutOfMemory` if an allocation fails.
 pub fn gather_primitive<'a, P: Plan, T: ArrowPrimitive + Drop>(
     alloc: Global,
     sources: &'a [&'a Column],
@@ -162,7 +177,7 @@ pub fn gather_primitive<'a, P: Plan, T: ArrowPrimitive + Drop>(
     ensures formed { IfOk result (λ column. IsWellFormed column) }
     ensures refusal { IfErr result (λ fault. fault ≡ PolarsError.OutOfMemory) }
 {
-    // (there are no more picks than a column may have rows)
+    // (there are no more row references than a column may have rows)
     let _len = plan.len();
     let found = numbers_of::<T>(alloc, sources)?;
     let parts = found.as_slice();

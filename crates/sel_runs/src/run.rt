@@ -1,4 +1,4 @@
-//! Rows that stand together.
+//! Runs of consecutive rows.
 
 ghost use Rattle.std.specs.Prelude.{◌≡◌, ◌≤◌, ◌+◌, ◌++◌, ◌∷◌, [], None, length, IfSome, IfOk, IfErr, OnOk};
 ghost use Rattle.sel_runs.specs.Runs.{expand, unrolled};
@@ -15,8 +15,13 @@ pub struct Run {
     pub len: u32,
 }
 
-/// Puts a run behind the others, as a part of the last one where it goes on from there; one of no rows adds none. Refuses
-/// only for want of memory.
+/// Appends a run, or extends the last run if the two are contiguous; does nothing for an empty run.
+///
+/// # Requires
+/// The runs have at most 2^32 - 1 rows in total, including the new one.
+///
+/// # Errors
+/// `OutOfMemory` if an allocation fails.
 pub fn push_run(runs: &mut Vec<Run>, run: Run) -> PolarsResult<()>
     requires { length (expand runs.old.items) + run.len ≤ 4294967295 }
     ensures picks { OnOk result (expand runs.new.items ≡ expand runs.old.items ++ unrolled run) }
@@ -36,7 +41,8 @@ pub fn push_run(runs: &mut Vec<Run>, run: Run) -> PolarsResult<()>
     Ok(())
 }
 
-/// The same where the last run, `last`, is kept apart from the others. It is one of no rows as long as there is none.
+/// Appends a run like [`push_run`], with the last run stored in `last`, which is empty if there is
+/// none. Errors: `OutOfMemory`.
 #[inline(always)]
 pub(crate) fn put_run(runs: &mut Vec<Run>, last: &mut Run, run: Run) -> PolarsResult<()>
     requires { length (expand (runs.old.items ++ last.old ∷ [])) + run.len ≤ 4294967295 }
@@ -60,7 +66,7 @@ pub(crate) fn put_run(runs: &mut Vec<Run>, last: &mut Run, run: Run) -> PolarsRe
     Ok(())
 }
 
-/// The run of so many nulls.
+/// Returns a run of `len` nulls.
 pub fn nulls_of(len: u32) -> Run
     ensures { result ≡ (record { source = None; start = 0; len = len }) }
 {
@@ -71,7 +77,7 @@ pub fn nulls_of(len: u32) -> Run
     }
 }
 
-// The two as one run, where the second goes on where the first ends.
+// Returns both runs as one if the second continues the first.
 #[inline(always)]
 #[tactic(auto, using(crate::proofs::RunLists::run_rules))]
 fn joined(first: Run, second: Run) -> Option<Run>
@@ -93,7 +99,13 @@ fn joined(first: Run, second: Run) -> Option<Run>
     }
 }
 
-/// The runs that picks make, neighbours joined. Refuses only for want of memory.
+/// Returns the runs of row references; contiguous runs are merged.
+///
+/// # Requires
+/// There are at most 2^32 - 1 row references.
+///
+/// # Errors
+/// `OutOfMemory` if an allocation fails.
 pub fn runs_of_picks(alloc: Global, picks: &[Option<(u32, u32)>]) -> PolarsResult<Vec<Run>>
     requires { length picks.now ≤ 4294967295 }
     ensures picks { IfOk result (λ runs. expand runs.items ≡ picks.now) }
@@ -102,7 +114,7 @@ pub fn runs_of_picks(alloc: Global, picks: &[Option<(u32, u32)>]) -> PolarsResul
     runs_of_plan(alloc, &Listed { picks })
 }
 
-/// The run of one pick.
+/// Returns the run of one row reference.
 pub fn run_of_pick(pick: Option<(u32, u32)>) -> Run
     ensures picks { unrolled result ≡ pick ∷ [] }
     ensures len { result.len ≡ 1 }

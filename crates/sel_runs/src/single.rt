@@ -1,4 +1,4 @@
-//! Rows of one column, copied by runs of rows that stand together.
+//! Gathers rows from one column, copied by runs of consecutive rows.
 
 ghost use Rattle.std.specs.Prelude.{◌≡◌, ◌≤◌, ◌∷◌, [], All, length, IfOk, IfErr};
 ghost use Rattle.sel_arrow.specs.Rows.{rows, type_of, IsWellFormed};
@@ -17,7 +17,17 @@ use sel_arrow::column::Column;
 use sel_bits::faults::PolarsResult;
 use std::alloc::Global;
 
-/// The rows that runs pick of one column, `len` in all. Refuses for want of memory, and where they pass a limit.
+/// Returns the rows of `column` that `runs` refer to, in order; a run without a source gives null
+/// rows.
+///
+/// # Requires
+/// `column` is well-formed, and every run with rows has source 0 or none and is within the rows of
+/// `column` (check with `runs_fit`). The runs have `len` rows in total (`picked_rows`), at most
+/// 2^32 - 1.
+///
+/// # Errors
+/// `OutOfMemory` if an allocation fails; `SizeLimit` if at some depth the result would have more
+/// than 2^32 - 1 rows (`Limit::Rows`) or 2^63 - 1 value bytes (`Limit::Bytes`).
 pub fn collect_one(
     alloc: Global,
     column: &Column,
@@ -45,7 +55,15 @@ pub fn collect_one(
     Ok(ArrayRef { column })
 }
 
-/// The rows that a plan picks of one column. Refuses for want of memory, and where they pass a limit.
+/// Returns the rows of `column` at the row references of `plan`, in order; a null reference gives a
+/// null row.
+///
+/// # Requires
+/// `column` is well-formed, and every non-null row reference is `(0, i)` with `i` less than
+/// `column.len()`.
+///
+/// # Errors
+/// Those of [`collect_one`].
 pub fn collect_one_plan<P: Plan>(alloc: Global, column: &Column, plan: &P) -> PolarsResult<ArrayRef>
     requires formed { IsWellFormed column.now }
     requires fits { All (PickFits (rows column.now ∷ [])) (P.picks plan.now) }

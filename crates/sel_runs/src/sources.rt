@@ -1,4 +1,4 @@
-//! What calls on runs and picks ask of them and of their sources.
+//! Runtime checks for the preconditions on runs, row references and their sources.
 
 ghost use Rattle.std.specs.Prelude.{◌≡◌, ◌≤◌, ◌↔◌, All, length, map, IsTrue};
 ghost use Rattle.sel_arrow.specs.Rows.{rows, type_of, IsWellFormed};
@@ -9,7 +9,7 @@ ghost use Rattle.sel_runs.specs.Sources.{columns_of, first_type, rows_of};
 use crate::run::Run;
 use sel_arrow::column::Column;
 
-/// Whether each column is of the type of the first.
+/// Returns whether all columns have the type of the first.
 pub fn are_alike(sources: &[&Column]) -> bool
     ensures { IsTrue result ↔
         All (λ c. type_of c.now ≡ first_type (columns_of sources.now)) sources.now }
@@ -25,7 +25,7 @@ pub fn are_alike(sources: &[&Column]) -> bool
     true
 }
 
-/// Whether each column is well-formed.
+/// Returns whether all columns are well-formed.
 pub fn are_well_formed(sources: &[&Column]) -> bool
     ensures { IsTrue result ↔ All (λ c. IsWellFormed c.now) sources.now }
 {
@@ -37,7 +37,7 @@ pub fn are_well_formed(sources: &[&Column]) -> bool
     true
 }
 
-/// Whether each run names rows that its source has. The sources may be put together wrongly.
+/// Returns whether every run is within the rows of its source. The sources need not be well-formed.
 pub fn runs_fit(sources: &[&Column], runs: &[Run]) -> bool
     ensures { IsTrue result ↔ All (PickFits (rows_of sources.now)) (expand runs.now) }
 {
@@ -49,7 +49,7 @@ pub fn runs_fit(sources: &[&Column], runs: &[Run]) -> bool
     true
 }
 
-// Whether a run names rows that its source has.
+// Returns whether a run is within the rows of its source.
 fn run_fits(sources: &[&Column], run: Run) -> bool
     ensures { IsTrue result ↔ All (PickFits (rows_of sources.now)) (unrolled run) }
 {
@@ -65,11 +65,11 @@ fn run_fits(sources: &[&Column], run: Run) -> bool
     }
 }
 
-/// How many rows runs pick.
+/// Returns the total number of rows of the runs.
 pub fn picked_rows(runs: &[Run]) -> u128
     ensures { result ≡ length (expand runs.now) }
 {
-    // (there are no more runs than a place can show)
+    // (there are no more runs than an index can address)
     let _len = runs.len();
     let mut count = 0;
     for run in runs {
@@ -78,8 +78,8 @@ pub fn picked_rows(runs: &[Run]) -> u128
     count
 }
 
-/// Whether each pick names a row that its source has, and there are at most 4,294,967,295 of them. The sources may be put
-/// together wrongly.
+/// Returns whether every non-null row reference refers to a row of a source, and there are at most
+/// 2^32 - 1 references. The sources need not be well-formed.
 pub fn picks_in_bounds(sources: &[&Column], picks: &[Option<(u32, u32)>]) -> bool
     ensures { IsTrue result ↔
         (All (PickFits (rows_of sources.now)) picks.now × (length picks.now ≤ 4294967295)) }
@@ -95,7 +95,7 @@ pub fn picks_in_bounds(sources: &[&Column], picks: &[Option<(u32, u32)>]) -> boo
     true
 }
 
-// Whether a pick names a row that its source has.
+// Returns whether a row reference is null or refers to a row of a source.
 fn pick_fits(sources: &[&Column], pick: Option<(u32, u32)>) -> bool
     ensures { IsTrue result ↔ PickFits (rows_of sources.now) pick }
 {

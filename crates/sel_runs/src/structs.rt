@@ -1,4 +1,4 @@
-//! Rows of fields that rows of structs hold.
+//! Field rows of gathered struct rows.
 
 ghost use Rattle.std.specs.Prelude.{◌≡◌, ◌≢◌, ◌≤◌, ◌<◌, ◌+◌, ◌++◌, ◌∷◌, [], All, length, map, IfOk, IfErr, OnOk};
 ghost use Rattle.sel_arrow.specs.Rows.{rows, type_of, IsWellFormed};
@@ -16,7 +16,10 @@ use sel_bits::bitmap::Bitmap;
 use sel_bits::faults::{PolarsError, PolarsResult};
 use std::alloc::Global;
 
-/// Field `j` of each column. Refuses only for want of memory.
+/// Returns field `j` of each column; for a column without it, the column itself.
+///
+/// # Errors
+/// `OutOfMemory` if an allocation fails.
 pub fn fields_at<'a>(
     alloc: Global,
     sources: &[&'a Column],
@@ -33,7 +36,7 @@ pub fn fields_at<'a>(
     Ok(found)
 }
 
-// Field `j` of a column; where there is none, the column.
+// Returns field `j` of a column, or the column itself if there is none.
 fn field_of<'a>(column: &'a Column, j: usize) -> &'a Column
     ensures { result.now ≡ field j column.now }
 {
@@ -45,8 +48,14 @@ fn field_of<'a>(column: &'a Column, j: usize) -> &'a Column
     column
 }
 
-/// The runs of the fields' rows that the rows hold which runs pick of columns of structs: the same rows, and nulls for
-/// the null ones. Refuses only for want of memory.
+/// Returns the runs of the non-null rows that runs refer to, with nulls in place of the null rows.
+///
+/// # Requires
+/// No source is a null column, all sources are well-formed, and every run is within the rows of its
+/// source. The runs have at most 2^32 - 1 rows in total.
+///
+/// # Errors
+/// `OutOfMemory` if an allocation fails.
 pub fn split_runs(alloc: Global, sources: &[&Column], runs: &[Run]) -> PolarsResult<Vec<Run>>
     requires known { All (λ c. type_of c.now ≢ of_null) sources.now }
     requires formed { All (λ c. IsWellFormed c.now) sources.now }
@@ -63,7 +72,7 @@ pub fn split_runs(alloc: Global, sources: &[&Column], runs: &[Run]) -> PolarsRes
     Ok(split)
 }
 
-// Puts a run behind the others, with nulls for its null rows. Refuses only for want of memory.
+// Appends a run, with nulls in place of its null rows. Errors: `OutOfMemory`.
 fn push_split(split: &mut Vec<Run>, sources: &[&Column], run: Run) -> PolarsResult<()>
     requires known { All (λ c. type_of c.now ≢ of_null) sources.now }
     requires formed { All (λ c. IsWellFormed c.now) sources.now }
@@ -92,8 +101,8 @@ fn push_split(split: &mut Vec<Run>, sources: &[&Column], run: Run) -> PolarsResu
     }
 }
 
-// Puts the rows of a run behind the others whose bit is true, and nulls for the others: as many at a time as stand
-// together. Refuses only for want of memory.
+// Appends the rows of a run whose bit is true as runs, and nulls in place of the others. Errors:
+// `OutOfMemory`.
 fn push_kept(split: &mut Vec<Run>, bits: &Bitmap, run: Run) -> PolarsResult<()>
     requires inside { run.start + run.len ≤ length bits.now.bits }
     requires few { length bits.now.bits ≤ 4294967295 }

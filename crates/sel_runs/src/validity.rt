@@ -1,4 +1,4 @@
-//! Which rows are valid that runs pick.
+//! Validity of gathered rows.
 
 ghost use Rattle.std.specs.Prelude.{◌≡◌, ◌≢◌, ◌++◌, All, length, map, IfOk, IfErr, OnOk};
 ghost use Rattle.std.specs.Option.{option_copied};
@@ -23,8 +23,14 @@ use sel_bits::faults::{PolarsError, PolarsResult};
 use sel_bits::packer::BitPacker;
 use std::alloc::Global;
 
-/// The validity of the rows that runs pick of columns of any type but that of nulls, `len` in all; none where each row
-/// is valid. Refuses only for want of memory.
+/// Returns the validity of the rows that runs refer to; none if all rows are valid.
+///
+/// # Requires
+/// No source is a null column, all sources are well-formed, and every run is within the rows of its
+/// source. The runs have `len` rows in total.
+///
+/// # Errors
+/// `OutOfMemory` if an allocation fails.
 pub fn collect_validity(
     alloc: Global,
     sources: &[&Column],
@@ -53,7 +59,7 @@ pub fn collect_validity(
     Ok(validity)
 }
 
-/// The validity of each source. Refuses only for want of memory.
+/// Returns the validity of each source. Errors: `OutOfMemory`.
 pub(crate) fn validities_of<'a>(
     alloc: Global,
     sources: &[&'a Column],
@@ -71,7 +77,7 @@ pub(crate) fn validities_of<'a>(
     Ok(maps)
 }
 
-// Puts one bit for each row of a run behind the others. Refuses only for want of memory.
+// Appends one validity bit for each row of a run. Errors: `OutOfMemory`.
 fn push_valid_rows(bits: &mut BitPacker, sources: &[&Column], run: Run) -> PolarsResult<()>
     requires known { All (λ c. type_of c.now ≢ of_null) sources.now }
     requires formed { All (λ c. IsWellFormed c.now) sources.now }

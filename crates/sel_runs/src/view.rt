@@ -1,4 +1,4 @@
-//! Views that grow by those of other columns, over the data buffers of all of these.
+//! View columns, collected by runs of rows over the data buffers of all sources.
 
 ghost use Rattle.std.specs.Prelude.{◌≡◌, ◌≤◌, ◌<◌, ◌+◌, ◌++◌, All, length, map, take, drop, IfOk, IfErr, IsTrue, OnOk};
 ghost use Rattle.std.specs.List.{flat_map};
@@ -25,7 +25,7 @@ use sel_bits::packer::BitPacker;
 use std::alloc::Global;
 use std::marker::{Brand, PhantomData};
 
-// The view of no bytes, which stands beneath a null.
+// The empty view, which is used in null slots.
 const NO_BYTES: View = View {
     length: 0,
     prefix: 0,
@@ -33,7 +33,7 @@ const NO_BYTES: View = View {
     offset: 0,
 };
 
-/// The data buffers that views stand over while they grow.
+/// The data buffers of the views under construction.
 trait Beneath {
     ghost use Rattle.std.specs.Prelude.{ℕ, List};
 
@@ -46,7 +46,7 @@ impl Beneath for Brand {
     ghost buffers = { [] };
 }
 
-/// The views so far, over the data buffers of all sources, and the validity, one bit a view.
+/// The views so far, over the data buffers of all sources, and one validity bit per view.
 #[derive(Drop)]
 struct GrowableViews<'a, B: Beneath> {
     sources: &'a [&'a BinaryViewArray],
@@ -107,7 +107,8 @@ impl<B: Beneath> Growable for GrowableViews<'_, B> {
     }
 }
 
-// Puts a part of a source behind the others, over data buffers that stand behind `before` others.
+// Appends the `len` rows of a source from `start` on; its data buffers follow `before` others.
+// Errors: `OutOfMemory`.
 fn push_part(
     views: &mut Vec<View>,
     validity: &mut BitPacker,
@@ -128,8 +129,10 @@ fn push_part(
     push_validity(validity, from.validity.as_ref(), start, len)
 }
 
-// Puts the `len` views from `start` on behind the others, over data buffers that stand behind `before` others: all at
-// once where there are none, since they stay as they are.
+// Appends the `len` views from `start` on; their data buffers follow `before` others. Errors:
+// `OutOfMemory`.
+//
+// If `before` is 0, the views do not change and are copied at once.
 fn push_raised(
     views: &mut Vec<View>,
     from: &BinaryViewArray,
@@ -154,7 +157,10 @@ fn push_raised(
     Ok(())
 }
 
-/// The view over data buffers that stand behind `before` others.
+/// Returns the view with `before` added to its buffer index; an inline view is returned unchanged.
+///
+/// # Requires
+/// Unless the view is inline, its buffer index plus `before` is at most 2^32 - 1.
 pub fn raised_view(view: View, before: u32) -> View
     requires { 12 < view.length → view.buffer_idx + before ≤ 4294967295 }
     ensures { result ≡ raised view before }
@@ -168,7 +174,8 @@ pub fn raised_view(view: View, before: u32) -> View
     }
 }
 
-// Refuses where the sources have more than 4,294,967,295 data buffers in all.
+// Checks the number of data buffers. Errors: `SizeLimit(Limit::Buffers)` if the sources have more
+// than 2^32 - 1 in total.
 fn check_buffers(sources: &[&BinaryViewArray]) -> PolarsResult<()>
     ensures few { IfOk result (λ _. length
         (flat_map (λ s. s.now.buffers) sources.now) ≤ 4294967295) }
@@ -185,7 +192,8 @@ fn check_buffers(sources: &[&BinaryViewArray]) -> PolarsResult<()>
     Ok(())
 }
 
-// How many data buffers stand before those of each source. Refuses only for want of memory.
+// Returns, for each source, the number of data buffers of the sources before it. Errors:
+// `OutOfMemory`.
 fn starts_of_buffers(alloc: Global, sources: &[&BinaryViewArray]) -> PolarsResult<Vec<u32>>
     requires { length (flat_map (λ s. s.now.buffers) sources.now) ≤ 4294967295 }
     ensures starts { IfOk result (λ starts. starts.items ≡
@@ -201,7 +209,7 @@ fn starts_of_buffers(alloc: Global, sources: &[&BinaryViewArray]) -> PolarsResul
     Ok(starts)
 }
 
-// The data buffers of all sources. Refuses only for want of memory.
+// Returns the data buffers of all sources, in order. Errors: `OutOfMemory`.
 fn joined_buffers(alloc: Global, sources: &[&BinaryViewArray]) -> PolarsResult<Buffer<Buffer<u8>>>
     ensures buffers { IfOk result (λ joined. joined ≡ flat_map (λ s. s.now.buffers) sources.now) }
     ensures refusal { IfErr result (λ fault. fault ≡ PolarsError.OutOfMemory) }
@@ -213,7 +221,10 @@ fn joined_buffers(alloc: Global, sources: &[&BinaryViewArray]) -> PolarsResult<B
     Buffer::from_vec(joined)
 }
 
-/// Puts data buffers behind the others. Refuses only for want of memory.
+/// Appends data buffers, which share their memory with the originals.
+///
+/// # Errors
+/// `OutOfMemory` if an allocation fails.
 pub fn push_buffers(joined: &mut Vec<Buffer<u8>>, buffers: &[Buffer<u8>]) -> PolarsResult<()>
     ensures buffers { OnOk result (joined.new.items ≡ joined.old.items ++ buffers.now) }
     ensures refusal { IfErr result (λ fault. fault ≡ PolarsError.OutOfMemory) }
@@ -224,8 +235,17 @@ pub fn push_buffers(joined: &mut Vec<Buffer<u8>>, buffers: &[Buffer<u8>]) -> Pol
     Ok(())
 }
 
-/// The rows that runs pick of columns of views, `len` in all, over the data buffers of all sources, joined in their order.
-/// Refuses for want of memory, and where there are more than 4,294,967,295 data buffers.
+/// Returns the rows of several view columns that runs refer to, in order; a run without a source
+/// gives null rows.
+///
+/// The result has the data buffers of all sources, in order.
+///
+/// # Requires
+/// Every run is within the rows of its source. The runs have `len` rows in total, at most 2^32 - 1.
+///
+/// # Errors
+/// `OutOfMemory` if an allocation fails; `SizeLimit(Limit::Buffers)` if the sources have more than
+/// 2^32 - 1 data buffers in total.
 pub fn collect_views<'a>(
     alloc: Global,
     sources: &'a [&'a BinaryViewArray],
@@ -246,7 +266,7 @@ pub fn collect_views<'a>(
     collect_few::<Brand>(alloc, sources, runs, len)
 }
 
-// The same over data buffers that are few enough. Refuses only for want of memory.
+// Returns the rows of [`collect_views`] for at most 2^32 - 1 data buffers. Errors: `OutOfMemory`.
 fn collect_few<'a, B: Beneath>(
     alloc: Global,
     sources: &'a [&'a BinaryViewArray],

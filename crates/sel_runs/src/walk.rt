@@ -1,4 +1,4 @@
-//! Lists that a plan picks, gone over once: no run is listed for the rows themselves.
+//! Gathers lists in one pass, without building runs of the list rows.
 
 ghost use Rattle.std.specs.Prelude.{◌≡◌, ◌≢◌, ◌≤◌, ◌<◌, ◌+◌, ◌++◌, ◌∷◌, [], true, pos, All, length, map, IfOk, IfErr, OnOk};
 ghost use Rattle.sel_arrow.specs.Rows.{rows, type_of, IsWellFormed};
@@ -24,8 +24,15 @@ use sel_bits::faults::{Limit, PolarsError, PolarsResult};
 use sel_bits::offsets::OffsetsBuffer;
 use std::alloc::Global;
 
-/// The lists that a plan picks of columns of lists, whose child is of the type of `child`. Refuses for want of memory, and
-/// where their items pass a limit.
+/// Returns the lists at the row references of `plan`, in order; a null reference gives a null row.
+///
+/// # Requires
+/// There is at least one source, and all sources are well-formed list columns whose child has the
+/// type of `child`. Every non-null row reference refers to a row of a source.
+///
+/// # Errors
+/// `OutOfMemory` if an allocation fails; `SizeLimit` if the lists would have more than 2^32 - 1
+/// items (`Limit::Rows`), or their items exceed a limit of `collect_rows`.
 pub fn gather_lists<'a, P: Plan>(
     alloc: Global,
     child: &Column,
@@ -52,7 +59,8 @@ pub fn gather_lists<'a, P: Plan>(
     lists_of_plan(alloc, values, ends, sources, plan)
 }
 
-// The lists that a plan picks, over where they end and the rows that they hold. Refuses only for want of memory.
+// Returns the lists at the row references of a plan, given their offsets and items. Errors:
+// `OutOfMemory`.
 fn lists_of_plan<P: Plan>(
     alloc: Global,
     values: Column,
@@ -74,7 +82,7 @@ fn lists_of_plan<P: Plan>(
     ensures formed { IfOk result (λ column. IsWellFormed column) }
     ensures refusal { IfErr result (λ fault. fault ≡ PolarsError.OutOfMemory) }
 {
-    // (there are no more picks than a column may have rows)
+    // (there are no more row references than a column may have rows)
     let _len = plan.len();
     let values = Box::new(alloc, values)?;
     let Ok(offsets) = OffsetsBuffer::of_rising(ends) else {
@@ -97,8 +105,10 @@ fn lists_of_plan<P: Plan>(
     })
 }
 
-// A 0 and where each list ends that a plan picks, the runs of the children's rows that they hold, and how many these are.
-// Refuses for want of memory, and where they are more rows than a column may have.
+// Returns the offsets of the lists at the row references of a plan, the runs of their items, and
+// the number of items.
+//
+// Errors: `OutOfMemory`; `SizeLimit(Limit::Rows)` if there are more than 2^32 - 1 items.
 fn walk_lists<P: Plan>(
     alloc: Global,
     sources: &[&Column],
@@ -135,8 +145,17 @@ fn walk_lists<P: Plan>(
     Ok((ends, below, end as usize))
 }
 
-/// The lists that runs pick of columns of lists, whose child is of the type of `child`: gone over once, where `collect_runs` goes
-/// over them for each of their parts. Refuses for want of memory, and where their items pass a limit.
+/// Returns the lists that `runs` refer to, in order; a run without a source gives null rows.
+///
+/// Reads the lists once, while `collect_runs` reads them once for each of their parts.
+///
+/// # Requires
+/// There is at least one source, and all sources are well-formed list columns whose child has the
+/// type of `child`. Every run is within the rows of its source. The runs have `len` rows in total,
+/// at most 2^32 - 1.
+///
+/// # Errors
+/// Those of [`gather_lists`].
 pub fn collect_list_runs<'a>(
     alloc: Global,
     child: &Column,
@@ -165,8 +184,10 @@ pub fn collect_list_runs<'a>(
     lists_with(alloc, values, ends, sources, runs, len)
 }
 
-// A 0 and where each list ends that runs pick, `len` lists in all, the runs of the children's rows that they hold, and how many these
-// are. Refuses for want of memory, and where they are more rows than a column may have.
+// Returns the offsets of the `len` lists that runs refer to, the runs of their items, and the
+// number of items.
+//
+// Errors: `OutOfMemory`; `SizeLimit(Limit::Rows)` if there are more than 2^32 - 1 items.
 fn walk_runs(
     alloc: Global,
     sources: &[&Column],
@@ -200,9 +221,10 @@ fn walk_runs(
     Ok((ends, below, end as usize))
 }
 
-// Puts the ends of the lists of a run behind the others, and the runs of the children's rows that they hold, the last of which is
-// kept apart; answers the last end.
-// Refuses for want of memory, and where it is more than a column may have rows.
+// Appends the end offsets of the lists of a run and the runs of their items, the last of which is
+// stored in `last`. Returns the last offset.
+//
+// Errors: `OutOfMemory`; `SizeLimit(Limit::Rows)` if it would exceed 2^32 - 1.
 fn push_lists(
     ends: &mut Vec<i64>,
     below: &mut Vec<Run>,

@@ -1,4 +1,4 @@
-//! Elements of lists, by an index into each of them.
+//! List element access.
 #![tactic(auto)]
 
 pub mod sublist;

@@ -1,4 +1,4 @@
-//! Columns made of rows that were read.
+//! Builds columns from parsed rows.
 
 ghost use Rattle.std.specs.Prelude.{◌≡◌, ◌<◌, ◌≤◌, ◌+◌, ◌∷◌, ◌++◌, [], pos, true, List, IfOk, IfErr, OnOk, length, map, replicate};
 ghost use Rattle.std.specs.List.{flat_map, list_all};
@@ -37,16 +37,16 @@ use sel_bits::buffer::Buffer;
 use sel_bits::offsets::OffsetsBuffer;
 use std::alloc::Global;
 
-/// What stands beneath the nulls of a column that is read. Its rows are the same with either.
+/// The values in the null slots of a parsed column. The rows of the column do not depend on it.
 #[derive(Debug, Clone, Copy, PartialEq, Eq)]
 pub enum Beneath {
-    /// Zeros, falsehoods, and nothing in a text or a list.
+    /// Zero, false, the empty byte string, and the empty list.
     Zeros,
-    /// The greatest numbers, truths, one byte in a text and one entry in a list.
+    /// The maximum of the type, true, a byte string of one byte, and a list of one null entry.
     Others,
 }
 
-/// The column of these rows.
+/// Builds the column of type `dtype` with these rows, assuming that they fit the type.
 #[cycle(building)]
 pub(crate) fn build(
     dtype: &ArrowDataType,
@@ -79,7 +79,8 @@ pub(crate) fn build(
     }
 }
 
-/// Which of the rows are valid, where one is not.
+/// Returns the validity of the rows, or `None` if all rows are valid. Fails only with
+/// `OutOfMemory`.
 fn validity_of(alloc: Global, items: &[&Item]) -> Result<Option<Bitmap>, Fault>
     ensures covers { IfOk result (λ validity. Covers validity (length items.now)) }
     ensures hides { IfOk result (λ validity. (plain : List Value) →
@@ -96,7 +97,7 @@ fn validity_of(alloc: Global, items: &[&Item]) -> Result<Option<Bitmap>, Fault>
     Ok(Some(Bitmap::from_bools(alloc, &valid)?))
 }
 
-/// Whether each of them is true.
+/// Returns whether all of `bits` are true.
 #[tactic(auto, using(sel_arrow::proofs::Lists::all_lists))]
 fn all_true(bits: &[bool]) -> bool
     ensures { result ≡ list_all (λ bit. bit) bits.now }
@@ -109,14 +110,14 @@ fn all_true(bits: &[bool]) -> bool
     true
 }
 
-/// Whether a row is no null.
+/// Returns whether the row is not null.
 fn is_filled(item: &Item) -> bool
     ensures { result ≡ is_valid (item_value item.now) }
 {
     !matches!(item, Item::Null)
 }
 
-/// The column of these truth values.
+/// Builds a boolean column.
 fn truths(alloc: Global, items: &[&Item], beneath: Beneath) -> Result<ArrayRef, Fault>
     ensures { list_all (fits of_boolean) (rows_read items.now) ≡ true →
         Makes beneath of_boolean (rows_read items.now) result }
@@ -129,7 +130,7 @@ fn truths(alloc: Global, items: &[&Item], beneath: Beneath) -> Result<ArrayRef, 
     Ok(BooleanArray::try_new(values, validity_of(alloc, items)?)?.into_ref())
 }
 
-/// The truth value in a row, or what stands beneath a null.
+/// Returns the boolean of a row, or the value for a null slot.
 fn truth_in(item: &Item, beneath: Beneath) -> bool
     ensures { result ≡ truth_stored beneath (item_value item.now) }
 {
@@ -142,7 +143,7 @@ fn truth_in(item: &Item, beneath: Beneath) -> bool
     }
 }
 
-/// The column of these numbers.
+/// Builds a primitive column.
 fn numbers<T: FromWhole>(
     alloc: Global,
     items: &[&Item],
@@ -159,7 +160,7 @@ fn numbers<T: FromWhole>(
     Ok(PrimitiveArray::try_new(values, validity_of(alloc, items)?)?.into_ref())
 }
 
-/// The number in a row, or what stands beneath a null.
+/// Returns the integer of a row, or the value for a null slot.
 fn number_in<T: FromWhole>(item: &Item, beneath: Beneath) -> T
     ensures { fits T.shape (item_value item.now) ≡ true →
         Shows (item_value item.now ∷ []) (Number (T.number result) ∷ []) }
@@ -175,7 +176,7 @@ fn number_in<T: FromWhole>(item: &Item, beneath: Beneath) -> T
     }
 }
 
-/// The bytes in a row, or those that stand beneath a null.
+/// Returns the bytes of a row, or those for a null slot.
 fn bytes_in(item: &Item, beneath: Beneath) -> &[u8]
     ensures { result.now ≡ bytes_stored beneath (item_value item.now) }
 {
@@ -188,7 +189,7 @@ fn bytes_in(item: &Item, beneath: Beneath) -> &[u8]
     }
 }
 
-/// The column of these bytes, one after another between offsets.
+/// Builds a binary column with 64-bit offsets (LargeBinary).
 fn pieces(alloc: Global, items: &[&Item], beneath: Beneath) -> Result<ArrayRef, Fault>
     ensures { list_all (fits of_large_binary) (rows_read items.now) ≡ true →
         Makes beneath of_large_binary (rows_read items.now) result }
@@ -204,7 +205,10 @@ fn pieces(alloc: Global, items: &[&Item], beneath: Beneath) -> Result<ArrayRef, 
     Ok(BinaryArray::try_new(offsets, bytes, validity_of(alloc, items)?)?.into_ref())
 }
 
-/// A place as an offset.
+/// Converts a position to an offset.
+///
+/// # Errors
+/// `Limit` if it exceeds the range of `i64`.
 fn offset_at(place: usize) -> Result<i64, Fault>
     ensures value { IfOk result (λ offset. offset ≡ pos place) }
     ensures refused { IfErr result (λ fault.
@@ -216,7 +220,7 @@ fn offset_at(place: usize) -> Result<i64, Fault>
     }
 }
 
-/// The column of views of these bytes, those past 12 bytes in one data buffer.
+/// Builds a binary view column; byte strings longer than 12 bytes go to a single data buffer.
 fn views(alloc: Global, items: &[&Item], beneath: Beneath) -> Result<BinaryViewArray, Fault>
     ensures views { IfOk result (λ array. (shape : Shape) → is_view_shape shape ≡ true →
         list_all (fits shape) (rows_read items.now) ≡ true →
@@ -236,7 +240,8 @@ fn views(alloc: Global, items: &[&Item], beneath: Beneath) -> Result<BinaryViewA
     Ok(BinaryViewArray::try_new(views, buffers, validity_of(alloc, items)?)?)
 }
 
-/// The view of these bytes, of which more than 12 are put behind the others in a data buffer.
+/// Returns a view of `bytes`, appending them to the data buffer `placed` if they are longer than 12
+/// bytes.
 fn view_behind(placed: &mut Vec<u8>, bytes: &[u8]) -> Result<View, Fault>
     ensures view { IfOk result (λ view. view ≡ view_of bytes.now 0 (length placed.old.items)) }
     ensures inline { IfOk result (λ view. length bytes.now ≤ 12 → inline_bytes view ≡ bytes.now) }
@@ -255,7 +260,7 @@ fn view_behind(placed: &mut Vec<u8>, bytes: &[u8]) -> Result<View, Fault>
     Ok(View::new_from_bytes(bytes, 0, start))
 }
 
-/// The column of these texts.
+/// Builds a string view column (Utf8View).
 fn texts(alloc: Global, items: &[&Item], beneath: Beneath) -> Result<ArrayRef, Fault>
     ensures { list_all (fits of_utf8_view) (rows_read items.now) ≡ true →
         Makes beneath of_utf8_view (rows_read items.now) result }
@@ -268,7 +273,7 @@ fn texts(alloc: Global, items: &[&Item], beneath: Beneath) -> Result<ArrayRef, F
     Ok(Utf8ViewArray::try_new(views, buffers, validity)?.into_ref())
 }
 
-/// The column of these lists.
+/// Builds a list column with 64-bit offsets (LargeList).
 #[cycle(building)]
 fn lists(
     dtype: &ArrowDataType,
@@ -298,7 +303,7 @@ fn lists(
     }
 }
 
-/// The entries of these lists, one list after another between offsets.
+/// Returns the concatenated entries of the lists, and their offsets.
 fn entries_between<'a, 'b: 'a>(
     alloc: Global,
     items: &[&'b Item],
@@ -328,7 +333,7 @@ fn entries_between<'a, 'b: 'a>(
     }
 }
 
-/// Puts the entries of a list behind others, or what stands beneath a null.
+/// Appends the entries of a list, or those for a null slot. Fails only with `OutOfMemory`.
 fn push_below<'a, 'b: 'a>(
     entries: &mut Vec<&'a Item>,
     item: &'b Item,
@@ -348,7 +353,7 @@ fn push_below<'a, 'b: 'a>(
     }
 }
 
-/// Puts each entry of a list behind others.
+/// Appends each entry of a list. Fails only with `OutOfMemory`.
 fn push_each<'a>(entries: &mut Vec<&'a Item>, list: &'a [Item]) -> Result<(), Fault>
     ensures entries { OnOk result (rows_read entries.new.items ≡
         rows_read entries.old.items ++ map item_value list.now) }
@@ -360,7 +365,7 @@ fn push_each<'a>(entries: &mut Vec<&'a Item>, list: &'a [Item]) -> Result<(), Fa
     Ok(())
 }
 
-/// The column of these lists, each of so many entries.
+/// Builds a fixed-size list column of list size `size`.
 #[cycle(building)]
 fn blocks(
     dtype: &ArrowDataType,
@@ -392,7 +397,8 @@ fn blocks(
     }
 }
 
-/// The entries of these lists, one list after another, and so many of their own for those that are null.
+/// Returns the concatenated entries of the lists, with `size` nulls for each null row. Fails only
+/// with `OutOfMemory`.
 fn entries_of<'a, 'b: 'a>(
     alloc: Global,
     items: &[&'b Item],
@@ -412,7 +418,7 @@ fn entries_of<'a, 'b: 'a>(
     Ok(entries)
 }
 
-/// Puts the entries of a list behind others, or so many of their own where it is null.
+/// Appends the entries of a list, or `size` nulls for a null row. Fails only with `OutOfMemory`.
 fn push_block<'a, 'b: 'a>(
     entries: &mut Vec<&'a Item>,
     item: &'b Item,
@@ -429,7 +435,7 @@ fn push_block<'a, 'b: 'a>(
     push_copies(entries, null, size)
 }
 
-/// Puts an entry so many times behind others.
+/// Appends `count` copies of an entry. Fails only with `OutOfMemory`.
 fn push_copies<'a>(entries: &mut Vec<&'a Item>, entry: &'a Item, count: usize) -> Result<(), Fault>
     ensures entries { OnOk result (rows_read entries.new.items ≡
         rows_read entries.old.items ++ replicate count (item_value entry.now)) }
@@ -441,7 +447,7 @@ fn push_copies<'a>(entries: &mut Vec<&'a Item>, entry: &'a Item, count: usize) -
     Ok(())
 }
 
-/// The column of these tuples.
+/// Builds a struct column.
 #[cycle(building)]
 fn tuples(
     dtypes: &[ArrowDataType],
@@ -469,7 +475,7 @@ fn tuples(
     }
 }
 
-/// Puts the fields of these tuples behind others.
+/// Appends the fields of the struct column.
 #[cycle(building)]
 fn push_fields(
     fields: &mut Vec<ArrayRef>,
@@ -503,7 +509,8 @@ fn push_fields(
     Ok(())
 }
 
-/// What the tuples have at a place, and something else for those that are null.
+/// Returns the entry of each struct row at index `place`, or `other` for a null row. Fails only
+/// with `OutOfMemory`.
 fn parts_at<'a, 'b: 'a>(
     alloc: Global,
     items: &[&'b Item],
@@ -521,7 +528,7 @@ fn parts_at<'a, 'b: 'a>(
     Ok(parts)
 }
 
-/// What a tuple has at a place, and something else where it is null.
+/// Returns the entry of a struct row at index `place`, or `other` if the row is null.
 fn part_at<'a, 'b: 'a>(item: &'b Item, place: usize, other: &'a Item) -> &'a Item
     ensures { item_value other.now ≡ Null →
         item_value result.now ≡ part_in place (item_value item.now) }

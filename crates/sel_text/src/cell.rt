@@ -1,4 +1,4 @@
-//! One row of a column of any kind, lent.
+//! References to single rows of a column of any type.
 
 ghost use Rattle.std.specs.Prelude.{◌≡◌, ◌<◌, ◌≤◌, ◌↔◌, ℕ, List, length, slice_index_or, IsTrue, true, false};
 ghost use Rattle.std.specs.List.{slice_range};
@@ -19,14 +19,15 @@ use sel_arrow::view::View;
 use sel_bits::buffer::Buffer;
 use sel_bits::native::NativeType;
 
-/// A whole number of one of the ten types.
+/// An integer value of any of the ten integer types.
 #[derive(Clone, Copy)]
 pub(crate) enum Whole {
     Signed(i128),
     Unsigned(u128),
 }
 
-/// What stands in a row. A list names its part of the child, a tuple its place in the fields.
+/// A reference to the value of a row: for a list the child and a range of its rows, for a struct
+/// the fields and a row index.
 #[derive(Clone, Copy)]
 pub(crate) enum Cell<'a> {
     Null,
@@ -39,7 +40,7 @@ pub(crate) enum Cell<'a> {
     Parts(&'a [Column], usize),
 }
 
-/// A number type whose values are kept as one of two.
+/// An integer type that converts to `Whole`.
 pub(crate) trait ToWhole: NativeType {
     fn to_whole(self) -> Whole
         ensures { whole_number result ≡ Self.number self };
@@ -105,7 +106,7 @@ impl ToWhole for u128 {
     }
 }
 
-/// Row `i` of a column.
+/// Returns row `i` of a column.
 pub(crate) fn cell_at(column: &Column, i: usize) -> Cell<'_>
     requires { HasRow i column.now }
     ensures value { cell_value result ≡ slice_index_or (rows column.now) i Null }

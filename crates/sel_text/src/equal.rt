@@ -1,4 +1,4 @@
-//! Whether columns have the same rows.
+//! Comparison of columns by their rows.
 
 ghost use Rattle.std.specs.Prelude.{◌≡◌, ◌+◌, ◌≤◌, ◌↔◌, ℕ, All, length, map, slice_index_or, true, IsTrue};
 ghost use Rattle.std.specs.List.{slice_range};
@@ -11,9 +11,14 @@ use crate::cell::{Cell, Whole, cell_at};
 use sel_arrow::binview::bytes_at;
 use sel_arrow::column::Column;
 
-/// Whether two well-formed columns have the same rows. The values decide and not the types: an `i8` of 1 is the row that a `u64`
-/// of 1 is, bytes are the row that a text of these bytes is, a list is the same at every layout of lists, and a column of nulls
-/// has the rows of any other column whose rows are all null. What lies beneath a null is not looked at. Needs no memory.
+/// Returns whether two columns have the same rows. Does not allocate.
+///
+/// Compares values and not types: an `i8` of 1 equals a `u64` of 1, bytes equal a string with the
+/// same bytes, a list equals a list with the same entries in another list layout, and a null column
+/// equals any column of the same length whose rows are all null. Values in null slots are ignored.
+///
+/// # Requires
+/// Both columns are well-formed; check with `Column::is_well_formed`.
 pub fn equal_rows(column: &Column, other: &Column) -> bool
     requires formed { IsWellFormed column.now }
     requires others { IsWellFormed other.now }
@@ -22,7 +27,7 @@ pub fn equal_rows(column: &Column, other: &Column) -> bool
     equal_items(column, 0, column.len(), Cell::Items(other, 0, other.len()))
 }
 
-/// Whether row `i` of a column is row `j` of another one.
+/// Returns whether row `i` of one column equals row `j` of another.
 #[cycle(comparing)]
 fn equal_at(column: &Column, i: usize, other: &Column, j: usize) -> bool
     requires row { HasRow i column.now }
@@ -38,7 +43,7 @@ fn equal_at(column: &Column, i: usize, other: &Column, j: usize) -> bool
     }
 }
 
-/// Whether a row is the list of the column's rows from `start` up to `end`.
+/// Returns whether a row equals the list of the rows of `column` from `start` up to `end`.
 #[cycle(comparing)]
 fn equal_items(column: &Column, start: usize, end: usize, twin: Cell) -> bool
     requires formed { IsWellFormed column.now }
@@ -62,7 +67,7 @@ fn equal_items(column: &Column, start: usize, end: usize, twin: Cell) -> bool
     true
 }
 
-/// Whether a row is the tuple of the fields' rows at a place.
+/// Returns whether a row equals the struct value of row `place` of each field.
 #[cycle(comparing)]
 fn equal_parts(fields: &[Column], place: usize, twin: Cell) -> bool
     requires rows { All (HasRow place) fields.now }
@@ -83,7 +88,7 @@ fn equal_parts(fields: &[Column], place: usize, twin: Cell) -> bool
     true
 }
 
-/// Whether two rows are one, of which the first is neither a list nor a tuple.
+/// Returns whether two rows are equal, the first of which is neither a list nor a struct value.
 fn equal_flat(cell: Cell, twin: Cell) -> bool
     requires flat { is_flat cell ≡ true }
     requires fits { CellFits cell }
@@ -113,7 +118,7 @@ fn equal_flat(cell: Cell, twin: Cell) -> bool
     }
 }
 
-/// Whether a row is these bytes.
+/// Returns whether a row equals these bytes.
 fn equal_bytes(bytes: &[u8], twin: Cell) -> bool
     requires { CellFits twin }
     ensures { IsTrue result ↔ (Bytes bytes.now ≡ cell_value twin.entry) }
@@ -132,7 +137,7 @@ fn equal_bytes(bytes: &[u8], twin: Cell) -> bool
     }
 }
 
-/// Whether two numbers are one.
+/// Returns whether two integers are equal.
 fn equal_numbers(number: Whole, other: Whole) -> bool
     ensures { IsTrue result ↔ (whole_number number ≡ whole_number other) }
 {

@@ -1,4 +1,4 @@
-//! Rows, as they are read from a text.
+//! Parsing of rows.
 
 ghost use Rattle.std.specs.Prelude.{◌≡◌, ◌≢◌, ◌<◌, ◌∷◌, ◌++◌, ℕ, ℤ, pos, negsuc, suc, Bool, List, MatchResult, IfOk, IfErr, IsTrue, length, map, nat_lt};
 ghost use Rattle.std.specs.Fmt.{decimal, signed_decimal};
@@ -21,7 +21,7 @@ use crate::whole::FromWhole;
 use sel_arrow::datatype::ArrowDataType;
 use std::alloc::Global;
 
-/// What was read for a row.
+/// A parsed row.
 #[derive(Drop)]
 pub(crate) enum Item {
     Null,
@@ -32,7 +32,7 @@ pub(crate) enum Item {
     Parts(Vec<Item>),
 }
 
-/// The row of this type whose text stands at the front, and what stands behind it.
+/// Parses a row of type `dtype` at the front, and returns it with the rest of the input.
 #[cycle(reading_rows)]
 pub(crate) fn read_item<'a>(
     dtype: &ArrowDataType,
@@ -82,7 +82,8 @@ pub(crate) fn read_item<'a>(
     }
 }
 
-/// Why no row of the type begins here: the text of a row of another type does, or none.
+/// Returns the error for input that starts no row of the type: `Type` if it starts like a row of
+/// another type, else `Syntax`.
 fn mismatch(bytes: &[u8]) -> Fault {
     match bytes {
         [
@@ -93,7 +94,7 @@ fn mismatch(bytes: &[u8]) -> Fault {
     }
 }
 
-/// What stands behind what a row of the type begins with.
+/// Returns the input after the token `word`, which starts a row of the type.
 fn opened<'a>(bytes: &'a [u8], word: &[u8]) -> Result<&'a [u8], Fault>
     ensures rest { IfOk result (λ rest. bytes.now ≡ word.now ++ rest.now) }
     ensures refused { IfErr result (λ _. (more : List ℕ) → bytes.now ≢ word.now ++ more) }
@@ -104,7 +105,7 @@ fn opened<'a>(bytes: &'a [u8], word: &[u8]) -> Result<&'a [u8], Fault>
     }
 }
 
-/// The truth value at the front.
+/// Parses a boolean at the front.
 fn read_truth(bytes: &[u8]) -> Result<(Item, &[u8]), Fault>
     ensures { (truth : Bool) (more : List ℕ) → bytes.now ≡ truth_text truth ++ more →
         MatchResult result (λ read. (item_value read.0 ≡ Truth truth) × (read.1.now ≡ more))
@@ -119,7 +120,7 @@ fn read_truth(bytes: &[u8]) -> Result<(Item, &[u8]), Fault>
     }
 }
 
-/// The bytes in hexadecimal at the front.
+/// Parses hexadecimal bytes at the front.
 fn read_bytes(alloc: Global, bytes: &[u8]) -> Result<(Item, &[u8]), Fault>
     ensures { (value more : List ℕ) → IsTrue (list_all (λ byte. nat_lt byte 256) value) →
         bytes.now ≡ hex_text value ++ more →
@@ -136,7 +137,7 @@ fn read_bytes(alloc: Global, bytes: &[u8]) -> Result<(Item, &[u8]), Fault>
     }
 }
 
-/// The text between quotes at the front.
+/// Parses a quoted string at the front.
 fn read_text(alloc: Global, bytes: &[u8]) -> Result<(Item, &[u8]), Fault>
     ensures { (value more : List ℕ) → bytes.now ≡ quoted value ++ more →
         MatchResult result (λ read. (item_value read.0 ≡ Bytes value) × (read.1.now ≡ more))
@@ -152,7 +153,7 @@ fn read_text(alloc: Global, bytes: &[u8]) -> Result<(Item, &[u8]), Fault>
     }
 }
 
-/// The number at the front, which is to fit its type.
+/// Parses an integer at the front, which must fit the type.
 fn read_number<T: FromWhole>(bytes: &[u8]) -> Result<(Item, &[u8]), Fault>
     ensures { (number : ℤ) (more : List ℕ) → IsTrue (fits_number T.shape number) →
         NoDigit more → bytes.now ≡ signed_decimal number ++ more →
@@ -165,7 +166,7 @@ fn read_number<T: FromWhole>(bytes: &[u8]) -> Result<(Item, &[u8]), Fault>
     }
 }
 
-/// The number at the front, without a minus.
+/// Parses an integer without a minus sign at the front.
 fn read_positive<T: FromWhole>(bytes: &[u8]) -> Result<(Item, &[u8]), Fault>
     ensures { (number : ℕ) (more : List ℕ) → IsTrue (fits_number T.shape (pos number)) →
         NoDigit more → bytes.now ≡ decimal number ++ more →
@@ -186,7 +187,7 @@ fn read_positive<T: FromWhole>(bytes: &[u8]) -> Result<(Item, &[u8]), Fault>
     }
 }
 
-/// The fault, or why no number begins here where no digit does.
+/// Returns `fault` if the input starts with a digit, else the error of `mismatch`.
 fn without_digit(bytes: &[u8], fault: Fault) -> Fault {
     match bytes {
         [b'0'..=b'9', ..] => fault,
@@ -194,7 +195,8 @@ fn without_digit(bytes: &[u8], fault: Fault) -> Fault {
     }
 }
 
-/// The number at the front, behind its minus, with so many bytes left from that on.
+/// Parses a negative integer after its minus sign; `left` is the error position for a value that
+/// does not fit.
 fn read_negative<T: FromWhole>(bytes: &[u8], left: usize) -> Result<(Item, &[u8]), Fault>
     ensures { (number : ℕ) (more : List ℕ) → IsTrue (fits_number T.shape (negsuc number)) →
         NoDigit more → bytes.now ≡ decimal (suc number) ++ more →
@@ -221,7 +223,7 @@ fn read_negative<T: FromWhole>(bytes: &[u8], left: usize) -> Result<(Item, &[u8]
     }
 }
 
-/// The rows between brackets at the front, and what stands behind them.
+/// Parses the rows between brackets at the front, and returns them with the rest of the input.
 #[cycle(reading_rows)]
 pub(crate) fn read_items<'a>(
     dtype: &ArrowDataType,
@@ -259,7 +261,8 @@ pub(crate) fn read_items<'a>(
     Err(Fault::Syntax(rest.len()))
 }
 
-/// The rows of the fields between parentheses at the front, and what stands behind them.
+/// Parses the struct fields between parentheses at the front, and returns them with the rest of the
+/// input.
 #[cycle(reading_rows)]
 fn read_parts<'a>(
     dtypes: &[ArrowDataType],
@@ -295,7 +298,7 @@ fn read_parts<'a>(
     }
 }
 
-/// What stands behind the comma before a part, of which the first has none.
+/// Returns the input after the comma that precedes each field but the first.
 fn part_begun(bytes: &[u8], place: usize) -> Result<&[u8], Fault>
     ensures first { IfOk result (λ next. place ≡ 0 → next.now ≡ bytes.now) }
     ensures other { IfOk result (λ next. 0 < place → bytes.now ≡ 44 ∷ next.now) }

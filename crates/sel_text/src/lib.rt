@@ -1,4 +1,4 @@
-//! A notation for columns: rows and types as texts, and columns compared by their rows.
+//! A text notation for column types and rows, and comparison of columns by their rows.
 #![tactic(auto)]
 
 pub mod build;

@@ -1,4 +1,4 @@
-//! Words and whole numbers at the front of a text.
+//! Tokens and unsigned integers at the front of the input.
 
 ghost use Rattle.std.specs.Prelude.{◌≡◌, ◌≢◌, ◌≤◌, ◌<◌, ◌++◌, ◌^◌, ℕ, List, MatchOption, IfOk, IfErr, length, take, drop, slice_index};
 ghost use Rattle.std.specs.Fmt.{decimal};
@@ -7,7 +7,7 @@ ghost use Rattle.sel_text.specs.Digits.{NoDigit};
 
 use crate::text_error::Fault;
 
-/// What stands behind a word, where the text begins with it.
+/// Returns the input after `word`, or `None` if it does not start with `word`.
 pub(crate) fn behind<'a>(bytes: &'a [u8], word: &[u8]) -> Option<&'a [u8]>
     ensures { MatchOption result ((more : List ℕ) → bytes.now ≢ word.now ++ more)
         (λ rest. bytes.now ≡ word.now ++ rest.now) }
@@ -15,7 +15,10 @@ pub(crate) fn behind<'a>(bytes: &'a [u8], word: &[u8]) -> Option<&'a [u8]>
     bytes.strip_prefix(word)
 }
 
-/// What stands behind a word, which is to come next.
+/// Returns the input after `word`.
+///
+/// # Errors
+/// `Syntax` if the input does not start with `word`.
 pub(crate) fn expect<'a>(bytes: &'a [u8], word: &[u8]) -> Result<&'a [u8], Fault>
     ensures rest { IfOk result (λ rest. bytes.now ≡ word.now ++ rest.now) }
     ensures refused { IfErr result (λ _. (more : List ℕ) → bytes.now ≢ word.now ++ more) }
@@ -26,7 +29,10 @@ pub(crate) fn expect<'a>(bytes: &'a [u8], word: &[u8]) -> Result<&'a [u8], Fault
     }
 }
 
-/// The digits at the front and what stands behind them. There is one, and a zero is the first only where it is the only one.
+/// Returns the digits at the front and the rest of the input.
+///
+/// # Errors
+/// `Syntax` if there is no digit, or if a leading zero is followed by a digit.
 #[tactic(auto, using(crate::proofs::Ends::no_numeral, crate::proofs::Ends::zero_first))]
 pub(crate) fn read_digits(bytes: &[u8]) -> Result<(&[u8], &[u8]), Fault>
     ensures parts { IfOk result (λ read. bytes.now ≡ read.0.now ++ read.1.now) }
@@ -50,7 +56,7 @@ pub(crate) fn read_digits(bytes: &[u8]) -> Result<(&[u8], &[u8]), Fault>
     Ok(bytes.split_at(count))
 }
 
-/// How many digits stand at the front.
+/// Returns the number of digits at the front.
 #[tactic(auto, using(crate::proofs::Decimals::all_digits))]
 fn count_digits(bytes: &[u8]) -> usize
     ensures inside { result ≤ length bytes.now }
@@ -65,7 +71,7 @@ fn count_digits(bytes: &[u8]) -> usize
     bytes.len()
 }
 
-/// The number that digits write, where it is one of 128 bits.
+/// Returns the value of the digits, or `None` if it does not fit in 128 bits.
 #[tactic(auto, using(crate::proofs::Decimals::digits_more))]
 pub(crate) fn number_of(digits: &[u8]) -> Option<u128>
     requires { AllDigits 10 digits.now }

@@ -1,4 +1,4 @@
-//! Columns, read.
+//! Parsing of columns.
 
 ghost use Rattle.std.specs.Prelude.{◌≡◌, true, List, IfOk, IfErr, IsTrue, length, map};
 ghost use Rattle.std.specs.List.{list_all};
@@ -22,9 +22,14 @@ use sel_arrow::array_ref::ArrayRef;
 use sel_arrow::datatype::ArrowDataType;
 use std::alloc::Global;
 
-/// The column of this type with these rows, as in `[1, null, -3]`: `print_rows` writes the text back without its spaces, so each
-/// number and each text between quotes is to be spelled as it is printed. `beneath` chooses what stands beneath nulls. Refuses a
-/// text of no rows of this type, with the place; a column past a limit; and want of memory.
+/// Parses the rows of a column of type `dtype`, as in `[1, null, -3]`.
+///
+/// `print_rows` prints the result as `text` without the spaces outside quotes, so each integer and
+/// each quoted string must be spelled as it is printed. `beneath` selects the values in null slots.
+///
+/// # Errors
+/// `Syntax` or `Type`, with the byte position, if `text` is not the notation of rows of this type;
+/// `Limit` if the column would exceed a size limit; `OutOfMemory` if an allocation fails.
 pub fn parse_column(
     alloc: Global,
     dtype: &ArrowDataType,
@@ -52,8 +57,9 @@ pub fn parse_column(
     }
 }
 
-/// The column whose text this is. What was read is printed and compared, so that an answer does not rest on how it is read. The text
-/// of values that fit the type is printed back, so what is not is told to be no text of rows, from its start on.
+/// Parses the column and compares its printed form with the input, so that the correctness of a
+/// returned column does not depend on the parser. Returns `Syntax` at the start of the input if
+/// they differ.
 fn read_whole(
     dtype: &ArrowDataType,
     alloc: Global,
@@ -85,7 +91,8 @@ fn read_whole(
     }
 }
 
-/// Whether a column is of this type and its rows are printed as these bytes.
+/// Returns whether the column has type `dtype` and prints as `bytes`. Fails only with
+/// `OutOfMemory`.
 fn has_text(
     dtype: &ArrowDataType,
     alloc: Global,
@@ -110,7 +117,7 @@ fn has_text(
     }
 }
 
-/// The column of the rows that are read from these bytes.
+/// Parses the rows and builds the column.
 fn read_rows(
     dtype: &ArrowDataType,
     alloc: Global,
@@ -131,7 +138,7 @@ fn read_rows(
     build_rows(dtype, alloc, &items, beneath)
 }
 
-/// The column of these rows.
+/// Builds the column of these rows.
 fn build_rows(
     dtype: &ArrowDataType,
     alloc: Global,

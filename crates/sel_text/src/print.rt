@@ -1,4 +1,4 @@
-//! Columns as texts.
+//! Printing of columns.
 
 ghost use Rattle.std.specs.Prelude.{◌≡◌, ◌+◌, ◌≤◌, ◌<◌, ◌++◌, ℕ, All, length, map, slice_index_or, string_bytes, true, IsTrue, IfOk, IfErr, OnOk, encode_utf8};
 ghost use Rattle.std.specs.Char.{digit_char};
@@ -17,8 +17,13 @@ use sel_bits::faults::{PolarsError, PolarsResult};
 use std::alloc::{AllocError, Global};
 use std::str;
 
-/// The rows of a well-formed column as one text, as in `[1,null,-3]`, without a space between its parts. Refuses only for want of
-/// memory.
+/// Returns the notation of the rows, as in `[1,null,-3]`, without spaces between its parts.
+///
+/// # Requires
+/// The column is well-formed; check with `Column::is_well_formed`.
+///
+/// # Errors
+/// `OutOfMemory` if an allocation fails.
 pub fn print_rows(alloc: Global, column: &Column) -> PolarsResult<String>
     requires { IsWellFormed column.now }
     ensures text { IfOk result (λ text. string_bytes text ≡
@@ -30,7 +35,14 @@ pub fn print_rows(alloc: Global, column: &Column) -> PolarsResult<String>
     Ok(text)
 }
 
-/// Row `i` of a well-formed column as a text. Refuses only for want of memory.
+/// Returns the notation of row `i`.
+///
+/// # Requires
+/// The column is well-formed (check with `Column::is_well_formed`), and `i` is less than the number
+/// of rows.
+///
+/// # Errors
+/// `OutOfMemory` if an allocation fails.
 pub fn row_at(alloc: Global, column: &Column, i: usize) -> PolarsResult<String>
     requires formed { IsWellFormed column.now }
     requires inside { i < length (rows column.now) }
@@ -43,7 +55,7 @@ pub fn row_at(alloc: Global, column: &Column, i: usize) -> PolarsResult<String>
     Ok(text)
 }
 
-/// Puts the text of row `i` behind a text.
+/// Appends the notation of row `i` to `text`.
 #[cycle(printing)]
 fn push_row(column: &Column, i: usize, text: &mut String) -> Result<(), AllocError>
     requires { HasRow i column.now }
@@ -57,7 +69,7 @@ fn push_row(column: &Column, i: usize, text: &mut String) -> Result<(), AllocErr
     }
 }
 
-/// Puts the text of the list of the rows from `start` up to `end` behind a text.
+/// Appends the notation of the list of the rows from `start` up to `end` to `text`.
 #[cycle(printing)]
 fn push_items(
     column: &Column,
@@ -82,7 +94,7 @@ fn push_items(
     Ok(())
 }
 
-/// Puts the text of the tuple of the fields' rows at a place behind a text.
+/// Appends the notation of the struct value of row `place` of each field to `text`.
 #[cycle(printing)]
 fn push_parts(fields: &[Column], place: usize, text: &mut String) -> Result<(), AllocError>
     requires { All (HasRow place) fields.now }
@@ -100,7 +112,7 @@ fn push_parts(fields: &[Column], place: usize, text: &mut String) -> Result<(), 
     Ok(())
 }
 
-/// Puts the text of a row that is neither a list nor a tuple behind a text.
+/// Appends the notation of a row that is neither a list nor a struct value to `text`.
 fn push_flat(cell: Cell, text: &mut String) -> Result<(), AllocError>
     requires flat { is_flat cell ≡ true }
     requires fits { CellFits cell }
@@ -126,7 +138,7 @@ fn push_flat(cell: Cell, text: &mut String) -> Result<(), AllocError>
     }
 }
 
-/// Puts bytes in hexadecimal behind a text.
+/// Appends bytes in hexadecimal to `text`.
 fn push_hex(bytes: &[u8], text: &mut String) -> Result<(), AllocError>
     ensures { OnOk result (string_bytes text.new ≡ string_bytes text.old ++ hex_text bytes.now) }
 {
@@ -138,7 +150,7 @@ fn push_hex(bytes: &[u8], text: &mut String) -> Result<(), AllocError>
     Ok(())
 }
 
-/// Puts the two digits of a byte behind a text.
+/// Appends the two hexadecimal digits of a byte to `text`.
 fn push_hex_byte(byte: u8, text: &mut String) -> Result<(), AllocError>
     ensures { OnOk result (string_bytes text.new ≡ string_bytes text.old ++ hex_byte byte) }
 {
@@ -146,7 +158,7 @@ fn push_hex_byte(byte: u8, text: &mut String) -> Result<(), AllocError>
     text.push(hex_digit(byte % 16))
 }
 
-/// A digit in hexadecimal.
+/// Returns the hexadecimal digit of a value less than 16.
 fn hex_digit(digit: u8) -> char
     requires { digit < 16 }
     ensures { result ≡ digit_char digit }
@@ -158,7 +170,7 @@ fn hex_digit(digit: u8) -> char
     }
 }
 
-/// Puts UTF-8 between quotes behind a text.
+/// Appends a quoted UTF-8 string to `text`.
 fn push_quoted(bytes: &[u8], text: &mut String) -> Result<(), AllocError>
     requires { IsTrue (is_utf8 bytes.now) }
     ensures { OnOk result (string_bytes text.new ≡ string_bytes text.old ++ quoted bytes.now) }
@@ -174,7 +186,7 @@ fn push_quoted(bytes: &[u8], text: &mut String) -> Result<(), AllocError>
     Ok(())
 }
 
-/// Puts a character of a text as it stands between quotes behind a text.
+/// Appends a character as it is written between quotes to `text`.
 #[tactic(auto, using(crate::proofs::Escapes::plain_letter))]
 fn push_escaped(letter: char, text: &mut String) -> Result<(), AllocError>
     ensures { OnOk result (string_bytes text.new ≡ string_bytes text.old ++

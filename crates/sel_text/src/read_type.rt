@@ -1,4 +1,4 @@
-//! Types of columns, read.
+//! Parsing of data types.
 
 ghost use Rattle.std.specs.Prelude.{◌≡◌, ◌≢◌, ◌<◌, ◌≤◌, ◌∷◌, ◌++◌, ◌^◌, ℕ, List, true, IfOk, IfErr, IfSome, IfNone, IsOkAnd, MatchResult, IsTrue, map, length, nat_lt, codes};
 ghost use Rattle.std.specs.Fmt.{decimal};
@@ -17,12 +17,17 @@ use crate::text_error::{Fault, TextError};
 use sel_arrow::datatype::ArrowDataType;
 use std::alloc::Global;
 
-/// How many types with children may stand in one another.
+/// The maximum nesting depth of types with children.
 pub const DEEPEST: usize = 64;
 
-/// The type that a text names, as in `struct<list<i8>, fixed<2, utf8>>`: `print_dtype` writes the text back without its spaces.
-/// Refuses a text that names none, with the place; as past a limit one with more than 64 types with children in one another or a
-/// width past 18,446,744,073,709,551,615; and for want of memory.
+/// Parses a data type, as in `struct<list<i8>, fixed<2, utf8>>`.
+///
+/// `print_dtype` prints the result as `text` without the spaces.
+///
+/// # Errors
+/// The first error found: `Syntax` or `Type`, with the byte position, if `text` is not the notation
+/// of a type; `Limit` at a list size above 18,446,744,073,709,551,615, or inside 64 nested types at
+/// anything but a type without children; `OutOfMemory` if an allocation fails.
 pub fn parse_dtype(alloc: Global, text: &str) -> Result<ArrowDataType, TextError>
     ensures text { IfOk result (λ dtype. type_text (shape_of dtype) ≡ spaceless text.now) }
     ensures levels { IfOk result (λ dtype. depth (shape_of dtype) ≤ 64) }
@@ -42,7 +47,7 @@ pub fn parse_dtype(alloc: Global, text: &str) -> Result<ArrowDataType, TextError
     }
 }
 
-/// The type whose text this is.
+/// Parses a type that is the whole input.
 fn read_whole(alloc: Global, bytes: &[u8]) -> Result<ArrowDataType, Fault>
     ensures text { IfOk result (λ dtype. type_text (shape_of dtype) ≡ bytes.now) }
     ensures levels { IfOk result (λ dtype. depth (shape_of dtype) ≤ 64) }
@@ -60,7 +65,8 @@ fn read_whole(alloc: Global, bytes: &[u8]) -> Result<ArrowDataType, Fault>
     Ok(dtype)
 }
 
-/// The type whose text stands at the front, and what stands behind it.
+/// Parses a type of at most `levels` levels at the front, and returns it with the rest of the
+/// input.
 #[cycle(reading_types)]
 fn read_type(alloc: Global, bytes: &[u8], levels: usize) -> Result<(ArrowDataType, &[u8]), Fault>
     ensures text { IfOk result (λ read. bytes.now ≡ type_text (shape_of read.0) ++ read.1.now) }
@@ -92,7 +98,7 @@ fn read_type(alloc: Global, bytes: &[u8], levels: usize) -> Result<(ArrowDataTyp
     }
 }
 
-/// The type without a child whose text stands at the front, and what stands behind it.
+/// Parses a type without children at the front, and returns it with the rest of the input.
 #[tactic(auto, using(crate::proofs::TypesTold::no_plain))]
 fn read_plain(bytes: &[u8]) -> Option<(ArrowDataType, &[u8])>
     ensures text { IfSome result (λ read.
@@ -122,7 +128,7 @@ fn read_plain(bytes: &[u8]) -> Option<(ArrowDataType, &[u8])>
     }
 }
 
-/// The type of numbers with a sign whose bits stand at the front, behind its `i`.
+/// Parses the bit width of a signed integer type, after its `i`.
 #[tactic(auto, using(crate::proofs::TypesTold::no_signed))]
 fn read_signed(bytes: &[u8]) -> Option<(ArrowDataType, &[u8])>
     ensures text { IfSome result (λ read.
@@ -149,7 +155,7 @@ fn read_signed(bytes: &[u8]) -> Option<(ArrowDataType, &[u8])>
     }
 }
 
-/// The type of texts, or that of numbers without a sign whose bits stand at the front, behind its `u`.
+/// Parses the rest of `utf8`, or the bit width of an unsigned integer type, after its `u`.
 #[tactic(auto, using(crate::proofs::TypesTold::no_unsigned))]
 fn read_unsigned(bytes: &[u8]) -> Option<(ArrowDataType, &[u8])>
     ensures text { IfSome result (λ read.
@@ -179,7 +185,7 @@ fn read_unsigned(bytes: &[u8]) -> Option<(ArrowDataType, &[u8])>
     }
 }
 
-/// The type of lists whose text stands at the front, behind its name.
+/// Parses a list type, after its name.
 #[cycle(reading_types)]
 fn read_list(alloc: Global, bytes: &[u8], levels: usize) -> Result<(ArrowDataType, &[u8]), Fault>
     requires { 0 < levels }
@@ -199,7 +205,7 @@ fn read_list(alloc: Global, bytes: &[u8], levels: usize) -> Result<(ArrowDataTyp
     Ok((ArrowDataType::LargeList(child), rest))
 }
 
-/// The type of lists of one length whose text stands at the front, behind its name.
+/// Parses a fixed-size list type, after its name.
 #[cycle(reading_types)]
 fn read_blocks(alloc: Global, bytes: &[u8], levels: usize) -> Result<(ArrowDataType, &[u8]), Fault>
     requires { 0 < levels }
@@ -221,7 +227,7 @@ fn read_blocks(alloc: Global, bytes: &[u8], levels: usize) -> Result<(ArrowDataT
     Ok((ArrowDataType::FixedSizeList(child, size), rest))
 }
 
-/// The number of entries that stands at the front.
+/// Parses a list size at the front.
 fn read_size(bytes: &[u8]) -> Result<(usize, &[u8]), Fault>
     ensures text { IfOk result (λ read. bytes.now ≡ decimal read.0 ++ read.1.now) }
     ensures whole { (size : ℕ) (more : List ℕ) → size < 2 ^ 64 → NoDigit more →
@@ -238,7 +244,7 @@ fn read_size(bytes: &[u8]) -> Result<(usize, &[u8]), Fault>
     }
 }
 
-/// The type of tuples whose text stands at the front, behind its name.
+/// Parses a struct type, after its name.
 #[cycle(reading_types)]
 fn read_tuples(alloc: Global, bytes: &[u8], levels: usize) -> Result<(ArrowDataType, &[u8]), Fault>
     requires { 0 < levels }
@@ -259,7 +265,7 @@ fn read_tuples(alloc: Global, bytes: &[u8], levels: usize) -> Result<(ArrowDataT
     Ok((ArrowDataType::Struct(fields), rest))
 }
 
-/// The types up to the closing bracket, of which there is one at least.
+/// Parses field types up to the closing bracket; there is at least one.
 #[cycle(reading_types)]
 fn read_fields(
     alloc: Global,

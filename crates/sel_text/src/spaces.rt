@@ -1,23 +1,23 @@
-//! Texts without the spaces between their parts.
+//! Removal of spaces outside quotes.
 
 ghost use Rattle.std.specs.Prelude.{◌≡◌, ◌≤◌, IfOk, length};
 ghost use Rattle.sel_text.specs.Spaces.{place_behind, is_kept, spaceless};
 
 use std::alloc::{AllocError, Global};
 
-/// Where a byte of a text stands.
+/// The lexical state of a byte.
 #[derive(Clone, Copy)]
 pub(crate) enum Place {
-    /// Not between quotes.
+    /// Outside quotes.
     Between,
     /// Between quotes.
     Quoted,
-    /// Between quotes, right behind a backslash that escapes it.
+    /// Between quotes, escaped by the preceding backslash.
     Escaped,
 }
 
 impl Place {
-    /// Where the byte behind this one stands.
+    /// Returns the state of the next byte.
     fn behind(self, byte: u8) -> Place
         ensures { result ≡ place_behind self byte }
     {
@@ -30,7 +30,7 @@ impl Place {
         }
     }
 
-    /// Whether a byte here is no space between parts.
+    /// Returns whether `byte` in this state is not a space outside quotes.
     fn keeps(self, byte: u8) -> bool
         ensures { result ≡ is_kept self byte }
     {
@@ -41,7 +41,7 @@ impl Place {
     }
 }
 
-/// A text without the spaces between its parts: those between quotes stay.
+/// Returns the text without the spaces outside quotes.
 pub(crate) fn without_spaces(alloc: Global, text: &str) -> Result<Vec<u8>, AllocError>
     ensures { IfOk result (λ bytes. bytes.items ≡ spaceless text.now) }
 {
@@ -56,7 +56,8 @@ pub(crate) fn without_spaces(alloc: Global, text: &str) -> Result<Vec<u8>, Alloc
     Ok(bytes)
 }
 
-/// Where in a text the byte `at` stands among those that are no spaces between parts: the text's length where there are no more.
+/// Returns the position in `text` of byte `at`, counted without the spaces outside quotes, or the
+/// length of `text` if there is no such byte.
 pub(crate) fn place_in(text: &str, at: usize) -> usize
     ensures { result ≤ length text.now }
 {

@@ -1,4 +1,4 @@
-//! Bytes and texts between quotes, read.
+//! Parsing of hexadecimal bytes and quoted strings.
 
 ghost use Rattle.std.specs.Prelude.{◌≡◌, ◌<◌, ◌∷◌, ◌++◌, ℕ, List, IfOk, MatchResult, IsTrue, length, nat_lt};
 ghost use Rattle.std.specs.Char.{digit_char};
@@ -10,7 +10,8 @@ use crate::numerals::behind;
 use crate::text_error::Fault;
 use std::alloc::Global;
 
-/// The bytes in hexadecimal at the front, behind their opening quote, and what stands behind the closing one.
+/// Parses hexadecimal bytes after the opening quote, and returns them with the input after the
+/// closing quote.
 pub(crate) fn read_hex(alloc: Global, bytes: &[u8]) -> Result<(Vec<u8>, &[u8]), Fault>
     ensures whole { (value more : List ℕ) → IsTrue (list_all (λ byte. nat_lt byte 256) value) →
         bytes.now ≡ flat_map hex_byte value ++ (34 ∷ more) →
@@ -31,7 +32,7 @@ pub(crate) fn read_hex(alloc: Global, bytes: &[u8]) -> Result<(Vec<u8>, &[u8]), 
     }
 }
 
-/// The byte whose two digits stand at the front, and what stands behind them.
+/// Parses a byte of two hexadecimal digits, and returns it with the rest of the input.
 fn read_hex_byte(bytes: &[u8]) -> Result<(u8, &[u8]), Fault>
     ensures shorter { IfOk result (λ read. length read.1.now < length bytes.now) }
     ensures whole { (byte : ℕ) (more : List ℕ) → byte < 256 →
@@ -52,7 +53,7 @@ fn read_hex_byte(bytes: &[u8]) -> Result<(u8, &[u8]), Fault>
     Ok((16 * high + low, &bytes[2..]))
 }
 
-/// The value of a hexadecimal digit in lower case, with so many bytes left from it on.
+/// Returns the value of a lower-case hexadecimal digit; `left` is the error position.
 #[tactic(auto, using(crate::proofs::Quotes::hex_digits))]
 fn hex_digit(digit: u8, left: usize) -> Result<u8, Fault>
     ensures small { IfOk result (λ value. value < 16) }
@@ -66,7 +67,7 @@ fn hex_digit(digit: u8, left: usize) -> Result<u8, Fault>
     }
 }
 
-/// The text at the front, behind its opening quote, and what stands behind the closing one.
+/// Parses a string after the opening quote, and returns it with the input after the closing quote.
 pub(crate) fn read_quoted(alloc: Global, bytes: &[u8]) -> Result<(Vec<u8>, &[u8]), Fault>
     ensures whole { (value more : List ℕ) → bytes.now ≡ flat_map escaped value ++ (34 ∷ more) →
         MatchResult result (λ read. (read.0.items ≡ value) × (read.1.now ≡ more)) IsWanting }
@@ -86,7 +87,8 @@ pub(crate) fn read_quoted(alloc: Global, bytes: &[u8]) -> Result<(Vec<u8>, &[u8]
     }
 }
 
-/// The byte of a text at the front, where no quote stands: as it is, or its escape.
+/// Parses one byte of a string before its closing quote: a literal byte of at least 32, or an
+/// escape.
 fn read_byte(bytes: &[u8]) -> Result<(u8, &[u8]), Fault>
     ensures shorter { IfOk result (λ read. length read.1.now < length bytes.now) }
     ensures whole { (byte : ℕ) (more : List ℕ) → bytes.now ≡ escaped byte ++ more →
@@ -104,7 +106,7 @@ fn read_byte(bytes: &[u8]) -> Result<(u8, &[u8]), Fault>
     Ok((bytes[0], &bytes[1..]))
 }
 
-/// The byte whose escape stands at the front, behind its backslash: each byte has one, as it is printed.
+/// Parses an escape after its backslash. Accepts only the escape that is printed for the byte.
 fn read_escape(bytes: &[u8]) -> Result<(u8, &[u8]), Fault>
     ensures shorter { IfOk result (λ read. length read.1.now < length bytes.now) }
     ensures whole { (byte : ℕ) (more : List ℕ) → 92 ∷ bytes.now ≡ escaped byte ++ more →
@@ -137,8 +139,8 @@ fn read_escape(bytes: &[u8]) -> Result<(u8, &[u8]), Fault>
     }
 }
 
-/// The byte below a space whose two digits stand at the front, behind the `\u00` of an escape, of which so many bytes are left from
-/// its `u` on. A byte with a letter for an escape is not written so.
+/// Parses the two digits of a control byte after `\u00`; `left` is the error position. Rejects a
+/// byte that has a one-letter escape.
 fn read_control(bytes: &[u8], left: usize) -> Result<(u8, &[u8]), Fault>
     ensures shorter { IfOk result (λ read. length read.1.now < length bytes.now) }
     ensures whole { (byte : ℕ) (more : List ℕ) →

@@ -1,4 +1,4 @@
-//! Why a text gives no type and no column.
+//! Errors of the parser.
 
 ghost use Rattle.std.specs.Prelude.{◌≡◌, ◌≤◌, Some, length};
 ghost use Rattle.sel_text.specs.TextErrors.{error_text, kernel_fault, make_fault, IsShort, IsShortage, IsWithin};
@@ -9,21 +9,22 @@ use sel_bits::faults::{MakeError, PolarsError};
 use std::alloc::{AllocError, AllocFailed};
 use std::fmt;
 
-/// Why a text gives no type and no column. A place is that of the first byte, counted from 0, at which the text goes wrong; where
-/// the text is too short it is the text's length.
+/// An error of `parse_column` or `parse_dtype`. A position is the index of the byte at which the
+/// error was found, counted from 0, or the length of the text if the text is too short.
 #[derive(Debug, Clone, Copy, PartialEq, Eq)]
 pub enum TextError {
-    /// From this place on it is no text of the notation.
+    /// Syntax error at this position.
     Syntax { at: usize },
-    /// What begins at this place does not fit the type, or is the name of no type.
+    /// The value at this position does not fit the type, or the type name is unknown.
     Type { at: usize },
-    /// It names a column past a limit, or a type nested more deeply than can be read.
+    /// The column would exceed a size limit, or the type is nested too deeply or has a list size
+    /// that does not fit in 64 bits.
     Limit,
-    /// A growth in this call was refused.
+    /// An allocation failed.
     OutOfMemory,
 }
 
-/// The words that name the fault, with the place where there is one.
+/// Writes the error, with its position if it has one.
 impl fmt::Display for TextError {
     ghost output = { λ error. Some (error_text error) };
 
@@ -37,7 +38,7 @@ impl fmt::Display for TextError {
     }
 }
 
-/// The same while a text without spaces is read: a place is told by how many of its bytes are left from there on.
+/// An error while parsing text without spaces. A position is the number of bytes left.
 #[derive(Clone, Copy)]
 pub(crate) enum Fault {
     Syntax(usize),
@@ -47,7 +48,8 @@ pub(crate) enum Fault {
 }
 
 impl Fault {
-    /// The fault as one of the text, of which so many bytes are no spaces between its parts.
+    /// Converts the error to one of `text`, which has `count` bytes without the spaces outside
+    /// quotes.
     pub(crate) fn placed(self, text: &str, count: usize) -> TextError
         ensures place { IsWithin (length text.now) result }
         ensures short { IsShort self → IsShortage result }

@@ -1,4 +1,4 @@
-//! Types of columns as texts.
+//! Printing of data types.
 
 ghost use Rattle.std.specs.Prelude.{◌≡◌, ◌++◌, map, string_bytes, IfOk, IfErr, OnOk};
 ghost use Rattle.sel_arrow.specs.DataType.{shape_of};
@@ -8,7 +8,10 @@ use sel_arrow::datatype::ArrowDataType;
 use sel_bits::faults::{PolarsError, PolarsResult};
 use std::alloc::{AllocError, Global};
 
-/// A type as a text, as in `struct<list<i8>,fixed<2,utf8>>`, without a space. Refuses only for want of memory.
+/// Returns the notation of a data type, as in `struct<list<i8>,fixed<2,utf8>>`, without spaces.
+///
+/// # Errors
+/// `OutOfMemory` if an allocation fails.
 pub fn print_dtype(alloc: Global, dtype: &ArrowDataType) -> PolarsResult<String>
     ensures text { IfOk result (λ text. string_bytes text ≡ type_text (shape_of dtype.now)) }
     ensures refusal { IfErr result (λ fault. fault ≡ PolarsError.OutOfMemory) }
@@ -18,7 +21,7 @@ pub fn print_dtype(alloc: Global, dtype: &ArrowDataType) -> PolarsResult<String>
     Ok(text)
 }
 
-/// Puts the text of a type behind a text.
+/// Appends the notation of a data type to `text`.
 #[cycle(naming)]
 fn push_dtype(dtype: &ArrowDataType, text: &mut String) -> Result<(), AllocError>
     ensures { OnOk result (string_bytes text.new ≡
@@ -59,7 +62,7 @@ fn push_dtype(dtype: &ArrowDataType, text: &mut String) -> Result<(), AllocError
     }
 }
 
-/// Puts the texts of types between angle brackets behind a text.
+/// Appends the notations of data types between angle brackets to `text`.
 #[cycle(naming)]
 fn push_dtypes(dtypes: &[ArrowDataType], text: &mut String) -> Result<(), AllocError>
     ensures { OnOk result (string_bytes text.new ≡ string_bytes text.old ++

@@ -1,4 +1,4 @@
-//! Whole numbers of the ten number types.
+//! Conversion from integers to the ten integer types.
 
 ghost use Rattle.std.specs.Prelude.{◌≡◌, pos, false, true, IfNone, IfSome};
 ghost use Rattle.sel_text.specs.Cells.{whole_number};
@@ -7,13 +7,13 @@ ghost use Rattle.sel_text.specs.Fits.{fits_number};
 use crate::cell::Whole;
 use sel_arrow::primitive::ArrowPrimitive;
 
-/// A number type that takes a whole number where it fits.
+/// An integer type that converts from `Whole` if the value fits.
 pub(crate) trait FromWhole: ArrowPrimitive {
-    /// Nothing, which each of the types has.
+    /// Returns zero.
     fn zero() -> Self
         ensures { fits_number Self.shape (pos 0) ≡ true };
 
-    /// The number, or None where none of the type is it.
+    /// Returns the value, or `None` if it does not fit the type.
     fn from_whole(whole: Whole) -> Option<Self>
         ensures number { IfSome result (λ number. Self.number number ≡ whole_number whole) }
         ensures refused { IfNone result (fits_number Self.shape (whole_number whole) ≡ false) };

@@ -1,4 +1,4 @@
-//! Choices: when a mask is true the rows of one column, otherwise those of another.
+//! If-then-else: the rows of one column where a mask is true, else those of another.
 
 use crate::made::{numbers, texts};
 use crate::page::{show_answer, title};
@@ -11,7 +11,7 @@ use sel_arrow::utf8view::Utf8ViewArray;
 use sel_bits::bitmap::Bitmap;
 use std::alloc::Global;
 
-/// A choice between two columns, and between a column and one value.
+/// Prints if-then-else of two columns, and of a column and a scalar.
 pub fn choices(alloc: Global, page: &mut String) -> Result<(), Stop> {
     title(page, "if_then_else: row by row the one or the other")?;
     show_answer(alloc, page, "of two columns", cheap_or_dear(alloc))?;
@@ -35,7 +35,8 @@ fn names_or_one(alloc: Global) -> Result<ArrayRef, Stop> {
     named(alloc, &mask, &names)
 }
 
-/// The rows of the first where the mask is true, else of the second, where all are of one length.
+/// Returns the rows of `if_true` where the mask is true, else those of `if_false`; all must have
+/// one length.
 fn chosen(
     alloc: Global,
     mask: &Bitmap,
@@ -48,7 +49,7 @@ fn chosen(
     Ok(PrimitiveArray::if_then_else(alloc, mask, if_true, if_false)?.into_ref())
 }
 
-/// The texts where the mask is true, else one text.
+/// Returns the strings where the mask is true, else one string.
 fn named(alloc: Global, mask: &Bitmap, names: &Utf8ViewArray) -> Result<ArrayRef, Stop> {
     if names.len() != mask.len() {
         return Err(Stop::Unmet);

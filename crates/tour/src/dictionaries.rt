@@ -1,4 +1,4 @@
-//! Dictionaries: a key of a null value becomes null, and the value goes.
+//! Dictionaries: keys of null values become null, and the null values are removed.
 
 use crate::made::{numbers, texts};
 use crate::page::{show, title};
@@ -9,7 +9,7 @@ use sel_arrow::primitive::PrimitiveArray;
 use sel_arrow::utf8view::Utf8ViewArray;
 use std::alloc::Global;
 
-/// Keys and values without the null ones.
+/// Prints keys and values without null values.
 pub fn dictionaries(alloc: Global, page: &mut String) -> Result<(), Stop> {
     title(
         page,
@@ -24,7 +24,8 @@ fn propagated(alloc: Global) -> Result<(PrimitiveArray<u32>, Utf8ViewArray), Sto
     without_nulls(alloc, &keys, &values)
 }
 
-/// The keys and the values, where each key that is not null names a value.
+/// Returns the keys and the values without null values; every non-null key must be less than the
+/// number of values.
 fn without_nulls(
     alloc: Global,
     keys: &PrimitiveArray<u32>,

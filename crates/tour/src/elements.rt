@@ -1,4 +1,4 @@
-//! Elements of lists.
+//! List element access.
 
 use crate::made::{blocks, lists, numbers};
 use crate::page::{line, show, show_answer, title};
@@ -14,7 +14,7 @@ use sel_arrow::list::ListArray;
 use sel_arrow::primitive::PrimitiveArray;
 use std::alloc::Global;
 
-/// Elements of lists and of lists of one length, and lists of one row each.
+/// Prints elements of lists and of fixed-size lists, and lists of one row each.
 pub fn elements(alloc: Global, page: &mut String) -> Result<(), Stop> {
     title(
         page,
@@ -33,12 +33,12 @@ fn six(alloc: Global) -> Result<ArrayRef, Stop> {
     .into_ref())
 }
 
-/// A column of one kind as one of any.
+/// Converts a typed array to a column of any type.
 fn as_any<A: Array>(made: Result<A, Stop>) -> Result<ArrayRef, Stop> {
     Ok(made?.into_ref())
 }
 
-// (each column is made anew, so that only one is held at a time)
+// (each column is built again, so that only one exists at a time)
 fn list(alloc: Global) -> Result<ListArray<i64>, Stop> {
     lists(alloc, &[Some(3), None, Some(1), Some(2)], six(alloc))
 }
@@ -97,7 +97,7 @@ fn entry_each(alloc: Global) -> Result<ArrayRef, Stop> {
     found
 }
 
-/// The entries at an index for each list, where there are as many indices as lists.
+/// Returns the elements at one index per list; there must be as many indices as lists.
 fn at_each(
     alloc: Global,
     block: &FixedSizeListArray,

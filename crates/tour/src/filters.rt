@@ -11,7 +11,7 @@ use sel_arrow::boolean::BooleanArray;
 use sel_bits::bitmap::Bitmap;
 use std::alloc::Global;
 
-/// A filter by a column of truth values, and one by bits.
+/// Prints a filter by a boolean column, and one by a bitmap.
 pub fn filters(alloc: Global, page: &mut String) -> Result<(), Stop> {
     title(
         page,
@@ -42,7 +42,7 @@ fn people_kept(alloc: Global) -> Result<ArrayRef, Stop> {
     kept_by_bits(alloc, people(alloc)?, &bits)
 }
 
-/// The rows that the mask keeps, where there is a truth value for each row.
+/// Returns the rows where the boolean mask is true; it must have the length of the column.
 fn kept(alloc: Global, column: ArrayRef, mask: &BooleanArray) -> Result<ArrayRef, Stop> {
     if column.len() != mask.len() {
         drop(column);
@@ -53,7 +53,7 @@ fn kept(alloc: Global, column: ArrayRef, mask: &BooleanArray) -> Result<ArrayRef
     Ok(kept?)
 }
 
-/// The same by bits.
+/// Returns the rows where the bitmap is true; it must have the length of the column.
 fn kept_by_bits(alloc: Global, column: ArrayRef, mask: &Bitmap) -> Result<ArrayRef, Stop> {
     if column.len() != mask.len() {
         drop(column);

@@ -1,4 +1,4 @@
-//! Several columns: side by side, and rows picked from each.
+//! Several columns: horizontal flatten, and gathered rows.
 
 use crate::made::{numbers, texts};
 use crate::page::{show_answer, title};
@@ -11,7 +11,7 @@ use sel_arrow::column::Column;
 use sel_runs::sources::{are_alike, are_well_formed};
 use std::alloc::Global;
 
-/// Columns side by side, and rows of two columns.
+/// Prints a horizontal flatten of columns, and rows gathered from two columns.
 pub fn joined(alloc: Global, page: &mut String) -> Result<(), Stop> {
     title(
         page,
@@ -44,7 +44,8 @@ fn side_by_side(alloc: Global) -> Result<ArrayRef, Stop> {
     flat
 }
 
-/// The columns side by side, where they are of one type and each has its rows, or those of one row for all.
+/// Returns the horizontal flatten of columns of one type; each has its rows, or one row that is
+/// broadcast.
 fn flattened(
     alloc: Global,
     columns: &[ArrayRef],
@@ -68,7 +69,8 @@ fn picked(alloc: Global) -> Result<ArrayRef, Stop> {
     rows
 }
 
-/// The rows that the picks name, where the columns are of one type and have them.
+/// Returns the rows at the row references; the columns must have one type, and the references must
+/// be in bounds.
 fn collected<'a>(
     alloc: Global,
     sources: &'a [&'a Column],

@@ -1,4 +1,4 @@
-//! Columns of each kind without children: their types, and their rows.
+//! Columns of each type without children: their types and rows.
 
 use crate::made::{bytes, numbers, texts, truths};
 use crate::page::{show_made, title};
@@ -6,7 +6,7 @@ use crate::stop::Stop;
 use sel_arrow::null::NullArray;
 use std::alloc::Global;
 
-/// A column of each kind that has no child.
+/// Prints a column of each type without children.
 pub fn kinds(alloc: Global, page: &mut String) -> Result<(), Stop> {
     title(
         page,

@@ -1,4 +1,4 @@
-//! Columns made from lists of rows, of which none is null: values, and a bitmap that says which rows are there.
+//! Columns built from rows: values, and a validity bitmap.
 
 use crate::stop::Stop;
 use sel_arrow::array_ref::ArrayRef;
@@ -17,7 +17,7 @@ use sel_bits::native::NativeType;
 use sel_bits::offsets::OffsetsBuffer;
 use std::alloc::Global;
 
-/// Which rows are there.
+/// Returns the validity of the rows.
 pub fn validity<T: Copy>(alloc: Global, rows: &[Option<T>]) -> Result<Option<Bitmap>, Stop> {
     let mut valid = Vec::with_capacity(alloc, rows.len())?;
     for row in rows {
@@ -26,7 +26,7 @@ pub fn validity<T: Copy>(alloc: Global, rows: &[Option<T>]) -> Result<Option<Bit
     Ok(Some(Bitmap::from_bools(alloc, &valid)?))
 }
 
-/// Numbers, of any of the ten types.
+/// Returns a column of integers of any of the ten types.
 pub fn numbers<T: NativeType>(
     alloc: Global,
     rows: &[Option<T>],
@@ -34,12 +34,12 @@ pub fn numbers<T: NativeType>(
     Ok(PrimitiveArray::from_options(alloc, rows)?)
 }
 
-/// Truth values: bits, eight to a byte.
+/// Returns a boolean column.
 pub fn truths(alloc: Global, rows: &[Option<bool>]) -> Result<BooleanArray, Stop> {
     Ok(BooleanArray::from_options(alloc, rows)?)
 }
 
-/// Rows of bytes: all bytes behind one another, and the offsets between which each row lies.
+/// Returns a binary column: the concatenated bytes, and the offsets of the rows.
 pub fn bytes(alloc: Global, rows: &[Option<&[u8]>]) -> Result<BinaryArray<i64>, Stop> {
     let (ends, values) = joined(alloc, rows)?;
     let offsets = OffsetsBuffer::try_from(ends)?;
@@ -56,7 +56,8 @@ fn joined(alloc: Global, rows: &[Option<&[u8]>]) -> PolarsResult<(Vec<i64>, Vec<
     Ok((ends, values))
 }
 
-/// Texts: a view each, which holds up to 12 bytes itself and else names a place in the one data buffer.
+/// Returns a string column: a view of up to 12 inline bytes, or a reference into the data buffer,
+/// per row.
 pub fn texts(alloc: Global, rows: &[Option<&str>]) -> Result<Utf8ViewArray, Stop> {
     let (views, data) = viewed(alloc, rows)?;
     let buffers = one_buffer(alloc, data)?;
@@ -82,7 +83,7 @@ fn one_buffer(alloc: Global, data: Vec<u8>) -> PolarsResult<Buffer<Buffer<u8>>> 
     Buffer::from_vec(vec![in alloc; data]?)
 }
 
-/// Lists of these lengths over a child; beneath a null stands none of its rows.
+/// Returns lists of these lengths over a child; a null list has no child rows.
 pub fn lists(
     alloc: Global,
     lengths: &[Option<u32>],
@@ -98,7 +99,7 @@ pub fn lists(
     }
 }
 
-// Where lists begin and end, and which are there.
+// Returns the offsets and the validity of lists.
 fn bounds(
     alloc: Global,
     lengths: &[Option<u32>],
@@ -117,7 +118,7 @@ fn offsets(alloc: Global, lengths: &[Option<u32>]) -> Result<OffsetsBuffer<i64>,
     Ok(OffsetsBuffer::try_from(offsets)?)
 }
 
-/// Lists of one length: the rows of the child, so many to a list, also beneath a null.
+/// Returns fixed-size lists of `size` child rows each, null lists included.
 pub fn blocks(
     alloc: Global,
     size: usize,
@@ -136,7 +137,7 @@ pub fn blocks(
     }
 }
 
-/// Structs of two fields: row k has row k of each.
+/// Returns structs of two fields.
 pub fn pairs(
     alloc: Global,
     valid: &[bool],
@@ -153,7 +154,7 @@ pub fn pairs(
     }
 }
 
-/// Two columns behind one another.
+/// Returns a vector of two columns.
 fn both(
     alloc: Global,
     first: Result<ArrayRef, Stop>,

@@ -1,4 +1,5 @@
-//! A tour of the library: columns of each kind, each kernel once on them, and each refusal once. `make tour` prints it.
+//! Examples of the library: columns of each type, each kernel, and each error. `make tour` prints
+//! them.
 #![tactic(auto)]
 
 mod choices;
@@ -29,7 +30,7 @@ fn main(rt: HostRuntime) -> ExitCode {
     }
 }
 
-/// All that the tour prints.
+/// Returns the output of all examples.
 fn tour(alloc: Global) -> Result<String, Stop> {
     let mut page = String::new(alloc);
     columns(alloc, &mut page)?;
@@ -39,21 +40,21 @@ fn tour(alloc: Global) -> Result<String, Stop> {
     Ok(page)
 }
 
-/// Columns and their parts.
+/// Prints columns and slices.
 fn columns(alloc: Global, page: &mut String) -> Result<(), Stop> {
     kinds::kinds(alloc, page)?;
     nested::nested(alloc, page)?;
     parts::parts(alloc, page)
 }
 
-/// The kernels that choose among rows.
+/// Prints the kernels that select rows.
 fn chosen(alloc: Global, page: &mut String) -> Result<(), Stop> {
     filters::filters(alloc, page)?;
     takes::takes(alloc, page)?;
     choices::choices(alloc, page)
 }
 
-/// Those that take columns apart, or put several together.
+/// Prints the kernels that access elements or combine columns.
 fn arranged(alloc: Global, page: &mut String) -> Result<(), Stop> {
     elements::elements(alloc, page)?;
     joined::joined(alloc, page)?;

@@ -1,4 +1,4 @@
-//! Columns over columns: lists, lists of one length, structs, and lists of structs.
+//! Nested columns: lists, fixed-size lists, structs, and lists of structs.
 
 use crate::made::{blocks, lists, numbers, pairs, truths};
 use crate::page::{show_made, title};
@@ -8,7 +8,7 @@ use sel_arrow::array_ref::ArrayRef;
 use sel_arrow::structure::StructArray;
 use std::alloc::Global;
 
-/// A column of each kind that has children.
+/// Prints a column of each nested type.
 pub fn nested(alloc: Global, page: &mut String) -> Result<(), Stop> {
     title(page, "Columns over columns, to any depth")?;
     over_numbers(alloc, page)?;
@@ -32,13 +32,13 @@ fn three(alloc: Global) -> Result<ArrayRef, Stop> {
     Ok(numbers(alloc, &[Some(1i64), None, Some(3)])?.into_ref())
 }
 
-/// Structs of a number and a truth value.
+/// Returns structs of an integer and a boolean.
 fn tuples(alloc: Global) -> Result<StructArray, Stop> {
     let married = truths(alloc, &[Some(true), Some(false), None])?.into_ref();
     pairs(alloc, &[true, false, true], three(alloc), married)
 }
 
-/// The same as a column of any type.
+/// Returns the same structs as a column of any type.
 pub fn people(alloc: Global) -> Result<ArrayRef, Stop> {
     Ok(tuples(alloc)?.into_ref())
 }

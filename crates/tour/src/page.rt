@@ -1,4 +1,4 @@
-//! The lines that the tour prints.
+//! The lines of the output.
 
 use crate::stop::Stop;
 use sel_arrow::array::Array;
@@ -7,7 +7,7 @@ use sel_text::print::print_rows;
 use sel_text::types::print_dtype;
 use std::alloc::Global;
 
-/// A line between what came before and what follows.
+/// Appends a title, after an empty line unless it is the first.
 pub fn title(page: &mut String, text: &str) -> Result<(), Stop> {
     if !page.is_empty() {
         page.push('\n')?;
@@ -15,25 +15,25 @@ pub fn title(page: &mut String, text: &str) -> Result<(), Stop> {
     Ok(write!(page, "{text}\n")?)
 }
 
-/// A line `name: text`.
+/// Appends the line `name: text`.
 pub fn line(page: &mut String, name: &str, text: &str) -> Result<(), Stop> {
     Ok(write!(page, "  {name}: {text}\n")?)
 }
 
-/// A line with the rows of a column.
+/// Appends a line with the rows of a column.
 pub fn rows(alloc: Global, page: &mut String, name: &str, column: &ArrayRef) -> Result<(), Stop> {
     let text = print_rows(alloc, column.as_column())?;
     line(page, name, &text)
 }
 
-/// A line with the rows of a column that is needed no more.
+/// Appends a line with the rows of a column, and drops the column.
 pub fn show(alloc: Global, page: &mut String, name: &str, column: ArrayRef) -> Result<(), Stop> {
     let shown = rows(alloc, page, name, &column);
     drop(column);
     shown
 }
 
-/// The same of an answer.
+/// Appends a line with the rows of a result.
 pub fn show_answer(
     alloc: Global,
     page: &mut String,
@@ -43,7 +43,7 @@ pub fn show_answer(
     show(alloc, page, name, answer?)
 }
 
-/// A line with the type and the rows of a column that is needed no more.
+/// Appends a line with the type and the rows of a column, and drops the column.
 pub fn show_typed(alloc: Global, page: &mut String, column: ArrayRef) -> Result<(), Stop> {
     let dtype = type_text(alloc, &column);
     match dtype {
@@ -55,7 +55,7 @@ pub fn show_typed(alloc: Global, page: &mut String, column: ArrayRef) -> Result<
     }
 }
 
-/// The same of a column of one kind that was to be made.
+/// Appends a line with the type and the rows of a typed array.
 pub fn show_made<A: Array>(
     alloc: Global,
     page: &mut String,

@@ -1,4 +1,4 @@
-//! Parts of columns: a slice shares what it is a part of, and copies no row.
+//! Slices, which share the buffers of their column and copy no row.
 
 use crate::made::numbers;
 use crate::nested::people;
@@ -8,7 +8,7 @@ use sel_arrow::array::Array;
 use sel_arrow::array_ref::ArrayRef;
 use std::alloc::Global;
 
-/// A slice of a column, and one of a column over columns.
+/// Prints a slice of a column, and one of a nested column.
 pub fn parts(alloc: Global, page: &mut String) -> Result<(), Stop> {
     title(page, "Slices: a part of the rows, without a copy")?;
     let part = sliced(alloc, ages(alloc), 1, 2);
@@ -21,7 +21,7 @@ fn ages(alloc: Global) -> Result<ArrayRef, Stop> {
     Ok(numbers(alloc, &[Some(31i64), None, Some(27), Some(45)])?.into_ref())
 }
 
-/// So many rows from a place on, where the column has them: the condition of a slice.
+/// Returns `len` rows from an index on; the slice must be in bounds.
 fn sliced(
     alloc: Global,
     column: Result<ArrayRef, Stop>,

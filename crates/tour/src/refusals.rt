@@ -1,4 +1,4 @@
-//! Refusals: a limit that an answer passes, an index that is out of bounds, and a rule that parts break.
+//! Errors: an exceeded size limit, an index out of bounds, and a broken rule of columns.
 
 use crate::made::{blocks, numbers};
 use crate::page::{line, title};
@@ -13,7 +13,7 @@ use sel_bits::faults::{MakeError, PolarsError, PolarsResult};
 use sel_bits::offsets::OffsetsBuffer;
 use std::alloc::Global;
 
-/// Each refusal but want of memory, which any call that takes memory may answer.
+/// Prints each error except out of memory, which any call that allocates may return.
 pub fn refusals(alloc: Global, page: &mut String) -> Result<(), Stop> {
     title(
         page,
@@ -45,14 +45,14 @@ fn refusal(
     }
 }
 
-/// One list over as many nulls as a column may have.
+/// Returns one list with the maximum number of rows, all null.
 fn long_list(alloc: Global) -> Result<ArrayRef, Stop> {
     let offsets = OffsetsBuffer::try_from(vec![in alloc; 0i64, 4_294_967_295]?)?;
     let child = NullArray::try_new(4_294_967_295)?.into_ref();
     Ok(ListArray::try_new(alloc, offsets, child, None)?.into_ref())
 }
 
-/// The first row, twice.
+/// Takes row 0 twice.
 fn taken_twice(alloc: Global, list: &ArrayRef) -> Result<PolarsResult<ArrayRef>, Stop> {
     let indices = numbers(alloc, &[Some(0u32), Some(0)])?;
     if !indices_in_bounds(&indices, list.len()) {
@@ -61,7 +61,7 @@ fn taken_twice(alloc: Global, list: &ArrayRef) -> Result<PolarsResult<ArrayRef>,
     Ok(take_unchecked(alloc, list, &indices))
 }
 
-/// The lists that are asked for would have more rows than a column may have.
+/// Returns the error of a take whose lists would have more items than a column may have rows.
 fn too_long(alloc: Global) -> Result<PolarsResult<ArrayRef>, Stop> {
     let list = long_list(alloc)?;
     let taken = taken_twice(alloc, &list);
@@ -73,7 +73,7 @@ fn two(alloc: Global) -> Result<ArrayRef, Stop> {
     Ok(numbers(alloc, &[Some(1i64), Some(2)])?.into_ref())
 }
 
-/// The third entry of lists of two, where that is not to be null.
+/// Returns the error of an access to index 2 of lists of size 2.
 fn outside(alloc: Global) -> Result<PolarsResult<ArrayRef>, Stop> {
     let block = blocks(alloc, 2, &[true], two(alloc))?;
     let third = sub_fixed_size_list_get_literal(alloc, &block, 2, false);
@@ -81,13 +81,13 @@ fn outside(alloc: Global) -> Result<PolarsResult<ArrayRef>, Stop> {
     Ok(third)
 }
 
-/// Lists whose last offset is past the end of their child.
+/// Returns the error of lists whose last offset exceeds the length of their child.
 fn past_the_end(alloc: Global) -> Result<Result<ListArray<i64>, MakeError>, Stop> {
     let offsets = OffsetsBuffer::try_from(vec![in alloc; 0i64, 3]?)?;
     Ok(ListArray::try_new(alloc, offsets, two(alloc)?, None))
 }
 
-/// What is said of them.
+/// Prints the rule that they break.
 fn broken_rule(alloc: Global, page: &mut String) -> Result<(), Stop> {
     match past_the_end(alloc)? {
         Ok(list) => {

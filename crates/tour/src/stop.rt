@@ -1,18 +1,18 @@
-//! Why the tour stops: it shows refusals, but its own steps are to be answered.
+//! Errors of the examples themselves.
 
 use sel_bits::faults::{MakeError, PolarsError};
 use std::alloc::{AllocError, AllocFailed};
 
-/// What a step of the tour did not get.
+/// The error of a step.
 #[derive(Debug, Clone, Copy)]
 pub enum Stop {
-    /// A kernel refused.
+    /// A kernel returned an error.
     Refused(PolarsError),
-    /// Parts make no column.
+    /// A column could not be built from its parts.
     Broken(MakeError),
-    /// The condition of a call does not hold.
+    /// A precondition does not hold.
     Unmet,
-    /// A column is of another type than it was made.
+    /// A column does not have the type that it was built with.
     AnotherType,
 }
 

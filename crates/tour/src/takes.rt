@@ -10,7 +10,7 @@ use sel_arrow::array_ref::ArrayRef;
 use sel_arrow::primitive::IdxArr;
 use std::alloc::Global;
 
-/// Takes of numbers and of structs, and indices that are out of bounds.
+/// Prints takes of integers and of structs, and indices out of bounds.
 pub fn takes(alloc: Global, page: &mut String) -> Result<(), Stop> {
     title(
         page,
@@ -44,7 +44,7 @@ fn people_taken(alloc: Global) -> Result<ArrayRef, Stop> {
     taken(alloc, people(alloc)?, &last_first)
 }
 
-/// The rows at the indices, where each index that is not null has a row.
+/// Returns the rows at the indices; every non-null index must be in bounds.
 fn taken(alloc: Global, column: ArrayRef, indices: &IdxArr) -> Result<ArrayRef, Stop> {
     if !indices_in_bounds(indices, column.len()) {
         drop(column);

@@ -1,4 +1,4 @@
-//! Bits that a mask keeps.
+//! Filters for bitmaps.
 
 ghost use Rattle.std.specs.Prelude.{◌≡◌, length, IfOk, IfErr};
 ghost use Rattle.std.specs.Option.{option_copied, option_map};
@@ -13,7 +13,13 @@ pub use sel_filter::boolean::{
 };
 use std::alloc::Global;
 
-/// Both filtered; a validity is answered exactly where one is given. Refuses only for want of memory.
+/// Returns the bits of `values` where `mask` is true, and likewise those of `validity` if given.
+///
+/// # Requires
+/// `values`, and `validity` if given, have the same length as `mask`.
+///
+/// # Errors
+/// `OutOfMemory` if an allocation fails.
 pub fn filter_bitmap_and_validity(
     alloc: Global,
     values: &Bitmap,
@@ -32,7 +38,7 @@ pub fn filter_bitmap_and_validity(
     Ok((kept, kept_validity))
 }
 
-/// A validity filtered, where there is one.
+/// Returns the bits of `validity` where `mask` is true, if a validity is given.
 pub(crate) fn filter_validity(
     alloc: Global,
     validity: Option<&Bitmap>,

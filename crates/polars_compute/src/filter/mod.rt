@@ -1,4 +1,4 @@
-//! The rows of a column that a mask keeps.
+//! Filters for columns of any type.
 
 ghost use Rattle.std.specs.Prelude.{◌≡◌, ◌≤◌, ◌+◌, All, length, map, IfOk, IfErr};
 ghost use Rattle.sel_bits.specs.Bits.{count_true};
@@ -30,8 +30,15 @@ use sel_bits::faults::{PolarsError, PolarsResult};
 use sel_runs::single::collect_one;
 use std::alloc::Global;
 
-/// The rows where the mask is the valid value true, in order; a null in the mask counts as false.
-/// Refuses only for want of memory.
+/// Returns the rows of `array` where `mask` is true and valid, in order.
+///
+/// A null in the mask counts as false. The result has the type of `array`.
+///
+/// # Requires
+/// `array` and `mask` have the same length.
+///
+/// # Errors
+/// `OutOfMemory` if an allocation fails.
 pub fn filter(alloc: Global, array: &ArrayRef, mask: &BooleanArray) -> PolarsResult<ArrayRef>
     requires { length (rows array.now.column) ≡ length (boolean_rows mask.now) }
     ensures rows { IfOk result (λ kept. rows kept.column ≡
@@ -43,9 +50,16 @@ pub fn filter(alloc: Global, array: &ArrayRef, mask: &BooleanArray) -> PolarsRes
     filter_with_bitmap(alloc, array, &in_force)
 }
 
-/// The rows where the bit is true, in order. Refuses only for want of memory.
+/// Returns the rows of `array` whose bit in `mask` is set, in order.
 ///
-/// The rows under leading and trailing false bits are dropped first, and what is left is answered at once where all of it is kept.
+/// The result has the type of `array`. Trims false bits at both ends; returns the remaining slice
+/// unchanged if all its bits are set.
+///
+/// # Requires
+/// `array` and `mask` have the same length.
+///
+/// # Errors
+/// `OutOfMemory` if an allocation fails.
 pub fn filter_with_bitmap(alloc: Global, array: &ArrayRef, mask: &Bitmap) -> PolarsResult<ArrayRef>
     requires { length (rows array.now.column) ≡ length mask.now.bits }
     ensures rows { IfOk result (λ kept. rows kept.column ≡
@@ -58,7 +72,7 @@ pub fn filter_with_bitmap(alloc: Global, array: &ArrayRef, mask: &Bitmap) -> Pol
     filter_trimmed(alloc, array, &rest)
 }
 
-/// A mask without the false bits at its ends, and how many of them were at the front.
+/// Returns the number of leading false bits and the mask without the false bits at both ends.
 fn trimmed(mask: &Bitmap) -> PolarsResult<(usize, Bitmap)>
     ensures within { IfOk result (λ part. part.0 + length part.1.bits ≤ length mask.now.bits) }
     ensures kept { IfOk result (λ part. KeepsAll mask.now.bits part.0 part.1.bits) }
@@ -70,7 +84,7 @@ fn trimmed(mask: &Bitmap) -> PolarsResult<(usize, Bitmap)>
     Ok((leading, rest))
 }
 
-/// The rows where the bit is true, answered at once where each of them is.
+/// Returns the rows whose bit is set; returns `array` unchanged if all bits are set.
 fn filter_trimmed(alloc: Global, array: ArrayRef, mask: &Bitmap) -> PolarsResult<ArrayRef>
     requires { length (rows array.column) ≡ length mask.now.bits }
     ensures rows { IfOk result (λ kept. rows kept.column ≡
@@ -86,8 +100,10 @@ fn filter_trimmed(alloc: Global, array: ArrayRef, mask: &Bitmap) -> PolarsResult
     kept
 }
 
-/// The rows of a column where the bit is true: numbers, truth values and views by the words of the mask, fields of tuples each by
-/// its kind, and all others by runs.
+/// Returns the rows of a column whose bit is set.
+///
+/// Primitive, boolean and view columns are filtered by words of the mask, struct columns field by
+/// field, and binary and list columns by runs of set bits.
 #[cycle(filtering)]
 fn filter_column(alloc: Global, column: &Column, mask: &Bitmap) -> PolarsResult<ArrayRef>
     requires formed { IsWellFormed column.now }
@@ -122,7 +138,7 @@ fn filter_column(alloc: Global, column: &Column, mask: &Bitmap) -> PolarsResult<
     }
 }
 
-/// The tuples, `_count` in all, where the bit is true: each field filtered, and the validity.
+/// Returns the struct values whose bit is set, of `_count` rows.
 #[cycle(filtering)]
 fn filter_tuples(
     alloc: Global,
@@ -150,7 +166,7 @@ fn filter_tuples(
     Ok(ArrayRef { column })
 }
 
-/// Each column with its rows where the bit is true.
+/// Returns each column filtered by `mask`.
 #[cycle(filtering)]
 fn filter_fields(alloc: Global, columns: &[Column], mask: &Bitmap) -> PolarsResult<Vec<Column>>
     requires fields { All (IsField (length mask.now.bits)) columns.now }
@@ -168,7 +184,7 @@ fn filter_fields(alloc: Global, columns: &[Column], mask: &Bitmap) -> PolarsResu
     Ok(kept)
 }
 
-/// Numbers where the bit is true, as a column of any type.
+/// Returns the primitive values whose bit is set, as a column of any type.
 fn filter_numbers<T: ArrowPrimitive>(
     alloc: Global,
     column: &PrimitiveArray<T>,
@@ -183,8 +199,9 @@ fn filter_numbers<T: ArrowPrimitive>(
     Ok(filter_primitive(alloc, column, mask)?.into_ref())
 }
 
-/// The rows of a column where the bit is true, copied by runs. At every depth they need no more than all rows do, so no
-/// limit is passed.
+/// Returns the rows of a column whose bit is set, copied by runs.
+///
+/// The kept rows require no more rows or bytes at any depth than all rows, so no limit is exceeded.
 fn filter_runs(alloc: Global, column: &Column, mask: &Bitmap) -> PolarsResult<ArrayRef>
     requires formed { IsWellFormed column.now }
     requires long { length (rows column.now) ≡ length mask.now.bits }
@@ -198,7 +215,7 @@ fn filter_runs(alloc: Global, column: &Column, mask: &Bitmap) -> PolarsResult<Ar
     Ok(kept)
 }
 
-/// Which rows of a mask are the valid value true.
+/// Returns the effective mask: true where `mask` is true and valid.
 fn bits_in_force(alloc: Global, mask: &BooleanArray) -> PolarsResult<Bitmap>
     ensures bits { IfOk result (λ bits. bits.bits ≡ in_force (boolean_rows mask.now)) }
     ensures refusal { IfErr result (λ fault. fault ≡ PolarsError.OutOfMemory) }
@@ -209,7 +226,7 @@ fn bits_in_force(alloc: Global, mask: &BooleanArray) -> PolarsResult<Bitmap>
     }
 }
 
-/// As many nulls as there are true bits.
+/// Returns one null for each set bit of `mask`.
 #[tactic(auto, using(crate::proofs::Selects::kept_nulls))]
 fn filter_null(array: &NullArray, mask: &Bitmap) -> NullArray
     requires { length (null_rows array.now) ≡ length mask.now.bits }
@@ -220,7 +237,7 @@ fn filter_null(array: &NullArray, mask: &Bitmap) -> NullArray
     }
 }
 
-/// The truth values where the bit is true.
+/// Returns the booleans whose bit is set.
 #[tactic(auto, using(crate::proofs::Selects::kept_columns))]
 fn filter_boolean(alloc: Global, array: &BooleanArray, mask: &Bitmap) -> PolarsResult<BooleanArray>
     requires { length (boolean_rows array.now) ≡ length mask.now.bits }
@@ -237,7 +254,7 @@ fn filter_boolean(alloc: Global, array: &BooleanArray, mask: &Bitmap) -> PolarsR
     Ok(BooleanArray { values, validity })
 }
 
-/// The numbers where the bit is true.
+/// Returns the primitive values whose bit is set.
 #[tactic(auto, using(crate::proofs::Selects::kept_columns))]
 fn filter_primitive<T: ArrowPrimitive>(
     alloc: Global,
@@ -259,7 +276,7 @@ fn filter_primitive<T: ArrowPrimitive>(
     Ok(PrimitiveArray { values, validity })
 }
 
-/// The views whose bit is true, over the same data buffers.
+/// Returns the views whose bit is set; the data buffers are shared.
 #[tactic(auto, using(crate::proofs::Selects::kept_views))]
 fn filter_views(
     alloc: Global,
@@ -286,7 +303,7 @@ fn filter_views(
     })
 }
 
-/// The texts whose bit is true, by their views.
+/// Returns the strings whose bit is set; only their views are copied.
 #[tactic(auto, using(crate::proofs::Selects::kept_texts))]
 pub(crate) fn filter_texts(
     alloc: Global,

@@ -1,4 +1,4 @@
-//! Values that a mask keeps.
+//! Filters for slices of values.
 
 ghost use Rattle.std.specs.Prelude.{◌≡◌, length, IfOk, IfErr};
 ghost use Rattle.std.specs.Option.{option_copied, option_map};
@@ -11,7 +11,13 @@ use sel_bits::faults::{PolarsError, PolarsResult};
 pub use sel_filter::primitive::filter_values;
 use std::alloc::Global;
 
-/// Both filtered; a validity is answered exactly where one is given. Refuses only for want of memory.
+/// Returns the values where `mask` is true, and likewise the bits of `validity` if given.
+///
+/// # Requires
+/// `values`, and `validity` if given, have the same length as `mask`.
+///
+/// # Errors
+/// `OutOfMemory` if an allocation fails.
 pub fn filter_values_and_validity<T: Copy>(
     alloc: Global,
     values: &[T],

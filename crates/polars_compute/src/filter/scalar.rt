@@ -1,3 +1,3 @@
-//! Values that the bits of bytes keep, appended to a vector.
+//! Filters that append the kept values to a vector.
 
 pub use sel_filter::scalar::{scalar_filter, scalar_filter_offset};

@@ -1,4 +1,4 @@
-//! Bytes at indices.
+//! Gather for binary columns.
 
 ghost use Rattle.std.specs.Prelude.{IsTrue, ◌≡◌, ◌≤ℤ◌, pos, length, IfOk, IfErr};
 ghost use Rattle.sel_arrow.specs.Columns.{binary_rows, primitive_rows};
@@ -13,9 +13,17 @@ use sel_bits::faults::PolarsResult;
 use sel_bits::native::{Index, NativeType, Offset};
 use std::alloc::Global;
 
-/// Row k is null where index k is null, else the row at index k. A number beneath a null index is never looked at.
-/// Refuses with the limit of bytes where these rows need more than the greatest offset, and only there, and for want
-/// of memory.
+/// Returns the rows of `values` at `indices`; a null index gives a null row.
+///
+/// The values in null slots of `indices` are ignored.
+///
+/// # Requires
+/// Every non-null index is less than the number of rows of `values`; check with
+/// `gather::indices_in_bounds_of`.
+///
+/// # Errors
+/// `SizeLimit(Limit::Bytes)` if the gathered rows have more bytes than the greatest offset of type
+/// `O`; `OutOfMemory` if an allocation fails.
 pub fn take_unchecked<O: Offset, I: Index>(
     alloc: Global,
     values: &BinaryArray<O>,
@@ -32,7 +40,7 @@ pub fn take_unchecked<O: Offset, I: Index>(
     collect_bytes(alloc, &TakenRows { values, indices })
 }
 
-/// The rows of a column that indices name.
+/// The rows of a binary column at indices.
 #[derive(Drop)]
 struct TakenRows<'a, O: Offset, I: Index> {
     values: &'a BinaryArray<O>,

@@ -1,4 +1,4 @@
-//! Views and texts at indices.
+//! Gather for binary view and string view columns.
 
 ghost use Rattle.std.specs.Prelude.{◌≡◌, IsTrue, length, IfOk, IfErr};
 ghost use Rattle.sel_arrow.specs.Columns.{binview_rows, primitive_rows, utf8view_rows};
@@ -14,7 +14,7 @@ use sel_bits::buffer::Buffer;
 use sel_bits::faults::{PolarsError, PolarsResult};
 use std::alloc::Global;
 
-// The view of no bytes, which stands beneath a null.
+// The view for null slots: no bytes.
 const NO_BYTES: View = View {
     length: 0,
     prefix: 0,
@@ -22,7 +22,7 @@ const NO_BYTES: View = View {
     offset: 0,
 };
 
-/// The views at the indices, over the same data buffers.
+/// Returns the views at `indices`; the data buffers are shared.
 pub(crate) fn take_views(
     alloc: Global,
     values: &BinaryViewArray,
@@ -44,7 +44,7 @@ pub(crate) fn take_views(
     })
 }
 
-/// The texts at the indices, by their views.
+/// Returns the strings at `indices`; only their views are copied.
 pub(crate) fn take_texts(
     alloc: Global,
     values: &Utf8ViewArray,

@@ -1,4 +1,4 @@
-//! Bits at indices.
+//! Gather for bitmaps.
 
 ghost use Rattle.std.specs.Prelude.{◌≡◌, ◌+◌, ◌*◌, ◌<◌, ◌≤◌, IsTrue, length, take, drop, pos, [], ◌∷◌, map, false, slice_index_or, IfOk, IfErr};
 ghost use Rattle.sel_bits.specs.Bits.{bits_from};
@@ -14,7 +14,13 @@ use sel_bits::faults::{PolarsError, PolarsResult};
 use sel_bits::packer::{BitPacker, MOST_BITS};
 use std::alloc::Global;
 
-/// Bit k is the bit at index k. Refuses only for want of memory.
+/// Returns the bits of `values` at `indices`.
+///
+/// # Requires
+/// Every index is less than `values.len()`; check with `gather::idx_slice_in_bounds`.
+///
+/// # Errors
+/// `OutOfMemory` if an allocation fails.
 pub fn take_bitmap_unchecked(
     alloc: Global,
     values: &Bitmap,
@@ -39,7 +45,7 @@ pub fn take_bitmap_unchecked(
     taken.into_bitmap(indices.len())
 }
 
-/// The word of the bits at these places, of the `len` bits from bit `shift` of the first byte on.
+/// Packs the bits at `places` into a word; bit 0 is bit `shift` of the first byte.
 #[inline]
 fn word_of_places(bytes: &[u8], shift: usize, len: usize, places: &[u32]) -> u64
     requires few { length places.now ≤ 64 }
@@ -56,7 +62,7 @@ fn word_of_places(bytes: &[u8], shift: usize, len: usize, places: &[u32]) -> u64
     word
 }
 
-/// The bit at a place of the `len` bits from bit `shift` of the first byte on.
+/// Returns the bit at `place`; bit 0 is bit `shift` of the first byte.
 #[inline(always)]
 fn bit_in(bytes: &[u8], shift: usize, len: usize, place: u32) -> bool
     requires shift { shift < 8 }
@@ -68,8 +74,16 @@ fn bit_in(bytes: &[u8], shift: usize, len: usize, place: u32) -> bool
     (bytes[at / 8] >> (at % 8)) & 1 == 1
 }
 
-/// Bit k is the bit at index k; a null index gives the bit at 0, or false where there are no bits.
-/// A number beneath a null index is never looked at. Refuses only for want of memory.
+/// Returns the bits of `values` at `indices`.
+///
+/// A null index gives the first bit of `values`, or false if `values` is empty. The values in null
+/// slots of `indices` are ignored.
+///
+/// # Requires
+/// Every non-null index is less than `values.len()`; check with `gather::indices_in_bounds`.
+///
+/// # Errors
+/// `OutOfMemory` if an allocation fails.
 pub fn take_bitmap_nulls_unchecked(
     alloc: Global,
     values: &Bitmap,
@@ -95,7 +109,7 @@ pub fn take_bitmap_nulls_unchecked(
     taken.into_bitmap(count)
 }
 
-/// The word of the bits at `len` indices from index `at` on, and of the filler for the null ones.
+/// Packs the bits at `len` indices starting at index `at` into a word; a null index gives `filler`.
 #[inline]
 fn word_of_rows(values: &Bitmap, indices: &IdxArr, at: usize, len: usize, filler: bool) -> u64
     requires few { len ≤ 64 }
@@ -105,7 +119,7 @@ fn word_of_rows(values: &Bitmap, indices: &IdxArr, at: usize, len: usize, filler
     ensures { result ≡ word_of (take len (drop at (pick filler (values.now.bits ∷ [])
         (map pick_of (primitive_rows indices.now))))) }
 {
-    // (there are no more indices than a place can show)
+    // The number of indices fits in `usize`.
     let _whole = indices.len();
     let mut word = 0;
     for k in 0..len {
@@ -114,7 +128,7 @@ fn word_of_rows(values: &Bitmap, indices: &IdxArr, at: usize, len: usize, filler
     word
 }
 
-/// The bit at 0, or false where there are no bits.
+/// Returns the first bit, or false if there is none.
 fn first_bit(values: &Bitmap) -> bool
     ensures { result ≡ slice_index_or values.now.bits 0 false }
 {
@@ -124,7 +138,7 @@ fn first_bit(values: &Bitmap) -> bool
     values.get_bit(0)
 }
 
-/// The bit at an index, and the filler for a null one.
+/// Returns the bit at `index`, or `filler` if it is null.
 #[inline]
 fn bit_at(values: &Bitmap, index: Option<u32>, filler: bool) -> bool
     requires { IsTrue (is_within (length values.now.bits) (number_value pos index)) }

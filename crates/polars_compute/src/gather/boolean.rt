@@ -1,4 +1,4 @@
-//! Truth values at indices.
+//! Gather for boolean columns.
 
 ghost use Rattle.std.specs.Prelude.{◌≡◌, IsTrue, length, IfOk, IfErr};
 ghost use Rattle.sel_arrow.specs.Columns.{boolean_rows, primitive_rows};
@@ -11,8 +11,15 @@ use sel_arrow::primitive::IdxArr;
 use sel_bits::faults::{PolarsError, PolarsResult};
 use std::alloc::Global;
 
-/// Row k is null where index k is null, else the row at index k. A number beneath a null index is never looked at.
-/// Refuses only for want of memory.
+/// Returns the rows of `values` at `indices`; a null index gives a null row.
+///
+/// The values in null slots of `indices` are ignored.
+///
+/// # Requires
+/// Every non-null index is less than `values.len()`; check with `gather::indices_in_bounds`.
+///
+/// # Errors
+/// `OutOfMemory` if an allocation fails.
 pub fn take_unchecked(
     alloc: Global,
     values: &BooleanArray,

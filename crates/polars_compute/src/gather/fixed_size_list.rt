@@ -1,4 +1,4 @@
-//! Lists of one length at indices.
+//! Gather for fixed-size list columns.
 
 ghost use Rattle.std.specs.Prelude.{◌≡◌, ◌+◌, ◌*◌, ◌^◌, ◌<◌, ◌≤◌, ◌++◌, None, length, pos, IsTrue, IfOk, IfErr, OnOk};
 ghost use Rattle.sel_arrow.specs.Columns.{primitive_rows};
@@ -21,9 +21,18 @@ use sel_bits::faults::{Limit, PolarsError, PolarsResult};
 use sel_bits::native::NativeType;
 use std::alloc::Global;
 
-/// Puts the items from `i * size` up to `(i + 1) * size` of its source behind the others for each index `i`, and `size` times
-/// `zero` for a null index, one copy for each index. A number beneath a null index is never looked at. Refuses only for want
-/// of memory; what stands there then is a beginning of this.
+/// Appends the items from `i * size` to `(i + 1) * size` of the source for each index `i`.
+///
+/// A null index appends `zero` `size` times. Each index is one copy. The values in null slots of
+/// `indices` are ignored.
+///
+/// # Requires
+/// `out` has made no copies, and every non-null index refers to a block of `size` items in the
+/// source; check with `gather::blocks_in_bounds`.
+///
+/// # Errors
+/// `OutOfMemory` if an allocation fails or the number of items overflows `usize`. The items of
+/// `out` are then a prefix of the full result.
 pub fn take_blocks<T: Copy>(
     out: &mut BlockCopy<'_, T>,
     size: usize,
@@ -55,7 +64,7 @@ pub fn take_blocks<T: Copy>(
     Ok(())
 }
 
-/// Puts one block behind the others.
+/// Appends one block.
 fn take_block<T: Copy>(
     out: &mut BlockCopy<'_, T>,
     size: usize,
@@ -76,7 +85,9 @@ fn take_block<T: Copy>(
     }
 }
 
-/// Whether below a column stand only lists of one length, if any, and then numbers, none of them with a validity.
+/// Returns whether a column is a fixed-size list whose child, at every depth, has no validity.
+///
+/// The leaf must be a primitive column.
 pub(crate) fn holds_numbers(values: &Column) -> bool
     ensures { result ≡ holds_bare values.now }
 {
@@ -86,7 +97,7 @@ pub(crate) fn holds_numbers(values: &Column) -> bool
     }
 }
 
-/// Whether a column holds numbers, or lists of one length that do at every depth, without a validity.
+/// Returns whether a column is primitive, or nested fixed-size lists of it, without validities.
 fn is_bare_column(column: &Column) -> bool
     ensures { result ≡ is_bare column.now }
 {
@@ -110,9 +121,14 @@ fn is_bare_column(column: &Column) -> bool
     }
 }
 
-/// The lists at the indices of a column of `holds_numbers`, null where the index or the list is null. The numbers are copied
-/// in whole blocks, with zeros for a null index. Refuses for want of memory, and where at some depth more rows are asked for
-/// than a column may have.
+/// Returns the lists at `indices`, null where the index or the list is null.
+///
+/// `values` must satisfy `holds_numbers`. Primitive values are copied in whole blocks, with zeros
+/// for a null index.
+///
+/// # Errors
+/// `SizeLimit(Limit::Rows)` if the result would have more rows at some depth than a column may
+/// have; `OutOfMemory` if an allocation fails.
 pub(crate) fn take_unchecked(
     alloc: Global,
     values: &Column,
@@ -156,7 +172,7 @@ pub(crate) fn take_unchecked(
     })
 }
 
-/// How many rows stand below `count` lists of `size` each. Refuses only where they are more than a column may have.
+/// Returns `count * size`; `SizeLimit(Limit::Rows)` if that exceeds the row limit.
 fn rows_below(count: usize, size: usize) -> PolarsResult<usize>
     requires few { count ≤ 4294967295 }
     requires narrow { size ≤ 4294967295 }
@@ -171,9 +187,13 @@ fn rows_below(count: usize, size: usize) -> PolarsResult<usize>
     Ok(below)
 }
 
-/// Of a column without validities, `size` rows for each index: those that stand below the list that it names, and any for a
-/// null index; `count` rows in all. Refuses for want of memory, and where at some depth there are more rows than a column may
-/// have.
+/// Returns `size` rows per index: the child rows of the list it refers to, unspecified if null.
+///
+/// `count` is the number of rows returned.
+///
+/// # Errors
+/// `SizeLimit(Limit::Rows)` if the result would have more rows at some depth than a column may
+/// have; `OutOfMemory` if an allocation fails.
 fn take_level(
     alloc: Global,
     column: &Column,
@@ -225,8 +245,7 @@ fn take_level(
     }
 }
 
-/// Of numbers without a validity, `size` for each index: those in the block that it names, and zeros for a null index.
-/// Refuses only for want of memory.
+/// Returns `size` primitive values per index: the block it refers to, or zeros for a null index.
 fn take_leaf<T: ArrowPrimitive>(
     alloc: Global,
     numbers: &PrimitiveArray<T>,

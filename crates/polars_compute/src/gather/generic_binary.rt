@@ -1,4 +1,4 @@
-//! Columns of bytes that are made of rows which something lends one by one.
+//! Binary columns built from a source of byte rows.
 
 ghost use Rattle.std.specs.Prelude.{◌≡◌, ◌≤◌, ◌<◌, ◌≤ℤ◌, ◌∷◌, List, pos, map, length, slice_index_or, IfOk, IfErr};
 ghost use Rattle.std.specs.Option.{option_copied};
@@ -17,21 +17,21 @@ use sel_bits::offsets::OffsetsBuffer;
 use sel_bits::packer::BitPacker;
 use std::alloc::Global;
 
-/// Rows of bytes, of which each can be looked at.
+/// A source of byte rows with access by position.
 pub trait ByteRows {
     ghost rows: { Self → List Value };
 
-    /// How many rows there are: at most 4,294,967,295.
+    /// Returns the number of rows, at most 4,294,967,295.
     fn count(&self) -> usize
         ensures count { result ≡ length (rows self.now) }
         ensures few { result ≤ 4294967295 };
 
-    /// The bytes of row `k`: none where it is null.
+    /// Returns the bytes of row `k`, or `None` if it is null.
     fn row(&self, k: usize) -> Option<&[u8]>
         requires { k < length (rows self.now) }
         ensures { bytes_value (option_copied result) ≡ slice_index_or (rows self.now) k Null };
 
-    /// How many bytes row `k` has.
+    /// Returns the number of bytes of row `k`; a null row has none.
     fn row_len(&self, k: usize) -> usize
         requires { k < length (rows self.now) }
         ensures { result ≡ byte_count (slice_index_or (rows self.now) k Null) }
@@ -42,7 +42,7 @@ pub trait ByteRows {
         }
     }
 
-    /// Whether row `k` is not null.
+    /// Returns whether row `k` is not null.
     fn is_valid_row(&self, k: usize) -> bool
         requires { k < length (rows self.now) }
         ensures valid { result ≡ is_valid (slice_index_or (rows self.now) k Null) }
@@ -55,8 +55,11 @@ pub trait ByteRows {
     }
 }
 
-/// The column of all rows. Refuses where they need more bytes than an offset can show, and only there, and for want
-/// of memory. A null row of the column has no bytes.
+/// Returns the binary column of all rows; null slots have no bytes.
+///
+/// # Errors
+/// `SizeLimit(Limit::Bytes)` if the rows have more bytes than the greatest offset of type `O`;
+/// `OutOfMemory` if an allocation fails.
 pub fn collect_bytes<O: Offset, S: ByteRows>(
     alloc: Global,
     source: &S,
@@ -84,7 +87,7 @@ pub fn collect_bytes<O: Offset, S: ByteRows>(
     })
 }
 
-/// How many bytes the rows need.
+/// Returns the total number of bytes of the rows.
 #[tactic(auto, using(crate::proofs::Collects::needed_steps))]
 fn count_bytes<S: ByteRows>(source: &S) -> u128
     ensures { result ≡ bytes_needed (S.rows source.now) }
@@ -96,14 +99,14 @@ fn count_bytes<S: ByteRows>(source: &S) -> u128
     total
 }
 
-/// The most bytes that an offset can show.
+/// Returns the greatest offset of type `O`.
 fn most_bytes<O: Offset>() -> usize
     ensures { pos result ≡ O.number O.GREATEST }
 {
     O::GREATEST.to_usize()
 }
 
-/// Where each row begins and ends in the joined bytes.
+/// Returns the offsets of the rows in the concatenated bytes.
 #[tactic(auto, using(crate::proofs::Collects::end_steps))]
 fn collect_offsets<O: Offset, S: ByteRows>(alloc: Global, source: &S) -> PolarsResult<Vec<O>>
     requires { pos (bytes_needed (S.rows source.now)) ≤ℤ O.number O.GREATEST }
@@ -121,7 +124,7 @@ fn collect_offsets<O: Offset, S: ByteRows>(alloc: Global, source: &S) -> PolarsR
     Ok(offsets)
 }
 
-/// The offset that shows a number.
+/// Converts `n` to an offset.
 fn offset_of<O: Offset>(n: usize) -> O
     requires { pos n ≤ℤ O.number O.GREATEST }
     ensures { O.number result ≡ pos n }
@@ -132,7 +135,7 @@ fn offset_of<O: Offset>(n: usize) -> O
     }
 }
 
-/// The bytes of all rows, joined, of which there are `count`.
+/// Returns the bytes of all rows, concatenated; reserves `count` bytes.
 fn collect_joined<S: ByteRows>(alloc: Global, source: &S, count: usize) -> PolarsResult<Vec<u8>>
     ensures bytes { IfOk result (λ bytes. bytes.items ≡ joined_bytes (S.rows source.now)) }
     ensures few { IfOk result (λ bytes. length bytes.items ≤ 9223372036854775807) }
@@ -147,7 +150,7 @@ fn collect_joined<S: ByteRows>(alloc: Global, source: &S, count: usize) -> Polar
     Ok(bytes)
 }
 
-/// Which rows are not null.
+/// Returns the validity of the rows.
 fn collect_validity<S: ByteRows>(alloc: Global, source: &S) -> PolarsResult<Bitmap>
     ensures bits { IfOk result (λ validity. validity.bits ≡ validities (S.rows source.now)) }
     ensures rows { IfOk result (λ _. AllBytesRows (S.rows source.now)) }

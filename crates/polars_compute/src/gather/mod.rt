@@ -1,4 +1,4 @@
-//! The rows of a column at indices.
+//! Gather for columns of any type.
 
 ghost use Rattle.std.specs.Prelude.{◌≡◌, ◌≤◌, ◌<◌, length, slice_index_or, IsTrue, IfOk, IfErr};
 ghost use Rattle.sel_arrow.specs.Columns.{null_rows, primitive_rows};
@@ -36,8 +36,17 @@ pub use sel_runs::sources::picks_in_bounds;
 pub use sel_sublists::sublist;
 use std::alloc::Global;
 
-/// Row k is null where index k is null, else the row at index k. A number beneath a null index is never looked at.
-/// Refuses for want of memory, and where a limit is passed by the rows that are asked for.
+/// Returns the rows of `values` at `indices`; a null index gives a null row.
+///
+/// The result has the type of `values`. The values in null slots of `indices` are ignored.
+///
+/// # Requires
+/// Every non-null index is less than `values.len()`; check with [`indices_in_bounds`].
+///
+/// # Errors
+/// `SizeLimit` if the result exceeds a limit: `Limit::Rows` if a list child at some depth would
+/// have more than 4,294,967,295 rows, `Limit::Bytes` if a binary column would have more than
+/// 9,223,372,036,854,775,807 bytes. `OutOfMemory` if an allocation fails.
 pub fn take_unchecked(alloc: Global, values: &ArrayRef, indices: &IdxArr) -> PolarsResult<ArrayRef>
     requires { IsTrue (all_within (length (rows values.now.column)) (primitive_rows indices.now)) }
     ensures rows { IfOk result (λ taken. rows taken.column ≡
@@ -52,7 +61,7 @@ pub fn take_unchecked(alloc: Global, values: &ArrayRef, indices: &IdxArr) -> Pol
     Ok(taken)
 }
 
-/// The rows of a column of any kind at the indices.
+/// Returns the rows at `indices`, dispatching on the column type.
 fn take_any(alloc: Global, values: &ArrayRef, indices: &IdxArr) -> PolarsResult<ArrayRef>
     requires { IsTrue (all_within (length (rows values.now.column)) (primitive_rows indices.now)) }
     ensures rows { IfOk result (λ taken. rows taken.column ≡
@@ -85,7 +94,7 @@ fn take_any(alloc: Global, values: &ArrayRef, indices: &IdxArr) -> PolarsResult<
     }
 }
 
-/// The rows of a column with children at the indices.
+/// Returns the rows of a list or struct column at `indices`.
 fn take_nested(alloc: Global, values: &Column, indices: &IdxArr) -> PolarsResult<ArrayRef>
     requires formed { IsWellFormed values.now }
     requires inside { IsTrue (all_within (length (rows values.now)) (primitive_rows indices.now)) }
@@ -104,7 +113,7 @@ fn take_nested(alloc: Global, values: &Column, indices: &IdxArr) -> PolarsResult
     Ok(taken)
 }
 
-/// Numbers at indices, as a column of any type.
+/// Returns primitive values at `indices`, as a column of any type.
 fn take_numbers<T: ArrowPrimitive>(
     alloc: Global,
     values: &PrimitiveArray<T>,
@@ -121,7 +130,7 @@ fn take_numbers<T: ArrowPrimitive>(
     Ok(take_primitive_unchecked(alloc, values, indices)?.into_ref())
 }
 
-/// As many nulls as there are indices.
+/// Returns one null for each index.
 fn take_nulls(values: &NullArray, indices: &IdxArr) -> NullArray
     requires { IsTrue (all_within (length (null_rows values.now)) (primitive_rows indices.now)) }
     ensures { null_rows result ≡ take_rows (null_rows values.now) (primitive_rows indices.now) }
@@ -132,7 +141,7 @@ fn take_nulls(values: &NullArray, indices: &IdxArr) -> NullArray
     }
 }
 
-/// Whether each index that is not null names one of `len` rows.
+/// Returns whether every non-null index is less than `len`.
 pub fn indices_in_bounds(indices: &IdxArr, len: usize) -> bool
     ensures { result ≡ all_within len (primitive_rows indices.now) }
 {
@@ -142,7 +151,7 @@ pub fn indices_in_bounds(indices: &IdxArr, len: usize) -> bool
     }
 }
 
-/// Whether each index that is not null names one of `len` rows, of indices of any type.
+/// Returns whether every non-null index is less than `len`, for indices of any integer type.
 pub fn indices_in_bounds_of<I: Index>(indices: &PrimitiveArray<I>, len: usize) -> bool
     ensures { result ≡ all_within len (primitive_rows indices.now) }
 {
@@ -154,14 +163,14 @@ pub fn indices_in_bounds_of<I: Index>(indices: &PrimitiveArray<I>, len: usize) -
     true
 }
 
-/// Whether each place is below `len`.
+/// Returns whether every index is less than `len`.
 pub fn idx_slice_in_bounds(indices: &[u32], len: usize) -> bool
     ensures { result ≡ all_below len indices.now }
 {
     len > u32::MAX as usize || are_below(indices, len as u32)
 }
 
-/// Whether each place is below `len`: without a branch for each, so that several are looked at at once.
+/// Returns whether every index is less than `len`; has no branch per index, to permit SIMD.
 fn are_below(places: &[u32], len: u32) -> bool
     ensures { result ≡ all_below len places.now }
 {
@@ -172,7 +181,7 @@ fn are_below(places: &[u32], len: u32) -> bool
     are
 }
 
-/// Whether each index that is not null names one of the blocks of `size` that stand in `len` items.
+/// Returns whether every non-null index refers to a whole block of `size` items among `len` items.
 pub fn blocks_in_bounds(indices: &IdxArr, size: usize, len: usize) -> bool
     ensures { result ≡ blocks_within size len (primitive_rows indices.now) }
 {
@@ -182,7 +191,7 @@ pub fn blocks_in_bounds(indices: &IdxArr, size: usize, len: usize) -> bool
     indices_in_bounds(indices, len / size)
 }
 
-/// How many rows a column of numbers has: at most 4,294,967,295.
+/// Returns the number of rows of a primitive column, at most 4,294,967,295.
 #[tactic(auto, using(crate::proofs::Selects::kept_columns))]
 fn row_count<T: NativeType>(column: &PrimitiveArray<T>) -> usize
     ensures count { result ≡ length (primitive_rows column.now) }
@@ -191,7 +200,9 @@ fn row_count<T: NativeType>(column: &PrimitiveArray<T>) -> usize
     column.values().len()
 }
 
-/// Whether the index in row `k` is null or names one of `len` rows; only a number that names none needs a look at the validity.
+/// Returns whether the index in row `k` is null or less than `len`.
+///
+/// The validity is read only if the stored value is out of bounds.
 fn is_row_in_bounds<I: NativeType>(indices: &PrimitiveArray<I>, k: usize, len: usize) -> bool
     requires { k < length (primitive_rows indices.now) }
     ensures { result ≡ is_within len (slice_index_or (primitive_rows indices.now) k Null) }
@@ -199,7 +210,7 @@ fn is_row_in_bounds<I: NativeType>(indices: &PrimitiveArray<I>, k: usize, len: u
     is_in_bounds(Some(indices.values.as_slice()[k]), len) || is_in_bounds(indices.get(k), len)
 }
 
-/// Whether an index that is not null names one of `len` rows.
+/// Returns whether `index` is `None` or less than `len`.
 fn is_in_bounds<I: NativeType>(index: Option<I>, len: usize) -> bool
     ensures { result ≡ is_within len (number_value I.number index) }
 {

@@ -1,4 +1,4 @@
-//! Numbers at indices.
+//! Gather for primitive columns.
 
 ghost use Rattle.std.specs.Prelude.{◌≡◌, ◌<◌, All, IsTrue, length, pos, [], ◌∷◌, map, slice_index_or, IfOk, IfErr};
 ghost use Rattle.sel_arrow.specs.Columns.{primitive_rows};
@@ -13,8 +13,15 @@ use sel_bits::faults::{PolarsError, PolarsResult};
 use sel_bits::native::NativeType;
 use std::alloc::Global;
 
-/// Row k is null where index k is null, else the row at index k. A number beneath a null index is never looked at.
-/// Refuses only for want of memory.
+/// Returns the rows of `arr` at `indices`; a null index gives a null row.
+///
+/// The values in null slots of `indices` are ignored.
+///
+/// # Requires
+/// Every non-null index is less than `arr.len()`; check with `gather::indices_in_bounds`.
+///
+/// # Errors
+/// `OutOfMemory` if an allocation fails.
 pub fn take_primitive_unchecked<T: NativeType>(
     alloc: Global,
     arr: &PrimitiveArray<T>,
@@ -31,7 +38,7 @@ pub fn take_primitive_unchecked<T: NativeType>(
     Ok(PrimitiveArray { values, validity })
 }
 
-/// The value at each index, and the filler for a null one. Refuses only for want of memory.
+/// Returns the value at each index, and `filler` for a null index.
 pub(crate) fn take_values<T: Copy>(
     alloc: Global,
     values: &[T],
@@ -53,7 +60,7 @@ pub(crate) fn take_values<T: Copy>(
     Ok(taken)
 }
 
-/// The value at each place. Refuses only for want of memory.
+/// Returns the value at each index.
 fn take_places<T: Copy>(
     alloc: Global,
     values: &[T],
@@ -72,7 +79,7 @@ fn take_places<T: Copy>(
     Ok(taken)
 }
 
-/// The value at an index, and the filler for a null one.
+/// Returns the value at `index`, or `filler` if it is null.
 fn value_at<T: Copy>(values: &[T], index: Option<u32>, filler: T) -> T
     requires { IsTrue (is_within (length values.now) (number_value pos index)) }
     ensures { result ≡ found filler (values.now ∷ []) (pick_of (number_value pos index)) }

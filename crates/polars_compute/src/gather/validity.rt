@@ -1,4 +1,4 @@
-//! The validity of rows at indices.
+//! Validity of gathered rows.
 
 ghost use Rattle.std.specs.Prelude.{◌≡◌, IsTrue, length, map, IfOk, IfErr};
 ghost use Rattle.std.specs.Option.{ForSome};
@@ -17,8 +17,10 @@ use sel_runs::gather::gather_bits;
 use sel_runs::plan::Walk;
 use std::alloc::Global;
 
-/// The validity of the rows at the indices: of each index whether it is not null and its row is valid. There is none where
-/// neither the rows nor the indices have one, and rows without one have that of the indices. Refuses only for want of memory.
+/// Returns the validity of the rows at `indices`: true where the index and its row are valid.
+///
+/// Returns `None` if neither the rows nor the indices have a validity bitmap, and the validity of
+/// the indices if only the rows have none.
 pub(crate) fn take_validity(
     alloc: Global,
     validity: &Option<Bitmap>,
@@ -40,7 +42,7 @@ pub(crate) fn take_validity(
     Ok(Some(taken))
 }
 
-/// Of each index whether it is not null and its row is valid. Refuses only for want of memory.
+/// Returns for each index whether it and its row are valid.
 pub(crate) fn take_bits(
     alloc: Global,
     validity: &Option<Bitmap>,

@@ -1,4 +1,4 @@
-//! Choices between columns of lists of one length.
+//! If-then-else for fixed-size list columns.
 
 ghost use Rattle.std.specs.Prelude.{◌≡◌, ◌≤◌, ◌<◌, ◌∷◌, [], ℕ, length, IfOk, IfErr};
 ghost use Rattle.sel_arrow.specs.NestedArrays.{block_column};
@@ -20,7 +20,7 @@ use sel_bits::bitmap::Bitmap;
 use sel_bits::faults::{Limit, PolarsError, PolarsResult};
 use std::alloc::Global;
 
-/// A scalar is the rows of one list, as many as each list has.
+/// If-then-else for fixed-size lists; a scalar is an array with the elements of one list.
 impl IfThenElseKernel for FixedSizeListArray {
     ghost use Rattle.std.specs.Prelude.{◌≡◌, true, length};
     ghost use Rattle.sel_arrow.specs.Nested.{list_of};
@@ -82,8 +82,8 @@ impl IfThenElseKernel for FixedSizeListArray {
     }
 }
 
-// The choice between two sides, whose lists hold `size` rows each of columns of one type. Refuses for want of memory, and where the rows
-// that the lists hold pass a limit.
+// Returns if-then-else of two inputs of lists of `size` elements, with children of the same type.
+// Errors: `OutOfMemory`; `SizeLimit` if the elements of the selected lists exceed a limit.
 fn choose_sized_lists<T: ListSide, F: ListSide>(
     alloc: Global,
     mask: &Bitmap,

@@ -1,4 +1,4 @@
-//! Choices between columns of bytes that views name.
+//! If-then-else for binary view columns.
 
 ghost use Rattle.std.specs.Prelude.{◌≡◌, ◌≤◌, ◌++◌, length, max, IfOk, IfErr};
 ghost use Rattle.std.specs.Vec.{vec_items};
@@ -21,9 +21,15 @@ use sel_bits::bitmap::Bitmap;
 use sel_bits::faults::{Limit, PolarsError, PolarsResult};
 use std::alloc::Global;
 
-/// The data buffers of a choice are those of the true side and then those of the false side; a scalar of more than 12 bytes has one,
-/// behind those of a column. Refused are more than 4,294,967,295 of them, a scalar of more bytes than that, and two scalars that are to
-/// stand in more rows than that (`SizeLimit(Rows)`).
+/// If-then-else for binary view columns; a scalar is the bytes of one value.
+///
+/// The result has the data buffers of the true values followed by those of the false values. A
+/// scalar of more than 12 bytes adds one data buffer, after the buffers of a column.
+///
+/// # Errors
+/// `OutOfMemory`; `SizeLimit(Buffers)` for more than 4,294,967,295 data buffers;
+/// `SizeLimit(ViewBytes)` for a scalar of more than 4,294,967,295 bytes; `SizeLimit(Rows)` for two
+/// scalars and a mask of more than 4,294,967,295 bits.
 impl IfThenElseKernel for BinaryViewArray {
     ghost use Rattle.std.specs.Prelude.{◌≡◌, ⊤};
 

@@ -1,4 +1,4 @@
-//! Choices between columns of truth values, by the words of their bitmaps.
+//! If-then-else for boolean columns, by the words of their bitmaps.
 
 ghost use Rattle.std.specs.Prelude.{◌≡◌, length, IfOk, IfErr};
 ghost use Rattle.sel_choices.specs.Choose.{choose_of_two, choose_one, choose_or_one};
@@ -84,7 +84,7 @@ impl IfThenElseKernel for BooleanArray {
     }
 }
 
-/// The one value where the mask is true, else the bit. Refuses only for want of memory.
+/// Returns `if_true` where the mask bit is set, else the bit of `if_false`, or `OutOfMemory`.
 #[tactic(auto, using(crate::proofs::BitChoices::bit_choices))]
 fn value_or_bits(
     alloc: Global,
@@ -104,7 +104,7 @@ fn value_or_bits(
     }
 }
 
-/// The bit where the mask is true, else the one value. Refuses only for want of memory.
+/// Returns the bit of `if_true` where the mask bit is set, else `if_false`, or `OutOfMemory`.
 #[tactic(auto, using(crate::proofs::BitChoices::bit_choices))]
 fn bits_or_value(
     alloc: Global,
@@ -124,7 +124,7 @@ fn bits_or_value(
     }
 }
 
-/// The one value where the mask is true, else the other. Refuses only for want of memory.
+/// Returns `if_true` where the mask bit is set, else `if_false`, or `OutOfMemory`.
 #[tactic(auto, using(crate::proofs::BitChoices::bit_choices))]
 fn one_of_values(
     alloc: Global,

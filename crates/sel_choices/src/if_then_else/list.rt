@@ -1,4 +1,4 @@
-//! Choices between columns of lists.
+//! If-then-else for list columns with 64-bit offsets.
 
 ghost use Rattle.std.specs.Prelude.{◌≡◌, ◌≤◌, ◌<◌, ◌∷◌, [], ℕ, length, IfOk, IfErr};
 ghost use Rattle.sel_arrow.specs.NestedArrays.{list_column};
@@ -20,7 +20,7 @@ use sel_bits::faults::{Limit, PolarsError, PolarsResult};
 use sel_bits::offsets::OffsetsBuffer;
 use std::alloc::Global;
 
-/// A scalar is the rows of one list.
+/// If-then-else for list columns; a scalar is an array with the elements of one list.
 impl IfThenElseKernel for ListArray<i64> {
     ghost use Rattle.std.specs.Prelude.{◌≡◌, true};
     ghost use Rattle.sel_arrow.specs.Nested.{list_of};
@@ -80,8 +80,8 @@ impl IfThenElseKernel for ListArray<i64> {
     }
 }
 
-// The choice between two sides, whose lists hold rows of columns of one type. Refuses for want of memory, and where the rows that the
-// lists hold pass a limit.
+// Returns if-then-else of two list inputs with children of the same type.
+// Errors: `OutOfMemory`; `SizeLimit` if the elements of the selected lists exceed a limit.
 fn choose_lists<T: ListSide, F: ListSide>(
     alloc: Global,
     mask: &Bitmap,

@@ -1,4 +1,4 @@
-//! The rows of two columns that chosen lists hold.
+//! Child rows of the lists that if-then-else selects.
 
 ghost use Rattle.std.specs.Prelude.{◌≡◌, ◌≤◌, ◌<◌, ◌∷◌, [], ℕ, All, map, pos, length, IfOk, IfErr};
 ghost use Rattle.sel_arrow.specs.Masked.{Covers};
@@ -23,7 +23,7 @@ use sel_runs::collect::collect_runs;
 use sel_runs::run::{Run, push_run};
 use std::alloc::Global;
 
-/// The rows of two columns that chosen lists hold, as runs, neighbours joined; how many these are; and which of the lists are not null.
+/// The child rows of the selected lists as merged runs, their number, and the lists' validity.
 #[derive(Drop)]
 pub(crate) struct HeldRows {
     pub(crate) runs: Vec<Run>,
@@ -31,8 +31,10 @@ pub(crate) struct HeldRows {
     pub(crate) validity: Option<Bitmap>,
 }
 
-/// What the chosen lists hold, a null one nothing, with a 0 and where each of them ends. Refuses for want of memory, and where they hold
-/// more rows than a column may have.
+/// Returns the child rows of the selected lists and their offsets; a null list has no elements.
+///
+/// # Errors
+/// `OutOfMemory`; `SizeLimit(Rows)` if there are more than 4,294,967,295 child rows.
 pub(crate) fn held_by_lists<T: ListSide, F: ListSide>(
     alloc: Global,
     mask: &Bitmap,
@@ -80,7 +82,10 @@ pub(crate) fn held_by_lists<T: ListSide, F: ListSide>(
     Ok((held, ends))
 }
 
-/// What the chosen lists hold, a null one `width` nulls. Refuses for want of memory, and where they hold more rows than a column may have.
+/// Returns the child rows of the selected lists; a null list has `width` null elements.
+///
+/// # Errors
+/// `OutOfMemory`; `SizeLimit(Rows)` if there are more than 4,294,967,295 child rows.
 pub(crate) fn held_by_blocks<T: ListSide, F: ListSide>(
     alloc: Global,
     mask: &Bitmap,
@@ -123,7 +128,10 @@ pub(crate) fn held_by_blocks<T: ListSide, F: ListSide>(
     })
 }
 
-/// The rows of the runs, `count` in all. Refuses for want of memory, and where the rows need more than a limit lets them.
+/// Returns the `count` rows of the runs.
+///
+/// # Errors
+/// `OutOfMemory`; `SizeLimit` if the rows exceed a limit of their type.
 pub(crate) fn held_column(
     alloc: Global,
     if_true: &Column,

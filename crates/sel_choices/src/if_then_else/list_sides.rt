@@ -1,4 +1,4 @@
-//! Sides of choices between lists: which part of a child each row holds.
+//! Inputs of if-then-else for lists: the range of child rows for each row.
 
 ghost use Rattle.std.specs.Prelude.{◌≡◌, ◌≤◌, ◌<◌, ◌+◌, ◌∷◌, [], ℕ, List, length, take, drop, slice_index_or, IfSome, IfNone};
 ghost use Rattle.sel_arrow.specs.Nested.{list_of};
@@ -15,23 +15,23 @@ use sel_arrow::validity::is_valid_at;
 use sel_bits::bitmap::Bitmap;
 use sel_runs::run::Run;
 
-/// A side of a choice between lists, each of which holds rows of one column that stand together.
+/// An input of if-then-else for lists, each a contiguous range of rows of one child column.
 pub(crate) trait ListSide {
-    /// Row i.
+    /// The value of row i.
     ghost row_at: { Self → ℕ → Value };
 
-    /// That there is a row i.
+    /// Row i exists.
     ghost is_row: { Self → ℕ → Type 0 };
 
-    /// The column whose rows the lists hold.
+    /// The child column of the lists.
     ghost held: { Self → Column };
 
-    /// The column whose rows the lists hold.
+    /// Returns a reference to the child column.
     fn child(&self) -> &Column
         ensures column { result.now ≡ held self.now }
         ensures formed { IsWellFormed result.now };
 
-    /// Where the child's rows in row `i` begin, and how many there are; none where the row is null.
+    /// Returns the start and the length of row `i` in the child, or `None` if the row is null.
     fn part(&self, i: usize) -> Option<(u32, u32)>
         requires { is_row self.now i }
         ensures null { IfNone result (row_at self.now i ≡ Null) }
@@ -89,7 +89,7 @@ impl ListSide for FixedSizeListArray {
     }
 }
 
-/// The rows that are one list, which stands at every position.
+/// The elements of one list, broadcast to all rows.
 impl ListSide for ArrayRef {
     ghost use Rattle.std.specs.Prelude.{⊤};
     ghost use Rattle.sel_arrow.specs.Nested.{list_of};
@@ -110,8 +110,9 @@ impl ListSide for ArrayRef {
     }
 }
 
-/// The part of a child that the row holds which bit `i` chooses, source 0 the child of the true bits' side and source 1 the other; `width`
-/// nulls for a null row.
+/// Returns the child rows selected by bit `i`, or a run of `width` nulls for a null row.
+///
+/// Source 0 is the child of `if_true`, source 1 the child of `if_false`.
 pub(crate) fn chosen_part<T: ListSide, F: ListSide>(
     mask: &Bitmap,
     if_true: &T,
@@ -133,7 +134,7 @@ pub(crate) fn chosen_part<T: ListSide, F: ListSide>(
     }
 }
 
-// The part of the child that row `i` holds, as rows of that source; `width` nulls where the row is null.
+// Returns the child rows of row `i` as a run of `source`, or a run of `width` nulls if it is null.
 fn run_of_part<S: ListSide>(side: &S, i: usize, source: u32, width: u32) -> Run
     requires { S.is_row side.now i }
     ensures { (xss : List (List Value)) → slice_index_or xss source [] ≡ rows (S.held side.now) →

@@ -1,4 +1,4 @@
-//! Choices of any length, block by block over the words of a mask.
+//! If-then-else over slices of any length, block by block over the words of a mask.
 
 ghost use Rattle.std.specs.Prelude.{◌≡◌, ◌≤◌, ◌<◌, ◌+◌, ◌/◌, List, length, take, drop, replicate, IfOk, IfErr, OnOk};
 ghost use Rattle.sel_bits.specs.Words.{bits};
@@ -13,17 +13,17 @@ use sel_bits::bitmap::Bitmap;
 use sel_bits::faults::{PolarsError, PolarsResult};
 use std::alloc::Global;
 
-/// How to choose between two sides for up to 64 rows at a time.
+/// If-then-else for up to 64 rows at a time.
 pub(crate) trait BlockChoice {
     type Item: Copy;
 
-    /// The side of the true bits.
+    /// The values for set bits.
     ghost trues: { Self → List Self.Item };
 
-    /// The side of the false bits.
+    /// The values for unset bits.
     ghost falses: { Self → List Self.Item };
 
-    /// Chooses for the rows from `at` on, as many as `out` has places, by the bits of the mask.
+    /// Writes the result for the rows `at .. at + out.len()` to `out`; bit `i` selects `out[i]`.
     fn choose_block(&self, mask: u64, at: usize, out: &mut [Self::Item])
         requires few { length out.old ≤ 64 }
         requires true_side { at + length out.old ≤ length (trues self.now) }
@@ -32,7 +32,7 @@ pub(crate) trait BlockChoice {
             (drop at (trues self.now))) (take (length out.old) (drop at (falses self.now))) };
 }
 
-/// Two lists, row by row.
+/// Two slices.
 #[derive(Drop)]
 struct Between<'a, T> {
     if_true: &'a [T],
@@ -53,7 +53,7 @@ impl<T: Copy> BlockChoice for Between<'_, T> {
     }
 }
 
-/// One value, and a list row by row.
+/// A scalar for set bits, a slice for unset bits.
 #[derive(Drop)]
 struct OneTrue<'a, T> {
     if_true: T,
@@ -75,7 +75,7 @@ impl<T: Copy> BlockChoice for OneTrue<'_, T> {
     }
 }
 
-/// A list row by row, and one value.
+/// A slice for set bits, a scalar for unset bits.
 #[derive(Drop)]
 struct OneFalse<'a, T> {
     if_true: &'a [T],
@@ -97,7 +97,7 @@ impl<T: Copy> BlockChoice for OneFalse<'_, T> {
     }
 }
 
-/// One value for each side, for so many rows.
+/// Two scalars, for `len` rows.
 #[derive(Drop)]
 struct OfTwo<T> {
     if_true: T,
@@ -119,7 +119,7 @@ impl<T: Copy> BlockChoice for OfTwo<T> {
     }
 }
 
-/// Overwrites `out` by the choice, block by block.
+/// Overwrites `out` with the if-then-else result, block by block.
 pub(crate) fn choose_blocks<C: BlockChoice>(
     choice: &C,
     mask: &mut AlignedWords<'_>,
@@ -140,8 +140,15 @@ pub(crate) fn choose_blocks<C: BlockChoice>(
     }
 }
 
-/// The choice between two lists of any length, by the words of a reader that is unread and as long as they are; after it the reader has
-/// given out at most two words more than the rows make whole ones. Refuses only for want of memory, and then has read in part.
+/// Returns a vector with the value of `if_true` where the mask bit is set, else of `if_false`.
+///
+/// Reads the mask to its end, in at most `len / 64 + 2` words for `len` bits.
+///
+/// # Requires
+/// `mask` is unread, and each slice has as many values as the mask has bits.
+///
+/// # Errors
+/// `OutOfMemory` if an allocation fails.
 pub fn if_then_else_words<T: Copy>(
     alloc: Global,
     mask: &mut AlignedWords<'_>,
@@ -162,7 +169,7 @@ pub fn if_then_else_words<T: Copy>(
     Ok(out)
 }
 
-/// The choice between a value and a list. Refuses only for want of memory.
+/// Returns if-then-else of a scalar and a slice, or `OutOfMemory`.
 pub(crate) fn choose_one_true<T: Copy>(
     alloc: Global,
     mask: &Bitmap,
@@ -179,7 +186,7 @@ pub(crate) fn choose_one_true<T: Copy>(
     Ok(out)
 }
 
-/// The choice between a list and a value. Refuses only for want of memory.
+/// Returns if-then-else of a slice and a scalar, or `OutOfMemory`.
 pub(crate) fn choose_one_false<T: Copy>(
     alloc: Global,
     mask: &Bitmap,
@@ -197,7 +204,7 @@ pub(crate) fn choose_one_false<T: Copy>(
     Ok(out)
 }
 
-/// The choice between two values. Refuses only for want of memory.
+/// Returns if-then-else of two scalars, or `OutOfMemory`.
 pub(crate) fn choose_two<T: Copy>(
     alloc: Global,
     mask: &Bitmap,

@@ -1,4 +1,4 @@
-//! Choices between columns by a mask: row k is that of the one side where bit k of the mask is true, else that of the other.
+//! If-then-else: row k is from the true values if bit k of the mask is set, else from the false.
 
 ghost use Rattle.std.specs.Prelude.{◌≡◌, List, length, IfOk, IfErr};
 ghost use Rattle.sel_bits.specs.declared.faults.Limit.{Limit};
@@ -29,29 +29,34 @@ mod view_columns;
 
 pub use validity::if_then_else_validity;
 
-/// Columns between which a mask can choose, row by row. A scalar is one row that stands at every position.
+/// Columns that support if-then-else with a boolean mask. A scalar is broadcast to all rows.
 ///
-/// Each call refuses for want of memory, and else only where a limit of `past` is passed.
+/// # Errors
+/// Each function returns `OutOfMemory` if an allocation fails, and `SizeLimit` only for a limit
+/// that `past` gives. On success no such limit is exceeded.
 pub trait IfThenElseKernel: Sized + Array {
     ghost use Rattle.sel_arrow.specs.DataType.{shape_of};
 
-    /// A single value that can stand for a whole side.
+    /// The type of a value that can be broadcast to all rows.
     type Scalar;
 
-    /// The row that a scalar is.
+    /// The row value of a scalar.
     ghost scalar_row: { Self.Scalar → Value };
 
-    /// That a scalar can be a row of a column of this type.
+    /// The scalar can be a row of a column of this type.
     ghost fits: { Self.Scalar → Shape → Type 0 };
 
-    /// That a column of this type can be such a column.
+    /// This type is a type of such columns.
     ghost is_own: { Shape → Type 0 };
 
-    /// Which limits a choice between the two sides passes that is of this type and has these rows.
+    /// The limits exceeded by an if-then-else result of this type with these rows.
     ghost past: { Shape → Side Self Self.Scalar → Side Self Self.Scalar → List Value →
         Limit → Type 0 };
 
-    /// The choice between two columns of one type.
+    /// Returns a column with row k of `if_true` where bit k of `mask` is set, else of `if_false`.
+    ///
+    /// # Requires
+    /// Both columns have the same type, and a row for each bit of `mask`.
     fn if_then_else(
         alloc: Global,
         mask: &Bitmap,
@@ -71,7 +76,10 @@ pub trait IfThenElseKernel: Sized + Array {
             (past (Self.shape if_true.now) (column if_true.now) (column if_false.now)
             (choose mask.now.bits (Self.rows if_true.now) (Self.rows if_false.now)))) };
 
-    /// The choice between a scalar and a column.
+    /// Returns a column with the scalar where the bit of `mask` is set, else the row of `if_false`.
+    ///
+    /// # Requires
+    /// `if_false` has a row for each bit of `mask`, and the scalar fits its type.
     fn if_then_else_broadcast_true(
         alloc: Global,
         mask: &Bitmap,
@@ -90,7 +98,10 @@ pub trait IfThenElseKernel: Sized + Array {
             (past (Self.shape if_false.now) (scalar if_true.now) (column if_false.now)
             (choose_one mask.now.bits (scalar_row if_true.now) (Self.rows if_false.now)))) };
 
-    /// The choice between a column and a scalar.
+    /// Returns a column with the row of `if_true` where the bit of `mask` is set, else the scalar.
+    ///
+    /// # Requires
+    /// `if_true` has a row for each bit of `mask`, and the scalar fits its type.
     fn if_then_else_broadcast_false(
         alloc: Global,
         mask: &Bitmap,
@@ -109,7 +120,10 @@ pub trait IfThenElseKernel: Sized + Array {
             (past (Self.shape if_true.now) (column if_true.now) (scalar if_false.now)
             (choose_or_one mask.now.bits (Self.rows if_true.now) (scalar_row if_false.now)))) };
 
-    /// The choice between two scalars, as a column of this type with a row for each bit of the mask.
+    /// Returns a column of type `dtype` with `if_true` where `mask` is set, else `if_false`.
+    ///
+    /// # Requires
+    /// `dtype` is a type of such columns, and both scalars fit it.
     fn if_then_else_broadcast_both(
         alloc: Global,
         dtype: ArrowDataType,

@@ -1,4 +1,4 @@
-//! Choices between columns of numbers.
+//! If-then-else for primitive columns.
 
 ghost use Rattle.std.specs.Prelude.{length};
 

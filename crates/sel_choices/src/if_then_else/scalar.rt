@@ -1,4 +1,4 @@
-//! The choice of up to 64 values by the bits of one word, and of any number of them by the words of a reader.
+//! If-then-else for up to 64 values by the bits of a word, and by an aligned word reader.
 
 ghost use Rattle.std.specs.Prelude.{◌≡◌, ◌≤◌, length};
 ghost use Rattle.sel_bits.specs.Words.{bits};
@@ -6,8 +6,10 @@ ghost use Rattle.sel_choices.specs.Choose.{choose, choose_of_two, choose_or_one}
 
 pub use crate::if_then_else::loops::if_then_else_words;
 
-/// Writes place `i` of `out`, for each of its at most 64 places: the value of `if_true` there where bit `i` of the mask is set, else
-/// that of `if_false`.
+/// Writes to each `out[i]` the value `if_true[i]` if bit `i` of `mask` is set, else `if_false[i]`.
+///
+/// # Requires
+/// The three slices have the same length, at most 64.
 pub fn if_then_else_scalar_rest<T: Copy>(mask: u64, if_true: &[T], if_false: &[T], out: &mut [T])
     requires few { length out.old ≤ 64 }
     requires true_side { length if_true.now ≡ length out.old }
@@ -20,7 +22,10 @@ pub fn if_then_else_scalar_rest<T: Copy>(mask: u64, if_true: &[T], if_false: &[T
     }
 }
 
-/// The same where one value stands for the whole false side.
+/// Writes to each `out[i]` the value `if_true[i]` if bit `i` of `mask` is set, else `if_false`.
+///
+/// # Requires
+/// Both slices have the same length, at most 64.
 pub fn if_then_else_broadcast_false_scalar_rest<T: Copy>(
     mask: u64,
     if_true: &[T],
@@ -37,7 +42,10 @@ pub fn if_then_else_broadcast_false_scalar_rest<T: Copy>(
     }
 }
 
-/// The same where one value stands for each side.
+/// Writes to each `out[i]` the value `if_true` if bit `i` of `mask` is set, else `if_false`.
+///
+/// # Requires
+/// `out` has at most 64 values.
 pub fn if_then_else_broadcast_both_scalar_rest<T: Copy>(
     mask: u64,
     if_true: T,
@@ -56,7 +64,7 @@ pub fn if_then_else_broadcast_both_scalar_rest<T: Copy>(
     }
 }
 
-/// `if_then_else_scalar_rest` of 64 places.
+/// Applies `if_then_else_scalar_rest` to 64 values.
 pub fn if_then_else_scalar_64<T: Copy>(
     mask: u64,
     if_true: &[T; 64],
@@ -68,7 +76,7 @@ pub fn if_then_else_scalar_64<T: Copy>(
     if_then_else_scalar_rest(mask, if_true, if_false, out)
 }
 
-/// `if_then_else_broadcast_false_scalar_rest` of 64 places.
+/// Applies `if_then_else_broadcast_false_scalar_rest` to 64 values.
 pub fn if_then_else_broadcast_false_scalar_64<T: Copy>(
     mask: u64,
     if_true: &[T; 64],
@@ -80,7 +88,7 @@ pub fn if_then_else_broadcast_false_scalar_64<T: Copy>(
     if_then_else_broadcast_false_scalar_rest(mask, if_true, if_false, out)
 }
 
-/// `if_then_else_broadcast_both_scalar_rest` of 64 places.
+/// Applies `if_then_else_broadcast_both_scalar_rest` to 64 values.
 pub fn if_then_else_broadcast_both_scalar_64<T: Copy>(
     mask: u64,
     if_true: T,

@@ -1,4 +1,4 @@
-//! Choices between columns of texts that views name.
+//! If-then-else for string view columns.
 
 ghost use Rattle.std.specs.Prelude.{◌≡◌, ◌≤◌, ◌++◌, length, max, IfOk, IfErr, string_bytes};
 ghost use Rattle.sel_arrow.specs.Columns.{utf8view_rows};
@@ -20,9 +20,15 @@ use sel_bits::bitmap::Bitmap;
 use sel_bits::faults::{Limit, PolarsError, PolarsResult};
 use std::alloc::Global;
 
-/// The data buffers of a choice are those of the true side and then those of the false side; a scalar of more than 12 bytes has one,
-/// behind those of a column. Refused are more than 4,294,967,295 of them, a scalar of more bytes than that, and two scalars that are to
-/// stand in more rows than that (`SizeLimit(Rows)`).
+/// If-then-else for string view columns; a scalar is one string.
+///
+/// The result has the data buffers of the true values followed by those of the false values. A
+/// scalar of more than 12 bytes adds one data buffer, after the buffers of a column.
+///
+/// # Errors
+/// `OutOfMemory`; `SizeLimit(Buffers)` for more than 4,294,967,295 data buffers;
+/// `SizeLimit(ViewBytes)` for a scalar of more than 4,294,967,295 bytes; `SizeLimit(Rows)` for two
+/// scalars and a mask of more than 4,294,967,295 bits.
 impl IfThenElseKernel for Utf8ViewArray {
     ghost use Rattle.std.specs.Prelude.{◌≡◌, ⊤};
 

@@ -1,4 +1,4 @@
-//! Which rows of a choice are valid.
+//! Validity of if-then-else results.
 #![tactic(auto, using(crate::proofs::Validities::validities))]
 
 ghost use Rattle.std.specs.Prelude.{◌≡◌, length, IfOk, IfErr};
@@ -10,8 +10,15 @@ use sel_bits::bitmap::Bitmap;
 use sel_bits::faults::{PolarsError, PolarsResult};
 use std::alloc::Global;
 
-/// The validity of a choice between rows with these validities, a missing one of which counts as all true: none where both are
-/// missing. Refuses only for want of memory.
+/// Returns the validity of an if-then-else result, or `None` if both validities are `None`.
+///
+/// A validity of `None` counts as all true.
+///
+/// # Requires
+/// Each validity has as many bits as `mask`.
+///
+/// # Errors
+/// `OutOfMemory` if an allocation fails.
 pub fn if_then_else_validity(
     alloc: Global,
     mask: &Bitmap,

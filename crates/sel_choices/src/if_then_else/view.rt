@@ -1,4 +1,4 @@
-//! The choice of up to 64 views by the bits of one word, and of any number of them.
+//! If-then-else for views: blocks of up to 64 by the bits of a word, and slices of any length.
 
 ghost use Rattle.std.specs.Prelude.{◌≡◌, ◌≤◌, length, map, IfOk, IfErr, IsTrue};
 ghost use Rattle.sel_bits.specs.Words.{bits};
@@ -13,8 +13,14 @@ use sel_bits::bitmap::Bitmap;
 use sel_bits::faults::{PolarsError, PolarsResult};
 use std::alloc::Global;
 
-/// Writes place `i` of `out`, for each of its at most 64 places: the view of `if_true` there where bit `i` of the mask is set, else that of
-/// `if_false`, raised by the offset.
+/// Writes to each `out[i]` the view `if_true[i]` if bit `i` of `mask` is set, else `if_false[i]`.
+///
+/// Adds `false_buffer_idx_offset` to the data buffer index of the views from `if_false`, except
+/// inline views, which have none.
+///
+/// # Requires
+/// The three slices have the same length, at most 64, and the offset can be added to the buffer
+/// index of each view of `if_false`; check with `views_can_rise`.
 pub fn if_then_else_view_rest(
     mask: u64,
     if_true: &[View],
@@ -45,7 +51,11 @@ pub fn if_then_else_view_rest(
     }
 }
 
-/// `if_then_else_view_rest` of 64 places.
+/// Applies `if_then_else_view_rest` to 64 views.
+///
+/// # Requires
+/// The offset can be added to the buffer index of each view of `if_false`; check with
+/// `views_can_rise`.
 pub fn if_then_else_view_64(
     mask: u64,
     if_true: &[View; 64],
@@ -60,7 +70,7 @@ pub fn if_then_else_view_64(
     if_then_else_view_rest(mask, if_true, if_false, out, false_buffer_idx_offset)
 }
 
-/// Writes each of 64 places: the view of `if_true` there where the mask's bit is set, else the one view.
+/// Writes to each `out[i]` the view `if_true[i]` if bit `i` of `mask` is set, else `if_false`.
 pub fn if_then_else_broadcast_false_view_64(
     mask: u64,
     if_true: &[View; 64],
@@ -72,7 +82,8 @@ pub fn if_then_else_broadcast_false_view_64(
     if_then_else_broadcast_false_scalar_64(mask, if_true, if_false, out)
 }
 
-/// Whether the offset can be added to the number of each view's data buffer. Views of up to 12 bytes have none.
+/// Returns whether `by` can be added to the data buffer index of each view without exceeding
+/// 4,294,967,295. Inline views, of up to 12 bytes, have no data buffer.
 #[tactic(auto, using(crate::proofs::Placed::all_views))]
 pub fn views_can_rise(views: &[View], by: u32) -> bool
     ensures { result ≡ all_rise by views.now }
@@ -85,14 +96,14 @@ pub fn views_can_rise(views: &[View], by: u32) -> bool
     true
 }
 
-/// Whether the offset can be added to the number of the view's data buffer.
+/// Returns whether `by` can be added to the data buffer index of the view.
 fn can_rise(view: View, by: u32) -> bool
     ensures { result ≡ can_rise by view }
 {
     view.length <= INLINE_BYTES || view.buffer_idx <= u32::MAX - by
 }
 
-/// Two lists of views, the second over data buffers that stand behind others.
+/// Two slices of views; `offset` is added to the data buffer indices of the second.
 #[derive(Drop)]
 struct BetweenViews<'a> {
     if_true: &'a [View],
@@ -118,8 +129,8 @@ impl BlockChoice for BetweenViews<'_> {
     }
 }
 
-/// The choice between two lists of views, the second over data buffers that stand behind `offset` others. Refuses only for want of
-/// memory.
+/// Returns if-then-else of two slices of views, or `OutOfMemory`; adds `offset` to the data
+/// buffer indices of the second.
 pub(crate) fn choose_views(
     alloc: Global,
     mask: &Bitmap,

@@ -1,4 +1,4 @@
-//! Choices between columns of views and bytes, over the data buffers of both sides.
+//! If-then-else for view columns and byte scalars, with the data buffers of both inputs.
 
 ghost use Rattle.std.specs.Prelude.{◌≡◌, ◌≤◌, ◌+◌, ◌++◌, length, map, max, IfOk, IfErr, IsTrue};
 ghost use Rattle.sel_arrow.specs.Columns.{binview_rows};
@@ -18,10 +18,10 @@ use sel_bits::faults::{Limit, PolarsError, PolarsResult};
 use sel_runs::view::push_buffers;
 use std::alloc::Global;
 
-/// The most bytes that a view can name.
+/// The maximum number of bytes of a view.
 const MOST_VIEW_BYTES: usize = 4_294_967_295;
 
-/// The choice between two columns. Refuses for want of memory, and where they have too many data buffers together.
+/// Returns if-then-else of two columns, or `OutOfMemory`, or `SizeLimit` for data buffers.
 pub(crate) fn choose_columns(
     alloc: Global,
     mask: &Bitmap,
@@ -62,7 +62,7 @@ pub(crate) fn choose_columns(
     })
 }
 
-/// The choice between bytes and a column. Refuses for want of memory, and where there are too many data buffers or bytes.
+/// Returns if-then-else of a byte scalar and a column, or `OutOfMemory` or `SizeLimit`.
 pub(crate) fn choose_bytes_true(
     alloc: Global,
     mask: &Bitmap,
@@ -95,7 +95,7 @@ pub(crate) fn choose_bytes_true(
     })
 }
 
-/// The choice between a column and bytes. Refuses for want of memory, and where there are too many data buffers or bytes.
+/// Returns if-then-else of a column and a byte scalar, or `OutOfMemory` or `SizeLimit`.
 pub(crate) fn choose_bytes_false(
     alloc: Global,
     mask: &Bitmap,
@@ -128,7 +128,7 @@ pub(crate) fn choose_bytes_false(
     })
 }
 
-/// The choice between bytes and bytes. Refuses for want of memory, and where there are too many bytes.
+/// Returns if-then-else of two byte scalars, or `OutOfMemory` or `SizeLimit`.
 pub(crate) fn choose_bytes(
     alloc: Global,
     mask: &Bitmap,
@@ -166,7 +166,7 @@ pub(crate) fn choose_bytes(
     })
 }
 
-/// Refuses so many data buffers, and a scalar of so many bytes, where they are more than a column can have.
+/// Returns `SizeLimit` if there are too many data buffers, or the scalar has too many bytes.
 fn check_limits(buffers: usize, bytes: usize) -> PolarsResult<()>
     ensures buffers { IfOk result (λ _. buffers ≤ 4294967295) }
     ensures bytes { IfOk result (λ _. bytes ≤ 4294967295) }
@@ -182,7 +182,7 @@ fn check_limits(buffers: usize, bytes: usize) -> PolarsResult<()>
     Ok(())
 }
 
-/// How many data buffers a scalar has.
+/// Returns the number of data buffers of a scalar.
 fn count_of_scalar(bytes: &[u8]) -> usize
     ensures count { result ≡ length (scalar_buffers bytes.now) }
     ensures few { result ≤ 1 }
@@ -194,7 +194,7 @@ fn count_of_scalar(bytes: &[u8]) -> usize
     }
 }
 
-/// The data buffers of a scalar. Refuses only for want of memory.
+/// Returns the data buffers of a scalar, or `OutOfMemory`.
 fn buffers_of_scalar(alloc: Global, bytes: &[u8]) -> PolarsResult<Vec<Buffer<u8>>>
     ensures buffers { IfOk result (λ buffers. buffers.items ≡ scalar_buffers bytes.now) }
     ensures refusal { IfErr result (λ fault. fault ≡ PolarsError.OutOfMemory) }
@@ -207,7 +207,7 @@ fn buffers_of_scalar(alloc: Global, bytes: &[u8]) -> PolarsResult<Vec<Buffer<u8>
     Ok(buffers)
 }
 
-/// The data buffers of both sides. Refuses only for want of memory.
+/// Returns the data buffers of both inputs, concatenated, or `OutOfMemory`.
 fn joined_buffers(
     alloc: Global,
     first: &[Buffer<u8>],

@@ -1,4 +1,4 @@
-//! Elements of lists of one length, by an index for each of them.
+//! Element access for fixed-size lists, by one index for all lists or an index for each.
 
 ghost use Rattle.std.specs.Prelude.{◌≡◌, ◌≤◌, ◌<◌, false, map, length, IfOk, IfErr, IfSome};
 ghost use Rattle.std.specs.Option.{option_copied};
@@ -24,10 +24,15 @@ use sel_runs::plan::{Places, Walk};
 use sel_runs::single::collect_one_plan;
 use std::alloc::Global;
 
-/// Row k is the entry of list k at the index, or null where list k is null or the index has no place in lists of that length.
-/// A negative index counts from the end. The answer has the child's type. Without `null_on_oob` an index that has no place is
-/// refused as out of bounds where some list is not null, before any memory is taken. Else it refuses for want of memory, and
-/// where a limit is passed by the rows that are asked for.
+/// Returns a column with the element of each list at `index`, which may be null.
+///
+/// A negative index counts from the end. Row k is null if list k is null or the index is out of
+/// bounds for the list size. The result has the type of the child.
+///
+/// # Errors
+/// `ComputeError` if `null_on_oob` is false, the index is out of bounds and some list is not null;
+/// checked before any allocation. Otherwise `OutOfMemory` if an allocation fails, or `SizeLimit` if
+/// the result exceeds a limit of its type.
 pub fn sub_fixed_size_list_get_literal(
     alloc: Global,
     arr: &FixedSizeListArray,
@@ -59,10 +64,18 @@ pub fn sub_fixed_size_list_get_literal(
     collect_one_plan(alloc, arr.values(), &plan)
 }
 
-/// Row k is the entry of list k at index k, or null where list k or index k is null or the index has no place in lists of that
-/// length. A negative index counts from the end. The answer has the child's type. Without `null_on_oob` an index that is null
-/// or has no place is refused as out of bounds where its list is not null, before any memory is taken. Else it refuses for want
-/// of memory, and where a limit is passed by the rows that are asked for.
+/// Returns a column with the element of each list k at index k, which may be null.
+///
+/// A negative index counts from the end. Row k is null if list k or index k is null, or the index
+/// is out of bounds for the list size. The result has the type of the child.
+///
+/// # Requires
+/// `index` has as many rows as `arr`.
+///
+/// # Errors
+/// `ComputeError` if `null_on_oob` is false and an index is null or out of bounds for a list that
+/// is not null; checked before any allocation. Otherwise `OutOfMemory` if an allocation fails, or
+/// `SizeLimit` if the result exceeds a limit of its type.
 pub fn sub_fixed_size_list_get(
     alloc: Global,
     arr: &FixedSizeListArray,
@@ -94,7 +107,7 @@ pub fn sub_fixed_size_list_get(
     collect_one_plan(alloc, arr.values(), &plan)
 }
 
-// Whether one index for all lists is out of bounds.
+// Returns whether one index for all lists is an error.
 fn is_literal_refused(arr: &FixedSizeListArray, index: i64, null_on_oob: bool) -> bool
     ensures { result ≡ out_of_bounds null_on_oob arr.now (at_each arr.now index) }
 {
@@ -112,7 +125,7 @@ fn is_literal_refused(arr: &FixedSizeListArray, index: i64, null_on_oob: bool) -
     false
 }
 
-// Whether some index is out of bounds.
+// Returns whether some index is an error.
 fn is_refused(arr: &FixedSizeListArray, index: &PrimitiveArray<i64>, null_on_oob: bool) -> bool
     requires { length (primitive_rows index.now) ≡ length (rows (block_column arr.now)) }
     ensures { result ≡ out_of_bounds null_on_oob arr.now (primitive_rows index.now) }
@@ -128,7 +141,7 @@ fn is_refused(arr: &FixedSizeListArray, index: &PrimitiveArray<i64>, null_on_oob
     false
 }
 
-/// Lists of one length, and what a walk asks for at each of them, which is held here so that it is not looked up in the column.
+/// A fixed-size list column, with its validity and its list size at hand for iteration.
 #[derive(Clone, Copy, Drop)]
 struct Blocks<'a> {
     arr: &'a FixedSizeListArray,
@@ -139,7 +152,7 @@ struct Blocks<'a> {
 }
 
 impl Blocks<'_> {
-    // Whether list `k` is not null.
+    // Returns whether list `k` is not null.
     #[inline(always)]
     fn is_valid(&self, k: usize) -> bool
         requires { k < self.now.arr.now.len }
@@ -151,7 +164,7 @@ impl Blocks<'_> {
         }
     }
 
-    // Which of the child's rows is the entry of list `k` at a place; none where the list is null or there is no place.
+    // Returns the child row of element `place` of list `k`; `None` for a null list or no `place`.
     #[inline(always)]
     fn entry_at(&self, k: usize, place: Option<usize>) -> Option<u32>
         requires inside { k < self.now.arr.now.len }
@@ -166,7 +179,7 @@ impl Blocks<'_> {
     }
 }
 
-/// The entries of lists at one index, as rows of their child; its place among the entries of each list is known.
+/// The elements of fixed-size lists at one index, as row references to their child.
 #[derive(Drop)]
 struct LiteralPlaces<'a> {
     blocks: Blocks<'a>,
@@ -204,7 +217,7 @@ impl Places for LiteralPlaces<'_> {
     }
 }
 
-/// The entries of lists at an index for each of them, as rows of their child.
+/// The elements of fixed-size lists at an index for each, as row references to their child.
 #[derive(Drop)]
 struct EntryPlaces<'a, 'b> {
     blocks: Blocks<'a>,
@@ -242,7 +255,7 @@ impl Places for EntryPlaces<'_, '_> {
     }
 }
 
-// The place of an index among the entries of a list; none where it is null or has none.
+// Returns the position of an index in a list; `None` if it is null or out of bounds.
 fn place_among(index: Option<i64>, size: usize) -> Option<usize>
     ensures { result ≡ place_of size (number_value (λ i. i) index) }
 {

@@ -1,4 +1,4 @@
-//! Elements of lists between offsets, by one index for all of them.
+//! Element access for lists with 64-bit offsets, by one index for all lists.
 
 ghost use Rattle.std.specs.Prelude.{◌≡◌, ◌<◌, ◌≤◌, ◌+◌, pos, [], ◌∷◌, map, length, slice_index_or, IfOk, IfErr};
 ghost use Rattle.std.specs.List.{range_with_len};
@@ -28,9 +28,13 @@ use sel_runs::plan::{Places, Walk};
 use sel_runs::single::collect_one_plan;
 use std::alloc::Global;
 
-/// Row k is null where list k is null or the index has no place in it, else the element at that place, which may be null.
-/// A negative index counts from the end. The answer has the child's type. Refuses for want of memory, and where a limit is
-/// passed by the rows that are asked for.
+/// Returns a column with the element of each list at `index`, which may be null.
+///
+/// A negative index counts from the end. Row k is null if list k is null or the index is out of
+/// bounds for it. The result has the type of the child.
+///
+/// # Errors
+/// `OutOfMemory` if an allocation fails; `SizeLimit` if the result exceeds a limit of its type.
 pub fn sublist_get(alloc: Global, arr: &ListArray<i64>, index: i64) -> PolarsResult<ArrayRef>
     ensures rows { IfOk result (λ taken. rows taken.column ≡
         list_get (rows (list_column arr.now)) index) }
@@ -45,8 +49,13 @@ pub fn sublist_get(alloc: Global, arr: &ListArray<i64>, index: i64) -> PolarsRes
     collect_one_plan(alloc, arr.values(), &plan)
 }
 
-/// Row k is null where list k is null or the index has no place in it, else it says which of the child's rows is the element
-/// at that place. Refuses only for want of memory.
+/// Returns the child row of the element of each list at `index`, as gather indices.
+///
+/// A negative index counts from the end. Row k is null if list k is null or the index is out of
+/// bounds for it.
+///
+/// # Errors
+/// `OutOfMemory` if an allocation fails.
 pub fn sublist_get_indexes(alloc: Global, arr: &ListArray<i64>, index: i64) -> PolarsResult<IdxArr>
     ensures rows { IfOk result (λ indices. primitive_rows indices ≡
         map (number_value pos) (places_in arr.now.offsets arr.now.validity index)) }
@@ -68,7 +77,7 @@ pub fn sublist_get_indexes(alloc: Global, arr: &ListArray<i64>, index: i64) -> P
     })
 }
 
-/// Whether the index has no place in some list. A null list has none to be in, and is passed over.
+/// Returns whether the index is out of bounds for some list. Null lists are skipped.
 pub fn index_is_oob(arr: &ListArray<i64>, index: i64) -> bool
     ensures { result ≡ oob (rows (list_column arr.now)) index }
 {
@@ -80,7 +89,10 @@ pub fn index_is_oob(arr: &ListArray<i64>, index: i64) -> bool
     false
 }
 
-/// Each row in a list of its own; no list is null. Refuses only for want of memory, and hands the column back.
+/// Returns a list column with each row of `array` in a list of one element; no list is null.
+///
+/// # Errors
+/// `OutOfMemory` if an allocation fails; the error contains `array`.
 pub fn array_to_unit_list(
     alloc: Global,
     array: ArrayRef,
@@ -98,7 +110,7 @@ pub fn array_to_unit_list(
     }
 }
 
-// The lists of one row each between these offsets, or the column back.
+// Returns the lists of one element with these offsets, or the array and `OutOfMemory`.
 fn unit_column(
     alloc: Global,
     offsets: OffsetsBuffer<i64>,
@@ -128,7 +140,7 @@ fn unit_column(
     }
 }
 
-// The numbers from 0 to `len`. Refuses only for want of memory.
+// Returns the offsets `0, 1, .., len`, or `OutOfMemory`.
 fn unit_offsets(alloc: Global, len: usize) -> PolarsResult<OffsetsBuffer<i64>>
     requires { len ≤ 4294967295 }
     ensures value { IfOk result (λ offsets. offsets ≡ range_with_len 0 (len + 1)) }
@@ -141,7 +153,7 @@ fn unit_offsets(alloc: Global, len: usize) -> PolarsResult<OffsetsBuffer<i64>>
     OffsetsBuffer::of_rising(offsets)
 }
 
-/// The elements of lists at one index, as rows of their child.
+/// The elements of lists at one index, as row references to their child.
 #[derive(Drop)]
 struct ListPlaces<'a> {
     arr: &'a ListArray<i64>,
@@ -176,7 +188,7 @@ impl Places for ListPlaces<'_> {
     }
 }
 
-// Which of the child's rows is the element of list `k`; none where it is null or has no place for the index.
+// Returns the child row of the element of list `k`; `None` if null or out of bounds.
 #[inline(always)]
 fn place_in_child(arr: &ListArray<i64>, index: i64, k: usize) -> Option<u32>
     requires { k < rows_between arr.now.offsets }
@@ -190,7 +202,7 @@ fn place_in_child(arr: &ListArray<i64>, index: i64, k: usize) -> Option<u32>
     Some((start + place) as u32)
 }
 
-// Whether list `k` is not null and has no place for the index.
+// Returns whether list `k` is not null and the index is out of bounds for it.
 fn is_oob_at(arr: &ListArray<i64>, index: i64, k: usize) -> bool
     requires { k < rows_between arr.now.offsets }
     ensures { result ≡ lacks_place index (slice_index_or (rows (list_column arr.now)) k Null) }

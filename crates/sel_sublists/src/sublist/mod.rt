@@ -1,4 +1,4 @@
-//! Elements of lists and of lists of one length, and which of the child's rows they are.
+//! Element access for lists and fixed-size lists, as gather indices of child rows.
 
 ghost use Rattle.std.specs.Prelude.{◌≡◌};
 ghost use Rattle.sel_sublists.specs.Elements.{child_pick};
@@ -6,7 +6,7 @@ ghost use Rattle.sel_sublists.specs.Elements.{child_pick};
 pub mod fixed_size_list;
 pub mod list;
 
-/// The pick of one row of the child; none where there is none.
+/// Returns the row reference of a child row, or `None` for a null row.
 #[inline(always)]
 pub(crate) fn pick_of_place(place: Option<u32>) -> Option<(u32, u32)>
     ensures { result ≡ child_pick place }
