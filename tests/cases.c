@@ -130,7 +130,7 @@ static bool check_in_use(long before) {
 }
 
 /* Calls once, with the allocation of the number `refuse` and perhaps later ones refused, or none if it is below 0. Checks the
- * outcome and the columns, and returns how many were refused. */
+ * outcome and the columns, and writes the number of refused allocations to `refused`. */
 static bool call_once(struct attempt *attempt, long refuse, bool and_later, long *refused) {
     struct arena arena = {NULL};
     struct outcome before, after;
