@@ -11,31 +11,31 @@ use crate::packer::{BitPacker, MOST_BITS};
 use crate::words::{count_set, first_word, whole_word};
 use std::alloc::Global;
 use std::marker::Model;
-use std::rc::RcSlice;
+use std::sync::ArcSlice;
 
 /// A list of booleans, the first of which is bit `offset` of shared bytes.
 ///
 /// Contract model: the list and the bit offset. (Arrow columnar format: validity bitmaps.)
 #[derive(Drop)]
 pub struct Bitmap {
-    bytes: RcSlice<u8>,
+    bytes: ArcSlice<u8>,
     offset: usize,
     len: usize,
 }
 
 impl Model for Bitmap {
     ghost use Rattle.std.specs.Prelude.{◌+◌, ◌*◌, ◌≤◌, ◌<◌, ◌^◌, length};
-    ghost use Rattle.std.specs.Rc.{rc_slice_items};
+    ghost use Rattle.std.specs.Arc.{arc_slice_items};
     ghost use Rattle.sel_bits.specs.Bits.{Bits, bits_from};
 
     ghost Value = { Bits };
 
     ghost view = { λ b. record {
-      bits = bits_from (rc_slice_items b.bytes) b.offset b.len;
+      bits = bits_from (arc_slice_items b.bytes) b.offset b.len;
       offset = b.offset;
     } };
 
-    ghost invariant = { λ b. (b.offset + b.len ≤ 8 * length (rc_slice_items b.bytes)) ×
+    ghost invariant = { λ b. (b.offset + b.len ≤ 8 * length (arc_slice_items b.bytes)) ×
         (b.offset + b.len < 2 ^ 64) };
 }
 
@@ -87,7 +87,7 @@ impl Bitmap {
         ensures len { IfOk result (λ bitmap. length bitmap.bits ≡ len) }
         ensures refusal { IfErr result (λ fault. fault ≡ PolarsError.OutOfMemory) }
     {
-        let bytes = RcSlice::from_vec(bytes)?;
+        let bytes = ArcSlice::from_vec(bytes)?;
         Ok(Bitmap {
             bytes,
             offset: 0,

@@ -4,25 +4,25 @@ ghost use Rattle.std.specs.Prelude.{◌≡◌, ◌+◌, ◌≤◌, length, take,
 
 use crate::faults::{PolarsError, PolarsResult};
 use std::marker::Model;
-use std::rc::RcSlice;
+use std::sync::ArcSlice;
 
 /// A slice of values that several buffers can share. Contract model: the list of the values.
 #[derive(Drop)]
 pub struct Buffer<T> {
-    shared: RcSlice<T>,
+    shared: ArcSlice<T>,
     start: usize,
     count: usize,
 }
 
 impl<T> Model for Buffer<T> {
     ghost use Rattle.std.specs.Prelude.{List, take, drop, length, ◌≤◌, ◌+◌};
-    ghost use Rattle.std.specs.Rc.{rc_slice_items};
+    ghost use Rattle.std.specs.Arc.{arc_slice_items};
 
     ghost Value = { List T };
 
-    ghost view = { λ b. take b.count (drop b.start (rc_slice_items b.shared)) };
+    ghost view = { λ b. take b.count (drop b.start (arc_slice_items b.shared)) };
 
-    ghost invariant = { λ b. b.start + b.count ≤ length (rc_slice_items b.shared) };
+    ghost invariant = { λ b. b.start + b.count ≤ length (arc_slice_items b.shared) };
 }
 
 impl<T: Drop> Buffer<T> {
@@ -35,7 +35,7 @@ impl<T: Drop> Buffer<T> {
         ensures refusal { IfErr result (λ fault. fault ≡ PolarsError.OutOfMemory) }
     {
         let count = values.len();
-        let shared = RcSlice::from_vec(values)?;
+        let shared = ArcSlice::from_vec(values)?;
         Ok(Buffer {
             shared,
             start: 0,

@@ -1,7 +1,9 @@
+pub mod Crossing
 pub mod HandleSteps
+pub mod LentSteps
 pub mod LooseSteps
 pub mod Positions
-pub mod Shown
 pub mod Shared
+pub mod Shown
 pub mod Taken
 pub mod Tuples

@@ -88,6 +88,10 @@ impl Handle {
     }
 }
 
+unsafe impl Send for Handle {}
+
+unsafe impl Sync for Handle {}
+
 impl Drop for Handle {
     fn drop(self) {
         drop(self.into_box());

@@ -4,6 +4,7 @@
 pub mod handle;
 pub mod inputs;
 pub mod kinds;
+pub mod lent;
 mod loose;
 pub mod nested;
 pub mod numbers;

@@ -1,5 +1,5 @@
 use Rattle.std.proofs.Common.{◌≡◌, ◌≤◌, ◌+◌, ◌/◌, ◌%◌, ◌∙◌, ap, drop, arith}
-use Rattle.std.specs.Rc.{rc_slice_items}
+use Rattle.std.specs.Arc.{arc_slice_items}
 use Rattle.sel_bits.specs.Bits.{bits_from}
 use Rattle.sel_bits.specs.Words.{word_of}
 use Rattle.sel_bits.proofs.BitLists.{length_bits_from, bits_from_part}
@@ -9,7 +9,7 @@ use Rattle.sel_bits.proofs.bitmap.Bitmap.whole_word_at.Goals as goal
 pub returns : goal.returns
 returns c =
     let inside = c.self.inside in
-    let bytes = rc_slice_items inside.bytes in
+    let bytes = arc_slice_items inside.bytes in
     let first = inside.offset + c.args.at in
     let within = rw (← c.self.view_is) at c.requires in
     let low : c.args.at + 64 ≤ inside.len = omega (arith, within, length_bits_from bytes inside.offset inside.len) in

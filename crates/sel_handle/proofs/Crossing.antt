@@ -1,0 +1,43 @@
+-- What a handle owns, and what is lent, names no thread.
+use mathlib.Core.List.{[], ◌∷◌}
+use mir.Raw.{raw}
+use base.Shift.{Keyless}
+use denote.Builtin.{RawPtr}
+use denote.Memory.{lone}
+use denote.RawPtr.{Ptr}
+use denote.Param.Send.{IsSend, AllSend, owning_send, struct_send, sendable}
+use denote.Struct.Struct.{exits_of}
+use denote.Struct.Owning.{shape, fields, to}
+use Rattle.std.proofs.Crossing as heap
+use Rattle.std.proofs.alloc.Global.TheSendSync as allocator
+use Rattle.std.specs.declared.alloc.Global.{Global}
+use Rattle.std.specs.declared.option.Option.TheVariants.{None, Some}
+use Rattle.std_alloc.proofs.SendSync.{quiet, lies, seen}
+use Rattle.sel_arrow.proofs.Crossing.{array_send, array_sync}
+use Rattle.sel_arrow.specs.contracts.array_ref.ArrayRef as tree
+use Rattle.sel_handle.specs.Held.{Held, held_owns}
+use Rattle.sel_handle.specs.Lent.{lent_owns}
+use Rattle.sel_handle.specs.contracts.handle.Handle as handle
+use Rattle.sel_handle.specs.contracts.lent.Lent as lent
+
+pointer : IsSend RawPtr
+pointer = search sendable
+
+held_keyless : (a : Global) (p : Ptr) (held : Held) → Keyless (held_owns a p held)
+held_keyless a p None = tt
+held_keyless a p (Some column) = (lies tree.the_row array_send p column, heap.frees.frees a (raw (lone tree.the_row.mir)) p)
+
+pub handle_send : IsSend handle.the_row
+handle_send =
+    let T = handle.the_type in
+    let all : AllSend (fields T) = (pointer, (allocator.the_field_send, tt)) in
+    owning_send T all (λ d. held_keyless d.alloc d.at d.tree) (λ k. quiet (to T) (exits_of k (fields T)) ((struct_send (shape T) all).leaving k))
+
+lent_keyless : (p : Ptr) (held : Held) → Keyless (lent_owns p held)
+lent_keyless p None = tt
+lent_keyless p (Some column) = ((λ may. tt), (λ a. ((λ share. tt), seen tree.the_row array_sync p column (a ∷ []))))
+
+pub lent_send : IsSend lent.the_row
+lent_send =
+    let T = lent.the_type in
+    owning_send T (pointer, tt) (λ d. lent_keyless d.at d.tree) (λ k. quiet (to T) (exits_of k (fields T)) ((struct_send (shape T) (pointer, tt)).leaving k))
