@@ -1,5 +1,6 @@
 pub mod Columns
 pub mod DataType
+pub mod Depth
 pub mod Makers
 pub mod Masked
 pub mod Nested

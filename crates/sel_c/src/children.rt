@@ -9,6 +9,7 @@ ghost use Rattle.sel_handle.specs.Status.{done, no_memory, no_column, other_kind
 ghost use Rattle.sel_runs.specs.Children.{child, field, is_listing};
 
 use sel_calls::children::{child_into, field_count_into, field_into, width_into};
+use sel_handle::column_ref::ColumnRef;
 use sel_handle::handle::Handle;
 use sel_handle::status::NO_COLUMN;
 use std::alloc::Global;
@@ -19,60 +20,51 @@ use std::alloc::Global;
 /// Errors: SEL_NO_COLUMN: `of` is empty. SEL_OTHER_KIND: its type is not SEL_LARGE_LIST or
 /// SEL_FIXED_SIZE_LIST.
 #[unsafe(no_mangle)]
-pub extern "C" fn sel_child(alloc: Global, of: &mut Handle, out: &mut Handle) -> u32
+pub extern "C" fn sel_child(alloc: Global, of: &ColumnRef, out: &mut Handle) -> u32
     ensures rows { Makes result out.old.tree out.new.tree
-        (λ made. rows made.column ≡ held_child_rows of.old.tree) }
+        (λ made. rows made.column ≡ held_child_rows of.now.tree) }
     ensures dtype { Makes result out.old.tree out.new.tree
-        (λ made. type_of made.column ≡ held_child_type of.old.tree) }
+        (λ made. type_of made.column ≡ held_child_type of.now.tree) }
     ensures status { IsOneOf result (done ∷ no_memory ∷ no_column ∷ other_kind ∷ []) }
-    ensures column { DemandsFirst result no_column (HasColumn of.old.tree) }
-    ensures kind { Demands result other_kind (IsTrue (is_listing (held_type of.old.tree))) }
-    ensures unchanged { of.new.tree ≡ of.old.tree }
+    ensures column { DemandsFirst result no_column (HasColumn of.now.tree) }
+    ensures kind { Demands result other_kind (IsTrue (is_listing (held_type of.now.tree))) }
 {
-    let Some(column) = of.take(alloc) else {
+    let Some(column) = of.column() else {
         return NO_COLUMN;
     };
-    let status = child_into(alloc, &column, out);
-    *of = Handle::of(column);
-    status
+    child_into(alloc, column, out)
 }
 
 /// Returns in `width` the list size of a column of fixed-size lists.
 ///
 /// Errors: SEL_NO_COLUMN: `of` is empty. SEL_OTHER_KIND: its type is not SEL_FIXED_SIZE_LIST.
 #[unsafe(no_mangle)]
-pub extern "C" fn sel_width(alloc: Global, of: &mut Handle, width: &mut usize) -> u32
-    ensures width { result ≡ done → width.new ≡ width_of (held_type of.old.tree) }
+pub extern "C" fn sel_width(of: &ColumnRef, width: &mut usize) -> u32
+    ensures width { result ≡ done → width.new ≡ width_of (held_type of.now.tree) }
     ensures status { IsOneOf result (done ∷ no_column ∷ other_kind ∷ []) }
-    ensures column { DemandsFirst result no_column (HasColumn of.old.tree) }
-    ensures kind { Demands result other_kind (IsTrue (is_block_shape (held_type of.old.tree))) }
-    ensures unchanged { of.new.tree ≡ of.old.tree }
+    ensures column { DemandsFirst result no_column (HasColumn of.now.tree) }
+    ensures kind { Demands result other_kind (IsTrue (is_block_shape (held_type of.now.tree))) }
 {
-    let Some(column) = of.take(alloc) else {
+    let Some(column) = of.column() else {
         return NO_COLUMN;
     };
-    let status = width_into(column.as_column(), width);
-    *of = Handle::of(column);
-    status
+    width_into(column.as_column(), width)
 }
 
 /// Returns in `count` the number of fields of a struct column.
 ///
 /// Errors: SEL_NO_COLUMN: `of` is empty. SEL_OTHER_KIND: its type is not SEL_STRUCT.
 #[unsafe(no_mangle)]
-pub extern "C" fn sel_field_count(alloc: Global, of: &mut Handle, count: &mut usize) -> u32
-    ensures count { result ≡ done → count.new ≡ length (held_fields of.old.tree) }
+pub extern "C" fn sel_field_count(of: &ColumnRef, count: &mut usize) -> u32
+    ensures count { result ≡ done → count.new ≡ length (held_fields of.now.tree) }
     ensures status { IsOneOf result (done ∷ no_column ∷ other_kind ∷ []) }
-    ensures column { DemandsFirst result no_column (HasColumn of.old.tree) }
-    ensures kind { Demands result other_kind (IsTrue (is_struct_shape (held_type of.old.tree))) }
-    ensures unchanged { of.new.tree ≡ of.old.tree }
+    ensures column { DemandsFirst result no_column (HasColumn of.now.tree) }
+    ensures kind { Demands result other_kind (IsTrue (is_struct_shape (held_type of.now.tree))) }
 {
-    let Some(column) = of.take(alloc) else {
+    let Some(column) = of.column() else {
         return NO_COLUMN;
     };
-    let status = field_count_into(&column, count);
-    *of = Handle::of(column);
-    status
+    field_count_into(column, count)
 }
 
 /// Returns in `out` field `i` of a struct column, counted from 0. The result shares the buffers of
@@ -80,20 +72,17 @@ pub extern "C" fn sel_field_count(alloc: Global, of: &mut Handle, count: &mut us
 ///
 /// Errors: SEL_NO_COLUMN: `of` is empty. SEL_OUT_OF_BOUNDS: the column has no such field.
 #[unsafe(no_mangle)]
-pub extern "C" fn sel_field(alloc: Global, of: &mut Handle, i: usize, out: &mut Handle) -> u32
+pub extern "C" fn sel_field(alloc: Global, of: &ColumnRef, i: usize, out: &mut Handle) -> u32
     ensures rows { Makes result out.old.tree out.new.tree
-        (λ made. rows made.column ≡ held_field_rows of.old.tree i) }
+        (λ made. rows made.column ≡ held_field_rows of.now.tree i) }
     ensures dtype { Makes result out.old.tree out.new.tree
-        (λ made. type_of made.column ≡ held_field_type of.old.tree i) }
+        (λ made. type_of made.column ≡ held_field_type of.now.tree i) }
     ensures status { IsOneOf result (done ∷ no_memory ∷ no_column ∷ out_of_bounds ∷ []) }
-    ensures column { DemandsFirst result no_column (HasColumn of.old.tree) }
-    ensures bounds { Demands result out_of_bounds (i < length (held_fields of.old.tree)) }
-    ensures unchanged { of.new.tree ≡ of.old.tree }
+    ensures column { DemandsFirst result no_column (HasColumn of.now.tree) }
+    ensures bounds { Demands result out_of_bounds (i < length (held_fields of.now.tree)) }
 {
-    let Some(column) = of.take(alloc) else {
+    let Some(column) = of.column() else {
         return NO_COLUMN;
     };
-    let status = field_into(alloc, &column, i, out);
-    *of = Handle::of(column);
-    status
+    field_into(alloc, column, i, out)
 }

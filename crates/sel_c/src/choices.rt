@@ -10,6 +10,7 @@ ghost use Rattle.sel_runs.specs.Need.{past_taken};
 ghost use Rattle.polars_compute.specs.Select.{in_force};
 
 use sel_calls::choices::choose_handles;
+use sel_handle::column_ref::ColumnRef;
 use sel_handle::handle::Handle;
 use std::alloc::Global;
 
@@ -23,34 +24,31 @@ use std::alloc::Global;
 #[unsafe(no_mangle)]
 pub extern "C" fn sel_choose(
     alloc: Global,
-    mask: &mut Handle,
-    if_true: &mut Handle,
-    if_false: &mut Handle,
+    mask: &ColumnRef,
+    if_true: &ColumnRef,
+    if_false: &ColumnRef,
     out: &mut Handle,
 ) -> u32
     ensures rows { Makes result out.old.tree out.new.tree (λ made. rows made.column ≡
-        choose (in_force (held_rows mask.old.tree))
-        (held_rows if_true.old.tree) (held_rows if_false.old.tree)) }
+        choose (in_force (held_rows mask.now.tree))
+        (held_rows if_true.now.tree) (held_rows if_false.now.tree)) }
     ensures dtype { Makes result out.old.tree out.new.tree
-        (λ made. type_of made.column ≡ held_type if_true.old.tree) }
+        (λ made. type_of made.column ≡ held_type if_true.now.tree) }
     ensures status { IsOneOf result (done ∷ no_memory ∷ no_column ∷ other_kind ∷
         other_type ∷ other_length ∷ limit_statuses) }
-    ensures column { DemandsFirst result no_column (HasColumn mask.old.tree ×
-        HasColumn if_true.old.tree × HasColumn if_false.old.tree) }
+    ensures column { DemandsFirst result no_column (HasColumn mask.now.tree ×
+        HasColumn if_true.now.tree × HasColumn if_false.now.tree) }
     ensures kind { DemandsBefore result other_kind
-        (other_type ∷ other_length ∷ limit_statuses) (held_type mask.old.tree ≡ of_boolean) }
+        (other_type ∷ other_length ∷ limit_statuses) (held_type mask.now.tree ≡ of_boolean) }
     ensures alike { DemandsBefore result other_type (other_length ∷ limit_statuses)
-        (held_type if_true.old.tree ≡ held_type if_false.old.tree) }
+        (held_type if_true.now.tree ≡ held_type if_false.now.tree) }
     ensures length { DemandsBefore result other_length limit_statuses
-        ((length (held_rows if_true.old.tree) ≡ length (held_rows mask.old.tree)) ×
-        (length (held_rows if_false.old.tree) ≡ length (held_rows mask.old.tree))) }
-    ensures limits { TellsLimits result (past_taken (held_type if_true.old.tree)
-        (held_columns if_true.old.tree ++ held_columns if_false.old.tree)
-        (choose (in_force (held_rows mask.old.tree))
-        (held_rows if_true.old.tree) (held_rows if_false.old.tree))) }
-    ensures unchanged { mask.new.tree ≡ mask.old.tree }
-    ensures true_side { if_true.new.tree ≡ if_true.old.tree }
-    ensures false_side { if_false.new.tree ≡ if_false.old.tree }
+        ((length (held_rows if_true.now.tree) ≡ length (held_rows mask.now.tree)) ×
+        (length (held_rows if_false.now.tree) ≡ length (held_rows mask.now.tree))) }
+    ensures limits { TellsLimits result (past_taken (held_type if_true.now.tree)
+        (held_columns if_true.now.tree ++ held_columns if_false.now.tree)
+        (choose (in_force (held_rows mask.now.tree))
+        (held_rows if_true.now.tree) (held_rows if_false.now.tree))) }
 {
     choose_handles(alloc, mask, if_true, if_false, true, true, out)
 }
@@ -64,34 +62,31 @@ pub extern "C" fn sel_choose(
 #[unsafe(no_mangle)]
 pub extern "C" fn sel_choose_one(
     alloc: Global,
-    mask: &mut Handle,
-    if_true: &mut Handle,
-    if_false: &mut Handle,
+    mask: &ColumnRef,
+    if_true: &ColumnRef,
+    if_false: &ColumnRef,
     out: &mut Handle,
 ) -> u32
     ensures rows { Makes result out.old.tree out.new.tree (λ made. rows made.column ≡
-        choose_one (in_force (held_rows mask.old.tree))
-        (first_row (held_rows if_true.old.tree)) (held_rows if_false.old.tree)) }
+        choose_one (in_force (held_rows mask.now.tree))
+        (first_row (held_rows if_true.now.tree)) (held_rows if_false.now.tree)) }
     ensures dtype { Makes result out.old.tree out.new.tree
-        (λ made. type_of made.column ≡ held_type if_true.old.tree) }
+        (λ made. type_of made.column ≡ held_type if_true.now.tree) }
     ensures status { IsOneOf result (done ∷ no_memory ∷ no_column ∷ other_kind ∷
         other_type ∷ other_length ∷ limit_statuses) }
-    ensures column { DemandsFirst result no_column (HasColumn mask.old.tree ×
-        HasColumn if_true.old.tree × HasColumn if_false.old.tree) }
+    ensures column { DemandsFirst result no_column (HasColumn mask.now.tree ×
+        HasColumn if_true.now.tree × HasColumn if_false.now.tree) }
     ensures kind { DemandsBefore result other_kind
-        (other_type ∷ other_length ∷ limit_statuses) (held_type mask.old.tree ≡ of_boolean) }
+        (other_type ∷ other_length ∷ limit_statuses) (held_type mask.now.tree ≡ of_boolean) }
     ensures alike { DemandsBefore result other_type (other_length ∷ limit_statuses)
-        (held_type if_true.old.tree ≡ held_type if_false.old.tree) }
+        (held_type if_true.now.tree ≡ held_type if_false.now.tree) }
     ensures length { DemandsBefore result other_length limit_statuses
-        ((length (held_rows if_true.old.tree) ≡ 1) ×
-        (length (held_rows if_false.old.tree) ≡ length (held_rows mask.old.tree))) }
-    ensures limits { TellsLimits result (past_taken (held_type if_true.old.tree)
-        (held_columns if_true.old.tree ++ held_columns if_false.old.tree)
-        (choose_one (in_force (held_rows mask.old.tree))
-        (first_row (held_rows if_true.old.tree)) (held_rows if_false.old.tree))) }
-    ensures unchanged { mask.new.tree ≡ mask.old.tree }
-    ensures true_side { if_true.new.tree ≡ if_true.old.tree }
-    ensures false_side { if_false.new.tree ≡ if_false.old.tree }
+        ((length (held_rows if_true.now.tree) ≡ 1) ×
+        (length (held_rows if_false.now.tree) ≡ length (held_rows mask.now.tree))) }
+    ensures limits { TellsLimits result (past_taken (held_type if_true.now.tree)
+        (held_columns if_true.now.tree ++ held_columns if_false.now.tree)
+        (choose_one (in_force (held_rows mask.now.tree))
+        (first_row (held_rows if_true.now.tree)) (held_rows if_false.now.tree))) }
 {
     choose_handles(alloc, mask, if_true, if_false, false, true, out)
 }
@@ -105,34 +100,31 @@ pub extern "C" fn sel_choose_one(
 #[unsafe(no_mangle)]
 pub extern "C" fn sel_choose_or_one(
     alloc: Global,
-    mask: &mut Handle,
-    if_true: &mut Handle,
-    if_false: &mut Handle,
+    mask: &ColumnRef,
+    if_true: &ColumnRef,
+    if_false: &ColumnRef,
     out: &mut Handle,
 ) -> u32
     ensures rows { Makes result out.old.tree out.new.tree (λ made. rows made.column ≡
-        choose_or_one (in_force (held_rows mask.old.tree))
-        (held_rows if_true.old.tree) (first_row (held_rows if_false.old.tree))) }
+        choose_or_one (in_force (held_rows mask.now.tree))
+        (held_rows if_true.now.tree) (first_row (held_rows if_false.now.tree))) }
     ensures dtype { Makes result out.old.tree out.new.tree
-        (λ made. type_of made.column ≡ held_type if_true.old.tree) }
+        (λ made. type_of made.column ≡ held_type if_true.now.tree) }
     ensures status { IsOneOf result (done ∷ no_memory ∷ no_column ∷ other_kind ∷
         other_type ∷ other_length ∷ limit_statuses) }
-    ensures column { DemandsFirst result no_column (HasColumn mask.old.tree ×
-        HasColumn if_true.old.tree × HasColumn if_false.old.tree) }
+    ensures column { DemandsFirst result no_column (HasColumn mask.now.tree ×
+        HasColumn if_true.now.tree × HasColumn if_false.now.tree) }
     ensures kind { DemandsBefore result other_kind
-        (other_type ∷ other_length ∷ limit_statuses) (held_type mask.old.tree ≡ of_boolean) }
+        (other_type ∷ other_length ∷ limit_statuses) (held_type mask.now.tree ≡ of_boolean) }
     ensures alike { DemandsBefore result other_type (other_length ∷ limit_statuses)
-        (held_type if_true.old.tree ≡ held_type if_false.old.tree) }
+        (held_type if_true.now.tree ≡ held_type if_false.now.tree) }
     ensures length { DemandsBefore result other_length limit_statuses
-        ((length (held_rows if_true.old.tree) ≡ length (held_rows mask.old.tree)) ×
-        (length (held_rows if_false.old.tree) ≡ 1)) }
-    ensures limits { TellsLimits result (past_taken (held_type if_true.old.tree)
-        (held_columns if_true.old.tree ++ held_columns if_false.old.tree)
-        (choose_or_one (in_force (held_rows mask.old.tree))
-        (held_rows if_true.old.tree) (first_row (held_rows if_false.old.tree)))) }
-    ensures unchanged { mask.new.tree ≡ mask.old.tree }
-    ensures true_side { if_true.new.tree ≡ if_true.old.tree }
-    ensures false_side { if_false.new.tree ≡ if_false.old.tree }
+        ((length (held_rows if_true.now.tree) ≡ length (held_rows mask.now.tree)) ×
+        (length (held_rows if_false.now.tree) ≡ 1)) }
+    ensures limits { TellsLimits result (past_taken (held_type if_true.now.tree)
+        (held_columns if_true.now.tree ++ held_columns if_false.now.tree)
+        (choose_or_one (in_force (held_rows mask.now.tree))
+        (held_rows if_true.now.tree) (first_row (held_rows if_false.now.tree)))) }
 {
     choose_handles(alloc, mask, if_true, if_false, true, false, out)
 }
@@ -147,34 +139,31 @@ pub extern "C" fn sel_choose_or_one(
 #[unsafe(no_mangle)]
 pub extern "C" fn sel_choose_of_two(
     alloc: Global,
-    mask: &mut Handle,
-    if_true: &mut Handle,
-    if_false: &mut Handle,
+    mask: &ColumnRef,
+    if_true: &ColumnRef,
+    if_false: &ColumnRef,
     out: &mut Handle,
 ) -> u32
     ensures rows { Makes result out.old.tree out.new.tree (λ made. rows made.column ≡
-        choose_of_two (in_force (held_rows mask.old.tree))
-        (first_row (held_rows if_true.old.tree)) (first_row (held_rows if_false.old.tree))) }
+        choose_of_two (in_force (held_rows mask.now.tree))
+        (first_row (held_rows if_true.now.tree)) (first_row (held_rows if_false.now.tree))) }
     ensures dtype { Makes result out.old.tree out.new.tree
-        (λ made. type_of made.column ≡ held_type if_true.old.tree) }
+        (λ made. type_of made.column ≡ held_type if_true.now.tree) }
     ensures status { IsOneOf result (done ∷ no_memory ∷ no_column ∷ other_kind ∷
         other_type ∷ other_length ∷ limit_statuses) }
-    ensures column { DemandsFirst result no_column (HasColumn mask.old.tree ×
-        HasColumn if_true.old.tree × HasColumn if_false.old.tree) }
+    ensures column { DemandsFirst result no_column (HasColumn mask.now.tree ×
+        HasColumn if_true.now.tree × HasColumn if_false.now.tree) }
     ensures kind { DemandsBefore result other_kind
-        (other_type ∷ other_length ∷ limit_statuses) (held_type mask.old.tree ≡ of_boolean) }
+        (other_type ∷ other_length ∷ limit_statuses) (held_type mask.now.tree ≡ of_boolean) }
     ensures alike { DemandsBefore result other_type (other_length ∷ limit_statuses)
-        (held_type if_true.old.tree ≡ held_type if_false.old.tree) }
+        (held_type if_true.now.tree ≡ held_type if_false.now.tree) }
     ensures length { DemandsBefore result other_length limit_statuses
-        ((length (held_rows if_true.old.tree) ≡ 1) ×
-        (length (held_rows if_false.old.tree) ≡ 1)) }
-    ensures limits { TellsLimits result (past_taken (held_type if_true.old.tree)
-        (held_columns if_true.old.tree ++ held_columns if_false.old.tree)
-        (choose_of_two (in_force (held_rows mask.old.tree))
-        (first_row (held_rows if_true.old.tree)) (first_row (held_rows if_false.old.tree)))) }
-    ensures unchanged { mask.new.tree ≡ mask.old.tree }
-    ensures true_side { if_true.new.tree ≡ if_true.old.tree }
-    ensures false_side { if_false.new.tree ≡ if_false.old.tree }
+        ((length (held_rows if_true.now.tree) ≡ 1) ×
+        (length (held_rows if_false.now.tree) ≡ 1)) }
+    ensures limits { TellsLimits result (past_taken (held_type if_true.now.tree)
+        (held_columns if_true.now.tree ++ held_columns if_false.now.tree)
+        (choose_of_two (in_force (held_rows mask.now.tree))
+        (first_row (held_rows if_true.now.tree)) (first_row (held_rows if_false.now.tree)))) }
 {
     choose_handles(alloc, mask, if_true, if_false, false, false, out)
 }

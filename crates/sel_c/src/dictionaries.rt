@@ -8,6 +8,7 @@ ghost use Rattle.polars_compute.specs.Dictionary.{propagated_keys, valid_values}
 ghost use Rattle.polars_compute.specs.Pick.{all_within};
 
 use sel_calls::dictionaries::propagate_columns_into;
+use sel_handle::column_ref::ColumnRef;
 use sel_handle::handle::Handle;
 use sel_handle::status::NO_COLUMN;
 use std::alloc::Global;
@@ -22,39 +23,33 @@ use std::alloc::Global;
 #[unsafe(no_mangle)]
 pub extern "C" fn sel_propagate_dictionary(
     alloc: Global,
-    keys: &mut Handle,
-    values: &mut Handle,
+    keys: &ColumnRef,
+    values: &ColumnRef,
     out_keys: &mut Handle,
     out_values: &mut Handle,
 ) -> u32
     ensures keys { Makes result out_keys.old.tree out_keys.new.tree (λ made. rows made.column ≡
-        propagated_keys (held_rows keys.old.tree) (held_rows values.old.tree)) }
+        propagated_keys (held_rows keys.now.tree) (held_rows values.now.tree)) }
     ensures values { Makes result out_values.old.tree out_values.new.tree
-        (λ made. rows made.column ≡ valid_values (held_rows values.old.tree)) }
+        (λ made. rows made.column ≡ valid_values (held_rows values.now.tree)) }
     ensures key_dtype { Makes result out_keys.old.tree out_keys.new.tree
         (λ made. type_of made.column ≡ of_uint32) }
     ensures value_dtype { Makes result out_values.old.tree out_values.new.tree
         (λ made. type_of made.column ≡ of_utf8_view) }
     ensures column { DemandsFirst result no_column
-        (HasColumn keys.old.tree × HasColumn values.old.tree) }
+        (HasColumn keys.now.tree × HasColumn values.now.tree) }
     ensures kind { DemandsBefore result other_kind (out_of_bounds ∷ [])
-        ((held_type keys.old.tree ≡ of_uint32) × (held_type values.old.tree ≡ of_utf8_view)) }
+        ((held_type keys.now.tree ≡ of_uint32) × (held_type values.now.tree ≡ of_utf8_view)) }
     ensures bounds { Demands result out_of_bounds
-        (IsTrue (all_within (length (held_rows values.old.tree)) (held_rows keys.old.tree))) }
+        (IsTrue (all_within (length (held_rows values.now.tree)) (held_rows keys.now.tree))) }
     ensures status { IsOneOf result
         (done ∷ no_memory ∷ no_column ∷ other_kind ∷ out_of_bounds ∷ []) }
-    ensures unchanged { keys.new.tree ≡ keys.old.tree }
-    ensures texts { values.new.tree ≡ values.old.tree }
 {
-    let Some(at) = keys.take(alloc) else {
+    let Some(at) = keys.column() else {
         return NO_COLUMN;
     };
-    let Some(texts) = values.take(alloc) else {
-        *keys = Handle::of(at);
+    let Some(texts) = values.column() else {
         return NO_COLUMN;
     };
-    let status = propagate_columns_into(alloc, &at, &texts, out_keys, out_values);
-    *keys = Handle::of(at);
-    *values = Handle::of(texts);
-    status
+    propagate_columns_into(alloc, at, texts, out_keys, out_values)
 }

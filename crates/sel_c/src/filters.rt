@@ -8,6 +8,7 @@ ghost use Rattle.sel_handle.specs.Status.{done, no_memory, no_column, other_kind
 ghost use Rattle.polars_compute.specs.Select.{select, in_force};
 
 use sel_calls::filters::{filter_bits_into, filter_into};
+use sel_handle::column_ref::ColumnRef;
 use sel_handle::handle::Handle;
 use sel_handle::status::NO_COLUMN;
 use std::alloc::Global;
@@ -20,36 +21,30 @@ use std::alloc::Global;
 #[unsafe(no_mangle)]
 pub extern "C" fn sel_filter(
     alloc: Global,
-    of: &mut Handle,
-    mask: &mut Handle,
+    of: &ColumnRef,
+    mask: &ColumnRef,
     out: &mut Handle,
 ) -> u32
     ensures rows { Makes result out.old.tree out.new.tree (λ made. rows made.column ≡
-        select (held_rows of.old.tree) (in_force (held_rows mask.old.tree))) }
+        select (held_rows of.now.tree) (in_force (held_rows mask.now.tree))) }
     ensures dtype { Makes result out.old.tree out.new.tree
-        (λ made. type_of made.column ≡ held_type of.old.tree) }
+        (λ made. type_of made.column ≡ held_type of.now.tree) }
     ensures column { DemandsFirst result no_column
-        (HasColumn of.old.tree × HasColumn mask.old.tree) }
+        (HasColumn of.now.tree × HasColumn mask.now.tree) }
     ensures kind { DemandsBefore result other_kind (other_length ∷ [])
-        (held_type mask.old.tree ≡ of_boolean) }
+        (held_type mask.now.tree ≡ of_boolean) }
     ensures length { Demands result other_length
-        (length (held_rows of.old.tree) ≡ length (held_rows mask.old.tree)) }
+        (length (held_rows of.now.tree) ≡ length (held_rows mask.now.tree)) }
     ensures status { IsOneOf result
         (done ∷ no_memory ∷ no_column ∷ other_kind ∷ other_length ∷ []) }
-    ensures unchanged { of.new.tree ≡ of.old.tree }
-    ensures mask { mask.new.tree ≡ mask.old.tree }
 {
-    let Some(column) = of.take(alloc) else {
+    let Some(column) = of.column() else {
         return NO_COLUMN;
     };
-    let Some(by) = mask.take(alloc) else {
-        *of = Handle::of(column);
+    let Some(by) = mask.column() else {
         return NO_COLUMN;
     };
-    let status = filter_into(alloc, &column, &by, out);
-    *of = Handle::of(column);
-    *mask = Handle::of(by);
-    status
+    filter_into(alloc, column, by, out)
 }
 
 /// Returns in `out` the rows of `of` whose bit is set in `mask`, which has `len` packed bits.
@@ -59,25 +54,22 @@ pub extern "C" fn sel_filter(
 #[unsafe(no_mangle)]
 pub extern "C" fn sel_filter_bits(
     alloc: Global,
-    of: &mut Handle,
+    of: &ColumnRef,
     mask: &[u8],
     len: usize,
     out: &mut Handle,
 ) -> u32
     ensures rows { Makes result out.old.tree out.new.tree (λ made. rows made.column ≡
-        select (held_rows of.old.tree) (bits_from mask.now 0 len)) }
+        select (held_rows of.now.tree) (bits_from mask.now 0 len)) }
     ensures dtype { Makes result out.old.tree out.new.tree
-        (λ made. type_of made.column ≡ held_type of.old.tree) }
-    ensures column { DemandsFirst result no_column (HasColumn of.old.tree) }
+        (λ made. type_of made.column ≡ held_type of.now.tree) }
+    ensures column { DemandsFirst result no_column (HasColumn of.now.tree) }
     ensures length { Demands result other_length
-        ((len ≡ length (held_rows of.old.tree)) × (len ≤ 8 * length mask.now)) }
+        ((len ≡ length (held_rows of.now.tree)) × (len ≤ 8 * length mask.now)) }
     ensures status { IsOneOf result (done ∷ no_memory ∷ no_column ∷ other_length ∷ []) }
-    ensures unchanged { of.new.tree ≡ of.old.tree }
 {
-    let Some(column) = of.take(alloc) else {
+    let Some(column) = of.column() else {
         return NO_COLUMN;
     };
-    let status = filter_bits_into(alloc, &column, mask, len, out);
-    *of = Handle::of(column);
-    status
+    filter_bits_into(alloc, column, mask, len, out)
 }

@@ -8,6 +8,7 @@ ghost use Rattle.sel_calls.specs.Types.{entry_type};
 ghost use Rattle.sel_handle.specs.Status.{done, no_memory, no_column, other_kind, get_out_of_bounds, limit_statuses, held_rows, held_type, DemandsBefore, DemandsFirst, HasColumn, IsOneOf, Makes, TellsLimits};
 
 use sel_calls::fixed::fixed_get_into;
+use sel_handle::column_ref::ColumnRef;
 use sel_handle::handle::Handle;
 use sel_handle::status::NO_COLUMN;
 use std::alloc::Global;
@@ -22,30 +23,27 @@ use std::alloc::Global;
 #[unsafe(no_mangle)]
 pub extern "C" fn sel_fixed_get(
     alloc: Global,
-    of: &mut Handle,
+    of: &ColumnRef,
     index: i64,
     null_on_oob: bool,
     out: &mut Handle,
 ) -> u32
     ensures rows { Makes result out.old.tree out.new.tree (λ made. rows made.column ≡
-        entries_at (held_rows of.old.tree) (held_type of.old.tree) index) }
+        entries_at (held_rows of.now.tree) (held_type of.now.tree) index) }
     ensures dtype { Makes result out.old.tree out.new.tree
-        (λ made. type_of made.column ≡ entry_type (held_type of.old.tree)) }
+        (λ made. type_of made.column ≡ entry_type (held_type of.now.tree)) }
     ensures status { IsOneOf result
         (done ∷ no_memory ∷ no_column ∷ other_kind ∷ get_out_of_bounds ∷ limit_statuses) }
-    ensures column { DemandsFirst result no_column (HasColumn of.old.tree) }
+    ensures column { DemandsFirst result no_column (HasColumn of.now.tree) }
     ensures kind { DemandsBefore result other_kind (get_out_of_bounds ∷ limit_statuses)
-        (IsTrue (is_block_shape (held_type of.old.tree))) }
+        (IsTrue (is_block_shape (held_type of.now.tree))) }
     ensures bounds { DemandsBefore result get_out_of_bounds limit_statuses
-        (refuses_index null_on_oob (held_rows of.old.tree) (held_type of.old.tree) index ≡ false) }
+        (refuses_index null_on_oob (held_rows of.now.tree) (held_type of.now.tree) index ≡ false) }
     ensures limits { TellsLimits result
-        (past_entries_at (held_rows of.old.tree) (held_type of.old.tree) index) }
-    ensures unchanged { of.new.tree ≡ of.old.tree }
+        (past_entries_at (held_rows of.now.tree) (held_type of.now.tree) index) }
 {
-    let Some(column) = of.take(alloc) else {
+    let Some(column) = of.column() else {
         return NO_COLUMN;
     };
-    let status = fixed_get_into(alloc, &column, index, null_on_oob, out);
-    *of = Handle::of(column);
-    status
+    fixed_get_into(alloc, column, index, null_on_oob, out)
 }

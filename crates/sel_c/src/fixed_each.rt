@@ -8,6 +8,7 @@ ghost use Rattle.sel_calls.specs.Types.{entry_type};
 ghost use Rattle.sel_handle.specs.Status.{done, no_memory, no_column, other_kind, other_length, get_out_of_bounds, limit_statuses, held_rows, held_type, DemandsBefore, DemandsFirst, HasColumn, IsOneOf, Makes, TellsLimits};
 
 use sel_calls::fixed_each::fixed_get_each_into;
+use sel_handle::column_ref::ColumnRef;
 use sel_handle::handle::Handle;
 use sel_handle::status::NO_COLUMN;
 use std::alloc::Global;
@@ -24,44 +25,38 @@ use std::alloc::Global;
 #[unsafe(no_mangle)]
 pub extern "C" fn sel_fixed_get_each(
     alloc: Global,
-    of: &mut Handle,
-    indices: &mut Handle,
+    of: &ColumnRef,
+    indices: &ColumnRef,
     null_on_oob: bool,
     out: &mut Handle,
 ) -> u32
     ensures rows { Makes result out.old.tree out.new.tree (λ made. rows made.column ≡
-        entries_at_each (held_rows of.old.tree) (held_type of.old.tree)
-        (held_rows indices.old.tree)) }
+        entries_at_each (held_rows of.now.tree) (held_type of.now.tree)
+        (held_rows indices.now.tree)) }
     ensures dtype { Makes result out.old.tree out.new.tree
-        (λ made. type_of made.column ≡ entry_type (held_type of.old.tree)) }
+        (λ made. type_of made.column ≡ entry_type (held_type of.now.tree)) }
     ensures status { IsOneOf result (done ∷ no_memory ∷ no_column ∷ other_kind ∷ other_length ∷
         get_out_of_bounds ∷ limit_statuses) }
     ensures column { DemandsFirst result no_column
-        (HasColumn of.old.tree × HasColumn indices.old.tree) }
+        (HasColumn of.now.tree × HasColumn indices.now.tree) }
     ensures kind { DemandsBefore result other_kind
         (other_length ∷ get_out_of_bounds ∷ limit_statuses)
-        (IsTrue (is_block_shape (held_type of.old.tree)) ×
-        (held_type indices.old.tree ≡ of_int64)) }
+        (IsTrue (is_block_shape (held_type of.now.tree)) ×
+        (held_type indices.now.tree ≡ of_int64)) }
     ensures length { DemandsBefore result other_length (get_out_of_bounds ∷ limit_statuses)
-        (length (held_rows indices.old.tree) ≡ length (held_rows of.old.tree)) }
+        (length (held_rows indices.now.tree) ≡ length (held_rows of.now.tree)) }
     ensures bounds { DemandsBefore result get_out_of_bounds limit_statuses
-        (refuses_some null_on_oob (held_rows of.old.tree) (held_type of.old.tree)
-        (held_rows indices.old.tree) ≡ false) }
+        (refuses_some null_on_oob (held_rows of.now.tree) (held_type of.now.tree)
+        (held_rows indices.now.tree) ≡ false) }
     ensures limits { TellsLimits result
-        (past_entries_at_each (held_rows of.old.tree) (held_type of.old.tree)
-        (held_rows indices.old.tree)) }
-    ensures unchanged { of.new.tree ≡ of.old.tree }
-    ensures indices { indices.new.tree ≡ indices.old.tree }
+        (past_entries_at_each (held_rows of.now.tree) (held_type of.now.tree)
+        (held_rows indices.now.tree)) }
 {
-    let Some(column) = of.take(alloc) else {
+    let Some(column) = of.column() else {
         return NO_COLUMN;
     };
-    let Some(at) = indices.take(alloc) else {
-        *of = Handle::of(column);
+    let Some(at) = indices.column() else {
         return NO_COLUMN;
     };
-    let status = fixed_get_each_into(alloc, &column, &at, null_on_oob, out);
-    *of = Handle::of(column);
-    *indices = Handle::of(at);
-    status
+    fixed_get_each_into(alloc, column, at, null_on_oob, out)
 }

@@ -10,6 +10,7 @@ ghost use Rattle.sel_sublists.specs.Lists.{list_get, oob, unit_lists};
 
 use sel_arrow::array::Array;
 use sel_calls::lists::{index_is_oob_into, sublist_get_into};
+use sel_handle::column_ref::ColumnRef;
 use sel_handle::handle::Handle;
 use sel_handle::status::{NO_COLUMN, NO_MEMORY, put};
 use sel_sublists::sublist::list::array_to_unit_list;
@@ -23,28 +24,25 @@ use std::alloc::Global;
 #[unsafe(no_mangle)]
 pub extern "C" fn sel_sublist_get(
     alloc: Global,
-    of: &mut Handle,
+    of: &ColumnRef,
     index: i64,
     out: &mut Handle,
 ) -> u32
     ensures rows { Makes result out.old.tree out.new.tree
-        (λ made. rows made.column ≡ list_get (held_rows of.old.tree) index) }
+        (λ made. rows made.column ≡ list_get (held_rows of.now.tree) index) }
     ensures dtype { Makes result out.old.tree out.new.tree
-        (λ made. type_of made.column ≡ entry_type (held_type of.old.tree)) }
+        (λ made. type_of made.column ≡ entry_type (held_type of.now.tree)) }
     ensures status { IsOneOf result (done ∷ no_memory ∷ no_column ∷ other_kind ∷ limit_statuses) }
-    ensures column { DemandsFirst result no_column (HasColumn of.old.tree) }
+    ensures column { DemandsFirst result no_column (HasColumn of.now.tree) }
     ensures kind { DemandsBefore result other_kind limit_statuses
-        (IsTrue (is_list_shape (held_type of.old.tree))) }
+        (IsTrue (is_list_shape (held_type of.now.tree))) }
     ensures limits { TellsLimits result
-        (past (entry_type (held_type of.old.tree)) (list_get (held_rows of.old.tree) index)) }
-    ensures unchanged { of.new.tree ≡ of.old.tree }
+        (past (entry_type (held_type of.now.tree)) (list_get (held_rows of.now.tree) index)) }
 {
-    let Some(column) = of.take(alloc) else {
+    let Some(column) = of.column() else {
         return NO_COLUMN;
     };
-    let status = sublist_get_into(alloc, &column, index, out);
-    *of = Handle::of(column);
-    status
+    sublist_get_into(alloc, column, index, out)
 }
 
 /// Returns in `out` whether `index` is out of bounds in some list that is not null.
@@ -53,43 +51,37 @@ pub extern "C" fn sel_sublist_get(
 #[unsafe(no_mangle)]
 pub extern "C" fn sel_index_is_oob(
     alloc: Global,
-    of: &mut Handle,
+    of: &ColumnRef,
     index: i64,
     out: &mut bool,
 ) -> u32
-    ensures told { result ≡ done → out.new ≡ oob (held_rows of.old.tree) index }
+    ensures told { result ≡ done → out.new ≡ oob (held_rows of.now.tree) index }
     ensures status { IsOneOf result (done ∷ no_memory ∷ no_column ∷ other_kind ∷ []) }
-    ensures column { DemandsFirst result no_column (HasColumn of.old.tree) }
-    ensures kind { Demands result other_kind (IsTrue (is_list_shape (held_type of.old.tree))) }
-    ensures unchanged { of.new.tree ≡ of.old.tree }
+    ensures column { DemandsFirst result no_column (HasColumn of.now.tree) }
+    ensures kind { Demands result other_kind (IsTrue (is_list_shape (held_type of.now.tree))) }
 {
-    let Some(column) = of.take(alloc) else {
+    let Some(column) = of.column() else {
         return NO_COLUMN;
     };
-    let status = index_is_oob_into(alloc, &column, index, out);
-    *of = Handle::of(column);
-    status
+    index_is_oob_into(alloc, column, index, out)
 }
 
 /// Returns in `out` the column whose row k is a list of one element, row k of `of`.
 ///
 /// Errors: SEL_NO_COLUMN: `of` is empty.
 #[unsafe(no_mangle)]
-pub extern "C" fn sel_unit_list(alloc: Global, of: &mut Handle, out: &mut Handle) -> u32
+pub extern "C" fn sel_unit_list(alloc: Global, of: &ColumnRef, out: &mut Handle) -> u32
     ensures rows { Makes result out.old.tree out.new.tree
-        (λ made. rows made.column ≡ unit_lists (held_rows of.old.tree)) }
+        (λ made. rows made.column ≡ unit_lists (held_rows of.now.tree)) }
     ensures dtype { Makes result out.old.tree out.new.tree
-        (λ made. type_of made.column ≡ of_large_list (held_type of.old.tree)) }
+        (λ made. type_of made.column ≡ of_large_list (held_type of.now.tree)) }
     ensures status { IsOneOf result (done ∷ no_memory ∷ no_column ∷ []) }
-    ensures column { DemandsFirst result no_column (HasColumn of.old.tree) }
-    ensures unchanged { of.new.tree ≡ of.old.tree }
+    ensures column { DemandsFirst result no_column (HasColumn of.now.tree) }
 {
-    let Some(column) = of.take(alloc) else {
+    let Some(column) = of.column() else {
         return NO_COLUMN;
     };
-    let copy = column.try_clone(alloc);
-    *of = Handle::of(column);
-    let Ok(copy) = copy else {
+    let Ok(copy) = column.try_clone(alloc) else {
         return NO_MEMORY;
     };
     match array_to_unit_list(alloc, copy) {

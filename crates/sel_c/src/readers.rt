@@ -11,7 +11,7 @@ ghost use Rattle.sel_handle.specs.Outputs.{Shows, numbers, truths};
 ghost use Rattle.sel_handle.specs.Status.{done, no_memory, no_column, other_kind, other_length, held_rows, held_type, Demands, DemandsBefore, DemandsFirst, HasColumn, IsOneOf};
 
 use sel_arrow::array::Array;
-use sel_handle::handle::Handle;
+use sel_handle::column_ref::ColumnRef;
 use sel_handle::kinds::{NO_KIND, kind_of};
 use sel_handle::numbers::held_numbers_into;
 use sel_handle::outputs::{booleans_into, validity_into};
@@ -20,49 +20,34 @@ use std::alloc::Global;
 
 /// Returns the number of rows, or 0 if `of` is empty.
 #[unsafe(no_mangle)]
-pub extern "C" fn sel_len(alloc: Global, of: &mut Handle) -> usize
-    ensures rows { result ≡ length (held_rows of.old.tree) }
-    ensures unchanged { of.new.tree ≡ of.old.tree }
+pub extern "C" fn sel_len(of: &ColumnRef) -> usize
+    ensures rows { result ≡ length (held_rows of.now.tree) }
 {
-    match of.take(alloc) {
+    match of.column() {
         None => 0,
-        Some(column) => {
-            let len = column.len();
-            *of = Handle::of(column);
-            len
-        }
+        Some(column) => column.len(),
     }
 }
 
 /// Returns the number of null rows, or 0 if `of` is empty.
 #[unsafe(no_mangle)]
-pub extern "C" fn sel_null_count(alloc: Global, of: &mut Handle) -> usize
-    ensures rows { result ≡ count_by is_null (held_rows of.old.tree) }
-    ensures unchanged { of.new.tree ≡ of.old.tree }
+pub extern "C" fn sel_null_count(of: &ColumnRef) -> usize
+    ensures rows { result ≡ count_by is_null (held_rows of.now.tree) }
 {
-    match of.take(alloc) {
+    match of.column() {
         None => 0,
-        Some(column) => {
-            let count = column.null_count();
-            *of = Handle::of(column);
-            count
-        }
+        Some(column) => column.null_count(),
     }
 }
 
 /// Returns the type of the column, one of `enum sel_kind_number`, or SEL_NO_KIND if `of` is empty.
 #[unsafe(no_mangle)]
-pub extern "C" fn sel_kind(alloc: Global, of: &mut Handle) -> u32
-    ensures kind { result ≡ held_kind of.old.tree }
-    ensures unchanged { of.new.tree ≡ of.old.tree }
+pub extern "C" fn sel_kind(of: &ColumnRef) -> u32
+    ensures kind { result ≡ held_kind of.now.tree }
 {
-    match of.take(alloc) {
+    match of.column() {
         None => NO_KIND,
-        Some(column) => {
-            let kind = kind_of(column.as_column());
-            *of = Handle::of(column);
-            kind
-        }
+        Some(column) => kind_of(column.as_column()),
     }
 }
 
@@ -74,24 +59,21 @@ pub extern "C" fn sel_kind(alloc: Global, of: &mut Handle) -> u32
 #[unsafe(no_mangle)]
 pub extern "C" fn sel_validity(
     alloc: Global,
-    of: &mut Handle,
+    of: &ColumnRef,
     out: &mut [u8],
     has: &mut bool,
 ) -> u32
-    ensures validity { result ≡ done → TellsNulls (held_type of.old.tree)
-        (validity_in out.new has.new (length (held_rows of.old.tree))) (held_rows of.old.tree) }
-    ensures column { DemandsFirst result no_column (HasColumn of.old.tree) }
+    ensures validity { result ≡ done → TellsNulls (held_type of.now.tree)
+        (validity_in out.new has.new (length (held_rows of.now.tree))) (held_rows of.now.tree) }
+    ensures column { DemandsFirst result no_column (HasColumn of.now.tree) }
     ensures length { result ≡ other_length →
-        length out.old ≢ (length (held_rows of.old.tree) + 7) / 8 }
+        length out.old ≢ (length (held_rows of.now.tree) + 7) / 8 }
     ensures status { IsOneOf result (done ∷ no_memory ∷ no_column ∷ other_length ∷ []) }
-    ensures unchanged { of.new.tree ≡ of.old.tree }
 {
-    let Some(column) = of.take(alloc) else {
+    let Some(column) = of.column() else {
         return NO_COLUMN;
     };
-    let status = validity_into(alloc, &column, out, has);
-    *of = Handle::of(column);
-    status
+    validity_into(alloc, column, out, has)
 }
 
 /// Copies the values, including those in null slots, as packed bits to `out`.
@@ -99,24 +81,21 @@ pub extern "C" fn sel_validity(
 /// Errors: SEL_NO_COLUMN: `of` is empty. SEL_OTHER_KIND: its type is not SEL_BOOLEAN.
 /// SEL_OTHER_LENGTH: `out_len` is not (rows + 7) / 8.
 #[unsafe(no_mangle)]
-pub extern "C" fn sel_boolean_values(alloc: Global, of: &mut Handle, out: &mut [u8]) -> u32
+pub extern "C" fn sel_boolean_values(alloc: Global, of: &ColumnRef, out: &mut [u8]) -> u32
     ensures values { result ≡ done → Shows
-        (truths (bits_from out.new 0 (length (held_rows of.old.tree)))) (held_rows of.old.tree) }
-    ensures column { DemandsFirst result no_column (HasColumn of.old.tree) }
+        (truths (bits_from out.new 0 (length (held_rows of.now.tree)))) (held_rows of.now.tree) }
+    ensures column { DemandsFirst result no_column (HasColumn of.now.tree) }
     ensures kind { DemandsBefore result other_kind (other_length ∷ [])
-        (held_type of.old.tree ≡ of_boolean) }
+        (held_type of.now.tree ≡ of_boolean) }
     ensures length { Demands result other_length
-        (length out.old ≡ (length (held_rows of.old.tree) + 7) / 8) }
+        (length out.old ≡ (length (held_rows of.now.tree) + 7) / 8) }
     ensures status { IsOneOf result
         (done ∷ no_memory ∷ no_column ∷ other_kind ∷ other_length ∷ []) }
-    ensures unchanged { of.new.tree ≡ of.old.tree }
 {
-    let Some(column) = of.take(alloc) else {
+    let Some(column) = of.column() else {
         return NO_COLUMN;
     };
-    let status = booleans_into(alloc, &column, out);
-    *of = Handle::of(column);
-    status
+    booleans_into(alloc, column, out)
 }
 
 /// Copies the values to `out`, including those in null slots.
@@ -124,15 +103,14 @@ pub extern "C" fn sel_boolean_values(alloc: Global, of: &mut Handle, out: &mut [
 /// Errors: SEL_NO_COLUMN: `of` is empty. SEL_OTHER_KIND: its type is not SEL_INT8.
 /// SEL_OTHER_LENGTH: `out_len` is not the number of rows.
 #[unsafe(no_mangle)]
-pub extern "C" fn sel_int8_values(alloc: Global, of: &mut Handle, out: &mut [i8]) -> u32
-    ensures values { result ≡ done → Shows (numbers (λ x. x) out.new) (held_rows of.old.tree) }
-    ensures column { DemandsFirst result no_column (HasColumn of.old.tree) }
+pub extern "C" fn sel_int8_values(alloc: Global, of: &ColumnRef, out: &mut [i8]) -> u32
+    ensures values { result ≡ done → Shows (numbers (λ x. x) out.new) (held_rows of.now.tree) }
+    ensures column { DemandsFirst result no_column (HasColumn of.now.tree) }
     ensures kind { DemandsBefore result other_kind (other_length ∷ [])
-        (held_type of.old.tree ≡ of_int8) }
-    ensures length { Demands result other_length (length out.old ≡ length (held_rows of.old.tree)) }
+        (held_type of.now.tree ≡ of_int8) }
+    ensures length { Demands result other_length (length out.old ≡ length (held_rows of.now.tree)) }
     ensures status { IsOneOf result
         (done ∷ no_memory ∷ no_column ∷ other_kind ∷ other_length ∷ []) }
-    ensures unchanged { of.new.tree ≡ of.old.tree }
 {
     held_numbers_into(alloc, of, out)
 }
@@ -142,15 +120,14 @@ pub extern "C" fn sel_int8_values(alloc: Global, of: &mut Handle, out: &mut [i8]
 /// Errors: SEL_NO_COLUMN: `of` is empty. SEL_OTHER_KIND: its type is not SEL_INT16.
 /// SEL_OTHER_LENGTH: `out_len` is not the number of rows.
 #[unsafe(no_mangle)]
-pub extern "C" fn sel_int16_values(alloc: Global, of: &mut Handle, out: &mut [i16]) -> u32
-    ensures values { result ≡ done → Shows (numbers (λ x. x) out.new) (held_rows of.old.tree) }
-    ensures column { DemandsFirst result no_column (HasColumn of.old.tree) }
+pub extern "C" fn sel_int16_values(alloc: Global, of: &ColumnRef, out: &mut [i16]) -> u32
+    ensures values { result ≡ done → Shows (numbers (λ x. x) out.new) (held_rows of.now.tree) }
+    ensures column { DemandsFirst result no_column (HasColumn of.now.tree) }
     ensures kind { DemandsBefore result other_kind (other_length ∷ [])
-        (held_type of.old.tree ≡ of_int16) }
-    ensures length { Demands result other_length (length out.old ≡ length (held_rows of.old.tree)) }
+        (held_type of.now.tree ≡ of_int16) }
+    ensures length { Demands result other_length (length out.old ≡ length (held_rows of.now.tree)) }
     ensures status { IsOneOf result
         (done ∷ no_memory ∷ no_column ∷ other_kind ∷ other_length ∷ []) }
-    ensures unchanged { of.new.tree ≡ of.old.tree }
 {
     held_numbers_into(alloc, of, out)
 }
@@ -160,15 +137,14 @@ pub extern "C" fn sel_int16_values(alloc: Global, of: &mut Handle, out: &mut [i1
 /// Errors: SEL_NO_COLUMN: `of` is empty. SEL_OTHER_KIND: its type is not SEL_INT32.
 /// SEL_OTHER_LENGTH: `out_len` is not the number of rows.
 #[unsafe(no_mangle)]
-pub extern "C" fn sel_int32_values(alloc: Global, of: &mut Handle, out: &mut [i32]) -> u32
-    ensures values { result ≡ done → Shows (numbers (λ x. x) out.new) (held_rows of.old.tree) }
-    ensures column { DemandsFirst result no_column (HasColumn of.old.tree) }
+pub extern "C" fn sel_int32_values(alloc: Global, of: &ColumnRef, out: &mut [i32]) -> u32
+    ensures values { result ≡ done → Shows (numbers (λ x. x) out.new) (held_rows of.now.tree) }
+    ensures column { DemandsFirst result no_column (HasColumn of.now.tree) }
     ensures kind { DemandsBefore result other_kind (other_length ∷ [])
-        (held_type of.old.tree ≡ of_int32) }
-    ensures length { Demands result other_length (length out.old ≡ length (held_rows of.old.tree)) }
+        (held_type of.now.tree ≡ of_int32) }
+    ensures length { Demands result other_length (length out.old ≡ length (held_rows of.now.tree)) }
     ensures status { IsOneOf result
         (done ∷ no_memory ∷ no_column ∷ other_kind ∷ other_length ∷ []) }
-    ensures unchanged { of.new.tree ≡ of.old.tree }
 {
     held_numbers_into(alloc, of, out)
 }
@@ -178,15 +154,14 @@ pub extern "C" fn sel_int32_values(alloc: Global, of: &mut Handle, out: &mut [i3
 /// Errors: SEL_NO_COLUMN: `of` is empty. SEL_OTHER_KIND: its type is not SEL_INT64.
 /// SEL_OTHER_LENGTH: `out_len` is not the number of rows.
 #[unsafe(no_mangle)]
-pub extern "C" fn sel_int64_values(alloc: Global, of: &mut Handle, out: &mut [i64]) -> u32
-    ensures values { result ≡ done → Shows (numbers (λ x. x) out.new) (held_rows of.old.tree) }
-    ensures column { DemandsFirst result no_column (HasColumn of.old.tree) }
+pub extern "C" fn sel_int64_values(alloc: Global, of: &ColumnRef, out: &mut [i64]) -> u32
+    ensures values { result ≡ done → Shows (numbers (λ x. x) out.new) (held_rows of.now.tree) }
+    ensures column { DemandsFirst result no_column (HasColumn of.now.tree) }
     ensures kind { DemandsBefore result other_kind (other_length ∷ [])
-        (held_type of.old.tree ≡ of_int64) }
-    ensures length { Demands result other_length (length out.old ≡ length (held_rows of.old.tree)) }
+        (held_type of.now.tree ≡ of_int64) }
+    ensures length { Demands result other_length (length out.old ≡ length (held_rows of.now.tree)) }
     ensures status { IsOneOf result
         (done ∷ no_memory ∷ no_column ∷ other_kind ∷ other_length ∷ []) }
-    ensures unchanged { of.new.tree ≡ of.old.tree }
 {
     held_numbers_into(alloc, of, out)
 }
@@ -196,15 +171,14 @@ pub extern "C" fn sel_int64_values(alloc: Global, of: &mut Handle, out: &mut [i6
 /// Errors: SEL_NO_COLUMN: `of` is empty. SEL_OTHER_KIND: its type is not SEL_UINT8.
 /// SEL_OTHER_LENGTH: `out_len` is not the number of rows.
 #[unsafe(no_mangle)]
-pub extern "C" fn sel_uint8_values(alloc: Global, of: &mut Handle, out: &mut [u8]) -> u32
-    ensures values { result ≡ done → Shows (numbers pos out.new) (held_rows of.old.tree) }
-    ensures column { DemandsFirst result no_column (HasColumn of.old.tree) }
+pub extern "C" fn sel_uint8_values(alloc: Global, of: &ColumnRef, out: &mut [u8]) -> u32
+    ensures values { result ≡ done → Shows (numbers pos out.new) (held_rows of.now.tree) }
+    ensures column { DemandsFirst result no_column (HasColumn of.now.tree) }
     ensures kind { DemandsBefore result other_kind (other_length ∷ [])
-        (held_type of.old.tree ≡ of_uint8) }
-    ensures length { Demands result other_length (length out.old ≡ length (held_rows of.old.tree)) }
+        (held_type of.now.tree ≡ of_uint8) }
+    ensures length { Demands result other_length (length out.old ≡ length (held_rows of.now.tree)) }
     ensures status { IsOneOf result
         (done ∷ no_memory ∷ no_column ∷ other_kind ∷ other_length ∷ []) }
-    ensures unchanged { of.new.tree ≡ of.old.tree }
 {
     held_numbers_into(alloc, of, out)
 }
@@ -214,15 +188,14 @@ pub extern "C" fn sel_uint8_values(alloc: Global, of: &mut Handle, out: &mut [u8
 /// Errors: SEL_NO_COLUMN: `of` is empty. SEL_OTHER_KIND: its type is not SEL_UINT16.
 /// SEL_OTHER_LENGTH: `out_len` is not the number of rows.
 #[unsafe(no_mangle)]
-pub extern "C" fn sel_uint16_values(alloc: Global, of: &mut Handle, out: &mut [u16]) -> u32
-    ensures values { result ≡ done → Shows (numbers pos out.new) (held_rows of.old.tree) }
-    ensures column { DemandsFirst result no_column (HasColumn of.old.tree) }
+pub extern "C" fn sel_uint16_values(alloc: Global, of: &ColumnRef, out: &mut [u16]) -> u32
+    ensures values { result ≡ done → Shows (numbers pos out.new) (held_rows of.now.tree) }
+    ensures column { DemandsFirst result no_column (HasColumn of.now.tree) }
     ensures kind { DemandsBefore result other_kind (other_length ∷ [])
-        (held_type of.old.tree ≡ of_uint16) }
-    ensures length { Demands result other_length (length out.old ≡ length (held_rows of.old.tree)) }
+        (held_type of.now.tree ≡ of_uint16) }
+    ensures length { Demands result other_length (length out.old ≡ length (held_rows of.now.tree)) }
     ensures status { IsOneOf result
         (done ∷ no_memory ∷ no_column ∷ other_kind ∷ other_length ∷ []) }
-    ensures unchanged { of.new.tree ≡ of.old.tree }
 {
     held_numbers_into(alloc, of, out)
 }
@@ -232,15 +205,14 @@ pub extern "C" fn sel_uint16_values(alloc: Global, of: &mut Handle, out: &mut [u
 /// Errors: SEL_NO_COLUMN: `of` is empty. SEL_OTHER_KIND: its type is not SEL_UINT32.
 /// SEL_OTHER_LENGTH: `out_len` is not the number of rows.
 #[unsafe(no_mangle)]
-pub extern "C" fn sel_uint32_values(alloc: Global, of: &mut Handle, out: &mut [u32]) -> u32
-    ensures values { result ≡ done → Shows (numbers pos out.new) (held_rows of.old.tree) }
-    ensures column { DemandsFirst result no_column (HasColumn of.old.tree) }
+pub extern "C" fn sel_uint32_values(alloc: Global, of: &ColumnRef, out: &mut [u32]) -> u32
+    ensures values { result ≡ done → Shows (numbers pos out.new) (held_rows of.now.tree) }
+    ensures column { DemandsFirst result no_column (HasColumn of.now.tree) }
     ensures kind { DemandsBefore result other_kind (other_length ∷ [])
-        (held_type of.old.tree ≡ of_uint32) }
-    ensures length { Demands result other_length (length out.old ≡ length (held_rows of.old.tree)) }
+        (held_type of.now.tree ≡ of_uint32) }
+    ensures length { Demands result other_length (length out.old ≡ length (held_rows of.now.tree)) }
     ensures status { IsOneOf result
         (done ∷ no_memory ∷ no_column ∷ other_kind ∷ other_length ∷ []) }
-    ensures unchanged { of.new.tree ≡ of.old.tree }
 {
     held_numbers_into(alloc, of, out)
 }
@@ -250,15 +222,14 @@ pub extern "C" fn sel_uint32_values(alloc: Global, of: &mut Handle, out: &mut [u
 /// Errors: SEL_NO_COLUMN: `of` is empty. SEL_OTHER_KIND: its type is not SEL_UINT64.
 /// SEL_OTHER_LENGTH: `out_len` is not the number of rows.
 #[unsafe(no_mangle)]
-pub extern "C" fn sel_uint64_values(alloc: Global, of: &mut Handle, out: &mut [u64]) -> u32
-    ensures values { result ≡ done → Shows (numbers pos out.new) (held_rows of.old.tree) }
-    ensures column { DemandsFirst result no_column (HasColumn of.old.tree) }
+pub extern "C" fn sel_uint64_values(alloc: Global, of: &ColumnRef, out: &mut [u64]) -> u32
+    ensures values { result ≡ done → Shows (numbers pos out.new) (held_rows of.now.tree) }
+    ensures column { DemandsFirst result no_column (HasColumn of.now.tree) }
     ensures kind { DemandsBefore result other_kind (other_length ∷ [])
-        (held_type of.old.tree ≡ of_uint64) }
-    ensures length { Demands result other_length (length out.old ≡ length (held_rows of.old.tree)) }
+        (held_type of.now.tree ≡ of_uint64) }
+    ensures length { Demands result other_length (length out.old ≡ length (held_rows of.now.tree)) }
     ensures status { IsOneOf result
         (done ∷ no_memory ∷ no_column ∷ other_kind ∷ other_length ∷ []) }
-    ensures unchanged { of.new.tree ≡ of.old.tree }
 {
     held_numbers_into(alloc, of, out)
 }

@@ -13,6 +13,7 @@ ghost use Rattle.sel_runs.specs.Need.{past_taken};
 ghost use Rattle.sel_runs.specs.Picks.{pick, PickFits};
 
 use sel_calls::several::{PickWords, collect_into, flatten_into};
+use sel_handle::column_ref::ColumnRef;
 use sel_handle::handle::Handle;
 use sel_handle::several::share_all;
 use std::alloc::Global;
@@ -28,30 +29,28 @@ use std::alloc::Global;
 #[unsafe(no_mangle)]
 pub extern "C" fn sel_flatten(
     alloc: Global,
-    columns: &mut [Handle],
+    columns: &[ColumnRef],
     widths: &[usize],
     height: usize,
     out: &mut Handle,
 ) -> u32
     ensures rows { Makes result out.old.tree out.new.tree (λ made. rows made.column ≡
-        flatten (map (λ column. held_rows column.tree) columns.old) widths.now height) }
+        flatten (map (λ column. held_rows column.tree) columns.now) widths.now height) }
     ensures dtype { Makes result out.old.tree out.new.tree (λ made. type_of made.column ≡
-        first_shape (map (λ column. held_type column.tree) columns.old)) }
+        first_shape (map (λ column. held_type column.tree) columns.now)) }
     ensures status { IsOneOf result
         (done ∷ no_memory ∷ no_column ∷ other_type ∷ other_length ∷ limit_statuses) }
     ensures column { DemandsFirst result no_column
-        (All (λ column. HasColumn column.tree) columns.old) }
+        (All (λ column. HasColumn column.tree) columns.now) }
     ensures alike { DemandsBefore result other_type (other_length ∷ limit_statuses)
-        (AreAlike (map (λ column. held_type column.tree) columns.old)) }
+        (AreAlike (map (λ column. held_type column.tree) columns.now)) }
     ensures length { DemandsBefore result other_length limit_statuses
-        ((0 < length columns.old) × IsTrue
-        (parts_fit height (map (λ column. held_rows column.tree) columns.old) widths.now)) }
+        ((0 < length columns.now) × IsTrue
+        (parts_fit height (map (λ column. held_rows column.tree) columns.now) widths.now)) }
     ensures limits { TellsLimits result
-        (past_flattened height (first_shape (map (λ column. held_type column.tree) columns.old))
-        (flat_map (λ column. held_columns column.tree) columns.old)
-        (flatten (map (λ column. held_rows column.tree) columns.old) widths.now height)) }
-    ensures unchanged { map (λ column. column.tree) columns.new ≡
-        map (λ column. column.tree) columns.old }
+        (past_flattened height (first_shape (map (λ column. held_type column.tree) columns.now))
+        (flat_map (λ column. held_columns column.tree) columns.now)
+        (flatten (map (λ column. held_rows column.tree) columns.now) widths.now height)) }
 {
     match share_all(alloc, columns) {
         Ok(arrays) => {
@@ -74,22 +73,22 @@ pub extern "C" fn sel_flatten(
 #[unsafe(no_mangle)]
 pub extern "C" fn sel_collect_rows(
     alloc: Global,
-    sources: &mut [Handle],
+    sources: &[ColumnRef],
     picks: &[PickWords],
     bits: &[u8],
     has_bits: bool,
     out: &mut Handle,
 ) -> u32
     ensures rows { Makes result out.old.tree out.new.tree (λ made. rows made.column ≡
-        pick Null (map (λ source. held_rows source.tree) sources.old)
+        pick Null (map (λ source. held_rows source.tree) sources.now)
         (picks_in picks.now bits.now has_bits)) }
     ensures dtype { Makes result out.old.tree out.new.tree (λ made. type_of made.column ≡
-        first_shape (map (λ source. held_type source.tree) sources.old)) }
+        first_shape (map (λ source. held_type source.tree) sources.now)) }
     ensures status { IsOneOf result
         (done ∷ no_memory ∷ no_column ∷ rule_status TooManyRows ∷ rule_status ValidityLength ∷
         other_length ∷ other_type ∷ out_of_bounds ∷ limit_statuses) }
     ensures column { DemandsFirst result no_column
-        (All (λ source. HasColumn source.tree) sources.old) }
+        (All (λ source. HasColumn source.tree) sources.now) }
     ensures few { DemandsBefore result (rule_status TooManyRows) (rule_status ValidityLength ∷
         other_length ∷ other_type ∷ out_of_bounds ∷ limit_statuses)
         (length picks.now ≤ 4294967295) }
@@ -97,19 +96,17 @@ pub extern "C" fn sel_collect_rows(
         (other_length ∷ other_type ∷ out_of_bounds ∷ limit_statuses)
         (lacks_bits bits.now has_bits (length picks.now) ≡ false) }
     ensures some { DemandsBefore result other_length
-        (other_type ∷ out_of_bounds ∷ limit_statuses) (0 < length sources.old) }
+        (other_type ∷ out_of_bounds ∷ limit_statuses) (0 < length sources.now) }
     ensures alike { DemandsBefore result other_type (out_of_bounds ∷ limit_statuses)
-        (AreAlike (map (λ source. held_type source.tree) sources.old)) }
+        (AreAlike (map (λ source. held_type source.tree) sources.now)) }
     ensures bounds { DemandsBefore result out_of_bounds limit_statuses
-        (All (PickFits (map (λ source. held_rows source.tree) sources.old))
+        (All (PickFits (map (λ source. held_rows source.tree) sources.now))
         (picks_in picks.now bits.now has_bits)) }
     ensures limits { TellsLimits result
-        (past_taken (first_shape (map (λ source. held_type source.tree) sources.old))
-        (flat_map (λ source. held_columns source.tree) sources.old)
-        (pick Null (map (λ source. held_rows source.tree) sources.old)
+        (past_taken (first_shape (map (λ source. held_type source.tree) sources.now))
+        (flat_map (λ source. held_columns source.tree) sources.now)
+        (pick Null (map (λ source. held_rows source.tree) sources.now)
         (picks_in picks.now bits.now has_bits))) }
-    ensures unchanged { map (λ source. source.tree) sources.new ≡
-        map (λ source. source.tree) sources.old }
 {
     match share_all(alloc, sources) {
         Ok(arrays) => {

@@ -11,6 +11,7 @@ ghost use Rattle.sel_runs.specs.Need.{past};
 ghost use Rattle.polars_compute.specs.Pick.{all_within, take_rows};
 
 use sel_calls::takes::{take_into, take_rows_into};
+use sel_handle::column_ref::ColumnRef;
 use sel_handle::handle::Handle;
 use sel_handle::status::NO_COLUMN;
 use std::alloc::Global;
@@ -23,38 +24,32 @@ use std::alloc::Global;
 #[unsafe(no_mangle)]
 pub extern "C" fn sel_take(
     alloc: Global,
-    of: &mut Handle,
-    indices: &mut Handle,
+    of: &ColumnRef,
+    indices: &ColumnRef,
     out: &mut Handle,
 ) -> u32
     ensures rows { Makes result out.old.tree out.new.tree (λ made. rows made.column ≡
-        take_rows (held_rows of.old.tree) (held_rows indices.old.tree)) }
+        take_rows (held_rows of.now.tree) (held_rows indices.now.tree)) }
     ensures dtype { Makes result out.old.tree out.new.tree
-        (λ made. type_of made.column ≡ held_type of.old.tree) }
+        (λ made. type_of made.column ≡ held_type of.now.tree) }
     ensures status { IsOneOf result
         (done ∷ no_memory ∷ no_column ∷ other_kind ∷ out_of_bounds ∷ limit_statuses) }
     ensures column { DemandsFirst result no_column
-        (HasColumn of.old.tree × HasColumn indices.old.tree) }
+        (HasColumn of.now.tree × HasColumn indices.now.tree) }
     ensures kind { DemandsBefore result other_kind (out_of_bounds ∷ limit_statuses)
-        (held_type indices.old.tree ≡ of_uint32) }
+        (held_type indices.now.tree ≡ of_uint32) }
     ensures bounds { DemandsBefore result out_of_bounds limit_statuses
-        (IsTrue (all_within (length (held_rows of.old.tree)) (held_rows indices.old.tree))) }
-    ensures limits { TellsLimits result (past (held_type of.old.tree)
-        (take_rows (held_rows of.old.tree) (held_rows indices.old.tree))) }
-    ensures unchanged { of.new.tree ≡ of.old.tree }
-    ensures indices { indices.new.tree ≡ indices.old.tree }
+        (IsTrue (all_within (length (held_rows of.now.tree)) (held_rows indices.now.tree))) }
+    ensures limits { TellsLimits result (past (held_type of.now.tree)
+        (take_rows (held_rows of.now.tree) (held_rows indices.now.tree))) }
 {
-    let Some(column) = of.take(alloc) else {
+    let Some(column) = of.column() else {
         return NO_COLUMN;
     };
-    let Some(at) = indices.take(alloc) else {
-        *of = Handle::of(column);
+    let Some(at) = indices.column() else {
         return NO_COLUMN;
     };
-    let status = take_into(alloc, &column, &at, out);
-    *of = Handle::of(column);
-    *indices = Handle::of(at);
-    status
+    take_into(alloc, column, at, out)
 }
 
 /// Returns in `out` the rows of `of` at `indices`. An index whose validity bit is 0 gives a null
@@ -66,20 +61,20 @@ pub extern "C" fn sel_take(
 #[unsafe(no_mangle)]
 pub extern "C" fn sel_take_rows(
     alloc: Global,
-    of: &mut Handle,
+    of: &ColumnRef,
     indices: &[u32],
     bits: &[u8],
     has_bits: bool,
     out: &mut Handle,
 ) -> u32
     ensures rows { Makes result out.old.tree out.new.tree (λ made. rows made.column ≡
-        take_rows (held_rows of.old.tree)
+        take_rows (held_rows of.now.tree)
         (number_rows pos indices.now (validity_in bits.now has_bits (length indices.now)))) }
     ensures dtype { Makes result out.old.tree out.new.tree
-        (λ made. type_of made.column ≡ held_type of.old.tree) }
+        (λ made. type_of made.column ≡ held_type of.now.tree) }
     ensures status { IsOneOf result (done ∷ no_memory ∷ no_column ∷ rule_status TooManyRows ∷
         rule_status ValidityLength ∷ out_of_bounds ∷ limit_statuses) }
-    ensures column { DemandsFirst result no_column (HasColumn of.old.tree) }
+    ensures column { DemandsFirst result no_column (HasColumn of.now.tree) }
     ensures few { DemandsBefore result (rule_status TooManyRows)
         (rule_status ValidityLength ∷ out_of_bounds ∷ limit_statuses)
         (length indices.now ≤ 4294967295) }
@@ -87,17 +82,14 @@ pub extern "C" fn sel_take_rows(
         (out_of_bounds ∷ limit_statuses)
         (lacks_bits bits.now has_bits (length indices.now) ≡ false) }
     ensures bounds { DemandsBefore result out_of_bounds limit_statuses
-        (IsTrue (all_within (length (held_rows of.old.tree))
+        (IsTrue (all_within (length (held_rows of.now.tree))
         (number_rows pos indices.now (validity_in bits.now has_bits (length indices.now))))) }
-    ensures limits { TellsLimits result (past (held_type of.old.tree)
-        (take_rows (held_rows of.old.tree)
+    ensures limits { TellsLimits result (past (held_type of.now.tree)
+        (take_rows (held_rows of.now.tree)
         (number_rows pos indices.now (validity_in bits.now has_bits (length indices.now))))) }
-    ensures unchanged { of.new.tree ≡ of.old.tree }
 {
-    let Some(column) = of.take(alloc) else {
+    let Some(column) = of.column() else {
         return NO_COLUMN;
     };
-    let status = take_rows_into(alloc, &column, indices, bits, has_bits, out);
-    *of = Handle::of(column);
-    status
+    take_rows_into(alloc, column, indices, bits, has_bits, out)
 }

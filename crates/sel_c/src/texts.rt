@@ -12,6 +12,7 @@ ghost use Rattle.sel_text.specs.Texts.{text_of};
 ghost use Rattle.sel_text.specs.Types.{type_text};
 
 use sel_calls::texts::{parse_into, print_into};
+use sel_handle::column_ref::ColumnRef;
 use sel_handle::handle::Handle;
 use sel_handle::status::{DONE, NO_COLUMN};
 use sel_text::equal::equal_rows;
@@ -24,29 +25,23 @@ use std::alloc::Global;
 /// Errors: SEL_NO_COLUMN: `of` or `other` is empty.
 #[unsafe(no_mangle)]
 pub extern "C" fn sel_equal_rows(
-    alloc: Global,
-    of: &mut Handle,
-    other: &mut Handle,
+    of: &ColumnRef,
+    other: &ColumnRef,
     equal: &mut bool,
 ) -> u32
     ensures told { result ≡ done →
-        (IsTrue equal.new ↔ (held_rows of.old.tree ≡ held_rows other.old.tree)) }
+        (IsTrue equal.new ↔ (held_rows of.now.tree ≡ held_rows other.now.tree)) }
     ensures column { DemandsFirst result no_column
-        (HasColumn of.old.tree × HasColumn other.old.tree) }
+        (HasColumn of.now.tree × HasColumn other.now.tree) }
     ensures status { IsOneOf result (done ∷ no_column ∷ []) }
-    ensures unchanged { of.new.tree ≡ of.old.tree }
-    ensures other { other.new.tree ≡ other.old.tree }
 {
-    let Some(first) = of.take(alloc) else {
+    let Some(first) = of.column() else {
         return NO_COLUMN;
     };
-    let Some(second) = other.take(alloc) else {
-        *of = Handle::of(first);
+    let Some(second) = other.column() else {
         return NO_COLUMN;
     };
     *equal = equal_rows(first.as_column(), second.as_column());
-    *of = Handle::of(first);
-    *other = Handle::of(second);
     DONE
 }
 
@@ -56,19 +51,16 @@ pub extern "C" fn sel_equal_rows(
 ///
 /// Errors: SEL_NO_COLUMN: `of` is empty.
 #[unsafe(no_mangle)]
-pub extern "C" fn sel_print(alloc: Global, of: &mut Handle, out: &mut [u8], len: &mut usize) -> u32
-    ensures text { result ≡ done → out.new ≡ filled (held_text of.old.tree) out.old }
-    ensures len { result ≡ done → len.new ≡ length (held_text of.old.tree) }
-    ensures column { DemandsFirst result no_column (HasColumn of.old.tree) }
+pub extern "C" fn sel_print(alloc: Global, of: &ColumnRef, out: &mut [u8], len: &mut usize) -> u32
+    ensures text { result ≡ done → out.new ≡ filled (held_text of.now.tree) out.old }
+    ensures len { result ≡ done → len.new ≡ length (held_text of.now.tree) }
+    ensures column { DemandsFirst result no_column (HasColumn of.now.tree) }
     ensures status { IsOneOf result (done ∷ no_memory ∷ no_column ∷ []) }
-    ensures unchanged { of.new.tree ≡ of.old.tree }
 {
-    let Some(column) = of.take(alloc) else {
+    let Some(column) = of.column() else {
         return NO_COLUMN;
     };
-    let status = print_into(alloc, &column, out, len);
-    *of = Handle::of(column);
-    status
+    print_into(alloc, column, out, len)
 }
 
 /// Returns in `out` the column of the type `dtype`, such as `struct<list<i8>,fixed<2,utf8>>`, with

@@ -9,6 +9,7 @@ ghost use Rattle.sel_handle.specs.Inputs.{validity_in, views_in, binview_rules, 
 ghost use Rattle.sel_handle.specs.Layout.{held_buffers, held_views};
 ghost use Rattle.sel_handle.specs.Status.{done, no_column, other_kind, other_length, out_of_bounds, Demands, DemandsBefore, DemandsFirst, HasColumn, IsOneOf, Makes, Names};
 
+use sel_handle::column_ref::ColumnRef;
 use sel_handle::handle::Handle;
 use sel_handle::status::{NO_COLUMN, put, status_of_maker};
 use sel_handle::view_parts::{buffer_count_into, buffer_into, buffer_len_into, views_into};
@@ -77,22 +78,19 @@ pub extern "C" fn sel_utf8view_new(
 /// Errors: SEL_NO_COLUMN: `of` is empty. SEL_OTHER_KIND: its type is not SEL_BINARY_VIEW or
 /// SEL_UTF8_VIEW. SEL_OTHER_LENGTH: `out_len` is not the number of rows.
 #[unsafe(no_mangle)]
-pub extern "C" fn sel_views(alloc: Global, of: &mut Handle, out: &mut [ViewWords]) -> u32
-    ensures views { result ≡ done → Some (views_in out.new) ≡ held_views of.old.tree }
-    ensures column { DemandsFirst result no_column (HasColumn of.old.tree) }
-    ensures kind { HasColumn of.old.tree →
-        DemandsBefore result other_kind (other_length ∷ []) (held_views of.old.tree ≢ None) }
+pub extern "C" fn sel_views(of: &ColumnRef, out: &mut [ViewWords]) -> u32
+    ensures views { result ≡ done → Some (views_in out.new) ≡ held_views of.now.tree }
+    ensures column { DemandsFirst result no_column (HasColumn of.now.tree) }
+    ensures kind { HasColumn of.now.tree →
+        DemandsBefore result other_kind (other_length ∷ []) (held_views of.now.tree ≢ None) }
     ensures length { result ≡ other_length →
-        Some (length out.old) ≢ option_map length (held_views of.old.tree) }
+        Some (length out.old) ≢ option_map length (held_views of.now.tree) }
     ensures status { IsOneOf result (done ∷ no_column ∷ other_kind ∷ other_length ∷ []) }
-    ensures unchanged { of.new.tree ≡ of.old.tree }
 {
-    let Some(column) = of.take(alloc) else {
+    let Some(column) = of.column() else {
         return NO_COLUMN;
     };
-    let status = views_into(column.as_column(), out);
-    *of = Handle::of(column);
-    status
+    views_into(column.as_column(), out)
 }
 
 /// Returns in `count` the number of data buffers of a view column.
@@ -100,20 +98,17 @@ pub extern "C" fn sel_views(alloc: Global, of: &mut Handle, out: &mut [ViewWords
 /// Errors: SEL_NO_COLUMN: `of` is empty. SEL_OTHER_KIND: its type is not SEL_BINARY_VIEW or
 /// SEL_UTF8_VIEW.
 #[unsafe(no_mangle)]
-pub extern "C" fn sel_buffer_count(alloc: Global, of: &mut Handle, count: &mut usize) -> u32
-    ensures count { result ≡ done → Some count.new ≡ option_map length (held_buffers of.old.tree) }
-    ensures column { DemandsFirst result no_column (HasColumn of.old.tree) }
-    ensures kind { HasColumn of.old.tree →
-        Demands result other_kind (held_views of.old.tree ≢ None) }
+pub extern "C" fn sel_buffer_count(of: &ColumnRef, count: &mut usize) -> u32
+    ensures count { result ≡ done → Some count.new ≡ option_map length (held_buffers of.now.tree) }
+    ensures column { DemandsFirst result no_column (HasColumn of.now.tree) }
+    ensures kind { HasColumn of.now.tree →
+        Demands result other_kind (held_views of.now.tree ≢ None) }
     ensures status { IsOneOf result (done ∷ no_column ∷ other_kind ∷ []) }
-    ensures unchanged { of.new.tree ≡ of.old.tree }
 {
-    let Some(column) = of.take(alloc) else {
+    let Some(column) = of.column() else {
         return NO_COLUMN;
     };
-    let status = buffer_count_into(column.as_column(), count);
-    *of = Handle::of(column);
-    status
+    buffer_count_into(column.as_column(), count)
 }
 
 /// Returns in `len` the number of bytes of data buffer `i`, counted from 0.
@@ -121,23 +116,20 @@ pub extern "C" fn sel_buffer_count(alloc: Global, of: &mut Handle, count: &mut u
 /// Errors: SEL_NO_COLUMN: `of` is empty. SEL_OTHER_KIND: its type is not SEL_BINARY_VIEW or
 /// SEL_UTF8_VIEW. SEL_OUT_OF_BOUNDS: there is no data buffer `i`.
 #[unsafe(no_mangle)]
-pub extern "C" fn sel_buffer_len(alloc: Global, of: &mut Handle, i: usize, len: &mut usize) -> u32
+pub extern "C" fn sel_buffer_len(of: &ColumnRef, i: usize, len: &mut usize) -> u32
     ensures len { result ≡ done → option_map (λ buffers. option_map length (slice_get buffers i))
-        (held_buffers of.old.tree) ≡ Some (Some len.new) }
-    ensures column { DemandsFirst result no_column (HasColumn of.old.tree) }
-    ensures kind { HasColumn of.old.tree →
-        DemandsBefore result other_kind (out_of_bounds ∷ []) (held_views of.old.tree ≢ None) }
+        (held_buffers of.now.tree) ≡ Some (Some len.new) }
+    ensures column { DemandsFirst result no_column (HasColumn of.now.tree) }
+    ensures kind { HasColumn of.now.tree →
+        DemandsBefore result other_kind (out_of_bounds ∷ []) (held_views of.now.tree ≢ None) }
     ensures bounds { result ≡ out_of_bounds →
-        option_map (λ buffers. slice_get buffers i) (held_buffers of.old.tree) ≡ Some None }
+        option_map (λ buffers. slice_get buffers i) (held_buffers of.now.tree) ≡ Some None }
     ensures status { IsOneOf result (done ∷ no_column ∷ other_kind ∷ out_of_bounds ∷ []) }
-    ensures unchanged { of.new.tree ≡ of.old.tree }
 {
-    let Some(column) = of.take(alloc) else {
+    let Some(column) = of.column() else {
         return NO_COLUMN;
     };
-    let status = buffer_len_into(column.as_column(), i, len);
-    *of = Handle::of(column);
-    status
+    buffer_len_into(column.as_column(), i, len)
 }
 
 /// Copies the bytes of data buffer `i`, counted from 0, to `out`.
@@ -146,27 +138,24 @@ pub extern "C" fn sel_buffer_len(alloc: Global, of: &mut Handle, i: usize, len: 
 /// SEL_UTF8_VIEW. SEL_OUT_OF_BOUNDS: there is no data buffer `i`. SEL_OTHER_LENGTH: `out_len` is
 /// not the length of the buffer.
 #[unsafe(no_mangle)]
-pub extern "C" fn sel_buffer(alloc: Global, of: &mut Handle, i: usize, out: &mut [u8]) -> u32
+pub extern "C" fn sel_buffer(of: &ColumnRef, i: usize, out: &mut [u8]) -> u32
     ensures bytes { result ≡ done → option_map (λ buffers. slice_get buffers i)
-        (held_buffers of.old.tree) ≡ Some (Some out.new) }
-    ensures column { DemandsFirst result no_column (HasColumn of.old.tree) }
-    ensures kind { HasColumn of.old.tree →
+        (held_buffers of.now.tree) ≡ Some (Some out.new) }
+    ensures column { DemandsFirst result no_column (HasColumn of.now.tree) }
+    ensures kind { HasColumn of.now.tree →
         DemandsBefore result other_kind (out_of_bounds ∷ other_length ∷ [])
-        (held_views of.old.tree ≢ None) }
+        (held_views of.now.tree ≢ None) }
     ensures bounds { result ≡ out_of_bounds →
-        option_map (λ buffers. slice_get buffers i) (held_buffers of.old.tree) ≡ Some None }
+        option_map (λ buffers. slice_get buffers i) (held_buffers of.now.tree) ≡ Some None }
     ensures length { result ≡ other_length → option_map (λ buffers. option_map length
-        (slice_get buffers i)) (held_buffers of.old.tree) ≢ Some (Some (length out.old)) }
+        (slice_get buffers i)) (held_buffers of.now.tree) ≢ Some (Some (length out.old)) }
     ensures inside { result ≡ other_length →
-        option_map (λ buffers. slice_get buffers i) (held_buffers of.old.tree) ≢ Some None }
+        option_map (λ buffers. slice_get buffers i) (held_buffers of.now.tree) ≢ Some None }
     ensures status { IsOneOf result
         (done ∷ no_column ∷ other_kind ∷ other_length ∷ out_of_bounds ∷ []) }
-    ensures unchanged { of.new.tree ≡ of.old.tree }
 {
-    let Some(column) = of.take(alloc) else {
+    let Some(column) = of.column() else {
         return NO_COLUMN;
     };
-    let status = buffer_into(column.as_column(), i, out);
-    *of = Handle::of(column);
-    status
+    buffer_into(column.as_column(), i, out)
 }

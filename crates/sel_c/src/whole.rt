@@ -5,6 +5,7 @@ ghost use Rattle.sel_arrow.specs.Rows.{rows, type_of};
 ghost use Rattle.sel_handle.specs.Status.{done, no_memory, no_column, out_of_bounds, held_rows, held_type, Demands, DemandsFirst, HasColumn, IsOneOf, Makes};
 
 use sel_arrow::array::Array;
+use sel_handle::column_ref::ColumnRef;
 use sel_handle::handle::Handle;
 use sel_handle::status::{NO_COLUMN, NO_MEMORY, OUT_OF_BOUNDS, put};
 use std::alloc::Global;
@@ -16,31 +17,27 @@ use std::alloc::Global;
 #[unsafe(no_mangle)]
 pub extern "C" fn sel_sliced(
     alloc: Global,
-    of: &mut Handle,
+    of: &ColumnRef,
     off: usize,
     len: usize,
     out: &mut Handle,
 ) -> u32
     ensures rows { Makes result out.old.tree out.new.tree
-        (λ made. rows made.column ≡ take len (drop off (held_rows of.old.tree))) }
+        (λ made. rows made.column ≡ take len (drop off (held_rows of.now.tree))) }
     ensures dtype { Makes result out.old.tree out.new.tree
-        (λ made. type_of made.column ≡ held_type of.old.tree) }
-    ensures column { DemandsFirst result no_column (HasColumn of.old.tree) }
-    ensures bounds { Demands result out_of_bounds (off + len ≤ length (held_rows of.old.tree)) }
+        (λ made. type_of made.column ≡ held_type of.now.tree) }
+    ensures column { DemandsFirst result no_column (HasColumn of.now.tree) }
+    ensures bounds { Demands result out_of_bounds (off + len ≤ length (held_rows of.now.tree)) }
     ensures status { IsOneOf result (done ∷ no_memory ∷ no_column ∷ out_of_bounds ∷ []) }
-    ensures unchanged { of.new.tree ≡ of.old.tree }
 {
-    let Some(column) = of.take(alloc) else {
+    let Some(column) = of.column() else {
         return NO_COLUMN;
     };
     let all = column.len();
     if off > all || len > all - off {
-        *of = Handle::of(column);
         return OUT_OF_BOUNDS;
     }
-    let part = column.sliced(alloc, off, len);
-    *of = Handle::of(column);
-    match part {
+    match column.sliced(alloc, off, len) {
         Ok(part) => put(alloc, part, out),
         Err(_) => NO_MEMORY,
     }
@@ -50,21 +47,18 @@ pub extern "C" fn sel_sliced(
 ///
 /// Errors: SEL_NO_COLUMN: `of` is empty.
 #[unsafe(no_mangle)]
-pub extern "C" fn sel_share(alloc: Global, of: &mut Handle, out: &mut Handle) -> u32
+pub extern "C" fn sel_share(alloc: Global, of: &ColumnRef, out: &mut Handle) -> u32
     ensures rows { Makes result out.old.tree out.new.tree
-        (λ made. rows made.column ≡ held_rows of.old.tree) }
+        (λ made. rows made.column ≡ held_rows of.now.tree) }
     ensures dtype { Makes result out.old.tree out.new.tree
-        (λ made. type_of made.column ≡ held_type of.old.tree) }
-    ensures column { DemandsFirst result no_column (HasColumn of.old.tree) }
+        (λ made. type_of made.column ≡ held_type of.now.tree) }
+    ensures column { DemandsFirst result no_column (HasColumn of.now.tree) }
     ensures status { IsOneOf result (done ∷ no_memory ∷ no_column ∷ []) }
-    ensures unchanged { of.new.tree ≡ of.old.tree }
 {
-    let Some(column) = of.take(alloc) else {
+    let Some(column) = of.column() else {
         return NO_COLUMN;
     };
-    let copy = column.try_clone(alloc);
-    *of = Handle::of(column);
-    match copy {
+    match column.try_clone(alloc) {
         Ok(copy) => put(alloc, copy, out),
         Err(_) => NO_MEMORY,
     }

@@ -11,6 +11,7 @@ ghost use Rattle.sel_handle.specs.Status.{done, no_memory, no_column, other_kind
 
 use sel_arrow::primitive::ArrowPrimitive;
 use sel_calls::wides::{Wide, wides_into, wides_of};
+use sel_handle::column_ref::ColumnRef;
 use sel_handle::handle::Handle;
 use sel_handle::status::{NO_COLUMN, put, status_of_maker};
 use std::alloc::Global;
@@ -44,22 +45,19 @@ pub extern "C" fn sel_int128_new(
 /// Errors: SEL_NO_COLUMN: `of` is empty. SEL_OTHER_KIND: its type is not SEL_INT128.
 /// SEL_OTHER_LENGTH: `out_len` is not the number of rows.
 #[unsafe(no_mangle)]
-pub extern "C" fn sel_int128_values(alloc: Global, of: &mut Handle, out: &mut [Wide]) -> u32
-    ensures values { result ≡ done → Shows (numbers signed_wide out.new) (held_rows of.old.tree) }
-    ensures column { DemandsFirst result no_column (HasColumn of.old.tree) }
+pub extern "C" fn sel_int128_values(alloc: Global, of: &ColumnRef, out: &mut [Wide]) -> u32
+    ensures values { result ≡ done → Shows (numbers signed_wide out.new) (held_rows of.now.tree) }
+    ensures column { DemandsFirst result no_column (HasColumn of.now.tree) }
     ensures kind { DemandsBefore result other_kind (other_length ∷ [])
-        (held_type of.old.tree ≡ of_int128) }
-    ensures length { Demands result other_length (length out.old ≡ length (held_rows of.old.tree)) }
+        (held_type of.now.tree ≡ of_int128) }
+    ensures length { Demands result other_length (length out.old ≡ length (held_rows of.now.tree)) }
     ensures status { IsOneOf result
         (done ∷ no_memory ∷ no_column ∷ other_kind ∷ other_length ∷ []) }
-    ensures unchanged { of.new.tree ≡ of.old.tree }
 {
-    let Some(column) = of.take(alloc) else {
+    let Some(column) = of.column() else {
         return NO_COLUMN;
     };
-    let status = wides_into::<i128>(alloc, &column, out);
-    *of = Handle::of(column);
-    status
+    wides_into::<i128>(alloc, column, out)
 }
 
 /// Returns in `out` the column of these unsigned 128-bit integers.
@@ -91,20 +89,17 @@ pub extern "C" fn sel_uint128_new(
 /// Errors: SEL_NO_COLUMN: `of` is empty. SEL_OTHER_KIND: its type is not SEL_UINT128.
 /// SEL_OTHER_LENGTH: `out_len` is not the number of rows.
 #[unsafe(no_mangle)]
-pub extern "C" fn sel_uint128_values(alloc: Global, of: &mut Handle, out: &mut [Wide]) -> u32
-    ensures values { result ≡ done → Shows (numbers unsigned_wide out.new) (held_rows of.old.tree) }
-    ensures column { DemandsFirst result no_column (HasColumn of.old.tree) }
+pub extern "C" fn sel_uint128_values(alloc: Global, of: &ColumnRef, out: &mut [Wide]) -> u32
+    ensures values { result ≡ done → Shows (numbers unsigned_wide out.new) (held_rows of.now.tree) }
+    ensures column { DemandsFirst result no_column (HasColumn of.now.tree) }
     ensures kind { DemandsBefore result other_kind (other_length ∷ [])
-        (held_type of.old.tree ≡ of_uint128) }
-    ensures length { Demands result other_length (length out.old ≡ length (held_rows of.old.tree)) }
+        (held_type of.now.tree ≡ of_uint128) }
+    ensures length { Demands result other_length (length out.old ≡ length (held_rows of.now.tree)) }
     ensures status { IsOneOf result
         (done ∷ no_memory ∷ no_column ∷ other_kind ∷ other_length ∷ []) }
-    ensures unchanged { of.new.tree ≡ of.old.tree }
 {
-    let Some(column) = of.take(alloc) else {
+    let Some(column) = of.column() else {
         return NO_COLUMN;
     };
-    let status = wides_into::<u128>(alloc, &column, out);
-    *of = Handle::of(column);
-    status
+    wides_into::<u128>(alloc, column, out)
 }

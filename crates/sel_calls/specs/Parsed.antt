@@ -9,7 +9,8 @@ use Rattle.sel_text.specs.Limits.{past_limit}
 use Rattle.sel_text.specs.Spaces.{spaceless}
 use Rattle.sel_text.specs.Texts.{text_of}
 use Rattle.sel_text.specs.Types.{type_text}
-use Rattle.sel_text.specs.Written.{depth, widths_written}
+use Rattle.sel_arrow.specs.Depth.{depth}
+use Rattle.sel_text.specs.Written.{widths_written}
 use Rattle.sel_text.specs.declared.build.Beneath.TheVariants.{Zeros}
 
 -- the bytes are the text of a type, with or without spaces between its parts

@@ -16,6 +16,7 @@ use sel_arrow::array_ref::ArrayRef;
 use sel_arrow::boolean::BooleanArray;
 use sel_bits::bitmap::Bitmap;
 use sel_bits::faults::PolarsResult;
+use sel_handle::column_ref::ColumnRef;
 use sel_handle::handle::Handle;
 use sel_handle::status::{
     NO_COLUMN, NO_MEMORY, OTHER_KIND, OTHER_LENGTH, OTHER_TYPE, put, status_of,
@@ -34,56 +35,46 @@ use std::alloc::Global;
 /// status if the result would exceed a limit.
 pub fn choose_handles(
     alloc: Global,
-    mask: &mut Handle,
-    if_true: &mut Handle,
-    if_false: &mut Handle,
+    mask: &ColumnRef,
+    if_true: &ColumnRef,
+    if_false: &ColumnRef,
     true_column: bool,
     false_column: bool,
     out: &mut Handle,
 ) -> u32
     ensures rows { Makes result out.old.tree out.new.tree (λ made. rows made.column ≡
-        chosen_rows true_column false_column (in_force (held_rows mask.old.tree))
-        (held_rows if_true.old.tree) (held_rows if_false.old.tree)) }
+        chosen_rows true_column false_column (in_force (held_rows mask.now.tree))
+        (held_rows if_true.now.tree) (held_rows if_false.now.tree)) }
     ensures dtype { Makes result out.old.tree out.new.tree
-        (λ made. type_of made.column ≡ held_type if_true.old.tree) }
+        (λ made. type_of made.column ≡ held_type if_true.now.tree) }
     ensures status { IsOneOf result (done ∷ no_memory ∷ no_column ∷ other_kind ∷
         other_type ∷ other_length ∷ limit_statuses) }
-    ensures column { DemandsFirst result no_column (HasColumn mask.old.tree ×
-        HasColumn if_true.old.tree × HasColumn if_false.old.tree) }
+    ensures column { DemandsFirst result no_column (HasColumn mask.now.tree ×
+        HasColumn if_true.now.tree × HasColumn if_false.now.tree) }
     ensures kind { DemandsBefore result other_kind
-        (other_type ∷ other_length ∷ limit_statuses) (held_type mask.old.tree ≡ of_boolean) }
+        (other_type ∷ other_length ∷ limit_statuses) (held_type mask.now.tree ≡ of_boolean) }
     ensures alike { DemandsBefore result other_type (other_length ∷ limit_statuses)
-        (held_type if_true.old.tree ≡ held_type if_false.old.tree) }
+        (held_type if_true.now.tree ≡ held_type if_false.now.tree) }
     ensures length { DemandsBefore result other_length limit_statuses (
-        SideFits true_column (length (held_rows if_true.old.tree))
-        (length (held_rows mask.old.tree)) ×
-        SideFits false_column (length (held_rows if_false.old.tree))
-        (length (held_rows mask.old.tree))) }
-    ensures limits { TellsLimits result (past_taken (held_type if_true.old.tree)
-        (held_columns if_true.old.tree ++ held_columns if_false.old.tree)
-        (chosen_rows true_column false_column (in_force (held_rows mask.old.tree))
-        (held_rows if_true.old.tree) (held_rows if_false.old.tree))) }
-    ensures unchanged { mask.new.tree ≡ mask.old.tree }
-    ensures true_side { if_true.new.tree ≡ if_true.old.tree }
-    ensures false_side { if_false.new.tree ≡ if_false.old.tree }
+        SideFits true_column (length (held_rows if_true.now.tree))
+        (length (held_rows mask.now.tree)) ×
+        SideFits false_column (length (held_rows if_false.now.tree))
+        (length (held_rows mask.now.tree))) }
+    ensures limits { TellsLimits result (past_taken (held_type if_true.now.tree)
+        (held_columns if_true.now.tree ++ held_columns if_false.now.tree)
+        (chosen_rows true_column false_column (in_force (held_rows mask.now.tree))
+        (held_rows if_true.now.tree) (held_rows if_false.now.tree))) }
 {
-    let Some(by) = mask.take(alloc) else {
+    let Some(by) = mask.column() else {
         return NO_COLUMN;
     };
-    let Some(first) = if_true.take(alloc) else {
-        *mask = Handle::of(by);
+    let Some(first) = if_true.column() else {
         return NO_COLUMN;
     };
-    let Some(second) = if_false.take(alloc) else {
-        *mask = Handle::of(by);
-        *if_true = Handle::of(first);
+    let Some(second) = if_false.column() else {
         return NO_COLUMN;
     };
-    let status = choose_into(alloc, &by, &first, &second, true_column, false_column, out);
-    *mask = Handle::of(by);
-    *if_true = Handle::of(first);
-    *if_false = Handle::of(second);
-    status
+    choose_into(alloc, by, first, second, true_column, false_column, out)
 }
 
 fn choose_into(

@@ -1,4 +1,4 @@
--- What a handle owns, and what is lent, names no thread.
+-- What a handle and a `ColumnRef` own names no thread, so both can be sent to another thread.
 use mathlib.Core.List.{[], ◌∷◌}
 use mir.Raw.{raw}
 use base.Shift.{Keyless}
@@ -16,9 +16,9 @@ use Rattle.std_alloc.proofs.SendSync.{quiet, lies, seen}
 use Rattle.sel_arrow.proofs.Crossing.{array_send, array_sync}
 use Rattle.sel_arrow.specs.contracts.array_ref.ArrayRef as tree
 use Rattle.sel_handle.specs.Held.{Held, held_owns}
-use Rattle.sel_handle.specs.Lent.{lent_owns}
+use Rattle.sel_handle.specs.ColumnRef.{ref_owns}
 use Rattle.sel_handle.specs.contracts.handle.Handle as handle
-use Rattle.sel_handle.specs.contracts.lent.Lent as lent
+use Rattle.sel_handle.specs.contracts.column_ref.ColumnRef as reference
 
 pointer : IsSend RawPtr
 pointer = search sendable
@@ -33,11 +33,11 @@ handle_send =
     let all : AllSend (fields T) = (pointer, (allocator.the_field_send, tt)) in
     owning_send T all (λ d. held_keyless d.alloc d.at d.tree) (λ k. quiet (to T) (exits_of k (fields T)) ((struct_send (shape T) all).leaving k))
 
-lent_keyless : (p : Ptr) (held : Held) → Keyless (lent_owns p held)
-lent_keyless p None = tt
-lent_keyless p (Some column) = ((λ may. tt), (λ a. ((λ share. tt), seen tree.the_row array_sync p column (a ∷ []))))
+ref_keyless : (p : Ptr) (held : Held) → Keyless (ref_owns p held)
+ref_keyless p None = tt
+ref_keyless p (Some column) = ((λ may. tt), (λ a. ((λ share. tt), seen tree.the_row array_sync p column (a ∷ []))))
 
-pub lent_send : IsSend lent.the_row
-lent_send =
-    let T = lent.the_type in
-    owning_send T (pointer, tt) (λ d. lent_keyless d.at d.tree) (λ k. quiet (to T) (exits_of k (fields T)) ((struct_send (shape T) (pointer, tt)).leaving k))
+pub ref_send : IsSend reference.the_row
+ref_send =
+    let T = reference.the_type in
+    owning_send T (pointer, tt) (λ d. ref_keyless d.at d.tree) (λ k. quiet (to T) (exits_of k (fields T)) ((struct_send (shape T) (pointer, tt)).leaving k))

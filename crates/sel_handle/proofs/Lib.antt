@@ -1,9 +1,8 @@
+pub mod ColumnRefSteps
 pub mod Crossing
 pub mod HandleSteps
-pub mod LentSteps
 pub mod LooseSteps
 pub mod Positions
-pub mod Shared
 pub mod Shown
 pub mod Taken
 pub mod Tuples

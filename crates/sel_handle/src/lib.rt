@@ -1,10 +1,10 @@
 //! Column handles for C callers, status codes, and the exchange of columns with slices.
 #![tactic(auto)]
 
+pub mod column_ref;
 pub mod handle;
 pub mod inputs;
 pub mod kinds;
-pub mod lent;
 mod loose;
 pub mod nested;
 pub mod numbers;

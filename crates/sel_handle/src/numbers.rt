@@ -7,6 +7,7 @@ ghost use Rattle.sel_handle.specs.Inputs.{validity_in, flat_rules};
 ghost use Rattle.sel_handle.specs.Outputs.{Shows, numbers};
 ghost use Rattle.sel_handle.specs.Status.{done, no_memory, no_column, other_kind, other_length, held_rows, held_type, Demands, DemandsBefore, DemandsFirst, HasColumn, IsOneOf, Makes, Tells};
 
+use crate::column_ref::ColumnRef;
 use crate::handle::Handle;
 use crate::inputs::numbers_of;
 use crate::outputs::numbers_into;
@@ -41,20 +42,17 @@ pub fn make_numbers<T: ArrowPrimitive>(
 ///
 /// Errors: `NO_COLUMN` if the handle has no column; `OTHER_KIND` if its type is not that of `T`;
 /// `OTHER_LENGTH` if the length of `out` is not the number of rows; `NO_MEMORY`.
-pub fn held_numbers_into<T: ArrowPrimitive>(alloc: Global, of: &mut Handle, out: &mut [T]) -> u32
-    ensures values { result ≡ done → Shows (numbers T.number out.new) (held_rows of.old.tree) }
-    ensures column { DemandsFirst result no_column (HasColumn of.old.tree) }
+pub fn held_numbers_into<T: ArrowPrimitive>(alloc: Global, of: &ColumnRef, out: &mut [T]) -> u32
+    ensures values { result ≡ done → Shows (numbers T.number out.new) (held_rows of.now.tree) }
+    ensures column { DemandsFirst result no_column (HasColumn of.now.tree) }
     ensures kind { DemandsBefore result other_kind (other_length ∷ [])
-        (held_type of.old.tree ≡ T.shape) }
-    ensures length { Demands result other_length (length out.old ≡ length (held_rows of.old.tree)) }
+        (held_type of.now.tree ≡ T.shape) }
+    ensures length { Demands result other_length (length out.old ≡ length (held_rows of.now.tree)) }
     ensures status { IsOneOf result
         (done ∷ no_memory ∷ no_column ∷ other_kind ∷ other_length ∷ []) }
-    ensures unchanged { of.new.tree ≡ of.old.tree }
 {
-    let Some(column) = of.take(alloc) else {
+    let Some(column) = of.column() else {
         return NO_COLUMN;
     };
-    let status = numbers_into(alloc, &column, out);
-    *of = Handle::of(column);
-    status
+    numbers_into(alloc, column, out)
 }

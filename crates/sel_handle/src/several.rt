@@ -4,6 +4,7 @@ ghost use Rattle.std.specs.Prelude.{◌≡◌, ◌≢◌, ◌≤◌, All, None, 
 ghost use Rattle.sel_arrow.specs.Rows.{rows, row_count, type_of, buffers_held};
 ghost use Rattle.sel_handle.specs.Status.{done, held_buffer_lists, held_count, held_rows, held_type, no_column, no_memory, HasColumn};
 
+use crate::column_ref::ColumnRef;
 use crate::handle::Handle;
 use crate::status::{NO_COLUMN, NO_MEMORY};
 use sel_arrow::array::Array;
@@ -54,26 +55,23 @@ pub fn take_all(alloc: Global, handles: &mut [Handle]) -> Result<Vec<ArrayRef>, 
 /// Clones the columns of all handles, in order. A clone shares the buffers of its column.
 ///
 /// Errors: `NO_COLUMN` if a handle has no column; `NO_MEMORY`.
-pub fn share_all(alloc: Global, handles: &mut [Handle]) -> Result<Vec<ArrayRef>, u32>
+pub fn share_all(alloc: Global, handles: &[ColumnRef]) -> Result<Vec<ArrayRef>, u32>
     ensures rows { IfOk result (λ shared. map (λ column. rows column.column) shared.items ≡
-        map (λ handle. held_rows handle.tree) handles.old) }
+        map (λ handle. held_rows handle.tree) handles.now) }
     ensures dtypes { IfOk result (λ shared. map (λ column. type_of column.column) shared.items ≡
-        map (λ handle. held_type handle.tree) handles.old) }
+        map (λ handle. held_type handle.tree) handles.now) }
     ensures buffers { IfOk result (λ shared. map (λ column. buffers_held column.column)
-        shared.items ≡ map (λ handle. held_buffer_lists handle.tree) handles.old) }
-    ensures full { IfOk result (λ _. All (λ handle. HasColumn handle.tree) handles.old) }
+        shared.items ≡ map (λ handle. held_buffer_lists handle.tree) handles.now) }
+    ensures full { IfOk result (λ _. All (λ handle. HasColumn handle.tree) handles.now) }
     ensures column { IfErr result (λ status. status ≡ no_column →
-        All (λ handle. HasColumn handle.tree) handles.old → ⊥) }
+        All (λ handle. HasColumn handle.tree) handles.now → ⊥) }
     ensures refusal { IfErr result (λ status. (status ≢ done) × (status ≤ no_column)) }
-    ensures unchanged { map (λ handle. handle.tree) handles.new ≡
-        map (λ handle. handle.tree) handles.old }
 {
     let Ok(mut shared) = Vec::with_capacity(alloc, handles.len()) else {
         return Err(NO_MEMORY);
     };
-    let mut i = 0;
-    while i < handles.len() {
-        let column = match share_one(alloc, &mut handles[i]) {
+    for handle in handles {
+        let column = match share_one(alloc, handle) {
             Ok(column) => column,
             Err(status) => {
                 drop(shared);
@@ -88,7 +86,6 @@ pub fn share_all(alloc: Global, handles: &mut [Handle]) -> Result<Vec<ArrayRef>,
                 return Err(NO_MEMORY);
             }
         }
-        i += 1;
     }
     Ok(shared)
 }
@@ -96,22 +93,19 @@ pub fn share_all(alloc: Global, handles: &mut [Handle]) -> Result<Vec<ArrayRef>,
 // Clones the column of a handle. The clone shares its buffers.
 //
 // Errors: `NO_COLUMN` if the handle has no column; `NO_MEMORY`.
-fn share_one(alloc: Global, handle: &mut Handle) -> Result<ArrayRef, u32>
-    ensures rows { IfOk result (λ shared. rows shared.column ≡ held_rows handle.old.tree) }
-    ensures dtype { IfOk result (λ shared. type_of shared.column ≡ held_type handle.old.tree) }
+fn share_one(alloc: Global, handle: &ColumnRef) -> Result<ArrayRef, u32>
+    ensures rows { IfOk result (λ shared. rows shared.column ≡ held_rows handle.now.tree) }
+    ensures dtype { IfOk result (λ shared. type_of shared.column ≡ held_type handle.now.tree) }
     ensures buffers { IfOk result (λ shared.
-        buffers_held shared.column ≡ held_buffer_lists handle.old.tree) }
-    ensures full { IfOk result (λ _. HasColumn handle.old.tree) }
-    ensures column { IfErr result (λ status. status ≡ no_column → handle.old.tree ≡ None) }
+        buffers_held shared.column ≡ held_buffer_lists handle.now.tree) }
+    ensures full { IfOk result (λ _. HasColumn handle.now.tree) }
+    ensures column { IfErr result (λ status. status ≡ no_column → handle.now.tree ≡ None) }
     ensures refusal { IfErr result (λ status. (status ≢ done) × (status ≤ no_column)) }
-    ensures unchanged { handle.new.tree ≡ handle.old.tree }
 {
-    let Some(column) = handle.take(alloc) else {
+    let Some(column) = handle.column() else {
         return Err(NO_COLUMN);
     };
-    let copy = column.try_clone(alloc);
-    *handle = Handle::of(column);
-    match copy {
+    match column.try_clone(alloc) {
         Ok(copy) => Ok(copy),
         Err(_) => Err(NO_MEMORY),
     }

@@ -10,7 +10,8 @@ use Rattle.sel_arrow.specs.declared.datatype.ArrowDataType.{ArrowDataType}
 use Rattle.sel_arrow.proofs.Lists.{and_first, and_second, both}
 use Rattle.sel_text.specs.Types.{angled, type_text, type_texts}
 use Rattle.sel_text.specs.Limits.{IsTold}
-use Rattle.sel_text.specs.Written.{widths_written, all_widths_written, deepest, depth}
+use Rattle.sel_arrow.specs.Depth.{deepest, depth}
+use Rattle.sel_text.specs.Written.{widths_written, all_widths_written}
 use Rattle.sel_text.specs.declared.text_error.Fault.{Fault}
 use Rattle.sel_text.proofs.Making.{told_more}
 

@@ -1,5 +1,5 @@
 -- Types that can be read.
-use Rattle.std.specs.Prelude.{ℕ, ◌+◌, max, Bool, true, false, ◌&&◌, nat_lt, ◌^◌}
+use Rattle.std.specs.Prelude.{Bool, true, false, ◌&&◌, nat_lt, ◌^◌}
 use Rattle.sel_arrow.specs.Shape.{Shape, Shapes, no_shapes, next_shape, of_large_list, of_fixed_size_list, of_struct}
 
 abbrev mutual
@@ -21,16 +21,3 @@ is_plain (of_large_list _) = false
 is_plain (of_fixed_size_list _ _) = false
 is_plain (of_struct _) = false
 is_plain _ = true
-
-abbrev mutual
-  -- how many types with children stand in one another (own)
-  pub depth : Shape → ℕ
-  depth (of_large_list shape) = depth shape + 1
-  depth (of_fixed_size_list shape size) = depth shape + 1
-  depth (of_struct shapes) = deepest shapes + 1
-  depth shape = 0
-
-  -- in the deepest of several types (own)
-  pub deepest : Shapes → ℕ
-  deepest no_shapes = 0
-  deepest (next_shape shape shapes) = max (depth shape) (deepest shapes)

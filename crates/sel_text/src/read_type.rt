@@ -8,7 +8,8 @@ ghost use Rattle.sel_arrow.specs.Shape.{Shape, Shapes, next_shape, shapes_of, of
 ghost use Rattle.sel_text.specs.Digits.{NoDigit};
 ghost use Rattle.sel_text.specs.Limits.{IsTold};
 ghost use Rattle.sel_text.specs.TextErrors.{IsShortage, IsWithin};
-ghost use Rattle.sel_text.specs.Written.{all_widths_written, deepest, depth, is_plain, widths_written};
+ghost use Rattle.sel_arrow.specs.Depth.{deepest, depth};
+ghost use Rattle.sel_text.specs.Written.{all_widths_written, is_plain, widths_written};
 ghost use Rattle.sel_text.specs.Types.{angled, type_text, type_texts};
 
 use crate::numerals::{behind, expect, number_of, read_digits};

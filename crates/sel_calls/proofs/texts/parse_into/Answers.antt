@@ -3,7 +3,7 @@ use Rattle.std.specs.Prelude.{nat_lt}
 use Rattle.sel_arrow.specs.DataType.{shape_of}
 use Rattle.sel_calls.specs.Parsed.{IsRowsText}
 use Rattle.sel_text.specs.Limits.{past_limit}
-use Rattle.sel_text.specs.Written.{depth}
+use Rattle.sel_arrow.specs.Depth.{depth}
 use Rattle.sel_text.specs.declared.build.Beneath.TheVariants.{Zeros}
 use Rattle.sel_text.proofs.Making.{or_second}
 use Rattle.sel_text.proofs.OneType.{one_type}

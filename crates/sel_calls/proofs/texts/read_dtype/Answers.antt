@@ -5,7 +5,7 @@ use Rattle.std.proofs.lemmas.Str.{IsUtf8-from_is_utf8}
 use Rattle.sel_arrow.specs.DataType.{shape_of}
 use Rattle.sel_text.specs.Limits.{past_limit}
 use Rattle.sel_text.specs.Spaces.{spaceless}
-use Rattle.sel_text.specs.Written.{depth}
+use Rattle.sel_arrow.specs.Depth.{depth}
 use Rattle.sel_text.specs.declared.build.Beneath.TheVariants.{Zeros}
 use Rattle.sel_text.proofs.Making.{or_first, or_second}
 use Rattle.sel_text.proofs.OneType.{one_type}

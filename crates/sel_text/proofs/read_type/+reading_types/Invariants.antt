@@ -3,7 +3,8 @@ use Rattle.std.proofs.Common.{◌≡◌, ◌+◌, ◌*◌, ◌<◌, ◌≤◌, t
 use Rattle.sel_arrow.specs.DataType.{shape_of}
 use Rattle.sel_arrow.specs.Shape.{Shape, Shapes, next_shape, shapes_of}
 use Rattle.sel_text.specs.Types.{angled, type_texts}
-use Rattle.sel_text.specs.Written.{all_widths_written, deepest}
+use Rattle.sel_arrow.specs.Depth.{deepest}
+use Rattle.sel_text.specs.Written.{all_widths_written}
 use Rattle.sel_text.proofs.Fields.{IsLeft}
 use Rattle.sel_text.proofs.Commas.{commas}
 use Rattle.sel_text.proofs.TypeTexts.{text_of_type}

@@ -1,4 +1,4 @@
--- A handle may go to another thread, with its column.
+-- A handle may be sent to another thread, with its column.
 use denote.Param.Send.{IsSend}
 use Rattle.sel_handle.proofs.Crossing.{handle_send}
 use Rattle.sel_handle.specs.contracts.handle.Handle.{the_row}

@@ -1,4 +1,4 @@
--- A handle that is shared is not read.
+-- A shared handle gives no access, so several threads may share it.
 use denote.Param.Send.{IsSync, part_keyless}
 use Rattle.sel_handle.proofs.Crossing.{handle_send}
 use Rattle.sel_handle.specs.contracts.handle.Handle.{the_row}

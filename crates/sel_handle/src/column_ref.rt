@@ -1,28 +1,31 @@
-//! What is lent of a column, for reading alone.
+//! Read access to the column of a handle.
 
 ghost use Rattle.std.specs.Prelude.{◌≡◌};
 ghost use Rattle.std.specs.Option.{MatchOption};
 ghost use Rattle.std.specs.declared.option.Option.TheVariants.{None, Some};
 ghost use Rattle.sel_handle.specs.Held.{Held, held_coded};
-ghost use Rattle.sel_handle.specs.Lent.{lent_owns};
+ghost use Rattle.sel_handle.specs.ColumnRef.{ref_owns};
 
 use sel_arrow::array_ref::ArrayRef;
 use std::marker::Model;
 
-/// A column that is lent, or none where the pointer is null. It lies where the column's handle lies: several calls may
-/// read it at once, in any threads, while none has the handle to write to.
+/// Read access to the column of a handle, or to none if the pointer is null.
+///
+/// It has the layout of [`Handle`](crate::handle::Handle): C passes the address of a handle as a
+/// pointer to const. Any number of calls, on any threads, may read a handle at the same time, as
+/// long as no call writes to it.
 #[repr(C)]
-pub struct Lent {
+pub struct ColumnRef {
     at: *const u8,
     pub ghost tree: { Held } by { held_coded },
 }
 
-impl Model for Lent {
-    ghost also_owns = { λ l. lent_owns l.at l.tree };
+impl Model for ColumnRef {
+    ghost also_owns = { λ r. ref_owns r.at r.tree };
 }
 
-impl Lent {
-    /// The column, if there is one.
+impl ColumnRef {
+    /// Returns the column, or none if the handle has none.
     pub fn column(&self) -> Option<&ArrayRef>
         ensures { MatchOption result (self.now.tree ≡ None)
             (λ column. self.now.tree ≡ Some column.now) }
@@ -36,6 +39,6 @@ impl Lent {
     }
 }
 
-unsafe impl Send for Lent {}
+unsafe impl Send for ColumnRef {}
 
-unsafe impl Sync for Lent {}
+unsafe impl Sync for ColumnRef {}
