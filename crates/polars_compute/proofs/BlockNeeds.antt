@@ -1,4 +1,4 @@
--- Lists of one length need as many rows below them as they are long, whether null or not.
+-- The child of a fixed-size list column needs as many rows as the lists have entries, null or not.
 use Rattle.std.proofs.Common.{◌≡◌, ℕ, zero, suc, ◌+◌, ◌-◌, ◌*◌, ◌≤◌, ◌<◌, ◌⊎◌, inl, inr, ⊎_elim, pos, true, false, Bool, All, List, [], ◌∷◌, ◌++◌, length, take, drop, map, replicate, Option, Some, None, refl, ap, sym, subst, ◌∙◌, arith, get_or, length-append, Box, Global}
 use Rattle.std.specs.Prelude.{⊤}
 use Rattle.std.specs.List.{range_with_len, slice_range}
@@ -20,13 +20,14 @@ use Rattle.sel_arrow.specs.declared.column.Column.TheVariants.{FixedSizeList'}
 use Rattle.sel_arrow.proofs.NestedRows.{has_blocks, length-blocks, length-rows}
 use Rattle.sel_arrow.proofs.Rows.{length-part}
 use Rattle.sel_runs.specs.Children.{items_in, joined_items}
-use Rattle.sel_runs.specs.Need.{IsPastRows, past}
+use Rattle.sel_runs.specs.Need.{ExceedsRows, exceeded_limits}
 use Rattle.sel_runs.proofs.ItemRuns.{listed_values}
-use Rattle.polars_compute.specs.BareBlocks.{past_blocks}
+use Rattle.polars_compute.specs.BareBlocks.{exceeded_blocks}
 use Rattle.polars_compute.specs.Pick.{found, pick_of, take_rows}
 use Rattle.polars_compute.proofs.Takes.{length-pick}
 
--- a row of lists of one length holds as many rows as they are long, and so do those at each level below
+-- A fixed-size list row has as many child rows as the list size, and so has each of them, at each
+-- depth.
 abbrev pub IsShaped : Shape → Value → Type 0
 IsShaped (of_fixed_size_list s width) v = (length (items_in width v) ≡ width) × All (IsShaped s) (items_in width v)
 IsShaped s v = ⊤
@@ -83,7 +84,7 @@ rows_shaped (FixedSizeList' size len p values validity) formed =
     (All-map P list_of (blocks size len (rows values)) (blocks_shaped (type_of values) size len (rows values) (length-rows values ∙ has.fills) (rows_shaped values has.child)))
 rows_shaped c formed = λ k d h. tt
 
--- ---- what they need
+-- ---- their needs
 
 joined_shaped : (s : Shape) (width : ℕ) (vs : List Value) → All (IsShaped (of_fixed_size_list s width)) vs → (length (joined_items width vs) ≡ length vs * width) × All (IsShaped s) (joined_items width vs)
 joined_shaped s width [] all = (omega arith, All-nil (IsShaped s))
@@ -94,18 +95,18 @@ joined_shaped s width (v ∷ vs) all =
       All-append (IsShaped s) (items_in width v) (joined_items width vs) here.1 rest.1,
     )
 
-pub past_of_blocks : (s : Shape) (vs : List Value) (limit : Limit) → All (IsShaped s) vs → past_blocks s (length vs) limit → past s vs limit
-past_of_blocks (of_fixed_size_list s width) vs limit all (inl h) = inl (subst (λ n. IsPastRows n limit) (sym (joined_shaped s width vs all).0) h)
+pub past_of_blocks : (s : Shape) (vs : List Value) (limit : Limit) → All (IsShaped s) vs → exceeded_blocks s (length vs) limit → exceeded_limits s vs limit
+past_of_blocks (of_fixed_size_list s width) vs limit all (inl h) = inl (subst (λ n. ExceedsRows n limit) (sym (joined_shaped s width vs all).0) h)
 past_of_blocks (of_fixed_size_list s width) vs limit all (inr h) =
     let below = joined_shaped s width vs all in
-    inr (past_of_blocks s (joined_items width vs) limit below.1 (subst (λ n. past_blocks s n limit) (sym below.0) h))
+    inr (past_of_blocks s (joined_items width vs) limit below.1 (subst (λ n. exceeded_blocks s n limit) (sym below.0) h))
 past_of_blocks s vs limit all h = absurd h
 
--- the rows that are taken of a column of lists of one length
+-- ---- the rows that are taken from a fixed-size list column
 pub past_taken_blocks : (c : Column) (size len : ℕ) (values : Box Column Global) (validity : Option Bits) → c ≡ FixedSizeList size len values validity → well_formed c ≡ true → (indices : List Value) (limit : Limit) →
-    IsPastRows (length indices * size) limit ⊎ past_blocks (type_of values.value) (length indices * size) limit → past (type_of c) (take_rows (rows c) indices) limit
+    ExceedsRows (length indices * size) limit ⊎ exceeded_blocks (type_of values.value) (length indices * size) limit → exceeded_limits (type_of c) (take_rows (rows c) indices) limit
 past_taken_blocks c size len values validity is formed indices limit h =
     let s = type_of c in
     let count : length indices ≡ length (take_rows (rows c) indices) = sym (length-pick Null (rows c ∷ []) indices) in
-    let here : past_blocks s (length indices) limit = subst (λ t. past_blocks t (length indices) limit) (sym (ap type_of is)) h in
-    past_of_blocks s (take_rows (rows c) indices) limit (taken_all (IsShaped s) (null_shaped s) (rows c) indices (rows_shaped c formed)) (subst (λ n. past_blocks s n limit) count here)
+    let here : exceeded_blocks s (length indices) limit = subst (λ t. exceeded_blocks t (length indices) limit) (sym (ap type_of is)) h in
+    past_of_blocks s (take_rows (rows c) indices) limit (taken_all (IsShaped s) (null_shaped s) (rows c) indices (rows_shaped c formed)) (subst (λ n. exceeded_blocks s n limit) count here)

@@ -27,12 +27,12 @@ use Rattle.polars_compute.specs.Pick.{all_within, found, is_within, pick_of, tak
 use Rattle.polars_compute.specs.ValidPicks.{valid_pick}
 use Rattle.polars_compute.proofs.Takes.{row_taken, validity_within}
 
--- ---- one block more
+-- ---- one more block
 
 pub within_block : (size n : ℕ) (indices : List Value) (k : ℕ) (v : Value) → blocks_within size n indices ≡ true → k < length indices → v ≡ get_or indices k Null → is_block_within size n v ≡ true
 within_block size n indices k v within h is = ap (is_block_within size n) is ∙ all_at (is_block_within size n) indices k Null within h
 
--- the blocks of the first indices are a beginning
+-- The blocks of the first indices are a prefix.
 pub begun : {A : Type 0} (size : ℕ) (filler : A) (xs before ys : List A) (indices : List Value) (k : ℕ) → ys ≡ before ++ block_items size filler xs (take k indices) → IsBeginning ys (before ++ block_items size filler xs indices)
 begun size filler xs before ys indices k is =
     let f = block_at size filler xs in
@@ -44,11 +44,11 @@ begun size filler xs before ys indices k is =
 
 -- ---- the blocks of one list
 
--- a block ends within the list
+-- A block ends within the list.
 block_ends : (size n i : ℕ) → is_block_within size n (Number (pos i)) ≡ true → i * size + size ≤ n
 block_ends size n i h = omega (arith, leb-true ((i + 1) * size) n h, suc-mul i size)
 
--- how long the block of an index is
+-- The length of the block of an index.
 block_size : (i size : ℕ) → i * size + size - i * size ≡ size
 block_size i size = omega arith
 
@@ -90,9 +90,9 @@ block_of_items size filler xs (v ∷ indices) (suc k) h lt =
     ap (λ p. take size (drop p (block ++ rest))) place ∙ ap (take size) (drop-append-add block rest (k * size))
     ∙ block_of_items size filler xs indices k (and_second here there h) (omega (arith, lt))
 
--- ---- which blocks a level of a taken column holds
+-- ---- the blocks in each level of a taken column
 
--- values of a leaf
+-- The values of a leaf column.
 pub leaf_holds : {A : Type 0} (f : A → Value) → (size : ℕ) (filler : A) (xs ys : List A) (indices : List Value) → blocks_within size (length xs) indices ≡ true → ys ≡ block_items size filler xs indices →
     HoldsBlocks size (map f xs) indices (map f ys)
 leaf_holds f size filler xs ys indices within is = λ k i h at.
@@ -100,7 +100,7 @@ leaf_holds f size filler xs ys indices within is = λ k i h at.
     ap (λ l. take size (drop (k * size) l)) is ∙ block_of_items size filler xs indices k within h ∙ ap (block_at size filler xs) at ∙ ap (λ n. take n (drop (i * size) xs)) (block_size i size) in
     sym (part-mapped f ys None (k * size) size) ∙ ap (map f) block ∙ part-mapped f xs None (i * size) size
 
--- rows of numbers
+-- Rows of numbers.
 pub numbers_within : {T : Type 0} (number : T → ℤ) → (size : ℕ) (xs : List T) (validity : Option Bits) (indices : List Value) → blocks_within size (length (number_rows number xs validity)) indices ≡ true →
     blocks_within size (length xs) indices ≡ true
 numbers_within number size xs validity indices within = subst (λ n. blocks_within size n indices ≡ true) (length-number_rows number xs validity) within
@@ -116,11 +116,11 @@ pub numbers_count : {T : Type 0} (number : T → ℤ) → (size : ℕ) (filler :
     blocks_within size (length (number_rows number xs validity)) indices ≡ true → ys ≡ block_items size filler xs indices → length ys ≡ length indices * size
 numbers_count number size filler xs ys validity indices within is = ap length is ∙ length-block_items size filler xs indices (numbers_within number size xs validity indices within)
 
--- the block at a place is inside of as many as there are indices
+-- The block at a position lies within the blocks of all indices.
 place_within : (size m : ℕ) (indices : List Value) (k : ℕ) → m ≡ length indices * size → k < length indices → k * size + size ≤ m
 place_within size m indices k is h = omega (arith, is, suc-mul k size, mul-le (suc k) size (length indices) size (omega (arith, h)) (omega arith))
 
--- lists of one length above such blocks
+-- Fixed-size lists over such blocks.
 pub level_holds : (size width n m : ℕ) (xs ys : List Value) (indices : List Value) → blocks_within size n indices ≡ true → m ≡ length indices * size → HoldsBlocks (size * width) xs indices ys →
     HoldsBlocks size (block_rows width n xs None) indices (block_rows width m ys None)
 level_holds size width n m xs ys indices within count below = λ k i h at.
@@ -131,7 +131,7 @@ level_holds size width n m xs ys indices within count below = λ k i h at.
     ∙ ap (λ l. block_rows width size l None) same
     ∙ part-block_rows width n xs None (i * size) size inside
 
--- ---- blocks below blocks are inside
+-- ---- nested blocks are in bounds
 
 level_block : (size width n m : ℕ) (v : Value) → m ≡ n * width → is_block_within size n v ≡ true → is_block_within (size * width) m v ≡ true
 level_block size width n m (Number (pos i)) is h =
@@ -154,7 +154,7 @@ row_block width n m (Number (pos i)) is h =
 row_block width n m (Number (negsuc i)) is h = h
 row_block width n m v is h = refl
 
--- the blocks of the rows that indices name
+-- If indices are in bounds, so are the blocks of their rows.
 pub rows_within : (width n m : ℕ) (indices : List Value) → m ≡ n * width → all_within n indices ≡ true → blocks_within width m indices ≡ true
 rows_within width n m [] is h = refl
 rows_within width n m (v ∷ indices) is h =
@@ -162,10 +162,10 @@ rows_within width n m (v ∷ indices) is h =
     let there = all_within n indices in
     both (is_block_within width m v) (blocks_within width m indices) (row_block width n m v is (and_first here there h)) (rows_within width n m indices is (and_second here there h))
 
--- ---- a level of lists of one length
+-- ---- a level of fixed-size lists
 
 module _ (c : Column) (size width len m : ℕ) (values : Box Column Global) (validity : Option Bits) (indices : List Value) (is : c ≡ FixedSizeList width len values validity) where
-  -- the level below has no validity either
+  -- The child has no validity either.
   pub bare_below : is_bare c ≡ true → (validity ≡ None) × (is_bare values.value ≡ true)
   bare_below bare =
       let whole : (is_none validity && is_bare values.value) ≡ true = sym (ap is_bare is) ∙ bare in
@@ -190,7 +190,7 @@ module _ (c : Column) (size width len m : ℕ) (values : Box Column Global) (val
       let inside : blocks_within size len indices ≡ true = subst (λ n. blocks_within size n indices ≡ true) (ap row_count is) within in
       subst (λ l. HoldsBlocks size l indices (block_rows width m ys None)) (sym plain) (level_holds size width len m (rows values.value) ys indices inside count below)
 
--- ---- the kinds of columns that have no validities below
+-- ---- the types of columns without validities at any depth
 
 pub bare_kinds : (c : Column) → is_bare c ≡ true
     → ((x : _) → c ≡ Int8 x → ⊥)
@@ -224,7 +224,7 @@ same_row : {A : Type 0} (f : A → Value) → (validity : Option Bits) (xs : Lis
 same_row f validity xs d y (Number (pos i)) same = ap (λ z. if valid_at validity i then f z else Null) (same i refl)
 same_row f validity xs d y index same = refl
 
--- what stands at null indices does not matter
+-- The values at null indices do not matter.
 held_rows : {A : Type 0} (f : A → Value) → (validity : Option Bits) (xs ys : List A) (d : A) (indices : List Value) → Covers validity (length xs) → length ys ≡ length indices → all_within (length xs) indices ≡ true →
     ((k i : ℕ) → k < length indices → get_or indices k Null ≡ Number (pos i) → get_or ys k d ≡ get_or xs i d) →
     hidden (map (valid_pick validity) (map pick_of indices)) (map f ys) ≡ take_rows (masked validity (map f xs)) indices
@@ -242,7 +242,7 @@ at_block : (size n : ℕ) (xs : List Value) (k : ℕ) → k < n → get_or (bloc
 at_block size n xs k h =
     get_or-map-range_with_len (λ i. slice_range xs (i * size) (i * size + size)) 0 n k k [] h (omega arith) ∙ ap (λ m. take m (drop (k * size) xs)) (block_size k size)
 
--- the rows that are named are inside, and so are their blocks
+-- ---- rows in bounds have blocks in bounds
 module _ (c : Column) (size len : ℕ) (values : Box Column Global) (validity : Option Bits) (indices : List Value) (is : c ≡ FixedSizeList size len values validity) (formed : well_formed c ≡ true)
     (within : all_within (length (rows c)) indices ≡ true) where
   whole_inside : all_within len indices ≡ true

@@ -1,4 +1,4 @@
--- Whether indices name blocks, as a test of rows.
+-- The check of block indices equals a check of row indices.
 use Rattle.std.proofs.Common.{◌≡◌, ℕ, zero, suc, ◌+◌, ◌*◌, ◌/◌, ◌≤◌, ◌<◌, pos, negsuc, Bool, true, false, ◌&&◌, List, [], ◌∷◌, length, map, Option, Some, None, refl, ap, sym, ◌∙◌, arith}
 use Rattle.std.specs.Prelude.{nat_lt, nat_le, if◌then◌else◌}
 use Rattle.std.proofs.Math.Nat.{le-div_iff_mul-le}
@@ -9,7 +9,7 @@ use Rattle.sel_arrow.specs.Value.{Value, Null, Number}
 use Rattle.polars_compute.specs.Blocks.{is_block_within, blocks_within}
 use Rattle.polars_compute.specs.Pick.{is_within, all_within}
 
--- ---- blocks of no items
+-- ---- blocks of size 0
 
 empty_block : (n i : ℕ) → is_block_within 0 n (Number (pos i)) ≡ true
 empty_block n i = le-leb ((i + 1) * 0) n (omega arith)
@@ -28,7 +28,7 @@ pub empty_blocks : (n : ℕ) (xs : List ℕ) (validity : Option Bits) → blocks
 empty_blocks n xs None = empty_numbers n xs
 empty_blocks n xs (Some v) = empty_hidden n v.bits xs
 
--- ---- blocks of some
+-- ---- other blocks
 
 same_test : (a b : Bool) → (a ≡ true → b ≡ true) → (b ≡ true → a ≡ true) → a ≡ b
 same_test true b there back = sym (there refl)

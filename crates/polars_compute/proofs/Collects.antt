@@ -1,4 +1,4 @@
--- A column of bytes that is built of its rows.
+-- Building a binary column from its rows.
 use Rattle.std.proofs.Common.{◌≡◌, ℕ, ◌+◌, ◌≤◌, ◌<◌, List, ◌∷◌, length, drop, Some, refl, ap, sym, ◌∙◌, get_or, add-one, drop-cons}
 use Rattle.std.proofs.lemmas.List.{length-map, drop_all}
 use Rattle.sel_bits.specs.Bits.{Bits}
@@ -9,7 +9,7 @@ use Rattle.polars_compute.specs.Need.{byte_count, bytes_needed}
 use Rattle.polars_compute.specs.JoinedBytes.{ends_from, joined_bytes, AllBytesRows}
 use Rattle.sel_runs.proofs.JoinedRows.{built_rows, rebuilt as rebuilt_rows}
 
--- ---- one row more
+-- ---- one more row
 
 pub needed_step : (rows : List Value) (k : ℕ) → k < length rows → bytes_needed (drop k rows) ≡ byte_count (get_or rows k Null) + bytes_needed (drop (k + 1) rows)
 needed_step rows k h = rw (add-one, drop-cons rows k Null h) refl
@@ -26,7 +26,7 @@ pub ruleset end_steps = (needed_step, needed_end, ends_step)
 
 -- ---- the column
 
--- a column that is built of its rows has these rows
+-- A column that is built from rows has these rows.
 pub rebuilt : (rows : List Value) (validity : Bits) → AllBytesRows rows → validity.bits ≡ validities rows → byte_rows (0 ∷ ends_from 0 rows) (joined_bytes rows) (Some validity) ≡ rows
 rebuilt rows validity all valid = rebuilt_rows rows (Some validity) (length rows) all refl valid
 

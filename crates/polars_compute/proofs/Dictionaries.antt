@@ -15,7 +15,7 @@ use Rattle.polars_compute.specs.Dictionary.{decode, rank, valid_values, key_of_v
 use Rattle.polars_compute.specs.Pick.{found, pick_of, take_rows, is_within, all_within}
 use Rattle.polars_compute.specs.Select.{select}
 
--- ---- how many rows are null
+-- ---- the number of null rows
 
 abbrev tally : Bool → ℕ
 tally b = cond b 1 0
@@ -26,7 +26,7 @@ null_more v vs = sum_by-cons (λ w. tally (is_null w)) v vs
 valid_more : (v : Value) (vs : List Value) → count_by is_valid (v ∷ vs) ≡ tally (is_valid v) + count_by is_valid vs
 valid_more v vs = sum_by-cons (λ w. tally (is_valid w)) v vs
 
--- where none is, the first is not
+-- If none is null, the first is not null.
 no_null : (b : Bool) (v : Value) (vs : List Value) → is_valid v ≡ b → count_by is_null (v ∷ vs) ≡ 0 → is_valid v ≡ true
 no_null true v vs e h = e
 no_null false v vs e h =
@@ -36,7 +36,7 @@ no_null false v vs e h =
 one_valid : (v : Value) (vs : List Value) → count_by is_null (v ∷ vs) ≡ 0 → tally (is_valid v) ≡ 1
 one_valid v vs none = ap (λ b. tally b) (no_null (is_valid v) v vs refl none)
 
--- the rows that are kept for being valid are no nulls
+-- The rows that are selected for being valid are not null.
 one_kept : (b : Bool) (v : Value) (vs : List Value) → is_valid v ≡ b → count_by is_null (select vs (validities vs)) ≡ 0 → count_by is_null (select (v ∷ vs) (b ∷ validities vs)) ≡ 0
 one_kept true v vs e h =
     let off : tally (is_null v) ≡ 0 = ap (λ b. tally (not b)) e in
@@ -60,9 +60,9 @@ pub bare_rows : {A : Type 0} (f : A → Value) → (validity : Option Bits) (xs 
 bare_rows f None xs h = refl
 bare_rows f (Some validity) xs h = sym (shown f validity.bits xs h)
 
--- ---- what a validity tells
+-- ---- the rows that a validity marks as valid
 
--- the validities of rows under a validity are its bits
+-- The validities of rows under a validity are its bits.
 told_bits : {A : Type 0} (f : A → Value) → ((x : A) → is_valid (f x) ≡ true) → (bs : List Bool) (xs : List A) → length bs ≡ length xs → validities (hidden bs (map f xs)) ≡ bs
 told_bits f valid [] [] long = refl
 told_bits f valid [] (x ∷ xs) long = absurd (omega arith)
@@ -79,7 +79,7 @@ pub if_none : {A : Type 0} (o : Option A) (P : Type 0) → (o ≡ None → P) �
 if_none None P h = h refl
 if_none (Some x) P h = tt
 
--- without a validity no row is null
+-- Without a validity no row is null.
 pub all_valid : {A : Type 0} (f : A → Value) → ((x : A) → is_valid (f x) ≡ true) → (xs : List A) → count_by is_null (map f xs) ≡ 0
 all_valid f valid [] = refl
 all_valid f valid (x ∷ xs) =
@@ -104,7 +104,7 @@ count_step bs i inside = rw add-one (one_more bs i inside)
 pub counts_long : (ranks : List ℕ) (bits : List Bool) → ranks ≡ map (λ i. count_true (take i bits)) (range_with_len 0 (length bits)) → length ranks ≡ length bits
 counts_long ranks bits counts = ap length counts ∙ length-map-range_with_len (λ i. count_true (take i bits)) 0 (length bits)
 
--- the true bits before a place are the rows that are not null
+-- The number of true bits before a position is the rank: the number of non-null rows before it.
 counted_before : (vs : List Value) (k : ℕ) → count_true (take k (validities vs)) ≡ rank vs k
 counted_before [] zero = refl
 counted_before [] (suc k) = refl
@@ -150,7 +150,7 @@ module _ (vs : List Value) (ranks : List ℕ) (validity : Bits) (bits : validity
       let rest = and_second (is_within (length vs) key) (all_within (length vs) keys) within in
       (λ i. each_key key first i ∷ keys_taken keys rest i)
 
--- ---- where no value is null each key stays
+-- ---- if no value is null, the keys are unchanged
 
 rank_all : (vs : List Value) (k : ℕ) → count_by is_null vs ≡ 0 → k ≤ length vs → rank vs k ≡ k
 rank_all [] k none inside = let e : k ≡ 0 = omega (arith, inside) in rw e refl
@@ -189,20 +189,20 @@ pub keys_stay : (vs : List Value) (xs : List ℕ) (validity : Option Bits) → c
 keys_stay vs xs None none within = keys_hidden vs [] xs none within
 keys_stay vs xs (Some validity) none within = keys_hidden vs validity.bits xs none within
 
--- and each value
+-- The values are unchanged, too.
 pub values_stay : (vs : List Value) → count_by is_null vs ≡ 0 → vs ≡ valid_values vs
 values_stay [] none = refl
 values_stay (v ∷ vs) none =
     let rest = values_stay vs (let n = null_more v vs in omega (arith, n, none)) in
     ap (λ l. v ∷ l) rest ∙ ap (λ b. select (v ∷ vs) (b ∷ validities vs)) (sym (no_null (is_valid v) v vs refl none))
 
--- ---- each key names the same value as before
+-- ---- each key refers to the same value as before
 
 null_is : (v : Value) → is_valid v ≡ false → v ≡ Null
 null_is Null e = refl
 null_is v e = cc
 
--- one value more in front of it
+-- With one more value at the front.
 behind : (b : Bool) (v : Value) (vs : List Value) (k : ℕ) → is_valid v ≡ b → get_or (valid_values vs) (rank vs k) Null ≡ get_or vs k Null →
     get_or (select (v ∷ vs) (b ∷ validities vs)) (rank (v ∷ vs) (suc k)) Null ≡ get_or vs k Null
 behind true v vs k e h =
@@ -213,13 +213,13 @@ behind false v vs k e h =
     let same : rank (v ∷ vs) (suc k) ≡ rank vs k = valid_more v (take k vs) ∙ ap (λ b. tally b + rank vs k) e ∙ zero-add (rank vs k) in
     ap (λ i. get_or (valid_values vs) i Null) same ∙ h
 
--- a valid value stands at its rank among the valid ones
+-- A valid value is at its rank among the valid ones.
 rank_found : (vs : List Value) (k : ℕ) → k < length vs → is_valid (get_or vs k Null) ≡ true → get_or (valid_values vs) (rank vs k) Null ≡ get_or vs k Null
 rank_found [] k inside valid = absurd (omega (arith, inside))
 rank_found (v ∷ vs) zero inside valid = ap (λ b. get_or (select (v ∷ vs) (b ∷ validities vs)) 0 Null) valid
 rank_found (v ∷ vs) (suc k) inside valid = behind (is_valid v) v vs k refl (rank_found vs k (omega (arith, inside)) valid)
 
--- the value that a key names, before and after
+-- The value of a key, before and after.
 same_value : (b : Bool) (vs : List Value) (k : ℕ) → k < length vs → is_valid (get_or vs k Null) ≡ b →
     found Null (valid_values vs ∷ []) (pick_of (if b then Number (pos (rank vs k)) else Null)) ≡ get_or vs k Null
 same_value true vs k inside valid = rank_found vs k inside valid

@@ -1,4 +1,4 @@
--- Runs of the places that a mask keeps, and of those that indices name.
+-- Runs of the positions that a mask selects, and of those at indices.
 use Rattle.std.proofs.Common.{◌≡◌, All, ℕ, zero, suc, ◌+◌, ◌<◌, pos, negsuc, true, false, Bool, List, [], ◌∷◌, length, map, cond, refl, ap, sym, ◌∙◌, arith, get_or, IsTrue, None}
 use Rattle.std.proofs.lemmas.Bool.{ltb-true}
 use Rattle.std.proofs.lemmas.List.Sums.{sum_by-cons}
@@ -12,7 +12,7 @@ use Rattle.polars_compute.specs.Pick.{pick_of, place_pick, is_within, all_within
 use Rattle.polars_compute.specs.Select.{select, kept, kept_from}
 use Rattle.polars_compute.proofs.Places.{selected, kept_below}
 
--- what is picked at the places that a mask keeps is what it selects
+-- Gathering the positions that a mask selects equals filtering by the mask.
 pub picked_kept : (xs : List Value) (ms : List Bool) → length xs ≡ length ms → pick Null (xs ∷ []) (map place_pick (kept ms)) ≡ select xs ms
 picked_kept xs ms long = each (kept ms) ∙ sym (selected xs ms Null long)
   where
@@ -20,7 +20,7 @@ picked_kept xs ms long = each (kept ms) ∙ sym (selected xs ms Null long)
     each [] = refl
     each (p ∷ ps) = ap (λ l. get_or xs p Null ∷ l) (each ps)
 
--- these places are there
+-- These positions are in bounds.
 pub kept_fit : (xs : List Value) (ms : List Bool) → length xs ≡ length ms → All (PickFits (xs ∷ [])) (map place_pick (kept ms))
 kept_fit xs ms long = each (kept ms) (λ k h. omega (arith, kept_below ms k h, long))
   where
@@ -29,7 +29,7 @@ kept_fit xs ms long = each (kept ms) (λ k h. omega (arith, kept_below ms k h, l
     each (p ∷ ps) below zero d h = below 0 (omega arith)
     each (p ∷ ps) below (suc k) d h = each ps (λ i more. below (suc i) (omega (arith, more))) k d (omega (arith, h))
 
--- picks that are there of indices within bounds
+-- The row references of indices in bounds are in bounds.
 pub within_fit : (xs indices : List Value) → IsTrue (all_within (length xs) indices) → All (PickFits (xs ∷ [])) (map pick_of indices)
 within_fit xs [] h k d below = absurd (omega (arith, below))
 within_fit xs (v ∷ vs) h zero d below = one v (and_first (is_within (length xs) v) (all_within (length xs) vs) h)
@@ -40,13 +40,13 @@ within_fit xs (v ∷ vs) h zero d below = one v (and_first (is_within (length xs
     one _ e = tt
 within_fit xs (v ∷ vs) h (suc k) d below = within_fit xs vs (and_second (is_within (length xs) v) (all_within (length xs) vs) h) k d (omega (arith, below))
 
--- indices without a null name a row each
+-- Indices without a null have no null row reference.
 pub all_picked : (indices : List ℕ) → All IsPicked (map pick_of (number_rows pos indices None))
 all_picked [] k d h = absurd (omega (arith, h))
 all_picked (i ∷ indices) zero d h = tt
 all_picked (i ∷ indices) (suc k) d h = all_picked indices k d (omega (arith, h))
 
--- as many places as true bits
+-- There are as many positions as true bits.
 pub count_kept : (ms : List Bool) → length (kept ms) ≡ count_true ms
 count_kept ms = from 0 ms
   where

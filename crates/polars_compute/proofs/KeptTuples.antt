@@ -1,4 +1,4 @@
--- Tuples that a mask keeps, field by field.
+-- Filtered struct rows, field by field.
 use Rattle.std.proofs.Common.{◌≡◌, ℕ, ◌<◌, Bool, true, List, [], ◌∷◌, length, map, get_or, Option, All, Vec, Global, refl, ap, sym, subst, ◌∙◌, arith}
 use Rattle.std.specs.List.{range_with_len}
 use Rattle.std.specs.Option.{option_map}
@@ -7,7 +7,7 @@ use Rattle.std.proofs.lemmas.List.Elements.{All-nil, All-cons, All-head, All-tai
 use Rattle.std.proofs.lemmas.List.FromFn.{length-map-range_with_len, get_or-map-range_with_len, fill_by_all}
 use Rattle.sel_bits.specs.Bits.{Bits, count_true}
 use Rattle.sel_arrow.specs.Masked.{masked, Covers}
-use Rattle.sel_arrow.specs.Nested.{tuple_at, tuple_rows}
+use Rattle.sel_arrow.specs.Nested.{struct_at, struct_rows}
 use Rattle.sel_arrow.specs.Rows.{rows, well_formed, IsField}
 use Rattle.sel_arrow.specs.Value.{Value, Null, Tuple, values_of}
 use Rattle.sel_arrow.specs.declared.column.Column.{Column, Struct}
@@ -19,12 +19,12 @@ use Rattle.polars_compute.proofs.KeptRuns.{count_kept}
 use Rattle.polars_compute.proofs.Places.{selected, kept_below}
 use Rattle.polars_compute.proofs.Selects.{select-masked, kept_covers}
 
--- row k of what is kept of a list is its row at place k of those that are kept
+-- Row k of a filtered list is its row at the k-th position that is selected.
 kept_row : (xs : List Value) (ms : List Bool) (k : ℕ) → length xs ≡ length ms → k < length (kept ms) → get_or (select xs ms) k Null ≡ get_or xs (get_or (kept ms) k 0) Null
 kept_row xs ms k long lt = ap (λ l. get_or l k Null) (selected xs ms Null long) ∙ get_or-map (λ i. get_or xs i Null) (kept ms) k 0 Null lt
 
--- the tuple at place k of what is kept of each field
-kept_tuple : (fs : List (List Value)) (ms : List Bool) (k : ℕ) → All (λ f. length f ≡ length ms) fs → k < length (kept ms) → tuple_at (map (λ f. select f ms) fs) k ≡ tuple_at fs (get_or (kept ms) k 0)
+-- Row k of the filtered fields is the struct row at the k-th position that is selected.
+kept_tuple : (fs : List (List Value)) (ms : List Bool) (k : ℕ) → All (λ f. length f ≡ length ms) fs → k < length (kept ms) → struct_at (map (λ f. select f ms) fs) k ≡ struct_at fs (get_or (kept ms) k 0)
 kept_tuple fs ms k all lt = ap (λ values. Tuple (values_of values)) (each fs all)
   where
     each : (fs : List (List Value)) → All (λ f. length f ≡ length ms) fs → map (λ f. get_or f k Null) (map (λ f. select f ms) fs) ≡ map (λ f. get_or f (get_or (kept ms) k 0) Null) fs
@@ -34,30 +34,30 @@ kept_tuple fs ms k all lt = ap (λ values. Tuple (values_of values)) (each fs al
         ap (λ v. v ∷ map (λ f. get_or f k Null) (map (λ f. select f ms) fs)) (kept_row f ms k (All-head fits f fs all) lt)
         ∙ ap (λ rest. get_or f (get_or (kept ms) k 0) Null ∷ rest) (each fs (All-tail fits f fs all))
 
--- the tuples of what is kept of each field are what is kept of the tuples
+-- The struct rows of the filtered fields are the filtered struct rows.
 kept_plain : (fs : List (List Value)) (n count : ℕ) (ms : List Bool) → n ≡ length ms → count ≡ count_true ms → All (λ f. length f ≡ length ms) fs
-    → select (map (tuple_at fs) (range_with_len 0 n)) ms ≡ map (tuple_at (map (λ f. select f ms) fs)) (range_with_len 0 count)
+    → select (map (struct_at fs) (range_with_len 0 n)) ms ≡ map (struct_at (map (λ f. select f ms) fs)) (range_with_len 0 count)
 kept_plain fs n count ms long counts all =
-    let plain = map (tuple_at fs) (range_with_len 0 n) in
-    let whole : length plain ≡ length ms = length-map-range_with_len (tuple_at fs) 0 n ∙ long in
-    fill_by_all (tuple_at (map (λ f. select f ms) fs)) (select plain ms) count Null (length-select plain ms whole ∙ sym counts)
+    let plain = map (struct_at fs) (range_with_len 0 n) in
+    let whole : length plain ≡ length ms = length-map-range_with_len (struct_at fs) 0 n ∙ long in
+    fill_by_all (struct_at (map (λ f. select f ms) fs)) (select plain ms) count Null (length-select plain ms whole ∙ sym counts)
     (λ k lt.
     let inside : k < length (kept ms) = omega (arith, lt, counts, count_kept ms) in
     let below : get_or (kept ms) k 0 < n = omega (arith, kept_below ms k inside, long) in
     kept_row plain ms k whole inside
-    ∙ get_or-map-range_with_len (tuple_at fs) 0 n (get_or (kept ms) k 0) (get_or (kept ms) k 0) Null below (omega arith)
+    ∙ get_or-map-range_with_len (struct_at fs) 0 n (get_or (kept ms) k 0) (get_or (kept ms) k 0) Null below (omega arith)
     ∙ sym (kept_tuple fs ms k all inside))
 
 pub kept_tuples : (fs : List (List Value)) (n count : ℕ) (validity seen : Option Bits) (ms : List Bool) → n ≡ length ms → count ≡ count_true ms → All (λ f. length f ≡ length ms) fs → Covers validity n
-    → option_map (λ v. v.bits) seen ≡ option_map (λ v. select v.bits ms) validity → tuple_rows count (map (λ f. select f ms) fs) seen ≡ select (tuple_rows n fs validity) ms
+    → option_map (λ v. v.bits) seen ≡ option_map (λ v. select v.bits ms) validity → struct_rows count (map (λ f. select f ms) fs) seen ≡ select (struct_rows n fs validity) ms
 kept_tuples fs n count validity seen ms long counts all covers is =
-    let plain = map (tuple_at fs) (range_with_len 0 n) in
+    let plain = map (struct_at fs) (range_with_len 0 n) in
     ap (masked seen) (sym (kept_plain fs n count ms long counts all))
-    ∙ select-masked validity seen plain ms (λ v there. covers v there ∙ sym (length-map-range_with_len (tuple_at fs) 0 n)) is
+    ∙ select-masked validity seen plain ms (λ v there. covers v there ∙ sym (length-map-range_with_len (struct_at fs) 0 n)) is
 
--- ---- of columns
+-- ---- columns
 
--- what a mask keeps of a column's rows
+-- The rows of a column that a mask selects.
 abbrev pub kept_of : List Bool → Column → List Value
 kept_of ms column = select (rows column) ms
 
@@ -72,7 +72,7 @@ pub kept_struct_rows : (n count : ℕ) (fields parts : Vec Column Global) (valid
 kept_struct_rows n count fields parts validity seen ms formed long counts made is =
     let has = has_fields n fields validity formed in
     rows-Struct count parts seen
-    ∙ ap (λ fs. tuple_rows count fs seen) (made ∙ twice fields.items)
+    ∙ ap (λ fs. struct_rows count fs seen) (made ∙ twice fields.items)
     ∙ kept_tuples (map rows fields.items) n count validity seen ms long counts (field_lengths n ms fields.items long has.fields) has.covered is
     ∙ ap (λ vs. select vs ms) (sym (rows-Struct n fields validity))
   where
@@ -92,7 +92,7 @@ kept_struct_formed n count fields parts validity seen ms formed long counts all 
       fields = subst (λ k. All (IsField k) parts.items) (sym counts) all;
     })
 
--- a field that is filtered is a field
+-- A filtered field is a field.
 pub kept_is_field : (column part : Column) (ms : List Bool) → rows part ≡ kept_of ms column → IsField (length ms) column → well_formed part ≡ true → IsField (count_true ms) part
 kept_is_field column part ms is field formed =
     (sym (length-rows part) ∙ ap length is ∙ length-select (rows column) ms (length-rows column ∙ field.0), formed)

@@ -1,9 +1,9 @@
--- What filters, takes and choices have to do with one another.
+-- The laws that relate filters, takes and if-then-else.
 use Rattle.std.proofs.Common.{◌≡◌, ℕ, zero, suc, pos, negsuc, true, false, List, [], ◌∷◌, map, get_or, Option, Some, None, refl, ap, sym, ◌∙◌, arith}
 use Rattle.std.specs.Prelude.{slice_get, option_and_then}
 use Rattle.std.proofs.lemmas.List.{length-map}
 use Rattle.sel_arrow.specs.Value.{Value, Null, Truth, Number, Bytes, Items, Tuple}
-use Rattle.polars_compute.specs.Select.{in_force, is_true, kept}
+use Rattle.polars_compute.specs.Select.{effective_mask, is_true, kept}
 use Rattle.polars_compute.specs.Pick.{found, pick, pick_of, place_pick}
 use Rattle.polars_compute.specs.Laws.{composed, source_pick, SelectedRowsAreTaken, FilterIsTake, TakesCompose, KeepsThen, KeepsOtherwise}
 use Rattle.polars_compute.proofs.Places.{selected}
@@ -17,7 +17,7 @@ at_places d xs (place ∷ places) = ap (λ l. get_or xs place d ∷ l) (at_place
 pub filter_is_take : (A : Type 0) → FilterIsTake A
 filter_is_take A d xs ms long = selected xs ms d long ∙ at_places d xs (kept ms)
 
--- entry i of what was picked is what pick i names
+-- Entry i of a gather is the entry at row reference i.
 picked_at : {A : Type 0} → (d : A) (xss : List (List A)) (ps : List (Option (ℕ × ℕ))) (i : ℕ) → get_or (pick d xss ps) i d ≡ found d xss (get_or ps i None)
 picked_at d xss [] i = refl
 picked_at d xss (p ∷ ps) zero = refl
@@ -32,7 +32,7 @@ pub takes_compose : (A : Type 0) → TakesCompose A
 takes_compose A d xss ps [] = refl
 takes_compose A d xss ps (q ∷ qs) = (λ i. found_again d xss ps q i ∷ takes_compose A d xss ps qs i)
 
--- a place of those that are kept, as a pick
+-- A selected position as a row reference.
 place_at : (places : List ℕ) (i : ℕ) → get_or (map place_pick places) i None ≡ option_and_then place_pick (slice_get places i)
 place_at [] i = refl
 place_at (place ∷ places) zero = refl
@@ -53,12 +53,12 @@ sources_of places (index ∷ indices) = (λ i. source_of places index i ∷ sour
 
 pub selected_rows : SelectedRowsAreTaken
 selected_rows xs mask indices long =
-    let ms = in_force mask in
+    let ms = effective_mask mask in
     ap (λ l. pick Null (l ∷ []) (map pick_of indices)) (filter_is_take Value Null xs ms (long ∙ sym (length-map mask is_true)))
     ∙ takes_compose Value Null (xs ∷ []) (map place_pick (kept ms)) (map pick_of indices)
     ∙ ap (pick Null (xs ∷ [])) (sources_of (kept ms) indices)
 
--- ---- filters of choices
+-- ---- filters of if-then-else
 
 pub keeps_then : (A : Type 0) → KeepsThen A
 keeps_then A [] [] fs h k = refl

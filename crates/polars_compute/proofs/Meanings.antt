@@ -1,4 +1,5 @@
--- What columns need that mean the same, what kept rows need, and what those of a well-formed column do.
+-- The needs of columns with the same meaning, of filtered rows, and of the rows of a well-formed
+-- column.
 use Rattle.std.proofs.Common.{◌≡◌, ◌⊎◌, inl, inr, ℕ, ◌+◌, ◌≤◌, ◌<◌, pos, Bool, true, false, List, [], ◌∷◌, ◌++◌, length, map, replicate, refl, ap, sym, subst, ◌∙◌, arith, ◌<ℤ◌}
 use Rattle.std.proofs.lemmas.Bool.{cases_lt}
 use Rattle.std.proofs.lemmas.Int.{ints}
@@ -11,41 +12,41 @@ use Rattle.sel_arrow.specs.Shape.{Shape, Shapes, no_shapes, next_shape, of_large
 use Rattle.sel_arrow.specs.Value.{Value, Null}
 use Rattle.sel_arrow.specs.declared.column.Column.{Column}
 use Rattle.sel_arrow.proofs.NestedRows.{length-rows}
-use Rattle.sel_choices.specs.Choose.{choose, choose_one, choose_or_one, choose_of_two}
+use Rattle.sel_choices.specs.Choose.{choose, broadcast_true, broadcast_false, broadcast_both}
 use Rattle.sel_flatten.specs.Flatten.{flatten}
 use Rattle.sel_runs.specs.Children.{items_in, joined_items, part_at}
 use Rattle.sel_runs.proofs.ListParts.{few_rows}
 use Rattle.sel_runs.proofs.Thinned.{whole_fits}
-use Rattle.sel_sublists.specs.Entries.{fixed_get, short}
+use Rattle.sel_sublists.specs.Entries.{fixed_get, any_out_of_bounds}
 use Rattle.sel_sublists.specs.Lists.{list_get, oob}
 use Rattle.polars_compute.specs.Dictionary.{decode, propagated_keys, rank, valid_values}
 use Rattle.polars_compute.specs.Meaning.{MeansTheSame, Alike}
-use Rattle.polars_compute.specs.Need.{bytes_needed, past, past_parts, Needed, so_many_rows, so_many_bytes, need, need_of_parts, NoneGreater, NoneAbove}
+use Rattle.polars_compute.specs.Need.{bytes_needed, exceeded_limits, exceeded_in_parts, Needed, so_many_rows, so_many_bytes, need, need_of_parts, NoneGreater, NoneAbove}
 use Rattle.polars_compute.specs.Pick.{pick}
-use Rattle.polars_compute.specs.Select.{select, in_force}
+use Rattle.polars_compute.specs.Select.{select, effective_mask}
 use Rattle.sel_filter.proofs.Selects.{few_kept}
 use Rattle.polars_compute.proofs.Selects.{select-map}
 
--- ---- columns that mean the same
+-- ---- columns with the same type and the same rows
 
 pub alike : (c d : Column) → MeansTheSame c d → Alike c d
 alike c d same = record {
   needs = ap (λ s. need s (rows c)) same.0 ∙ ap (need (type_of d)) same.1;
   selects = (λ ms. ap (λ vs. select vs ms) same.1);
-  forces = ap in_force same.1;
+  forces = ap effective_mask same.1;
   picks = (λ before after ps. ap (λ vs. pick Null (before ++ vs ∷ after) ps) same.1);
   chooses = (λ ms others. ap (λ vs. choose ms vs others) same.1);
   chooses_otherwise = (λ ms others. ap (choose ms others) same.1);
-  chooses_one = (λ ms other. ap (choose_one ms other) same.1);
-  chooses_or_one = (λ ms other. ap (λ vs. choose_or_one ms vs other) same.1);
+  chooses_one = (λ ms other. ap (broadcast_true ms other) same.1);
+  chooses_or_one = (λ ms other. ap (λ vs. broadcast_false ms vs other) same.1);
   is_one_list = ap list_of same.1;
-  chooses_of_two = (λ ms other. ap (λ vs. choose_of_two ms (list_of vs) other) same.1);
-  chooses_of_two_otherwise = (λ ms other. ap (λ vs. choose_of_two ms other (list_of vs)) same.1);
+  chooses_of_two = (λ ms other. ap (λ vs. broadcast_both ms (list_of vs) other) same.1);
+  chooses_of_two_otherwise = (λ ms other. ap (λ vs. broadcast_both ms other (list_of vs)) same.1);
   flattens = (λ before after ws h. ap (λ vs. flatten (before ++ vs ∷ after) ws h) same.1);
   gets = (λ index. ap (λ vs. list_get vs index) same.1);
   lacks = (λ index. ap (λ vs. oob vs index) same.1);
   gets_entries = (λ width indices. ap (λ vs. fixed_get vs width indices) same.1);
-  falls_short = (λ width indices. ap (λ vs. short vs width indices) same.1);
+  falls_short = (λ width indices. ap (λ vs. any_out_of_bounds vs width indices) same.1);
   decodes = (λ values. ap (λ vs. decode vs values) same.1);
   is_decoded = (λ keys. ap (decode keys) same.1);
   ranks = (λ k. ap (λ vs. rank vs k) same.1);
@@ -54,9 +55,9 @@ alike c d same = record {
   keeps_valid = ap valid_values same.1;
 }
 
--- ---- kept rows and what they hold
+-- ---- filtered rows and their child rows
 
--- each row's bit, once for each item in it
+-- The bit of each row, once for each of its entries.
 abbrev spread : ℕ → List Value → List Bool → List Bool
 spread w [] ms = []
 spread w (v ∷ vs) [] = []
@@ -74,7 +75,7 @@ select_none : (vs : List Value) → select vs [] ≡ []
 select_none [] = refl
 select_none (v ∷ vs) = refl
 
--- the items in kept rows are kept items
+-- The entries of filtered rows are filtered entries.
 items_kept : (w : ℕ) (vs : List Value) (ms : List Bool) → joined_items w (select vs ms) ≡ select (joined_items w vs) (spread w vs ms)
 items_kept w [] ms = refl
 items_kept w (v ∷ vs) [] = sym (select_none (items_in w v ++ joined_items w vs))
@@ -132,8 +133,8 @@ few_bytes n fits = by_order (cases_lt 9223372036854775807 n)
     by_order (inr below) = below
 
 mutual
-  -- rows that pass no limit need nothing above one
-  within : (s : Shape) (vs : List Value) → length vs ≤ 4294967295 → ((limit : Limit) → past s vs limit → ⊥) → NoneAbove (need s vs)
+  -- Rows that exceed no limit need no more than the limits.
+  within : (s : Shape) (vs : List Value) → length vs ≤ 4294967295 → ((limit : Limit) → exceeded_limits s vs limit → ⊥) → NoneAbove (need s vs)
   within of_large_binary vs few fits = (few, (few_bytes (bytes_needed vs) (fits ByteLimit), tt))
   within (of_large_list s) vs few fits =
       (few, within s (joined_items 0 vs) (few_items (length (joined_items 0 vs)) (λ h. fits RowLimit (inl h))) (λ limit h. fits limit (inr h)))
@@ -142,7 +143,7 @@ mutual
   within (of_struct ss) vs few fits = (few, within_parts ss 0 vs few fits)
   within s vs few fits = (few, tt)
 
-  within_parts : (ss : Shapes) (j : ℕ) (vs : List Value) → length vs ≤ 4294967295 → ((limit : Limit) → past_parts ss j vs limit → ⊥) → NoneAbove (need_of_parts ss j vs)
+  within_parts : (ss : Shapes) (j : ℕ) (vs : List Value) → length vs ≤ 4294967295 → ((limit : Limit) → exceeded_in_parts ss j vs limit → ⊥) → NoneAbove (need_of_parts ss j vs)
   within_parts no_shapes j vs few fits = tt
   within_parts (next_shape s ss) j vs few fits =
       above-append (need s (map (part_at j) vs)) (need_of_parts ss (j + 1) vs)

@@ -1,14 +1,14 @@
--- Kept rows need no more than all rows do, so they pass no limit.
+-- Filtered rows need no more than all rows, so they exceed no limit.
 use Rattle.std.proofs.Common.{◌≡◌, Bool, true, false, List, [], ◌∷◌, refl, ap, sym, subst}
 use Rattle.sel_bits.specs.declared.faults.Limit.{Limit}
 use Rattle.sel_arrow.specs.Rows.{rows, type_of, well_formed}
 use Rattle.sel_arrow.specs.Value.{Value}
 use Rattle.sel_arrow.specs.declared.column.Column.{Column}
 use Rattle.sel_runs.proofs.Thinned.{Mark, skip, keep, draw, draw_none, drawn_fits}
-use Rattle.polars_compute.specs.Need.{past}
+use Rattle.polars_compute.specs.Need.{exceeded_limits}
 use Rattle.polars_compute.specs.Select.{select}
 
--- a mask, as what becomes of each row
+-- A mask as marks of the rows.
 abbrev marks_of : List Bool → List Mark
 marks_of [] = []
 marks_of (true ∷ ms) = keep ∷ marks_of ms
@@ -20,5 +20,5 @@ drawn (v ∷ vs) [] = refl
 drawn (v ∷ vs) (true ∷ ms) = ap (λ l. v ∷ l) (drawn vs ms)
 drawn (v ∷ vs) (false ∷ ms) = drawn vs ms
 
-pub kept_fits : (c : Column) → well_formed c ≡ true → (ms : List Bool) (limit : Limit) → past (type_of c) (select (rows c) ms) limit → ⊥
-kept_fits c formed ms limit h = drawn_fits c formed (marks_of ms) limit (subst (λ l. past (type_of c) l limit) (drawn (rows c) ms) h)
+pub kept_fits : (c : Column) → well_formed c ≡ true → (ms : List Bool) (limit : Limit) → exceeded_limits (type_of c) (select (rows c) ms) limit → ⊥
+kept_fits c formed ms limit h = drawn_fits c formed (marks_of ms) limit (subst (λ l. exceeded_limits (type_of c) l limit) (drawn (rows c) ms) h)

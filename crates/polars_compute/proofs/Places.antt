@@ -1,4 +1,4 @@
--- The places that a mask keeps.
+-- The positions that a mask selects.
 use Rattle.std.proofs.Common.{◌≡◌, ℕ, zero, suc, ◌+◌, ◌<◌, Bool, true, false, List, [], ◌∷◌, ◌++◌, length, map, drop, get_or, Option, refl, ap, sym, ◌∙◌, arith, add-one, append_assoc}
 use Rattle.std.specs.List.{range_with_len}
 use Rattle.std.proofs.lemmas.List.{map-append}
@@ -8,7 +8,7 @@ use Rattle.sel_runs.proofs.KeptBlocks.{Passes}
 use Rattle.polars_compute.specs.Pick.{place_pick}
 use Rattle.polars_compute.specs.Select.{select, kept, kept_from}
 
--- ---- as many bits more as are equal
+-- ---- several equal bits at once
 
 zeros_step : (l : List Bool) (at : ℕ) → kept_from at l ≡ kept_from (at + leading_zeros l) (drop (leading_zeros l) l)
 zeros_step [] at = refl
@@ -26,7 +26,7 @@ ones_step (true ∷ l) at =
     ap (λ k. at ∷ k) (ones_step l (at + 1) ∙ ap (λ k. range_with_len (at + 1) n ++ kept_from k (drop n l)) next)
     ∙ ap (λ k. range_with_len at k ++ kept_from (at + (n + 1)) (drop k (true ∷ l))) (sym (add-one n))
 
--- a run of places more
+-- One more run of positions.
 pub places_more : (l after rest all : List Bool) (z n : ℕ) → Passes l after rest z n → (at : ℕ) (so_far new : List (Option (ℕ × ℕ))) → so_far ++ map place_pick (kept_from at l) ≡ map place_pick (kept all) →
     new ≡ so_far ++ picks_of 0 (at + z) n → new ++ map place_pick (kept_from (at + z + n) rest) ≡ map place_pick (kept all)
 places_more l after rest all z n passes at so_far new before is =
@@ -39,7 +39,7 @@ places_more l after rest all z n passes at so_far new before is =
     ∙ ap (λ k. so_far ++ k) (sym (ap (map place_pick) (zeros ∙ ones) ∙ map-append place_pick (range_with_len (at + z) n) (kept_from (at + z + n) rest)))
     ∙ before
 
--- ---- each place is one of a row
+-- ---- each position is in bounds
 
 kept_from_below : (n : ℕ) (ms : List Bool) (k : ℕ) → k < length (kept_from n ms) → get_or (kept_from n ms) k 0 < n + length ms
 kept_from_below n [] k h = absurd (omega arith)
@@ -50,7 +50,7 @@ kept_from_below n (false ∷ ms) k h = omega (arith, kept_from_below (n + 1) ms 
 pub kept_below : (ms : List Bool) (k : ℕ) → k < length (kept ms) → get_or (kept ms) k 0 < length ms
 kept_below ms k h = omega (arith, kept_from_below 0 ms k h)
 
--- ---- what is kept stands at the places
+-- ---- the filtered rows are those at the positions
 
 first_dropped : {A : Type 0} → (all : List A) (x : A) (xs : List A) (n : ℕ) (d : A) → drop n all ≡ x ∷ xs → get_or all n d ≡ x
 first_dropped [] x xs zero d is = cc

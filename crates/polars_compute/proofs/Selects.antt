@@ -1,4 +1,4 @@
--- What a mask keeps.
+-- The rows that a mask selects.
 use Rattle.std.proofs.Common.{◌≡◌, ℕ, zero, suc, ◌+◌, ◌≤◌, ◌<◌, ℤ, Bool, true, false, List, [], ◌∷◌, length, map, drop, get_or, replicate, Option, Some, None, refl, ap, sym, ◌∙◌, arith, ◌-◌, take, ⊎_elim, add-one, cond, ◌&&◌}
 use Rattle.std.specs.Prelude.{if◌then◌else◌, count_by, reverse}
 use Rattle.std.proofs.lemmas.Bool.{cases_lt}
@@ -9,7 +9,7 @@ use Rattle.std.proofs.lemmas.List.Sums.{sum_by-cons, count_by-le-length}
 use Rattle.sel_bits.specs.Bits.{Bits, zip_with, leading_zeros, trailing_zeros}
 use Rattle.sel_bits.proofs.Zeros.{leading_le}
 use Rattle.sel_arrow.specs.Value.{Value, Null, Truth, Number}
-use Rattle.sel_arrow.specs.Masked.{hidden, masked, number_rows, truth_rows, Covers}
+use Rattle.sel_arrow.specs.Masked.{hidden, masked, number_rows, bool_rows, Covers}
 use Rattle.sel_arrow.specs.Columns.{null_rows}
 use Rattle.sel_arrow.specs.Views.{view_rows, view_value}
 use Rattle.sel_arrow.specs.declared.view.View.{View}
@@ -17,7 +17,7 @@ use Rattle.sel_arrow.specs.declared.null.NullArray.{NullArray}
 use Rattle.sel_arrow.proofs.Rows.{length-number_rows, length-truth_rows}
 use Rattle.sel_arrow.proofs.ViewRows.{length-view_rows}
 use Rattle.sel_filter.proofs.Selects.{few_kept, as_many_kept}
-use Rattle.polars_compute.specs.Select.{select, in_force, is_true}
+use Rattle.polars_compute.specs.Select.{select, effective_mask, is_true}
 
 both : (a b : Bool) → (a && b) ≡ true → (a ≡ true) × (b ≡ true)
 both true b e = (refl, e)
@@ -51,7 +51,7 @@ select-masked (Some validity) (Some kept) vs ms covers is =
     let same : kept.bits ≡ select validity.bits ms = cc in
     ap (λ bs. hidden bs (select vs ms)) same ∙ sym (select-hidden validity.bits vs ms (covers validity refl))
 
--- a filtered validity has the length of what is kept
+-- A filtered validity is as long as the filtered rows.
 pub kept_covers : {A : Type 0} → (validity kept : Option Bits) (xs : List A) (ms : List Bool) (n : ℕ) → Covers validity (length xs)
     → option_map (λ v. v.bits) kept ≡ option_map (λ v. select v.bits ms) validity → n ≡ length (select xs ms) → Covers kept n
 kept_covers None None xs ms n covers is count = λ v there. cc
@@ -62,7 +62,7 @@ kept_covers (Some validity) (Some kept) xs ms n covers is count = λ v there.
     let here : kept ≡ v = cc in
     ap (λ (b : Bits). length b.bits) (sym here) ∙ ap (λ bs. length bs) same ∙ as_many_kept validity.bits xs ms (covers validity refl) ∙ sym count
 
--- a column of one kind keeps what is kept of its values and its validity
+-- The rows of a column with filtered values and a filtered validity are the filtered rows.
 pub kept_rows : {A : Type 0} (f : A → Value) → (validity kept : Option Bits) (xs ys : List A) (ms : List Bool) → Covers validity (length xs)
     → option_map (λ v. v.bits) kept ≡ option_map (λ v. select v.bits ms) validity → ys ≡ select xs ms → masked kept (map f ys) ≡ select (masked validity (map f xs)) ms
 kept_rows f validity kept xs ys ms covers is made =
@@ -74,14 +74,14 @@ pub kept_numbers : {T : Type 0} (number : T → ℤ) → (validity kept : Option
 kept_numbers number validity kept xs ys ms covers is made = kept_rows (λ x. Number (number x)) validity kept xs ys ms covers is made
 
 pub kept_truths : (validity kept : Option Bits) (xs ys : List Bool) (ms : List Bool) → Covers validity (length xs)
-    → option_map (λ v. v.bits) kept ≡ option_map (λ v. select v.bits ms) validity → ys ≡ select xs ms → truth_rows ys kept ≡ select (truth_rows xs validity) ms
+    → option_map (λ v. v.bits) kept ≡ option_map (λ v. select v.bits ms) validity → ys ≡ select xs ms → bool_rows ys kept ≡ select (bool_rows xs validity) ms
 kept_truths validity kept xs ys ms covers is made = kept_rows Truth validity kept xs ys ms covers is made
 
 pub kept_view_rows : (buffers : List (List ℕ)) (validity kept : Option Bits) (xs ys : List View) (ms : List Bool) → Covers validity (length xs)
     → option_map (λ v. v.bits) kept ≡ option_map (λ v. select v.bits ms) validity → ys ≡ select xs ms → view_rows ys buffers kept ≡ select (view_rows xs buffers validity) ms
 kept_view_rows buffers validity kept xs ys ms covers is made = kept_rows (view_value buffers) validity kept xs ys ms covers is made
 
--- what each element passes, each one that is kept passes
+-- What holds for each element holds for each selected one.
 pub passed_kept : {A : Type 0} (p : A → Bool) → (xs : List A) (ms : List Bool) → list_all p xs ≡ true → list_all p (select xs ms) ≡ true
 passed_kept p [] ms all = refl
 passed_kept p (x ∷ xs) [] all = refl
@@ -90,7 +90,7 @@ passed_kept p (x ∷ xs) (false ∷ ms) all = passed_kept p xs ms (both (p x) (l
 
 -- ---- rows under false bits at the ends
 
--- the rows under the first bits, which are false, are not kept
+-- The rows under the first bits, which are false, are not selected.
 pub front_dropped : {A : Type 0} → (xs : List A) (ms : List Bool) → length xs ≡ length ms → select (drop (leading_zeros ms) xs) (drop (leading_zeros ms) ms) ≡ select xs ms
 front_dropped [] [] h = refl
 front_dropped [] (m ∷ ms) h = absurd (omega arith)
@@ -104,7 +104,7 @@ false_front (true ∷ ms) i lt = absurd (omega arith)
 false_front (false ∷ ms) zero lt = refl
 false_front (false ∷ ms) (suc i) lt = false_front ms i (omega arith)
 
--- the bits from n on are false
+-- The bits from n on are false.
 abbrev EndsFalse : List Bool → ℕ → Type 0
 EndsFalse ms n = (i : ℕ) → n ≤ i → get_or ms i false ≡ false
 
@@ -131,11 +131,11 @@ false_end ms i le =
     (λ past. get_or_past ms i false past)
     (cases_lt i (length ms))
 
--- nor are those under the last
+-- The rows under the last bits, which are false, are not selected.
 pub end_dropped : {A : Type 0} → (xs : List A) (ms : List Bool) → select (take (length ms - trailing_zeros ms) xs) (take (length ms - trailing_zeros ms) ms) ≡ select xs ms
 end_dropped xs ms = front_kept xs ms (length ms - trailing_zeros ms) (false_end ms)
 
--- a mask without the false bits at its ends, and the rows under it
+-- A mask without the false bits at its ends, and the rows under it.
 pub record IsTrimmed (ms first rest : List Bool) (leading trailing count : ℕ) : Type 0 where
   pub leads : leading ≡ leading_zeros ms
   pub first-is : first ≡ drop leading ms
@@ -196,7 +196,7 @@ pub ruleset kept_columns = (kept_numbers, kept_truths, kept_covers, few_kept, le
 
 -- ---- a mask of rows
 
-in_force-valid : (bits : List Bool) → in_force (truth_rows bits None) ≡ bits
+in_force-valid : (bits : List Bool) → effective_mask (bool_rows bits None) ≡ bits
 in_force-valid [] = refl
 in_force-valid (b ∷ bits) = ap (λ l. b ∷ l) (in_force-valid bits)
 
@@ -212,13 +212,13 @@ in_force-hidden (b ∷ bs) (x ∷ bits) h = (λ i. first b x i ∷ in_force-hidd
     first false true = refl
     first false false = refl
 
--- the bits of a mask column that are in force
-pub in_force-truths : (bits : List Bool) (validity : Option Bits) (v : Bits) → validity ≡ Some v → Covers validity (length bits) → in_force (truth_rows bits validity) ≡ zip_with (λ x y. x && y) bits v.bits
-in_force-truths bits validity v is covers = ap (λ o. in_force (truth_rows bits o)) is ∙ in_force-hidden v.bits bits (covers v is)
+-- The effective mask of a boolean column.
+pub in_force-truths : (bits : List Bool) (validity : Option Bits) (v : Bits) → validity ≡ Some v → Covers validity (length bits) → effective_mask (bool_rows bits validity) ≡ zip_with (λ x y. x && y) bits v.bits
+in_force-truths bits validity v is covers = ap (λ o. effective_mask (bool_rows bits o)) is ∙ in_force-hidden v.bits bits (covers v is)
 
--- without a validity they are all
-pub in_force-all : (bits : List Bool) (validity : Option Bits) → validity ≡ None → in_force (truth_rows bits validity) ≡ bits
-in_force-all bits validity is = ap (λ o. in_force (truth_rows bits o)) is ∙ in_force-valid bits
+-- Without a validity it is the values of the column.
+pub in_force-all : (bits : List Bool) (validity : Option Bits) → validity ≡ None → effective_mask (bool_rows bits validity) ≡ bits
+in_force-all bits validity is = ap (λ o. effective_mask (bool_rows bits o)) is ∙ in_force-valid bits
 
-pub length-in_force : (rows : List Value) → length (in_force rows) ≡ length rows
+pub length-in_force : (rows : List Value) → length (effective_mask rows) ≡ length rows
 length-in_force rows = length-map rows is_true

@@ -1,4 +1,4 @@
--- Bits at places, a word at a time.
+-- Bits at positions, a word at a time.
 use Rattle.std.proofs.Common.{◌≡◌, ◌≤◌, ◌<◌, ◌+◌, ◌*◌, ◌%◌, ◌^◌, ◌∙◌, ℕ, zero, suc, pos, Bool, true, false, List, [], ◌∷◌, ◌++◌, length, map, take, drop, get_or, Some, refl, ap, sym, append-nil, arith}
 use Rattle.std.specs.Prelude.{◌==◌}
 use Rattle.std.specs.Int.{from_bool}
@@ -14,7 +14,7 @@ use Rattle.polars_compute.specs.Pick.{all_below, all_within, found, is_within, p
 use Rattle.polars_compute.specs.ValidPicks.{valid_pick}
 use Rattle.polars_compute.proofs.Takes.{both}
 
--- the bits at places
+-- The bits at positions.
 abbrev pub bits_at : List Bool → List ℕ → List Bool
 bits_at bs places = pick false (bs ∷ []) (map place_pick places)
 
@@ -26,7 +26,7 @@ at_place bs [] k h = absurd (omega (arith, h))
 at_place bs (place ∷ places) zero h = refl
 at_place bs (place ∷ places) (suc k) h = at_place bs places k (omega (arith, h))
 
--- a bit more of a word
+-- One more bit of a word.
 pub word_at_next : (bs : List Bool) (places : List ℕ) (k word bit : ℕ) → k < length places → length places ≤ 64 → word ≡ word_of (take k (bits_at bs places)) → bit ≡ from_bool (get_or bs (get_or places k 0) false)
     → word + bit * 2 ^ k % 2 ^ 64 ≡ word_of (take (k + 1) (bits_at bs places))
 word_at_next bs places k word bit inside short is bit-is =
@@ -41,7 +41,7 @@ word_at_few bs places k inside short =
 pub word_at_lt : (bs : List Bool) (places : List ℕ) (word : ℕ) → word ≡ word_of (bits_at bs places) → word < 2 ^ length places
 word_at_lt bs places word is = rw (is, sym (length-bits_at bs places)) (word_of_lt (bits_at bs places))
 
--- the bits of the first places, and then those of the others
+-- The bits of the first positions, followed by those of the others.
 pub word_packed : (bs : List Bool) (packed : List Bool) (rest all : List ℕ) (n word : ℕ) → packed ++ bits_at bs rest ≡ bits_at bs all → word ≡ word_of (bits_at bs (take n rest))
     → (packed ++ bits (length (take n rest)) word) ++ bits_at bs (drop n rest) ≡ bits_at bs all
 word_packed bs packed rest all n word before is =
@@ -55,12 +55,12 @@ word_packed bs packed rest all n word before is =
     ap (λ l. (packed ++ bits (length front) word) ++ l) (sym others)
     ∙ block_packed packed (bits (length front) word) (bits_at bs rest) (bits_at bs all) n before (block ∙ first)
 
--- those at no places are none more
+-- Without positions there are no more bits.
 pub all_packed : (bs packed : List Bool) (rest all : List ℕ) → true ≡ (length rest == 0) → packed ++ bits_at bs rest ≡ bits_at bs all → packed ≡ bits_at bs all
 all_packed bs packed [] all none is = sym (append-nil packed) ∙ is
 all_packed bs packed (place ∷ rest) all none is = absurd (omega (arith, eqb-true (length (place ∷ rest)) 0 (sym none)))
 
--- places below a number stay so in both parts
+-- Positions less than a number are so in both parts.
 pub below_parts : (n m : ℕ) (places : List ℕ) → all_below n places ≡ true → (all_below n (take m places) ≡ true) × (all_below n (drop m places) ≡ true)
 below_parts n m places below =
     let parts = sym (list_all-append _ (take m places) (drop m places)) ∙ ap (all_below n) (take-append-drop m places) ∙ below in
@@ -71,7 +71,7 @@ below_parts n m places below =
 pub below_within : (n : ℕ) (places : List ℕ) → all_within n (map (λ x. Number (pos x)) places) ≡ true → all_below n places ≡ true
 below_within n places within = sym (list_all-map (is_within n) (λ x. Number (pos x)) places) ∙ within
 
--- whatever stands for a null
+-- The value for null indices does not matter.
 pub named_at : (bs : List Bool) (filler : Bool) (places : List ℕ) → all_below (length bs) places ≡ true
     → bits_at bs places ≡ pick filler (bs ∷ []) (map pick_of (map (λ x. Number (pos x)) places))
 named_at bs filler [] below = refl
@@ -80,12 +80,12 @@ named_at bs filler (place ∷ places) below =
     let here = get_or_default bs place false filler (ltb-true place (length bs) parts.0) in
     (λ i. here i ∷ named_at bs filler places parts.1 i)
 
--- whether the rows are valid
+-- The validity of the rows.
 pub placed_valid : (v : Bits) (places : List ℕ) → bits_at v.bits places ≡ map (valid_pick (Some v)) (map pick_of (map (λ x. Number (pos x)) places))
 placed_valid v [] = refl
 placed_valid v (place ∷ places) = ap (λ l. get_or v.bits place false ∷ l) (placed_valid v places)
 
--- ---- rows of which some may be null
+-- ---- indices of which some may be null
 
 pub length-taken : (bs : List Bool) (filler : Bool) (rows : List Value) → length (pick filler (bs ∷ []) (map pick_of rows)) ≡ length rows
 length-taken bs filler rows = length-map (map pick_of rows) (found filler (bs ∷ [])) ∙ length-map rows pick_of
@@ -95,7 +95,7 @@ taken_here bs filler [] k h = absurd (omega (arith, h))
 taken_here bs filler (row ∷ rows) zero h = refl
 taken_here bs filler (row ∷ rows) (suc k) h = taken_here bs filler rows k (omega (arith, h))
 
--- entry k of a part
+-- Entry k of a part.
 pub taken_at : (bs : List Bool) (filler : Bool) (rows : List Value) (at len k : ℕ) (bit : Bool) → k < len → at + len ≤ length rows → bit ≡ found filler (bs ∷ []) (pick_of (get_or rows (at + k) Null))
     → bit ≡ get_or (take len (drop at (pick filler (bs ∷ []) (map pick_of rows)))) k false
 taken_at bs filler rows at len k bit few within is =

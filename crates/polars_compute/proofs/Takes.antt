@@ -19,7 +19,7 @@ pub both : (a b : Bool) → (a && b) ≡ true → (a ≡ true) × (b ≡ true)
 both true b e = (refl, e)
 both false b e = cc
 
--- ---- one row at an index
+-- ---- the row at one index
 
 by_validity : (b : Bool) (validity : Option Bits) (vs : List Value) (i : ℕ) (v : Value) → valid_at validity i ≡ b → i < length vs → Covers validity (length vs) → v ≡ get_or vs i Null
     → (if b then v else Null) ≡ get_or (masked validity vs) i Null
@@ -33,7 +33,7 @@ row_taken f validity xs d (Number (pos i)) covers within =
     by_validity (valid_at validity i) validity (map f xs) i (f (get_or xs i d)) refl (rw length-map inside) (λ v there. rw length-map (covers v there)) (sym (get_or-map f xs i d Null inside))
 row_taken f validity xs d index covers within = refl
 
--- ---- all of them
+-- ---- the rows at all indices
 
 taken_list : {A : Type 0} (f : A → Value) → (validity : Option Bits) (xs : List A) (d : A) (indices : List Value) → Covers validity (length xs) → all_within (length xs) indices ≡ true
     → hidden (map (valid_pick validity) (map pick_of indices)) (map f (pick d (xs ∷ []) (map pick_of indices))) ≡ take_rows (masked validity (map f xs)) indices
@@ -42,7 +42,7 @@ taken_list f validity xs d (index ∷ indices) covers within =
     let parts = both (is_within (length xs) index) (all_within (length xs) indices) within in
     (λ i. row_taken f validity xs d index covers parts.0 i ∷ taken_list f validity xs d indices covers parts.1 i)
 
--- a column of one kind has the rows at the indices where its values and its validity are those at them
+-- The rows of a column with the values and the validity at the indices are the rows at the indices.
 pub taken_rows : {A : Type 0} (f : A → Value) → (validity : Option Bits) (bits : Bits) (xs ys : List A) (d : A) (indices : List Value) → Covers validity (length xs) → all_within (length xs) indices ≡ true
     → ys ≡ pick d (xs ∷ []) (map pick_of indices) → bits.bits ≡ map (valid_pick validity) (map pick_of indices)
     → masked (Some bits) (map f ys) ≡ take_rows (masked validity (map f xs)) indices
@@ -54,7 +54,7 @@ hidden_trues zero vs = refl
 hidden_trues (suc n) [] = refl
 hidden_trues (suc n) (v ∷ vs) = ap (λ l. v ∷ l) (hidden_trues n vs)
 
--- the same under a validity that is not there where each row is valid
+-- The same for an optional validity, which is none if each row is valid.
 pub taken_rows_for : {A : Type 0} (f : A → Value) → (validity taken : Option Bits) (xs ys : List A) (d : A) (indices : List Value) → Covers validity (length xs) → all_within (length xs) indices ≡ true
     → ys ≡ pick d (xs ∷ []) (map pick_of indices) → bits_for (length indices) taken ≡ map (valid_pick validity) (map pick_of indices)
     → masked taken (map f ys) ≡ take_rows (masked validity (map f xs)) indices
@@ -62,7 +62,7 @@ taken_rows_for f validity (Some bits) xs ys d indices covers within values valid
 taken_rows_for f validity None xs ys d indices covers within values valid =
     sym (hidden_trues (length indices) (map f ys)) ∙ (λ i. hidden (valid i) (map f (values i))) ∙ taken_list f validity xs d indices covers within
 
--- indices without a validity, of rows without one
+-- Indices without a validity, of rows without one.
 pub none_null : (places : List ℕ) → replicate (length (map (λ x. Number (pos x)) places)) true ≡ map (valid_pick None) (map pick_of (map (λ x. Number (pos x)) places))
 none_null [] = refl
 none_null (place ∷ places) = ap (λ l. true ∷ l) (none_null places)
@@ -77,7 +77,7 @@ length-pick d xss indices = length-map (map pick_of indices) (found d xss) ∙ l
 pub length-valid : (validity : Option Bits) (indices : List Value) → length (map (valid_pick validity) (map pick_of indices)) ≡ length indices
 length-valid validity indices = length-map (map pick_of indices) (valid_pick validity) ∙ length-map indices pick_of
 
--- ---- what each element passes
+-- ---- properties of each element
 
 passed_at : {A : Type 0} (p : A → Bool) → (xs : List A) (d : A) (i : ℕ) → list_all p xs ≡ true → p d ≡ true → p (get_or xs i d) ≡ true
 passed_at p [] d i all filler = filler
@@ -92,7 +92,7 @@ pub passed_taken : {A : Type 0} (p : A → Bool) → (xs : List A) (d : A) (indi
 passed_taken p xs d [] all filler = refl
 passed_taken p xs d (index ∷ indices) all filler = rw (passed_found p xs d index all filler) (passed_taken p xs d indices all filler)
 
--- ---- conditions
+-- ---- preconditions
 
 pub within_as : (n m : ℕ) (indices : List Value) → n ≡ m → all_within n indices ≡ true → all_within m indices ≡ true
 within_as n m indices same within = subst (λ (k : ℕ). all_within k indices ≡ true) same within
@@ -100,12 +100,12 @@ within_as n m indices same within = subst (λ (k : ℕ). all_within k indices �
 pub validity_within : (validity : Option Bits) (n : ℕ) (indices : List Value) → Covers validity n → all_within n indices ≡ true → ForSome validity (λ v. all_within (length v.bits) indices ≡ true)
 validity_within validity n indices covers within = λ v there. within_as n (length v.bits) indices (sym (covers v there)) within
 
--- the validity of as many rows
+-- The validity of the rows that are taken has their length.
 pub covers_for : {A : Type 0} → (taken : Option Bits) (xs : List A) (indices : List Value) (validity : Option Bits) → bits_for (length indices) taken ≡ map (valid_pick validity) (map pick_of indices) → length xs ≡ length indices → Covers taken (length xs)
 covers_for taken xs indices validity valid count =
     λ v there. sym (ap (λ o. length (bits_for (length indices) o)) there) ∙ ap (λ (l : List Bool). length l) valid ∙ length-valid validity indices ∙ sym count
 
--- as many as there are indices
+-- There are as many rows as indices.
 pub count_taken : {A : Type 0} → (ys : List A) (d : A) (xss : List (List A)) (indices : List Value) → ys ≡ pick d xss (map pick_of indices) → length ys ≡ length indices
 count_taken ys d xss indices is = ap (λ l. length l) is ∙ length-pick d xss indices
 
@@ -140,14 +140,14 @@ pub picked_places : {A : Type 0} (values : List A) (filler : A) (places : List �
 picked_places values filler [] = refl
 picked_places values filler (place ∷ places) = ap (λ l. get_or values place filler ∷ l) (picked_places values filler places)
 
--- ---- bits that indices name
+-- ---- validity bits at indices
 
 has_bit : (validity : Option Bits) (v : Value) → ForSome validity (λ b. is_within (length b.bits) v ≡ true) → HasBit (validity ∷ []) (pick_of v)
 has_bit validity (Number (pos i)) within = (omega arith, λ b there. ltb-true i (length b.bits) (within b there))
 has_bit validity (Number (negsuc i)) within = cc
 has_bit validity v within = cc
 
--- the picks of indices that are within name bits of the one validity
+-- The row references of indices in bounds have a bit in the validity.
 pub picks_have_bits : (validity : Option Bits) (indices : List Value) → ForSome validity (λ v. all_within (length v.bits) indices ≡ true) → All (HasBit (validity ∷ [])) (map pick_of indices)
 picks_have_bits validity indices within =
     λ k d h.
@@ -155,13 +155,13 @@ picks_have_bits validity indices within =
     subst (HasBit (validity ∷ [])) (sym (get_or-map pick_of indices k Null d there))
     (has_bit validity (get_or indices k Null) (λ v is. all_at (is_within (length v.bits)) indices k Null (within v is) there))
 
--- and find there whether the rows are valid
+-- These bits are the validity of the rows.
 pub found_valid : (validity : Option Bits) (indices : List Value) → bits_found (validity ∷ []) (map pick_of indices) ≡ map (valid_pick validity) (map pick_of indices)
 found_valid validity [] = refl
 found_valid validity (Number (pos i) ∷ indices) = ap (λ l. valid_at validity i ∷ l) (found_valid validity indices)
 found_valid validity (index ∷ indices) = ap (λ l. false ∷ l) (found_valid validity indices)
 
--- of rows without a validity those are valid whose indices are
+-- Without a validity of the values, a row is valid if its index is.
 pub named_bits : (bits : List Bool) (places : List ℕ) → length bits ≡ length places → bits ≡ map (valid_pick None) (map pick_of (hidden bits (map (λ x. Number (pos x)) places)))
 named_bits [] [] same = refl
 named_bits [] (place ∷ places) same = absurd (omega (arith, same))

@@ -1,4 +1,4 @@
--- Indices that name rows.
+-- Indices in bounds.
 use Rattle.std.proofs.Common.{◌≡◌, ℕ, zero, suc, ◌≤◌, ◌<◌, ℤ, pos, negsuc, Bool, true, false, ◌&&◌, List, [], ◌∷◌, length, map, get_or, None, arith, refl, ap, sym, ◌∙◌}
 use Rattle.std.proofs.lemmas.List.{length-map, get_or-map}
 use Rattle.std.proofs.lemmas.Int.{ints}
@@ -10,7 +10,7 @@ use Rattle.polars_compute.specs.Pick.{found, pick_of, take_rows, is_within, all_
 below : (i n : ℕ) → is_within n (Number (pos i)) ≡ true → i < n
 below i n e = grind (arith, nat_tests)
 
--- an index within few rows is a position
+-- An index in bounds of at most 2^32 - 1 rows fits a position.
 pub within_fits : (n : ℕ) (z : ℤ) → is_within n (Number z) ≡ true → n ≤ 4294967295 → IsWithin (pos 0) (pos 18446744073709551615) z
 within_fits n (pos i) e h =
     let small : i < n = below i n e in
@@ -21,7 +21,7 @@ both : (a b : Bool) → (a && b) ≡ true → (a ≡ true) × (b ≡ true)
 both true b e = (refl, e)
 both false b e = cc
 
--- each index that is not null names a row
+-- Each non-null index refers to a row.
 pub within_at : (n : ℕ) (indices : List Value) (k : ℕ) (v : Value) → all_within n indices ≡ true → k < length indices → v ≡ get_or indices k Null → is_within n v ≡ true
 within_at n [] k v e h is = absurd (omega arith)
 within_at n (w ∷ indices) zero v e h is = rw is (both (is_within n w) (all_within n indices) e).0

@@ -1,29 +1,31 @@
--- Blocks of a list at indices.
+-- The blocks of a list at indices.
 use Rattle.std.specs.Prelude.{ℕ, ◌+◌, ◌*◌, pos, negsuc, Bool, true, false, nat_le, List, replicate, ◌++◌}
 use Rattle.std.specs.List.{flat_map, list_all, slice_range}
 use Rattle.sel_bits.specs.Copying.{Copying}
 pub use Rattle.sel_bits.specs.Copying.{IsBeginning}
 use Rattle.sel_arrow.specs.Value.{Value, Number}
 
--- the entries from i * size up to (i + 1) * size for the index i, and `size` times zero for a null one (own: lists of one length, as Arrow columnar format lays them out)
+-- The entries from i * size up to (i + 1) * size for an index i; `size` times `zero` for a null or
+-- negative index (Arrow columnar format: fixed-size list layout).
 abbrev pub block_at : {A : Type 0} → ℕ → A → List A → Value → List A
 block_at size zero xs (Number (pos i)) = slice_range xs (i * size) (i * size + size)
 block_at size zero xs _ = replicate size zero
 
--- the blocks at the indices, behind one another (own: the meaning of a take of blocks)
+-- The blocks at the indices, concatenated.
 abbrev pub block_items : {A : Type 0} → ℕ → A → List A → List Value → List A
 block_items size zero xs indices = flat_map (block_at size zero xs) indices
 
--- an index that is not null names a block of n entries (own)
+-- Whether an index is null or its block lies within n entries.
 abbrev pub is_block_within : ℕ → ℕ → Value → Bool
 is_block_within size n (Number (pos i)) = nat_le ((i + 1) * size) n
 is_block_within size n (Number (negsuc i)) = false
 is_block_within size n _ = true
 
--- each index that is not null names a block of n entries (own)
+-- Whether each index is null or its block lies within n entries.
 abbrev pub blocks_within : ℕ → ℕ → List Value → Bool
 blocks_within size n indices = list_all (is_block_within size n) indices
 
--- with the block at an index behind the others (own)
-abbrev pub after_block : {A : Type 0} → ℕ → A → Copying A → Value → Copying A
-after_block size zero c index = record { source = c.source; items = c.items ++ block_at size zero c.source index; copies = c.copies + 1 }
+-- The state of copying after the block at an index is appended.
+abbrev pub after_block_copy : {A : Type 0} → ℕ → A → Copying A → Value → Copying A
+after_block_copy size zero c index =
+    record { source = c.source; items = c.items ++ block_at size zero c.source index; copies = c.copies + 1 }

@@ -1,2 +1,2 @@
--- The bits of a word under another.
+-- The bits of a word under a mask word.
 pub use Rattle.sel_filter.specs.Compress.{compress}

@@ -1,56 +1,70 @@
--- What columns of one type with the same rows have alike, whatever their layout.
+-- Results that depend only on the type and the rows of a column, not on its layout.
 use Rattle.std.specs.Prelude.{◌≡◌, ℕ, ℤ, Bool, List, ◌∷◌, ◌++◌, Option}
 use Rattle.sel_arrow.specs.Nested.{list_of}
 use Rattle.sel_arrow.specs.Rows.{rows, type_of, IsWellFormed}
 use Rattle.sel_arrow.specs.Shape.{Shape}
 use Rattle.sel_arrow.specs.Value.{Value, Null}
 use Rattle.sel_arrow.specs.declared.column.Column.{Column}
-use Rattle.sel_choices.specs.Choose.{choose, choose_one, choose_or_one, choose_of_two}
+use Rattle.sel_choices.specs.Choose.{choose, broadcast_true, broadcast_false, broadcast_both}
 use Rattle.sel_flatten.specs.Flatten.{flatten}
-use Rattle.sel_sublists.specs.Entries.{fixed_get, short}
+use Rattle.sel_sublists.specs.Entries.{fixed_get, any_out_of_bounds}
 use Rattle.sel_sublists.specs.Lists.{list_get, oob}
 use Rattle.polars_compute.specs.Dictionary.{decode, propagated_keys, rank, valid_values}
 use Rattle.polars_compute.specs.Need.{need, NoneGreater, NoneAbove}
 use Rattle.polars_compute.specs.Pick.{pick}
-use Rattle.polars_compute.specs.Select.{select, in_force}
+use Rattle.polars_compute.specs.Select.{select, effective_mask}
 
--- two columns of one type that have the same rows (own)
+-- Two columns have the same type and the same rows.
 abbrev pub MeansTheSame : Column → Column → Type 0
 MeansTheSame c d = (type_of c ≡ type_of d) × (rows c ≡ rows d)
 
--- What such columns have alike: their need, and what each definition gives of them, beside any other lists. (own)
+-- The common properties of two such columns: their needs are equal, and each definition gives the
+-- same result if one replaces the other among its arguments.
 pub record Alike (c d : Column) : Type 0 where
   pub needs : need (type_of c) (rows c) ≡ need (type_of d) (rows d)
   pub selects : (ms : List Bool) → select (rows c) ms ≡ select (rows d) ms
-  pub forces : in_force (rows c) ≡ in_force (rows d)
-  pub picks : (before after : List (List Value)) (ps : List (Option (ℕ × ℕ))) → pick Null (before ++ rows c ∷ after) ps ≡ pick Null (before ++ rows d ∷ after) ps
-  pub chooses : (ms : List Bool) (others : List Value) → choose ms (rows c) others ≡ choose ms (rows d) others
-  pub chooses_otherwise : (ms : List Bool) (others : List Value) → choose ms others (rows c) ≡ choose ms others (rows d)
-  pub chooses_one : (ms : List Bool) (other : Value) → choose_one ms other (rows c) ≡ choose_one ms other (rows d)
-  pub chooses_or_one : (ms : List Bool) (other : Value) → choose_or_one ms (rows c) other ≡ choose_or_one ms (rows d) other
+  pub forces : effective_mask (rows c) ≡ effective_mask (rows d)
+  pub picks : (before after : List (List Value)) (ps : List (Option (ℕ × ℕ))) →
+      pick Null (before ++ rows c ∷ after) ps ≡ pick Null (before ++ rows d ∷ after) ps
+  pub chooses : (ms : List Bool) (others : List Value) →
+      choose ms (rows c) others ≡ choose ms (rows d) others
+  pub chooses_otherwise : (ms : List Bool) (others : List Value) →
+      choose ms others (rows c) ≡ choose ms others (rows d)
+  pub chooses_one : (ms : List Bool) (other : Value) →
+      broadcast_true ms other (rows c) ≡ broadcast_true ms other (rows d)
+  pub chooses_or_one : (ms : List Bool) (other : Value) →
+      broadcast_false ms (rows c) other ≡ broadcast_false ms (rows d) other
   pub is_one_list : list_of (rows c) ≡ list_of (rows d)
-  pub chooses_of_two : (ms : List Bool) (other : Value) → choose_of_two ms (list_of (rows c)) other ≡ choose_of_two ms (list_of (rows d)) other
-  pub chooses_of_two_otherwise : (ms : List Bool) (other : Value) → choose_of_two ms other (list_of (rows c)) ≡ choose_of_two ms other (list_of (rows d))
-  pub flattens : (before after : List (List Value)) (ws : List ℕ) (h : ℕ) → flatten (before ++ rows c ∷ after) ws h ≡ flatten (before ++ rows d ∷ after) ws h
+  pub chooses_of_two : (ms : List Bool) (other : Value) →
+      broadcast_both ms (list_of (rows c)) other ≡ broadcast_both ms (list_of (rows d)) other
+  pub chooses_of_two_otherwise : (ms : List Bool) (other : Value) →
+      broadcast_both ms other (list_of (rows c)) ≡ broadcast_both ms other (list_of (rows d))
+  pub flattens : (before after : List (List Value)) (ws : List ℕ) (h : ℕ) →
+      flatten (before ++ rows c ∷ after) ws h ≡ flatten (before ++ rows d ∷ after) ws h
   pub gets : (index : ℤ) → list_get (rows c) index ≡ list_get (rows d) index
   pub lacks : (index : ℤ) → oob (rows c) index ≡ oob (rows d) index
-  pub gets_entries : (width : ℕ) (indices : List Value) → fixed_get (rows c) width indices ≡ fixed_get (rows d) width indices
-  pub falls_short : (width : ℕ) (indices : List Value) → short (rows c) width indices ≡ short (rows d) width indices
+  pub gets_entries : (width : ℕ) (indices : List Value) →
+      fixed_get (rows c) width indices ≡ fixed_get (rows d) width indices
+  pub falls_short : (width : ℕ) (indices : List Value) →
+      any_out_of_bounds (rows c) width indices ≡ any_out_of_bounds (rows d) width indices
   pub decodes : (values : List Value) → decode (rows c) values ≡ decode (rows d) values
   pub is_decoded : (keys : List Value) → decode keys (rows c) ≡ decode keys (rows d)
   pub ranks : (k : ℕ) → rank (rows c) k ≡ rank (rows d) k
-  pub propagates : (values : List Value) → propagated_keys (rows c) values ≡ propagated_keys (rows d) values
-  pub is_propagated : (keys : List Value) → propagated_keys keys (rows c) ≡ propagated_keys keys (rows d)
+  pub propagates : (values : List Value) →
+      propagated_keys (rows c) values ≡ propagated_keys (rows d) values
+  pub is_propagated : (keys : List Value) →
+      propagated_keys keys (rows c) ≡ propagated_keys keys (rows d)
   pub keeps_valid : valid_values (rows c) ≡ valid_values (rows d)
 
--- columns that mean the same are alike in all of this (own)
+-- Columns with the same type and the same rows have these properties in common.
 abbrev pub EqualMeaning : Type 0
 EqualMeaning = (c d : Column) → MeansTheSame c d → Alike c d
 
--- what a mask keeps needs no more than all rows (own)
+-- The rows that a mask selects need no more than all rows.
 abbrev pub KeptNeedsNoMore : Type 0
-KeptNeedsNoMore = (s : Shape) (xs : List Value) (ms : List Bool) → NoneGreater (need s (select xs ms)) (need s xs)
+KeptNeedsNoMore =
+    (s : Shape) (xs : List Value) (ms : List Bool) → NoneGreater (need s (select xs ms)) (need s xs)
 
--- the rows of a well-formed column need nothing above its limit (own)
+-- The rows of a well-formed column need no more than its limits.
 abbrev pub NeedsWithinLimits : Type 0
 NeedsWithinLimits = (c : Column) → IsWellFormed c → NoneAbove (need (type_of c) (rows c))

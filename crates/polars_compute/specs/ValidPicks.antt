@@ -1,9 +1,9 @@
--- Picks of valid rows, as the steps of a take speak of them.
+-- Row references to valid rows, for the internal steps of a take.
 use Rattle.std.specs.Prelude.{ℕ, Bool, false, Option, Some, None}
 use Rattle.sel_bits.specs.Bits.{Bits}
 use Rattle.sel_arrow.specs.Masked.{valid_at}
 
--- whether a pick of one column is not none and names a row that is valid (own)
+-- Whether a row reference into a single column is not none and refers to a valid row.
 abbrev pub valid_pick : Option Bits → Option (ℕ × ℕ) → Bool
 valid_pick validity None = false
 valid_pick validity (Some p) = valid_at validity p.1

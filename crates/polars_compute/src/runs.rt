@@ -18,7 +18,8 @@ use std::alloc::Global;
 /// Returns the maximal runs of true bits in `mask`, in order.
 pub(crate) fn runs_of_mask(alloc: Global, mask: &Bitmap) -> PolarsResult<Vec<Run>>
     requires { length mask.now.bits ≤ 4294967295 }
-    ensures picks { IfOk result (λ runs. expand runs.items ≡ map place_pick (kept mask.now.bits)) }
+    ensures picks { IfOk result (λ runs. expand runs.items ≡
+        map place_pick (kept mask.now.bits)) }
     ensures refusal { IfErr result (λ fault. fault ≡ PolarsError.OutOfMemory) }
 {
     let mut runs = Vec::new(alloc);

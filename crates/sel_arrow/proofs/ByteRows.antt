@@ -1,4 +1,4 @@
--- Rows of bytes between offsets.
+-- Rows of binary with offsets.
 use Rattle.std.proofs.Common.{◌≡◌, ◌≢◌, ℕ, zero, suc, ◌+◌, ◌-◌, ◌≤◌, ◌<◌, true, false, List, [], ◌∷◌, length, take, drop, map, Option, refl, ap, ◌∙◌, arith, get_or, add-one}
 use Rattle.std.specs.List.{slice_range}
 use Rattle.std.specs.Option.{option_map}
@@ -6,7 +6,7 @@ use Rattle.std.proofs.lemmas.List.{get_or-take, get_or-drop}
 use Rattle.sel_bits.specs.Bits.{Bits}
 use Rattle.sel_bits.specs.Offsets.{IsRising}
 use Rattle.sel_arrow.specs.Masked.{masked, Covers, valid_at, part_of}
-use Rattle.sel_arrow.specs.Nulls.{TellsNulls}
+use Rattle.sel_arrow.specs.Nulls.{IsValidityOf}
 use Rattle.sel_arrow.specs.Pieces.{byte_rows, last_offset, pieces, pieces_after, rows_between}
 use Rattle.sel_arrow.specs.Shape.{Shape, of_null}
 use Rattle.sel_arrow.specs.Value.{Null, Bytes}
@@ -31,7 +31,7 @@ pub get_or-pieces : {A : Type 0} (offsets : List ℕ) (xs : List A) (i : ℕ) �
 get_or-pieces [] xs i h = absurd (omega arith)
 get_or-pieces (a ∷ offsets) xs i h = rw add-one (get_or-pieces_after a offsets xs i (omega arith))
 
--- the pieces between a part of the offsets are a part of the pieces
+-- The pieces between a part of the offsets are a part of the pieces.
 drop-pieces : {A : Type 0} (n : ℕ) (offsets : List ℕ) (xs : List A) → pieces (drop n offsets) xs ≡ drop n (pieces offsets xs)
 drop-pieces zero offsets xs = refl
 drop-pieces (suc n) [] xs = refl
@@ -52,7 +52,7 @@ take-pieces n (a ∷ offsets) xs = rw add-one (take-pieces_after n a offsets xs)
 pub part-pieces : {A : Type 0} (offsets : List ℕ) (xs : List A) (off len : ℕ) → pieces (take (len + 1) (drop off offsets)) xs ≡ take len (drop off (pieces offsets xs))
 part-pieces offsets xs off len = take-pieces len (drop off offsets) xs ∙ ap (take len) (drop-pieces off offsets xs)
 
--- ---- rows of bytes
+-- ---- binary rows
 
 pub length-byte_rows : (offsets bytes : List ℕ) (validity : Option Bits) → length (byte_rows offsets bytes validity) ≡ rows_between offsets
 length-byte_rows offsets bytes validity = length-mapped Bytes (pieces offsets bytes) validity ∙ length-pieces offsets bytes
@@ -72,7 +72,7 @@ valid_bytes offsets bytes validity i e h covers =
     valid_mapped Bytes (pieces offsets bytes) validity i [] e (inside_pieces offsets bytes i h) (covers_pieces offsets bytes validity covers)
     ∙ ap Bytes (get_or-pieces offsets bytes i h)
 
-pub tells-bytes : (s : Shape) (offsets bytes : List ℕ) (validity : Option Bits) → s ≢ of_null → Covers validity (rows_between offsets) → TellsNulls s validity (byte_rows offsets bytes validity)
+pub tells-bytes : (s : Shape) (offsets bytes : List ℕ) (validity : Option Bits) → s ≢ of_null → Covers validity (rows_between offsets) → IsValidityOf s validity (byte_rows offsets bytes validity)
 tells-bytes s offsets bytes validity other covers = tells-mapped Bytes (λ x. refl) s (pieces offsets bytes) validity other (covers_pieces offsets bytes validity covers)
 
 pub part-byte_rows : (offsets bytes : List ℕ) (validity : Option Bits) (off len : ℕ) → byte_rows (take (len + 1) (drop off offsets)) bytes (option_map (part_of off len) validity) ≡ take len (drop off (byte_rows offsets bytes validity))

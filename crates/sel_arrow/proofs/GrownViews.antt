@@ -1,4 +1,4 @@
--- Views over one data buffer that grows.
+-- Views into one data buffer to which bytes are appended.
 use Rattle.std.proofs.Common.{◌≡◌, ℕ, zero, suc, ◌+◌, ◌-◌, ◌≤◌, Bool, true, false, ◌&&◌, cond, List, [], ◌∷◌, ◌++◌, length, drop, map, get_or, arith, refl, ap, sym, subst, ◌∙◌, length-append, length-drop}
 use Rattle.std.specs.Prelude.{leb, ltb, ◌==◌}
 use Rattle.std.specs.List.{slice_range}
@@ -11,7 +11,8 @@ use Rattle.sel_arrow.specs.Views.{all_placed, inline_bytes, is_inline, is_placed
 use Rattle.sel_arrow.specs.declared.view.View.{View}
 use Rattle.sel_arrow.proofs.Lists.{both, and_first, and_second}
 
--- whether bytes have those that a view names, and whether its prefix is the first four of them
+-- Whether the range of a view lies within the bytes, and whether its prefix is the first four bytes
+-- of that range.
 abbrev fits : List ℕ → View → Bool
 fits bytes v = leb (v.offset + v.length) (length bytes)
 
@@ -72,7 +73,7 @@ all_kept store more (v ∷ vs) placed =
       ap (λ x. x ∷ map (view_value ((store ++ more) ∷ [])) vs) here.1 ∙ ap (λ l. view_value (store ∷ []) v ∷ l) rest.1,
     )
 
--- ---- the view of the bytes behind the others
+-- ---- the view of appended bytes
 
 abbrev far_view : ℕ → List ℕ → View
 far_view at text = record { length = length text; prefix = word_at text 0; buffer_idx = 0; offset = at }
@@ -85,11 +86,11 @@ range_behind store text =
     let wide : length store + length text - length store ≡ length text = omega arith in
     rw (wide, drop-append_seam store text) (take_all (length text) text (omega arith))
 
--- a view names a text over the data buffer
+-- A well-formed view with the bytes `text`.
 abbrev pub Named : List ℕ → View → List ℕ → Type 0
 Named store v text = (is_placed (store ∷ []) v ≡ true) × (view_value (store ∷ []) v ≡ Bytes text)
 
--- that of up to 12 bytes, over any
+-- A view of at most 12 bytes, with any data buffer.
 pub near_new : (store text : List ℕ) (v : View) (at : ℕ) → v ≡ view_of text 0 at → leb (length text) 12 ≡ true → inline_bytes v ≡ text → Named store v text
 near_new store text v at is few near =
     let long : v.length ≡ length text = ap (λ (w : View). w.length) (is ∙ ap (λ b. cond b (near_view text) (far_view at text)) few) in
@@ -104,13 +105,13 @@ far_named store text e =
     let start : starts (store ++ text) v ≡ true = ap (λ bytes. word_at text 0 == word_at bytes 0) same ∙ eq-eqb (word_at text 0) (word_at text 0) refl in
     (far_placed ((store ++ text) ∷ []) v e ∙ both (fits (store ++ text) v) (starts (store ++ text) v) fit start, far_value ((store ++ text) ∷ []) v e ∙ ap Bytes same)
 
--- that of more, over one that it is put behind
+-- A view of more than 12 bytes, which are appended to the data buffer.
 pub far_new : (store text : List ℕ) (v : View) → v ≡ view_of text 0 (length store) → leb (length text) 12 ≡ false → Named (store ++ text) v text
 far_new store text v is many =
     let far : v ≡ far_view (length store) text = is ∙ ap (λ b. cond b (near_view text) (far_view (length store) text)) many in
     subst (λ x. Named (store ++ text) x text) (sym far) (far_named store text many)
 
--- one view more, over a data buffer that has grown
+-- One more view, after bytes are appended to the data buffer.
 pub placed_more : (store more text : List ℕ) (views : List View) (v : View) → all_placed (store ∷ []) views ≡ true → Named (store ++ more) v text
     → (all_placed ((store ++ more) ∷ []) (views ++ v ∷ []) ≡ true) × (map (view_value ((store ++ more) ∷ [])) (views ++ v ∷ []) ≡ map (view_value (store ∷ [])) views ++ Bytes text ∷ [])
 placed_more store more text views v placed named =

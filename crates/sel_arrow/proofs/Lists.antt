@@ -1,4 +1,4 @@
--- A test of each element of a list, at a part of it.
+-- Predicates on all elements of a list, and on those of a part of it.
 use Rattle.std.proofs.Common.{◌≡◌, ℕ, zero, suc, ◌+◌, ◌<◌, Bool, true, false, ◌&&◌, List, [], ◌∷◌, ◌++◌, map, length, take, drop, refl, ap, sym, ◌∙◌, arith, get_or}
 use Rattle.std.specs.List.{list_all}
 use Rattle.std.proofs.lemmas.List.{map_more, take_all}
@@ -35,21 +35,21 @@ all_taken p (suc n) (x ∷ xs) e =
 pub all_part : {A : Type 0} (p : A → Bool) → (xs : List A) (off len : ℕ) → list_all p xs ≡ true → list_all p (take len (drop off xs)) ≡ true
 all_part p xs off len e = all_taken p len (drop off xs) (all_dropped p off xs e)
 
--- one more element
+-- One more element.
 pub all_more : {A : Type 0} (p : A → Bool) → (xs : List A) (i : ℕ) (d : A) → list_all p (take i xs) ≡ true → i < length xs → p (get_or xs i d) ≡ true → list_all p (take (i + 1) xs) ≡ true
 all_more p xs i d e h here = list_all_more p xs i d h ∙ both (list_all p (take i xs)) (p (get_or xs i d)) e here
 
--- all of them
+-- All elements.
 pub all_of_them : {A : Type 0} (p : A → Bool) → (xs : List A) (n : ℕ) → list_all p (take n xs) ≡ true → n ≡ length xs → list_all p xs ≡ true
 all_of_them p xs n e h = sym (ap (list_all p) (take_all n xs (omega arith))) ∙ e
 
--- one that fails
+-- An element for which the predicate is false.
 pub none_at : {A : Type 0} (p : A → Bool) → (xs : List A) (i : ℕ) (d : A) → i < length xs → p (get_or xs i d) ≡ false → list_all p xs ≡ false
 none_at p xs i d h here = list_all_at p xs i d h here
 
 pub ruleset all_lists = (all_at, all_more, all_of_them, none_at)
 
--- what is made of the elements so far, and of one more
+-- A mapped list, after one more element.
 pub push_more : {A B : Type 0} (f : A → B) → (xs : List A) (ys zs : List B) (i : ℕ) (x : A) (y : B) → i < length xs → x ≡ get_or xs i x → y ≡ f x → zs ≡ ys ++ y ∷ [] → ys ≡ map f (take i xs) → zs ≡ map f (take (i + 1) xs)
 push_more f xs ys zs i x y below is made pushed before =
     pushed ∙ ap (λ l. l ++ y ∷ []) before ∙ ap (λ v. map f (take i xs) ++ v ∷ []) (made ∙ ap f is) ∙ sym (map_more f xs i x below)

@@ -1,4 +1,4 @@
--- The rules of columns with children, against the tests of well-formed columns.
+-- The rules for columns with children agree with `well_formed`.
 use Rattle.std.proofs.Common.{◌≡◌, ℕ, ◌*◌, Bool, true, false, not, ◌&&◌, nat_le, nat_lt, ◌==◌, List, [], ◌∷◌, length, Option, None, is_some, is_none, refl, ap, sym, ◌∙◌, arith}
 use Rattle.std.proofs.lemmas.Bool.Decides.{nat_tests}
 use Rattle.sel_bits.specs.Bits.{Bits}
@@ -6,7 +6,7 @@ use Rattle.sel_bits.specs.Faults.{first_broken}
 use Rattle.sel_bits.specs.Offsets.{IsRising}
 use Rattle.sel_bits.specs.declared.faults.Malformed.{Malformed}
 use Rattle.sel_bits.specs.declared.faults.Malformed.TheVariants.{TooManyRows, FieldLength, ValidityLength}
-use Rattle.sel_arrow.specs.Makers.{list_fault, block_fault, tuple_fault}
+use Rattle.sel_arrow.specs.Makers.{list_fault, block_fault, struct_length_fault}
 use Rattle.sel_arrow.specs.Masked.{covers, is_few, too_many, validity_differs}
 use Rattle.sel_arrow.specs.Pieces.{rows_between, last_offset, is_rising}
 use Rattle.sel_arrow.specs.Rows.{rows, row_count, well_formed}
@@ -57,20 +57,20 @@ sound_blocks size len n validity =
     ∙ ap (λ b. is_few len && b && not (not (n == len * size)) && covers validity len) narrow
     ∙ ap (λ b. is_few len && is_few size && b && covers validity len) (twice (n == len * size))
 
-pub sound_tuples : (len : ℕ) (validity : Option Bits) (t : Bool) → is_some (tuple_fault len true validity) ≡ not t → t ≡ (is_few len && covers validity len)
+pub sound_tuples : (len : ℕ) (validity : Option Bits) (t : Bool) → is_some (struct_length_fault len true validity) ≡ not t → t ≡ (is_few len && covers validity len)
 sound_tuples len validity t fault =
     sym (twice t) ∙ ap not (sym fault)
     ∙ none_of_three TooManyRows FieldLength ValidityLength (too_many len) false (validity_differs validity len)
     ∙ ap (λ b. b && true && covers validity len) (opposite len 4294967295)
     ∙ ap (λ b. b && covers validity len) (and_true (is_few len))
 
--- fields fit where no rule of tuples is broken
-pub tuple_fit : (len : ℕ) (fit : Bool) (validity : Option Bits) → tuple_fault len fit validity ≡ None → fit ≡ true
+-- If no rule of structs is broken, each field has the right number of rows.
+pub tuple_fit : (len : ℕ) (fit : Bool) (validity : Option Bits) → struct_length_fault len fit validity ≡ None → fit ≡ true
 tuple_fit len fit validity sound =
     let tests = sym (none_of_three TooManyRows FieldLength ValidityLength (too_many len) (not fit) (validity_differs validity len)) ∙ ap is_none sound in
     sym (twice fit) ∙ and_second (not (too_many len)) (not (not fit)) (and_first (not (too_many len) && not (not fit)) (covers validity len) tests)
 
--- lists of which no rule is broken, over a well-formed child
+-- Lists that break no rule, over a well-formed child.
 pub list_test : (offsets : List ℕ) (values : Column) (validity : Option Bits) (n : ℕ) (t : Bool) → IsRising offsets → well_formed values ≡ true → n ≡ length (rows values) → is_some (list_fault offsets n validity) ≡ not t →
     t ≡ (is_rising offsets && is_few (rows_between offsets) && nat_le (last_offset offsets) (row_count values) && covers validity (rows_between offsets) && well_formed values)
 list_test offsets values validity n t rising formed count fault =
@@ -80,7 +80,7 @@ list_test offsets values validity n t rising formed count fault =
     in
     rw (rising_test offsets rising, formed) (sound ∙ sym (and_true (is_few (rows_between offsets) && nat_le (last_offset offsets) (row_count values) && covers validity (rows_between offsets))))
 
--- blocks of which no rule is broken, over a well-formed child
+-- fixed-size lists that break no rule, over a well-formed child.
 pub block_test : (size len : ℕ) (values : Column) (validity : Option Bits) (n : ℕ) (t : Bool) → well_formed values ≡ true → n ≡ length (rows values) → is_some (block_fault size len n validity) ≡ not t →
     t ≡ (is_few len && is_few size && (row_count values == len * size) && covers validity len && well_formed values)
 block_test size len values validity n t formed count fault =

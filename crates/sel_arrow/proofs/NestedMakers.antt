@@ -1,13 +1,13 @@
--- Columns with children made of parts that break no rule, and under another validity.
+-- Columns with children, from parts that break no rule, and with a replaced validity.
 use Rattle.std.proofs.Common.{◌≡◌, ◌≢◌, ℕ, ◌≤◌, Bool, true, false, ◌==◌, List, [], ◌∷◌, length, map, Option, None, is_some, All, Vec, Box, Global, refl, ap, sym, subst, ◌∙◌, arith}
 use Rattle.std.specs.List.{list_all}
 use Rattle.std.proofs.lemmas.Bool.Decides.{nat_tests}
 use Rattle.std.proofs.lemmas.List.Elements.{All-nil, All-cons, All-head, All-tail}
 use Rattle.sel_bits.specs.Bits.{Bits}
 use Rattle.sel_bits.specs.Offsets.{IsRising}
-use Rattle.sel_arrow.specs.Makers.{list_fault, block_fault, tuple_fault}
+use Rattle.sel_arrow.specs.Makers.{list_fault, block_fault, struct_length_fault}
 use Rattle.sel_arrow.specs.Masked.{Covers}
-use Rattle.sel_arrow.specs.Nulls.{TellsNulls}
+use Rattle.sel_arrow.specs.Nulls.{IsValidityOf}
 use Rattle.sel_arrow.specs.Rows.{rows, row_count, type_of, well_formed, IsField, IsWellFormed}
 use Rattle.sel_arrow.specs.declared.column.Column.{Column, LargeList, FixedSizeList, Struct}
 use Rattle.sel_arrow.proofs.Lists.{and_first, and_second}
@@ -33,13 +33,13 @@ counted len (c ∷ cs) same formed =
     All-cons (IsField len) c cs (count, All-head IsWellFormed c cs formed)
     (counted len cs (and_second (row_count c == len) (list_all (λ d. row_count d == len) cs) same) (All-tail IsWellFormed c cs formed))
 
-pub tuples_make : (len : ℕ) (fields : Vec Column Global) (validity : Option Bits) (fit : Bool) → fit ≡ list_all (λ c. row_count c == len) fields.items → All IsWellFormed fields.items → tuple_fault len fit validity ≡ None →
+pub tuples_make : (len : ℕ) (fields : Vec Column Global) (validity : Option Bits) (fit : Bool) → fit ≡ list_all (λ c. row_count c == len) fields.items → All IsWellFormed fields.items → struct_length_fault len fit validity ≡ None →
     well_formed (Struct len fields validity) ≡ true
 tuples_make len fields validity fit is formed sound =
     let fits = tuple_fit len fit validity sound in
-    sym (struct_test len fields validity true (counted len fields.items (sym is ∙ fits) formed) (ap (λ b. is_some (tuple_fault len b validity)) (sym fits) ∙ ap is_some sound))
+    sym (struct_test len fields validity true (counted len fields.items (sym is ∙ fits) formed) (ap (λ b. is_some (struct_length_fault len b validity)) (sym fits) ∙ ap is_some sound))
 
--- ---- another validity
+-- ---- a replaced validity
 
 pub lists_under : (offsets : List ℕ) (values : Box Column Global) (old new : Option Bits) → well_formed (LargeList offsets values old) ≡ true → Covers new (length (rows (LargeList offsets values old))) → well_formed (LargeList offsets values new) ≡ true
 lists_under offsets values old new formed covers =
@@ -60,25 +60,25 @@ tuples_under len fields old new formed covers =
     let count = ap length (rows-Struct len fields old) ∙ length-tuple_rows len (map rows fields.items) old in
     fields_make len fields new (record { few = has.few; covered = subst (Covers new) count covers; fields = has.fields })
 
--- ---- how many rows there are, and which are null
+-- ---- the number of rows, and which are null
 
 pub lists_few : (offsets : List ℕ) (values : Box Column Global) (validity : Option Bits) → well_formed (LargeList offsets values validity) ≡ true → length (rows (LargeList offsets values validity)) ≤ 4294967295
 lists_few offsets values validity formed = omega (arith, length-list_rows offsets (rows values.value) validity, (has_lists offsets values.value validity formed).few)
 
-pub lists_tell : (offsets : List ℕ) (values : Box Column Global) (validity : Option Bits) → well_formed (LargeList offsets values validity) ≡ true → TellsNulls (type_of (LargeList offsets values validity)) validity (rows (LargeList offsets values validity))
+pub lists_tell : (offsets : List ℕ) (values : Box Column Global) (validity : Option Bits) → well_formed (LargeList offsets values validity) ≡ true → IsValidityOf (type_of (LargeList offsets values validity)) validity (rows (LargeList offsets values validity))
 lists_tell offsets values validity formed = list_tells (LargeList offsets values validity) offsets values validity refl formed
 
 pub blocks_tell : (size len : ℕ) (values : Box Column Global) (validity : Option Bits) → well_formed (FixedSizeList size len values validity) ≡ true →
-    TellsNulls (type_of (FixedSizeList size len values validity)) validity (rows (FixedSizeList size len values validity))
+    IsValidityOf (type_of (FixedSizeList size len values validity)) validity (rows (FixedSizeList size len values validity))
 blocks_tell size len values validity formed = block_tells (FixedSizeList size len values validity) size len values validity refl formed
 
-pub tuples_tell : (len : ℕ) (fields : Vec Column Global) (validity : Option Bits) → well_formed (Struct len fields validity) ≡ true → TellsNulls (type_of (Struct len fields validity)) validity (rows (Struct len fields validity))
+pub tuples_tell : (len : ℕ) (fields : Vec Column Global) (validity : Option Bits) → well_formed (Struct len fields validity) ≡ true → IsValidityOf (type_of (Struct len fields validity)) validity (rows (Struct len fields validity))
 tuples_tell len fields validity formed = struct_tells (Struct len fields validity) len fields validity refl formed
 
 pub tuples_count : (len : ℕ) (fields : Vec Column Global) (validity : Option Bits) → length (rows (Struct len fields validity)) ≡ len
 tuples_count len fields validity = length-rows (Struct len fields validity)
 
--- ---- whether a column has so many rows
+-- ---- whether a column has a given number of rows
 
 pub count_fits : (len n : ℕ) (c : Column) → n ≡ length (rows c) → n ≡ len → (row_count c == len) ≡ true
 count_fits len n c count same = let is : row_count c ≡ len = sym (length-rows c) ∙ sym count ∙ same in grind (arith, nat_tests, is)

@@ -1,4 +1,4 @@
--- Parts of columns with children.
+-- Slices and copies of columns with children.
 use Rattle.std.proofs.Common.{◌≡◌, ℕ, ◌+◌, ◌-◌, ◌*◌, ◌≤◌, ◌<◌, true, List, [], ◌∷◌, ◌++◌, length, take, drop, map, get_or, Option, All, Vec, Box, Global, refl, ap, sym, subst, ◌∙◌, arith, suc, suc-mul, add-mul}
 use Rattle.std.specs.List.{flat_map, range_with_len, slice_range}
 use Rattle.std.specs.Option.{ForSome, option_map}
@@ -8,7 +8,7 @@ use Rattle.std.proofs.lemmas.List.FromFn.{length-map-range_with_len, get_or-map-
 use Rattle.std.proofs.lemmas.Nat.{mul-le}
 use Rattle.sel_bits.specs.Bits.{Bits}
 use Rattle.sel_arrow.specs.Masked.{masked, part_of, Covers}
-use Rattle.sel_arrow.specs.Nested.{list_of, list_rows, blocks, block_rows, tuple_at, tuple_rows}
+use Rattle.sel_arrow.specs.Nested.{list_of, list_rows, blocks, block_rows, struct_at, struct_rows}
 use Rattle.sel_arrow.specs.Pieces.{pieces, rows_between}
 use Rattle.sel_arrow.specs.Rows.{rows, row_count, buffers_held, type_of, well_formed, IsField, IsWellFormed}
 use Rattle.sel_arrow.specs.Shape.{of_struct, shapes_of}
@@ -20,7 +20,7 @@ use Rattle.sel_arrow.proofs.Rows.{part-mapped, part-masked, length-part, part_co
 use Rattle.sel_arrow.proofs.Trees.{rows-Struct, has_fields, fields_make}
 use Rattle.sel_arrow.proofs.Types.{type_of-Struct, buffers_held-Struct}
 
--- a part of a list by place is a list by place
+-- A part of a list that is defined by position.
 part_by_place : {A : Type 0} (f g : ℕ → A) (n off len : ℕ) (d : A) → off + len ≤ n → ((i : ℕ) → i < len → g i ≡ f (off + i)) → map g (range_with_len 0 len) ≡ take len (drop off (map f (range_with_len 0 n)))
 part_by_place f g n off len d h same =
     let whole = map f (range_with_len 0 n) in
@@ -30,7 +30,7 @@ part_by_place f g n off len d h same =
     (λ k lt.
     get_or-take len (drop off whole) k d lt ∙ get_or-drop off whole k d ∙ get_or-map-range_with_len f 0 n (off + k) (off + k) d (omega arith) (omega arith) ∙ sym (same k lt)))
 
--- a range of a part of a list
+-- A range of a part of a list.
 range_of_part : {A : Type 0} (xs : List A) (a m p q : ℕ) → p ≤ q → q ≤ m → slice_range (take m (drop a xs)) p q ≡ slice_range xs (a + p) (a + q)
 range_of_part xs a m p q le within =
     let rest : m ≡ p + (m - p) = omega arith in
@@ -65,8 +65,8 @@ part-block_rows w n child validity off len h =
     ap (λ parts. masked (option_map (part_of off len) validity) (map list_of parts)) (part-blocks w n off len child h)
     ∙ part-mapped list_of (blocks w n child) validity off len
 
--- the tuple at place i of parts of the fields
-tuple_of_parts : (fields : List (List Value)) (off len i : ℕ) → i < len → tuple_at (map (λ field. take len (drop off field)) fields) i ≡ tuple_at fields (off + i)
+-- The struct value at position i of parts of the fields.
+tuple_of_parts : (fields : List (List Value)) (off len i : ℕ) → i < len → struct_at (map (λ field. take len (drop off field)) fields) i ≡ struct_at fields (off + i)
 tuple_of_parts fields off len i lt = ap (λ values. Tuple (values_of values)) (each fields)
   where
     each : (fields : List (List Value)) → map (λ field. get_or field i Null) (map (λ field. take len (drop off field)) fields) ≡ map (λ field. get_or field (off + i) Null) fields
@@ -76,16 +76,16 @@ tuple_of_parts fields off len i lt = ap (λ values. Tuple (values_of values)) (e
         ap (λ v. v ∷ map (λ field. get_or field i Null) (map (λ field. take len (drop off field)) fields)) here ∙ ap (λ rest. get_or field (off + i) Null ∷ rest) (each fields)
 
 pub part-tuple_rows : (n : ℕ) (fields : List (List Value)) (validity : Option Bits) (off len : ℕ) → off + len ≤ n →
-    tuple_rows len (map (λ field. take len (drop off field)) fields) (option_map (part_of off len) validity) ≡ take len (drop off (tuple_rows n fields validity))
+    struct_rows len (map (λ field. take len (drop off field)) fields) (option_map (part_of off len) validity) ≡ take len (drop off (struct_rows n fields validity))
 part-tuple_rows n fields validity off len h =
-    ap (masked (option_map (part_of off len) validity)) (part_by_place (tuple_at fields) (tuple_at (map (λ field. take len (drop off field)) fields)) n off len Null h (tuple_of_parts fields off len))
-    ∙ sym (part-masked validity (map (tuple_at fields) (range_with_len 0 n)) off len)
+    ap (masked (option_map (part_of off len) validity)) (part_by_place (struct_at fields) (struct_at (map (λ field. take len (drop off field)) fields)) n off len Null h (tuple_of_parts fields off len))
+    ∙ sym (part-masked validity (map (struct_at fields) (range_with_len 0 n)) off len)
 
--- the rows of a part of a column
+-- The rows of a part of a column.
 abbrev pub part_rows : ℕ → ℕ → Column → List Value
 part_rows off len column = take len (drop off (rows column))
 
--- ---- what stays of a column of lists in a part or a copy
+-- ---- slices and copies of list columns
 
 pub lists_inside : (offsets : List ℕ) (values : Box Column Global) (validity : Option Bits) (off len : ℕ) → off + len ≤ length (rows (LargeList offsets values validity)) → off + len ≤ rows_between offsets
 lists_inside offsets values validity off len inside = omega (arith, length-list_rows offsets (rows values.value) validity)
@@ -135,7 +135,7 @@ pub lists_copied_rows : (offsets new : List ℕ) (values child : Box Column Glob
 lists_copied_rows offsets new values child validity seen is same copy =
     ap (λ os. list_rows os (rows child.value) seen) is ∙ ap (λ vs. list_rows offsets vs seen) same ∙ ap (list_rows offsets (rows values.value)) copy
 
--- ---- of a column of lists of one length
+-- ---- slices and copies of fixed-size list columns
 
 pub blocks_inside : (size n : ℕ) (values : Box Column Global) (validity : Option Bits) (off len : ℕ) → off + len ≤ length (rows (FixedSizeList size n values validity)) → off + len ≤ n
 blocks_inside size n values validity off len inside = omega (arith, inside, length-block_rows size n (rows values.value) validity)
@@ -181,7 +181,7 @@ blocks_copied size n values child validity seen formed same below copy =
 pub blocks_copied_rows : (size n : ℕ) (values child : Box Column Global) (validity seen : Option Bits) → rows child.value ≡ rows values.value → seen ≡ validity → rows (FixedSizeList size n child seen) ≡ rows (FixedSizeList size n values validity)
 blocks_copied_rows size n values child validity seen same copy = ap (λ vs. block_rows size n vs seen) same ∙ ap (block_rows size n (rows values.value)) copy
 
--- ---- of a column of tuples
+-- ---- slices and copies of struct columns
 
 pub tuples_inside : (n : ℕ) (fields : Vec Column Global) (validity : Option Bits) (off len : ℕ) → off + len ≤ length (rows (Struct n fields validity)) → off + len ≤ n
 tuples_inside n fields validity off len inside =
@@ -204,8 +204,8 @@ pub tuples_part_rows : (n : ℕ) (fields parts : Vec Column Global) (validity se
     rows (Struct len parts seen) ≡ take len (drop off (rows (Struct n fields validity)))
 tuples_part_rows n fields parts validity seen off len inside part is =
     rows-Struct len parts seen
-    ∙ ap (λ fs. tuple_rows len fs seen) (part ∙ twice fields.items)
-    ∙ ap (tuple_rows len (map (λ vs. take len (drop off vs)) (map rows fields.items))) is
+    ∙ ap (λ fs. struct_rows len fs seen) (part ∙ twice fields.items)
+    ∙ ap (struct_rows len (map (λ vs. take len (drop off vs)) (map rows fields.items))) is
     ∙ part-tuple_rows n (map rows fields.items) validity off len inside
     ∙ ap (λ vs. take len (drop off vs)) (sym (rows-Struct n fields validity))
   where
@@ -240,7 +240,7 @@ tuples_copied n fields copies validity seen formed same below copy =
 
 pub tuples_copied_rows : (n : ℕ) (fields copies : Vec Column Global) (validity seen : Option Bits) → map rows copies.items ≡ map rows fields.items → seen ≡ validity → rows (Struct n copies seen) ≡ rows (Struct n fields validity)
 tuples_copied_rows n fields copies validity seen same copy =
-    rows-Struct n copies seen ∙ ap (λ fs. tuple_rows n fs seen) same ∙ ap (tuple_rows n (map rows fields.items)) copy ∙ sym (rows-Struct n fields validity)
+    rows-Struct n copies seen ∙ ap (λ fs. struct_rows n fs seen) same ∙ ap (struct_rows n (map rows fields.items)) copy ∙ sym (rows-Struct n fields validity)
 
 -- ---- field by field
 

@@ -1,4 +1,4 @@
--- Rows of columns with children, and what a well-formed column has.
+-- Rows of columns with children, and the properties of well-formed columns.
 use Rattle.std.proofs.Common.{◌≡◌, ◌≢◌, ℕ, zero, suc, ◌+◌, ◌*◌, ◌≤◌, ◌<◌, Bool, true, ◌&&◌, nat_le, ◌==◌, List, [], ◌∷◌, length, Option, Some, None, refl, ap, sym, ◌∙◌, arith, get_or, Vec, Box, Global, subst}
 use Rattle.std.specs.List.{range_with_len, slice_range}
 use Rattle.std.proofs.lemmas.Bool.{leb-true, le-leb}
@@ -10,8 +10,8 @@ use Rattle.sel_bits.specs.Bits.{Bits}
 use Rattle.sel_bits.specs.Offsets.{IsRising}
 use Rattle.sel_arrow.specs.Value.{Value, Null}
 use Rattle.sel_arrow.specs.Masked.{Covers, covers, is_few}
-use Rattle.sel_arrow.specs.Nested.{list_of, list_rows, blocks, block_rows, tuple_at, tuple_rows}
-use Rattle.sel_arrow.specs.Nulls.{TellsNulls}
+use Rattle.sel_arrow.specs.Nested.{list_of, list_rows, blocks, block_rows, struct_at, struct_rows}
+use Rattle.sel_arrow.specs.Nulls.{IsValidityOf}
 use Rattle.sel_arrow.specs.Pieces.{pieces, rows_between, last_offset, is_rising, rises_from}
 use Rattle.sel_arrow.specs.Rows.{rows, rows_of_each, row_count, type_of, types_of_each, well_formed, all_well_formed}
 use Rattle.sel_arrow.specs.Shape.{Shape, Shapes, of_null, of_large_list, of_fixed_size_list, of_struct}
@@ -22,7 +22,7 @@ use Rattle.sel_arrow.proofs.Lists.{both, and_first, and_second}
 use Rattle.sel_arrow.proofs.Rows.{length-mapped, tells-mapped, length-truth_rows, length-number_rows}
 use Rattle.sel_arrow.proofs.ViewRows.{length-view_rows}
 
--- ---- how many rows there are
+-- ---- the number of rows
 
 pub length-list_rows : (offsets : List ℕ) (child : List Value) (validity : Option Bits) → length (list_rows offsets child validity) ≡ rows_between offsets
 length-list_rows offsets child validity = length-mapped list_of (pieces offsets child) validity ∙ length-pieces offsets child
@@ -40,8 +40,8 @@ length-range n = from 0 n
     from a zero = refl
     from a (suc n) = ap suc (from (a + 1) n)
 
-pub length-tuple_rows : (n : ℕ) (fields : List (List Value)) (validity : Option Bits) → length (tuple_rows n fields validity) ≡ n
-length-tuple_rows n fields validity = length-mapped (tuple_at fields) (range_with_len 0 n) validity ∙ length-range n
+pub length-tuple_rows : (n : ℕ) (fields : List (List Value)) (validity : Option Bits) → length (struct_rows n fields validity) ≡ n
+length-tuple_rows n fields validity = length-mapped (struct_at fields) (range_with_len 0 n) validity ∙ length-range n
 
 pub length-rows : (c : Column) → length (rows c) ≡ row_count c
 length-rows (NullColumn column) = length-replicate column.length Null
@@ -63,21 +63,21 @@ length-rows (LargeList' offsets p values validity) = length-list_rows offsets (r
 length-rows (FixedSizeList' size len p values validity) = length-block_rows size len (rows values) validity
 length-rows (Struct' len n fields validity) = length-tuple_rows len (rows_of_each fields) validity
 
--- ---- a validity tells the nulls
+-- ---- the validity agrees with the rows
 
 covers_pieces : (offsets : List ℕ) (child : List Value) (validity : Option Bits) → Covers validity (rows_between offsets) → Covers validity (length (pieces offsets child))
 covers_pieces offsets child validity covers = λ v there. rw length-pieces (covers v there)
 
-pub tells-lists : (s : Shape) (offsets : List ℕ) (child : List Value) (validity : Option Bits) → s ≢ of_null → Covers validity (rows_between offsets) → TellsNulls s validity (list_rows offsets child validity)
+pub tells-lists : (s : Shape) (offsets : List ℕ) (child : List Value) (validity : Option Bits) → s ≢ of_null → Covers validity (rows_between offsets) → IsValidityOf s validity (list_rows offsets child validity)
 tells-lists s offsets child validity other covers = tells-mapped list_of (λ x. refl) s (pieces offsets child) validity other (covers_pieces offsets child validity covers)
 
-pub tells-blocks : (s : Shape) (width n : ℕ) (child : List Value) (validity : Option Bits) → s ≢ of_null → Covers validity n → TellsNulls s validity (block_rows width n child validity)
+pub tells-blocks : (s : Shape) (width n : ℕ) (child : List Value) (validity : Option Bits) → s ≢ of_null → Covers validity n → IsValidityOf s validity (block_rows width n child validity)
 tells-blocks s width n child validity other covers = tells-mapped list_of (λ x. refl) s (blocks width n child) validity other (λ v there. rw length-blocks (covers v there))
 
-pub tells-tuples : (s : Shape) (n : ℕ) (fields : List (List Value)) (validity : Option Bits) → s ≢ of_null → Covers validity n → TellsNulls s validity (tuple_rows n fields validity)
-tells-tuples s n fields validity other covers = tells-mapped (tuple_at fields) (λ x. refl) s (range_with_len 0 n) validity other (λ v there. rw length-range (covers v there))
+pub tells-tuples : (s : Shape) (n : ℕ) (fields : List (List Value)) (validity : Option Bits) → s ≢ of_null → Covers validity n → IsValidityOf s validity (struct_rows n fields validity)
+tells-tuples s n fields validity other covers = tells-mapped (struct_at fields) (λ x. refl) s (range_with_len 0 n) validity other (λ v there. rw length-range (covers v there))
 
--- ---- offsets that rise
+-- ---- non-decreasing offsets
 
 rises : (a : ℕ) (ns : List ℕ) → ((j k : ℕ) → j ≤ k → k < length (a ∷ ns) → get_or (a ∷ ns) j 0 ≤ get_or (a ∷ ns) k 0) → rises_from a ns ≡ true
 rises a [] h = refl
@@ -118,7 +118,7 @@ pub is_covers : (validity : Option Bits) (n : ℕ) → Covers validity n → cov
 is_covers None n h = refl
 is_covers (Some validity) n h = let same = h validity refl in grind (arith, nat_tests, same)
 
--- what a well-formed column of lists has
+-- The properties of a well-formed list column.
 pub record HasLists (offsets : List ℕ) (values : Column) (validity : Option Bits) : Type 0 where
   pub rising : IsRising offsets
   pub few : rows_between offsets ≤ 4294967295
@@ -161,7 +161,7 @@ lists_formed offsets values validity h =
     (is_covers validity (rows_between offsets) h.covered))
     h.child
 
--- what a well-formed column of lists of one length has
+-- The properties of a well-formed fixed-size list column.
 pub record HasBlocks (size len : ℕ) (values : Column) (validity : Option Bits) : Type 0 where
   pub few : len ≤ 4294967295
   pub narrow : size ≤ 4294967295
@@ -210,7 +210,8 @@ blocks_formed size len values validity h =
     (is_covers validity len h.covered))
     h.child
 
--- a well-formed column of tuples is covered, and has few rows
+-- The validity of a well-formed struct column has the right length, and the number of rows is in
+-- bounds.
 pub struct_covered : (len : ℕ) (validity : Option Bits) (fields : Bool) → (is_few len && covers validity len && fields) ≡ true → (len ≤ 4294967295) × Covers validity len × (fields ≡ true)
 struct_covered len validity fields h =
     let two = and_first (is_few len && covers validity len) fields h in
@@ -220,24 +221,24 @@ pub struct_formed : (len : ℕ) (validity : Option Bits) (fields : Bool) → len
 struct_formed len validity fields few covered all =
     both (is_few len && covers validity len) fields (both (is_few len) (covers validity len) (le-leb len 4294967295 few) (is_covers validity len covered)) all
 
--- ---- the same of a column that is one of these
+-- ---- the same for a column that is equal to one of these
 
 not_null_list : (s : Shape) → of_large_list s ≢ of_null
 not_null_list s e = absurd cc
 
-pub list_tells : (c : Column) (offsets : List ℕ) (values : Box Column Global) (validity : Option Bits) → c ≡ LargeList offsets values validity → well_formed c ≡ true → TellsNulls (type_of c) validity (rows c)
+pub list_tells : (c : Column) (offsets : List ℕ) (values : Box Column Global) (validity : Option Bits) → c ≡ LargeList offsets values validity → well_formed c ≡ true → IsValidityOf (type_of c) validity (rows c)
 list_tells c offsets values validity is formed =
     let has = has_lists offsets values.value validity (ap well_formed (sym is) ∙ formed) in
-    subst (λ x. TellsNulls (type_of x) validity (rows x)) (sym is)
+    subst (λ x. IsValidityOf (type_of x) validity (rows x)) (sym is)
     (tells-lists (of_large_list (type_of values.value)) offsets (rows values.value) validity (not_null_list (type_of values.value)) has.covered)
 
 not_null_block : (s : Shape) (size : ℕ) → of_fixed_size_list s size ≢ of_null
 not_null_block s size e = absurd cc
 
-pub block_tells : (c : Column) (size len : ℕ) (values : Box Column Global) (validity : Option Bits) → c ≡ FixedSizeList size len values validity → well_formed c ≡ true → TellsNulls (type_of c) validity (rows c)
+pub block_tells : (c : Column) (size len : ℕ) (values : Box Column Global) (validity : Option Bits) → c ≡ FixedSizeList size len values validity → well_formed c ≡ true → IsValidityOf (type_of c) validity (rows c)
 block_tells c size len values validity is formed =
     let has = has_blocks size len values.value validity (ap well_formed (sym is) ∙ formed) in
-    subst (λ x. TellsNulls (type_of x) validity (rows x)) (sym is)
+    subst (λ x. IsValidityOf (type_of x) validity (rows x)) (sym is)
     (tells-blocks (of_fixed_size_list (type_of values.value) size) size len (rows values.value) validity (not_null_block (type_of values.value) size) has.covered)
 
 not_null_struct : (ss : Shapes) → of_struct ss ≢ of_null
@@ -247,9 +248,9 @@ abbrev pub row_of : Column → (n : Count) × Row_of-Column n
 row_of (Struct' len n fields validity) = (_, fields)
 row_of _ = (_, end_of-Column)
 
-pub struct_tells : (c : Column) (len : ℕ) (fields : Vec Column Global) (validity : Option Bits) → c ≡ Struct len fields validity → well_formed c ≡ true → TellsNulls (type_of c) validity (rows c)
+pub struct_tells : (c : Column) (len : ℕ) (fields : Vec Column Global) (validity : Option Bits) → c ≡ Struct len fields validity → well_formed c ≡ true → IsValidityOf (type_of c) validity (rows c)
 struct_tells c len fields validity is formed =
     let row = row_of (Struct len fields validity) in
     let has = struct_covered len validity (all_well_formed len row.1) (ap well_formed (sym is) ∙ formed) in
-    subst (λ x. TellsNulls (type_of x) validity (rows x)) (sym is)
+    subst (λ x. IsValidityOf (type_of x) validity (rows x)) (sym is)
     (tells-tuples (of_struct (types_of_each row.1)) len (rows_of_each row.1) validity (not_null_struct (types_of_each row.1)) has.1)

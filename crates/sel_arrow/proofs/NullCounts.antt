@@ -1,13 +1,13 @@
--- How many rows are null, by the validity.
+-- The number of null rows, from the validity.
 use Rattle.std.proofs.Common.{◌≡◌, ◌≢◌, ℕ, zero, suc, ◌+◌, true, false, List, [], ◌∷◌, length, Option, Some, None, replicate, refl, ap, sym, ◌∙◌, arith, subst, cond}
 use Rattle.std.specs.Prelude.{count_by, not}
 use Rattle.std.proofs.lemmas.List.Sums.{sum_by-cons}
 use Rattle.sel_bits.specs.Bits.{Bits}
 use Rattle.sel_arrow.specs.Value.{Value, is_valid, is_null, validities}
 use Rattle.sel_arrow.specs.Shape.{Shape, of_null}
-use Rattle.sel_arrow.specs.Nulls.{TellsNulls}
+use Rattle.sel_arrow.specs.Nulls.{IsValidityOf}
 
--- as many rows are null as entries of their validity are false
+-- The number of null rows is the number of false entries of their validity.
 nulls_of : (vs : List Value) → count_by is_null vs ≡ count_by not (validities vs)
 nulls_of [] = refl
 nulls_of (v ∷ vs) =
@@ -22,19 +22,19 @@ all_false : (n : ℕ) → count_by not (replicate n false) ≡ n
 all_false zero = refl
 all_false (suc n) = sum_by-cons (λ b. cond (not b) 1 0) false (replicate n false) ∙ omega (arith, all_false n)
 
--- in a column of nulls each row is
-pub nulls_all : (s : Shape) (validity : Option Bits) (vs : List Value) → TellsNulls s validity vs → s ≡ of_null → count_by is_null vs ≡ length vs
+-- In a null column every row is null.
+pub nulls_all : (s : Shape) (validity : Option Bits) (vs : List Value) → IsValidityOf s validity vs → s ≡ of_null → count_by is_null vs ≡ length vs
 nulls_all s validity vs tells is =
-    let facts = subst (λ t. TellsNulls t validity vs) is tells in
+    let facts = subst (λ t. IsValidityOf t validity vs) is tells in
     nulls_of vs ∙ ap (count_by not) facts.1 ∙ all_false (length vs)
 
--- in another without a validity none is
-pub nulls_none : (s : Shape) (vs : List Value) → TellsNulls s None vs → s ≢ of_null → count_by is_null vs ≡ 0
+-- In any other column without a validity no row is null.
+pub nulls_none : (s : Shape) (vs : List Value) → IsValidityOf s None vs → s ≢ of_null → count_by is_null vs ≡ 0
 nulls_none of_null vs tells other = absurd (other refl)
 nulls_none s vs tells other = nulls_of vs ∙ ap (count_by not) tells ∙ all_true (length vs)
 
--- and else the false entries of the validity count them
-pub nulls_some : (s : Shape) (validity : Bits) (vs : List Value) → TellsNulls s (Some validity) vs → s ≢ of_null → count_by is_null vs ≡ count_by not validity.bits
+-- In any other column with a validity, its false bits count the null rows.
+pub nulls_some : (s : Shape) (validity : Bits) (vs : List Value) → IsValidityOf s (Some validity) vs → s ≢ of_null → count_by is_null vs ≡ count_by not validity.bits
 nulls_some of_null validity vs tells other = absurd (other refl)
 nulls_some s validity vs tells other = nulls_of vs ∙ ap (count_by not) tells
 

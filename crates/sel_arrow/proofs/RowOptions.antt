@@ -1,11 +1,11 @@
--- Rows of which each may be missing, as values under a validity.
+-- Optional values as values with a validity.
 use Rattle.std.proofs.Common.{◌≡◌, ℤ, refl, ap, List, [], ◌∷◌, ◌++◌, map, take, get_or, length, ◌<◌, ◌+◌, ◌∙◌, sym, ℕ, Bool, false, Option, Some, None}
 use Rattle.std.specs.Prelude.{is_some, unwrap_or}
 use Rattle.std.proofs.lemmas.List.{take_more, map-append}
-use Rattle.sel_arrow.specs.Masked.{hidden, number_value, truth_value}
+use Rattle.sel_arrow.specs.Masked.{hidden, number_value, bool_value}
 use Rattle.sel_arrow.specs.Value.{Null, Number, Truth}
 
--- one row more
+-- One more row.
 pub mapped_more : {X Y : Type 0} (f : X → Y) (rows : List X) (i : ℕ) (d : X) (ys : List Y) (y : Y) → i < length rows
     → ys ≡ map f (take i rows) → y ≡ f (get_or rows i d) → ys ++ (y ∷ []) ≡ map f (take (i + 1) rows)
 mapped_more f rows i d ys y lt before here =
@@ -17,7 +17,7 @@ number_options number least [] = refl
 number_options number least (None ∷ rows) = ap (λ vs. Null ∷ vs) (number_options number least rows)
 number_options number least (Some x ∷ rows) = ap (λ vs. Number (number x) ∷ vs) (number_options number least rows)
 
-pub truth_options : (rows : List (Option Bool)) → hidden (map is_some rows) (map Truth (map (λ row. unwrap_or row false) rows)) ≡ map truth_value rows
+pub truth_options : (rows : List (Option Bool)) → hidden (map is_some rows) (map Truth (map (λ row. unwrap_or row false) rows)) ≡ map bool_value rows
 truth_options [] = refl
 truth_options (None ∷ rows) = ap (λ vs. Null ∷ vs) (truth_options rows)
 truth_options (Some b ∷ rows) = ap (λ vs. Truth b ∷ vs) (truth_options rows)

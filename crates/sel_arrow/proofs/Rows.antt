@@ -5,11 +5,11 @@ use Rattle.std.specs.Option.{ForSome, option_map}
 use Rattle.std.proofs.lemmas.List.{length-map, get_or-map, take-map, drop-map, length-replicate}
 use Rattle.sel_bits.specs.Bits.{Bits}
 use Rattle.sel_arrow.specs.Value.{Value, Null, Truth, Number, is_valid, validities}
-use Rattle.sel_arrow.specs.Masked.{hidden, masked, number_rows, truth_rows, Covers, valid_at, part_of}
+use Rattle.sel_arrow.specs.Masked.{hidden, masked, number_rows, bool_rows, Covers, valid_at, part_of}
 use Rattle.sel_arrow.specs.Shape.{Shape, of_null}
-use Rattle.sel_arrow.specs.Nulls.{TellsNulls}
+use Rattle.sel_arrow.specs.Nulls.{IsValidityOf}
 
--- ---- values that are hidden
+-- ---- values under a list of booleans
 
 length-hidden : (bs : List Bool) (vs : List Value) → length (hidden bs vs) ≡ length vs
 length-hidden [] vs = refl
@@ -38,7 +38,7 @@ get_or-hidden (b ∷ bs) [] i h = elim (get_or (b ∷ bs) i false) as (λ t. Nul
 get_or-hidden (b ∷ bs) (v ∷ vs) zero h = refl
 get_or-hidden (b ∷ bs) (v ∷ vs) (suc i) h = get_or-hidden bs vs i (omega arith)
 
--- the validity of hidden values, none of them null by itself
+-- If no value is null, the booleans are the validity.
 validities-hidden : (bs : List Bool) (vs : List Value) → validities vs ≡ replicate (length vs) true → length bs ≡ length vs → validities (hidden bs vs) ≡ bs
 validities-hidden [] [] all h = refl
 validities-hidden [] (v ∷ vs) all h = absurd (omega arith)
@@ -59,28 +59,28 @@ get_or-masked : (validity : Option Bits) (vs : List Value) (i : ℕ) → i < len
 get_or-masked None vs i h covers = refl
 get_or-masked (Some validity) vs i h covers = get_or-hidden validity.bits vs i (omega (arith, covers validity refl))
 
--- a row that is not valid
+-- A row whose validity bit is false.
 pub masked_null : (validity : Option Bits) (vs : List Value) (i : ℕ) → valid_at validity i ≡ false → i < length vs → Covers validity (length vs) → get_or (masked validity vs) i Null ≡ Null
 masked_null validity vs i e h covers = get_or-masked validity vs i h covers ∙ ap (λ b. if b then get_or vs i Null else Null) e
 
--- a row that is
+-- A row whose validity bit is true.
 pub masked_valid : (validity : Option Bits) (vs : List Value) (i : ℕ) → valid_at validity i ≡ true → i < length vs → Covers validity (length vs) → get_or (masked validity vs) i Null ≡ get_or vs i Null
 masked_valid validity vs i e h covers = get_or-masked validity vs i h covers ∙ ap (λ b. if b then get_or vs i Null else Null) e
 
--- a validity tells the nulls of what it hides, in a column of another type than that of nulls
-pub tells-masked : (s : Shape) (validity : Option Bits) (vs : List Value) → s ≢ of_null → validities vs ≡ replicate (length vs) true → Covers validity (length vs) → TellsNulls s validity (masked validity vs)
+-- Except for the type of null columns, the validity agrees with the rows under it.
+pub tells-masked : (s : Shape) (validity : Option Bits) (vs : List Value) → s ≢ of_null → validities vs ≡ replicate (length vs) true → Covers validity (length vs) → IsValidityOf s validity (masked validity vs)
 tells-masked of_null validity vs other all covers = absurd (other refl)
 tells-masked s None vs other all covers = all
 tells-masked s (Some validity) vs other all covers = validities-hidden validity.bits vs all (covers validity refl)
 
--- a part of the rows is the part of the values under the part of the validity
+-- A part of the rows is the part of the values under the part of the validity.
 pub part-masked : (validity : Option Bits) (vs : List Value) (off len : ℕ) → take len (drop off (masked validity vs)) ≡ masked (option_map (part_of off len) validity) (take len (drop off vs))
 part-masked None vs off len = refl
 part-masked (Some validity) vs off len = rw (drop-hidden, take-hidden) refl
 
--- ---- values of one kind under a validity
+-- ---- values of one type under a validity
 
--- the values of one kind are no nulls
+-- Values of one type are not null.
 validities-map : {A : Type 0} (f : A → Value) → ((x : A) → is_valid (f x) ≡ true) → (xs : List A) → validities (map f xs) ≡ replicate (length (map f xs)) true
 validities-map f valid [] = refl
 validities-map f valid (x ∷ xs) = cc (valid x, validities-map f valid xs)
@@ -100,7 +100,7 @@ null_mapped f xs validity i e h covers = masked_null validity (map f xs) i e (in
 pub valid_mapped : {A : Type 0} (f : A → Value) → (xs : List A) (validity : Option Bits) (i : ℕ) (d : A) → valid_at validity i ≡ true → i < length xs → Covers validity (length xs) → get_or (masked validity (map f xs)) i Null ≡ f (get_or xs i d)
 valid_mapped f xs validity i d e h covers = masked_valid validity (map f xs) i e (inside_map f xs i h) (covers_map f xs validity covers) ∙ get_or-map f xs i d Null h
 
-pub tells-mapped : {A : Type 0} (f : A → Value) → ((x : A) → is_valid (f x) ≡ true) → (s : Shape) (xs : List A) (validity : Option Bits) → s ≢ of_null → Covers validity (length xs) → TellsNulls s validity (masked validity (map f xs))
+pub tells-mapped : {A : Type 0} (f : A → Value) → ((x : A) → is_valid (f x) ≡ true) → (s : Shape) (xs : List A) (validity : Option Bits) → s ≢ of_null → Covers validity (length xs) → IsValidityOf s validity (masked validity (map f xs))
 tells-mapped f valid s xs validity other covers = tells-masked s validity (map f xs) other (validities-map f valid xs) (covers_map f xs validity covers)
 
 pub part-mapped : {A : Type 0} (f : A → Value) → (xs : List A) (validity : Option Bits) (off len : ℕ) → masked (option_map (part_of off len) validity) (map f (take len (drop off xs))) ≡ take len (drop off (masked validity (map f xs)))
@@ -108,7 +108,7 @@ part-mapped f xs validity off len =
     let parts : take len (drop off (map f xs)) ≡ map f (take len (drop off xs)) = rw (drop-map, take-map) refl in
     sym (part-masked validity (map f xs) off len ∙ ap (masked (option_map (part_of off len) validity)) parts)
 
--- ---- numbers and truth values
+-- ---- integers and booleans
 
 abbrev number_of : {T : Type 0} → (T → ℤ) → T → Value
 number_of number x = Number (number x)
@@ -116,7 +116,7 @@ number_of number x = Number (number x)
 pub length-number_rows : {T : Type 0} (number : T → ℤ) → (xs : List T) (validity : Option Bits) → length (number_rows number xs validity) ≡ length xs
 length-number_rows number xs validity = length-mapped (number_of number) xs validity
 
-pub length-truth_rows : (bits : List Bool) (validity : Option Bits) → length (truth_rows bits validity) ≡ length bits
+pub length-truth_rows : (bits : List Bool) (validity : Option Bits) → length (bool_rows bits validity) ≡ length bits
 length-truth_rows bits validity = length-mapped Truth bits validity
 
 pub null_number : {T : Type 0} (number : T → ℤ) → (xs : List T) (validity : Option Bits) (i : ℕ) → valid_at validity i ≡ false → i < length xs → Covers validity (length xs) → get_or (number_rows number xs validity) i Null ≡ Null
@@ -125,16 +125,16 @@ null_number number xs validity i e h covers = null_mapped (number_of number) xs 
 pub valid_number : {T : Type 0} (number : T → ℤ) → (xs : List T) (validity : Option Bits) (i : ℕ) (x : T) → valid_at validity i ≡ true → i < length xs → Covers validity (length xs) → x ≡ get_or xs i x → get_or (number_rows number xs validity) i Null ≡ Number (number x)
 valid_number number xs validity i x e h covers is = valid_mapped (number_of number) xs validity i x e h covers ∙ ap (number_of number) (sym is)
 
-pub null_truth : (bits : List Bool) (validity : Option Bits) (i : ℕ) → valid_at validity i ≡ false → i < length bits → Covers validity (length bits) → get_or (truth_rows bits validity) i Null ≡ Null
+pub null_truth : (bits : List Bool) (validity : Option Bits) (i : ℕ) → valid_at validity i ≡ false → i < length bits → Covers validity (length bits) → get_or (bool_rows bits validity) i Null ≡ Null
 null_truth bits validity i e h covers = null_mapped Truth bits validity i e h covers
 
-pub valid_truth : (bits : List Bool) (validity : Option Bits) (i : ℕ) → valid_at validity i ≡ true → i < length bits → Covers validity (length bits) → get_or (truth_rows bits validity) i Null ≡ Truth (get_or bits i false)
+pub valid_truth : (bits : List Bool) (validity : Option Bits) (i : ℕ) → valid_at validity i ≡ true → i < length bits → Covers validity (length bits) → get_or (bool_rows bits validity) i Null ≡ Truth (get_or bits i false)
 valid_truth bits validity i e h covers = valid_mapped Truth bits validity i false e h covers
 
-pub tells-numbers : {T : Type 0} (s : Shape) (number : T → ℤ) → (xs : List T) (validity : Option Bits) → s ≢ of_null → Covers validity (length xs) → TellsNulls s validity (number_rows number xs validity)
+pub tells-numbers : {T : Type 0} (s : Shape) (number : T → ℤ) → (xs : List T) (validity : Option Bits) → s ≢ of_null → Covers validity (length xs) → IsValidityOf s validity (number_rows number xs validity)
 tells-numbers s number xs validity other covers = tells-mapped (number_of number) (λ x. refl) s xs validity other covers
 
-pub tells-truths : (s : Shape) (bits : List Bool) (validity : Option Bits) → s ≢ of_null → Covers validity (length bits) → TellsNulls s validity (truth_rows bits validity)
+pub tells-truths : (s : Shape) (bits : List Bool) (validity : Option Bits) → s ≢ of_null → Covers validity (length bits) → IsValidityOf s validity (bool_rows bits validity)
 tells-truths s bits validity other covers = tells-mapped Truth (λ x. refl) s bits validity other covers
 
 pub tells-nulls : (n : ℕ) → validities (replicate n Null) ≡ replicate (length (replicate n Null)) false
@@ -144,7 +144,7 @@ tells-nulls (suc n) = ap (λ l. false ∷ l) (tells-nulls n)
 pub part-number_rows : {T : Type 0} (number : T → ℤ) → (xs : List T) (validity : Option Bits) (off len : ℕ) → number_rows number (take len (drop off xs)) (option_map (part_of off len) validity) ≡ take len (drop off (number_rows number xs validity))
 part-number_rows number xs validity off len = part-mapped (number_of number) xs validity off len
 
-pub part-truth_rows : (bits : List Bool) (validity : Option Bits) (off len : ℕ) → truth_rows (take len (drop off bits)) (option_map (part_of off len) validity) ≡ take len (drop off (truth_rows bits validity))
+pub part-truth_rows : (bits : List Bool) (validity : Option Bits) (off len : ℕ) → bool_rows (take len (drop off bits)) (option_map (part_of off len) validity) ≡ take len (drop off (bool_rows bits validity))
 part-truth_rows bits validity off len = part-mapped Truth bits validity off len
 
 pub part-replicate : {A : Type 0} (x : A) → (n off len : ℕ) → off + len ≤ n → replicate len x ≡ take len (drop off (replicate n x))
@@ -163,7 +163,7 @@ part-replicate x (suc n) (suc off) len h = part-replicate x n off len (omega ari
 pub covers_numbers : {T : Type 0} (number : T → ℤ) → (xs : List T) (old new : Option Bits) → Covers new (length (number_rows number xs old)) → Covers new (length xs)
 covers_numbers number xs old new covers = λ v there. rw length-number_rows at (covers v there)
 
-pub covers_truths : (bits : List Bool) (old new : Option Bits) → Covers new (length (truth_rows bits old)) → Covers new (length bits)
+pub covers_truths : (bits : List Bool) (old new : Option Bits) → Covers new (length (bool_rows bits old)) → Covers new (length bits)
 covers_truths bits old new covers = λ v there. rw length-truth_rows at (covers v there)
 
 -- ---- lengths

@@ -1,4 +1,4 @@
--- Rows that are texts.
+-- Rows that are strings.
 use Rattle.std.proofs.Common.{◌≡◌, ℕ, ◌<◌, Bool, true, false, List, length, take, drop, refl, ◌∙◌, ap, get_or}
 use Rattle.std.specs.Prelude.{IsTrue}
 use Rattle.std.specs.Str.{IsUtf8, is_utf8}
@@ -7,7 +7,7 @@ use Rattle.sel_arrow.specs.Texts.{all_text, is_text}
 use Rattle.sel_arrow.specs.Value.{Value, Null, Bytes}
 use Rattle.sel_arrow.proofs.Lists.{all_at, all_of_them, all_part, none_at}
 
--- ---- the test of bytes
+-- ---- whether bytes are UTF-8
 
 pub utf8_passes : (bytes : List ℕ) → IsUtf8 bytes → is_utf8 bytes ≡ true
 utf8_passes bytes valid = is_utf8-from_IsUtf8 bytes valid
@@ -21,12 +21,12 @@ other_fails bytes broken = decided (is_utf8 bytes) refl
 
 pub ruleset utf8_tests = (utf8_passes, other_fails)
 
--- ---- the test of rows
+-- ---- whether rows are UTF-8
 
 pub part_text : (rows : List Value) (off len : ℕ) → IsTrue (all_text rows) → IsTrue (all_text (take len (drop off rows)))
 part_text rows off len texts = all_part is_text rows off len texts
 
--- a row of texts that is bytes is UTF-8
+-- A row of bytes in a string column is UTF-8.
 pub utf8_row : (rows : List Value) (i : ℕ) (bytes : List ℕ) → Bytes bytes ≡ get_or rows i Null → IsTrue (all_text rows) → i < length rows → IsUtf8 bytes
 utf8_row rows i bytes is texts h = IsUtf8-from_is_utf8 bytes (ap is_text is ∙ all_at is_text rows i Null texts h)
 

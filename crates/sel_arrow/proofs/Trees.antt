@@ -1,12 +1,12 @@
--- The definitions on a struct, read at the list of its fields.
+-- The definitions for a struct column, in terms of the list of its fields.
 use Rattle.std.proofs.Common.{◌≡◌, ◌≢◌, ℕ, ◌+◌, ◌≤◌, ◌<◌, Bool, true, false, ◌&&◌, ◌==◌, not, All, List, [], ◌∷◌, length, take, get_or, map, Option, is_some, Vec, Global, refl, ap, sym, subst, ◌∙◌, arith}
 use Rattle.std.proofs.lemmas.Bool.Decides.{nat_tests}
 use Rattle.std.proofs.lemmas.List.{take_all}
 use Rattle.std.proofs.lemmas.List.Elements.{All-nil, All-cons, All-head, All-tail, All-get_or, All-more}
 use Rattle.sel_bits.specs.Bits.{Bits}
-use Rattle.sel_arrow.specs.Makers.{tuple_fault}
+use Rattle.sel_arrow.specs.Makers.{struct_length_fault}
 use Rattle.sel_arrow.specs.Masked.{Covers, covers, is_few}
-use Rattle.sel_arrow.specs.Nested.{tuple_rows}
+use Rattle.sel_arrow.specs.Nested.{struct_rows}
 use Rattle.sel_arrow.specs.Rows.{rows, rows_of_each, row_count, well_formed, all_well_formed, IsField}
 use Rattle.sel_arrow.specs.declared.column.Column.{Column, Struct, Row_of-Column, end_of-Column, more_of-Column, items-the_row-Column, items_hidden-the_row-Column-0}
 use Rattle.sel_arrow.proofs.Lists.{both, and_first, and_second}
@@ -17,12 +17,12 @@ each_rows : (n : _) (row : Row_of-Column n) → rows_of_each row ≡ map rows (i
 each_rows n end_of-Column = refl
 each_rows n (more_of-Column c rest) = ap (λ l. rows c ∷ l) (each_rows _ rest)
 
-pub rows-Struct : (len : ℕ) (fields : Vec Column Global) (validity : Option Bits) → rows (Struct len fields validity) ≡ tuple_rows len (map rows fields.items) validity
+pub rows-Struct : (len : ℕ) (fields : Vec Column Global) (validity : Option Bits) → rows (Struct len fields validity) ≡ struct_rows len (map rows fields.items) validity
 rows-Struct len fields validity =
     let row = row_of (Struct len fields validity) in
-    ap (λ l. tuple_rows len l validity) (each_rows row.0 row.1 ∙ ap (map rows) (items_hidden-the_row-Column-0 fields))
+    ap (λ l. struct_rows len l validity) (each_rows row.0 row.1 ∙ ap (map rows) (items_hidden-the_row-Column-0 fields))
 
--- whether columns are well-formed, each of so many rows
+-- Whether each column is well-formed and has `len` rows.
 abbrev pub are_fields : ℕ → List Column → Bool
 are_fields len [] = true
 are_fields len (c ∷ cs) = (row_count c == len) && well_formed c && are_fields len cs
@@ -37,7 +37,7 @@ well_formed-Struct len fields validity =
     let row = row_of (Struct len fields validity) in
     ap (λ b. is_few len && covers validity len && b) (each_well_formed len row.0 row.1 ∙ ap (are_fields len) (items_hidden-the_row-Column-0 fields))
 
--- ---- the same as a condition
+-- ---- the same as a proposition
 
 pub fields_formed : (len : ℕ) (cs : List Column) → are_fields len cs ≡ true → All (IsField len) cs
 fields_formed len [] h = All-nil (IsField len)
@@ -53,7 +53,7 @@ formed_fields len (c ∷ cs) h =
     let rows : (row_count c == len) ≡ true = let e = first.0 in grind (arith, nat_tests, e) in
     both ((row_count c == len) && well_formed c) (are_fields len cs) (both (row_count c == len) (well_formed c) rows first.1) (formed_fields len cs (All-tail (IsField len) c cs h))
 
--- what a well-formed column of tuples has
+-- The properties of a well-formed struct column.
 pub record HasFields (len : ℕ) (cs : List Column) (validity : Option Bits) : Type 0 where
   pub few : len ≤ 4294967295
   pub covered : Covers validity len
@@ -68,15 +68,15 @@ pub fields_make : (len : ℕ) (fields : Vec Column Global) (validity : Option Bi
 fields_make len fields validity h =
     well_formed-Struct len fields validity ∙ struct_formed len validity (are_fields len fields.items) h.few h.covered (formed_fields len fields.items h.fields)
 
--- fields that fit, under the rules on the number of rows and the validity
-pub struct_test : (len : ℕ) (fields : Vec Column Global) (validity : Option Bits) (t : Bool) → All (IsField len) fields.items → is_some (tuple_fault len true validity) ≡ not t → t ≡ well_formed (Struct len fields validity)
+-- Fields that fit, given the rules for the number of rows and the validity.
+pub struct_test : (len : ℕ) (fields : Vec Column Global) (validity : Option Bits) (t : Bool) → All (IsField len) fields.items → is_some (struct_length_fault len true validity) ≡ not t → t ≡ well_formed (Struct len fields validity)
 struct_test len fields validity t fit fault =
     sound_tuples len validity t fault
     ∙ sym (and_true (is_few len && covers validity len))
     ∙ ap (λ b. is_few len && covers validity len && b) (sym (formed_fields len fields.items fit))
     ∙ sym (well_formed-Struct len fields validity)
 
--- fields that do not
+-- Fields that do not fit.
 pub struct_failed : (len : ℕ) (fields : Vec Column Global) (validity : Option Bits) → (All (IsField len) fields.items → ⊥) → false ≡ well_formed (Struct len fields validity)
 struct_failed len fields validity none = failed (well_formed (Struct len fields validity)) refl
   where

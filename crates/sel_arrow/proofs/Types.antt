@@ -1,4 +1,4 @@
--- The types of columns that have children.
+-- The types of columns with children.
 use Rattle.std.proofs.Common.{◌≡◌, true, false, true≢false, ℕ, ◌+◌, ◌<◌, ◌&&◌, List, [], ◌∷◌, ◌++◌, length, take, map, Option, Vec, Global, refl, sym, ap, subst, ◌∙◌, arith, get_or}
 use Rattle.std.specs.Prelude.{◌↔◌, IsTrue}
 use Rattle.std.specs.List.{flat_map, list_all}
@@ -13,7 +13,7 @@ use Rattle.sel_arrow.specs.declared.column.Column.TheVariants.{Struct' as Struct
 use Rattle.sel_arrow.specs.declared.datatype.ArrowDataType.{ArrowDataType, Struct, Row_of-ArrowDataType, end_of-ArrowDataType, more_of-ArrowDataType, items-the_row-ArrowDataType, items_hidden-the_row-ArrowDataType-0}
 use Rattle.sel_arrow.specs.declared.datatype.ArrowDataType.TheVariants.{Null as NullType, Boolean as BooleanType, Int8 as Int8Type, Int16 as Int16Type, Int32 as Int32Type, Int64 as Int64Type, Int128 as Int128Type, UInt8 as UInt8Type, UInt16 as UInt16Type, UInt32 as UInt32Type, UInt64 as UInt64Type, UInt128 as UInt128Type, LargeBinary as LargeBinaryType, BinaryView as BinaryViewType, Utf8View as Utf8ViewType, LargeList' as LargeListType', FixedSizeList' as FixedSizeListType', Struct'}
 
--- ---- the definitions, read at the list of fields
+-- ---- the definitions in terms of the list of fields
 
 abbrev pub columns_in : Column → (n : Count) × Row_of-Column n
 columns_in (StructColumn' len n fields validity) = (_, fields)
@@ -65,7 +65,7 @@ widths_fit-Struct fields =
     let row = dtypes_in (Struct fields) in
     each_width row.0 row.1 ∙ ap (list_all widths_fit) (items_hidden-the_row-ArrowDataType-0 fields)
 
--- ---- when two types of structs are one
+-- ---- equality of struct types
 
 list_of_shapes : (ss : List Shape) → shape_list (shapes_of ss) ≡ ss
 list_of_shapes [] = refl
@@ -78,12 +78,12 @@ fields_of s = []
 one_struct : (ss ts : List Shape) → of_struct (shapes_of ss) ≡ of_struct (shapes_of ts) → ss ≡ ts
 one_struct ss ts e = sym (list_of_shapes ss) ∙ ap fields_of e ∙ list_of_shapes ts
 
--- what tells whether the types of the fields are the same tells whether the types are
+-- A condition for equal field types is a condition for equal struct types.
 pub by_fields : {P : Type 0} (s t : Shape) (ss ts : List Shape) → s ≡ of_struct (shapes_of ss) → t ≡ of_struct (shapes_of ts) → (P ↔ (ss ≡ ts)) → (P ↔ (s ≡ t))
 by_fields s t ss ts is of same =
     (λ p. is ∙ ap (λ l. of_struct (shapes_of l)) (same.0 p) ∙ sym of, λ e. same.1 (one_struct ss ts (sym is ∙ e ∙ of)))
 
--- ---- a column without children is of its kind's type
+-- ---- the type of a column without children
 
 pub one_type : (s t u : Shape) → s ≡ u → t ≡ u → (IsTrue true ↔ (s ≡ t))
 one_type s t u is of = (λ p. is ∙ sym of, λ e. refl)
@@ -91,7 +91,7 @@ one_type s t u is of = (λ p. is ∙ sym of, λ e. refl)
 pub other_type : (s t : Shape) → (s ≡ t → ⊥) → (IsTrue false ↔ (s ≡ t))
 other_type s t differ = (λ h. absurd (true≢false (sym h)), λ e. absurd (differ e))
 
--- the one type without children that has this layout
+-- The only type without children that has this layout.
 abbrev pub IsNamed : Shape → ArrowDataType → Type 0
 IsNamed of_null dtype = dtype ≡ NullType
 IsNamed of_boolean dtype = dtype ≡ BooleanType
@@ -136,7 +136,7 @@ dtype_named dtype is = subst (λ shape. IsNamed shape dtype) is (named dtype)
 pub leaf_same : {P : Type 0} (s t u : Shape) → s ≡ t → (P ↔ (u ≡ t)) → (P ↔ (s ≡ u))
 leaf_same s t u is told = (λ p. is ∙ sym (told.0 p), λ e. told.1 (sym e ∙ is))
 
--- ---- two lists that say the same of their elements
+-- ---- two lists whose elements have the same images
 
 module _ {A B C : Type 0} (f : A → C) (g : B → C) (xs : List A) (ys : List B) where
   pub same_lengths : map f xs ≡ map g ys → length xs ≡ length ys

@@ -9,7 +9,7 @@ use Rattle.sel_bits.specs.declared.faults.Malformed.TheVariants.{ViewRange, View
 use Rattle.sel_arrow.specs.declared.view.View.{View}
 use Rattle.sel_arrow.specs.Makers.{or_else, view_fault, views_fault}
 use Rattle.sel_arrow.specs.Masked.{Covers, valid_at, part_of}
-use Rattle.sel_arrow.specs.Nulls.{TellsNulls}
+use Rattle.sel_arrow.specs.Nulls.{IsValidityOf}
 use Rattle.sel_arrow.specs.Shape.{Shape, of_null}
 use Rattle.sel_arrow.specs.Value.{Null, Bytes}
 use Rattle.sel_arrow.specs.Views.{all_placed, has_prefix, is_in_range, is_placed, view_bytes, view_rows, view_value}
@@ -31,7 +31,7 @@ placed_by true true e = refl
 placed_by true false e = cc
 placed_by false prefix e = cc
 
--- views without a fault are placed
+-- Views that break no rule are well-formed.
 pub faultless : (buffers : List (List ℕ)) (views : List View) → views_fault buffers views ≡ None → IsTrue (all_placed buffers views)
 faultless buffers [] e = refl
 faultless buffers (v ∷ views) e =
@@ -44,7 +44,7 @@ placed_at buffers views i d placed h = all_at (is_placed buffers) views i d plac
 pub part_placed : (buffers : List (List ℕ)) (views : List View) (off len : ℕ) → IsTrue (all_placed buffers views) → IsTrue (all_placed buffers (take len (drop off views)))
 part_placed buffers views off len placed = all_part (is_placed buffers) views off len placed
 
--- ---- their rows
+-- ---- the rows of views
 
 pub length-view_rows : (views : List View) (buffers : List (List ℕ)) (validity : Option Bits) → length (view_rows views buffers validity) ≡ length views
 length-view_rows views buffers validity = length-mapped (view_value buffers) views validity
@@ -55,7 +55,7 @@ null_view views buffers validity i e h covers = null_mapped (view_value buffers)
 pub valid_view : (views : List View) (buffers : List (List ℕ)) (validity : Option Bits) (i : ℕ) (d : View) → valid_at validity i ≡ true → i < length views → Covers validity (length views) → get_or (view_rows views buffers validity) i Null ≡ Bytes (view_bytes buffers (get_or views i d))
 valid_view views buffers validity i d e h covers = valid_mapped (view_value buffers) views validity i d e h covers
 
-pub tells-views : (s : Shape) (views : List View) (buffers : List (List ℕ)) (validity : Option Bits) → s ≢ of_null → Covers validity (length views) → TellsNulls s validity (view_rows views buffers validity)
+pub tells-views : (s : Shape) (views : List View) (buffers : List (List ℕ)) (validity : Option Bits) → s ≢ of_null → Covers validity (length views) → IsValidityOf s validity (view_rows views buffers validity)
 tells-views s views buffers validity other covers = tells-mapped (view_value buffers) (λ v. refl) s views validity other covers
 
 pub part-view_rows : (views : List View) (buffers : List (List ℕ)) (validity : Option Bits) (off len : ℕ) → view_rows (take len (drop off views)) buffers (option_map (part_of off len) validity) ≡ take len (drop off (view_rows views buffers validity))

@@ -1,8 +1,8 @@
--- The rows of each kind of column.
+-- The rows of each type of column without children.
 use Rattle.std.specs.Prelude.{List, replicate}
 use Rattle.sel_bits.specs.declared.native.NativeType.{Ghosts}
 use Rattle.sel_arrow.specs.Value.{Value, Null}
-use Rattle.sel_arrow.specs.Masked.{number_rows, truth_rows}
+use Rattle.sel_arrow.specs.Masked.{number_rows, bool_rows}
 use Rattle.sel_arrow.specs.Pieces.{byte_rows}
 use Rattle.sel_arrow.specs.Views.{view_rows}
 use Rattle.sel_arrow.specs.declared.binary.BinaryArray.{BinaryArray}
@@ -12,26 +12,30 @@ use Rattle.sel_arrow.specs.declared.null.NullArray.{NullArray}
 use Rattle.sel_arrow.specs.declared.primitive.PrimitiveArray.{PrimitiveArray}
 use Rattle.sel_arrow.specs.declared.utf8view.Utf8ViewArray.{Utf8ViewArray}
 
--- each row is null (Arrow columnar format: null layout)
+-- Every row is null (Arrow columnar format: null layout).
 abbrev pub null_rows : NullArray → List Value
 null_rows column = replicate column.length Null
 
--- row i is null where the validity says so, else bit i (Arrow columnar format: fixed-size primitive layout, of one bit)
+-- Row i is null if its validity bit is false, else boolean i (Arrow columnar format: fixed-size
+-- primitive layout, one bit per value).
 abbrev pub boolean_rows : BooleanArray → List Value
-boolean_rows column = truth_rows column.values.bits column.validity
+boolean_rows column = bool_rows column.values.bits column.validity
 
--- row i is null where the validity says so, else number i (Arrow columnar format: fixed-size primitive layout)
+-- Row i is null if its validity bit is false, else integer i (Arrow columnar format: fixed-size
+-- primitive layout).
 abbrev pub primitive_rows : {T : Type 0} {type : Ghosts T} → PrimitiveArray T type → List Value
 primitive_rows {T} {type} column = number_rows type.number column.values column.validity
 
--- row i is null where the validity says so, else the bytes from offset i up to offset i + 1 (Arrow columnar format: variable-size binary layout)
+-- Row i is null if its validity bit is false, else the bytes from offset i up to offset i + 1
+-- (Arrow columnar format: variable-size binary layout).
 abbrev pub binary_rows : {O : Type 0} {type : Ghosts O} → BinaryArray O type → List Value
 binary_rows column = byte_rows column.offsets column.values column.validity
 
--- row i is null where the validity says so, else the bytes that view i names (Arrow columnar format: variable-size binary view layout)
+-- Row i is null if its validity bit is false, else the bytes of view i (Arrow columnar format:
+-- variable-size binary view layout).
 abbrev pub binview_rows : BinaryViewArray → List Value
 binview_rows column = view_rows column.views column.buffers column.validity
 
--- the same, of texts (Arrow columnar format: variable-size binary view layout)
+-- The same for string views (Arrow columnar format: variable-size binary view layout).
 abbrev pub utf8view_rows : Utf8ViewArray → List Value
 utf8view_rows column = binview_rows column.bytes

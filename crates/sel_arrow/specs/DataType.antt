@@ -1,4 +1,4 @@
--- What a data type means.
+-- The meaning of data types.
 use Rattle.std.specs.Prelude.{◌≡◌, Bool, true, ◌&&◌, length}
 use Rattle.sel_arrow.specs.Masked.{is_few}
 use Rattle.sel_arrow.specs.Rows.{rows, type_of}
@@ -8,7 +8,7 @@ use Rattle.sel_arrow.specs.declared.datatype.ArrowDataType.{ArrowDataType, Row_o
 use Rattle.sel_arrow.specs.declared.datatype.ArrowDataType.TheVariants.{Null, Boolean, Int8, Int16, Int32, Int64, Int128, UInt8, UInt16, UInt32, UInt64, UInt128, LargeBinary, BinaryView, Utf8View, LargeList', FixedSizeList', Struct'}
 
 abbrev mutual
-  -- the layout that a type names (Arrow columnar format: data types)
+  -- The layout of a type, at every depth (Arrow columnar format: data types).
   pub shape_of : ArrowDataType → Shape
   shape_of Null = of_null
   shape_of Boolean = of_boolean
@@ -29,26 +29,30 @@ abbrev mutual
   shape_of (FixedSizeList' p child size) = of_fixed_size_list (shape_of child) size
   shape_of (Struct' n fields) = of_struct (shapes_of_each fields)
 
-  -- the layouts that types name (own)
+  -- The layouts of several types.
   pub shapes_of_each : {n : _} → Row_of-ArrowDataType n → Shapes
   shapes_of_each end_of-ArrowDataType = no_shapes
-  shapes_of_each (more_of-ArrowDataType dtype dtypes) = next_shape (shape_of dtype) (shapes_of_each dtypes)
+  shapes_of_each (more_of-ArrowDataType dtype dtypes) =
+      next_shape (shape_of dtype) (shapes_of_each dtypes)
 
 abbrev mutual
-  -- whether each width of lists of one length, at every depth, is at most the rows that a column may have (own)
+  -- Whether each list size in a type, at every depth, is at most the maximum number of rows of a
+  -- column.
   pub widths_fit : ArrowDataType → Bool
   widths_fit (LargeList' p child) = widths_fit child
   widths_fit (FixedSizeList' p child size) = is_few size && widths_fit child
   widths_fit (Struct' n fields) = all_widths_fit fields
   widths_fit dtype = true
 
-  -- whether each type's do (own)
+  -- Whether this is so for each type.
   pub all_widths_fit : {n : _} → Row_of-ArrowDataType n → Bool
   all_widths_fit end_of-ArrowDataType = true
   all_widths_fit (more_of-ArrowDataType dtype dtypes) = widths_fit dtype && all_widths_fit dtypes
 
--- the column's rows can be one list of the type: they are of its child's type, as many as the type says, where it does (own)
+-- The rows of a column can be one list of this type: they have the type of its child, and a
+-- fixed-size list has as many of them as its list size.
 abbrev pub ScalarFits : Shape → Column → Type 0
 ScalarFits (of_large_list s) scalar = type_of scalar ≡ s
-ScalarFits (of_fixed_size_list s width) scalar = (type_of scalar ≡ s) × (length (rows scalar) ≡ width)
+ScalarFits (of_fixed_size_list s width) scalar =
+    (type_of scalar ≡ s) × (length (rows scalar) ≡ width)
 ScalarFits s scalar = ⊥

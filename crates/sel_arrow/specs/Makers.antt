@@ -1,4 +1,4 @@
--- The rules of columns, each with the first one that parts break.
+-- The rules for the parts of columns.
 use Rattle.std.specs.Prelude.{ℕ, ◌*◌, ◌==◌, Bool, [], ◌∷◌, List, length, Option, Some, None, not, nat_lt}
 use Rattle.std.specs.List.{list_all}
 use Rattle.sel_bits.specs.Bits.{Bits}
@@ -11,58 +11,72 @@ use Rattle.sel_arrow.specs.Texts.{all_text}
 use Rattle.sel_arrow.specs.Views.{is_in_range, has_prefix, view_rows}
 use Rattle.sel_arrow.specs.declared.view.View.{View}
 
--- of n rows of numbers or truth values and a validity (own: the order of the rules)
+-- The first broken rule of n integers or booleans with a validity.
 abbrev pub flat_fault : ℕ → Option Bits → Option Malformed
-flat_fault n validity = first_broken ((TooManyRows, too_many n) ∷ (ValidityLength, validity_differs validity n) ∷ [])
+flat_fault n validity =
+    first_broken ((TooManyRows, too_many n) ∷ (ValidityLength, validity_differs validity n) ∷ [])
 
--- of n rows of nulls (own)
+-- The first broken rule of n null rows.
 abbrev pub null_fault : ℕ → Option Malformed
 null_fault n = first_broken ((TooManyRows, too_many n) ∷ [])
 
--- of rows of bytes between offsets (own)
+-- The first broken rule of binary with offsets.
 abbrev pub binary_fault : List ℕ → List ℕ → Option Bits → Option Malformed
 binary_fault offsets bytes validity =
-    first_broken ((TooManyRows, too_many (rows_between offsets)) ∷ (OffsetRange, nat_lt (length bytes) (last_offset offsets)) ∷ (ValidityLength, validity_differs validity (rows_between offsets)) ∷ [])
+    first_broken ((TooManyRows, too_many (rows_between offsets))
+    ∷ (OffsetRange, nat_lt (length bytes) (last_offset offsets))
+    ∷ (ValidityLength, validity_differs validity (rows_between offsets)) ∷ [])
 
--- a fault, or the next one where it is none (own)
+-- The first fault, or the second if the first is none.
 abbrev pub or_else : Option Malformed → Option Malformed → Option Malformed
 or_else None next = next
 or_else (Some fault) next = Some fault
 
--- of one view (own)
+-- The first broken rule of one view.
 abbrev pub view_fault : List (List ℕ) → View → Option Malformed
-view_fault buffers view = first_broken ((ViewRange, not (is_in_range buffers view)) ∷ (ViewPrefix, not (has_prefix buffers view)) ∷ [])
+view_fault buffers view =
+    first_broken ((ViewRange, not (is_in_range buffers view))
+    ∷ (ViewPrefix, not (has_prefix buffers view)) ∷ [])
 
--- of views, the first fault of one (own)
+-- The first broken rule of several views, view by view.
 abbrev pub views_fault : List (List ℕ) → List View → Option Malformed
 views_fault buffers [] = None
 views_fault buffers (view ∷ views) = or_else (view_fault buffers view) (views_fault buffers views)
 
--- of rows of views (own)
+-- The first broken rule of binary views.
 abbrev pub binview_fault : List View → List (List ℕ) → Option Bits → Option Malformed
 binview_fault views buffers validity =
-    or_else (first_broken ((TooManyRows, too_many (length views)) ∷ (TooManyBuffers, too_many (length buffers)) ∷ (ValidityLength, validity_differs validity (length views)) ∷ [])) (views_fault buffers views)
+    or_else (first_broken ((TooManyRows, too_many (length views))
+    ∷ (TooManyBuffers, too_many (length buffers))
+    ∷ (ValidityLength, validity_differs validity (length views)) ∷ []))
+    (views_fault buffers views)
 
--- of rows of views that are to be texts (own)
+-- The first broken rule of UTF-8 string views.
 abbrev pub utf8view_fault : List View → List (List ℕ) → Option Bits → Option Malformed
 utf8view_fault views buffers validity =
-    or_else (binview_fault views buffers validity) (first_broken ((Utf8, not (all_text (view_rows views buffers validity))) ∷ []))
+    or_else (binview_fault views buffers validity)
+    (first_broken ((Utf8, not (all_text (view_rows views buffers validity))) ∷ []))
 
--- of lists between offsets over a child of so many rows (own)
+-- The first broken rule of lists with offsets, given the number of rows of the child.
 abbrev pub list_fault : List ℕ → ℕ → Option Bits → Option Malformed
 list_fault offsets child validity =
-    first_broken ((TooManyRows, too_many (rows_between offsets)) ∷ (OffsetRange, nat_lt child (last_offset offsets)) ∷ (ValidityLength, validity_differs validity (rows_between offsets)) ∷ [])
+    first_broken ((TooManyRows, too_many (rows_between offsets))
+    ∷ (OffsetRange, nat_lt child (last_offset offsets))
+    ∷ (ValidityLength, validity_differs validity (rows_between offsets)) ∷ [])
 
--- of n lists of this size over a child of so many rows (own)
+-- The first broken rule of n fixed-size lists, given the list size and the number of rows of the
+-- child.
 abbrev pub block_fault : ℕ → ℕ → ℕ → Option Bits → Option Malformed
 block_fault size n child validity =
-    first_broken ((TooManyRows, too_many n) ∷ (Width, too_many size) ∷ (ChildLength, not (child == n * size)) ∷ (ValidityLength, validity_differs validity n) ∷ [])
+    first_broken ((TooManyRows, too_many n) ∷ (Width, too_many size)
+    ∷ (ChildLength, not (child == n * size)) ∷ (ValidityLength, validity_differs validity n) ∷ [])
 
--- of n tuples, where it is known whether each field has n rows (own)
-abbrev pub tuple_fault : ℕ → Bool → Option Bits → Option Malformed
-tuple_fault n fit validity =
-    first_broken ((TooManyRows, too_many n) ∷ (FieldLength, not fit) ∷ (ValidityLength, validity_differs validity n) ∷ [])
+-- The first broken rule of n struct rows, given whether each field has n rows.
+abbrev pub struct_length_fault : ℕ → Bool → Option Bits → Option Malformed
+struct_length_fault n fit validity =
+    first_broken ((TooManyRows, too_many n) ∷ (FieldLength, not fit)
+    ∷ (ValidityLength, validity_differs validity n) ∷ [])
 
--- of n tuples over fields of so many rows each (own)
+-- The first broken rule of n struct rows, given the number of rows of each field.
 abbrev pub struct_fault : ℕ → List ℕ → Option Bits → Option Malformed
-struct_fault n fields validity = tuple_fault n (list_all (λ rows. rows == n) fields) validity
+struct_fault n fields validity = struct_length_fault n (list_all (λ rows. rows == n) fields) validity

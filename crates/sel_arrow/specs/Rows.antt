@@ -1,8 +1,8 @@
--- What a column of any type means: its rows, its type, and when it is well-formed.
+-- The rows and the type of a column, and whether it is well-formed.
 use Rattle.std.specs.Prelude.{◌≡◌, ℕ, ◌*◌, Bool, true, ◌&&◌, nat_le, ◌==◌, List, [], ◌∷◌, ◌++◌, length, IsTrue}
 use Rattle.sel_arrow.specs.Value.{Value}
 use Rattle.sel_arrow.specs.Masked.{covers, is_few}
-use Rattle.sel_arrow.specs.Nested.{list_rows, block_rows, tuple_rows}
+use Rattle.sel_arrow.specs.Nested.{list_rows, block_rows, struct_rows}
 use Rattle.sel_arrow.specs.Shape.{Shape, Shapes, no_shapes, next_shape, of_large_list, of_fixed_size_list, of_struct, of_null, of_boolean, of_int8, of_int16, of_int32, of_int64, of_int128, of_uint8, of_uint16, of_uint32, of_uint64, of_uint128, of_large_binary, of_binary_view, of_utf8_view}
 use Rattle.sel_arrow.specs.Columns.{null_rows, boolean_rows, primitive_rows, binary_rows, binview_rows, utf8view_rows}
 use Rattle.sel_arrow.specs.Pieces.{rows_between, last_offset, is_rising}
@@ -10,7 +10,7 @@ use Rattle.sel_arrow.specs.declared.column.Column.{Column, Row_of-Column, end_of
 use Rattle.sel_arrow.specs.declared.column.Column.TheVariants.{Null as NullColumn, Boolean, Int8, Int16, Int32, Int64, Int128, UInt8, UInt16, UInt32, UInt64, UInt128, LargeBinary, BinaryView, Utf8View, LargeList', FixedSizeList', Struct'}
 
 abbrev mutual
-  -- the rows, by cases on the layout (Arrow columnar format: physical memory layouts)
+  -- The rows of a column, by its layout (Arrow columnar format: physical memory layouts).
   pub rows : Column → List Value
   rows (NullColumn column) = null_rows column
   rows (Boolean column) = boolean_rows column
@@ -29,14 +29,14 @@ abbrev mutual
   rows (Utf8View column) = utf8view_rows column
   rows (LargeList' offsets p values validity) = list_rows offsets (rows values) validity
   rows (FixedSizeList' size len p values validity) = block_rows size len (rows values) validity
-  rows (Struct' len n fields validity) = tuple_rows len (rows_of_each fields) validity
+  rows (Struct' len n fields validity) = struct_rows len (rows_of_each fields) validity
 
-  -- the rows of each column (own)
+  -- The rows of each column.
   pub rows_of_each : {n : _} → Row_of-Column n → List (List Value)
   rows_of_each end_of-Column = []
   rows_of_each (more_of-Column column columns) = rows column ∷ rows_of_each columns
 
--- how many rows there are (own)
+-- The number of rows of a column.
 abbrev pub row_count : Column → ℕ
 row_count (NullColumn column) = column.length
 row_count (Boolean column) = length column.values.bits
@@ -58,7 +58,7 @@ row_count (FixedSizeList' size len p values validity) = len
 row_count (Struct' len n fields validity) = len
 
 abbrev mutual
-  -- the type (Arrow columnar format: data types)
+  -- The type of a column (Arrow columnar format: data types).
   pub type_of : Column → Shape
   type_of (NullColumn column) = of_null
   type_of (Boolean column) = of_boolean
@@ -79,13 +79,15 @@ abbrev mutual
   type_of (FixedSizeList' size len p values validity) = of_fixed_size_list (type_of values) size
   type_of (Struct' len n fields validity) = of_struct (types_of_each fields)
 
-  -- the types of columns (own)
+  -- The types of several columns.
   pub types_of_each : {n : _} → Row_of-Column n → Shapes
   types_of_each end_of-Column = no_shapes
-  types_of_each (more_of-Column column columns) = next_shape (type_of column) (types_of_each columns)
+  types_of_each (more_of-Column column columns) =
+      next_shape (type_of column) (types_of_each columns)
 
 abbrev mutual
-  -- the data buffers of each column of views in a tree, in order (Arrow columnar format: variable-size binary view layout)
+  -- The data buffers of each view column in a tree of columns, in order (Arrow columnar format:
+  -- variable-size binary view layout).
   pub buffers_held : Column → List (List (List ℕ))
   buffers_held (LargeList' offsets p values validity) = buffers_held values
   buffers_held (FixedSizeList' size len p values validity) = buffers_held values
@@ -94,13 +96,15 @@ abbrev mutual
   buffers_held (Utf8View column) = column.bytes.buffers ∷ []
   buffers_held column = []
 
-  -- those of columns, behind one another (own)
+  -- The same for several columns, concatenated.
   pub buffers_of_each : {n : _} → Row_of-Column n → List (List (List ℕ))
   buffers_of_each end_of-Column = []
   buffers_of_each (more_of-Column column columns) = buffers_held column ++ buffers_of_each columns
 
 abbrev mutual
-  -- whether a column's parts fit together, at every depth; a leaf's do by its type (Arrow columnar format: physical memory layouts; own: the limits)
+  -- Whether the parts of a column fit together, at every depth; those of a column without children
+  -- always do, by the invariant of its type (Arrow columnar format: physical memory layouts; the
+  -- limits are those of this library).
   pub well_formed : Column → Bool
   well_formed (NullColumn column) = true
   well_formed (Boolean column) = true
@@ -118,20 +122,25 @@ abbrev mutual
   well_formed (BinaryView column) = true
   well_formed (Utf8View column) = true
   well_formed (LargeList' offsets p values validity) =
-      is_rising offsets && is_few (rows_between offsets) && nat_le (last_offset offsets) (row_count values) && covers validity (rows_between offsets) && well_formed values
+      is_rising offsets && is_few (rows_between offsets)
+      && nat_le (last_offset offsets) (row_count values)
+      && covers validity (rows_between offsets) && well_formed values
   well_formed (FixedSizeList' size len p values validity) =
-      is_few len && is_few size && (row_count values == len * size) && covers validity len && well_formed values
-  well_formed (Struct' len n fields validity) = is_few len && covers validity len && all_well_formed len fields
+      is_few len && is_few size && (row_count values == len * size)
+      && covers validity len && well_formed values
+  well_formed (Struct' len n fields validity) =
+      is_few len && covers validity len && all_well_formed len fields
 
-  -- whether each column's parts do, and it has as many rows (Arrow columnar format: struct layout)
+  -- Whether each column is well-formed and has `len` rows (Arrow columnar format: struct layout).
   pub all_well_formed : {n : _} → ℕ → Row_of-Column n → Bool
   all_well_formed len end_of-Column = true
-  all_well_formed len (more_of-Column column columns) = (row_count column == len) && well_formed column && all_well_formed len columns
+  all_well_formed len (more_of-Column column columns) =
+      (row_count column == len) && well_formed column && all_well_formed len columns
 
--- the same, as a condition (own)
+-- The same as a proposition.
 abbrev pub IsWellFormed : Column → Type 0
 IsWellFormed column = IsTrue (well_formed column)
 
--- well-formed, and of so many rows (Arrow columnar format: struct layout)
+-- The column is well-formed and has `len` rows (Arrow columnar format: struct layout).
 abbrev pub IsField : ℕ → Column → Type 0
 IsField len column = (row_count column ≡ len) × IsWellFormed column

@@ -4,7 +4,7 @@ ghost use Rattle.std.specs.Prelude.{◌≡◌, ◌≤◌, ◌+◌, ◌<◌, ◌�
 ghost use Rattle.std.specs.Option.{option_copied};
 ghost use Rattle.sel_arrow.specs.Value.{Value, is_null};
 ghost use Rattle.sel_arrow.specs.Shape.{Shape};
-ghost use Rattle.sel_arrow.specs.Nulls.{TellsNulls};
+ghost use Rattle.sel_arrow.specs.Nulls.{IsValidityOf};
 
 use crate::array_ref::ArrayRef;
 use crate::datatype::ArrowDataType;
@@ -43,7 +43,7 @@ pub trait Array: Sized {
     /// Returns the validity bitmap. Without one every row is valid, except in a null column, where
     /// no row is.
     fn validity(&self) -> Option<&Bitmap>
-        ensures { TellsNulls (shape self.now) (option_copied result) (rows self.now) };
+        ensures { IsValidityOf (shape self.now) (option_copied result) (rows self.now) };
 
     /// Returns the number of null rows.
     #[tactic(auto, using(crate::proofs::NullCounts::null_counts))]

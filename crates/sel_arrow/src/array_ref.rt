@@ -132,7 +132,8 @@ impl ArrayRef {
     pub fn into_binview(self) -> Result<BinaryViewArray, ArrayRef>
         ensures rows { IfOk result (λ array. binview_rows array ≡ rows self.column) }
         ensures dtype { IfOk result (λ _. type_of self.column ≡ of_binary_view) }
-        ensures buffers { IfOk result (λ array. array.buffers ∷ [] ≡ buffers_held self.column) }
+        ensures buffers { IfOk result (λ array. array.buffers ∷ [] ≡
+            buffers_held self.column) }
         ensures back { IfErr result (λ back. back.column ≡ self.column) }
         ensures other { IfErr result (λ _. type_of self.column ≢ of_binary_view) }
     {
@@ -168,7 +169,8 @@ impl ArrayRef {
     /// Returns the column unchanged if it has a different type.
     pub fn into_list(self) -> Result<ListArray<i64>, ArrayRef>
         ensures rows { IfOk result (λ array. rows (list_column array) ≡ rows self.column) }
-        ensures dtype { IfOk result (λ array. type_of (list_column array) ≡ type_of self.column) }
+        ensures dtype { IfOk result (λ array. type_of (list_column array) ≡
+            type_of self.column) }
         ensures buffers { IfOk result (λ array. buffers_held (list_column array) ≡
             buffers_held self.column) }
         ensures back { IfErr result (λ back. back.column ≡ self.column) }
@@ -198,7 +200,8 @@ impl ArrayRef {
     /// Returns the column unchanged if it has a different type.
     pub fn into_fixed_size_list(self) -> Result<FixedSizeListArray, ArrayRef>
         ensures rows { IfOk result (λ array. rows (block_column array) ≡ rows self.column) }
-        ensures dtype { IfOk result (λ array. type_of (block_column array) ≡ type_of self.column) }
+        ensures dtype { IfOk result (λ array. type_of (block_column array) ≡
+            type_of self.column) }
         ensures buffers { IfOk result (λ array. buffers_held (block_column array) ≡
             buffers_held self.column) }
         ensures back { IfErr result (λ back. back.column ≡ self.column) }
@@ -230,7 +233,8 @@ impl ArrayRef {
     /// Returns the column unchanged if it has a different type.
     pub fn into_struct(self) -> Result<StructArray, ArrayRef>
         ensures rows { IfOk result (λ array. rows (tuple_column array) ≡ rows self.column) }
-        ensures dtype { IfOk result (λ array. type_of (tuple_column array) ≡ type_of self.column) }
+        ensures dtype { IfOk result (λ array. type_of (tuple_column array) ≡
+            type_of self.column) }
         ensures buffers { IfOk result (λ array. buffers_held (tuple_column array) ≡
             buffers_held self.column) }
         ensures back { IfErr result (λ back. back.column ≡ self.column) }

@@ -6,7 +6,7 @@ ghost use Rattle.sel_bits.specs.Faults.{IsFault};
 ghost use Rattle.sel_bits.specs.Offsets.{IsRising};
 ghost use Rattle.sel_arrow.specs.Makers.{binary_fault};
 ghost use Rattle.sel_arrow.specs.Masked.{Covers, bytes_value};
-ghost use Rattle.sel_arrow.specs.Nulls.{TellsNulls};
+ghost use Rattle.sel_arrow.specs.Nulls.{IsValidityOf};
 ghost use Rattle.sel_arrow.specs.Pieces.{byte_rows, last_offset, rows_between};
 ghost use Rattle.sel_arrow.specs.Shape.{of_large_binary};
 ghost use Rattle.sel_arrow.specs.Value.{Null, is_null};
@@ -122,7 +122,7 @@ impl<O: Offset> BinaryArray<O> {
 
     /// Returns the validity bitmap. Without one every row is valid.
     pub fn validity(&self) -> Option<&Bitmap>
-        ensures { TellsNulls of_large_binary (option_copied result) (binary_rows self.now) }
+        ensures { IsValidityOf of_large_binary (option_copied result) (binary_rows self.now) }
     {
         self.validity.as_ref()
     }

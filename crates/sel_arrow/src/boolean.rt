@@ -4,7 +4,7 @@ ghost use Rattle.std.specs.Prelude.{◌≡◌, ◌≤◌, ◌<◌, length, map, 
 ghost use Rattle.std.specs.Option.{option_copied};
 ghost use Rattle.sel_bits.specs.Faults.{IsFault, IsFaultOrMemory};
 ghost use Rattle.sel_arrow.specs.Makers.{flat_fault, null_fault};
-ghost use Rattle.sel_arrow.specs.Masked.{Covers, truth_rows, truth_value};
+ghost use Rattle.sel_arrow.specs.Masked.{Covers, bool_rows, bool_value};
 ghost use Rattle.sel_arrow.specs.Value.{Null};
 
 use crate::array::Array;
@@ -58,7 +58,7 @@ impl BooleanArray {
     /// `Malformed(TooManyRows)` if there are more than 4,294,967,295 rows; `OutOfMemory` if an
     /// allocation fails.
     pub fn from_options(alloc: Global, rows: &[Option<bool>]) -> Result<BooleanArray, MakeError>
-        ensures rows { IfOk result (λ column. boolean_rows column ≡ map truth_value rows.now) }
+        ensures rows { IfOk result (λ column. boolean_rows column ≡ map bool_value rows.now) }
         ensures accepted { IfOk result (λ _. null_fault (length rows.now) ≡ None) }
         ensures refused { IfErr result (IsFaultOrMemory (null_fault (length rows.now))) }
     {
@@ -90,7 +90,7 @@ impl BooleanArray {
     /// `i` is less than the number of rows.
     pub fn get(&self, i: usize) -> Option<bool>
         requires { i < length (boolean_rows self.now) }
-        ensures { truth_value result ≡ slice_index_or (boolean_rows self.now) i Null }
+        ensures { bool_value result ≡ slice_index_or (boolean_rows self.now) i Null }
     {
         if is_valid_at(&self.validity, i) {
             Some(self.values.get_bit(i))
@@ -105,7 +105,7 @@ impl BooleanArray {
     /// The length of `validity` is the number of rows; check with `has_other_length`.
     pub fn with_validity(self, validity: Option<Bitmap>) -> BooleanArray
         requires { Covers validity (length (boolean_rows self)) }
-        ensures rows { boolean_rows result ≡ truth_rows self.values.bits validity }
+        ensures rows { boolean_rows result ≡ bool_rows self.values.bits validity }
         ensures validity { result.validity ≡ validity }
     {
         let BooleanArray {

@@ -3,7 +3,7 @@
 ghost use Rattle.std.specs.Prelude.{◌≡◌, ◌≤◌, ◌+◌, ◌↔◌, length, take, drop, map, All, IfOk, IfErr, IsTrue};
 ghost use Rattle.std.specs.Option.{option_copied};
 ghost use Rattle.sel_arrow.specs.DataType.{shape_of};
-ghost use Rattle.sel_arrow.specs.Nulls.{TellsNulls};
+ghost use Rattle.sel_arrow.specs.Nulls.{IsValidityOf};
 ghost use Rattle.sel_arrow.specs.Rows.{rows, type_of, well_formed, IsField, IsWellFormed, buffers_held};
 
 use crate::array::Array;
@@ -16,7 +16,7 @@ use crate::fixed_size_list::FixedSizeListArray;
 use crate::list::ListArray;
 use crate::null::NullArray;
 use crate::primitive::PrimitiveArray;
-use crate::rules::{fault_of_blocks, fault_of_lists, fault_of_tuples};
+use crate::rules::{fault_of_blocks, fault_of_lists, fault_of_struct};
 use crate::structure::StructArray;
 use crate::utf8view::Utf8ViewArray;
 use sel_bits::bitmap::Bitmap;
@@ -95,7 +95,7 @@ impl Column {
     /// The column is well-formed; check with `is_well_formed`.
     pub fn validity(&self) -> Option<&Bitmap>
         requires { IsWellFormed self.now }
-        ensures { TellsNulls (type_of self.now) (option_copied result) (rows self.now) }
+        ensures { IsValidityOf (type_of self.now) (option_copied result) (rows self.now) }
     {
         match self {
             Column::Null(column) => column.validity(),
@@ -147,7 +147,7 @@ impl Column {
                 len,
                 fields,
                 validity,
-            } => are_fields(fields, *len) && fault_of_tuples(*len, true, validity).is_none(),
+            } => are_fields(fields, *len) && fault_of_struct(*len, true, validity).is_none(),
             _ => true,
         }
     }
@@ -426,7 +426,8 @@ pub(crate) fn same_dtypes(columns: &[Column], others: &[Column]) -> bool
 /// Returns the types of the columns, in order. Fails only with `OutOfMemory`.
 #[cycle(dtype)]
 pub(crate) fn dtypes_of(alloc: Global, columns: &[Column]) -> PolarsResult<Vec<ArrowDataType>>
-    ensures dtypes { IfOk result (λ dtypes. map shape_of dtypes.items ≡ map type_of columns.now) }
+    ensures dtypes { IfOk result (λ dtypes. map shape_of dtypes.items ≡
+        map type_of columns.now) }
     ensures refusal { IfErr result (λ fault. fault ≡ PolarsError.OutOfMemory) }
 {
     let mut dtypes = Vec::with_capacity(alloc, columns.len())?;

@@ -50,7 +50,7 @@ fn empty_column(alloc: Global, dtype: &ArrowDataType) -> PolarsResult<Column>
 {
     match dtype {
         ArrowDataType::Null => Ok(Column::Null(NullArray { length: 0 })),
-        ArrowDataType::Boolean => empty_truths(alloc),
+        ArrowDataType::Boolean => empty_booleans(alloc),
         ArrowDataType::Int8 => empty_numbers::<i8>(alloc),
         ArrowDataType::Int16 => empty_numbers::<i16>(alloc),
         ArrowDataType::Int32 => empty_numbers::<i32>(alloc),
@@ -71,7 +71,7 @@ fn empty_column(alloc: Global, dtype: &ArrowDataType) -> PolarsResult<Column>
         ArrowDataType::FixedSizeList(child, size) => {
             no_blocks(alloc, *size, empty_column(alloc, child)?)
         }
-        ArrowDataType::Struct(dtypes) => Ok(no_tuples(empty_columns(alloc, dtypes)?)),
+        ArrowDataType::Struct(dtypes) => Ok(no_struct_rows(empty_columns(alloc, dtypes)?)),
     }
 }
 
@@ -80,7 +80,8 @@ fn empty_column(alloc: Global, dtype: &ArrowDataType) -> PolarsResult<Column>
 #[tactic(auto, using(crate::proofs::Lists::all_at))]
 fn empty_columns(alloc: Global, dtypes: &[ArrowDataType]) -> PolarsResult<Vec<Column>>
     requires { IsTrue (list_all widths_fit dtypes.now) }
-    ensures dtypes { IfOk result (λ columns. map type_of columns.items ≡ map shape_of dtypes.now) }
+    ensures dtypes { IfOk result (λ columns. map type_of columns.items ≡
+        map shape_of dtypes.now) }
     ensures fields { IfOk result (λ columns. All (IsField 0) columns.items) }
     ensures refusal { IfErr result (λ fault. fault ≡ PolarsError.OutOfMemory) }
 {
@@ -130,7 +131,7 @@ fn no_blocks(alloc: Global, size: usize, child: Column) -> PolarsResult<Column>
 }
 
 /// Returns a struct column without rows over empty fields.
-fn no_tuples(fields: Vec<Column>) -> Column
+fn no_struct_rows(fields: Vec<Column>) -> Column
     requires { All (IsField 0) fields.items }
     ensures rows { rows result ≡ [] }
     ensures dtype { type_of result ≡ of_struct (shapes_of (map type_of fields.items)) }
@@ -155,7 +156,7 @@ fn empty_numbers<T: ArrowPrimitive>(alloc: Global) -> PolarsResult<Column>
 }
 
 /// Returns a boolean column without rows. Fails only with `OutOfMemory`.
-fn empty_truths(alloc: Global) -> PolarsResult<Column>
+fn empty_booleans(alloc: Global) -> PolarsResult<Column>
     ensures rows { IfOk result (λ column. rows column ≡ []) }
     ensures dtype { IfOk result (λ column. type_of column ≡ of_boolean) }
     ensures formed { IfOk result (λ column. IsWellFormed column) }

@@ -120,7 +120,8 @@ impl FixedSizeListArray {
     /// Returns whether the rows of `scalar` can be one list of this column: they have the type of
     /// the child, and their count is the list size.
     pub fn scalar_fits(&self, scalar: &ArrayRef) -> bool
-        ensures { IsTrue result ↔ ((type_of scalar.now.column ≡ type_of self.now.values.value) ×
+        ensures { IsTrue result ↔
+            ((type_of scalar.now.column ≡ type_of self.now.values.value) ×
             (length (rows scalar.now.column) ≡ self.now.size)) }
     {
         scalar.column.len() == self.size && scalar.column.same_dtype(&self.values)

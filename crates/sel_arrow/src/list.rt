@@ -55,8 +55,8 @@ impl ListArray<i64> {
         ensures offsets { IfOk result (λ array. array.offsets ≡ offsets) }
         ensures values { IfOk result (λ array. array.values.value ≡ values.column) }
         ensures validity { IfOk result (λ array. array.validity ≡ validity) }
-        ensures accepted { IfOk result (λ _. list_fault offsets (row_count values.column) validity ≡
-            None) }
+        ensures accepted { IfOk result (λ _. list_fault offsets (row_count values.column)
+            validity ≡ None) }
         ensures refused { IfErr result (IsFaultOrMemory
             (list_fault offsets (row_count values.column) validity)) }
     {

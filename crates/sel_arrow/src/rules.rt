@@ -2,7 +2,7 @@
 
 ghost use Rattle.std.specs.Prelude.{◌≡◌};
 ghost use Rattle.sel_bits.specs.Offsets.{IsRising};
-ghost use Rattle.sel_arrow.specs.Makers.{list_fault, block_fault, tuple_fault};
+ghost use Rattle.sel_arrow.specs.Makers.{list_fault, block_fault, struct_length_fault};
 
 use crate::validity::{MOST_ROWS, has_other_length};
 use sel_bits::bitmap::Bitmap;
@@ -55,8 +55,8 @@ pub(crate) fn fault_of_blocks(
 
 /// Returns the first rule that a struct column of `len` rows breaks; `fit` is whether each field
 /// has `len` rows.
-pub(crate) fn fault_of_tuples(len: usize, fit: bool, validity: &Option<Bitmap>) -> Option<Malformed>
-    ensures { result ≡ tuple_fault len fit validity.now }
+pub(crate) fn fault_of_struct(len: usize, fit: bool, validity: &Option<Bitmap>) -> Option<Malformed>
+    ensures { result ≡ struct_length_fault len fit validity.now }
 {
     if len > MOST_ROWS {
         Some(Malformed::TooManyRows)

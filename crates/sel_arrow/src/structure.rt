@@ -5,7 +5,7 @@ ghost use Rattle.std.specs.List.{list_all};
 ghost use Rattle.sel_bits.specs.Faults.{IsFaultOrMemory};
 ghost use Rattle.sel_arrow.specs.Makers.{struct_fault};
 ghost use Rattle.sel_arrow.specs.Masked.{Covers};
-ghost use Rattle.sel_arrow.specs.Nested.{tuple_rows};
+ghost use Rattle.sel_arrow.specs.Nested.{struct_rows};
 ghost use Rattle.sel_arrow.specs.Rows.{rows, row_count, type_of, IsField, IsWellFormed, buffers_held};
 ghost use Rattle.sel_arrow.specs.declared.column.Column.{Struct};
 
@@ -13,7 +13,7 @@ use crate::array::Array;
 use crate::array_ref::ArrayRef;
 use crate::column::{Column, dtypes_of, have_dtypes, same_dtypes};
 use crate::datatype::ArrowDataType;
-use crate::rules::fault_of_tuples;
+use crate::rules::fault_of_struct;
 use crate::validity::{clone_validity, sliced_validity};
 use sel_bits::bitmap::Bitmap;
 use sel_bits::faults::{MakeError, PolarsError, PolarsResult};
@@ -56,7 +56,7 @@ impl StructArray {
             (struct_fault len (map (λ field. row_count field.column) fields.items) validity)) }
     {
         let fit = have_rows(&fields, len);
-        if let Some(fault) = fault_of_tuples(len, fit, &validity) {
+        if let Some(fault) = fault_of_struct(len, fit, &validity) {
             return Err(MakeError::Malformed(fault));
         }
         match columns_of(alloc, fields) {
@@ -84,7 +84,7 @@ impl StructArray {
     pub fn with_validity(self, validity: Option<Bitmap>) -> StructArray
         requires { Covers validity (length (rows (tuple_column self))) }
         ensures rows { rows (tuple_column result) ≡
-            tuple_rows self.len (map rows self.fields.items) validity }
+            struct_rows self.len (map rows self.fields.items) validity }
         ensures dtype { type_of (tuple_column result) ≡ type_of (tuple_column self) }
         ensures buffers { buffers_held (tuple_column result) ≡ buffers_held (tuple_column self) }
         ensures validity { result.validity ≡ validity }

@@ -1,4 +1,4 @@
--- Lines out of the pieces that are read, and texts out of the pieces that are written.
+-- Lines are made of the bytes that are read, and outputs of the bytes that are written.
 use Rattle.std.proofs.Common.{◌≡◌, ◌≢◌, ◌<◌, ℕ, zero, suc, ◌+◌, ◌-◌, true, false, List, [], ◌∷◌, ◌++◌, length, take, drop, Option, Result, Ok, arith, refl, ap, ◌∙◌}
 use Rattle.std.proofs.lemmas.List.Elements.{All-push}
 use Rattle.std.proofs.lemmas.List.{take_rest}
@@ -11,7 +11,7 @@ use Rattle.sel_lines.specs.Lines.{HasNoFeed}
 pub no_feed_push : (line : List ℕ) (byte : ℕ) → HasNoFeed line → byte ≢ 10 → HasNoFeed (line ++ (byte ∷ []))
 no_feed_push line byte before here = All-push (λ b. b ≢ 10) line byte before here
 
--- a write of the rest, of which some was taken
+-- A write of the rest, of which some bytes were taken.
 pub sent_more : (a b c : Option (List ℕ)) (text : List ℕ) (i n : ℕ) → Appends a b (take i text) → Appends b c (take n (take (length text - i) (drop i text))) → Appends a c (take (i + n) text)
 sent_more a b c text i n before now = rw take-add (Appends-trans a b c _ _ before (rw take_rest at now))
 

@@ -1,4 +1,4 @@
--- A run so far, and what one line more makes of it.
+-- A run so far, and one more line.
 use Rattle.std.proofs.Common.{◌≡◌, ℕ, suc, ◌+◌, ◌≤◌, ◌<◌, Bool, true, false, cond, List, [], ◌∷◌, ◌++◌, length, take, drop, Option, Some, None, Ok, Err, arith, refl, ap, sym, ◌∙◌, append_assoc, append-nil, length-append, inl, inr, ◌⊎◌}
 use Rattle.std.specs.Prelude.{◌==◌, nat_le}
 use Rattle.std.specs.List.{All}
@@ -14,7 +14,7 @@ use Rattle.sel_bench.specs.declared.run.Done.{Done}
 use Rattle.sel_bench.specs.declared.run.Done.TheVariants.{End, BadLine}
 use Rattle.sel_bench.specs.declared.run.RunError.{RunError}
 use Rattle.sel_bench.specs.declared.run.RunError.TheVariants.{OutOfMemory, Input, Output}
-use Rattle.sel_lines.specs.Lines.{HasNoFeed, parts, lines_of_parts, but_last, lines, whole_lines}
+use Rattle.sel_lines.specs.Lines.{HasNoFeed, line_parts, lines_of_parts, but_last, lines, whole_lines}
 use Rattle.sel_bench.specs.Output.{answer_at, answers, first_bad, first_bad_from, output_from, bad_or, written_for}
 use Rattle.sel_lines.specs.Commands.{answer_of_line}
 use Rattle.sel_bench.specs.Step.{Step, piece, lines_in, IsReadTo}
@@ -23,7 +23,7 @@ use Rattle.sel_bench.specs.Run.{AreAnswered, Runs, IsLineRead}
 
 -- ---- the lines of a text
 
-has_parts : (text : List ℕ) → 0 < length (parts text)
+has_parts : (text : List ℕ) → 0 < length (line_parts text)
 has_parts text = omega (arith, length-slice_split (λ b. b == 10) text)
 
 cons_lines : (x : List ℕ) (ps : List (List ℕ)) → 0 < length ps → lines_of_parts (x ∷ ps) ≡ x ∷ lines_of_parts ps
@@ -37,19 +37,19 @@ cons_but_last x (p ∷ ps) some = refl
 no_feeds : (line : List ℕ) → HasNoFeed line → All (λ b. (b == 10) ≡ false) line
 no_feeds line plain = λ k d lt. ne_eqb _ 10 (plain k d lt)
 
-parts_fed : (line rest : List ℕ) → HasNoFeed line → parts (line ++ (10 ∷ rest)) ≡ line ∷ parts rest
+parts_fed : (line rest : List ℕ) → HasNoFeed line → line_parts (line ++ (10 ∷ rest)) ≡ line ∷ line_parts rest
 parts_fed line rest plain = slice_split_at (λ b. b == 10) line 10 rest (no_feeds line plain) refl
 
-parts_plain : (line : List ℕ) → HasNoFeed line → parts line ≡ line ∷ []
+parts_plain : (line : List ℕ) → HasNoFeed line → line_parts line ≡ line ∷ []
 parts_plain line plain = slice_split_none (λ b. b == 10) line (no_feeds line plain)
 
 lines_fed : (line rest : List ℕ) → HasNoFeed line → lines (line ++ (10 ∷ rest)) ≡ line ∷ lines rest
 unfolding lines
-lines_fed line rest plain = ap lines_of_parts (parts_fed line rest plain) ∙ cons_lines line (parts rest) (has_parts rest)
+lines_fed line rest plain = ap lines_of_parts (parts_fed line rest plain) ∙ cons_lines line (line_parts rest) (has_parts rest)
 
 whole_fed : (line rest : List ℕ) → HasNoFeed line → whole_lines (line ++ (10 ∷ rest)) ≡ line ∷ whole_lines rest
 unfolding whole_lines
-whole_fed line rest plain = ap but_last (parts_fed line rest plain) ∙ cons_but_last line (parts rest) (has_parts rest)
+whole_fed line rest plain = ap but_last (parts_fed line rest plain) ∙ cons_but_last line (line_parts rest) (has_parts rest)
 
 lines_plain : (line : List ℕ) → HasNoFeed line → lines line ≡ cond (length line == 0) [] (line ∷ [])
 unfolding lines
@@ -72,7 +72,7 @@ lines_piece ending.Feed line plain = lines_fed line [] plain ∙ ap (λ ls. line
 lines_piece ending.Input line plain = lines_plain line plain
 lines_piece ending.TooLong line plain = lines_plain line plain
 
--- ---- what is written for lines, and the first bad one
+-- ---- what is written for lines, and the first bad line
 
 bad_step : (n : ℕ) (a : Option (List ℕ)) (p q r : Option ℕ) → bad_or n a p ≡ None → (p ≡ None → q ≡ r) → bad_or n a q ≡ r
 bad_step n None p q r good step = absurd (none_some n None refl (sym good))
@@ -137,7 +137,7 @@ at_start before holds = record {
   whole_of = λ rest. refl;
 }
 
--- of all lines of a run, by those of its last step
+-- All lines of a run, by those of its last step.
 bad_total : (n : ℕ) (r0 r1 w0 w1 : Option (List ℕ)) (so : SoFar n r0 r1 w0 w1) (ls : List (List ℕ)) → first_bad (so.done ++ ls) ≡ first_bad_from n ls
 bad_total n r0 r1 w0 w1 so ls = bad_of_append 1 so.done ls so.good ∙ ap (λ k. first_bad_from k ls) so.count
 
@@ -218,7 +218,7 @@ finish n (BadLine m) r0 r1 r2 w0 w1 w2 so step =
       ),
     )
 
--- what is left unanswered
+-- The lines that have no output.
 
 when_answered : (n : ℕ) (r0 r1 w0 w1 : Option (List ℕ)) (so : SoFar n r0 r1 w0 w1) (ls : List (List ℕ)) (more : List ℕ) → ls ≡ so.done → more ≡ [] → AreAnswered ls (so.written ++ more)
 when_answered n r0 r1 w0 w1 so ls more is none = record {
@@ -251,7 +251,7 @@ front_if : (done : List (List ℕ)) (b : Bool) (line : List ℕ) → (rest : Lis
 front_if done true line = let r = last_off done in (r.0, r.1 ∙ ap (λ l. but_last l ++ r.0) (sym (append-nil done)))
 front_if done false line = ([], sym (append-nil (but_last (done ++ (line ∷ []))) ∙ but_last_push done line))
 
--- but for the last, the lines are among those that were answered
+-- All lines but the last are among those that have output.
 front_of : (done : List (List ℕ)) (end : LineEnd) (line : List ℕ) → (rest : List (List ℕ)) × (done ≡ but_last (done ++ lines_in end line) ++ rest)
 front_of done ending.Feed line = front_if done false line
 front_of done ending.Input line = front_if done (length line == 0) line
@@ -268,7 +268,7 @@ more_begins front w x begins =
     let rest = drop (length w) x in
     begins_at (front ++ x) ((front ++ w) ++ rest) (front ++ w) (ap (λ r. front ++ r) (starts_with_rest x w begins) ∙ sym (append_assoc front w rest)) (take-append_seam (front ++ w) rest)
 
--- the answers of the front of some good lines are the front of their answers
+-- The output for a prefix of good lines is a prefix of their output.
 front_written : (front rest : List (List ℕ)) (written more : List ℕ) → first_bad (front ++ rest) ≡ None → written ≡ answers (front ++ rest) → StartsWith (written ++ more) (answers front)
 front_written front rest written more good is =
     let after = output_from (1 + length front) rest in

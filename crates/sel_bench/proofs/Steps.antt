@@ -14,7 +14,7 @@ use Rattle.sel_lines.specs.Commands.{answer_of_line}
 use Rattle.sel_bench.specs.Step.{Step, lines_in, IsReadTo}
 use Rattle.sel_lines.proofs.Answered.{too_long}
 
--- a line that could not be read to its end
+-- A line that could not be read to its end.
 pub failed_step : (n : ℕ) (e : RunError) (rest : List ℕ) (before after holds : Option (List ℕ)) → e ≢ Output → HasNoFeed rest → Consumes before after rest
     → Step n (Err e) before after holds holds
 failed_step n OutOfMemory rest before after holds fault plain reads =
@@ -37,7 +37,7 @@ one_line line some = ap (λ b. cond b [] (line ∷ [])) (ne_eqb (length line) 0 
 pub none_some : (n : ℕ) (a : Option ℕ) → a ≡ None → a ≡ Some n → ⊥
 none_some n a e f = cc
 
--- a good line that has no line feed is the last of the input
+-- A good line without a line feed is the last of the input.
 pub last_line : (n : ℕ) (end : LineEnd) (line : List ℕ) (left : Option (List ℕ)) → IsReadTo end line left → end ≢ ending.Feed → first_bad_from n (lines_in end line) ≡ None
     → (end ≡ ending.Input) × IsAtEnd left
 last_line n ending.Feed line left read other good = absurd (other refl)

@@ -2,19 +2,19 @@
 use Rattle.std.specs.Prelude.{ℕ, suc, zero, ◌+◌, ◌-◌, ◌^◌, min, Bool, true, false, List, [], ◌∷◌, if◌then◌else◌, Result, Ok, Err}
 use Rattle.sel_bench.specs.declared.counted.Counted.{Counted}
 
--- the reader or the writer itself (own)
+-- The wrapped reader or writer.
 abbrev pub inner_of : {T : Type 0} → Counted T → T
 inner_of counted = counted.inner
 
--- how many of its calls have failed (own)
+-- The number of failed calls.
 abbrev pub failures_of : {T : Type 0} → Counted T → ℕ
 failures_of counted = counted.failures
 
--- one failure more, where there was one; the count stays at its most (own)
+-- The count after a call: one more if it failed, at most 2^64 - 1.
 abbrev pub counted_up : Bool → ℕ → ℕ
 counted_up has_failed count = if has_failed then min (count + 1) (2 ^ 64 - 1) else count
 
--- an error, or none taken of some bytes (own)
+-- Whether a write has failed: it returned an error, or wrote none of some bytes.
 abbrev pub has_write_failed : {E : Type 0} → Result ℕ E → List ℕ → Bool
 has_write_failed (Err e) bytes = true
 has_write_failed (Ok (suc n)) bytes = false

@@ -160,7 +160,8 @@ fn reply_to_line(alloc: Global, number: u64, line: &[u8]) -> Result<Reply, Alloc
 }
 
 fn answer_numbered(alloc: Global, number: u64, line: &[u8]) -> Result<Option<String>, AllocError>
-    ensures { IfOk result (λ answer. option_map string_bytes answer ≡ answer_at number line.now) }
+    ensures { IfOk result (λ answer. option_map string_bytes answer ≡
+        answer_at number line.now) }
 {
     if number > LAST_LINE {
         return Ok(None);

@@ -1,4 +1,4 @@
--- Bits that are all true: as many true ones stand in front as there are bits.
+-- The number of leading true bits is the length exactly if the number of true bits is.
 use Rattle.std.proofs.Common.{◌≡◌, ◌+◌, ◌↔◌, refl, arith, List, [], ◌∷◌, length, Bool, true, false, cond}
 use Rattle.std.proofs.lemmas.List.Sums.{count_by-le-length, sum_by-cons}
 use Rattle.sel_bits.specs.Bits.{count_true, leading_ones}

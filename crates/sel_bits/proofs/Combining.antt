@@ -1,4 +1,4 @@
--- What a rule on the bits of a position makes of lists, and of words.
+-- Functions applied bit by bit to lists and to words.
 use Rattle.std.proofs.Common.{◌≡◌, ℕ, zero, suc, ◌+◌, ◌-◌, ◌*◌, ◌%◌, ◌^◌, ◌<◌, ◌≤◌, ◌∙◌, sym, refl, ap, subst, ⊎_elim, arith, min, max, List, [], ◌∷◌, ◌++◌, length, get_or, take, drop, map, Bool, true, false, cond, not, ◌&&◌, ◌||◌}
 use Rattle.std.specs.Prelude.{bit_and, bit_or, ◌==◌, if◌then◌else◌}
 use Rattle.std.specs.Int.{bit_at, bit_not, w64}
@@ -30,7 +30,7 @@ get_or-zip_three f (x ∷ xs) (y ∷ ys) [] i a b c d p q lt = absurd (omega ari
 get_or-zip_three f (x ∷ xs) (y ∷ ys) (z ∷ zs) zero a b c d p q lt = refl
 get_or-zip_three f (x ∷ xs) (y ∷ ys) (z ∷ zs) (suc i) a b c d p q lt = get_or-zip_three f xs ys zs i a b c d (omega arith) (omega arith) (omega arith)
 
--- three lists of which the third, or all but the first, does not count
+-- Three lists where f ignores the third, or all but the first.
 of_two : {A B C : Type 0} (f : A → B → C) (xs : List A) (ys : List B) → zip_three (λ x y _. f x y) xs ys ys ≡ zip_with f xs ys
 of_two f [] ys = refl
 of_two f (x ∷ xs) [] = refl
@@ -40,7 +40,7 @@ of_one : {A B : Type 0} (f : A → B) (xs : List A) → zip_three (λ x _ _. f x
 of_one f [] = refl
 of_one f (x ∷ xs) = ap (λ l. f x ∷ l) (of_one f xs)
 
--- the rules of bitmaps
+-- The operations on bitmaps.
 pub of_and : (xs ys : List Bool) → zip_three (λ x y _. x && y) xs ys ys ≡ zip_with (λ x y. x && y) xs ys
 of_and xs ys = of_two (λ x y. x && y) xs ys
 
@@ -62,12 +62,12 @@ of_choice (m ∷ ms) [] fs = refl
 of_choice (m ∷ ms) (t ∷ ts) [] = refl
 of_choice (m ∷ ms) (t ∷ ts) (f ∷ fs) = ap (λ l. (if m then t else f) ∷ l) (of_choice ms ts fs)
 
--- bits of words
+-- Bits of words.
 test_of_cond : (b : Bool) → (cond b 1 0 == 1) ≡ b
 test_of_cond true = refl
 test_of_cond false = refl
 
--- entry i of the list of a word's bits
+-- Bit i of a list's word is entry i.
 pub is_set_word_of : (l : List Bool) (i : ℕ) → is_set (word_of l) i ≡ get_or l i false
 is_set_word_of l i = ap (λ b. b == 1) (bit_at_word_of l i) ∙ test_of_cond (get_or l i false)
 
@@ -125,11 +125,11 @@ set_choice m t f i fits lt =
     ∙ (λ j. set_and t m i j || set_and_not f m i fits lt j)
     ∙ chosen (is_set m i) (is_set t i) (is_set f i)
 
--- what a rule on bits makes of three words
+-- Bit i of w is f of bit i of three words.
 abbrev pub IsMade : (Bool → Bool → Bool → Bool) → ℕ → ℕ → ℕ → ℕ → Type 0
 IsMade f x y z w = (i : ℕ) → i < 64 → is_set w i ≡ f (is_set x i) (is_set y i) (is_set z i)
 
--- the words of a part of three lists make the word of that part of the list that the rule makes
+-- The words of one part of three lists give the word of the same part of the combined list.
 pub masked_made : (f : Bool → Bool → Bool → Bool) (xs ys zs : List Bool) (at len x y z w : ℕ) → length xs ≡ length ys → length xs ≡ length zs → at + len ≤ length xs → len ≤ 64
     → x ≡ word_of (take len (drop at xs)) → y ≡ word_of (take len (drop at ys)) → z ≡ word_of (take len (drop at zs)) → IsMade f x y z w
     → w % 2 ^ len ≡ word_of (take len (drop at (zip_three f xs ys zs)))
@@ -151,14 +151,14 @@ masked_made f xs ys zs at len x y z w second third within few x_is y_is z_is mad
         ∙ (λ j. f (read xs x x_is i lt j) (read ys y y_is i lt j) (read zs z z_is i lt j))
         ∙ sym (get_or-take len (drop at all) i false lt ∙ get_or-drop at all i false ∙ get_or-zip_three f xs ys zs (at + i) false false false false second third (omega arith)))
 
--- a packer that has the first bits of a list gets the next ones
+-- The first bits of a list, followed by the next ones.
 pub packed_more : (l : List Bool) (at len : ℕ) → at + len ≤ length l → take at l ++ bits len (word_of (take len (drop at l))) ≡ take (at + len) l
 packed_more l at len within =
     let part = take len (drop at l) in
     let block : bits len (word_of part) ≡ part = ap (λ n. bits n (word_of part)) (sym (length_part at len l within)) ∙ bits_word_of part in
     ap (λ more. take at l ++ more) block ∙ sym (take-add at len l)
 
--- such a part fits its number of bits
+-- The word of a part fits its number of bits.
 pub part_fits : (l : List Bool) (at len : ℕ) → at + len ≤ length l → word_of (take len (drop at l)) < 2 ^ len
 part_fits l at len within = subst (λ n. word_of (take len (drop at l)) < 2 ^ n) (length_part at len l within) (word_of_lt (take len (drop at l)))
 

@@ -1,4 +1,4 @@
--- Counts of the set bits below a place.
+-- Counts of the set bits below a position.
 use Rattle.std.proofs.Common.{◌≡◌, ℕ, suc, ◌+◌, refl}
 use Rattle.std.specs.Int.{bit_at}
 use Rattle.sel_bits.specs.Words.{ones_below}

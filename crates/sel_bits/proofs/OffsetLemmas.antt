@@ -62,7 +62,7 @@ climbs number (x ∷ []) neg fall (suc j) (suc k) le h = omega arith
 climbs number (x ∷ (y ∷ ys)) neg fall (suc j) (suc k) le h =
     climbs number (y ∷ ys) (neg_tail number x (y ∷ ys) neg) (fall_tail number x y ys fall) j k (omega arith) (omega arith)
 
--- numbers that break no rule are offsets
+-- Numbers that break no rule are offsets.
 pub accepted : {T : Type 0} (number : T → ℤ) → (xs : List T) → offsets_fault number xs ≡ None → IsOffsets number xs
 accepted number [] h = cc
 accepted number (x ∷ xs) h = made (has_negative number (x ∷ xs)) (has_fall number (x ∷ xs)) refl refl h
@@ -83,7 +83,7 @@ accepted-numbers number xs h = (accepted number xs h).positive
 
 pub ruleset accepting = (accepted, accepted-numbers)
 
--- an element of numbers that show `ns`
+-- An element of values that represent `ns`.
 pub shown_at : {T : Type 0} (number : T → ℤ) → (xs : List T) (ns : List ℕ) (i : ℕ) (x : T) → map number xs ≡ map pos ns → i < length ns → x ≡ get_or xs i x → number x ≡ pos (get_or ns i 0)
 shown_at number xs ns i x e h is =
     let same : length xs ≡ length ns = simp length-map at (ap length e) in
@@ -91,7 +91,7 @@ shown_at number xs ns i x e h is =
     let there : get_or (map pos ns) i (number x) ≡ pos (get_or ns i 0) = get_or-map pos ns i 0 (number x) (omega arith) in
     cc
 
--- a part of rising numbers rises
+-- A part of a non-decreasing list is non-decreasing.
 pub rising_part : (ns : List ℕ) (off len : ℕ) → IsRising ns → off + len < length ns → IsRising (take (len + 1) (drop off ns))
 rising_part ns off len rises h = record {
   some = grind (arith, common_steps);
@@ -101,7 +101,7 @@ rising_part ns off len rises h = record {
       (rises.rising (off + j) (off + k) (omega arith) (omega arith));
 }
 
--- the numbers of a part are a part of the numbers
+-- The numbers of a part of the values are a part of the numbers.
 pub part_shown : {T : Type 0} (number : T → ℤ) → (xs : List T) (off len : ℕ) → magnitudes number (take len (drop off xs)) ≡ take len (drop off (magnitudes number xs))
 part_shown number xs off len = rw (drop-map, take-map) refl
 

@@ -1,4 +1,4 @@
--- Words and bytes that are made of truth values.
+-- Words and bytes that are made of booleans.
 use Rattle.std.proofs.Common.{◌≡◌, ℕ, zero, suc, ◌+◌, ◌*◌, ◌/◌, ◌%◌, ◌^◌, ◌<◌, ◌≤◌, ◌∙◌, sym, refl, ap, arith, List, [], ◌∷◌, ◌++◌, length, get_or, take, drop, replicate, Bool, true, false, cond, append_assoc}
 use Rattle.std.specs.Prelude.{◌==◌, not, count_by, if◌then◌else◌}
 use Rattle.std.specs.Int.{from_bool}
@@ -14,7 +14,7 @@ use Rattle.sel_bits.proofs.BitLists.{length_bits_from, get_bits_from}
 use Rattle.sel_bits.proofs.Packs.{length_bits, get_bits}
 use Rattle.sel_bits.proofs.Padded.{bit_at_word_of, word_of_lt}
 
--- the bits of the word of a list are the list
+-- The bits of the word of a list are the list.
 pub bits_word_of : (l : List Bool) → bits (length l) (word_of l) ≡ l
 bits_word_of l =
     same_lists (bits (length l) (word_of l)) l (length_bits (length l) (word_of l))
@@ -31,7 +31,7 @@ bits_word_of l =
     read (b ∷ l) zero d lt = test b
     read (b ∷ l) (suc i) d lt = read l i d (omega arith)
 
--- one more truth value on top
+-- One more boolean as the highest bit.
 pub word_of-push : (l : List Bool) (b : Bool) → word_of (l ++ b ∷ []) ≡ word_of l + from_bool b * 2 ^ length l
 word_of-push [] true = refl
 word_of-push [] false = refl
@@ -42,7 +42,7 @@ from_bool_lt : (b : Bool) → from_bool b < 2 ^ 1
 from_bool_lt true = omega arith
 from_bool_lt false = omega arith
 
--- the next truth value of a list, shifted to its place in a word
+-- The next boolean of a list, shifted to its position in the word.
 pub word_of-next : (l : List Bool) (i word bit : ℕ) → i < length l → length l ≤ 64 → word ≡ word_of (take i l) → bit ≡ from_bool (get_or l i false)
     → word + bit * 2 ^ i % 2 ^ 64 ≡ word_of (take (i + 1) l)
 word_of-next l i word bit inside short is bit-is =
@@ -54,7 +54,7 @@ word_of-next l i word bit inside short is bit-is =
     shl_sum : word + bit * 2 ^ i % 2 ^ 64 ≡ word + bit * 2 ^ i
     shl_sum = ap (λ n. word + n) (shl_whole bit 1 i 64 (rw bit-is (from_bool_lt (get_or l i false))) (omega arith))
 
--- the word of the first truth values of few
+-- The word of a prefix of at most 64 booleans.
 pub word_of-few : (l : List Bool) (i : ℕ) → i ≤ length l → length l ≤ 64 → word_of (take i l) < 2 ^ 64
 word_of-few l i inside short =
     let long : length (take i l) ≡ i = omega (arith, length-take i l) in
@@ -62,12 +62,12 @@ word_of-few l i inside short =
     let up : 2 ^ i ≤ 2 ^ 64 = pow_mono {j = 64} (omega arith) in
     omega (arith, ap (λ n. 2 ^ n) long, fits, up)
 
--- a byte of eight equal bits
+-- A byte of eight equal bits.
 byte_bit : (value : Bool) (j : ℕ) → j < 8 → is_set (if value then 255 else 0) j ≡ value
 byte_bit true j lt = ap (λ x. x == 1) (bit_at_ones 8 j lt)
 byte_bit false j lt = ap (λ x. x == 1) (bit_at-zero j)
 
--- bytes of equal bits
+-- Bytes of equal bits.
 pub equal_bits : (value : Bool) (k n : ℕ) → n ≤ 8 * k → bits_from (replicate k (if value then 255 else 0)) 0 n ≡ replicate n value
 equal_bits value k n enough =
     let bytes : List ℕ = replicate k (if value then 255 else 0) in
@@ -80,13 +80,13 @@ equal_bits value k n enough =
     ∙ byte_bit value ((0 + i) % 8) (omega arith)
     ∙ sym (get_or-replicate n i value d low))
 
--- an entry is true or false
+-- Each entry is true or false.
 pub counts : (bs : List Bool) → count_by (λ b. b) bs + count_by not bs ≡ length bs
 counts [] = refl
 counts (true ∷ bs) = omega (arith, counts bs, sum_by-cons (λ b. cond b 1 0) true bs, sum_by-cons (λ b. cond (not b) 1 0) true bs)
 counts (false ∷ bs) = omega (arith, counts bs, sum_by-cons (λ b. cond b 1 0) false bs, sum_by-cons (λ b. cond (not b) 1 0) false bs)
 
--- one block more of a list
+-- One more block of a list.
 pub block_packed : (packed block rest values : List Bool) (n : ℕ) → packed ++ rest ≡ values → block ≡ take n rest → (packed ++ block) ++ drop n rest ≡ values
 block_packed packed block rest values n before is =
     append_assoc packed block (drop n rest) ∙ ap (λ l. packed ++ (l ++ drop n rest)) is ∙ ap (λ l. packed ++ l) (take-append-drop n rest) ∙ before

@@ -1,11 +1,11 @@
--- Words without a true bit, behind one another.
+-- Consecutive words without a set bit.
 use Rattle.std.proofs.Common.{◌≡◌, ℕ, ◌+◌, ◌*◌, ◌≤◌, ◌∙◌, sym, refl, ap, arith, List, [], ◌∷◌, ◌++◌, length, take, drop, replicate, Bool, true, false}
 use Rattle.std.proofs.lemmas.List.{replicate-append-replicate, drop-drop}
 use Rattle.std.proofs.Math.Seq.{take-add}
 use Rattle.sel_bits.specs.Words.{word_of}
 use Rattle.sel_bits.proofs.WordsOf.{length_part}
 
--- a word without a set bit is that of bits that are all false
+-- If the word of a list has no set bit, each entry is false.
 none_true : (l : List Bool) → word_of l ≡ 0 → l ≡ replicate (length l) false
 none_true [] zero = refl
 none_true (true ∷ l) zero = absurd (omega (arith, zero))

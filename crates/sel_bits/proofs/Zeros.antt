@@ -9,14 +9,14 @@ use Rattle.sel_bits.specs.Bits.{bits_from, leading_zeros, trailing_zeros}
 use Rattle.sel_bits.proofs.BitLists.{length_bits_from, bits_from_part}
 use Rattle.sel_bits.proofs.Padded.{bit_at_word_of}
 
--- entries that are all false
+-- All entries of a range are false.
 abbrev pub AreFalse : List Bool → ℕ → ℕ → Type 0
 AreFalse l from end = (i : ℕ) → from ≤ i → i < end → get_or l i false ≡ false
 
 pub false_joined : (l : List Bool) (from middle end : ℕ) → AreFalse l from middle → AreFalse l middle end → AreFalse l from end
 false_joined l from middle end low high i le lt = ⊎_elim (λ (before : i < middle). low i le before) (λ (after : middle ≤ i). high i after lt) (cases_lt i middle)
 
--- false entries before a true one
+-- False entries before a true one.
 pub leading_found : (l : List Bool) (z : ℕ) → AreFalse l 0 z → get_or l z false ≡ true → leading_zeros l ≡ z
 leading_found [] z low here = cc
 leading_found (true ∷ l) zero low here = refl
@@ -25,7 +25,7 @@ leading_found (false ∷ l) zero low here = cc
 leading_found (false ∷ l) (suc z) low here =
     let rest : leading_zeros l ≡ z = leading_found l z (λ i le lt. low (suc i) (omega arith) (omega arith)) here in omega arith
 
--- nothing but false entries
+-- Only false entries.
 pub leading_all : (l : List Bool) → AreFalse l 0 (length l) → leading_zeros l ≡ length l
 leading_all [] low = refl
 leading_all (true ∷ l) low = let first : true ≡ false = low 0 (omega arith) (omega arith) in cc
@@ -37,7 +37,7 @@ leading_le [] = omega arith
 leading_le (true ∷ l) = omega arith
 leading_le (false ∷ l) = omega (arith, leading_le l)
 
--- the same at the other end
+-- The same at the other end.
 pub trailing_found : (l : List Bool) (kept : ℕ) → kept < length l → get_or l kept false ≡ true → AreFalse l (kept + 1) (length l) → trailing_zeros l ≡ length l - (kept + 1)
 trailing_found l kept lt here high =
     leading_found (reverse l) (length l - (kept + 1)) (λ i le below. get_or-reverse l i false (omega arith) ∙ high (length l - 1 - i) (omega arith) (omega arith))
@@ -48,7 +48,7 @@ pub trailing_all : (l : List Bool) → AreFalse l 0 (length l) → trailing_zero
 trailing_all l low =
     leading_all (reverse l) (λ i le lt. let under : i < length l = omega (arith, length-reverse l) in get_or-reverse l i false under ∙ low (length l - 1 - i) (omega arith) (omega arith)) ∙ length-reverse l
 
--- what the number of an entry tells of it
+-- A boolean from its number.
 is_false : (b : Bool) → ◌≡◌ {A = ℕ} (cond b 1 0) 0 → b ≡ false
 is_false true h = absurd (omega arith)
 is_false false h = refl
@@ -57,13 +57,13 @@ is_true : (b : Bool) → ◌≡◌ {A = ℕ} (cond b 1 0) 1 → b ≡ true
 is_true true h = refl
 is_true false h = absurd (omega arith)
 
--- from its highest bit on, a word is that bit alone
+-- From its highest set bit on, a word has only that bit.
 from_top : (word h : ℕ) → 2 ^ h ≤ word → word < 2 * 2 ^ h → (i : ℕ) → h ≤ i → bit_at word i ≡ bit_at 1 (i - h)
 from_top word h low high i le =
     let split : 1 * 2 ^ h + (word - 2 ^ h) ≡ word = omega arith in
     ap (λ w. bit_at w i) (sym split) ∙ bit_at_cat_high 1 h (word - 2 ^ h) i (omega arith) le
 
--- the word of a part of a list
+-- The word of a part of a list.
 module _ (l : List Bool) (at len word : ℕ) (is : word ≡ word_of (take len (drop at l))) (within : at + len ≤ length l) where
   entry : (i : ℕ) → bit_at word i ≡ cond (get_or (take len (drop at l)) i false) 1 0
   entry i = ap (λ w. bit_at w i) is ∙ bit_at_word_of (take len (drop at l)) i
@@ -89,13 +89,13 @@ module _ (l : List Bool) (at len word : ℕ) (is : word ≡ word_of (take len (d
   set : (i : ℕ) → bit_at word i ≡ 1 → get_or l (at + i) false ≡ true
   set i one = sym (in_part i (set_below i one)) ∙ set_in_part i one
 
-  -- a word without a set bit
+  -- A word without a set bit.
   pub none_set : word ≡ 0 → AreFalse l at (at + len)
   none_set clear i le lt =
       let place : at + (i - at) ≡ i = omega arith in
       ap (λ j. get_or l j false) (sym place) ∙ unset (i - at) (omega arith) (ap (λ w. bit_at w (i - at)) clear ∙ bit_at-zero (i - at))
 
-  -- the first word with a set bit
+  -- The first word with a set bit.
   pub lowest_set : word ≢ 0 → word < 2 ^ 64 → AreFalse l 0 at → (at + lowest_place w64 word < length l) × (leading_zeros l ≡ at + lowest_place w64 word)
   lowest_set some fits low =
       let t = lowest_place w64 word in
@@ -112,7 +112,7 @@ module _ (l : List Bool) (at len word : ℕ) (is : word ≡ word_of (take len (d
             (set t found.1),
       )
 
-  -- the last word with a set bit, whose highest one is bit h
+  -- The last word with a set bit; h is the position of the highest one.
   pub highest_set : (h : ℕ) → 2 ^ h ≤ word → word < 2 * 2 ^ h → AreFalse l (at + len) (length l) → (at + h < length l) × (trailing_zeros l ≡ length l - (at + h + 1))
   highest_set h low_end high_end high =
       let one : bit_at word h ≡ 1 = top in
@@ -133,7 +133,7 @@ module _ (l : List Bool) (at len word : ℕ) (is : word ≡ word_of (take len (d
           (λ (past : at + len ≤ i). high i past lt)
           (cases_lt i (at + len))
 
--- what is left of a bitmap's bits when some are removed at an end
+-- The remaining bits of a bitmap after some are removed at an end.
 pub bits_from_dropped : (bytes : List ℕ) (o n k : ℕ) → k ≤ n → bits_from bytes (o + k) (n - k) ≡ drop k (bits_from bytes o n)
 bits_from_dropped bytes o n k le =
     bits_from_part bytes o n k (n - k) (omega arith) ∙ take_all (n - k) (drop k (bits_from bytes o n)) (omega (arith, length-drop k (bits_from bytes o n), length_bits_from bytes o n))

@@ -1,7 +1,8 @@
--- A choice between two lists, entry by entry.
+-- If-then-else on lists, entry by entry.
 use Rattle.std.specs.Prelude.{Bool, List, [], ◌∷◌, if◌then◌else◌}
 
--- entry i is ts's where entry i of ms is true, else fs's (when-then-otherwise) (own)
+-- Entry i is from ts if entry i of ms is true, else from fs, up to the end of the shortest list
+-- (when-then-otherwise).
 abbrev pub choose : {A : Type 0} → List Bool → List A → List A → List A
 choose [] ts fs = []
 choose (m ∷ ms) [] fs = []

@@ -1,4 +1,4 @@
--- The texts of faults, and which fault a call names.
+-- The texts of errors, and the error for a broken rule.
 use Rattle.std.specs.Prelude.{ℕ, ◌≡◌, Bool, List, [], ◌∷◌, ◌++◌, Option, Some, None, codes, if◌then◌else◌}
 use Rattle.sel_bits.specs.declared.faults.Limit.{Limit}
 use Rattle.sel_bits.specs.declared.faults.Limit.TheVariants.{Rows, Bytes, Buffers, ViewBytes}
@@ -8,30 +8,30 @@ use Rattle.sel_bits.specs.declared.faults.Malformed.{Malformed}
 use Rattle.sel_bits.specs.declared.faults.MakeError.{MakeError}
 use Rattle.sel_bits.specs.declared.faults.MakeError.TheVariants.{Malformed as Broken, OutOfMemory as WantOfMemory}
 
--- the words behind `size limit` (own)
+-- The text of a limit, as it follows `size limit` in an error message.
 abbrev pub limit_text : Limit → List ℕ
 limit_text Rows = codes "rows"
 limit_text Bytes = codes "bytes"
 limit_text Buffers = codes "buffers"
 limit_text ViewBytes = codes "view bytes"
 
--- the text of a refusal (own)
+-- The text of an error.
 abbrev pub error_text : PolarsError → List ℕ
 error_text OutOfMemory = codes "out of memory"
 error_text (SizeLimit limit) = codes "size limit " ++ limit_text limit
 error_text ComputeError = codes "get index is out of bounds"
 
--- of rules in order, each with a test whether it is broken, the first one that is (own)
+-- The first broken rule; each rule is given with whether it is broken.
 abbrev pub first_broken : List (Malformed × Bool) → Option Malformed
 first_broken [] = None
 first_broken (rule ∷ rules) = if rule.1 then Some rule.0 else first_broken rules
 
--- an error that names this fault, and never speaks of memory (own)
+-- The error is this broken rule, never out of memory.
 abbrev pub IsFault : Option Malformed → MakeError → Type 0
 IsFault fault (Broken rule) = fault ≡ Some rule
 IsFault fault WantOfMemory = ⊥
 
--- an error that names this fault, or speaks of memory where there is none (own)
+-- The error is this broken rule; if no rule is broken, it is out of memory.
 abbrev pub IsFaultOrMemory : Option Malformed → MakeError → Type 0
 IsFaultOrMemory fault (Broken rule) = fault ≡ Some rule
 IsFaultOrMemory fault WantOfMemory = fault ≡ None

@@ -1,50 +1,51 @@
--- What callers see of readers that count what they give out.
+-- The contract models of bitmap readers that count what they have returned.
 use Rattle.std.specs.Prelude.{ℕ, ◌+◌, ◌-◌, ◌*◌, ◌%◌, min, Bool, List, length, take, drop}
 use Rattle.sel_bits.specs.Bits.{Bits}
 
--- the bitmap that it reads, and how many words it has given out (own)
+-- A reader of words: its bitmap, and the number of words returned.
 pub record WordReading : Type 0 where
   pub source : Bits
   pub words_read : ℕ
 
--- how many bits stand in so many words, of which each ends at a boundary of 64 bits in the shared bytes or with the last bit (own)
+-- The number of bits in the first `words` words; each word ends at a multiple of 64 bits in the
+-- shared bytes, or at the last bit.
 abbrev pub bits_in : Bits → ℕ → ℕ
 bits_in source words = min (length source.bits) (64 * words - source.offset % 64)
 
--- how many bits the reader has given out (own)
+-- The number of bits that the reader has returned.
 abbrev pub reached : WordReading → ℕ
 reached reading = bits_in reading.source reading.words_read
 
--- the reader after its next word (own)
+-- The reader after its next word.
 abbrev pub after_word : WordReading → WordReading
 after_word reading = record { source = reading.source; words_read = reading.words_read + 1 }
 
--- how many bits the next word has (own)
+-- The number of bits in the next word.
 abbrev pub next_count : WordReading → ℕ
 next_count reading = reached (after_word reading) - reached reading
 
--- the bits of the next word (own)
+-- The bits of the next word.
 abbrev pub next_bits : WordReading → List Bool
 next_bits reading = take (next_count reading) (drop (reached reading) reading.source.bits)
 
--- a reader of single bits: the bitmap that it reads, and how many times it has given a bit out (own)
+-- A reader of single bits: its bitmap, and the number of times that it has returned a bit.
 pub record BitReading : Type 0 where
   pub source : Bits
   pub bits_read : ℕ
 
--- the reader after one bit more (own)
+-- The reader after one more bit.
 abbrev pub after_bit : BitReading → BitReading
 after_bit reading = record { source = reading.source; bits_read = reading.bits_read + 1 }
 
--- a reader of blocks of 56 bits: the bitmap that it reads, and how many blocks it has given out (own)
+-- A reader of blocks of 56 bits: its bitmap, and the number of blocks returned.
 pub record BlockReading : Type 0 where
   pub source : Bits
   pub blocks_read : ℕ
 
--- the reader after its next block (own)
+-- The reader after its next block.
 abbrev pub after_block : BlockReading → BlockReading
 after_block reading = record { source = reading.source; blocks_read = reading.blocks_read + 1 }
 
--- the bits of the next block: 56 of them, or those that are left (own)
+-- The bits of the next block: 56, or those left at the end of the bitmap.
 abbrev pub block_bits : BlockReading → List Bool
 block_bits reading = take 56 (drop (56 * reading.blocks_read) reading.source.bits)

@@ -177,7 +177,8 @@ impl Bitmap {
     pub(crate) fn zero_words(&self, at: usize) -> usize
         requires { at ≤ length self.now.bits }
         ensures within { at + 64 * result ≤ length self.now.bits }
-        ensures zeros { take (64 * result) (drop at self.now.bits) ≡ replicate (64 * result) false }
+        ensures zeros { take (64 * result) (drop at self.now.bits) ≡
+            replicate (64 * result) false }
         ensures all { at + 64 * result + 64 ≤ length self.now.bits →
             word_of (take 64 (drop (at + 64 * result) self.now.bits)) ≢ 0 }
     {

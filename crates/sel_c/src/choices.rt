@@ -4,10 +4,10 @@ ghost use Rattle.std.specs.Prelude.{◌≡◌, ◌++◌, ◌∷◌, length, true
 ghost use Rattle.sel_arrow.specs.Rows.{rows, type_of};
 ghost use Rattle.sel_arrow.specs.Shape.{of_boolean};
 ghost use Rattle.sel_calls.specs.Chosen.{first_row};
-ghost use Rattle.sel_choices.specs.Choose.{choose, choose_one, choose_or_one, choose_of_two};
-ghost use Rattle.sel_handle.specs.Status.{done, no_memory, no_column, other_kind, other_type, other_length, limit_statuses, held_columns, held_rows, held_type, DemandsBefore, DemandsFirst, HasColumn, IsOneOf, Makes, TellsLimits};
-ghost use Rattle.sel_runs.specs.Need.{past_taken};
-ghost use Rattle.polars_compute.specs.Select.{in_force};
+ghost use Rattle.sel_choices.specs.Choose.{choose, broadcast_true, broadcast_false, broadcast_both};
+ghost use Rattle.sel_handle.specs.Status.{done, no_memory, no_column, other_kind, other_type, other_length, limit_statuses, held_columns, held_rows, held_type, DemandsBefore, DemandsFirst, HasColumn, IsOneOf, Makes, ReportsLimits};
+ghost use Rattle.sel_runs.specs.Need.{exceeded_taken};
+ghost use Rattle.polars_compute.specs.Select.{effective_mask};
 
 use sel_calls::choices::choose_handles;
 use sel_handle::column_ref::ColumnRef;
@@ -30,7 +30,7 @@ pub extern "C" fn sel_choose(
     out: &mut Handle,
 ) -> u32
     ensures rows { Makes result out.old.tree out.new.tree (λ made. rows made.column ≡
-        choose (in_force (held_rows mask.now.tree))
+        choose (effective_mask (held_rows mask.now.tree))
         (held_rows if_true.now.tree) (held_rows if_false.now.tree)) }
     ensures dtype { Makes result out.old.tree out.new.tree
         (λ made. type_of made.column ≡ held_type if_true.now.tree) }
@@ -45,9 +45,9 @@ pub extern "C" fn sel_choose(
     ensures length { DemandsBefore result other_length limit_statuses
         ((length (held_rows if_true.now.tree) ≡ length (held_rows mask.now.tree)) ×
         (length (held_rows if_false.now.tree) ≡ length (held_rows mask.now.tree))) }
-    ensures limits { TellsLimits result (past_taken (held_type if_true.now.tree)
+    ensures limits { ReportsLimits result (exceeded_taken (held_type if_true.now.tree)
         (held_columns if_true.now.tree ++ held_columns if_false.now.tree)
-        (choose (in_force (held_rows mask.now.tree))
+        (choose (effective_mask (held_rows mask.now.tree))
         (held_rows if_true.now.tree) (held_rows if_false.now.tree))) }
 {
     choose_handles(alloc, mask, if_true, if_false, true, true, out)
@@ -68,7 +68,7 @@ pub extern "C" fn sel_choose_one(
     out: &mut Handle,
 ) -> u32
     ensures rows { Makes result out.old.tree out.new.tree (λ made. rows made.column ≡
-        choose_one (in_force (held_rows mask.now.tree))
+        broadcast_true (effective_mask (held_rows mask.now.tree))
         (first_row (held_rows if_true.now.tree)) (held_rows if_false.now.tree)) }
     ensures dtype { Makes result out.old.tree out.new.tree
         (λ made. type_of made.column ≡ held_type if_true.now.tree) }
@@ -83,9 +83,9 @@ pub extern "C" fn sel_choose_one(
     ensures length { DemandsBefore result other_length limit_statuses
         ((length (held_rows if_true.now.tree) ≡ 1) ×
         (length (held_rows if_false.now.tree) ≡ length (held_rows mask.now.tree))) }
-    ensures limits { TellsLimits result (past_taken (held_type if_true.now.tree)
+    ensures limits { ReportsLimits result (exceeded_taken (held_type if_true.now.tree)
         (held_columns if_true.now.tree ++ held_columns if_false.now.tree)
-        (choose_one (in_force (held_rows mask.now.tree))
+        (broadcast_true (effective_mask (held_rows mask.now.tree))
         (first_row (held_rows if_true.now.tree)) (held_rows if_false.now.tree))) }
 {
     choose_handles(alloc, mask, if_true, if_false, false, true, out)
@@ -106,7 +106,7 @@ pub extern "C" fn sel_choose_or_one(
     out: &mut Handle,
 ) -> u32
     ensures rows { Makes result out.old.tree out.new.tree (λ made. rows made.column ≡
-        choose_or_one (in_force (held_rows mask.now.tree))
+        broadcast_false (effective_mask (held_rows mask.now.tree))
         (held_rows if_true.now.tree) (first_row (held_rows if_false.now.tree))) }
     ensures dtype { Makes result out.old.tree out.new.tree
         (λ made. type_of made.column ≡ held_type if_true.now.tree) }
@@ -121,9 +121,9 @@ pub extern "C" fn sel_choose_or_one(
     ensures length { DemandsBefore result other_length limit_statuses
         ((length (held_rows if_true.now.tree) ≡ length (held_rows mask.now.tree)) ×
         (length (held_rows if_false.now.tree) ≡ 1)) }
-    ensures limits { TellsLimits result (past_taken (held_type if_true.now.tree)
+    ensures limits { ReportsLimits result (exceeded_taken (held_type if_true.now.tree)
         (held_columns if_true.now.tree ++ held_columns if_false.now.tree)
-        (choose_or_one (in_force (held_rows mask.now.tree))
+        (broadcast_false (effective_mask (held_rows mask.now.tree))
         (held_rows if_true.now.tree) (first_row (held_rows if_false.now.tree)))) }
 {
     choose_handles(alloc, mask, if_true, if_false, true, false, out)
@@ -145,7 +145,7 @@ pub extern "C" fn sel_choose_of_two(
     out: &mut Handle,
 ) -> u32
     ensures rows { Makes result out.old.tree out.new.tree (λ made. rows made.column ≡
-        choose_of_two (in_force (held_rows mask.now.tree))
+        broadcast_both (effective_mask (held_rows mask.now.tree))
         (first_row (held_rows if_true.now.tree)) (first_row (held_rows if_false.now.tree))) }
     ensures dtype { Makes result out.old.tree out.new.tree
         (λ made. type_of made.column ≡ held_type if_true.now.tree) }
@@ -160,9 +160,9 @@ pub extern "C" fn sel_choose_of_two(
     ensures length { DemandsBefore result other_length limit_statuses
         ((length (held_rows if_true.now.tree) ≡ 1) ×
         (length (held_rows if_false.now.tree) ≡ 1)) }
-    ensures limits { TellsLimits result (past_taken (held_type if_true.now.tree)
+    ensures limits { ReportsLimits result (exceeded_taken (held_type if_true.now.tree)
         (held_columns if_true.now.tree ++ held_columns if_false.now.tree)
-        (choose_of_two (in_force (held_rows mask.now.tree))
+        (broadcast_both (effective_mask (held_rows mask.now.tree))
         (first_row (held_rows if_true.now.tree)) (first_row (held_rows if_false.now.tree)))) }
 {
     choose_handles(alloc, mask, if_true, if_false, false, false, out)

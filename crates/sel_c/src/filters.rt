@@ -5,7 +5,7 @@ ghost use Rattle.sel_bits.specs.Bits.{bits_from};
 ghost use Rattle.sel_arrow.specs.Rows.{rows, type_of};
 ghost use Rattle.sel_arrow.specs.Shape.{of_boolean};
 ghost use Rattle.sel_handle.specs.Status.{done, no_memory, no_column, other_kind, other_length, held_rows, held_type, Demands, DemandsBefore, DemandsFirst, HasColumn, IsOneOf, Makes};
-ghost use Rattle.polars_compute.specs.Select.{select, in_force};
+ghost use Rattle.polars_compute.specs.Select.{select, effective_mask};
 
 use sel_calls::filters::{filter_bits_into, filter_into};
 use sel_handle::column_ref::ColumnRef;
@@ -26,7 +26,7 @@ pub extern "C" fn sel_filter(
     out: &mut Handle,
 ) -> u32
     ensures rows { Makes result out.old.tree out.new.tree (λ made. rows made.column ≡
-        select (held_rows of.now.tree) (in_force (held_rows mask.now.tree))) }
+        select (held_rows of.now.tree) (effective_mask (held_rows mask.now.tree))) }
     ensures dtype { Makes result out.old.tree out.new.tree
         (λ made. type_of made.column ≡ held_type of.now.tree) }
     ensures column { DemandsFirst result no_column

@@ -3,9 +3,9 @@
 ghost use Rattle.std.specs.Prelude.{◌≡◌, ◌∷◌, false, IsTrue};
 ghost use Rattle.sel_arrow.specs.Rows.{rows, type_of};
 ghost use Rattle.sel_arrow.specs.Shape.{is_block_shape};
-ghost use Rattle.sel_calls.specs.Entries.{entries_at, refuses_index, past_entries_at};
+ghost use Rattle.sel_calls.specs.Entries.{entries_at, index_is_error, exceeded_entries_at};
 ghost use Rattle.sel_calls.specs.Types.{entry_type};
-ghost use Rattle.sel_handle.specs.Status.{done, no_memory, no_column, other_kind, get_out_of_bounds, limit_statuses, held_rows, held_type, DemandsBefore, DemandsFirst, HasColumn, IsOneOf, Makes, TellsLimits};
+ghost use Rattle.sel_handle.specs.Status.{done, no_memory, no_column, other_kind, get_out_of_bounds, limit_statuses, held_rows, held_type, DemandsBefore, DemandsFirst, HasColumn, IsOneOf, Makes, ReportsLimits};
 
 use sel_calls::fixed::fixed_get_into;
 use sel_handle::column_ref::ColumnRef;
@@ -38,9 +38,9 @@ pub extern "C" fn sel_fixed_get(
     ensures kind { DemandsBefore result other_kind (get_out_of_bounds ∷ limit_statuses)
         (IsTrue (is_block_shape (held_type of.now.tree))) }
     ensures bounds { DemandsBefore result get_out_of_bounds limit_statuses
-        (refuses_index null_on_oob (held_rows of.now.tree) (held_type of.now.tree) index ≡ false) }
-    ensures limits { TellsLimits result
-        (past_entries_at (held_rows of.now.tree) (held_type of.now.tree) index) }
+        (index_is_error null_on_oob (held_rows of.now.tree) (held_type of.now.tree) index ≡ false) }
+    ensures limits { ReportsLimits result
+        (exceeded_entries_at (held_rows of.now.tree) (held_type of.now.tree) index) }
 {
     let Some(column) = of.column() else {
         return NO_COLUMN;

@@ -3,9 +3,9 @@
 ghost use Rattle.std.specs.Prelude.{◌≡◌, ◌∷◌, length, false, IsTrue};
 ghost use Rattle.sel_arrow.specs.Rows.{rows, type_of};
 ghost use Rattle.sel_arrow.specs.Shape.{of_int64, is_block_shape};
-ghost use Rattle.sel_calls.specs.Entries.{entries_at_each, refuses_some, past_entries_at_each};
+ghost use Rattle.sel_calls.specs.Entries.{entries_at_each, any_index_is_error, exceeded_entries_at_each};
 ghost use Rattle.sel_calls.specs.Types.{entry_type};
-ghost use Rattle.sel_handle.specs.Status.{done, no_memory, no_column, other_kind, other_length, get_out_of_bounds, limit_statuses, held_rows, held_type, DemandsBefore, DemandsFirst, HasColumn, IsOneOf, Makes, TellsLimits};
+ghost use Rattle.sel_handle.specs.Status.{done, no_memory, no_column, other_kind, other_length, get_out_of_bounds, limit_statuses, held_rows, held_type, DemandsBefore, DemandsFirst, HasColumn, IsOneOf, Makes, ReportsLimits};
 
 use sel_calls::fixed_each::fixed_get_each_into;
 use sel_handle::column_ref::ColumnRef;
@@ -35,8 +35,8 @@ pub extern "C" fn sel_fixed_get_each(
         (held_rows indices.now.tree)) }
     ensures dtype { Makes result out.old.tree out.new.tree
         (λ made. type_of made.column ≡ entry_type (held_type of.now.tree)) }
-    ensures status { IsOneOf result (done ∷ no_memory ∷ no_column ∷ other_kind ∷ other_length ∷
-        get_out_of_bounds ∷ limit_statuses) }
+    ensures status { IsOneOf result (done ∷ no_memory ∷ no_column ∷ other_kind ∷
+        other_length ∷ get_out_of_bounds ∷ limit_statuses) }
     ensures column { DemandsFirst result no_column
         (HasColumn of.now.tree × HasColumn indices.now.tree) }
     ensures kind { DemandsBefore result other_kind
@@ -46,10 +46,10 @@ pub extern "C" fn sel_fixed_get_each(
     ensures length { DemandsBefore result other_length (get_out_of_bounds ∷ limit_statuses)
         (length (held_rows indices.now.tree) ≡ length (held_rows of.now.tree)) }
     ensures bounds { DemandsBefore result get_out_of_bounds limit_statuses
-        (refuses_some null_on_oob (held_rows of.now.tree) (held_type of.now.tree)
+        (any_index_is_error null_on_oob (held_rows of.now.tree) (held_type of.now.tree)
         (held_rows indices.now.tree) ≡ false) }
-    ensures limits { TellsLimits result
-        (past_entries_at_each (held_rows of.now.tree) (held_type of.now.tree)
+    ensures limits { ReportsLimits result
+        (exceeded_entries_at_each (held_rows of.now.tree) (held_type of.now.tree)
         (held_rows indices.now.tree)) }
 {
     let Some(column) = of.column() else {

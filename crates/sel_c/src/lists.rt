@@ -4,8 +4,8 @@ ghost use Rattle.std.specs.Prelude.{◌≡◌, ◌∷◌, [], IsTrue};
 ghost use Rattle.sel_arrow.specs.Rows.{rows, type_of};
 ghost use Rattle.sel_arrow.specs.Shape.{of_large_list, is_list_shape};
 ghost use Rattle.sel_calls.specs.Types.{entry_type};
-ghost use Rattle.sel_handle.specs.Status.{done, no_memory, no_column, other_kind, limit_statuses, held_rows, held_type, Demands, DemandsBefore, DemandsFirst, HasColumn, IsOneOf, Makes, TellsLimits};
-ghost use Rattle.sel_runs.specs.Need.{past};
+ghost use Rattle.sel_handle.specs.Status.{done, no_memory, no_column, other_kind, limit_statuses, held_rows, held_type, Demands, DemandsBefore, DemandsFirst, HasColumn, IsOneOf, Makes, ReportsLimits};
+ghost use Rattle.sel_runs.specs.Need.{exceeded_limits};
 ghost use Rattle.sel_sublists.specs.Lists.{list_get, oob, unit_lists};
 
 use sel_arrow::array::Array;
@@ -32,12 +32,13 @@ pub extern "C" fn sel_sublist_get(
         (λ made. rows made.column ≡ list_get (held_rows of.now.tree) index) }
     ensures dtype { Makes result out.old.tree out.new.tree
         (λ made. type_of made.column ≡ entry_type (held_type of.now.tree)) }
-    ensures status { IsOneOf result (done ∷ no_memory ∷ no_column ∷ other_kind ∷ limit_statuses) }
+    ensures status { IsOneOf result (done ∷ no_memory ∷ no_column ∷ other_kind ∷
+        limit_statuses) }
     ensures column { DemandsFirst result no_column (HasColumn of.now.tree) }
     ensures kind { DemandsBefore result other_kind limit_statuses
         (IsTrue (is_list_shape (held_type of.now.tree))) }
-    ensures limits { TellsLimits result
-        (past (entry_type (held_type of.now.tree)) (list_get (held_rows of.now.tree) index)) }
+    ensures limits { ReportsLimits result (exceeded_limits (entry_type (held_type of.now.tree))
+        (list_get (held_rows of.now.tree) index)) }
 {
     let Some(column) = of.column() else {
         return NO_COLUMN;
@@ -49,12 +50,7 @@ pub extern "C" fn sel_sublist_get(
 ///
 /// Errors: SEL_NO_COLUMN: `of` is empty. SEL_OTHER_KIND: the type of `of` is not SEL_LARGE_LIST.
 #[unsafe(no_mangle)]
-pub extern "C" fn sel_index_is_oob(
-    alloc: Global,
-    of: &ColumnRef,
-    index: i64,
-    out: &mut bool,
-) -> u32
+pub extern "C" fn sel_index_is_oob(alloc: Global, of: &ColumnRef, index: i64, out: &mut bool) -> u32
     ensures told { result ≡ done → out.new ≡ oob (held_rows of.now.tree) index }
     ensures status { IsOneOf result (done ∷ no_memory ∷ no_column ∷ other_kind ∷ []) }
     ensures column { DemandsFirst result no_column (HasColumn of.now.tree) }

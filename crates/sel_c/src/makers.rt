@@ -3,12 +3,12 @@
 ghost use Rattle.std.specs.Prelude.{◌≡◌, ◌≤◌, ◌*◌, length, pos, replicate};
 ghost use Rattle.sel_bits.specs.Bits.{bits_from};
 ghost use Rattle.sel_arrow.specs.Makers.{null_fault};
-ghost use Rattle.sel_arrow.specs.Masked.{number_rows, truth_rows};
+ghost use Rattle.sel_arrow.specs.Masked.{number_rows, bool_rows};
 ghost use Rattle.sel_arrow.specs.Rows.{rows, type_of};
 ghost use Rattle.sel_arrow.specs.Shape.{of_null, of_boolean, of_int8, of_int16, of_int32, of_int64, of_uint8, of_uint16, of_uint32, of_uint64};
 ghost use Rattle.sel_arrow.specs.Value.{Null};
 ghost use Rattle.sel_handle.specs.Inputs.{validity_in, flat_rules};
-ghost use Rattle.sel_handle.specs.Status.{other_length, DemandsFirst, Makes, Tells};
+ghost use Rattle.sel_handle.specs.Status.{other_length, DemandsFirst, Makes, ReportsOnly};
 
 use sel_arrow::array::Array;
 use sel_arrow::null::NullArray;
@@ -25,8 +25,9 @@ use std::alloc::Global;
 pub extern "C" fn sel_null_new(alloc: Global, len: usize, out: &mut Handle) -> u32
     ensures rows { Makes result out.old.tree out.new.tree
         (λ made. rows made.column ≡ replicate len Null) }
-    ensures dtype { Makes result out.old.tree out.new.tree (λ made. type_of made.column ≡ of_null) }
-    ensures status { Tells result (null_fault len) }
+    ensures dtype { Makes result out.old.tree out.new.tree
+        (λ made. type_of made.column ≡ of_null) }
+    ensures status { ReportsOnly result (null_fault len) }
 {
     match NullArray::try_new(len) {
         Ok(array) => put(alloc, array.into_ref(), out),
@@ -48,11 +49,12 @@ pub extern "C" fn sel_boolean_new(
     out: &mut Handle,
 ) -> u32
     ensures rows { Makes result out.old.tree out.new.tree (λ made. rows made.column ≡
-        truth_rows (bits_from values.now 0 len) (validity_in bits.now has_bits len)) }
+        bool_rows (bits_from values.now 0 len) (validity_in bits.now has_bits len)) }
     ensures dtype { Makes result out.old.tree out.new.tree
         (λ made. type_of made.column ≡ of_boolean) }
     ensures length { DemandsFirst result other_length (len ≤ 8 * length values.now) }
-    ensures status { len ≤ 8 * length values.now → Tells result (flat_rules len bits.now has_bits) }
+    ensures status { len ≤ 8 * length values.now →
+        ReportsOnly result (flat_rules len bits.now has_bits) }
 {
     if values.len() < len.div_ceil(8) {
         return OTHER_LENGTH;
@@ -79,7 +81,7 @@ pub extern "C" fn sel_int8_new(
         number_rows (λ x. x) values.now (validity_in bits.now has_bits (length values.now))) }
     ensures dtype { Makes result out.old.tree out.new.tree
         (λ made. type_of made.column ≡ of_int8) }
-    ensures status { Tells result (flat_rules (length values.now) bits.now has_bits) }
+    ensures status { ReportsOnly result (flat_rules (length values.now) bits.now has_bits) }
 {
     make_numbers(alloc, values, bits, has_bits, out)
 }
@@ -100,7 +102,7 @@ pub extern "C" fn sel_int16_new(
         number_rows (λ x. x) values.now (validity_in bits.now has_bits (length values.now))) }
     ensures dtype { Makes result out.old.tree out.new.tree
         (λ made. type_of made.column ≡ of_int16) }
-    ensures status { Tells result (flat_rules (length values.now) bits.now has_bits) }
+    ensures status { ReportsOnly result (flat_rules (length values.now) bits.now has_bits) }
 {
     make_numbers(alloc, values, bits, has_bits, out)
 }
@@ -121,7 +123,7 @@ pub extern "C" fn sel_int32_new(
         number_rows (λ x. x) values.now (validity_in bits.now has_bits (length values.now))) }
     ensures dtype { Makes result out.old.tree out.new.tree
         (λ made. type_of made.column ≡ of_int32) }
-    ensures status { Tells result (flat_rules (length values.now) bits.now has_bits) }
+    ensures status { ReportsOnly result (flat_rules (length values.now) bits.now has_bits) }
 {
     make_numbers(alloc, values, bits, has_bits, out)
 }
@@ -142,7 +144,7 @@ pub extern "C" fn sel_int64_new(
         number_rows (λ x. x) values.now (validity_in bits.now has_bits (length values.now))) }
     ensures dtype { Makes result out.old.tree out.new.tree
         (λ made. type_of made.column ≡ of_int64) }
-    ensures status { Tells result (flat_rules (length values.now) bits.now has_bits) }
+    ensures status { ReportsOnly result (flat_rules (length values.now) bits.now has_bits) }
 {
     make_numbers(alloc, values, bits, has_bits, out)
 }
@@ -163,7 +165,7 @@ pub extern "C" fn sel_uint8_new(
         number_rows pos values.now (validity_in bits.now has_bits (length values.now))) }
     ensures dtype { Makes result out.old.tree out.new.tree
         (λ made. type_of made.column ≡ of_uint8) }
-    ensures status { Tells result (flat_rules (length values.now) bits.now has_bits) }
+    ensures status { ReportsOnly result (flat_rules (length values.now) bits.now has_bits) }
 {
     make_numbers(alloc, values, bits, has_bits, out)
 }
@@ -184,7 +186,7 @@ pub extern "C" fn sel_uint16_new(
         number_rows pos values.now (validity_in bits.now has_bits (length values.now))) }
     ensures dtype { Makes result out.old.tree out.new.tree
         (λ made. type_of made.column ≡ of_uint16) }
-    ensures status { Tells result (flat_rules (length values.now) bits.now has_bits) }
+    ensures status { ReportsOnly result (flat_rules (length values.now) bits.now has_bits) }
 {
     make_numbers(alloc, values, bits, has_bits, out)
 }
@@ -205,7 +207,7 @@ pub extern "C" fn sel_uint32_new(
         number_rows pos values.now (validity_in bits.now has_bits (length values.now))) }
     ensures dtype { Makes result out.old.tree out.new.tree
         (λ made. type_of made.column ≡ of_uint32) }
-    ensures status { Tells result (flat_rules (length values.now) bits.now has_bits) }
+    ensures status { ReportsOnly result (flat_rules (length values.now) bits.now has_bits) }
 {
     make_numbers(alloc, values, bits, has_bits, out)
 }
@@ -226,7 +228,7 @@ pub extern "C" fn sel_uint64_new(
         number_rows pos values.now (validity_in bits.now has_bits (length values.now))) }
     ensures dtype { Makes result out.old.tree out.new.tree
         (λ made. type_of made.column ≡ of_uint64) }
-    ensures status { Tells result (flat_rules (length values.now) bits.now has_bits) }
+    ensures status { ReportsOnly result (flat_rules (length values.now) bits.now has_bits) }
 {
     make_numbers(alloc, values, bits, has_bits, out)
 }

@@ -1,15 +1,15 @@
 //! Binary, list and struct columns, from offsets and child columns.
 
 ghost use Rattle.std.specs.Prelude.{◌≡◌, ◌≢◌, All, None, map};
-ghost use Rattle.sel_arrow.specs.Nested.{list_rows, block_rows, tuple_rows};
+ghost use Rattle.sel_arrow.specs.Nested.{list_rows, block_rows, struct_rows};
 ghost use Rattle.sel_arrow.specs.Pieces.{byte_rows, rows_between};
 ghost use Rattle.sel_arrow.specs.Rows.{rows, type_of};
 ghost use Rattle.sel_arrow.specs.Shape.{of_large_binary, of_large_list, of_fixed_size_list, of_struct, shapes_of};
 ghost use Rattle.sel_handle.specs.Inputs.{positions, validity_in, binary_rules, list_rules, block_rules, struct_rules};
-ghost use Rattle.sel_handle.specs.Status.{done, no_column, held_count, held_rows, held_type, DemandsFirst, HasColumn, Makes, Names};
+ghost use Rattle.sel_handle.specs.Status.{done, no_column, held_count, held_rows, held_type, DemandsFirst, HasColumn, Makes, ReportsExactly};
 
 use sel_handle::handle::Handle;
-use sel_handle::nested::{binary_of, blocks_of, lists_of, tuples_of};
+use sel_handle::nested::{binary_of, blocks_of, lists_of, struct_of};
 use sel_handle::several::take_all;
 use sel_handle::status::{NO_COLUMN, NO_MEMORY, put, status_of_maker};
 use std::alloc::Global;
@@ -33,7 +33,7 @@ pub extern "C" fn sel_binary_new(
         (validity_in bits.now has_bits (rows_between (positions offsets.now)))) }
     ensures dtype { Makes result out.old.tree out.new.tree
         (λ made. type_of made.column ≡ of_large_binary) }
-    ensures status { Names result (binary_rules offsets.now values.now bits.now has_bits) }
+    ensures status { ReportsExactly result (binary_rules offsets.now values.now bits.now has_bits) }
 {
     match binary_of(alloc, offsets, values, bits, has_bits) {
         Ok(column) => put(alloc, column, out),
@@ -62,7 +62,8 @@ pub extern "C" fn sel_list_new(
         (λ made. type_of made.column ≡ of_large_list (held_type child.old.tree)) }
     ensures column { DemandsFirst result no_column (HasColumn child.old.tree) }
     ensures status { HasColumn child.old.tree →
-        Names result (list_rules offsets.now (held_count child.old.tree) bits.now has_bits) }
+        ReportsExactly result (list_rules offsets.now (held_count child.old.tree) bits.now
+        has_bits) }
     ensures taken { child.new.tree ≡ None }
 {
     let Some(entries) = child.take(alloc) else {
@@ -95,7 +96,8 @@ pub extern "C" fn sel_fixed_list_new(
         (λ made. type_of made.column ≡ of_fixed_size_list (held_type child.old.tree) width) }
     ensures column { DemandsFirst result no_column (HasColumn child.old.tree) }
     ensures status { HasColumn child.old.tree →
-        Names result (block_rules width len (held_count child.old.tree) bits.now has_bits) }
+        ReportsExactly result (block_rules width len (held_count child.old.tree) bits.now
+        has_bits) }
     ensures taken { child.new.tree ≡ None }
 {
     let Some(entries) = child.take(alloc) else {
@@ -122,13 +124,14 @@ pub extern "C" fn sel_struct_new(
     fields: &mut [Handle],
     out: &mut Handle,
 ) -> u32
-    ensures rows { Makes result out.old.tree out.new.tree (λ made. rows made.column ≡ tuple_rows len
+    ensures rows { Makes result out.old.tree out.new.tree
+        (λ made. rows made.column ≡ struct_rows len
         (map (λ field. held_rows field.tree) fields.old) (validity_in bits.now has_bits len)) }
     ensures dtype { Makes result out.old.tree out.new.tree (λ made. type_of made.column ≡
         of_struct (shapes_of (map (λ field. held_type field.tree) fields.old))) }
     ensures column { DemandsFirst result no_column
         (All (λ field. HasColumn field.tree) fields.old) }
-    ensures status { result ≢ no_column → Names result
+    ensures status { result ≢ no_column → ReportsExactly result
         (struct_rules len (map (λ field. held_count field.tree) fields.old) bits.now has_bits) }
     ensures taken { result ≡ done → All (λ field. field.tree ≡ None) fields.new }
 {
@@ -137,7 +140,7 @@ pub extern "C" fn sel_struct_new(
         Err(NO_COLUMN) => return NO_COLUMN,
         Err(_) => return NO_MEMORY,
     };
-    match tuples_of(alloc, len, bits, has_bits, taken) {
+    match struct_of(alloc, len, bits, has_bits, taken) {
         Ok(column) => put(alloc, column, out),
         Err(fault) => status_of_maker(fault),
     }

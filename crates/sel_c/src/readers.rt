@@ -2,12 +2,12 @@
 
 ghost use Rattle.std.specs.Prelude.{◌≡◌, ◌≢◌, ◌+◌, ◌/◌, [], ◌∷◌, length, pos, count_by};
 ghost use Rattle.sel_bits.specs.Bits.{bits_from};
-ghost use Rattle.sel_arrow.specs.Nulls.{TellsNulls};
+ghost use Rattle.sel_arrow.specs.Nulls.{IsValidityOf};
 ghost use Rattle.sel_arrow.specs.Shape.{of_boolean, of_int8, of_int16, of_int32, of_int64, of_uint8, of_uint16, of_uint32, of_uint64};
 ghost use Rattle.sel_arrow.specs.Value.{is_null};
 ghost use Rattle.sel_handle.specs.Inputs.{validity_in};
 ghost use Rattle.sel_handle.specs.Kinds.{held_kind};
-ghost use Rattle.sel_handle.specs.Outputs.{Shows, numbers, truths};
+ghost use Rattle.sel_handle.specs.Outputs.{Shows, numbers, bools};
 ghost use Rattle.sel_handle.specs.Status.{done, no_memory, no_column, other_kind, other_length, held_rows, held_type, Demands, DemandsBefore, DemandsFirst, HasColumn, IsOneOf};
 
 use sel_arrow::array::Array;
@@ -57,13 +57,8 @@ pub extern "C" fn sel_kind(of: &ColumnRef) -> u32
 ///
 /// Errors: SEL_NO_COLUMN: `of` is empty. SEL_OTHER_LENGTH: `out_len` is not (rows + 7) / 8.
 #[unsafe(no_mangle)]
-pub extern "C" fn sel_validity(
-    alloc: Global,
-    of: &ColumnRef,
-    out: &mut [u8],
-    has: &mut bool,
-) -> u32
-    ensures validity { result ≡ done → TellsNulls (held_type of.now.tree)
+pub extern "C" fn sel_validity(alloc: Global, of: &ColumnRef, out: &mut [u8], has: &mut bool) -> u32
+    ensures validity { result ≡ done → IsValidityOf (held_type of.now.tree)
         (validity_in out.new has.new (length (held_rows of.now.tree))) (held_rows of.now.tree) }
     ensures column { DemandsFirst result no_column (HasColumn of.now.tree) }
     ensures length { result ≡ other_length →
@@ -83,7 +78,7 @@ pub extern "C" fn sel_validity(
 #[unsafe(no_mangle)]
 pub extern "C" fn sel_boolean_values(alloc: Global, of: &ColumnRef, out: &mut [u8]) -> u32
     ensures values { result ≡ done → Shows
-        (truths (bits_from out.new 0 (length (held_rows of.now.tree)))) (held_rows of.now.tree) }
+        (bools (bits_from out.new 0 (length (held_rows of.now.tree)))) (held_rows of.now.tree) }
     ensures column { DemandsFirst result no_column (HasColumn of.now.tree) }
     ensures kind { DemandsBefore result other_kind (other_length ∷ [])
         (held_type of.now.tree ≡ of_boolean) }
@@ -108,7 +103,8 @@ pub extern "C" fn sel_int8_values(alloc: Global, of: &ColumnRef, out: &mut [i8])
     ensures column { DemandsFirst result no_column (HasColumn of.now.tree) }
     ensures kind { DemandsBefore result other_kind (other_length ∷ [])
         (held_type of.now.tree ≡ of_int8) }
-    ensures length { Demands result other_length (length out.old ≡ length (held_rows of.now.tree)) }
+    ensures length { Demands result other_length
+        (length out.old ≡ length (held_rows of.now.tree)) }
     ensures status { IsOneOf result
         (done ∷ no_memory ∷ no_column ∷ other_kind ∷ other_length ∷ []) }
 {
@@ -125,7 +121,8 @@ pub extern "C" fn sel_int16_values(alloc: Global, of: &ColumnRef, out: &mut [i16
     ensures column { DemandsFirst result no_column (HasColumn of.now.tree) }
     ensures kind { DemandsBefore result other_kind (other_length ∷ [])
         (held_type of.now.tree ≡ of_int16) }
-    ensures length { Demands result other_length (length out.old ≡ length (held_rows of.now.tree)) }
+    ensures length { Demands result other_length
+        (length out.old ≡ length (held_rows of.now.tree)) }
     ensures status { IsOneOf result
         (done ∷ no_memory ∷ no_column ∷ other_kind ∷ other_length ∷ []) }
 {
@@ -142,7 +139,8 @@ pub extern "C" fn sel_int32_values(alloc: Global, of: &ColumnRef, out: &mut [i32
     ensures column { DemandsFirst result no_column (HasColumn of.now.tree) }
     ensures kind { DemandsBefore result other_kind (other_length ∷ [])
         (held_type of.now.tree ≡ of_int32) }
-    ensures length { Demands result other_length (length out.old ≡ length (held_rows of.now.tree)) }
+    ensures length { Demands result other_length
+        (length out.old ≡ length (held_rows of.now.tree)) }
     ensures status { IsOneOf result
         (done ∷ no_memory ∷ no_column ∷ other_kind ∷ other_length ∷ []) }
 {
@@ -159,7 +157,8 @@ pub extern "C" fn sel_int64_values(alloc: Global, of: &ColumnRef, out: &mut [i64
     ensures column { DemandsFirst result no_column (HasColumn of.now.tree) }
     ensures kind { DemandsBefore result other_kind (other_length ∷ [])
         (held_type of.now.tree ≡ of_int64) }
-    ensures length { Demands result other_length (length out.old ≡ length (held_rows of.now.tree)) }
+    ensures length { Demands result other_length
+        (length out.old ≡ length (held_rows of.now.tree)) }
     ensures status { IsOneOf result
         (done ∷ no_memory ∷ no_column ∷ other_kind ∷ other_length ∷ []) }
 {
@@ -176,7 +175,8 @@ pub extern "C" fn sel_uint8_values(alloc: Global, of: &ColumnRef, out: &mut [u8]
     ensures column { DemandsFirst result no_column (HasColumn of.now.tree) }
     ensures kind { DemandsBefore result other_kind (other_length ∷ [])
         (held_type of.now.tree ≡ of_uint8) }
-    ensures length { Demands result other_length (length out.old ≡ length (held_rows of.now.tree)) }
+    ensures length { Demands result other_length
+        (length out.old ≡ length (held_rows of.now.tree)) }
     ensures status { IsOneOf result
         (done ∷ no_memory ∷ no_column ∷ other_kind ∷ other_length ∷ []) }
 {
@@ -193,7 +193,8 @@ pub extern "C" fn sel_uint16_values(alloc: Global, of: &ColumnRef, out: &mut [u1
     ensures column { DemandsFirst result no_column (HasColumn of.now.tree) }
     ensures kind { DemandsBefore result other_kind (other_length ∷ [])
         (held_type of.now.tree ≡ of_uint16) }
-    ensures length { Demands result other_length (length out.old ≡ length (held_rows of.now.tree)) }
+    ensures length { Demands result other_length
+        (length out.old ≡ length (held_rows of.now.tree)) }
     ensures status { IsOneOf result
         (done ∷ no_memory ∷ no_column ∷ other_kind ∷ other_length ∷ []) }
 {
@@ -210,7 +211,8 @@ pub extern "C" fn sel_uint32_values(alloc: Global, of: &ColumnRef, out: &mut [u3
     ensures column { DemandsFirst result no_column (HasColumn of.now.tree) }
     ensures kind { DemandsBefore result other_kind (other_length ∷ [])
         (held_type of.now.tree ≡ of_uint32) }
-    ensures length { Demands result other_length (length out.old ≡ length (held_rows of.now.tree)) }
+    ensures length { Demands result other_length
+        (length out.old ≡ length (held_rows of.now.tree)) }
     ensures status { IsOneOf result
         (done ∷ no_memory ∷ no_column ∷ other_kind ∷ other_length ∷ []) }
 {
@@ -227,7 +229,8 @@ pub extern "C" fn sel_uint64_values(alloc: Global, of: &ColumnRef, out: &mut [u6
     ensures column { DemandsFirst result no_column (HasColumn of.now.tree) }
     ensures kind { DemandsBefore result other_kind (other_length ∷ [])
         (held_type of.now.tree ≡ of_uint64) }
-    ensures length { Demands result other_length (length out.old ≡ length (held_rows of.now.tree)) }
+    ensures length { Demands result other_length
+        (length out.old ≡ length (held_rows of.now.tree)) }
     ensures status { IsOneOf result
         (done ∷ no_memory ∷ no_column ∷ other_kind ∷ other_length ∷ []) }
 {

@@ -6,10 +6,10 @@ ghost use Rattle.sel_bits.specs.declared.faults.Malformed.TheVariants.{TooManyRo
 ghost use Rattle.sel_arrow.specs.Rows.{rows, type_of};
 ghost use Rattle.sel_arrow.specs.Value.{Null};
 ghost use Rattle.sel_calls.specs.Several.{first_shape, picks_in, AreAlike};
-ghost use Rattle.sel_flatten.specs.Flatten.{flatten, parts_fit, past_flattened};
+ghost use Rattle.sel_flatten.specs.Flatten.{flatten, parts_fit, exceeded_flattened};
 ghost use Rattle.sel_handle.specs.Inputs.{lacks_bits};
-ghost use Rattle.sel_handle.specs.Status.{done, no_memory, no_column, other_type, other_length, out_of_bounds, rule_status, limit_statuses, held_columns, held_rows, held_type, DemandsBefore, DemandsFirst, HasColumn, IsOneOf, Makes, TellsLimits};
-ghost use Rattle.sel_runs.specs.Need.{past_taken};
+ghost use Rattle.sel_handle.specs.Status.{done, no_memory, no_column, other_type, other_length, out_of_bounds, rule_status, limit_statuses, held_columns, held_rows, held_type, DemandsBefore, DemandsFirst, HasColumn, IsOneOf, Makes, ReportsLimits};
+ghost use Rattle.sel_runs.specs.Need.{exceeded_taken};
 ghost use Rattle.sel_runs.specs.Picks.{pick, PickFits};
 
 use sel_calls::several::{PickWords, collect_into, flatten_into};
@@ -47,8 +47,8 @@ pub extern "C" fn sel_flatten(
     ensures length { DemandsBefore result other_length limit_statuses
         ((0 < length columns.now) × IsTrue
         (parts_fit height (map (λ column. held_rows column.tree) columns.now) widths.now)) }
-    ensures limits { TellsLimits result
-        (past_flattened height (first_shape (map (λ column. held_type column.tree) columns.now))
+    ensures limits { ReportsLimits result
+        (exceeded_flattened height (first_shape (map (λ column. held_type column.tree) columns.now))
         (flat_map (λ column. held_columns column.tree) columns.now)
         (flatten (map (λ column. held_rows column.tree) columns.now) widths.now height)) }
 {
@@ -102,8 +102,8 @@ pub extern "C" fn sel_collect_rows(
     ensures bounds { DemandsBefore result out_of_bounds limit_statuses
         (All (PickFits (map (λ source. held_rows source.tree) sources.now))
         (picks_in picks.now bits.now has_bits)) }
-    ensures limits { TellsLimits result
-        (past_taken (first_shape (map (λ source. held_type source.tree) sources.now))
+    ensures limits { ReportsLimits result
+        (exceeded_taken (first_shape (map (λ source. held_type source.tree) sources.now))
         (flat_map (λ source. held_columns source.tree) sources.now)
         (pick Null (map (λ source. held_rows source.tree) sources.now)
         (picks_in picks.now bits.now has_bits))) }

@@ -6,8 +6,8 @@ ghost use Rattle.sel_arrow.specs.Masked.{number_rows};
 ghost use Rattle.sel_arrow.specs.Rows.{rows, type_of};
 ghost use Rattle.sel_arrow.specs.Shape.{of_uint32};
 ghost use Rattle.sel_handle.specs.Inputs.{lacks_bits, validity_in};
-ghost use Rattle.sel_handle.specs.Status.{done, no_memory, no_column, other_kind, out_of_bounds, rule_status, limit_statuses, held_rows, held_type, DemandsBefore, DemandsFirst, HasColumn, IsOneOf, Makes, TellsLimits};
-ghost use Rattle.sel_runs.specs.Need.{past};
+ghost use Rattle.sel_handle.specs.Status.{done, no_memory, no_column, other_kind, out_of_bounds, rule_status, limit_statuses, held_rows, held_type, DemandsBefore, DemandsFirst, HasColumn, IsOneOf, Makes, ReportsLimits};
+ghost use Rattle.sel_runs.specs.Need.{exceeded_limits};
 ghost use Rattle.polars_compute.specs.Pick.{all_within, take_rows};
 
 use sel_calls::takes::{take_into, take_rows_into};
@@ -40,7 +40,7 @@ pub extern "C" fn sel_take(
         (held_type indices.now.tree ≡ of_uint32) }
     ensures bounds { DemandsBefore result out_of_bounds limit_statuses
         (IsTrue (all_within (length (held_rows of.now.tree)) (held_rows indices.now.tree))) }
-    ensures limits { TellsLimits result (past (held_type of.now.tree)
+    ensures limits { ReportsLimits result (exceeded_limits (held_type of.now.tree)
         (take_rows (held_rows of.now.tree) (held_rows indices.now.tree))) }
 {
     let Some(column) = of.column() else {
@@ -72,8 +72,9 @@ pub extern "C" fn sel_take_rows(
         (number_rows pos indices.now (validity_in bits.now has_bits (length indices.now)))) }
     ensures dtype { Makes result out.old.tree out.new.tree
         (λ made. type_of made.column ≡ held_type of.now.tree) }
-    ensures status { IsOneOf result (done ∷ no_memory ∷ no_column ∷ rule_status TooManyRows ∷
-        rule_status ValidityLength ∷ out_of_bounds ∷ limit_statuses) }
+    ensures status { IsOneOf result (done ∷ no_memory ∷ no_column ∷
+        rule_status TooManyRows ∷ rule_status ValidityLength ∷ out_of_bounds ∷
+        limit_statuses) }
     ensures column { DemandsFirst result no_column (HasColumn of.now.tree) }
     ensures few { DemandsBefore result (rule_status TooManyRows)
         (rule_status ValidityLength ∷ out_of_bounds ∷ limit_statuses)
@@ -84,7 +85,7 @@ pub extern "C" fn sel_take_rows(
     ensures bounds { DemandsBefore result out_of_bounds limit_statuses
         (IsTrue (all_within (length (held_rows of.now.tree))
         (number_rows pos indices.now (validity_in bits.now has_bits (length indices.now))))) }
-    ensures limits { TellsLimits result (past (held_type of.now.tree)
+    ensures limits { ReportsLimits result (exceeded_limits (held_type of.now.tree)
         (take_rows (held_rows of.now.tree)
         (number_rows pos indices.now (validity_in bits.now has_bits (length indices.now))))) }
 {

@@ -4,7 +4,7 @@ ghost use Rattle.std.specs.Prelude.{◌≡◌, ◌≤◌, ◌↔◌, List, [], �
 ghost use Rattle.sel_arrow.specs.Rows.{rows, type_of};
 ghost use Rattle.sel_arrow.specs.Shape.{Shape};
 ghost use Rattle.sel_arrow.specs.Value.{Value};
-ghost use Rattle.sel_calls.specs.Parsed.{passes_limit, IsRowsText, IsTypeText};
+ghost use Rattle.sel_calls.specs.Parsed.{exceeds_parse_limit, IsRowsText, IsTypeText};
 ghost use Rattle.sel_calls.specs.Printed.{filled, held_text};
 ghost use Rattle.sel_handle.specs.Status.{done, no_memory, no_column, type_syntax, text_syntax, text_misfit, text_limit, held_rows, DemandsFirst, HasColumn, IsOneOf, Makes};
 ghost use Rattle.sel_text.specs.Spaces.{spaceless};
@@ -24,11 +24,7 @@ use std::alloc::Global;
 ///
 /// Errors: SEL_NO_COLUMN: `of` or `other` is empty.
 #[unsafe(no_mangle)]
-pub extern "C" fn sel_equal_rows(
-    of: &ColumnRef,
-    other: &ColumnRef,
-    equal: &mut bool,
-) -> u32
+pub extern "C" fn sel_equal_rows(of: &ColumnRef, other: &ColumnRef, equal: &mut bool) -> u32
     ensures told { result ≡ done →
         (IsTrue equal.new ↔ (held_rows of.now.tree ≡ held_rows other.now.tree)) }
     ensures column { DemandsFirst result no_column
@@ -85,7 +81,8 @@ pub extern "C" fn sel_parse(
         (λ made. type_text (type_of made.column) ≡ spaceless dtype.now) }
     ensures rows { Makes result out.old.tree out.new.tree
         (λ made. text_of (type_of made.column) (rows made.column) ≡ spaceless text.now) }
-    ensures named { result ≡ type_syntax → (shape : Shape) → IsTypeText shape dtype.now → ⊥ }
+    ensures named { result ≡ type_syntax → (shape : Shape) → IsTypeText shape dtype.now →
+        ⊥ }
     ensures typed { IsOneOf result (text_syntax ∷ text_misfit ∷ []) →
         (shape : Shape) × (type_text shape ≡ spaceless dtype.now) }
     ensures accepted { (shape : Shape) (values : List Value) →
@@ -93,10 +90,12 @@ pub extern "C" fn sel_parse(
         IsOneOf result (done ∷ no_memory ∷ text_limit ∷ []) }
     ensures limit { result ≡ text_limit → (shape : Shape) (values : List Value) →
         IsTypeText shape dtype.now → IsRowsText shape values text.now →
-        IsTrue (passes_limit shape values) }
+        IsTrue (exceeds_parse_limit shape values) }
     ensures type_place { result ≡ type_syntax → at.new ≤ length dtype.now }
-    ensures place { IsOneOf result (text_syntax ∷ text_misfit ∷ []) → at.new ≤ length text.now }
-    ensures no_place { IsOneOf result (done ∷ no_memory ∷ text_limit ∷ []) → at.new ≡ at.old }
+    ensures place { IsOneOf result (text_syntax ∷ text_misfit ∷ []) →
+        at.new ≤ length text.now }
+    ensures no_place { IsOneOf result (done ∷ no_memory ∷ text_limit ∷ []) → at.new ≡
+        at.old }
     ensures status { IsOneOf result
         (done ∷ no_memory ∷ type_syntax ∷ text_syntax ∷ text_misfit ∷ text_limit ∷ []) }
 {

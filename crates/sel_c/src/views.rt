@@ -7,7 +7,7 @@ ghost use Rattle.sel_arrow.specs.Shape.{of_binary_view, of_utf8_view};
 ghost use Rattle.sel_arrow.specs.Views.{view_rows};
 ghost use Rattle.sel_handle.specs.Inputs.{validity_in, views_in, binview_rules, utf8view_rules};
 ghost use Rattle.sel_handle.specs.Layout.{held_buffers, held_views};
-ghost use Rattle.sel_handle.specs.Status.{done, no_column, other_kind, other_length, out_of_bounds, Demands, DemandsBefore, DemandsFirst, HasColumn, IsOneOf, Makes, Names};
+ghost use Rattle.sel_handle.specs.Status.{done, no_column, other_kind, other_length, out_of_bounds, Demands, DemandsBefore, DemandsFirst, HasColumn, IsOneOf, Makes, ReportsExactly};
 
 use sel_handle::column_ref::ColumnRef;
 use sel_handle::handle::Handle;
@@ -35,7 +35,7 @@ pub extern "C" fn sel_binview_new(
         (validity_in bits.now has_bits (length views.now))) }
     ensures dtype { Makes result out.old.tree out.new.tree
         (λ made. type_of made.column ≡ of_binary_view) }
-    ensures status { Names result (binview_rules (views_in views.now)
+    ensures status { ReportsExactly result (binview_rules (views_in views.now)
         (map (λ s. s.now) buffers.now) bits.now has_bits) }
 {
     match binview_of(alloc, views, buffers, bits, has_bits) {
@@ -64,7 +64,7 @@ pub extern "C" fn sel_utf8view_new(
         (validity_in bits.now has_bits (length views.now))) }
     ensures dtype { Makes result out.old.tree out.new.tree
         (λ made. type_of made.column ≡ of_utf8_view) }
-    ensures status { Names result (utf8view_rules (views_in views.now)
+    ensures status { ReportsExactly result (utf8view_rules (views_in views.now)
         (map (λ s. s.now) buffers.now) bits.now has_bits) }
 {
     match utf8view_of(alloc, views, buffers, bits, has_bits) {
@@ -99,7 +99,8 @@ pub extern "C" fn sel_views(of: &ColumnRef, out: &mut [ViewWords]) -> u32
 /// SEL_UTF8_VIEW.
 #[unsafe(no_mangle)]
 pub extern "C" fn sel_buffer_count(of: &ColumnRef, count: &mut usize) -> u32
-    ensures count { result ≡ done → Some count.new ≡ option_map length (held_buffers of.now.tree) }
+    ensures count { result ≡ done → Some count.new ≡
+        option_map length (held_buffers of.now.tree) }
     ensures column { DemandsFirst result no_column (HasColumn of.now.tree) }
     ensures kind { HasColumn of.now.tree →
         Demands result other_kind (held_views of.now.tree ≢ None) }
@@ -117,8 +118,9 @@ pub extern "C" fn sel_buffer_count(of: &ColumnRef, count: &mut usize) -> u32
 /// SEL_UTF8_VIEW. SEL_OUT_OF_BOUNDS: there is no data buffer `i`.
 #[unsafe(no_mangle)]
 pub extern "C" fn sel_buffer_len(of: &ColumnRef, i: usize, len: &mut usize) -> u32
-    ensures len { result ≡ done → option_map (λ buffers. option_map length (slice_get buffers i))
-        (held_buffers of.now.tree) ≡ Some (Some len.new) }
+    ensures len { result ≡ done → option_map
+        (λ buffers. option_map length (slice_get buffers i)) (held_buffers of.now.tree) ≡
+        Some (Some len.new) }
     ensures column { DemandsFirst result no_column (HasColumn of.now.tree) }
     ensures kind { HasColumn of.now.tree →
         DemandsBefore result other_kind (out_of_bounds ∷ []) (held_views of.now.tree ≢ None) }

@@ -7,7 +7,7 @@ ghost use Rattle.sel_arrow.specs.Shape.{of_int128, of_uint128};
 ghost use Rattle.sel_calls.specs.Wides.{signed_wide, unsigned_wide};
 ghost use Rattle.sel_handle.specs.Inputs.{validity_in, flat_rules};
 ghost use Rattle.sel_handle.specs.Outputs.{Shows, numbers};
-ghost use Rattle.sel_handle.specs.Status.{done, no_memory, no_column, other_kind, other_length, held_rows, held_type, Demands, DemandsBefore, DemandsFirst, HasColumn, IsOneOf, Makes, Names};
+ghost use Rattle.sel_handle.specs.Status.{done, no_memory, no_column, other_kind, other_length, held_rows, held_type, Demands, DemandsBefore, DemandsFirst, HasColumn, IsOneOf, Makes, ReportsExactly};
 
 use sel_arrow::primitive::ArrowPrimitive;
 use sel_calls::wides::{Wide, wides_into, wides_of};
@@ -32,7 +32,7 @@ pub extern "C" fn sel_int128_new(
         number_rows signed_wide values.now (validity_in bits.now has_bits (length values.now))) }
     ensures dtype { Makes result out.old.tree out.new.tree
         (λ made. type_of made.column ≡ of_int128) }
-    ensures status { Names result (flat_rules (length values.now) bits.now has_bits) }
+    ensures status { ReportsExactly result (flat_rules (length values.now) bits.now has_bits) }
 {
     match wides_of::<i128>(alloc, values, bits, has_bits) {
         Ok(column) => put(alloc, column, out),
@@ -46,11 +46,13 @@ pub extern "C" fn sel_int128_new(
 /// SEL_OTHER_LENGTH: `out_len` is not the number of rows.
 #[unsafe(no_mangle)]
 pub extern "C" fn sel_int128_values(alloc: Global, of: &ColumnRef, out: &mut [Wide]) -> u32
-    ensures values { result ≡ done → Shows (numbers signed_wide out.new) (held_rows of.now.tree) }
+    ensures values { result ≡ done → Shows (numbers signed_wide out.new)
+        (held_rows of.now.tree) }
     ensures column { DemandsFirst result no_column (HasColumn of.now.tree) }
     ensures kind { DemandsBefore result other_kind (other_length ∷ [])
         (held_type of.now.tree ≡ of_int128) }
-    ensures length { Demands result other_length (length out.old ≡ length (held_rows of.now.tree)) }
+    ensures length { Demands result other_length
+        (length out.old ≡ length (held_rows of.now.tree)) }
     ensures status { IsOneOf result
         (done ∷ no_memory ∷ no_column ∷ other_kind ∷ other_length ∷ []) }
 {
@@ -76,7 +78,7 @@ pub extern "C" fn sel_uint128_new(
         number_rows unsigned_wide values.now (validity_in bits.now has_bits (length values.now))) }
     ensures dtype { Makes result out.old.tree out.new.tree
         (λ made. type_of made.column ≡ of_uint128) }
-    ensures status { Names result (flat_rules (length values.now) bits.now has_bits) }
+    ensures status { ReportsExactly result (flat_rules (length values.now) bits.now has_bits) }
 {
     match wides_of::<u128>(alloc, values, bits, has_bits) {
         Ok(column) => put(alloc, column, out),
@@ -90,11 +92,13 @@ pub extern "C" fn sel_uint128_new(
 /// SEL_OTHER_LENGTH: `out_len` is not the number of rows.
 #[unsafe(no_mangle)]
 pub extern "C" fn sel_uint128_values(alloc: Global, of: &ColumnRef, out: &mut [Wide]) -> u32
-    ensures values { result ≡ done → Shows (numbers unsigned_wide out.new) (held_rows of.now.tree) }
+    ensures values { result ≡ done → Shows (numbers unsigned_wide out.new)
+        (held_rows of.now.tree) }
     ensures column { DemandsFirst result no_column (HasColumn of.now.tree) }
     ensures kind { DemandsBefore result other_kind (other_length ∷ [])
         (held_type of.now.tree ≡ of_uint128) }
-    ensures length { Demands result other_length (length out.old ≡ length (held_rows of.now.tree)) }
+    ensures length { Demands result other_length
+        (length out.old ≡ length (held_rows of.now.tree)) }
     ensures status { IsOneOf result
         (done ∷ no_memory ∷ no_column ∷ other_kind ∷ other_length ∷ []) }
 {

@@ -14,7 +14,7 @@ pub first_same : (arrays : List ArrayRef) → first_shape (map (λ array. type_o
 first_same [] = refl
 first_same (array ∷ arrays) = refl
 
--- columns of one type have types that are all the same
+-- Columns of one type have types that are all the same.
 pub alike_types : (arrays : List ArrayRef) → All (λ a. type_of a.column ≡ first_shape (map (λ array. type_of array.column) arrays)) arrays → AreAlike (map (λ array. type_of array.column) arrays)
 alike_types arrays all = All-map (λ (s : Shape). s ≡ first_shape (map (λ (array : ArrayRef). type_of array.column) arrays)) (λ (array : ArrayRef). type_of array.column) arrays all
 
@@ -23,12 +23,12 @@ alike_columns arrays all k d below =
     let there : k < length (map (λ (array : ArrayRef). type_of array.column) arrays) = rw length-map below in
     sym (get_or-map (λ (array : ArrayRef). type_of array.column) arrays k d (type_of d.column) below) ∙ all k (type_of d.column) there ∙ first_same arrays
 
--- if a column has a different type from the first, the types are not all the same
+-- If a column has a different type from the first, the types are not all the same.
 pub not_alike : (arrays : List ArrayRef) (k : ℕ) (a d : ArrayRef) → k < length arrays → a ≡ get_or arrays k d → (type_of a.column ≡ first_shape (map (λ array. type_of array.column) arrays) → ⊥) → AreAlike (map (λ array. type_of array.column) arrays) → ⊥
 not_alike arrays k a d below is other all =
     other (ap (λ (x : ArrayRef). type_of x.column) is ∙ alike_columns arrays all k d below ∙ sym (first_same arrays))
 
--- the type of the first of them
+-- The type of the first of them.
 pub first_type_is : (arrays : List ArrayRef) (first : ArrayRef) → Some first ≡ slice_get arrays 0 → type_of first.column ≡ first_shape (map (λ array. type_of array.column) arrays)
 first_type_is [] first is = absurd cc
 first_type_is (a ∷ arrays) first is = ap (λ (x : ArrayRef). type_of x.column) (sym (get_or_from_slice_get (a ∷ arrays) 0 first a (sym is)))

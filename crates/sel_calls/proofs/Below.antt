@@ -20,7 +20,7 @@ child_is_formed c formed is = child_formed c is formed
 pub fields_found : (c : Column) (len : ℕ) (fields : Vec Column Global) (validity : Option Bits) → c ≡ Struct len fields validity → fields.items ≡ fields_of c
 fields_found c len fields validity is = sym (ap fields_of is ∙ fields_of-Struct len fields validity)
 
--- a column that is the field is well-formed
+-- A column that is the field is well-formed.
 pub part_is_formed : (c x : Column) (j : ℕ) → x ≡ field j c → well_formed c ≡ true → j < length (fields_of c) → well_formed x ≡ true
 part_is_formed c x j same formed h = ap well_formed same ∙ field_is_formed c j formed h
 

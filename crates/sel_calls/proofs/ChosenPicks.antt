@@ -20,18 +20,18 @@ at t f i (suc k) (bit ∷ bits) b d below =
     let place : (i + 1) + k ≡ i + suc k = omega arith in
     at t f (i + 1) k bits b d (omega (arith, below)) ∙ ap (bit_pick t f (get_or bits k b)) place
 
--- the row reference at a position
+-- The row reference at a position.
 pub chosen_at : (t f : Bool) (k : ℕ) (bits : List Bool) (b : Bool) (d : Option (ℕ × ℕ)) → k < length bits → get_or (chosen_picks t f 0 bits) k d ≡ bit_pick t f (get_or bits k b) k
 chosen_at t f k bits b d below =
     let place : 0 + k ≡ k = omega arith in
     at t f 0 k bits b d below ∙ ap (bit_pick t f (get_or bits k b)) place
 
--- no row reference is null
+-- No row reference is null.
 pub chosen_picked : (t f : Bool) (i : ℕ) (bits : List Bool) → All IsPicked (chosen_picks t f i bits)
 chosen_picked t f i [] = All-nil IsPicked
 chosen_picked t f i (b ∷ bits) = All-cons IsPicked (bit_pick t f b i) (chosen_picks t f (i + 1) bits) tt (chosen_picked t f (i + 1) bits)
 
--- as many row references as bits
+-- As many row references as bits.
 pub chosen_long : (t f : Bool) (i : ℕ) (bits : List Bool) → length (chosen_picks t f i bits) ≡ length bits
 chosen_long t f i [] = refl
 chosen_long t f i (b ∷ bits) = ap suc (chosen_long t f (i + 1) bits)
@@ -41,7 +41,7 @@ picked t f i [] ts fs = refl
 picked t f i (true ∷ bits) ts fs = ap (λ vs. get_or ts (place_on t i) Null ∷ vs) (picked t f (i + 1) bits ts fs)
 picked t f i (false ∷ bits) ts fs = ap (λ vs. get_or fs (place_on f i) Null ∷ vs) (picked t f (i + 1) bits ts fs)
 
--- the gathered rows are the if-then-else
+-- The gathered rows are the if-then-else.
 pub choice_picked : (t f : Bool) (bits : List Bool) (ts fs : List Value) → SideFits t (length ts) (length bits) → SideFits f (length fs) (length bits) → pick Null (ts ∷ fs ∷ []) (chosen_picks t f 0 bits) ≡ chosen_rows t f bits ts fs
 choice_picked true true bits ts fs long other = picked true true 0 bits ts fs ∙ chosen_columns bits ts fs long other
 choice_picked true false bits ts fs long other = picked true false 0 bits ts fs ∙ chosen_false bits ts (first_row fs) long
@@ -59,10 +59,10 @@ fits t f i n (true ∷ bits) ts fs same long other =
 fits t f i n (false ∷ bits) ts fs same long other =
     All-cons (PickFits (ts ∷ fs ∷ [])) (Some (1, place_on f i)) (chosen_picks t f (i + 1) bits) (below_side f i (length fs) n other (omega (arith, same))) (fits t f (i + 1) n bits ts fs (omega (arith, same)) long other)
 
--- each row reference is in bounds
+-- Each row reference is in bounds.
 pub choice_fits : (t f : Bool) (bits : List Bool) (ts fs : List Value) → SideFits t (length ts) (length bits) → SideFits f (length fs) (length bits) → All (PickFits (ts ∷ fs ∷ [])) (chosen_picks t f 0 bits)
 choice_fits t f bits ts fs long other = fits t f 0 (length bits) bits ts fs (omega arith) long other
 
--- the rows gathered from equal columns are equal
+-- The rows gathered from equal columns are equal.
 pub picked_alike : (x y a b : Column) (ps : List (Option (ℕ × ℕ))) → x ≡ a → y ≡ b → pick Null (rows x ∷ rows y ∷ []) ps ≡ pick Null (rows a ∷ rows b ∷ []) ps
 picked_alike x y a b ps first second = cc (first, second)

@@ -10,6 +10,6 @@ either true before None column Holds made holds = made
 either true before (Some x) column Holds made holds = subst Holds (sym made) holds
 either false before after column Holds made holds = made
 
--- a property of the stored column holds for the column in the handle
+-- A property of the stored column holds for the column in the handle.
 pub makes-put : (status : ℕ) (before after : Held) (column : ArrayRef) (Holds : ArrayRef → Type 0) → Makes status before after (λ made. made ≡ column) → Holds column → Makes status before after Holds
 makes-put status before after column Holds = either (status == done) before after column Holds

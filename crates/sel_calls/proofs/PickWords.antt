@@ -21,13 +21,13 @@ at i (suc k) validity (first ∷ words) w d below =
     let place : (i + 1) + k ≡ i + suc k = omega arith in
     at (i + 1) k validity words w d (omega (arith, below)) ∙ ap (λ n. pick_in (get_or words k w) (valid_at validity n)) place
 
--- the row reference at a position
+-- The row reference at a position.
 pub picks_at : (k : ℕ) (validity : Option Bits) (words : List PickWords) (w : PickWords) (d : Option (ℕ × ℕ)) → k < length words → get_or (picks_from 0 validity words) k d ≡ pick_in (get_or words k w) (valid_at validity k)
 picks_at k validity words w d below =
     let place : 0 + k ≡ k = omega arith in
     at 0 k validity words w d below ∙ ap (λ n. pick_in (get_or words k w) (valid_at validity n)) place
 
--- a validity has a bit for each row
+-- A validity has a bit for each row.
 pub covered : (validity : Option Bits) (n k : ℕ) → Covers validity n → k < n → ForSome validity (λ v. k < length v.bits)
 covered validity n k covers below v is = omega (arith, covers v is, below)
 
@@ -35,12 +35,12 @@ pub is_gone : {A : Type 0} (o : Option A) → is_some o ≡ false → o ≡ None
 is_gone None e = refl
 is_gone (Some x) e = absurd cc
 
--- as many row references as words
+-- As many row references as words.
 pub picks_long : (i : ℕ) (validity : Option Bits) (words : List PickWords) → length (picks_from i validity words) ≡ length words
 picks_long i validity [] = refl
 picks_long i validity (w ∷ words) = ap suc (picks_long (i + 1) validity words)
 
--- without a validity, no row reference is null
+-- Without a validity, no row reference is null.
 pub words_picked : (i : ℕ) (words : List PickWords) → All IsPicked (picks_from i None words)
 words_picked i [] = All-nil IsPicked
 words_picked i (w ∷ words) = All-cons IsPicked (Some (w.source, w.row)) (picks_from (i + 1) None words) tt (words_picked (i + 1) words)
@@ -63,7 +63,7 @@ fits_has : (arrays : List ArrayRef) (p : Option (ℕ × ℕ)) → PickFits (map 
 fits_has arrays None fits = tt
 fits_has arrays (Some p) fits = omega (arith, fits, length_at arrays p.0)
 
--- each row reference is in bounds
+-- Each row reference is in bounds.
 pub rows_fit : (arrays : List ArrayRef) (ps : List (Option (ℕ × ℕ))) → All (HasRow (lengths arrays)) ps → All (PickFits (map (λ array. rows array.column) arrays)) ps
 rows_fit arrays ps all k d below = has_fits arrays (get_or ps k d) (all k d below)
 

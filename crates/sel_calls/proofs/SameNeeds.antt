@@ -12,17 +12,17 @@ use Rattle.sel_arrow.specs.Value.{Value, Null}
 use Rattle.sel_arrow.specs.declared.array_ref.ArrayRef.{ArrayRef}
 use Rattle.sel_arrow.specs.declared.column.Column.{Column, Row_of-Column, end_of-Column, more_of-Column}
 use Rattle.sel_arrow.specs.declared.column.Column.TheVariants.{LargeList', FixedSizeList', Struct'}
-use Rattle.sel_flatten.specs.Flatten.{flatten, past_flattened}
+use Rattle.sel_flatten.specs.Flatten.{flatten, exceeded_flattened}
 use Rattle.sel_handle.specs.Held.{Held}
-use Rattle.sel_handle.specs.Status.{held_buffer_lists, held_columns, held_rows, held_type, HasColumn, TellsLimits}
+use Rattle.sel_handle.specs.Status.{held_buffer_lists, held_columns, held_rows, held_type, HasColumn, ReportsLimits}
 use Rattle.sel_handle.specs.declared.handle.Handle.{Handle}
 use Rattle.sel_runs.specs.Children.{child, columns_in, field, joined_items, part_at}
-use Rattle.sel_runs.specs.Need.{buffer_count, buffers_joined, IsPastBuffers, past_taken, past_fields}
+use Rattle.sel_runs.specs.Need.{buffer_count, buffers_joined, ExceedsBuffers, exceeded_taken, exceeded_in_fields}
 use Rattle.sel_runs.specs.Picks.{pick}
 use Rattle.sel_calls.specs.Several.{first_shape, AreAlike}
 use Rattle.sel_calls.proofs.Alike.{alike_columns, first_same}
 
--- the number of view columns in a column of this type
+-- The number of view columns in a column of this type.
 abbrev mutual
   leaves : Shape → ℕ
   leaves of_binary_view = 1
@@ -48,13 +48,13 @@ mutual
   each_long n (more_of-Column column columns) =
       length-append (buffers_held column) (buffers_of_each columns) ∙ ap (λ n. n + length (buffers_of_each columns)) (held_long column) ∙ ap (λ n. leaves (type_of column) + n) (each_long _ columns)
 
--- two columns of one type with the same data buffers
+-- Two columns of one type with the same data buffers.
 pub record Like (s : Shape) (c d : Column) : Type 0 where
   pub first : type_of c ≡ s
   pub second : type_of d ≡ s
   pub held : buffers_held c ≡ buffers_held d
 
--- the same of two lists of columns, pairwise
+-- The same of two lists of columns, pairwise.
 abbrev pub AllLike : Shape → List Column → List Column → Type 0
 AllLike s [] [] = ⊤
 AllLike s [] (d ∷ ds) = ⊥
@@ -120,7 +120,7 @@ blocks_like s w c d like =
 
 -- ---- fields
 
--- the data buffers of field k
+-- The data buffers of field k.
 abbrev piece : ℕ → Shapes → List (List (List ℕ)) → List (List (List ℕ))
 piece k no_shapes held = []
 piece zero (next_shape s ss) held = take (leaves s) held
@@ -161,11 +161,11 @@ fields_like ss k below c d like =
 -- ---- all types
 
 mutual
-  -- rows exceed the same limits with columns of the same type and data buffers
-  pub same_needs : (s : Shape) (cs ds : List Column) → AllLike s cs ds → (vs : List Value) (limit : Limit) → past_taken s cs vs limit → past_taken s ds vs limit
+  -- Rows exceed the same limits with columns of the same type and data buffers.
+  pub same_needs : (s : Shape) (cs ds : List Column) → AllLike s cs ds → (vs : List Value) (limit : Limit) → exceeded_taken s cs vs limit → exceeded_taken s ds vs limit
   same_needs of_large_binary cs ds like vs limit past = past
-  same_needs of_binary_view cs ds like vs limit past = subst (λ n. IsPastBuffers n limit) (joined of_binary_view refl cs ds like) past
-  same_needs of_utf8_view cs ds like vs limit past = subst (λ n. IsPastBuffers n limit) (joined of_utf8_view refl cs ds like) past
+  same_needs of_binary_view cs ds like vs limit past = subst (λ n. ExceedsBuffers n limit) (joined of_binary_view refl cs ds like) past
+  same_needs of_utf8_view cs ds like vs limit past = subst (λ n. ExceedsBuffers n limit) (joined of_utf8_view refl cs ds like) past
   same_needs (of_large_list s) cs ds like vs limit (inl past) = inl past
   same_needs (of_large_list s) cs ds like vs limit (inr past) =
       inr (same_needs s (map child cs) (map child ds) (mapped (of_large_list s) s child (lists_like s) cs ds like) (joined_items 0 vs) limit past)
@@ -179,7 +179,7 @@ mutual
   same_needs s cs ds like vs limit past = absurd past
 
   same_fields : (ss : Shapes) (j : ℕ) (cs ds : List Column) → ((k : ℕ) → k < length (shape_list ss) → AllLike (get_or (shape_list ss) k of_null) (map (field (j + k)) cs) (map (field (j + k)) ds)) →
-      (vs : List Value) (limit : Limit) → past_fields ss j cs vs limit → past_fields ss j ds vs limit
+      (vs : List Value) (limit : Limit) → exceeded_in_fields ss j cs vs limit → exceeded_in_fields ss j ds vs limit
   same_fields no_shapes j cs ds like vs limit past = absurd past
   same_fields (next_shape s ss) j cs ds like vs limit (inl past) =
       let place : j + 0 ≡ j = omega arith in
@@ -210,7 +210,7 @@ buffers_told : (t : Held) → HasColumn t → (cs : List Column) → map buffers
 buffers_told None has cs = absurd has
 buffers_told (Some a) has cs = refl
 
--- the types and the data buffers of the columns of handles
+-- The types and the data buffers of the columns of handles.
 types_held : (hs : List Handle) → All (λ h. HasColumn h.tree) hs → map type_of (flat_map (λ h. held_columns h.tree) hs) ≡ map (λ h. held_type h.tree) hs
 types_held [] full = refl
 types_held (h ∷ hs) full =
@@ -221,10 +221,10 @@ buffers_of_handles [] full = refl
 buffers_of_handles (h ∷ hs) full =
     buffers_told h.tree (full 0 h (omega arith)) (flat_map (λ x. held_columns x.tree) hs) ∙ ap (λ l. held_buffer_lists h.tree ∷ l) (buffers_of_handles hs (λ k d below. full (suc k) d (omega (arith, below))))
 
--- rows that exceed a limit with the clones exceed it with the columns of the handles
+-- Rows that exceed a limit with the clones exceed it with the columns of the handles.
 pub shared_needs : (s : Shape) (arrays : List ArrayRef) (hs : List Handle) → All (λ a. type_of a.column ≡ s) arrays → All (λ h. HasColumn h.tree) hs →
     map (λ a. type_of a.column) arrays ≡ map (λ h. held_type h.tree) hs → map (λ a. buffers_held a.column) arrays ≡ map (λ h. held_buffer_lists h.tree) hs →
-    (vs : List Value) (limit : Limit) → past_taken s (map (λ a. a.column) arrays) vs limit → past_taken s (flat_map (λ h. held_columns h.tree) hs) vs limit
+    (vs : List Value) (limit : Limit) → exceeded_taken s (map (λ a. a.column) arrays) vs limit → exceeded_taken s (flat_map (λ h. held_columns h.tree) hs) vs limit
 shared_needs s arrays hs alike full types held vs limit past =
     same_needs s (map (λ a. a.column) arrays) (flat_map (λ h. held_columns h.tree) hs)
     (likes s (map (λ a. a.column) arrays) (flat_map (λ h. held_columns h.tree) hs)
@@ -242,31 +242,31 @@ either : {P Q R : Type 0} → (Q → R) → P ⊎ Q → P ⊎ R
 either more (inl p) = inl p
 either more (inr q) = inr (more q)
 
--- of the horizontal flatten
+-- Of the horizontal flatten.
 pub flat_limits : (status h : ℕ) (arrays : List ArrayRef) (hs : List Handle) (ws : List ℕ) → All (λ h. HasColumn h.tree) hs →
     map (λ a. rows a.column) arrays ≡ map (λ h. held_rows h.tree) hs → map (λ a. type_of a.column) arrays ≡ map (λ h. held_type h.tree) hs → map (λ a. buffers_held a.column) arrays ≡ map (λ h. held_buffer_lists h.tree) hs →
-    TellsLimits status (λ limit. AreAlike (map (λ a. type_of a.column) arrays)) →
-    TellsLimits status (past_flattened h (first_shape (map (λ a. type_of a.column) arrays)) (map (λ a. a.column) arrays) (flatten (map (λ a. rows a.column) arrays) ws h)) →
-    TellsLimits status (past_flattened h (first_shape (map (λ h. held_type h.tree) hs)) (flat_map (λ h. held_columns h.tree) hs) (flatten (map (λ h. held_rows h.tree) hs) ws h))
+    ReportsLimits status (λ limit. AreAlike (map (λ a. type_of a.column) arrays)) →
+    ReportsLimits status (exceeded_flattened h (first_shape (map (λ a. type_of a.column) arrays)) (map (λ a. a.column) arrays) (flatten (map (λ a. rows a.column) arrays) ws h)) →
+    ReportsLimits status (exceeded_flattened h (first_shape (map (λ h. held_type h.tree) hs)) (flat_map (λ h. held_columns h.tree) hs) (flatten (map (λ h. held_rows h.tree) hs) ws h))
 flat_limits status h arrays hs ws full same types held alike limits limit is =
     let own = flat_map (λ (h : Handle). held_columns h.tree) hs in
     let s = first_shape (map (λ (a : ArrayRef). type_of a.column) arrays) in
     let vs = flatten (map (λ (a : ArrayRef). rows a.column) arrays) ws h in
     let past = limits limit is in
-    let more : past_taken s (map (λ (a : ArrayRef). a.column) arrays) vs limit → past_taken s own vs limit = shared_needs s arrays hs (alike_at arrays (alike limit is)) full types held vs limit in
-    subst (λ (xss : List (List Value)). past_flattened h (first_shape (map (λ (h : Handle). held_type h.tree) hs)) own (flatten xss ws h) limit) same
-    (subst (λ (ts : List Shape). past_flattened h (first_shape ts) own vs limit) types (past.0, either more past.1))
+    let more : exceeded_taken s (map (λ (a : ArrayRef). a.column) arrays) vs limit → exceeded_taken s own vs limit = shared_needs s arrays hs (alike_at arrays (alike limit is)) full types held vs limit in
+    subst (λ (xss : List (List Value)). exceeded_flattened h (first_shape (map (λ (h : Handle). held_type h.tree) hs)) own (flatten xss ws h) limit) same
+    (subst (λ (ts : List Shape). exceeded_flattened h (first_shape ts) own vs limit) types (past.0, either more past.1))
 
--- of gathered rows
+-- Of gathered rows.
 pub pick_limits : (status : ℕ) (arrays : List ArrayRef) (hs : List Handle) (ps : List (Option (ℕ × ℕ))) → All (λ h. HasColumn h.tree) hs →
     map (λ a. rows a.column) arrays ≡ map (λ h. held_rows h.tree) hs → map (λ a. type_of a.column) arrays ≡ map (λ h. held_type h.tree) hs → map (λ a. buffers_held a.column) arrays ≡ map (λ h. held_buffer_lists h.tree) hs →
-    TellsLimits status (λ limit. AreAlike (map (λ a. type_of a.column) arrays)) →
-    TellsLimits status (past_taken (first_shape (map (λ a. type_of a.column) arrays)) (map (λ a. a.column) arrays) (pick Null (map (λ a. rows a.column) arrays) ps)) →
-    TellsLimits status (past_taken (first_shape (map (λ h. held_type h.tree) hs)) (flat_map (λ h. held_columns h.tree) hs) (pick Null (map (λ h. held_rows h.tree) hs) ps))
+    ReportsLimits status (λ limit. AreAlike (map (λ a. type_of a.column) arrays)) →
+    ReportsLimits status (exceeded_taken (first_shape (map (λ a. type_of a.column) arrays)) (map (λ a. a.column) arrays) (pick Null (map (λ a. rows a.column) arrays) ps)) →
+    ReportsLimits status (exceeded_taken (first_shape (map (λ h. held_type h.tree) hs)) (flat_map (λ h. held_columns h.tree) hs) (pick Null (map (λ h. held_rows h.tree) hs) ps))
 pick_limits status arrays hs ps full same types held alike limits limit is =
     let own = flat_map (λ (h : Handle). held_columns h.tree) hs in
     let s = first_shape (map (λ (a : ArrayRef). type_of a.column) arrays) in
     let vs = pick Null (map (λ (a : ArrayRef). rows a.column) arrays) ps in
-    subst (λ (xss : List (List Value)). past_taken (first_shape (map (λ (h : Handle). held_type h.tree) hs)) own (pick Null xss ps) limit) same
-    (subst (λ (ts : List Shape). past_taken (first_shape ts) own vs limit) types
+    subst (λ (xss : List (List Value)). exceeded_taken (first_shape (map (λ (h : Handle). held_type h.tree) hs)) own (pick Null xss ps) limit) same
+    (subst (λ (ts : List Shape). exceeded_taken (first_shape ts) own vs limit) types
     (shared_needs s arrays hs (alike_at arrays (alike limit is)) full types held vs limit (limits limit is)))

@@ -29,14 +29,14 @@ same-length f g xs ys same = sym (length-map xs f) ∙ ap length same ∙ length
 pub same-shown : {A B : Type 0} → (f : A → ℤ) (g : B → ℤ) (xs : List A) (ys : List B) (rows : List Value) → map f xs ≡ map g ys → Shows (numbers f xs) rows → Shows (numbers g ys) rows
 same-shown f g xs ys rows same shows = rw (sym (same-numbers f g xs ys same)) shows
 
--- the same of a column built with the validity that callers pass
+-- The same of a column built with the validity that callers pass.
 pub made-of-same : {A B E : Type 0} → (f : A → ℤ) (g : B → ℤ) (xs : List A) (ys : List B) (bytes : List ℕ) (has : Bool) (result : Result ArrayRef E) → map f xs ≡ map g ys
     → IfOk result (λ made. rows made.column ≡ number_rows f xs (validity_in bytes has (length xs)))
     → IfOk result (λ made. rows made.column ≡ number_rows g ys (validity_in bytes has (length ys)))
 made-of-same f g xs ys bytes has (Ok made) same is = is ∙ same-rows f g xs ys (validity_in bytes has (length xs)) same ∙ ap (λ n. number_rows g ys (validity_in bytes has n)) (same-length f g xs ys same)
 made-of-same f g xs ys bytes has (Err fault) same is = is
 
--- a list that represents the numbers of a column matches its rows
+-- A list that represents the numbers of a column matches its rows.
 pub shown-by : {A B : Type 0} → (f : A → ℤ) (g : B → ℤ) (xs : List A) (ys : List B) (validity : Option Bits) (vs : List Value) → map f xs ≡ map g ys → number_rows f xs validity ≡ vs → Covers validity (length xs) → Shows (numbers g ys) vs
 shown-by f g xs ys validity vs same is covers = same-shown f g xs ys vs same (shows-numbers f xs validity vs is covers)
 

@@ -7,7 +7,7 @@ use Rattle.sel_arrow.specs.declared.column.Column.{Column}
 use Rattle.sel_handle.specs.Held.{Held}
 use Rattle.sel_runs.specs.Children.{child, field, fields_of}
 
--- the rows, and the type, of the child of a list column (Arrow columnar format: list layouts)
+-- The rows, and the type, of the child of a list column (Arrow columnar format: list layouts).
 abbrev pub held_child_rows : Held → List Value
 held_child_rows None = []
 held_child_rows (Some column) = rows (child column.column)
@@ -16,8 +16,8 @@ abbrev pub held_child_type : Held → Shape
 held_child_type None = of_null
 held_child_type (Some column) = type_of (child column.column)
 
--- the fields of a struct column, and the rows and the type of field j (Arrow columnar format:
--- struct layout)
+-- The fields of a struct column, and the rows and the type of field j (Arrow columnar format:
+-- struct layout).
 abbrev pub held_fields : Held → List Column
 held_fields None = []
 held_fields (Some column) = fields_of column.column

@@ -5,22 +5,25 @@ use Rattle.std.specs.Str.{is_utf8}
 use Rattle.sel_arrow.specs.Shape.{Shape}
 use Rattle.sel_arrow.specs.Value.{Value}
 use Rattle.sel_text.specs.Fits.{fits}
-use Rattle.sel_text.specs.Limits.{past_limit}
+use Rattle.sel_text.specs.Limits.{exceeds_limit}
 use Rattle.sel_text.specs.Spaces.{spaceless}
 use Rattle.sel_text.specs.Texts.{text_of}
 use Rattle.sel_text.specs.Types.{type_text}
 use Rattle.sel_arrow.specs.Depth.{depth}
 use Rattle.sel_text.specs.Written.{widths_written}
-use Rattle.sel_text.specs.declared.build.Beneath.TheVariants.{Zeros}
+use Rattle.sel_text.specs.declared.build.NullSlots.TheVariants.{Zeros}
 
--- the bytes are the text of a type, with or without spaces between its parts
+-- The bytes are the text of a type, with or without spaces between its parts.
 abbrev pub IsTypeText : Shape → List ℕ → Type 0
-IsTypeText shape bytes = IsTrue (widths_written shape) × IsTrue (is_utf8 bytes) × (spaceless bytes ≡ type_text shape)
+IsTypeText shape bytes =
+    IsTrue (widths_written shape) × IsTrue (is_utf8 bytes) × (spaceless bytes ≡ type_text shape)
 
--- the bytes are the row text of values that fit a type, with or without spaces between its parts
+-- The bytes are the row text of values that fit a type, with or without spaces between its parts.
 abbrev pub IsRowsText : Shape → List Value → List ℕ → Type 0
-IsRowsText shape values bytes = IsTrue (list_all (fits shape) values) × IsTrue (is_utf8 bytes) × (spaceless bytes ≡ text_of shape values)
+IsRowsText shape values bytes =
+    IsTrue (list_all (fits shape) values) × IsTrue (is_utf8 bytes)
+    × (spaceless bytes ≡ text_of shape values)
 
--- the type is nested more than 64 levels deep, or a column of the rows exceeds a size limit
-abbrev pub passes_limit : Shape → List Value → Bool
-passes_limit shape values = nat_lt 64 (depth shape) || past_limit Zeros shape values
+-- The type is nested more than 64 levels deep, or a column of the rows exceeds a size limit.
+abbrev pub exceeds_parse_limit : Shape → List Value → Bool
+exceeds_parse_limit shape values = nat_lt 64 (depth shape) || exceeds_limit Zeros shape values

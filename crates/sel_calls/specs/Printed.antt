@@ -1,13 +1,13 @@
--- The row text of a handle's column, and what is written of it.
+-- The row text of a handle's column, and the bytes of it that are copied.
 use Rattle.std.specs.Prelude.{ℕ, List, length, take, drop, ◌++◌}
 use Rattle.sel_handle.specs.Held.{Held}
 use Rattle.sel_handle.specs.Status.{held_rows, held_type}
 use Rattle.sel_text.specs.Texts.{text_of}
 
--- the row text, as in `[1,null,-3]`
+-- The row text, as in `[1,null,-3]`.
 abbrev pub held_text : Held → List ℕ
 held_text held = text_of (held_type held) (held_rows held)
 
--- a buffer after the text is copied into it: as much of the text as fits, then the old bytes
+-- A buffer after the text is copied into it: as much of the text as fits, then the old bytes.
 abbrev pub filled : List ℕ → List ℕ → List ℕ
 filled text room = take (length room) text ++ drop (length text) room

@@ -6,25 +6,26 @@ use Rattle.sel_arrow.specs.Shape.{Shape, of_null}
 use Rattle.sel_handle.specs.Inputs.{validity_in}
 use Rattle.sel_calls.specs.declared.several.PickWords.{PickWords}
 
--- the first of several types; the null type if there is none
+-- The first of several types; the null type if there is none.
 abbrev pub first_shape : List Shape → Shape
 first_shape [] = of_null
 first_shape (type ∷ types) = type
 
--- all types are the same
+-- All types are the same.
 abbrev pub AreAlike : List Shape → Type 0
 AreAlike types = All (λ type. type ≡ first_shape types) types
 
--- the row reference in the words, or none if it is not valid
+-- The row reference in the words, or none if it is not valid.
 abbrev pub pick_in : PickWords → Bool → Option (ℕ × ℕ)
 pick_in words valid = if valid then Some (words.source, words.row) else None
 
--- the row references in the words from position i on, with a validity (Arrow columnar format:
--- validity bitmaps)
+-- The row references in the words from position i on, with a validity (Arrow columnar format:
+-- validity bitmaps).
 abbrev pub picks_from : ℕ → Option Bits → List PickWords → List (Option (ℕ × ℕ))
 picks_from i validity [] = []
-picks_from i validity (words ∷ others) = pick_in words (valid_at validity i) ∷ picks_from (i + 1) validity others
+picks_from i validity (words ∷ others) =
+    pick_in words (valid_at validity i) ∷ picks_from (i + 1) validity others
 
--- the row references that callers pass: words, and the bytes of their validity
+-- The row references that callers pass: words, and the bytes of their validity.
 abbrev pub picks_in : List PickWords → List ℕ → Bool → List (Option (ℕ × ℕ))
 picks_in words bytes has = picks_from 0 (validity_in bytes has (length words)) words

@@ -3,12 +3,13 @@ use Rattle.std.specs.Prelude.{ℕ, ℤ, ◌+◌, ◌*◌, pos}
 use Rattle.std.specs.Int.{w128, cast_signed}
 use Rattle.sel_calls.specs.declared.wides.Wide.{Wide}
 
--- the unsigned integer with these low and high words (Arrow columnar format: little-endian numbers)
+-- The unsigned integer with these low and high words (Arrow columnar format: little-endian
+-- numbers).
 abbrev pub joined : Wide → ℕ
 joined wide = wide.low + 18446744073709551616 * wide.high
 
--- the words as an unsigned integer, and as one in two's complement (Arrow columnar format:
--- fixed-size primitive layout)
+-- The words as an unsigned integer, and as one in two's complement (Arrow columnar format:
+-- fixed-size primitive layout).
 abbrev pub unsigned_wide : Wide → ℤ
 unsigned_wide wide = pos (joined wide)
 

@@ -77,7 +77,7 @@ pub fn field_count_into(column: &ArrayRef, count: &mut usize) -> u32
     ensures kind { Demands result other_kind
         (IsTrue (is_struct_shape (type_of column.now.column))) }
 {
-    let Some(fields) = fields_lent(column) else {
+    let Some(fields) = struct_fields(column) else {
         return OTHER_KIND;
     };
     *count = fields.len();
@@ -85,7 +85,7 @@ pub fn field_count_into(column: &ArrayRef, count: &mut usize) -> u32
 }
 
 /// Returns the fields of a struct column, or none for another type.
-fn fields_lent(column: &ArrayRef) -> Option<&[Column]>
+fn struct_fields(column: &ArrayRef) -> Option<&[Column]>
     ensures fields { IfSome result (λ fields. fields.now ≡ fields_of column.now.column) }
     ensures some { IfSome result (λ _. is_struct_shape (type_of column.now.column) ≡ true) }
     ensures none { IfNone result (is_struct_shape (type_of column.now.column) ≡ false) }
@@ -127,7 +127,7 @@ fn field_of(column: &ArrayRef, i: usize) -> Option<&Column>
     ensures formed { IsWellFormed column.now.column }
     ensures none { IfNone result (length (fields_of column.now.column) ≤ i) }
 {
-    let fields = fields_lent(column)?;
+    let fields = struct_fields(column)?;
     if i < fields.len() {
         Some(&fields[i])
     } else {

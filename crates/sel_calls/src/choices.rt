@@ -6,9 +6,9 @@ ghost use Rattle.sel_arrow.specs.Rows.{rows, type_of};
 ghost use Rattle.sel_arrow.specs.Shape.{of_boolean};
 ghost use Rattle.sel_calls.specs.Chosen.{chosen_rows};
 ghost use Rattle.sel_calls.specs.ChosenPicks.{SideFits};
-ghost use Rattle.sel_handle.specs.Status.{done, no_memory, no_column, other_kind, other_type, other_length, limit_statuses, held_columns, held_rows, held_type, DemandsBefore, DemandsFirst, HasColumn, IsOneOf, Makes, TellsLimits};
-ghost use Rattle.sel_runs.specs.Need.{past_taken};
-ghost use Rattle.polars_compute.specs.Select.{in_force};
+ghost use Rattle.sel_handle.specs.Status.{done, no_memory, no_column, other_kind, other_type, other_length, limit_statuses, held_columns, held_rows, held_type, DemandsBefore, DemandsFirst, HasColumn, IsOneOf, Makes, ReportsLimits};
+ghost use Rattle.sel_runs.specs.Need.{exceeded_taken};
+ghost use Rattle.polars_compute.specs.Select.{effective_mask};
 
 use crate::sides::choice;
 use sel_arrow::array::Array;
@@ -43,7 +43,7 @@ pub fn choose_handles(
     out: &mut Handle,
 ) -> u32
     ensures rows { Makes result out.old.tree out.new.tree (λ made. rows made.column ≡
-        chosen_rows true_column false_column (in_force (held_rows mask.now.tree))
+        chosen_rows true_column false_column (effective_mask (held_rows mask.now.tree))
         (held_rows if_true.now.tree) (held_rows if_false.now.tree)) }
     ensures dtype { Makes result out.old.tree out.new.tree
         (λ made. type_of made.column ≡ held_type if_true.now.tree) }
@@ -60,9 +60,9 @@ pub fn choose_handles(
         (length (held_rows mask.now.tree)) ×
         SideFits false_column (length (held_rows if_false.now.tree))
         (length (held_rows mask.now.tree))) }
-    ensures limits { TellsLimits result (past_taken (held_type if_true.now.tree)
+    ensures limits { ReportsLimits result (exceeded_taken (held_type if_true.now.tree)
         (held_columns if_true.now.tree ++ held_columns if_false.now.tree)
-        (chosen_rows true_column false_column (in_force (held_rows mask.now.tree))
+        (chosen_rows true_column false_column (effective_mask (held_rows mask.now.tree))
         (held_rows if_true.now.tree) (held_rows if_false.now.tree))) }
 {
     let Some(by) = mask.column() else {
@@ -87,7 +87,7 @@ fn choose_into(
     out: &mut Handle,
 ) -> u32
     ensures rows { Makes result out.old.tree out.new.tree (λ made. rows made.column ≡
-        chosen_rows true_column false_column (in_force (rows mask.now.column))
+        chosen_rows true_column false_column (effective_mask (rows mask.now.column))
         (rows if_true.now.column) (rows if_false.now.column)) }
     ensures dtype { Makes result out.old.tree out.new.tree
         (λ made. type_of made.column ≡ type_of if_true.now.column) }
@@ -102,9 +102,9 @@ fn choose_into(
         SideFits true_column (length (rows if_true.now.column)) (length (rows mask.now.column)) ×
         SideFits false_column (length (rows if_false.now.column))
         (length (rows mask.now.column))) }
-    ensures limits { TellsLimits result (past_taken (type_of if_true.now.column)
+    ensures limits { ReportsLimits result (exceeded_taken (type_of if_true.now.column)
         (if_true.now.column ∷ if_false.now.column ∷ [])
-        (chosen_rows true_column false_column (in_force (rows mask.now.column))
+        (chosen_rows true_column false_column (effective_mask (rows mask.now.column))
         (rows if_true.now.column) (rows if_false.now.column))) }
 {
     let bits = match bits_of_mask(alloc, mask) {
@@ -129,7 +129,8 @@ fn choose_into(
 // Returns whether a column has as many rows as the mask, or a scalar has one row.
 fn side_fits(side: &ArrayRef, is_column: bool, len: usize) -> bool
     ensures right { result ≡ true → SideFits is_column (length (rows side.now.column)) len }
-    ensures wrong { result ≡ false → SideFits is_column (length (rows side.now.column)) len → ⊥ }
+    ensures wrong { result ≡ false → SideFits is_column (length (rows side.now.column)) len →
+        ⊥ }
 {
     if is_column {
         side.len() == len
@@ -142,7 +143,7 @@ fn side_fits(side: &ArrayRef, is_column: bool, len: usize) -> bool
 //
 // Errors: `OTHER_KIND` if the mask is not boolean; `NO_MEMORY`.
 fn bits_of_mask(alloc: Global, mask: &ArrayRef) -> Result<Bitmap, u32>
-    ensures bits { IfOk result (λ bits. bits.bits ≡ in_force (rows mask.now.column)) }
+    ensures bits { IfOk result (λ bits. bits.bits ≡ effective_mask (rows mask.now.column)) }
     ensures len { IfOk result (λ bits. length bits.bits ≡ length (rows mask.now.column)) }
     ensures few { IfOk result (λ bits. length bits.bits ≤ 4294967295) }
     ensures kind { IfOk result (λ _. type_of mask.now.column ≡ of_boolean) }
@@ -160,15 +161,15 @@ fn bits_of_mask(alloc: Global, mask: &ArrayRef) -> Result<Bitmap, u32>
             return Err(OTHER_KIND);
         }
     };
-    match bits_in_force(alloc, &truths) {
+    match effective_bits(alloc, &truths) {
         Ok(bits) => Ok(bits),
         Err(_) => Err(NO_MEMORY),
     }
 }
 
 // Returns the effective mask. Errors: `OutOfMemory`.
-fn bits_in_force(alloc: Global, mask: &BooleanArray) -> PolarsResult<Bitmap>
-    ensures bits { IfOk result (λ bits. bits.bits ≡ in_force (boolean_rows mask.now)) }
+fn effective_bits(alloc: Global, mask: &BooleanArray) -> PolarsResult<Bitmap>
+    ensures bits { IfOk result (λ bits. bits.bits ≡ effective_mask (boolean_rows mask.now)) }
     ensures len { IfOk result (λ bits. length bits.bits ≡ length (boolean_rows mask.now)) }
     ensures few { IfOk result (λ bits. length bits.bits ≤ 4294967295) }
 {

@@ -139,7 +139,8 @@ fn put_both(
     out_second: &mut Handle,
 ) -> u32
     ensures first { Makes result out_first.old.tree out_first.new.tree (λ made. made ≡ first) }
-    ensures second { Makes result out_second.old.tree out_second.new.tree (λ made. made ≡ second) }
+    ensures second { Makes result out_second.old.tree out_second.new.tree
+        (λ made. made ≡ second) }
     ensures status { result ≤ no_memory }
 {
     let Some(first) = boxed(alloc, first) else {

@@ -5,7 +5,7 @@ ghost use Rattle.sel_bits.specs.Bits.{bits_from};
 ghost use Rattle.sel_arrow.specs.Rows.{rows, type_of};
 ghost use Rattle.sel_arrow.specs.Shape.{of_boolean};
 ghost use Rattle.sel_handle.specs.Status.{done, no_memory, no_column, other_kind, other_length, Demands, DemandsBefore, IsOneOf, Makes};
-ghost use Rattle.polars_compute.specs.Select.{select, in_force};
+ghost use Rattle.polars_compute.specs.Select.{select, effective_mask};
 
 use polars_compute::filter::{filter, filter_with_bitmap};
 use sel_arrow::array::Array;
@@ -21,7 +21,7 @@ use std::alloc::Global;
 /// different numbers of rows; `NO_MEMORY`.
 pub fn filter_into(alloc: Global, column: &ArrayRef, mask: &ArrayRef, out: &mut Handle) -> u32
     ensures rows { Makes result out.old.tree out.new.tree (λ made. rows made.column ≡
-        select (rows column.now.column) (in_force (rows mask.now.column))) }
+        select (rows column.now.column) (effective_mask (rows mask.now.column))) }
     ensures dtype { Makes result out.old.tree out.new.tree
         (λ made. type_of made.column ≡ type_of column.now.column) }
     ensures kind { DemandsBefore result other_kind (other_length ∷ [])

@@ -4,9 +4,9 @@ ghost use Rattle.std.specs.Prelude.{◌≡◌, ◌∷◌, ◌≢◌, false, IsTr
 ghost use Rattle.sel_arrow.specs.NestedArrays.{block_column};
 ghost use Rattle.sel_arrow.specs.Rows.{rows, type_of};
 ghost use Rattle.sel_arrow.specs.Shape.{is_block_shape};
-ghost use Rattle.sel_calls.specs.Entries.{entries_at, refuses_index, past_entries_at};
+ghost use Rattle.sel_calls.specs.Entries.{entries_at, index_is_error, exceeded_entries_at};
 ghost use Rattle.sel_calls.specs.Types.{entry_type};
-ghost use Rattle.sel_handle.specs.Status.{done, no_memory, no_column, other_kind, get_out_of_bounds, limit_statuses, DemandsBefore, IsOneOf, Makes, TellsLimits};
+ghost use Rattle.sel_handle.specs.Status.{done, no_memory, no_column, other_kind, get_out_of_bounds, limit_statuses, DemandsBefore, IsOneOf, Makes, ReportsLimits};
 
 use sel_arrow::array::Array;
 use sel_arrow::array_ref::ArrayRef;
@@ -40,10 +40,10 @@ pub fn fixed_get_into(
     ensures kind { DemandsBefore result other_kind (get_out_of_bounds ∷ limit_statuses)
         (IsTrue (is_block_shape (type_of column.now.column))) }
     ensures bounds { DemandsBefore result get_out_of_bounds limit_statuses
-        (refuses_index null_on_oob (rows column.now.column) (type_of column.now.column) index
+        (index_is_error null_on_oob (rows column.now.column) (type_of column.now.column) index
         ≡ false) }
-    ensures limits { TellsLimits result
-        (past_entries_at (rows column.now.column) (type_of column.now.column) index) }
+    ensures limits { ReportsLimits result
+        (exceeded_entries_at (rows column.now.column) (type_of column.now.column) index) }
 {
     let Ok(copy) = column.try_clone(alloc) else {
         return NO_MEMORY;
@@ -74,9 +74,9 @@ fn entry_into(
     ensures own { (result ≢ no_column) × (result ≢ other_kind) }
     ensures status { IsOneOf result (done ∷ no_memory ∷ get_out_of_bounds ∷ limit_statuses) }
     ensures bounds { DemandsBefore result get_out_of_bounds limit_statuses
-        (refuses_index null_on_oob (rows (block_column lists.now))
+        (index_is_error null_on_oob (rows (block_column lists.now))
         (type_of (block_column lists.now)) index ≡ false) }
-    ensures limits { TellsLimits result (past_entries_at
+    ensures limits { ReportsLimits result (exceeded_entries_at
         (rows (block_column lists.now)) (type_of (block_column lists.now)) index) }
 {
     match sub_fixed_size_list_get_literal(alloc, lists, index, null_on_oob) {

@@ -5,9 +5,9 @@ ghost use Rattle.sel_arrow.specs.Columns.{primitive_rows};
 ghost use Rattle.sel_arrow.specs.NestedArrays.{block_column};
 ghost use Rattle.sel_arrow.specs.Rows.{rows, type_of};
 ghost use Rattle.sel_arrow.specs.Shape.{of_int64, is_block_shape};
-ghost use Rattle.sel_calls.specs.Entries.{entries_at_each, refuses_some, past_entries_at_each};
+ghost use Rattle.sel_calls.specs.Entries.{entries_at_each, any_index_is_error, exceeded_entries_at_each};
 ghost use Rattle.sel_calls.specs.Types.{entry_type};
-ghost use Rattle.sel_handle.specs.Status.{done, no_memory, no_column, other_kind, other_length, get_out_of_bounds, limit_statuses, DemandsBefore, IsOneOf, Makes, TellsLimits};
+ghost use Rattle.sel_handle.specs.Status.{done, no_memory, no_column, other_kind, other_length, get_out_of_bounds, limit_statuses, DemandsBefore, IsOneOf, Makes, ReportsLimits};
 
 use sel_arrow::array::Array;
 use sel_arrow::array_ref::ArrayRef;
@@ -49,10 +49,10 @@ pub fn fixed_get_each_into(
     ensures length { DemandsBefore result other_length (get_out_of_bounds ∷ limit_statuses)
         (length (rows indices.now.column) ≡ length (rows column.now.column)) }
     ensures bounds { DemandsBefore result get_out_of_bounds limit_statuses
-        (refuses_some null_on_oob (rows column.now.column) (type_of column.now.column)
+        (any_index_is_error null_on_oob (rows column.now.column) (type_of column.now.column)
         (rows indices.now.column) ≡ false) }
-    ensures limits { TellsLimits result
-        (past_entries_at_each (rows column.now.column) (type_of column.now.column)
+    ensures limits { ReportsLimits result
+        (exceeded_entries_at_each (rows column.now.column) (type_of column.now.column)
         (rows indices.now.column)) }
 {
     let Ok(copy) = indices.try_clone(alloc) else {
@@ -89,10 +89,10 @@ fn entries_of_column_into(
     ensures length { DemandsBefore result other_length (get_out_of_bounds ∷ limit_statuses)
         (length (primitive_rows indices.now) ≡ length (rows column.now.column)) }
     ensures bounds { DemandsBefore result get_out_of_bounds limit_statuses
-        (refuses_some null_on_oob (rows column.now.column) (type_of column.now.column)
+        (any_index_is_error null_on_oob (rows column.now.column) (type_of column.now.column)
         (primitive_rows indices.now) ≡ false) }
-    ensures limits { TellsLimits result
-        (past_entries_at_each (rows column.now.column) (type_of column.now.column)
+    ensures limits { ReportsLimits result
+        (exceeded_entries_at_each (rows column.now.column) (type_of column.now.column)
         (primitive_rows indices.now)) }
 {
     let Ok(copy) = column.try_clone(alloc) else {
@@ -128,9 +128,9 @@ fn entries_into(
     ensures length { DemandsBefore result other_length (get_out_of_bounds ∷ limit_statuses)
         (length (primitive_rows indices.now) ≡ length (rows (block_column lists.now))) }
     ensures bounds { DemandsBefore result get_out_of_bounds limit_statuses
-        (refuses_some null_on_oob (rows (block_column lists.now)) (type_of (block_column lists.now))
-        (primitive_rows indices.now) ≡ false) }
-    ensures limits { TellsLimits result (past_entries_at_each
+        (any_index_is_error null_on_oob (rows (block_column lists.now))
+        (type_of (block_column lists.now)) (primitive_rows indices.now) ≡ false) }
+    ensures limits { ReportsLimits result (exceeded_entries_at_each
         (rows (block_column lists.now)) (type_of (block_column lists.now))
         (primitive_rows indices.now)) }
 {

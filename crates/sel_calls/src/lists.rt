@@ -5,8 +5,8 @@ ghost use Rattle.sel_arrow.specs.NestedArrays.{list_column};
 ghost use Rattle.sel_arrow.specs.Rows.{rows, type_of};
 ghost use Rattle.sel_arrow.specs.Shape.{is_list_shape};
 ghost use Rattle.sel_calls.specs.Types.{entry_type};
-ghost use Rattle.sel_handle.specs.Status.{done, no_memory, no_column, other_kind, limit_statuses, Demands, DemandsBefore, IsOneOf, Makes, TellsLimits};
-ghost use Rattle.sel_runs.specs.Need.{past};
+ghost use Rattle.sel_handle.specs.Status.{done, no_memory, no_column, other_kind, limit_statuses, Demands, DemandsBefore, IsOneOf, Makes, ReportsLimits};
+ghost use Rattle.sel_runs.specs.Need.{exceeded_limits};
 ghost use Rattle.sel_sublists.specs.Lists.{list_get, oob};
 
 use sel_arrow::array::Array;
@@ -31,8 +31,8 @@ pub fn sublist_get_into(alloc: Global, column: &ArrayRef, index: i64, out: &mut 
     ensures status { IsOneOf result (done ∷ no_memory ∷ other_kind ∷ limit_statuses) }
     ensures kind { DemandsBefore result other_kind limit_statuses
         (IsTrue (is_list_shape (type_of column.now.column))) }
-    ensures limits { TellsLimits result
-        (past (entry_type (type_of column.now.column)) (list_get (rows column.now.column) index)) }
+    ensures limits { ReportsLimits result (exceeded_limits (entry_type (type_of column.now.column))
+        (list_get (rows column.now.column) index)) }
 {
     let Ok(copy) = column.try_clone(alloc) else {
         return NO_MEMORY;
@@ -56,7 +56,8 @@ fn element_into(alloc: Global, lists: &ListArray<i64>, index: i64, out: &mut Han
         (λ made. type_of made.column ≡ entry_type (type_of (list_column lists.now))) }
     ensures own { (result ≢ no_column) × (result ≢ other_kind) }
     ensures status { IsOneOf result (done ∷ no_memory ∷ limit_statuses) }
-    ensures limits { TellsLimits result (past (entry_type (type_of (list_column lists.now)))
+    ensures limits { ReportsLimits result
+        (exceeded_limits (entry_type (type_of (list_column lists.now)))
         (list_get (rows (list_column lists.now)) index)) }
 {
     match sublist_get(alloc, lists, index) {

@@ -6,10 +6,10 @@ ghost use Rattle.sel_arrow.specs.Masked.{Covers};
 ghost use Rattle.sel_arrow.specs.Rows.{rows, type_of};
 ghost use Rattle.sel_arrow.specs.Value.{Null};
 ghost use Rattle.sel_calls.specs.Several.{first_shape, picks_from, picks_in, AreAlike};
-ghost use Rattle.sel_flatten.specs.Flatten.{array_columns, flatten, parts_fit, past_flattened};
+ghost use Rattle.sel_flatten.specs.Flatten.{array_columns, flatten, parts_fit, exceeded_flattened};
 ghost use Rattle.sel_handle.specs.Inputs.{lacks_bits};
-ghost use Rattle.sel_handle.specs.Status.{done, no_memory, no_column, other_type, other_length, out_of_bounds, rule_status, limit_statuses, DemandsBefore, IsOneOf, Makes, TellsLimits};
-ghost use Rattle.sel_runs.specs.Need.{past_taken};
+ghost use Rattle.sel_handle.specs.Status.{done, no_memory, no_column, other_type, other_length, out_of_bounds, rule_status, limit_statuses, DemandsBefore, IsOneOf, Makes, ReportsLimits};
+ghost use Rattle.sel_runs.specs.Need.{exceeded_taken};
 ghost use Rattle.sel_runs.specs.Picks.{pick, PickFits};
 
 use crate::picks::{WordPlaces, are_in_bounds, lengths_of};
@@ -67,10 +67,10 @@ pub fn flatten_into(
     ensures length { DemandsBefore result other_length limit_statuses
         ((0 < length arrays.now) × IsTrue
         (parts_fit height (map (λ array. rows array.column) arrays.now) widths.now)) }
-    ensures one_type { TellsLimits result
+    ensures one_type { ReportsLimits result
         (λ _. AreAlike (map (λ array. type_of array.column) arrays.now)) }
-    ensures limits { TellsLimits result
-        (past_flattened height (first_shape (map (λ array. type_of array.column) arrays.now))
+    ensures limits { ReportsLimits result
+        (exceeded_flattened height (first_shape (map (λ array. type_of array.column) arrays.now))
         (array_columns arrays.now)
         (flatten (map (λ array. rows array.column) arrays.now) widths.now height)) }
 {
@@ -137,10 +137,10 @@ pub fn collect_into(
     ensures bounds { DemandsBefore result out_of_bounds limit_statuses
         (All (PickFits (map (λ array. rows array.column) arrays.now))
         (picks_in words.now bits.now has_bits)) }
-    ensures one_type { TellsLimits result
+    ensures one_type { ReportsLimits result
         (λ _. AreAlike (map (λ array. type_of array.column) arrays.now)) }
-    ensures limits { TellsLimits result
-        (past_taken (first_shape (map (λ array. type_of array.column) arrays.now))
+    ensures limits { ReportsLimits result
+        (exceeded_taken (first_shape (map (λ array. type_of array.column) arrays.now))
         (array_columns arrays.now) (pick Null (map (λ array. rows array.column) arrays.now)
         (picks_in words.now bits.now has_bits))) }
 {
@@ -181,10 +181,10 @@ fn collect_picks_into(
     ensures bounds { DemandsBefore result out_of_bounds limit_statuses
         (All (PickFits (map (λ array. rows array.column) arrays.now))
         (picks_from 0 validity.now words.now)) }
-    ensures one_type { TellsLimits result
+    ensures one_type { ReportsLimits result
         (λ _. AreAlike (map (λ array. type_of array.column) arrays.now)) }
-    ensures limits { TellsLimits result
-        (past_taken (first_shape (map (λ array. type_of array.column) arrays.now))
+    ensures limits { ReportsLimits result
+        (exceeded_taken (first_shape (map (λ array. type_of array.column) arrays.now))
         (array_columns arrays.now)
         (pick Null (map (λ array. rows array.column) arrays.now)
         (picks_from 0 validity.now words.now))) }

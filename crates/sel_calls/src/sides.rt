@@ -6,9 +6,9 @@ ghost use Rattle.sel_arrow.specs.Rows.{rows, type_of};
 ghost use Rattle.sel_arrow.specs.Shape.{of_boolean};
 ghost use Rattle.sel_calls.specs.Chosen.{chosen_rows, first_row};
 ghost use Rattle.sel_calls.specs.ChosenPicks.{bit_pick, chosen_picks, place_on, SideFits};
-ghost use Rattle.sel_choices.specs.Choose.{choose, choose_one, choose_or_one};
+ghost use Rattle.sel_choices.specs.Choose.{choose, broadcast_true, broadcast_false};
 ghost use Rattle.sel_choices.specs.Sides.{column};
-ghost use Rattle.sel_runs.specs.Need.{past_taken, IsRefusal};
+ghost use Rattle.sel_runs.specs.Need.{exceeded_taken, IsLimitOrMemory};
 
 use sel_arrow::array::Array;
 use sel_arrow::array_ref::ArrayRef;
@@ -47,10 +47,11 @@ pub(crate) fn choice(
     requires false_side { SideFits false_column (length (rows if_false.now.column))
         (length mask.now.bits) }
     requires few { length mask.now.bits ≤ 4294967295 }
-    ensures rows { IfOk result (λ chosen. rows chosen.column ≡ chosen_rows true_column false_column
-        mask.now.bits (rows if_true.now.column) (rows if_false.now.column)) }
+    ensures rows { IfOk result (λ chosen. rows chosen.column ≡
+        chosen_rows true_column false_column mask.now.bits (rows if_true.now.column)
+        (rows if_false.now.column)) }
     ensures dtype { IfOk result (λ chosen. type_of chosen.column ≡ type_of if_true.now.column) }
-    ensures refusal { IfErr result (IsRefusal (past_taken (type_of if_true.now.column)
+    ensures refusal { IfErr result (IsLimitOrMemory (exceeded_taken (type_of if_true.now.column)
         (if_true.now.column ∷ if_false.now.column ∷ []) (chosen_rows true_column false_column
         mask.now.bits (rows if_true.now.column) (rows if_false.now.column)))) }
 {
@@ -85,7 +86,7 @@ fn kernel_choice(
         choose mask.now.bits (rows if_true.now.column) (rows if_false.now.column))) }
     ensures dtype { IfOk result (λ made. IfSome made (λ chosen.
         type_of chosen.column ≡ type_of if_true.now.column)) }
-    ensures refusal { IfErr result (IsRefusal (past_taken (type_of if_true.now.column)
+    ensures refusal { IfErr result (IsLimitOrMemory (exceeded_taken (type_of if_true.now.column)
         (if_true.now.column ∷ if_false.now.column ∷ []) (choose mask.now.bits
         (rows if_true.now.column) (rows if_false.now.column)))) }
 {
@@ -119,7 +120,7 @@ fn boolean_choice(
         mask.now.bits (rows if_true.now.column) (rows if_false.now.column))) }
     ensures dtype { IfOk result (λ made. IfSome made (λ chosen.
         type_of chosen.column ≡ type_of if_true.now.column)) }
-    ensures refusal { IfErr result (IsRefusal (λ _. ⊥)) }
+    ensures refusal { IfErr result (IsLimitOrMemory (λ _. ⊥)) }
 {
     match (if_true.as_column(), if_false.as_column()) {
         (Column::Boolean(first), Column::Boolean(second)) => {
@@ -146,8 +147,9 @@ fn chosen_booleans(
     ensures rows { IfOk result (λ made. IfSome made (λ chosen. rows chosen.column ≡
         chosen_rows true_column false_column
         mask.now.bits (boolean_rows if_true.now) (boolean_rows if_false.now))) }
-    ensures dtype { IfOk result (λ made. IfSome made (λ chosen. type_of chosen.column ≡ of_boolean)) }
-    ensures refusal { IfErr result (IsRefusal (λ _. ⊥)) }
+    ensures dtype { IfOk result
+        (λ made. IfSome made (λ chosen. type_of chosen.column ≡ of_boolean)) }
+    ensures refusal { IfErr result (IsLimitOrMemory (λ _. ⊥)) }
 {
     if true_column {
         if false_column {
@@ -170,10 +172,12 @@ fn one_or_boolean(
 ) -> PolarsResult<Option<ArrayRef>>
     requires true_side { length (boolean_rows if_true.now) ≡ 1 }
     requires false_side { length (boolean_rows if_false.now) ≡ length mask.now.bits }
-    ensures rows { IfOk result (λ made. IfSome made (λ chosen. rows chosen.column ≡ choose_one
-        mask.now.bits (first_row (boolean_rows if_true.now)) (boolean_rows if_false.now))) }
-    ensures dtype { IfOk result (λ made. IfSome made (λ chosen. type_of chosen.column ≡ of_boolean)) }
-    ensures refusal { IfErr result (IsRefusal (λ _. ⊥)) }
+    ensures rows { IfOk result
+        (λ made. IfSome made (λ chosen. rows chosen.column ≡ broadcast_true mask.now.bits
+        (first_row (boolean_rows if_true.now)) (boolean_rows if_false.now))) }
+    ensures dtype { IfOk result
+        (λ made. IfSome made (λ chosen. type_of chosen.column ≡ of_boolean)) }
+    ensures refusal { IfErr result (IsLimitOrMemory (λ _. ⊥)) }
 {
     let Some(value) = if_true.get(0) else {
         return Ok(None);
@@ -193,10 +197,12 @@ fn boolean_or_one(
 ) -> PolarsResult<Option<ArrayRef>>
     requires true_side { length (boolean_rows if_true.now) ≡ length mask.now.bits }
     requires false_side { length (boolean_rows if_false.now) ≡ 1 }
-    ensures rows { IfOk result (λ made. IfSome made (λ chosen. rows chosen.column ≡ choose_or_one
-        mask.now.bits (boolean_rows if_true.now) (first_row (boolean_rows if_false.now)))) }
-    ensures dtype { IfOk result (λ made. IfSome made (λ chosen. type_of chosen.column ≡ of_boolean)) }
-    ensures refusal { IfErr result (IsRefusal (λ _. ⊥)) }
+    ensures rows { IfOk result
+        (λ made. IfSome made (λ chosen. rows chosen.column ≡ broadcast_false mask.now.bits
+        (boolean_rows if_true.now) (first_row (boolean_rows if_false.now)))) }
+    ensures dtype { IfOk result
+        (λ made. IfSome made (λ chosen. type_of chosen.column ≡ of_boolean)) }
+    ensures refusal { IfErr result (IsLimitOrMemory (λ _. ⊥)) }
 {
     let Some(value) = if_false.get(0) else {
         return Ok(None);
@@ -222,10 +228,11 @@ fn picked_choice(
     requires false_side { SideFits false_column (length (rows if_false.now.column))
         (length mask.now.bits) }
     requires few { length mask.now.bits ≤ 4294967295 }
-    ensures rows { IfOk result (λ chosen. rows chosen.column ≡ chosen_rows true_column false_column
-        mask.now.bits (rows if_true.now.column) (rows if_false.now.column)) }
+    ensures rows { IfOk result (λ chosen. rows chosen.column ≡
+        chosen_rows true_column false_column mask.now.bits (rows if_true.now.column)
+        (rows if_false.now.column)) }
     ensures dtype { IfOk result (λ chosen. type_of chosen.column ≡ type_of if_true.now.column) }
-    ensures refusal { IfErr result (IsRefusal (past_taken (type_of if_true.now.column)
+    ensures refusal { IfErr result (IsLimitOrMemory (exceeded_taken (type_of if_true.now.column)
         (if_true.now.column ∷ if_false.now.column ∷ []) (chosen_rows true_column false_column
         mask.now.bits (rows if_true.now.column) (rows if_false.now.column)))) }
 {
@@ -259,7 +266,7 @@ fn number_choice(
         mask.now.bits (rows if_true.now.column) (rows if_false.now.column))) }
     ensures dtype { IfOk result (λ made. IfSome made (λ chosen.
         type_of chosen.column ≡ type_of if_true.now.column)) }
-    ensures refusal { IfErr result (IsRefusal (λ _. ⊥)) }
+    ensures refusal { IfErr result (IsLimitOrMemory (λ _. ⊥)) }
 {
     match if_true.as_column() {
         Column::Int8(_) => {
@@ -316,7 +323,7 @@ fn choice_of<T: ArrowPrimitive>(
         mask.now.bits (rows if_true.now.column) (rows if_false.now.column))) }
     ensures dtype { IfOk result (λ made. IfSome made (λ chosen.
         type_of chosen.column ≡ type_of if_true.now.column)) }
-    ensures refusal { IfErr result (IsRefusal (λ _. ⊥)) }
+    ensures refusal { IfErr result (IsLimitOrMemory (λ _. ⊥)) }
 {
     let Ok(first) = numbers_in::<T>(alloc, if_true) else {
         return Err(PolarsError::OutOfMemory);
@@ -343,7 +350,7 @@ fn numbers_in<T: ArrowPrimitive>(
         primitive_rows numbers ≡ rows column.now.column)) }
     ensures dtype { IfOk result (λ found. IfSome found (λ _.
         type_of column.now.column ≡ T.shape)) }
-    ensures refusal { IfErr result (IsRefusal (λ _. ⊥)) }
+    ensures refusal { IfErr result (IsLimitOrMemory (λ _. ⊥)) }
 {
     let Ok(copy) = column.try_clone(alloc) else {
         return Err(PolarsError::OutOfMemory);
@@ -374,8 +381,9 @@ fn chosen_numbers<T: ArrowPrimitive>(
     ensures rows { IfOk result (λ made. IfSome made (λ chosen. rows chosen.column ≡
         chosen_rows true_column false_column
         mask.now.bits (primitive_rows if_true.now) (primitive_rows if_false.now))) }
-    ensures dtype { IfOk result (λ made. IfSome made (λ chosen. type_of chosen.column ≡ T.shape)) }
-    ensures refusal { IfErr result (IsRefusal (λ _. ⊥)) }
+    ensures dtype { IfOk result
+        (λ made. IfSome made (λ chosen. type_of chosen.column ≡ T.shape)) }
+    ensures refusal { IfErr result (IsLimitOrMemory (λ _. ⊥)) }
 {
     if true_column {
         if false_column {
@@ -403,8 +411,8 @@ fn chosen_columns<A: IfThenElseKernel>(
         choose mask.now.bits (A.rows if_true.now) (A.rows if_false.now))) }
     ensures dtype { IfOk result (λ made. IfSome made (λ chosen.
         type_of chosen.column ≡ A.shape if_true.now)) }
-    ensures refusal { IfErr result (IsRefusal
-        (A.past (A.shape if_true.now) (column if_true.now) (column if_false.now)
+    ensures refusal { IfErr result (IsLimitOrMemory
+        (A.exceeded (A.shape if_true.now) (column if_true.now) (column if_false.now)
         (choose mask.now.bits (A.rows if_true.now) (A.rows if_false.now)))) }
 {
     match A::if_then_else(alloc, mask, if_true, if_false) {
@@ -422,10 +430,12 @@ fn chosen_one<T: ArrowPrimitive>(
 ) -> PolarsResult<Option<ArrayRef>>
     requires true_side { length (primitive_rows if_true.now) ≡ 1 }
     requires false_side { length (primitive_rows if_false.now) ≡ length mask.now.bits }
-    ensures rows { IfOk result (λ made. IfSome made (λ chosen. rows chosen.column ≡ choose_one
-        mask.now.bits (first_row (primitive_rows if_true.now)) (primitive_rows if_false.now))) }
-    ensures dtype { IfOk result (λ made. IfSome made (λ chosen. type_of chosen.column ≡ T.shape)) }
-    ensures refusal { IfErr result (IsRefusal (λ _. ⊥)) }
+    ensures rows { IfOk result
+        (λ made. IfSome made (λ chosen. rows chosen.column ≡ broadcast_true mask.now.bits
+        (first_row (primitive_rows if_true.now)) (primitive_rows if_false.now))) }
+    ensures dtype { IfOk result
+        (λ made. IfSome made (λ chosen. type_of chosen.column ≡ T.shape)) }
+    ensures refusal { IfErr result (IsLimitOrMemory (λ _. ⊥)) }
 {
     let Some(one) = if_true.get(0) else {
         return Ok(None);
@@ -445,10 +455,12 @@ fn chosen_or_one<T: ArrowPrimitive>(
 ) -> PolarsResult<Option<ArrayRef>>
     requires true_side { length (primitive_rows if_true.now) ≡ length mask.now.bits }
     requires false_side { length (primitive_rows if_false.now) ≡ 1 }
-    ensures rows { IfOk result (λ made. IfSome made (λ chosen. rows chosen.column ≡ choose_or_one
-        mask.now.bits (primitive_rows if_true.now) (first_row (primitive_rows if_false.now)))) }
-    ensures dtype { IfOk result (λ made. IfSome made (λ chosen. type_of chosen.column ≡ T.shape)) }
-    ensures refusal { IfErr result (IsRefusal (λ _. ⊥)) }
+    ensures rows { IfOk result
+        (λ made. IfSome made (λ chosen. rows chosen.column ≡ broadcast_false mask.now.bits
+        (primitive_rows if_true.now) (first_row (primitive_rows if_false.now)))) }
+    ensures dtype { IfOk result
+        (λ made. IfSome made (λ chosen. type_of chosen.column ≡ T.shape)) }
+    ensures refusal { IfErr result (IsLimitOrMemory (λ _. ⊥)) }
 {
     let Some(one) = if_false.get(0) else {
         return Ok(None);

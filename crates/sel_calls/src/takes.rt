@@ -7,8 +7,8 @@ ghost use Rattle.sel_arrow.specs.Masked.{number_rows};
 ghost use Rattle.sel_arrow.specs.Rows.{rows, type_of};
 ghost use Rattle.sel_arrow.specs.Shape.{of_uint32};
 ghost use Rattle.sel_handle.specs.Inputs.{lacks_bits, validity_in};
-ghost use Rattle.sel_handle.specs.Status.{done, no_memory, no_column, other_kind, out_of_bounds, rule_status, limit_statuses, DemandsBefore, IsOneOf, Makes, TellsLimits};
-ghost use Rattle.sel_runs.specs.Need.{past};
+ghost use Rattle.sel_handle.specs.Status.{done, no_memory, no_column, other_kind, out_of_bounds, rule_status, limit_statuses, DemandsBefore, IsOneOf, Makes, ReportsLimits};
+ghost use Rattle.sel_runs.specs.Need.{exceeded_limits};
 ghost use Rattle.polars_compute.specs.Pick.{all_within, take_rows};
 
 use polars_compute::gather::{indices_in_bounds, take_unchecked};
@@ -37,7 +37,7 @@ pub fn take_into(alloc: Global, column: &ArrayRef, indices: &ArrayRef, out: &mut
         (type_of indices.now.column ≡ of_uint32) }
     ensures bounds { DemandsBefore result out_of_bounds limit_statuses
         (IsTrue (all_within (length (rows column.now.column)) (rows indices.now.column))) }
-    ensures limits { TellsLimits result (past (type_of column.now.column)
+    ensures limits { ReportsLimits result (exceeded_limits (type_of column.now.column)
         (take_rows (rows column.now.column) (rows indices.now.column))) }
 {
     let Ok(copy) = indices.try_clone(alloc) else {
@@ -63,7 +63,7 @@ fn take_at_into(alloc: Global, column: &ArrayRef, indices: &IdxArr, out: &mut Ha
     ensures status { IsOneOf result (done ∷ no_memory ∷ out_of_bounds ∷ limit_statuses) }
     ensures bounds { DemandsBefore result out_of_bounds limit_statuses
         (IsTrue (all_within (length (rows column.now.column)) (primitive_rows indices.now))) }
-    ensures limits { TellsLimits result (past (type_of column.now.column)
+    ensures limits { ReportsLimits result (exceeded_limits (type_of column.now.column)
         (take_rows (rows column.now.column) (primitive_rows indices.now))) }
 {
     if !indices_in_bounds(indices, column.len()) {
@@ -105,7 +105,7 @@ pub fn take_rows_into(
     ensures bounds { DemandsBefore result out_of_bounds limit_statuses
         (IsTrue (all_within (length (rows column.now.column))
         (number_rows pos indices.now (validity_in bits.now has_bits (length indices.now))))) }
-    ensures limits { TellsLimits result (past (type_of column.now.column)
+    ensures limits { ReportsLimits result (exceeded_limits (type_of column.now.column)
         (take_rows (rows column.now.column)
         (number_rows pos indices.now (validity_in bits.now has_bits (length indices.now))))) }
 {

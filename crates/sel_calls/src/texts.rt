@@ -5,12 +5,12 @@ ghost use Rattle.sel_arrow.specs.DataType.{shape_of};
 ghost use Rattle.sel_arrow.specs.Rows.{rows, type_of};
 ghost use Rattle.sel_arrow.specs.Shape.{Shape};
 ghost use Rattle.sel_arrow.specs.Value.{Value};
-ghost use Rattle.sel_calls.specs.Parsed.{passes_limit, IsRowsText, IsTypeText};
+ghost use Rattle.sel_calls.specs.Parsed.{exceeds_parse_limit, IsRowsText, IsTypeText};
 ghost use Rattle.sel_calls.specs.Printed.{filled};
 ghost use Rattle.sel_handle.specs.Status.{done, no_memory, type_syntax, text_syntax, text_misfit, text_limit, IsOneOf, Makes};
-ghost use Rattle.sel_text.specs.Limits.{past_limit};
+ghost use Rattle.sel_text.specs.Limits.{exceeds_limit};
 ghost use Rattle.sel_text.specs.Spaces.{spaceless};
-ghost use Rattle.sel_text.specs.TextErrors.{IsShortage, IsWithin};
+ghost use Rattle.sel_text.specs.TextErrors.{IsLimitOrMemoryError, IsOffsetWithin};
 ghost use Rattle.sel_text.specs.Texts.{text_of};
 ghost use Rattle.sel_text.specs.Types.{type_text};
 ghost use Rattle.sel_text.specs.Written.{widths_written};
@@ -19,7 +19,7 @@ use sel_arrow::array_ref::ArrayRef;
 use sel_arrow::datatype::ArrowDataType;
 use sel_handle::handle::Handle;
 use sel_handle::status::{DONE, NO_MEMORY, TEXT_LIMIT, TEXT_MISFIT, TEXT_SYNTAX, TYPE_SYNTAX, put};
-use sel_text::build::Beneath;
+use sel_text::build::NullSlots;
 use sel_text::parse::parse_column;
 use sel_text::print::print_rows;
 use sel_text::read_type::parse_dtype;
@@ -66,7 +66,8 @@ pub fn parse_into(alloc: Global, name: &[u8], text: &[u8], at: &mut usize, out: 
         (λ made. type_text (type_of made.column) ≡ spaceless name.now) }
     ensures rows { Makes result out.old.tree out.new.tree
         (λ made. text_of (type_of made.column) (rows made.column) ≡ spaceless text.now) }
-    ensures named { result ≡ type_syntax → (shape : Shape) → IsTypeText shape name.now → ⊥ }
+    ensures named { result ≡ type_syntax → (shape : Shape) → IsTypeText shape name.now →
+        ⊥ }
     ensures typed { IsOneOf result (text_syntax ∷ text_misfit ∷ []) →
         (shape : Shape) × (type_text shape ≡ spaceless name.now) }
     ensures accepted { (shape : Shape) (values : List Value) →
@@ -74,22 +75,24 @@ pub fn parse_into(alloc: Global, name: &[u8], text: &[u8], at: &mut usize, out: 
         IsOneOf result (done ∷ no_memory ∷ text_limit ∷ []) }
     ensures limit { result ≡ text_limit → (shape : Shape) (values : List Value) →
         IsTypeText shape name.now → IsRowsText shape values text.now →
-        IsTrue (passes_limit shape values) }
+        IsTrue (exceeds_parse_limit shape values) }
     ensures type_place { result ≡ type_syntax → at.new ≤ length name.now }
-    ensures place { IsOneOf result (text_syntax ∷ text_misfit ∷ []) → at.new ≤ length text.now }
-    ensures no_place { IsOneOf result (done ∷ no_memory ∷ text_limit ∷ []) → at.new ≡ at.old }
+    ensures place { IsOneOf result (text_syntax ∷ text_misfit ∷ []) →
+        at.new ≤ length text.now }
+    ensures no_place { IsOneOf result (done ∷ no_memory ∷ text_limit ∷ []) → at.new ≡
+        at.old }
     ensures status { IsOneOf result
         (done ∷ no_memory ∷ type_syntax ∷ text_syntax ∷ text_misfit ∷ text_limit ∷ []) }
 {
     let dtype = match read_dtype(alloc, name) {
         Ok(dtype) => dtype,
-        Err(fault) => return type_refusal(fault, at),
+        Err(fault) => return type_error_status(fault, at),
     };
     let made = read_rows(alloc, &dtype, text);
     drop(dtype);
     match made {
         Ok(column) => put(alloc, column, out),
-        Err(fault) => rows_refusal(fault, at),
+        Err(fault) => rows_error_status(fault, at),
     }
 }
 
@@ -102,11 +105,11 @@ fn read_dtype(alloc: Global, bytes: &[u8]) -> Result<ArrowDataType, TextError>
     ensures text { IfOk result (λ dtype. type_text (shape_of dtype) ≡ spaceless bytes.now) }
     ensures narrow { IfOk result (λ dtype. IsTrue (widths_written (shape_of dtype))) }
     ensures refused { IfErr result (λ error. (shape : Shape) →
-        IsTypeText shape bytes.now → IsShortage error) }
+        IsTypeText shape bytes.now → IsLimitOrMemoryError error) }
     ensures limit { IfErr result (λ error. error ≡ TextError.Limit →
         (shape : Shape) (values : List Value) → IsTypeText shape bytes.now →
-        IsTrue (passes_limit shape values)) }
-    ensures place { IfErr result (IsWithin (length bytes.now)) }
+        IsTrue (exceeds_parse_limit shape values)) }
+    ensures place { IfErr result (IsOffsetWithin (length bytes.now)) }
 {
     let text = match str::from_utf8(bytes) {
         Ok(text) => text,
@@ -136,14 +139,14 @@ fn read_rows(alloc: Global, dtype: &ArrowDataType, bytes: &[u8]) -> Result<Array
     ensures text { IfOk result (λ made.
         text_of (shape_of dtype.now) (rows made.column) ≡ spaceless bytes.now) }
     ensures refused { IfErr result (λ error. (values : List Value) →
-        IsRowsText (shape_of dtype.now) values bytes.now → IsShortage error) }
+        IsRowsText (shape_of dtype.now) values bytes.now → IsLimitOrMemoryError error) }
     ensures limit { IfErr result (λ error. error ≡ TextError.Limit → (values : List Value) →
         IsRowsText (shape_of dtype.now) values bytes.now →
-        IsTrue (past_limit Beneath.Zeros (shape_of dtype.now) values)) }
-    ensures place { IfErr result (IsWithin (length bytes.now)) }
+        IsTrue (exceeds_limit NullSlots.Zeros (shape_of dtype.now) values)) }
+    ensures place { IfErr result (IsOffsetWithin (length bytes.now)) }
 {
     match str::from_utf8(bytes) {
-        Ok(text) => parse_column(alloc, dtype, text, Beneath::Zeros),
+        Ok(text) => parse_column(alloc, dtype, text, NullSlots::Zeros),
         Err(fault) => Err(TextError::Syntax {
             at: fault.valid_up_to(),
         }),
@@ -151,11 +154,13 @@ fn read_rows(alloc: Global, dtype: &ArrowDataType, bytes: &[u8]) -> Result<Array
 }
 
 /// Returns the status code of an error in the type, and writes its byte position, if any, to `at`.
-fn type_refusal(fault: TextError, at: &mut usize) -> u32
+fn type_error_status(fault: TextError, at: &mut usize) -> u32
     ensures refused { result ≢ done }
-    ensures short { IsShortage fault → IsOneOf result (no_memory ∷ text_limit ∷ []) }
+    ensures short { IsLimitOrMemoryError fault →
+        IsOneOf result (no_memory ∷ text_limit ∷ []) }
     ensures limit { result ≡ text_limit → fault ≡ TextError.Limit }
-    ensures place { (count : ℕ) → IsWithin count fault → result ≡ type_syntax → at.new ≤ count }
+    ensures place { (count : ℕ) → IsOffsetWithin count fault → result ≡ type_syntax →
+        at.new ≤ count }
     ensures no_place { IsOneOf result (no_memory ∷ text_limit ∷ []) → at.new ≡ at.old }
     ensures status { IsOneOf result (no_memory ∷ type_syntax ∷ text_limit ∷ []) }
 {
@@ -171,14 +176,16 @@ fn type_refusal(fault: TextError, at: &mut usize) -> u32
 
 /// Returns the status code of an error in the row text, and writes its byte position, if any, to
 /// `at`.
-fn rows_refusal(fault: TextError, at: &mut usize) -> u32
+fn rows_error_status(fault: TextError, at: &mut usize) -> u32
     ensures refused { result ≢ done }
-    ensures short { IsShortage fault → IsOneOf result (no_memory ∷ text_limit ∷ []) }
+    ensures short { IsLimitOrMemoryError fault →
+        IsOneOf result (no_memory ∷ text_limit ∷ []) }
     ensures limit { result ≡ text_limit → fault ≡ TextError.Limit }
-    ensures place { (count : ℕ) → IsWithin count fault →
+    ensures place { (count : ℕ) → IsOffsetWithin count fault →
         IsOneOf result (text_syntax ∷ text_misfit ∷ []) → at.new ≤ count }
     ensures no_place { IsOneOf result (no_memory ∷ text_limit ∷ []) → at.new ≡ at.old }
-    ensures status { IsOneOf result (no_memory ∷ text_syntax ∷ text_misfit ∷ text_limit ∷ []) }
+    ensures status { IsOneOf result (no_memory ∷ text_syntax ∷ text_misfit ∷ text_limit ∷
+        []) }
 {
     match fault {
         TextError::Syntax { at: place } => {

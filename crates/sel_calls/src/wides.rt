@@ -139,7 +139,8 @@ pub fn wides_of<T: InWords>(
 /// `out` is not the number of rows; `NO_MEMORY`.
 #[tactic(auto, using(crate::proofs::Shown::words))]
 pub fn wides_into<T: InWords>(alloc: Global, column: &ArrayRef, out: &mut [Wide]) -> u32
-    ensures values { result ≡ done → Shows (numbers T.shown_by out.new) (rows column.now.column) }
+    ensures values { result ≡ done → Shows (numbers T.shown_by out.new)
+        (rows column.now.column) }
     ensures kind { DemandsBefore result other_kind (other_length ∷ [])
         (type_of column.now.column ≡ T.shape) }
     ensures length { Demands result other_length

@@ -1,4 +1,4 @@
--- What an answer says, said otherwise.
+-- A result with a weaker property.
 use Rattle.std.proofs.Common.{Result, Ok, Err}
 use Rattle.std.specs.Prelude.{IfOk}
 

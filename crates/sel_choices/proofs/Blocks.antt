@@ -1,4 +1,4 @@
--- What a choice keeps from word to word of its mask.
+-- If-then-else, word by word of its mask.
 use Rattle.std.proofs.Common.{◌≡◌, ℕ, ◌+◌, ◌<◌, ◌≤◌, ◌∙◌, sym, ap, arith, List, ◌++◌, length, take, drop}
 use borrow.Rule.Slice.PartMut.{put_mid}
 use Rattle.std.proofs.lemmas.List.{append_assoc, take-append-drop}
@@ -11,20 +11,20 @@ use Rattle.sel_bits.proofs.WordsOf.{length_part}
 use Rattle.sel_choices.specs.Choose.{choose}
 use Rattle.sel_choices.proofs.Chosen.{AsLong, IsChosen, chosen_block, length-choose}
 
--- the entries of the words that were given out are chosen
+-- The entries of the words so far are written.
 pub record IsBegun {A : Type 0} (mask : Bits) (ts fs base : List A) (reading : WordReading) (at : ℕ) (out : List A) : Type 0 where
   pub source : reading.source ≡ mask
   pub here : at ≡ reached reading
   pub chosen : IsChosen mask.bits ts fs base at out
 
--- what lies before, in and behind a part that was written
+-- The entries before, in and after a part that was written.
 pub written : {A : Type 0} → (at count : ℕ) (out part : List A) → at + count ≤ length out → length part ≡ count → put_mid at count out part ≡ take at out ++ (part ++ drop (at + count) out)
 written at count out part le long =
     sym (take-append-drop (at + count) (put_mid at count out part))
     ∙ (λ i. take-put_mid at count out part (at + count) (omega (arith, long)) (omega arith) i ++ drop-put_mid at count out part (at + count) (omega arith) (omega arith) long i)
     ∙ append_assoc (take at out) part (drop (at + count) out)
 
--- how far the next word goes
+-- The end of the next word.
 pub next_end : (reading : WordReading) → reached reading < length reading.source.bits → reached reading + next_count reading ≡ reached (after_word reading)
 next_end reading more = omega arith
 
@@ -48,7 +48,7 @@ module _ {A : Type 0} (n : ℕ) (mask : Bits) (ts fs base : List A) (long : AsLo
   pub begun_falses : at + count ≤ length fs
   begun_falses = omega (arith, begun_within, long.falses)
 
-  -- the bits of the word are those of the mask
+  -- The bits of the word are those of the mask.
   word_bits : (word : ℕ) → word ≡ word_of (next_bits reading) → bits count word ≡ take count (drop at mask.bits)
   word_bits word is =
       let part = take count (drop at mask.bits) in

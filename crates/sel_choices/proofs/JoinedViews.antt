@@ -1,4 +1,5 @@
--- Choices of views over the joined data buffers of both sides: what they hold, and that they are in place.
+-- If-then-else of views into the concatenated data buffers of the true and false values: the values
+-- of the views, and that they are in bounds.
 use Rattle.std.proofs.Common.{◌≡◌, ℕ, ◌≤◌, ◌∙◌, sym, refl, ap, List, ◌++◌, length, map, Bool, true, Option, None}
 use Rattle.std.specs.List.{list_all}
 use Rattle.std.proofs.lemmas.List.{length-map}
@@ -7,12 +8,12 @@ use Rattle.sel_arrow.specs.Masked.{masked, Covers}
 use Rattle.sel_arrow.specs.Value.{Bytes}
 use Rattle.sel_arrow.specs.Views.{inline_bytes, is_placed, view_of, view_value}
 use Rattle.sel_arrow.specs.declared.view.View.{View}
-use Rattle.sel_choices.specs.Choose.{choose, choose_one, choose_or_one, choose_of_two}
+use Rattle.sel_choices.specs.Choose.{choose, broadcast_true, broadcast_false, broadcast_both}
 use Rattle.sel_choices.specs.ViewSides.{raised, scalar_buffers}
 use Rattle.sel_choices.proofs.Placed.{all_chosen, all_chosen_one, all_chosen_or_one, all_chosen_of_two, front_placed, front_values, back_placed, back_values, scalar_placed, scalar_value, scalar_there, first_there}
 use Rattle.sel_choices.proofs.Validities.{IsChosenValidity, rows_choose, rows_choose_one, rows_choose_or_one, rows_choose_of_two}
 
--- two columns
+-- Two columns.
 module _ (first second : List (List ℕ)) (ts fs : List View) (pt : list_all (is_placed first) ts ≡ true) (pf : list_all (is_placed second) fs ≡ true)
     (ms : List Bool) (out : List View) (is : out ≡ choose ms ts (map (λ view. raised view (length first)) fs)) where
   pub both_placed : list_all (is_placed (first ++ second)) out ≡ true
@@ -27,7 +28,7 @@ module _ (first second : List (List ℕ)) (ts fs : List View) (pt : list_all (is
       rows_choose (view_value (first ++ second)) ms out v vt vf ts (map lifted fs) p (length-map fs lifted ∙ q) ct (λ b there. cf b there ∙ sym (length-map fs lifted)) is valid
       ∙ (λ i. choose ms (masked vt (front_values first second ts pt i)) (masked vf (back_values second first fs pf i)))
 
--- a column and a scalar
+-- A column and a scalar.
 module _ (own : List (List ℕ)) (views : List View) (placed : list_all (is_placed own) views ≡ true) (bytes : List ℕ) (x : View) (is_x : x ≡ view_of bytes (length own) 0)
     (inline : length bytes ≤ 12 → inline_bytes x ≡ bytes) (ms : List Bool) (out : List View) where
   abbrev all : List (List ℕ)
@@ -39,28 +40,28 @@ module _ (own : List (List ℕ)) (views : List View) (placed : list_all (is_plac
   means : view_value all x ≡ Bytes bytes
   means = scalar_value all bytes (length own) x is_x (scalar_there own bytes) inline
 
-  pub one_placed : out ≡ choose_one ms x views → list_all (is_placed all) out ≡ true
+  pub one_placed : out ≡ broadcast_true ms x views → list_all (is_placed all) out ≡ true
   one_placed is = ap (list_all (is_placed all)) is ∙ all_chosen_one (is_placed all) ms x views lies (front_placed own (scalar_buffers bytes) views placed)
 
-  pub one_rows : (vf v : Option Bits) → out ≡ choose_one ms x views → length views ≡ length ms → Covers vf (length views) → IsChosenValidity ms None vf v
-      → masked v (map (view_value all) out) ≡ choose_one ms (Bytes bytes) (masked vf (map (view_value own) views))
+  pub one_rows : (vf v : Option Bits) → out ≡ broadcast_true ms x views → length views ≡ length ms → Covers vf (length views) → IsChosenValidity ms None vf v
+      → masked v (map (view_value all) out) ≡ broadcast_true ms (Bytes bytes) (masked vf (map (view_value own) views))
   one_rows vf v is q cf valid =
       rows_choose_one (view_value all) ms out v vf x views q cf is valid
-      ∙ (λ i. choose_one ms (means i) (masked vf (front_values own (scalar_buffers bytes) views placed i)))
+      ∙ (λ i. broadcast_true ms (means i) (masked vf (front_values own (scalar_buffers bytes) views placed i)))
 
-  pub or_one_placed : out ≡ choose_or_one ms views x → list_all (is_placed all) out ≡ true
+  pub or_one_placed : out ≡ broadcast_false ms views x → list_all (is_placed all) out ≡ true
   or_one_placed is = ap (list_all (is_placed all)) is ∙ all_chosen_or_one (is_placed all) ms views x (front_placed own (scalar_buffers bytes) views placed) lies
 
-  pub or_one_rows : (vt v : Option Bits) → out ≡ choose_or_one ms views x → length views ≡ length ms → Covers vt (length views) → IsChosenValidity ms vt None v
-      → masked v (map (view_value all) out) ≡ choose_or_one ms (masked vt (map (view_value own) views)) (Bytes bytes)
+  pub or_one_rows : (vt v : Option Bits) → out ≡ broadcast_false ms views x → length views ≡ length ms → Covers vt (length views) → IsChosenValidity ms vt None v
+      → masked v (map (view_value all) out) ≡ broadcast_false ms (masked vt (map (view_value own) views)) (Bytes bytes)
   or_one_rows vt v is p ct valid =
       rows_choose_or_one (view_value all) ms out v vt views x p ct is valid
-      ∙ (λ i. choose_or_one ms (masked vt (front_values own (scalar_buffers bytes) views placed i)) (means i))
+      ∙ (λ i. broadcast_false ms (masked vt (front_values own (scalar_buffers bytes) views placed i)) (means i))
 
--- two scalars
+-- Two scalars.
 module _ (first second : List ℕ) (x y : View) (is_x : x ≡ view_of first 0 0) (is_y : y ≡ view_of second (length (scalar_buffers first)) 0)
     (inline_x : length first ≤ 12 → inline_bytes x ≡ first) (inline_y : length second ≤ 12 → inline_bytes y ≡ second)
-    (ms : List Bool) (out : List View) (is : out ≡ choose_of_two ms x y) where
+    (ms : List Bool) (out : List View) (is : out ≡ broadcast_both ms x y) where
   abbrev two : List (List ℕ)
   two = scalar_buffers first ++ scalar_buffers second
 
@@ -69,7 +70,7 @@ module _ (first second : List ℕ) (x y : View) (is_x : x ≡ view_of first 0 0)
       ap (list_all (is_placed two)) is
       ∙ all_chosen_of_two (is_placed two) ms x y (scalar_placed two first 0 x is_x (first_there first second)) (scalar_placed two second (length (scalar_buffers first)) y is_y (scalar_there (scalar_buffers first) second))
 
-  pub two_rows : map (view_value two) out ≡ choose_of_two ms (Bytes first) (Bytes second)
+  pub two_rows : map (view_value two) out ≡ broadcast_both ms (Bytes first) (Bytes second)
   two_rows =
       rows_choose_of_two (view_value two) ms out None x y is refl
-      ∙ (λ i. choose_of_two ms (scalar_value two first 0 x is_x (first_there first second) inline_x i) (scalar_value two second (length (scalar_buffers first)) y is_y (scalar_there (scalar_buffers first) second) inline_y i))
+      ∙ (λ i. broadcast_both ms (scalar_value two first 0 x is_x (first_there first second) inline_x i) (scalar_value two second (length (scalar_buffers first)) y is_y (scalar_there (scalar_buffers first) second) inline_y i))

@@ -1,4 +1,4 @@
--- Choices between columns of lists, as the trait promises them.
+-- If-then-else of list columns, as in the contract of the trait.
 use Rattle.std.proofs.Common.{◌≡◌, ℕ, ◌≤◌, true, List, [], ◌∷◌, length, get_or, Result, Ok, Err, inr, ap, subst, ◌∙◌, arith}
 use Rattle.std.specs.Prelude.{IfErr, IfOk}
 use Rattle.std.proofs.lemmas.List.{length-replicate}
@@ -17,14 +17,14 @@ use Rattle.sel_runs.proofs.Layouts.{rows_blocks}
 use Rattle.sel_runs.proofs.ListParts.{few_rows}
 use Rattle.sel_runs.proofs.Rebuilt.{IsBlock}
 use Rattle.sel_runs.proofs.Within.{passes_neither}
-use Rattle.sel_choices.specs.ListSides.{below, past_below, past_lists}
-use Rattle.sel_choices.specs.Sides.{Side, IsRefusal, PassesNone, past_flat}
+use Rattle.sel_choices.specs.ListSides.{below, exceeded_below, exceeded_lists}
+use Rattle.sel_choices.specs.Sides.{Side, IsLimitOrMemory, ExceedsNone, exceeded_flat}
 
--- a mask that is as long as a column has few bits
+-- A mask that is as long as a column has at most 2^32 - 1 bits.
 pub few_bits : (c : Column) (n : ℕ) → well_formed c ≡ true → length (rows c) ≡ n → n ≤ 4294967295
 few_bits c n formed long = omega (arith, few_rows c formed, length-rows c, long)
 
--- ---- how much each list of one length holds
+-- ---- the number of entries of a fixed-size list
 
 held_block : (w : ℕ) (v : Value) → IsBlock w v → length (items_in w v) ≡ w
 held_block w v = elim v as (λ x. IsBlock w x → length (items_in w x) ≡ w) [
@@ -42,22 +42,22 @@ held_scalar w vs long = ap length (listed_values vs) ∙ long
 pub same_width : (s t : Shape) (n m : ℕ) → of_fixed_size_list s n ≡ of_fixed_size_list t m → n ≡ m
 same_width s t n m e = cc
 
--- ---- refusals
+-- ---- errors
 
 pub refused_choice : {A C : Type 0} (result : Result A PolarsError) (child : C → Column) (type given : Shape) (t f : Side C ArrayRef) (vs ws : List Value) → given ≡ type → vs ≡ ws →
-    IfErr result (IsRefusal (past_below given (below child t ∷ below child f ∷ []) vs)) → IfErr result (IsRefusal (past_lists child type t f ws))
+    IfErr result (IsLimitOrMemory (exceeded_below given (below child t ∷ below child f ∷ []) vs)) → IfErr result (IsLimitOrMemory (exceeded_lists child type t f ws))
 refused_choice (Ok x) child type given t f vs ws is same h = tt
 refused_choice (Err fault) child type given t f vs ws is same h =
     let columns = below child t ∷ below child f ∷ [] in
-    let typed = subst (λ s. IsRefusal (past_below s columns vs) fault) is h in
-    let here = subst (λ l. IsRefusal (past_below type columns l) fault) same typed in
-    refused_more (past_below type columns ws) (past_lists child type t f ws) fault (λ limit past. inr past) here
+    let typed = subst (λ s. IsLimitOrMemory (exceeded_below s columns vs) fault) is h in
+    let here = subst (λ l. IsLimitOrMemory (exceeded_below type columns l) fault) same typed in
+    refused_more (exceeded_below type columns ws) (exceeded_lists child type t f ws) fault (λ limit past. inr past) here
 
--- and an answer passes none, where the rows themselves don't
-pub answered_choice : {A C : Type 0} (result : Result A PolarsError) (child : C → Column) (type given : Shape) (t f : Side C ArrayRef) (vs ws : List Value) → given ≡ type → vs ≡ ws → PassesNone (past_flat t f ws) →
-    IfOk result (λ _. PassesNone (past_below given (below child t ∷ below child f ∷ []) vs)) → IfOk result (λ _. PassesNone (past_lists child type t f ws))
+-- A result exceeds no limit if the rows themselves exceed none.
+pub answered_choice : {A C : Type 0} (result : Result A PolarsError) (child : C → Column) (type given : Shape) (t f : Side C ArrayRef) (vs ws : List Value) → given ≡ type → vs ≡ ws → ExceedsNone (exceeded_flat t f ws) →
+    IfOk result (λ _. ExceedsNone (exceeded_below given (below child t ∷ below child f ∷ []) vs)) → IfOk result (λ _. ExceedsNone (exceeded_lists child type t f ws))
 answered_choice (Err fault) child type given t f vs ws is same flat h = tt
 answered_choice (Ok x) child type given t f vs ws is same flat h =
     let columns = below child t ∷ below child f ∷ [] in
-    let typed = subst (λ s. PassesNone (past_below s columns vs)) is h in
-    passes_neither (past_flat t f ws) (past_below type columns ws) flat (subst (λ l. PassesNone (past_below type columns l)) same typed)
+    let typed = subst (λ s. ExceedsNone (exceeded_below s columns vs)) is h in
+    passes_neither (exceeded_flat t f ws) (exceeded_below type columns ws) flat (subst (λ l. ExceedsNone (exceeded_below type columns l)) same typed)

@@ -1,4 +1,4 @@
--- What chosen lists hold, and choices between rows by their places.
+-- The child rows of an if-then-else of lists, and if-then-else by row positions.
 use Rattle.std.proofs.Common.{◌≡◌, All, ℕ, zero, suc, ◌+◌, ◌≤◌, ◌<◌, Bool, true, false, List, [], ◌∷◌, ◌++◌, length, get_or, take, drop, map, replicate, Some, None, refl, ap, sym, subst, ◌∙◌, arith, length-append, ℤ, pos}
 use Rattle.std.specs.Prelude.{if◌then◌else◌, is_some}
 use Rattle.std.proofs.lemmas.List.{length-replicate, get_or-replicate, map-append, take_more}
@@ -14,11 +14,11 @@ use Rattle.sel_runs.proofs.Fits.{rows_fit}
 use Rattle.sel_runs.proofs.ItemRuns.{ends-append, joined_more, joined_part, listed_values}
 use Rattle.sel_runs.proofs.Rebuilt.{IsBlock, IsListed as IsNullOrList}
 use Rattle.sel_runs.proofs.RunLists.{length-pick, length-unrolled, map_nulls, pick_rows}
-use Rattle.sel_choices.specs.Choose.{choose, choose_one, choose_or_one, choose_of_two}
+use Rattle.sel_choices.specs.Choose.{choose, broadcast_true, broadcast_false, broadcast_both}
 use Rattle.sel_choices.specs.ListParts.{chosen_from, AreHeld, IsListed, IsPart}
 use Rattle.sel_choices.proofs.Chosen.{repeated_then, repeated_otherwise, repeated_both}
 
--- ---- rows that are chosen by their places
+-- ---- rows by their positions
 
 pub length-chosen : {A : Type 0} (i : ℕ) (ms : List Bool) (ts fs : ℕ → A) → length (chosen_from i ms ts fs) ≡ length ms
 length-chosen i [] ts fs = refl
@@ -44,23 +44,23 @@ plain k = omega arith
 pub chosen_columns : (ms : List Bool) (xs ys : List Value) → length xs ≡ length ms → length ys ≡ length ms → chosen_from 0 ms (λ i. get_or xs i Null) (λ i. get_or ys i Null) ≡ choose ms xs ys
 chosen_columns ms xs ys p q = chosen_is 0 ms xs ys (λ i. get_or xs i Null) (λ i. get_or ys i Null) Null p q (λ k h. ap (λ i. get_or xs i Null) (plain k)) (λ k h. ap (λ i. get_or ys i Null) (plain k))
 
-pub chosen_true : (ms : List Bool) (x : Value) (ys : List Value) → length ys ≡ length ms → chosen_from 0 ms (λ i. x) (λ i. get_or ys i Null) ≡ choose_one ms x ys
+pub chosen_true : (ms : List Bool) (x : Value) (ys : List Value) → length ys ≡ length ms → chosen_from 0 ms (λ i. x) (λ i. get_or ys i Null) ≡ broadcast_true ms x ys
 chosen_true ms x ys q =
     chosen_is 0 ms (replicate (length ms) x) ys (λ i. x) (λ i. get_or ys i Null) Null (length-replicate (length ms) x) q (λ k h. sym (get_or-replicate (length ms) k x Null h)) (λ k h. ap (λ i. get_or ys i Null) (plain k))
     ∙ sym (repeated_then ms x ys)
 
-pub chosen_false : (ms : List Bool) (xs : List Value) (y : Value) → length xs ≡ length ms → chosen_from 0 ms (λ i. get_or xs i Null) (λ i. y) ≡ choose_or_one ms xs y
+pub chosen_false : (ms : List Bool) (xs : List Value) (y : Value) → length xs ≡ length ms → chosen_from 0 ms (λ i. get_or xs i Null) (λ i. y) ≡ broadcast_false ms xs y
 chosen_false ms xs y p =
     chosen_is 0 ms xs (replicate (length ms) y) (λ i. get_or xs i Null) (λ i. y) Null p (length-replicate (length ms) y) (λ k h. ap (λ i. get_or xs i Null) (plain k)) (λ k h. sym (get_or-replicate (length ms) k y Null h))
     ∙ sym (repeated_otherwise ms xs y)
 
-pub chosen_both : (ms : List Bool) (x y : Value) → chosen_from 0 ms (λ i. x) (λ i. y) ≡ choose_of_two ms x y
+pub chosen_both : (ms : List Bool) (x y : Value) → chosen_from 0 ms (λ i. x) (λ i. y) ≡ broadcast_both ms x y
 chosen_both ms x y =
     chosen_is 0 ms (replicate (length ms) x) (replicate (length ms) y) (λ i. x) (λ i. y) Null (length-replicate (length ms) x) (length-replicate (length ms) y)
     (λ k h. sym (get_or-replicate (length ms) k x Null h)) (λ k h. sym (get_or-replicate (length ms) k y Null h))
     ∙ sym (repeated_both ms x y)
 
--- what holds of all rows of both sides holds of those that are chosen
+-- What holds for all true and false values holds for the rows of the result.
 pub chosen_all : {A : Type 0} (P : A → Type 0) (d : A) → P d → (i : ℕ) (ms : List Bool) (ts fs : ℕ → A) → ((k : ℕ) → k < length ms → P (ts (i + k))) → ((k : ℕ) → k < length ms → P (fs (i + k))) →
     (k : ℕ) → P (get_or (chosen_from i ms ts fs) k d)
 chosen_all P d none i [] ts fs t f k = none
@@ -77,7 +77,7 @@ chosen_all P d none i (m ∷ ms) ts fs t f (suc k) =
     let next : (j : ℕ) → i + suc j ≡ (i + 1) + j = λ j. omega arith in
     chosen_all P d none (i + 1) ms ts fs (λ j h. subst (λ n. P (ts n)) (next j) (t (suc j) (omega (arith, h)))) (λ j h. subst (λ n. P (fs n)) (next j) (f (suc j) (omega (arith, h)))) k
 
--- ---- the row that a bit chooses
+-- ---- the row for a bit
 
 chosen_at : {A : Type 0} (i : ℕ) (ms : List Bool) (ts fs : ℕ → A) (k : ℕ) (d : A) → k < length ms → get_or (chosen_from i ms ts fs) k d ≡ (if get_or ms k false then ts (i + k) else fs (i + k))
 chosen_at i [] ts fs k d h = absurd (omega (arith, h))
@@ -88,7 +88,7 @@ chosen_at i (m ∷ ms) ts fs (suc k) d h =
     let next : (i + 1) + k ≡ i + suc k = omega arith in
     chosen_at (i + 1) ms ts fs k d (omega (arith, h)) ∙ ap (λ n. if get_or ms k false then ts n else fs n) next
 
--- what holds of the row on the side that the bit chooses holds of the one that is chosen
+-- What holds for the value that the bit selects holds for the row of the result.
 pub chosen_row_if : {A : Type 0} (P : A → Type 0) (ms : List Bool) (ts fs : ℕ → A) (k : ℕ) (d : A) (b : Bool) → k < length ms → get_or ms k false ≡ b → P (if b then ts k else fs k) → P (get_or (chosen_from 0 ms ts fs) k d)
 chosen_row_if P ms ts fs k d b h is p =
     subst P (sym (chosen_at 0 ms ts fs k d h ∙ (λ i. if is i then ts (plain k i) else fs (plain k i)))) p
@@ -106,7 +106,7 @@ list_part xss w row s start n vs there inside is =
     subst (λ v. IsPart xss w v (record { source = Some s; start = start; len = n })) (sym is)
     (record { items = pick_rows Null xss s start n room ∙ ap (λ l. take n (drop start l)) there ∙ sym (listed_values part); fits = rows_fit xss s start n room; valid = refl; listed = tt })
 
--- ---- one list more
+-- ---- one more list
 
 module _ (xss : List (List Value)) (w : ℕ) (row : Value) (part : Run) (is : IsPart xss w row part) where
   pub part_len : length (items_in w row) ≡ part.len
@@ -124,7 +124,7 @@ module _ (xss : List (List Value)) (w : ℕ) (row : Value) (part : Run) (is : Is
         many = omega (arith, held.many, size, same, part_len);
       }
 
-  -- the rows of this list and of those before it are no more than those of all
+  -- The child rows of this list and of those before it are no more than those of all lists.
   pub count_room : (vs : List Value) (i : ℕ) (old : List Run) (count : ℕ) → i < length vs → row ≡ get_or vs i Null → AreHeld xss w (take i vs) old count → count + part.len ≤ length (joined_items w vs)
   count_room vs i old count h here held =
       let more = joined_more w vs i h in

@@ -1,4 +1,4 @@
--- Views that are chosen over the data buffers of both sides.
+-- If-then-else of views into the data buffers of the true and false values.
 use Rattle.std.proofs.Common.{◌≡◌, ℕ, zero, suc, ◌+◌, ◌-◌, ◌≤◌, ◌<◌, ◌∙◌, sym, refl, ap, arith, List, [], ◌∷◌, ◌++◌, length, map, get_or, take, drop, replicate, Bool, true, false, ◌&&◌}
 use Rattle.std.specs.Prelude.{leb, ltb, ◌==◌}
 use Rattle.std.specs.List.{list_all, slice_range}
@@ -12,14 +12,14 @@ use Rattle.sel_arrow.specs.Views.{inline_bytes, is_inline, is_placed, view_of, v
 use Rattle.sel_arrow.specs.declared.view.View.{View}
 use Rattle.sel_arrow.proofs.Lists.{all_at, all_more, all_of_them, none_at, all_part, both, and_first, and_second}
 use Rattle.sel_runs.proofs.Raising.{Behind, all_raised, raised_values, inline_placed, far_value, far_placed, room_to_raise}
-use Rattle.sel_choices.specs.Choose.{choose, choose_one, choose_or_one, choose_of_two}
-use Rattle.sel_choices.specs.Sides.{IsRefusal}
+use Rattle.sel_choices.specs.Choose.{choose, broadcast_true, broadcast_false, broadcast_both}
+use Rattle.sel_choices.specs.Sides.{IsLimitOrMemory}
 use Rattle.sel_choices.specs.ViewSides.{all_rise, can_rise, raised, scalar_buffers}
 use Rattle.sel_choices.proofs.Chosen.{repeated_then, repeated_otherwise, repeated_both}
 
 pub ruleset all_views = (all_at, all_more, all_of_them, none_at, all_part)
 
--- ---- parts of changed lists
+-- ---- parts of mapped lists
 
 map-drop : {A B : Type 0} → (f : A → B) (n : ℕ) (l : List A) → map f (drop n l) ≡ drop n (map f l)
 map-drop f zero l = refl
@@ -34,7 +34,7 @@ map-take f (suc n) (x ∷ l) = ap (λ r. f x ∷ r) (map-take f n l)
 pub map-part : {A B : Type 0} → (f : A → B) (k at : ℕ) (l : List A) → map f (take k (drop at l)) ≡ take k (drop at (map f l))
 map-part f k at l = map-take f k (drop at l) ∙ ap (take k) (map-drop f at l)
 
--- ---- a test of what was chosen
+-- ---- a property of each entry of the result
 
 pub all_chosen : {A : Type 0} → (p : A → Bool) (ms : List Bool) (ts fs : List A) → list_all p ts ≡ true → list_all p fs ≡ true → list_all p (choose ms ts fs) ≡ true
 all_chosen p [] ts fs a b = refl
@@ -47,16 +47,16 @@ all_repeated : {A : Type 0} → (p : A → Bool) (n : ℕ) (x : A) → p x ≡ t
 all_repeated p zero x a = refl
 all_repeated p (suc n) x a = both (p x) (list_all p (replicate n x)) a (all_repeated p n x a)
 
-pub all_chosen_one : {A : Type 0} → (p : A → Bool) (ms : List Bool) (x : A) (fs : List A) → p x ≡ true → list_all p fs ≡ true → list_all p (choose_one ms x fs) ≡ true
+pub all_chosen_one : {A : Type 0} → (p : A → Bool) (ms : List Bool) (x : A) (fs : List A) → p x ≡ true → list_all p fs ≡ true → list_all p (broadcast_true ms x fs) ≡ true
 all_chosen_one p ms x fs a b = ap (list_all p) (repeated_then ms x fs) ∙ all_chosen p ms (replicate (length ms) x) fs (all_repeated p (length ms) x a) b
 
-pub all_chosen_or_one : {A : Type 0} → (p : A → Bool) (ms : List Bool) (ts : List A) (x : A) → list_all p ts ≡ true → p x ≡ true → list_all p (choose_or_one ms ts x) ≡ true
+pub all_chosen_or_one : {A : Type 0} → (p : A → Bool) (ms : List Bool) (ts : List A) (x : A) → list_all p ts ≡ true → p x ≡ true → list_all p (broadcast_false ms ts x) ≡ true
 all_chosen_or_one p ms ts x a b = ap (list_all p) (repeated_otherwise ms ts x) ∙ all_chosen p ms ts (replicate (length ms) x) a (all_repeated p (length ms) x b)
 
-pub all_chosen_of_two : {A : Type 0} → (p : A → Bool) (ms : List Bool) (x y : A) → p x ≡ true → p y ≡ true → list_all p (choose_of_two ms x y) ≡ true
+pub all_chosen_of_two : {A : Type 0} → (p : A → Bool) (ms : List Bool) (x y : A) → p x ≡ true → p y ≡ true → list_all p (broadcast_both ms x y) ≡ true
 all_chosen_of_two p ms x y a b = ap (list_all p) (repeated_both ms x y) ∙ all_chosen p ms (replicate (length ms) x) (replicate (length ms) y) (all_repeated p (length ms) x a) (all_repeated p (length ms) y b)
 
--- ---- where the data buffers of each side stand
+-- ---- the positions of the data buffers of the true and false values
 
 pub front_behind : {A : Type 0} → (d : A) (xs ys : List A) → Behind d (xs ++ ys) xs 0
 front_behind d xs ys i inside =
@@ -82,14 +82,14 @@ none_raised : (views : List View) → map (λ view. raised view 0) views ≡ vie
 none_raised [] = refl
 none_raised (view ∷ views) = (λ i. not_raised view i ∷ none_raised views i)
 
--- what raising a view does, by its length
+-- A view with a raised buffer index, by its length.
 pub inline_stays : (view : View) (k : ℕ) → view.length ≤ 12 → view ≡ raised view k
 inline_stays view k small = rw (le-leb view.length 12 small) refl
 
 pub far_rises : (view : View) (k : ℕ) → 12 < view.length → record { length = view.length; prefix = view.prefix; buffer_idx = view.buffer_idx + k; offset = view.offset } ≡ raised view k
 far_rises view k long = rw (lt-leb view.length 12 long) refl
 
--- views over the first data buffers stand over all, and name the same bytes
+-- Views into the first data buffers are in bounds for all, and have the same bytes.
 module _ (own more : List (List ℕ)) (views : List View) (placed : list_all (is_placed own) views ≡ true) where
   pub front_placed : list_all (is_placed (own ++ more)) views ≡ true
   front_placed = ap (list_all (is_placed (own ++ more))) (sym (none_raised views)) ∙ all_raised (own ++ more) own 0 views (front_behind [] own more) placed
@@ -97,7 +97,7 @@ module _ (own more : List (List ℕ)) (views : List View) (placed : list_all (is
   pub front_values : map (view_value (own ++ more)) views ≡ map (view_value own) views
   front_values = ap (map (view_value (own ++ more))) (sym (none_raised views)) ∙ raised_values (own ++ more) own 0 views (front_behind [] own more) placed
 
--- raised views over those behind the first ones too
+-- So are views with raised buffer indices into the data buffers after the first ones.
 module _ (own before : List (List ℕ)) (views : List View) (placed : list_all (is_placed own) views ≡ true) where
   pub back_placed : list_all (is_placed (before ++ own)) (map (λ view. raised view (length before)) views) ≡ true
   back_placed = all_raised (before ++ own) own (length before) views (back_behind [] before own) placed
@@ -105,7 +105,7 @@ module _ (own before : List (List ℕ)) (views : List View) (placed : list_all (
   pub back_values : map (view_value (before ++ own)) (map (λ view. raised view (length before)) views) ≡ map (view_value own) views
   back_values = raised_values (before ++ own) own (length before) views (back_behind [] before own) placed
 
--- views can rise as far as there is room
+-- Buffer indices can be raised as far as they fit 32 bits.
 pub views_rise : (own : List (List ℕ)) (k : ℕ) (views : List View) → list_all (is_placed own) views ≡ true → k + length own ≤ 4294967295 → all_rise k views ≡ true
 views_rise own k [] placed room = refl
 views_rise own k (view ∷ views) placed room =
@@ -165,7 +165,7 @@ module _ (all : List (List ℕ)) (bytes : List ℕ) (k : ℕ) (view : View) (is 
           inline_bytes_value d = rw d refl
       decided false e = ap (view_value all) (lies_far e) ∙ far_value all far e ∙ ap Bytes (named e)
 
--- a scalar's data buffer, where it has one, stands behind those of a column
+-- The data buffer of a scalar, if it has one, is after those of a column.
 pub scalar_there : (before : List (List ℕ)) (bytes : List ℕ) → 12 < length bytes → (length before < length (before ++ scalar_buffers bytes)) × (get_or (before ++ scalar_buffers bytes) (length before) [] ≡ bytes)
 scalar_there before bytes long =
     let one : scalar_buffers bytes ≡ bytes ∷ [] = rw (is_long bytes long) refl in
@@ -177,14 +177,14 @@ scalar_there before bytes long =
     is_long : (bytes : List ℕ) → 12 < length bytes → leb (length bytes) 12 ≡ false
     is_long bytes long = lt-leb (length bytes) 12 long
 
--- ---- refusals
+-- ---- errors
 
-pub refused_more : (P Q : Limit → Type 0) (fault : PolarsError) → ((limit : Limit) → P limit → Q limit) → IsRefusal P fault → IsRefusal Q fault
+pub refused_more : (P Q : Limit → Type 0) (fault : PolarsError) → ((limit : Limit) → P limit → Q limit) → IsLimitOrMemory P fault → IsLimitOrMemory Q fault
 refused_more P Q OutOfMemory f p = p
 refused_more P Q (SizeLimit limit) f p = f limit p
 refused_more P Q ComputeError f p = p
 
--- the first of two scalars
+-- The first of two scalars.
 pub first_there : (first second : List ℕ) → 12 < length first → (0 < length (scalar_buffers first ++ scalar_buffers second)) × (get_or (scalar_buffers first ++ scalar_buffers second) 0 [] ≡ first)
 first_there first second long =
     let one : scalar_buffers first ≡ first ∷ [] = rw (lt-leb (length first) 12 long) refl in

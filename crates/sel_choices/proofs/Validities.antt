@@ -1,4 +1,4 @@
--- Rows of a choice under its validity.
+-- The rows of an if-then-else under its validity.
 use Rattle.std.proofs.Common.{◌≡◌, ℕ, zero, suc, ◌∙◌, sym, refl, ap, arith, List, [], ◌∷◌, length, map, replicate, Bool, true, false, not, ◌||◌, Option, Some, None}
 use Rattle.std.specs.Prelude.{if◌then◌else◌}
 use Rattle.std.specs.Option.{option_map}
@@ -7,11 +7,11 @@ use Rattle.sel_bits.specs.Bits.{Bits, zip_with}
 use Rattle.sel_arrow.specs.Masked.{hidden, masked, Covers}
 use Rattle.sel_arrow.specs.Value.{Value, Null}
 use Rattle.sel_arrow.proofs.Rows.{length-mapped}
-use Rattle.sel_choices.specs.Choose.{choose, choose_one, choose_or_one, choose_of_two}
+use Rattle.sel_choices.specs.Choose.{choose, broadcast_true, broadcast_false, broadcast_both}
 use Rattle.sel_choices.specs.Validity.{chosen_validity}
 use Rattle.sel_choices.proofs.Chosen.{length-choose, repeated_then, repeated_otherwise, repeated_both}
 
--- what the operations of bitmaps make of a side that is missing
+-- The results of bitmap operations if the true or the false values have no validity.
 pub or_chosen : (ms fs : List Bool) → length fs ≡ length ms → zip_with (λ x y. x || y) ms fs ≡ choose ms (replicate (length ms) true) fs
 or_chosen [] fs p = refl
 or_chosen (m ∷ ms) [] p = absurd (omega arith)
@@ -31,7 +31,7 @@ pub ruleset validities = (or_chosen, or_not_chosen)
 
 -- ---- rows under a validity
 
--- a validity that a choice has
+-- The bits are the validity of the if-then-else.
 abbrev pub IsChosenValidity : List Bool → Option Bits → Option Bits → Option Bits → Type 0
 IsChosenValidity ms vt vf v = option_map (λ (b : Bits). b.bits) v ≡ chosen_validity ms vt vf
 
@@ -56,7 +56,8 @@ same_some x y e = cc
 never_some : {A : Type 0} → (x : A) → Some x ≡ None → ⊥
 never_some x e = cc
 
--- the rows of a choice under its validity are the choice of the rows under theirs
+-- The if-then-else under its validity equals the if-then-else of the true and false values under
+-- theirs.
 pub masked_choose : (ms : List Bool) (vt vf v : Option Bits) (ts fs : List Value) → length ts ≡ length ms → length fs ≡ length ms → Covers vt (length ts) → Covers vf (length fs)
     → IsChosenValidity ms vt vf v → masked v (choose ms ts fs) ≡ choose ms (masked vt ts) (masked vf fs)
 masked_choose ms None None None ts fs p q ct cf is = refl
@@ -76,7 +77,7 @@ masked_choose ms (Some t) (Some f) (Some b) ts fs p q ct cf is =
     ap (λ l. hidden l (choose ms ts fs)) (same_some b.bits (choose ms t.bits f.bits) is)
     ∙ hidden_choose ms t.bits f.bits ts fs (ct t refl ∙ p) (cf f refl ∙ q) p q
 
--- such a validity is as long as the mask
+-- This validity is as long as the mask.
 pub covers_chosen : (ms : List Bool) (vt vf v : Option Bits) → Covers vt (length ms) → Covers vf (length ms) → IsChosenValidity ms vt vf v → Covers v (length ms)
 covers_chosen ms None None None ct cf is b there = absurd (never_some b (sym there))
 covers_chosen ms None None (Some a) ct cf is b there = absurd (never_some a.bits is)
@@ -104,7 +105,7 @@ map-replicate : {A B : Type 0} → (n : ℕ) (x : A) (f : A → B) → map f (re
 map-replicate zero x f = refl
 map-replicate (suc n) x f = ap (λ l. f x ∷ l) (map-replicate n x f)
 
--- ---- columns whose rows are read off one value each
+-- ---- columns whose rows each depend on one value
 
 module _ {A : Type 0} (f : A → Value) (ms : List Bool) (out : List A) (v : Option Bits) where
   pub rows_choose : (vt vf : Option Bits) (ts fs : List A) → length ts ≡ length ms → length fs ≡ length ms → Covers vt (length ts) → Covers vf (length fs) → out ≡ choose ms ts fs → IsChosenValidity ms vt vf v
@@ -114,21 +115,21 @@ module _ {A : Type 0} (f : A → Value) (ms : List Bool) (out : List A) (v : Opt
       ∙ ap (masked v) (map-choose f ms ts fs)
       ∙ masked_choose ms vt vf v (map f ts) (map f fs) (length-map ts f ∙ p) (length-map fs f ∙ q) (λ b there. ct b there ∙ sym (length-map ts f)) (λ b there. cf b there ∙ sym (length-map fs f)) valid
 
-  pub rows_choose_one : (vf : Option Bits) (x : A) (fs : List A) → length fs ≡ length ms → Covers vf (length fs) → out ≡ choose_one ms x fs → IsChosenValidity ms None vf v
-      → masked v (map f out) ≡ choose_one ms (f x) (masked vf (map f fs))
+  pub rows_choose_one : (vf : Option Bits) (x : A) (fs : List A) → length fs ≡ length ms → Covers vf (length fs) → out ≡ broadcast_true ms x fs → IsChosenValidity ms None vf v
+      → masked v (map f out) ≡ broadcast_true ms (f x) (masked vf (map f fs))
   rows_choose_one vf x fs q cf is valid =
       rows_choose None vf (replicate (length ms) x) fs (length-replicate (length ms) x) q (λ b there. absurd (never_some b (sym there))) cf (is ∙ repeated_then ms x fs) valid
       ∙ ap (λ l. choose ms l (masked vf (map f fs))) (map-replicate (length ms) x f)
       ∙ sym (repeated_then ms (f x) (masked vf (map f fs)))
 
-  pub rows_choose_or_one : (vt : Option Bits) (ts : List A) (x : A) → length ts ≡ length ms → Covers vt (length ts) → out ≡ choose_or_one ms ts x → IsChosenValidity ms vt None v
-      → masked v (map f out) ≡ choose_or_one ms (masked vt (map f ts)) (f x)
+  pub rows_choose_or_one : (vt : Option Bits) (ts : List A) (x : A) → length ts ≡ length ms → Covers vt (length ts) → out ≡ broadcast_false ms ts x → IsChosenValidity ms vt None v
+      → masked v (map f out) ≡ broadcast_false ms (masked vt (map f ts)) (f x)
   rows_choose_or_one vt ts x p ct is valid =
       rows_choose vt None ts (replicate (length ms) x) p (length-replicate (length ms) x) ct (λ b there. absurd (never_some b (sym there))) (is ∙ repeated_otherwise ms ts x) valid
       ∙ ap (λ l. choose ms (masked vt (map f ts)) l) (map-replicate (length ms) x f)
       ∙ sym (repeated_otherwise ms (masked vt (map f ts)) (f x))
 
-  pub rows_choose_of_two : (x y : A) → out ≡ choose_of_two ms x y → v ≡ None → masked v (map f out) ≡ choose_of_two ms (f x) (f y)
+  pub rows_choose_of_two : (x y : A) → out ≡ broadcast_both ms x y → v ≡ None → masked v (map f out) ≡ broadcast_both ms (f x) (f y)
   rows_choose_of_two x y is none =
       (λ i. masked (none i) (map f (is i)))
       ∙ ap (map f) (repeated_both ms x y)
@@ -136,26 +137,26 @@ module _ {A : Type 0} (f : A → Value) (ms : List Bool) (out : List A) (v : Opt
       ∙ (λ i. choose ms (map-replicate (length ms) x f i) (map-replicate (length ms) y f i))
       ∙ sym (repeated_both ms (f x) (f y))
 
--- the sides are as long as the mask, where their rows are
+-- The true and false values are as long as the mask if their rows are.
 pub side_long : {A : Type 0} → (f : A → Value) (ms : List Bool) (xs : List A) (v : Option Bits) → length (masked v (map f xs)) ≡ length ms → length xs ≡ length ms
 side_long f ms xs v long = sym (length-mapped f xs v) ∙ long
 
--- a validity that is lent is as long as the mask
+-- A validity that is passed by reference is as long as the mask.
 pub side_covers : {A : Type 0} → (ms : List Bool) (xs : List A) (v lent : Option Bits) → Covers v (length xs) → length xs ≡ length ms → lent ≡ v → Covers lent (length ms)
 side_covers ms xs v lent covers long same b there = covers b (sym same ∙ there) ∙ long
 
 pub no_validity : (n : ℕ) → Covers None n
 no_validity n b there = absurd (never_some b (sym there))
 
--- a choice is as long as the mask, and so is its validity
+-- The result is as long as the mask, and so is its validity.
 pub choice_covers : {A : Type 0} → (ms : List Bool) (vt vf v : Option Bits) (out : List A) → length out ≡ length ms → Covers vt (length ms) → Covers vf (length ms) → IsChosenValidity ms vt vf v → Covers v (length out)
 choice_covers ms vt vf v out long ct cf is b there = covers_chosen ms vt vf v ct cf is b there ∙ sym long
 
-pub length-choose_one : {A : Type 0} → (ms : List Bool) (x : A) (fs : List A) → length fs ≡ length ms → length (choose_one ms x fs) ≡ length ms
+pub length-choose_one : {A : Type 0} → (ms : List Bool) (x : A) (fs : List A) → length fs ≡ length ms → length (broadcast_true ms x fs) ≡ length ms
 length-choose_one ms x fs q = ap length (repeated_then ms x fs) ∙ length-choose ms (replicate (length ms) x) fs (length-replicate (length ms) x) q
 
-pub length-choose_or_one : {A : Type 0} → (ms : List Bool) (ts : List A) (x : A) → length ts ≡ length ms → length (choose_or_one ms ts x) ≡ length ms
+pub length-choose_or_one : {A : Type 0} → (ms : List Bool) (ts : List A) (x : A) → length ts ≡ length ms → length (broadcast_false ms ts x) ≡ length ms
 length-choose_or_one ms ts x p = ap length (repeated_otherwise ms ts x) ∙ length-choose ms ts (replicate (length ms) x) p (length-replicate (length ms) x)
 
-pub length-choose_of_two : {A : Type 0} → (ms : List Bool) (x y : A) → length (choose_of_two ms x y) ≡ length ms
+pub length-choose_of_two : {A : Type 0} → (ms : List Bool) (x y : A) → length (broadcast_both ms x y) ≡ length ms
 length-choose_of_two ms x y = ap length (repeated_both ms x y) ∙ length-choose ms (replicate (length ms) x) (replicate (length ms) y) (length-replicate (length ms) x) (length-replicate (length ms) y)

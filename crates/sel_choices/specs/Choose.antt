@@ -1,20 +1,23 @@
--- Choices, entry by entry, between lists and single values, which stand at every position.
+-- If-then-else, entry by entry, with broadcast values.
 use Rattle.std.specs.Prelude.{Bool, List, [], ◌∷◌, if◌then◌else◌}
 pub use Rattle.sel_bits.specs.Choose.{choose}
 
--- entry i is x where entry i of ms is true, else fs's (when-then-otherwise with a scalar) (own)
-abbrev pub choose_one : {A : Type 0} → List Bool → A → List A → List A
-choose_one [] x fs = []
-choose_one (m ∷ ms) x [] = []
-choose_one (m ∷ ms) x (f ∷ fs) = (if m then x else f) ∷ choose_one ms x fs
+-- If-then-else with a broadcast true value: entry i is x if entry i of `ms` is true, else entry i
+-- of `fs` (when-then-otherwise with a scalar).
+abbrev pub broadcast_true : {A : Type 0} → List Bool → A → List A → List A
+broadcast_true [] x fs = []
+broadcast_true (m ∷ ms) x [] = []
+broadcast_true (m ∷ ms) x (f ∷ fs) = (if m then x else f) ∷ broadcast_true ms x fs
 
--- entry i is ts's where entry i of ms is true, else x (when-then-otherwise with a scalar) (own)
-abbrev pub choose_or_one : {A : Type 0} → List Bool → List A → A → List A
-choose_or_one [] ts x = []
-choose_or_one (m ∷ ms) [] x = []
-choose_or_one (m ∷ ms) (t ∷ ts) x = (if m then t else x) ∷ choose_or_one ms ts x
+-- If-then-else with a broadcast false value: entry i is entry i of `ts` if entry i of `ms` is true,
+-- else x (when-then-otherwise with a scalar).
+abbrev pub broadcast_false : {A : Type 0} → List Bool → List A → A → List A
+broadcast_false [] ts x = []
+broadcast_false (m ∷ ms) [] x = []
+broadcast_false (m ∷ ms) (t ∷ ts) x = (if m then t else x) ∷ broadcast_false ms ts x
 
--- entry i is x where entry i of ms is true, else y (when-then-otherwise with two scalars) (own)
-abbrev pub choose_of_two : {A : Type 0} → List Bool → A → A → List A
-choose_of_two [] x y = []
-choose_of_two (m ∷ ms) x y = (if m then x else y) ∷ choose_of_two ms x y
+-- If-then-else with two broadcast values: entry i is x if entry i of `ms` is true, else y
+-- (when-then-otherwise with two scalars).
+abbrev pub broadcast_both : {A : Type 0} → List Bool → A → A → List A
+broadcast_both [] x y = []
+broadcast_both (m ∷ ms) x y = (if m then x else y) ∷ broadcast_both ms x y

@@ -1,11 +1,11 @@
--- The validity of a choice.
+-- The validity of an if-then-else.
 use Rattle.std.specs.Prelude.{Bool, List, length, Option, Some, None}
 use Rattle.sel_bits.specs.Bits.{Bits}
 use Rattle.sel_runs.specs.Validity.{bits_for}
 use Rattle.sel_choices.specs.Choose.{choose}
 
--- which rows are valid: those whose side is valid there; a side without a validity is, and none is told where neither side has one
--- (Arrow columnar format: validity bitmaps)
+-- The validity of each row: that of the true or the false value. Values without a validity are
+-- valid; none if neither has a validity (Arrow columnar format: validity bitmaps).
 abbrev pub chosen_validity : List Bool → Option Bits → Option Bits → Option (List Bool)
 chosen_validity ms None None = None
 chosen_validity ms None (Some f) = Some (choose ms (bits_for (length ms) None) f.bits)

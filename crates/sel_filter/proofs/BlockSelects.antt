@@ -1,4 +1,4 @@
--- What a block of 56 bits selects.
+-- The bits that a mask selects of blocks of 56 bits.
 use Rattle.std.proofs.Common.{◌≡◌, ℕ, zero, suc, ◌+◌, ◌-◌, ◌*◌, ◌^◌, ◌<◌, ◌≤◌, ◌∙◌, sym, refl, ap, subst, arith, List, [], ◌∷◌, ◌++◌, length, take, drop, replicate, Bool, true, false, append-nil}
 use Rattle.std.specs.Prelude.{count_ones}
 use Rattle.std.proofs.Math.Nat.{div-eq_of_lt}
@@ -27,9 +27,9 @@ module _ (v m : ℕ) (v_fits : v < 2 ^ 56) (m_fits : m < 2 ^ 56) where
       ∙ ap (select (bits 56 v ++ replicate 8 false)) (wide m m_fits)
       ∙ select_padded (bits 56 v) (bits 56 m) 8 (length_bits 56 v ∙ sym (length_bits 56 m))
 
--- ---- from block to block
+-- ---- block by block
 
--- a block's word holds the block's part, and falses above it
+-- The bits of a block's word are the block, followed by false bits.
 padded_block : (l : List Bool) → length l ≤ 56 → bits 56 (word_of l) ≡ l ++ replicate (56 - length l) false
 padded_block l le = bits_word_of l 56 le
 
@@ -69,7 +69,7 @@ module _ (vs ms : List Bool) (same : length vs ≡ length ms) (k : ℕ) where
   pub blocks_count : count_true (take (56 * (k + 1)) ms) ≡ count_true (take (56 * k) ms) + count_true (take 56 (drop (56 * k) ms))
   blocks_count = ap (λ n. count_true (take n ms)) next_at ∙ ap count_true (take-add (56 * k) 56 ms) ∙ count_true-append (take (56 * k) ms) (take 56 (drop (56 * k) ms))
 
--- the kernel has come as far as its readers
+-- The state of the kernel: the bits of the blocks read so far are filtered.
 pub record IsKept (vs ms : Bits) (out : List Bool) (kept : ℕ) (values mask : BlockReading) : Type 0 where
   pub values_source : values.source ≡ vs
   pub mask_source : mask.source ≡ ms
@@ -120,7 +120,7 @@ module _ (vs ms : Bits) (out : List Bool) (kept : ℕ) (values mask : BlockReadi
       counts = omega (arith, was.counts, counted, blocks_count vs.bits ms.bits was.lengths mask.blocks_read);
     }
 
--- behind the last one everything is
+-- After the last block all bits are filtered.
 pub kept_all : (vs ms : Bits) (out : List Bool) (kept : ℕ) (values mask : BlockReading) → IsKept vs ms out kept values mask → length mask.source.bits ≤ 56 * mask.blocks_read → out ≡ select vs.bits ms.bits
 kept_all vs ms out kept values mask was end =
     let past : length ms.bits ≤ 56 * mask.blocks_read = omega (arith, end, ap (λ (s : Bits). length s.bits) was.mask_source) in

@@ -1,4 +1,4 @@
--- Four bits of a word under another, and then the next four.
+-- Compression of a word, four bits at a time.
 use Rattle.std.proofs.Common.{◌≡◌, ℕ, ◌+◌, ◌*◌, ◌/◌, ◌%◌, ◌^◌, ◌<◌, ◌≤◌, List, [], Bool, ◌++◌, length, get_or, ap, sym, ◌∙◌, arith, length-append}
 use Rattle.std.specs.Prelude.{bit_or, count_ones}
 use Rattle.std.proofs.Math.Nat.{div-one}
@@ -16,14 +16,14 @@ use Rattle.sel_filter.proofs.Selects.{select-append, few_kept}
 use Rattle.sel_filter.proofs.WordLists.{word_of-append}
 use Rattle.sel_filter.proofs.FourBits.{kept_four, entry_is, count_is}
 
--- the bits of v that are kept of the first n
+-- The bits of v that m keeps, of the n lowest ones.
 abbrev pub kept_bits : ℕ → ℕ → ℕ → List Bool
 kept_bits v m n = select (bits n v) (bits n m)
 
 pub few_bits : (v m n : ℕ) → length (kept_bits v m n) ≤ n
 few_bits v m n = omega (arith, few_kept (bits n v) (bits n m), length_bits n v)
 
--- what is left of both words after i rounds, the word so far, and how many bits it has
+-- The state after i rounds: the rest of both words, the packed word so far, and its number of bits.
 pub record IsPacked (v m i values mask packed place : ℕ) : Type 0 where
   pub values-left : values ≡ v / 2 ^ (4 * i)
   pub mask-left : mask ≡ m / 2 ^ (4 * i)
@@ -88,7 +88,7 @@ module _ (v m i values mask packed place : ℕ) (below : i < 16) (was : IsPacked
       fits : packed < 2 ^ place
       fits = rw (was.word, was.count) (word_of_lt (kept_bits v m (4 * i)))
 
--- of a word there are no more bits
+-- After 16 rounds no bits are left.
 pub packed_last : (v m values mask packed place : ℕ) → IsPacked v m 16 values mask packed place → packed ≡ compress v m
 unfolding compress
 packed_last v m values mask packed place was = was.word

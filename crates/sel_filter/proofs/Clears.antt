@@ -1,8 +1,8 @@
--- How many bits are clear below a place.
+-- The number of clear bits below a position.
 use Rattle.std.proofs.Common.{◌≡◌, ℕ, zero, suc, ◌+◌, ◌-◌, ◌<◌, ◌≤◌, refl, ap, arith}
 use Rattle.std.specs.Int.{bit_at}
 
--- how many bits of m are clear below place q
+-- The number of clear bits of m below position q.
 unfoldable pub clears : ℕ → ℕ → ℕ
 clears m zero = 0
 clears m (suc q) = clears m q + (1 - bit_at m q)
@@ -19,7 +19,7 @@ pub clears_le : (m q : ℕ) → clears m q ≤ q
 clears_le m zero = omega (arith, clears_zero m)
 clears_le m (suc q) = omega (arith, clears_le m q, clears_suc m q)
 
--- d places up there are no fewer clear bits, and at most d more
+-- d positions higher, the number of clear bits is at least as great, and at most d greater.
 clears_up : (m q d : ℕ) → (clears m q ≤ clears m (q + d)) × (clears m (q + d) ≤ clears m q + d)
 clears_up m q zero = let e : q + 0 ≡ q = omega arith in let h = ap (clears m) e in (omega (arith, h), omega (arith, h))
 clears_up m q (suc d) =
@@ -36,7 +36,7 @@ clears_between m q r le =
     let up = clears_up m q (r - q) in
     (omega (arith, h, up.0), omega (arith, h, up.1))
 
--- from a set bit on there are fewer clear bits than places
+-- From a set bit on, the number of clear bits grows by less than the position.
 pub clears_past : (m q r : ℕ) → bit_at m q ≡ 1 → q < r → (clears m q ≤ clears m r) × (clears m r + q + 1 ≤ clears m q + r)
 clears_past m q r set lt =
     let here = clears_suc m q in

@@ -1,4 +1,4 @@
--- What the bits of a word keep of a block.
+-- The values of a block that the bits of a word keep.
 use Rattle.std.proofs.Common.{◌≡◌, ℕ, zero, suc, ◌+◌, ◌-◌, ◌/◌, ◌%◌, ◌^◌, ◌<◌, ◌≤◌, ◌∙◌, sym, refl, ap, arith, List, [], ◌∷◌, ◌++◌, length, take, drop, get_or, set, Bool, true, false, cond, add-zero, zero-add, append-nil, ⊎_elim, append_assoc, subst}
 use Rattle.std.specs.Prelude.{bit_and, count_ones, ◌==◌}
 use Rattle.std.specs.Int.{bit_at, trailing_zeros, w64}
@@ -27,7 +27,7 @@ test_of_cond : (b : Bool) → (cond b 1 0 == 1) ≡ b
 test_of_cond true = refl
 test_of_cond false = refl
 
--- the word of a list has the list's bits
+-- The bits of the word of a list are the list.
 pub bits_of_word : (l : List Bool) → bits (length l) (word_of l) ≡ l
 bits_of_word l =
     same_lists (bits (length l) (word_of l)) l (length_bits (length l) (word_of l))
@@ -35,7 +35,7 @@ bits_of_word l =
     let low : i < length l = omega (arith, length_bits (length l) (word_of l), lt) in
     get_bits (length l) (word_of l) i d low ∙ ap (λ x. x == 1) (bit_at_word_of l i) ∙ test_of_cond (get_or l i false) ∙ sym (get_or_default l i d false low))
 
--- as many as there are set bits
+-- The number of kept values is the number of set bits.
 kept_count : {A : Type 0} → (xs : List A) (m : ℕ) → m < 2 ^ length xs → length (select xs (bits (length xs) m)) ≡ count_ones m
 kept_count xs m fits = length-select xs (bits (length xs) m) (sym (length_bits (length xs) m)) ∙ sym (ones_is (length xs) m fits)
 
@@ -53,7 +53,7 @@ all_set xs m fits all = all_kept xs (bits (length xs) m) (sym (length_bits (leng
 bits_first : (n w b half : ℕ) → w % 2 ≡ b → w / 2 ≡ half → bits (suc n) w ≡ (b == 1) ∷ bits n half
 bits_first n w b half low rest = bits_suc n w ∙ (λ i. ((bit_at_lowest w ∙ low) i == 1) ∷ bits n (rest i))
 
--- the value at the lowest set bit is the first that is kept; the others are those of the other bits
+-- The value at the lowest set bit is the first one kept; the others are those at the other set bits.
 abbrev pub LowestKept : {A : Type 0} → List A → ℕ → ℕ → A → Type 0
 LowestKept xs t m d = (t < length xs) × (select xs (bits (length xs) m) ≡ get_or xs t d ∷ select xs (bits (length xs) (bit_and m (m - 1))))
 
@@ -80,13 +80,13 @@ lowest_kept {A} (x ∷ xs) (suc k) m d some fits le =
     subst (λ t. LowestKept (x ∷ xs) t m d) place (omega arith, ap (select (x ∷ xs)) (bits_first n m 1 (m / 2) one refl) ∙ ap (λ l. x ∷ l) (sym (ap (select (x ∷ xs)) rest))))
     (cases_lt (m % 2) 1)
 
--- one set bit more is done
+-- One more set bit is processed.
 pub few_step : {A : Type 0} → (xs kept all : List A) (m : ℕ) (x : A) → 0 < m → m < 2 ^ length xs → length xs ≤ 64 → x ≡ get_or xs (trailing_zeros w64 m) x
     → kept ++ select xs (bits (length xs) m) ≡ all → (kept ++ x ∷ []) ++ select xs (bits (length xs) (bit_and m (m - 1))) ≡ all
 few_step xs kept all m x some fits le is before =
     append_assoc kept (x ∷ []) _ ∙ ap (λ l. kept ++ l) (ap (λ y. y ∷ select xs (bits (length xs) (bit_and m (m - 1)))) is ∙ sym (lowest_kept xs 64 m x some fits le).1) ∙ before
 
--- one place less is left
+-- One value fewer is left.
 pub few_left : {A : Type 0} → (xs : List A) (m : ℕ) (x : A) → 0 < m → m < 2 ^ length xs → length xs ≤ 64 → length (select xs (bits (length xs) (bit_and m (m - 1)))) + 1 ≡ length (select xs (bits (length xs) m))
 few_left xs m x some fits le = omega (arith, ap length (lowest_kept xs 64 m x some fits le).1)
 
@@ -97,7 +97,7 @@ pub few_within : {A : Type 0} → (xs : List A) (m : ℕ) → 0 < m → m < 2 ^ 
 few_within [] m some fits le = absurd (omega arith)
 few_within (x ∷ xs) m some fits le = (lowest_kept (x ∷ xs) 64 m x some fits le).0
 
--- ---- one more place
+-- ---- one more position
 
 bits_more : (i m : ℕ) → bits (i + 1) m ≡ bits i m ++ is_set m i ∷ []
 bits_more i m =
@@ -111,14 +111,14 @@ select_more xs m i b x lt bit is =
     ∙ select-append (take i xs) (bits i m) (x ∷ []) (is_set m i ∷ []) (omega (arith, length-take i xs, length_bits i m))
     ∙ ap (λ y. select (take i xs) (bits i m) ++ select (x ∷ []) ((y == 1) ∷ [])) bit
 
--- a value is put behind those that are kept, and stays where its bit is set
+-- A value is written after the kept ones, and counts as kept if its bit is set.
 dense_step : {A : Type 0} → (xs buf : List A) (m i k b : ℕ) (x : A) → i < length xs → k < length buf → bit_at m i ≡ b → b < 2 → x ≡ get_or xs i x
     → take k buf ≡ select (take i xs) (bits i m) → take (k + b) (set buf k x) ≡ select (take (i + 1) xs) (bits (i + 1) m)
 dense_step xs buf m i k zero x lt room bit small is was = ap (λ n. take n (set buf k x)) (add-zero k) ∙ take-set buf k x ∙ was ∙ sym (select_more xs m i 0 x lt bit is ∙ append-nil _)
 dense_step xs buf m i k (suc zero) x lt room bit small is was = take_more_set buf k x room ∙ ap (λ l. l ++ x ∷ []) was ∙ sym (select_more xs m i 1 x lt bit is)
 dense_step xs buf m i k (suc (suc b)) x lt room bit small is was = absurd (omega arith)
 
--- so far the values below place i
+-- The kept values below position i are at the front of the buffer.
 pub record IsDense {A : Type 0} (xs : List A) (m : ℕ) (buf : List A) (i k : ℕ) : Type 0 where
   pub room : length xs ≤ length buf
   pub few : k ≤ i
@@ -131,13 +131,13 @@ dense_next xs m buf i k b next x lt bit is e was = record {
   kept = rw e (dense_step xs buf m i k b x lt (omega (arith, was.room, was.few)) bit (omega (arith, bit, bit_at-lt m i)) is was.kept);
 }
 
--- after the last place
+-- After the last position.
 pub dense_count : {A : Type 0} → (xs : List A) (m : ℕ) (buf : List A) (k : ℕ) → m < 2 ^ length xs → IsDense xs m buf (length xs) k → k ≡ count_ones m
 dense_count xs m buf k fits was =
     let all = ap length was.kept ∙ ap (λ l. length (select l (bits (length xs) m))) (take_all (length xs) xs (omega arith)) ∙ kept_count xs m fits in
     omega (arith, all, was.few, was.room, length-take k buf)
 
--- bit j of a word that was moved down by i places
+-- Bit j of a word that is shifted down by i.
 pub moved_bit : (m w i j n : ℕ) → w ≡ m / 2 ^ i → n ≡ i + j → bit_at m n ≡ bit_and (w / 2 ^ j) 1
 moved_bit m w i j n is e = let f : i + j ≡ j + i = omega arith in ap (bit_at m) (e ∙ f) ∙ sym (shr_and_one w j ∙ ap (λ v. bit_at v j) is ∙ bit_at_shr m i j)
 
@@ -171,13 +171,13 @@ module _ {A : Type 0} (xs : List A) (ms : List Bool) (at count word : ℕ) (same
       (sym (select-append (take at xs) (take at ms) (take count (drop at xs)) part (omega (arith, same, length-take at xs, length-take at ms)))
       ∙ sym (λ i. select (take-add at count xs i) (take-add at count ms i)))
 
--- the word of a reader is that of the bits behind those that it has given out
+-- The word of a reader has the bits after those already returned.
 pub read_word : (mask : Bits) (r : WordReading) (at count word : ℕ) → r.source ≡ mask → at ≡ reached r → word ≡ word_of (next_bits r) → count ≡ next_count r → word ≡ word_of (take count (drop at mask.bits))
 read_word mask r at count word source place is_word is_count = is_word ∙ (λ i. word_of (take (sym is_count i) (drop (sym place i) (source i).bits)))
 
 pub ruleset kept_steps = (few_within, none_more, all_set)
 
--- ---- values that are put into the end of a list
+-- ---- values that are written at the end of a list
 
 pub tail_kept : {A : Type 0} → (old block now new rest more kept : List A) (start k len : ℕ) → start ≡ length old → now ≡ old ++ block → k ≤ length new → start + k ≤ len → take k new ≡ kept
     → take (start + k) (take len ((take start now ++ (new ++ rest)) ++ more)) ≡ old ++ kept

@@ -1,4 +1,4 @@
--- The compress of a word, one set bit of the mask after another.
+-- Compression of a word, one set bit of the mask at a time.
 use Rattle.std.proofs.Common.{◌≡◌, ℕ, ◌+◌, ◌-◌, ◌*◌, ◌/◌, ◌%◌, ◌^◌, ◌<◌, ◌∙◌, sym, refl, ap, subst, arith, List, [], ◌∷◌, ◌++◌, length, get_or, Bool, true, false, cond, length-append}
 use Rattle.std.specs.Prelude.{bit_and, bit_or}
 use Rattle.std.specs.Int.{bit_at, trailing_zeros, w64}
@@ -15,7 +15,7 @@ use Rattle.sel_bits.proofs.Padded.{word_of_lt}
 use Rattle.sel_bits.proofs.Packs.{length_bits, get_bits}
 use Rattle.sel_filter.proofs.Marking.{IsMarking, lowest, lowest_within, mark_room, marking_next, marking_last}
 
--- the bits so far, in a word
+-- The state: the bits so far are the word `out`.
 pub record IsFew (v m out place marks : ℕ) : Type 0 where
   pub front : List Bool
   pub marking : IsMarking (bits 64 v) (select (bits 64 v) (bits (length (bits 64 v)) m)) (count_true (bits (length (bits 64 v)) m)) front marks place

@@ -1,4 +1,4 @@
--- What a filter keeps from word to word of its mask, over plain variables.
+-- The invariant of a filter that reads its mask word by word, over plain variables.
 use Rattle.std.proofs.Common.{◌≡◌, ℕ, ◌+◌, ◌-◌, ◌^◌, ◌<◌, ◌≤◌, ◌∙◌, sym, refl, ap, subst, arith, List, [], ◌++◌, length, take, drop, replicate, Bool, false, append-nil}
 use Rattle.std.proofs.lemmas.List.{take-append-drop, take_all, length-take, length-drop}
 use Rattle.std.proofs.lemmas.List.Sums.{count_by-le-length}
@@ -30,7 +30,7 @@ module _ {A : Type 0} (vs : List A) (ms : List Bool) (at count : ℕ) (same : le
   unfolding part
   word_fits = omega (arith, word_of_lt part, pow_mono {i = length part} {j = length vs - at} (omega (arith, long)))
 
-  -- the marks of the word select what the part of the mask selects
+  -- The marks of the word select what the part of the mask selects.
   pub word_selects : select (drop at vs) (bits (length vs - at) (word_of (take count (drop at ms)))) ≡ select (take count (drop at vs)) (take count (drop at ms))
   unfolding part
   word_selects =
@@ -60,7 +60,7 @@ module _ {A : Type 0} (vs : List A) (ms : List Bool) (at count : ℕ) (same : le
   pub count_le : count_true (take (at + count) ms) ≤ length ms
   count_le = omega (arith, count_by-le-length (λ b. b) (take (at + count) ms), length-take (at + count) ms)
 
--- the filter has come as far as its mask
+-- The state of the filter: the rows up to the position of the mask reader are filtered.
 pub record IsFiltered (vs ms : Bits) (out : List Bool) (start : ℕ) (values : BitReading) (mask : WordReading) : Type 0 where
   pub values_source : values.source ≡ vs
   pub mask_source : mask.source ≡ ms
@@ -69,7 +69,7 @@ pub record IsFiltered (vs ms : Bits) (out : List Bool) (start : ℕ) (values : B
   pub gives : out ≡ select (take start vs.bits) (take start ms.bits)
   pub reads : values.bits_read ≡ count_true (take start ms.bits)
 
--- before anything is read
+-- The state before anything is read.
 pub filtered_none : (values : BitReading) (mask : WordReading) → values.bits_read ≡ 0 → mask.words_read ≡ 0 → length values.source.bits ≡ length mask.source.bits
     → IsFiltered values.source mask.source [] 0 values mask
 filtered_none values mask values_unread mask_unread lengths = record {
@@ -111,7 +111,7 @@ module _ (vs ms : Bits) (out : List Bool) (start : ℕ) (values : BitReading) (m
       ∙ ap (λ w. select (drop start vs.bits) (bits (length vs.bits - start) w)) word_is
       ∙ word_selects vs.bits ms.bits start count was.lengths within
 
-  -- no more bits are read than the mask has
+  -- The filter reads at most as many bits as the mask has.
   pub marked_reads : values.bits_read + count_true (bits (length values.source.bits - start) word) ≤ length ms.bits
   marked_reads = omega (arith, was.reads, marked_counts, count_more vs.bits ms.bits start count was.lengths within, count_le vs.bits ms.bits start count was.lengths within)
 
@@ -126,7 +126,7 @@ module _ (vs ms : Bits) (out : List Bool) (start : ℕ) (values : BitReading) (m
     reads = omega (arith, more-reads, was.reads, marked_counts, count_more vs.bits ms.bits start count was.lengths within);
   }
 
--- words without a true bit keep nothing
+-- Words without a set bit keep nothing.
 module _ (vs ms : Bits) (out : List Bool) (start : ℕ) (values : BitReading) (mask : WordReading) (was : IsFiltered vs ms out start values mask)
     (n : ℕ) (later : WordReading) (same : later.source ≡ mask.source) (on : reached later ≡ reached mask + n)
     (none : take n (drop (reached mask) mask.source.bits) ≡ replicate n false) where
@@ -159,7 +159,7 @@ module _ (vs ms : Bits) (out : List Bool) (start : ℕ) (values : BitReading) (m
   pub filtered_skip : (to : ℕ) → to ≡ start + n → IsFiltered vs ms out to values later
   filtered_skip to is = subst (λ k. IsFiltered vs ms out k values later) (sym is) skipped_all
 
--- behind the last one everything is
+-- After the last word all rows are filtered.
 module _ (vs ms : Bits) (out : List Bool) (start : ℕ) (values : BitReading) (mask : WordReading) (was : IsFiltered vs ms out start values mask) (end : reached mask ≡ length mask.source.bits) where
   past : length ms.bits ≤ start
   past = omega (arith, was.here, end, ap (λ (s : Bits). length s.bits) was.mask_source)

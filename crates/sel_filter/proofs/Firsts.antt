@@ -1,4 +1,4 @@
--- What a mask selects, one set bit after another from the lowest on.
+-- The entries that a mask selects, one set bit at a time from the lowest.
 use Rattle.std.proofs.Common.{◌≡◌, ◌≢◌, ℕ, zero, suc, ◌+◌, ◌-◌, ◌*◌, ◌/◌, ◌%◌, ◌^◌, ◌<◌, ◌≤◌, ◌∙◌, sym, refl, ap, ⊎_elim, arith, List, [], ◌∷◌, length, get_or, true, false}
 use Rattle.std.specs.Prelude.{bit_and}
 use Rattle.std.specs.Int.{bit_at}
@@ -14,12 +14,12 @@ use Rattle.sel_filter.proofs.WordLists.{bits_first}
 
 -- ---- the lowest set bit
 
--- t is the place of the lowest set bit of m
+-- t is the position of the lowest set bit of m.
 pub record IsLowest (m t : ℕ) : Type 0 where
   pub set : bit_at m t ≡ 1
   pub below : (i : ℕ) → i < t → bit_at m i ≡ 0
 
--- rest is m without its bit t
+-- Rest is m without bit t.
 pub record IsWithout (m t rest : ℕ) : Type 0 where
   pub cleared : bit_at rest t ≡ 0
   pub others : (i : ℕ) → i ≢ t → bit_at rest i ≡ bit_at m i
@@ -45,7 +45,7 @@ module _ (m t : ℕ) (lowest : IsLowest m t) where
   small : 2 ^ t < 2 ^ suc t
   small = pow_below t (suc t) (omega arith)
 
-  -- `m & (m - 1)` has every bit of m but the lowest
+  -- `m & (m - 1)` is m without its lowest set bit.
   pub without_lowest : IsWithout m t (bit_and m (m - 1))
   without_lowest = record {
     cleared = omega (arith, bit_at_and m (m - 1) t, at_lowest);
@@ -69,7 +69,7 @@ module _ (m t : ℕ) (lowest : IsLowest m t) where
           (λ high. omega (arith, bit_at_and m (m - 1) i, above i (omega arith)))
           (cases_lt i t)
 
--- ---- what a mask selects, one set bit after another
+-- ---- the selected entries, one set bit at a time
 
 halved : (m t rest : ℕ) → IsWithout m (suc t) rest → IsWithout (m / 2) t (rest / 2)
 halved m t rest without = record {

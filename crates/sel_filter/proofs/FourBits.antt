@@ -1,4 +1,4 @@
--- The table of four bits under four bits, entry by entry, decided by computing.
+-- The table for four bits under a mask of four bits, checked entry by entry by computation.
 use Rattle.std.proofs.Common.{◌≡◌, ℕ, zero, suc, ◌+◌, ◌*◌, ◌/◌, ◌%◌, ◌<◌, ◌∙◌, sym, refl, ap, subst, ⊎_elim, arith, List, length, get_or, Bool, true, false, ◌&&◌, T, eqb→eq}
 use Rattle.std.specs.Prelude.{◌==◌, count_ones}
 use Rattle.std.proofs.lemmas.Bool.{cases_lt}
@@ -23,7 +23,7 @@ holds_at p (suc n) j all lt =
 equal : (a b : ℕ) → (a == b) ≡ true → a ≡ b
 equal a b e = eqb→eq a b (subst T (sym e) tt)
 
--- the four bits of an entry
+-- The kept bits of a table entry.
 abbrev pub kept_four : ℕ → ℕ → List Bool
 kept_four v m = select (bits 4 v) (bits 4 m)
 

@@ -1,4 +1,4 @@
--- What the loop over the set bits of a word keeps, over plain variables.
+-- The invariant of the loop over the set bits of a word, over plain variables.
 use Rattle.std.proofs.Common.{◌≡◌, ℕ, ◌+◌, ◌-◌, ◌^◌, ◌<◌, ◌∙◌, sym, ap, ⊎_elim, arith, List, [], ◌∷◌, ◌++◌, length, get_or, drop, Bool, false, append_assoc, append-nil}
 use Rattle.std.specs.Prelude.{bit_and}
 use Rattle.std.specs.Int.{trailing_zeros, w64}
@@ -13,7 +13,7 @@ use Rattle.sel_filter.proofs.Firsts.{IsLowest, selects_first, without_lowest}
 use Rattle.sel_filter.proofs.WordLists.{bits_of_zero}
 use Rattle.sel_filter.proofs.Selects.{select_none, count_true_none}
 
--- the marks that are left give the rest of the target
+-- The output and what the remaining marks select are the target.
 pub record IsMarking (xs target : List Bool) (reads : ℕ) (out : List Bool) (marks bits_read : ℕ) : Type 0 where
   pub small : marks < 2 ^ length xs
   pub gives : out ++ select xs (bits (length xs) marks) ≡ target
@@ -22,7 +22,7 @@ pub record IsMarking (xs target : List Bool) (reads : ℕ) (out : List Bool) (ma
 pub lowest : (m : ℕ) → 0 < m → m < 2 ^ 64 → IsLowest m (trailing_zeros w64 m)
 lowest m some fits = let h = bit_at-trailing_zeros w64 m some fits in record { set = h.1; below = h.2 }
 
--- a set bit is one of the word's
+-- A set bit of a word of n bits is below position n.
 pub lowest_within : (m n t : ℕ) → m < 2 ^ n → IsLowest m t → t < n
 lowest_within m n t fits low = ⊎_elim (λ lt. lt) (λ le. absurd (omega (arith, bit_at_above m n t fits le, low.set))) (cases_lt t n)
 
@@ -42,7 +42,7 @@ module _ (xs target : List Bool) (reads : ℕ) (out : List Bool) (marks bits_rea
         counts = omega (arith, was.counts, some_left);
       }
 
--- with no mark left, the target is reached
+-- Without remaining marks, the output is the target.
 pub marking_last : (xs target : List Bool) (reads : ℕ) (out : List Bool) (marks bits_read : ℕ) → marks ≡ 0 → IsMarking xs target reads out marks bits_read → (out ≡ target) × (bits_read ≡ reads)
 marking_last xs target reads out marks bits_read none was =
     let empty = ap (bits (length xs)) none ∙ bits_of_zero (length xs) in (
@@ -50,7 +50,7 @@ marking_last xs target reads out marks bits_read none was =
       omega (arith, was.counts, ap count_true empty, count_true_none (length xs)),
     )
 
--- the lowest mark stands at a place of the list
+-- The lowest mark is within the list.
 pub mark_place : (all target : List Bool) (reads : ℕ) (out : List Bool) (start marks bits_read : ℕ) → 0 < marks → marks < 2 ^ 64
     → IsMarking (drop start all) target reads out marks bits_read → start + trailing_zeros w64 marks < length all
 mark_place all target reads out start marks bits_read some fits was =
@@ -60,7 +60,7 @@ mark_place all target reads out start marks bits_read some fits was =
 pub mark_bit : (all : List Bool) (start t : ℕ) (bit : Bool) → bit ≡ get_or all (start + t) false → bit ≡ get_or (drop start all) t false
 mark_bit all start t bit read = read ∙ sym (get_or-drop start all t false)
 
--- while a mark is left, not all are read
+-- While a mark is left, there are more reads to come.
 pub mark_room : (xs target : List Bool) (reads : ℕ) (out : List Bool) (marks bits_read : ℕ) → 0 < marks → marks < 2 ^ 64
     → IsMarking xs target reads out marks bits_read → bits_read < reads
 mark_room xs target reads out marks bits_read some fits was =

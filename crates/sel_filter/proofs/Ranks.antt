@@ -1,4 +1,4 @@
--- The compressed word, by the places that its bits come from.
+-- The compressed word, by the source positions of its bits.
 use Rattle.std.proofs.Common.{◌≡◌, ℕ, zero, suc, ◌+◌, ◌-◌, ◌*◌, ◌/◌, ◌<◌, ◌∙◌, sym, ap, subst, arith, ◌∷◌, Bool, true, false, cond}
 use Rattle.std.specs.Prelude.{◌==◌}
 use Rattle.std.specs.Int.{bit_at}
@@ -11,7 +11,8 @@ use Rattle.sel_bits.proofs.Lists.{bits_suc, bits_zero, cond_of_bit}
 use Rattle.sel_filter.proofs.Spots.{spot_last}
 use Rattle.sel_filter.proofs.Rounds.{Standing}
 
--- each of the n lowest bits of v that m keeps stands in `word` with no clear bit left below it, and nothing else is set
+-- Each of the n lowest bits of v that m keeps is in `word`, moved down by the number of clear bits
+-- of m below it, and no other bit of `word` is set.
 record Packed (n m v word : ℕ) : Type 0 where
   pub at_ranks : (q : ℕ) → q < n → bit_at m q ≡ 1 → bit_at word (q - clears m q) ≡ bit_at v q
   pub from_kept : (s : ℕ) → bit_at word s ≡ 1 → (q : ℕ) × (q < n) × (bit_at m q ≡ 1) × (s ≡ q - clears m q)
@@ -20,14 +21,14 @@ clears_front : (m q : ℕ) → clears m (suc q) ≡ (1 - bit_at m 0) + clears (m
 clears_front m zero = omega (arith, clears_suc m 0, clears_zero m, clears_zero (m / 2))
 clears_front m (suc q) = omega (arith, clears_suc m (suc q), clears_front m q, clears_suc (m / 2) q, bit_at-suc m q)
 
--- a bit put below a word
+-- A bit that is added below a word.
 bit_at_front_zero : (b w : ℕ) → b < 2 → bit_at (b + 2 * w) 0 ≡ b
 bit_at_front_zero b w lt = omega (arith, bit_at_lowest (b + 2 * w))
 
 bit_at_front_suc : (b w i : ℕ) → b < 2 → bit_at (b + 2 * w) (suc i) ≡ bit_at w i
 bit_at_front_suc b w i lt = let half : (b + 2 * w) / 2 ≡ w = omega arith in bit_at-suc (b + 2 * w) i ∙ ap (λ x. bit_at x i) half
 
--- a kept lowest bit comes first
+-- A kept lowest bit becomes the lowest bit of the word.
 front_kept : (n m v w : ℕ) → bit_at m 0 ≡ 1 → Packed n (m / 2) (v / 2) w → Packed (suc n) m v (bit_at v 0 + 2 * w)
 front_kept n m v w kept packed = record { at_ranks = at_ranks; from_kept = from_kept }
   where
@@ -46,7 +47,7 @@ front_kept n m v w kept packed = record { at_ranks = at_ranks; from_kept = from_
         let o = packed.from_kept s (sym (bit_at_front_suc (bit_at v 0) w s (bit_at-lt v 0)) ∙ set) in
         (suc o.0, omega (arith, o.1), bit_at-suc m o.0 ∙ o.2, omega (arith, clears_front m o.0, clears_le (m / 2) o.0, o.3))
 
--- a lowest bit that is not kept leaves the rest as it is
+-- A lowest bit that is not kept leaves the word unchanged.
 front_dropped : (n m v w : ℕ) → bit_at m 0 ≡ 0 → Packed n (m / 2) (v / 2) w → Packed (suc n) m v w
 front_dropped n m v w dropped packed = record { at_ranks = at_ranks; from_kept = from_kept }
   where
@@ -74,7 +75,7 @@ packed (suc n) m v =
     by_lowest rest true kept = subst (λ x. Packed (suc n) m v (x + 2 * word_of (select (bits n (v / 2)) (bits n (m / 2))))) (sym (cond_of_bit (bit_at v 0) (bit_at-lt v 0))) (front_kept n m v _ (sym kept) rest)
     by_lowest rest false dropped = front_dropped n m v _ (sym dropped) rest
 
--- the compressed word is the word after the sixth round
+-- The compressed word is the word after the sixth round.
 pub compress_standing : (m v : ℕ) → Standing m v 6 (compress v m)
 unfolding compress
 compress_standing m v =

@@ -1,4 +1,4 @@
--- What the loop of the compress keeps, over plain variables.
+-- The invariant of the compress loop, over plain variables.
 use Rattle.std.proofs.Common.{◌≡◌, ℕ, suc, ◌+◌, ◌*◌, ◌%◌, ◌^◌, ◌<◌, ◌≤◌, refl, subst, arith}
 use Rattle.std.specs.Prelude.{bit_and}
 use Rattle.std.specs.Int.{bit_at, bit_not, w64}
@@ -10,7 +10,7 @@ use Rattle.sel_bits.proofs.Shifts.{moved}
 use Rattle.sel_filter.proofs.Rounds.{Standing, CountsBlocks, MarksOdd, first_standing, next_standing, one_standing, first_counts, next_counts, parity_marks, one_block}
 use Rattle.sel_filter.proofs.Ranks.{compress_standing}
 
--- ---- what the loop keeps
+-- ---- the invariant
 
 pub record RoundState (m source i k : ℕ) (word : Moving) : Type 0 where
   pub standing : Standing m source i word.word
@@ -39,7 +39,7 @@ state_next m source i k under w lt fits odd state =
       same_source = state.same_source;
     }
 
--- in the last round the complement has at most one bit left, where there is a kept place at all
+-- In the last round, if any bit is kept, `k` has at most one set bit.
 pub last_marks : (m k under : ℕ) → CountsBlocks m 5 k → (ones_below k 64 ≤ 1 → (p : ℕ) → p < 64 → bit_at under p ≡ ones_below k p % 2) → MarksOdd m 5 under
 last_marks m k under counts parity q kept = parity_marks m 5 k under counts (parity (one_block m k counts q kept)) q kept
 

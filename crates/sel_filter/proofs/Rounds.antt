@@ -1,4 +1,5 @@
--- The rounds of the compress: before round i each kept bit stands at its spot, and nothing else is set.
+-- The rounds of the compress: before round i each kept bit is at its `spot`, and no other bit is
+-- set.
 use Rattle.std.proofs.Common.{◌≡◌, ℕ, zero, suc, ◌+◌, ◌-◌, ◌*◌, ◌/◌, ◌%◌, ◌^◌, ◌<◌, ◌≤◌, min, max, ◌∙◌, sym, ap, ⊎_elim, inl, inr, ◌⊎◌, arith}
 use Rattle.std.specs.Prelude.{bit_and}
 use Rattle.std.specs.Int.{bit_at, bit_not, w64}
@@ -12,7 +13,7 @@ use Rattle.sel_filter.proofs.Clears.{clears, clears_zero, clears_le, clears_suc,
 use Rattle.sel_filter.proofs.Spots.{spot, spot_same, spot_next, spot_block, spot_first}
 use Rattle.sel_bits.proofs.Shifts.{bit_at_shr, moved}
 
--- each bit of a word that was moved stayed, or came down
+-- A set bit of a word after a move either was not moved, or was moved down.
 bit_at_moved : (word p i s : ℕ) → bit_at (moved word p i) s ≡ max (min (bit_at word s) (bit_at (bit_not w64 p) s)) (min (bit_at word (s + i)) (bit_at p (s + i)))
 bit_at_moved word p i s =
     omega (
@@ -23,24 +24,24 @@ bit_at_moved word p i s =
       bit_at_and word p (s + i),
     )
 
--- place q of a word is kept by the mask m
+-- The mask m keeps bit q.
 abbrev pub IsKept : ℕ → ℕ → Type 0
 IsKept m q = (q < 64) × (bit_at m q ≡ 1)
 
--- the bits of v that m keeps stand in `word` as they do before round i
+-- The word before round i: the bits of v that m keeps, each at its `spot`.
 pub record Standing (m v i word : ℕ) : Type 0 where
   pub at_spots : (q : ℕ) → IsKept m q → bit_at word (spot m (2 ^ i) q) ≡ bit_at v q
   pub from_kept : (s : ℕ) → bit_at word s ≡ 1 → (q : ℕ) × IsKept m q × (s ≡ spot m (2 ^ i) q)
 
--- p marks the places with an odd number of whole blocks of clear bits below
+-- p marks the positions with an odd number of whole blocks of 2 ^ i clear bits below.
 abbrev pub MarksOdd : ℕ → ℕ → ℕ → Type 0
 MarksOdd m i p = (q : ℕ) → IsKept m q → (s : ℕ) → s < 64 → bit_at p s ≡ clears m s / 2 ^ i % 2
 
--- k has one set bit for each whole block of clear bits
+-- k has one set bit for each whole block of 2 ^ i clear bits.
 abbrev pub CountsBlocks : ℕ → ℕ → ℕ → Type 0
 CountsBlocks m i k = (q : ℕ) → IsKept m q → (s : ℕ) → s ≤ 64 → ones_below k s ≡ clears m s / 2 ^ i
 
--- a bit that is set by one of two ways
+-- A bit that is set by either of two terms.
 two_ways : (a b c d : ℕ) → a < 2 → b < 2 → c < 2 → d < 2 → max (min a b) (min c d) ≡ 1 → ((a ≡ 1) × (b ≡ 1)) ⊎ ((c ≡ 1) × (d ≡ 1))
 two_ways a b c d la lb lc ld h = ⊎_elim (λ lt. inl (omega arith, omega arith)) (λ le. inr (omega arith, omega arith)) (cases_lt 0 (min a b))
 
@@ -52,7 +53,7 @@ never_both a b la lb not_both =
     (cases_lt 0 (min a b))
 
 module _ (m v i word p : ℕ) (standing : Standing m v i word) (p_fits : p < 2 ^ 64) (odd : MarksOdd m i p) where
-  -- a set bit of the word has a kept place that it came from, and p tells whether it moves
+  -- A set bit of the word comes from a kept bit, and p says whether it moves.
   from : (s : ℕ) → bit_at word s ≡ 1
       → (q : ℕ) × IsKept m q × (s < 64) × (bit_at p s ≡ clears m q / 2 ^ i % 2) × (spot m (2 ^ suc i) q + bit_at p s * 2 ^ i ≡ s)
   from s set =
@@ -77,7 +78,7 @@ module _ (m v i word p : ℕ) (standing : Standing m v i word) (p_fits : p < 2 ^
       (o.0, o.1, omega (arith, o.4, ap (λ x. x * 2 ^ i) w.1)))
       (two_ways _ _ _ _ (bit_at-lt word s) (bit_at-lt (bit_not w64 p) s) (bit_at-lt word (s + 2 ^ i)) (bit_at-lt p (s + 2 ^ i)) (sym (bit_at_moved word p (2 ^ i) s) ∙ set))
 
-  -- a kept bit and a set bit that come to one place are one
+  -- A kept bit and a set bit that move to the same position are the same bit.
   same_from : (q : ℕ) → IsKept m q → (s : ℕ) → bit_at word s ≡ 1 → spot m (2 ^ suc i) q + bit_at p s * 2 ^ i ≡ s → bit_at p s ≡ clears m q / 2 ^ i % 2
   same_from q kept s set meet =
       let o = from s set in
@@ -121,7 +122,7 @@ module _ (m v i word p : ℕ) (standing : Standing m v i word) (p_fits : p < 2 ^
 
 -- ---- the marks
 
--- before the first round: the complement of the mask has one set bit for each clear bit
+-- Before the first round, the complement of the mask has one set bit for each clear bit.
 pub first_counts : (m : ℕ) → m < 2 ^ 64 → CountsBlocks m 0 (bit_not w64 m)
 first_counts m fits q kept s le = counted s le ∙ sym (div-one (clears m s))
   where
@@ -129,7 +130,7 @@ first_counts m fits q kept s le = counted s le ∙ sym (div-one (clears m s))
     counted zero le = ones_zero (bit_not w64 m) ∙ sym (clears_zero m)
     counted (suc s) le = omega (arith, counted s (omega arith), ones_suc (bit_not w64 m) s, clears_suc m s, bit_at_not w64 m s fits le)
 
--- the marked bits of k count the blocks of twice the length
+-- The set bits of k at marked positions count the blocks of twice the length.
 pub next_counts : (m i k p : ℕ) → CountsBlocks m i k → MarksOdd m i p → CountsBlocks m (suc i) (bit_and k p)
 next_counts m i k p counts odd q kept = counted
   where
@@ -153,17 +154,17 @@ next_counts m i k p counts odd q kept = counted
           halved (suc s),
         )
 
--- the parity of k's set bits below each place marks the places
+-- The parity of the number of k's set bits below each position gives the marks.
 pub parity_marks : (m i k p : ℕ) → CountsBlocks m i k → ((s : ℕ) → s < 64 → bit_at p s ≡ ones_below k s % 2) → MarksOdd m i p
 parity_marks m i k p counts parity q kept s lt = parity s lt ∙ ap (λ x. x % 2) (counts q kept s (omega arith))
 
--- with one kept bit there are at most 63 clear ones, so at most one block of 32
+-- If at least one bit is kept, at most 63 bits are clear, so there is at most one block of 32.
 pub one_block : (m k : ℕ) → CountsBlocks m 5 k → (q : ℕ) → IsKept m q → ones_below k 64 ≤ 1
 one_block m k counts q kept = omega (arith, counts q kept 64 (omega arith), clears_past m q 64 kept.1 kept.0, clears_le m q)
 
--- ---- the first word and the last
+-- ---- the first and the last word
 
--- the word masked by m is the word before the first round
+-- The word masked by m is the word before the first round.
 pub first_standing : (m v : ℕ) → m < 2 ^ 64 → Standing m v 0 (bit_and v m)
 first_standing m v fits = record {
   at_spots = λ q kept. omega (arith, ap (bit_at (bit_and v m)) (spot_first m q), bit_at_and v m q, kept.1, bit_at-lt v q);
@@ -180,7 +181,7 @@ same_bit x y lx ly there back =
     (λ high. let e : x ≡ 1 = omega arith in e ∙ sym (there e))
     (cases_lt x 1)
 
--- the bits of v and the mask determine the word
+-- v and the mask determine the word before each round.
 pub one_standing : (m v i a b : ℕ) → Standing m v i a → Standing m v i b → a ≡ b
 one_standing m v i a b sa sb = same_from_bits a b (λ s. same_bit _ _ (bit_at-lt a s) (bit_at-lt b s) (carried a b sa sb s) (carried b a sb sa s))
   where

@@ -1,4 +1,4 @@
--- What the filter by runs keeps from word to word of its mask.
+-- The invariant of the filter that copies runs, over plain variables.
 use Rattle.std.proofs.Common.{◌≡◌, ℕ, ◌+◌, ◌-◌, ◌/◌, ◌^◌, ◌<◌, ◌≤◌, ◌∙◌, sym, ap, arith, List, ◌++◌, length, take, drop, Bool, false, append_assoc, length-append, subst}
 use Rattle.std.proofs.lemmas.List.{length-take, take-append-drop, take-append-le, take-take, take_all}
 use Rattle.std.proofs.Math.Seq.{take-add, take-append_seam}
@@ -17,14 +17,14 @@ select_split xs ms k long =
     sym (select-append (take k xs) (take k ms) (drop k xs) (drop k ms) (omega (arith, length-take k xs, length-take k ms)))
     ∙ (λ i. select (take-append-drop k xs i) (take-append-drop k ms i))
 
--- ---- beginnings
+-- ---- prefixes
 
 pub begins_more : {A : Type 0} (xs ys zs : List A) → IsBeginning xs ys → IsBeginning xs (ys ++ zs)
 begins_more xs ys zs is =
     let le : length xs ≤ length ys = omega (arith, ap length is, length-take (length xs) ys) in
     is ∙ sym (take-append-le (length xs) ys zs le)
 
--- the beginning of what begins with more
+-- A prefix of a prefix is a prefix.
 pub begins_through : {A : Type 0} (xs more ys zs : List A) → ys ≡ xs ++ more → IsBeginning ys zs → IsBeginning xs zs
 begins_through xs more ys zs is begun =
     let le : length xs ≤ length ys = omega (arith, ap length is, length-append xs more) in
@@ -75,7 +75,7 @@ module _ {A : Type 0} (source before : List A) (ms : Bits) (start : ℕ) (values
       ∙ ap (starts_after false) (word_bits source ms.bits start count was.lengths within)
       ∙ starts_padded false (take count (drop start ms.bits)) _
 
-  -- the copies of this word are at most one more than the runs that start in it
+  -- The copies for this word number at most one more than the runs that begin in it.
   pub run_copies : values.copies + starts_after false (bits (length values.source - start) word) ≤ mask.words_read + 1 + starts_after false (take (start + count) ms.bits)
   run_copies =
       let joined : starts_after false (take (start + count) ms.bits) ≡ starts_after false (take start ms.bits ++ take count (drop start ms.bits)) = ap (starts_after false) (take-add start count ms.bits) in
@@ -87,7 +87,7 @@ module _ {A : Type 0} (source before : List A) (ms : Bits) (start : ℕ) (values
       let long_next : length next.source.bits ≡ length mask.source.bits = ap (λ (r : WordReading). length r.source.bits) is in
       omega (arith, run_copies, long_mask, read, long_next, bound, (starts_half (take (start + count) ms.bits)).0, length-take (start + count) ms.bits)
 
-  -- what a part of the word keeps is a beginning of all that is kept
+  -- What a part of the word keeps is a prefix of all that is kept.
   pub run_begun : (items : List A) → IsBeginning items (values.items ++ select (drop start values.source) (bits (length values.source - start) word)) → IsBeginning items (before ++ select source ms.bits)
   run_begun items is =
       let end = start + count in
@@ -111,7 +111,7 @@ module _ {A : Type 0} (source before : List A) (ms : Bits) (start : ℕ) (values
     counts = omega (arith, counted, run_copies);
   }
 
--- behind the last one all is
+-- After the last word all rows are filtered.
 module _ {A : Type 0} (source before : List A) (ms : Bits) (start : ℕ) (values : Copying A) (mask : WordReading) (was : IsRunFiltered source before ms start values mask) (end : reached mask ≡ length mask.source.bits) where
   past : length ms.bits ≤ start
   past = omega (arith, was.here, end, ap (λ (s : Bits). length s.bits) was.mask_source)

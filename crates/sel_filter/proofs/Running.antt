@@ -1,4 +1,4 @@
--- What the loop over the runs of a word keeps, over plain variables.
+-- The invariant of the loop over the runs of a word, over plain variables.
 use Rattle.std.proofs.Common.{◌≡◌, ℕ, ◌+◌, ◌-◌, ◌/◌, ◌^◌, ◌<◌, ◌≤◌, ◌∙◌, sym, ap, subst, ⊎_elim, arith, List, ◌++◌, length, take, drop, replicate, true, false, append_assoc, append-nil, zero-add}
 use Rattle.std.specs.Int.{bit_at, trailing_zeros, trailing_ones, w64}
 use Rattle.std.proofs.lemmas.Bool.{cases_lt}
@@ -14,14 +14,15 @@ use Rattle.sel_filter.proofs.Selects.{select_none}
 use Rattle.sel_filter.proofs.WordLists.{bits_of_zero}
 use Rattle.sel_filter.proofs.WordRuns.{bits_after, select_skip, select_run, starts_skip, starts_more, starts_false, starts_of_zero}
 
--- the bits that are left of the word give the rest of the target, and the copies that are left
+-- The items and what the remaining bits select are the target; the runs in the remaining bits are
+-- the copies to come.
 pub record IsRunning {A : Type 0} (source target : List A) (total : ℕ) (items : List A) (copies at rest : ℕ) : Type 0 where
   pub within : at ≤ length source
   pub small : rest < 2 ^ (length source - at)
   pub gives : items ++ select (drop at source) (bits (length source - at) rest) ≡ target
   pub counts : copies + starts_after false (bits (length source - at) rest) ≡ total
 
--- t zeros and then r ones, at the low end of a word
+-- The lowest bits of a word are t zeros, then r ones, then a zero.
 pub record IsRun (rest t r : ℕ) : Type 0 where
   pub zeros : (i : ℕ) → i < t → bit_at rest i ≡ 0
   pub ones : (i : ℕ) → i < r → bit_at (rest / 2 ^ t) i ≡ 1
@@ -88,7 +89,7 @@ running_last source target total items copies at rest none was =
       omega (arith, was.counts, ap (λ w. starts_after false (bits (length source - at) w)) none, starts_of_zero (length source - at)),
     )
 
--- the lowest run of a word that is not 0
+-- The lowest run of a word that is not 0.
 pub lowest_run : (rest : ℕ) → 0 < rest → rest < 2 ^ 64 → IsRun rest (trailing_zeros w64 rest) (trailing_ones w64 (rest / 2 ^ trailing_zeros w64 rest))
 lowest_run rest some fits =
     let z = bit_at-trailing_zeros w64 rest some fits in
@@ -111,7 +112,7 @@ lowest_run rest some fits =
     (here first 64 (λ i lt. ap (λ y. bit_at y i) full ∙ bit_at_ones 64 i lt) (omega arith) (ap (λ y. bit_at (y / 2 ^ 64) 0) full)))
     (cases_lt (x + 1) (2 ^ 64))
 
--- the code shifts a run away in two steps, since it may have 64 bits
+-- The code shifts out a run in two steps, since a run can have 64 bits.
 pub shifted_away : (x r : ℕ) → 0 < r → x / 2 ^ (r - 1) / 2 ^ 1 ≡ x / 2 ^ r
 shifted_away x r some = let e : r - 1 + 1 ≡ r = omega arith in shr-shr x (r - 1) 1 ∙ ap (λ j. x / 2 ^ j) e
 

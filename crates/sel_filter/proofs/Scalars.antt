@@ -14,7 +14,7 @@ use Rattle.sel_filter.specs.Scalar.{up_to_boundary}
 abbrev first_byte : List ℕ → ℕ → List ℕ
 first_byte bytes o = get_or bytes 0 0 / 2 ^ o ∷ []
 
--- the bits of the first byte from its place o on
+-- The bits of the first byte from bit o on.
 pub first_bits : (bytes : List ℕ) (o n count : ℕ) → o < 8 → count ≤ n → count + o ≤ 8 → 0 < length bytes → bits_from (get_or bytes 0 0 / 2 ^ o ∷ []) 0 count ≡ take count (bits_from bytes o n)
 first_bits bytes o n count place le within some =
     same_lists (bits_from (first_byte bytes o) 0 count) (take count (bits_from bytes o n))
@@ -37,7 +37,7 @@ first_bits bytes o n count place le within some =
         ∙ ap (λ b. b == 1) (bit_at_shr (get_or bytes 0 0) o i ∙ ap (bit_at (get_or bytes 0 0)) place_there)
         ∙ ap (λ j. is_set (get_or bytes j 0) ((o + i) % 8)) (sym there)
 
--- the bits from the next byte on
+-- The bits from the second byte on.
 pub other_bits : (bytes : List ℕ) (o n count : ℕ) → 0 < o → o < 8 → count ≡ min n (8 - o) → bits_from (drop 1 bytes) 0 (n - count) ≡ drop count (bits_from bytes o n)
 other_bits bytes o n count some place is =
     same_lists (bits_from (drop 1 bytes) 0 (n - count)) (drop count (bits_from bytes o n))

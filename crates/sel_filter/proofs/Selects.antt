@@ -1,11 +1,11 @@
--- What a mask keeps.
+-- The elements that a mask selects.
 use Rattle.std.proofs.Common.{◌≡◌, ℕ, zero, suc, ◌+◌, ◌≤◌, Bool, true, false, List, [], ◌∷◌, ◌++◌, length, replicate, refl, ap, ◌∙◌, arith, cond}
 use Rattle.std.specs.Prelude.{count_by}
 use Rattle.std.proofs.lemmas.List.Sums.{sum_by-cons, sum_by-append, count_by-le-length}
 use Rattle.sel_bits.specs.Bits.{count_true}
 use Rattle.sel_filter.specs.Select.{select}
 
--- ---- how many are kept
+-- ---- the number of selected elements
 
 pub length-select : {A : Type 0} → (xs : List A) (ms : List Bool) → length xs ≡ length ms → length (select xs ms) ≡ count_by (λ b. b) ms
 length-select [] [] h = refl
@@ -24,7 +24,7 @@ few_kept (x ∷ xs) [] = omega arith
 few_kept (x ∷ xs) (true ∷ ms) = let rest = few_kept xs ms in omega (arith, rest)
 few_kept (x ∷ xs) (false ∷ ms) = let rest = few_kept xs ms in omega (arith, rest)
 
--- lists of one length keep as many
+-- A mask selects equally many elements of lists of equal length.
 pub as_many_kept : {A B : Type 0} → (xs : List A) (ys : List B) (ms : List Bool) → length xs ≡ length ys → length (select xs ms) ≡ length (select ys ms)
 as_many_kept [] [] ms h = refl
 as_many_kept [] (y ∷ ys) ms h = absurd (omega arith)
@@ -33,14 +33,14 @@ as_many_kept (x ∷ xs) (y ∷ ys) [] h = refl
 as_many_kept (x ∷ xs) (y ∷ ys) (true ∷ ms) h = ap suc (as_many_kept xs ys ms (omega arith))
 as_many_kept (x ∷ xs) (y ∷ ys) (false ∷ ms) h = as_many_kept xs ys ms (omega arith)
 
--- where each row is kept, they all are
+-- A mask with only true entries selects all elements.
 pub all_kept : {A : Type 0} → (xs : List A) (ms : List Bool) → length xs ≡ length ms → count_by (λ b. b) ms ≡ length ms → select xs ms ≡ xs
 all_kept [] ms h count = refl
 all_kept (x ∷ xs) [] h count = absurd (omega arith)
 all_kept (x ∷ xs) (true ∷ ms) h count = ap (λ l. x ∷ l) (all_kept xs ms (omega arith) (omega (arith, count, sum_by-cons (λ b. cond b 1 0) true ms)))
 all_kept (x ∷ xs) (false ∷ ms) h count = absurd (omega (arith, count, sum_by-cons (λ b. cond b 1 0) false ms, count_by-le-length (λ (b : Bool). b) ms))
 
--- where no entry is true, none is
+-- A mask without a true entry selects no element.
 pub none_kept : {A : Type 0} → (xs : List A) (ms : List Bool) → length xs ≡ length ms → count_by (λ b. b) ms ≡ 0 → [] ≡ select xs ms
 none_kept {A} xs ms h count = empty (select xs ms) (length-select xs ms h ∙ count)
   where
@@ -48,7 +48,7 @@ none_kept {A} xs ms h count = empty (select xs ms) (length-select xs ms h ∙ co
     empty [] none = refl
     empty (x ∷ l) none = absurd (omega arith)
 
--- ---- lists behind one another
+-- ---- concatenated lists
 
 pub count_cons : (b : Bool) (bs : List Bool) → count_true (b ∷ bs) ≡ cond b 1 0 + count_true bs
 count_cons b bs = sum_by-cons (λ x. cond x 1 0) b bs

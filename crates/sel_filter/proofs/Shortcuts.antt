@@ -1,4 +1,4 @@
--- The masks under which every kept bit is alike.
+-- Compression if the kept bits are all equal.
 use Rattle.std.proofs.Common.{◌≡◌, ℕ, zero, suc, ◌-◌, ◌/◌, ◌^◌, ◌<◌, ◌≤◌, ◌∙◌, sym, refl, ap, arith, List, [], ◌∷◌, replicate, Bool, true, false}
 use Rattle.std.specs.Prelude.{bit_and, count_ones}
 use Rattle.std.specs.Int.{bit_at}
@@ -16,7 +16,7 @@ use Rattle.sel_filter.proofs.Selects.{count_cons}
 use Rattle.sel_filter.proofs.WordLists.{ones_is}
 use Rattle.sel_bits.proofs.Packs.{length_bits}
 
--- only the bits under the mask count
+-- The compressed word depends only on the bits under the mask.
 compress_masked : (v m : ℕ) → compress v m ≡ compress (bit_and v m) m
 compress_masked v m =
     let s = compress_standing m (bit_and v m) in
@@ -26,7 +26,7 @@ compress_masked v m =
       from_kept = s.from_kept;
     })
 
--- no kept bit is set
+-- No kept bit is set.
 pub compress_none : (v m : ℕ) → bit_and v m ≡ 0 → 0 ≡ compress v m
 compress_none v m none =
     one_standing m v 6 _ _
@@ -48,7 +48,7 @@ word_of_ones : (n : ℕ) → word_of (replicate n true) ≡ 2 ^ n - 1
 word_of_ones zero = refl
 word_of_ones (suc n) = omega (arith, word_of_ones n, pow-suc 2 n, pow_pos n)
 
--- every kept bit is set
+-- Each kept bit is set.
 pub compress_all : (v m n : ℕ) → m < 2 ^ 64 → n ≡ count_ones m → bit_and v m ≡ m → (2 ^ 64 - 1) / 2 ^ (64 - n) ≡ compress v m
 unfolding compress
 compress_all v m n fits count all =

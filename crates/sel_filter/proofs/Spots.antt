@@ -1,4 +1,5 @@
--- Where a kept bit stands while the kept bits are moved together: `d - 1` of the clear bits below it, in the blocks of d, are passed.
+-- The positions of kept bits between the moves of the compress. After its moves by less than d, a
+-- bit has moved down by the number of clear mask bits below it, modulo d.
 use Rattle.std.proofs.Common.{◌≡◌, ℕ, suc, ◌+◌, ◌-◌, ◌*◌, ◌/◌, ◌%◌, ◌^◌, ◌<◌, ◌≤◌, ◌∙◌, ap, ⊎_elim, arith}
 use Rattle.std.specs.Int.{bit_at}
 use Rattle.std.proofs.lemmas.Nat.{div-mul-add, div-add-mod', mod_below, pow_pos, mul-le, le-div, mod-pow-add}
@@ -6,14 +7,14 @@ use Rattle.std.proofs.lemmas.Bool.{cases_lt}
 use Rattle.std.proofs.Math.Nat.{mod-one, mod-eq_of_lt}
 use Rattle.sel_filter.proofs.Clears.{clears, clears_le, clears_between, clears_past}
 
--- where the bit from place q stands once its moves by less than d are made
+-- The position of bit q after its moves by less than d.
 abbrev pub spot : ℕ → ℕ → ℕ → ℕ
 spot m d q = q - clears m q % d
 
 pub remainder_le : (a d q : ℕ) → 0 < d → a ≤ q → a % d ≤ q
 remainder_le a d q pos le = omega (arith, div-add-mod' a d)
 
--- a bit that has moved still has as many whole blocks of clear bits below it
+-- A bit that has moved still has as many whole blocks of clear bits below it.
 pub spot_block : (m d q : ℕ) → 0 < d → clears m (spot m d q) / d ≡ clears m q / d
 spot_block m d q pos =
     let a = clears m q in
@@ -26,7 +27,7 @@ spot_block m d q pos =
     let is : clears m s ≡ a / d * d + rest = omega (arith, split, between.0, between.1, le) in
     ap (λ x. x / d) is ∙ div-mul-add (a / d) d rest low
 
--- two kept bits stand in the order that they came from
+-- Moves keep the order of kept bits.
 pub spot_order : (m d q r : ℕ) → 0 < d → bit_at m q ≡ 1 → q < r → spot m d q < spot m d r
 spot_order m d q r pos kept lt =
     let past = clears_past m q r kept lt in
@@ -36,7 +37,7 @@ spot_order m d q r pos kept lt =
     div_mono : (a b d : ℕ) → 0 < d → a ≤ b → a / d ≤ b / d
     div_mono a b d pos le = le-div (a / d) b d pos (omega (arith, div-add-mod' a d))
 
--- two kept bits that stand at one place are one
+-- Two kept bits at the same position are the same bit.
 pub spot_same : (m d q r : ℕ) → 0 < d → bit_at m q ≡ 1 → bit_at m r ≡ 1 → spot m d q ≡ spot m d r → q ≡ r
 spot_same m d q r pos kept_q kept_r same =
     ⊎_elim
@@ -44,17 +45,17 @@ spot_same m d q r pos kept_q kept_r same =
     (λ le. ⊎_elim (λ lt. absurd (omega (arith, spot_order m d r q pos kept_r lt))) (λ ge. omega arith) (cases_lt r q))
     (cases_lt q r)
 
--- the next move takes a bit down by 2 ^ i places where its blocks are odd in number
+-- The next move moves a bit down by 2 ^ i positions if its number of blocks is odd.
 pub spot_next : (m i q : ℕ) → spot m (2 ^ suc i) q + clears m q / 2 ^ i % 2 * 2 ^ i ≡ spot m (2 ^ i) q
 spot_next m i q =
     let e : suc i ≡ 1 + i = omega arith in
     let h : clears m q % 2 ^ suc i ≡ clears m q / 2 ^ i % 2 ^ 1 * 2 ^ i + clears m q % 2 ^ i = ap (λ j. clears m q % 2 ^ j) e ∙ mod-pow-add (clears m q) 1 i in
     omega (arith, h, remainder_le (clears m q) (2 ^ suc i) q (pow_pos (suc i)) (clears_le m q))
 
--- before the first move each bit stands where it came from
+-- Before the first move each bit is at its original position.
 pub spot_first : (m q : ℕ) → spot m (2 ^ 0) q ≡ q
 spot_first m q = omega (arith, mod-one (clears m q))
 
--- after the last one a kept bit has passed every clear bit below it
+-- After the last move a kept bit has moved down by the number of clear bits below it.
 pub spot_last : (m q : ℕ) → q < 64 → spot m (2 ^ 6) q ≡ q - clears m q
 spot_last m q lt = omega (arith, clears_le m q, mod-eq_of_lt {n = clears m q} {m = 64} (omega (arith, clears_le m q)))

@@ -1,4 +1,4 @@
--- What words at every 64th place keep of rows, over plain variables.
+-- The bits that a mask keeps, word by word at multiples of 64, over plain variables.
 use Rattle.std.proofs.Common.{◌≡◌, ℕ, ◌+◌, ◌*◌, ◌≤◌, ◌∙◌, sym, ap, refl, arith, List, ◌++◌, length, take, drop, Bool, append-nil}
 use Rattle.std.proofs.Math.Seq.{take-add}
 use Rattle.std.proofs.lemmas.List.{take_all, length-take}
@@ -47,16 +47,16 @@ module _ (xs ms : List Bool) (vb mb : List ℕ) (vs s n block width marks : ℕ)
       ∙ sym (select-append (take at xs) (take at ms) a b (omega (arith, length-take at xs, length-take at ms, length_xs, length_ms)))
       ∙ (λ i. select (sym (take-add at width xs) i) (sym (take-add at width ms) i))
 
-  -- a word without a set bit
+  -- A word without a set bit.
   pub word_skipped : (kept : List Bool) → marks ≡ 0 → kept ≡ select (take (64 * block) xs) (take (64 * block) ms) → kept ≡ select (take (64 * block + width) xs) (take (64 * block + width) ms)
   word_skipped kept none was =
       word_more kept kept (word_of (bits_from (drop (8 * block) vb) vs width)) refl was
       (sym (append-nil kept) ∙ ap (λ l. kept ++ l) (sym (select_empty (word_of (bits_from (drop (8 * block) vb) vs width)) marks none)))
 
--- the rows up to the next word
+-- The rows up to the next word.
 pub next_word : (xs ms kept : List Bool) (block : ℕ) → kept ≡ select (take (64 * block + 64) xs) (take (64 * block + 64) ms) → kept ≡ select (take (64 * (block + 1)) xs) (take (64 * (block + 1)) ms)
 next_word xs ms kept block is = let e : 64 * block + 64 ≡ 64 * (block + 1) = omega arith in is ∙ (λ i. select (take (e i) xs) (take (e i) ms))
 
--- behind the last word all is kept that is
+-- After the last word all bits are filtered.
 pub words_all : (xs ms kept : List Bool) (n : ℕ) → length xs ≤ n → length ms ≤ n → kept ≡ select (take n xs) (take n ms) → kept ≡ select xs ms
 words_all xs ms kept n lx lm was = was ∙ (λ i. select (take_all n xs lx i) (take_all n ms lm i))

@@ -1,4 +1,4 @@
--- Runs of true bits in a word.
+-- Runs of set bits in a word.
 use Rattle.std.proofs.Common.{◌≡◌, ℕ, zero, suc, ◌+◌, ◌-◌, ◌*◌, ◌/◌, ◌^◌, ◌<◌, ◌≤◌, ◌∙◌, sym, refl, ap, arith, List, [], ◌∷◌, ◌++◌, length, take, drop, replicate, Bool, true, false}
 use Rattle.std.specs.Prelude.{◌==◌}
 use Rattle.std.specs.Int.{bit_at}
@@ -10,7 +10,7 @@ use Rattle.sel_bits.proofs.Lists.{bits_suc, bits_zero}
 use Rattle.sel_filter.proofs.WordLists.{bits_of_zero}
 use Rattle.sel_bits.proofs.Packs.{bits_split}
 
--- a word whose t lowest bits are all b
+-- A word whose t lowest bits are all b.
 bits_equal : (b t w : ℕ) → ((i : ℕ) → i < t → bit_at w i ≡ b) → bits t w ≡ replicate t (b == 1)
 bits_equal b zero w same = bits_zero w
 bits_equal b (suc t) w same =
@@ -42,12 +42,12 @@ starts_run : (r : ℕ) (ms : List Bool) → starts_after true (replicate r true 
 starts_run zero ms = refl
 starts_run (suc r) ms = starts_run r ms
 
--- a run that starts is one start, however long it is
+-- A run of any length is one start.
 pub starts_more : (r : ℕ) (ms : List Bool) → 0 < r → starts_after false (replicate r true ++ ms) ≡ 1 + starts_after true ms
 starts_more zero ms some = absurd (omega arith)
 starts_more (suc r) ms some = ap (λ n. 1 + n) (starts_run r ms)
 
--- before a false bit, or at the end, it does not matter what came before
+-- Before a false bit, or at the end, the preceding bit does not matter.
 pub starts_false : (n w : ℕ) → bit_at w 0 ≡ 0 → starts_after true (bits n w) ≡ starts_after false (bits n w)
 starts_false zero w low = ap (starts_after true) (bits_zero w) ∙ sym (ap (starts_after false) (bits_zero w))
 starts_false (suc n) w low =
@@ -61,7 +61,7 @@ starts_of_zero n = ap (starts_after false) (bits_of_zero n) ∙ none n
     none zero = refl
     none (suc k) = none k
 
--- a run can be cut at a boundary at the cost of one start
+-- A run that is cut at a boundary adds at most one start.
 pub starts_cut : (ms : List Bool) → starts_after false ms ≤ starts_after true ms + 1
 starts_cut [] = omega arith
 starts_cut (true ∷ ms) = omega arith
@@ -73,7 +73,8 @@ starts_le false [] = omega arith
 starts_le false (true ∷ ms) = omega arith
 starts_le false (false ∷ ms) = omega arith
 
--- two lists have no fewer starts together than one after another, but for a start at the seam
+-- The starts of two lists, of which the second follows a true entry, are at most those of their
+-- concatenation.
 pub starts_append : (b : Bool) (xs ys : List Bool) → starts_after b xs + starts_after true ys ≤ starts_after b (xs ++ ys)
 starts_append b [] ys = omega (arith, starts_le b ys)
 starts_append b (false ∷ xs) ys = starts_append false xs ys
@@ -90,7 +91,7 @@ starts_padded b (false ∷ xs) k = starts_padded false xs k
 starts_padded true (true ∷ xs) k = starts_padded true xs k
 starts_padded false (true ∷ xs) k = ap (λ n. 1 + n) (starts_padded true xs k)
 
--- at most every second entry starts a run
+-- At most every second entry starts a run.
 pub starts_half : (xs : List Bool) → (2 * starts_after false xs ≤ length xs + 1) × (2 * starts_after true xs ≤ length xs)
 starts_half [] = (omega arith, omega arith)
 starts_half (true ∷ xs) = let h = starts_half xs in (omega (arith, h.1), omega (arith, h.1))

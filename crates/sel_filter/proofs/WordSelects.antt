@@ -1,4 +1,4 @@
--- What a word selects of another one.
+-- The bits of a word that another word selects.
 use Rattle.std.proofs.Common.{◌≡◌, ◌≢◌, ℕ, zero, suc, ◌+◌, ◌-◌, ◌*◌, ◌/◌, ◌%◌, ◌^◌, ◌<◌, ◌≤◌, ◌∙◌, sym, refl, ap, subst, arith, List, [], ◌∷◌, ◌++◌, length, replicate, Bool, true, false, append-nil}
 use Rattle.std.specs.Prelude.{bit_and, ◌==◌, count_ones}
 use Rattle.std.specs.Int.{bit_at, trailing_zeros, w64}
@@ -16,7 +16,7 @@ use Rattle.sel_bits.proofs.Shifts.{bit_at_mod}
 use Rattle.sel_filter.proofs.WordLists.{bits_of_zero, bits_of_ones, bits_word_of, ones_is}
 use Rattle.sel_filter.proofs.Selects.{select-append, select_none, length-select}
 
--- what is the same on both sides and false in the mask selects nothing
+-- False bits at the end of the mask select nothing.
 pub select_padded : (xs : List Bool) (ms : List Bool) (k : ℕ) → length xs ≡ length ms → select (xs ++ replicate k false) (ms ++ replicate k false) ≡ select xs ms
 select_padded xs ms k long =
     select-append xs ms (replicate k false) (replicate k false) long ∙ ap (λ l. select xs ms ++ l) (select_none (replicate k false) k) ∙ append-nil (select xs ms)
@@ -50,7 +50,7 @@ select_all (x ∷ xs) (suc n) long = ap (λ l. x ∷ l) (select_all xs n (omega 
 pub select_full : (v m : ℕ) → m ≡ 18446744073709551615 → select (bits 64 v) (bits 64 m) ≡ bits 64 v
 select_full v m full = ap (λ x. select (bits 64 v) (bits 64 x)) full ∙ ap (select (bits 64 v)) (bits_of_ones 64) ∙ select_all (bits 64 v) 64 (length_bits 64 v)
 
--- one set bit
+-- A word with one set bit.
 single : (t r : ℕ) → t + suc r ≡ 64 → bits 64 (2 ^ t) ≡ replicate t false ++ true ∷ replicate r false
 single t r is =
     let e : 2 ^ t ≡ 1 * 2 ^ t + 0 = omega arith in
@@ -78,7 +78,7 @@ select_one word marks t lt is =
 pub lowest_within : (marks : ℕ) → marks < 2 ^ 64 → marks ≢ 0 → trailing_zeros w64 marks < 64
 lowest_within marks fits some = (bit_at-trailing_zeros w64 marks (omega arith) fits).0
 
--- the words of two lists
+-- The words of two lists.
 pub words_select : (a b : List Bool) (n : ℕ) → length a ≡ n → length b ≡ n → n ≤ 64 → select (bits 64 (word_of a)) (bits 64 (word_of b)) ≡ select a b
 words_select a b n la lb few =
     (λ i. select (padded a la i) (padded b lb i)) ∙ select_padded a b (64 - n) (la ∙ sym lb)

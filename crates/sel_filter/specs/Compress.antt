@@ -1,8 +1,9 @@
--- The bits of a word under another.
+-- The bits of a word under a mask, packed.
 use Rattle.std.specs.Prelude.{ℕ}
 use Rattle.sel_bits.specs.Words.{bits, word_of}
 use Rattle.sel_filter.specs.Select.{select}
 
--- the word whose bits are those of v where m has a set bit, from the lowest on, and then zeros (own: the parallel extract of bits)
+-- The bits of the 64-bit word v where m has a set bit, packed from the lowest and followed by zeros
+-- (parallel bit extract).
 unfoldable pub compress : ℕ → ℕ → ℕ
 compress v m = word_of (select (bits 64 v) (bits 64 m))

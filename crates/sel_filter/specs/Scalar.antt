@@ -1,12 +1,13 @@
--- Where a mask's next byte begins.
+-- The rows of a mask before a byte boundary.
 use Rattle.std.specs.Prelude.{ℕ, zero, suc, ◌-◌, ◌%◌, min, length}
 use Rattle.sel_bits.specs.Bits.{Bits}
 
--- how many rows there are up to a boundary of the bytes, where the first stands at this place of its byte (own)
+-- The number of rows before the next byte boundary, of n rows whose first one is at this bit
+-- position of its byte; 0 for position 0.
 abbrev pub up_to_boundary : ℕ → ℕ → ℕ
 up_to_boundary zero n = 0
 up_to_boundary (suc place) n = min n (8 - suc place)
 
--- how many of a mask's rows stand before its next byte boundary (own)
+-- The number of rows of a mask before its next byte boundary; 0 if it begins at one.
 abbrev pub rows_to_boundary : Bits → ℕ
 rows_to_boundary mask = up_to_boundary (mask.offset % 8) (length mask.bits)

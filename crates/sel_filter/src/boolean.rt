@@ -168,7 +168,8 @@ pub fn filter_boolean_kernel_pext(
 /// Appends the bits of `word` where `marks` has a set bit, in order.
 #[inline(always)]
 fn append_kept(kept: &mut BitPacker, word: u64, marks: u64) -> PolarsResult<()>
-    ensures appended { OnOk result (kept.new ≡ kept.old ++ select (bits 64 word) (bits 64 marks)) }
+    ensures appended { OnOk result (kept.new ≡ kept.old ++ select (bits 64 word)
+        (bits 64 marks)) }
     ensures refusal { IfErr result (λ fault. fault ≡ PolarsError.OutOfMemory) }
 {
     if marks == 0 {

@@ -64,7 +64,8 @@ pub fn pext64_rounds(word: &mut MovingWord, m: u64)
 
 /// Returns the bits above the set bit of a word with at most one set bit, or 0 without one.
 fn above_single(x: u64) -> u64
-    ensures { ones_below x 64 ≤ 1 → (p : ℕ) → p < 64 → bit_at result p ≡ ones_below x p % 2 }
+    ensures { ones_below x 64 ≤ 1 → (p : ℕ) → p < 64 → bit_at result p ≡
+        ones_below x p % 2 }
 {
     x.wrapping_neg() << 1
 }

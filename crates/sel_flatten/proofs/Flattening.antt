@@ -1,4 +1,4 @@
--- Rows side by side: their parts, how long they are, and the runs that pick them.
+-- Horizontal flatten: the entries of each row, the row width, and the runs of row references.
 use Rattle.std.proofs.Common.{◌≡◌, ◌⊎◌, inl, inr, ℕ, zero, suc, ◌+◌, ◌*◌, ◌<◌, ◌≤◌, Bool, true, false, ◌&&◌, ◌||◌, ◌==◌, nat_lt, All, Bor, List, [], ◌∷◌, ◌++◌, length, take, drop, map, refl, sym, ap, subst, ◌∙◌, arith, get_or, drop-cons, length-append, Some, zero-add, add-one}
 use Rattle.std.specs.List.{flat_map, range_with_len}
 use Rattle.std.specs.Prelude.{if◌then◌else◌}
@@ -22,9 +22,9 @@ use Rattle.sel_arrow.proofs.Rows.{length-part}
 use Rattle.sel_flatten.specs.Flatten.{flatten, flat_row, row_part, part_fits, parts_fit}
 use Rattle.sel_flatten.specs.Widths.{row_width}
 
--- ---- parts that fit
+-- ---- lists that fit their widths
 
--- there is a width for each list
+-- There is a width for each list.
 pub widths_long : {A : Type 0} (h : ℕ) (xss : List (List A)) (ws : List ℕ) → parts_fit h xss ws ≡ true → length xss ≡ length ws
 widths_long h [] [] fit = refl
 widths_long h [] (w ∷ ws) fit = absurd cc
@@ -32,7 +32,7 @@ widths_long h (xs ∷ xss) [] fit = absurd cc
 widths_long h (xs ∷ xss) (w ∷ ws) fit =
     ap suc (widths_long h xss ws (and_second (part_fits h (length xs) w) (parts_fit h xss ws) fit))
 
--- so many entries for each of h rows, or for one
+-- There are w entries for each of h rows, or for a single row, and w is not 0.
 abbrev pub Parts : ℕ → ℕ → ℕ → Type 0
 Parts h n w = (0 < w) × ((n ≡ w * h) ⊎ (n ≡ w))
 
@@ -52,12 +52,12 @@ part_at h (xs ∷ xss) (w ∷ ws) zero fit inside =
 part_at h (xs ∷ xss) (w ∷ ws) (suc s) fit inside =
     part_at h xss ws s (and_second (part_fits h (length xs) w) (parts_fit h xss ws) fit) (omega (arith, inside))
 
--- one list and the others
+-- One list, and the others.
 pub fit_from : {A : Type 0} (h : ℕ) (xss : List (List A)) (ws : List ℕ) (s : ℕ) → s < length xss → s < length ws →
     parts_fit h (drop s xss) (drop s ws) ≡ (part_fits h (length (get_or xss s [])) (get_or ws s 0) && parts_fit h (drop (s + 1) xss) (drop (s + 1) ws))
 fit_from h xss ws s there here = rw (add-one, drop-cons xss s [] there, drop-cons ws s 0 here) refl
 
--- the same of columns
+-- One column, and the others.
 pub one_fits : (h : ℕ) (arrays : List ArrayRef) (ws : List ℕ) (s : ℕ) (a : ArrayRef) (n : ℕ) → length arrays ≡ length ws → s < length ws → a ≡ get_or arrays s a → n ≡ length (rows a.column) →
     parts_fit h (drop s (map (λ a. rows a.column) arrays)) (drop s ws) ≡ (part_fits h n (get_or ws s 0) && parts_fit h (drop (s + 1) (map (λ a. rows a.column) arrays)) (drop (s + 1) ws))
 one_fits h arrays ws s a n paired inside is long =
@@ -66,7 +66,7 @@ one_fits h arrays ws s a n paired inside is long =
     ∙ ap (λ l. part_fits h (length l) (get_or ws s 0) && parts_fit h (drop (s + 1) (map (λ (x : ArrayRef). rows x.column) arrays)) (drop (s + 1) ws)) (get_or-map (λ (x : ArrayRef). rows x.column) arrays s a [] there ∙ ap (λ (x : ArrayRef). rows x.column) (sym is))
     ∙ ap (λ k. part_fits h k (get_or ws s 0) && parts_fit h (drop (s + 1) (map (λ (x : ArrayRef). rows x.column) arrays)) (drop (s + 1) ws)) (sym long)
 
--- without a width for each there is no fit
+-- Lists do not fit if their number differs from that of the widths.
 pub unpaired : {A : Type 0} (h : ℕ) (xss : List (List A)) (ws : List ℕ) → (length xss ≡ length ws → ⊥) → false ≡ parts_fit h xss ws
 unpaired h xss ws other = no_fit (parts_fit h xss ws) (λ fit. other (widths_long h xss ws fit))
   where
@@ -89,7 +89,7 @@ width_room [] s inside = absurd (omega (arith, inside))
 width_room (w ∷ ws) zero inside = omega arith
 width_room (w ∷ ws) (suc s) inside = let e = width_room ws s (omega (arith, inside)) in omega (arith, e)
 
--- there are no more widths than entries in a row
+-- There are no more widths than entries in a row.
 pub width_count : {A : Type 0} (h : ℕ) (xss : List (List A)) (ws : List ℕ) → parts_fit h xss ws ≡ true → length ws ≤ row_width ws
 width_count h [] [] fit = omega arith
 width_count h [] (w ∷ ws) fit = absurd cc
@@ -98,8 +98,6 @@ width_count h (xs ∷ xss) (w ∷ ws) fit =
     let some = (part_at h (xs ∷ xss) (w ∷ ws) 0 fit (omega arith)).0 in
     let e = width_count h xss ws (and_second (part_fits h (length xs) w) (parts_fit h xss ws) fit) in
     omega (arith, e, some)
-
--- ---- one row
 
 -- ---- all rows
 
@@ -115,9 +113,9 @@ flatten_more xss ws r =
     ∙ flat_map-append rows (range_with_len 0 r) (r ∷ [])
     ∙ ap (λ l. flatten xss ws r ++ l) (append-nil (flat_row r xss ws))
 
--- ---- how long rows are
+-- ---- the length of rows
 
--- the row's part ends within a list that has so many for each row
+-- The entries of a row are in bounds of a list that has w of them for each row.
 pub row_inside : (r h n w : ℕ) → r < h → n ≡ w * h → r * w + w ≤ n
 row_inside r h n w inside long =
     let more : (r + 1) * w ≤ h * w = mul-le (r + 1) w h w (omega (arith, inside)) (omega arith) in
@@ -125,7 +123,7 @@ row_inside r h n w inside long =
     let one : (r + 1) * w ≡ r * w + w = omega arith in
     omega (arith, more, one, long, turned)
 
--- a list that has not the width's length alone has so many for each row
+-- A list that is not as long as its width has w entries for each row.
 pub many_of : (h n w : ℕ) → ((n ≡ w * h) ⊎ (n ≡ w)) → (n == w) ≡ false → n ≡ w * h
 many_of h n w (inl e) other = e
 many_of h n w (inr e) other = absurd (true_false (sym (eq-eqb n w e) ∙ other))
@@ -161,21 +159,21 @@ flat_length h (suc n) xss ws inside fit =
 
 -- ---- the runs of a row
 
--- where a run begins, and its part
+-- The start of a run, and its entries.
 pub start_at : {A : Type 0} (r : ℕ) (xs : List A) (w : ℕ) (start : ℕ) (b : Bool) → (length xs == w) ≡ b → start ≡ (if b then 0 else r * w) → take w (drop start xs) ≡ row_part r xs w
 start_at r xs w start true e is = rw (e, is) (take_all w xs (let long = eqb-true (length xs) w e in omega (arith, long)))
 start_at r xs w start false e is = rw (e, is) refl
 
 -- ---- columns as the sources of rows
 
--- what the engine asks of its sources
+-- The requirements for the sources of a gather.
 pub record AsSources (cs : List (Bor Column)) (arrays : List ArrayRef) : Type 0 where
   pub some : 0 < length cs
   pub alike : All (λ c. type_of c.now ≡ first_type (map (λ x. x.now) cs)) cs
   pub formed : All (λ c. IsWellFormed c.now) cs
   pub rows : map (λ c. rows c.now) cs ≡ map (λ a. rows a.column) arrays
 
--- what holds of each array's column holds of each column
+-- What holds for the column of each array holds for each column.
 all_found : (P : Column → Type 0) (cs : List (Bor Column)) (arrays : List ArrayRef) → map (λ c. c.now) cs ≡ map (λ a. a.column) arrays → All (λ a. P a.column) arrays → All (λ c. P c.now) cs
 all_found P cs arrays same all k d below =
     let columns = subst (All P) (sym same) (All-map P (λ (a : ArrayRef). a.column) arrays all) in
@@ -191,12 +189,12 @@ as_sources cs arrays same some alike = record {
   rows = sym (map-map rows (λ (c : Bor Column). c.now) cs) ∙ ap (map rows) same ∙ map-map rows (λ (a : ArrayRef). a.column) arrays;
 }
 
--- ---- one part more
+-- ---- one more part
 
 pub rows_at : (arrays : List ArrayRef) (s : ℕ) (a : ArrayRef) → s < length arrays → a ≡ get_or arrays s a → get_or (map (λ x. rows x.column) arrays) s [] ≡ rows a.column
 rows_at arrays s a inside is = get_or-map (λ (x : ArrayRef). rows x.column) arrays s a [] inside ∙ ap (λ (x : ArrayRef). rows x.column) (sym is)
 
--- what a run of a part picks, and that its rows are there
+-- The rows of the run of a part, which are in bounds.
 pub part_picked : (arrays : List ArrayRef) (s : ℕ) (a : ArrayRef) (run : Run) (r w : ℕ) → s < length arrays → a ≡ get_or arrays s a → run.source ≡ Some s → run.start + run.len ≤ length (rows a.column) →
     take run.len (drop run.start (rows a.column)) ≡ row_part r (rows a.column) w → pick Null (map (λ x. rows x.column) arrays) (unrolled run) ≡ row_part r (get_or (map (λ x. rows x.column) arrays) s []) w
 part_picked arrays s a run r w inside is source within part =

@@ -1,4 +1,5 @@
--- Picks of columns side by side: how a walk over them goes on, and what they find.
+-- The row references of a horizontal flatten: the iteration over them, and the rows that they refer
+-- to.
 use Rattle.std.proofs.Common.{◌≡◌, ℕ, zero, suc, ◌+◌, ◌-◌, ◌*◌, ◌<◌, ◌≤◌, Bool, true, false, ◌==◌, All, List, [], ◌∷◌, ◌++◌, length, take, drop, refl, sym, ap, ◌∙◌, arith, get_or, drop-cons, append_assoc, length-append, Some, Option, add-one}
 use Rattle.std.specs.List.{flat_map, range_with_len}
 use Rattle.std.specs.Prelude.{if◌then◌else◌}
@@ -20,7 +21,7 @@ use Rattle.sel_flatten.specs.Lanes.{lane_of, lanes_of, row_picks, rows_picks, le
 use Rattle.sel_flatten.specs.declared.woven.Lane.{Lane}
 use Rattle.sel_flatten.proofs.Flattening.{Parts, part_at, row_inside, many_of, start_at, width_room}
 
--- ---- a walk
+-- ---- the iteration
 
 lane_next : (r j : ℕ) (lane : Lane) (lanes : List Lane) → j < length lanes → lane ≡ get_or lanes j lane →
     row_picks r j (drop j lanes) ≡ picks_of j (r * lane.step) lane.width ++ row_picks r (j + 1) (drop (j + 1) lanes)
@@ -28,34 +29,34 @@ lane_next r j lane lanes inside is =
     ap (row_picks r j) (drop-cons lanes j lane inside ∙ ap (λ l. l ∷ drop (suc j) lanes) (sym is))
     ∙ ap (λ k. picks_of j (r * lane.step) lane.width ++ row_picks r (j + 1) (drop k lanes)) (sym (add-one j))
 
--- the next lane
+-- The next lane.
 pub turn_lane : (s at j r n : ℕ) (lane : Lane) (lanes : List Lane) → j < length lanes → lane ≡ get_or lanes j lane →
     left_picks j (r * lane.step) lane.width (j + 1) r n lanes ≡ left_picks s at 0 j r n lanes
 turn_lane s at j r n lane lanes inside is =
     sym (ap (λ l. l ++ rows_picks (r + 1) n lanes) (lane_next r j lane lanes inside is)
     ∙ append_assoc (picks_of j (r * lane.step) lane.width) (row_picks r (j + 1) (drop (j + 1) lanes)) (rows_picks (r + 1) n lanes))
 
--- the next row
+-- The next row.
 pub turn_row : (s at r n : ℕ) (lanes : List Lane) → 0 < n → left_picks s at 0 0 (r + 1) (n - 1) lanes ≡ left_picks s at 0 (length lanes) r n lanes
 turn_row s at r zero lanes h = absurd (omega (arith, h))
 turn_row s at r (suc n) lanes h =
     let same : n ≡ suc n - 1 = omega arith in
     sym (ap (λ l. row_picks r (length lanes) l ++ rows_picks (r + 1) (suc n) lanes) (drop-length lanes) ∙ ap (λ k. row_picks (r + 1) 0 lanes ++ rows_picks ((r + 1) + 1) k lanes) same)
 
--- behind the last lane there is a row where something is left
+-- If row references remain after the last lane, a row remains.
 pub some_below : (s at r n : ℕ) (lanes : List Lane) → 0 < length (left_picks s at 0 (length lanes) r n lanes) → 0 < n
 some_below s at r zero lanes h =
     let none : left_picks s at 0 (length lanes) r 0 lanes ≡ [] = ap (λ l. row_picks r (length lanes) l ++ []) (drop-length lanes) in
     absurd (omega (arith, h, ap length none))
 some_below s at r (suc n) lanes h = omega arith
 
--- a part and what is behind it
+-- The run of a part, and the row references after it.
 pub left_run : (s at part on j r n : ℕ) (lanes : List Lane) → length (left_picks s at part j r n lanes) ≡ part + length (left_picks s on 0 j r n lanes)
 left_run s at part on j r n lanes =
     let rest = row_picks r j (drop j lanes) ++ rows_picks (r + 1) n lanes in
     length-append (picks_of s at part) rest ∙ ap (λ k. k + length rest) (length-map-range_with_len (λ i. let pick : Option (ℕ × ℕ) = Some (s, i) in pick) at part)
 
--- no pick is none
+-- No row reference is null.
 part_picked : (s at n : ℕ) → All IsPicked (picks_of s at n)
 part_picked s at zero k d h = absurd (omega (arith, h))
 part_picked s at (suc n) zero d h = tt
@@ -77,7 +78,7 @@ left_picked s at part j r n lanes =
     All-append IsPicked (picks_of s at part) (row_picks r j (drop j lanes) ++ rows_picks (r + 1) n lanes) (part_picked s at part)
     (All-append IsPicked (row_picks r j (drop j lanes)) (rows_picks (r + 1) n lanes) (row_picked r j (drop j lanes)) (rows_picked (r + 1) n lanes))
 
--- all rows are left at first
+-- At first, all row references remain.
 pub left_first : (s at h : ℕ) (lanes : List Lane) → 0 < h → left_picks s at 0 0 0 (h - 1) lanes ≡ rows_picks 0 h lanes
 left_first s at zero lanes some = absurd (omega (arith, some))
 left_first s at (suc h) lanes some = let same : suc h - 1 ≡ h = omega arith in ap (λ n. row_picks 0 0 lanes ++ rows_picks 1 n lanes) same
@@ -91,12 +92,12 @@ lanes_step (xs ∷ xss) [] s long inside = absurd (omega (arith, long))
 lanes_step (xs ∷ xss) (w ∷ ws) zero long inside = refl
 lanes_step (xs ∷ xss) (w ∷ ws) (suc s) long inside = ap (λ l. lane_of (length xs) w ∷ l) (lanes_step xss ws s (omega (arith, long)) (omega (arith, inside)))
 
--- one lane more
+-- One more lane.
 pub lanes_more : {A : Type 0} (xss : List (List A)) (ws : List ℕ) (s : ℕ) → length xss ≡ length ws → s < length ws →
     lanes_of (take (s + 1) xss) (take (s + 1) ws) ≡ lanes_of (take s xss) (take s ws) ++ lane_of (length (get_or xss s [])) (get_or ws s 0) ∷ []
 lanes_more xss ws s long inside = ap (λ k. lanes_of (take k xss) (take k ws)) (add-one s) ∙ lanes_step xss ws s long inside
 
--- ---- what the picks find
+-- ---- the rows that the row references refer to
 
 start_is : (b : Bool) (r w : ℕ) → r * (if b then 0 else w) ≡ (if b then 0 else r * w)
 start_is true r w = let none : r * 0 ≡ 0 = omega arith in none
@@ -153,7 +154,7 @@ module _ {A : Type 0} (d : A) (xss : List (List A)) (ws : List ℕ) (h : ℕ) (f
       ∙ ap (λ l. l ++ pick d xss (rows_picks (r + 1) n (lanes_of xss ws))) (row_woven d xss r h (omega (arith, inside)) 0 xss ws refl fit)
       ∙ ap (λ l. flat_row r xss ws ++ l) (rows_from (r + 1) n (omega (arith, inside)))
 
-  -- all rows' picks find the flattened columns
+  -- The row references of all rows give the flattened columns.
   pub rows_woven : pick d xss (rows_picks 0 h (lanes_of xss ws)) ≡ flatten xss ws h
   rows_woven = rows_from 0 h (omega arith)
 
@@ -166,7 +167,7 @@ module _ {A : Type 0} (d : A) (xss : List (List A)) (ws : List ℕ) (h : ℕ) (f
   pub woven_fit : All (PickFits xss) (rows_picks 0 h (lanes_of xss ws))
   woven_fit = fits_from 0 h (omega arith)
 
--- ---- what a walk over the picks stands on
+-- ---- properties of each lane
 
 each_lane : (P : Lane → Type 0) → {A : Type 0} → (xss : List (List A)) (ws : List ℕ) → ((s : ℕ) → s < length ws → P (lane_of (length (get_or xss s [])) (get_or ws s 0))) → All P (lanes_of xss ws)
 each_lane P [] ws holds k d h = absurd (omega (arith, h))

@@ -1,7 +1,7 @@
--- How wide a row is, as the steps of a flatten speak of it.
+-- The width of a row, for the internal steps of a flatten.
 use Rattle.std.specs.Prelude.{ℕ, ◌+◌, List, [], ◌∷◌}
 
--- how many entries one row has (own)
+-- The number of entries of one row.
 abbrev pub row_width : List ℕ → ℕ
 row_width [] = 0
 row_width (w ∷ ws) = w + row_width ws

@@ -2,9 +2,9 @@
 
 ghost use Rattle.std.specs.Prelude.{◌≡◌, ◌≤◌, ◌<◌, ◌+◌, ◌*◌, ◌++◌, ◌↔◌, Some, All, length, map, take, drop, IsTrue, IfSome, IfNone, IfOk, IfErr, OnOk};
 ghost use Rattle.sel_arrow.specs.Rows.{rows, type_of};
-ghost use Rattle.sel_runs.specs.Need.{IsRefusal, PassesNone};
+ghost use Rattle.sel_runs.specs.Need.{IsLimitOrMemory, ExceedsNone};
 ghost use Rattle.sel_runs.specs.Sources.{first_type};
-ghost use Rattle.sel_flatten.specs.Flatten.{array_columns, array_rows, flatten, part_fits, parts_fit, past_flattened};
+ghost use Rattle.sel_flatten.specs.Flatten.{array_columns, array_rows, flatten, part_fits, parts_fit, exceeded_flattened};
 ghost use Rattle.sel_flatten.specs.Widths.{row_width};
 ghost use Rattle.sel_flatten.specs.Lanes.{lane_of as lane_for, lanes_of};
 
@@ -47,11 +47,11 @@ pub fn horizontal_flatten_unchecked(
         flatten (array_rows arrays.now) widths.now output_height) }
     ensures dtype { IfOk result (λ flat. type_of flat.column ≡
         first_type (array_columns arrays.now)) }
-    ensures within { IfOk result (λ _. PassesNone
-        (past_flattened output_height (first_type (array_columns arrays.now))
+    ensures within { IfOk result (λ _. ExceedsNone
+        (exceeded_flattened output_height (first_type (array_columns arrays.now))
         (array_columns arrays.now) (flatten (array_rows arrays.now) widths.now output_height))) }
-    ensures refusal { IfErr result (IsRefusal
-        (past_flattened output_height (first_type (array_columns arrays.now))
+    ensures refusal { IfErr result (IsLimitOrMemory
+        (exceeded_flattened output_height (first_type (array_columns arrays.now))
         (array_columns arrays.now) (flatten (array_rows arrays.now) widths.now output_height))) }
 {
     if output_height == 0 {
@@ -167,11 +167,11 @@ fn collect_flat(
         flatten (array_rows arrays.now) widths.now height) }
     ensures dtype { IfOk result (λ flat. type_of flat.column ≡
         first_type (array_columns arrays.now)) }
-    ensures within { IfOk result (λ _. PassesNone
-        (past_flattened height (first_type (array_columns arrays.now))
+    ensures within { IfOk result (λ _. ExceedsNone
+        (exceeded_flattened height (first_type (array_columns arrays.now))
         (array_columns arrays.now) (flatten (array_rows arrays.now) widths.now height))) }
-    ensures refusal { IfErr result (IsRefusal
-        (past_flattened height (first_type (array_columns arrays.now))
+    ensures refusal { IfErr result (IsLimitOrMemory
+        (exceeded_flattened height (first_type (array_columns arrays.now))
         (array_columns arrays.now) (flatten (array_rows arrays.now) widths.now height))) }
 {
     let lanes = lanes_of_parts(alloc, arrays, widths)?;

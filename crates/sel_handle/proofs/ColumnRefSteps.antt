@@ -52,7 +52,7 @@ word p = vstruct (vcons (ptr_val p) vnil)
 pub told : (p : Ptr) (vs : List Val) → Is Data (p, tt) vs → vs ≡ word p ∷ []
 told p vs is = is.1.0 ∙ ap (λ (ws : List Val). vstruct (of_list (ws ++ [])) ∷ []) is.1.1.0
 
--- what a `ColumnRef` owns can be duplicated, since a share of a lifetime token splits into two
+-- What a `ColumnRef` owns can be duplicated, since a share of a lifetime token splits into two.
 module _ {M : Type 1} {𝓤 : Ura M} (𝓛 : Logic 𝓤) where
   open 𝓛 use {H, A}
 
@@ -88,7 +88,7 @@ module _ {M : Type 1} {𝓤 : Ura M} (𝓛 : Logic 𝓤) where
       (λ q. part_in 𝓛 reference.the_type q d b o) (λ q. part_out 𝓛 reference.the_type q d b o)
       (Cuts-both 𝓛 (λ q. part_at Data q (d.at, tt) b o) (λ q. ref_owns d.at d.tree) (copied.cuts (d.at, tt) b o) (owned_Cuts d.at d.tree))
 
-  -- a borrow of what a `ColumnRef` with a column owns is a `&` to the column for the same lifetime
+  -- A borrow of what a `ColumnRef` with a column owns is a `&` to the column for the same lifetime.
   module _ (p : Ptr) (x : R.Denot) (κ : Lft) (q : Share) where
     abbrev Owns : Fml
     Owns = ref_owns p (Some x)
@@ -96,14 +96,14 @@ module _ {M : Type 1} {𝓤 : Ura M} (𝓛 : Logic 𝓤) where
     laws : ShrLaws (lent_at R p x)
     laws = lent_at_shr_laws R tree_laws.the_row_laws.shr_laws p x
 
-    -- the column is shared for a lifetime whose token is borrowed for κ
+    -- The column is shared for a lifetime whose token is borrowed for κ.
     abbrev Kept : ℕ → Share → Fml
     Kept a e = fsep (fbor κ (flft (a ∷ []) e)) (lent_at R p x (a ∷ []))
 
     abbrev AnyKept : Fml
     AnyKept = fex ℕ (λ a. fex Share (λ e. Kept a e))
 
-    -- with the token back, what the `ColumnRef` owns is whole again
+    -- With the token back, what the `ColumnRef` owns is whole again.
     whole : (may : Testable p) (a : ℕ) (e : Share) → ent 𝓤 (sem 𝓛 (lent_at R p x (a ∷ []))) (sem 𝓛 (fwand (fsep (fdead κ) (fseps (flft (a ∷ []) e ∷ []))) (fupd Owns)))
     unfolding fseps
     whole may a e = qed 𝓛 (‵ (lent_at R p x (a ∷ [])) ∷ []) ∵ assume ! (‵ (fsep (fdead κ) (fsep (flft (a ∷ []) e) ftrue))) $ suffices ! (sem 𝓛 Owns) (upd_i 𝓤 (sem 𝓛 Owns)) $
@@ -119,7 +119,7 @@ module _ {M : Type 1} {𝓤 : Ura M} (𝓛 : Logic 𝓤) where
         fpack ! Share (λ s. Kept a s) e $ fpack ! ℕ (λ b. fex Share (λ s. Kept b s)) a $
         use0 𝓛 (raw (fact 𝓤 (Testable p))) (fact_i 𝓤 (Testable p) (emp 𝓤) may) $ now ! $ done !)))
 
-    -- a lifetime whose token is borrowed for κ lasts for κ
+    -- A lifetime whose token is borrowed for κ lasts for κ.
     reaches : (a : ℕ) (e : Share) → ent 𝓤 (sep 𝓤 (A.bor κ (flft (a ∷ []) e)) (sem 𝓛 (lent_at R p x (a ∷ [])))) (H.⇛ (sem 𝓛 (lent_at R p x κ)))
     reaches a e = qed 𝓛 (‵ (fbor κ (flft (a ∷ []) e)) ∷ ‵ (lent_at R p x (a ∷ [])) ∷ []) ∵ updating ! $ bor_fracture ! tt (λ r. flft (a ∷ []) r) e $
         use2 𝓛 (‵ (lent_at R p x κ)) (moves_from 𝓛 (lent_at R p x) laws κ (a ∷ []) (a ∷ []) (meet_⊑_left (a ∷ []) κ)) $ now ! $ done !
@@ -133,7 +133,7 @@ module _ {M : Type 1} {𝓤 : Ura M} (𝓛 : Logic 𝓤) where
   none_shown p κ q = qed 𝓛 (‵ (fbor κ (ref_owns p None)) ∷ ‵ (flft κ q) ∷ []) ∵ updating ! $ bor_open ! tt $ move ! (1 ∷ []) $ feq_l ! (λ e. feq_i ! Ptr p null_ptr e $ move ! (1 ∷ 0 ∷ []) $ obor_close ! tt $ drop ! $
       use0 𝓛 (raw (fact 𝓤 (p ≡ null_ptr))) (fact_i 𝓤 (p ≡ null_ptr) (emp 𝓤) e) $ now ! $ done !)
 
-  -- a `&ColumnRef` is a `&` to its pointer field and a borrow of what it owns
+  -- A `&ColumnRef` is a `&` to its pointer field and a borrow of what it owns.
   module _ (d : Row.Denot) (b o : ℕ) (κ : Lft) (q : Share) where
     abbrev Part : Share → Fml
     Part s = part_at Data s (d.at, tt) b o
@@ -157,7 +157,7 @@ module _ {M : Type 1} {𝓤 : Ura M} (𝓛 : Logic 𝓤) where
         move ! (0 ∷ 2 ∷ []) $ now ! $ done !)
 
 module _ {M : Type 1} {𝓤 : Ura M} {𝓛 : Logic 𝓤} {K : Type 0} {Γ : List (Item 𝓤)} {G : Goal 𝓤 𝓛.H} where
-  -- a borrow of what a `ColumnRef` owns: no column if the pointer is null, else a `&` to the column, and a pointer that can be compared with null
+  -- A borrow of what a `ColumnRef` owns: no column if the pointer is null, else a `&` to the column, and a pointer that can be compared with null.
   pub either_ref : K → Soaks G → (p : Ptr) (held : Held) {κ : Lft} {q : Share}
       → (p ≡ null_ptr → held ≡ None → Seq K 𝓛 (‵ (flft κ q) ∷ Γ) G)
       → ((b o : ℕ) (x : R.Denot) → p ≡ block_ptr b o → held ≡ Some x → Testable (block_ptr b o) → Seq K 𝓛 (‵ (hidden_shr R κ x b o) ∷ ‵ (flft κ q) ∷ Γ) G)

@@ -1,7 +1,7 @@
 -- Struct columns over the fields that callers pass.
 use Rattle.std.proofs.Common.{◌≡◌, List, [], ◌∷◌, map, refl, ap, ◌∙◌}
-use Rattle.sel_arrow.specs.Nested.{tuple_rows}
-use Rattle.sel_arrow.specs.NestedArrays.{tuple_column}
+use Rattle.sel_arrow.specs.Nested.{struct_rows}
+use Rattle.sel_arrow.specs.NestedArrays.{struct_column}
 use Rattle.sel_arrow.specs.Rows.{rows, type_of}
 use Rattle.sel_arrow.specs.Shape.{of_struct, shapes_of}
 use Rattle.sel_arrow.specs.declared.array_ref.ArrayRef.{ArrayRef}
@@ -14,10 +14,10 @@ each : {B : Type 0} → (f : Column → B) (fields : List ArrayRef) → map f (m
 each f [] = refl
 each f (field ∷ fields) = ap (λ rest. f field.column ∷ rest) (each f fields)
 
-pub tuple_column_rows : (array : StructArray) (fields : List ArrayRef) → array.fields.items ≡ map (λ field. field.column) fields → rows (tuple_column array) ≡ tuple_rows array.len (map (λ field. rows field.column) fields) array.validity
-tuple_column_rows array fields same = rows-Struct array.len array.fields array.validity ∙ ap (λ l. tuple_rows array.len l array.validity) (ap (map rows) same ∙ each rows fields)
+pub tuple_column_rows : (array : StructArray) (fields : List ArrayRef) → array.fields.items ≡ map (λ field. field.column) fields → rows (struct_column array) ≡ struct_rows array.len (map (λ field. rows field.column) fields) array.validity
+tuple_column_rows array fields same = rows-Struct array.len array.fields array.validity ∙ ap (λ l. struct_rows array.len l array.validity) (ap (map rows) same ∙ each rows fields)
 
-pub tuple_column_type : (array : StructArray) (fields : List ArrayRef) → array.fields.items ≡ map (λ field. field.column) fields → type_of (tuple_column array) ≡ of_struct (shapes_of (map (λ field. type_of field.column) fields))
+pub tuple_column_type : (array : StructArray) (fields : List ArrayRef) → array.fields.items ≡ map (λ field. field.column) fields → type_of (struct_column array) ≡ of_struct (shapes_of (map (λ field. type_of field.column) fields))
 tuple_column_type array fields same = type_of-Struct array.len array.fields array.validity ∙ ap (λ l. of_struct (shapes_of l)) (ap (map type_of) same ∙ each type_of fields)
 
 pub ruleset tuples = (tuple_column_rows, tuple_column_type)

@@ -7,13 +7,13 @@ use Rattle.std.specs.declared.option.Option.TheVariants.{None, Some}
 use Rattle.sel_arrow.specs.contracts.array_ref.ArrayRef.{the_row}
 use Rattle.sel_handle.specs.Held.{Held}
 
--- a share of the token of lifetime `a`: while it is held, the lifetime does not end
+-- A share of the token of lifetime `a`: while it is held, the lifetime does not end.
 abbrev pub lasts : ℕ → Fml
 lasts a = fex Share (λ share. flft (a ∷ []) share)
 
--- nothing if the pointer is null; else the column there, shared for a lifetime that lasts
+-- Nothing if the pointer is null; else the column there, shared for a lifetime that lasts.
 abbrev pub ref_owns : Ptr → Held → Fml
 ref_owns p None = feq Ptr p null_ptr
 ref_owns p (Some column) =
     fsep (fex (Testable p) (λ _. ftrue))
-        (fex ℕ (λ a. fsep (lasts a) (lent_at the_row p column (a ∷ []))))
+    (fex ℕ (λ a. fsep (lasts a) (lent_at the_row p column (a ∷ []))))

@@ -10,14 +10,14 @@ use Rattle.std.specs.contracts.option.Option as option
 use Rattle.std.specs.contracts.impls.GlobalAllocator.TheImpl.{ghosts}
 use Rattle.sel_arrow.specs.contracts.array_ref.ArrayRef.{the_row}
 
--- a well-formed column, or none
+-- A well-formed column, or none.
 abbrev pub Held : Type 0
 Held = Option the_row.Denot
 
 abbrev pub held_coded : Coded Held
 held_coded = (option.the_row the_row).coded
 
--- ownership: nothing if the pointer is null, else the box of the column
+-- Ownership: nothing if the pointer is null, else the box of the column.
 abbrev pub held_owns : Global → Ptr → Held → Fml
 held_owns alloc p None = feq Ptr p null_ptr
 held_owns alloc p (Some column) = box_owns (ghosts.dealloc_token alloc) the_row p column

@@ -4,7 +4,7 @@ use Rattle.sel_arrow.specs.Rows.{type_of}
 use Rattle.sel_arrow.specs.Shape.{Shape, of_null, of_boolean, of_int8, of_int16, of_int32, of_int64, of_int128, of_uint8, of_uint16, of_uint32, of_uint64, of_uint128, of_large_binary, of_binary_view, of_utf8_view, of_large_list, of_fixed_size_list, of_struct}
 use Rattle.sel_handle.specs.Held.{Held}
 
--- the number of a type
+-- The number of a type.
 abbrev pub kind_number : Shape → ℕ
 kind_number of_null = 0
 kind_number of_boolean = 1
@@ -25,7 +25,7 @@ kind_number (of_large_list s) = 15
 kind_number (of_fixed_size_list s width) = 16
 kind_number (of_struct fields) = 17
 
--- the number of the type of a handle's column, or that of no column
+-- The number of the type of a handle's column, or that of an empty handle.
 abbrev pub held_kind : Held → ℕ
 held_kind None = 18
 held_kind (Some column) = kind_number (type_of column.column)

@@ -7,27 +7,27 @@ use Rattle.sel_arrow.specs.declared.view.View.{View}
 use Rattle.sel_arrow.specs.declared.column.Column.TheVariants.{LargeBinary, BinaryView, Utf8View, LargeList'}
 use Rattle.sel_handle.specs.Held.{Held}
 
--- the offsets of binary, or of lists with 64-bit offsets (Arrow columnar format: variable-size
--- layouts)
+-- The offsets of binary, or of lists with 64-bit offsets (Arrow columnar format: variable-size
+-- layouts).
 abbrev pub offsets_in : Column → Option (List ℕ)
 offsets_in (LargeBinary column) = Some column.offsets
 offsets_in (LargeList' offsets p values validity) = Some offsets
 offsets_in column = None
 
--- the bytes that offsets point into (Arrow columnar format: variable-size binary layout)
+-- The bytes that offsets point into (Arrow columnar format: variable-size binary layout).
 abbrev pub bytes_in : Column → Option (List ℕ)
 bytes_in (LargeBinary column) = Some column.values
 bytes_in column = None
 
--- the views and data buffers of binary or string views (Arrow columnar format: variable-size binary
--- view layout)
+-- The views and data buffers of binary or string views (Arrow columnar format: variable-size binary
+-- view layout).
 abbrev pub views_of : Column → Option BinaryViewArray
 views_of (BinaryView column) = Some column
 views_of (Utf8View column) = Some column.bytes
 views_of column = None
 
--- the views, and the data buffers, of a handle's column (Arrow columnar format: variable-size
--- binary view layout)
+-- The views, and the data buffers, of a handle's column (Arrow columnar format: variable-size
+-- binary view layout).
 abbrev pub held_views : Held → Option (List View)
 held_views None = None
 held_views (Some column) = option_map (λ array. array.views) (views_of column.column)
@@ -36,7 +36,7 @@ abbrev pub held_buffers : Held → Option (List (List ℕ))
 held_buffers None = None
 held_buffers (Some column) = option_map (λ array. array.buffers) (views_of column.column)
 
--- the offsets, and the bytes, of a handle's column
+-- The offsets, and the bytes, of a handle's column.
 abbrev pub held_offsets : Held → Option (List ℕ)
 held_offsets None = None
 held_offsets (Some column) = offsets_in column.column

@@ -17,72 +17,74 @@ use Rattle.sel_arrow.specs.declared.array_ref.ArrayRef.{ArrayRef}
 use Rattle.sel_arrow.specs.declared.column.Column.{Column}
 use Rattle.sel_handle.specs.Held.{Held}
 
--- success
+-- Success.
 abbrev pub done : ℕ
 done = 0
 
--- out of memory: an allocation failed
+-- Out of memory: an allocation failed.
 abbrev pub no_memory : ℕ
 no_memory = 1
 
--- a handle that has to have a column is empty
+-- A handle that must have a column is empty.
 abbrev pub no_column : ℕ
 no_column = 2
 
--- the column has a type that the call does not support
+-- The column has a type that the call does not support.
 abbrev pub other_kind : ℕ
 other_kind = 3
 
--- the columns do not have the same type
+-- The columns do not have the same type.
 abbrev pub other_type : ℕ
 other_type = 4
 
--- lengths do not match
+-- Lengths do not match.
 abbrev pub other_length : ℕ
 other_length = 5
 
--- an index, a key or a row reference is out of bounds
+-- An index, a key or a row reference is out of bounds.
 abbrev pub out_of_bounds : ℕ
 out_of_bounds = 6
 
--- a list that is not null has no element at the index
+-- A list that is not null has no element at the index.
 abbrev pub get_out_of_bounds : ℕ
 get_out_of_bounds = 7
 
--- syntax error in the type
+-- Syntax error in the type.
 abbrev pub type_syntax : ℕ
 type_syntax = 32
 
--- syntax error in the row text
+-- Syntax error in the row text.
 abbrev pub text_syntax : ℕ
 text_syntax = 33
 
--- a value in the row text does not fit the type
+-- A value in the row text does not fit the type.
 abbrev pub text_misfit : ℕ
 text_misfit = 34
 
--- the type or the rows exceed a size limit, or the type is nested too deeply
+-- The type or the rows exceed a size limit, or the type is nested too deeply.
 abbrev pub text_limit : ℕ
 text_limit = 35
 
--- the status of an exceeded limit
+-- The status of an exceeded limit.
 abbrev pub limit_status : Limit → ℕ
 limit_status limit.Rows = 8
 limit_status limit.Bytes = 9
 limit_status limit.Buffers = 10
 limit_status limit.ViewBytes = 11
 
--- the statuses of all limits
+-- The statuses of all limits.
 abbrev pub limit_statuses : List ℕ
-limit_statuses = limit_status limit.Rows ∷ limit_status limit.Bytes ∷ limit_status limit.Buffers ∷ limit_status limit.ViewBytes ∷ []
+limit_statuses =
+    limit_status limit.Rows ∷ limit_status limit.Bytes ∷ limit_status limit.Buffers
+    ∷ limit_status limit.ViewBytes ∷ []
 
--- the status of a kernel's error
+-- The status of a kernel's error.
 abbrev pub error_status : PolarsError → ℕ
 error_status error.OutOfMemory = no_memory
 error_status (error.SizeLimit limit) = limit_status limit
 error_status error.ComputeError = get_out_of_bounds
 
--- the status of a broken rule
+-- The status of a broken rule.
 abbrev pub rule_status : Malformed → ℕ
 rule_status rule.OffsetCount = 16
 rule_status rule.OffsetNegative = 17
@@ -98,21 +100,21 @@ rule_status rule.ViewRange = 26
 rule_status rule.ViewPrefix = 27
 rule_status rule.Utf8 = 28
 
--- the status of an error in building a column
+-- The status of an error in building a column.
 abbrev pub make_status : MakeError → ℕ
 make_status (make.Malformed rule) = rule_status rule
 make_status make.OutOfMemory = no_memory
 
--- the status is that of the broken rule; if no rule is broken, it is success or out of memory
-abbrev pub Tells : ℕ → Option Malformed → Type 0
-Tells status None = status ≤ no_memory
-Tells status (Some rule) = status ≡ rule_status rule
+-- The status is that of the broken rule; if no rule is broken, it is success or out of memory.
+abbrev pub ReportsOnly : ℕ → Option Malformed → Type 0
+ReportsOnly status None = status ≤ no_memory
+ReportsOnly status (Some rule) = status ≡ rule_status rule
 
--- on success, the handle has a column with this property; on error, the handle is unchanged
+-- On success, the handle has a column with this property; on error, the handle is unchanged.
 abbrev pub Makes : ℕ → Held → Held → (ArrayRef → Type 0) → Type 0
 Makes status before after Holds = cond (status == done) (IsSomeAnd after Holds) (after ≡ before)
 
--- the rows, and the type, of a handle's column; no rows and the null type for an empty handle
+-- The rows, and the type, of a handle's column; no rows and the null type for an empty handle.
 abbrev pub held_rows : Held → List Value
 held_rows None = []
 held_rows (Some column) = rows column.column
@@ -121,54 +123,58 @@ abbrev pub held_type : Held → Shape
 held_type None = of_null
 held_type (Some column) = type_of column.column
 
--- success implies the condition, and the status implies that it does not hold
+-- Success implies the condition, and the status implies that it does not hold.
 abbrev pub Demands : ℕ → ℕ → Type 0 → Type 0
 Demands status code Right = (status ≡ done → Right) × (status ≡ code → Right → ⊥)
 
--- the condition that is checked first: any other status but out of memory implies that it holds,
--- and its own status that it does not
+-- The condition that is checked first: any other status but out of memory implies that it holds,
+-- and its own status that it does not.
 abbrev pub DemandsFirst : ℕ → ℕ → Type 0 → Type 0
-DemandsFirst status code Right = (status ≢ no_memory → status ≢ code → Right) × (status ≡ code → Right → ⊥)
+DemandsFirst status code Right =
+    (status ≢ no_memory → status ≢ code → Right) × (status ≡ code → Right → ⊥)
 
--- the status is one of these
+-- The status is one of these.
 abbrev pub IsOneOf : ℕ → List ℕ → Type 0
 IsOneOf status codes = list_any (λ code. code == status) codes ≡ true
 
--- a condition that is checked before others: success, or one of these other statuses, implies that
--- it holds, and its own status that it does not
+-- A condition that is checked before others: success, or one of these other statuses, implies that
+-- it holds, and its own status that it does not.
 abbrev pub DemandsBefore : ℕ → ℕ → List ℕ → Type 0 → Type 0
-DemandsBefore status code others Right = (IsOneOf status (done ∷ others) → Right) × (status ≡ code → Right → ⊥)
+DemandsBefore status code others Right =
+    (IsOneOf status (done ∷ others) → Right) × (status ≡ code → Right → ⊥)
 
--- the handle has a column
+-- The handle has a column.
 abbrev pub HasColumn : Held → Type 0
 HasColumn None = ⊥
 HasColumn (Some column) = Unit {0}
 
--- the status is not success, nor one that the C functions return for their own checks
+-- The status is not success, nor one that the C functions return for their own checks.
 abbrev pub IsOwnError : ℕ → Type 0
-IsOwnError status = (status ≢ done) × (status ≢ no_column) × (status ≢ other_kind) × (status ≢ other_type) × (status ≢ other_length) × (status ≢ out_of_bounds)
+IsOwnError status =
+    (status ≢ done) × (status ≢ no_column) × (status ≢ other_kind) × (status ≢ other_type)
+    × (status ≢ other_length) × (status ≢ out_of_bounds)
 
--- the status of a limit implies that the limit is exceeded
-abbrev pub TellsLimits : ℕ → (Limit → Type 0) → Type 0
-TellsLimits status Past = (limit : Limit) → status ≡ limit_status limit → Past limit
+-- The status of a limit implies that the limit is exceeded.
+abbrev pub ReportsLimits : ℕ → (Limit → Type 0) → Type 0
+ReportsLimits status Past = (limit : Limit) → status ≡ limit_status limit → Past limit
 
--- unless out of memory, the status is that of the broken rule, and success if no rule is broken
-abbrev pub Names : ℕ → Option Malformed → Type 0
-Names status None = status ≤ no_memory
-Names status (Some rule) = status ≢ no_memory → status ≡ rule_status rule
+-- Unless out of memory, the status is that of the broken rule, and success if no rule is broken.
+abbrev pub ReportsExactly : ℕ → Option Malformed → Type 0
+ReportsExactly status None = status ≤ no_memory
+ReportsExactly status (Some rule) = status ≢ no_memory → status ≡ rule_status rule
 
--- the number of rows of a handle's column
+-- The number of rows of a handle's column.
 abbrev pub held_count : Held → ℕ
 held_count None = 0
 held_count (Some column) = row_count column.column
 
--- the data buffers of each view column in a handle's column (Arrow columnar format: variable-size
--- binary view layout)
+-- The data buffers of each view column in a handle's column (Arrow columnar format: variable-size
+-- binary view layout).
 abbrev pub held_buffer_lists : Held → List (List (List ℕ))
 held_buffer_lists None = []
 held_buffer_lists (Some column) = buffers_held column.column
 
--- a handle's column in a list, which is empty for an empty handle
+-- A handle's column in a list, which is empty for an empty handle.
 abbrev pub held_columns : Held → List Column
 held_columns None = []
 held_columns (Some column) = column.column ∷ []

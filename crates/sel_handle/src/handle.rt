@@ -48,7 +48,8 @@ impl Handle {
     }
 
     fn into_loose(self) -> Option<Loose<ArrayRef, Global>>
-        ensures { MatchOption result (self.tree ≡ None) (λ loose. self.tree ≡ Some loose.value) }
+        ensures { MatchOption result (self.tree ≡ None)
+            (λ loose. self.tree ≡ Some loose.value) }
     {
         let Handle { at, alloc } = self;
         if at.is_null() {
@@ -70,7 +71,8 @@ impl Handle {
 
     /// Returns the column, or none if the handle has none.
     pub fn into_box(self) -> Option<Box<ArrayRef>>
-        ensures { MatchOption result (self.tree ≡ None) (λ column. self.tree ≡ Some column.value) }
+        ensures { MatchOption result (self.tree ≡ None)
+            (λ column. self.tree ≡ Some column.value) }
     {
         match self.into_loose() {
             None => None,

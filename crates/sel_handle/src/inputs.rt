@@ -2,7 +2,7 @@
 
 ghost use Rattle.std.specs.Prelude.{◌≡◌, ◌≤◌, ◌*◌, IfOk, IfErr, length, None, Some, false, [], ◌∷◌};
 ghost use Rattle.sel_bits.specs.Faults.{first_broken, IsFaultOrMemory};
-ghost use Rattle.sel_arrow.specs.Masked.{Covers, number_rows, truth_rows};
+ghost use Rattle.sel_arrow.specs.Masked.{Covers, number_rows, bool_rows};
 ghost use Rattle.sel_bits.specs.Bits.{bits_from};
 ghost use Rattle.sel_arrow.specs.Shape.{of_boolean};
 ghost use Rattle.sel_arrow.specs.Rows.{rows, type_of};
@@ -105,7 +105,7 @@ pub fn booleans_of(
     has: bool,
 ) -> Result<ArrayRef, MakeError>
     requires { len ≤ 8 * length values.now }
-    ensures rows { IfOk result (λ made. rows made.column ≡ truth_rows
+    ensures rows { IfOk result (λ made. rows made.column ≡ bool_rows
         (bits_from values.now 0 len) (validity_in bytes.now has len)) }
     ensures dtype { IfOk result (λ made. type_of made.column ≡ of_boolean) }
     ensures accepted { IfOk result (λ _. flat_rules len bytes.now has ≡ None) }

@@ -3,7 +3,7 @@
 ghost use Rattle.std.specs.Prelude.{◌≡◌, None, IfOk, IfErr, length, map, pos};
 ghost use Rattle.sel_bits.specs.Faults.{IsFaultOrMemory};
 ghost use Rattle.sel_bits.specs.Offsets.{offsets_fault};
-ghost use Rattle.sel_arrow.specs.Nested.{list_rows, block_rows, tuple_rows};
+ghost use Rattle.sel_arrow.specs.Nested.{list_rows, block_rows, struct_rows};
 ghost use Rattle.sel_arrow.specs.Pieces.{byte_rows, rows_between};
 ghost use Rattle.sel_arrow.specs.Rows.{rows, row_count, type_of};
 ghost use Rattle.sel_arrow.specs.Shape.{of_large_binary, of_large_list, of_fixed_size_list, of_struct, shapes_of};
@@ -52,7 +52,8 @@ pub fn binary_of(
     ensures rows { IfOk result (λ made. rows made.column ≡ byte_rows (positions offsets.now)
         values.now (validity_in bytes.now has (rows_between (positions offsets.now)))) }
     ensures dtype { IfOk result (λ made. type_of made.column ≡ of_large_binary) }
-    ensures accepted { IfOk result (λ _. binary_rules offsets.now values.now bytes.now has ≡ None) }
+    ensures accepted { IfOk result (λ _. binary_rules offsets.now values.now bytes.now has ≡
+        None) }
     ensures refused { IfErr result
         (IsRuleOrMemory (binary_rules offsets.now values.now bytes.now has)) }
 {
@@ -158,14 +159,14 @@ pub fn blocks_of(
 /// The first of these rules that is broken: `ValidityLength`, `TooManyRows`, `FieldLength`; or
 /// `OutOfMemory`. On error the fields are freed.
 #[tactic(auto, using(crate::proofs::Tuples::tuples))]
-pub fn tuples_of(
+pub fn struct_of(
     alloc: Global,
     len: usize,
     bytes: &[u8],
     has: bool,
     fields: Vec<ArrayRef>,
 ) -> Result<ArrayRef, MakeError>
-    ensures rows { IfOk result (λ made. rows made.column ≡ tuple_rows len
+    ensures rows { IfOk result (λ made. rows made.column ≡ struct_rows len
         (map (λ field. rows field.column) fields.items) (validity_in bytes.now has len)) }
     ensures dtype { IfOk result (λ made. type_of made.column ≡
         of_struct (shapes_of (map (λ field. type_of field.column) fields.items))) }

@@ -5,7 +5,7 @@ ghost use Rattle.sel_arrow.specs.Masked.{number_rows};
 ghost use Rattle.sel_arrow.specs.Rows.{rows, type_of};
 ghost use Rattle.sel_handle.specs.Inputs.{validity_in, flat_rules};
 ghost use Rattle.sel_handle.specs.Outputs.{Shows, numbers};
-ghost use Rattle.sel_handle.specs.Status.{done, no_memory, no_column, other_kind, other_length, held_rows, held_type, Demands, DemandsBefore, DemandsFirst, HasColumn, IsOneOf, Makes, Tells};
+ghost use Rattle.sel_handle.specs.Status.{done, no_memory, no_column, other_kind, other_length, held_rows, held_type, Demands, DemandsBefore, DemandsFirst, HasColumn, IsOneOf, Makes, ReportsOnly};
 
 use crate::column_ref::ColumnRef;
 use crate::handle::Handle;
@@ -29,8 +29,9 @@ pub fn make_numbers<T: ArrowPrimitive>(
 ) -> u32
     ensures rows { Makes result out.old.tree out.new.tree (λ made. rows made.column ≡
         number_rows T.number values.now (validity_in bits.now has_bits (length values.now))) }
-    ensures dtype { Makes result out.old.tree out.new.tree (λ made. type_of made.column ≡ T.shape) }
-    ensures status { Tells result (flat_rules (length values.now) bits.now has_bits) }
+    ensures dtype { Makes result out.old.tree out.new.tree
+        (λ made. type_of made.column ≡ T.shape) }
+    ensures status { ReportsOnly result (flat_rules (length values.now) bits.now has_bits) }
 {
     match numbers_of(alloc, values, bits, has_bits) {
         Ok(column) => put(alloc, column, out),
@@ -47,7 +48,8 @@ pub fn held_numbers_into<T: ArrowPrimitive>(alloc: Global, of: &ColumnRef, out: 
     ensures column { DemandsFirst result no_column (HasColumn of.now.tree) }
     ensures kind { DemandsBefore result other_kind (other_length ∷ [])
         (held_type of.now.tree ≡ T.shape) }
-    ensures length { Demands result other_length (length out.old ≡ length (held_rows of.now.tree)) }
+    ensures length { Demands result other_length
+        (length out.old ≡ length (held_rows of.now.tree)) }
     ensures status { IsOneOf result
         (done ∷ no_memory ∷ no_column ∷ other_kind ∷ other_length ∷ []) }
 {

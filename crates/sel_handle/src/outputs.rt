@@ -2,11 +2,11 @@
 
 ghost use Rattle.std.specs.Prelude.{◌≡◌, ◌≢◌, ◌+◌, ◌/◌, ◌%◌, length, [], ◌∷◌, IfOk};
 ghost use Rattle.sel_bits.specs.Bits.{bits_from};
-ghost use Rattle.sel_arrow.specs.Nulls.{TellsNulls};
+ghost use Rattle.sel_arrow.specs.Nulls.{IsValidityOf};
 ghost use Rattle.sel_arrow.specs.Rows.{rows, type_of};
 ghost use Rattle.sel_arrow.specs.Shape.{of_boolean};
 ghost use Rattle.sel_handle.specs.Inputs.{validity_in};
-ghost use Rattle.sel_handle.specs.Outputs.{Shows, numbers, truths};
+ghost use Rattle.sel_handle.specs.Outputs.{Shows, numbers, bools};
 ghost use Rattle.sel_handle.specs.Status.{done, no_memory, no_column, other_kind, other_length, Demands, DemandsBefore, IsOneOf};
 
 use crate::status::{DONE, NO_MEMORY, OTHER_KIND, OTHER_LENGTH};
@@ -57,7 +57,8 @@ pub fn numbers_into<T: ArrowPrimitive>(alloc: Global, column: &ArrayRef, out: &m
 ///
 /// Errors: `OTHER_LENGTH` if `out` does not have `(bits.len() + 7) / 8` bytes; `NO_MEMORY`.
 pub fn bits_into(alloc: Global, bits: &Bitmap, out: &mut [u8]) -> u32
-    ensures bits { result ≡ done → bits_from out.new 0 (length bits.now.bits) ≡ bits.now.bits }
+    ensures bits { result ≡ done → bits_from out.new 0 (length bits.now.bits) ≡
+        bits.now.bits }
     ensures length { Demands result other_length
         (length out.old ≡ (length bits.now.bits + 7) / 8) }
     ensures status { IsOneOf result (done ∷ no_memory ∷ other_length ∷ []) }
@@ -96,7 +97,7 @@ fn moved_to_front(alloc: Global, bits: &Bitmap) -> PolarsResult<Bitmap>
 /// Errors: `OTHER_LENGTH` if there is a validity and `out` does not have one byte for each eight
 /// rows, rounded up; `NO_MEMORY`.
 pub fn validity_into(alloc: Global, column: &ArrayRef, out: &mut [u8], has: &mut bool) -> u32
-    ensures validity { result ≡ done → TellsNulls (type_of column.now.column)
+    ensures validity { result ≡ done → IsValidityOf (type_of column.now.column)
         (validity_in out.new has.new (length (rows column.now.column))) (rows column.now.column) }
     ensures length { result ≡ other_length →
         length out.old ≢ (length (rows column.now.column) + 7) / 8 }
@@ -122,7 +123,7 @@ pub fn validity_into(alloc: Global, column: &ArrayRef, out: &mut [u8], has: &mut
 #[tactic(auto, using(crate::proofs::Shown::shows))]
 pub fn booleans_into(alloc: Global, column: &ArrayRef, out: &mut [u8]) -> u32
     ensures values { result ≡ done → Shows
-        (truths (bits_from out.new 0 (length (rows column.now.column)))) (rows column.now.column) }
+        (bools (bits_from out.new 0 (length (rows column.now.column)))) (rows column.now.column) }
     ensures kind { DemandsBefore result other_kind (other_length ∷ [])
         (type_of column.now.column ≡ of_boolean) }
     ensures length { Demands result other_length

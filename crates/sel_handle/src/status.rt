@@ -1,7 +1,7 @@
 //! Status codes, and storing a column in a handle.
 
 ghost use Rattle.std.specs.Prelude.{◌≡◌, ◌≤◌};
-ghost use Rattle.sel_handle.specs.Status.{no_memory, error_status, make_status, IsOwnError, Makes, TellsLimits};
+ghost use Rattle.sel_handle.specs.Status.{no_memory, error_status, make_status, IsOwnError, Makes, ReportsLimits};
 
 use crate::handle::Handle;
 use sel_arrow::array_ref::ArrayRef;
@@ -116,7 +116,7 @@ pub fn status_of(error: PolarsError) -> u32
 pub fn status_of_maker(error: MakeError) -> u32
     ensures number { result ≡ make_status error }
     ensures own { IsOwnError result }
-    ensures limits { TellsLimits result (λ _. ⊥) }
+    ensures limits { ReportsLimits result (λ _. ⊥) }
 {
     match error {
         MakeError::OutOfMemory => NO_MEMORY,

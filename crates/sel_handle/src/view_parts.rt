@@ -13,7 +13,7 @@ use sel_arrow::column::Column;
 use sel_arrow::view::View;
 
 /// Returns the views and buffers of a binary view or string view column, or none for another type.
-fn views_lent(column: &Column) -> Option<&BinaryViewArray>
+fn view_array_in(column: &Column) -> Option<&BinaryViewArray>
     ensures { option_copied result ≡ views_of column.now }
 {
     match column {
@@ -36,7 +36,7 @@ pub fn views_into(column: &Column, out: &mut [ViewWords]) -> u32
         Some (length out.old) ≢ option_map (λ array. length array.views) (views_of column.now) }
     ensures status { IsOneOf result (done ∷ other_kind ∷ other_length ∷ []) }
 {
-    let Some(array) = views_lent(column) else {
+    let Some(array) = view_array_in(column) else {
         return OTHER_KIND;
     };
     let views = array.views.as_slice();
@@ -73,7 +73,7 @@ pub fn buffer_count_into(column: &Column, count: &mut usize) -> u32
     ensures kind { Demands result other_kind (views_of column.now ≢ None) }
     ensures status { IsOneOf result (done ∷ other_kind ∷ []) }
 {
-    let Some(array) = views_lent(column) else {
+    let Some(array) = view_array_in(column) else {
         return OTHER_KIND;
     };
     *count = array.buffers.len();
@@ -93,7 +93,7 @@ pub fn buffer_len_into(column: &Column, i: usize, len: &mut usize) -> u32
         option_map (λ array. slice_get array.buffers i) (views_of column.now) ≡ Some None }
     ensures status { IsOneOf result (done ∷ other_kind ∷ out_of_bounds ∷ []) }
 {
-    let Some(array) = views_lent(column) else {
+    let Some(array) = view_array_in(column) else {
         return OTHER_KIND;
     };
     let buffers = array.buffers.as_slice();
@@ -122,7 +122,7 @@ pub fn buffer_into(column: &Column, i: usize, out: &mut [u8]) -> u32
     ensures status { IsOneOf result
         (done ∷ other_kind ∷ other_length ∷ out_of_bounds ∷ []) }
 {
-    let Some(array) = views_lent(column) else {
+    let Some(array) = view_array_in(column) else {
         return OTHER_KIND;
     };
     let buffers = array.buffers.as_slice();

@@ -1,4 +1,4 @@
--- The answer to a line, by the tests that the code makes.
+-- The output for a line, by the checks in the code.
 use Rattle.std.proofs.Common.{◌≡◌, ℕ, ◌≤◌, ◌<◌, Bool, true, false, cond, List, length, Option, Some, None, arith, refl, ap, sym, ◌∙◌}
 use Rattle.std.specs.Prelude.{Decides, IsUtf8, ◌==◌, ◌&&◌, nat_le}
 use Rattle.std.specs.List.{slice_split}

@@ -1,4 +1,4 @@
--- A line holds few lists, and few items of them: no more than a column may have.
+-- A line has no more lists, and no more items in them, than a column can have.
 use Rattle.std.proofs.Common.{◌≡◌, ◌≤◌, ◌<◌, ℕ, zero, suc, pos, ◌+◌, ◌*◌, Bool, true, false, cond, List, [], ◌∷◌, length, length-append, map, replicate, Option, Some, None, arith, refl, ap, sym, ◌∙◌}
 use Rattle.std.specs.Prelude.{codes, bytes_eq, ◌==◌, nat_le, option_map, option_and_then, count_by}
 use Rattle.std.specs.List.{slice_split, onto_first}
@@ -10,7 +10,7 @@ use Rattle.sel_arrow.specs.Nested.{list_of}
 use Rattle.sel_arrow.specs.Value.{Value, Null, Number, Items, Truth, Bytes, Tuple}
 use Rattle.sel_runs.specs.Children.{items_in, joined_items}
 use Rattle.sel_runs.proofs.ItemRuns.{listed_values}
-use Rattle.sel_lines.specs.Blocks.{blocks_of, block_of, is_block, width_of}
+use Rattle.sel_lines.specs.Blocks.{blocks_of, block_of, is_block, parsed_width}
 use Rattle.sel_lines.specs.BlockParts.{standing_for}
 use Rattle.sel_lines.specs.Columns.{all_some, column_of, row_of}
 use Rattle.sel_lines.specs.ListParts.{AreFew}
@@ -41,7 +41,7 @@ few_words : (words : List (List ℕ)) → length words ≤ weight words
 few_words [] = omega arith
 few_words (word ∷ words) = omega (arith, few_words words)
 
--- ---- as many as there are words
+-- ---- as many items as words
 
 count_more : {X : Type 0} (x : X) (found : Option (List X)) (n : ℕ) (ys : List X) → ((zs : List X) → found ≡ Some zs → length zs ≡ n) → option_map (λ zs. x ∷ zs) found ≡ Some ys → length ys ≡ suc n
 count_more x None n ys each made = cc
@@ -56,7 +56,7 @@ all_count [] ys is =
 all_count (None ∷ xs) ys is = cc
 all_count (Some x ∷ xs) ys is = count_more x (all_some xs) (length xs) ys (λ zs at. all_count xs zs at) is
 
--- the items of one list
+-- The items of one list.
 column_count : (value_of : List ℕ → Option Value) (word : List ℕ) (items : List Value) → column_of value_of word ≡ Some items → length items ≤ suc (length word)
 column_count value_of word items is = by_test (bytes_eq word (codes "-")) is
   where
@@ -90,7 +90,7 @@ row_count word row is = by_test (bytes_eq word (codes "_")) is
 
 -- ---- all rows
 
--- how many items rows hold together
+-- The number of items in all rows.
 abbrev held_by : (Value → ℕ) → List Value → ℕ
 held_by count [] = 0
 held_by count (row ∷ rows) = count row + held_by count rows
@@ -124,7 +124,7 @@ standing_held : (w : ℕ) (rows : List Value) → length (joined_items w (map (s
 standing_held w [] = refl
 standing_held w (row ∷ rows) = omega (arith, length-append (items_in w (standing_for w row)) (joined_items w (map (standing_for w) rows)), standing_held w rows)
 
--- the rows between bars
+-- The rows between bars.
 few_between : (row_of_word : List ℕ → Option Value) (count : Value → ℕ) (word : List ℕ) (read : List Value) → ((part : List ℕ) (row : Value) → row_of_word part ≡ Some row → count row ≤ 17 * suc (length part)) →
     length word ≤ 1048576 → rows_of_bars row_of_word word ≡ Some read → (length read ≤ 4294967295) × (held_by count read ≤ 4294967295)
 few_between row_of_word count word read each short is = by_test (bytes_eq word (codes ".")) is
@@ -185,5 +185,5 @@ narrow : (found : Option ℕ) (w : ℕ) → option_and_then (λ n. cond (nat_le 
 narrow None w made = cc
 narrow (Some n) w made = narrow_found n w (nat_le n 16) refl made
 
-pub narrow_width : (word : List ℕ) (w : ℕ) → Some w ≡ width_of word → w ≤ 16
+pub narrow_width : (word : List ℕ) (w : ℕ) → Some w ≡ parsed_width word → w ≤ 16
 narrow_width word w is = narrow (size_of word) w (sym is)

@@ -1,4 +1,4 @@
--- Columns of numbers side by side.
+-- The horizontal flatten of integer columns.
 use Rattle.std.proofs.Common.{◌≡◌, ℕ, ◌<◌, ◌≤◌, Bool, true, false, cond, Bor, List, [], ◌∷◌, length, map, Option, Some, None, arith, refl, ap, sym, subst, ◌∙◌}
 use Rattle.std.specs.Prelude.{Decides, IsTrue, ◌&&◌, nat_lt, option_map, codes}
 use Rattle.std.specs.List.{All}
@@ -16,11 +16,11 @@ use Rattle.sel_arrow.specs.Shape.{of_int64}
 use Rattle.sel_arrow.specs.Value.{Value}
 use Rattle.sel_arrow.specs.declared.array_ref.ArrayRef.{ArrayRef}
 use Rattle.sel_arrow.specs.declared.column.Column.{Column}
-use Rattle.sel_runs.specs.Need.{IsRefusal, IsPastRows}
+use Rattle.sel_runs.specs.Need.{IsLimitOrMemory, ExceedsRows}
 use Rattle.sel_runs.specs.Sources.{first_type}
-use Rattle.sel_flatten.specs.Flatten.{flatten, parts_fit, past_flattened}
+use Rattle.sel_flatten.specs.Flatten.{flatten, parts_fit, exceeded_flattened}
 use Rattle.sel_lines.specs.Columns.{all_some, column_text}
-use Rattle.sel_lines.specs.Flatten.{part_of, side_by_side, flat_text, flatten_answer, flatten_words}
+use Rattle.sel_lines.specs.Flatten.{flatten_part, side_by_side, flat_text, flatten_answer, flatten_words}
 use Rattle.sel_lines.specs.Parts.{read_part}
 use Rattle.sel_lines.specs.Numbers.{size_of}
 use Rattle.sel_lines.specs.Words.{if_both}
@@ -28,7 +28,7 @@ use Rattle.sel_lines.specs.declared.flatten.Part.{Part}
 use Rattle.sel_lines.proofs.Answered.{none_unless}
 use Rattle.sel_lines.proofs.RowLemmas.{map_now}
 
--- ---- when the columns fit
+-- ---- whether the columns fit
 
 fit_test : (h : ℕ) (xss : List (List Value)) (ws : List ℕ) → Decides (nat_lt 0 (length xss) && parts_fit h xss ws) ((0 < length xss) × IsTrue (parts_fit h xss ws))
 fit_test h xss ws = Decides-and _ _ (Decides-ltb 0 (length xss)) ((λ e. e), (λ e. e))
@@ -50,15 +50,15 @@ numbers_alike [] numbers = All-nil _
 numbers_alike (a ∷ arrays) numbers =
     All-weaker (λ b. type_of b.column ≡ of_int64) (λ b. type_of b.column ≡ type_of a.column) (λ b is. is ∙ sym (All-head (λ b. type_of b.column ≡ of_int64) a arrays numbers)) (a ∷ arrays) numbers
 
--- ---- past the limit of rows
+-- ---- more rows than a column can have
 
-many_rows : (n : ℕ) (limit : Limit) → IsPastRows n limit → 4294967295 < n
+many_rows : (n : ℕ) (limit : Limit) → ExceedsRows n limit → 4294967295 < n
 many_rows n Rows past = past
 many_rows n Bytes past = absurd past
 many_rows n Buffers past = absurd past
 many_rows n ViewBytes past = absurd past
 
-many_numbers : (h : ℕ) (columns : List Column) (vs : List Value) (limit : Limit) → past_flattened h of_int64 columns vs limit → 4294967295 < length vs
+many_numbers : (h : ℕ) (columns : List Column) (vs : List Value) (limit : Limit) → exceeded_flattened h of_int64 columns vs limit → 4294967295 < length vs
 many_numbers h columns vs limit past = ⊎_elim (λ many. many_rows (length vs) limit many) (λ never. absurd never) past.1
 
 many_text : (vs : List Value) → 4294967295 < length vs → flat_text vs ≡ codes "size limit rows"
@@ -68,26 +68,26 @@ few_text : (vs : List Value) (b : Bool) → nat_lt 4294967295 (length vs) ≡ b 
 few_text vs true is never = absurd (never refl)
 few_text vs false is never = ap (λ b. cond b (codes "size limit rows") (column_text vs)) is
 
--- rows that a column has
+-- Rows that a column can have.
 pub column_flat_text : (vs : List Value) → length vs ≤ 4294967295 → flat_text vs ≡ column_text vs
 column_flat_text vs few = few_text vs (nat_lt 4294967295 (length vs)) refl (λ t. let many = (Decides-ltb 4294967295 (length vs)).0 t in omega arith)
 
--- a refusal of another kind than want of memory is that text
+-- An error other than out of memory has this text.
 pub refused_text : (h : ℕ) (arrays : List ArrayRef) (ws : List ℕ) (fault : PolarsError) → 0 < length arrays → All (λ a. type_of a.column ≡ of_int64) arrays
     → IsTrue (parts_fit h (map (λ a. rows a.column) arrays) ws)
-    → IsRefusal (past_flattened h (first_type (map (λ a. a.column) arrays)) (map (λ a. a.column) arrays) (flatten (map (λ a. rows a.column) arrays) ws h)) fault
-    → IsRefusal (λ limit. option_map flat_text (side_by_side h (map (λ a. rows a.column) arrays) ws) ≡ Some (codes "size limit rows")) fault
+    → IsLimitOrMemory (exceeded_flattened h (first_type (map (λ a. a.column) arrays)) (map (λ a. a.column) arrays) (flatten (map (λ a. rows a.column) arrays) ws h)) fault
+    → IsLimitOrMemory (λ limit. option_map flat_text (side_by_side h (map (λ a. rows a.column) arrays) ws) ≡ Some (codes "size limit rows")) fault
 refused_text h arrays ws OutOfMemory some numbers fit refused = tt
 refused_text h arrays ws (SizeLimit limit) some numbers fit refused =
     let xss = map (λ (a : ArrayRef). rows a.column) arrays in
     let columns = map (λ (a : ArrayRef). a.column) arrays in
     let long : 0 < length xss = rw length-map some in
-    let past : past_flattened h of_int64 columns (flatten xss ws h) limit =
-    subst (λ s. past_flattened h s columns (flatten xss ws h) limit) (first_number arrays some numbers) refused in
+    let past : exceeded_flattened h of_int64 columns (flatten xss ws h) limit =
+    subst (λ s. exceeded_flattened h s columns (flatten xss ws h) limit) (first_number arrays some numbers) refused in
     ap (option_map flat_text) (fitting h xss ws long fit) ∙ ap Some (many_text (flatten xss ws h) (many_numbers h columns (flatten xss ws h) limit past))
 refused_text h arrays ws ComputeError some numbers fit refused = absurd refused
 
--- ---- the parts that were read
+-- ---- the parsed parts
 
 columns_read : (parts : List Part) → map (λ part. part.1) (map read_part parts) ≡ map (λ part. primitive_rows part.column) parts
 columns_read [] = refl
@@ -103,11 +103,11 @@ answer_read h parts =
     ap (λ xss. option_map flat_text (side_by_side h xss (map (λ part. part.width) parts))) (sym (columns_read parts))
     ∙ ap (λ ws. option_map flat_text (side_by_side h (map (λ part. part.1) (map read_part parts)) ws)) (sym (widths_read parts))
 
--- the words behind a height are the parts
+-- The words after the height are the parts.
 pub words_read : (words rest : List (Bor (List ℕ))) (first : Bor (List ℕ)) (h : ℕ) (parts : Option (List (ℕ × List Value))) → words ≡ first ∷ rest
-    → Some h ≡ size_of first.now → parts ≡ all_some (map (λ word. part_of word.now) rest)
+    → Some h ≡ size_of first.now → parts ≡ all_some (map (λ word. flatten_part word.now) rest)
     → if_both flatten_answer (Some h) parts ≡ flatten_words (map (λ word. word.now) words)
 words_read words rest first h parts split height is =
-    ap (if_both flatten_answer (Some h)) (is ∙ ap all_some (map_now part_of rest))
-    ∙ ap (λ s. if_both flatten_answer s (all_some (map part_of (map (λ word. word.now) rest)))) height
+    ap (if_both flatten_answer (Some h)) (is ∙ ap all_some (map_now flatten_part rest))
+    ∙ ap (λ s. if_both flatten_answer s (all_some (map flatten_part (map (λ word. word.now) rest)))) height
     ∙ ap (λ ws. flatten_words (map (λ word. word.now) ws)) (sym split)

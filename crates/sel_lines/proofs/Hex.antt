@@ -1,4 +1,4 @@
--- What `from_str_radix` reads of a word of lower-case hexadecimal digits.
+-- The result of `from_str_radix` for a word of lower-case hexadecimal digits.
 use Rattle.std.proofs.Common.{◌≡◌, ◌≢◌, ℕ, ◌^◌, ◌≤◌, ◌<◌, true, false, cond, List, [], ◌∷◌, length, get_or, Some, None, Result, Ok, Err, arith, ap, sym, ◌∙◌, lit<, subst}
 use Rattle.std.specs.Prelude.{◌&&◌, nat_lt, nat_le}
 use Rattle.std.specs.Char.{digit_value}
@@ -50,7 +50,7 @@ hex_word word is =
       fits = hex_fits word (leb-true (length word) 16 sizes.1) digits;
     }
 
--- a word of such digits is read as their value
+-- The result for such a word is the value of its digits.
 hex_result : {E : Type 0} (word : List ℕ) (r : Result ℕ E) → IsHexWord word → ParsesUnsigned 64 16 word r → result_ok r ≡ Some (digits_value 16 word)
 hex_result word (Ok n) is read = ap Some (read.1 ∙ ap (digits_value 16) (without_leading_plus_none word is.plain))
 hex_result word (Err e) is read = absurd (read (subst (λ (ds : List ℕ). IsNumeral 16 ds × (digits_value 16 ds < 2 ^ 64)) (sym (without_leading_plus_none word is.plain)) ((is.some, is.digits), is.fits)))

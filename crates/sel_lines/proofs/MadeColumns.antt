@@ -1,4 +1,4 @@
--- Parts that were read break no rule of the makers.
+-- Parsed parts break no rule of the column constructors.
 use Rattle.std.proofs.Common.{◌≡◌, ◌≤◌, ℕ, ◌*◌, Bool, true, false, List, [], ◌∷◌, length, map, Option, Some, None, arith, refl, ap, sym, ◌∙◌}
 use Rattle.std.specs.Prelude.{IsTrue, not, nat_lt, ◌&&◌, ◌==◌}
 use Rattle.std.proofs.lemmas.Bool.Decides.{nat_tests}
@@ -21,7 +21,7 @@ use Rattle.sel_runs.specs.Children.{joined_items}
 use Rattle.sel_runs.specs.Ends.{item_ends}
 use Rattle.sel_runs.proofs.Rebuilt.{ends_between, ends_last}
 
--- ---- errors where no rule is broken
+-- ---- errors if no rule is broken
 
 pub never_fault : (fault : Option Malformed) (e : MakeError) → fault ≡ None → IsFault fault e → ⊥
 never_fault fault (Broken rule) none is = absurd cc
@@ -31,7 +31,7 @@ pub memory_alone : (fault : Option Malformed) (e : MakeError) → fault ≡ None
 memory_alone fault (Broken rule) none is = absurd cc
 memory_alone fault WantOfMemory none is = refl
 
--- ---- leaves
+-- ---- columns without children
 
 few : (n : ℕ) → n ≤ 4294967295 → too_many n ≡ false
 few n le = grind (arith, nat_tests, le)

@@ -1,4 +1,4 @@
--- The parts of a text are no longer than it, and no more than its bytes and one.
+-- The parts of a text are no longer than the text, and at most one more than its bytes.
 use Rattle.std.proofs.Common.{◌≡◌, ◌≤◌, ℕ, suc, ◌+◌, ◌-◌, Bool, true, false, cond, List, [], ◌∷◌, length, map, Bor, arith, ap, sym, ◌∙◌}
 use Rattle.std.specs.List.{All, AllByRecursion, slice_split, onto_first, count_by}
 use Rattle.std.proofs.lemmas.List.Elements.{All-from_recursion, All-weaker}

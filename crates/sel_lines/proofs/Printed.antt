@@ -1,4 +1,4 @@
--- A number is what its word prints.
+-- A word represents the number whose printed form it is.
 use Rattle.std.proofs.Common.{◌≡◌, ◌≢◌, ℕ, zero, suc, ◌^◌, ◌≤◌, ◌<◌, ℤ, pos, negsuc, neg_ℤ, Bool, true, false, cond, List, [], ◌∷◌, length, get_or, drop, Some, None, Result, Ok, Err, arith, refl, ap, sym, ◌∙◌, lit<}
 use Rattle.std.specs.Prelude.{bytes_eq, nat_lt, Decides, ◌&&◌}
 use Rattle.std.specs.Result.{result_ok}
@@ -56,7 +56,7 @@ unsigned_none bits word never =
 own : IsNumeralModel (AllDigits 10) (digits_value 10)
 own = numerals_by_value _ tells_digits
 
--- what is printed has one spelling
+-- Printed numbers have no plus sign, no `-0` and no leading zero.
 decimal_one_spelling : (n : ℕ) → n < 2 ^ 64 → HasOneSpelling (decimal n)
 decimal_one_spelling zero small = rw (decimal_digit 0 (lit< tt)) ((λ e. omega arith), (λ e. absurd (omega arith)), (λ e. refl))
 decimal_one_spelling (suc n) small =
@@ -71,7 +71,7 @@ integer_one_spelling (negsuc n) small =
     let first = first_decimal (suc n) (omega arith) (omega arith) in
     ((λ e. omega arith), (λ e f. omega arith), (λ e. absurd (omega arith)))
 
--- ---- what `parse` gives, where the word has one spelling
+-- ---- the result of `parse` for a word without these
 
 pub unsigned_parsed : {E : Type 0} (bits : ℕ) (word : List ℕ) (r : Result ℕ E) → ParsesUnsigned bits 10 word r → HasOneSpelling word → 2 ^ bits ≤ 2 ^ 64 → result_ok r ≡ unsigned_of bits word
 unsigned_parsed {E = E} bits word (Ok n) h one few =

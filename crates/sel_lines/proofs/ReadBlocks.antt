@@ -1,4 +1,4 @@
--- Lists of one length that are read one by one.
+-- Fixed-size lists that are parsed one by one.
 use Rattle.std.proofs.Common.{◌≡◌, ℕ, ℤ, zero, suc, pos, ◌*◌, Bool, true, false, cond, List, [], ◌∷◌, ◌++◌, length, length-append, get_or, map, replicate, Bor, Some, None, arith, refl, ap, sym, ◌∙◌}
 use Rattle.std.specs.Prelude.{◌==◌, ◌&&◌, option_and_then}
 use Rattle.std.specs.List.{list_all}
@@ -19,10 +19,10 @@ use Rattle.sel_runs.specs.Children.{items_in, joined_items}
 use Rattle.sel_runs.proofs.ItemRuns.{joined-append, listed_values}
 use Rattle.sel_runs.proofs.Rebuilt.{IsBlock, blocks_length, blocks_rebuilt}
 use Rattle.sel_lines.specs.declared.blocks.Blocks.{Blocks}
-use Rattle.sel_sublists.specs.Entries.{fixed_get, at_each, out_of_bounds}
+use Rattle.sel_sublists.specs.Entries.{fixed_get, at_each, is_get_error}
 use Rattle.sel_sublists.proofs.Blocks.{long_rows}
 use Rattle.sel_lines.specs.declared.rows.Rows.{Rows}
-use Rattle.sel_lines.specs.Blocks.{blocks_of, is_block, width_of}
+use Rattle.sel_lines.specs.Blocks.{blocks_of, is_block, parsed_width}
 use Rattle.sel_lines.specs.BlockParts.{HasBlocks, standing_for}
 use Rattle.sel_lines.specs.Columns.{column_text}
 use Rattle.sel_lines.specs.Fixed.{entries_text, fixed_answer, fixed_read, fixed_words}
@@ -31,7 +31,7 @@ use Rattle.sel_lines.specs.Numbers.{number_of, truth_of}
 use Rattle.sel_lines.specs.Words.{if_both}
 use Rattle.sel_lines.proofs.ReadLists.{hidden-append, length-hidden}
 
--- ---- a row, and the list that stands for it
+-- ---- a row, and the list that is stored for it
 
 list_stands : (w : ℕ) (v : Value) → is_block w v ≡ true → IsBlock w (standing_for w v)
 list_stands w Null h = ap length (listed_values (replicate w (Number (pos 0)))) ∙ length-replicate w (Number (pos 0))
@@ -46,7 +46,7 @@ lists_stand w [] all k = tt
 lists_stand w (v ∷ read) all zero = list_stands w v (and_first (is_block w v) (list_all (is_block w) read) all)
 lists_stand w (v ∷ read) all (suc k) = lists_stand w read (and_second (is_block w v) (list_all (is_block w) read) all) k
 
--- so many rows have as many items each
+-- Each row has the same number of items.
 pub standing_length : (w : ℕ) (read : List Value) → list_all (is_block w) read ≡ true → length (joined_items w (map (standing_for w) read)) ≡ length read * w
 standing_length w read all = blocks_length w (map (standing_for w) read) (lists_stand w read all) ∙ ap (λ n. n * w) (length-map read (standing_for w))
 
@@ -74,7 +74,7 @@ shown_again w (Number z ∷ read) = ap (λ l. Number z ∷ l) (shown_again w rea
 shown_again w (Bytes bytes ∷ read) = ap (λ l. Bytes bytes ∷ l) (shown_again w read)
 shown_again w (Tuple parts ∷ read) = ap (λ l. Tuple parts ∷ l) (shown_again w read)
 
--- a list has as many items as were read
+-- A list has as many items as were parsed.
 pub width_is : (w n : ℕ) (items : Rows ℤ) → n ≡ length items.values.items → (n == w) ≡ is_block w (shown_list (Some items))
 width_is w n items count =
     let row = hidden items.validity.items (map Number items.values.items) in
@@ -82,7 +82,7 @@ width_is w n items count =
     let all = count ∙ sym (ap length (listed_values row) ∙ length-hidden items.validity.items (map Number items.values.items) long ∙ length-map items.values.items Number) in
     ap (λ m. m == w) all
 
--- ---- one row more
+-- ---- one more row
 
 pub block_more : (w : ℕ) (read : List Value) (old new : Blocks) (row : Value) (xs : List ℤ) (bs : List Bool) (b : Bool) → HasBlocks w read old → length bs ≡ length xs →
     new.values.items ≡ old.values.items ++ xs → new.flags.items ≡ old.flags.items ++ bs → new.validity.items ≡ old.validity.items ++ b ∷ [] → is_valid row ≡ b →
@@ -130,7 +130,7 @@ blocks_made w n read parts child validity has count items valid =
     (blocks_rebuilt w (map st read) child None n (lists_stand w read has.all) (length-map read st ∙ many) (items ∙ has.items) (ap (λ k. replicate k true) (sym many) ∙ are_there w read has.all))
     ∙ shown_again w read
 
--- ---- the answer
+-- ---- the output
 
 same_text : (arr : FixedSizeListArray) (w : ℕ) (read : List Value) (index : ℤ) (b : Bool) → rows (block_column arr) ≡ read → arr.size ≡ w →
     entries_text arr.size (rows (block_column arr)) (at_each arr index) b ≡ entries_text w read (replicate (length read) (Number index)) b
@@ -138,18 +138,18 @@ same_text arr w read index b is size =
     ap (λ s. entries_text s (rows (block_column arr)) (at_each arr index) b) size ∙ ap (λ xs. entries_text w xs (at_each arr index) b) is
     ∙ ap (λ n. entries_text w read (replicate n (Number index)) b) (sym (long_rows arr) ∙ ap length is)
 
-pub entries_printed : (arr : FixedSizeListArray) (w : ℕ) (read : List Value) (index : ℤ) (b : Bool) → rows (block_column arr) ≡ read → arr.size ≡ w → out_of_bounds b arr (at_each arr index) ≡ false →
+pub entries_printed : (arr : FixedSizeListArray) (w : ℕ) (read : List Value) (index : ℤ) (b : Bool) → rows (block_column arr) ≡ read → arr.size ≡ w → is_get_error b arr (at_each arr index) ≡ false →
     column_text (fixed_get (rows (block_column arr)) arr.size (at_each arr index)) ≡ entries_text w read (replicate (length read) (Number index)) b
 entries_printed arr w read index b is size inside =
     sym (ap (λ t. cond t (error_text ComputeError) (column_text (fixed_get (rows (block_column arr)) arr.size (at_each arr index)))) inside) ∙ same_text arr w read index b is size
 
-pub refusal_printed : (arr : FixedSizeListArray) (w : ℕ) (read : List Value) (index : ℤ) (b : Bool) → rows (block_column arr) ≡ read → arr.size ≡ w → out_of_bounds b arr (at_each arr index) ≡ true →
+pub refusal_printed : (arr : FixedSizeListArray) (w : ℕ) (read : List Value) (index : ℤ) (b : Bool) → rows (block_column arr) ≡ read → arr.size ≡ w → is_get_error b arr (at_each arr index) ≡ true →
     error_text ComputeError ≡ entries_text w read (replicate (length read) (Number index)) b
 refusal_printed arr w read index b is size outside =
     sym (ap (λ t. cond t (error_text ComputeError) (column_text (fixed_get (rows (block_column arr)) arr.size (at_each arr index)))) outside) ∙ same_text arr w read index b is size
 
 pub fixed_answered : (words : List (Bor (List ℕ))) (d : Bor (List ℕ)) (w : ℕ) (read : List Value) (index : ℤ) (b : Bool) (text : List ℕ) → length words ≡ 4 →
-    Some w ≡ width_of (get_or words 0 d).now → blocks_of w (get_or words 1 d).now ≡ Some read → Some (Number index) ≡ number_of (get_or words 2 d).now → Some (Truth b) ≡ truth_of (get_or words 3 d).now →
+    Some w ≡ parsed_width (get_or words 0 d).now → blocks_of w (get_or words 1 d).now ≡ Some read → Some (Number index) ≡ number_of (get_or words 2 d).now → Some (Truth b) ≡ truth_of (get_or words 3 d).now →
     text ≡ entries_text w read (replicate (length read) (Number index)) b → Some text ≡ fixed_words (map (λ word. word.now) words)
 fixed_answered (width ∷ lists ∷ at ∷ oob ∷ []) d w read index b text four wide held placed asked made =
     ap Some made

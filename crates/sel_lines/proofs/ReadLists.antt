@@ -1,4 +1,4 @@
--- Lists that are read one by one.
+-- Lists that are parsed one by one.
 use Rattle.std.proofs.Common.{◌≡◌, ℕ, ℤ, zero, suc, pos, ◌+◌, Bool, true, false, Bor, cond, List, [], ◌∷◌, ◌++◌, length, length-append, get_or, map, Option, Some, arith, refl, ap, sym, ◌∙◌}
 use Rattle.std.specs.Prelude.{codes, bytes_eq, ◌==◌}
 use Rattle.std.specs.List.{slice_split}
@@ -37,7 +37,7 @@ listed_more [] row all h (suc k) = tt
 listed_more (r ∷ read) row all h zero = all 0
 listed_more (r ∷ read) row all h (suc k) = listed_more read row (λ i. all (suc i)) h k
 
--- one row more
+-- One more row.
 pub read_more : (read : List Value) (old new : Lists) (row : Value) (b : Bool) → HasRead read old →
     hidden new.flags.items (map Number new.values.items) ≡ hidden old.flags.items (map Number old.values.items) ++ items_in 0 row → length new.flags.items ≡ length new.values.items →
     new.ends.items ≡ old.ends.items ++ pos (length new.values.items) ∷ [] → new.validity.items ≡ old.validity.items ++ b ∷ [] → is_valid row ≡ b → IsListRow row → HasRead (read ++ row ∷ []) new
@@ -57,7 +57,7 @@ read_more read old new row b has items flags ends valid is listed =
       listed = listed_more read row has.listed listed;
     }
 
--- a null, and a list of these items
+-- One more null, and one more list of these items.
 pub null_more : (read : List Value) (old new : Lists) → HasRead read old → new.values.items ≡ old.values.items → new.flags.items ≡ old.flags.items →
     new.ends.items ≡ old.ends.items ++ pos (length new.values.items) ∷ [] → new.validity.items ≡ old.validity.items ++ false ∷ [] → HasRead (read ++ Null ∷ []) new
 null_more read old new has values flags ends valid =
@@ -82,14 +82,14 @@ listed_row Null h = tt
 listed_row (Items items) h = tt
 listed_row v h = absurd h
 
--- the column of the parts
+-- The column of the parts.
 pub lists_made : (read : List Value) (lists : Lists) (offsets : List ℕ) (child : List Value) (validity : Bits) → HasRead read lists → map pos offsets ≡ lists.ends.items →
     child ≡ hidden lists.flags.items (map Number lists.values.items) → validity.bits ≡ lists.validity.items → list_rows offsets child (Some validity) ≡ read
 lists_made read lists offsets child validity has ends items valid =
     lists_rebuilt read offsets child (Some validity) (length read) (λ k. listed_row (get_or read k Null) (has.listed k)) refl
     (same_numbers offsets (0 ∷ item_ends 0 read) (ends ∙ has.ends)) (items ∙ has.items) (valid ∙ has.valid)
 
--- the rows of the words between bars are the rows of the whole
+-- The rows of the words between bars are the rows of the whole word.
 pub rows_from_bars : (row_of : List ℕ → Option Value) (word : List ℕ) (words : List (Bor (List ℕ))) → false ≡ bytes_eq word (codes ".") → map (λ part. part.now) words ≡ slice_split (λ b. b == 124) word →
     all_some (map (λ part. row_of part.now) words) ≡ rows_of_bars row_of word
 rows_from_bars row_of word words long cut =

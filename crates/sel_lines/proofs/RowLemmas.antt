@@ -1,4 +1,4 @@
--- Rows that are read and printed one by one.
+-- Rows that are parsed and printed one by one.
 use Rattle.std.proofs.Common.{◌≡◌, ◌≢◌, ℕ, zero, suc, ◌+◌, ◌≤◌, ◌<◌, Bool, false, List, [], ◌∷◌, ◌++◌, length, get_or, take, drop, map, Option, Some, None, arith, refl, ap, sym, ◌∙◌, Bor, append_assoc}
 use Rattle.std.specs.Prelude.{option_map, codes, ◌==◌, bytes_eq, cond, is_some, unwrap_or}
 use Rattle.std.specs.List.{join_with_byte, slice_split}
@@ -26,7 +26,7 @@ all_some_none [] zs = refl
 all_some_none (None ∷ xs) zs = refl
 all_some_none (Some x ∷ xs) zs = ap (option_map (λ ys. x ∷ ys)) (all_some_none xs zs)
 
--- one row more
+-- One more row.
 pub rows_step : {A X : Type 0} (f : A → Option X) (words : List A) (i : ℕ) (d : A) (rows : List X) (row : X) → i < length words
     → all_some (map f (take i words)) ≡ Some rows → f (get_or words i d) ≡ Some row → all_some (map f (take (i + 1) words)) ≡ Some (rows ++ (row ∷ []))
 rows_step f words i d rows row lt before here =
@@ -34,7 +34,7 @@ rows_step f words i d rows row lt before here =
     ap (map f) (take_more words i d lt) ∙ map-append f (take i words) (get_or words i d ∷ []) ∙ ap (λ r. map f (take i words) ++ (r ∷ [])) here in
     ap all_some grown ∙ all_some_push (map f (take i words)) rows row before
 
--- a word that is no row
+-- A word that is not a row.
 pub rows_none : {A X : Type 0} (f : A → Option X) (words : List A) (i : ℕ) (d : A) → i < length words → f (get_or words i d) ≡ None → None ≡ all_some (map f words)
 rows_none f words i d lt here =
     let cut : words ≡ take i words ++ (get_or words i d ∷ drop (suc i) words) = sym (take-append-drop i words) ∙ ap (λ r. take i words ++ r) (drop-cons words i d lt) in
@@ -46,12 +46,12 @@ join_push c [] part some = absurd (omega arith)
 join_push c (x ∷ []) part some = refl
 join_push c (x ∷ y ∷ more) part some = ap (λ r. x ++ (c ∷ r)) (join_push c (y ∷ more) part (omega arith)) ∙ sym (append_assoc x (c ∷ join_with_byte c (y ∷ more)) (c ∷ part))
 
--- the first part
+-- The first part.
 join_first : {A : Type 0} (c : ℕ) (f : A → List ℕ) (rows : List A) (d : A) → 0 < length rows → join_with_byte c (map f (take (0 + 1) rows)) ≡ f (get_or rows 0 d)
 join_first c f [] d some = absurd (omega arith)
 join_first c f (x ∷ rows) d some = refl
 
--- one part more, behind a comma where it is not the first
+-- One more part, after a comma if it is not the first.
 pub join_first_step : {A : Type 0} (c : ℕ) (f : A → List ℕ) (rows : List A) (i : ℕ) (d : A) (old new : List ℕ) → i < length rows → i ≤ 0
     → old ≡ join_with_byte c (map f (take i rows)) → new ≡ old ++ f (get_or rows i d) → new ≡ join_with_byte c (map f (take (i + 1) rows))
 join_first_step c f rows zero d old new lt first before now = now ∙ ap (λ r. r ++ f (get_or rows 0 d)) before ∙ sym (join_first c f rows d lt)
@@ -82,7 +82,7 @@ pub map_now : {Y : Type 0} (f : List ℕ → Y) (words : List (Bor (List ℕ))) 
 map_now f [] = refl
 map_now f (word ∷ words) = ap (λ ys. f word.now ∷ ys) (map_now f words)
 
--- the rows of the words between commas are the column
+-- The rows of the words between commas are the column.
 pub column_from_rows : (value_of : List ℕ → Option Value) (word : List ℕ) (words : List (Bor (List ℕ))) → false ≡ bytes_eq word (codes "-")
     → map (λ part. part.now) words ≡ slice_split (λ b. b == 44) word → all_some (map (λ part. row_of value_of part.now) words) ≡ column_of value_of word
 column_from_rows value_of word words long cut =
@@ -101,7 +101,7 @@ shown_here : {T : Type 0} (shown : T → Value) (row : Option T) (beneath : T) �
 shown_here shown None beneath = refl
 shown_here shown (Some item) beneath = refl
 
--- a row more, which is an item or none
+-- One more optional item.
 pub hidden_more : {T : Type 0} (shown : T → Value) (bs cs : List Bool) (xs ys : List T) (row : Option T) (beneath : T) → length bs ≡ length xs
     → cs ≡ bs ++ (is_some row ∷ []) → ys ≡ xs ++ (unwrap_or row beneath ∷ [])
     → hidden bs (map shown xs) ++ (shown_row shown row ∷ []) ≡ hidden cs (map shown ys)

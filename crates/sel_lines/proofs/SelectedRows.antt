@@ -1,4 +1,4 @@
--- Rows of several columns, one column after the other.
+-- Rows of several columns, column by column.
 use Rattle.std.proofs.Common.{◌≡◌, ℕ, ◌+◌, ◌-◌, ◌<◌, true, false, cond, Bor, List, [], ◌∷◌, ◌++◌, All, length, get_or, map, take, drop, Option, Some, arith, refl, ap, sym, ◌∙◌}
 use Rattle.std.specs.Prelude.{◌==◌, ◌&&◌, count_by}
 use Rattle.std.specs.List.{list_all}
@@ -15,17 +15,17 @@ use Rattle.sel_arrow.specs.Value.{Value}
 use Rattle.sel_arrow.specs.declared.array_ref.ArrayRef.{ArrayRef}
 use Rattle.sel_arrow.proofs.Lists.{all_at, and_first}
 use Rattle.sel_runs.proofs.Within.{rows_pass}
-use Rattle.polars_compute.specs.Need.{IsRefusal, PassesNone, past}
+use Rattle.polars_compute.specs.Need.{IsLimitOrMemory, ExceedsNone, exceeded_limits}
 use Rattle.polars_compute.specs.Pick.{take_rows, all_within}
-use Rattle.polars_compute.specs.Select.{select, in_force, is_true}
+use Rattle.polars_compute.specs.Select.{select, effective_mask, is_true}
 use Rattle.sel_filter.proofs.Selects.{length-select}
 use Rattle.sel_lines.specs.Columns.{all_some, column_of}
 use Rattle.sel_lines.specs.Numbers.{index_of, number_of, truth_of}
-use Rattle.sel_lines.specs.SelectRows.{rows_of_each, type_of_each, select_rows_of, selection_fits, past_selected}
+use Rattle.sel_lines.specs.SelectRows.{rows_of_each, type_of_each, select_rows_of, selection_fits, exceeded_selected}
 use Rattle.sel_lines.specs.Table.{table_read, table_words}
 use Rattle.sel_lines.proofs.RowLemmas.{map_now}
 
--- ---- what the condition says
+-- ---- what the precondition implies
 
 pub long_at : (columns : List ArrayRef) (mask indices : List Value) (i : ℕ) (d : ArrayRef) → selection_fits (rows_of_each columns) mask indices ≡ true → i < length columns →
     length (rows (get_or columns i d).column) ≡ length mask
@@ -34,16 +34,16 @@ long_at columns mask indices i d fits h =
     let each = sym (list_all-map p (λ (c : ArrayRef). rows c.column) columns) ∙ and_first (list_all p (rows_of_each columns)) (all_within (count_by is_true mask) indices) fits in
     (Decides-eqb _ _).0 (all_at (λ (c : ArrayRef). p (rows c.column)) columns i d each h)
 
-count_forced : (mask : List Value) → count_by (λ b. b) (in_force mask) ≡ count_by is_true mask
+count_forced : (mask : List Value) → count_by (λ b. b) (effective_mask mask) ≡ count_by is_true mask
 count_forced [] = refl
 count_forced (v ∷ mask) =
-    omega (arith, sum_by-cons (λ b. cond b 1 0) (is_true v) (in_force mask), sum_by-cons (λ w. cond (is_true w) 1 0) v mask, count_forced mask)
+    omega (arith, sum_by-cons (λ b. cond b 1 0) (is_true v) (effective_mask mask), sum_by-cons (λ w. cond (is_true w) 1 0) v mask, count_forced mask)
 
--- so many rows are kept
-pub kept_count : (xs mask : List Value) → length xs ≡ length mask → length (select xs (in_force mask)) ≡ count_by is_true mask
-kept_count xs mask long = length-select xs (in_force mask) (long ∙ sym (length-map mask is_true)) ∙ count_forced mask
+-- The number of selected rows.
+pub kept_count : (xs mask : List Value) → length xs ≡ length mask → length (select xs (effective_mask mask)) ≡ count_by is_true mask
+kept_count xs mask long = length-select xs (effective_mask mask) (long ∙ sym (length-map mask is_true)) ∙ count_forced mask
 
--- the columns so far are as long as the mask
+-- A column that is not as long as the mask breaks the precondition.
 pub unfit_at : (columns : List ArrayRef) (mask indices : List Value) (i : ℕ) (x : ArrayRef) → i < length columns → x ≡ get_or columns i x → (length (rows x.column) ≡ length mask → ⊥) →
     false ≡ selection_fits (rows_of_each columns) mask indices
 unfit_at columns mask indices i x h at other =
@@ -56,7 +56,7 @@ pub all_long : (columns : List ArrayRef) (mask indices : List Value) → list_al
 all_long columns mask indices each =
     sym (ap (λ b. b && all_within (count_by is_true mask) indices) (list_all-map (λ xs. length xs == length mask) (λ (c : ArrayRef). rows c.column) columns ∙ each))
 
--- ---- one column more
+-- ---- one more column
 
 pub mapped_step : {A B : Type 0} (f g : A → B) (xs sel new : List A) (i : ℕ) (x taken : A) → i < length xs → x ≡ get_or xs i x → new ≡ sel ++ taken ∷ [] → f taken ≡ g x →
     map f sel ≡ map g (take i xs) → map f new ≡ map g (take (i + 1) xs)
@@ -65,14 +65,14 @@ mapped_step f g xs sel new i x taken h at made same so_far =
     ∙ sym (ap (map g) (take_more xs i x h) ∙ map-append g (take i xs) (get_or xs i x ∷ []))
 
 pub rows_mapped : (mask indices : List Value) (columns : List ArrayRef) →
-    map (λ c. take_rows (select (rows c.column) (in_force mask)) indices) columns ≡ select_rows_of (rows_of_each columns) mask indices
+    map (λ c. take_rows (select (rows c.column) (effective_mask mask)) indices) columns ≡ select_rows_of (rows_of_each columns) mask indices
 rows_mapped mask indices [] = refl
-rows_mapped mask indices (c ∷ columns) = ap (λ l. take_rows (select (rows c.column) (in_force mask)) indices ∷ l) (rows_mapped mask indices columns)
+rows_mapped mask indices (c ∷ columns) = ap (λ l. take_rows (select (rows c.column) (effective_mask mask)) indices ∷ l) (rows_mapped mask indices columns)
 
--- ---- refusals
+-- ---- errors
 
 pub refused_some : (columns : List ArrayRef) (mask indices : List Value) (i : ℕ) (x : ArrayRef) (fault : PolarsError) → i < length columns → x ≡ get_or columns i x →
-    IsRefusal (past (type_of x.column) (take_rows (select (rows x.column) (in_force mask)) indices)) fault → IsRefusal (past_selected columns mask indices) fault
+    IsLimitOrMemory (exceeded_limits (type_of x.column) (take_rows (select (rows x.column) (effective_mask mask)) indices)) fault → IsLimitOrMemory (exceeded_selected columns mask indices) fault
 refused_some columns mask indices i x OutOfMemory h at refused = tt
 refused_some columns mask indices i x (SizeLimit limit) h at refused = (i, x, h, sym at, refused)
 refused_some columns mask indices i x ComputeError h at refused = absurd refused
@@ -106,17 +106,17 @@ table_words_read words rest d mask indices columns h is masked indexed read =
 pub rest_is : (words : List (Bor (List ℕ))) (n : ℕ) → take (length words - n) (drop n words) ≡ drop n words
 rest_is words n = take_all (length words - n) (drop n words) (omega (arith, length-drop n words))
 
--- an answer passes no limit
-pub none_past : (columns selected : List ArrayRef) (mask indices : List Value) → rows_of_each selected ≡ map (λ c. take_rows (select (rows c.column) (in_force mask)) indices) columns → type_of_each selected ≡ type_of_each columns →
-    PassesNone (past_selected columns mask indices)
-none_past columns selected mask indices same types limit past =
-    let taken = λ (c : ArrayRef). take_rows (select (rows c.column) (in_force mask)) indices in
+-- The result exceeds no limit.
+pub none_past : (columns selected : List ArrayRef) (mask indices : List Value) → rows_of_each selected ≡ map (λ c. take_rows (select (rows c.column) (effective_mask mask)) indices) columns → type_of_each selected ≡ type_of_each columns →
+    ExceedsNone (exceeded_selected columns mask indices)
+none_past columns selected mask indices same types limit exceeded_limits =
+    let taken = λ (c : ArrayRef). take_rows (select (rows c.column) (effective_mask mask)) indices in
     let shown = λ (c : ArrayRef). rows c.column in
     let type = λ (c : ArrayRef). type_of c.column in
-    let i = past.0 in
-    let x = past.1 in
+    let i = exceeded_limits.0 in
+    let x = exceeded_limits.1 in
     let s = get_or selected i x in
-    let there : i < length selected = omega (arith, past.2, length-map selected shown, length-map columns taken, ap length same) in
-    let is_rows : rows s.column ≡ taken x = sym (get_or-map shown selected i x [] there) ∙ ap (λ l. get_or l i []) same ∙ get_or-map taken columns i x [] past.2 ∙ ap taken past.3 in
-    let is_type : type_of s.column ≡ type_of x.column = sym (get_or-map type selected i x of_int64 there) ∙ ap (λ l. get_or l i of_int64) types ∙ get_or-map type columns i x of_int64 past.2 ∙ ap type past.3 in
-    rows_pass s.column (type_of x.column) (taken x) s.formed is_type is_rows limit past.4
+    let there : i < length selected = omega (arith, exceeded_limits.2, length-map selected shown, length-map columns taken, ap length same) in
+    let is_rows : rows s.column ≡ taken x = sym (get_or-map shown selected i x [] there) ∙ ap (λ l. get_or l i []) same ∙ get_or-map taken columns i x [] exceeded_limits.2 ∙ ap taken exceeded_limits.3 in
+    let is_type : type_of s.column ≡ type_of x.column = sym (get_or-map type selected i x of_int64 there) ∙ ap (λ l. get_or l i of_int64) types ∙ get_or-map type columns i x of_int64 exceeded_limits.2 ∙ ap type exceeded_limits.3 in
+    rows_pass s.column (type_of x.column) (taken x) s.formed is_type is_rows limit exceeded_limits.4

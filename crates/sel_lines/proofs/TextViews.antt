@@ -1,4 +1,4 @@
--- Texts as words, and views of them over one data buffer that grows.
+-- Strings as words, and views of them into one data buffer that grows.
 use Rattle.std.proofs.Common.{◌≡◌, ◌≢◌, ℕ, suc, ◌+◌, ◌-◌, ◌≤◌, ◌<◌, Bool, true, false, ◌&&◌, cond, Bor, List, [], ◌∷◌, ◌++◌, length, take, drop, map, get_or, Option, Some, None, arith, refl, ap, sym, subst, ◌∙◌, length-append}
 use Rattle.std.specs.Prelude.{leb, ◌==◌, IsTrue, codes, bytes_eq, option_map, is_some, unwrap_or}
 use Rattle.std.specs.List.{slice_split, onto_first}
@@ -17,24 +17,24 @@ use Rattle.sel_arrow.proofs.Lists.{both}
 use Rattle.sel_runs.specs.Need.{byte_count, bytes_needed}
 use Rattle.sel_runs.proofs.JoinedRows.{needed-append}
 use Rattle.sel_lines.specs.Columns.{all_some, column_of, row_of}
-use Rattle.sel_lines.specs.Texts.{text_of}
+use Rattle.sel_lines.specs.Texts.{string_value}
 use Rattle.sel_lines.specs.Parts.{text_row}
 use Rattle.sel_lines.proofs.RowLemmas.{hidden_push}
 
--- ---- a text behind `=`
+-- ---- a string after `=`
 
-pub text_some : (word text : List ℕ) → word ≡ 61 ∷ text → Some (Bytes text) ≡ text_of word
-text_some word text is = ap text_of (sym is)
+pub text_some : (word text : List ℕ) → word ≡ 61 ∷ text → Some (Bytes text) ≡ string_value word
+text_some word text is = ap string_value (sym is)
 
 not_text : (b : Bool) (c : ℕ) (text : List ℕ) → (c == 61) ≡ b → (c ≡ 61 → ⊥) → None ≡ cond b (Some (Bytes text)) None
 not_text true c text is other = absurd (other (eqb-true c 61 is))
 not_text false c text is other = refl
 
-pub text_none : (word : List ℕ) → ((text : List ℕ) → word ≢ 61 ∷ text) → None ≡ text_of word
+pub text_none : (word : List ℕ) → ((text : List ℕ) → word ≢ 61 ∷ text) → None ≡ string_value word
 text_none [] other = refl
 text_none (c ∷ text) other = not_text (c == 61) c text refl (λ is. other text (ap (λ d. d ∷ text) is))
 
--- ---- the rows of a word have no more bytes than it, and no more than one row a byte and one
+-- ---- the rows of a word have no more bytes than the word, and are at most one more than its bytes
 
 abbrev total : List (List ℕ) → ℕ
 total [] = 0
@@ -57,11 +57,11 @@ text_bytes : (b : Bool) (text : List ℕ) (v : Value) → cond b (Some (Bytes te
 text_bytes true text v is = let same : Bytes text ≡ v = cc in rw (← same) (omega arith)
 text_bytes false text v is = absurd cc
 
-word_bytes : (word : List ℕ) (v : Value) → text_of word ≡ Some v → byte_count v ≤ length word
+word_bytes : (word : List ℕ) (v : Value) → string_value word ≡ Some v → byte_count v ≤ length word
 word_bytes [] v is = absurd cc
 word_bytes (c ∷ text) v is = let few = text_bytes (c == 61) text v is in omega (arith, few)
 
-row_bytes : (b : Bool) (word : List ℕ) (v : Value) → cond b (Some Null) (text_of word) ≡ Some v → byte_count v ≤ length word
+row_bytes : (b : Bool) (word : List ℕ) (v : Value) → cond b (Some Null) (string_value word) ≡ Some v → byte_count v ≤ length word
 row_bytes true word v is = let same : Null ≡ v = cc in rw (← same) (omega arith)
 row_bytes false word v is = word_bytes word v is
 
@@ -76,30 +76,30 @@ held_on v part parts (Some ys) rows few rest is =
     let below = rest ys refl in
     subst (λ zs. Held zs (part ∷ parts)) same (omega (arith, few, below.0), ap suc below.1)
 
-held_from : (o : Option Value) (part : List ℕ) (parts : List (List ℕ)) (rows : List Value) → row_of text_of part ≡ o
-    → ((ys : List Value) → all_some (map (row_of text_of) parts) ≡ Some ys → Held ys parts) → all_some (o ∷ map (row_of text_of) parts) ≡ Some rows → Held rows (part ∷ parts)
+held_from : (o : Option Value) (part : List ℕ) (parts : List (List ℕ)) (rows : List Value) → row_of string_value part ≡ o
+    → ((ys : List Value) → all_some (map (row_of string_value) parts) ≡ Some ys → Held ys parts) → all_some (o ∷ map (row_of string_value) parts) ≡ Some rows → Held rows (part ∷ parts)
 held_from None part parts rows here rest is = absurd cc
 held_from (Some v) part parts rows here rest is =
-    held_on v part parts (all_some (map (row_of text_of) parts)) rows (row_bytes (bytes_eq part (codes "n")) part v here) rest is
+    held_on v part parts (all_some (map (row_of string_value) parts)) rows (row_bytes (bytes_eq part (codes "n")) part v here) rest is
 
-held : (parts : List (List ℕ)) (rows : List Value) → all_some (map (row_of text_of) parts) ≡ Some rows → Held rows parts
+held : (parts : List (List ℕ)) (rows : List Value) → all_some (map (row_of string_value) parts) ≡ Some rows → Held rows parts
 held [] rows is = let same : [] ≡ rows = cc in subst (λ zs. Held zs []) same (omega arith, refl)
-held (part ∷ parts) rows is = held_from (row_of text_of part) part parts rows refl (held parts) is
+held (part ∷ parts) rows is = held_from (row_of string_value part) part parts rows refl (held parts) is
 
 abbrev Fits : List Value → ℕ → Type 0
 Fits rows n = (bytes_needed rows ≤ n + 1) × (length rows ≤ n + 1)
 
-fits_cut : (b : Bool) (word : List ℕ) (rows : List Value) → cond b (Some []) (all_some (map (row_of text_of) (slice_split (λ c. c == 44) word))) ≡ Some rows → Fits rows (length word)
+fits_cut : (b : Bool) (word : List ℕ) (rows : List Value) → cond b (Some []) (all_some (map (row_of string_value) (slice_split (λ c. c == 44) word))) ≡ Some rows → Fits rows (length word)
 fits_cut true word rows is = let same : [] ≡ rows = cc in subst (λ zs. Fits zs (length word)) same (omega arith, omega arith)
 fits_cut false word rows is =
     let here = held (slice_split (λ c. c == 44) word) rows is in
     let all = split_total (λ c. c == 44) word in
     (omega (arith, here.0, all), omega (arith, here.1, all))
 
-pub column_fits : (word : List ℕ) (rows : List Value) → Some rows ≡ column_of text_of word → Fits rows (length word)
+pub column_fits : (word : List ℕ) (rows : List Value) → Some rows ≡ column_of string_value word → Fits rows (length word)
 column_fits word rows is = fits_cut (bytes_eq word (codes "-")) word rows (sym is)
 
--- ---- the view of the text behind the others
+-- ---- the view of a string that is appended
 
 new_view : (store text : List ℕ) (v : View) → v ≡ view_of text 0 (length store) → (length text ≤ 12 → inline_bytes v ≡ text) → Named (store ++ text) v text
 new_view store text v is near = decided (leb (length text) 12) refl
@@ -108,7 +108,7 @@ new_view store text v is near = decided (leb (length text) 12) refl
     decided true e = near_new (store ++ text) text v (length store) is e (near (leb-true _ _ e))
     decided false e = far_new store text v is e
 
--- ---- the texts so far
+-- ---- the strings so far
 
 pub record Growing (store : List ℕ) (views : List View) (flags : List Bool) (rows : List Value) : Type 0 where
   pub placed : IsTrue (all_placed (store ∷ []) views)
@@ -126,7 +126,7 @@ flag_text : (b : Bool) (text : List ℕ) → is_utf8 text ≡ true → is_text (
 flag_text true text utf8 = utf8
 flag_text false text utf8 = refl
 
--- one text more, or an empty one beneath a null
+-- One more string, or an empty string in a null slot.
 pub grow : (store : List ℕ) (views : List View) (flags : List Bool) (rows : List Value) (text : List ℕ) (b : Bool) (v : View) → Growing store views flags rows
     → v ≡ view_of text 0 (length store) → (length text ≤ 12 → inline_bytes v ≡ text) → (b ≡ false → text ≡ []) → IsUtf8 text
     → Growing (store ++ text) (views ++ (v ∷ [])) (flags ++ (b ∷ [])) (rows ++ (cond b (Bytes text) Null ∷ []))
@@ -146,7 +146,7 @@ grow store views flags rows text b v so is near none utf8 =
 pub at_start : Growing [] [] [] []
 at_start = record { placed = refl; shown = refl; paired = refl; many = refl; held = refl; texts = refl }
 
--- ---- the texts so far of rows
+-- ---- the strings of the rows so far
 
 row_text_is : (row : Option (Bor (List ℕ))) (d text : Bor (List ℕ)) (b : Bool) → text ≡ unwrap_or row d → b ≡ is_some row → cond b (Bytes text.now) Null ≡ text_row row
 row_text_is None d text b is flag = ap (λ f. cond f (Bytes text.now) Null) flag
@@ -170,7 +170,7 @@ one_row_more : (rows : List (Option (Bor (List ℕ)))) (i : ℕ) (e : Option (Bo
     → map text_row (take (i + 1) rows) ≡ map text_row (take i rows) ++ (text_row (get_or rows i e) ∷ [])
 one_row_more rows i e lt = ap (map text_row) (take_more rows i e lt) ∙ map-append text_row (take i rows) (get_or rows i e ∷ [])
 
--- the bytes of one row more are among those of all rows
+-- The bytes with one more row are at most those of all rows.
 pub room : (rows : List (Option (Bor (List ℕ)))) (i : ℕ) (e : Option (Bor (List ℕ))) (d text : Bor (List ℕ)) → i < length rows → text ≡ unwrap_or (get_or rows i e) d → d.now ≡ []
     → bytes_needed (map text_row (take i rows)) + length text.now ≤ bytes_needed (map text_row rows)
 room rows i e d text lt is empty =

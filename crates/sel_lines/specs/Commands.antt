@@ -1,4 +1,4 @@
--- The answer to one line.
+-- The output for one line.
 use Rattle.std.specs.Prelude.{ℕ, ◌==◌, ◌&&◌, List, [], ◌∷◌, length, Option, None, if◌then◌else◌, codes, bytes_eq, nat_le}
 use Rattle.std.specs.List.{slice_split}
 use Rattle.std.specs.Str.{is_utf8}
@@ -13,7 +13,7 @@ use Rattle.sel_lines.specs.Pext.{pext_words}
 use Rattle.sel_lines.specs.Table.{table_words}
 use Rattle.sel_lines.specs.Take.{take_words}
 
--- the answer to a command with the words behind it, or None where the line is bad (own)
+-- The output for a command and its arguments; none if the line is bad.
 abbrev pub answer_of_command : List ℕ → List (List ℕ) → Option (List ℕ)
 answer_of_command name words =
     if bytes_eq name (codes "filter") then filter_words words
@@ -27,11 +27,14 @@ answer_of_command name words =
     else if bytes_eq name (codes "table") then table_words words
     else None
 
--- the answer to a line of these words, of which the first is the command (own)
+-- The output for the words of a line, the first of which is the command.
 abbrev pub answer_of_words : List (List ℕ) → Option (List ℕ)
 answer_of_words [] = None
 answer_of_words (name ∷ words) = answer_of_command name words
 
--- the answer to a line of words with one space between them, or None where it is bad (own)
+-- The output for a line of words separated by single spaces; none if the line is bad.
 unfoldable pub answer_of_line : List ℕ → Option (List ℕ)
-answer_of_line line = if nat_le (length line) longest_line && is_utf8 line then answer_of_words (slice_split (λ b. b == 32) line) else None
+answer_of_line line =
+    if nat_le (length line) longest_line && is_utf8 line
+    then answer_of_words (slice_split (λ b. b == 32) line)
+    else None

@@ -1,4 +1,4 @@
--- The answers to `get LISTS INDEX`.
+-- The output for `get LISTS INDEX`.
 use Rattle.std.specs.Prelude.{ℕ, List, [], ◌∷◌, Option, None, Some}
 use Rattle.sel_arrow.specs.Value.{Value, Number}
 use Rattle.sel_sublists.specs.Lists.{list_get}
@@ -7,12 +7,12 @@ use Rattle.sel_lines.specs.Lists.{lists_of}
 use Rattle.sel_lines.specs.Numbers.{number_of}
 use Rattle.sel_lines.specs.Words.{if_both}
 
--- the elements at the index, printed (own)
+-- The element of each list at the index, printed.
 abbrev pub get_answer : List Value → Value → Option (List ℕ)
 get_answer rows (Number index) = Some (column_text (list_get rows index))
 get_answer rows _ = None
 
--- the answer to the words behind `get` (own)
+-- The output for the arguments of `get`.
 abbrev pub get_words : List (List ℕ) → Option (List ℕ)
 get_words (lists ∷ index ∷ []) = if_both get_answer (lists_of lists) (number_of index)
 get_words _ = None

@@ -1,4 +1,5 @@
--- How lists are kept while they are read. Words of the program's own functions: nothing that `run` promises rests on them.
+-- How parsed lists are stored. Internal to the program; the contract of `run` does not depend on
+-- these definitions.
 use Rattle.std.specs.Prelude.{◌≡◌, ◌≤◌, ℕ, ℤ, ⊤, List, [], ◌∷◌, map, pos, length, slice_index_or, Option, None, Some}
 use Rattle.sel_arrow.specs.Masked.{hidden}
 use Rattle.sel_arrow.specs.Nested.{list_of}
@@ -8,20 +9,21 @@ use Rattle.sel_runs.specs.Ends.{item_ends}
 use Rattle.sel_lines.specs.declared.lists.Lists.{Lists}
 use Rattle.sel_lines.specs.declared.rows.Rows.{Rows}
 use Rattle.sel_lines.specs.Flatten.{most_rows}
-use Rattle.sel_lines.specs.Rows.{rows_of}
+use Rattle.sel_lines.specs.Rows.{parsed_rows}
 
--- the items of a list or none, as a row (own)
+-- Optional items as a row: a list, or null.
 abbrev pub shown_list : Option (Rows ℤ) → Value
 shown_list None = Null
-shown_list (Some items) = list_of (rows_of Number items)
+shown_list (Some items) = list_of (parsed_rows Number items)
 
--- a row is null or a list (own)
+-- The row is null or a list.
 abbrev pub IsListRow : Value → Type 0
 IsListRow Null = ⊤
 IsListRow (Items items) = ⊤
 IsListRow _ = ⊥
 
--- the parts that these rows are kept in while they are read: their items behind one another, where each begins and the last one ends, and which of them are valid (own)
+-- The parts that store these rows: their items, concatenated, with one flag for each item, their
+-- offsets and their validity; each row is null or a list.
 pub record HasRead (read : List Value) (lists : Lists) : Type 0 where
   pub items : hidden lists.flags.items (map Number lists.values.items) ≡ joined_items 0 read
   pub flags : length lists.flags.items ≡ length lists.values.items
@@ -29,16 +31,16 @@ pub record HasRead (read : List Value) (lists : Lists) : Type 0 where
   pub valid : lists.validity.items ≡ validities read
   pub listed : (k : ℕ) → IsListRow (slice_index_or read k Null)
 
--- the parts keep these rows, or neither is there (own)
+-- The parts store these rows, or both are none.
 abbrev pub IsReading : Option (List Value) → Option Lists → Type 0
 IsReading rows None = None ≡ rows
 IsReading rows (Some lists) = (read : List Value) × (rows ≡ Some read) × HasRead read lists
 
--- a column may have so many rows, and so many below them (own)
+-- The numbers of rows and of child rows do not exceed the limit of a column.
 pub record AreFew (read below : List Value) : Type 0 where
   pub rows : length read ≤ most_rows
   pub items : length below ≤ most_rows
 
--- the parts keep rows that a column of lists may have (own)
+-- The parts store rows that a list column can have.
 abbrev pub AreKept : Lists → Type 0
 AreKept lists = (read : List Value) × HasRead read lists × AreFew read (joined_items 0 read)

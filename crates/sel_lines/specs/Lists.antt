@@ -6,14 +6,17 @@ use Rattle.sel_arrow.specs.Value.{Value, Null}
 use Rattle.sel_lines.specs.Columns.{all_some, column_of}
 use Rattle.sel_lines.specs.Numbers.{number_of}
 
--- a list as a word: `_` for null, or the column of its items (own)
+-- The list that a word represents: null for `_`, else a column of its items.
 abbrev pub list_of_word : List ℕ → Option Value
-list_of_word word = if bytes_eq word (codes "_") then Some Null else option_map list_of (column_of number_of word)
+list_of_word word =
+    if bytes_eq word (codes "_") then Some Null else option_map list_of (column_of number_of word)
 
--- rows of lists as a word: `.` for no rows, or rows with `|` between them (own)
+-- The rows that a word represents: no rows for `.`, else rows separated by `|`.
 abbrev pub rows_of_bars : (List ℕ → Option Value) → List ℕ → Option (List Value)
-rows_of_bars row_of word = if bytes_eq word (codes ".") then Some [] else all_some (map row_of (slice_split (λ b. b == 124) word))
+rows_of_bars row_of word =
+    if bytes_eq word (codes ".") then Some []
+    else all_some (map row_of (slice_split (λ b. b == 124) word))
 
--- lists as a word (own)
+-- The lists that a word represents.
 abbrev pub lists_of : List ℕ → Option (List Value)
 lists_of word = rows_of_bars list_of_word word

@@ -5,14 +5,14 @@ ghost use Rattle.sel_arrow.specs.Rows.{rows, type_of};
 ghost use Rattle.sel_arrow.specs.Shape.{of_int64};
 ghost use Rattle.sel_arrow.specs.Value.{Value};
 ghost use Rattle.sel_lines.specs.BlockParts.{AreKeptBlocks, HasBlocks, IsReadingBlocks};
-ghost use Rattle.sel_lines.specs.Blocks.{blocks_of, block_of, is_block, width_of, widest};
+ghost use Rattle.sel_lines.specs.Blocks.{blocks_of, block_of, is_block, parsed_width, widest};
 ghost use Rattle.sel_lines.specs.Columns.{all_some};
 ghost use Rattle.sel_lines.specs.Lines.{longest_line};
 ghost use Rattle.sel_lines.specs.ListParts.{shown_list};
 
+use crate::line_errors::memory_error_after;
 use crate::lists::{bits_of, items_of, parse_row};
 use crate::numbers::parse_size;
-use crate::refusals::want_of_parts;
 use crate::rows::Rows;
 use crate::words::split_at_each;
 use sel_arrow::fixed_size_list::FixedSizeListArray;
@@ -31,7 +31,7 @@ pub struct Blocks {
 
 /// Parses a list size, or returns `None` if `word` is invalid or exceeds `WIDEST`.
 pub fn parse_width(word: &str) -> Option<usize>
-    ensures { result ≡ width_of word.now }
+    ensures { result ≡ parsed_width word.now }
 {
     let width = parse_size(word)?;
     if width > WIDEST {
@@ -175,7 +175,7 @@ impl Blocks {
         let items = items_of(alloc, values, &flags)?;
         match FixedSizeListArray::try_new(alloc, width, len, items, Some(validity)) {
             Ok(array) => Ok(array),
-            Err(fault) => Err(want_of_parts(fault)),
+            Err(fault) => Err(memory_error_after(fault)),
         }
     }
 }

@@ -2,12 +2,12 @@
 ghost use Rattle.std.specs.Prelude.{◌≡◌, ◌≤◌, IfOk, IfErr, All, length, map, option_map, string_bytes};
 ghost use Rattle.sel_arrow.specs.Columns.{boolean_rows, primitive_rows};
 ghost use Rattle.sel_arrow.specs.Value.{Number, Truth};
-ghost use Rattle.sel_lines.specs.Choose.{choose_answer, choose_words, chosen_rows};
+ghost use Rattle.sel_lines.specs.Choose.{choose_answer, choose_words, choose_result};
 ghost use Rattle.sel_lines.specs.Lines.{longest_line};
-ghost use Rattle.sel_lines.specs.Rows.{rows_of};
+ghost use Rattle.sel_lines.specs.Rows.{parsed_rows};
 
 use crate::columns::{parse_column, print_column};
-use crate::refusals::want_of_memory;
+use crate::line_errors::memory_error;
 use crate::rows::Rows;
 use polars_compute::if_then_else::IfThenElseKernel;
 use sel_arrow::array::Array;
@@ -46,13 +46,14 @@ fn answer_rows(
     if_true: Rows<i64>,
     if_false: Rows<i64>,
 ) -> Result<Option<String>, AllocError>
-    ensures { IfOk result (λ answer. option_map string_bytes answer
-        ≡ choose_answer (rows_of Truth mask) (rows_of Number if_true) (rows_of Number if_false)) }
+    ensures { IfOk result (λ answer. option_map string_bytes answer ≡
+        choose_answer (parsed_rows Truth mask) (parsed_rows Number if_true)
+        (parsed_rows Number if_false)) }
 {
     match choose_rows(alloc, mask, if_true, if_false) {
         Ok(Some(chosen)) => Ok(Some(print_column(alloc, &chosen)?)),
         Ok(None) => Ok(None),
-        Err(fault) => Err(want_of_memory(fault)),
+        Err(fault) => Err(memory_error(fault)),
     }
 }
 
@@ -62,8 +63,9 @@ fn choose_rows(
     if_true: Rows<i64>,
     if_false: Rows<i64>,
 ) -> PolarsResult<Option<PrimitiveArray<i64>>>
-    ensures rows { IfOk result (λ chosen. option_map (λ column. primitive_rows column) chosen
-        ≡ chosen_rows (rows_of Truth mask) (rows_of Number if_true) (rows_of Number if_false)) }
+    ensures rows { IfOk result (λ chosen. option_map (λ column. primitive_rows column) chosen ≡
+        choose_result (parsed_rows Truth mask) (parsed_rows Number if_true)
+        (parsed_rows Number if_false)) }
     ensures refusal { IfErr result (λ fault. fault ≡ PolarsError.OutOfMemory) }
 {
     let mask = mask.into_boolean(alloc)?;
@@ -80,7 +82,7 @@ fn choose_columns(
     if_false: &PrimitiveArray<i64>,
 ) -> PolarsResult<Option<PrimitiveArray<i64>>>
     ensures rows { IfOk result (λ chosen. option_map (λ column. primitive_rows column) chosen
-        ≡ chosen_rows (boolean_rows mask.now)
+        ≡ choose_result (boolean_rows mask.now)
         (primitive_rows if_true.now) (primitive_rows if_false.now)) }
     ensures refusal { IfErr result (λ fault. fault ≡ PolarsError.OutOfMemory) }
 {

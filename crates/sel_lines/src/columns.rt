@@ -4,11 +4,11 @@ ghost use Rattle.std.specs.List.{join_with_byte};
 ghost use Rattle.sel_arrow.specs.Columns.{primitive_rows};
 ghost use Rattle.sel_arrow.specs.Value.{Null, Number};
 ghost use Rattle.sel_lines.specs.Columns.{all_some, row_of, column_of, row_text, column_text};
-ghost use Rattle.sel_lines.specs.Rows.{rows_of, shown_row};
+ghost use Rattle.sel_lines.specs.Rows.{parsed_rows, shown_row};
 ghost use Rattle.sel_lines.specs.Lines.{longest_line};
 
+use crate::line_errors::memory_error;
 use crate::numbers::Item;
-use crate::refusals::want_of_memory;
 use crate::rows::Rows;
 use crate::words::split_at_each;
 use sel_arrow::array::Array;
@@ -25,7 +25,7 @@ use std::alloc::{AllocError, Global};
 /// `AllocError` if an allocation fails.
 pub fn parse_column<T: Item>(alloc: Global, word: &str) -> Result<Option<Rows<T>>, AllocError>
     requires { length word.now ≤ longest_line }
-    ensures { IfOk result (λ column. option_map (rows_of T.shown) column ≡
+    ensures { IfOk result (λ column. option_map (parsed_rows T.shown) column ≡
         column_of T.value_of word.now) }
 {
     if word == "-" {
@@ -40,7 +40,7 @@ pub fn parse_column<T: Item>(alloc: Global, word: &str) -> Result<Option<Rows<T>
 
 fn parse_rows<T: Item>(alloc: Global, words: &[&str]) -> Result<Option<Rows<T>>, AllocError>
     requires { length words.now ≤ longest_line + 1 }
-    ensures { IfOk result (λ column. option_map (rows_of T.shown) column
+    ensures { IfOk result (λ column. option_map (parsed_rows T.shown) column
         ≡ all_some (map (λ word. row_of T.value_of word.now) words.now)) }
 {
     let mut values = Vec::with_capacity(alloc, words.len())?;
@@ -130,7 +130,7 @@ impl Printed for Utf8ViewArray {
                 text.push_str(&row)
             }
             Ok(None) => text.push('n'),
-            Err(fault) => Err(want_of_memory(fault)),
+            Err(fault) => Err(memory_error(fault)),
         }
     }
 }

@@ -4,10 +4,10 @@ ghost use Rattle.sel_arrow.specs.Columns.{primitive_rows, utf8view_rows};
 ghost use Rattle.sel_arrow.specs.Value.{Number};
 ghost use Rattle.sel_lines.specs.Dict.{both_text, dict_answer, dict_words, without_nulls};
 ghost use Rattle.sel_lines.specs.Lines.{longest_line};
-ghost use Rattle.sel_lines.specs.Rows.{rows_of};
+ghost use Rattle.sel_lines.specs.Rows.{parsed_rows};
 
 use crate::columns::{parse_column, print_column};
-use crate::refusals::want_of_memory;
+use crate::line_errors::memory_error;
 use crate::rows::Rows;
 use crate::texts::parse_texts;
 use polars_compute::propagate_dictionary::{keys_in_bounds, propagate_dictionary_value_nulls};
@@ -44,12 +44,12 @@ fn answer_rows(
     values: &Utf8ViewArray,
 ) -> Result<Option<String>, AllocError>
     ensures { IfOk result (λ answer. option_map string_bytes answer
-        ≡ dict_answer (rows_of (λ n. Number (pos n)) keys) (utf8view_rows values.now)) }
+        ≡ dict_answer (parsed_rows (λ n. Number (pos n)) keys) (utf8view_rows values.now)) }
 {
     match propagate_rows(alloc, keys, values) {
         Ok(Some((keys, values))) => Ok(Some(print_both(alloc, &keys, &values)?)),
         Ok(None) => Ok(None),
-        Err(fault) => Err(want_of_memory(fault)),
+        Err(fault) => Err(memory_error(fault)),
     }
 }
 
@@ -77,7 +77,7 @@ fn propagate_rows(
 ) -> PolarsResult<Option<(PrimitiveArray<u32>, Utf8ViewArray)>>
     ensures rows { IfOk result (λ both. option_map
         (λ both. (primitive_rows both.0, utf8view_rows both.1)) both
-        ≡ without_nulls (rows_of (λ n. Number (pos n)) keys) (utf8view_rows values.now)) }
+        ≡ without_nulls (parsed_rows (λ n. Number (pos n)) keys) (utf8view_rows values.now)) }
     ensures refusal { IfErr result (λ fault. fault ≡ PolarsError.OutOfMemory) }
 {
     let keys = keys.into_primitive(alloc)?;

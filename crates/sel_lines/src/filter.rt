@@ -1,6 +1,6 @@
 //! The command `filter COL MASK`.
 ghost use Rattle.std.specs.Prelude.{◌≡◌, ◌≤◌, IfOk, IfErr, All, length, map, option_map, string_bytes};
-ghost use Rattle.polars_compute.specs.Select.{select, in_force};
+ghost use Rattle.polars_compute.specs.Select.{select, effective_mask};
 ghost use Rattle.sel_arrow.specs.Columns.{boolean_rows, primitive_rows};
 ghost use Rattle.sel_arrow.specs.Rows.{rows, type_of};
 ghost use Rattle.sel_arrow.specs.Shape.{of_int64};
@@ -8,10 +8,10 @@ ghost use Rattle.sel_arrow.specs.Value.{Number, Truth};
 ghost use Rattle.sel_lines.specs.Columns.{column_text};
 ghost use Rattle.sel_lines.specs.Filter.{filter_answer, filter_words};
 ghost use Rattle.sel_lines.specs.Lines.{longest_line};
-ghost use Rattle.sel_lines.specs.Rows.{rows_of};
+ghost use Rattle.sel_lines.specs.Rows.{parsed_rows};
 
 use crate::columns::{parse_column, print_column};
-use crate::refusals::want_of_memory;
+use crate::line_errors::memory_error;
 use crate::rows::Rows;
 use polars_compute::filter::filter;
 use sel_arrow::array::Array;
@@ -48,12 +48,12 @@ fn answer_rows(
     mask: Rows<bool>,
 ) -> Result<Option<String>, AllocError>
     ensures { IfOk result (λ answer. option_map string_bytes answer
-        ≡ filter_answer (rows_of Number column) (rows_of Truth mask)) }
+        ≡ filter_answer (parsed_rows Number column) (parsed_rows Truth mask)) }
 {
     match filter_rows(alloc, column, mask) {
         Ok(Some(kept)) => Ok(Some(print_column(alloc, &kept)?)),
         Ok(None) => Ok(None),
-        Err(fault) => Err(want_of_memory(fault)),
+        Err(fault) => Err(memory_error(fault)),
     }
 }
 
@@ -65,7 +65,7 @@ fn filter_rows(
 ) -> PolarsResult<Option<PrimitiveArray<i64>>>
     ensures rows { IfOk result (λ kept. option_map
         (λ column. column_text (primitive_rows column)) kept
-        ≡ filter_answer (rows_of Number column) (rows_of Truth mask)) }
+        ≡ filter_answer (parsed_rows Number column) (parsed_rows Truth mask)) }
     ensures refusal { IfErr result (λ fault. fault ≡ PolarsError.OutOfMemory) }
 {
     let column = column.into_primitive(alloc)?;
@@ -84,7 +84,7 @@ fn filter_column(
 ) -> PolarsResult<PrimitiveArray<i64>>
     requires { length (primitive_rows column) ≡ length (boolean_rows mask.now) }
     ensures rows { IfOk result (λ kept. primitive_rows kept ≡
-        select (primitive_rows column) (in_force (boolean_rows mask.now))) }
+        select (primitive_rows column) (effective_mask (boolean_rows mask.now))) }
     ensures refusal { IfErr result (λ fault. fault ≡ PolarsError.OutOfMemory) }
 {
     let array = column.into_ref();

@@ -9,8 +9,8 @@ ghost use Rattle.sel_lines.specs.Lines.{longest_line};
 use crate::blocks::{Blocks, parse_blocks, parse_width};
 use crate::columns::print_column;
 use crate::filter::numbers_of;
+use crate::line_errors::memory_error;
 use crate::numbers::Item;
-use crate::refusals::want_of_memory;
 use polars_compute::gather::sublist::fixed_size_list::sub_fixed_size_list_get_literal;
 use sel_bits::faults::PolarsError;
 use std::alloc::{AllocError, Global};
@@ -63,7 +63,7 @@ fn answer_blocks(
         Ok(taken) => print_column(alloc, &numbers_of(taken)),
         Err(fault) => match fault {
             PolarsError::ComputeError => String::from_str(alloc, "get index is out of bounds"),
-            other => Err(want_of_memory(other)),
+            other => Err(memory_error(other)),
         },
     }
 }

@@ -3,16 +3,16 @@ ghost use Rattle.std.specs.Prelude.{◌≡◌, ◌≤◌, IfOk, IfErr, All, Some
 ghost use Rattle.sel_arrow.specs.Columns.{primitive_rows};
 ghost use Rattle.sel_arrow.specs.Rows.{rows, type_of};
 ghost use Rattle.sel_arrow.specs.Shape.{of_int64};
-ghost use Rattle.sel_runs.specs.Need.{IsRefusal};
+ghost use Rattle.sel_runs.specs.Need.{IsLimitOrMemory};
 ghost use Rattle.sel_lines.specs.Columns.{all_some};
-ghost use Rattle.sel_lines.specs.Flatten.{part_of, part_of_halves, side_by_side, flat_text, flatten_answer, flatten_words};
+ghost use Rattle.sel_lines.specs.Flatten.{flatten_part, part_of_halves, side_by_side, flat_text, flatten_answer, flatten_words};
 ghost use Rattle.sel_lines.specs.Parts.{read_part};
 ghost use Rattle.sel_lines.specs.Lines.{longest_line};
 
 use crate::columns::{parse_column, print_column};
 use crate::filter::numbers_of;
+use crate::line_errors::memory_error;
 use crate::numbers::parse_size;
-use crate::refusals::want_of_memory;
 use crate::words::split_at_each;
 use polars_compute::horizontal_flatten::{flatten_is_safe, horizontal_flatten_unchecked};
 use sel_arrow::array::Array;
@@ -52,7 +52,7 @@ pub fn answer_flatten(alloc: Global, words: &[&str]) -> Result<Option<String>, A
 fn parse_parts(alloc: Global, words: &[&str]) -> Result<Option<Vec<Part>>, AllocError>
     requires { All (λ word. length word.now ≤ longest_line) words.now }
     ensures { IfOk result (λ parts. option_map (λ parts. map read_part parts.items) parts
-        ≡ all_some (map (λ word. part_of word.now) words.now)) }
+        ≡ all_some (map (λ word. flatten_part word.now) words.now)) }
 {
     let mut parts = Vec::with_capacity(alloc, words.len())?;
     for word in words {
@@ -66,7 +66,7 @@ fn parse_parts(alloc: Global, words: &[&str]) -> Result<Option<Vec<Part>>, Alloc
 
 fn parse_part(alloc: Global, word: &str) -> Result<Option<Part>, AllocError>
     requires { length word.now ≤ longest_line }
-    ensures { IfOk result (λ part. option_map read_part part ≡ part_of word.now) }
+    ensures { IfOk result (λ part. option_map read_part part ≡ flatten_part word.now) }
 {
     let halves = split_at_each(alloc, word, ':')?;
     parse_halves(alloc, &halves)
@@ -88,7 +88,7 @@ fn parse_halves(alloc: Global, halves: &[&str]) -> Result<Option<Part>, AllocErr
     };
     match column.into_primitive(alloc) {
         Ok(column) => Ok(Some(Part { width, column })),
-        Err(fault) => Err(want_of_memory(fault)),
+        Err(fault) => Err(memory_error(fault)),
     }
 }
 
@@ -118,7 +118,7 @@ fn flatten_parts(
     ensures rows { IfOk result (λ flat. option_map (λ column. primitive_rows column) flat
         ≡ side_by_side height (map (λ part. primitive_rows part.column) parts.items)
         (map (λ part. part.width) parts.items)) }
-    ensures refusal { IfErr result (IsRefusal (λ _.
+    ensures refusal { IfErr result (IsLimitOrMemory (λ _.
         option_map flat_text (side_by_side height
         (map (λ part. primitive_rows part.column) parts.items)
         (map (λ part. part.width) parts.items)) ≡ Some (codes "size limit rows"))) }
@@ -144,7 +144,8 @@ fn widths_of(alloc: Global, parts: &[Part]) -> PolarsResult<Vec<usize>>
 fn arrays_of(alloc: Global, parts: Vec<Part>) -> PolarsResult<Vec<ArrayRef>>
     ensures rows { IfOk result (λ arrays. map (λ a. rows a.column) arrays.items ≡
         map (λ part. primitive_rows part.column) parts.items) }
-    ensures dtype { IfOk result (λ arrays. All (λ a. type_of a.column ≡ of_int64) arrays.items) }
+    ensures dtype { IfOk result (λ arrays. All (λ a. type_of a.column ≡ of_int64)
+        arrays.items) }
     ensures refusal { IfErr result (λ fault. fault ≡ PolarsError.OutOfMemory) }
 {
     let mut arrays = Vec::with_capacity(alloc, parts.len())?;
@@ -167,7 +168,7 @@ fn flatten_columns(
     requires { All (λ a. type_of a.column ≡ of_int64) arrays.now }
     ensures rows { IfOk result (λ flat. option_map (λ column. primitive_rows column) flat
         ≡ side_by_side height (map (λ a. rows a.column) arrays.now) widths.now) }
-    ensures refusal { IfErr result (IsRefusal (λ _.
+    ensures refusal { IfErr result (IsLimitOrMemory (λ _.
         option_map flat_text (side_by_side height (map (λ a. rows a.column) arrays.now)
         widths.now) ≡ Some (codes "size limit rows"))) }
 {

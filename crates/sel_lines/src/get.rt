@@ -9,9 +9,9 @@ ghost use Rattle.sel_sublists.specs.Lists.{list_get};
 
 use crate::columns::print_column;
 use crate::filter::numbers_of;
+use crate::line_errors::memory_error;
 use crate::lists::{Lists, parse_lists};
 use crate::numbers::Item;
-use crate::refusals::want_of_memory;
 use polars_compute::gather::sublist::list::sublist_get;
 use std::alloc::{AllocError, Global};
 
@@ -46,6 +46,6 @@ fn answer_lists(alloc: Global, lists: Lists, index: i64) -> Result<String, Alloc
     drop(array);
     match taken {
         Ok(taken) => print_column(alloc, &numbers_of(taken)),
-        Err(fault) => Err(want_of_memory(fault)),
+        Err(fault) => Err(memory_error(fault)),
     }
 }

@@ -13,7 +13,7 @@ ghost use Rattle.sel_lines.specs.ListParts.{shown_list, AreKept, HasRead, IsRead
 ghost use Rattle.sel_lines.specs.Lists.{list_of_word, lists_of};
 
 use crate::columns::parse_column;
-use crate::refusals::{want_of_memory, want_of_parts};
+use crate::line_errors::{memory_error, memory_error_after};
 use crate::rows::Rows;
 use crate::words::split_at_each;
 use sel_arrow::array::Array;
@@ -144,13 +144,13 @@ impl Lists {
         } = self;
         let offsets = match OffsetsBuffer::of_rising(ends) {
             Ok(offsets) => offsets,
-            Err(fault) => return Err(want_of_memory(fault)),
+            Err(fault) => return Err(memory_error(fault)),
         };
         let validity = bits_of(alloc, &validity)?;
         let items = items_of(alloc, values, &flags)?;
         match ListArray::try_new(alloc, offsets, items, Some(validity)) {
             Ok(array) => Ok(array),
-            Err(fault) => Err(want_of_parts(fault)),
+            Err(fault) => Err(memory_error_after(fault)),
         }
     }
 }
@@ -161,7 +161,7 @@ pub fn bits_of(alloc: Global, values: &[bool]) -> Result<Bitmap, AllocError>
 {
     match Bitmap::from_bools(alloc, values) {
         Ok(bitmap) => Ok(bitmap),
-        Err(fault) => Err(want_of_memory(fault)),
+        Err(fault) => Err(memory_error(fault)),
     }
 }
 
@@ -176,7 +176,7 @@ pub fn items_of(alloc: Global, values: Vec<i64>, flags: &[bool]) -> Result<Array
     let flags = bits_of(alloc, flags)?;
     let values = match Buffer::from_vec(values) {
         Ok(values) => values,
-        Err(fault) => return Err(want_of_memory(fault)),
+        Err(fault) => return Err(memory_error(fault)),
     };
     match PrimitiveArray::try_new(values, Some(flags)) {
         Ok(items) => Ok(items.into_ref()),

@@ -2,10 +2,10 @@
 ghost use Rattle.std.specs.Prelude.{◌≡◌, IsTrue, IfOk, IfErr, count_by, length};
 ghost use Rattle.sel_arrow.specs.Columns.{boolean_rows, primitive_rows};
 ghost use Rattle.sel_arrow.specs.Rows.{rows, type_of};
-ghost use Rattle.polars_compute.specs.Need.{IsRefusal, PassesNone, past};
+ghost use Rattle.polars_compute.specs.Need.{IsLimitOrMemory, ExceedsNone, exceeded_limits};
 ghost use Rattle.polars_compute.specs.Pick.{all_within, take_rows};
-ghost use Rattle.polars_compute.specs.Select.{select, in_force, is_true};
-ghost use Rattle.sel_lines.specs.SelectRows.{rows_of_each, type_of_each, select_rows_of, selection_fits, past_selected};
+ghost use Rattle.polars_compute.specs.Select.{select, effective_mask, is_true};
+ghost use Rattle.sel_lines.specs.SelectRows.{rows_of_each, type_of_each, select_rows_of, selection_fits, exceeded_selected};
 
 use polars_compute::filter::filter;
 use polars_compute::gather::{indices_in_bounds, take_unchecked};
@@ -39,10 +39,10 @@ pub fn select_rows(
         (rows_of_each columns.now) (boolean_rows mask.now) (primitive_rows indices.now)) }
     ensures types { IfOk result (λ selected.
         type_of_each selected.items ≡ type_of_each columns.now) }
-    ensures within { IfOk result (λ _. PassesNone
-        (past_selected columns.now (boolean_rows mask.now) (primitive_rows indices.now))) }
-    ensures refusal { IfErr result (IsRefusal
-        (past_selected columns.now (boolean_rows mask.now) (primitive_rows indices.now))) }
+    ensures within { IfOk result (λ _. ExceedsNone
+        (exceeded_selected columns.now (boolean_rows mask.now) (primitive_rows indices.now))) }
+    ensures refusal { IfErr result (IsLimitOrMemory
+        (exceeded_selected columns.now (boolean_rows mask.now) (primitive_rows indices.now))) }
 {
     let mut selected = Vec::with_capacity(alloc, columns.len())?;
     for column in columns {
@@ -68,11 +68,11 @@ fn select_column(
     requires inside { IsTrue (all_within
         (count_by is_true (boolean_rows mask.now)) (primitive_rows indices.now)) }
     ensures rows { IfOk result (λ taken. rows taken.column ≡ take_rows
-        (select (rows column.now.column) (in_force (boolean_rows mask.now)))
+        (select (rows column.now.column) (effective_mask (boolean_rows mask.now)))
         (primitive_rows indices.now)) }
     ensures dtype { IfOk result (λ taken. type_of taken.column ≡ type_of column.now.column) }
-    ensures refusal { IfErr result (IsRefusal (past (type_of column.now.column)
-        (take_rows (select (rows column.now.column) (in_force (boolean_rows mask.now)))
+    ensures refusal { IfErr result (IsLimitOrMemory (exceeded_limits (type_of column.now.column)
+        (take_rows (select (rows column.now.column) (effective_mask (boolean_rows mask.now)))
         (primitive_rows indices.now)))) }
 {
     let kept = filter(alloc, column, mask)?;
@@ -94,11 +94,11 @@ pub fn select_is_safe(columns: &[ArrayRef], mask: &BooleanArray, indices: &IdxAr
             return false;
         }
     }
-    indices_in_bounds(indices, rows_in_force(mask))
+    indices_in_bounds(indices, effective_len(mask))
 }
 
 // Returns the number of mask rows that are true and valid.
-fn rows_in_force(mask: &BooleanArray) -> usize
+fn effective_len(mask: &BooleanArray) -> usize
     ensures { result ≡ count_by is_true (boolean_rows mask.now) }
 {
     let mut count = 0;

@@ -7,13 +7,13 @@ ghost use Rattle.sel_arrow.specs.Value.{Number, Truth};
 ghost use Rattle.sel_lines.specs.Columns.{all_some, column_of, column_text};
 ghost use Rattle.sel_lines.specs.Lines.{longest_line};
 ghost use Rattle.sel_lines.specs.Numbers.{number_of};
-ghost use Rattle.sel_lines.specs.Rows.{rows_of};
+ghost use Rattle.sel_lines.specs.Rows.{parsed_rows};
 ghost use Rattle.sel_lines.specs.SelectRows.{rows_of_each};
 ghost use Rattle.sel_lines.specs.Table.{columns_text, selected_rows, table_answer, table_words};
 ghost use Rattle.sel_lines.specs.Parts.{AreNumbers};
 
 use crate::columns::{parse_column, print_column};
-use crate::refusals::want_of_memory;
+use crate::line_errors::memory_error;
 use crate::rows::Rows;
 use crate::select::{select_is_safe, select_rows};
 use sel_arrow::array::Array;
@@ -56,7 +56,8 @@ fn parse_columns(alloc: Global, words: &[&str]) -> Result<Option<Vec<ArrayRef>>,
     ensures rows { IfOk result (λ columns.
         option_map (λ columns. rows_of_each columns.items) columns
         ≡ all_some (map (λ word. column_of number_of word.now) words.now)) }
-    ensures dtype { IfOk result (λ columns. IfSome columns (λ columns. AreNumbers columns.items)) }
+    ensures dtype { IfOk result (λ columns. IfSome columns
+        (λ columns. AreNumbers columns.items)) }
 {
     let mut columns = Vec::with_capacity(alloc, words.len())?;
     for word in words {
@@ -87,7 +88,7 @@ fn parse_array(alloc: Global, word: &str) -> Result<Option<ArrayRef>, AllocError
     };
     match rows.into_primitive(alloc) {
         Ok(column) => Ok(Some(column.into_ref())),
-        Err(fault) => Err(want_of_memory(fault)),
+        Err(fault) => Err(memory_error(fault)),
     }
 }
 
@@ -99,7 +100,7 @@ fn answer_columns(
 ) -> Result<Option<String>, AllocError>
     requires { AreNumbers columns.now }
     ensures { IfOk result (λ answer. option_map string_bytes answer
-        ≡ table_answer (rows_of Truth mask) (rows_of (λ n. Number (pos n)) indices)
+        ≡ table_answer (parsed_rows Truth mask) (parsed_rows (λ n. Number (pos n)) indices)
         (rows_of_each columns.now)) }
 {
     match select_read(alloc, mask, indices, columns) {
@@ -109,7 +110,7 @@ fn answer_columns(
             Ok(Some(printed?))
         }
         Ok(None) => Ok(None),
-        Err(fault) => Err(want_of_memory(fault)),
+        Err(fault) => Err(memory_error(fault)),
     }
 }
 
@@ -122,7 +123,7 @@ fn select_read(
     requires { AreNumbers columns.now }
     ensures rows { IfOk result (λ selected.
         option_map (λ selected. rows_of_each selected.items) selected
-        ≡ selected_rows (rows_of Truth mask) (rows_of (λ n. Number (pos n)) indices)
+        ≡ selected_rows (parsed_rows Truth mask) (parsed_rows (λ n. Number (pos n)) indices)
         (rows_of_each columns.now)) }
     ensures dtype { IfOk result (λ selected. IfSome selected
         (λ selected. AreNumbers selected.items)) }

@@ -4,11 +4,11 @@ ghost use Rattle.sel_arrow.specs.Columns.{primitive_rows};
 ghost use Rattle.sel_arrow.specs.Value.{Number};
 ghost use Rattle.sel_lines.specs.Columns.{column_text};
 ghost use Rattle.sel_lines.specs.Lines.{longest_line};
-ghost use Rattle.sel_lines.specs.Rows.{rows_of};
+ghost use Rattle.sel_lines.specs.Rows.{parsed_rows};
 ghost use Rattle.sel_lines.specs.Take.{take_answer, take_words};
 
 use crate::columns::{parse_column, print_column};
-use crate::refusals::want_of_memory;
+use crate::line_errors::memory_error;
 use crate::rows::Rows;
 use polars_compute::gather::indices_in_bounds;
 use polars_compute::gather::primitive::take_primitive_unchecked;
@@ -44,12 +44,12 @@ fn answer_rows(
     indices: Rows<u32>,
 ) -> Result<Option<String>, AllocError>
     ensures { IfOk result (λ answer. option_map string_bytes answer
-        ≡ take_answer (rows_of Number column) (rows_of (λ n. Number (pos n)) indices)) }
+        ≡ take_answer (parsed_rows Number column) (parsed_rows (λ n. Number (pos n)) indices)) }
 {
     match take_rows(alloc, column, indices) {
         Ok(Some(taken)) => Ok(Some(print_column(alloc, &taken)?)),
         Ok(None) => Ok(None),
-        Err(fault) => Err(want_of_memory(fault)),
+        Err(fault) => Err(memory_error(fault)),
     }
 }
 
@@ -61,7 +61,7 @@ fn take_rows(
 ) -> PolarsResult<Option<PrimitiveArray<i64>>>
     ensures rows { IfOk result (λ taken. option_map
         (λ column. column_text (primitive_rows column)) taken
-        ≡ take_answer (rows_of Number column) (rows_of (λ n. Number (pos n)) indices)) }
+        ≡ take_answer (parsed_rows Number column) (parsed_rows (λ n. Number (pos n)) indices)) }
     ensures refusal { IfErr result (λ fault. fault ≡ PolarsError.OutOfMemory) }
 {
     let column = column.into_primitive(alloc)?;

@@ -7,10 +7,10 @@ ghost use Rattle.sel_arrow.specs.Views.{all_placed, view_value};
 ghost use Rattle.sel_runs.specs.Need.{bytes_needed};
 ghost use Rattle.sel_lines.specs.Columns.{all_some, column_of, row_of};
 ghost use Rattle.sel_lines.specs.Lines.{longest_line};
-ghost use Rattle.sel_lines.specs.Texts.{text_of};
+ghost use Rattle.sel_lines.specs.Texts.{string_value};
 ghost use Rattle.sel_lines.specs.Parts.{text_row};
 
-use crate::refusals::want_of_memory;
+use crate::line_errors::memory_error;
 use crate::words::split_at_each;
 use sel_arrow::utf8view::Utf8ViewArray;
 use sel_arrow::view::View;
@@ -28,7 +28,8 @@ use std::alloc::{AllocError, Global};
 /// `AllocError` if an allocation fails.
 pub fn parse_texts(alloc: Global, word: &str) -> Result<Option<Utf8ViewArray>, AllocError>
     requires { length word.now ≤ longest_line }
-    ensures { IfOk result (λ column. option_map utf8view_rows column ≡ column_of text_of word.now) }
+    ensures { IfOk result (λ column. option_map utf8view_rows column ≡
+        column_of string_value word.now) }
 {
     let Some(rows) = parse_rows(alloc, word)? else {
         return Ok(None);
@@ -36,14 +37,14 @@ pub fn parse_texts(alloc: Global, word: &str) -> Result<Option<Utf8ViewArray>, A
     let texts = Texts::of_rows(alloc, &rows)?;
     match texts.into_column(alloc) {
         Ok(column) => Ok(Some(column)),
-        Err(fault) => Err(want_of_memory(fault)),
+        Err(fault) => Err(memory_error(fault)),
     }
 }
 
 fn parse_rows(alloc: Global, word: &str) -> Result<Option<Vec<Option<&str>>>, AllocError>
     requires { length word.now ≤ longest_line }
     ensures { IfOk result (λ rows. option_map (λ rows. map text_row rows.items) rows ≡
-        column_of text_of word.now) }
+        column_of string_value word.now) }
 {
     if word == "-" {
         return Ok(Some(Vec::new(alloc)));
@@ -57,7 +58,7 @@ fn parse_words<'a>(
     words: &[&'a str],
 ) -> Result<Option<Vec<Option<&'a str>>>, AllocError>
     ensures { IfOk result (λ rows. option_map (λ rows. map text_row rows.items) rows
-        ≡ all_some (map (λ word. row_of text_of word.now) words.now)) }
+        ≡ all_some (map (λ word. row_of string_value word.now) words.now)) }
 {
     let mut rows = Vec::with_capacity(alloc, words.len())?;
     for word in words {
@@ -71,7 +72,7 @@ fn parse_words<'a>(
 
 // Parses a row: `n` for null, or `=` followed by the string.
 fn parse_row(word: &str) -> Option<Option<&str>>
-    ensures { option_map text_row result ≡ row_of text_of word.now }
+    ensures { option_map text_row result ≡ row_of string_value word.now }
 {
     if word == "n" {
         return Some(None);

@@ -1,4 +1,4 @@
--- What a recursion into children and fields stands on.
+-- Lemmas for the recursion into children and fields.
 use Rattle.std.proofs.Common.{◌≡◌, inl, inr, All, Bor, ℕ, zero, suc, ◌+◌, ◌<◌, true, List, [], ◌∷◌, ◌++◌, length, map, refl, ap, sym, subst, ◌∙◌, arith, get_or}
 use Rattle.std.proofs.lemmas.List.{get_or-map}
 use Rattle.std.proofs.lemmas.List.FromFn.{map-range_with_len_more}
@@ -12,7 +12,7 @@ use Rattle.sel_arrow.specs.declared.column.Column.{Column}
 use Rattle.sel_arrow.specs.declared.column.Column.TheVariants.{LargeList', FixedSizeList'}
 use Rattle.sel_arrow.proofs.NestedRows.{has_lists, has_blocks}
 use Rattle.sel_runs.specs.Children.{child, field, is_listing, part_at, parts_of}
-use Rattle.sel_runs.specs.Need.{IsRefusal, past_taken, past_fields}
+use Rattle.sel_runs.specs.Need.{IsLimitOrMemory, exceeded_taken, exceeded_in_fields}
 
 -- ---- children
 
@@ -45,10 +45,10 @@ child_formed (LargeList' offsets p values validity) is h = (has_lists offsets va
 child_formed (FixedSizeList' size len p values validity) is h = (has_blocks size len values validity h).child
 child_formed c is h = absurd (cc is)
 
--- ---- columns that were found below others
+-- ---- lists of child columns
 
 module _ (f : Column → Column) where
-  -- what holds of each column below holds of those that were found
+  -- A property of the child of each column is a property of each element of the list of children.
   pub found_all : (P : Column → Type 0) (xs cs : List (Bor Column)) → map (λ x. x.now) xs ≡ map (λ c. f c.now) cs → All (λ c. P (f c.now)) cs → All (λ x. P x.now) xs
   found_all P [] cs e all k d h = absurd (omega (arith, h))
   found_all P (x ∷ xs) [] e all k d h = absurd (cc e)
@@ -78,7 +78,7 @@ pub listed_shapes : (ss : List Shape) → shape_list (shapes_of ss) ≡ ss
 listed_shapes [] = refl
 listed_shapes (s ∷ ss) = ap (λ l. s ∷ l) (listed_shapes ss)
 
--- ---- what a recursion into children asks
+-- ---- the preconditions of the recursion into children
 
 pub record Recurses (s : Shape) (xs : List (Bor Column)) (yss : List (List Value)) : Type 0 where
   pub alike : All (λ x. type_of x.now ≡ s) xs
@@ -93,29 +93,29 @@ items_recurse s xs cs e lists alike formed = record {
   rows = found_map child rows xs cs e;
 }
 
--- ---- refusals
+-- ---- errors
 
-pub refused_more : (P Q : Limit → Type 0) (fault : PolarsError) → ((limit : Limit) → P limit → Q limit) → IsRefusal P fault → IsRefusal Q fault
+pub refused_more : (P Q : Limit → Type 0) (fault : PolarsError) → ((limit : Limit) → P limit → Q limit) → IsLimitOrMemory P fault → IsLimitOrMemory Q fault
 refused_more P Q OutOfMemory more h = tt
 refused_more P Q (SizeLimit limit) more h = more limit h
 refused_more P Q ComputeError more h = h
 
--- what is past a limit at a field is past it
+-- A limit that is exceeded in one field is exceeded in the struct.
 pub past_at : (ss : List Shape) (start k : ℕ) (d : Shape) (columns : List Column) (vs : List Value) (limit : Limit) → k < length ss →
-    past_taken (get_or ss k d) (map (field (start + k)) columns) (map (part_at (start + k)) vs) limit → past_fields (shapes_of ss) start columns vs limit
+    exceeded_taken (get_or ss k d) (map (field (start + k)) columns) (map (part_at (start + k)) vs) limit → exceeded_in_fields (shapes_of ss) start columns vs limit
 past_at [] start k d columns vs limit h past = absurd (omega (arith, h))
 past_at (s ∷ ss) start zero d columns vs limit h past =
     let same : start + 0 ≡ start = omega arith in
-    inl (subst (λ n. past_taken s (map (field n) columns) (map (part_at n) vs) limit) same past)
+    inl (subst (λ n. exceeded_taken s (map (field n) columns) (map (part_at n) vs) limit) same past)
 past_at (s ∷ ss) start (suc k) d columns vs limit h past =
     let same : start + suc k ≡ (start + 1) + k = omega arith in
-    inr (past_at ss (start + 1) k d columns vs limit (omega arith) (subst (λ n. past_taken (get_or ss k d) (map (field n) columns) (map (part_at n) vs) limit) same past))
+    inr (past_at ss (start + 1) k d columns vs limit (omega arith) (subst (λ n. exceeded_taken (get_or ss k d) (map (field n) columns) (map (part_at n) vs) limit) same past))
 
--- one field more
+-- One more field.
 pub parts_more : (j : ℕ) (vs : List Value) (xss : List (List Value)) (new : List (List Value)) (one : List Value) → xss ≡ parts_of j vs → new ≡ xss ++ one ∷ [] → one ≡ map (part_at j) vs → new ≡ parts_of (j + 1) vs
 parts_more j vs xss new one e f g =
     f ∙ ap (λ l. l ++ one ∷ []) e ∙ ap (λ x. parts_of j vs ++ x ∷ []) g ∙ sym (map-range_with_len_more (λ k. map (part_at k) vs) 0 j j (omega arith))
 
--- the type of a field, read at the first column
+-- The type of a field, from the first column.
 pub field_kind : (fs : List Column) (j : ℕ) (f : Column) → j < length fs → f ≡ get_or fs j f → get_or (shape_list (shapes_of (map type_of fs))) j of_null ≡ type_of f
 field_kind fs j f h is = ap (λ l. get_or l j of_null) (listed_shapes (map type_of fs)) ∙ get_or-map type_of fs j f of_null h ∙ ap type_of (sym is)

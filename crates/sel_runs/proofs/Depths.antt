@@ -1,4 +1,4 @@
--- How many types stand in a type: itself and those below it.
+-- The size of a type: the number of types in it, including itself.
 use Rattle.std.proofs.Common.{◌≡◌, ℕ, zero, suc, ◌+◌, ◌≤◌, ◌<◌, List, [], ◌∷◌, length, map, ap, arith, get_or}
 use Rattle.sel_arrow.specs.Shape.{Shape, Shapes, no_shapes, next_shape, of_large_list, of_fixed_size_list, of_struct, shapes_of}
 
@@ -13,7 +13,7 @@ abbrev mutual
   sizes_of no_shapes = 0
   sizes_of (next_shape s ss) = size_of s + sizes_of ss
 
--- a field's type is no larger than all of them
+-- The type of a field is no larger than all field types together.
 pub one_size : {A : Type 0} (f : A → Shape) (xs : List A) (j : ℕ) (x : A) → j < length xs → x ≡ get_or xs j x → size_of (f x) ≤ sizes_of (shapes_of (map f xs))
 one_size f [] j x h is = absurd (omega (arith, h))
 one_size f (y ∷ xs) zero x h is = omega (arith, ap (λ z. size_of (f z)) is)

@@ -1,4 +1,4 @@
--- The fields of a column of tuples, by their places.
+-- The fields of a struct column, by position.
 use Rattle.std.proofs.Common.{◌≡◌, ℕ, zero, suc, ◌≤◌, ◌<◌, List, [], ◌∷◌, length, Option, Vec, Global, refl, ap, sym, ◌∙◌, arith, get_or}
 use mathlib.Core.Former.{Count}
 use Rattle.sel_bits.specs.Bits.{Bits}

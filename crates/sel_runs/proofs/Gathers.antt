@@ -1,4 +1,4 @@
--- Picks one by one, and what they find.
+-- Gathering rows one row reference at a time.
 use Rattle.std.proofs.Common.{◌≡◌, ℕ, ◌+◌, ◌*◌, ◌%◌, ◌^◌, ◌≤◌, ◌<◌, All, Bool, true, false, List, [], ◌∷◌, ◌++◌, length, take, drop, map, replicate, get_or, Option, Some, None, zero, suc, refl, ap, sym, subst, ◌∙◌, arith, append_assoc}
 use Rattle.std.specs.Int.{from_bool}
 use Rattle.std.proofs.Math.Seq.{take-add}
@@ -13,7 +13,7 @@ use Rattle.sel_arrow.specs.Masked.{valid_at}
 use Rattle.sel_runs.specs.Picks.{found, pick}
 use Rattle.sel_runs.specs.Plans.{bit_found, bits_found, IsPicked}
 
--- one pick more
+-- One more row reference.
 pub pick_next : {A : Type 0} (d : A) (xss : List (List A)) (ps : List (Option (ℕ × ℕ))) (k : ℕ) → k < length ps →
     pick d xss (take (k + 1) ps) ≡ pick d xss (take k ps) ++ found d xss (get_or ps k None) ∷ []
 pick_next d xss ps k h = ap (pick d xss) (take_more ps k None h) ∙ map_push (found d xss) (take k ps) (get_or ps k None)
@@ -25,7 +25,7 @@ none_at [] s h = refl
 none_at (v ∷ vs) zero h = All-head (λ x. x ≡ None) v vs h
 none_at (v ∷ vs) (suc s) h = none_at vs s (All-tail (λ x. x ≡ None) v vs h)
 
--- each row is valid where no source has a validity and no pick is none
+-- Each row is valid if no source has a validity bitmap and no row reference is none.
 pub all_there : (vs : List (Option Bits)) (ps : List (Option (ℕ × ℕ))) → All (λ v. v ≡ None) vs → All IsPicked ps → replicate (length ps) true ≡ bits_found vs ps
 all_there vs [] h picked = refl
 all_there vs (None ∷ ps) h picked = absurd (All-head IsPicked None ps picked)
@@ -44,9 +44,9 @@ all_none f ss h k d inside =
     at (s ∷ l) zero h below = All-head (λ x. f x ≡ None) s l h
     at (s ∷ l) (suc k) h below = at l k (All-tail (λ x. f x ≡ None) s l h) (omega (arith, below))
 
--- ---- a walk over picks
+-- ---- an iterator over row references
 
--- the next pick of a walk, and those behind it
+-- The next row reference, followed by the remaining ones.
 pub next_is : (ps rest : List (Option (ℕ × ℕ))) (p : Option (ℕ × ℕ)) (k : ℕ) → drop k ps ≡ p ∷ rest → get_or ps k None ≡ p
 next_is ps rest p k e =
     let there : k + 0 ≡ k = omega arith in
@@ -58,18 +58,18 @@ rest_is ps rest p k e = sym (ap (drop 1) e) ∙ drop-drop 1 k ps
 pub next_below : (ps rest : List (Option (ℕ × ℕ))) (p : Option (ℕ × ℕ)) (k : ℕ) → drop k ps ≡ p ∷ rest → k < length ps
 next_below ps rest p k e = omega (arith, ap length e, length-drop k ps)
 
--- what holds of all picks holds of the next one
+-- A property of all row references is a property of the next one.
 pub next_all : (P : Option (ℕ × ℕ) → Type 0) (ps rest : List (Option (ℕ × ℕ))) (p : Option (ℕ × ℕ)) (k : ℕ) → drop k ps ≡ p ∷ rest → All P ps → P p
 next_all P ps rest p k e all = subst P (next_is ps rest p k e) (All-get_or P ps k None (next_below ps rest p k e) all)
 
--- one value more
+-- One more value.
 pub values_next : {A : Type 0} (d : A) (xss : List (List A)) (ps rest : List (Option (ℕ × ℕ))) (p : Option (ℕ × ℕ)) (k : ℕ) (old new : List A) (x : A) → drop k ps ≡ p ∷ rest →
     old ≡ pick d xss (take k ps) → x ≡ found d xss p → new ≡ old ++ x ∷ [] → new ≡ pick d xss (take (k + 1) ps)
 values_next d xss ps rest p k old new x e is there more =
     more ∙ ap (λ l. l ++ x ∷ []) is ∙ ap (λ y. pick d xss (take k ps) ++ y ∷ []) (there ∙ ap (found d xss) (sym (next_is ps rest p k e)))
     ∙ sym (pick_next d xss ps k (next_below ps rest p k e))
 
--- one value more behind others
+-- One more value, after given ones.
 pub values_behind : {A : Type 0} (d : A) (xss : List (List A)) (ps rest : List (Option (ℕ × ℕ))) (p : Option (ℕ × ℕ)) (k : ℕ) (front old new : List A) (x : A) → drop k ps ≡ p ∷ rest →
     old ≡ front ++ pick d xss (take k ps) → x ≡ found d xss p → new ≡ old ++ x ∷ [] → new ≡ front ++ pick d xss (take (k + 1) ps)
 values_behind d xss ps rest p k front old new x e is there more =
@@ -77,7 +77,7 @@ values_behind d xss ps rest p k front old new x e is there more =
     more ∙ ap (λ l. l ++ x ∷ []) is ∙ append_assoc front so_far (x ∷ [])
     ∙ ap (λ l. front ++ l) (values_next d xss ps rest p k so_far (so_far ++ x ∷ []) x e refl there refl)
 
--- the values of more picks
+-- The values at several more row references.
 pub values_more : {A : Type 0} (d : A) (xss : List (List A)) (ps left : List (Option (ℕ × ℕ))) (old new : List A) (at count : ℕ) → left ≡ drop at ps → old ≡ pick d xss (take at ps) →
     new ≡ old ++ pick d xss (take count left) → new ≡ pick d xss (take (at + count) ps)
 values_more d xss ps left old new at count behind is more =
@@ -94,7 +94,7 @@ there_at vs ps rest p count i e h =
 block_length : (vs : List (Option Bits)) (ps : List (Option (ℕ × ℕ))) (count : ℕ) → count ≤ length ps → length (take count (bits_found vs ps)) ≡ count
 block_length vs ps count inside = omega (arith, inside, length-map ps (bit_found vs), length-take count (bits_found vs ps))
 
--- one row more in a word
+-- One more row in a word.
 pub word_next : (vs : List (Option Bits)) (ps rest : List (Option (ℕ × ℕ))) (p : Option (ℕ × ℕ)) (count i word bit : ℕ) (there : Bool) → drop i ps ≡ p ∷ rest → count ≤ length ps → count ≤ 64 → i < count →
     word ≡ word_of (take i (take count (bits_found vs ps))) → there ≡ bit_found vs p → bit ≡ from_bool there →
     word + bit * 2 ^ i % 2 ^ 64 ≡ word_of (take (i + 1) (take count (bits_found vs ps)))
@@ -111,7 +111,7 @@ pub word_lt : (vs : List (Option Bits)) (ps : List (Option (ℕ × ℕ))) (count
 word_lt vs ps count word inside is =
     omega (arith, is, word_of_lt (take count (bits_found vs ps)), ap (λ n. 2 ^ n) (block_length vs ps count inside))
 
--- one word more
+-- One more word.
 pub words_more : (vs : List (Option Bits)) (ps left : List (Option (ℕ × ℕ))) (old new : List Bool) (at count word : ℕ) → left ≡ drop at ps → at + count ≤ length ps → word ≡ word_of (take count (bits_found vs left)) →
     old ≡ take at (bits_found vs ps) → new ≡ old ++ bits count word → new ≡ take (at + count) (bits_found vs ps)
 words_more vs ps left old new at count word behind inside is e f =
@@ -132,6 +132,6 @@ pub none_left : {A : Type 0} (xs : List A) → length xs ≡ 0 → xs ≡ []
 none_left [] h = refl
 none_left (x ∷ xs) h = absurd (omega (arith, h))
 
--- the picks of one run more
+-- The row references of one more run.
 pub run_more : (old new run left rest ps : List (Option (ℕ × ℕ))) → old ++ left ≡ ps → left ≡ run ++ rest → new ≡ old ++ run → new ++ rest ≡ ps
 run_more old new run left rest ps before next is = ap (λ l. l ++ rest) is ∙ append_assoc old run rest ∙ ap (λ l. old ++ l) (sym next) ∙ before

@@ -1,4 +1,4 @@
--- The rows that picks name, of values under validities.
+-- Rows gathered as values and validities.
 use Rattle.std.proofs.Common.{◌≡◌, ℕ, ◌<◌, All, Bool, true, false, List, [], ◌∷◌, length, map, get_or, Option, Some, None, zero, suc, refl, ap, sym, ◌∙◌, arith}
 use Rattle.std.specs.Prelude.{if◌then◌else◌}
 use Rattle.std.proofs.lemmas.List.Elements.{All-head, All-tail}
@@ -22,7 +22,7 @@ module _ {S A : Type 0} (values : S → List A) (valid : S → Option Bits) (cov
   value_fits ss None h = h
   value_fits ss (Some p) h = omega (arith, h, same_length ss p.0)
 
-  -- picks of rows are picks of values
+  -- Row references that fit the rows fit the values.
   pub values_fit : (ss : List S) (ps : List (Option (ℕ × ℕ))) → All (PickFits (map rows_in ss)) ps → All (PickFits (map values ss)) ps
   values_fit ss ps fits k e h = value_fits ss (get_or ps k e) (fits k e h)
 
@@ -39,7 +39,7 @@ module _ {S A : Type 0} (values : S → List A) (valid : S → Option Bits) (cov
   row_found (x ∷ ss) zero i h = row_of x i h
   row_found (x ∷ ss) (suc s) i h = row_found ss s i h
 
-  -- the rows that picks name are the values that they name, under the validity of the rows
+  -- The gathered rows are the gathered values under the gathered validity.
   pub rows_picked : (ss : List S) (ps : List (Option (ℕ × ℕ))) → All (PickFits (map values ss)) ps →
       hidden (bits_found (map valid ss) ps) (map f (pick d (map values ss) ps)) ≡ pick Null (map rows_in ss) ps
   rows_picked ss [] fits = refl
@@ -65,17 +65,17 @@ module _ {S A : Type 0} (values : S → List A) (valid : S → Option Bits) (cov
   bit_fits ss None h = h
   bit_fits ss (Some p) h = (bit_below ss p.0 p.1 h, bit_inside ss p.0 p.1 h)
 
-  -- picks of values name bits of their validities
+  -- Row references that fit the values refer to bits of their validities.
   pub bits_fit : (ss : List S) (ps : List (Option (ℕ × ℕ))) → All (PickFits (map values ss)) ps → All (HasBit (map valid ss)) ps
   bits_fit ss ps fits k e h = bit_fits ss (get_or ps k e) (fits k e h)
 
--- ---- bits that are always there
+-- ---- bitmaps that are always present
 
 module _ {S : Type 0} (bits : S → Bits) where
   same_bits : (s : S) → Covers (Some (bits s)) (length (bits s).bits)
   same_bits s v e = let same : bits s ≡ v = cc e in ap (λ b. length b.bits) (sym same)
 
-  -- picks of the bits as values name them as bits
+  -- Row references that fit the booleans refer to bits of the bitmaps.
   pub truths_fit : (ss : List S) (ps : List (Option (ℕ × ℕ))) → All (PickFits (map (λ s. (bits s).bits) ss)) ps → All (HasBit (map (λ s. Some (bits s)) ss)) ps
   truths_fit ss ps fits = bits_fit (λ s. (bits s).bits) (λ s. Some (bits s)) same_bits Truth false ss ps fits
 

@@ -1,4 +1,4 @@
--- The child's rows that rows of lists hold, as runs.
+-- Runs of the child rows of lists.
 use Rattle.std.proofs.Common.{◌≡◌, All, Bor, ℤ, pos, ℕ, zero, suc, ◌+◌, ◌≤◌, ◌<◌, List, [], ◌∷◌, ◌++◌, length, take, drop, map, replicate, Option, Some, None, refl, ap, sym, subst, ◌∙◌, arith, get_or, length-append, append_assoc}
 use Rattle.std.proofs.lemmas.List.{length-map, get_or-map, take_more, take_all, take-append-drop, map-append, append-nil}
 use Rattle.std.proofs.lemmas.List.Concat.{flat_map-append}
@@ -16,7 +16,7 @@ use Rattle.sel_runs.proofs.Fits.{rows_fit}
 use Rattle.sel_runs.proofs.JoinedRows.{null_row, run_row, run_length}
 use Rattle.sel_runs.proofs.RunLists.{run_there, pick_rows, map_nulls, pick_more, run_at, expand-append, length-pick}
 
--- the rows of each source, and those of its child
+-- The rows of each source, and those of its child.
 abbrev pub rows_of : List (Bor Column) → List (List Value)
 rows_of cs = map (λ c. rows c.now) cs
 
@@ -29,7 +29,7 @@ listed_values (v ∷ vs) = ap (λ l. v ∷ l) (listed_values vs)
 
 -- ---- the source of a run
 
--- a place of a run that has one
+-- A run with a row is not empty.
 not_empty : (r : Run) (i : ℕ) → i < r.len → r.len ≡ 0 → ⊥
 not_empty r i h e = absurd (omega (arith, h, e))
 
@@ -41,14 +41,14 @@ source_there cs r s i is fits h =
 source_is : {B : Type 0} (f : Bor Column → List B) (cs : List (Bor Column)) (s : ℕ) (c : Bor Column) → s < length cs → c ≡ get_or cs s c → get_or (map f cs) s [] ≡ f c
 source_is f cs s c h is = get_or-map f cs s c [] h ∙ ap f (sym is)
 
--- row i of a run is inside of its source
+-- Row i of a run is within its source.
 pub row_there : (cs : List (Bor Column)) (r : Run) (s i : ℕ) (c : Bor Column) → r.source ≡ Some s → All (PickFits (rows_of cs)) (unrolled r) → i < r.len → c ≡ get_or cs s c → r.start + i < length (rows c.now)
 row_there cs r s i c is fits h same =
     let there = run_there (rows_of cs) r s is (not_empty r i h) fits in
     let at = source_is (λ x. rows x.now) cs s c (source_there cs r s i is fits h) same in
     omega (arith, there.1, ap length at, h)
 
--- and this is the row
+-- Row i of a run is that row of its source.
 row_is : (cs : List (Bor Column)) (r : Run) (s i : ℕ) (c : Bor Column) → r.source ≡ Some s → All (PickFits (rows_of cs)) (unrolled r) → i < r.len → c ≡ get_or cs s c →
     get_or (pick Null (rows_of cs) (unrolled r)) i Null ≡ get_or (rows c.now) (r.start + i) Null
 row_is cs r s i c is fits h same =
@@ -56,11 +56,11 @@ row_is cs r s i c is fits h same =
     let at = source_is (λ x. rows x.now) cs s c (source_there cs r s i is fits h) same in
     run_row Null (rows_of cs) r s i is there.1 h ∙ ap (λ l. get_or l (r.start + i) Null) at
 
--- what holds of each source holds of that of a run
+-- A property of each source is a property of the source of a run.
 pub source_all : (P : Bor Column → Type 0) (cs : List (Bor Column)) (r : Run) (s i : ℕ) (c : Bor Column) → All P cs → r.source ≡ Some s → All (PickFits (rows_of cs)) (unrolled r) → i < r.len → c ≡ get_or cs s c → P c
 source_all P cs r s i c all is fits h same = subst P (sym same) (All-get_or P cs s c (source_there cs r s i is fits h) all)
 
--- ---- the child's rows in a row
+-- ---- the child rows of a row
 
 pub row_items : (cs : List (Bor Column)) (r : Run) (s i w start len : ℕ) (c : Bor Column) → r.source ≡ Some s → All (PickFits (rows_of cs)) (unrolled r) → i < r.len → c ≡ get_or cs s c →
     get_or (rows c.now) (r.start + i) Null ≡ list_of (take len (drop start (rows (child c.now)))) → start + len ≤ length (rows (child c.now)) →
@@ -78,7 +78,7 @@ items_fit cs r s i start len c is fits h same inside =
     let at = source_is (λ x. rows (child x.now)) cs s c (source_there cs r s i is fits h) same in
     rows_fit (below_of cs) s start len (omega (arith, inside, ap length at))
 
--- nulls, where the row is null
+-- Nulls, if the row is null.
 pub null_items : {A : Type 0} (d : A) (yss : List (List Value)) (w : ℕ) (row : Value) → row ≡ Null → pick Null yss (replicate w None) ≡ items_in w row
 null_items d yss w row is = map_nulls Null yss w ∙ ap (items_in w) (sym is)
 
@@ -94,7 +94,7 @@ pub row_null : (cs : List (Bor Column)) (r : Run) (s i : ℕ) (c : Bor Column) �
     get_or (rows c.now) (r.start + i) Null ≡ Null → get_or (pick Null (rows_of cs) (unrolled r)) i Null ≡ Null
 row_null cs r s i c is fits h same row = row_is cs r s i c is fits h same ∙ row
 
--- ---- the items of rows behind one another
+-- ---- the child rows of concatenated rows
 
 pub joined-append : (w : ℕ) (a b : List Value) → joined_items w (a ++ b) ≡ joined_items w a ++ joined_items w b
 joined-append w a b = flat_map-append (items_in w) a b
@@ -102,7 +102,7 @@ joined-append w a b = flat_map-append (items_in w) a b
 joined-one : (w : ℕ) (v : Value) → joined_items w (v ∷ []) ≡ items_in w v
 joined-one w v = append-nil (items_in w v)
 
--- one row more
+-- One more row.
 pub joined_more : (w : ℕ) (rows : List Value) (i : ℕ) → i < length rows → joined_items w (take (i + 1) rows) ≡ joined_items w (take i rows) ++ items_in w (get_or rows i Null)
 joined_more w rows i h =
     ap (joined_items w) (take_more rows i Null h) ∙ joined-append w (take i rows) (get_or rows i Null ∷ []) ∙ ap (λ l. joined_items w (take i rows) ++ l) (joined-one w (get_or rows i Null))
@@ -112,7 +112,7 @@ joined_part w rows i =
     let whole = ap (λ l. length (joined_items w l)) (sym (take-append-drop i rows)) ∙ ap length (joined-append w (take i rows) (drop i rows)) ∙ length-append (joined_items w (take i rows)) (joined_items w (drop i rows)) in
     omega (arith, whole)
 
--- one run more
+-- One more run.
 pub joined_run : (w : ℕ) (xss : List (List Value)) (rs : List Run) (i : ℕ) → i < length rs →
     joined_items w (pick Null xss (expand (take (i + 1) rs))) ≡ joined_items w (pick Null xss (expand (take i rs))) ++ joined_items w (pick Null xss (unrolled (run_at rs i)))
 joined_run w xss rs i h = ap (joined_items w) (pick_more Null xss rs i h) ∙ joined-append w (pick Null xss (expand (take i rs))) (pick Null xss (unrolled (run_at rs i)))
@@ -125,15 +125,15 @@ joined_runs w xss rs i =
     ∙ length-append (joined_items w (pick Null xss (expand (take i rs)))) (joined_items w (pick Null xss (expand (drop i rs)))) in
     omega (arith, whole)
 
--- a run that holds the items of a row is as long as they are
+-- A run of the child rows of a list has their number as its length.
 pub run_counts : (yss : List (List Value)) (r : Run) (items : List Value) → pick Null yss (unrolled r) ≡ items → r.len ≡ length items
 run_counts yss r items e = sym (run_length Null yss r) ∙ ap length e
 
--- the rows of a run
+-- The rows of a run.
 pub row_below : (xss : List (List Value)) (r : Run) (i : ℕ) → i < r.len → i < length (pick Null xss (unrolled r))
 row_below xss r i h = omega (arith, run_length Null xss r, h)
 
--- so many items more
+-- The number of child rows after one more row.
 pub counted_row : (w : ℕ) (yss xss : List (List Value)) (r one : Run) (i total : ℕ) → i < r.len → pick Null yss (unrolled one) ≡ items_in w (get_or (pick Null xss (unrolled r)) i Null) →
     total ≡ length (joined_items w (take i (pick Null xss (unrolled r)))) → total + one.len ≡ length (joined_items w (take (i + 1) (pick Null xss (unrolled r))))
 counted_row w yss xss r one i total h e so_far =
@@ -141,11 +141,11 @@ counted_row w yss xss r one i total h e so_far =
     let more = ap length (joined_more w rows i (row_below xss r i h)) ∙ length-append (joined_items w (take i rows)) (items_in w (get_or rows i Null)) in
     omega (arith, more, so_far, run_counts yss one (items_in w (get_or rows i Null)) e)
 
--- all rows of a run
+-- All rows of a run.
 pub all_rows : {A : Type 0} (f : List Value → A) (xss : List (List Value)) (r : Run) (i : ℕ) → r.len ≤ i → f (take i (pick Null xss (unrolled r))) ≡ f (pick Null xss (unrolled r))
 all_rows f xss r i h = ap f (take_all i (pick Null xss (unrolled r)) (omega (arith, run_length Null xss r, h)))
 
--- what is picked below, once a run is put behind the others
+-- The child rows after a run is appended.
 pub pushed : (yss : List (List Value)) (old new : List Run) (r : Run) (before more : List Value) → expand new ≡ expand old ++ unrolled r → pick Null yss (expand old) ≡ before → pick Null yss (unrolled r) ≡ more →
     pick Null yss (expand new) ≡ before ++ more
 pushed yss old new r before more e f g =
@@ -154,7 +154,7 @@ pushed yss old new r before more e f g =
 pub pushed_fit : (yss : List (List Value)) (old new : List Run) (r : Run) → expand new ≡ expand old ++ unrolled r → All (PickFits yss) (expand old) → All (PickFits yss) (unrolled r) → All (PickFits yss) (expand new)
 pushed_fit yss old new r e f g = subst (All (PickFits yss)) (sym e) (All-append (PickFits yss) (expand old) (unrolled r) f g)
 
--- one row's items more, behind those that were there
+-- The child rows of one more row are appended.
 pub items_more : (w : ℕ) (yss xss : List (List Value)) (old so_far new : List Run) (r one : Run) (i : ℕ) → i < r.len → expand new ≡ expand so_far ++ unrolled one →
     pick Null yss (expand so_far) ≡ pick Null yss (expand old) ++ joined_items w (take i (pick Null xss (unrolled r))) → pick Null yss (unrolled one) ≡ items_in w (get_or (pick Null xss (unrolled r)) i Null) →
     pick Null yss (expand new) ≡ pick Null yss (expand old) ++ joined_items w (take (i + 1) (pick Null xss (unrolled r)))
@@ -165,7 +165,7 @@ items_more w yss xss old so_far new r one i h e f g =
     ∙ append_assoc there (joined_items w (take i rows)) (items_in w (get_or rows i Null))
     ∙ ap (λ l. there ++ l) (sym (joined_more w rows i (row_below xss r i h)))
 
--- there is room for them
+-- There is room for them.
 pub items_room : (w : ℕ) (yss xss : List (List Value)) (old so_far : List Run) (r one : Run) (i n : ℕ) → i < r.len →
     pick Null yss (expand so_far) ≡ pick Null yss (expand old) ++ joined_items w (take i (pick Null xss (unrolled r))) → pick Null yss (unrolled one) ≡ items_in w (get_or (pick Null xss (unrolled r)) i Null) →
     length (expand old) + length (joined_items w (pick Null xss (unrolled r))) ≤ n → length (expand so_far) + one.len ≤ n
@@ -176,13 +176,13 @@ items_room w yss xss old so_far r one i n h f g room =
     let long = sym (length-pick Null yss (expand so_far)) ∙ ap length f ∙ length-append (pick Null yss (expand old)) items in
     omega (arith, counted, long, length-pick Null yss (expand old), joined_part w rows (i + 1), room)
 
--- one run's items more
+-- The child rows of one more run are appended.
 pub items_of_run : (w : ℕ) (yss xss : List (List Value)) (rs so_far new : List Run) (i : ℕ) → i < length rs →
     pick Null yss (expand so_far) ≡ joined_items w (pick Null xss (expand (take i rs))) → pick Null yss (expand new) ≡ pick Null yss (expand so_far) ++ joined_items w (pick Null xss (unrolled (run_at rs i))) →
     pick Null yss (expand new) ≡ joined_items w (pick Null xss (expand (take (i + 1) rs)))
 items_of_run w yss xss rs so_far new i h f g = g ∙ ap (λ l. l ++ joined_items w (pick Null xss (unrolled (run_at rs i)))) f ∙ sym (joined_run w xss rs i h)
 
--- and room for them
+-- There is room for them.
 pub run_items_room : (w : ℕ) (xss : List (List Value)) (rs : List Run) (i count n : ℕ) → i < length rs → count ≡ length (joined_items w (pick Null xss (expand (take i rs)))) →
     length (joined_items w (pick Null xss (expand rs))) ≤ n → count + length (joined_items w (pick Null xss (unrolled (run_at rs i)))) ≤ n
 run_items_room w xss rs i count n h is room =
@@ -192,7 +192,7 @@ run_items_room w xss rs i count n h is room =
 pub all_runs : {A : Type 0} (f : List (Option (ℕ × ℕ)) → A) (rs : List Run) (i : ℕ) → length rs ≤ i → f (expand (take i rs)) ≡ f (expand rs)
 all_runs f rs i h = ap (λ l. f (expand l)) (take_all i rs h)
 
--- ---- where the lists end
+-- ---- the ends of lists
 
 pub ends-append : (start : ℕ) (a b : List Value) → item_ends start (a ++ b) ≡ item_ends start a ++ item_ends (start + length (joined_items 0 a)) b
 ends-append start [] b =
@@ -203,7 +203,7 @@ ends-append start (row ∷ a) b =
     let same : start + length (joined_items 0 (row ∷ a)) ≡ (start + length (items_in 0 row)) + length (joined_items 0 a) = omega (arith, size) in
     rw same (ap (λ l. (start + length (items_in 0 row)) ∷ l) (ends-append (start + length (items_in 0 row)) a b))
 
--- one row's end more
+-- The end of one more row.
 pub ends_more : (xss : List (List Value)) (r : Run) (i start end : ℕ) (old so_far new : List ℤ) (last : ℤ) → i < r.len →
     end ≡ start + length (joined_items 0 (take (i + 1) (pick Null xss (unrolled r)))) → last ≡ pos end →
     so_far ≡ old ++ map pos (item_ends start (take i (pick Null xss (unrolled r)))) → new ≡ so_far ++ last ∷ [] →
@@ -219,7 +219,7 @@ ends_more xss r i start end old so_far new last h is shown e f =
     ∙ ap (λ l. old ++ l) (sym (map-append pos (item_ends start (take i rows)) (((start + length (joined_items 0 (take i rows))) + length (items_in 0 (get_or rows i Null))) ∷ [])))
     ∙ ap (λ l. old ++ map pos l) (sym split)
 
--- one run's ends more
+-- The ends of one more run.
 pub ends_of_run : (xss : List (List Value)) (rs : List Run) (i end : ℕ) (so_far new : List ℤ) → i < length rs → end ≡ length (joined_items 0 (pick Null xss (expand (take i rs)))) →
     so_far ≡ map pos (0 ∷ item_ends 0 (pick Null xss (expand (take i rs)))) → new ≡ so_far ++ map pos (item_ends end (pick Null xss (unrolled (run_at rs i)))) →
     new ≡ map pos (0 ∷ item_ends 0 (pick Null xss (expand (take (i + 1) rs))))

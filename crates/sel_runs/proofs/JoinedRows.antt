@@ -1,4 +1,4 @@
--- Rows of bytes that are put behind one another, and a column that is built of them.
+-- Concatenated binary rows, and the column that is built from them.
 use Rattle.std.proofs.Common.{◌≡◌, ℕ, zero, suc, ◌+◌, ◌≤◌, ◌<◌, ℤ, pos, true, false, Bool, List, [], ◌∷◌, ◌++◌, length, take, drop, map, replicate, Option, Some, None, refl, ap, sym, subst, ◌∙◌, arith, get_or, length-append, append_assoc}
 use Rattle.std.specs.Prelude.{if◌then◌else◌}
 use Rattle.std.specs.List.{slice_range}
@@ -23,7 +23,7 @@ use Rattle.sel_runs.specs.Validity.{bits_for}
 use Rattle.sel_runs.proofs.Grown.{finished}
 use Rattle.sel_runs.proofs.RunLists.{expand-append, length-pick, length-unrolled, pick_more, pick_run, pick_nulls, run_at}
 
--- ---- the row at a place of a run
+-- ---- the row at a position of a run
 
 get_or-nulls : {A : Type 0} (n i : ℕ) (d : A) → get_or (replicate n d) i d ≡ d
 get_or-nulls zero i d = refl
@@ -41,20 +41,20 @@ run_row d xss r s i is inside below =
 pub run_length : {A : Type 0} (d : A) (xss : List (List A)) (r : Run) → length (pick d xss (unrolled r)) ≡ r.len
 run_length d xss r = length-pick d xss (unrolled r) ∙ length-unrolled r
 
--- ---- rows behind one another
+-- ---- concatenated rows
 
 pub needed-append : (a b : List Value) → bytes_needed (a ++ b) ≡ bytes_needed a + bytes_needed b
 needed-append [] b = omega arith
 needed-append (row ∷ a) b = omega (arith, needed-append a b)
 
--- some rows need no more than all
+-- A prefix of the rows needs at most as many bytes as all rows.
 pub needed_part : (rows : List Value) (i : ℕ) → bytes_needed (take i rows) ≤ bytes_needed rows
 needed_part rows i =
     let both = needed-append (take i rows) (drop i rows) in
     let whole = ap bytes_needed (take-append-drop i rows) in
     omega (arith, both, whole)
 
--- the runs up to a place need no more than all
+-- A prefix of the runs needs at most as many bytes as all runs.
 needed_runs : (xss : List (List Value)) (rs : List Run) (i : ℕ) → bytes_needed (pick Null xss (expand (take i rs))) ≤ bytes_needed (pick Null xss (expand rs))
 needed_runs xss rs i =
     let split = ap expand (sym (take-append-drop i rs)) ∙ expand-append (take i rs) (drop i rs) in
@@ -62,7 +62,7 @@ needed_runs xss rs i =
     let both = ap bytes_needed picked ∙ needed-append (pick Null xss (expand (take i rs))) (pick Null xss (expand (drop i rs))) in
     omega (arith, both)
 
--- one run more
+-- One more run.
 pub needed_run : (xss : List (List Value)) (rs : List Run) (i : ℕ) → i < length rs →
     bytes_needed (pick Null xss (expand (take (i + 1) rs))) ≡ bytes_needed (pick Null xss (expand (take i rs))) + bytes_needed (pick Null xss (unrolled (run_at rs i)))
 needed_run xss rs i h = ap bytes_needed (pick_more Null xss rs i h) ∙ needed-append (pick Null xss (expand (take i rs))) (pick Null xss (unrolled (run_at rs i)))
@@ -104,7 +104,7 @@ grew_more a b s t u first second =
           ∙ ap (λ l. s.validity ++ l) (sym (map-append is_valid a b));
     }
 
--- one run more
+-- One more run.
 pub grew_run : (xss : List (List Value)) (rs : List Run) (i : ℕ) (s t u : Joined) → i < length rs → GrewBy (pick Null xss (expand (take i rs))) s t → GrewBy (pick Null xss (unrolled (run_at rs i))) t u →
     GrewBy (pick Null xss (expand (take (i + 1) rs))) s u
 grew_run xss rs i s t u h first second =
@@ -174,7 +174,7 @@ last-ends start (row ∷ rows) = omega (arith, last-ends (start + byte_count row
 
 -- ---- the column
 
--- the pieces behind `before` are the rows' bytes
+-- The pieces after `before` are the bytes of the rows.
 pieces-ends : (before : List ℕ) (rows : List Value) → pieces_after (length before) (ends_from (length before) rows) (before ++ joined_bytes rows) ≡ map bytes_of rows
 pieces-ends before [] = refl
 pieces-ends before (row ∷ rows) =
@@ -192,7 +192,7 @@ pieces-ends before (row ∷ rows) =
     in
     rw (← count) (cc (here, shown))
 
--- rows of which the nulls are hidden again
+-- The bytes of the rows under the validity of the rows are the rows.
 hidden-again : (rows : List Value) → AllBytesRows rows → hidden (validities rows) (map Bytes (map bytes_of rows)) ≡ rows
 hidden-again [] all = refl
 hidden-again (row ∷ rows) all =
@@ -205,14 +205,14 @@ hidden-again (row ∷ rows) all =
     in
     cc (one row (all 0 (omega arith)), hidden-again rows (λ k h. all (suc k) (omega arith)))
 
--- its parts fit together
+-- The parts of the column fit together.
 pub built_rows : (rows : List Value) → rows_between (0 ∷ ends_from 0 rows) ≡ length rows
 built_rows rows = omega (arith, length-ends_from 0 rows)
 
 pub built_ends : (rows : List Value) → last_offset (0 ∷ ends_from 0 rows) ≤ length (joined_bytes rows)
 built_ends rows = rw built_rows (omega (arith, last-ends 0 rows, length-joined rows))
 
--- a column that is built of its rows has these rows
+-- A column that is built from its rows has these rows.
 pub rebuilt : (rows : List Value) (validity : Option Bits) (n : ℕ) → AllBytesRows rows → length rows ≡ n → bits_for n validity ≡ validities rows →
     byte_rows (0 ∷ ends_from 0 rows) (joined_bytes rows) validity ≡ rows
 rebuilt rows validity n all long valid =
@@ -221,7 +221,7 @@ rebuilt rows validity n all long valid =
     finished Bytes parts validity (validities rows) n valid (length-pieces (0 ∷ ends_from 0 rows) (joined_bytes rows) ∙ built_rows rows ∙ long)
     ∙ ap (λ ps. hidden (validities rows) (map Bytes ps)) same ∙ hidden-again rows all
 
--- ---- numbers that show the ends
+-- ---- numbers that represent the ends
 
 pub same_numbers : (ms ns : List ℕ) → map pos ms ≡ map pos ns → ms ≡ ns
 same_numbers [] [] e = refl
@@ -246,7 +246,7 @@ offsets_of number xs ns e rises =
     let same : magnitudes number xs ≡ ns = magnitudes_of number xs ns e in
     record { positive = rw same e; rising = rw same rises }
 
--- offsets that show the ends
+-- Offsets that represent the ends.
 pub ends_shown : {T : Type 0} (number : T → ℤ) → (xs : List T) (offsets : List ℕ) (rows : List Value) → map number xs ≡ map pos (0 ∷ ends_from 0 rows) → map number xs ≡ map pos offsets → offsets ≡ 0 ∷ ends_from 0 rows
 ends_shown number xs offsets rows e d = same_numbers offsets (0 ∷ ends_from 0 rows) (sym d ∙ e)
 
@@ -254,7 +254,7 @@ pub map_same : (xs : List ℤ) → map (λ (x : ℤ). x) xs ≡ xs
 map_same [] = refl
 map_same (x ∷ xs) = ap (λ l. x ∷ l) (map_same xs)
 
--- ---- rows put behind none
+-- ---- rows that are appended to none
 
 pub all_ends : (rows : List Value) (s t : Joined) → s.ends.items ≡ pos 0 ∷ [] → s.bytes.items ≡ [] → GrewBy rows s t → map (λ (x : ℤ). x) t.ends.items ≡ map pos (0 ∷ ends_from 0 rows)
 all_ends rows s t e f grew =

@@ -1,4 +1,4 @@
--- The rows of a run that bits keep, as many at a time as stand together.
+-- The rows of a run that bits keep, copied in blocks of equal bits.
 use Rattle.std.proofs.Common.{◌≡◌, ℕ, zero, suc, ◌+◌, ◌-◌, ◌≤◌, ◌<◌, Bool, true, false, not, List, [], ◌∷◌, ◌++◌, length, drop, map, replicate, Option, Some, None, refl, ap, sym, subst, ◌∙◌, arith, get_or, length-append, append_assoc}
 use Rattle.std.specs.Prelude.{if◌then◌else◌}
 use Rattle.std.proofs.lemmas.List.{length-drop, length-map, get_or-drop, map-append}
@@ -25,13 +25,13 @@ front_true (true ∷ l) (suc i) h = front_true l i (omega (arith, h))
 pub ones_le : (l : List Bool) → leading_ones l ≤ length l
 ones_le l = omega (arith, leading_le (map not l), length-map l not)
 
--- at least one entry is passed
+-- At least one entry is skipped.
 pub some_passed : (l : List Bool) → 0 < length l → 0 < leading_zeros l + leading_ones (drop (leading_zeros l) l)
 some_passed [] h = absurd (omega (arith, h))
 some_passed (true ∷ l) h = omega arith
 some_passed (false ∷ l) h = omega arith
 
--- the entries that are passed by equal ones, as code counts them
+-- The leading false entries, the true entries after them and the rest, as the code computes them.
 pub record Passes (l after rest : List Bool) (z n : ℕ) : Type 0 where
   pub zeros : z ≡ leading_zeros l
   pub cut : after ≡ drop z l
@@ -44,7 +44,7 @@ zeros_within l z is = omega (arith, is, leading_le l)
 pub ones_within : (l after : List Bool) (z n : ℕ) → z ≡ leading_zeros l → after ≡ drop z l → n ≡ leading_ones after → z + n ≤ length l
 ones_within l after z n zeros cut ones = omega (arith, zeros_within l z zeros, ap (λ (x : List Bool). length x) cut, length-drop z l, ones, ones_le after)
 
--- ---- picks that equal bits keep
+-- ---- row references under equal bits
 
 module _ (bits : List Bool) where
   none_kept : (o : Option ℕ) (a n : ℕ) → ((i : ℕ) → i < n → get_or bits (a + i) false ≡ false) → map (kept_by bits) (unrolled_from o a n) ≡ replicate n None
@@ -67,7 +67,7 @@ module _ (bits : List Bool) where
       let rest = all_kept (Some s) (a + 1) n (λ i h. let next : a + 1 + i ≡ a + suc i = omega arith in ap (λ k. get_or bits k false) next ∙ high (suc i) (omega arith)) in
       ap (λ (b : Bool). (let p : Option (ℕ × ℕ) = if b then Some (s, a) else None in p) ∷ map (kept_by bits) (picks_of s (a + 1) n)) here ∙ ap (λ (l : List (Option (ℕ × ℕ))). Some (s, a) ∷ l) rest
 
--- the bits from a place on, as far as they are looked at
+-- `rest` has the bits from position `at` on.
 abbrev pub IsRest : List Bool → ℕ → List Bool → Type 0
 IsRest bits at rest = (i : ℕ) → i < length rest → get_or rest i false ≡ get_or bits (at + i) false
 
@@ -98,7 +98,7 @@ module _ (bits l after rest : List Bool) (z n : ℕ) (passes : Passes l after re
   pub passed_rest : (at : ℕ) → IsRest bits at l → IsRest bits (at + z + n) rest
   passed_rest at is = subst (IsRest bits (at + z + n)) (sym passes.left) (rest_dropped bits (at + z) n after (rest_after at is) (omega (arith, passes.ones, ones_le after)))
 
-  -- some nulls more, and then some rows more
+  -- One more block of nulls, followed by one of rows.
   pub kept_more : (o : Option ℕ) (start at : ℕ) (old so_far more new : List (Option (ℕ × ℕ))) → IsRest bits at l → start ≤ at →
       so_far ≡ old ++ map (kept_by bits) (unrolled_from o start (at - start)) → more ≡ so_far ++ replicate z None → new ≡ more ++ unrolled_from o (at + z) n →
       new ≡ old ++ map (kept_by bits) (unrolled_from o start (at + z + n - start))
@@ -121,7 +121,7 @@ module _ (bits l after rest : List Bool) (z n : ℕ) (passes : Passes l after re
       ∙ append_assoc old (map f (unrolled_from o start (at - start))) (replicate z None ++ unrolled_from o (at + z) n)
       ∙ ap (λ l. old ++ l) (sym mapped)
 
--- as many as the rows that were looked at
+-- The number of row references is the number of rows read.
 pub kept_count : (bits : List Bool) (o : Option ℕ) (start at : ℕ) (old so_far : List (Option (ℕ × ℕ))) → so_far ≡ old ++ map (kept_by bits) (unrolled_from o start (at - start)) → length so_far ≡ length old + (at - start)
 kept_count bits o start at old so_far is =
     ap length is ∙ length-append old (map (kept_by bits) (unrolled_from o start (at - start)))

@@ -1,10 +1,10 @@
--- Rows of columns with children are null, lists or tuples.
+-- Rows of columns with children are null, lists or struct values.
 use Rattle.std.proofs.Common.{◌≡◌, All, Bor, ℕ, zero, suc, ◌+◌, ◌-◌, ◌*◌, ◌≤◌, ◌<◌, Bool, true, false, List, [], ◌∷◌, length, drop, map, Option, Some, None, refl, ap, sym, subst, ◌∙◌, arith, get_or, length-take, length-drop}
 use Rattle.std.specs.List.{range_with_len, slice_range}
 use Rattle.std.proofs.lemmas.List.{length-map}
 use Rattle.sel_bits.specs.Bits.{Bits}
 use Rattle.sel_arrow.specs.Masked.{hidden, masked}
-use Rattle.sel_arrow.specs.Nested.{list_of, blocks, tuple_at}
+use Rattle.sel_arrow.specs.Nested.{list_of, blocks, struct_at}
 use Rattle.sel_arrow.specs.Pieces.{pieces}
 use Rattle.sel_arrow.specs.Rows.{rows, rows_of_each, type_of, types_of_each, well_formed, IsWellFormed}
 use Rattle.sel_arrow.specs.Shape.{Shape, Shapes, no_shapes, of_large_list, of_fixed_size_list, of_struct, shape_list}
@@ -16,7 +16,7 @@ use Rattle.sel_runs.proofs.ItemRuns.{rows_of, listed_values}
 use Rattle.sel_runs.proofs.Rebuilt.{IsListed, IsBlock, IsTuple, picked_all}
 use Rattle.sel_runs.specs.Picks.{pick}
 
--- what holds of null and of all values holds of them under a validity
+-- A property of null and of all values is a property of the values under a validity.
 hidden_all : (P : Value → Type 0) → P Null → (bs : List Bool) (vs : List Value) → ((k : ℕ) → P (get_or vs k Null)) → (k : ℕ) → P (get_or (hidden bs vs) k Null)
 hidden_all P none [] vs all k = all k
 hidden_all P none (b ∷ bs) [] all k = none
@@ -33,7 +33,7 @@ lists_listed [] k = tt
 lists_listed (p ∷ parts) zero = tt
 lists_listed (p ∷ parts) (suc k) = lists_listed parts k
 
--- rows of lists
+-- Rows of list columns.
 abbrev IsLargeList : Shape → Type 0
 IsLargeList (of_large_list s) = Unit {0}
 IsLargeList s = ⊥
@@ -42,7 +42,7 @@ pub rows_listed : (c : Column) (s : Shape) → type_of c ≡ of_large_list s →
 rows_listed (LargeList' offsets p values validity) s is k = masked_all IsListed tt validity (map list_of (pieces offsets (rows values))) (lists_listed (pieces offsets (rows values))) k
 rows_listed c s is k = absurd (subst IsLargeList (sym is) tt)
 
--- rows of lists of one length
+-- Rows of fixed-size list columns.
 abbrev IsBlockList : Shape → Type 0
 IsBlockList (of_fixed_size_list s w) = Unit {0}
 IsBlockList s = ⊥
@@ -82,7 +82,7 @@ rows_blocks (FixedSizeList' size len p values validity) s w is formed k =
     (masked_all (IsBlock size) tt validity (map list_of (blocks size len (rows values))) (each_block size len (rows values) long (range_with_len 0 len) (range_below len)) k)
 rows_blocks c s w is formed k = absurd (subst IsBlockList (sym is) tt)
 
--- rows of tuples
+-- Rows of struct columns.
 abbrev IsStructType : Shape → Type 0
 IsStructType (of_struct ss) = Unit {0}
 IsStructType s = ⊥
@@ -95,7 +95,7 @@ count_fields : (n : _) (row : Row_of-Column n) → length (rows_of_each row) ≡
 count_fields n end_of-Column = refl
 count_fields n (more_of-Column c rest) = ap suc (count_fields _ rest)
 
-each_tuple : (m : ℕ) (fields : List (List Value)) → length fields ≡ m → (is : List ℕ) (k : ℕ) → IsTuple m (get_or (map (tuple_at fields) is) k Null)
+each_tuple : (m : ℕ) (fields : List (List Value)) → length fields ≡ m → (is : List ℕ) (k : ℕ) → IsTuple m (get_or (map (struct_at fields) is) k Null)
 each_tuple m fields long [] k = tt
 each_tuple m fields long (i ∷ is) zero = ap length (listed_values (map (λ field. get_or field i Null) fields)) ∙ length-map fields (λ field. get_or field i Null) ∙ long
 each_tuple m fields long (i ∷ is) (suc k) = each_tuple m fields long is k
@@ -103,11 +103,11 @@ each_tuple m fields long (i ∷ is) (suc k) = each_tuple m fields long is k
 pub rows_tuples : (c : Column) (ss : Shapes) → type_of c ≡ of_struct ss → (k : ℕ) → IsTuple (length (shape_list ss)) (get_or (rows c) k Null)
 rows_tuples (Struct' len n fields validity) ss is k =
     let same : types_of_each fields ≡ ss = ap fields_in is in
-    masked_all (IsTuple (length (shape_list ss))) tt validity (map (tuple_at (rows_of_each fields)) (range_with_len 0 len))
+    masked_all (IsTuple (length (shape_list ss))) tt validity (map (struct_at (rows_of_each fields)) (range_with_len 0 len))
     (each_tuple (length (shape_list ss)) (rows_of_each fields) (count_fields _ fields ∙ ap (λ l. length (shape_list l)) same) (range_with_len 0 len)) k
 rows_tuples c ss is k = absurd (subst IsStructType (sym is) tt)
 
--- ---- of all sources, and of what is picked of them
+-- ---- rows of all sources, and gathered rows
 
 sources_all : (P : Value → Type 0) → P Null → (cs : List (Bor Column)) → ((i : ℕ) (d : Bor Column) → i < length cs → (k : ℕ) → P (get_or (rows (get_or cs i d).now) k Null)) →
     (i k : ℕ) → P (get_or (get_or (rows_of cs) i []) k Null)

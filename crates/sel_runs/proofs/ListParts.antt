@@ -1,4 +1,4 @@
--- A row of a column of lists, and the child's rows in it.
+-- A row of a list column, and its child rows.
 use Rattle.std.proofs.Common.{◌≡◌, ℕ, zero, suc, ◌+◌, ◌-◌, ◌*◌, ◌≤◌, ◌<◌, true, false, List, [], length, take, drop, Option, Box, Global, ap, sym, ◌∙◌, arith, get_or}
 use Rattle.std.specs.List.{slice_range}
 use Rattle.std.proofs.lemmas.List.FromFn.{get_or-map-range_with_len}
@@ -15,7 +15,7 @@ use Rattle.sel_arrow.proofs.NestedRows.{HasLists, HasBlocks, has_lists, has_bloc
 use Rattle.sel_arrow.proofs.Rows.{null_mapped, valid_mapped}
 use Rattle.sel_runs.specs.Children.{child}
 
--- a well-formed column has few rows
+-- The number of rows of a well-formed column is in bounds.
 pub few_rows : (c : Column) → well_formed c ≡ true → row_count c ≤ 4294967295
 few_rows (NullColumn column) h = column.rows_fit
 few_rows (Boolean column) h = column.rows_fit
@@ -39,9 +39,9 @@ few_rows (Struct' len n fields validity) h = (struct_covered len validity _ h).0
 covers_pieces : (offsets : List ℕ) (below : List Value) (validity : Option Bits) → Covers validity (rows_between offsets) → Covers validity (length (pieces offsets below))
 covers_pieces offsets below validity covers = λ v there. rw length-pieces (covers v there)
 
--- ---- lists between offsets
+-- ---- lists with offsets
 
--- what the code knows of row i
+-- The properties of row i that the code uses.
 pub record OfList (offsets : List ℕ) (values c : Column) (i : ℕ) : Type 0 where
   pub row : get_or (rows c) i Null ≡ list_of (take (get_or offsets (i + 1) 0 - get_or offsets i 0) (drop (get_or offsets i 0) (rows (child c))))
   pub ordered : get_or offsets i 0 ≤ get_or offsets (i + 1) 0
@@ -76,7 +76,7 @@ module _ (c : Column) (offsets : List ℕ) (values : Box Column Global) (validit
         few = omega (arith, long, few_rows values.value list_has.child);
       }
 
--- ---- lists of one length
+-- ---- fixed-size lists
 
 pub record OfBlock (size : ℕ) (c : Column) (i : ℕ) : Type 0 where
   pub row : get_or (rows c) i Null ≡ list_of (take size (drop (i * size) (rows (child c))))
@@ -84,7 +84,7 @@ pub record OfBlock (size : ℕ) (c : Column) (i : ℕ) : Type 0 where
   pub few : length (rows (child c)) ≤ 4294967295
   pub narrow : size ≤ 4294967295
 
--- a block is inside of all of them
+-- List i is within the child rows.
 block_inside : (i n size : ℕ) → i < n → i * size + size ≤ n * size
 block_inside i zero size h = absurd (omega arith)
 block_inside zero (suc n) size h = omega arith

@@ -1,4 +1,4 @@
--- Lists of nulls: the rows that they hold are nulls.
+-- Lists of nulls: their child rows are null.
 use Rattle.std.proofs.Common.{◌≡◌, All, Bor, ℕ, zero, suc, ◌+◌, ◌-◌, ◌*◌, ◌<◌, Bool, true, false, List, [], ◌∷◌, length, drop, map, replicate, Option, Some, None, refl, ap, sym, subst, ◌∙◌, arith, get_or}
 use Rattle.std.specs.List.{slice_range}
 use Rattle.std.proofs.lemmas.List.{get_or-replicate, length-replicate}
@@ -20,7 +20,7 @@ use Rattle.sel_runs.specs.Children.{child, is_listing, items_in, joined_items}
 use Rattle.sel_runs.specs.Picks.{found, pick, PickFits}
 use Rattle.sel_runs.proofs.ItemRuns.{rows_of, listed_values}
 
--- each of the values is null
+-- Each value is null.
 abbrev AreNull : List Value → Type 0
 AreNull vs = All (λ v. v ≡ Null) vs
 
@@ -37,7 +37,7 @@ null_column : (c : Column) → type_of c ≡ of_null → AreNull (rows c)
 null_column (NullColumn column) is = nulls_are column.length
 null_column c is = absurd cc
 
--- the rows in one list, or for one null
+-- The child rows of one list, or of a null row.
 parts_null : (parts : List (List Value)) (validity : Option Bits) → Covers validity (length parts) → ((i : ℕ) → i < length parts → AreNull (get_or parts i [])) → (w i : ℕ) → i < length parts →
     AreNull (items_in w (get_or (masked validity (map list_of parts)) i Null))
 parts_null parts validity covers all w i h = by (valid_at validity i) refl
@@ -87,6 +87,6 @@ module _ (w : ℕ) where
         All-append (λ v. v ≡ Null) (items_in w (found Null (rows_of cs) p)) (joined_items w (pick Null (rows_of cs) ps))
         (found_null p (fits 0 p (omega arith))) (items_null ps (λ k d h. fits (suc k) d (omega (arith, h))))
 
-    -- all of them, counted
+    -- The child rows of all rows, with their number.
     pub null_items_in : (ps : List (Option (ℕ × ℕ))) → All (PickFits (rows_of cs)) ps → joined_items w (pick Null (rows_of cs) ps) ≡ replicate (length (joined_items w (pick Null (rows_of cs) ps))) Null
     null_items_in ps fits = all_nulls (joined_items w (pick Null (rows_of cs) ps)) (items_null ps fits)

@@ -1,4 +1,4 @@
--- What is picked of columns of nulls.
+-- Rows gathered from null columns.
 use Rattle.std.proofs.Common.{◌≡◌, ℕ, zero, suc, All, Bor, List, [], ◌∷◌, length, map, replicate, get_or, Option, Some, None, refl, ap, arith}
 use Rattle.std.proofs.lemmas.List.Elements.{All-head, All-tail}
 use Rattle.sel_arrow.specs.Rows.{rows, type_of}
@@ -26,7 +26,7 @@ null_found : (cs : List (Bor Column)) (p : Option (ℕ × ℕ)) → All (λ c. t
 null_found cs None alike = refl
 null_found cs (Some p) alike = null_source cs p.0 p.1 alike
 
--- each of the picks finds null
+-- Each gathered row is null.
 pub null_picks : (cs : List (Bor Column)) (ps : List (Option (ℕ × ℕ))) (n : ℕ) → All (λ c. type_of c.now ≡ of_null) cs → length ps ≡ n → replicate n Null ≡ pick Null (map (λ c. rows c.now) cs) ps
 null_picks cs [] zero alike long = refl
 null_picks cs [] (suc n) alike long = absurd (omega (arith, long))

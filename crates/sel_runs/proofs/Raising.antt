@@ -1,4 +1,4 @@
--- Views over the data buffers of several columns, joined in their order.
+-- Views into the data buffers of several columns, concatenated in order.
 use Rattle.std.proofs.Common.{◌≡◌, ℕ, zero, suc, ◌+◌, ◌≤◌, ◌<◌, get_or, Bool, true, false, ◌&&◌, List, [], ◌∷◌, ◌++◌, length, take, drop, map, replicate, Option, refl, ap, sym, ◌∙◌, arith, length-append, append_assoc, zero-add, subst}
 use Rattle.std.specs.Prelude.{leb, ltb, ◌==◌}
 use Rattle.std.specs.List.{flat_map, list_all, range_with_len, slice_range}
@@ -19,23 +19,23 @@ use Rattle.sel_runs.specs.Validity.{part_bits}
 use Rattle.sel_runs.proofs.Grown.{grown_lengths, hidden-append, part_hidden}
 use Rattle.sel_runs.proofs.Windows.{window_more}
 
--- ---- parts that are joined
+-- ---- concatenated parts
 
--- that entry i of some stands as entry i + k in all
+-- Entry i of `some` is entry i + k of `all`.
 abbrev pub Behind : {A : Type 0} → A → List A → List A → ℕ → Type 0
 Behind d all some k = (i : ℕ) → i < length some → (i + k < length all) × (get_or all (i + k) d ≡ get_or some i d)
 
--- the parts up to a place, and the one there
+-- The parts before a position, followed by the one at the position.
 pub join_more : {X A : Type 0} (part : X → List A) (xs : List X) (i : ℕ) (x : X) → i < length xs → x ≡ get_or xs i x → flat_map part (take (i + 1) xs) ≡ flat_map part (take i xs) ++ part x
 join_more part xs i x h is =
     ap (flat_map part) (take_more xs i x h) ∙ flat_map-append part (take i xs) (get_or xs i x ∷ []) ∙ ap (λ l. flat_map part (take i xs) ++ l) (append-nil (part (get_or xs i x)))
     ∙ ap (λ y. flat_map part (take i xs) ++ part y) (sym is)
 
--- how many there are
+-- The number of their entries.
 pub count_more : {X A : Type 0} (part : X → List A) (xs : List X) (i : ℕ) (x : X) → i < length xs → x ≡ get_or xs i x → length (flat_map part (take (i + 1) xs)) ≡ length (flat_map part (take i xs)) + length (part x)
 count_more part xs i x h is = ap length (join_more part xs i x h is) ∙ length-append (flat_map part (take i xs)) (part x)
 
--- no more than those of all parts
+-- This number is at most that of all parts.
 pub count_room : {X A : Type 0} (part : X → List A) (xs : List X) (i : ℕ) (x : X) → i < length xs → x ≡ get_or xs i x → length (flat_map part (take i xs)) + length (part x) ≤ length (flat_map part xs)
 count_room part xs i x h is =
     let same = ap (λ y. length (part y)) is in
@@ -47,7 +47,7 @@ start_at part xs starts i e h = ap (λ l. get_or l i 0) e ∙ get_or-map-range_w
 pub starts_long : {X A : Type 0} (part : X → List A) (xs : List X) (starts : List ℕ) → starts ≡ starts_of part xs → length starts ≡ length xs
 starts_long part xs starts e = ap length e ∙ length-map-range_with_len (λ j. length (flat_map part (take j xs))) 0 (length xs)
 
--- one more start
+-- One more start.
 pub starts_more : {X A : Type 0} (part : X → List A) (xs : List X) (old new : List ℕ) (i k : ℕ) → old ≡ map (λ j. length (flat_map part (take j xs))) (range_with_len 0 i) → k ≡ length (flat_map part (take i xs)) →
     new ≡ old ++ k ∷ [] → new ≡ map (λ j. length (flat_map part (take j xs))) (range_with_len 0 (i + 1))
 starts_more part xs old new i k e is g =
@@ -83,7 +83,7 @@ moved v k = record { length = v.length; prefix = v.prefix; buffer_idx = v.buffer
 far_moved : (v : View) (k : ℕ) → is_inline v ≡ false → raised v k ≡ moved v k
 far_moved v k e = rw e refl
 
--- views over data buffers that stand behind no others stay as they are
+-- Views stay unchanged if their data buffers come first.
 pub unraised : (vs : List View) (k : ℕ) → k ≡ 0 → map (λ v. raised v k) vs ≡ vs
 unraised [] k none = refl
 unraised (v ∷ vs) k none =
@@ -106,7 +106,8 @@ inline_placed all v e = rw e refl
 pub far_value : (bs : List (List ℕ)) (v : View) → is_inline v ≡ false → view_value bs v ≡ Bytes (slice_range (get_or bs v.buffer_idx []) v.offset (v.offset + v.length))
 far_value bs v e = rw e refl
 
--- whether bytes have those that a view names, and whether its prefix is the first four of them
+-- Whether the range of a view lies within the bytes, and whether its prefix is the first four bytes
+-- of that range.
 abbrev fits : List ℕ → View → Bool
 fits bytes v = leb (v.offset + v.length) (length bytes)
 
@@ -116,18 +117,18 @@ starts bytes v = v.prefix == word_at (slice_range bytes v.offset (v.offset + v.l
 pub far_placed : (bs : List (List ℕ)) (v : View) → is_inline v ≡ false → is_placed bs v ≡ ((ltb v.buffer_idx (length bs) && fits (get_or bs v.buffer_idx []) v) && starts (get_or bs v.buffer_idx []) v)
 far_placed bs v e = rw e refl
 
--- its data buffer is there
+-- The data buffer of a view exists.
 far_there : (bs : List (List ℕ)) (v : View) → is_inline v ≡ false → is_placed bs v ≡ true → v.buffer_idx < length bs
 far_there bs v e placed =
     let bytes = get_or bs v.buffer_idx [] in
     let inside = ltb v.buffer_idx (length bs) in
     ltb-true _ _ (and_first inside (fits bytes v) (and_first (inside && fits bytes v) (starts bytes v) (sym (far_placed bs v e) ∙ placed)))
 
--- the number of its data buffer can be raised
+-- The buffer index of a view can be increased.
 pub room_to_raise : (bs : List (List ℕ)) (v : View) (k m : ℕ) → is_placed bs v ≡ true → k + length bs ≤ m → 12 < v.length → v.buffer_idx + k ≤ m
 room_to_raise bs v k m placed h long = omega (arith, h, far_there bs v (lt-leb v.length 12 long) placed)
 
--- a raised view names the same bytes
+-- A view with an increased buffer index has the same bytes.
 raised_value : (all some : List (List ℕ)) (k : ℕ) (v : View) → Behind [] all some k → is_placed some v ≡ true → view_value all (raised v k) ≡ view_value some v
 raised_value all some k v behind placed = decided (is_inline v) refl
   where
@@ -137,7 +138,7 @@ raised_value all some k v behind placed = decided (is_inline v) refl
         let same = (behind v.buffer_idx (far_there some v e placed)).1 in
         ap (view_value all) (far_moved v k e) ∙ far_value all (moved v k) e ∙ ap (λ bytes. Bytes (slice_range bytes v.offset (v.offset + v.length))) same ∙ sym (far_value some v e)
 
--- it is in range with the right prefix again
+-- It is again in range with the right prefix.
 raised_placed : (all some : List (List ℕ)) (k : ℕ) (v : View) → Behind [] all some k → is_placed some v ≡ true → is_placed all (raised v k) ≡ true
 raised_placed all some k v behind placed = decided (is_inline v) refl
   where
@@ -169,7 +170,7 @@ all_raised all some k (v ∷ vs) behind placed =
     both (is_placed all (raised v k)) (list_all (is_placed all) (map (λ v. raised v k) vs)) (raised_placed all some k v behind (and_first (is_placed some v) (list_all (is_placed some) vs) placed))
     (all_raised all some k vs behind (and_second (is_placed some v) (list_all (is_placed some) vs) placed))
 
--- one more view of a part
+-- One more view of a part.
 pub raised_more : {A B : Type 0} (f : A → B) (old so_far new : List B) (xs ys : List A) (a i : ℕ) (d : A) (y : B) → a + i < length xs → so_far ≡ old ++ map f (take i (drop a xs)) → ys ≡ xs → y ≡ f (get_or ys (a + i) d) →
     new ≡ so_far ++ y ∷ [] → new ≡ old ++ map f (take (i + 1) (drop a xs))
 raised_more f old so_far new xs ys a i d y h e same is g =
@@ -177,7 +178,7 @@ raised_more f old so_far new xs ys a i d y h e same is g =
     g ∙ ap (λ l. l ++ y ∷ []) e ∙ append_assoc old (map f part) (y ∷ []) ∙ ap (λ z. old ++ (map f part ++ z ∷ [])) (is ∙ ap (λ l. f (get_or l (a + i) d)) same)
     ∙ ap (λ l. old ++ l) (sym (ap (map f) (window_more xs a i d h) ∙ map-append f part (get_or xs (a + i) d ∷ [])))
 
--- ---- views that grew by a part of a source, and by nulls
+-- ---- views after a part of a source, or nulls, are appended
 
 pub grown_views : (all some : List (List ℕ)) (k : ℕ) (old new xs : List View) (bits longer : List Bool) (validity : Option Bits) (a n : ℕ) → length bits ≡ length old → a + n ≤ length xs →
     Behind [] all some k → list_all (is_placed some) xs ≡ true → new ≡ old ++ map (λ v. raised v k) (take n (drop a xs)) → longer ≡ bits ++ part_bits a n validity →

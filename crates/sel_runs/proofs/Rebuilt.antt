@@ -1,4 +1,4 @@
--- Columns with children that are built of their rows.
+-- Columns with children that are built from their rows.
 use Rattle.std.proofs.Common.{◌≡◌, ℕ, zero, suc, ◌+◌, ◌-◌, ◌*◌, ◌≤◌, ◌<◌, true, false, Bool, List, [], ◌∷◌, ◌++◌, length, take, drop, map, Option, Some, None, refl, ap, sym, subst, ◌∙◌, arith, get_or, length-append, append_assoc}
 use Rattle.std.specs.Prelude.{if◌then◌else◌}
 use Rattle.std.specs.List.{slice_range, range_with_len}
@@ -8,7 +8,7 @@ use Rattle.std.proofs.lemmas.Grind.{common_steps}
 use Rattle.sel_bits.specs.Bits.{Bits}
 use Rattle.sel_bits.specs.Offsets.{IsRising}
 use Rattle.sel_arrow.specs.Masked.{hidden, Covers}
-use Rattle.sel_arrow.specs.Nested.{list_of, list_rows, blocks, block_rows, tuple_at, tuple_rows}
+use Rattle.sel_arrow.specs.Nested.{list_of, list_rows, blocks, block_rows, struct_at, struct_rows}
 use Rattle.sel_arrow.specs.Pieces.{pieces, pieces_after, rows_between, last_offset}
 use Rattle.sel_arrow.specs.Rows.{rows, row_count, well_formed}
 use Rattle.sel_arrow.specs.Value.{Value, Values, no_values, next_value, Null, Items, Tuple, values_of, listed, is_valid, validities}
@@ -23,19 +23,19 @@ use Rattle.sel_runs.proofs.Grown.{finished}
 
 -- ---- rows of one layout
 
--- null, or a list
+-- Null or a list.
 abbrev pub IsListed : Value → Type 0
 IsListed Null = Unit {0}
 IsListed (Items _) = Unit {0}
 IsListed v = ⊥
 
--- null, or a list of so many values
+-- Null or a list of `width` values.
 abbrev pub IsBlock : ℕ → Value → Type 0
 IsBlock width Null = Unit {0}
 IsBlock width (Items values) = length (listed values) ≡ width
 IsBlock width v = ⊥
 
--- null, or a tuple of so many values
+-- Null or a struct value with n fields.
 abbrev pub IsTuple : ℕ → Value → Type 0
 IsTuple n Null = Unit {0}
 IsTuple n (Tuple values) = length (listed values) ≡ n
@@ -45,14 +45,14 @@ pub values_listed : (vs : Values) → values_of (listed vs) ≡ vs
 values_listed no_values = refl
 values_listed (next_value v vs) = ap (next_value v) (values_listed vs)
 
--- what holds of null and of each row of each list holds of the rows that are picked
+-- A property of null and of each row of each list is a property of the gathered rows.
 pub picked_all : (P : Value → Type 0) → P Null → (xss : List (List Value)) → ((i k : ℕ) → P (get_or (get_or xss i []) k Null)) → (ps : List (Option (ℕ × ℕ))) (k : ℕ) → P (get_or (pick Null xss ps) k Null)
 picked_all P none xss all [] k = none
 picked_all P none xss all (None ∷ ps) zero = none
 picked_all P none xss all (Some p ∷ ps) zero = all p.0 p.1
 picked_all P none xss all (p ∷ ps) (suc k) = picked_all P none xss all ps k
 
--- rows of which the nulls are hidden again
+-- Values that are rebuilt from the rows, under the validity of the rows, are the rows.
 hidden_again : {A : Type 0} (P : Value → Type 0) (f : A → Value) (h : Value → A) → ((v : Value) → P v → is_valid v ≡ true → f (h v) ≡ v) → ((v : Value) → is_valid v ≡ false → v ≡ Null) →
     (vs : List Value) → ((k : ℕ) → P (get_or vs k Null)) → hidden (validities vs) (map f (map h vs)) ≡ vs
 hidden_again P f h back null [] all = refl
@@ -72,7 +72,7 @@ only_null v = elim v as (λ w. is_valid w ≡ false → w ≡ Null) [
   | _ ↦ λ e. absurd (cc e)
 ]
 
--- ---- lists between offsets
+-- ---- lists with offsets
 
 length-item_ends : (start : ℕ) (vs : List Value) → length (item_ends start vs) ≡ length vs
 length-item_ends start [] = refl
@@ -104,7 +104,7 @@ ends_between vs = omega (arith, length-item_ends 0 vs)
 pub ends_last : (vs : List Value) → last_offset (0 ∷ item_ends 0 vs) ≡ length (joined_items 0 vs)
 ends_last vs = rw ends_between (omega (arith, last_end 0 vs))
 
--- the pieces behind `before` are the rows' items
+-- The pieces after `before` are the child rows of the rows.
 pieces_of : (before : List Value) (vs : List Value) → pieces_after (length before) (item_ends (length before) vs) (before ++ joined_items 0 vs) ≡ map (items_in 0) vs
 pieces_of before [] = refl
 pieces_of before (v ∷ vs) =
@@ -125,7 +125,7 @@ list_back v = elim v as (λ w. IsListed w → is_valid w ≡ true → list_of (i
   | _ ↦ λ h e. absurd h
 ]
 
--- a column of lists that is built of its rows has these rows
+-- A list column that is built from its rows has these rows.
 pub lists_rebuilt : (vs : List Value) (offsets : List ℕ) (child : List Value) (validity : Option Bits) (n : ℕ) → ((k : ℕ) → IsListed (get_or vs k Null)) → length vs ≡ n →
     offsets ≡ 0 ∷ item_ends 0 vs → child ≡ joined_items 0 vs → bits_for n validity ≡ validities vs → list_rows offsets child validity ≡ vs
 lists_rebuilt vs offsets child validity n all long ends below valid =
@@ -136,7 +136,7 @@ lists_rebuilt vs offsets child validity n all long ends below valid =
     ∙ ap (λ ps. hidden (validities vs) (map list_of ps)) (pieces_of [] vs)
     ∙ hidden_again IsListed list_of (items_in 0) list_back only_null vs all
 
--- its parts fit together
+-- The parts of the column fit together.
 pub lists_fit : (vs : List Value) (offsets : List ℕ) (values : Column) (validity : Option Bits) (n : ℕ) → length vs ≡ n → n ≤ 4294967295 →
     offsets ≡ 0 ∷ item_ends 0 vs → rows values ≡ joined_items 0 vs → Covers validity n → well_formed values ≡ true → HasLists offsets values validity
 lists_fit vs offsets values validity n long few ends below covered formed =
@@ -151,7 +151,7 @@ lists_fit vs offsets values validity n long few ends below covered formed =
       child = formed;
     }
 
--- ---- lists of one length
+-- ---- fixed-size lists
 
 block_length : (w : ℕ) (v : Value) → IsBlock w v → length (items_in w v) ≡ w
 block_length w v = elim v as (λ x. IsBlock w x → length (items_in w x) ≡ w) [
@@ -172,7 +172,7 @@ drop_past : {A : Type 0} (xs ys : List A) (n : ℕ) → drop (length xs + n) (xs
 drop_past [] ys n = let same : 0 + n ≡ n = omega arith in ap (λ k. drop k ys) same
 drop_past (x ∷ xs) ys n = let same : length (x ∷ xs) + n ≡ suc (length xs + n) = omega arith in ap (λ k. drop k (x ∷ (xs ++ ys))) same ∙ drop_past xs ys n
 
--- block k of blocks of one length behind one another
+-- The child rows of list k, from the concatenated child rows.
 block_at : (w : ℕ) (vs : List Value) (k : ℕ) → ((i : ℕ) → IsBlock w (get_or vs i Null)) → k < length vs → take w (drop (k * w) (joined_items w vs)) ≡ items_in w (get_or vs k Null)
 block_at w [] k all h = absurd (omega (arith, h))
 block_at w (v ∷ vs) zero all h =
@@ -202,7 +202,7 @@ block_back w v = elim v as (λ x. IsBlock w x → is_valid x ≡ true → list_o
   | _ ↦ λ h e. absurd h
 ]
 
--- a column of lists of one length that is built of its rows has these rows
+-- A fixed-size list column that is built from its rows has these rows.
 pub blocks_rebuilt : (w : ℕ) (vs : List Value) (child : List Value) (validity : Option Bits) (n : ℕ) → ((k : ℕ) → IsBlock w (get_or vs k Null)) → length vs ≡ n →
     child ≡ joined_items w vs → bits_for n validity ≡ validities vs → block_rows w n child validity ≡ vs
 blocks_rebuilt w vs child validity n all long below valid =
@@ -223,9 +223,9 @@ blocks_fit w vs values validity n all long few narrow below covered formed =
       child = formed;
     }
 
--- ---- tuples
+-- ---- struct rows
 
--- the values of a list by their places
+-- The values of a list, by position.
 by_place : {A : Type 0} (xs : List A) (d : A) (n : ℕ) → length xs ≡ n → map (λ j. get_or xs j d) (range_with_len 0 n) ≡ xs
 by_place xs d n long =
     let size = length-map-range_with_len (λ j. get_or xs j d) 0 n in
@@ -249,7 +249,7 @@ fused : {A B C : Type 0} (g : B → C) (h : A → B) (xs : List A) → map g (ma
 fused g h [] = refl
 fused g h (x ∷ xs) = ap (λ l. g (h x) ∷ l) (fused g h xs)
 
-tuple_of_row : (m : ℕ) (vs : List Value) (k : ℕ) → k < length vs → tuple_at (parts_of m vs) k ≡ tuple_of (parts_in m (get_or vs k Null))
+tuple_of_row : (m : ℕ) (vs : List Value) (k : ℕ) → k < length vs → struct_at (parts_of m vs) k ≡ tuple_of (parts_in m (get_or vs k Null))
 tuple_of_row m vs k h =
     ap tuple_of (fused (λ field. get_or field k Null) (λ j. map (part_at j) vs) (range_with_len 0 m) ∙ each (range_with_len 0 m))
   where
@@ -257,26 +257,26 @@ tuple_of_row m vs k h =
     each [] = refl
     each (j ∷ js) = ap (λ x. x ∷ map (λ j. get_or (map (part_at j) vs) k Null) js) (get_or-map (part_at j) vs k Null Null h) ∙ ap (λ l. part_at j (get_or vs k Null) ∷ l) (each js)
 
-tuples_of : (m n : ℕ) (vs : List Value) → length vs ≡ n → map (tuple_at (parts_of m vs)) (range_with_len 0 n) ≡ map tuple_of (map (parts_in m) vs)
-tuples_of m n vs long =
+struct_of : (m n : ℕ) (vs : List Value) → length vs ≡ n → map (struct_at (parts_of m vs)) (range_with_len 0 n) ≡ map tuple_of (map (parts_in m) vs)
+struct_of m n vs long =
     let fs = parts_of m vs in
-    let size = length-map-range_with_len (tuple_at fs) 0 n in
+    let size = length-map-range_with_len (struct_at fs) 0 n in
     let right = map tuple_of (map (parts_in m) vs) in
     let count : length right ≡ n = length-map (map (parts_in m) vs) tuple_of ∙ length-map vs (parts_in m) ∙ long in
-    ext_get_or Null (map (tuple_at fs) (range_with_len 0 n)) right (size ∙ sym count)
+    ext_get_or Null (map (struct_at fs) (range_with_len 0 n)) right (size ∙ sym count)
     (λ k h.
     let below : k < n = omega (arith, h, size) in
     let inside : k < length vs = omega (arith, below, long) in
-    get_or-map-range_with_len (tuple_at fs) 0 n k k Null below (omega arith) ∙ tuple_of_row m vs k inside
+    get_or-map-range_with_len (struct_at fs) 0 n k k Null below (omega arith) ∙ tuple_of_row m vs k inside
     ∙ sym (get_or-map tuple_of (map (parts_in m) vs) k [] Null (omega (arith, inside, length-map vs (parts_in m))) ∙ ap tuple_of (get_or-map (parts_in m) vs k Null [] inside)))
 
--- a column of tuples that is built of its rows has these rows
+-- A struct column that is built from its rows has these rows.
 pub tuples_rebuilt : (m : ℕ) (vs : List Value) (fields : List (List Value)) (validity : Option Bits) (n : ℕ) → ((k : ℕ) → IsTuple m (get_or vs k Null)) → length vs ≡ n →
-    fields ≡ parts_of m vs → bits_for n validity ≡ validities vs → tuple_rows n fields validity ≡ vs
+    fields ≡ parts_of m vs → bits_for n validity ≡ validities vs → struct_rows n fields validity ≡ vs
 tuples_rebuilt m vs fields validity n all long below valid =
-    ap (λ l. tuple_rows n l validity) below
-    ∙ finished (tuple_at (parts_of m vs)) (range_with_len 0 n) validity (validities vs) n valid (length-range n)
-    ∙ ap (hidden (validities vs)) (tuples_of m n vs long)
+    ap (λ l. struct_rows n l validity) below
+    ∙ finished (struct_at (parts_of m vs)) (range_with_len 0 n) validity (validities vs) n valid (length-range n)
+    ∙ ap (hidden (validities vs)) (struct_of m n vs long)
     ∙ hidden_again (IsTuple m) tuple_of (parts_in m) (tuple_back m) only_null vs all
   where
     length-range : (n : ℕ) → length (range_with_len 0 n) ≡ n

@@ -1,4 +1,4 @@
--- Refusals of columns of views, and texts that are picked.
+-- Errors for view columns, and gathered strings.
 use Rattle.std.proofs.Common.{◌≡◌, ℕ, Bool, true, false, zero, suc, List, [], ◌∷◌, All, map, length, get_or, Option, Some, None, refl, arith, length-append}
 use Rattle.std.specs.List.{flat_map, list_all}
 use Rattle.std.specs.Prelude.{◌&&◌}
@@ -7,9 +7,9 @@ use Rattle.sel_bits.specs.declared.faults.PolarsError.{PolarsError}
 use Rattle.sel_bits.specs.declared.faults.PolarsError.TheVariants.{OutOfMemory, SizeLimit}
 use Rattle.sel_arrow.specs.declared.column.Column.{Column}
 use Rattle.sel_arrow.proofs.Lists.{and_first, and_second}
-use Rattle.sel_runs.specs.Need.{IsRefusal, IsPastBuffers, buffer_count, buffers_joined}
+use Rattle.sel_runs.specs.Need.{IsLimitOrMemory, ExceedsBuffers, buffer_count, buffers_joined}
 use Rattle.sel_runs.specs.Picks.{found, pick}
-use Rattle.sel_runs.specs.Raised.{IsRefusalAt}
+use Rattle.sel_runs.specs.Raised.{IsBufferLimitOrMemory}
 use Rattle.sel_arrow.specs.Texts.{is_text}
 use Rattle.sel_arrow.specs.Value.{Value, Null}
 
@@ -17,7 +17,7 @@ and-both : (a b : Bool) → a ≡ true → b ≡ true → (a && b) ≡ true
 and-both true b h k = k
 and-both false b h k = absurd (cc h)
 
--- as many buffers as the columns have together
+-- The number of concatenated buffers is the sum over the columns.
 pub joined_count : {S A R : Type 0} (part : S → List A) (column : R → Column) (ss : List S) (rs : List R) → map (λ s. length (part s)) ss ≡ map (λ r. buffer_count (column r)) rs →
     length (flat_map part ss) ≡ buffers_joined (map column rs)
 joined_count part column [] [] e = refl
@@ -28,12 +28,12 @@ joined_count part column (s ∷ ss) (r ∷ rs) e =
     let rest : map (λ s. length (part s)) ss ≡ map (λ r. buffer_count (column r)) rs = cc e in
     omega (arith, length-append (part s) (flat_map part ss), joined_count part column ss rs rest, first)
 
-pub refused_at : (count n : ℕ) (fault : PolarsError) → count ≡ n → IsRefusalAt count fault → IsRefusal (IsPastBuffers n) fault
+pub refused_at : (count n : ℕ) (fault : PolarsError) → count ≡ n → IsBufferLimitOrMemory count fault → IsLimitOrMemory (ExceedsBuffers n) fault
 refused_at count n OutOfMemory e h = tt
 refused_at count n (SizeLimit BufferLimit) e h = omega (arith, e, h)
 refused_at count n _ e h = absurd h
 
--- ---- texts
+-- ---- strings
 
 text_at : (xs : List Value) (i : ℕ) → list_all is_text xs ≡ true → is_text (get_or xs i Null) ≡ true
 text_at [] i h = refl
@@ -49,7 +49,7 @@ text_found : {S : Type 0} (f : S → List Value) (ss : List S) (p : Option (ℕ 
 text_found f ss None h = refl
 text_found f ss (Some p) h = text_at (get_or (map f ss) p.0 []) p.1 (texts_at f ss p.0 h)
 
--- what is picked of texts are texts
+-- Rows gathered from string columns are strings.
 pub texts_picked : {S : Type 0} (f : S → List Value) (ss : List S) (ps : List (Option (ℕ × ℕ))) → All (λ s. list_all is_text (f s) ≡ true) ss → list_all is_text (pick Null (map f ss) ps) ≡ true
 texts_picked f ss [] h = refl
 texts_picked f ss (p ∷ ps) h = and-both (is_text (found Null (map f ss) p)) (list_all is_text (pick Null (map f ss) ps)) (text_found f ss p h) (texts_picked f ss ps h)

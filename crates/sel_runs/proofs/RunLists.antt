@@ -1,4 +1,4 @@
--- Runs, the picks that they stand for, and what these find.
+-- Runs, their row references, and the rows that these refer to.
 use Rattle.std.proofs.Common.{◌≡◌, ◌-◌, All, subst, ℕ, ◌<◌, ◌≤◌, ◌+◌, List, [], ◌∷◌, ◌++◌, map, length, replicate, get_or, take, drop, refl, sym, ap, ◌∙◌, arith, append_assoc, length-append, slice_set, Option, Some, None, is_none, false, suc, zero, zero-add}
 use Rattle.std.proofs.lemmas.List.{length-map, take-append-le, drop-append-le, take_all, drop_all, take_more, drop_more, take-append-drop, replicate-append-replicate, map-append, length-replicate, append-nil}
 use Rattle.std.proofs.lemmas.List.FromFn.{length-map-range_with_len, get_or-map-range_with_len}
@@ -9,7 +9,7 @@ use Rattle.sel_runs.specs.Picks.{found, pick, PickFits}
 use Rattle.sel_runs.specs.Plans.{IsPicked}
 use Rattle.sel_runs.specs.Runs.{expand, unrolled, unrolled_from, picks_of}
 
--- ---- runs behind one another
+-- ---- concatenated runs
 
 pub expand-append : (a b : List Run) → expand (a ++ b) ≡ expand a ++ expand b
 expand-append [] b = refl
@@ -58,7 +58,7 @@ joined_nulls r s e f = rw (e, f) (nulls-append r.len s.len)
 pub joined_rows : (r s : Run) (a b : ℕ) → r.source ≡ Some a → s.source ≡ Some b → a ≡ b → r.start + r.len ≡ s.start → unrolled_from r.source r.start (r.len + s.len) ≡ unrolled r ++ unrolled s
 joined_rows r s a b e f same next = rw (e, f, ← same) (picks_of-append a r.start s.start r.len s.len next)
 
--- the last run with another in its place that goes on
+-- The last run is replaced by one that also contains the next run.
 pub last_joined : (rs : List Run) (i : ℕ) (last both run : Run) → i + 1 ≡ length rs → last ≡ get_or rs i last → unrolled both ≡ unrolled last ++ unrolled run → expand (slice_set rs i both) ≡ expand rs ++ unrolled run
 last_joined [] i last both run end is joined = absurd (omega (arith, end))
 last_joined (r ∷ []) zero last both run end is joined =
@@ -77,20 +77,20 @@ one_len (r ∷ rs) (suc i) run inside is =
     let rest = one_len rs i run (omega (arith, inside)) is in
     omega (arith, rest, length-append (unrolled r) (expand rs))
 
--- a run of no rows
+-- An empty run.
 pub none_unrolled : (r : Run) → r.len ≡ 0 → unrolled r ≡ []
 none_unrolled r e = length_none (unrolled r) (length-unrolled r ∙ e)
 
 pub ruleset run_rules = (expand-append, expand-one, length-unrolled)
 
--- ---- picks that fit
+-- ---- row references that fit
 
 pub below_length : {A : Type 0} (xss : List (List A)) (s i : ℕ) → i < length (get_or xss s []) → s < length xss
 below_length [] s i h = absurd (omega (arith, h))
 below_length (xs ∷ xss) zero i h = omega arith
 below_length (xs ∷ xss) (suc s) i h = let rest = below_length xss s i h in omega arith
 
--- the rows of a run of at least one row are there
+-- The rows of a run of at least one row exist.
 pub run_inside : {A : Type 0} (xss : List (List A)) (s a n : ℕ) → 0 < n → All (PickFits xss) (picks_of s a n) → a + n ≤ length (get_or xss s [])
 run_inside xss s a n some fits =
     let inside : n - 1 < length (picks_of s a n) = rw (length-map-range_with_len (λ i. let p : Option (ℕ × ℕ) = Some (s, i) in p) a n) (omega arith) in
@@ -99,7 +99,7 @@ run_inside xss s a n some fits =
     let below : a + (n - 1) < length (get_or xss s []) = subst (PickFits xss) place last in
     omega arith
 
--- its source is there
+-- The source of a run of at least one row exists.
 pub run_source : {A : Type 0} (xss : List (List A)) (s a n : ℕ) → 0 < n → All (PickFits xss) (picks_of s a n) → s < length xss
 run_source xss s a n some fits =
     let h = run_inside xss s a n some fits in
@@ -107,11 +107,11 @@ run_source xss s a n some fits =
 
 -- ---- a loop over runs
 
--- the run at a place, as a loop over runs reads it
+-- The run at a position, as a loop over runs reads it.
 abbrev pub run_at : List Run → ℕ → Run
 run_at rs i = get_or rs i (record { source = None; start = 0; len = 0 })
 
--- the runs up to a place, and the one there
+-- The runs before a position, followed by the run at the position.
 pub expand_more : (rs : List Run) (i : ℕ) → i < length rs → expand (take (i + 1) rs) ≡ expand (take i rs) ++ unrolled (run_at rs i)
 expand_more rs i inside = ap expand (take_more rs i _ inside) ∙ expand-push (take i rs) (run_at rs i)
 
@@ -140,7 +140,7 @@ all_at P rs i inside all =
     let split : All P ((expand (take i rs) ++ unrolled (run_at rs i)) ++ expand (drop (i + 1) rs)) = subst (All P) (expand_split rs i inside) all in
     All-right P (expand (take i rs)) (unrolled (run_at rs i)) (All-left P (expand (take i rs) ++ unrolled (run_at rs i)) (expand (drop (i + 1) rs)) split)
 
--- what the runs up to the next place pick
+-- The rows of the runs up to the next position.
 pub pick_more : {A : Type 0} (d : A) (xss : List (List A)) (rs : List Run) (i : ℕ) → i < length rs →
     pick d xss (expand (take (i + 1) rs)) ≡ pick d xss (expand (take i rs)) ++ pick d xss (unrolled (run_at rs i))
 pick_more d xss rs i inside = ap (pick d xss) (expand_more rs i inside) ∙ map-append (found d xss) (expand (take i rs)) (unrolled (run_at rs i))
@@ -148,7 +148,7 @@ pick_more d xss rs i inside = ap (pick d xss) (expand_more rs i inside) ∙ map-
 pub length-pick : {A : Type 0} (d : A) (xss : List (List A)) (ps : List (Option (ℕ × ℕ))) → length (pick d xss ps) ≡ length ps
 length-pick d xss ps = length-map ps (found d xss)
 
--- ---- what one run picks
+-- ---- the rows of one run
 
 pub pick_rows : {A : Type 0} (d : A) (xss : List (List A)) (s a n : ℕ) → a + n ≤ length (get_or xss s []) → pick d xss (picks_of s a n) ≡ take n (drop a (get_or xss s []))
 pick_rows d xss s a zero h = refl
@@ -168,14 +168,14 @@ map_nulls d xss (suc n) = ap (λ l. d ∷ l) (map_nulls d xss n)
 pub pick_nulls : {A : Type 0} (d : A) (xss : List (List A)) (r : Run) → r.source ≡ None → pick d xss (unrolled r) ≡ replicate r.len d
 pick_nulls d xss r is = rw is (map_nulls d xss r.len)
 
--- the source and the rows of a run of at least one row
+-- The source and the rows of a run of at least one row.
 pub run_there : {A : Type 0} (xss : List (List A)) (r : Run) (s : ℕ) → r.source ≡ Some s → (r.len ≡ 0 → ⊥) → All (PickFits xss) (unrolled r) → (s < length xss) × (r.start + r.len ≤ length (get_or xss s []))
 run_there xss r s is other fits =
     let picks : All (PickFits xss) (picks_of s r.start r.len) = subst (λ o. All (PickFits xss) (unrolled_from o r.start r.len)) is fits in
     let some : 0 < r.len = omega (arith, other) in
     (run_source xss s r.start r.len some picks, run_inside xss s r.start r.len some picks)
 
--- ---- runs that have a source each
+-- ---- runs that all have a source
 
 picked_run : (o : Option ℕ) (a n : ℕ) → is_none o ≡ false → All IsPicked (unrolled_from o a n)
 picked_run None a n named = absurd cc

@@ -1,9 +1,9 @@
--- Bits of picked rows, and picks of null rows.
+-- Validity bits of gathered rows, and row references to null rows.
 use Rattle.std.proofs.Common.{◌≡◌, ◌≢◌, All, Bor, ℕ, zero, suc, ◌+◌, ◌≤◌, ◌<◌, Bool, true, false, List, [], ◌∷◌, length, take, drop, map, replicate, Option, Some, None, refl, ap, sym, ◌∙◌, arith, get_or}
 use Rattle.std.specs.Prelude.{if◌then◌else◌}
 use Rattle.std.proofs.lemmas.List.{length-map, get_or-map, take-map, drop-map}
 use Rattle.sel_bits.specs.Bits.{Bits}
-use Rattle.sel_arrow.specs.Nulls.{TellsNulls}
+use Rattle.sel_arrow.specs.Nulls.{IsValidityOf}
 use Rattle.sel_arrow.specs.Rows.{rows}
 use Rattle.sel_arrow.specs.Shape.{Shape, of_null}
 use Rattle.sel_arrow.specs.Value.{Value, Null, is_valid, validities}
@@ -18,30 +18,30 @@ use Rattle.sel_runs.specs.declared.run.Run.{Run}
 use Rattle.sel_runs.proofs.ItemRuns.{rows_of, source_there}
 use Rattle.sel_runs.proofs.RunLists.{run_there, pick_run, pick_nulls}
 
--- ---- what a validity tells of a part of the rows
+-- ---- the validity of a part of the rows
 
-told_part : (s : Shape) (v : Option Bits) (vs : List Value) (a n : ℕ) → s ≢ of_null → TellsNulls s v vs → a + n ≤ length vs → part_bits a n v ≡ validities (take n (drop a vs))
+told_part : (s : Shape) (v : Option Bits) (vs : List Value) (a n : ℕ) → s ≢ of_null → IsValidityOf s v vs → a + n ≤ length vs → part_bits a n v ≡ validities (take n (drop a vs))
 told_part of_null v vs a n other tells h = absurd (other refl)
 told_part s None vs a n other tells h =
     part-replicate true (length vs) a n h ∙ ap (λ l. take n (drop a l)) (sym tells) ∙ ap (take n) (drop-map is_valid a vs) ∙ take-map is_valid n (drop a vs)
 told_part s (Some b) vs a n other tells h =
     ap (λ l. take n (drop a l)) (sym tells) ∙ ap (take n) (drop-map is_valid a vs) ∙ take-map is_valid n (drop a vs)
 
-pub told_length : (s : Shape) (v : Option Bits) (vs : List Value) → s ≢ of_null → TellsNulls s v vs → (b : Bits) → v ≡ Some b → length b.bits ≡ length vs
+pub told_length : (s : Shape) (v : Option Bits) (vs : List Value) → s ≢ of_null → IsValidityOf s v vs → (b : Bits) → v ≡ Some b → length b.bits ≡ length vs
 told_length of_null v vs other tells b is = absurd (other refl)
 told_length s None vs other tells b is = absurd cc
 told_length s (Some x) vs other tells b is =
     let same : x ≡ b = cc in
     rw (← same, ← tells) (length-map vs is_valid)
 
-pub told_bits : (s : Shape) (v : Option Bits) (vs : List Value) → s ≢ of_null → TellsNulls s v vs → (b : Bits) → v ≡ Some b → validities vs ≡ b.bits
+pub told_bits : (s : Shape) (v : Option Bits) (vs : List Value) → s ≢ of_null → IsValidityOf s v vs → (b : Bits) → v ≡ Some b → validities vs ≡ b.bits
 told_bits of_null v vs other tells b is = absurd (other refl)
 told_bits s None vs other tells b is = absurd cc
 told_bits s (Some x) vs other tells b is =
     let same : x ≡ b = cc in
     rw (← same) tells
 
-pub told_valid : (s : Shape) (v : Option Bits) (vs : List Value) → s ≢ of_null → TellsNulls s v vs → v ≡ None → validities vs ≡ replicate (length vs) true
+pub told_valid : (s : Shape) (v : Option Bits) (vs : List Value) → s ≢ of_null → IsValidityOf s v vs → v ≡ None → validities vs ≡ replicate (length vs) true
 told_valid of_null v vs other tells is = absurd (other refl)
 told_valid s None vs other tells is = tells
 told_valid s (Some x) vs other tells is = absurd cc
@@ -65,8 +65,8 @@ module _ (cs : List (Bor Column)) (r : Run) (s : ℕ) (c : Bor Column) (is : r.s
       let there = run_there (rows_of cs) r s is some fits in
       pick_run Null (rows_of cs) r s is there.1 ∙ ap (λ l. take r.len (drop r.start l)) at_source
 
-  -- the bits of its rows
-  pub run_bits : (t : Shape) (v : Option Bits) → t ≢ of_null → TellsNulls t v (rows c.now) → part_bits r.start r.len v ≡ validities (pick Null (rows_of cs) (unrolled r))
+  -- The validity bits of the rows of the run.
+  pub run_bits : (t : Shape) (v : Option Bits) → t ≢ of_null → IsValidityOf t v (rows c.now) → part_bits r.start r.len v ≡ validities (pick Null (rows_of cs) (unrolled r))
   run_bits t v other tells = told_part t v (rows c.now) r.start r.len other tells split_inside ∙ ap validities (sym picked_part)
 
   found_at : (k : ℕ) → found Null (rows_of cs) (Some (s, k)) ≡ get_or (rows c.now) k Null
@@ -89,7 +89,7 @@ module _ (cs : List (Bor Column)) (r : Run) (s : ℕ) (c : Bor Column) (is : r.s
       let rest = kept_picks bits tells (a + 1) n in
       ap (λ x. x ∷ map (kept_by bits) (picks_of s (a + 1) n)) here ∙ ap (λ l. cleared (rows_of cs) (Some (s, a)) ∷ l) rest
 
-  -- picks by its bits are those that are cleared
+  -- Row references under the validity bits are the cleared row references.
   pub kept_run : (bits : List Bool) → validities (rows c.now) ≡ bits → map (kept_by bits) (unrolled r) ≡ map (cleared (rows_of cs)) (unrolled r)
   kept_run bits tells = rw is (kept_picks bits tells r.start r.len)
 
@@ -110,11 +110,11 @@ module _ (cs : List (Bor Column)) (r : Run) (s : ℕ) (c : Bor Column) (is : r.s
       let here : Some (s, a) ≡ cleared (rows_of cs) (Some (s, a)) = ap (λ (b : Bool). let p : Option (ℕ × ℕ) = if b then Some (s, a) else None in p) (sym valid) in
       ap (λ x. x ∷ picks_of s (a + 1) n) here ∙ ap (λ l. cleared (rows_of cs) (Some (s, a)) ∷ l) (whole_picks all (a + 1) n (omega arith))
 
-  -- no pick of valid rows is cleared
+  -- Row references to valid rows are unchanged.
   pub whole_run : validities (rows c.now) ≡ replicate (length (rows c.now)) true → unrolled r ≡ map (cleared (rows_of cs)) (unrolled r)
   whole_run all = rw is (whole_picks all r.start r.len split_inside)
 
--- ---- runs of nulls, and empty ones
+-- ---- runs of nulls, and empty runs
 
 pub null_bits : (xss : List (List Value)) (r : Run) → r.source ≡ None → replicate r.len false ≡ validities (pick Null xss (unrolled r))
 null_bits xss r is = each r.len ∙ ap validities (sym (pick_nulls Null xss r is))

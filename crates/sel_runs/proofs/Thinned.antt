@@ -1,4 +1,5 @@
--- Rows of a column of which some are left out and some are hidden: they pass no limit, since the column does not.
+-- Rows of a column, some of them dropped and some replaced by null. They exceed no limit, since the
+-- column does not.
 use Rattle.std.proofs.Common.{◌≡◌, ◌⊎◌, inl, inr, ℕ, zero, suc, ◌+◌, ◌-◌, ◌*◌, ◌≤◌, ◌<◌, pos, Bool, true, false, ◌&&◌, ◌==◌, List, [], ◌∷◌, ◌++◌, length, take, drop, map, replicate, Option, Some, None, refl, ap, sym, subst, ◌∙◌, arith, get_or, length-take}
 use Rattle.std.specs.List.{range_with_len, slice_range}
 use Rattle.std.proofs.lemmas.Int.{ints}
@@ -11,7 +12,7 @@ use Rattle.sel_bits.specs.declared.faults.Limit.TheVariants.{Rows as RowLimit, B
 use Rattle.sel_bits.specs.declared.faults.PolarsError.{PolarsError}
 use Rattle.sel_bits.specs.declared.faults.PolarsError.TheVariants.{OutOfMemory, SizeLimit, ComputeError}
 use Rattle.sel_arrow.specs.Masked.{hidden, masked}
-use Rattle.sel_arrow.specs.Nested.{list_of, list_rows, blocks, block_rows, tuple_at}
+use Rattle.sel_arrow.specs.Nested.{list_of, list_rows, blocks, block_rows, struct_at}
 use Rattle.sel_arrow.specs.Pieces.{pieces_after, byte_rows, last_offset}
 use Rattle.sel_arrow.specs.Rows.{rows, rows_of_each, row_count, type_of, types_of_each, well_formed, all_well_formed}
 use Rattle.sel_arrow.specs.Value.{Value, Null, Bytes}
@@ -20,20 +21,20 @@ use Rattle.sel_arrow.specs.declared.column.Column.TheVariants.{LargeBinary, Larg
 use Rattle.sel_arrow.proofs.Lists.{and_first, and_second}
 use Rattle.sel_arrow.proofs.NestedRows.{has_lists, has_blocks, struct_covered, length-rows}
 use Rattle.sel_runs.specs.Children.{columns_in, joined_items, part_at}
-use Rattle.sel_runs.specs.Need.{bytes_needed, IsRefusal, IsPastBytes, IsPastRows, past, past_parts}
+use Rattle.sel_runs.specs.Need.{bytes_needed, IsLimitOrMemory, ExceedsBytes, ExceedsRows, exceeded_limits, exceeded_in_parts}
 use Rattle.sel_runs.proofs.ItemRuns.{listed_values}
 use Rattle.sel_runs.proofs.ListParts.{few_rows}
 use Rattle.sel_runs.proofs.TupleRows.{rows_in, formed_in}
 
--- ---- what becomes of each row
+-- ---- a mark for each row
 
--- it is left out, kept, or null from now on
+-- The row is dropped, kept, or replaced by null.
 pub data Mark : Type 0 where
   skip : Mark
   keep : Mark
   hide : Mark
 
--- the rows that marks leave; those past the last mark are left out
+-- The rows that marks leave; those after the last mark are dropped.
 abbrev pub draw : List Mark → List Value → List Value
 draw [] vs = []
 draw (m ∷ ms) [] = []
@@ -72,7 +73,7 @@ draw_all (v ∷ vs) = ap (λ l. v ∷ l) (draw_all vs)
 
 -- ---- rows under a validity
 
--- the marks of hidden rows, as marks of the rows themselves
+-- Marks of rows under a validity, as marks of the values.
 abbrev veiled : List Bool → List Mark → List Mark
 veiled [] ms = ms
 veiled (b ∷ bs) [] = []
@@ -99,7 +100,7 @@ draw-masked : (validity : Option Bits) (ms : List Mark) (vs : List Value) → dr
 draw-masked None ms vs = refl
 draw-masked (Some validity) ms vs = draw-hidden validity.bits ms vs
 
--- ---- marks of rows that stand together
+-- ---- marks of consecutive rows
 
 skipped : (n : ℕ) (ms : List Mark) (vs : List Value) → draw (replicate n skip ++ ms) vs ≡ draw ms (drop n vs)
 skipped zero ms vs = refl
@@ -121,16 +122,16 @@ further a b vs h =
     let same : b ≡ a + (b - a) = omega (arith, h) in
     ap (λ n. drop n vs) same ∙ sym (drop-drop (b - a) a vs)
 
--- ---- lists between offsets
+-- ---- lists with offsets
 
--- each offset is at least the one before it
+-- No offset is less than the one before it.
 abbrev Climbs : List ℕ → Type 0
 Climbs offsets = (k : ℕ) → suc k < length offsets → get_or offsets k 0 ≤ get_or offsets (suc k) 0
 
 rising_climbs : (offsets : List ℕ) → IsRising offsets → Climbs offsets
 rising_climbs offsets rises k h = rises.rising k (suc k) (omega arith) h
 
--- the items of a list that is kept are kept, those of any other are left out
+-- The child rows of a kept list are kept, all others are dropped.
 abbrev item_marks : ℕ → List ℕ → List Mark → List Mark
 item_marks a [] ms = []
 item_marks a (b ∷ offsets) [] = []
@@ -159,7 +160,7 @@ abbrev list_marks : List ℕ → Option Bits → List Mark → List Mark
 list_marks [] validity ms = []
 list_marks (a ∷ offsets) validity ms = replicate a skip ++ item_marks a offsets (under validity ms)
 
--- what is left of lists holds what is left of the child
+-- The child rows of the remaining lists are the remaining child rows.
 lists_drawn : (offsets : List ℕ) (below : List Value) (validity : Option Bits) (ms : List Mark) → IsRising offsets →
     joined_items 0 (draw ms (list_rows offsets below validity)) ≡ draw (list_marks offsets validity ms) below
 lists_drawn [] below validity ms rises = absurd (omega (arith, rises.some))
@@ -167,9 +168,9 @@ lists_drawn (a ∷ offsets) below validity ms rises =
     ap (joined_items 0) (draw-masked validity ms (map list_of (pieces_after a offsets below)))
     ∙ items_drawn a offsets below (under validity ms) (rising_climbs (a ∷ offsets) rises) ∙ sym (skipped a (item_marks a offsets (under validity ms)) below)
 
--- ---- lists of one length
+-- ---- fixed-size lists
 
--- what becomes of a list becomes of each row below it
+-- Each child row gets the mark of its list.
 abbrev entry_marks : ℕ → ℕ → List Mark → List Mark
 entry_marks w zero ms = []
 entry_marks w (suc n) [] = []
@@ -178,7 +179,7 @@ entry_marks w (suc n) (m ∷ ms) = replicate w m ++ entry_marks w n ms
 abbrev block_at : ℕ → List Value → ℕ → List Value
 block_at w below i = slice_range below (i * w) (i * w + w)
 
--- one list more
+-- One more list.
 entry_drawn : (w k n : ℕ) (below : List Value) (ms : List Mark) (m : Mark) → k * w + suc n * w ≤ length below →
     joined_items w (draw ms (map list_of (map (block_at w below) (range_with_len (k + 1) n)))) ≡ draw (entry_marks w n ms) (drop w (drop (k * w) below)) →
     joined_items w (draw (m ∷ ms) (map list_of (map (block_at w below) (range_with_len k (suc n))))) ≡ draw (entry_marks w (suc n) (m ∷ ms)) (drop (k * w) below)
@@ -208,20 +209,20 @@ blocks_drawn w n below validity ms fills =
     ap (joined_items w) (draw-masked validity ms (map list_of (blocks w n below)))
     ∙ entries_drawn w 0 n below (under validity ms) (omega (arith, fills, start)) ∙ ap (λ i. draw (entry_marks w n (under validity ms)) (drop i below)) start
 
--- ---- tuples
+-- ---- struct rows
 
-part_found : (fs : List (List Value)) (j k : ℕ) → j < length fs → part_at j (tuple_at fs k) ≡ get_or (get_or fs j []) k Null
+part_found : (fs : List (List Value)) (j k : ℕ) → j < length fs → part_at j (struct_at fs k) ≡ get_or (get_or fs j []) k Null
 part_found fs j k h = ap (λ l. get_or l j Null) (listed_values (map (λ f. get_or f k Null) fs)) ∙ get_or-map (λ f. get_or f k Null) fs j [] Null h
 
-parts_found : (fs : List (List Value)) (j k n : ℕ) → j < length fs → map (part_at j) (map (tuple_at fs) (range_with_len k n)) ≡ map (λ i. get_or (get_or fs j []) i Null) (range_with_len k n)
+parts_found : (fs : List (List Value)) (j k n : ℕ) → j < length fs → map (part_at j) (map (struct_at fs) (range_with_len k n)) ≡ map (λ i. get_or (get_or fs j []) i Null) (range_with_len k n)
 parts_found fs j k zero h = refl
 parts_found fs j k (suc n) h =
-    ap (λ x. x ∷ map (part_at j) (map (tuple_at fs) (range_with_len (k + 1) n))) (part_found fs j k h)
+    ap (λ x. x ∷ map (part_at j) (map (struct_at fs) (range_with_len (k + 1) n))) (part_found fs j k h)
     ∙ ap (λ l. get_or (get_or fs j []) k Null ∷ l) (parts_found fs j (k + 1) n h)
 
--- part j of the tuples is field j
+-- The values j of the struct rows are the rows of field j.
 part_rows : (n : _) (row : Row_of-Column n) (len j : ℕ) (c : Column) → all_well_formed len row ≡ true → j < length (columns_in row) →
-    map (part_at j) (map (tuple_at (rows_of_each row)) (range_with_len 0 len)) ≡ rows (get_or (columns_in row) j c)
+    map (part_at j) (map (struct_at (rows_of_each row)) (range_with_len 0 len)) ≡ rows (get_or (columns_in row) j c)
 part_rows n row len j c all h =
     let fs = rows_of_each row in
     let x = get_or (columns_in row) j c in
@@ -231,9 +232,9 @@ part_rows n row len j c all h =
     parts_found fs j 0 len many ∙ ap (λ l. map (λ i. get_or l i Null) (range_with_len 0 len)) is
     ∙ sym (fill_by_all (λ i. get_or (rows x) i Null) (rows x) len Null long (λ k below. refl))
 
--- ---- rows of bytes
+-- ---- binary rows
 
--- the rows between offsets need no more bytes than the last offset shows
+-- The rows between offsets need at most as many bytes as the last offset.
 needed_pieces : (a : ℕ) (offsets bytes : List ℕ) → Climbs (a ∷ offsets) → a + bytes_needed (map Bytes (pieces_after a offsets bytes)) ≤ get_or (a ∷ offsets) (length offsets) 0
 needed_pieces a [] bytes climbs = omega arith
 needed_pieces a (b ∷ offsets) bytes climbs =
@@ -254,28 +255,28 @@ bytes_drawn (a ∷ offsets) bytes validity ms rises =
 
 -- ---- limits
 
-few_bytes : (vs : List Value) (limit : Limit) → bytes_needed vs ≤ 9223372036854775807 → IsPastBytes (pos 9223372036854775807) vs limit → ⊥
+few_bytes : (vs : List Value) (limit : Limit) → bytes_needed vs ≤ 9223372036854775807 → ExceedsBytes (pos 9223372036854775807) vs limit → ⊥
 few_bytes vs RowLimit few h = h
 few_bytes vs ByteLimit few h = absurd (omega (arith, ints, few, h))
 few_bytes vs BufferLimit few h = h
 few_bytes vs ViewBytes few h = h
 
-few_items : (n : ℕ) (limit : Limit) → n ≤ 4294967295 → IsPastRows n limit → ⊥
+few_items : (n : ℕ) (limit : Limit) → n ≤ 4294967295 → ExceedsRows n limit → ⊥
 few_items n RowLimit few h = absurd (omega (arith, few, h))
 few_items n ByteLimit few h = h
 few_items n BufferLimit few h = h
 few_items n ViewBytes few h = h
 
--- what is left of a child passes no limit
-below_fits : (c : Column) (ms : List Mark) (items : List Value) (limit : Limit) → well_formed c ≡ true → items ≡ draw ms (rows c) → (past (type_of c) (draw ms (rows c)) limit → ⊥) →
-    IsPastRows (length items) limit ⊎ past (type_of c) items limit → ⊥
+-- The remaining rows of a child exceed no limit.
+below_fits : (c : Column) (ms : List Mark) (items : List Value) (limit : Limit) → well_formed c ≡ true → items ≡ draw ms (rows c) → (exceeded_limits (type_of c) (draw ms (rows c)) limit → ⊥) →
+    ExceedsRows (length items) limit ⊎ exceeded_limits (type_of c) items limit → ⊥
 below_fits c ms items limit formed is deeper (inl h) =
     few_items (length items) limit (omega (arith, ap length is, drawn_few ms (rows c), length-rows c, few_rows c formed)) h
-below_fits c ms items limit formed is deeper (inr h) = deeper (subst (λ l. past (type_of c) l limit) is h)
+below_fits c ms items limit formed is deeper (inr h) = deeper (subst (λ l. exceeded_limits (type_of c) l limit) is h)
 
 mutual
-  -- what is left of the rows of a well-formed column passes no limit
-  pub drawn_fits : (c : Column) → well_formed c ≡ true → (ms : List Mark) (limit : Limit) → past (type_of c) (draw ms (rows c)) limit → ⊥
+  -- The remaining rows of a well-formed column exceed no limit.
+  pub drawn_fits : (c : Column) → well_formed c ≡ true → (ms : List Mark) (limit : Limit) → exceeded_limits (type_of c) (draw ms (rows c)) limit → ⊥
   drawn_fits (LargeBinary column) formed ms limit h =
       let need = bytes_drawn column.offsets column.values column.validity ms column.rising in
       few_bytes (draw ms (rows (LargeBinary column))) limit (omega (arith, need, column.values_fit, column.bytes_fit)) h
@@ -291,34 +292,34 @@ mutual
       (drawn_fits values has.child marks limit) h
   drawn_fits (Struct' len n fields validity) formed ms limit h =
       let all = (struct_covered len validity (all_well_formed len fields) formed).2 in
-      let vs = map (tuple_at (rows_of_each fields)) (range_with_len 0 len) in
+      let vs = map (struct_at (rows_of_each fields)) (range_with_len 0 len) in
       parts_fit _ fields len 0 vs all
       (λ k d below. let place : 0 + k ≡ k = omega arith in ap (λ i. map (part_at i) vs) place ∙ part_rows _ fields len k d all below)
-      (under validity ms) limit (subst (λ l. past_parts (types_of_each fields) 0 l limit) (draw-masked validity ms vs) h)
+      (under validity ms) limit (subst (λ l. exceeded_in_parts (types_of_each fields) 0 l limit) (draw-masked validity ms vs) h)
   drawn_fits c formed ms limit h = absurd h
 
   parts_fit : (n : _) (row : Row_of-Column n) (len j : ℕ) (vs : List Value) → all_well_formed len row ≡ true →
       ((k : ℕ) (d : Column) → k < length (columns_in row) → map (part_at (j + k)) vs ≡ rows (get_or (columns_in row) k d)) →
-      (ms : List Mark) (limit : Limit) → past_parts (types_of_each row) j (draw ms vs) limit → ⊥
+      (ms : List Mark) (limit : Limit) → exceeded_in_parts (types_of_each row) j (draw ms vs) limit → ⊥
   parts_fit n end_of-Column len j vs all at ms limit h = absurd h
   parts_fit n (more_of-Column x rest) len j vs all at ms limit (inl h) =
       let two = and_first ((row_count x == len) && well_formed x) (all_well_formed len rest) all in
       let place : j ≡ j + 0 = omega arith in
       let field : map (part_at j) vs ≡ rows x = ap (λ i. map (part_at i) vs) place ∙ at 0 x (omega arith) in
       drawn_fits x (and_second (row_count x == len) (well_formed x) two) ms limit
-      (subst (λ l. past (type_of x) l limit) (draw-map (part_at j) refl ms vs ∙ ap (draw ms) field) h)
+      (subst (λ l. exceeded_limits (type_of x) l limit) (draw-map (part_at j) refl ms vs ∙ ap (draw ms) field) h)
   parts_fit n (more_of-Column x rest) len j vs all at ms limit (inr h) =
       parts_fit _ rest len (j + 1) vs (and_second ((row_count x == len) && well_formed x) (all_well_formed len rest) all)
       (λ k d below. let place : (j + 1) + k ≡ j + suc k = omega arith in ap (λ i. map (part_at i) vs) place ∙ at (suc k) d (omega (arith, below)))
       ms limit h
 
--- nor do the rows themselves
-pub whole_fits : (c : Column) → well_formed c ≡ true → (limit : Limit) → past (type_of c) (rows c) limit → ⊥
+-- The rows of a well-formed column exceed no limit.
+pub whole_fits : (c : Column) → well_formed c ≡ true → (limit : Limit) → exceeded_limits (type_of c) (rows c) limit → ⊥
 whole_fits c formed limit h =
-    drawn_fits c formed (replicate (length (rows c)) keep) limit (subst (λ l. past (type_of c) l limit) (sym (draw_all (rows c))) h)
+    drawn_fits c formed (replicate (length (rows c)) keep) limit (subst (λ l. exceeded_limits (type_of c) l limit) (sym (draw_all (rows c))) h)
 
--- and where no limit is passed only memory can be wanting
-pub memory_alone : (P : Limit → Type 0) (fault : PolarsError) → ((limit : Limit) → P limit → ⊥) → IsRefusal P fault → fault ≡ OutOfMemory
+-- If no limit is exceeded, the only possible error is out of memory.
+pub memory_alone : (P : Limit → Type 0) (fault : PolarsError) → ((limit : Limit) → P limit → ⊥) → IsLimitOrMemory P fault → fault ≡ OutOfMemory
 memory_alone P OutOfMemory none h = refl
 memory_alone P (SizeLimit limit) none h = absurd (none limit h)
 memory_alone P ComputeError none h = absurd h

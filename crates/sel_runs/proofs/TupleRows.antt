@@ -1,4 +1,4 @@
--- Parts of tuples are rows of the fields.
+-- The values of struct rows are rows of the fields.
 use Rattle.std.proofs.Common.{◌≡◌, All, Bor, ℕ, zero, suc, ◌<◌, Bool, true, false, ◌&&◌, ◌==◌, List, [], ◌∷◌, length, map, Option, Some, None, refl, ap, sym, subst, ◌∙◌, arith, get_or}
 use Rattle.std.specs.Prelude.{if◌then◌else◌}
 use Rattle.std.specs.List.{range_with_len}
@@ -7,7 +7,7 @@ use Rattle.std.proofs.lemmas.List.{length-map, get_or-map}
 use Rattle.std.proofs.lemmas.List.FromFn.{length-map-range_with_len, get_or-map-range_with_len}
 use Rattle.sel_bits.specs.Bits.{Bits}
 use Rattle.sel_arrow.specs.Masked.{hidden, masked}
-use Rattle.sel_arrow.specs.Nested.{tuple_at}
+use Rattle.sel_arrow.specs.Nested.{struct_at}
 use Rattle.sel_arrow.specs.Rows.{rows, rows_of_each, row_count, type_of, types_of_each, well_formed, all_well_formed, IsField, IsWellFormed}
 use Rattle.sel_arrow.specs.Shape.{Shape, Shapes, no_shapes, of_struct, shape_list}
 use Rattle.sel_arrow.specs.Value.{Value, Null, is_valid}
@@ -29,7 +29,7 @@ abbrev fields_in : Shape → Shapes
 fields_in (of_struct ss) = ss
 fields_in s = no_shapes
 
--- ---- the fields, place by place
+-- ---- the fields, by position
 
 pub rows_in : (n : _) (row : Row_of-Column n) → rows_of_each row ≡ map rows (columns_in row)
 rows_in n end_of-Column = refl
@@ -84,26 +84,26 @@ shown_inside [] k e = absurd (cc e)
 shown_inside (v ∷ vs) zero e = omega arith
 shown_inside (v ∷ vs) (suc k) e = let rest = shown_inside vs k e in omega (arith, rest)
 
--- part j of a valid tuple is the row of field j
+-- Value j of a valid struct row is the row of field j.
 pub field_row : (c : Column) (ss : Shapes) (j k : ℕ) → type_of c ≡ of_struct ss → j < length (shape_list ss) → is_valid (get_or (rows c) k Null) ≡ true → get_or (rows (field j c)) k Null ≡ part_at j (get_or (rows c) k Null)
 field_row (Struct' len n fields validity) ss j k is h valid =
     let c = Struct' len n fields validity in
     let fs = rows_of_each fields in
-    let vs = map (tuple_at fs) (range_with_len 0 len) in
+    let vs = map (struct_at fs) (range_with_len 0 len) in
     let same : types_of_each fields ≡ ss = ap fields_in is in
     let inside : j < length (columns_in fields) = omega (arith, h, count_in _ fields, ap (λ l. length (shape_list l)) same) in
     let shown = shown_masked validity vs k valid in
-    let below : k < len = omega (arith, shown_inside vs k (ap is_valid (sym shown) ∙ valid), length-map-range_with_len (tuple_at fs) 0 len) in
-    let row = shown ∙ get_or-map-range_with_len (tuple_at fs) 0 len k k Null below (omega arith) in
+    let below : k < len = omega (arith, shown_inside vs k (ap is_valid (sym shown) ∙ valid), length-map-range_with_len (struct_at fs) 0 len) in
+    let row = shown ∙ get_or-map-range_with_len (struct_at fs) 0 len k k Null below (omega arith) in
     let field_is : get_or fs j [] ≡ rows (field j c) = ap (λ l. get_or l j []) (rows_in _ fields) ∙ get_or-map rows (columns_in fields) j c [] inside in
     let many : j < length fs = omega (arith, inside, ap length (rows_in _ fields), length-map (columns_in fields) rows) in
-    let part : part_at j (tuple_at fs k) ≡ get_or (get_or fs j []) k Null =
+    let part : part_at j (struct_at fs k) ≡ get_or (get_or fs j []) k Null =
     ap (λ l. get_or l j Null) (listed_values (map (λ f. get_or f k Null) fs)) ∙ get_or-map (λ f. get_or f k Null) fs j [] Null many
     in
     sym (ap (part_at j) row ∙ part ∙ ap (λ l. get_or l k Null) field_is)
 field_row c ss j k is h valid = absurd (subst IsStructType (sym is) tt)
 
--- ---- picks of the fields
+-- ---- row references to rows of the fields
 
 abbrev pub field_rows : ℕ → List (Bor Column) → List (List Value)
 field_rows j cs = map (λ c. rows (field j c.now)) cs
@@ -127,7 +127,7 @@ module _ (ss : Shapes) (j : ℕ) (h : j < length (shape_list ss)) where
       in
       one (is_valid v) refl
 
-  -- the parts of what is picked are picked of the fields
+  -- The values of gathered struct rows are gathered from the fields.
   pub picked_parts : (cs : List (Bor Column)) → All (λ c. type_of c.now ≡ of_struct ss) cs → (ps : List (Option (ℕ × ℕ))) → pick Null (field_rows j cs) (map (cleared (rows_of cs)) ps) ≡ map (part_at j) (pick Null (rows_of cs) ps)
   picked_parts cs types [] = refl
   picked_parts cs types (p ∷ ps) =

@@ -1,4 +1,4 @@
--- Rows of bytes of which none is null: their bytes stand together.
+-- Binary rows without nulls: their bytes are contiguous.
 use Rattle.std.proofs.Common.{◌≡◌, All, ℕ, zero, suc, ◌+◌, ◌-◌, ◌≤◌, ◌<◌, pos, Bool, true, false, List, [], ◌∷◌, ◌++◌, length, take, drop, map, replicate, Option, Some, None, refl, ap, sym, subst, ◌∙◌, arith, get_or, true≢false}
 use Rattle.std.specs.Prelude.{if◌then◌else◌, is_some}
 use Rattle.std.specs.List.{slice_range}
@@ -27,9 +27,9 @@ use Rattle.sel_runs.proofs.RunLists.{run_there, pick_run}
 use Rattle.sel_runs.proofs.SplitRuns.{null_bits}
 use Rattle.sel_runs.proofs.JoinedRows.{ends-append, length-joined, needed-append, needed_part}
 
--- ---- parts of a list that stand together
+-- ---- contiguous parts of a list
 
--- a part and the one behind it
+-- A part, followed by the next one.
 range_joined : {A : Type 0} (xs : List A) (a b c : ℕ) → a ≤ b → b ≤ c → slice_range xs a c ≡ slice_range xs a b ++ slice_range xs b c
 range_joined xs a b c ab bc =
     let whole : c - a ≡ (b - a) + (c - b) = omega arith in
@@ -43,9 +43,9 @@ range_none xs a = let none : a - a ≡ 0 = omega arith in ap (λ n. take n (drop
 length-range : {A : Type 0} (xs : List A) (a b : ℕ) → a ≤ b → b ≤ length xs → length (slice_range xs a b) ≡ b - a
 length-range xs a b ab below = length-part xs a (b - a) (omega arith)
 
--- ---- a part of a column of bytes with no null in it
+-- ---- a part of a binary column without nulls
 
--- what is known of such a part
+-- The properties of such a part.
 pub record LivePart (offsets bytes : List ℕ) (validity : Option Bits) (start len : ℕ) : Type 0 where
   pub rises : IsRising offsets
   pub ends : last_offset offsets ≤ length bytes
@@ -53,7 +53,7 @@ pub record LivePart (offsets bytes : List ℕ) (validity : Option Bits) (start l
   pub inside : start + len ≤ rows_between offsets
   pub live : validities (take len (drop start (byte_rows offsets bytes validity))) ≡ replicate len true
 
--- the same of a column
+-- The same for a column.
 pub live_part : {O : Type 0} {type : Ghosts O} (column : BinaryArray O type) (start len : ℕ) → start + len ≤ length (binary_rows column) → validities (take len (drop start (binary_rows column))) ≡ replicate len true
     → LivePart column.offsets column.values column.validity start len
 live_part column start len inside live = record {
@@ -125,7 +125,7 @@ module _ (offsets bytes : List ℕ) (validity : Option Bits) (start len : ℕ) (
       ∙ sym (range_joined bytes (at 0) (at i) (at (i + 1)) (part_climbs 0 i (omega arith) (omega arith)) (part_climbs i (i + 1) (omega arith) (omega arith)))
       ∙ ap (λ k. slice_range bytes (at 0) (at k)) (sym next)
 
-  -- their bytes are those between the first offset and the last
+  -- The bytes of the rows are those between the first and the last offset.
   pub part_bytes : slice_range bytes (get_or offsets start 0) (at len) ≡ joined_bytes part
   part_bytes =
       let first : start ≡ start + 0 = omega arith in
@@ -140,7 +140,7 @@ module _ (offsets bytes : List ℕ) (validity : Option Bits) (start len : ℕ) (
   pub part_room : (i : ℕ) → i ≤ len → (before n : ℕ) → before + bytes_needed part ≤ n → before + (at i - get_or offsets start 0) ≤ n
   part_room i below before n room = omega (arith, part_needed i below, needed_part part i, room)
 
-  -- one end more
+  -- One more end.
   pub part_ends : (before i : ℕ) → i < len → ends_from before (take (i + 1) part) ≡ ends_from before (take i part) ++ (before + (at (i + 1) - get_or offsets start 0)) ∷ []
   part_ends before i h =
       let v = get_or part i Null in
@@ -153,9 +153,9 @@ module _ (offsets bytes : List ℕ) (validity : Option Bits) (start len : ℕ) (
       ∙ ends-append before (take i part) (v ∷ [])
       ∙ ap (λ n. ends_from before (take i part) ++ n ∷ []) last
 
--- ---- picks of rows that are not null
+-- ---- row references to rows that are not null
 
--- no bytes of nulls, and each ends where it begins
+-- Null rows have no bytes, and each ends where it begins.
 pub nulls_bytes : (n : ℕ) → joined_bytes (replicate n Null) ≡ []
 nulls_bytes zero = refl
 nulls_bytes (suc n) = nulls_bytes n
@@ -182,7 +182,7 @@ module _ (xss : List (List Value)) where
       let picks : All (IsLive xss) (picks_of s r.start r.len) = subst (λ o. All (IsLive xss) (unrolled_from o r.start r.len)) is live in
       rw is (live_rows s r.start r.len picks)
 
-  -- whether the rows of such a run are valid
+  -- The validity of the rows of such a run.
   pub live_bits : (r : Run) → All (IsLive xss) (unrolled r) → replicate r.len (is_some r.source) ≡ validities (pick Null xss (unrolled r))
   live_bits r live = by r.source refl
     where
@@ -190,7 +190,7 @@ module _ (xss : List (List Value)) where
       by None is = null_bits xss r is
       by (Some s) is = sym (live_run r s is live)
 
-  -- picks without those of null rows find the same
+  -- If the row references to null rows are cleared, the gathered rows are the same.
   cleared_one : (p : Option (ℕ × ℕ)) → found Null xss (cleared xss p) ≡ found Null xss p
   cleared_one None = refl
   cleared_one (Some p) = by (found Null xss (Some p)) refl

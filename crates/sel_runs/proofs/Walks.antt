@@ -1,4 +1,4 @@
--- Lists that a plan picks, gone over once.
+-- Gathered lists that are read once.
 use Rattle.std.proofs.Common.{◌≡◌, ◌≢◌, All, Bor, ℤ, pos, ℕ, zero, suc, ◌+◌, ◌≤◌, ◌<◌, true, false, List, [], ◌∷◌, ◌++◌, length, take, drop, map, get_or, Option, Some, None, refl, ap, sym, subst, ◌∙◌, arith, length-append}
 use Rattle.std.specs.Option.{ForSome}
 use Rattle.std.proofs.Math.Seq.{take-add}
@@ -7,16 +7,16 @@ use Rattle.sel_bits.specs.Bits.{Bits}
 use Rattle.sel_bits.specs.declared.faults.Limit.{Limit}
 use Rattle.sel_bits.specs.declared.faults.Limit.TheVariants.{Rows as RowLimit, Bytes as ByteLimit, Buffers as BufferLimit, ViewBytes}
 use Rattle.sel_arrow.specs.Masked.{valid_at}
-use Rattle.sel_arrow.specs.Nulls.{TellsNulls}
+use Rattle.sel_arrow.specs.Nulls.{IsValidityOf}
 use Rattle.sel_arrow.specs.Rows.{rows, type_of, IsWellFormed}
 use Rattle.sel_arrow.specs.Shape.{Shape, of_null, of_large_list}
 use Rattle.sel_arrow.specs.Value.{Value, Null, is_valid, validities}
 use Rattle.sel_arrow.specs.declared.column.Column.{Column}
 use Rattle.sel_runs.specs.Children.{child, is_listing, joined_items}
 use Rattle.sel_runs.specs.Ends.{item_ends}
-use Rattle.sel_runs.specs.Need.{IsPastRows}
+use Rattle.sel_runs.specs.Need.{ExceedsRows}
 use Rattle.sel_runs.specs.Picks.{found, pick, PickFits}
-use Rattle.sel_runs.specs.Plans.{HasBit, TellNulls, bits_found}
+use Rattle.sel_runs.specs.Plans.{HasBit, AreValidities, bits_found}
 use Rattle.sel_runs.specs.Runs.{expand, unrolled}
 use Rattle.sel_runs.specs.Sources.{columns_of, first_type}
 use Rattle.sel_runs.specs.declared.run.Run.{Run}
@@ -26,7 +26,7 @@ use Rattle.sel_runs.proofs.ItemRuns.{rows_of, below_of, joined-append, ends-appe
 use Rattle.sel_runs.proofs.RunLists.{All-left, length-unrolled}
 use Rattle.sel_runs.proofs.SplitRuns.{told_bits, told_length, told_valid}
 
--- ---- the picks of the next run
+-- ---- the row references of the next run
 
 module _ (ps left rest : List (Option (ℕ × ℕ))) (run : Run) (at : ℕ) (behind : left ≡ drop at ps) (next : left ≡ unrolled run ++ rest) where
   first_picks : take run.len left ≡ unrolled run
@@ -56,11 +56,11 @@ module _ (ps left rest : List (Option (ℕ × ℕ))) (run : Run) (at : ℕ) (beh
       let some = length-unrolled run in
       omega (arith, long, some, length-drop at ps)
 
--- what holds of all picks holds of those of the next run
+-- A property of all row references is a property of those of the next run.
 pub run_all : (P : Option (ℕ × ℕ) → Type 0) (left rest : List (Option (ℕ × ℕ))) (run : Run) → left ≡ unrolled run ++ rest → All P left → All P (unrolled run)
 run_all P left rest run next all = All-left P (unrolled run) rest (subst (All P) next all)
 
--- ---- what its lists hold
+-- ---- the child rows of its lists
 
 pub items_behind : (w : ℕ) (now before more : List Value) → now ≡ before ++ more → joined_items w now ≡ joined_items w before ++ joined_items w more
 items_behind w now before more is = ap (joined_items w) is ∙ joined-append w before more
@@ -78,36 +78,36 @@ ends_behind now before more end old new is e f g =
     g ∙ ap (λ l. l ++ map pos (item_ends end more)) f ∙ ap (λ n. (pos 0 ∷ map pos (item_ends 0 before)) ++ map pos (item_ends n more)) there
     ∙ ap (λ l. pos 0 ∷ l) (sym (map-append pos (item_ends 0 before) (item_ends (0 + length (joined_items 0 before)) more)) ∙ ap (map pos) (sym split))
 
--- the first lists hold no more than all
+-- A prefix of the lists has at most as many child rows as all lists.
 pub joined_first : (w : ℕ) (xss : List (List Value)) (ps : List (Option (ℕ × ℕ))) (k : ℕ) → length (joined_items w (pick Null xss (take k ps))) ≤ length (joined_items w (pick Null xss ps))
 joined_first w xss ps k =
     let split = ap (pick Null xss) (sym (take-append-drop k ps)) ∙ map-append (found Null xss) (take k ps) (drop k ps) in
     let whole = ap length (items_behind w (pick Null xss ps) (pick Null xss (take k ps)) (pick Null xss (drop k ps)) split) ∙ length-append (joined_items w (pick Null xss (take k ps))) (joined_items w (pick Null xss (drop k ps))) in
     omega (arith, whole)
 
-pub past_more : (m n : ℕ) → m ≤ n → (limit : Limit) → IsPastRows m limit → IsPastRows n limit
+pub past_more : (m n : ℕ) → m ≤ n → (limit : Limit) → ExceedsRows m limit → ExceedsRows n limit
 past_more m n le RowLimit h = omega (arith, le, h)
 past_more m n le ByteLimit h = h
 past_more m n le BufferLimit h = h
 past_more m n le ViewBytes h = h
 
--- ---- validities that tell which rows are null
+-- ---- the validities of the sources
 
-told_row : (s : Shape) (v : Option Bits) (vs : List Value) (i : ℕ) → s ≢ of_null → TellsNulls s v vs → i < length vs → valid_at v i ≡ is_valid (get_or vs i Null)
+told_row : (s : Shape) (v : Option Bits) (vs : List Value) (i : ℕ) → s ≢ of_null → IsValidityOf s v vs → i < length vs → valid_at v i ≡ is_valid (get_or vs i Null)
 told_row s None vs i other tells h =
     sym (get_or-replicate (length vs) i true false h) ∙ ap (λ l. get_or l i false) (sym (told_valid s None vs other tells refl)) ∙ get_or-map is_valid vs i Null false h
 told_row s (Some b) vs i other tells h =
     ap (λ l. get_or l i false) (sym (told_bits s (Some b) vs other tells b refl)) ∙ get_or-map is_valid vs i Null false h
 
-told_found : (vs : List (Option Bits)) (cs : List (Bor Column)) (s i : ℕ) → TellNulls vs (columns_of cs) → All (λ c. type_of c.now ≢ of_null) cs → i < length (get_or (rows_of cs) s []) →
+told_found : (vs : List (Option Bits)) (cs : List (Bor Column)) (s i : ℕ) → AreValidities vs (columns_of cs) → All (λ c. type_of c.now ≢ of_null) cs → i < length (get_or (rows_of cs) s []) →
     valid_at (get_or vs s None) i ≡ is_valid (get_or (get_or (rows_of cs) s []) i Null)
 told_found vs [] s i told known h = absurd (omega (arith, h))
 told_found [] (c ∷ cs) s i told known h = absurd told
 told_found (v ∷ vs) (c ∷ cs) zero i told known h = told_row (type_of c.now) v (rows c.now) i (known 0 c (omega arith)) told.0 h
 told_found (v ∷ vs) (c ∷ cs) (suc s) i told known h = told_found vs cs s i told.1 (λ k d below. known (suc k) d (omega (arith, below))) h
 
--- the bits that picks find tell which of the rows that they name are valid
-pub told_picked : (vs : List (Option Bits)) (cs : List (Bor Column)) (ps : List (Option (ℕ × ℕ))) → TellNulls vs (columns_of cs) → All (λ c. type_of c.now ≢ of_null) cs → All (PickFits (rows_of cs)) ps →
+-- The gathered validity bits are the validity of the gathered rows.
+pub told_picked : (vs : List (Option Bits)) (cs : List (Bor Column)) (ps : List (Option (ℕ × ℕ))) → AreValidities vs (columns_of cs) → All (λ c. type_of c.now ≢ of_null) cs → All (PickFits (rows_of cs)) ps →
     bits_found vs ps ≡ validities (pick Null (rows_of cs) ps)
 told_picked vs cs [] told known fits = refl
 told_picked vs cs (None ∷ ps) told known fits = ap (λ l. false ∷ l) (told_picked vs cs ps told known (λ k d h. fits (suc k) d (omega (arith, h))))
@@ -116,7 +116,7 @@ told_picked vs cs (Some p ∷ ps) told known fits =
     let rest = told_picked vs cs ps told known (λ k d h. fits (suc k) d (omega (arith, h))) in
     (λ i. here i ∷ rest i)
 
-told_bit : (vs : List (Option Bits)) (cs : List (Bor Column)) (s i : ℕ) → TellNulls vs (columns_of cs) → All (λ c. type_of c.now ≢ of_null) cs → i < length (get_or (rows_of cs) s []) →
+told_bit : (vs : List (Option Bits)) (cs : List (Bor Column)) (s i : ℕ) → AreValidities vs (columns_of cs) → All (λ c. type_of c.now ≢ of_null) cs → i < length (get_or (rows_of cs) s []) →
     (s < length vs) × ForSome (get_or vs s None) (λ b. i < length b.bits)
 told_bit vs [] s i told known h = absurd (omega (arith, h))
 told_bit [] (c ∷ cs) s i told known h = absurd told
@@ -125,18 +125,18 @@ told_bit (v ∷ vs) (c ∷ cs) (suc s) i told known h =
     let rest = told_bit vs cs s i told.1 (λ k d below. known (suc k) d (omega (arith, below))) h in
     (omega (arith, rest.0), rest.1)
 
--- picks of rows name bits of these validities
-pub told_fits : (vs : List (Option Bits)) (cs : List (Bor Column)) (ps : List (Option (ℕ × ℕ))) → TellNulls vs (columns_of cs) → All (λ c. type_of c.now ≢ of_null) cs → All (PickFits (rows_of cs)) ps → All (HasBit vs) ps
+-- Row references that fit the rows refer to bits of these validities.
+pub told_fits : (vs : List (Option Bits)) (cs : List (Bor Column)) (ps : List (Option (ℕ × ℕ))) → AreValidities vs (columns_of cs) → All (λ c. type_of c.now ≢ of_null) cs → All (PickFits (rows_of cs)) ps → All (HasBit vs) ps
 told_fits vs cs [] told known fits k d h = absurd (omega (arith, h))
 told_fits vs cs (None ∷ ps) told known fits zero d h = tt
 told_fits vs cs (Some p ∷ ps) told known fits zero d h = told_bit vs cs p.0 p.1 told known (fits 0 d (omega arith))
 told_fits vs cs (p ∷ ps) told known fits (suc k) d h = told_fits vs cs ps told known (λ j e below. fits (suc j) e (omega (arith, below))) k d (omega (arith, h))
 
--- one validity more
-pub told_more : (vs new : List (Option Bits)) (cs : List Column) (v : Option Bits) (c : Column) → TellNulls vs cs → TellsNulls (type_of c) v (rows c) → new ≡ vs ++ v ∷ [] → TellNulls new (cs ++ c ∷ [])
-told_more vs new cs v c told here is = subst (λ l. TellNulls l (cs ++ c ∷ [])) (sym is) (behind vs cs told)
+-- One more validity.
+pub told_more : (vs new : List (Option Bits)) (cs : List Column) (v : Option Bits) (c : Column) → AreValidities vs cs → IsValidityOf (type_of c) v (rows c) → new ≡ vs ++ v ∷ [] → AreValidities new (cs ++ c ∷ [])
+told_more vs new cs v c told here is = subst (λ l. AreValidities l (cs ++ c ∷ [])) (sym is) (behind vs cs told)
   where
-    behind : (vs : List (Option Bits)) (cs : List Column) → TellNulls vs cs → TellNulls (vs ++ v ∷ []) (cs ++ c ∷ [])
+    behind : (vs : List (Option Bits)) (cs : List Column) → AreValidities vs cs → AreValidities (vs ++ v ∷ []) (cs ++ c ∷ [])
     behind [] [] told = (here, tt)
     behind [] (d ∷ cs) told = absurd told
     behind (w ∷ vs) [] told = absurd told
@@ -148,7 +148,7 @@ pub first_is : (s : Shape) (xs : List (Bor Column)) → 0 < length xs → All (�
 first_is s [] some all = absurd (omega (arith, some))
 first_is s (x ∷ xs) some all = all 0 x (omega arith)
 
--- ---- the children of columns of lists
+-- ---- the children of list columns
 
 pub lists_known : (s : Shape) (cs : List (Bor Column)) → All (λ c. type_of c.now ≡ of_large_list s) cs → All (λ c. type_of c.now ≢ of_null) cs
 lists_known s cs alike k d h none = let bad : of_large_list s ≡ of_null = sym (alike k d h) ∙ none in absurd cc

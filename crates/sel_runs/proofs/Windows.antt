@@ -14,7 +14,7 @@ pub repeated_more : {A : Type 0} (old so_far new : List A) (i : ℕ) (x : A) →
 repeated_more old so_far new i x e f =
     f ∙ ap (λ l. l ++ x ∷ []) e ∙ append_assoc old (replicate i x) (x ∷ []) ∙ ap (λ l. old ++ l) (replicate-append-replicate i 1 x)
 
--- bits of which none is false
+-- Bits without a false one.
 pub all_true : (bits : List Bool) (n : ℕ) → length bits ≡ n → count_by not bits ≡ 0 → replicate n true ≡ bits
 all_true [] zero long none = refl
 all_true [] (suc n) long none = absurd (omega (arith, long))
@@ -23,14 +23,14 @@ all_true (true ∷ bits) (suc n) long none =
     ap (λ l. true ∷ l) (all_true bits n (omega (arith, long)) (omega (arith, none, sum_by-cons (λ b. cond (not b) 1 0) true bits)))
 all_true (false ∷ bits) (suc n) long none = absurd (omega (arith, none, sum_by-cons (λ b. cond (not b) 1 0) false bits))
 
--- a list that was resized to k more entries
+-- A list that is resized to k more entries.
 pub resized : {A : Type 0} (xs ys : List A) (m l k : ℕ) (x : A) → ys ≡ take m xs ++ replicate (m - l) x → length xs ≡ l → m ≡ l + k → ys ≡ xs ++ replicate k x
 resized xs ys m l k x is long grown =
     let rest : m - l ≡ k = omega arith in
     let all : length xs ≤ m = omega arith in
     rw (is, rest, take_all m xs all) refl
 
--- the first of more entries that were put behind a list, the rest of them cut off again
+-- The first of the appended entries, after the others are truncated.
 pub cut_behind : {A : Type 0} (xs ys zs all : List A) (n len before : ℕ) → all ≡ xs ++ take n ys → zs ≡ take (before + len) all → before ≡ length xs → len ≤ n → zs ≡ xs ++ take len ys
 cut_behind xs ys zs all n len before more is long few =
     is ∙ ap (take (before + len)) more ∙ ap (λ k. take (k + len) (xs ++ take n ys)) long ∙ take-append-add xs (take n ys) len ∙ ap (λ l. xs ++ l) (take-take len n ys few)

@@ -1,4 +1,4 @@
--- Columns below others, and what rows hold of theirs.
+-- The children of columns, and the values of nested rows.
 use Rattle.std.specs.Prelude.{ℕ, List, [], ◌∷◌, map, Bool, true, false, replicate, slice_index_or}
 use Rattle.std.specs.List.{flat_map, range_with_len}
 use Rattle.sel_arrow.specs.Shape.{Shape, of_large_list, of_fixed_size_list}
@@ -6,46 +6,48 @@ use Rattle.sel_arrow.specs.Value.{Value, Null, Items, Tuple, listed}
 use Rattle.sel_arrow.specs.declared.column.Column.{Column, Row_of-Column, end_of-Column, more_of-Column}
 use Rattle.sel_arrow.specs.declared.column.Column.TheVariants.{LargeList', FixedSizeList', Struct'}
 
--- whether a type is one of lists (Arrow columnar format: list layouts)
+-- Whether the type is lists with offsets or fixed-size lists (Arrow columnar format: list layouts).
 abbrev pub is_listing : Shape → Bool
 is_listing (of_large_list s) = true
 is_listing (of_fixed_size_list s width) = true
 is_listing s = false
 
--- the child of a column of lists; of another, the column itself (Arrow columnar format: list layouts)
+-- The child of a list column; any other column itself (Arrow columnar format: list layouts).
 abbrev pub child : Column → Column
 child (LargeList' offsets p values validity) = values
 child (FixedSizeList' size len p values validity) = values
 child column = column
 
--- columns, as a list of them (own)
+-- Columns as a list.
 abbrev pub columns_in : {n : _} → Row_of-Column n → List Column
 columns_in end_of-Column = []
 columns_in (more_of-Column column columns) = column ∷ columns_in columns
 
--- the fields of a column of tuples, in their order; of another, none (Arrow columnar format: struct layout)
+-- The fields of a struct column, in order; none for any other column (Arrow columnar format: struct
+-- layout).
 abbrev pub fields_of : Column → List Column
 fields_of (Struct' len n fields validity) = columns_in fields
 fields_of column = []
 
--- field j; where there is none, the column itself (own)
+-- Field j of a column; the column itself if there is no such field.
 abbrev pub field : ℕ → Column → Column
 field j column = slice_index_or (fields_of column) j column
 
--- the values in a list; so many nulls where it is null (Arrow columnar format: a null row of a fixed-size list has `width` rows below it)
+-- The values in a list; `width` nulls for any other value, such as null (Arrow columnar format: a
+-- null row of a fixed-size list has `width` child rows).
 abbrev pub items_in : ℕ → Value → List Value
 items_in width (Items values) = listed values
 items_in width value = replicate width Null
 
--- the values in all lists, behind one another (own)
+-- The values in all lists, concatenated.
 abbrev pub joined_items : ℕ → List Value → List Value
 joined_items width rows = flat_map (items_in width) rows
 
--- part j of a tuple; null where it is null (Arrow columnar format: struct layout)
+-- Value j of a struct value; null if there is none (Arrow columnar format: struct layout).
 abbrev pub part_at : ℕ → Value → Value
 part_at j (Tuple values) = slice_index_or (listed values) j Null
 part_at j value = Null
 
--- the parts of tuples, place by place (own)
+-- The first n values of struct values, field by field.
 abbrev pub parts_of : ℕ → List Value → List (List Value)
 parts_of n rows = map (λ j. map (part_at j) rows) (range_with_len 0 n)

@@ -1,4 +1,4 @@
--- What rows need, and which refusals there are.
+-- The limits that rows can exceed, and the errors for them.
 use Rattle.std.specs.Prelude.{ℕ, ◌+◌, ◌<◌, ℤ, pos, ◌<ℤ◌, ⊤, ◌⊎◌, List, [], ◌∷◌, length, map}
 use Rattle.sel_bits.specs.declared.faults.Limit.{Limit}
 use Rattle.sel_bits.specs.declared.faults.Limit.TheVariants.{Rows as RowLimit, Bytes as ByteLimit, Buffers as BufferLimit}
@@ -10,85 +10,96 @@ use Rattle.sel_arrow.specs.declared.column.Column.{Column}
 use Rattle.sel_runs.specs.Children.{child, field, joined_items, part_at}
 use Rattle.sel_arrow.specs.declared.column.Column.TheVariants.{BinaryView, Utf8View}
 
--- how many bytes a row has; none where it is null (own)
+-- The number of bytes of a binary or string row; 0 for any other value, such as null.
 abbrev pub byte_count : Value → ℕ
 byte_count (Bytes bytes) = length bytes
 byte_count _ = 0
 
--- how many bytes the rows that are not null have together (own: what a column of bytes needs)
+-- The number of bytes of all rows, which a binary column needs for them.
 abbrev pub bytes_needed : List Value → ℕ
 bytes_needed [] = 0
 bytes_needed (row ∷ rows) = byte_count row + bytes_needed rows
 
--- want of memory, or a limit that is passed (own)
-abbrev pub IsRefusal : (Limit → Type 0) → PolarsError → Type 0
-IsRefusal past OutOfMemory = ⊤
-IsRefusal past (SizeLimit limit) = past limit
-IsRefusal past ComputeError = ⊥
+-- The error is out of memory or an exceeded limit.
+abbrev pub IsLimitOrMemory : (Limit → Type 0) → PolarsError → Type 0
+IsLimitOrMemory exceeded_limits OutOfMemory = ⊤
+IsLimitOrMemory exceeded_limits (SizeLimit limit) = exceeded_limits limit
+IsLimitOrMemory exceeded_limits ComputeError = ⊥
 
--- no limit is passed (own)
-abbrev pub PassesNone : (Limit → Type 0) → Type 0
-PassesNone past = (limit : Limit) → ¬ past limit
+-- No limit is exceeded.
+abbrev pub ExceedsNone : (Limit → Type 0) → Type 0
+ExceedsNone exceeded_limits = (limit : Limit) → ¬ exceeded_limits limit
 
--- the one limit that rows of bytes can pass: they need more bytes than the greatest offset shows (own)
-abbrev pub IsPastBytes : ℤ → List Value → Limit → Type 0
-IsPastBytes greatest rows ByteLimit = greatest <ℤ pos (bytes_needed rows)
-IsPastBytes greatest rows _ = ⊥
+-- The only limit that binary rows can exceed: they need more bytes than the greatest offset.
+abbrev pub ExceedsBytes : ℤ → List Value → Limit → Type 0
+ExceedsBytes greatest rows ByteLimit = greatest <ℤ pos (bytes_needed rows)
+ExceedsBytes greatest rows _ = ⊥
 
--- how many data buffers a column has (Arrow columnar format: variable-size binary view layout)
+-- The number of data buffers of a view column; 0 for any other column (Arrow columnar format:
+-- variable-size binary view layout).
 abbrev pub buffer_count : Column → ℕ
 buffer_count (BinaryView column) = length column.buffers
 buffer_count (Utf8View column) = length column.bytes.buffers
 buffer_count column = 0
 
--- how many all columns have together (own)
+-- The number of data buffers of all columns together.
 abbrev pub buffers_joined : List Column → ℕ
 buffers_joined [] = 0
 buffers_joined (column ∷ columns) = buffer_count column + buffers_joined columns
 
--- the one limit that joined data buffers can pass: there are more than a column may have (own)
-abbrev pub IsPastBuffers : ℕ → Limit → Type 0
-IsPastBuffers count BufferLimit = 4294967295 < count
-IsPastBuffers count _ = ⊥
+-- The only limit that data buffers can exceed: there are more of them than a column can have.
+abbrev pub ExceedsBuffers : ℕ → Limit → Type 0
+ExceedsBuffers count BufferLimit = 4294967295 < count
+ExceedsBuffers count _ = ⊥
 
--- the one limit that so many rows can pass: they are more than a column may have (own)
-abbrev pub IsPastRows : ℕ → Limit → Type 0
-IsPastRows count RowLimit = 4294967295 < count
-IsPastRows count _ = ⊥
-
-abbrev mutual
-  -- Which limits the rows that are asked for pass, in a column of this type: those of the rows themselves and those of
-  -- what they need of the columns below. A null list needs no row below it, a null list of one length as many as its
-  -- length, a null tuple one of each field. (own)
-  pub past : Shape → List Value → Limit → Type 0
-  past of_large_binary rows limit = IsPastBytes (pos 9223372036854775807) rows limit
-  past (of_large_list s) rows limit = IsPastRows (length (joined_items 0 rows)) limit ⊎ past s (joined_items 0 rows) limit
-  past (of_fixed_size_list s width) rows limit = IsPastRows (length (joined_items width rows)) limit ⊎ past s (joined_items width rows) limit
-  past (of_struct ss) rows limit = past_parts ss 0 rows limit
-  past s rows limit = ⊥
-
-  -- the same of the parts of tuples, from place j on (own)
-  pub past_parts : Shapes → ℕ → List Value → Limit → Type 0
-  past_parts no_shapes j rows limit = ⊥
-  past_parts (next_shape s ss) j rows limit = past s (map (part_at j) rows) limit ⊎ past_parts ss (j + 1) rows limit
+-- The only limit that rows can exceed by their number: there are more of them than a column can
+-- have.
+abbrev pub ExceedsRows : ℕ → Limit → Type 0
+ExceedsRows count RowLimit = 4294967295 < count
+ExceedsRows count _ = ⊥
 
 abbrev mutual
-  -- Which limits rows pass that are taken of columns of this type: those of the rows themselves and those of what they
-  -- need of the columns below. A null list needs no row below it, a null list of one length as many as its length, a
-  -- null tuple one of each field. (own)
-  pub past_taken : Shape → List Column → List Value → Limit → Type 0
-  past_taken of_large_binary columns rows limit = IsPastBytes (pos 9223372036854775807) rows limit
-  past_taken of_binary_view columns rows limit = IsPastBuffers (buffers_joined columns) limit
-  past_taken of_utf8_view columns rows limit = IsPastBuffers (buffers_joined columns) limit
-  past_taken (of_large_list s) columns rows limit =
-      IsPastRows (length (joined_items 0 rows)) limit ⊎ past_taken s (map child columns) (joined_items 0 rows) limit
-  past_taken (of_fixed_size_list s width) columns rows limit =
-      IsPastRows (length (joined_items width rows)) limit ⊎ past_taken s (map child columns) (joined_items width rows) limit
-  past_taken (of_struct ss) columns rows limit = past_fields ss 0 columns rows limit
-  past_taken s columns rows limit = ⊥
+  -- The limits that rows exceed in a column of this type: their own limits, and those of their
+  -- values in child columns. A null list needs no child rows, a null fixed-size list as many as its
+  -- list size, and a null struct row one row of each field. The limit of data buffers is not
+  -- included.
+  pub exceeded_limits : Shape → List Value → Limit → Type 0
+  exceeded_limits of_large_binary rows limit = ExceedsBytes (pos 9223372036854775807) rows limit
+  exceeded_limits (of_large_list s) rows limit =
+      ExceedsRows (length (joined_items 0 rows)) limit ⊎ exceeded_limits s (joined_items 0 rows) limit
+  exceeded_limits (of_fixed_size_list s width) rows limit =
+      ExceedsRows (length (joined_items width rows)) limit
+      ⊎ exceeded_limits s (joined_items width rows) limit
+  exceeded_limits (of_struct ss) rows limit = exceeded_in_parts ss 0 rows limit
+  exceeded_limits s rows limit = ⊥
 
-  -- the same of the fields from place j on (own)
-  pub past_fields : Shapes → ℕ → List Column → List Value → Limit → Type 0
-  past_fields no_shapes j columns rows limit = ⊥
-  past_fields (next_shape s ss) j columns rows limit =
-      past_taken s (map (field j) columns) (map (part_at j) rows) limit ⊎ past_fields ss (j + 1) columns rows limit
+  -- The same for the fields of struct values, from field j on.
+  pub exceeded_in_parts : Shapes → ℕ → List Value → Limit → Type 0
+  exceeded_in_parts no_shapes j rows limit = ⊥
+  exceeded_in_parts (next_shape s ss) j rows limit =
+      exceeded_limits s (map (part_at j) rows) limit ⊎ exceeded_in_parts ss (j + 1) rows limit
+
+abbrev mutual
+  -- The limits that rows exceed if they are gathered from columns of this type: their own limits,
+  -- those of their values in child columns, and the limit of data buffers. A null list needs no
+  -- child rows, a null fixed-size list as many as its list size, and a null struct row one row of
+  -- each field.
+  pub exceeded_taken : Shape → List Column → List Value → Limit → Type 0
+  exceeded_taken of_large_binary columns rows limit = ExceedsBytes (pos 9223372036854775807) rows limit
+  exceeded_taken of_binary_view columns rows limit = ExceedsBuffers (buffers_joined columns) limit
+  exceeded_taken of_utf8_view columns rows limit = ExceedsBuffers (buffers_joined columns) limit
+  exceeded_taken (of_large_list s) columns rows limit =
+      ExceedsRows (length (joined_items 0 rows)) limit
+      ⊎ exceeded_taken s (map child columns) (joined_items 0 rows) limit
+  exceeded_taken (of_fixed_size_list s width) columns rows limit =
+      ExceedsRows (length (joined_items width rows)) limit
+      ⊎ exceeded_taken s (map child columns) (joined_items width rows) limit
+  exceeded_taken (of_struct ss) columns rows limit = exceeded_in_fields ss 0 columns rows limit
+  exceeded_taken s columns rows limit = ⊥
+
+  -- The same for the fields, from field j on.
+  pub exceeded_in_fields : Shapes → ℕ → List Column → List Value → Limit → Type 0
+  exceeded_in_fields no_shapes j columns rows limit = ⊥
+  exceeded_in_fields (next_shape s ss) j columns rows limit =
+      exceeded_taken s (map (field j) columns) (map (part_at j) rows) limit
+      ⊎ exceeded_in_fields ss (j + 1) columns rows limit

@@ -1,4 +1,4 @@
--- The rows of one run, as the steps of a copy speak of them.
+-- The rows that one run refers to.
 use Rattle.std.specs.Prelude.{List}
 use Rattle.std.specs.Borrow.{Bor}
 use Rattle.sel_bits.specs.declared.native.NativeType.{Ghosts}
@@ -10,10 +10,11 @@ use Rattle.sel_runs.specs.Runs.{unrolled}
 use Rattle.sel_runs.specs.declared.run.Run.{Run}
 use Rattle.sel_runs.specs.Sources.{rows_of, binaries}
 
--- the rows of one run (own)
+-- The rows that a run refers to; null if it has no source.
 abbrev pub run_rows : List (Bor Column) → Run → List Value
 run_rows sources run = pick Null (rows_of sources) (unrolled run)
 
--- the rows of one run (own)
-abbrev pub run_bytes : {O : Type 0} {type : Ghosts O} → List (Bor (BinaryArray O type)) → Run → List Value
+-- The same for binary columns.
+abbrev pub run_bytes : {O : Type 0} {type : Ghosts O}
+    → List (Bor (BinaryArray O type)) → Run → List Value
 run_bytes sources run = pick Null (binaries sources) (unrolled run)

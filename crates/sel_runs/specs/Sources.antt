@@ -1,4 +1,4 @@
--- What the columns that rows are taken from are, and the rows that are taken of them.
+-- The source columns of gathered rows, and the rows gathered from them.
 use Rattle.std.specs.Prelude.{List, [], ◌∷◌, map}
 use Rattle.std.specs.Borrow.{Bor}
 use Rattle.sel_bits.specs.declared.native.NativeType.{Ghosts}
@@ -14,35 +14,37 @@ use Rattle.sel_runs.specs.Picks.{pick}
 use Rattle.sel_runs.specs.Runs.{expand}
 use Rattle.sel_runs.specs.declared.run.Run.{Run}
 
--- the type of the first column, that of nulls where there is none (own)
+-- The type of the first column; the type of null columns if there is no column.
 abbrev pub first_type : List Column → Shape
 first_type [] = of_null
 first_type (column ∷ columns) = type_of column
 
--- the columns that are lent (own)
+-- The columns that references point to.
 abbrev pub columns_of : List (Bor Column) → List Column
 columns_of sources = map (λ c. c.now) sources
 
--- the rows of each of them (own)
+-- The rows of each column.
 abbrev pub rows_of : List (Bor Column) → List (List Value)
 rows_of sources = map (λ c. rows c.now) sources
 
--- the rows of each one's child (own)
+-- The rows of the child of each column.
 abbrev pub child_rows : List (Bor Column) → List (List Value)
 child_rows sources = map (λ c. rows (child c.now)) sources
 
--- the rows that runs pick of them, null where a run has no source (own)
+-- The rows that runs refer to; null for a run without a source.
 abbrev pub picked : List (Bor Column) → List Run → List Value
 picked sources runs = pick Null (rows_of sources) (expand runs)
 
--- the rows of each column of bytes (own)
-abbrev pub binaries : {O : Type 0} {type : Ghosts O} → List (Bor (BinaryArray O type)) → List (List Value)
+-- The rows of each binary column.
+abbrev pub binaries : {O : Type 0} {type : Ghosts O}
+    → List (Bor (BinaryArray O type)) → List (List Value)
 binaries sources = map (λ s. binary_rows s.now) sources
 
--- the rows that runs pick of them, null where a run has no source (own)
-abbrev pub picked_bytes : {O : Type 0} {type : Ghosts O} → List (Bor (BinaryArray O type)) → List Run → List Value
+-- The rows of binary columns that runs refer to; null for a run without a source.
+abbrev pub picked_bytes : {O : Type 0} {type : Ghosts O}
+    → List (Bor (BinaryArray O type)) → List Run → List Value
 picked_bytes sources runs = pick Null (binaries sources) (expand runs)
 
--- the rows of each column of views (own)
+-- The rows of each view column.
 abbrev pub binviews : List (Bor BinaryViewArray) → List (List Value)
 binviews sources = map (λ s. binview_rows s.now) sources

@@ -6,7 +6,7 @@ ghost use Rattle.sel_arrow.specs.Value.{Null, validities};
 ghost use Rattle.sel_runs.specs.Cleared.{IsLive};
 ghost use Rattle.sel_runs.specs.JoinedBytes.{ends_from};
 ghost use Rattle.sel_runs.specs.GrownBytes.{joined_bytes, GrewBy};
-ghost use Rattle.sel_runs.specs.Need.{IsPastBytes, IsRefusal, PassesNone, bytes_needed};
+ghost use Rattle.sel_runs.specs.Need.{ExceedsBytes, IsLimitOrMemory, ExceedsNone, bytes_needed};
 ghost use Rattle.sel_runs.specs.Picks.{pick, PickFits};
 ghost use Rattle.sel_runs.specs.Runs.{expand, unrolled};
 ghost use Rattle.sel_runs.specs.Sources.{binaries, picked_bytes};
@@ -53,10 +53,10 @@ pub fn collect_binary<'a>(
     requires len { length (expand runs.now) ≡ len }
     requires few { len ≤ 4294967295 }
     ensures rows { IfOk result (λ array. binary_rows array ≡ picked_bytes sources.now runs.now) }
-    ensures within { IfOk result (λ _. PassesNone
-        (IsPastBytes (pos 9223372036854775807) (picked_bytes sources.now runs.now))) }
-    ensures refusal { IfErr result (IsRefusal
-        (IsPastBytes (pos 9223372036854775807) (picked_bytes sources.now runs.now))) }
+    ensures within { IfOk result (λ _. ExceedsNone
+        (ExceedsBytes (pos 9223372036854775807) (picked_bytes sources.now runs.now))) }
+    ensures refusal { IfErr result (IsLimitOrMemory
+        (ExceedsBytes (pos 9223372036854775807) (picked_bytes sources.now runs.now))) }
 {
     let need = count_bytes(sources, runs);
     if need > i64::MAX as u128 {

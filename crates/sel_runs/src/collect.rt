@@ -5,7 +5,7 @@ ghost use Rattle.sel_arrow.specs.Rows.{rows, type_of, IsField, IsWellFormed};
 ghost use Rattle.sel_arrow.specs.Shape.{of_large_binary, of_binary_view, of_utf8_view, of_large_list, of_fixed_size_list, of_struct, shapes_of};
 ghost use Rattle.sel_arrow.specs.Value.{Null};
 ghost use Rattle.sel_runs.specs.Children.{child, is_listing, joined_items, parts_of};
-ghost use Rattle.sel_runs.specs.Need.{IsPastBuffers, IsPastBytes, IsRefusal, PassesNone, buffers_joined, past_fields, past_taken};
+ghost use Rattle.sel_runs.specs.Need.{ExceedsBuffers, ExceedsBytes, IsLimitOrMemory, ExceedsNone, buffers_joined, exceeded_in_fields, exceeded_taken};
 ghost use Rattle.sel_runs.specs.Picks.{pick, PickFits};
 ghost use Rattle.sel_runs.specs.Runs.{expand};
 ghost use Rattle.sel_runs.specs.Sources.{columns_of, first_type, picked, rows_of};
@@ -14,7 +14,7 @@ use crate::binary::collect_binary;
 use crate::boolean::collect_boolean;
 use crate::kinds::{binaries_of, texts_of, views_of};
 use crate::lists::{child_runs, children_of, count_items};
-use crate::nested::{blocks_over, lists_over, tuples_over};
+use crate::nested::{blocks_over, lists_over, struct_over};
 use crate::null::collect_null;
 use crate::plan::Listed;
 use crate::planned::collect_plan;
@@ -57,9 +57,11 @@ pub fn collect_rows<'a>(
         pick Null (rows_of sources.now) picks.now) }
     ensures dtype { IfOk result (λ array. type_of array.column ≡
         first_type (columns_of sources.now)) }
-    ensures within { IfOk result (λ _. PassesNone (past_taken (first_type (columns_of sources.now))
+    ensures within { IfOk result
+        (λ _. ExceedsNone (exceeded_taken (first_type (columns_of sources.now))
         (columns_of sources.now) (pick Null (rows_of sources.now) picks.now))) }
-    ensures refusal { IfErr result (IsRefusal (past_taken (first_type (columns_of sources.now))
+    ensures refusal { IfErr result
+        (IsLimitOrMemory (exceeded_taken (first_type (columns_of sources.now))
         (columns_of sources.now) (pick Null (rows_of sources.now) picks.now))) }
 {
     let column = collect_plan(alloc, sources, &Listed { picks }, false)?;
@@ -90,11 +92,14 @@ pub fn collect_runs<'a>(
     requires len { length (expand runs.now) ≡ len }
     requires few { len ≤ 4294967295 }
     ensures rows { IfOk result (λ column. rows column ≡ picked sources.now runs.now) }
-    ensures dtype { IfOk result (λ column. type_of column ≡ first_type (columns_of sources.now)) }
+    ensures dtype { IfOk result (λ column. type_of column ≡
+        first_type (columns_of sources.now)) }
     ensures formed { IfOk result (λ column. IsWellFormed column) }
-    ensures within { IfOk result (λ _. PassesNone (past_taken (first_type (columns_of sources.now))
+    ensures within { IfOk result
+        (λ _. ExceedsNone (exceeded_taken (first_type (columns_of sources.now))
         (columns_of sources.now) (picked sources.now runs.now))) }
-    ensures refusal { IfErr result (IsRefusal (past_taken (first_type (columns_of sources.now))
+    ensures refusal { IfErr result
+        (IsLimitOrMemory (exceeded_taken (first_type (columns_of sources.now))
         (columns_of sources.now) (picked sources.now runs.now))) }
 {
     let first: &Column = sources[0];
@@ -119,10 +124,12 @@ fn collect_like<'a>(
     ensures rows { IfOk result (λ column. rows column ≡ picked sources.now runs.now) }
     ensures dtype { IfOk result (λ column. type_of column ≡ type_of first.now) }
     ensures formed { IfOk result (λ column. IsWellFormed column) }
-    ensures within { IfOk result (λ _. PassesNone
-        (past_taken (type_of first.now) (columns_of sources.now) (picked sources.now runs.now))) }
-    ensures refusal { IfErr result (IsRefusal
-        (past_taken (type_of first.now) (columns_of sources.now) (picked sources.now runs.now))) }
+    ensures within { IfOk result
+        (λ _. ExceedsNone (exceeded_taken (type_of first.now) (columns_of sources.now)
+        (picked sources.now runs.now))) }
+    ensures refusal { IfErr result
+        (IsLimitOrMemory (exceeded_taken (type_of first.now) (columns_of sources.now)
+        (picked sources.now runs.now))) }
 {
     match first {
         Column::Null(_) => Ok(collect_null(sources, runs, len)),
@@ -144,7 +151,7 @@ fn collect_like<'a>(
         Column::FixedSizeList { size, values, .. } => {
             collect_blocks(alloc, *size, values, sources, runs, len)
         }
-        Column::Struct { fields, .. } => collect_tuples(alloc, fields, sources, runs, len),
+        Column::Struct { fields, .. } => collect_structs(alloc, fields, sources, runs, len),
     }
 }
 
@@ -166,9 +173,11 @@ fn collect_lists<'a>(
     ensures rows { IfOk result (λ column. rows column ≡ picked sources.now runs.now) }
     ensures dtype { IfOk result (λ column. type_of column ≡ of_large_list (type_of child.now)) }
     ensures formed { IfOk result (λ column. IsWellFormed column) }
-    ensures within { IfOk result (λ _. PassesNone (past_taken (of_large_list (type_of child.now))
+    ensures within { IfOk result
+        (λ _. ExceedsNone (exceeded_taken (of_large_list (type_of child.now))
         (columns_of sources.now) (picked sources.now runs.now))) }
-    ensures refusal { IfErr result (IsRefusal (past_taken (of_large_list (type_of child.now))
+    ensures refusal { IfErr result
+        (IsLimitOrMemory (exceeded_taken (of_large_list (type_of child.now))
         (columns_of sources.now) (picked sources.now runs.now))) }
 {
     let need = count_items(sources, runs, 0);
@@ -202,9 +211,9 @@ fn collect_blocks<'a>(
     ensures dtype { IfOk result (λ column. type_of column ≡
         of_fixed_size_list (type_of child.now) size) }
     ensures formed { IfOk result (λ column. IsWellFormed column) }
-    ensures within { IfOk result (λ _. PassesNone (past_taken (of_fixed_size_list
+    ensures within { IfOk result (λ _. ExceedsNone (exceeded_taken (of_fixed_size_list
         (type_of child.now) size) (columns_of sources.now) (picked sources.now runs.now))) }
-    ensures refusal { IfErr result (IsRefusal (past_taken (of_fixed_size_list
+    ensures refusal { IfErr result (IsLimitOrMemory (exceeded_taken (of_fixed_size_list
         (type_of child.now) size) (columns_of sources.now) (picked sources.now runs.now))) }
 {
     let need = count_items(sources, runs, size as u32);
@@ -240,9 +249,9 @@ fn collect_items<'a>(
         joined_items width (picked sources.now runs.now)) }
     ensures dtype { IfOk result (λ column. type_of column ≡ type_of first.now) }
     ensures formed { IfOk result (λ column. IsWellFormed column) }
-    ensures within { IfOk result (λ _. PassesNone (past_taken (type_of first.now)
+    ensures within { IfOk result (λ _. ExceedsNone (exceeded_taken (type_of first.now)
         (map (λ c. child c.now) sources.now) (joined_items width (picked sources.now runs.now)))) }
-    ensures refusal { IfErr result (IsRefusal (past_taken (type_of first.now)
+    ensures refusal { IfErr result (IsLimitOrMemory (exceeded_taken (type_of first.now)
         (map (λ c. child c.now) sources.now) (joined_items width (picked sources.now runs.now)))) }
 {
     if let Column::Null(_) = first {
@@ -256,7 +265,7 @@ fn collect_items<'a>(
 
 // Returns the struct rows that runs refer to; `firsts` have the types of their fields.
 #[cycle(collecting)]
-fn collect_tuples<'a>(
+fn collect_structs<'a>(
     alloc: Global,
     firsts: &[Column],
     sources: &'a [&'a Column],
@@ -274,13 +283,13 @@ fn collect_tuples<'a>(
     ensures dtype { IfOk result (λ column. type_of column ≡
         of_struct (shapes_of (map type_of firsts.now))) }
     ensures formed { IfOk result (λ column. IsWellFormed column) }
-    ensures within { IfOk result (λ _. PassesNone (past_taken (of_struct (shapes_of
+    ensures within { IfOk result (λ _. ExceedsNone (exceeded_taken (of_struct (shapes_of
         (map type_of firsts.now))) (columns_of sources.now) (picked sources.now runs.now))) }
-    ensures refusal { IfErr result (IsRefusal (past_taken (of_struct (shapes_of
+    ensures refusal { IfErr result (IsLimitOrMemory (exceeded_taken (of_struct (shapes_of
         (map type_of firsts.now))) (columns_of sources.now) (picked sources.now runs.now))) }
 {
     let fields = collect_fields(alloc, firsts, sources, runs, len)?;
-    let column = tuples_over(alloc, fields, sources, runs, len)?;
+    let column = struct_over(alloc, fields, sources, runs, len)?;
     Ok(column)
 }
 
@@ -304,10 +313,11 @@ fn collect_fields<'a>(
         parts_of (length firsts.now) (picked sources.now runs.now)) }
     ensures dtypes { IfOk result (λ fields. map type_of fields.items ≡ map type_of firsts.now) }
     ensures formed { IfOk result (λ fields. All (IsField len) fields.items) }
-    ensures within { IfOk result (λ _. PassesNone
-        (past_fields (shapes_of (map type_of firsts.now)) 0
+    ensures within { IfOk result (λ _. ExceedsNone
+        (exceeded_in_fields (shapes_of (map type_of firsts.now)) 0
         (columns_of sources.now) (picked sources.now runs.now))) }
-    ensures refusal { IfErr result (IsRefusal (past_fields (shapes_of (map type_of firsts.now)) 0
+    ensures refusal { IfErr result
+        (IsLimitOrMemory (exceeded_in_fields (shapes_of (map type_of firsts.now)) 0
         (columns_of sources.now) (picked sources.now runs.now))) }
 {
     let split = split_runs(alloc, sources, runs)?;
@@ -338,10 +348,10 @@ fn collect_large_binary<'a>(
     ensures rows { IfOk result (λ column. rows column ≡ picked sources.now runs.now) }
     ensures dtype { IfOk result (λ column. type_of column ≡ of_large_binary) }
     ensures formed { IfOk result (λ column. IsWellFormed column) }
-    ensures within { IfOk result (λ _. PassesNone
-        (IsPastBytes (pos 9223372036854775807) (picked sources.now runs.now))) }
-    ensures refusal { IfErr result (IsRefusal
-        (IsPastBytes (pos 9223372036854775807) (picked sources.now runs.now))) }
+    ensures within { IfOk result (λ _. ExceedsNone
+        (ExceedsBytes (pos 9223372036854775807) (picked sources.now runs.now))) }
+    ensures refusal { IfErr result (IsLimitOrMemory
+        (ExceedsBytes (pos 9223372036854775807) (picked sources.now runs.now))) }
 {
     let live = split_runs(alloc, sources, runs)?;
     let found = binaries_of(alloc, sources)?;
@@ -363,10 +373,10 @@ fn collect_binview<'a>(
     ensures rows { IfOk result (λ column. rows column ≡ picked sources.now runs.now) }
     ensures dtype { IfOk result (λ column. type_of column ≡ of_binary_view) }
     ensures formed { IfOk result (λ column. IsWellFormed column) }
-    ensures within { IfOk result (λ _. PassesNone
-        (IsPastBuffers (buffers_joined (columns_of sources.now)))) }
-    ensures refusal { IfErr result (IsRefusal
-        (IsPastBuffers (buffers_joined (columns_of sources.now)))) }
+    ensures within { IfOk result (λ _. ExceedsNone
+        (ExceedsBuffers (buffers_joined (columns_of sources.now)))) }
+    ensures refusal { IfErr result (IsLimitOrMemory
+        (ExceedsBuffers (buffers_joined (columns_of sources.now)))) }
 {
     let found = views_of(alloc, sources)?;
     let array = collect_views(alloc, &found, runs, len)?;
@@ -387,10 +397,10 @@ fn collect_utf8view<'a>(
     ensures rows { IfOk result (λ column. rows column ≡ picked sources.now runs.now) }
     ensures dtype { IfOk result (λ column. type_of column ≡ of_utf8_view) }
     ensures formed { IfOk result (λ column. IsWellFormed column) }
-    ensures within { IfOk result (λ _. PassesNone
-        (IsPastBuffers (buffers_joined (columns_of sources.now)))) }
-    ensures refusal { IfErr result (IsRefusal
-        (IsPastBuffers (buffers_joined (columns_of sources.now)))) }
+    ensures within { IfOk result (λ _. ExceedsNone
+        (ExceedsBuffers (buffers_joined (columns_of sources.now)))) }
+    ensures refusal { IfErr result (IsLimitOrMemory
+        (ExceedsBuffers (buffers_joined (columns_of sources.now)))) }
 {
     let found = texts_of(alloc, sources)?;
     let bytes = collect_views(alloc, &found, runs, len)?;

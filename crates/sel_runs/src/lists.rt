@@ -167,8 +167,8 @@ pub fn child_runs(
     requires formed { All (λ c. IsWellFormed c.now) sources.now }
     requires fits { All (PickFits (rows_of sources.now)) (expand runs.now) }
     requires room { length (joined_items width (picked sources.now runs.now)) ≤ 4294967295 }
-    ensures items { IfOk result (λ below. pick Null (child_rows sources.now) (expand below.items) ≡
-        joined_items width (picked sources.now runs.now)) }
+    ensures items { IfOk result (λ below. pick Null (child_rows sources.now)
+        (expand below.items) ≡ joined_items width (picked sources.now runs.now)) }
     ensures fits { IfOk result (λ below. All
         (PickFits (child_rows sources.now)) (expand below.items)) }
     ensures refusal { IfErr result (λ fault. fault ≡ PolarsError.OutOfMemory) }

@@ -147,7 +147,7 @@ pub fn blocks_over(
 ///
 /// # Errors
 /// `OutOfMemory` if an allocation fails.
-pub fn tuples_over(
+pub fn struct_over(
     alloc: Global,
     fields: Vec<Column>,
     sources: &[&Column],

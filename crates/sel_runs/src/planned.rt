@@ -7,7 +7,7 @@
 ghost use Rattle.std.specs.Prelude.{◌≡◌, ◌≤◌, ◌<◌, All, length, map, IfOk, IfErr};
 ghost use Rattle.sel_arrow.specs.Rows.{rows, type_of, IsWellFormed};
 ghost use Rattle.sel_arrow.specs.Value.{Null};
-ghost use Rattle.sel_runs.specs.Need.{IsRefusal, PassesNone, past_taken};
+ghost use Rattle.sel_runs.specs.Need.{IsLimitOrMemory, ExceedsNone, exceeded_taken};
 ghost use Rattle.sel_runs.specs.Picks.{pick, PickFits};
 ghost use Rattle.sel_runs.specs.Sources.{columns_of, first_type, rows_of};
 
@@ -45,11 +45,14 @@ pub fn collect_plan<'a, P: Plan>(
     requires fits { All (PickFits (rows_of sources.now)) (P.picks plan.now) }
     ensures rows { IfOk result (λ column. rows column ≡
         pick Null (rows_of sources.now) (P.picks plan.now)) }
-    ensures dtype { IfOk result (λ column. type_of column ≡ first_type (columns_of sources.now)) }
+    ensures dtype { IfOk result (λ column. type_of column ≡
+        first_type (columns_of sources.now)) }
     ensures formed { IfOk result (λ column. IsWellFormed column) }
-    ensures within { IfOk result (λ _. PassesNone (past_taken (first_type (columns_of sources.now))
+    ensures within { IfOk result
+        (λ _. ExceedsNone (exceeded_taken (first_type (columns_of sources.now))
         (columns_of sources.now) (pick Null (rows_of sources.now) (P.picks plan.now)))) }
-    ensures refusal { IfErr result (IsRefusal (past_taken (first_type (columns_of sources.now))
+    ensures refusal { IfErr result
+        (IsLimitOrMemory (exceeded_taken (first_type (columns_of sources.now))
         (columns_of sources.now) (pick Null (rows_of sources.now) (P.picks plan.now)))) }
 {
     if in_runs {
@@ -75,9 +78,9 @@ fn gather_like<'a, P: Plan>(
         pick Null (rows_of sources.now) (P.picks plan.now)) }
     ensures dtype { IfOk result (λ column. type_of column ≡ type_of first.now) }
     ensures formed { IfOk result (λ column. IsWellFormed column) }
-    ensures within { IfOk result (λ _. PassesNone (past_taken (type_of first.now)
+    ensures within { IfOk result (λ _. ExceedsNone (exceeded_taken (type_of first.now)
         (columns_of sources.now) (pick Null (rows_of sources.now) (P.picks plan.now)))) }
-    ensures refusal { IfErr result (IsRefusal (past_taken (type_of first.now)
+    ensures refusal { IfErr result (IsLimitOrMemory (exceeded_taken (type_of first.now)
         (columns_of sources.now) (pick Null (rows_of sources.now) (P.picks plan.now)))) }
 {
     match first {
@@ -109,11 +112,14 @@ fn collect_listed<'a, P: Plan>(
     requires fits { All (PickFits (rows_of sources.now)) (P.picks plan.now) }
     ensures rows { IfOk result (λ column. rows column ≡
         pick Null (rows_of sources.now) (P.picks plan.now)) }
-    ensures dtype { IfOk result (λ column. type_of column ≡ first_type (columns_of sources.now)) }
+    ensures dtype { IfOk result (λ column. type_of column ≡
+        first_type (columns_of sources.now)) }
     ensures formed { IfOk result (λ column. IsWellFormed column) }
-    ensures within { IfOk result (λ _. PassesNone (past_taken (first_type (columns_of sources.now))
+    ensures within { IfOk result
+        (λ _. ExceedsNone (exceeded_taken (first_type (columns_of sources.now))
         (columns_of sources.now) (pick Null (rows_of sources.now) (P.picks plan.now)))) }
-    ensures refusal { IfErr result (IsRefusal (past_taken (first_type (columns_of sources.now))
+    ensures refusal { IfErr result
+        (IsLimitOrMemory (exceeded_taken (first_type (columns_of sources.now))
         (columns_of sources.now) (pick Null (rows_of sources.now) (P.picks plan.now)))) }
 {
     let len = plan.len();

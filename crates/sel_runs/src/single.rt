@@ -3,7 +3,7 @@
 ghost use Rattle.std.specs.Prelude.{◌≡◌, ◌≤◌, ◌∷◌, [], All, length, IfOk, IfErr};
 ghost use Rattle.sel_arrow.specs.Rows.{rows, type_of, IsWellFormed};
 ghost use Rattle.sel_arrow.specs.Value.{Null};
-ghost use Rattle.sel_runs.specs.Need.{IsRefusal, PassesNone, past};
+ghost use Rattle.sel_runs.specs.Need.{IsLimitOrMemory, ExceedsNone, exceeded_limits};
 ghost use Rattle.sel_runs.specs.Picks.{pick, PickFits};
 ghost use Rattle.sel_runs.specs.Runs.{expand};
 
@@ -41,10 +41,12 @@ pub fn collect_one(
     ensures rows { IfOk result (λ array. rows array.column ≡
         pick Null (rows column.now ∷ []) (expand runs.now)) }
     ensures dtype { IfOk result (λ array. type_of array.column ≡ type_of column.now) }
-    ensures within { IfOk result (λ _. PassesNone
-        (past (type_of column.now) (pick Null (rows column.now ∷ []) (expand runs.now)))) }
-    ensures refusal { IfErr result (IsRefusal
-        (past (type_of column.now) (pick Null (rows column.now ∷ []) (expand runs.now)))) }
+    ensures within { IfOk result
+        (λ _. ExceedsNone (exceeded_limits (type_of column.now)
+        (pick Null (rows column.now ∷ []) (expand runs.now)))) }
+    ensures refusal { IfErr result
+        (IsLimitOrMemory (exceeded_limits (type_of column.now)
+        (pick Null (rows column.now ∷ []) (expand runs.now)))) }
 {
     let sources = [column];
     if let Column::LargeList { values, .. } = column {
@@ -70,10 +72,12 @@ pub fn collect_one_plan<P: Plan>(alloc: Global, column: &Column, plan: &P) -> Po
     ensures rows { IfOk result (λ array. rows array.column ≡
         pick Null (rows column.now ∷ []) (P.picks plan.now)) }
     ensures dtype { IfOk result (λ array. type_of array.column ≡ type_of column.now) }
-    ensures within { IfOk result (λ _. PassesNone
-        (past (type_of column.now) (pick Null (rows column.now ∷ []) (P.picks plan.now)))) }
-    ensures refusal { IfErr result (IsRefusal
-        (past (type_of column.now) (pick Null (rows column.now ∷ []) (P.picks plan.now)))) }
+    ensures within { IfOk result
+        (λ _. ExceedsNone (exceeded_limits (type_of column.now)
+        (pick Null (rows column.now ∷ []) (P.picks plan.now)))) }
+    ensures refusal { IfErr result
+        (IsLimitOrMemory (exceeded_limits (type_of column.now)
+        (pick Null (rows column.now ∷ []) (P.picks plan.now)))) }
 {
     let sources = [column];
     let column = collect_plan(alloc, &sources, plan, false)?;

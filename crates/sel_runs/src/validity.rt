@@ -7,7 +7,7 @@ ghost use Rattle.sel_arrow.specs.Rows.{rows, type_of, IsWellFormed};
 ghost use Rattle.sel_arrow.specs.Shape.{of_null};
 ghost use Rattle.sel_arrow.specs.Value.{Null, validities};
 ghost use Rattle.sel_runs.specs.Picks.{pick, PickFits};
-ghost use Rattle.sel_runs.specs.Plans.{TellNulls};
+ghost use Rattle.sel_runs.specs.Plans.{AreValidities};
 ghost use Rattle.sel_runs.specs.Runs.{expand, unrolled};
 ghost use Rattle.sel_runs.specs.Validity.{bits_for};
 ghost use Rattle.sel_runs.specs.Sources.{columns_of, picked, rows_of};
@@ -66,7 +66,7 @@ pub(crate) fn validities_of<'a>(
 ) -> PolarsResult<Vec<Option<&'a Bitmap>>>
     requires formed { All (λ c. IsWellFormed c.now) sources.now }
     ensures told { IfOk result (λ maps.
-        TellNulls (map option_copied maps.items) (columns_of sources.now)) }
+        AreValidities (map option_copied maps.items) (columns_of sources.now)) }
     ensures refusal { IfErr result (λ fault. fault ≡ PolarsError.OutOfMemory) }
 {
     let mut maps = Vec::with_capacity(alloc, sources.len())?;

@@ -8,7 +8,7 @@ ghost use Rattle.sel_arrow.specs.Masked.{hidden};
 ghost use Rattle.sel_arrow.specs.Value.{Null};
 ghost use Rattle.sel_arrow.specs.Views.{all_placed, view_value};
 ghost use Rattle.sel_runs.specs.Picks.{pick, PickFits};
-ghost use Rattle.sel_runs.specs.Raised.{raised, starts_of, IsRefusalAt};
+ghost use Rattle.sel_runs.specs.Raised.{raised, starts_of, IsBufferLimitOrMemory};
 ghost use Rattle.sel_runs.specs.Runs.{expand};
 ghost use Rattle.sel_runs.specs.Validity.{part_bits};
 ghost use Rattle.sel_runs.specs.Sources.{binviews};
@@ -34,13 +34,13 @@ const NO_BYTES: View = View {
 };
 
 /// The data buffers of the views under construction.
-trait Beneath {
+trait NullSlots {
     ghost use Rattle.std.specs.Prelude.{ℕ, List};
 
     ghost buffers: { List (List ℕ) };
 }
 
-impl Beneath for Brand {
+impl NullSlots for Brand {
     ghost use Rattle.std.specs.Prelude.{[]};
 
     ghost buffers = { [] };
@@ -48,7 +48,7 @@ impl Beneath for Brand {
 
 /// The views so far, over the data buffers of all sources, and one validity bit per view.
 #[derive(Drop)]
-struct GrowableViews<'a, B: Beneath> {
+struct GrowableViews<'a, B: NullSlots> {
     sources: &'a [&'a BinaryViewArray],
     starts: &'a [u32],
     views: Vec<View>,
@@ -61,7 +61,7 @@ struct GrowableViews<'a, B: Beneath> {
     ghost placed: { IsTrue (all_placed B.buffers views.items) },
 }
 
-impl<B: Beneath> Growable for GrowableViews<'_, B> {
+impl<B: NullSlots> Growable for GrowableViews<'_, B> {
     ghost sources = { λ g. map (λ s. binview_rows s.now) g.sources.now };
 
     ghost grown = { λ g. hidden g.validity (map (view_value B.buffers) g.views.items) };
@@ -211,7 +211,8 @@ fn starts_of_buffers(alloc: Global, sources: &[&BinaryViewArray]) -> PolarsResul
 
 // Returns the data buffers of all sources, in order. Errors: `OutOfMemory`.
 fn joined_buffers(alloc: Global, sources: &[&BinaryViewArray]) -> PolarsResult<Buffer<Buffer<u8>>>
-    ensures buffers { IfOk result (λ joined. joined ≡ flat_map (λ s. s.now.buffers) sources.now) }
+    ensures buffers { IfOk result (λ joined. joined ≡ flat_map (λ s. s.now.buffers)
+        sources.now) }
     ensures refusal { IfErr result (λ fault. fault ≡ PolarsError.OutOfMemory) }
 {
     let mut joined = Vec::new(alloc);
@@ -259,7 +260,7 @@ pub fn collect_views<'a>(
         pick Null (binviews sources.now) (expand runs.now)) }
     ensures buffers { IfOk result (λ array. array.buffers ≡
         flat_map (λ s. s.now.buffers) sources.now) }
-    ensures refusal { IfErr result (IsRefusalAt
+    ensures refusal { IfErr result (IsBufferLimitOrMemory
         (length (flat_map (λ s. s.now.buffers) sources.now))) }
 {
     check_buffers(sources)?;
@@ -267,7 +268,7 @@ pub fn collect_views<'a>(
 }
 
 // Returns the rows of [`collect_views`] for at most 2^32 - 1 data buffers. Errors: `OutOfMemory`.
-fn collect_few<'a, B: Beneath>(
+fn collect_few<'a, B: NullSlots>(
     alloc: Global,
     sources: &'a [&'a BinaryViewArray],
     runs: &[Run],

@@ -6,7 +6,7 @@ ghost use Rattle.sel_arrow.specs.Shape.{of_large_list, of_null};
 ghost use Rattle.sel_arrow.specs.Value.{Null};
 ghost use Rattle.sel_runs.specs.Children.{is_listing, joined_items};
 ghost use Rattle.sel_runs.specs.Ends.{item_ends};
-ghost use Rattle.sel_runs.specs.Need.{IsPastRows, IsRefusal, PassesNone, past_taken};
+ghost use Rattle.sel_runs.specs.Need.{ExceedsRows, IsLimitOrMemory, ExceedsNone, exceeded_taken};
 ghost use Rattle.sel_runs.specs.Picks.{pick, PickFits};
 ghost use Rattle.sel_runs.specs.Runs.{expand, unrolled};
 ghost use Rattle.sel_runs.specs.Sources.{child_rows, columns_of, picked, rows_of};
@@ -47,9 +47,11 @@ pub fn gather_lists<'a, P: Plan>(
         pick Null (rows_of sources.now) (P.picks plan.now)) }
     ensures dtype { IfOk result (λ column. type_of column ≡ of_large_list (type_of child.now)) }
     ensures formed { IfOk result (λ column. IsWellFormed column) }
-    ensures within { IfOk result (λ _. PassesNone (past_taken (of_large_list (type_of child.now))
+    ensures within { IfOk result
+        (λ _. ExceedsNone (exceeded_taken (of_large_list (type_of child.now))
         (columns_of sources.now) (pick Null (rows_of sources.now) (P.picks plan.now)))) }
-    ensures refusal { IfErr result (IsRefusal (past_taken (of_large_list (type_of child.now))
+    ensures refusal { IfErr result
+        (IsLimitOrMemory (exceeded_taken (of_large_list (type_of child.now))
         (columns_of sources.now) (pick Null (rows_of sources.now) (P.picks plan.now)))) }
 {
     let _ = child;
@@ -119,13 +121,14 @@ fn walk_lists<P: Plan>(
     requires fits { All (PickFits (rows_of sources.now)) (P.picks plan.now) }
     ensures ends { IfOk result (λ walk. walk.0.items ≡
         map pos (0 ∷ item_ends 0 (pick Null (rows_of sources.now) (P.picks plan.now)))) }
-    ensures items { IfOk result (λ walk. pick Null (child_rows sources.now) (expand walk.1.items) ≡
+    ensures items { IfOk result (λ walk. pick Null (child_rows sources.now)
+        (expand walk.1.items) ≡
         joined_items 0 (pick Null (rows_of sources.now) (P.picks plan.now))) }
     ensures fits { IfOk result (λ walk. All
         (PickFits (child_rows sources.now)) (expand walk.1.items)) }
     ensures count { IfOk result (λ walk. length (expand walk.1.items) ≡ walk.2) }
     ensures few { IfOk result (λ walk. walk.2 ≤ 4294967295) }
-    ensures refusal { IfErr result (IsRefusal (IsPastRows
+    ensures refusal { IfErr result (IsLimitOrMemory (ExceedsRows
         (length (joined_items 0 (pick Null (rows_of sources.now) (P.picks plan.now)))))) }
 {
     let len = plan.len();
@@ -172,9 +175,11 @@ pub fn collect_list_runs<'a>(
     ensures rows { IfOk result (λ column. rows column ≡ picked sources.now runs.now) }
     ensures dtype { IfOk result (λ column. type_of column ≡ of_large_list (type_of child.now)) }
     ensures formed { IfOk result (λ column. IsWellFormed column) }
-    ensures within { IfOk result (λ _. PassesNone (past_taken (of_large_list (type_of child.now))
+    ensures within { IfOk result
+        (λ _. ExceedsNone (exceeded_taken (of_large_list (type_of child.now))
         (columns_of sources.now) (picked sources.now runs.now))) }
-    ensures refusal { IfErr result (IsRefusal (past_taken (of_large_list (type_of child.now))
+    ensures refusal { IfErr result
+        (IsLimitOrMemory (exceeded_taken (of_large_list (type_of child.now))
         (columns_of sources.now) (picked sources.now runs.now))) }
 {
     let _ = child;
@@ -200,13 +205,13 @@ fn walk_runs(
     requires few { len ≤ 4294967295 }
     ensures ends { IfOk result (λ walk. walk.0.items ≡
         map pos (0 ∷ item_ends 0 (picked sources.now runs.now))) }
-    ensures items { IfOk result (λ walk. pick Null (child_rows sources.now) (expand walk.1.items) ≡
-        joined_items 0 (picked sources.now runs.now)) }
+    ensures items { IfOk result (λ walk. pick Null (child_rows sources.now)
+        (expand walk.1.items) ≡ joined_items 0 (picked sources.now runs.now)) }
     ensures fits { IfOk result (λ walk. All
         (PickFits (child_rows sources.now)) (expand walk.1.items)) }
     ensures count { IfOk result (λ walk. length (expand walk.1.items) ≡ walk.2) }
     ensures few { IfOk result (λ walk. walk.2 ≤ 4294967295) }
-    ensures refusal { IfErr result (IsRefusal (IsPastRows
+    ensures refusal { IfErr result (IsLimitOrMemory (ExceedsRows
         (length (joined_items 0 (picked sources.now runs.now))))) }
 {
     let mut ends = Vec::with_capacity(alloc, len + 1)?;
@@ -249,7 +254,7 @@ fn push_lists(
         (expand (below.new.items ++ last.new ∷ []))) }
     ensures end { IfOk result (λ end. end ≡
         start + length (joined_items 0 (run_rows sources.now run))) }
-    ensures refusal { IfErr result (IsRefusal (IsPastRows
+    ensures refusal { IfErr result (IsLimitOrMemory (ExceedsRows
         (start + length (joined_items 0 (run_rows sources.now run))))) }
 {
     let mut end = start;

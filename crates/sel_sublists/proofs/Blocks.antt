@@ -1,4 +1,4 @@
--- Entries of lists of one length.
+-- Elements of fixed-size lists.
 use Rattle.std.proofs.Common.{◌≡◌, ◌<◌, ◌≤◌, ◌+◌, ◌*◌, ℕ, ℤ, Bool, true, false, All, List, [], ◌∷◌, length, map, take, drop, get_or, None, refl, ap, sym, subst, ◌∙◌, arith}
 use Rattle.std.specs.Prelude.{◌&&◌, not, if◌then◌else◌}
 use Rattle.std.specs.List.{list_any, range_with_len}
@@ -15,13 +15,13 @@ use Rattle.sel_arrow.specs.Value.{Value, Null, Truth, Number, Bytes, Items, Tupl
 use Rattle.sel_arrow.specs.declared.column.Column.{Column}
 use Rattle.sel_arrow.specs.declared.fixed_size_list.FixedSizeListArray.{FixedSizeListArray}
 use Rattle.sel_arrow.proofs.NestedRows.{has_blocks, length-rows}
-use Rattle.sel_runs.specs.Need.{past, IsRefusal}
+use Rattle.sel_runs.specs.Need.{exceeded_limits, IsLimitOrMemory}
 use Rattle.sel_runs.specs.Picks.{pick, PickFits}
 use Rattle.sel_runs.specs.Plans.{IsPicked}
 use Rattle.sel_runs.proofs.ItemRuns.{listed_values}
 use Rattle.sel_runs.proofs.ListParts.{OfBlock, block_null, block_row}
 use Rattle.sel_sublists.specs.Elements.{element_at, child_pick}
-use Rattle.sel_sublists.specs.Entries.{place_of, entry_of, lacks_entry, entry_place, entry_places, fixed_get, out_of_bounds, at_each, IsGetRefusal}
+use Rattle.sel_sublists.specs.Entries.{place_of, entry_of, lacks_entry, entry_place, entry_places, fixed_get, is_get_error, at_each, IsGetError}
 use Rattle.sel_sublists.proofs.Offsets.{below_shifted, map_map, shifted}
 use Rattle.sel_sublists.proofs.Places.{mapped_at, mapped_count, picked, place_below, place_picked, places_fit, PlaceBelow}
 
@@ -33,7 +33,7 @@ place_of_below w (Bytes bytes) = tt
 place_of_below w (Items items) = tt
 place_of_below w (Tuple parts) = tt
 
--- ---- a test of each of n places
+-- ---- a check of each of n positions
 
 any_at : (p : ℕ → Bool) (n k : ℕ) → k < n → p k ≡ true → list_any p (range_with_len 0 n) ≡ true
 any_at p n k h e =
@@ -55,7 +55,7 @@ module _ (arr : FixedSizeListArray) where
   pub inside_rows : (k : ℕ) → k < arr.len → k < length (rows column)
   inside_rows k h = omega (arith, h, length-rows column)
 
-  -- as many rows as lists
+  -- There are as many rows as lists.
   pub long_rows : length (rows column) ≡ arr.len
   long_rows = length-rows column
 
@@ -71,7 +71,7 @@ module _ (arr : FixedSizeListArray) where
   valid_row : (k : ℕ) → k < arr.len → valid_at arr.validity k ≡ true → OfBlock arr.size column k
   valid_row k h e = block_row column arr.size arr.len arr.values arr.validity refl arr.formed k (inside_rows k h) e
 
-  -- a row of the child that is there
+  -- A child row that is in bounds.
   pub entry_small : (k i : ℕ) → k < arr.len → valid_at arr.validity k ≡ true → i < arr.size → k * arr.size + i < 4294967296
   entry_small k i h e inside = let has = valid_row k h e in omega (arith, inside, has.inside, has.few)
 
@@ -112,7 +112,7 @@ module _ (arr : FixedSizeListArray) where
       (length-map-range_with_len g 0 (length (rows column)) ∙ long_rows)
       (λ k h. get_or-map-range_with_len g 0 (length (rows column)) k k Null (inside_rows k h) (omega arith) ∙ sym (entry_is (get_or indices k Null) k h)))
 
-  -- where no list is null and each index has a place, each pick names a row
+  -- If no list is null and each index is in bounds, no row reference is null.
   pub entries_there : (indices : List Value) → arr.validity ≡ None → ((k : ℕ) → k < arr.len → is_none (place_of arr.size (get_or indices k Null)) ≡ false) → All IsPicked (map child_pick (entry_places arr indices))
   entries_there indices whole there k d below =
       let places = λ (k : ℕ). entry_place arr k (place_of arr.size (get_or indices k Null)) in
@@ -127,7 +127,7 @@ module _ (arr : FixedSizeListArray) where
   lacks indices k = lacks_entry arr.size (get_or (rows column) k Null) (get_or indices k Null)
 
   pub outside_at : (indices : List Value) (null_on_oob : Bool) (k : ℕ) → null_on_oob ≡ false → k < arr.len → valid_at arr.validity k ≡ true → is_none (place_of arr.size (get_or indices k Null)) ≡ true
-      → true ≡ out_of_bounds null_on_oob arr indices
+      → true ≡ is_get_error null_on_oob arr indices
   outside_at indices null_on_oob k asked h e none =
       let here : lacks indices k ≡ true = ap (λ row. not (is_null row) && is_none (place_of arr.size (get_or indices k Null))) (valid_row k h e).row ∙ none in
       sym (ap (λ b. not b && list_any (lacks indices) (range_with_len 0 (length (rows column)))) asked ∙ any_at (lacks indices) (length (rows column)) k (inside_rows k h) here)
@@ -140,18 +140,18 @@ module _ (arr : FixedSizeListArray) where
       by true e = ap (λ row. not (is_null row) && is_none (place_of arr.size (get_or indices k Null))) (valid_row k h e).row ∙ there e
 
   pub all_inside : (indices : List Value) (null_on_oob : Bool) → null_on_oob ≡ false → ((k : ℕ) → k < arr.len → valid_at arr.validity k ≡ true → is_none (place_of arr.size (get_or indices k Null)) ≡ false)
-      → false ≡ out_of_bounds null_on_oob arr indices
+      → false ≡ is_get_error null_on_oob arr indices
   all_inside indices null_on_oob asked there =
       sym (ap (λ b. not b && list_any (lacks indices) (range_with_len 0 (length (rows column)))) asked
       ∙ none_at (lacks indices) (length (rows column)) (λ k h. let inside : k < arr.len = omega (arith, h, long_rows) in lacks_not indices k inside (there k inside)))
 
-  -- one index for all lists
+  -- The same index for each list.
   pub each_place : (index : ℤ) (k : ℕ) → k < arr.len → place_of arr.size (get_or (at_each arr index) k Null) ≡ place_of arr.size (Number index)
   each_place index k h = ap (place_of arr.size) (get_or-replicate arr.len k (Number index) Null h)
 
-  -- a refusal of the rows, where no index is out of bounds
-  pub refused_so : (indices : List Value) (null_on_oob : Bool) (fault : PolarsError) → out_of_bounds null_on_oob arr indices ≡ false
-      → IsRefusal (past (type_of arr.values.value) (fixed_get (rows column) arr.size indices)) fault → IsGetRefusal null_on_oob arr indices fault
+  -- An error of the gather is permitted if no index is out of bounds.
+  pub refused_so : (indices : List Value) (null_on_oob : Bool) (fault : PolarsError) → is_get_error null_on_oob arr indices ≡ false
+      → IsLimitOrMemory (exceeded_limits (type_of arr.values.value) (fixed_get (rows column) arr.size indices)) fault → IsGetError null_on_oob arr indices fault
   refused_so indices null_on_oob OutOfMemory e h = (e, h)
   refused_so indices null_on_oob (SizeLimit limit) e h = (e, h)
   refused_so indices null_on_oob ComputeError e h = absurd h

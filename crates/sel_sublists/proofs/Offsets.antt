@@ -1,4 +1,4 @@
--- Elements of lists between offsets.
+-- Elements of lists with 64-bit offsets.
 use Rattle.std.proofs.Common.{◌≡◌, ◌<◌, ◌≤◌, ◌+◌, ◌-◌, ℕ, ℤ, pos, Bool, true, false, All, List, [], ◌∷◌, length, map, take, drop, get_or, Option, Some, None, Box, Global, refl, ap, sym, subst, ◌∙◌, arith}
 use Rattle.std.specs.Prelude.{if◌then◌else◌}
 use Rattle.std.specs.List.{list_any, range_with_len}
@@ -22,7 +22,7 @@ use Rattle.sel_sublists.specs.Elements.{element_at, child_pick}
 use Rattle.sel_sublists.specs.Lists.{element_of, list_get, lacks_place, child_place, places_in}
 use Rattle.sel_sublists.proofs.Places.{mapped_at, mapped_count, picked, place_below, place_picked, places_fit, PlaceBelow}
 
--- an element of a part
+-- An element of a part.
 pub shifted : (ys : List Value) (s n : ℕ) (o : Option ℕ) → PlaceBelow n o → element_at ys (option_map (λ i. s + i) o) ≡ element_at (take n (drop s ys)) o
 shifted ys s n None h = refl
 shifted ys s n (Some i) h = sym (get_or-take n (drop s ys) i Null h ∙ get_or-drop s ys i Null)
@@ -31,13 +31,13 @@ pub below_shifted : (s n m : ℕ) (o : Option ℕ) → s + n ≤ m → PlaceBelo
 below_shifted s n m None room h = tt
 below_shifted s n m (Some i) room h = omega (arith, h, room)
 
--- a column of the places, with a 0 beneath each null
+-- A column of the positions, with 0 in each null slot.
 pub places_shown : (ps : List (Option ℕ)) → hidden (map is_some ps) (map (λ i. Number (pos i)) (map (λ p. unwrap_or p 0) ps)) ≡ map (number_value pos) ps
 places_shown [] = refl
 places_shown (None ∷ ps) = ap (λ l. Null ∷ l) (places_shown ps)
 places_shown (Some i ∷ ps) = ap (λ l. Number (pos i) ∷ l) (places_shown ps)
 
--- map after map
+-- The composition of two maps.
 pub map_map : {A B C : Type 0} (g : B → C) (f : A → B) (xs : List A) → map g (map f xs) ≡ map (λ x. g (f x)) xs
 map_map g f [] = refl
 map_map g f (x ∷ xs) = ap (λ l. g (f x) ∷ l) (map_map g f xs)
@@ -49,7 +49,7 @@ module _ (offsets : List ℕ) (values : Box Column Global) (validity : Option Bi
   inside_rows : (k : ℕ) → k < rows_between offsets → k < length (rows column)
   inside_rows k h = omega (arith, h, length-rows column)
 
-  -- the part of list k, and how long it is
+  -- The start and the length of list k.
   abbrev start : ℕ → ℕ
   start k = get_or offsets k 0
 
@@ -88,7 +88,7 @@ module _ (offsets : List ℕ) (values : Box Column Global) (validity : Option Bi
           subst (λ b. PlaceBelow (length (rows values.value)) (if b then option_map (λ i. start k + i) (place index (count k)) else None)) (sym e)
           (below_shifted (start k) (count k) (length (rows values.value)) (place index (count k)) (omega (arith, has.ordered, has.inside)) (place_below index (count k)))
 
-  -- a row of the child that is there
+  -- A child row that is in bounds.
   pub place_small : (at : ℤ) (k p : ℕ) → k < rows_between offsets → valid_at validity k ≡ true → place at (count k) ≡ Some p → start k + p < 4294967296
   place_small at k p h e is =
       let has = list_row column offsets values validity refl formed k (inside_rows k h) e in
@@ -127,7 +127,7 @@ module _ (offsets : List ℕ) (values : Box Column Global) (validity : Option Bi
       by false e = e
       by true e = absurd cc (sym none ∙ list_any_at (lacks_place index) (rows column) k Null h e)
 
-  -- where no list is null and the index has a place in each, each pick names a row
+  -- If no list is null and the index is in bounds for each, no row reference is null.
   pub all_there : validity ≡ None → list_any (lacks_place index) (rows column) ≡ false → All IsPicked (map child_pick (places_in offsets validity index))
   all_there whole none k d below =
       let inside : k < rows_between offsets = omega (arith, below, mapped_count child_pick (child_place offsets validity index) (rows_between offsets)) in

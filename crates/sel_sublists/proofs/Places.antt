@@ -1,4 +1,4 @@
--- Rows of one child at places.
+-- Rows of a single child at optional positions.
 use Rattle.std.proofs.Common.{◌≡◌, ◌<◌, ◌+◌, ◌-◌, ℕ, ℤ, pos, negsuc, Bool, true, false, All, List, [], ◌∷◌, ◌++◌, length, map, get_or, Option, Some, None, refl, ap, sym, subst, ◌∙◌, arith, Bor}
 use Rattle.std.specs.Prelude.{nat_lt, if◌then◌else◌, not, IfSome}
 use Rattle.std.specs.Option.{option_map, option_copied, is_some, is_none}
@@ -12,7 +12,7 @@ use Rattle.sel_runs.specs.Picks.{pick, PickFits}
 use Rattle.sel_runs.specs.Plans.{IsPicked}
 use Rattle.sel_sublists.specs.Elements.{element_at, child_pick}
 
--- ---- a loop over places
+-- ---- a loop over positions
 
 pub mapped_count : {A B : Type 0} (g : A → B) (f : ℕ → A) (k : ℕ) → length (map g (map f (range_with_len 0 k))) ≡ k
 mapped_count g f k = length-map (map f (range_with_len 0 k)) g ∙ length-map-range_with_len f 0 k
@@ -30,14 +30,14 @@ mapped_more g f old new k b e is so_far =
     e ∙ ap (λ l. l ++ b ∷ []) so_far ∙ ap (λ x. map g (map f (range_with_len 0 k)) ++ x ∷ []) is
     ∙ sym (ap (map g) (map-range_with_len_more f 0 k k same) ∙ map-append g (map f (range_with_len 0 k)) (f k ∷ []))
 
--- ---- what places pick
+-- ---- the rows at the positions
 
 pub picked : (ys : List Value) (ps : List (Option ℕ)) → pick Null (ys ∷ []) (map child_pick ps) ≡ map (element_at ys) ps
 picked ys [] = refl
 picked ys (None ∷ ps) = ap (λ l. Null ∷ l) (picked ys ps)
 picked ys (Some i ∷ ps) = ap (λ l. get_or ys i Null ∷ l) (picked ys ps)
 
--- a place that there is, is one of n
+-- A position, if it is present, is less than n.
 abbrev pub PlaceBelow : ℕ → Option ℕ → Type 0
 PlaceBelow n place = IfSome place (λ i. i < n)
 
@@ -57,12 +57,12 @@ below_if : (b : Bool) (i n : ℕ) → (b ≡ true → i < n) → PlaceBelow n (i
 below_if true i n h = h refl
 below_if false i n h = tt
 
--- the place of an index is one of the places
+-- The position of an index is in bounds.
 pub place_below : (index : ℤ) (n : ℕ) → PlaceBelow n (place index n)
 place_below (pos i) n = below_if (nat_lt i n) i n (λ e. ltb-true i n e)
 place_below (negsuc i) n = below_if (nat_lt i n) (n - (i + 1)) n (λ e. let h : i < n = ltb-true i n e in omega arith)
 
--- a test whether there is none
+-- A check whether an option is none.
 pub none_is : {A : Type 0} (o : Option A) (b : Bool) → is_some o ≡ not b → is_none o ≡ b
 none_is o true e = ap not e
 none_is o false e = ap not e
@@ -71,12 +71,12 @@ pub is_gone : {A : Type 0} (o : Option A) → is_some o ≡ false → o ≡ None
 is_gone None e = refl
 is_gone (Some x) e = absurd cc
 
--- what is lent is there where it is lent
+-- Copying the value of an option keeps it present.
 pub copied_there : {A : Type 0} (o : Option (Bor A)) → is_some (option_copied o) ≡ is_some o
 copied_there None = refl
 copied_there (Some x) = refl
 
--- a place that there is picks a row
+-- A position that is present has a row reference that is not null.
 pub place_picked : (s : ℕ) (o : Option ℕ) → is_none o ≡ false → IsPicked (child_pick (option_map (λ i. s + i) o))
 place_picked s None e = absurd cc
 place_picked s (Some i) e = tt

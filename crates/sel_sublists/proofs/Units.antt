@@ -1,4 +1,4 @@
--- Each row in a list of its own.
+-- Lists of one element, one for each row.
 use Rattle.std.proofs.Common.{◌≡◌, ◌<◌, ◌+◌, ◌-◌, ℕ, true, List, [], ◌∷◌, ◌++◌, pos, length, map, take, drop, get_or, None, Box, Global, ap, sym, subst, ◌∙◌, arith}
 use Rattle.std.specs.List.{range_with_len, slice_range}
 use Rattle.std.proofs.lemmas.List.{length-map, get_or-map, drop_more}
@@ -68,7 +68,7 @@ units_have values formed =
       child = formed;
     }
 
--- the column of these lists
+-- The column of these lists is well-formed.
 pub units_formed : (offsets : List ℕ) (column : Column) (values : Box Column Global) → offsets ≡ range_with_len 0 (length (rows column) + 1) → values.value ≡ column → well_formed column ≡ true → well_formed (LargeList offsets values None) ≡ true
 units_formed offsets column values is same formed =
     let there : offsets ≡ range_with_len 0 (length (rows values.value) + 1) = is ∙ ap (λ c. range_with_len 0 (length (rows c) + 1)) (sym same) in

@@ -1,4 +1,4 @@
--- Elements of lists, by one index for all of them.
+-- Elements of lists, with one index for all lists.
 use Rattle.std.specs.Prelude.{ℕ, ◌+◌, ◌-◌, ℤ, Bool, false, List, [], ◌∷◌, map, length, Option, None, slice_index, if◌then◌else◌}
 use Rattle.std.specs.List.{list_any, range_with_len}
 use Rattle.std.specs.Option.{option_map, is_none}
@@ -10,33 +10,40 @@ use Rattle.sel_arrow.specs.Pieces.{rows_between}
 use Rattle.sel_arrow.specs.Value.{Value, Null, Items, listed}
 use Rattle.sel_sublists.specs.Elements.{element_at}
 
--- the element of a row at the place of the index in its list; null where the row is null or has no such place (polars: the getter of lists)
+-- The element of a row at an index; null if the row is null or the index is out of bounds (polars:
+-- list element access).
 abbrev pub element_of : ℤ → Value → Value
 element_of index (Items values) = element_at (listed values) (place index (length (listed values)))
 element_of index value = Null
 
--- entry k is the element of row k (polars: the getter of lists)
+-- Entry k is the element of row k at the index (polars: list element access).
 abbrev pub list_get : List Value → ℤ → List Value
 list_get rows index = map (element_of index) rows
 
--- a row is a list, not null, in which the index has no place (polars: the getter of lists)
+-- Whether a row is a list, not null, and the index is out of bounds for it (polars: list element
+-- access).
 abbrev pub lacks_place : ℤ → Value → Bool
 lacks_place index (Items values) = is_none (place index (length (listed values)))
 lacks_place index value = false
 
--- some row is (polars: the test of an index out of bounds)
+-- Whether the index is out of bounds for some list (polars: the check for an index out of bounds).
 abbrev pub oob : List Value → ℤ → Bool
 oob rows index = list_any (lacks_place index) rows
 
--- which of the child's rows is the element of list k: none where the list is null or has no place for the index (Arrow columnar format: variable-size list layout)
+-- The child row of list k at an index; none if the list is null or the index is out of bounds
+-- (Arrow columnar format: variable-size list layout).
 abbrev pub child_place : List ℕ → Option Bits → ℤ → ℕ → Option ℕ
 child_place offsets validity index k =
-    if valid_at validity k then option_map (λ i. slice_index offsets k + i) (place index (slice_index offsets (k + 1) - slice_index offsets k)) else None
+    if valid_at validity k
+    then option_map (λ i. slice_index offsets k + i)
+    (place index (slice_index offsets (k + 1) - slice_index offsets k))
+    else None
 
--- the same of each list (own)
+-- The child row of each list at the index.
 abbrev pub places_in : List ℕ → Option Bits → ℤ → List (Option ℕ)
-places_in offsets validity index = map (child_place offsets validity index) (range_with_len 0 (rows_between offsets))
+places_in offsets validity index =
+    map (child_place offsets validity index) (range_with_len 0 (rows_between offsets))
 
--- each value in a list of its own (own)
+-- A list of one element for each value.
 abbrev pub unit_lists : List Value → List Value
 unit_lists values = map (λ value. list_of (value ∷ [])) values

@@ -1,4 +1,4 @@
--- What stands below lists.
+-- The child rows of lists.
 use Rattle.std.proofs.Common.{◌≡◌, ℕ, zero, suc, ◌+◌, ◌*◌, Bool, true, false, ◌||◌, ◌==◌, List, [], ◌∷◌, ◌++◌, map, length, replicate, Option, Some, refl, sym, ap, ◌∙◌, arith, append_assoc, length-append, not}
 use Rattle.std.specs.Prelude.{nat_lt}
 use Rattle.std.specs.List.{flat_map, list_all, slice_range, range_with_len}
@@ -19,9 +19,9 @@ use Rattle.sel_arrow.specs.declared.column.Column.{Column}
 use Rattle.sel_arrow.proofs.Lists.{both, and_first, and_second}
 use Rattle.sel_text.specs.Below.{offsets_below}
 use Rattle.sel_text.specs.Fits.{fits, all_fit}
-use Rattle.sel_text.specs.Limits.{block_in, entries_in, Shows}
-use Rattle.sel_text.specs.declared.build.Beneath.{Beneath}
-use Rattle.sel_text.specs.declared.build.Beneath.TheVariants.{Zeros, Others}
+use Rattle.sel_text.specs.Limits.{block_in, entries_in, ShowsRows}
+use Rattle.sel_text.specs.declared.build.NullSlots.{NullSlots}
+use Rattle.sel_text.specs.declared.build.NullSlots.TheVariants.{Zeros, Others}
 use Rattle.sel_text.proofs.ItemRows.{values_back}
 use Rattle.sel_text.proofs.Making.{first_of_three, first_of_four}
 use Rattle.sel_text.proofs.OffsetsBelow.{count_between, ends_inside, parts_between, slice_here}
@@ -32,9 +32,9 @@ listed_fit : (s : Shape) (vs : Values) → all_fit s vs ≡ true → list_all (f
 listed_fit s no_values fit = refl
 listed_fit s (next_value v vs) fit = both (fits s v) (list_all (fits s) (listed vs)) (and_first _ _ fit) (listed_fit s vs (and_second _ _ fit))
 
--- ---- what each row of a type of lists has below it
+-- ---- the child rows of each row of a list type
 
-list_entries : (s : Shape) (b : Beneath) (row : Value) → fits (of_large_list s) row ≡ true → is_valid row ≡ true → row ≡ list_of (entries_in b row)
+list_entries : (s : Shape) (b : NullSlots) (row : Value) → fits (of_large_list s) row ≡ true → is_valid row ≡ true → row ≡ list_of (entries_in b row)
 list_entries s b Null fit valid = absurd cc
 list_entries s b (Truth t) fit valid = absurd cc
 list_entries s b (Number z) fit valid = absurd cc
@@ -42,7 +42,7 @@ list_entries s b (Bytes bs) fit valid = absurd cc
 list_entries s b (Items es) fit valid = ap Items (sym (values_back es))
 list_entries s b (Tuple es) fit valid = absurd cc
 
-pub list_below : (s : Shape) (b : Beneath) (row : Value) → fits (of_large_list s) row ≡ true → list_all (fits s) (entries_in b row) ≡ true
+pub list_below : (s : Shape) (b : NullSlots) (row : Value) → fits (of_large_list s) row ≡ true → list_all (fits s) (entries_in b row) ≡ true
 list_below s Zeros Null fit = refl
 list_below s Others Null fit = refl
 list_below s b (Truth t) fit = absurd cc
@@ -79,22 +79,22 @@ block_long s size (Bytes bs) fit = absurd cc
 block_long s size (Items es) fit = let same = and_first (length (listed es) == size) (all_fit s es) fit in grind (arith, nat_tests, same)
 block_long s size (Tuple es) fit = absurd cc
 
--- ---- where the rows of a list fit a type
+-- ---- if the rows of a list fit a type
 
 module _ (below : Value → List Value) (p : Value → Bool) where
-  -- what stands below them fits as well
+  -- The child rows fit it as well.
   pub all_below : (q : Value → Bool) → ((row : Value) → p row ≡ true → list_all q (below row) ≡ true) → (rows : List Value) → list_all p rows ≡ true → list_all q (flat_map below rows) ≡ true
   all_below q each [] fit = refl
   all_below q each (row ∷ rows) fit =
       list_all-append q (below row) (flat_map below rows)
       ∙ both (list_all q (below row)) (list_all q (flat_map below rows)) (each row (and_first _ _ fit)) (all_below q each rows (and_second _ _ fit))
 
-  -- where each valid row is a list of them, those lists show the rows
-  lists_show : ((row : Value) → p row ≡ true → is_valid row ≡ true → row ≡ list_of (below row)) → (rows : List Value) → list_all p rows ≡ true → Shows rows (map list_of (map below rows))
+  -- If each valid row is a list of its child rows, these lists show the rows.
+  lists_show : ((row : Value) → p row ≡ true → is_valid row ≡ true → row ≡ list_of (below row)) → (rows : List Value) → list_all p rows ≡ true → ShowsRows rows (map list_of (map below rows))
   lists_show each [] fit = tt
   lists_show each (row ∷ rows) fit = show_next row (list_of (below row)) rows (map list_of (map below rows)) (each row (and_first _ _ fit)) (lists_show each rows (and_second _ _ fit))
 
-  -- lists of one length
+  -- Fixed-size lists.
   blocks_long : (size : ℕ) → ((row : Value) → p row ≡ true → length (below row) ≡ size) → (rows : List Value) → list_all p rows ≡ true → length (flat_map below rows) ≡ length rows * size
   blocks_long size each [] fit = omega arith
   blocks_long size each (row ∷ rows) fit =
@@ -102,7 +102,7 @@ module _ (below : Value → List Value) (p : Value → Bool) where
       let rest : length (flat_map below rows) ≡ length rows * size = blocks_long size each rows (and_second (p row) (list_all p rows) fit) in
       omega (arith, length-append (below row) (flat_map below rows))
 
-  -- the parts of that length are the lists
+  -- The parts of the child with this size are the lists.
   blocks_from : (size : ℕ) → ((row : Value) → p row ≡ true → length (below row) ≡ size) → (rows pre child : List Value) (k : ℕ) → list_all p rows ≡ true → length pre ≡ k * size → child ≡ pre ++ flat_map below rows →
       map (λ i. slice_range child (i * size) (i * size + size)) (range_with_len k (length rows)) ≡ map below rows
   blocks_from size sized [] pre child k fit long is = refl
@@ -113,12 +113,12 @@ module _ (below : Value → List Value) (p : Value → Bool) where
       let rest = blocks_from size sized rows (pre ++ below row) child (k + 1) (and_second (p row) (list_all p rows) fit) next (is ∙ sym (append_assoc pre (below row) (flat_map below rows))) in
       ap (λ l. slice_range l (k * size) (k * size + size) ∷ map (λ i. slice_range child (i * size) (i * size + size)) (range_with_len (k + 1) (length rows))) is ∙ cc (here, rest)
 
--- ---- the rules of a column of lists, of which only those on numbers can be broken
+-- ---- the rules of a list column: only those on sizes can be broken
 
 is_equal : (m n : ℕ) → m ≡ n → not (m == n) ≡ false
 is_equal m n same = grind (arith, nat_tests)
 
--- ---- the columns of lists
+-- ---- list columns
 
 pub same_lists : (o p : List ℕ) (c d : Column) (v w : Option Bits) → o ≡ p → c ≡ d → v ≡ w → list_rows o (rows c) v ≡ list_rows p (rows d) w
 same_lists o p c d v w offsets child validity = ap (λ x. list_rows x (rows c) v) offsets ∙ ap (λ x. list_rows p (rows x) v) child ∙ ap (λ x. list_rows p (rows d) x) validity
@@ -127,8 +127,8 @@ pub same_blocks : (size side n m : ℕ) (c d : Column) (v w : Option Bits) → s
 same_blocks size side n m c d v w width count child validity =
     ap (λ x. block_rows x n (rows c) v) width ∙ ap (λ x. block_rows side x (rows c) v) count ∙ ap (λ x. block_rows side m (rows x) v) child ∙ ap (λ x. block_rows side m (rows d) x) validity
 
-pub lists_made : (b : Beneath) (s : Shape) (vs child : List Value) (offsets : List ℕ) (validity : Option Bits) → list_all (fits (of_large_list s)) vs ≡ true → offsets ≡ offsets_below (entries_in b) vs → child ≡ flat_map (entries_in b) vs →
-    ((plain : List Value) → Shows vs plain → masked validity plain ≡ vs) → list_rows offsets child validity ≡ vs
+pub lists_made : (b : NullSlots) (s : Shape) (vs child : List Value) (offsets : List ℕ) (validity : Option Bits) → list_all (fits (of_large_list s)) vs ≡ true → offsets ≡ offsets_below (entries_in b) vs → child ≡ flat_map (entries_in b) vs →
+    ((plain : List Value) → ShowsRows vs plain → masked validity plain ≡ vs) → list_rows offsets child validity ≡ vs
 lists_made b s vs child offsets validity fit ends is hides =
     ap (λ l. masked validity (map list_of l)) (parts_between (entries_in b) vs offsets ends child is) ∙ hides (map list_of (map (entries_in b) vs)) (lists_show (entries_in b) (fits (of_large_list s)) (list_entries s b) vs fit)
 
@@ -141,7 +141,7 @@ lists_past below vs offsets count validity m ends long covers is =
     sym (ap too_many many) ∙ first_of_three (too_many (rows_between offsets)) (nat_lt count (last_offset offsets)) (validity_differs validity (rows_between offsets)) TooManyRows OffsetRange ValidityLength m inside kept is
 
 pub blocks_made : (s : Shape) (size : ℕ) (vs child : List Value) (n : ℕ) (validity : Option Bits) → list_all (fits (of_fixed_size_list s size)) vs ≡ true → n ≡ length vs → child ≡ flat_map (block_in size) vs →
-    ((plain : List Value) → Shows vs plain → masked validity plain ≡ vs) → block_rows size n child validity ≡ vs
+    ((plain : List Value) → ShowsRows vs plain → masked validity plain ≡ vs) → block_rows size n child validity ≡ vs
 blocks_made s size vs child n validity fit count is hides =
     let below = block_in size in
     ap (λ k. block_rows size k child validity) count

@@ -1,4 +1,4 @@
--- Views over one data buffer that grows.
+-- Views into one data buffer that grows.
 use Rattle.std.proofs.Common.{◌≡◌, ℕ, ◌+◌, ◌-◌, ◌≤◌, ◌<◌, Bool, true, false, true≢false, cond, Bor, List, [], ◌∷◌, ◌++◌, length, take, drop, map, arith, refl, ap, sym, subst, ◌∙◌, length-append}
 use Rattle.std.specs.Prelude.{leb, IsTrue}
 use Rattle.std.specs.List.{list_all}
@@ -13,14 +13,14 @@ use Rattle.sel_arrow.proofs.GrownViews.{Named, far_new, near_new, placed_more}
 use Rattle.sel_arrow.proofs.Lists.{and_first, and_second}
 use Rattle.sel_text.specs.Fits.{fits as fits_type}
 use Rattle.sel_text.specs.ItemValues.{item_value, rows_read}
-use Rattle.sel_text.specs.Limits.{all_placed_bytes, bytes_placed, is_past}
+use Rattle.sel_text.specs.Limits.{all_placed_bytes, bytes_placed, exceeds_max}
 use Rattle.sel_text.specs.Stored.{bytes_behind, bytes_stored}
-use Rattle.sel_text.specs.declared.build.Beneath.{Beneath}
-use Rattle.sel_text.specs.declared.build.Beneath.TheVariants.{Zeros, Others}
+use Rattle.sel_text.specs.declared.build.NullSlots.{NullSlots}
+use Rattle.sel_text.specs.declared.build.NullSlots.TheVariants.{Zeros, Others}
 use Rattle.sel_text.specs.declared.item.Item.{Item}
 use Rattle.sel_text.proofs.Shown.{IsOfBytes, stored_bytes}
 
--- ---- the view of the bytes behind the others
+-- ---- the view of the bytes that are appended
 
 new_view : (store text : List ℕ) (v : View) → v ≡ view_of text 0 (length store) → (length text ≤ 12 → inline_bytes v ≡ text) → Named (store ++ bytes_behind text) v text
 new_view store text v is near = decided (leb (length text) 12) refl
@@ -33,7 +33,7 @@ new_view store text v is near = decided (leb (length text) 12) refl
 
 -- ---- the views so far
 
--- how many bytes of pieces stand in the data buffer
+-- The number of bytes of all values in the data buffer.
 abbrev pub total_behind : List (List ℕ) → ℕ
 total_behind [] = 0
 total_behind (piece ∷ pieces) = length (bytes_behind piece) + total_behind pieces
@@ -62,9 +62,9 @@ views_more store grown views more ps p v so is near grows adds =
 pub views_count : (store : List ℕ) (views : List View) (ps : List (List ℕ)) → Views store views ps → length views ≡ length ps
 views_count store views ps so = sym (length-map views (view_value (store ∷ []))) ∙ ap length so.shown ∙ length-map ps Bytes
 
--- ---- how many bytes rows place
+-- ---- the number of bytes that rows need in the data buffer
 
-bytes_in_row : (s : Shape) → IsOfBytes s → (beneath : Beneath) (row : Value) → fits_type s row ≡ true → length (bytes_behind (bytes_stored beneath row)) ≡ bytes_placed row
+bytes_in_row : (s : Shape) → IsOfBytes s → (beneath : NullSlots) (row : Value) → fits_type s row ≡ true → length (bytes_behind (bytes_stored beneath row)) ≡ bytes_placed row
 bytes_in_row s of Zeros Null fit = refl
 bytes_in_row s of Others Null fit = refl
 bytes_in_row s of beneath (Truth b) fit = absurd (true≢false (sym fit ∙ of.truths))
@@ -77,7 +77,7 @@ bytes_in_row s of beneath (Bytes bs) fit = decided (leb (length bs) 12)
 bytes_in_row s of beneath (Items es) fit = absurd (true≢false (sym (and_first _ _ fit) ∙ of.counts _))
 bytes_in_row s of beneath (Tuple es) fit = absurd (true≢false (sym (and_first _ _ fit) ∙ of.tuples))
 
-all_in_rows : (s : Shape) → IsOfBytes s → (beneath : Beneath) (items : List (Bor Item)) → list_all (fits_type s) (rows_read items) ≡ true → total_behind (stored_bytes beneath items) ≡ all_placed_bytes (rows_read items)
+all_in_rows : (s : Shape) → IsOfBytes s → (beneath : NullSlots) (items : List (Bor Item)) → list_all (fits_type s) (rows_read items) ≡ true → total_behind (stored_bytes beneath items) ≡ all_placed_bytes (rows_read items)
 all_in_rows s of beneath [] fit = refl
 all_in_rows s of beneath (item ∷ items) fit =
     let row = item_value item.now in
@@ -85,10 +85,10 @@ all_in_rows s of beneath (item ∷ items) fit =
     let rest = all_in_rows s of beneath items (and_second (fits_type s row) (list_all (fits_type s) (rows_read items)) fit) in
     omega (arith, first, rest)
 
--- where one row more has too many bytes for a data buffer, all rows do
-pub past_bytes : (s : Shape) → IsOfBytes s → (beneath : Beneath) (items : List (Bor Item)) (i : ℕ) (store p : List ℕ) (views : List View) → list_all (fits_type s) (rows_read items) ≡ true →
+-- If one more row makes too many bytes for a data buffer, so do all rows.
+pub past_bytes : (s : Shape) → IsOfBytes s → (beneath : NullSlots) (items : List (Bor Item)) (i : ℕ) (store p : List ℕ) (views : List View) → list_all (fits_type s) (rows_read items) ≡ true →
     Views store views (stored_bytes beneath (take i items)) → stored_bytes beneath (take (i + 1) items) ≡ stored_bytes beneath (take i items) ++ p ∷ [] →
-    is_past (length store + length (bytes_behind p)) ≡ true → is_past (all_placed_bytes (rows_read items)) ≡ true
+    exceeds_max (length store + length (bytes_behind p)) ≡ true → exceeds_max (all_placed_bytes (rows_read items)) ≡ true
 past_bytes s of beneath items i store p views fit so next past =
     let all = all_in_rows s of beneath items fit in
     let stored = λ (item : Bor Item). bytes_stored beneath (item_value item.now) in

@@ -9,7 +9,7 @@ use Rattle.std.proofs.lemmas.List.FromFn.{get_or-map-range_with_len, length-rang
 use Rattle.std.proofs.Math.Nat.{mul-le-mul_right}
 use Rattle.sel_bits.specs.Bits.{Bits}
 use Rattle.sel_arrow.specs.Masked.{Covers, valid_at}
-use Rattle.sel_arrow.specs.Nested.{list_of, tuple_at, blocks}
+use Rattle.sel_arrow.specs.Nested.{list_of, struct_at, blocks}
 use Rattle.sel_arrow.specs.Pieces.{pieces, rows_between}
 use Rattle.sel_arrow.specs.Rows.{rows, row_count, type_of, well_formed, IsWellFormed, IsField}
 use Rattle.sel_arrow.specs.Shape.{shapes_of}
@@ -27,12 +27,12 @@ use Rattle.sel_arrow.specs.declared.view.View.{View}
 use Rattle.sel_arrow.proofs.Lists.{all_at}
 use Rattle.sel_arrow.proofs.ViewRows.{length-view_rows, placed_at, valid_view}
 use Rattle.sel_arrow.proofs.Types.{struct_type}
-use Rattle.sel_text.specs.Cells.{HasRow}
+use Rattle.sel_text.specs.Cells.{HasCellRow}
 use Rattle.sel_text.specs.Texts.{part_shapes}
 
 -- ---- lists
 
-module _ (c : Column) (offsets : List ℕ) (values : Box Column Global) (validity : Option Bits) (i : ℕ) (is : c ≡ LargeList offsets values validity) (row : HasRow i c) where
+module _ (c : Column) (offsets : List ℕ) (values : Box Column Global) (validity : Option Bits) (i : ℕ) (is : c ≡ LargeList offsets values validity) (row : HasCellRow i c) where
   pub list_has : HasLists offsets values.value validity
   list_has = has_lists offsets values.value validity (ap well_formed (sym is) ∙ row.0)
 
@@ -67,9 +67,9 @@ module _ (c : Column) (offsets : List ℕ) (values : Box Column Global) (validit
   pub list_few : i < 4294967295
   list_few = let few = list_has.few in omega (arith, few, list_inside)
 
--- ---- lists of one length
+-- ---- fixed-size lists
 
-module _ (c : Column) (size len : ℕ) (values : Box Column Global) (validity : Option Bits) (i : ℕ) (is : c ≡ FixedSizeList size len values validity) (row : HasRow i c) where
+module _ (c : Column) (size len : ℕ) (values : Box Column Global) (validity : Option Bits) (i : ℕ) (is : c ≡ FixedSizeList size len values validity) (row : HasCellRow i c) where
   block_has : HasBlocks size len values.value validity
   block_has = has_blocks size len values.value validity (ap well_formed (sym is) ∙ row.0)
 
@@ -107,9 +107,9 @@ module _ (c : Column) (size len : ℕ) (values : Box Column Global) (validity : 
       let a : len * size ≤ 4294967295 * size = mul-le-mul_right size block_has.few in
       omega (arith, a, block_has.narrow, block_end, block_has.fills, length-rows values.value)
 
--- ---- tuples
+-- ---- structs
 
-module _ (c : Column) (len : ℕ) (fields : Vec Column Global) (validity : Option Bits) (i : ℕ) (is : c ≡ Struct len fields validity) (row : HasRow i c) where
+module _ (c : Column) (len : ℕ) (fields : Vec Column Global) (validity : Option Bits) (i : ℕ) (is : c ≡ Struct len fields validity) (row : HasCellRow i c) where
   tuple_has : HasFields len fields.items validity
   tuple_has = has_fields len fields validity (ap well_formed (sym is) ∙ row.0)
 
@@ -128,24 +128,24 @@ module _ (c : Column) (len : ℕ) (fields : Vec Column Global) (validity : Optio
   zero_more : 0 + i ≡ i
   zero_more = omega arith
 
-  pub tuple_valid : valid_at validity i ≡ true → tuple_at (map rows fields.items) i ≡ get_or (rows c) i Null
+  pub tuple_valid : valid_at validity i ≡ true → struct_at (map rows fields.items) i ≡ get_or (rows c) i Null
   tuple_valid valid =
       sym (ap (λ x. get_or (rows x) i Null) is ∙ ap (λ l. get_or l i Null) (rows-Struct len fields validity)
-      ∙ valid_mapped (tuple_at (map rows fields.items)) (range_with_len 0 len) validity i 0 valid tuple_count tuple_covers
-      ∙ ap (tuple_at (map rows fields.items)) (get_or-range_with_len 0 len i 0 tuple_inside ∙ zero_more))
+      ∙ valid_mapped (struct_at (map rows fields.items)) (range_with_len 0 len) validity i 0 valid tuple_count tuple_covers
+      ∙ ap (struct_at (map rows fields.items)) (get_or-range_with_len 0 len i 0 tuple_inside ∙ zero_more))
 
   pub tuple_null : valid_at validity i ≡ false → Null ≡ get_or (rows c) i Null
   tuple_null hidden =
       sym (ap (λ x. get_or (rows x) i Null) is ∙ ap (λ l. get_or l i Null) (rows-Struct len fields validity)
-      ∙ null_mapped (tuple_at (map rows fields.items)) (range_with_len 0 len) validity i hidden tuple_count tuple_covers)
+      ∙ null_mapped (struct_at (map rows fields.items)) (range_with_len 0 len) validity i hidden tuple_count tuple_covers)
 
-  pub tuple_fields : All (HasRow i) fields.items
-  tuple_fields = All-weaker (IsField len) (HasRow i) (λ field fit. (fit.1, let count = length-rows field in let same = fit.0 in let inside = tuple_inside in omega (arith, count, same, inside))) fields.items tuple_has.fields
+  pub tuple_fields : All (HasCellRow i) fields.items
+  tuple_fields = All-weaker (IsField len) (HasCellRow i) (λ field fit. (fit.1, let count = length-rows field in let same = fit.0 in let inside = tuple_inside in omega (arith, count, same, inside))) fields.items tuple_has.fields
 
   pub tuple_types : part_shapes (type_of c) ≡ shapes_of (map type_of fields.items)
   tuple_types = ap part_shapes (struct_type c len fields validity is)
 
--- ---- texts
+-- ---- strings
 
 pub text_fits : (array : Utf8ViewArray) (i : ℕ) (d : View) → valid_at array.bytes.validity i ≡ true → i < length (utf8view_rows array) →
     IsTrue (is_placed array.bytes.buffers (get_or array.bytes.views i d)) × IsTrue (is_utf8 (view_bytes array.bytes.buffers (get_or array.bytes.views i d)))

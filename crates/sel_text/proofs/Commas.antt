@@ -1,26 +1,26 @@
--- Parts with a comma behind each, as they are read.
+-- Parts followed by commas, as they are parsed.
 use Rattle.std.proofs.Common.{◌≡◌, ℕ, List, [], ◌∷◌, ◌++◌, refl, ap, sym, ◌∙◌, append_assoc, append-nil}
 use Rattle.std.specs.List.{flat_map, join_with_byte}
 use Rattle.std.proofs.lemmas.Grind.{flat_map-append}
 
--- parts with a comma behind each
+-- Each part, followed by a comma.
 abbrev pub commas : List (List ℕ) → List ℕ
 commas parts = flat_map (λ part. part ++ 44 ∷ []) parts
 
--- with one more part they are those with commas between them
+-- With one more part, these are the parts separated by commas.
 pub joined : (parts : List (List ℕ)) (part : List ℕ) → join_with_byte 44 (parts ++ part ∷ []) ≡ commas parts ++ part
 joined [] part = refl
 joined (x ∷ []) part = sym (append_assoc (x ++ 44 ∷ []) [] part ∙ append_assoc x (44 ∷ []) part)
 joined (x ∷ y ∷ parts) part =
     ap (λ rest. x ++ (44 ∷ rest)) (joined (y ∷ parts) part) ∙ sym (append_assoc (x ++ 44 ∷ []) (commas (y ∷ parts)) part ∙ append_assoc x (44 ∷ []) (commas (y ∷ parts) ++ part))
 
--- one more of them with a comma behind it
+-- One more part, followed by a comma.
 pub comma_more : (parts more : List (List ℕ)) (part all rest behind : List ℕ) → more ≡ parts ++ part ∷ [] → all ≡ commas parts ++ rest → rest ≡ part ++ (44 ∷ behind) → all ≡ commas more ++ behind
 comma_more parts more part all rest behind grown before here =
     let whole : commas more ≡ commas parts ++ (part ++ 44 ∷ []) = ap commas grown ∙ flat_map-append (λ p. p ++ 44 ∷ []) parts (part ∷ []) ∙ ap (λ l. commas parts ++ l) (append-nil (part ++ 44 ∷ [])) in
     before ∙ ap (λ l. commas parts ++ l) (here ∙ sym (append_assoc part (44 ∷ []) behind)) ∙ sym (append_assoc (commas parts) (part ++ 44 ∷ []) behind) ∙ ap (λ l. l ++ behind) (sym whole)
 
--- the last of them, with the closing bracket behind it
+-- The last part, followed by the closing bracket.
 pub comma_last : (first close : ℕ) (parts more : List (List ℕ)) (part all rest behind : List ℕ) → more ≡ parts ++ part ∷ [] → all ≡ commas parts ++ rest → rest ≡ part ++ (close ∷ behind) →
     first ∷ all ≡ (first ∷ join_with_byte 44 more ++ close ∷ []) ++ behind
 comma_last first close parts more part all rest behind grown before here =

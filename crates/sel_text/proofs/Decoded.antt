@@ -1,4 +1,4 @@
--- What was written is read back: digits, and bytes between quotes.
+-- Printed digits, and printed bytes in quotes, parse to the original.
 use Rattle.std.proofs.Common.{◌≡◌, ◌≢◌, ℕ, ℤ, pos, negsuc, suc, ◌+◌, ◌-◌, ◌*◌, ◌^◌, ◌/◌, ◌%◌, ◌<◌, Bool, true, false, List, [], ◌∷◌, ◌++◌, length, refl, ap, sym, ◌∙◌, arith, append_assoc}
 use Rattle.std.specs.Prelude.{nat_lt, ◌==◌, if◌then◌else◌}
 use Rattle.std.specs.Char.{digit_char, digit_value}
@@ -21,7 +21,7 @@ decimal_apart m n r t sm sn nr nt e =
     let parts = digits_apart (decimal m) (decimal n) r t dm.0.1 dn.0.1 nr nt e in
     (sym dm.1 ∙ ap (digits_value 10) parts.0 ∙ dn.1, parts.1)
 
--- digits never begin with a minus
+-- Digits never begin with a minus sign.
 pub no_minus : (a r t : List ℕ) → 0 < length a → AllDigits 10 a → a ++ r ≡ 45 ∷ t → ⊥
 no_minus [] r t some da e = omega arith
 no_minus (x ∷ a) r t some da e =
@@ -65,21 +65,21 @@ hex_apart (b ∷ bs) (c ∷ cs) r t e =
     let parts = hex_apart bs cs r t rest in
     (ap (λ x. x ∷ bs) same ∙ ap (λ x. c ∷ x) parts.0, parts.1)
 
--- ---- texts between quotes
+-- ---- quoted strings
 
--- the value of a hexadecimal digit
+-- The value of a hexadecimal digit.
 abbrev pub hex_value : ℕ → ℕ
 hex_value c = if nat_lt c 58 then c - 48 else c - 87
 
 hex_value_back : (d : ℕ) → d < 16 → hex_value (digit_char d) ≡ d
 hex_value_back d small = grind (arith, nat_tests)
 
--- four digits behind `\u` as a byte
+-- The four digits after `\u` as a byte.
 abbrev pub read_hex : List ℕ → ℕ × List ℕ
 read_hex (a ∷ b ∷ c ∷ d ∷ rest) = (16 * hex_value c + hex_value d, rest)
 read_hex text = (0, text)
 
--- what stands behind a backslash
+-- The byte that an escape after a backslash represents.
 abbrev pub read_escape : ℕ → List ℕ → ℕ × List ℕ
 read_escape c rest =
     if c == 110 then (10, rest) else
@@ -89,13 +89,13 @@ read_escape c rest =
     if c == 102 then (12, rest) else
     if c == 117 then read_hex rest else (c, rest)
 
--- the first byte of what stands between quotes, and the rest
+-- The first byte between quotes, and the rest.
 abbrev pub read_one : List ℕ → ℕ × List ℕ
 read_one [] = (0, [])
 read_one (c ∷ []) = (c, [])
 read_one (c ∷ d ∷ rest) = if c == 92 then read_escape d rest else (c, d ∷ rest)
 
--- a byte and the rest
+-- A byte and the rest.
 abbrev pub one_then : ℕ → List ℕ → ℕ × List ℕ
 one_then a r = (a, r)
 
@@ -107,7 +107,7 @@ plain_read : (a : ℕ) (r : List ℕ) → (a == 92) ≡ false → read_one (a �
 plain_read a [] is = refl
 plain_read a (d ∷ r) is = ap (λ t. if t then read_escape d r else (a, d ∷ r)) is
 
--- an escape is read back as the byte
+-- An escape parses to the byte.
 pub read_escaped : (a : ℕ) (r : List ℕ) → read_one (escaped a ++ r) ≡ one_then a r
 read_escaped a r =
     let P = λ (l : List ℕ). read_one (l ++ r) ≡ one_then a r in
@@ -130,7 +130,7 @@ read_escaped a r =
         let l = hex_value_back (a % 16) (omega arith) in
         omega (arith, h, l)
 
--- no escape begins with a quote
+-- No escape begins with a quote.
 pub unquoted : (a : ℕ) (r t : List ℕ) → escaped a ++ r ≡ 34 ∷ t → ⊥
 unquoted a r t e =
     let read : one_then a r ≡ read_one (34 ∷ t) = sym (read_escaped a r) ∙ ap read_one e in

@@ -1,4 +1,4 @@
--- Numerals, and what stands behind them.
+-- Decimal numbers, and the bytes after them.
 use Rattle.std.proofs.Common.{◌≡◌, ◌≢◌, ℕ, zero, suc, ◌+◌, ◌/◌, ◌^◌, ◌≤◌, ◌<◌, Bool, true, false, List, [], ◌∷◌, ◌++◌, length, take, drop, get_or, refl, ap, sym, ◌∙◌, arith, lit<, length-take, subst}
 use Rattle.std.specs.Char.{digit_value}
 use Rattle.std.specs.Fmt.{decimal}
@@ -28,15 +28,15 @@ digits_apart (x ∷ a) (y ∷ b) r t da db nr nt e =
     let parts = digits_apart a b r t da.1 db.1 nr nt rest in
     (ap (λ c. c ∷ a) same ∙ ap (λ l. y ∷ l) parts.0, parts.1)
 
--- so many bits take less than 64 digits
+-- 129 bits have fewer than 64 digits.
 pub few_digits : (n : ℕ) → n < 2 ^ 129 → n < 10 ^ 64
 few_digits n small = let big : 2 ^ 129 < 10 ^ 64 = lit< tt in omega (arith, big)
 
--- a numeral is one of digits, and that of its number
+-- A decimal number consists of digits, whose value is the number.
 pub numeral_is : (n : ℕ) → n < 2 ^ 128 → IsNumeral 10 (decimal n) × (digits_value 10 (decimal n) ≡ n)
 numeral_is n small = decimal_is_IsNumeral_wide n (few_digits n (omega (arith, small)))
 
--- a numeral begins with a zero only where it is that of zero
+-- A decimal number begins with a zero only if it is zero.
 first_digit : (most n : ℕ) → n ≤ most → 0 < n → n < 10 ^ 64 → 48 < get_or (decimal n) 0 0
 first_digit zero n few some small = absurd (omega arith)
 first_digit (suc most) n few some small = go (first_digit most (n / 10)) (nat_lt n 10) refl
@@ -54,7 +54,7 @@ first_digit (suc most) n few some small = go (first_digit most (n / 10)) (nat_lt
         let same : get_or (decimal n) 0 0 ≡ get_or (decimal (n / 10)) 0 0 = ap (λ l. get_or l 0 0) (decimal_step_wide n high small) ∙ get_or-append (decimal (n / 10)) _ 0 0 long in
         omega (arith, before, same)
 
--- a numeral has a digit, and a zero first only where it is the only one
+-- A decimal number has a digit; it begins with a zero only if that is its only digit.
 pub numeral_has : (n : ℕ) → n < 2 ^ 128 → (0 < length (decimal n)) × AllDigits 10 (decimal n) × (get_or (decimal n) 0 0 ≡ 48 → length (decimal n) ≡ 1)
 numeral_has zero small = let is = (numeral_is zero small).0 in (is.0, is.1, λ e. ap length (decimal_digit 0 (lit< tt)))
 numeral_has (suc n) small =
@@ -62,19 +62,19 @@ numeral_has (suc n) small =
     let first = first_digit (suc n) (suc n) (omega arith) (omega arith) (few_digits (suc n) (omega (arith, small))) in
     (is.0, is.1, λ e. absurd (omega (arith, first, e)))
 
--- all the digits at the front are the numeral there
+-- All digits at the front are the decimal number there.
 pub numeral_told : (bytes digits rest : List ℕ) → bytes ≡ digits ++ rest → AllDigits 10 digits → NoDigit rest → (n : ℕ) (more : List ℕ) → n < 2 ^ 128 → NoDigit more → bytes ≡ decimal n ++ more →
     (digits ≡ decimal n) × (rest ≡ more)
 numeral_told bytes digits rest is all end n more small ends begins =
     digits_apart digits (decimal n) rest more all (numeral_has n small).1 end ends (sym is ∙ begins)
 
--- whose number is theirs
+-- The value of these digits is that number.
 pub value_told : (bytes digits rest : List ℕ) → bytes ≡ digits ++ rest → AllDigits 10 digits → NoDigit rest → (n : ℕ) (more : List ℕ) → n < 2 ^ 128 → NoDigit more → bytes ≡ decimal n ++ more →
     digits_value 10 digits ≡ n
 value_told bytes digits rest is all end n more small ends begins =
     ap (digits_value 10) (numeral_told bytes digits rest is all end n more small ends begins).0 ∙ (numeral_is n small).1
 
--- no digit is no numeral
+-- No decimal number is empty.
 pub no_numeral : (bytes : List ℕ) (count : ℕ) → count ≡ 0 → NoDigit (drop count bytes) → (n : ℕ) (more : List ℕ) → n < 2 ^ 128 → NoDigit more → bytes ≢ decimal n ++ more
 no_numeral bytes count none end n more small ends begins =
     let told = numeral_told bytes [] bytes refl tt (subst NoDigit (ap (λ k. drop k bytes) none) end) n more small ends begins in
@@ -82,7 +82,7 @@ no_numeral bytes count none end n more small ends begins =
     let has = (numeral_has n small).0 in
     omega (arith, long, has)
 
--- nor is one with a zero before others
+-- No decimal number has a leading zero.
 pub zero_first : (bytes : List ℕ) (count : ℕ) → count ≤ length bytes → AllDigits 10 (take count bytes) → NoDigit (drop count bytes) → 1 < count → get_or bytes 0 0 ≡ 48 →
     (n : ℕ) (more : List ℕ) → n < 2 ^ 128 → NoDigit more → bytes ≢ decimal n ++ more
 zero_first bytes count inside all end long naught n more small ends begins =
@@ -93,7 +93,7 @@ zero_first bytes count inside all end long naught n more small ends begins =
     let many = length-take count bytes in
     omega (arith, long, one, same, many)
 
--- numbers with one numeral are one
+-- Equal decimal texts have equal numbers.
 pub numbers_told : (m n : ℕ) (bytes rest more : List ℕ) → m < 2 ^ 128 → n < 2 ^ 128 → NoDigit rest → NoDigit more → bytes ≡ decimal m ++ rest → bytes ≡ decimal n ++ more → (m ≡ n) × (rest ≡ more)
 numbers_told m n bytes rest more sm sn end ends one other =
     let told = numeral_told bytes (decimal m) rest one (numeral_has m sm).1 end n more sn ends other in

@@ -1,4 +1,4 @@
--- The values of lists and tuples that are still to be read.
+-- The values of lists and structs that are still to be parsed.
 use Rattle.std.proofs.Common.{◌≡◌, ◌≢◌, ℕ, zero, suc, ◌+◌, ◌≤◌, ◌<◌, true, true≢false, List, [], ◌∷◌, ◌++◌, length, drop, map, get_or, refl, ap, sym, ◌∙◌, arith, append_assoc, append-nil, length-append, subst}
 use Rattle.std.proofs.lemmas.List.{drop_more, drop_all}
 use Rattle.sel_arrow.specs.DataType.{shape_of}
@@ -13,7 +13,7 @@ use Rattle.sel_text.proofs.Told.{after, inside, joined_inside, after_no_digit, n
 
 -- ---- lists
 
--- what is left of a list's values behind those that were read: one of them at least
+-- The values of a list that remain after those that were parsed; at least one.
 pub record IsLeft (s : Shape) (all read : List Value) (rest more : List ℕ) : Type 0 where
   pub first : Value
   pub others : Values
@@ -22,16 +22,16 @@ pub record IsLeft (s : Shape) (all read : List Value) (rest more : List ℕ) : T
   pub whole : read ++ (first ∷ listed others) ≡ all
   pub text : rest ≡ value_text s first ++ after 93 (item_texts s others) more
 
--- behind the opening bracket
+-- After the opening bracket.
 pub items_opened : (s : Shape) (vs : Values) (text rest more : List ℕ) → text ≡ 91 ∷ rest → text ≡ bracketed (item_texts s vs) ++ more → rest ≡ inside 93 (item_texts s vs) more
 items_opened s vs text rest more opens is = ap (drop 1) (sym opens ∙ is) ∙ joined_inside 93 (item_texts s vs) more
 
--- where it closes at once there is no value
+-- If the closing bracket follows at once, there is no value.
 pub no_items : (s : Shape) (vs : Values) (rest end more : List ℕ) → all_fit s vs ≡ true → rest ≡ inside 93 (item_texts s vs) more → rest ≡ 93 ∷ end → ([] ≡ listed vs) × (end ≡ more)
 no_items s no_values rest end more fit is closes = (refl, ap (drop 1) (sym closes ∙ is))
 no_items s (next_value v vs) rest end more fit is closes = absurd (no_value s v 93 end (after 93 (item_texts s vs) more) (and_first (fits s v) (all_fit s vs) fit) refl (sym closes ∙ is))
 
--- and otherwise one
+-- Otherwise there is at least one value.
 pub some_items : (s : Shape) (vs : Values) (rest more : List ℕ) → all_fit s vs ≡ true → rest ≡ inside 93 (item_texts s vs) more → ((end : List ℕ) → rest ≢ 93 ∷ end) → IsLeft s (listed vs) [] rest more
 some_items s no_values rest more fit is other = absurd (other more is)
 some_items s (next_value v vs) rest more fit is other = record {
@@ -46,7 +46,7 @@ some_items s (next_value v vs) rest more fit is other = record {
 pub item_begins : (s : Shape) (all read : List Value) (rest more : List ℕ) → (left : IsLeft s all read rest more) → BeginsWith s left.first rest (after 93 (item_texts s left.others) more)
 item_begins s all read rest more left = record { fit = left.fit; end = after_no_digit 93 (item_texts s left.others) more (omega arith); whole = left.text }
 
--- the bracket closes behind the last value
+-- The closing bracket follows the last value.
 pub last_item : (s : Shape) (all read : List Value) (rest next end more : List ℕ) → (left : IsLeft s all read rest more) → next ≡ after 93 (item_texts s left.others) more → next ≡ 93 ∷ end →
     (read ++ left.first ∷ [] ≡ all) × (end ≡ more)
 last_item s all read rest next end more left is closes = go left.others left.whole is
@@ -55,7 +55,7 @@ last_item s all read rest next end more left is closes = go left.others left.who
     go no_values whole is = (whole, ap (drop 1) (sym closes ∙ is))
     go (next_value v vs) whole is = let first : 93 ≡ 44 = ap (λ l. get_or l 0 0) (sym closes ∙ is) in absurd (omega (arith, first))
 
--- a comma and another value stand behind any other
+-- A comma and another value follow any other value.
 pub more_items : (s : Shape) (all read : List Value) (rest next behind more : List ℕ) → (left : IsLeft s all read rest more) → next ≡ after 93 (item_texts s left.others) more → next ≡ 44 ∷ behind →
     IsLeft s all (read ++ left.first ∷ []) behind more
 more_items s all read rest next behind more left is comma = go left.others left.others_fit left.whole is
@@ -71,12 +71,12 @@ more_items s all read rest next behind more left is comma = go left.others left.
       text = ap (drop 1) (sym comma ∙ is);
     }
 
--- one of the two stands there
+-- A closing bracket or a comma follows each value.
 pub bracket_or_comma : (close : ℕ) (texts : List (List ℕ)) (next more : List ℕ) → next ≡ after close texts more → ((end : List ℕ) → next ≢ close ∷ end) → ((rest : List ℕ) → next ≢ 44 ∷ rest) → ⊥
 bracket_or_comma close [] next more is no_bracket no_comma = no_bracket _ is
 bracket_or_comma close (x ∷ texts) next more is no_bracket no_comma = no_comma _ is
 
--- so the text does not end before
+-- So the text does not end there.
 some_after : (close : ℕ) (texts : List (List ℕ)) (more : List ℕ) → 0 < length (after close texts more)
 some_after close [] more = omega arith
 some_after close (x ∷ texts) more = omega arith
@@ -88,21 +88,21 @@ not_ended s all read rest more left none =
     let some = some_after 93 (item_texts s left.others) more in
     omega (arith, none, long, parts, some)
 
--- a value takes room
+-- Each value takes at least one byte.
 pub less_room : (s : Shape) (all read : List Value) (rest next behind more : List ℕ) → (left : IsLeft s all read rest more) → next ≡ after 93 (item_texts s left.others) more → next ≡ 44 ∷ behind → length behind < length rest
 less_room s all read rest next behind more left is comma =
     let long = ap length (left.text ∙ ap (λ l. value_text s left.first ++ l) (sym is ∙ comma)) in
     let parts = length-append (value_text s left.first) (44 ∷ behind) in
     omega (arith, long, parts)
 
--- ---- tuples
+-- ---- structs
 
--- parts from a place on, of which the first has no comma before it
+-- The parts from a position on; no comma precedes the first part.
 abbrev pub parts_from : ℕ → List (List ℕ) → List ℕ → List ℕ
 parts_from zero texts more = inside 41 texts more
 parts_from (suc place) texts more = after 41 texts more
 
--- what is left of a tuple's values behind those that were read
+-- The values of a struct that remain after those that were parsed.
 pub record HasParts (ss : Shapes) (all read : List Value) (place : ℕ) (rest more : List ℕ) : Type 0 where
   pub others : Values
   pub whole : read ++ listed others ≡ all
@@ -112,7 +112,7 @@ pub record HasParts (ss : Shapes) (all read : List Value) (place : ℕ) (rest mo
 pub parts_opened : (ss : Shapes) (vs : Values) (text rest more : List ℕ) → parts_fit ss vs ≡ true → text ≡ 40 ∷ rest → text ≡ parenthesized (part_texts ss vs) ++ more → HasParts ss (listed vs) [] 0 rest more
 parts_opened ss vs text rest more fit opens is = record { others = vs; whole = refl; fit = fit; text = ap (drop 1) (sym opens ∙ is) ∙ joined_inside 41 (part_texts ss vs) more }
 
--- the next of them
+-- The next of these values.
 pub record HasPart (s : Shape) (ss : Shapes) (all read : List Value) (place : ℕ) (rest more : List ℕ) : Type 0 where
   pub first : Value
   pub others : Values
@@ -135,7 +135,7 @@ has_part s ss all read place rest more has = go has.others has.whole has.fit has
       text = is;
     }
 
--- the types from a place on
+-- The types from a position on.
 abbrev pub shapes_from : ℕ → List ArrowDataType → Shapes
 shapes_from place dtypes = shapes_of (map shape_of (drop place dtypes))
 
@@ -145,12 +145,12 @@ part_left dtypes all read place dtype rest more there is has =
     let here : drop place dtypes ≡ dtype ∷ drop (place + 1) dtypes = drop_more dtypes place dtype there ∙ ap (λ d. d ∷ drop (place + 1) dtypes) (sym is) in
     has_part (shape_of dtype) (shapes_from (place + 1) dtypes) all read place rest more (subst (λ ds. HasParts (shapes_of (map shape_of ds)) all read place rest more) here has)
 
--- a part that is not the first has its comma
+-- A comma precedes each part but the first.
 pub comma_before : (place : ℕ) (text : List ℕ) (texts : List (List ℕ)) (rest more : List ℕ) → 0 < place → rest ≡ parts_from place (text ∷ texts) more → ((next : List ℕ) → rest ≢ 44 ∷ next) → ⊥
 comma_before zero text texts rest more later is no_comma = absurd (omega (arith, later))
 comma_before (suc place) text texts rest more later is no_comma = no_comma _ is
 
--- behind its comma
+-- The part after its comma.
 part_text : (place : ℕ) (text : List ℕ) (texts : List (List ℕ)) (rest next more : List ℕ) → (place ≡ 0 → next ≡ rest) → (0 < place → rest ≡ 44 ∷ next) → rest ≡ parts_from place (text ∷ texts) more → next ≡ text ++ after 41 texts more
 part_text zero text texts rest next more first other is = first refl ∙ is
 part_text (suc place) text texts rest next more first other is = ap (drop 1) (sym (other (omega arith)) ∙ is)
@@ -170,7 +170,7 @@ part_read s ss all read place rest next more part is = record { others = part.ot
     later zero is = is
     later (suc k) is = let one : suc (suc k) ≡ suc k + 1 = omega arith in subst (λ n. next ≡ parts_from n (part_texts ss part.others) more) one is
 
--- behind the last of them stands the closing bracket
+-- The closing bracket follows the last part.
 pub parts_end : (dtypes : List ArrowDataType) (all read : List Value) (place : ℕ) (rest more : List ℕ) → length dtypes ≤ place → HasParts (shapes_from place dtypes) all read place rest more → (read ≡ all) × (rest ≡ 41 ∷ more)
 parts_end dtypes all read place rest more past has =
     let none : drop place dtypes ≡ [] = drop_all place dtypes past in

@@ -1,4 +1,4 @@
--- When rows are one.
+-- Equality of rows.
 use Rattle.std.proofs.Common.{◌≡◌, ◌≢◌, ℕ, ◌+◌, ◌-◌, ◌≤◌, ◌<◌, Bool, List, [], ◌∷◌, ◌++◌, length, take, drop, map, refl, ap, sym, ◌∙◌, arith, get_or, length-take, length-drop}
 use Rattle.std.specs.Prelude.{◌↔◌, IsTrue, bytes_eq}
 use Rattle.std.proofs.lemmas.Slice.Eq.{bytes_eq-Decides}
@@ -6,10 +6,10 @@ use Rattle.std.specs.List.{slice_range}
 use Rattle.std.proofs.lemmas.List.{take_more, get_or-drop, get_or-take, take_all}
 use Rattle.sel_arrow.specs.Rows.{rows}
 use Rattle.sel_arrow.specs.declared.column.Column.{Column}
-use Rattle.sel_arrow.specs.Nested.{list_of, tuple_at}
+use Rattle.sel_arrow.specs.Nested.{list_of, struct_at}
 use Rattle.sel_arrow.specs.Value.{Value, Null, Bytes, Items, Tuple, values_of, listed}
 
--- what tells whether bytes are those that lie there tells whether the rows are one
+-- The result of comparing the stored bytes is whether the rows are equal.
 pub bytes_told : (r : Bool) (bytes seen named : List ℕ) (v : Value) → r ≡ bytes_eq bytes seen → seen ≡ named → v ≡ Bytes named → (IsTrue r ↔ (Bytes bytes ≡ v))
 bytes_told r bytes seen named v tested is there =
     let told = bytes_eq-Decides bytes seen in (
@@ -17,7 +17,7 @@ bytes_told r bytes seen named v tested is there =
       λ e. tested ∙ told.1 (let same : Bytes bytes ≡ Bytes named = e ∙ there in cc),
     )
 
--- the same of a row that is these bytes
+-- The same for a row with these bytes.
 pub bytes_shown : {P : Type 0} (shown v w : Value) → (P ↔ (shown ≡ w)) → shown ≡ v → (P ↔ (v ≡ w))
 bytes_shown shown v w told is = (λ p. sym is ∙ told.0 p, λ e. told.1 (is ∙ e))
 
@@ -52,19 +52,19 @@ module _ {A : Type 0} (xs ys : List A) (a b : ℕ) where
 part_count : {A : Type 0} (xs : List A) (a b : ℕ) → b ≤ length xs → length (slice_range xs a b) ≡ b - a
 part_count xs a b inside = rw (length-take, length-drop) (omega arith)
 
--- parts of other lengths are not one
+-- Parts with different lengths are not equal.
 pub lists_differ : (xs ys : List Value) (a b from to : ℕ) → b ≤ length xs → to ≤ length ys → b - a ≢ to - from → list_of (slice_range xs a b) ≡ list_of (slice_range ys from to) → ⊥
 lists_differ xs ys a b from to in_xs in_ys differ same =
     differ (sym (part_count xs a b in_xs) ∙ ap length (list_of_back _ _ same) ∙ part_count ys from to in_ys)
 
--- parts that differ somewhere are not one
+-- Parts that differ at a position are not equal.
 pub lists_differ_at : (xs ys : List Value) (a b from to k : ℕ) → b - a ≡ to - from → k < b - a → get_or xs (a + k) Null ≢ get_or ys (from + k) Null →
     list_of (slice_range xs a b) ≡ list_of (slice_range ys from to) → ⊥
 lists_differ_at xs ys a b from to k long small differ same =
     let one : take (b - a) (drop a xs) ≡ take (b - a) (drop from ys) = list_of_back _ _ same ∙ ap (λ n. take n (drop from ys)) (sym long) in
     differ (part_at xs ys a from (b - a) k Null small one)
 
--- parts that are the same throughout are one
+-- Parts that are equal at each position are equal.
 pub lists_same : (xs ys : List Value) (a b from to k : ℕ) → b - a ≡ to - from → k ≡ b - a → take k (drop a xs) ≡ take k (drop from ys) →
     list_of (slice_range xs a b) ≡ list_of (slice_range ys from to)
 lists_same xs ys a b from to k long all same =
@@ -73,13 +73,13 @@ lists_same xs ys a b from to k long all same =
 minus_none : (n : ℕ) → n - 0 ≡ n
 minus_none n = omega arith
 
--- the whole list as a part
+-- The whole list as a part.
 pub whole_part : {A : Type 0} (xs : List A) (n : ℕ) → n ≡ length xs → slice_range xs 0 n ≡ xs
 whole_part xs n all = ap (λ k. take k xs) (minus_none n) ∙ take_all n xs (omega (arith, all))
 
--- ---- tuples
+-- ---- structs
 
--- the entry of a field at a place, and of each field
+-- The value of a field at a position, and that of each field.
 abbrev pub entry_at : ℕ → Column → Value
 entry_at place field = get_or (rows field) place Null
 
@@ -90,13 +90,13 @@ each_entry : (place : ℕ) (fields : List Column) → map (λ field. get_or fiel
 each_entry place [] = refl
 each_entry place (field ∷ fields) = ap (λ l. get_or (rows field) place Null ∷ l) (each_entry place fields)
 
-tuple_is : (place : ℕ) (fields : List Column) → tuple_at (map rows fields) place ≡ Tuple (values_of (entries_at place fields))
+tuple_is : (place : ℕ) (fields : List Column) → struct_at (map rows fields) place ≡ Tuple (values_of (entries_at place fields))
 tuple_is place fields = ap (λ l. Tuple (values_of l)) (each_entry place fields)
 
-pub tuples_same : (place at : ℕ) (fields others : List Column) → entries_at place fields ≡ entries_at at others → tuple_at (map rows fields) place ≡ tuple_at (map rows others) at
+pub tuples_same : (place at : ℕ) (fields others : List Column) → entries_at place fields ≡ entries_at at others → struct_at (map rows fields) place ≡ struct_at (map rows others) at
 tuples_same place at fields others same = tuple_is place fields ∙ ap (λ l. Tuple (values_of l)) same ∙ sym (tuple_is at others)
 
-pub same_tuples : (place at : ℕ) (fields others : List Column) → tuple_at (map rows fields) place ≡ tuple_at (map rows others) at → entries_at place fields ≡ entries_at at others
+pub same_tuples : (place at : ℕ) (fields others : List Column) → struct_at (map rows fields) place ≡ struct_at (map rows others) at → entries_at place fields ≡ entries_at at others
 same_tuples place at fields others same =
     let one : Tuple (values_of (entries_at place fields)) ≡ Tuple (values_of (entries_at at others)) = sym (tuple_is place fields) ∙ same ∙ tuple_is at others in
     sym (list_back (entries_at place fields)) ∙ ap parts_of one ∙ list_back (entries_at at others)

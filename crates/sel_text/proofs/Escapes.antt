@@ -1,4 +1,4 @@
--- Characters of texts between quotes.
+-- Characters of quoted strings.
 use Rattle.std.proofs.Common.{◌≡◌, ◌≢◌, ℕ, ◌+◌, ◌/◌, ◌≤◌, ◌<◌, Bool, true, false, cond, List, [], ◌∷◌, ◌++◌, refl, ap, sym, ◌∙◌, arith, append_assoc, append-nil}
 use Rattle.std.specs.Prelude.{nat_lt}
 use Rattle.std.specs.List.{flat_map}
@@ -9,14 +9,14 @@ use Rattle.std.proofs.lemmas.Str.{encode_ascii, encodes-append, chars-encodes}
 use lib.Utf8.{encode, encodes, next}
 use Rattle.sel_text.specs.Texts.{escaped, quoted}
 
--- a byte that needs no escape
+-- A byte that needs no escape.
 pub escaped_plain : (b : ℕ) → b ≢ 34 → b ≢ 92 → 32 ≤ b → escaped b ≡ b ∷ []
 escaped_plain b q s high = grind (arith, nat_tests)
 
 escaped_high : (b : ℕ) → 128 ≤ b → escaped b ≡ b ∷ []
 escaped_high b high = escaped_plain b (λ e. omega arith) (λ e. omega arith) (omega arith)
 
--- a character past the first 128 needs none
+-- A character from 128 on needs no escape.
 pub high_letter : (c : ℕ) → 128 ≤ c → flat_map escaped (encode c) ≡ encode c
 unfolding encode
 high_letter c high = go (nat_lt c 128) (nat_lt c 2048) (nat_lt c 65536) (grind (arith, nat_tests))
@@ -29,7 +29,7 @@ high_letter c high = go (nat_lt c 128) (nat_lt c 2048) (nat_lt c 65536) (grind (
     go false false true is = rw (escaped_high (224 + c / 4096) (omega arith), escaped_high (next (c / 64)) (omega arith), escaped_high (next c) (omega arith)) refl
     go false false false is = rw (escaped_high (240 + c / 262144) (omega arith), escaped_high (next (c / 4096)) (omega arith), escaped_high (next (c / 64)) (omega arith), escaped_high (next c) (omega arith)) refl
 
--- a character that needs no escape
+-- A character that needs no escape.
 pub plain_letter : (c : ℕ) → c ≢ 34 → c ≢ 92 → 32 ≤ c → flat_map escaped (encode c) ≡ encode c
 plain_letter c q s high = go (nat_lt c 128) refl
   where
@@ -41,7 +41,7 @@ plain_letter c q s high = go (nat_lt c 128) refl
         let past : 128 ≤ c = grind (arith, nat_tests, is) in
         high_letter c past
 
--- one character more
+-- One more character.
 pub letters_more : (entry old new ys : List ℕ) (c : ℕ) → old ≡ entry ++ (34 ∷ flat_map escaped (encodes ys)) → new ≡ old ++ flat_map escaped (encode c) →
     new ≡ entry ++ (34 ∷ flat_map escaped (encodes (ys ++ c ∷ [])))
 letters_more entry old new ys c before now =
@@ -51,7 +51,7 @@ letters_more entry old new ys c before now =
     now ∙ ap (λ t. t ++ flat_map escaped (encode c)) before ∙ append_assoc entry (34 ∷ flat_map escaped (encodes ys)) (flat_map escaped (encode c))
     ∙ ap (λ t. entry ++ (34 ∷ t)) (sym grown)
 
--- the characters of a text, written out
+-- The characters of a string, encoded.
 pub letters_of : (bs : List ℕ) → IsUtf8 bs → encodes (chars bs) ≡ bs
 letters_of bs u = ap (λ t. encodes (chars t)) (sym u.1.1) ∙ ap encodes (chars-encodes u.0 u.1.0) ∙ u.1.1
 

@@ -1,4 +1,4 @@
--- The texts of types that are still to be read.
+-- The texts of types that are still to be parsed.
 use Rattle.std.proofs.Common.{◌≡◌, ◌≢◌, ℕ, ◌+◌, ◌-◌, ◌<◌, ◌≤◌, Bool, true, List, [], ◌∷◌, ◌++◌, length, map, get_or, drop, refl, ap, sym, ◌∙◌, arith, append_assoc, length-append, subst}
 use Rattle.std.specs.List.{join_with_byte}
 use Rattle.std.specs.Prelude.{◌^◌, nat_lt, IsTrue}
@@ -9,13 +9,13 @@ use Rattle.sel_arrow.specs.Shape.{Shape, Shapes, no_shapes, next_shape, shapes_o
 use Rattle.sel_arrow.specs.declared.datatype.ArrowDataType.{ArrowDataType}
 use Rattle.sel_arrow.proofs.Lists.{and_first, and_second, both}
 use Rattle.sel_text.specs.Types.{angled, type_text, type_texts}
-use Rattle.sel_text.specs.Limits.{IsTold}
+use Rattle.sel_text.specs.Limits.{ReportsLimit}
 use Rattle.sel_arrow.specs.Depth.{deepest, depth}
 use Rattle.sel_text.specs.Written.{widths_written, all_widths_written}
 use Rattle.sel_text.specs.declared.text_error.Fault.{Fault}
 use Rattle.sel_text.proofs.Making.{told_more}
 
--- what stands behind the first of several types
+-- The text after the first of several types.
 abbrev pub behind_first : Shapes → List ℕ → List ℕ
 behind_first no_shapes more = 62 ∷ more
 behind_first (next_shape s ss) more = 44 ∷ (type_text s ++ behind_first ss more)
@@ -25,12 +25,12 @@ join_behind s no_shapes more = refl
 join_behind s (next_shape t ss) more =
     append_assoc (type_text s) (44 ∷ join_with_byte 44 (type_texts (next_shape t ss))) (62 ∷ more) ∙ ap (λ l. type_text s ++ (44 ∷ l)) (join_behind t ss more)
 
--- behind the opening bracket
+-- After the opening bracket.
 pub behind_bracket : (s : Shape) (ss : Shapes) (text more : List ℕ) → 60 ∷ text ≡ angled (type_texts (next_shape s ss)) ++ more → text ≡ type_text s ++ behind_first ss more
 behind_bracket s ss text more is =
     ap (drop 1) is ∙ append_assoc (join_with_byte 44 (type_texts (next_shape s ss))) (62 ∷ []) more ∙ join_behind s ss more
 
--- types that were read before others
+-- Types that were parsed, followed by others.
 abbrev pub shapes_then : List Shape → Shapes → Shapes
 shapes_then [] others = others
 shapes_then (s ∷ read) others = next_shape s (shapes_then read others)
@@ -43,7 +43,7 @@ then_none : (read : List Shape) → shapes_then read no_shapes ≡ shapes_of rea
 then_none [] = refl
 then_none (r ∷ read) = ap (next_shape r) (then_none read)
 
--- what is left of types while they are read
+-- The types that remain while types are parsed.
 pub record IsLeft (all : Shapes) (read : List ArrowDataType) (rest more : List ℕ) : Type 0 where
   pub first : Shape
   pub others : Shapes
@@ -51,7 +51,7 @@ pub record IsLeft (all : Shapes) (read : List ArrowDataType) (rest more : List �
   pub whole : shapes_then (map shape_of read) (next_shape first others) ≡ all
   pub text : rest ≡ type_text first ++ behind_first others more
 
--- at first all of them are left
+-- At first all types remain.
 pub all_left : (s : Shape) (ss : Shapes) (text more : List ℕ) → all_widths_written (next_shape s ss) ≡ true → 60 ∷ text ≡ angled (type_texts (next_shape s ss)) ++ more → IsLeft (next_shape s ss) [] text more
 all_left s ss text more narrow is = record { first = s; others = ss; narrow = narrow; whole = refl; text = behind_bracket s ss text more is }
 
@@ -61,7 +61,7 @@ first_narrow s ss narrow = and_first (widths_written s) (all_widths_written ss) 
 others_narrow : (s : Shape) (ss : Shapes) → all_widths_written (next_shape s ss) ≡ true → all_widths_written ss ≡ true
 others_narrow s ss narrow = and_second (widths_written s) (all_widths_written ss) narrow
 
--- the bracket closes behind the last of them
+-- The closing bracket follows the last type.
 pub last_read : (all : Shapes) (read grown : List ArrowDataType) (field : ArrowDataType) (rest text end more : List ℕ) (left : IsLeft all read rest more) → grown ≡ read ++ field ∷ [] →
     (shape_of field ≡ left.first) × (text ≡ behind_first left.others more) → text ≡ 62 ∷ end → (shapes_of (map shape_of grown) ≡ all) × (end ≡ more)
 last_read all read grown field rest text end more left is told closed = go left.others left.whole told.1
@@ -74,7 +74,7 @@ last_read all read grown field rest text end more left is told closed = go left.
         (sym (then_none (map shape_of grown)) ∙ ap (λ l. shapes_then l no_shapes) grown_shapes ∙ then_one (map shape_of read) left.first no_shapes ∙ whole, ap (drop 1) (sym closed ∙ behind))
     go (next_shape s ss) whole behind = let first : 62 ≡ 44 = ap (λ l. get_or l 0 0) (sym closed ∙ behind) in absurd (omega (arith, first))
 
--- where it does not, a comma and another type stand there
+-- Otherwise a comma and another type follow.
 pub more_left : (all : Shapes) (read grown : List ArrowDataType) (field : ArrowDataType) (rest text behind more : List ℕ) (left : IsLeft all read rest more) → grown ≡ read ++ field ∷ [] →
     (shape_of field ≡ left.first) × (text ≡ behind_first left.others more) → text ≡ 44 ∷ behind → IsLeft all grown behind more
 more_left all read grown field rest text behind more left is told comma = go left.others left.narrow left.whole told.1
@@ -92,12 +92,12 @@ more_left all read grown field rest text behind more left is told comma = go lef
       text = ap (drop 1) (sym comma ∙ here);
     }
 
--- one of the two stands there
+-- A closing bracket or a comma follows each type.
 pub bracket_or_comma : (others : Shapes) (text more : List ℕ) → text ≡ behind_first others more → ((rest : List ℕ) → text ≢ 62 ∷ rest) → ((rest : List ℕ) → text ≢ 44 ∷ rest) → ⊥
 bracket_or_comma no_shapes text more is no_bracket no_comma = no_bracket _ is
 bracket_or_comma (next_shape s ss) text more is no_bracket no_comma = no_comma _ is
 
--- so the text does not end before
+-- So the text does not end there.
 pub not_ended : (all : Shapes) (read : List ArrowDataType) (rest more : List ℕ) → IsLeft all read rest more → length rest ≡ 0 → ⊥
 not_ended all read rest more left none =
     let long = ap length left.text in
@@ -109,11 +109,11 @@ not_ended all read rest more left none =
     has_some no_shapes = omega arith
     has_some (next_shape s ss) = omega arith
 
--- the first type that is left is narrow
+-- The list sizes of the first remaining type have 64 bits.
 pub left_narrow : (all : Shapes) (read : List ArrowDataType) (rest more : List ℕ) (left : IsLeft all read rest more) → IsTrue (widths_written left.first)
 left_narrow all read rest more left = first_narrow left.first left.others left.narrow
 
--- behind `struct<` stands a bracket where there are no types, and otherwise a letter
+-- After `struct<`, a bracket means that there are no types, and a letter that there are some.
 pub no_types : (parts : Shapes) (rest more : List ℕ) → 60 ∷ 62 ∷ rest ≡ angled (type_texts parts) ++ more → (parts ≡ no_shapes) × (rest ≡ more)
 no_types no_shapes rest more is = (refl, ap (drop 2) is)
 no_types (next_shape s ss) rest more is = absurd (letter s (behind_first ss more) rest (behind_bracket s ss (62 ∷ rest) more is))
@@ -123,23 +123,23 @@ no_types (next_shape s ss) rest more is = absurd (letter s (behind_first ss more
     letter (of_fixed_size_list s n) more rest is = let first = ap (λ l. get_or l 0 0) is in omega (arith, first)
     letter s more rest is = let first = ap (λ l. get_or l 0 0) is in omega (arith, first)
 
--- where no bracket stands there, there are types
+-- Without a bracket there are types.
 pub some_types : (parts : Shapes) (text more : List ℕ) → 60 ∷ text ≡ angled (type_texts parts) ++ more → ((rest : List ℕ) → text ≢ 62 ∷ rest) → (first : Shape) × (others : Shapes) × (parts ≡ next_shape first others)
 some_types no_shapes text more is none = absurd (none more (ap (drop 1) is))
 some_types (next_shape s ss) text more is none = (s, ss, refl)
 
--- the width and the child's widths of a type of lists of one length
+-- The list size of a fixed-size list type, and the list sizes in its child type.
 pub block_narrow : (s : Shape) (size : ℕ) → widths_written (of_fixed_size_list s size) ≡ true → (size < 2 ^ 64) × (widths_written s ≡ true)
 block_narrow s size narrow = (grind (arith, nat_tests, and_first (nat_lt size (2 ^ 64)) (widths_written s) narrow), and_second (nat_lt size (2 ^ 64)) (widths_written s) narrow)
 
--- none of several types is deeper than the deepest
+-- No type is nested more deeply than the deepest one.
 first_depth : (read : List Shape) (s : Shape) (ss : Shapes) → depth s ≤ deepest (shapes_then read (next_shape s ss))
 first_depth [] s ss = omega arith
 first_depth (r ∷ read) s ss = let others = first_depth read s ss in omega (arith, others)
 
--- so a field that is too deep makes the tuples so
+-- So a field that is nested too deeply makes the struct so.
 pub field_told : (all : Shapes) (read : List ArrowDataType) (rest more : List ℕ) (left : IsLeft all read rest more) (levels : ℕ) (fault : Fault) → 0 < levels →
-    IsTold (nat_lt (levels - 1) (depth left.first)) fault → IsTold (nat_lt levels (depth (of_struct all))) fault
+    ReportsLimit (nat_lt (levels - 1) (depth left.first)) fault → ReportsLimit (nat_lt levels (depth (of_struct all))) fault
 field_told all read rest more left levels fault some told = told_more (nat_lt (levels - 1) (depth left.first)) (nat_lt levels (depth (of_struct all))) fault deeper told
   where
     inside : depth left.first ≤ deepest all
@@ -148,7 +148,7 @@ field_told all read rest more left levels fault some told = told_more (nat_lt (l
     deeper : nat_lt (levels - 1) (depth left.first) ≡ true → nat_lt levels (depth (of_struct all)) ≡ true
     deeper past = let deep : levels - 1 < depth left.first = grind (arith, nat_tests, past) in let all_deep : levels < deepest all + 1 = omega (arith, deep, inside, some) in grind (arith, nat_tests, all_deep)
 
--- one type more is deeper only where it is itself
+-- One more type increases the nesting depth only if it is deeper itself.
 pub grown_depth : (read grown : List ArrowDataType) (field : ArrowDataType) (levels : ℕ) → grown ≡ read ++ field ∷ [] → deepest (shapes_of (map shape_of read)) < levels → depth (shape_of field) < levels →
     deepest (shapes_of (map shape_of grown)) < levels
 grown_depth read grown field levels is few one = subst (λ l. deepest (shapes_of (map shape_of l)) < levels) (sym is) (go read few)
@@ -157,7 +157,7 @@ grown_depth read grown field levels is few one = subst (λ l. deepest (shapes_of
     go [] few = omega (arith, one, few)
     go (r ∷ read) few = let others = go read (omega (arith, few)) in omega (arith, few, others)
 
--- and has a width past 64 bits only where it is its own
+-- One more type has a list size of more than 64 bits only if it has it itself.
 pub grown_narrow : (read grown : List ArrowDataType) (field : ArrowDataType) → grown ≡ read ++ field ∷ [] → all_widths_written (shapes_of (map shape_of read)) ≡ true → widths_written (shape_of field) ≡ true →
     all_widths_written (shapes_of (map shape_of grown)) ≡ true
 grown_narrow read grown field is narrow one = subst (λ l. all_widths_written (shapes_of (map shape_of l)) ≡ true) (sym is) (go read narrow)

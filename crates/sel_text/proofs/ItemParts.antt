@@ -1,4 +1,4 @@
--- What stands below items, and their parts.
+-- The child rows of parsed items.
 use Rattle.std.proofs.Common.{◌≡◌, Bor, ℕ, ◌+◌, ◌<◌, ◌≤◌, List, [], ◌∷◌, ◌++◌, map, take, length, get_or, Vec, Global, sym, ap, ◌∙◌}
 use Rattle.std.specs.Prelude.{slice_index_or}
 use Rattle.std.proofs.lemmas.List.{length-map, get_or-map, get_or_past, map_more, take_all}
@@ -15,12 +15,12 @@ list_read items = items_value items (values_of (map item_value items.items)) (sy
 tuple_read : (parts : Vec Item Global) → item_value (PartsItem parts) ≡ Tuple (values_of (map item_value parts.items))
 tuple_read parts = parts_value parts (values_of (map item_value parts.items)) (sym (list_back (map item_value parts.items)))
 
--- what stands below a list that was read
+-- The child rows of a parsed list.
 pub items_listed : (item : Item) (items : Vec Item Global) → item ≡ ItemsItem items → (below : Value → List Value) → ((entries : Values) → below (Items entries) ≡ listed entries) → below (item_value item) ≡ map item_value items.items
 items_listed item items is below each =
     ap (λ i. below (item_value i)) is ∙ ap below (list_read items) ∙ each (values_of (map item_value items.items)) ∙ list_back (map item_value items.items)
 
--- the part of a tuple that was read
+-- A field value of a parsed struct.
 pub part_read : (item : Item) (parts : Vec Item Global) (place : ℕ) → item ≡ PartsItem parts → part_in place (item_value item) ≡ slice_index_or (map item_value parts.items) place Null
 part_read item parts place is =
     ap (λ i. part_in place (item_value i)) is ∙ ap (part_in place) (tuple_read parts) ∙ ap (λ l. slice_index_or l place Null) (list_back (map item_value parts.items))
@@ -33,7 +33,7 @@ pub part_none : (item : Item) (parts : Vec Item Global) (place : ℕ) → item �
 part_none item parts place is past =
     part_read item parts place is ∙ get_or_past (map item_value parts.items) place Null (rw length-map past)
 
--- the rows of one item more, and of all of them
+-- The rows of one more item, and of all items.
 pub one_more : (items : List (Bor Item)) (i : ℕ) (item : Bor Item) → i < length items → item ≡ get_or items i item → rows_read (take (i + 1) items) ≡ rows_read (take i items) ++ item_value item.now ∷ []
 one_more items i item below is = map_more (λ item. item_value item.now) items i item below ∙ ap (λ x. rows_read (take i items) ++ item_value x.now ∷ []) (sym is)
 

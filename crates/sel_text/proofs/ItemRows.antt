@@ -1,4 +1,4 @@
--- What was read for rows with entries, as values.
+-- The values of parsed rows with entries.
 use Rattle.std.proofs.Common.{◌≡◌, List, [], ◌∷◌, ◌++◌, map, Vec, Global, refl, ap, ◌∙◌}
 use Rattle.std.proofs.lemmas.List.{map-append}
 use mathlib.Core.Former.{Count}
@@ -20,18 +20,18 @@ pub values_back : (vs : Values) → values_of (listed vs) ≡ vs
 values_back no_values = refl
 values_back (next_value v vs) = ap (next_value v) (values_back vs)
 
--- a list of what was read is the value of its entries
+-- A parsed list is the list of the values of its entries.
 pub items_value : (items : Vec Item Global) (vs : Values) → map item_value items.items ≡ listed vs → item_value (ItemsItem items) ≡ Items vs
 items_value items vs is =
     let row = items_in (ItemsItem items) in
     ap Items (each_item row.0 row.1 ∙ ap (λ l. values_of (map item_value l)) (items_hidden-the_row-Item-0 items) ∙ ap values_of is ∙ values_back vs)
 
--- and so is a tuple
+-- A parsed struct is the struct of the values of its parts.
 pub parts_value : (parts : Vec Item Global) (vs : Values) → map item_value parts.items ≡ listed vs → item_value (PartsItem parts) ≡ Tuple vs
 parts_value parts vs is =
     let row = items_in (PartsItem parts) in
     ap Tuple (each_item row.0 row.1 ∙ ap (λ l. values_of (map item_value l)) (items_hidden-the_row-Item-0 parts) ∙ ap values_of is ∙ values_back vs)
 
--- one item more
+-- One more item.
 pub item_more : (grown items : List Item) (item : Item) (v : Value) → grown ≡ items ++ item ∷ [] → item_value item ≡ v → map item_value grown ≡ map item_value items ++ v ∷ []
 item_more grown items item v grows is = ap (map item_value) grows ∙ map-append item_value items (item ∷ []) ∙ ap (λ x. map item_value items ++ x ∷ []) is

@@ -1,4 +1,4 @@
--- What a column's maker and its refusal tell.
+-- The results of column constructors, and their errors.
 use Rattle.std.proofs.Common.{◌≡◌, Bool, true, false, ◌||◌, List, [], ◌∷◌, length, replicate, Option, Some, None, refl, ap}
 use Rattle.std.specs.List.{list_all}
 use Rattle.sel_arrow.specs.Shape.{of_null}
@@ -8,8 +8,8 @@ use Rattle.sel_bits.specs.declared.faults.Malformed.{Malformed}
 use Rattle.sel_bits.specs.declared.faults.MakeError.{MakeError}
 use Rattle.sel_bits.specs.declared.faults.MakeError.TheVariants.{Malformed as Broken, OutOfMemory as WantOfMemory}
 use Rattle.sel_text.specs.Fits.{fits}
-use Rattle.sel_text.specs.Limits.{IsTold}
-use Rattle.sel_text.specs.TextErrors.{make_fault, IsWanting}
+use Rattle.sel_text.specs.Limits.{ReportsLimit}
+use Rattle.sel_text.specs.TextErrors.{make_fault, IsMemoryFault}
 use Rattle.sel_text.specs.declared.text_error.Fault.{Fault}
 use Rattle.sel_text.specs.declared.text_error.Fault.TheVariants.{Syntax, «Type», Limit, OutOfMemory}
 
@@ -21,29 +21,29 @@ pub or_second : (a b : Bool) → b ≡ true → (a || b) ≡ true
 or_second true b e = refl
 or_second false b e = e
 
--- a limit below is one of the whole
-pub told_more : (p q : Bool) (fault : Fault) → (p ≡ true → q ≡ true) → IsTold p fault → IsTold q fault
+-- A limit that the child rows exceed is a limit of the whole.
+pub told_more : (p q : Bool) (fault : Fault) → (p ≡ true → q ≡ true) → ReportsLimit p fault → ReportsLimit q fault
 told_more p q Limit more told = more told
 told_more p q OutOfMemory more told = tt
 told_more p q (Syntax n) more told = absurd told
 told_more p q («Type» n) more told = absurd told
 
-pub told_wanting : (p : Bool) (fault : Fault) → IsWanting fault → IsTold p fault
+pub told_wanting : (p : Bool) (fault : Fault) → IsMemoryFault fault → ReportsLimit p fault
 told_wanting p Limit wants = absurd wants
 told_wanting p OutOfMemory wants = tt
 told_wanting p (Syntax n) wants = absurd wants
 told_wanting p («Type» n) wants = absurd wants
 
--- what a maker refuses is told as a limit
-pub maker_told : (rule : Option Malformed) (error : MakeError) (p : Bool) → IsFaultOrMemory rule error → ((m : Malformed) → rule ≡ Some m → p ≡ true) → IsTold p (make_fault error)
+-- An error of a constructor for an exceeded limit is reported as `Limit`.
+pub maker_told : (rule : Option Malformed) (error : MakeError) (p : Bool) → IsFaultOrMemory rule error → ((m : Malformed) → rule ≡ Some m → p ≡ true) → ReportsLimit p (make_fault error)
 maker_told rule (Broken m) p is past = past m is
 maker_told rule WantOfMemory p is past = tt
 
-pub maker_wanting : (rule : Option Malformed) (error : MakeError) → IsFaultOrMemory rule error → rule ≡ None → IsWanting (make_fault error)
+pub maker_wanting : (rule : Option Malformed) (error : MakeError) → IsFaultOrMemory rule error → rule ≡ None → IsMemoryFault (make_fault error)
 maker_wanting rule (Broken m) is kept = absurd (cc (is, kept))
 maker_wanting rule WantOfMemory is kept = tt
 
--- the only rule that is broken is the first one, where the others are kept
+-- If only the first of three rules can be broken, a broken rule is the first.
 pub first_of_three : (a b d : Bool) (r s t m : Malformed) → b ≡ false → d ≡ false → first_broken ((r, a) ∷ (s, b) ∷ (t, d) ∷ []) ≡ Some m → a ≡ true
 first_of_three true b d r s t m second third is = refl
 first_of_three false false false r s t m second third is = absurd cc
@@ -54,7 +54,7 @@ pub first_of_four : (a b d e : Bool) (r s t u m : Malformed) → d ≡ false →
 first_of_four true b d e r s t u m third fourth is = refl
 first_of_four false b d e r s t u m third fourth is = first_of_three b d e s t u m third fourth is
 
--- each row of a type of nulls is null
+-- Each row of the null type is null.
 pub all_nulls : (vs : List Value) → list_all (fits of_null) vs ≡ true → replicate (length vs) Null ≡ vs
 all_nulls [] fit = refl
 all_nulls (Null ∷ vs) fit = ap (λ l. Null ∷ l) (all_nulls vs fit)

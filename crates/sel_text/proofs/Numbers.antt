@@ -1,4 +1,4 @@
--- Numbers as they are read.
+-- Numbers as they are parsed.
 use Rattle.std.proofs.Common.{◌≡◌, ℕ, ℤ, pos, negsuc, suc, ◌^◌, ◌<◌, true, List, ◌++◌, ap, sym, ◌∙◌, ◌∷◌, drop, arith, subst}
 use Rattle.std.specs.Prelude.{◌-ℤ◌, FitsSigned}
 use Rattle.std.specs.Fmt.{decimal}
@@ -15,17 +15,17 @@ use Rattle.sel_text.proofs.Decoded.{no_minus}
 use Rattle.sel_text.proofs.Ends.{numeral_is, numeral_told}
 use Rattle.sel_text.proofs.Told.{small_number, small_below}
 
--- all the digits at the front write the number
+-- All digits at the front are the number.
 pub digits_told : (n : ℕ) (bytes digits rest more : List ℕ) → n < 2 ^ 128 → bytes ≡ digits ++ rest → AllDigits 10 digits → NoDigit rest → NoDigit more → bytes ≡ decimal n ++ more → (digits_value 10 digits ≡ n) × (rest ≡ more)
 digits_told n bytes digits rest more small parts all end ends is =
     let told = numeral_told bytes digits rest parts all end n more small ends is in
     (ap (digits_value 10) told.0 ∙ (numeral_is n small).1, told.1)
 
--- a number that fits a type has at most 128 bits
+-- A number that fits a type has at most 128 bits.
 pub plain_small : (s : Shape) (n : ℕ) → fits_number s (pos n) ≡ true → n < 2 ^ 128
 plain_small s n fit = small_number s (pos n) fit
 
--- and one below zero one bit less
+-- A negative number that fits a type has one bit less.
 pub below_small : (s : Shape) (n : ℕ) → fits_number s (negsuc n) ≡ true → suc n < 2 ^ 128
 below_small s n fit = let small = small_below s n fit in omega (arith, small)
 
@@ -35,13 +35,13 @@ below_signed s n size fit is =
     let same : pos 0 -ℤ pos size ≡ negsuc n = ap (λ k. pos 0 -ℤ pos k) is ∙ omega (arith, ints) in
     (subst (FitsSigned w128) (sym same) (record { sfits = small }), same)
 
--- as it is kept
+-- The negative number as it is stored.
 pub below_kept : (s : Shape) (n size : ℕ) (z : ℤ) → fits_number s (negsuc n) ≡ true → size ≡ suc n → z ≡ pos 0 -ℤ pos size → to_z w128 (of_z w128 z) ≡ negsuc n
 below_kept s n size z fit is taken =
     let below = below_signed s n size fit is in
     to_z-of_z w128 z (subst (FitsSigned w128) (sym taken) below.0) ∙ taken ∙ below.1
 
--- behind a minus stands a number below zero
+-- A negative number follows a minus sign.
 pub minus_told : (R : ℤ → List ℕ → Type 0) (s : Shape) (text numeral : List ℕ) → text ≡ 45 ∷ numeral → ((n : ℕ) (more : List ℕ) → fits_number s (negsuc n) ≡ true → NoDigit more → numeral ≡ decimal (suc n) ++ more → R (negsuc n) more) →
     (z : ℤ) (more : List ℕ) → fits_number s z ≡ true → NoDigit more → text ≡ signed_decimal z ++ more → R z more
 minus_told R s text numeral minus read (pos n) more fit end is =

@@ -1,4 +1,4 @@
--- Offsets of rows of any type, by the entries below each of them.
+-- Offsets of rows of any type, by the entries of each row.
 use Rattle.std.proofs.Common.{◌≡◌, ℕ, ◌+◌, ◌<◌, ℤ, pos, suc, false, ◌||◌, List, [], ◌∷◌, ◌++◌, length, map, None, refl, ap, sym, subst, ◌∙◌, arith, append_assoc, length-append, w64, FitsSigned, to_z, of_z}
 use Rattle.std.specs.Prelude.{nat_lt, slice_index}
 use Rattle.std.specs.List.{flat_map, slice_range}
@@ -11,7 +11,7 @@ use Rattle.sel_bits.specs.Offsets.{falls_after, has_negative, offsets_fault}
 use Rattle.sel_arrow.specs.Pieces.{last_offset, pieces, pieces_after, rows_between}
 use Rattle.sel_text.specs.Below.{ends_below, offsets_below}
 
--- a place that is stored as an offset
+-- A position that is stored as an offset.
 pub end_kept : (z : ℤ) (n : ℕ) → z ≡ pos n → n < 9223372036854775808 → to_z w64 (of_z w64 z) ≡ pos n
 end_kept z n is small = to_z-of_z w64 z (subst (FitsSigned w64) (sym is) (record { sfits = small })) ∙ is
 
@@ -31,11 +31,11 @@ none_negative (n ∷ ns) = none_negative ns
 from_none : (n : ℕ) → 0 + n ≡ n
 from_none n = omega arith
 
--- the part of a list behind another
+-- A part of a list after a prefix.
 pub slice_here : {B : Type 0} (pre xs ys : List B) (a b : ℕ) → a ≡ length pre → b ≡ a + length xs → slice_range (pre ++ (xs ++ ys)) a b ≡ xs
 slice_here pre xs ys a b start end = grind (arith, common_steps)
 
--- entries and offsets hold rows
+-- The entries and the offsets of rows.
 pub record Holds {A B : Type 0} (below : A → List B) (rows : List A) (entries : List B) (ends : List ℤ) : Type 0 where
   pub entries_are : entries ≡ flat_map below rows
   pub ends_are : ends ≡ map pos (offsets_below below rows)
@@ -70,7 +70,7 @@ module _ {A B : Type 0} (below : A → List B) where
       let rest = rw (length-append pre (below row), append_assoc pre (below row) (flat_map below rows)) at (parts_back (pre ++ below row) rows) in
       cc (here, rest)
 
-  -- one row more
+  -- One more row.
   pub holds_more : (before after : List A) (row : A) (old new : List B) (ends more : List ℤ) (end : ℤ) (place : ℕ) → Holds below before old ends → after ≡ before ++ row ∷ [] → new ≡ old ++ below row → more ≡ ends ++ end ∷ [] → end ≡ pos place → place ≡ length new →
       Holds below after new more
   holds_more before after row old new ends more end place so grows put adds is there =
@@ -82,11 +82,11 @@ module _ {A B : Type 0} (below : A → List B) where
             ∙ sym (map-append pos (offsets_below below before) ((0 + length (flat_map below (before ++ row ∷ []))) ∷ [])) ∙ ap (λ l. pos 0 ∷ map pos l) (sym (ends_more 0 before row));
       })
 
-  -- they break no rule
+  -- These offsets break no rule.
   pub no_offsets_fault : (rows : List A) (entries : List B) (ends : List ℤ) → Holds below rows entries ends → offsets_fault (λ (z : ℤ). z) ends ≡ None
   no_offsets_fault rows entries ends so = ap (offsets_fault (λ (z : ℤ). z)) so.ends_are ∙ rw (none_negative (offsets_below below rows), none_falls 0 rows) refl
 
-  -- the numbers that were read from them
+  -- The natural numbers of these offsets.
   pub offsets_read : (rows : List A) (entries : List B) (ends : List ℤ) (offsets : List ℕ) → Holds below rows entries ends → map (λ (z : ℤ). z) ends ≡ map pos offsets → offsets ≡ offsets_below below rows
   offsets_read rows entries ends offsets so shown = same_numbers offsets (offsets_below below rows) (sym shown ∙ map-id ends ∙ so.ends_are)
 
@@ -99,6 +99,6 @@ module _ {A B : Type 0} (below : A → List B) where
         let last : last_offset offsets ≡ 0 + length (flat_map below rows) = ap (λ n. slice_index offsets n) count_between ∙ ap (λ l. slice_index l (length rows)) are ∙ last_end 0 rows in
         grind (arith, nat_tests, last, long)
 
-    -- what lies between them
+    -- The entries between these offsets.
     pub parts_between : (entries : List B) → entries ≡ flat_map below rows → pieces offsets entries ≡ map below rows
     parts_between entries all = ap (λ l. pieces l entries) are ∙ ap (pieces (offsets_below below rows)) all ∙ parts_back [] rows

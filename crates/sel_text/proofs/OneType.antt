@@ -1,4 +1,4 @@
--- Types with one text are one type.
+-- Types with the same text are equal.
 use Rattle.std.proofs.Common.{◌≡◌, ℕ, ◌<◌, true, List, [], ◌∷◌, ◌++◌, drop, get_or, refl, ap, sym, ◌∙◌, arith, lit<, append_assoc}
 use Rattle.std.specs.Prelude.{◌^◌, codes}
 use Rattle.std.specs.Fmt.{decimal}
@@ -10,13 +10,13 @@ use Rattle.sel_text.proofs.Ends.{numbers_told}
 use Rattle.sel_text.proofs.Fields.{behind_first, behind_bracket, block_narrow, no_types}
 use Rattle.sel_text.proofs.TypesTold.{plain_told, blocks_told, tuples_told}
 
--- ---- texts that begin with one type
+-- ---- texts that begin with a type
 
--- a text that begins with the type begins with no other one
+-- A text that begins with the text of this type begins with that of no other type.
 record Tells (s : Shape) : Type 0 where
   told : (t : Shape) (more rest : List ℕ) → widths_written s ≡ true → widths_written t ≡ true → type_text s ++ more ≡ type_text t ++ rest → (s ≡ t) × (more ≡ rest)
 
--- the same of types with a comma before each
+-- The same for types that each follow a comma.
 record TellsLeft (ss : Shapes) : Type 0 where
   told : (ts : Shapes) (more rest : List ℕ) → all_widths_written ss ≡ true → all_widths_written ts ≡ true → behind_first ss more ≡ behind_first ts rest → (ss ≡ ts) × (more ≡ rest)
 
@@ -58,7 +58,7 @@ next_case s ss tells left (next_shape t ts) more rest narrow narrow_others is =
     let others = left.told ts more rest (and_second (widths_written s) (all_widths_written ss) narrow) (and_second (widths_written t) (all_widths_written ts) narrow_others) first.1 in
     (ap (λ x. next_shape x ss) first.0 ∙ ap (next_shape t) others.0, others.1)
 
--- types between angle brackets
+-- Types in angle brackets.
 parts_told : (ss : Shapes) → TellsLeft ss → (ts : Shapes) (more rest : List ℕ) → all_widths_written ss ≡ true → all_widths_written ts ≡ true → angled (type_texts ss) ++ more ≡ angled (type_texts ts) ++ rest → (ss ≡ ts) × (more ≡ rest)
 parts_told no_shapes left ts more rest narrow narrow_others is = let none = no_types ts more rest is in (sym none.0, none.1)
 parts_told (next_shape s ss) left no_shapes more rest narrow narrow_others is = let none = no_types (next_shape s ss) rest more (sym is) in (none.0, sym none.1)
@@ -84,6 +84,6 @@ mutual
   tells_left no_shapes = record { told = λ ts more rest narrow narrow_others is. no_more ts more rest is }
   tells_left (next_shape s ss) = record { told = next_case s ss (tells s) (tells_left ss) }
 
--- types with one text are one, where each width is of 64 bits
+-- Types whose list sizes have 64 bits are equal if their texts are equal.
 pub one_type : (s t : Shape) → widths_written s ≡ true → widths_written t ≡ true → type_text s ≡ type_text t → s ≡ t
 one_type s t narrow narrow_other same = ((tells s).told t [] [] narrow narrow_other (ap (λ l. l ++ []) same)).0

@@ -1,4 +1,4 @@
--- Parts of tuples, and tuples of them.
+-- The fields of struct rows, and struct rows made of fields.
 use Rattle.std.proofs.Common.{◌≡◌, ℕ, zero, suc, ◌+◌, ◌-◌, ◌<◌, true, false, ◌==◌, List, [], ◌∷◌, ◌++◌, map, length, take, get_or, Option, Some, refl, sym, ap, subst, ◌∙◌, arith, append_assoc, length-append, not}
 use Rattle.std.specs.Prelude.{slice_index_or}
 use Rattle.std.specs.List.{list_all, range_with_len}
@@ -11,8 +11,8 @@ use Rattle.sel_bits.specs.declared.faults.Malformed.TheVariants.{TooManyRows, Fi
 use Rattle.sel_arrow.specs.DataType.{shape_of}
 use Rattle.sel_arrow.specs.Makers.{struct_fault}
 use Rattle.sel_arrow.specs.Masked.{masked, too_many, validity_differs, Covers}
-use Rattle.sel_arrow.specs.Nested.{tuple_at, tuple_rows}
-use Rattle.sel_arrow.specs.NestedArrays.{tuple_column}
+use Rattle.sel_arrow.specs.Nested.{struct_at, struct_rows}
+use Rattle.sel_arrow.specs.NestedArrays.{struct_column}
 use Rattle.sel_arrow.specs.Rows.{rows, row_count, type_of}
 use Rattle.sel_arrow.specs.Shape.{Shape, of_struct, shapes_of}
 use Rattle.sel_arrow.specs.Value.{Value, Null, Truth, Number, Bytes, Items, Tuple, Values, no_values, next_value, values_of, listed, is_valid}
@@ -25,14 +25,14 @@ use Rattle.sel_arrow.proofs.Trees.{rows-Struct}
 use Rattle.sel_arrow.proofs.Types.{type_of-Struct}
 use Rattle.sel_text.specs.Below.{parts_below, HasParts}
 use Rattle.sel_text.specs.Fits.{fits, parts_fit}
-use Rattle.sel_text.specs.Limits.{any_past, part_in, past_limit, Shows}
-use Rattle.sel_text.specs.declared.build.Beneath.{Beneath}
+use Rattle.sel_text.specs.Limits.{any_exceeds_limit, part_in, exceeds_limit, ShowsRows}
+use Rattle.sel_text.specs.declared.build.NullSlots.{NullSlots}
 use Rattle.sel_text.proofs.ItemRows.{values_back}
 use Rattle.sel_text.proofs.Making.{first_of_three, or_first, or_second}
 use Rattle.sel_text.proofs.Refusals.{no_difference}
 use Rattle.sel_text.proofs.Shown.{show_next}
 
--- ---- the parts fit their types
+-- ---- the field values fit their types
 
 part_fits : (shapes : List Shape) (es : Values) (k : ℕ) (s : Shape) → parts_fit (shapes_of shapes) es ≡ true → k < length shapes → s ≡ get_or shapes k s → fits s (slice_index_or (listed es) k Null) ≡ true
 part_fits [] es k s fit below is = absurd (omega arith)
@@ -53,16 +53,16 @@ parts_kept shapes k s below is [] fit = refl
 parts_kept shapes k s below is (v ∷ vs) fit =
     both (fits s (part_in k v)) (list_all (fits s) (map (part_in k) vs)) (row_part shapes k s below is v (and_first _ _ fit)) (parts_kept shapes k s below is vs (and_second _ _ fit))
 
--- a limit of a part is one of the tuples
-pub past_at : (b : Beneath) (shapes : List Shape) (place k n : ℕ) (s : Shape) (vs : List Value) → k < length shapes → s ≡ get_or shapes k s → place + k ≡ n → past_limit b s (map (part_in n) vs) ≡ true → any_past b (shapes_of shapes) place vs ≡ true
+-- A limit that a field exceeds is a limit of the struct rows.
+pub past_at : (b : NullSlots) (shapes : List Shape) (place k n : ℕ) (s : Shape) (vs : List Value) → k < length shapes → s ≡ get_or shapes k s → place + k ≡ n → exceeds_limit b s (map (part_in n) vs) ≡ true → any_exceeds_limit b (shapes_of shapes) place vs ≡ true
 past_at b [] place k n s vs below is at past = absurd (omega arith)
 past_at b (x ∷ xs) place zero n s vs below is at past =
     let here : n ≡ place = omega arith in
-    or_first (past_limit b x (map (part_in place) vs)) (any_past b (shapes_of xs) (place + 1) vs) (subst (λ t. past_limit b t (map (part_in place) vs) ≡ true) is (subst (λ m. past_limit b s (map (part_in m) vs) ≡ true) here past))
+    or_first (exceeds_limit b x (map (part_in place) vs)) (any_exceeds_limit b (shapes_of xs) (place + 1) vs) (subst (λ t. exceeds_limit b t (map (part_in place) vs) ≡ true) is (subst (λ m. exceeds_limit b s (map (part_in m) vs) ≡ true) here past))
 past_at b (x ∷ xs) place (suc k) n s vs below is at past =
-    or_second (past_limit b x (map (part_in place) vs)) (any_past b (shapes_of xs) (place + 1) vs) (past_at b xs (place + 1) k n s vs (omega arith) is (omega arith) past)
+    or_second (exceeds_limit b x (map (part_in place) vs)) (any_exceeds_limit b (shapes_of xs) (place + 1) vs) (past_at b xs (place + 1) k n s vs (omega arith) is (omega arith) past)
 
--- ---- a tuple is that of its parts
+-- ---- a struct row is made of its field values
 
 count_parts : (shapes : List Shape) (es : Values) → parts_fit (shapes_of shapes) es ≡ true → length (listed es) ≡ length shapes
 count_parts [] no_values fit = refl
@@ -104,17 +104,17 @@ row_parts vs k row is (place ∷ places) =
     ap (λ x. x ∷ map (λ field. slice_index_or field k Null) (map (λ p. map (part_in p) vs) places)) (part_here vs k place ∙ ap (part_in place) is) ∙ ap (λ l. part_in place row ∷ l) (row_parts vs k row is places)
 
 tuples_from : (shapes : List Shape) (all left pre : List Value) (k : ℕ) → list_all (fits (of_struct (shapes_of shapes))) left ≡ true → all ≡ pre ++ left → length pre ≡ k →
-    Shows left (map (tuple_at (parts_below (length shapes) all)) (range_with_len k (length left)))
+    ShowsRows left (map (struct_at (parts_below (length shapes) all)) (range_with_len k (length left)))
 tuples_from shapes all [] pre k fit is long = tt
 tuples_from shapes all (row ∷ left) pre k fit is long =
     let here : get_or all k Null ≡ row = ap (λ l. get_or l k Null) is ∙ entry_here pre left row k long in
     let longer : length (pre ++ row ∷ []) ≡ k + 1 = length-append pre (row ∷ []) ∙ ap (λ n. n + 1) long in
     let parts = row_parts all k row here (range_with_len 0 (length shapes)) in
-    show_next row (tuple_at (parts_below (length shapes) all) k) left (map (tuple_at (parts_below (length shapes) all)) (range_with_len (k + 1) (length left)))
+    show_next row (struct_at (parts_below (length shapes) all) k) left (map (struct_at (parts_below (length shapes) all)) (range_with_len (k + 1) (length left)))
     (λ valid. tuple_of_parts shapes row (and_first _ _ fit) valid ∙ ap (λ l. Tuple (values_of l)) (sym parts))
     (tuples_from shapes all left (pre ++ row ∷ []) (k + 1) (and_second _ _ fit) (is ∙ sym (append_assoc pre (row ∷ []) left)) longer)
 
-tuples_show : (shapes : List Shape) (vs : List Value) → list_all (fits (of_struct (shapes_of shapes))) vs ≡ true → Shows vs (map (tuple_at (parts_below (length shapes) vs)) (range_with_len 0 (length vs)))
+tuples_show : (shapes : List Shape) (vs : List Value) → list_all (fits (of_struct (shapes_of shapes))) vs ≡ true → ShowsRows vs (map (struct_at (parts_below (length shapes) vs)) (range_with_len 0 (length vs)))
 tuples_show shapes vs fit = tuples_from shapes vs vs [] 0 fit refl refl
 
 -- ---- field by field
@@ -137,21 +137,21 @@ parts_more new mid old field dtypes dtype k vs has below is put typed made =
           ∙ ap (λ l. map (λ f. rows f.column) old ++ l) (sym last) ∙ ap (λ n. map (λ f. rows f.column) old ++ parts_below n vs) (sym more);
     }
 
--- ---- the column of the fields
+-- ---- the columns of the fields
 
 columns_of : {A : Type 0} (f : _ → A) (refs : List ArrayRef) → map f (map (λ field. field.column) refs) ≡ map (λ field. f field.column) refs
 columns_of f [] = refl
 columns_of f (r ∷ refs) = ap (λ l. f r.column ∷ l) (columns_of f refs)
 
 pub tuples_made : (shapes : List Shape) (vs : List Value) (refs old : List ArrayRef) (array : StructArray) (validity : Option Bits) → list_all (fits (of_struct (shapes_of shapes))) vs ≡ true → HasParts refs old shapes vs → old ≡ [] →
-    array.len ≡ length vs → array.fields.items ≡ map (λ field. field.column) refs → array.validity ≡ validity → ((plain : List Value) → Shows vs plain → masked validity plain ≡ vs) →
-    (type_of (tuple_column array) ≡ of_struct (shapes_of shapes)) × (rows (tuple_column array) ≡ vs)
+    array.len ≡ length vs → array.fields.items ≡ map (λ field. field.column) refs → array.validity ≡ validity → ((plain : List Value) → ShowsRows vs plain → masked validity plain ≡ vs) →
+    (type_of (struct_column array) ≡ of_struct (shapes_of shapes)) × (rows (struct_column array) ≡ vs)
 tuples_made shapes vs refs old array validity fit has none len fields valid hides =
     let types = ap (map type_of) fields ∙ columns_of type_of refs ∙ has.types ∙ ap (λ l. map (λ field. type_of field.column) l ++ shapes) none in
     let parts = ap (map rows) fields ∙ columns_of rows refs ∙ has.parts ∙ ap (λ l. map (λ field. rows field.column) l ++ parts_below (length shapes) vs) none in (
       type_of-Struct array.len array.fields array.validity ∙ ap (λ l. of_struct (shapes_of l)) types,
-      rows-Struct array.len array.fields array.validity ∙ ap (λ l. tuple_rows array.len l array.validity) parts ∙ ap (λ n. tuple_rows n (parts_below (length shapes) vs) array.validity) len
-          ∙ ap (λ v. tuple_rows (length vs) (parts_below (length shapes) vs) v) valid ∙ hides (map (tuple_at (parts_below (length shapes) vs)) (range_with_len 0 (length vs))) (tuples_show shapes vs fit),
+      rows-Struct array.len array.fields array.validity ∙ ap (λ l. struct_rows array.len l array.validity) parts ∙ ap (λ n. struct_rows n (parts_below (length shapes) vs) array.validity) len
+          ∙ ap (λ v. struct_rows (length vs) (parts_below (length shapes) vs) v) valid ∙ hides (map (struct_at (parts_below (length shapes) vs)) (range_with_len 0 (length vs))) (tuples_show shapes vs fit),
     )
 
 fields_count : (vs : List Value) (refs : List ArrayRef) (places : List ℕ) → map (λ field. rows field.column) refs ≡ map (λ place. map (part_in place) vs) places → list_all (λ n. n == length vs) (map (λ field. row_count field.column) refs) ≡ true
@@ -164,7 +164,7 @@ fields_count vs (r ∷ refs) (place ∷ places) e =
     let same : (row_count r.column == length vs) ≡ true = grind (arith, nat_tests) in
     both (row_count r.column == length vs) (list_all (λ n. n == length vs) (map (λ field. row_count field.column) refs)) same (fields_count vs refs places others)
 
--- only too many rows are refused
+-- The only rule that can be broken is the number of rows.
 pub tuples_past : (shapes : List Shape) (vs : List Value) (refs old : List ArrayRef) (n : ℕ) (validity : Option Bits) (m : Malformed) → HasParts refs old shapes vs → old ≡ [] → n ≡ length vs → Covers validity (length vs) →
     struct_fault n (map (λ field. row_count field.column) refs) validity ≡ Some m → too_many (length vs) ≡ true
 tuples_past shapes vs refs old n validity m has none same covers is =

@@ -2,14 +2,14 @@
 use Rattle.std.proofs.Common.{◌≡◌, ℕ, ◌+◌, ◌-◌, ◌≤◌, ◌<◌, List, [], ◌∷◌, ◌++◌, length, take, drop, map, get_or, length-take, length-drop, refl, ap, sym, ◌∙◌, arith, append_assoc}
 use Rattle.std.specs.List.{join_with_byte, slice_range}
 use Rattle.std.proofs.lemmas.List.{get_or-drop, map_more, length-map}
-use Rattle.sel_arrow.specs.Nested.{list_of, tuple_at}
+use Rattle.sel_arrow.specs.Nested.{list_of, struct_at}
 use Rattle.sel_arrow.specs.Rows.{rows, type_of}
 use Rattle.sel_arrow.specs.Shape.{Shape, shapes_of}
 use Rattle.sel_arrow.specs.Value.{Value, Null, values_of}
 use Rattle.sel_arrow.specs.declared.column.Column.{Column}
 use Rattle.sel_text.specs.Texts.{value_text, item_texts, item_shape, part_texts, part_shapes, field_text, text_of, parenthesized}
 
--- ---- parts between commas
+-- ---- parts separated by commas
 
 join_push : (c : ℕ) (parts : List (List ℕ)) (part : List ℕ) → 0 < length parts → join_with_byte c (parts ++ part ∷ []) ≡ join_with_byte c parts ++ (c ∷ part)
 join_push c [] part some = absurd (omega arith)
@@ -17,18 +17,18 @@ join_push c (x ∷ []) part some = refl
 join_push c (x ∷ y ∷ more) part some =
     ap (λ rest. x ++ (c ∷ rest)) (join_push c (y ∷ more) part (omega arith)) ∙ sym (append_assoc x (c ∷ join_with_byte c (y ∷ more)) (c ∷ part))
 
--- what stands behind a text: an opening bracket and the parts so far
+-- A text, followed by an opening bracket and the parts so far.
 abbrev pub opened : List ℕ → ℕ → List (List ℕ) → List ℕ
 opened entry bracket parts = entry ++ (bracket ∷ join_with_byte 44 parts)
 
--- the first part
+-- The first part.
 pub opened_first : (entry old new : List ℕ) (bracket : ℕ) (parts more : List (List ℕ)) (part : List ℕ) → length parts ≡ 0 → more ≡ parts ++ part ∷ [] →
     old ≡ opened entry bracket parts → new ≡ old ++ part → new ≡ opened entry bracket more
 opened_first entry old new bracket [] more part none is before now =
     now ∙ ap (λ t. t ++ part) before ∙ append_assoc entry (bracket ∷ []) part ∙ ap (opened entry bracket) (sym is)
 opened_first entry old new bracket (x ∷ parts) more part none is before now = absurd (omega arith)
 
--- a part behind a comma
+-- A part after a comma.
 pub opened_more : (entry old mid new : List ℕ) (bracket : ℕ) (parts more : List (List ℕ)) (part : List ℕ) → 0 < length parts → more ≡ parts ++ part ∷ [] →
     old ≡ opened entry bracket parts → mid ≡ old ++ 44 ∷ [] → new ≡ mid ++ part → new ≡ opened entry bracket more
 opened_more entry old mid new bracket parts more part some is before comma now =
@@ -36,7 +36,7 @@ opened_more entry old mid new bracket parts more part some is before comma now =
     now ∙ ap (λ t. t ++ part) comma ∙ append_assoc old (44 ∷ []) part ∙ ap (λ t. t ++ (44 ∷ part)) before ∙ append_assoc entry head (44 ∷ part)
     ∙ ap (λ t. entry ++ (bracket ∷ t)) (sym (join_push 44 parts part some)) ∙ ap (opened entry bracket) (sym is)
 
--- the closing bracket
+-- The closing bracket.
 pub opened_closed : (entry old new : List ℕ) (bracket close : ℕ) (parts : List (List ℕ)) → old ≡ opened entry bracket parts → new ≡ old ++ close ∷ [] →
     new ≡ entry ++ (bracket ∷ join_with_byte 44 parts ++ close ∷ [])
 opened_closed entry old new bracket close parts before now = now ∙ ap (λ t. t ++ close ∷ []) before ∙ append_assoc entry (bracket ∷ join_with_byte 44 parts) (close ∷ [])
@@ -46,7 +46,7 @@ opened_closed entry old new bracket close parts before now = now ∙ ap (λ t. t
 range_step : (a i : ℕ) → a ≤ i → (i + 1) - a ≡ (i - a) + 1
 range_step a i le = omega arith
 
--- the texts of one row more
+-- The row texts with one more row.
 pub texts_more : {A : Type 0} (f : A → List ℕ) (xs : List A) (a i : ℕ) (d : A) → a ≤ i → i < length xs →
     map f (slice_range xs a (i + 1)) ≡ map f (slice_range xs a i) ++ f (get_or xs i d) ∷ []
 texts_more f xs a i d le lt =
@@ -55,7 +55,7 @@ texts_more f xs a i d le lt =
     ∙ map_more f (drop a xs) (i - a) d (rw length-drop (omega arith))
     ∙ ap (λ x. map f (slice_range xs a i) ++ f x ∷ []) (get_or-drop a xs (i - a) d ∙ ap (λ k. get_or xs k d) place)
 
--- those of no row
+-- The row texts of no rows.
 pub none_so_far : {A : Type 0} (f : A → List ℕ) (xs : List A) (a : ℕ) → [] ≡ map f (slice_range xs a a)
 none_so_far f xs a = ap (λ n. map f (take n (drop a xs))) (none_left a)
   where
@@ -65,7 +65,7 @@ none_so_far f xs a = ap (λ n. map f (take n (drop a xs))) (none_left a)
 pub texts_count : {A : Type 0} (f : A → List ℕ) (xs : List A) (a i : ℕ) → i ≤ length xs → length (map f (slice_range xs a i)) ≡ i - a
 texts_count f xs a i le = rw (length-map, length-take, length-drop) (omega arith)
 
--- ---- lists and tuples as values
+-- ---- lists and structs as values
 
 pub listed_texts : (shape : Shape) (vs : List Value) → item_texts shape (values_of vs) ≡ map (value_text shape) vs
 listed_texts shape [] = refl
@@ -79,7 +79,7 @@ pub tuple_texts : (place : ℕ) (fields : List Column) → part_texts (shapes_of
 tuple_texts place [] = refl
 tuple_texts place (field ∷ fields) = ap (λ l. field_text place field ∷ l) (tuple_texts place fields)
 
-pub tuple_text : (shape : Shape) (place : ℕ) (fields : List Column) (v : Value) → tuple_at (map rows fields) place ≡ v → part_shapes shape ≡ shapes_of (map type_of fields) →
+pub tuple_text : (shape : Shape) (place : ℕ) (fields : List Column) (v : Value) → struct_at (map rows fields) place ≡ v → part_shapes shape ≡ shapes_of (map type_of fields) →
     parenthesized (map (field_text place) fields) ≡ value_text shape v
 tuple_text shape place fields v is of =
     ap parenthesized (sym (tuple_texts place fields)) ∙ ap (λ ss. parenthesized (part_texts ss (values_of (map (λ field. get_or field place Null) (map rows fields))))) (sym of) ∙ ap (value_text shape) is

@@ -1,4 +1,4 @@
--- What stands between quotes, byte by byte.
+-- The content of quotes, byte by byte.
 use Rattle.std.proofs.Common.{◌≡◌, ◌≢◌, ℕ, ◌+◌, ◌≤◌, ◌<◌, ◌/◌, Bool, true, false, List, [], ◌∷◌, ◌++◌, length, get_or, drop, refl, ap, sym, ◌∙◌, arith, append_assoc, append-nil, subst}
 use Rattle.std.specs.Prelude.{nat_lt, ◌==◌, if◌then◌else◌, codes}
 use Rattle.std.specs.Char.{digit_char}
@@ -8,9 +8,9 @@ use Rattle.sel_arrow.proofs.Lists.{and_first, and_second}
 use Rattle.sel_text.specs.Texts.{escaped, hex_byte}
 use Rattle.sel_text.proofs.Decoded.{no_quote, unquoted, read_one, one_then, read_escaped}
 
--- ---- bytes that are read one after another
+-- ---- bytes that are parsed one by one
 
--- what is left of bytes, each written by a code that is not empty
+-- The bytes that remain, each written as a code that is not empty.
 pub record IsLeft (code : ℕ → List ℕ) (test : ℕ → Bool) (all read rest more : List ℕ) : Type 0 where
   pub left : List ℕ
   pub whole : read ++ left ≡ all
@@ -20,11 +20,11 @@ pub record IsLeft (code : ℕ → List ℕ) (test : ℕ → Bool) (all read rest
 pub all_left : (code : ℕ → List ℕ) (test : ℕ → Bool) (all rest more : List ℕ) → list_all test all ≡ true → rest ≡ flat_map code all ++ (34 ∷ more) → IsLeft code test all [] rest more
 all_left code test all rest more small is = record { left = all; whole = refl; small = small; text = is }
 
--- no code begins with a quote
+-- No code begins with a quote.
 abbrev pub IsUnquoted : (ℕ → List ℕ) → Type 0
 IsUnquoted code = (byte : ℕ) (rest more : List ℕ) → code byte ++ rest ≡ 34 ∷ more → ⊥
 
--- at a quote all of them were read
+-- At a quote, all bytes were parsed.
 pub none_left : (code : ℕ → List ℕ) (test : ℕ → Bool) (all read rest more end : List ℕ) → IsUnquoted code → IsLeft code test all read rest more → rest ≡ 34 ∷ end → (read ≡ all) × (end ≡ more)
 none_left code test all read rest more end unquoted left closed = go left.left left.whole left.text
   where
@@ -33,7 +33,7 @@ none_left code test all read rest more end unquoted left closed = go left.left l
     go (byte ∷ bytes) whole text =
         absurd (unquoted byte (flat_map code bytes ++ (34 ∷ more)) end (sym (append_assoc (code byte) (flat_map code bytes) (34 ∷ more)) ∙ sym text ∙ closed))
 
--- at anything else there is a byte that is left
+-- At any other byte, some byte remains.
 pub record HasNext (code : ℕ → List ℕ) (test : ℕ → Bool) (all read rest more : List ℕ) : Type 0 where
   pub byte : ℕ
   pub others : List ℕ
@@ -56,7 +56,7 @@ has_next code test all read rest more left other = go left.left left.whole left.
       text = text ∙ append_assoc (code byte) (flat_map code bytes) (34 ∷ more);
     }
 
--- one more byte was read
+-- One more byte was parsed.
 pub one_read : (code : ℕ → List ℕ) (test : ℕ → Bool) (all read grown rest next more : List ℕ) (b : ℕ) → (has : HasNext code test all read rest more) → grown ≡ read ++ b ∷ [] →
     (b ≡ has.byte) × (next ≡ flat_map code has.others ++ (34 ∷ more)) → IsLeft code test all grown next more
 one_read code test all read grown rest next more b has grows told = record {
@@ -79,7 +79,7 @@ hex_digits v small = (λ low. grind (arith, nat_tests), λ high. grind (arith, n
 pub escaped_unquoted : IsUnquoted escaped
 escaped_unquoted = unquoted
 
--- what holds of each escape and of each byte that has none
+-- A property of each escape and of each byte without one.
 module _ (P : ℕ → List ℕ → Type 0)
     (quote : P 34 (codes "\\\"")) (backslash : P 92 (codes "\\\\")) (line : P 10 (codes "\\n")) (return : P 13 (codes "\\r")) (tab : P 9 (codes "\\t")) (back : P 8 (codes "\\b")) (feed : P 12 (codes "\\f"))
     (control : (b : ℕ) → b < 32 → b ≢ 8 → b ≢ 9 → b ≢ 10 → b ≢ 12 → b ≢ 13 → P b (codes "\\u00" ++ hex_byte b))
@@ -107,17 +107,17 @@ module _ (P : ℕ → List ℕ → Type 0)
       (λ low. control b (grind (arith, nat_tests, low)) (not_byte b 8 n8) (not_byte b 9 n9) (not_byte b 10 n10) (not_byte b 12 n12) (not_byte b 13 n13))
       (λ high. plain b (grind (arith, nat_tests, high)) (not_byte b 92 n92)))))))))
 
--- an escape is told by what is read of it
+-- An escape parses to its byte only.
 pub escape_told : (b n : ℕ) (text rest more : List ℕ) → read_one text ≡ one_then n rest → text ≡ escaped b ++ more → (n ≡ b) × (rest ≡ more)
 escape_told b n text rest more read is =
     let same : one_then n rest ≡ one_then b more = sym read ∙ ap read_one is ∙ read_escaped b more in
     (ap (λ p. p.0) same, ap (λ p. p.1) same)
 
--- the second byte of a text, which two texts differ in
+-- Two texts with different second bytes are different.
 seconds_differ : (a b c d : ℕ) (x y : List ℕ) → a ∷ b ∷ x ≡ c ∷ d ∷ y → (b == d) ≡ false → ⊥
 seconds_differ a b c d x y is differ = let same : b ≡ d = ap (λ l. get_or l 1 0) is in let apart : b ≢ d = grind (arith, nat_tests, differ) in apart same
 
--- the byte behind `\u00` is one below a space that has no letter
+-- The byte after `\u00` is less than a space and has no escape with a letter.
 pub record IsControl (b : ℕ) (bytes more : List ℕ) : Type 0 where
   pub low : b < 32
   pub n8 : b ≢ 8
@@ -134,7 +134,7 @@ control_told b bytes more =
     (λ c low n8 n9 n10 n12 n13 is. record { low = low; n8 = n8; n9 = n9; n10 = n10; n12 = n12; n13 = n13; text = ap (drop 4) is })
     (λ c high n is. let first : 92 ≡ c = ap (λ l. get_or l 0 0) is in absurd (n (sym first))) b
 
--- a byte that no backslash escapes
+-- A byte that is written without a backslash.
 plain_told : (b n : ℕ) (rest more : List ℕ) → n ≢ 92 → n ∷ rest ≡ escaped b ++ more → (n ≡ b) × (rest ≡ more) × (32 ≤ n)
 plain_told b n rest more plain =
     each_escape (λ b word. n ∷ rest ≡ word ++ more → (n ≡ b) × (rest ≡ more) × (32 ≤ n))

@@ -1,4 +1,4 @@
--- Which rule rows that fit their type can break.
+-- The rules that rows which fit their type can break.
 use Rattle.std.proofs.Common.{◌≡◌, ◌≤◌, ℕ, Bool, true, false, true≢false, List, [], ◌∷◌, length, Option, Some, None, Result, Ok, Err, refl, ap, sym, ◌∙◌, subst, arith}
 use Rattle.std.specs.Prelude.{◌||◌, ◌==◌, nat_lt, IsTrue, if◌then◌else◌, not, IfErr, IsErrAnd}
 use Rattle.std.specs.List.{flat_map, list_all}
@@ -22,14 +22,14 @@ use Rattle.sel_arrow.specs.Columns.{binview_rows}
 use Rattle.sel_arrow.specs.declared.binview.BinaryViewArray.{BinaryViewArray}
 use Rattle.sel_arrow.specs.declared.array_ref.ArrayRef.{ArrayRef}
 use Rattle.sel_text.specs.Fits.{fits}
-use Rattle.sel_text.specs.Limits.{is_view_shape, all_placed_bytes, any_past, block_in, entries_in, past_limit, IsTold, Makes, is_past}
-use Rattle.sel_text.specs.TextErrors.{make_fault, IsWanting}
-use Rattle.sel_text.specs.declared.build.Beneath.{Beneath}
+use Rattle.sel_text.specs.Limits.{is_view_shape, all_placed_bytes, any_exceeds_limit, block_in, entries_in, exceeds_limit, ReportsLimit, MakesColumn, exceeds_max}
+use Rattle.sel_text.specs.TextErrors.{make_fault, IsMemoryFault}
+use Rattle.sel_text.specs.declared.build.NullSlots.{NullSlots}
 use Rattle.sel_text.specs.declared.text_error.Fault.{Fault}
 use Rattle.sel_text.specs.declared.text_error.Fault.TheVariants.{Syntax, «Type», Limit, OutOfMemory}
 
--- too many rows pass a limit of any type
-pub many_past : (beneath : Beneath) (s : Shape) (rows : List Value) → is_past (length rows) ≡ true → past_limit beneath s rows ≡ true
+-- Too many rows exceed a limit of any type.
+pub many_past : (beneath : NullSlots) (s : Shape) (rows : List Value) → exceeds_max (length rows) ≡ true → exceeds_limit beneath s rows ≡ true
 many_past beneath of_null rows many = many
 many_past beneath of_boolean rows many = many
 many_past beneath of_int8 rows many = many
@@ -43,13 +43,13 @@ many_past beneath of_uint32 rows many = many
 many_past beneath of_uint64 rows many = many
 many_past beneath of_uint128 rows many = many
 many_past beneath of_large_binary rows many = many
-many_past beneath of_binary_view rows many = ap (λ b. b || is_past (all_placed_bytes rows)) many
-many_past beneath of_utf8_view rows many = ap (λ b. b || is_past (all_placed_bytes rows)) many
-many_past beneath (of_large_list s) rows many = ap (λ b. b || past_limit beneath s (flat_map (entries_in beneath) rows)) many
-many_past beneath (of_fixed_size_list s size) rows many = ap (λ b. b || is_past size || past_limit beneath s (flat_map (block_in size) rows)) many
-many_past beneath (of_struct ss) rows many = ap (λ b. b || any_past beneath ss 0 rows) many
+many_past beneath of_binary_view rows many = ap (λ b. b || exceeds_max (all_placed_bytes rows)) many
+many_past beneath of_utf8_view rows many = ap (λ b. b || exceeds_max (all_placed_bytes rows)) many
+many_past beneath (of_large_list s) rows many = ap (λ b. b || exceeds_limit beneath s (flat_map (entries_in beneath) rows)) many
+many_past beneath (of_fixed_size_list s size) rows many = ap (λ b. b || exceeds_max size || exceeds_limit beneath s (flat_map (block_in size) rows)) many
+many_past beneath (of_struct ss) rows many = ap (λ b. b || any_exceeds_limit beneath ss 0 rows) many
 
--- a validity that covers the rows has no other length
+-- A validity that covers the rows has their length.
 pub no_difference : (validity : Option Bits) (n : ℕ) → Covers validity n → validity_differs validity n ≡ false
 no_difference None n covers = refl
 no_difference (Some v) n covers = let long = covers v refl in ap (λ k. not (k == n)) long ∙ grind (arith, nat_tests)
@@ -57,45 +57,45 @@ no_difference (Some v) n covers = let long = covers v refl in ap (λ k. not (k =
 none_some : (rule : Malformed) → None ≡ Some rule → ⊥
 none_some rule is = absurd cc
 
--- where no other rule is broken, too many rows are told
+-- If no other rule is broken, the error is that there are too many rows.
 pub many_told : (t : Bool) (others : Option Malformed) (error : MakeError) → others ≡ None → IsFault (if t then Some TooManyRows else others) error → t ≡ true
 many_told true others error none fault = refl
 many_told false others (Broken rule) none fault = absurd (none_some rule (sym none ∙ fault))
 many_told false others WantOfMemory none fault = absurd fault
 
--- which is a limit that they pass
-pub limit_told : (passed : Bool) (fallen : Option Malformed) (error : MakeError) (fault : Fault) → (IsFault fallen error → passed ≡ true) → IsFault fallen error → fault ≡ make_fault error → IsTold passed fault
-limit_told passed fallen (Broken rule) fault past is told = subst (IsTold passed) (sym told) (past is)
+-- The rows exceed this limit.
+pub limit_told : (passed : Bool) (fallen : Option Malformed) (error : MakeError) (fault : Fault) → (IsFault fallen error → passed ≡ true) → IsFault fallen error → fault ≡ make_fault error → ReportsLimit passed fault
+limit_told passed fallen (Broken rule) fault past is told = subst (ReportsLimit passed) (sym told) (past is)
 limit_told passed fallen WantOfMemory fault past is told = absurd is
 
--- so it is told where the parts are refused
-pub makes_told : (beneath : Beneath) (s : Shape) (rows : List Value) (r : Result ArrayRef Fault) (error : MakeError) → IsErrAnd r (λ fault. fault ≡ make_fault error) →
-    ((fault : Fault) → fault ≡ make_fault error → IsTold (past_limit beneath s rows) fault) → Makes beneath s rows r
+-- So an error of the constructor is permitted.
+pub makes_told : (beneath : NullSlots) (s : Shape) (rows : List Value) (r : Result ArrayRef Fault) (error : MakeError) → IsErrAnd r (λ fault. fault ≡ make_fault error) →
+    ((fault : Fault) → fault ≡ make_fault error → ReportsLimit (exceeds_limit beneath s rows) fault) → MakesColumn beneath s rows r
 makes_told beneath s rows (Ok array) error is told = absurd is
 makes_told beneath s rows (Err fault) error is told = told fault is
 
-pub flat_told : (beneath : Beneath) (s : Shape) (rows : List Value) (n : ℕ) (validity : Option Bits) (error : MakeError) (fault : Fault) → n ≡ length rows → Covers validity n →
-    IsFault (flat_fault n validity) error → fault ≡ make_fault error → IsTold (past_limit beneath s rows) fault
+pub flat_told : (beneath : NullSlots) (s : Shape) (rows : List Value) (n : ℕ) (validity : Option Bits) (error : MakeError) (fault : Fault) → n ≡ length rows → Covers validity n →
+    IsFault (flat_fault n validity) error → fault ≡ make_fault error → ReportsLimit (exceeds_limit beneath s rows) fault
 flat_told beneath s rows n validity error fault long covers =
-    limit_told (past_limit beneath s rows) (flat_fault n validity) error fault
-    (λ is. many_past beneath s rows (ap is_past (sym long) ∙ many_told (too_many n) _ error (ap (λ b. if b then Some ValidityLength else None) (no_difference validity n covers)) is))
+    limit_told (exceeds_limit beneath s rows) (flat_fault n validity) error fault
+    (λ is. many_past beneath s rows (ap exceeds_max (sym long) ∙ many_told (too_many n) _ error (ap (λ b. if b then Some ValidityLength else None) (no_difference validity n covers)) is))
 
--- offsets that break no rule are refused for want of memory alone
-pub memory_told : (passed : Bool) (broken : Option Malformed) (error : MakeError) (fault : Fault) → broken ≡ None → IsFaultOrMemory broken error → fault ≡ make_fault error → IsTold passed fault
+-- For offsets that break no rule, the only error is out of memory.
+pub memory_told : (passed : Bool) (broken : Option Malformed) (error : MakeError) (fault : Fault) → broken ≡ None → IsFaultOrMemory broken error → fault ≡ make_fault error → ReportsLimit passed fault
 memory_told passed broken (Broken rule) fault none is told = absurd (none_some rule (sym none ∙ is))
-memory_told passed broken WantOfMemory fault none is told = subst (IsTold passed) (sym told) tt
+memory_told passed broken WantOfMemory fault none is told = subst (ReportsLimit passed) (sym told) tt
 
 two_none : (a b : Bool) (x y : Malformed) → a ≡ false → b ≡ false → first_broken ((x, a) ∷ (y, b) ∷ []) ≡ None
 two_none false false x y p q = refl
 two_none false true x y p q = absurd (true≢false q)
 two_none true b x y p q = absurd (true≢false p)
 
-pub binary_told : (beneath : Beneath) (s : Shape) (rows : List Value) (offsets bytes : List ℕ) (validity : Option Bits) (error : MakeError) (fault : Fault) → rows_between offsets ≡ length rows →
-    nat_lt (length bytes) (last_offset offsets) ≡ false → Covers validity (length rows) → IsFault (binary_fault offsets bytes validity) error → fault ≡ make_fault error → IsTold (past_limit beneath s rows) fault
+pub binary_told : (beneath : NullSlots) (s : Shape) (rows : List Value) (offsets bytes : List ℕ) (validity : Option Bits) (error : MakeError) (fault : Fault) → rows_between offsets ≡ length rows →
+    nat_lt (length bytes) (last_offset offsets) ≡ false → Covers validity (length rows) → IsFault (binary_fault offsets bytes validity) error → fault ≡ make_fault error → ReportsLimit (exceeds_limit beneath s rows) fault
 binary_told beneath s rows offsets bytes validity error fault long inside covers =
     let covered = subst (Covers validity) (sym long) covers in
-    limit_told (past_limit beneath s rows) (binary_fault offsets bytes validity) error fault
-    (λ is. many_past beneath s rows (ap is_past (sym long) ∙ many_told (too_many (rows_between offsets)) (first_broken ((OffsetRange, nat_lt (length bytes) (last_offset offsets)) ∷ (ValidityLength, validity_differs validity (rows_between offsets)) ∷ [])) error
+    limit_told (exceeds_limit beneath s rows) (binary_fault offsets bytes validity) error fault
+    (λ is. many_past beneath s rows (ap exceeds_max (sym long) ∙ many_told (too_many (rows_between offsets)) (first_broken ((OffsetRange, nat_lt (length bytes) (last_offset offsets)) ∷ (ValidityLength, validity_differs validity (rows_between offsets)) ∷ [])) error
     (two_none (nat_lt (length bytes) (last_offset offsets)) (validity_differs validity (rows_between offsets)) OffsetRange ValidityLength inside (no_difference validity (rows_between offsets) covered)) is))
 
 -- ---- views
@@ -114,15 +114,15 @@ many_views : (t : Bool) (others next : Option Malformed) (error : MakeError) →
 many_views true others next error none end fault = refl
 many_views false others next error none end fault = many_told false others error none (subst (λ f. IsFault f error) (ap (λ o. or_else o next) none ∙ end ∙ sym none) fault)
 
-pub binview_told : (beneath : Beneath) (s : Shape) (rows : List Value) (views : List View) (buffers : List (List ℕ)) (validity : Option Bits) (error : MakeError) (fault : Fault) → length views ≡ length rows → length buffers ≡ 1 →
-    IsTrue (all_placed buffers views) → Covers validity (length rows) → IsFault (binview_fault views buffers validity) error → fault ≡ make_fault error → IsTold (past_limit beneath s rows) fault
+pub binview_told : (beneath : NullSlots) (s : Shape) (rows : List Value) (views : List View) (buffers : List (List ℕ)) (validity : Option Bits) (error : MakeError) (fault : Fault) → length views ≡ length rows → length buffers ≡ 1 →
+    IsTrue (all_placed buffers views) → Covers validity (length rows) → IsFault (binview_fault views buffers validity) error → fault ≡ make_fault error → ReportsLimit (exceeds_limit beneath s rows) fault
 binview_told beneath s rows views buffers validity error fault long one placed covers =
     let covered = subst (Covers validity) (sym long) covers in
-    limit_told (past_limit beneath s rows) (binview_fault views buffers validity) error fault
-    (λ is. many_past beneath s rows (ap is_past (sym long) ∙ many_views (too_many (length views)) (first_broken ((TooManyBuffers, too_many (length buffers)) ∷ (ValidityLength, validity_differs validity (length views)) ∷ [])) (views_fault buffers views) error
+    limit_told (exceeds_limit beneath s rows) (binview_fault views buffers validity) error fault
+    (λ is. many_past beneath s rows (ap exceeds_max (sym long) ∙ many_views (too_many (length views)) (first_broken ((TooManyBuffers, too_many (length buffers)) ∷ (ValidityLength, validity_differs validity (length views)) ∷ [])) (views_fault buffers views) error
     (two_none (too_many (length buffers)) (validity_differs validity (length views)) TooManyBuffers ValidityLength (ap too_many one) (no_difference validity (length views) covered)) (no_views_fault buffers views placed) is))
 
--- ---- what is told of rows of views
+-- ---- results for rows of views
 
 pub if_told : {T : Type 0} (r : Result T Fault) (error : Fault) (P : Fault → Type 0) → IsErrAnd r (λ fault. fault ≡ error) → P error → IfErr r P
 if_told (Ok x) error P is holds = absurd is
@@ -132,13 +132,13 @@ pub if_made : {T : Type 0} (r : Result T Fault) (error : MakeError) (P : Fault �
 if_made (Ok x) error P is holds = absurd is
 if_made (Err fault) error P is holds = holds fault is
 
-pub told_more : (less more : Bool) (fault : Fault) → (less ≡ true → more ≡ true) → IsTold less fault → IsTold more fault
+pub told_more : (less more : Bool) (fault : Fault) → (less ≡ true → more ≡ true) → ReportsLimit less fault → ReportsLimit more fault
 told_more less more Limit past told = past told
 told_more less more OutOfMemory past told = tt
 told_more less more (Syntax left) past told = told
 told_more less more («Type» left) past told = told
 
-pub wanting_told : (passed : Bool) (fault : Fault) → IsWanting fault → IsTold passed fault
+pub wanting_told : (passed : Bool) (fault : Fault) → IsMemoryFault fault → ReportsLimit passed fault
 wanting_told passed Limit is = absurd is
 wanting_told passed OutOfMemory is = tt
 wanting_told passed (Syntax left) is = is
@@ -151,10 +151,10 @@ or_second false b is = is
 other_shape : {A : Type 0} → false ≡ true → A
 other_shape is = absurd (true≢false (sym is))
 
--- too many bytes pass a limit of views
-pub bytes_past : (beneath : Beneath) (s : Shape) (rows : List Value) → is_view_shape s ≡ true → is_past (all_placed_bytes rows) ≡ true → past_limit beneath s rows ≡ true
-bytes_past beneath of_binary_view rows view many = or_second (is_past (length rows)) (is_past (all_placed_bytes rows)) many
-bytes_past beneath of_utf8_view rows view many = or_second (is_past (length rows)) (is_past (all_placed_bytes rows)) many
+-- Too many bytes exceed a limit of views.
+pub bytes_past : (beneath : NullSlots) (s : Shape) (rows : List Value) → is_view_shape s ≡ true → exceeds_max (all_placed_bytes rows) ≡ true → exceeds_limit beneath s rows ≡ true
+bytes_past beneath of_binary_view rows view many = or_second (exceeds_max (length rows)) (exceeds_max (all_placed_bytes rows)) many
+bytes_past beneath of_utf8_view rows view many = or_second (exceeds_max (length rows)) (exceeds_max (all_placed_bytes rows)) many
 bytes_past beneath of_null rows view many = other_shape view
 bytes_past beneath of_boolean rows view many = other_shape view
 bytes_past beneath of_int8 rows view many = other_shape view
@@ -172,7 +172,7 @@ bytes_past beneath (of_large_list s) rows view many = other_shape view
 bytes_past beneath (of_fixed_size_list s size) rows view many = other_shape view
 bytes_past beneath (of_struct ss) rows view many = other_shape view
 
--- ---- texts
+-- ---- strings
 
 text_fits : (row : Value) → fits of_utf8_view row ≡ true → is_text row ≡ true
 text_fits Null fit = refl
@@ -201,7 +201,7 @@ no_text_rule : (t : Bool) (first : Option Malformed) → first ≡ None → t �
 no_text_rule true first none is = ap (λ f. or_else f None) none
 no_text_rule false first none is = other_shape is
 
--- a column of views whose rows are texts breaks no rule of texts
+-- A view column whose rows are strings breaks no rule of string columns.
 pub no_text_fault : (array : BinaryViewArray) → all_text (binview_rows array) ≡ true → utf8view_fault array.views array.buffers array.validity ≡ None
 no_text_fault array texts =
     no_text_rule (all_text (view_rows array.views array.buffers array.validity)) (binview_fault array.views array.buffers array.validity)

@@ -1,4 +1,4 @@
--- Rows that are no nulls, by their type.
+-- Rows that are not null, by their type.
 use Rattle.std.proofs.Common.{◌≡◌, ◌≢◌, ℕ, ℤ, Bool, true, false, true≢false, List, ◌++◌, [], length, drop, append-nil, refl, ap, sym, ◌∙◌}
 use Rattle.std.specs.Prelude.{codes}
 use Rattle.std.specs.Fmt.{signed_decimal}
@@ -6,23 +6,23 @@ use Rattle.sel_arrow.specs.Shape.{Shape, Shapes, of_large_list, of_fixed_size_li
 use Rattle.sel_arrow.specs.Value.{Value, Null, Truth, Number, Bytes, Items, Tuple, Values, listed, values_of}
 use Rattle.sel_arrow.proofs.Lists.{and_first, and_second}
 use Rattle.sel_text.specs.Digits.{NoDigit}
-use Rattle.sel_text.specs.Fits.{all_fit, parts_fit, fits_bytes, fits_count, fits_number, is_truth_shape}
+use Rattle.sel_text.specs.Fits.{all_fit, parts_fit, fits_bytes, fits_count, fits_number, is_boolean_shape}
 use Rattle.sel_text.specs.Readings.{BeginsWith}
-use Rattle.sel_text.specs.Texts.{bracketed, bytes_text, item_shape, item_texts, parenthesized, part_shapes, part_texts, text_of, truth_text}
+use Rattle.sel_text.specs.Texts.{bracketed, bytes_text, item_shape, item_texts, parenthesized, part_shapes, part_texts, text_of, bool_text}
 use Rattle.sel_text.proofs.Printed.{listed_texts}
 use Rattle.sel_text.proofs.Told.{unlike}
 
--- each value of a type that a text begins with is read, as far as `R` says
+-- `R` holds for each value of a type whose row text the text begins with, and the rest.
 abbrev pub Reads : (Value → List ℕ → Type 0) → Shape → List ℕ → Type 0
 Reads R s text = (v : Value) (more : List ℕ) → BeginsWith s v text more → R v more
 
--- a text does not begin with `null`
+-- The text does not begin with `null`.
 abbrev pub NotNull : List ℕ → Type 0
 NotNull text = (rest : List ℕ) → text ≢ codes "null" ++ rest
 
--- what is to be read of a type's values, for each kind of value
+-- What has to be shown, for each kind of value.
 module _ (R : Value → List ℕ → Type 0) (s : Shape) (text : List ℕ) (filled : NotNull text)
-    (truths : (b : Bool) (more : List ℕ) → is_truth_shape s ≡ true → text ≡ truth_text b ++ more → R (Truth b) more)
+    (truths : (b : Bool) (more : List ℕ) → is_boolean_shape s ≡ true → text ≡ bool_text b ++ more → R (Truth b) more)
     (numbers : (z : ℤ) (more : List ℕ) → fits_number s z ≡ true → NoDigit more → text ≡ signed_decimal z ++ more → R (Number z) more)
     (bytes : (bs more : List ℕ) → fits_bytes s bs ≡ true → text ≡ bytes_text s bs ++ more → R (Bytes bs) more)
     (lists : (vs : Values) (more : List ℕ) → fits_count s (length (listed vs)) ≡ true → all_fit (item_shape s) vs ≡ true → text ≡ bracketed (item_texts (item_shape s) vs) ++ more → R (Items vs) more)
@@ -54,7 +54,7 @@ module _ (R : Value → List ℕ → Type 0) (text : List ℕ) (filled : NotNull
   tuple_row ss read =
       row_read R (of_struct ss) text filled (λ b more is whole. never is) (λ z more is end whole. never is) (λ bs more is whole. never is) (λ vs more is fit whole. never is) (λ vs more is fit whole. read vs more fit whole)
 
--- a null is told by its text
+-- A text that begins with `null` begins with no other value.
 pub null_read : (s : Shape) (v : Value) (text rest more : List ℕ) → text ≡ codes "null" ++ rest → BeginsWith s v text more → (Null ≡ v) × (rest ≡ more)
 null_read s Null text rest more is begins = (refl, ap (drop 4) (sym is ∙ begins.whole))
 null_read s (Truth b) text rest more is begins = absurd (unlike s Null (Truth b) rest more refl begins.fit (sym is ∙ begins.whole) refl)
@@ -63,6 +63,6 @@ null_read s (Bytes bs) text rest more is begins = absurd (unlike s Null (Bytes b
 null_read s (Items vs) text rest more is begins = absurd (unlike s Null (Items vs) rest more refl begins.fit (sym is ∙ begins.whole) refl)
 null_read s (Tuple vs) text rest more is begins = absurd (unlike s Null (Tuple vs) rest more refl begins.fit (sym is ∙ begins.whole) refl)
 
--- the text of a column's rows is that of a list of them
+-- The text of rows is that of a list of these rows.
 pub rows_text : (s : Shape) (vs : List Value) (text : List ℕ) → text ≡ text_of s vs → text ≡ bracketed (item_texts s (values_of vs)) ++ []
 rows_text s vs text is = is ∙ ap bracketed (sym (listed_texts s vs)) ∙ sym (append-nil (bracketed (item_texts s (values_of vs))))

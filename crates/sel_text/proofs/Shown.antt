@@ -1,4 +1,4 @@
--- Values that show rows once the nulls are hidden.
+-- Values that equal rows except in null slots.
 use Rattle.std.proofs.Common.{◌≡◌, ℕ, zero, suc, ℤ, ◌+◌, ◌<◌, Bool, true, false, true≢false, List, [], ◌∷◌, ◌++◌, length, map, take, get_or, refl, ap, sym, ◌∙◌, subst, arith}
 use Rattle.std.specs.Prelude.{if◌then◌else◌}
 use Rattle.std.specs.Borrow.{Bor}
@@ -8,16 +8,16 @@ use Rattle.sel_arrow.specs.Masked.{hidden}
 use Rattle.sel_arrow.specs.Shape.{Shape, of_null, of_boolean, of_int8, of_int16, of_int32, of_int64, of_int128, of_uint8, of_uint16, of_uint32, of_uint64, of_uint128, of_large_binary, of_binary_view, of_utf8_view, of_large_list, of_fixed_size_list, of_struct, is_struct_shape}
 use Rattle.sel_arrow.specs.Value.{Value, Null, Truth, Number, Bytes, Items, Tuple, is_valid, listed}
 use Rattle.sel_arrow.proofs.Lists.{and_first, and_second}
-use Rattle.sel_text.specs.Fits.{fits, fits_count, fits_number, is_truth_shape, all_fit, parts_fit}
+use Rattle.sel_text.specs.Fits.{fits, fits_count, fits_number, is_boolean_shape, all_fit, parts_fit}
 use Rattle.sel_text.specs.ItemValues.{item_value, rows_read}
-use Rattle.sel_text.specs.Limits.{Shows, is_view_shape}
-use Rattle.sel_text.specs.Stored.{bytes_stored, truth_stored}
+use Rattle.sel_text.specs.Limits.{ShowsRows, is_view_shape}
+use Rattle.sel_text.specs.Stored.{bytes_stored, bool_stored}
 use Rattle.sel_text.specs.Texts.{item_shape, part_shapes}
-use Rattle.sel_text.specs.declared.build.Beneath.{Beneath}
+use Rattle.sel_text.specs.declared.build.NullSlots.{NullSlots}
 use Rattle.sel_text.specs.declared.item.Item.{Item}
 
--- the first row is shown, and then the others
-each_shown : (row : Value) (rows : List Value) (v : Value) (vs : List Value) → Shows (row ∷ rows) (v ∷ vs) → ((if is_valid row then v else Null) ≡ row) × Shows rows vs
+-- The first row is shown, and so are the others.
+each_shown : (row : Value) (rows : List Value) (v : Value) (vs : List Value) → ShowsRows (row ∷ rows) (v ∷ vs) → ((if is_valid row then v else Null) ≡ row) × ShowsRows rows vs
 each_shown Null rows v vs s = (refl, s)
 each_shown (Truth b) rows v vs s = (sym s.0, s.1)
 each_shown (Number z) rows v vs s = (sym s.0, s.1)
@@ -25,8 +25,8 @@ each_shown (Bytes bs) rows v vs s = (sym s.0, s.1)
 each_shown (Items es) rows v vs s = (sym s.0, s.1)
 each_shown (Tuple es) rows v vs s = (sym s.0, s.1)
 
--- a row before others that are shown
-pub show_next : (row v : Value) (rows vs : List Value) → (is_valid row ≡ true → row ≡ v) → Shows rows vs → Shows (row ∷ rows) (v ∷ vs)
+-- A row before others that are shown.
+pub show_next : (row v : Value) (rows vs : List Value) → (is_valid row ≡ true → row ≡ v) → ShowsRows rows vs → ShowsRows (row ∷ rows) (v ∷ vs)
 show_next Null v rows vs same s = s
 show_next (Truth b) v rows vs same s = (same refl, s)
 show_next (Number z) v rows vs same s = (same refl, s)
@@ -34,7 +34,7 @@ show_next (Bytes bs) v rows vs same s = (same refl, s)
 show_next (Items es) v rows vs same s = (same refl, s)
 show_next (Tuple es) v rows vs same s = (same refl, s)
 
-never_none : (row : Value) (rows : List Value) → Shows (row ∷ rows) [] → ⊥
+never_none : (row : Value) (rows : List Value) → ShowsRows (row ∷ rows) [] → ⊥
 never_none Null rows s = s
 never_none (Truth b) rows s = s
 never_none (Number z) rows s = s
@@ -42,8 +42,8 @@ never_none (Bytes bs) rows s = s
 never_none (Items es) rows s = s
 never_none (Tuple es) rows s = s
 
--- under the validity of the rows they are the rows
-hidden_shown : (rows plain : List Value) → Shows rows plain → hidden (map is_valid rows) plain ≡ rows
+-- Under the validity of the rows, the values are the rows.
+hidden_shown : (rows plain : List Value) → ShowsRows rows plain → hidden (map is_valid rows) plain ≡ rows
 hidden_shown [] [] s = refl
 hidden_shown [] (v ∷ vs) s = absurd s
 hidden_shown (row ∷ rows) [] s = absurd (never_none row rows s)
@@ -51,8 +51,8 @@ hidden_shown (row ∷ rows) (v ∷ vs) s =
     let both = each_shown row rows v vs s in
     ap (λ x. x ∷ hidden (map is_valid rows) vs) both.0 ∙ ap (λ l. row ∷ l) (hidden_shown rows vs both.1)
 
--- and without one where no row is null
-shown_all : (rows plain : List Value) → list_all (λ b. b) (map is_valid rows) ≡ true → Shows rows plain → plain ≡ rows
+-- Without a validity they are the rows if no row is null.
+shown_all : (rows plain : List Value) → list_all (λ b. b) (map is_valid rows) ≡ true → ShowsRows rows plain → plain ≡ rows
 shown_all [] [] all s = refl
 shown_all [] (v ∷ vs) all s = absurd s
 shown_all (row ∷ rows) [] all s = absurd (never_none row rows s)
@@ -62,13 +62,13 @@ shown_all (row ∷ rows) (v ∷ vs) all s =
     let first : v ≡ row = ap (λ b. if b then v else Null) (sym valid) ∙ both.0 in
     ap (λ x. x ∷ vs) first ∙ ap (λ l. row ∷ l) (shown_all rows vs (and_second (is_valid row) (list_all (λ b. b) (map is_valid rows)) all) both.1)
 
-shown_length : (rows plain : List Value) → Shows rows plain → length plain ≡ length rows
+shown_length : (rows plain : List Value) → ShowsRows rows plain → length plain ≡ length rows
 shown_length [] [] s = refl
 shown_length [] (v ∷ vs) s = absurd s
 shown_length (row ∷ rows) [] s = absurd (never_none row rows s)
 shown_length (row ∷ rows) (v ∷ vs) s = let rest = shown_length rows vs (each_shown row rows v vs s).1 in omega (arith, rest)
 
-shown_append : (rows plain others more : List Value) → Shows rows plain → Shows others more → Shows (rows ++ others) (plain ++ more)
+shown_append : (rows plain others more : List Value) → ShowsRows rows plain → ShowsRows others more → ShowsRows (rows ++ others) (plain ++ more)
 shown_append [] [] others more s t = t
 shown_append [] (v ∷ vs) others more s t = absurd s
 shown_append (row ∷ rows) [] others more s t = absurd (never_none row rows s)
@@ -76,9 +76,9 @@ shown_append (row ∷ rows) (v ∷ vs) others more s t =
     let both = each_shown row rows v vs s in
     show_next row v (rows ++ others) (vs ++ more) (λ valid. sym both.0 ∙ ap (λ b. if b then v else Null) valid) (shown_append rows vs others more both.1 t)
 
--- ---- the rows that were read
+-- ---- the parsed rows
 
--- whether each is valid
+-- The validity of each item.
 abbrev pub valid_items : List (Bor Item) → List Bool
 valid_items items = map (λ item. is_valid (item_value item.now)) items
 
@@ -86,13 +86,13 @@ valid_rows : (items : List (Bor Item)) → valid_items items ≡ map is_valid (r
 valid_rows [] = refl
 valid_rows (item ∷ items) = ap (λ l. is_valid (item_value item.now) ∷ l) (valid_rows items)
 
-pub items_hidden : (items : List (Bor Item)) (valid : List Bool) → valid ≡ valid_items items → (plain : List Value) → Shows (rows_read items) plain → hidden valid plain ≡ rows_read items
+pub items_hidden : (items : List (Bor Item)) (valid : List Bool) → valid ≡ valid_items items → (plain : List Value) → ShowsRows (rows_read items) plain → hidden valid plain ≡ rows_read items
 items_hidden items valid is plain s = ap (λ l. hidden l plain) (is ∙ valid_rows items) ∙ hidden_shown (rows_read items) plain s
 
-pub items_shown : (items : List (Bor Item)) (valid : List Bool) → valid ≡ valid_items items → list_all (λ b. b) valid ≡ true → (plain : List Value) → Shows (rows_read items) plain → plain ≡ rows_read items
+pub items_shown : (items : List (Bor Item)) (valid : List Bool) → valid ≡ valid_items items → list_all (λ b. b) valid ≡ true → (plain : List Value) → ShowsRows (rows_read items) plain → plain ≡ rows_read items
 items_shown items valid is all plain s = shown_all (rows_read items) plain (ap (list_all (λ b. b)) (sym (is ∙ valid_rows items)) ∙ all) s
 
--- a row of a type fits it
+-- A row of a type fits the type.
 pub item_fits : (s : Shape) (items : List (Bor Item)) (i : ℕ) (item : Bor Item) → list_all (fits s) (rows_read items) ≡ true → i < length items → item ≡ get_or items i item → fits s (item_value item.now) ≡ true
 item_fits s items i item fit inside is = ap (λ x. fits s (item_value x.now)) is ∙ go items i fit inside
   where
@@ -101,38 +101,38 @@ item_fits s items i item fit inside is = ap (λ x. fits s (item_value x.now)) is
     go (x ∷ xs) zero fit inside = and_first (fits s (item_value x.now)) (list_all (fits s) (rows_read xs)) fit
     go (x ∷ xs) (suc k) fit inside = go xs k (and_second (fits s (item_value x.now)) (list_all (fits s) (rows_read xs)) fit) (omega (arith, inside))
 
--- one row more
+-- One more row.
 pub shown_more : {A : Type 0} (value : A → Value) (items : List (Bor Item)) (i : ℕ) (item : Bor Item) (values grown : List A) (y : A) → i < length items → item ≡ get_or items i item →
-    Shows (rows_read (take i items)) (map value values) → Shows (item_value item.now ∷ []) (value y ∷ []) → grown ≡ values ++ y ∷ [] → Shows (rows_read (take (i + 1) items)) (map value grown)
+    ShowsRows (rows_read (take i items)) (map value values) → ShowsRows (item_value item.now ∷ []) (value y ∷ []) → grown ≡ values ++ y ∷ [] → ShowsRows (rows_read (take (i + 1) items)) (map value grown)
 shown_more value items i item values grown y inside is before here grows =
     let row = λ (x : Bor Item). item_value x.now in
     let rows : rows_read (take (i + 1) items) ≡ rows_read (take i items) ++ item_value item.now ∷ [] =
     ap rows_read (take_more items i item inside ∙ ap (λ x. take i items ++ x ∷ []) (sym is)) ∙ map-append row (take i items) (item ∷ []) in
     let plain : map value grown ≡ map value values ++ value y ∷ [] = ap (map value) grows ∙ map-append value values (y ∷ []) in
-    subst (λ r. Shows r (map value grown)) (sym rows) (subst (λ p. Shows (rows_read (take i items) ++ item_value item.now ∷ []) p) (sym plain)
+    subst (λ r. ShowsRows r (map value grown)) (sym rows) (subst (λ p. ShowsRows (rows_read (take i items) ++ item_value item.now ∷ []) p) (sym plain)
     (shown_append (rows_read (take i items)) (map value values) (item_value item.now ∷ []) (value y ∷ []) before here))
 
--- as many rows as items
+-- There are as many rows as items.
 pub rows_count : (items : List (Bor Item)) → length (rows_read items) ≡ length items
 rows_count items = length-map items (λ (item : Bor Item). item_value item.now)
 
-pub shown_count : {A : Type 0} (value : A → Value) (items : List (Bor Item)) (values : List A) → Shows (rows_read items) (map value values) → length values ≡ length items
+pub shown_count : {A : Type 0} (value : A → Value) (items : List (Bor Item)) (values : List A) → ShowsRows (rows_read items) (map value values) → length values ≡ length items
 shown_count value items values s = sym (length-map values value) ∙ shown_length (rows_read items) (map value values) s ∙ rows_count items
 
--- ---- truth values
+-- ---- booleans
 
 no_truth : {A : Type 0} → false ≡ true → A
 no_truth is = absurd (true≢false (sym is))
 
-pub truths_shown : (beneath : Beneath) (items : List (Bor Item)) → list_all (fits of_boolean) (rows_read items) ≡ true → Shows (rows_read items) (map Truth (map (λ item. truth_stored beneath (item_value item.now)) items))
+pub truths_shown : (beneath : NullSlots) (items : List (Bor Item)) → list_all (fits of_boolean) (rows_read items) ≡ true → ShowsRows (rows_read items) (map Truth (map (λ item. bool_stored beneath (item_value item.now)) items))
 truths_shown beneath [] fit = tt
 truths_shown beneath (item ∷ items) fit =
     let row = item_value item.now in
     let first = and_first (fits of_boolean row) (list_all (fits of_boolean) (rows_read items)) fit in
     let rest = and_second (fits of_boolean row) (list_all (fits of_boolean) (rows_read items)) fit in
-    show_next row (Truth (truth_stored beneath row)) (rows_read items) (map Truth (map (λ item. truth_stored beneath (item_value item.now)) items)) (same row first) (truths_shown beneath items rest)
+    show_next row (Truth (bool_stored beneath row)) (rows_read items) (map Truth (map (λ item. bool_stored beneath (item_value item.now)) items)) (same row first) (truths_shown beneath items rest)
   where
-    same : (row : Value) → fits of_boolean row ≡ true → is_valid row ≡ true → row ≡ Truth (truth_stored beneath row)
+    same : (row : Value) → fits of_boolean row ≡ true → is_valid row ≡ true → row ≡ Truth (bool_stored beneath row)
     same Null fit valid = no_truth valid
     same (Truth b) fit valid = refl
     same (Number z) fit valid = no_truth fit
@@ -142,9 +142,9 @@ truths_shown beneath (item ∷ items) fit =
 
 -- ---- bytes
 
--- a type of bytes is of no other kind
+-- A type of bytes is of no other kind.
 pub record IsOfBytes (s : Shape) : Type 0 where
-  pub truths : is_truth_shape s ≡ false
+  pub truths : is_boolean_shape s ≡ false
   pub numbers : (z : ℤ) → fits_number s z ≡ false
   pub counts : (n : ℕ) → fits_count s n ≡ false
   pub tuples : is_struct_shape s ≡ false
@@ -172,18 +172,18 @@ of_views (of_large_list s) has = no_truth has
 of_views (of_fixed_size_list s size) has = no_truth has
 of_views (of_struct ss) has = no_truth has
 
--- what is stored for a row
-abbrev pub stored_in : Beneath → Bor Item → List ℕ
+-- The bytes that are stored for an item.
+abbrev pub stored_in : NullSlots → Bor Item → List ℕ
 stored_in beneath item = bytes_stored beneath (item_value item.now)
 
--- and for each
-abbrev pub stored_bytes : Beneath → List (Bor Item) → List (List ℕ)
+-- The bytes that are stored for each item.
+abbrev pub stored_bytes : NullSlots → List (Bor Item) → List (List ℕ)
 stored_bytes beneath items = map (stored_in beneath) items
 
-pub stored_count : (beneath : Beneath) (items : List (Bor Item)) → length (stored_bytes beneath items) ≡ length (rows_read items)
+pub stored_count : (beneath : NullSlots) (items : List (Bor Item)) → length (stored_bytes beneath items) ≡ length (rows_read items)
 stored_count beneath items = length-map items (stored_in beneath) ∙ sym (rows_count items)
 
-pub bytes_shown : (s : Shape) → IsOfBytes s → (beneath : Beneath) (items : List (Bor Item)) → list_all (fits s) (rows_read items) ≡ true → Shows (rows_read items) (map Bytes (stored_bytes beneath items))
+pub bytes_shown : (s : Shape) → IsOfBytes s → (beneath : NullSlots) (items : List (Bor Item)) → list_all (fits s) (rows_read items) ≡ true → ShowsRows (rows_read items) (map Bytes (stored_bytes beneath items))
 bytes_shown s of beneath [] fit = tt
 bytes_shown s of beneath (item ∷ items) fit =
     let row = item_value item.now in
@@ -199,8 +199,8 @@ bytes_shown s of beneath (item ∷ items) fit =
     same (Items es) fit valid = no_truth (sym (of.counts (length (listed es))) ∙ and_first (fits_count s (length (listed es))) (all_fit (item_shape s) es) fit)
     same (Tuple es) fit valid = no_truth (sym of.tuples ∙ and_first (is_struct_shape s) (parts_fit (part_shapes s) es) fit)
 
--- one row more
-pub stored_more : (beneath : Beneath) (items : List (Bor Item)) (i : ℕ) (item : Bor Item) (bytes : List ℕ) → i < length items → item ≡ get_or items i item → bytes ≡ bytes_stored beneath (item_value item.now) →
+-- One more row.
+pub stored_more : (beneath : NullSlots) (items : List (Bor Item)) (i : ℕ) (item : Bor Item) (bytes : List ℕ) → i < length items → item ≡ get_or items i item → bytes ≡ bytes_stored beneath (item_value item.now) →
     stored_bytes beneath (take (i + 1) items) ≡ stored_bytes beneath (take i items) ++ bytes ∷ []
 stored_more beneath items i item bytes inside is here =
     map_more (stored_in beneath) items i item inside ∙ ap (λ x. stored_bytes beneath (take i items) ++ x ∷ []) (ap (stored_in beneath) (sym is) ∙ sym here)

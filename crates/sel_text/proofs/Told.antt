@@ -1,4 +1,4 @@
--- A text tells its value.
+-- Row text determines its value.
 use Rattle.std.proofs.Common.{◌≡◌, ◌≢◌, ℕ, ℤ, pos, negsuc, ◌^◌, ◌≤◌, ◌<◌, Bool, true, false, List, [], ◌∷◌, ◌++◌, length, get_or, drop, refl, ap, sym, ◌∙◌, arith, append_assoc}
 use Rattle.std.specs.Prelude.{◌==◌, nat_lt, if◌then◌else◌}
 use Rattle.std.specs.Char.{digit_value}
@@ -13,7 +13,7 @@ use Rattle.sel_arrow.specs.Shape.{Shape, Shapes, no_shapes, next_shape, is_struc
 use Rattle.sel_arrow.specs.Value.{Value, Null, Truth, Number, Bytes, Items, Tuple, Values, no_values, next_value, values_of, listed}
 use Rattle.sel_arrow.proofs.Lists.{both, and_first, and_second}
 use Rattle.sel_text.specs.Fits.{fits, all_fit, parts_fit, fits_count, fits_number, fits_unsigned}
-use Rattle.sel_text.specs.Laws.{TextsTellRows}
+use Rattle.sel_text.specs.Laws.{TextDeterminesRows}
 use Rattle.sel_text.specs.Texts.{bracketed, hex_byte, escaped, hex_text, quoted, is_text_shape, bytes_text, item_shape, part_shapes, item_texts, part_texts, value_text, text_of}
 use Rattle.sel_text.specs.Digits.{NoDigit}
 use Rattle.sel_text.proofs.Ends.{few_digits}
@@ -21,14 +21,14 @@ use Rattle.sel_text.proofs.Decoded.{signed_apart, hex_apart, escaped_apart}
 use Rattle.sel_text.proofs.Equalities.{list_of_back}
 use Rattle.sel_text.proofs.Printed.{listed_texts}
 
--- ---- texts behind an opening bracket
+-- ---- row texts after an opening bracket
 
--- the texts from the second on, each behind a comma, the closing bracket, and a rest
+-- The row texts from the second on, each after a comma, then the closing bracket and a rest.
 abbrev pub after : ℕ → List (List ℕ) → List ℕ → List ℕ
 after close [] r = close ∷ r
 after close (x ∷ xs) r = 44 ∷ x ++ after close xs r
 
--- all of them
+-- All row texts, separated by commas, then the closing bracket and a rest.
 abbrev pub inside : ℕ → List (List ℕ) → List ℕ → List ℕ
 inside close [] r = close ∷ r
 inside close (x ∷ xs) r = x ++ after close xs r
@@ -51,9 +51,9 @@ after_no_digit close (x ∷ xs) r past = comma_past
     comma_past : 10 ≤ digit_value 44
     comma_past = omega arith
 
--- ---- the first byte tells the kind of value
+-- ---- the first byte determines the kind of a value
 
--- the kind of a value: null, a truth value, a number, bytes, a list or a tuple
+-- The kind of a value: null, boolean, number, bytes, list or struct.
 abbrev kind : Value → ℕ
 kind Null = 0
 kind (Truth truth) = 1
@@ -84,7 +84,7 @@ small_unsigned bits (negsuc n) few fit = absurd cc
 small_signed : (bits : ℕ) (z : ℤ) → 2 ^ bits ≤ 2 ^ 128 → nat_lt (mag z) (2 ^ bits) ≡ true → mag z < 2 ^ 128
 small_signed bits z few fit = let small = below (mag z) (2 ^ bits) fit in omega (arith, small, few)
 
--- a number of a type has at most 128 bits
+-- A number of a type has at most 128 bits.
 pub small_number : (s : Shape) (z : ℤ) → fits_number s z ≡ true → mag z < 2 ^ 128
 small_number of_int8 z fit = small_signed 7 z (omega arith) fit
 small_number of_int16 z fit = small_signed 15 z (omega arith) fit
@@ -105,7 +105,7 @@ small_number (of_large_list s) z fit = absurd cc
 small_number (of_fixed_size_list s size) z fit = absurd cc
 small_number (of_struct ss) z fit = absurd cc
 
--- one below zero is of a type with a sign
+-- A negative number has a signed type.
 below_signed : (bits n : ℕ) → 2 ^ bits ≤ 2 ^ 127 → nat_lt n (2 ^ bits) ≡ true → n < 2 ^ 127
 below_signed bits n few fit = let small = below n (2 ^ bits) fit in omega (arith, small, few)
 
@@ -160,14 +160,14 @@ bytes_apart s bs cs r t e = go (is_text_shape s) e
         let body : (flat_map hex_byte bs ++ 34 ∷ []) ++ r ≡ (flat_map hex_byte cs ++ 34 ∷ []) ++ t = cc in
         hex_apart bs cs r t (sym (append_assoc (flat_map hex_byte bs) (34 ∷ []) r) ∙ body ∙ append_assoc (flat_map hex_byte cs) (34 ∷ []) t)
 
--- values of two kinds have no text in common
+-- No text begins with the row texts of two values of different kinds.
 pub unlike : (s : Shape) (v w : Value) (r t : List ℕ) → fits s v ≡ true → fits s w ≡ true → value_text s v ++ r ≡ value_text s w ++ t → (kind v == kind w) ≡ false → ⊥
 unlike s v w r t fv fw e differ =
     let same = same_kind s v w r t fv fw e in
     let apart : kind v ≢ kind w = grind (arith, nat_tests, differ) in
     apart same
 
--- a closing bracket begins no value
+-- No value begins with a closing bracket.
 pub no_value : (s : Shape) (v : Value) (close : ℕ) (r t : List ℕ) → fits s v ≡ true → kind_of close ≡ 6 → close ∷ r ≡ value_text s v ++ t → ⊥
 no_value s v close r t fit none e =
     let one : kind v ≡ 6 = sym (starts s v t fit) ∙ ap (λ l. kind_of (get_or l 0 0)) (sym e) ∙ none in
@@ -181,13 +181,13 @@ no_value s v close r t fit none e =
     never (Items x) one = cc
     never (Tuple x) one = cc
 
--- ---- values by their texts
+-- ---- the row texts of values
 
--- a value of a type is told by its text before any rest that does not go on with a digit
+-- A value is determined by its row text, before any rest that does not begin with a digit.
 record Tells (s : Shape) (v : Value) : Type 0 where
   told : (w : Value) (r t : List ℕ) → fits s v ≡ true → fits s w ≡ true → NoDigit r → NoDigit t → value_text s v ++ r ≡ value_text s w ++ t → (v ≡ w) × (r ≡ t)
 
--- the values of a list, each behind a comma, and those of a tuple
+-- The values of a list, each after a comma, and those of a struct.
 record TellsItems (s : Shape) (vs : Values) : Type 0 where
   told : (ws : Values) (r t : List ℕ) → all_fit s vs ≡ true → all_fit s ws ≡ true → after 93 (item_texts s vs) r ≡ after 93 (item_texts s ws) t → (vs ≡ ws) × (r ≡ t)
 
@@ -231,7 +231,7 @@ bytes_told s bs (Number y) r t fv fw nr nt e = absurd (unlike s (Bytes bs) (Numb
 bytes_told s bs (Items y) r t fv fw nr nt e = absurd (unlike s (Bytes bs) (Items y) r t fv fw e refl)
 bytes_told s bs (Tuple y) r t fv fw nr nt e = absurd (unlike s (Bytes bs) (Tuple y) r t fv fw e refl)
 
--- what tells values behind commas tells those behind the bracket
+-- This extends to values after the opening bracket.
 items_inside : (s : Shape) (vs ws : Values) (r t : List ℕ) → TellsItems s vs → all_fit s vs ≡ true → all_fit s ws ≡ true → inside 93 (item_texts s vs) r ≡ inside 93 (item_texts s ws) t → (vs ≡ ws) × (r ≡ t)
 items_inside s no_values no_values r t tells fv fw e = (refl, cc)
 items_inside s no_values (next_value w ws) r t tells fv fw e = absurd (no_value s w 93 r (after 93 (item_texts s ws) t) (and_first (fits s w) (all_fit s ws) fw) refl e)
@@ -246,7 +246,7 @@ parts_inside (next_shape s ss) no_values ws r t tells fv fw e = absurd (false≢
 parts_inside (next_shape s ss) (next_value v vs) no_values r t tells fv fw e = absurd (false≢true fw)
 parts_inside (next_shape s ss) (next_value v vs) (next_value w ws) r t tells fv fw e = tells.told (next_value w ws) r t fv fw (ap (λ l. 44 ∷ l) e)
 
--- the texts behind an opening bracket
+-- The row texts after an opening bracket.
 unbracket : (first close : ℕ) (xs ys : List (List ℕ)) (r t : List ℕ) → (first ∷ join_with_byte 44 xs ++ close ∷ []) ++ r ≡ (first ∷ join_with_byte 44 ys ++ close ∷ []) ++ t → inside close xs r ≡ inside close ys t
 unbracket first close xs ys r t e = sym (joined_inside close xs r) ∙ ap (drop 1) e ∙ joined_inside close ys t
 
@@ -329,7 +329,7 @@ text_inside : (s : Shape) (vs : List Value) → text_of s vs ++ [] ≡ 91 ∷ in
 text_inside s vs =
     ap (λ l. bracketed l ++ []) (sym (listed_texts s vs)) ∙ ap (λ l. 91 ∷ l) (joined_inside 93 (item_texts s (values_of vs)) [])
 
-pub texts_tell : TextsTellRows
+pub texts_tell : TextDeterminesRows
 texts_tell shape rows others fit fitted same =
     let texts : 91 ∷ inside 93 (item_texts shape (values_of rows)) [] ≡ 91 ∷ inside 93 (item_texts shape (values_of others)) [] =
     sym (text_inside shape rows) ∙ ap (λ l. l ++ []) same ∙ text_inside shape others in

@@ -17,7 +17,7 @@ each_text (dtype ∷ dtypes) = ap (λ l. text_of_type dtype ∷ l) (each_text dt
 pub struct_text : (dtype : ArrowDataType) (fields : Vec ArrowDataType Global) → dtype ≡ Struct fields → codes "struct" ++ angled (map text_of_type fields.items) ≡ text_of_type dtype
 struct_text dtype fields is = sym (ap type_text (struct_shape dtype fields is) ∙ ap (λ l. codes "struct" ++ angled l) (each_text fields.items))
 
--- the text of a type of tuples, from its brackets on
+-- The text of a struct type, from its brackets on.
 pub struct_behind : (fields : Vec ArrowDataType Global) (dtypes : List ArrowDataType) (bytes rest : List ℕ) → fields.items ≡ dtypes → bytes ≡ angled (map text_of_type dtypes) ++ rest → codes "struct" ++ bytes ≡ text_of_type (Struct fields) ++ rest
 struct_behind fields dtypes bytes rest are is =
     ap (λ l. codes "struct" ++ l) (is ∙ ap (λ l. angled (map text_of_type l) ++ rest) (sym are)) ∙ sym (append_assoc (codes "struct") (angled (map text_of_type fields.items)) rest)

@@ -1,4 +1,4 @@
--- A text begins with the text of one type at most.
+-- A text begins with the text of at most one type.
 use Rattle.std.proofs.Common.{◌≡◌, ◌≢◌, ℕ, true, true≢false, List, [], ◌∷◌, ◌++◌, get_or, drop, refl, ap, sym, ◌∙◌, arith, append_assoc}
 use Rattle.std.specs.Prelude.{codes, ◌==◌, if◌then◌else◌}
 use Rattle.std.specs.Fmt.{decimal}
@@ -6,7 +6,8 @@ use Rattle.sel_arrow.specs.Shape.{Shape, Shapes, no_shapes, of_null, of_boolean,
 use Rattle.sel_text.specs.Written.{is_plain}
 use Rattle.sel_text.specs.Types.{angled, type_text, type_texts}
 
--- the type that a text begins with, but for its children: told by the letters that its names differ in
+-- The type whose text a text begins with, without its children; it is determined by the bytes in
+-- which the names of types differ.
 abbrev begun : List ℕ → Shape
 begun text =
     let first = get_or text 0 0 in
@@ -55,7 +56,7 @@ append_same : (a r t : List ℕ) → a ++ r ≡ a ++ t → r ≡ t
 append_same [] r t same = same
 append_same (x ∷ a) r t same = append_same a r t (ap (drop 1) same)
 
--- a text that begins with a type without a child begins with no other one
+-- A text that begins with a type without a child begins with no other type.
 pub plain_told : (a s : Shape) (text rest more : List ℕ) → is_plain a ≡ true → text ≡ type_text a ++ rest → text ≡ type_text s ++ more → (a ≡ s) × (rest ≡ more)
 plain_told a s text rest more plain one other =
     let heads : without_children a ≡ without_children s = sym (begins a rest) ∙ ap begun (sym one ∙ other) ∙ begins s more in
@@ -69,7 +70,7 @@ plain_told a s text rest more plain one other =
     plain_of (of_struct ss) plain = plain
     plain_of s plain = plain
 
--- which children a type has: none, that of lists, that of lists of one length, or those of tuples
+-- The kind of a type by its children: none, or those of a list, a fixed-size list or a struct.
 abbrev kind : Shape → ℕ
 kind (of_large_list s) = 1
 kind (of_fixed_size_list s n) = 2
@@ -108,14 +109,14 @@ tuples_told s text more is =
     let one = is ∙ ap (λ x. type_text x ++ more) found.1 in
     (found.0, found.1, ap (drop 6) one)
 
--- a text with the name of no type begins with none
+-- A text that begins with the name of no type begins with no type.
 pub none_told : (s : Shape) (text more : List ℕ) → ((t : Shape) (rest : List ℕ) → is_plain t ≡ true → text ≢ type_text t ++ rest) → ((rest : List ℕ) → text ≢ codes "list" ++ rest) → ((rest : List ℕ) → text ≢ codes "fixed" ++ rest) → ((rest : List ℕ) → text ≢ codes "struct" ++ rest) → text ≢ type_text s ++ more
 none_told (of_large_list s) text more plain lists blocks tuples is = lists _ is
 none_told (of_fixed_size_list s n) text more plain lists blocks tuples is = blocks _ is
 none_told (of_struct ss) text more plain lists blocks tuples is = tuples _ is
 none_told s text more plain lists blocks tuples is = plain s more refl is
 
--- nor does one with the bits of no number behind an `i` or a `u`
+-- Nor does one that begins with `i` or `u` and no bit width.
 pub no_signed : (text : List ℕ) → ((rest : List ℕ) → text ≢ codes "8" ++ rest) → ((rest : List ℕ) → text ≢ codes "16" ++ rest) → ((rest : List ℕ) → text ≢ codes "32" ++ rest) → ((rest : List ℕ) → text ≢ codes "64" ++ rest) → ((rest : List ℕ) → text ≢ codes "128" ++ rest) →
     (s : Shape) (more : List ℕ) → 105 ∷ text ≢ type_text s ++ more
 no_signed text a b c d f of_int8 more is = a more (ap (drop 1) is)

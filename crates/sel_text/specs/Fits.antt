@@ -1,4 +1,4 @@
--- Which values a column of a type can have.
+-- The values that a column of a type can have.
 use Rattle.std.specs.Prelude.{ℕ, ℤ, ◌^◌, pos, negsuc, Bool, true, false, ◌&&◌, ◌==◌, nat_lt, List, length}
 use Rattle.std.specs.Int.Signed.{mag}
 use Rattle.std.specs.List.{list_all}
@@ -7,12 +7,13 @@ use Rattle.sel_arrow.specs.Shape.{Shape, Shapes, no_shapes, next_shape, of_boole
 use Rattle.sel_arrow.specs.Value.{Value, Null, Truth, Number, Bytes, Items, Tuple, Values, no_values, next_value, listed}
 use Rattle.sel_text.specs.Texts.{item_shape, part_shapes}
 
--- a number can be stored in so many bits, without a sign (own)
+-- Whether a number is an unsigned integer of `bits` bits.
 abbrev pub fits_unsigned : ℕ → ℤ → Bool
 fits_unsigned bits (pos n) = nat_lt n (2 ^ bits)
 fits_unsigned bits (negsuc n) = false
 
--- a number fits its type: one with a sign has a bit less for its size (Arrow columnar format: data types)
+-- Whether a number fits an integer type; false for any other type (Arrow columnar format: data
+-- types).
 abbrev pub fits_number : Shape → ℤ → Bool
 fits_number of_int8 z = nat_lt (mag z) (2 ^ 7)
 fits_number of_int16 z = nat_lt (mag z) (2 ^ 15)
@@ -26,42 +27,47 @@ fits_number of_uint64 z = fits_unsigned 64 z
 fits_number of_uint128 z = fits_unsigned 128 z
 fits_number shape z = false
 
--- bytes fit a type of bytes, and one of texts where they are UTF-8 (Arrow columnar format: data types)
+-- Whether bytes fit a type: any bytes fit a binary type, UTF-8 fits a string type (Arrow columnar
+-- format: data types).
 abbrev pub fits_bytes : Shape → List ℕ → Bool
 fits_bytes of_large_binary bytes = list_all (λ byte. nat_lt byte 256) bytes
 fits_bytes of_binary_view bytes = list_all (λ byte. nat_lt byte 256) bytes
 fits_bytes of_utf8_view bytes = is_utf8 bytes
 fits_bytes shape bytes = false
 
--- as many values fit a type of lists (Arrow columnar format: list layouts)
+-- Whether a list of a list type can have n entries (Arrow columnar format: list layouts).
 abbrev pub fits_count : Shape → ℕ → Bool
 fits_count (of_large_list shape) n = true
 fits_count (of_fixed_size_list shape size) n = n == size
 fits_count shape n = false
 
--- a type is one of truth values (Arrow columnar format: data types)
-abbrev pub is_truth_shape : Shape → Bool
-is_truth_shape of_boolean = true
-is_truth_shape shape = false
+-- Whether the type is boolean (Arrow columnar format: data types).
+abbrev pub is_boolean_shape : Shape → Bool
+is_boolean_shape of_boolean = true
+is_boolean_shape shape = false
 
 abbrev mutual
-  -- a value can be a row of a column of this type; a null always can (Arrow columnar format: data types)
+  -- Whether a value can be a row of a column of this type; null can be a row of any (Arrow columnar
+  -- format: data types).
   pub fits : Shape → Value → Bool
   fits shape Null = true
-  fits shape (Truth truth) = is_truth_shape shape
+  fits shape (Truth truth) = is_boolean_shape shape
   fits shape (Number number) = fits_number shape number
   fits shape (Bytes bytes) = fits_bytes shape bytes
-  fits shape (Items entries) = fits_count shape (length (listed entries)) && all_fit (item_shape shape) entries
+  fits shape (Items entries) =
+      fits_count shape (length (listed entries)) && all_fit (item_shape shape) entries
   fits shape (Tuple entries) = is_struct_shape shape && parts_fit (part_shapes shape) entries
 
-  -- each of a list's values does (own)
+  -- Whether each entry of a list fits the type.
   pub all_fit : Shape → Values → Bool
   all_fit shape no_values = true
   all_fit shape (next_value value entries) = fits shape value && all_fit shape entries
 
-  -- there is a value for each of a tuple's types, and each fits its own (Arrow columnar format: struct layout)
+  -- Whether there is one value for each field type, and each fits its type (Arrow columnar format:
+  -- struct layout).
   pub parts_fit : Shapes → Values → Bool
   parts_fit no_shapes no_values = true
   parts_fit no_shapes (next_value value entries) = false
   parts_fit (next_shape shape types) no_values = false
-  parts_fit (next_shape shape types) (next_value value entries) = fits shape value && parts_fit types entries
+  parts_fit (next_shape shape types) (next_value value entries) =
+      fits shape value && parts_fit types entries

@@ -1,4 +1,4 @@
--- What was read for rows, as values.
+-- The values of parsed rows.
 use Rattle.std.specs.Prelude.{List, map}
 use Rattle.std.specs.Borrow.{Bor}
 use Rattle.sel_arrow.specs.Value.{Value, Null, Truth, Number, Bytes, Items, Tuple, Values, no_values, next_value}
@@ -7,7 +7,7 @@ use Rattle.sel_text.specs.declared.item.Item.{Item, Row_of-Item, end_of-Item, mo
 use Rattle.sel_text.specs.declared.item.Item.TheVariants.{Null as NullItem, Truth as TruthItem, Number as NumberItem, Bytes as BytesItem, Items', Parts'}
 
 abbrev mutual
-  -- the row that was read (own)
+  -- The row that was parsed.
   pub item_value : Item → Value
   item_value NullItem = Null
   item_value (TruthItem truth) = Truth truth
@@ -16,11 +16,11 @@ abbrev mutual
   item_value (Items' n items) = Items (values_read items)
   item_value (Parts' n parts) = Tuple (values_read parts)
 
-  -- the entries of a list, or the parts of a tuple, that were read (own)
+  -- The entries of a list, or the field values of a struct, that were parsed.
   pub values_read : {n : _} → Row_of-Item n → Values
   values_read end_of-Item = no_values
   values_read (more_of-Item item items) = next_value (item_value item) (values_read items)
 
--- the rows that were read, one after another (own)
+-- The parsed rows, in order.
 abbrev pub rows_read : List (Bor Item) → List Value
 rows_read items = map (λ item. item_value item.now) items

@@ -1,4 +1,4 @@
--- What texts tell of rows and of types.
+-- Row text determines the rows, and the text of a type determines the type.
 use Rattle.std.specs.Prelude.{◌≡◌, List, IsTrue}
 use Rattle.std.specs.List.{list_all}
 use Rattle.sel_arrow.specs.Shape.{Shape}
@@ -8,11 +8,15 @@ use Rattle.sel_text.specs.Texts.{text_of}
 use Rattle.sel_text.specs.Types.{type_text}
 use Rattle.sel_text.specs.Written.{widths_written}
 
--- lists of values that fit a type are one where their texts are (own)
-abbrev pub TextsTellRows : Type 0
-TextsTellRows = (shape : Shape) (rows others : List Value) → IsTrue (list_all (fits shape) rows) → IsTrue (list_all (fits shape) others) →
+-- Lists of values that fit a type are equal if their row texts are equal.
+abbrev pub TextDeterminesRows : Type 0
+TextDeterminesRows =
+    (shape : Shape) (rows others : List Value) → IsTrue (list_all (fits shape) rows) →
+    IsTrue (list_all (fits shape) others) →
     text_of shape rows ≡ text_of shape others → rows ≡ others
 
--- types whose widths are numbers of 64 bits are one where their texts are (own)
-abbrev pub TextsTellTypes : Type 0
-TextsTellTypes = (shape other : Shape) → IsTrue (widths_written shape) → IsTrue (widths_written other) → type_text shape ≡ type_text other → shape ≡ other
+-- Types whose list sizes are unsigned 64-bit integers are equal if their texts are equal.
+abbrev pub TextDeterminesType : Type 0
+TextDeterminesType =
+    (shape other : Shape) → IsTrue (widths_written shape) → IsTrue (widths_written other) →
+    type_text shape ≡ type_text other → shape ≡ other

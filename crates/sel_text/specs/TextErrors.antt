@@ -1,4 +1,4 @@
--- The texts of faults, and where they may be.
+-- The messages of errors, and the positions that they report.
 use Rattle.std.specs.Prelude.{ℕ, ◌≤◌, ⊤, List, ◌++◌, codes}
 use Rattle.std.specs.Fmt.{decimal}
 use Rattle.sel_bits.specs.declared.faults.MakeError.{MakeError}
@@ -10,42 +10,42 @@ use Rattle.sel_text.specs.declared.text_error.Fault.TheVariants.{Limit as LimitF
 use Rattle.sel_text.specs.declared.text_error.TextError.{TextError}
 use Rattle.sel_text.specs.declared.text_error.TextError.TheVariants.{Syntax, «Type», Limit, OutOfMemory}
 
--- the text of a refusal (own)
-abbrev pub error_text : TextError → List ℕ
-error_text (Syntax at) = codes "syntax at byte " ++ decimal at
-error_text («Type» at) = codes "type at byte " ++ decimal at
-error_text Limit = codes "size limit"
-error_text OutOfMemory = codes "out of memory"
+-- The message of an error.
+abbrev pub parse_error_text : TextError → List ℕ
+parse_error_text (Syntax at) = codes "syntax at byte " ++ decimal at
+parse_error_text («Type» at) = codes "type at byte " ++ decimal at
+parse_error_text Limit = codes "size limit"
+parse_error_text OutOfMemory = codes "out of memory"
 
--- a place that is named is in the text or at its end (own)
-abbrev pub IsWithin : ℕ → TextError → Type 0
-IsWithin count (Syntax at) = at ≤ count
-IsWithin count («Type» at) = at ≤ count
-IsWithin count error = ⊤
+-- A position that is reported is within the text or at its end.
+abbrev pub IsOffsetWithin : ℕ → TextError → Type 0
+IsOffsetWithin count (Syntax at) = at ≤ count
+IsOffsetWithin count («Type» at) = at ≤ count
+IsOffsetWithin count error = ⊤
 
--- a refusal speaks of a limit or of memory, and not of the text (own)
-abbrev pub IsShortage : TextError → Type 0
-IsShortage Limit = ⊤
-IsShortage OutOfMemory = ⊤
-IsShortage error = ⊥
+-- The error is an exceeded limit or out of memory, not an error in the text.
+abbrev pub IsLimitOrMemoryError : TextError → Type 0
+IsLimitOrMemoryError Limit = ⊤
+IsLimitOrMemoryError OutOfMemory = ⊤
+IsLimitOrMemoryError error = ⊥
 
--- the same of a fault (own)
-abbrev pub IsShort : Fault → Type 0
-IsShort LimitFault = ⊤
-IsShort MemoryFault = ⊤
-IsShort fault = ⊥
+-- The fault is an exceeded limit or out of memory.
+abbrev pub IsLimitOrMemoryFault : Fault → Type 0
+IsLimitOrMemoryFault LimitFault = ⊤
+IsLimitOrMemoryFault MemoryFault = ⊤
+IsLimitOrMemoryFault fault = ⊥
 
--- the fault that a broken rule is (own)
+-- The fault for an error of a constructor: `OutOfMemory`, or `Limit` for a broken rule.
 abbrev pub make_fault : MakeError → Fault
 make_fault MakeMemory = MemoryFault
 make_fault error = LimitFault
 
--- the fault that a refusal of a kernel is (own)
+-- The fault for an error of a kernel: `OutOfMemory`, or `Limit` for any other one.
 abbrev pub kernel_fault : PolarsError → Fault
 kernel_fault KernelMemory = MemoryFault
 kernel_fault error = LimitFault
 
--- a fault speaks of memory alone (own)
-abbrev pub IsWanting : Fault → Type 0
-IsWanting MemoryFault = ⊤
-IsWanting fault = ⊥
+-- The fault is out of memory.
+abbrev pub IsMemoryFault : Fault → Type 0
+IsMemoryFault MemoryFault = ⊤
+IsMemoryFault fault = ⊥

@@ -1,15 +1,15 @@
--- The text of a type of columns.
+-- The text of a type.
 use Rattle.std.specs.Prelude.{ℕ, List, [], ◌∷◌, ◌++◌, codes}
 use Rattle.std.specs.Fmt.{decimal}
 use Rattle.std.specs.List.{join_with_byte}
 use Rattle.sel_arrow.specs.Shape.{Shape, Shapes, no_shapes, next_shape, of_null, of_boolean, of_int8, of_int16, of_int32, of_int64, of_int128, of_uint8, of_uint16, of_uint32, of_uint64, of_uint128, of_large_binary, of_binary_view, of_utf8_view, of_large_list, of_fixed_size_list, of_struct}
 
--- texts between angle brackets, with commas between them, as in `<i8,bool>` (own)
+-- Parts in angle brackets, separated by commas, as in `<i8,bool>`.
 abbrev pub angled : List (List ℕ) → List ℕ
 angled texts = 60 ∷ join_with_byte 44 texts ++ 62 ∷ []
 
 abbrev mutual
-  -- a type, as in `struct<list<i8>,fixed<2,utf8>>` (own: the notation that the documents write)
+  -- The text of a type, as in `struct<list<i8>,fixed<2,utf8>>`.
   pub type_text : Shape → List ℕ
   type_text of_null = codes "null"
   type_text of_boolean = codes "bool"
@@ -27,10 +27,11 @@ abbrev mutual
   type_text of_binary_view = codes "binview"
   type_text of_utf8_view = codes "utf8"
   type_text (of_large_list shape) = codes "list" ++ angled (type_text shape ∷ [])
-  type_text (of_fixed_size_list shape size) = codes "fixed" ++ angled (decimal size ∷ type_text shape ∷ [])
+  type_text (of_fixed_size_list shape size) =
+      codes "fixed" ++ angled (decimal size ∷ type_text shape ∷ [])
   type_text (of_struct shapes) = codes "struct" ++ angled (type_texts shapes)
 
-  -- types, each as a text (own)
+  -- The text of each type.
   pub type_texts : Shapes → List (List ℕ)
   type_texts no_shapes = []
   type_texts (next_shape shape shapes) = type_text shape ∷ type_texts shapes

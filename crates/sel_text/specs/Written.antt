@@ -1,21 +1,21 @@
--- Types that can be read.
+-- Types whose text can be parsed.
 use Rattle.std.specs.Prelude.{Bool, true, false, ◌&&◌, nat_lt, ◌^◌}
 use Rattle.sel_arrow.specs.Shape.{Shape, Shapes, no_shapes, next_shape, of_large_list, of_fixed_size_list, of_struct}
 
 abbrev mutual
-  -- each width of lists of one length, at every depth, is one of 64 bits (own)
+  -- Whether each list size in a type, at every depth, is an unsigned 64-bit integer.
   pub widths_written : Shape → Bool
   widths_written (of_large_list shape) = widths_written shape
   widths_written (of_fixed_size_list shape size) = nat_lt size (2 ^ 64) && widths_written shape
   widths_written (of_struct shapes) = all_widths_written shapes
   widths_written shape = true
 
-  -- each type's are (own)
+  -- Whether each list size in each of several types is one.
   pub all_widths_written : Shapes → Bool
   all_widths_written no_shapes = true
   all_widths_written (next_shape shape shapes) = widths_written shape && all_widths_written shapes
 
--- a type has no child (own)
+-- Whether a type has no child.
 abbrev pub is_plain : Shape → Bool
 is_plain (of_large_list _) = false
 is_plain (of_fixed_size_list _ _) = false

@@ -11,9 +11,9 @@ ghost use Rattle.sel_arrow.specs.Value.{Value, Null, Number, is_valid};
 ghost use Rattle.sel_text.specs.Below.{offsets_below, HasParts};
 ghost use Rattle.sel_text.specs.Fits.{fits};
 ghost use Rattle.sel_text.specs.ItemValues.{item_value, rows_read};
-ghost use Rattle.sel_text.specs.Limits.{any_past, block_in, entries_in, is_past, is_view_shape, part_in, past_limit, IsTold, Makes, Shows};
-ghost use Rattle.sel_text.specs.Stored.{bytes_behind, bytes_stored, truth_stored};
-ghost use Rattle.sel_text.specs.TextErrors.{IsWanting};
+ghost use Rattle.sel_text.specs.Limits.{any_exceeds_limit, block_in, entries_in, exceeds_max, is_view_shape, part_in, exceeds_limit, ReportsLimit, MakesColumn, ShowsRows};
+ghost use Rattle.sel_text.specs.Stored.{bytes_behind, bytes_stored, bool_stored};
+ghost use Rattle.sel_text.specs.TextErrors.{IsMemoryFault};
 
 use crate::cell::Whole;
 use crate::item::Item;
@@ -39,7 +39,7 @@ use std::alloc::Global;
 
 /// The values in the null slots of a parsed column. The rows of the column do not depend on it.
 #[derive(Debug, Clone, Copy, PartialEq, Eq)]
-pub enum Beneath {
+pub enum NullSlots {
     /// Zero, false, the empty byte string, and the empty list.
     Zeros,
     /// The maximum of the type, true, a byte string of one byte, and a list of one null entry.
@@ -52,10 +52,10 @@ pub(crate) fn build(
     dtype: &ArrowDataType,
     alloc: Global,
     items: &[&Item],
-    beneath: Beneath,
+    beneath: NullSlots,
 ) -> Result<ArrayRef, Fault>
     ensures { list_all (fits (shape_of dtype.now)) (rows_read items.now) ≡ true →
-        Makes beneath (shape_of dtype.now) (rows_read items.now) result }
+        MakesColumn beneath (shape_of dtype.now) (rows_read items.now) result }
 {
     match dtype {
         ArrowDataType::Null => Ok(NullArray::try_new(items.len())?.into_ref()),
@@ -84,8 +84,8 @@ pub(crate) fn build(
 fn validity_of(alloc: Global, items: &[&Item]) -> Result<Option<Bitmap>, Fault>
     ensures covers { IfOk result (λ validity. Covers validity (length items.now)) }
     ensures hides { IfOk result (λ validity. (plain : List Value) →
-        Shows (rows_read items.now) plain → masked validity plain ≡ rows_read items.now) }
-    ensures memory { IfErr result IsWanting }
+        ShowsRows (rows_read items.now) plain → masked validity plain ≡ rows_read items.now) }
+    ensures memory { IfErr result IsMemoryFault }
 {
     let mut valid = Vec::with_capacity(alloc, items.len())?;
     for item in items {
@@ -118,27 +118,27 @@ fn is_filled(item: &Item) -> bool
 }
 
 /// Builds a boolean column.
-fn truths(alloc: Global, items: &[&Item], beneath: Beneath) -> Result<ArrayRef, Fault>
+fn truths(alloc: Global, items: &[&Item], beneath: NullSlots) -> Result<ArrayRef, Fault>
     ensures { list_all (fits of_boolean) (rows_read items.now) ≡ true →
-        Makes beneath of_boolean (rows_read items.now) result }
+        MakesColumn beneath of_boolean (rows_read items.now) result }
 {
     let mut values = Vec::with_capacity(alloc, items.len())?;
     for item in items {
-        values.push(truth_in(item, beneath))?;
+        values.push(boolean_in(item, beneath))?;
     }
     let values = Bitmap::from_bools(alloc, &values)?;
     Ok(BooleanArray::try_new(values, validity_of(alloc, items)?)?.into_ref())
 }
 
 /// Returns the boolean of a row, or the value for a null slot.
-fn truth_in(item: &Item, beneath: Beneath) -> bool
-    ensures { result ≡ truth_stored beneath (item_value item.now) }
+fn boolean_in(item: &Item, beneath: NullSlots) -> bool
+    ensures { result ≡ bool_stored beneath (item_value item.now) }
 {
     match item {
         Item::Truth(truth) => *truth,
         _ => match beneath {
-            Beneath::Zeros => false,
-            Beneath::Others => true,
+            NullSlots::Zeros => false,
+            NullSlots::Others => true,
         },
     }
 }
@@ -147,10 +147,10 @@ fn truth_in(item: &Item, beneath: Beneath) -> bool
 fn numbers<T: FromWhole>(
     alloc: Global,
     items: &[&Item],
-    beneath: Beneath,
+    beneath: NullSlots,
 ) -> Result<ArrayRef, Fault>
     ensures { list_all (fits T.shape) (rows_read items.now) ≡ true →
-        Makes beneath T.shape (rows_read items.now) result }
+        MakesColumn beneath T.shape (rows_read items.now) result }
 {
     let mut values = Vec::with_capacity(alloc, items.len())?;
     for item in items {
@@ -161,14 +161,14 @@ fn numbers<T: FromWhole>(
 }
 
 /// Returns the integer of a row, or the value for a null slot.
-fn number_in<T: FromWhole>(item: &Item, beneath: Beneath) -> T
+fn number_in<T: FromWhole>(item: &Item, beneath: NullSlots) -> T
     ensures { fits T.shape (item_value item.now) ≡ true →
-        Shows (item_value item.now ∷ []) (Number (T.number result) ∷ []) }
+        ShowsRows (item_value item.now ∷ []) (Number (T.number result) ∷ []) }
 {
     let zero = T::zero();
     let other = match beneath {
-        Beneath::Zeros => zero,
-        Beneath::Others => T::GREATEST,
+        NullSlots::Zeros => zero,
+        NullSlots::Others => T::GREATEST,
     };
     match item {
         Item::Number(whole) => T::from_whole(*whole).unwrap_or(other),
@@ -177,22 +177,22 @@ fn number_in<T: FromWhole>(item: &Item, beneath: Beneath) -> T
 }
 
 /// Returns the bytes of a row, or those for a null slot.
-fn bytes_in(item: &Item, beneath: Beneath) -> &[u8]
+fn bytes_in(item: &Item, beneath: NullSlots) -> &[u8]
     ensures { result.now ≡ bytes_stored beneath (item_value item.now) }
 {
     match item {
         Item::Bytes(bytes) => bytes,
         _ => match beneath {
-            Beneath::Zeros => b"",
-            Beneath::Others => b"?",
+            NullSlots::Zeros => b"",
+            NullSlots::Others => b"?",
         },
     }
 }
 
 /// Builds a binary column with 64-bit offsets (LargeBinary).
-fn pieces(alloc: Global, items: &[&Item], beneath: Beneath) -> Result<ArrayRef, Fault>
+fn pieces(alloc: Global, items: &[&Item], beneath: NullSlots) -> Result<ArrayRef, Fault>
     ensures { list_all (fits of_large_binary) (rows_read items.now) ≡ true →
-        Makes beneath of_large_binary (rows_read items.now) result }
+        MakesColumn beneath of_large_binary (rows_read items.now) result }
 {
     let mut bytes = Vec::new(alloc);
     let mut ends: Vec<i64> = vec![in alloc; 0]?;
@@ -221,13 +221,13 @@ fn offset_at(place: usize) -> Result<i64, Fault>
 }
 
 /// Builds a binary view column; byte strings longer than 12 bytes go to a single data buffer.
-fn views(alloc: Global, items: &[&Item], beneath: Beneath) -> Result<BinaryViewArray, Fault>
+fn views(alloc: Global, items: &[&Item], beneath: NullSlots) -> Result<BinaryViewArray, Fault>
     ensures views { IfOk result (λ array. (shape : Shape) → is_view_shape shape ≡ true →
         list_all (fits shape) (rows_read items.now) ≡ true →
         binview_rows array ≡ rows_read items.now) }
     ensures limit { IfErr result (λ fault. (shape : Shape) → is_view_shape shape ≡ true →
         list_all (fits shape) (rows_read items.now) ≡ true →
-        IsTold (past_limit beneath shape (rows_read items.now)) fault) }
+        ReportsLimit (exceeds_limit beneath shape (rows_read items.now)) fault) }
 {
     let mut data = Vec::new(alloc);
     let mut views = Vec::with_capacity(alloc, items.len())?;
@@ -244,11 +244,13 @@ fn views(alloc: Global, items: &[&Item], beneath: Beneath) -> Result<BinaryViewA
 /// bytes.
 fn view_behind(placed: &mut Vec<u8>, bytes: &[u8]) -> Result<View, Fault>
     ensures view { IfOk result (λ view. view ≡ view_of bytes.now 0 (length placed.old.items)) }
-    ensures inline { IfOk result (λ view. length bytes.now ≤ 12 → inline_bytes view ≡ bytes.now) }
+    ensures inline { IfOk result (λ view. length bytes.now ≤ 12 → inline_bytes view ≡
+        bytes.now) }
     ensures placed { IfOk result (λ _.
         placed.new.items ≡ placed.old.items ++ bytes_behind bytes.now) }
-    ensures limit { IfErr result (λ fault.
-        IsTold (is_past (length placed.old.items + length (bytes_behind bytes.now))) fault) }
+    ensures limit { IfErr result
+        (λ fault. ReportsLimit
+        (exceeds_max (length placed.old.items + length (bytes_behind bytes.now))) fault) }
 {
     if bytes.len() <= 12 {
         return Ok(View::new_from_bytes(bytes, 0, 0));
@@ -261,9 +263,9 @@ fn view_behind(placed: &mut Vec<u8>, bytes: &[u8]) -> Result<View, Fault>
 }
 
 /// Builds a string view column (Utf8View).
-fn texts(alloc: Global, items: &[&Item], beneath: Beneath) -> Result<ArrayRef, Fault>
+fn texts(alloc: Global, items: &[&Item], beneath: NullSlots) -> Result<ArrayRef, Fault>
     ensures { list_all (fits of_utf8_view) (rows_read items.now) ≡ true →
-        Makes beneath of_utf8_view (rows_read items.now) result }
+        MakesColumn beneath of_utf8_view (rows_read items.now) result }
 {
     let BinaryViewArray {
         views,
@@ -279,10 +281,11 @@ fn lists(
     dtype: &ArrowDataType,
     alloc: Global,
     items: &[&Item],
-    beneath: Beneath,
+    beneath: NullSlots,
 ) -> Result<ArrayRef, Fault>
-    ensures { list_all (fits (of_large_list (shape_of dtype.now))) (rows_read items.now) ≡ true →
-        Makes beneath (of_large_list (shape_of dtype.now)) (rows_read items.now) result }
+    ensures { list_all (fits (of_large_list (shape_of dtype.now))) (rows_read items.now) ≡
+        true → MakesColumn beneath (of_large_list (shape_of dtype.now)) (rows_read items.now)
+        result }
 {
     let null = Item::Null;
     let (entries, offsets) = match entries_between(alloc, items, &null, beneath) {
@@ -308,13 +311,14 @@ fn entries_between<'a, 'b: 'a>(
     alloc: Global,
     items: &[&'b Item],
     null: &'a Item,
-    beneath: Beneath,
+    beneath: NullSlots,
 ) -> Result<(Vec<&'a Item>, OffsetsBuffer<i64>), Fault>
-    ensures entries { item_value null.now ≡ Null → IfOk result (λ made. rows_read made.0.items ≡
-        flat_map (entries_in beneath) (rows_read items.now)) }
+    ensures entries { item_value null.now ≡ Null →
+        IfOk result (λ made. rows_read made.0.items ≡ flat_map (entries_in beneath)
+        (rows_read items.now)) }
     ensures offsets { item_value null.now ≡ Null → IfOk result (λ made. made.1 ≡
         offsets_below (entries_in beneath) (rows_read items.now)) }
-    ensures memory { item_value null.now ≡ Null → IfErr result IsWanting }
+    ensures memory { item_value null.now ≡ Null → IfErr result IsMemoryFault }
 {
     let mut entries = Vec::new(alloc);
     let mut ends: Vec<i64> = vec![in alloc; 0]?;
@@ -338,18 +342,18 @@ fn push_below<'a, 'b: 'a>(
     entries: &mut Vec<&'a Item>,
     item: &'b Item,
     null: &'a Item,
-    beneath: Beneath,
+    beneath: NullSlots,
 ) -> Result<(), Fault>
     ensures entries { item_value null.now ≡ Null → OnOk result (rows_read entries.new.items ≡
         rows_read entries.old.items ++ entries_in beneath (item_value item.now)) }
-    ensures memory { IfErr result IsWanting }
+    ensures memory { IfErr result IsMemoryFault }
 {
     if let Item::Items(list) = item {
         return push_each(entries, list);
     }
     match beneath {
-        Beneath::Zeros => Ok(()),
-        Beneath::Others => push_copies(entries, null, 1),
+        NullSlots::Zeros => Ok(()),
+        NullSlots::Others => push_copies(entries, null, 1),
     }
 }
 
@@ -357,7 +361,7 @@ fn push_below<'a, 'b: 'a>(
 fn push_each<'a>(entries: &mut Vec<&'a Item>, list: &'a [Item]) -> Result<(), Fault>
     ensures entries { OnOk result (rows_read entries.new.items ≡
         rows_read entries.old.items ++ map item_value list.now) }
-    ensures memory { IfErr result IsWanting }
+    ensures memory { IfErr result IsMemoryFault }
 {
     for entry in list {
         entries.push(entry)?;
@@ -372,11 +376,11 @@ fn blocks(
     size: usize,
     alloc: Global,
     items: &[&Item],
-    beneath: Beneath,
+    beneath: NullSlots,
 ) -> Result<ArrayRef, Fault>
     ensures { list_all (fits (of_fixed_size_list (shape_of dtype.now) size))
-        (rows_read items.now) ≡ true →
-        Makes beneath (of_fixed_size_list (shape_of dtype.now) size) (rows_read items.now) result }
+        (rows_read items.now) ≡ true → MakesColumn beneath
+        (of_fixed_size_list (shape_of dtype.now) size) (rows_read items.now) result }
 {
     let null = Item::Null;
     let entries = match entries_of(alloc, items, &null, size) {
@@ -407,7 +411,7 @@ fn entries_of<'a, 'b: 'a>(
 ) -> Result<Vec<&'a Item>, Fault>
     ensures entries { item_value null.now ≡ Null → IfOk result (λ entries.
         rows_read entries.items ≡ flat_map (block_in size) (rows_read items.now)) }
-    ensures memory { IfErr result IsWanting }
+    ensures memory { IfErr result IsMemoryFault }
 {
     let mut entries = Vec::new(alloc);
     for item in items {
@@ -427,7 +431,7 @@ fn push_block<'a, 'b: 'a>(
 ) -> Result<(), Fault>
     ensures entries { item_value null.now ≡ Null → OnOk result (rows_read entries.new.items ≡
         rows_read entries.old.items ++ block_in size (item_value item.now)) }
-    ensures memory { IfErr result IsWanting }
+    ensures memory { IfErr result IsMemoryFault }
 {
     if let Item::Items(list) = item {
         return push_each(entries, list);
@@ -439,7 +443,7 @@ fn push_block<'a, 'b: 'a>(
 fn push_copies<'a>(entries: &mut Vec<&'a Item>, entry: &'a Item, count: usize) -> Result<(), Fault>
     ensures entries { OnOk result (rows_read entries.new.items ≡
         rows_read entries.old.items ++ replicate count (item_value entry.now)) }
-    ensures memory { IfErr result IsWanting }
+    ensures memory { IfErr result IsMemoryFault }
 {
     for _ in 0..count {
         entries.push(entry)?;
@@ -453,11 +457,11 @@ fn tuples(
     dtypes: &[ArrowDataType],
     alloc: Global,
     items: &[&Item],
-    beneath: Beneath,
+    beneath: NullSlots,
 ) -> Result<ArrayRef, Fault>
     ensures { list_all (fits (of_struct (shapes_of (map shape_of dtypes.now))))
         (rows_read items.now) ≡ true →
-        Makes beneath (of_struct (shapes_of (map shape_of dtypes.now))) (rows_read items.now)
+        MakesColumn beneath (of_struct (shapes_of (map shape_of dtypes.now))) (rows_read items.now)
         result }
 {
     let validity = match validity_of(alloc, items) {
@@ -482,13 +486,13 @@ fn push_fields(
     dtypes: &[ArrowDataType],
     alloc: Global,
     items: &[&Item],
-    beneath: Beneath,
+    beneath: NullSlots,
 ) -> Result<(), Fault>
     ensures fields { list_all (fits (of_struct (shapes_of (map shape_of dtypes.now))))
         (rows_read items.now) ≡ true → OnOk result (HasParts fields.new.items
         fields.old.items (map shape_of dtypes.now) (rows_read items.now)) }
     ensures limit { list_all (fits (of_struct (shapes_of (map shape_of dtypes.now))))
-        (rows_read items.now) ≡ true → IfErr result (IsTold (any_past beneath
+        (rows_read items.now) ≡ true → IfErr result (ReportsLimit (any_exceeds_limit beneath
         (shapes_of (map shape_of dtypes.now)) 0 (rows_read items.now))) }
 {
     for (k, dtype) in dtypes.iter().enumerate() {
@@ -519,7 +523,7 @@ fn parts_at<'a, 'b: 'a>(
 ) -> Result<Vec<&'a Item>, Fault>
     ensures parts { item_value other.now ≡ Null → IfOk result (λ parts.
         rows_read parts.items ≡ map (part_in place) (rows_read items.now)) }
-    ensures memory { IfErr result IsWanting }
+    ensures memory { IfErr result IsMemoryFault }
 {
     let mut parts = Vec::with_capacity(alloc, items.len())?;
     for item in items {

@@ -4,12 +4,12 @@ ghost use Rattle.std.specs.Prelude.{◌≡◌, ◌<◌, ◌≤◌, ◌↔◌, �
 ghost use Rattle.std.specs.List.{slice_range};
 ghost use Rattle.std.specs.Option.{option_copied};
 ghost use Rattle.sel_arrow.specs.Columns.{binview_rows, utf8view_rows};
-ghost use Rattle.sel_arrow.specs.Masked.{bytes_value, number_value, truth_value};
+ghost use Rattle.sel_arrow.specs.Masked.{bytes_value, number_value, bool_value};
 ghost use Rattle.sel_arrow.specs.Rows.{rows, type_of, IsWellFormed};
 ghost use Rattle.sel_arrow.specs.Shape.{Shape};
 ghost use Rattle.sel_arrow.specs.Value.{Null};
 ghost use Rattle.sel_text.specs.Texts.{is_text_shape};
-ghost use Rattle.sel_text.specs.Cells.{cell_value, whole_number, CellFits, CellKind, HasRow, IsBelow, is_flat};
+ghost use Rattle.sel_text.specs.Cells.{cell_value, whole_number, CellFits, CellKind, HasCellRow, IsBelow, is_flat};
 
 use sel_arrow::binview::BinaryViewArray;
 use sel_arrow::column::Column;
@@ -108,7 +108,7 @@ impl ToWhole for u128 {
 
 /// Returns row `i` of a column.
 pub(crate) fn cell_at(column: &Column, i: usize) -> Cell<'_>
-    requires { HasRow i column.now }
+    requires { HasCellRow i column.now }
     ensures value { cell_value result ≡ slice_index_or (rows column.now) i Null }
     ensures fits { CellFits result }
     ensures kind { CellKind (type_of column.now) result }
@@ -116,7 +116,7 @@ pub(crate) fn cell_at(column: &Column, i: usize) -> Cell<'_>
 {
     match column {
         Column::Null(_) => Cell::Null,
-        Column::Boolean(array) => of_truth(array.get(i)),
+        Column::Boolean(array) => of_boolean_value(array.get(i)),
         Column::Int8(array) => of_number(array.get(i)),
         Column::Int16(array) => of_number(array.get(i)),
         Column::Int32(array) => of_number(array.get(i)),
@@ -167,8 +167,8 @@ pub(crate) fn cell_at(column: &Column, i: usize) -> Cell<'_>
     }
 }
 
-fn of_truth(row: Option<bool>) -> Cell<'static>
-    ensures value { cell_value result ≡ truth_value row }
+fn of_boolean_value(row: Option<bool>) -> Cell<'static>
+    ensures value { cell_value result ≡ bool_value row }
     ensures flat { is_flat result ≡ true }
     ensures fits { CellFits result }
     ensures kind { (shape : Shape) → is_text_shape shape ≡ false → CellKind shape result }

@@ -2,10 +2,10 @@
 
 ghost use Rattle.std.specs.Prelude.{◌≡◌, ◌+◌, ◌≤◌, ◌↔◌, ℕ, All, length, map, slice_index_or, true, IsTrue};
 ghost use Rattle.std.specs.List.{slice_range};
-ghost use Rattle.sel_arrow.specs.Nested.{list_of, tuple_at};
+ghost use Rattle.sel_arrow.specs.Nested.{list_of, struct_at};
 ghost use Rattle.sel_arrow.specs.Rows.{rows, IsWellFormed};
 ghost use Rattle.sel_arrow.specs.Value.{Null, Bytes};
-ghost use Rattle.sel_text.specs.Cells.{cell_value, whole_number, CellFits, HasRow, is_flat};
+ghost use Rattle.sel_text.specs.Cells.{cell_value, whole_number, CellFits, HasCellRow, is_flat};
 
 use crate::cell::{Cell, Whole, cell_at};
 use sel_arrow::binview::bytes_at;
@@ -30,8 +30,8 @@ pub fn equal_rows(column: &Column, other: &Column) -> bool
 /// Returns whether row `i` of one column equals row `j` of another.
 #[cycle(comparing)]
 fn equal_at(column: &Column, i: usize, other: &Column, j: usize) -> bool
-    requires row { HasRow i column.now }
-    requires twin { HasRow j other.now }
+    requires row { HasCellRow i column.now }
+    requires twin { HasCellRow j other.now }
     ensures { IsTrue result ↔
         (slice_index_or (rows column.now) i Null ≡ slice_index_or (rows other.now) j Null) }
 {
@@ -70,9 +70,9 @@ fn equal_items(column: &Column, start: usize, end: usize, twin: Cell) -> bool
 /// Returns whether a row equals the struct value of row `place` of each field.
 #[cycle(comparing)]
 fn equal_parts(fields: &[Column], place: usize, twin: Cell) -> bool
-    requires rows { All (HasRow place) fields.now }
+    requires rows { All (HasCellRow place) fields.now }
     requires fits { CellFits twin }
-    ensures { IsTrue result ↔ (tuple_at (map rows fields.now) place ≡ cell_value twin.entry) }
+    ensures { IsTrue result ↔ (struct_at (map rows fields.now) place ≡ cell_value twin.entry) }
 {
     let Cell::Parts(others, at) = twin else {
         return false;

@@ -10,8 +10,8 @@ ghost use Rattle.sel_text.specs.Digits.{NoDigit};
 ghost use Rattle.sel_text.specs.Fits.{all_fit, fits_number, parts_fit};
 ghost use Rattle.sel_text.specs.Readings.{BeginsWith};
 ghost use Rattle.sel_text.specs.ItemValues.{item_value};
-ghost use Rattle.sel_text.specs.TextErrors.{IsWanting};
-ghost use Rattle.sel_text.specs.Texts.{bracketed, hex_text, item_texts, parenthesized, part_texts, quoted, truth_text};
+ghost use Rattle.sel_text.specs.TextErrors.{IsMemoryFault};
+ghost use Rattle.sel_text.specs.Texts.{bracketed, hex_text, item_texts, parenthesized, part_texts, quoted, bool_text};
 
 use crate::cell::Whole;
 use crate::numerals::{behind, expect, number_of, read_digits};
@@ -39,16 +39,16 @@ pub(crate) fn read_item<'a>(
     alloc: Global,
     bytes: &'a [u8],
 ) -> Result<(Item, &'a [u8]), Fault>
-    ensures { (value : Value) (more : List ℕ) →
-        BeginsWith (shape_of dtype.now) value bytes.now more →
-        MatchResult result (λ read. (item_value read.0 ≡ value) × (read.1.now ≡ more)) IsWanting }
+    ensures { (value : Value) (more : List ℕ) → BeginsWith (shape_of dtype.now) value bytes.now
+        more → MatchResult result (λ read. (item_value read.0 ≡ value) ×
+        (read.1.now ≡ more)) IsMemoryFault }
 {
     if let Some(rest) = behind(bytes, b"null") {
         return Ok((Item::Null, rest));
     }
     match dtype {
         ArrowDataType::Null => Err(mismatch(bytes)),
-        ArrowDataType::Boolean => read_truth(bytes),
+        ArrowDataType::Boolean => read_boolean(bytes),
         ArrowDataType::Int8 => read_number::<i8>(bytes),
         ArrowDataType::Int16 => read_number::<i16>(bytes),
         ArrowDataType::Int32 => read_number::<i32>(bytes),
@@ -106,10 +106,10 @@ fn opened<'a>(bytes: &'a [u8], word: &[u8]) -> Result<&'a [u8], Fault>
 }
 
 /// Parses a boolean at the front.
-fn read_truth(bytes: &[u8]) -> Result<(Item, &[u8]), Fault>
-    ensures { (truth : Bool) (more : List ℕ) → bytes.now ≡ truth_text truth ++ more →
+fn read_boolean(bytes: &[u8]) -> Result<(Item, &[u8]), Fault>
+    ensures { (truth : Bool) (more : List ℕ) → bytes.now ≡ bool_text truth ++ more →
         MatchResult result (λ read. (item_value read.0 ≡ Truth truth) × (read.1.now ≡ more))
-        IsWanting }
+        IsMemoryFault }
 {
     if let Some(rest) = behind(bytes, b"true") {
         return Ok((Item::Truth(true), rest));
@@ -125,7 +125,7 @@ fn read_bytes(alloc: Global, bytes: &[u8]) -> Result<(Item, &[u8]), Fault>
     ensures { (value more : List ℕ) → IsTrue (list_all (λ byte. nat_lt byte 256) value) →
         bytes.now ≡ hex_text value ++ more →
         MatchResult result (λ read. (item_value read.0 ≡ Bytes value) × (read.1.now ≡ more))
-        IsWanting }
+        IsMemoryFault }
 {
     let rest = match opened(bytes, b"h\"") {
         Ok(rest) => rest,
@@ -141,7 +141,7 @@ fn read_bytes(alloc: Global, bytes: &[u8]) -> Result<(Item, &[u8]), Fault>
 fn read_text(alloc: Global, bytes: &[u8]) -> Result<(Item, &[u8]), Fault>
     ensures { (value more : List ℕ) → bytes.now ≡ quoted value ++ more →
         MatchResult result (λ read. (item_value read.0 ≡ Bytes value) × (read.1.now ≡ more))
-        IsWanting }
+        IsMemoryFault }
 {
     let rest = match opened(bytes, b"\"") {
         Ok(rest) => rest,
@@ -158,7 +158,7 @@ fn read_number<T: FromWhole>(bytes: &[u8]) -> Result<(Item, &[u8]), Fault>
     ensures { (number : ℤ) (more : List ℕ) → IsTrue (fits_number T.shape number) →
         NoDigit more → bytes.now ≡ signed_decimal number ++ more →
         MatchResult result (λ read. (item_value read.0 ≡ Number number) × (read.1.now ≡ more))
-        IsWanting }
+        IsMemoryFault }
 {
     match behind(bytes, b"-") {
         Some(numeral) => read_negative::<T>(numeral, bytes.len()),
@@ -171,7 +171,7 @@ fn read_positive<T: FromWhole>(bytes: &[u8]) -> Result<(Item, &[u8]), Fault>
     ensures { (number : ℕ) (more : List ℕ) → IsTrue (fits_number T.shape (pos number)) →
         NoDigit more → bytes.now ≡ decimal number ++ more →
         MatchResult result (λ read. (item_value read.0 ≡ Number (pos number)) ×
-        (read.1.now ≡ more)) IsWanting }
+        (read.1.now ≡ more)) IsMemoryFault }
 {
     let (digits, rest) = match read_digits(bytes) {
         Ok(read) => read,
@@ -201,7 +201,7 @@ fn read_negative<T: FromWhole>(bytes: &[u8], left: usize) -> Result<(Item, &[u8]
     ensures { (number : ℕ) (more : List ℕ) → IsTrue (fits_number T.shape (negsuc number)) →
         NoDigit more → bytes.now ≡ decimal (suc number) ++ more →
         MatchResult result (λ read. (item_value read.0 ≡ Number (negsuc number)) ×
-        (read.1.now ≡ more)) IsWanting }
+        (read.1.now ≡ more)) IsMemoryFault }
 {
     let (digits, rest) = match read_digits(bytes) {
         Ok(read) => read,
@@ -234,7 +234,7 @@ pub(crate) fn read_items<'a>(
         IsTrue (all_fit (shape_of dtype.now) entries) →
         bytes.now ≡ bracketed (item_texts (shape_of dtype.now) entries) ++ more →
         MatchResult result (λ read. (map item_value read.0.items ≡ listed entries) ×
-        (read.1.now ≡ more)) IsWanting }
+        (read.1.now ≡ more)) IsMemoryFault }
 {
     let mut items = Vec::new(alloc);
     let mut rest = match opened(bytes, b"[") {
@@ -273,7 +273,7 @@ fn read_parts<'a>(
         let shapes = shapes_of (map shape_of dtypes.now) in IsTrue (parts_fit shapes entries) →
         bytes.now ≡ parenthesized (part_texts shapes entries) ++ more →
         MatchResult result (λ read. (map item_value read.0.items ≡ listed entries) ×
-        (read.1.now ≡ more)) IsWanting }
+        (read.1.now ≡ more)) IsMemoryFault }
 {
     let mut parts = Vec::with_capacity(alloc, dtypes.len())?;
     let mut rest = match opened(bytes, b"(") {

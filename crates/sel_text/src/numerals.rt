@@ -41,8 +41,8 @@ pub(crate) fn read_digits(bytes: &[u8]) -> Result<(&[u8], &[u8]), Fault>
     ensures zero { IfOk result (λ read.
         slice_index read.0.now 0 ≡ 48 → length read.0.now ≡ 1) }
     ensures end { IfOk result (λ read. NoDigit read.1.now) }
-    ensures refused { IfErr result (λ _. (n : ℕ) (more : List ℕ) → n < 2 ^ 128 → NoDigit more →
-        bytes.now ≢ decimal n ++ more) }
+    ensures refused { IfErr result (λ _. (n : ℕ) (more : List ℕ) → n < 2 ^ 128 →
+        NoDigit more → bytes.now ≢ decimal n ++ more) }
 {
     let count = count_digits(bytes);
     if count == 0 {

@@ -7,12 +7,12 @@ ghost use Rattle.sel_arrow.specs.Rows.{rows, type_of};
 ghost use Rattle.sel_arrow.specs.Value.{Value};
 ghost use Rattle.sel_text.specs.Fits.{fits};
 ghost use Rattle.sel_text.specs.ItemValues.{item_value};
-ghost use Rattle.sel_text.specs.Limits.{past_limit, IsTold, Makes};
+ghost use Rattle.sel_text.specs.Limits.{exceeds_limit, ReportsLimit, MakesColumn};
 ghost use Rattle.sel_text.specs.Spaces.{spaceless};
-ghost use Rattle.sel_text.specs.TextErrors.{IsShortage, IsWanting, IsWithin};
+ghost use Rattle.sel_text.specs.TextErrors.{IsLimitOrMemoryError, IsMemoryFault, IsOffsetWithin};
 ghost use Rattle.sel_text.specs.Texts.{text_of};
 
-use crate::build::{Beneath, build};
+use crate::build::{NullSlots, build};
 use crate::item::{Item, read_items};
 use crate::print::print_rows;
 use crate::spaces::without_spaces;
@@ -34,19 +34,19 @@ pub fn parse_column(
     alloc: Global,
     dtype: &ArrowDataType,
     text: &str,
-    beneath: Beneath,
+    beneath: NullSlots,
 ) -> Result<ArrayRef, TextError>
     ensures dtype { IfOk result (λ array. type_of array.column ≡ shape_of dtype.now) }
     ensures text { IfOk result (λ array.
         text_of (shape_of dtype.now) (rows array.column) ≡ spaceless text.now) }
     ensures refused { IfErr result (λ error. (values : List Value) →
         IsTrue (list_all (fits (shape_of dtype.now)) values) →
-        spaceless text.now ≡ text_of (shape_of dtype.now) values → IsShortage error) }
+        spaceless text.now ≡ text_of (shape_of dtype.now) values → IsLimitOrMemoryError error) }
     ensures limit { IfErr result (λ error. error ≡ TextError.Limit → (values : List Value) →
         IsTrue (list_all (fits (shape_of dtype.now)) values) →
         spaceless text.now ≡ text_of (shape_of dtype.now) values →
-        IsTrue (past_limit beneath (shape_of dtype.now) values)) }
-    ensures place { IfErr result (IsWithin (length text.now)) }
+        IsTrue (exceeds_limit beneath (shape_of dtype.now) values)) }
+    ensures place { IfErr result (IsOffsetWithin (length text.now)) }
 {
     let Ok(bytes) = without_spaces(alloc, text) else {
         return Err(TextError::OutOfMemory);
@@ -64,7 +64,7 @@ fn read_whole(
     dtype: &ArrowDataType,
     alloc: Global,
     bytes: &[u8],
-    beneath: Beneath,
+    beneath: NullSlots,
 ) -> Result<ArrayRef, Fault>
     ensures dtype { IfOk result (λ array. type_of array.column ≡ shape_of dtype.now) }
     ensures text { IfOk result (λ array.
@@ -72,7 +72,7 @@ fn read_whole(
     ensures refused { IfErr result (λ fault. (values : List Value) →
         IsTrue (list_all (fits (shape_of dtype.now)) values) →
         bytes.now ≡ text_of (shape_of dtype.now) values →
-        IsTold (past_limit beneath (shape_of dtype.now) values) fault) }
+        ReportsLimit (exceeds_limit beneath (shape_of dtype.now) values) fault) }
 {
     let array = match read_rows(dtype, alloc, bytes, beneath) {
         Ok(array) => array,
@@ -106,7 +106,7 @@ fn has_text(
     ensures whole { type_of array.now.column ≡ shape_of dtype.now →
         text_of (shape_of dtype.now) (rows array.now.column) ≡ bytes.now →
         IfOk result (λ same. IsTrue same) }
-    ensures memory { IfErr result IsWanting }
+    ensures memory { IfErr result IsMemoryFault }
 {
     if !array.has_dtype(dtype) {
         return Ok(false);
@@ -122,11 +122,11 @@ fn read_rows(
     dtype: &ArrowDataType,
     alloc: Global,
     bytes: &[u8],
-    beneath: Beneath,
+    beneath: NullSlots,
 ) -> Result<ArrayRef, Fault>
     ensures { (values : List Value) → IsTrue (list_all (fits (shape_of dtype.now)) values) →
         bytes.now ≡ text_of (shape_of dtype.now) values →
-        Makes beneath (shape_of dtype.now) values result }
+        MakesColumn beneath (shape_of dtype.now) values result }
 {
     let (items, rest) = match read_items(dtype, alloc, bytes) {
         Ok(read) => read,
@@ -143,10 +143,10 @@ fn build_rows(
     dtype: &ArrowDataType,
     alloc: Global,
     items: &[Item],
-    beneath: Beneath,
+    beneath: NullSlots,
 ) -> Result<ArrayRef, Fault>
     ensures { list_all (fits (shape_of dtype.now)) (map item_value items.now) ≡ true →
-        Makes beneath (shape_of dtype.now) (map item_value items.now) result }
+        MakesColumn beneath (shape_of dtype.now) (map item_value items.now) result }
 {
     let mut rows = Vec::with_capacity(alloc, items.len())?;
     for item in items {

@@ -7,7 +7,7 @@ ghost use Rattle.std.specs.List.{flat_map, join_with_byte, slice_range};
 ghost use Rattle.sel_arrow.specs.Rows.{rows, type_of, IsWellFormed};
 ghost use Rattle.sel_arrow.specs.Shape.{Shape};
 ghost use Rattle.sel_arrow.specs.Value.{Null};
-ghost use Rattle.sel_text.specs.Cells.{cell_value, whole_number, CellFits, CellKind, HasRow, is_flat};
+ghost use Rattle.sel_text.specs.Cells.{cell_value, whole_number, CellFits, CellKind, HasCellRow, is_flat};
 ghost use Rattle.sel_text.specs.Texts.{escaped, field_text, parenthesized, hex_byte, hex_text, quoted, text_of, value_text};
 
 use crate::cell::{Cell, Whole, cell_at};
@@ -58,7 +58,7 @@ pub fn row_at(alloc: Global, column: &Column, i: usize) -> PolarsResult<String>
 /// Appends the notation of row `i` to `text`.
 #[cycle(printing)]
 fn push_row(column: &Column, i: usize, text: &mut String) -> Result<(), AllocError>
-    requires { HasRow i column.now }
+    requires { HasCellRow i column.now }
     ensures { OnOk result (string_bytes text.new ≡ string_bytes text.old ++
         value_text (type_of column.now) (slice_index_or (rows column.now) i Null)) }
 {
@@ -97,7 +97,7 @@ fn push_items(
 /// Appends the notation of the struct value of row `place` of each field to `text`.
 #[cycle(printing)]
 fn push_parts(fields: &[Column], place: usize, text: &mut String) -> Result<(), AllocError>
-    requires { All (HasRow place) fields.now }
+    requires { All (HasCellRow place) fields.now }
     ensures { OnOk result (string_bytes text.new ≡ string_bytes text.old ++
         parenthesized (map (field_text place) fields.now)) }
 {

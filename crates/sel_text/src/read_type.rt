@@ -6,8 +6,8 @@ ghost use Rattle.sel_arrow.specs.DataType.{shape_of};
 ghost use Rattle.sel_text.specs.Spaces.{spaceless};
 ghost use Rattle.sel_arrow.specs.Shape.{Shape, Shapes, next_shape, shapes_of, of_struct};
 ghost use Rattle.sel_text.specs.Digits.{NoDigit};
-ghost use Rattle.sel_text.specs.Limits.{IsTold};
-ghost use Rattle.sel_text.specs.TextErrors.{IsShortage, IsWithin};
+ghost use Rattle.sel_text.specs.Limits.{ReportsLimit};
+ghost use Rattle.sel_text.specs.TextErrors.{IsLimitOrMemoryError, IsOffsetWithin};
 ghost use Rattle.sel_arrow.specs.Depth.{deepest, depth};
 ghost use Rattle.sel_text.specs.Written.{all_widths_written, is_plain, widths_written};
 ghost use Rattle.sel_text.specs.Types.{angled, type_text, type_texts};
@@ -34,10 +34,10 @@ pub fn parse_dtype(alloc: Global, text: &str) -> Result<ArrowDataType, TextError
     ensures levels { IfOk result (λ dtype. depth (shape_of dtype) ≤ 64) }
     ensures widths { IfOk result (λ dtype. IsTrue (widths_written (shape_of dtype))) }
     ensures refused { IfErr result (λ error. (shape : Shape) → IsTrue (widths_written shape) →
-        spaceless text.now ≡ type_text shape → IsShortage error) }
+        spaceless text.now ≡ type_text shape → IsLimitOrMemoryError error) }
     ensures limit { IfErr result (λ error. error ≡ TextError.Limit → (shape : Shape) →
         IsTrue (widths_written shape) → spaceless text.now ≡ type_text shape → 64 < depth shape) }
-    ensures place { IfErr result (IsWithin (length text.now)) }
+    ensures place { IfErr result (IsOffsetWithin (length text.now)) }
 {
     let Ok(bytes) = without_spaces(alloc, text) else {
         return Err(TextError::OutOfMemory);
@@ -54,7 +54,7 @@ fn read_whole(alloc: Global, bytes: &[u8]) -> Result<ArrowDataType, Fault>
     ensures levels { IfOk result (λ dtype. depth (shape_of dtype) ≤ 64) }
     ensures widths { IfOk result (λ dtype. IsTrue (widths_written (shape_of dtype))) }
     ensures refused { IfErr result (λ fault. (shape : Shape) → IsTrue (widths_written shape) →
-        bytes.now ≡ type_text shape → IsTold (nat_lt 64 (depth shape)) fault) }
+        bytes.now ≡ type_text shape → ReportsLimit (nat_lt 64 (depth shape)) fault) }
 {
     let (dtype, rest) = match read_type(alloc, bytes, DEEPEST) {
         Ok(read) => read,
@@ -76,7 +76,7 @@ fn read_type(alloc: Global, bytes: &[u8], levels: usize) -> Result<(ArrowDataTyp
     ensures whole { (shape : Shape) (more : List ℕ) → IsTrue (widths_written shape) →
         bytes.now ≡ type_text shape ++ more →
         MatchResult result (λ read. (shape_of read.0 ≡ shape) × (read.1.now ≡ more))
-        (IsTold (nat_lt levels (depth shape))) }
+        (ReportsLimit (nat_lt levels (depth shape))) }
 {
     if let Some(read) = read_plain(bytes) {
         return Ok(read);
@@ -91,7 +91,7 @@ fn read_type(alloc: Global, bytes: &[u8], levels: usize) -> Result<(ArrowDataTyp
         return read_blocks(alloc, rest, levels);
     }
     if let Some(rest) = behind(bytes, b"struct") {
-        return read_tuples(alloc, rest, levels);
+        return read_struct_type(alloc, rest, levels);
     }
     match bytes {
         [b'a'..=b'z', ..] => Err(Fault::Type(bytes.len())),
@@ -197,7 +197,7 @@ fn read_list(alloc: Global, bytes: &[u8], levels: usize) -> Result<(ArrowDataTyp
     ensures whole { (shape : Shape) (more : List ℕ) → IsTrue (widths_written shape) →
         codes "list" ++ bytes.now ≡ type_text shape ++ more →
         MatchResult result (λ read. (shape_of read.0 ≡ shape) × (read.1.now ≡ more))
-        (IsTold (nat_lt levels (depth shape))) }
+        (ReportsLimit (nat_lt levels (depth shape))) }
 {
     let rest = expect(bytes, b"<")?;
     let (child, rest) = read_type(alloc, rest, levels - 1)?;
@@ -217,7 +217,7 @@ fn read_blocks(alloc: Global, bytes: &[u8], levels: usize) -> Result<(ArrowDataT
     ensures whole { (shape : Shape) (more : List ℕ) → IsTrue (widths_written shape) →
         codes "fixed" ++ bytes.now ≡ type_text shape ++ more →
         MatchResult result (λ read. (shape_of read.0 ≡ shape) × (read.1.now ≡ more))
-        (IsTold (nat_lt levels (depth shape))) }
+        (ReportsLimit (nat_lt levels (depth shape))) }
 {
     let rest = expect(bytes, b"<")?;
     let (size, rest) = read_size(rest)?;
@@ -247,7 +247,11 @@ fn read_size(bytes: &[u8]) -> Result<(usize, &[u8]), Fault>
 
 /// Parses a struct type, after its name.
 #[cycle(reading_types)]
-fn read_tuples(alloc: Global, bytes: &[u8], levels: usize) -> Result<(ArrowDataType, &[u8]), Fault>
+fn read_struct_type(
+    alloc: Global,
+    bytes: &[u8],
+    levels: usize,
+) -> Result<(ArrowDataType, &[u8]), Fault>
     requires { 0 < levels }
     ensures text { IfOk result (λ read.
         codes "struct" ++ bytes.now ≡ type_text (shape_of read.0) ++ read.1.now) }
@@ -256,7 +260,7 @@ fn read_tuples(alloc: Global, bytes: &[u8], levels: usize) -> Result<(ArrowDataT
     ensures whole { (shape : Shape) (more : List ℕ) → IsTrue (widths_written shape) →
         codes "struct" ++ bytes.now ≡ type_text shape ++ more →
         MatchResult result (λ read. (shape_of read.0 ≡ shape) × (read.1.now ≡ more))
-        (IsTold (nat_lt levels (depth shape))) }
+        (ReportsLimit (nat_lt levels (depth shape))) }
 {
     let rest = expect(bytes, b"<")?;
     if let Some(rest) = behind(rest, b">") {
@@ -285,7 +289,7 @@ fn read_fields(
         60 ∷ bytes.now ≡ angled (type_texts (next_shape first others)) ++ more →
         MatchResult result (λ read. (shapes_of (map shape_of read.0.items) ≡
         next_shape first others) × (read.1.now ≡ more))
-        (IsTold (nat_lt levels (depth (of_struct (next_shape first others))))) }
+        (ReportsLimit (nat_lt levels (depth (of_struct (next_shape first others))))) }
 {
     let mut fields = Vec::new(alloc);
     let mut rest = bytes;

@@ -3,7 +3,7 @@
 ghost use Rattle.std.specs.Prelude.{◌≡◌, ◌<◌, ◌∷◌, ◌++◌, ℕ, List, IfOk, MatchResult, IsTrue, length, nat_lt};
 ghost use Rattle.std.specs.Char.{digit_char};
 ghost use Rattle.std.specs.List.{flat_map, list_all};
-ghost use Rattle.sel_text.specs.TextErrors.{IsWanting};
+ghost use Rattle.sel_text.specs.TextErrors.{IsMemoryFault};
 ghost use Rattle.sel_text.specs.Texts.{escaped, hex_byte};
 
 use crate::numerals::behind;
@@ -13,9 +13,10 @@ use std::alloc::Global;
 /// Parses hexadecimal bytes after the opening quote, and returns them with the input after the
 /// closing quote.
 pub(crate) fn read_hex(alloc: Global, bytes: &[u8]) -> Result<(Vec<u8>, &[u8]), Fault>
-    ensures whole { (value more : List ℕ) → IsTrue (list_all (λ byte. nat_lt byte 256) value) →
-        bytes.now ≡ flat_map hex_byte value ++ (34 ∷ more) →
-        MatchResult result (λ read. (read.0.items ≡ value) × (read.1.now ≡ more)) IsWanting }
+    ensures whole { (value more : List ℕ) → IsTrue
+        (list_all (λ byte. nat_lt byte 256) value) → bytes.now ≡ flat_map hex_byte value ++
+        (34 ∷ more) → MatchResult result (λ read. (read.0.items ≡ value) ×
+        (read.1.now ≡ more)) IsMemoryFault }
 {
     let mut value = Vec::new(alloc);
     let mut rest = bytes;
@@ -37,7 +38,7 @@ fn read_hex_byte(bytes: &[u8]) -> Result<(u8, &[u8]), Fault>
     ensures shorter { IfOk result (λ read. length read.1.now < length bytes.now) }
     ensures whole { (byte : ℕ) (more : List ℕ) → byte < 256 →
         bytes.now ≡ hex_byte byte ++ more →
-        MatchResult result (λ read. (read.0 ≡ byte) × (read.1.now ≡ more)) IsWanting }
+        MatchResult result (λ read. (read.0 ≡ byte) × (read.1.now ≡ more)) IsMemoryFault }
 {
     if bytes.len() < 2 {
         return Err(Fault::Syntax(bytes.len()));
@@ -58,7 +59,7 @@ fn read_hex_byte(bytes: &[u8]) -> Result<(u8, &[u8]), Fault>
 fn hex_digit(digit: u8, left: usize) -> Result<u8, Fault>
     ensures small { IfOk result (λ value. value < 16) }
     ensures whole { (value : ℕ) → value < 16 → digit ≡ digit_char value →
-        MatchResult result (λ read. read ≡ value) IsWanting }
+        MatchResult result (λ read. read ≡ value) IsMemoryFault }
 {
     match digit {
         b'0'..=b'9' => Ok(digit - b'0'),
@@ -69,8 +70,9 @@ fn hex_digit(digit: u8, left: usize) -> Result<u8, Fault>
 
 /// Parses a string after the opening quote, and returns it with the input after the closing quote.
 pub(crate) fn read_quoted(alloc: Global, bytes: &[u8]) -> Result<(Vec<u8>, &[u8]), Fault>
-    ensures whole { (value more : List ℕ) → bytes.now ≡ flat_map escaped value ++ (34 ∷ more) →
-        MatchResult result (λ read. (read.0.items ≡ value) × (read.1.now ≡ more)) IsWanting }
+    ensures whole { (value more : List ℕ) → bytes.now ≡ flat_map escaped value ++
+        (34 ∷ more) → MatchResult result (λ read. (read.0.items ≡ value) ×
+        (read.1.now ≡ more)) IsMemoryFault }
 {
     let mut value = Vec::new(alloc);
     let mut rest = bytes;
@@ -92,7 +94,7 @@ pub(crate) fn read_quoted(alloc: Global, bytes: &[u8]) -> Result<(Vec<u8>, &[u8]
 fn read_byte(bytes: &[u8]) -> Result<(u8, &[u8]), Fault>
     ensures shorter { IfOk result (λ read. length read.1.now < length bytes.now) }
     ensures whole { (byte : ℕ) (more : List ℕ) → bytes.now ≡ escaped byte ++ more →
-        MatchResult result (λ read. (read.0 ≡ byte) × (read.1.now ≡ more)) IsWanting }
+        MatchResult result (λ read. (read.0 ≡ byte) × (read.1.now ≡ more)) IsMemoryFault }
 {
     if let Some(rest) = behind(bytes, b"\\") {
         return read_escape(rest);
@@ -110,7 +112,7 @@ fn read_byte(bytes: &[u8]) -> Result<(u8, &[u8]), Fault>
 fn read_escape(bytes: &[u8]) -> Result<(u8, &[u8]), Fault>
     ensures shorter { IfOk result (λ read. length read.1.now < length bytes.now) }
     ensures whole { (byte : ℕ) (more : List ℕ) → 92 ∷ bytes.now ≡ escaped byte ++ more →
-        MatchResult result (λ read. (read.0 ≡ byte) × (read.1.now ≡ more)) IsWanting }
+        MatchResult result (λ read. (read.0 ≡ byte) × (read.1.now ≡ more)) IsMemoryFault }
 {
     if let Some(rest) = behind(bytes, b"\"") {
         return Ok((b'"', rest));
@@ -145,7 +147,7 @@ fn read_control(bytes: &[u8], left: usize) -> Result<(u8, &[u8]), Fault>
     ensures shorter { IfOk result (λ read. length read.1.now < length bytes.now) }
     ensures whole { (byte : ℕ) (more : List ℕ) →
         92 ∷ 117 ∷ 48 ∷ 48 ∷ bytes.now ≡ escaped byte ++ more →
-        MatchResult result (λ read. (read.0 ≡ byte) × (read.1.now ≡ more)) IsWanting }
+        MatchResult result (λ read. (read.0 ≡ byte) × (read.1.now ≡ more)) IsMemoryFault }
 {
     let (byte, rest) = match read_hex_byte(bytes) {
         Ok(read) => read,

@@ -1,7 +1,7 @@
 //! Errors of the parser.
 
 ghost use Rattle.std.specs.Prelude.{◌≡◌, ◌≤◌, Some, length};
-ghost use Rattle.sel_text.specs.TextErrors.{error_text, kernel_fault, make_fault, IsShort, IsShortage, IsWithin};
+ghost use Rattle.sel_text.specs.TextErrors.{parse_error_text, kernel_fault, make_fault, IsLimitOrMemoryFault, IsLimitOrMemoryError, IsOffsetWithin};
 ghost use Rattle.sel_text.specs.declared.text_error.Fault.TheVariants.{OutOfMemory};
 
 use crate::spaces::place_in;
@@ -26,7 +26,7 @@ pub enum TextError {
 
 /// Writes the error, with its position if it has one.
 impl fmt::Display for TextError {
-    ghost output = { λ error. Some (error_text error) };
+    ghost output = { λ error. Some (parse_error_text error) };
 
     fn fmt<W: fmt::Write>(&self, f: &mut fmt::Formatter<W>) -> fmt::Result {
         match self {
@@ -51,8 +51,8 @@ impl Fault {
     /// Converts the error to one of `text`, which has `count` bytes without the spaces outside
     /// quotes.
     pub(crate) fn placed(self, text: &str, count: usize) -> TextError
-        ensures place { IsWithin (length text.now) result }
-        ensures short { IsShort self → IsShortage result }
+        ensures place { IsOffsetWithin (length text.now) result }
+        ensures short { IsLimitOrMemoryFault self → IsLimitOrMemoryError result }
         ensures limit { result ≡ TextError.Limit → self ≡ Fault.Limit }
     {
         match self {

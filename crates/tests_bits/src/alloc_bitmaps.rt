@@ -1,4 +1,5 @@
-//! Bitmaps, buffers and offsets: their makers, their operations and the packer.
+//! Bitmaps, buffers and offsets with failing allocations: their constructors, their operations and
+//! the packer.
 
 use crate::fixtures::has_bits;
 use crate::marks::{begins, begins_free, ends, ends_answered, ends_by};
@@ -10,7 +11,7 @@ use sel_bits::packer::BitPacker;
 use std::alloc::Global;
 use std::test::Fail;
 
-/// Whether a call answered these bits, or want of memory.
+/// Returns whether a call returned these bits, or is out of memory.
 pub fn are_bits(answer: PolarsResult<Bitmap>, bits: &[bool]) -> bool {
     match answer {
         Ok(bitmap) => has_bits(&bitmap, bits),
@@ -19,7 +20,7 @@ pub fn are_bits(answer: PolarsResult<Bitmap>, bits: &[bool]) -> bool {
 }
 
 #[test]
-fn bitmap_of_no_bits(rt: HostRuntime) {
+fn empty_bitmap(rt: HostRuntime) {
     let alloc = rt.alloc();
     begins(alloc);
     let answer = Bitmap::new(alloc);
@@ -28,7 +29,7 @@ fn bitmap_of_no_bits(rt: HostRuntime) {
 }
 
 #[test]
-fn bitmap_of_equal_bits(rt: HostRuntime) {
+fn bitmap_of_one_value(rt: HostRuntime) {
     let alloc = rt.alloc();
     begins(alloc);
     let answer = Bitmap::new_with_value(alloc, true, 9);
@@ -51,13 +52,13 @@ fn takes_bytes(alloc: Global, bytes: Vec<u8>) -> bool {
 }
 
 #[test]
-fn bitmap_of_bytes(rt: HostRuntime) -> Result<(), Fail> {
+fn bitmap_from_bytes(rt: HostRuntime) -> Result<(), Fail> {
     assert!(rt; takes_bytes(rt.alloc(), vec![in rt.alloc(); 0b101u8]?));
     Ok(())
 }
 
 #[test]
-fn bitmap_of_truth_values(rt: HostRuntime) {
+fn bitmap_from_booleans(rt: HostRuntime) {
     let alloc = rt.alloc();
     let bits = [true, false, false, true, true, false, false, true, true];
     begins(alloc);
@@ -70,7 +71,7 @@ const FIRST: [bool; 4] = [true, true, false, false];
 
 const SECOND: [bool; 4] = [true, false, true, false];
 
-/// The operations on two bitmaps, by what they answer for the bits above.
+/// The operations on two bitmaps, each with its result for the bits above.
 #[derive(Clone, Copy)]
 enum Operation {
     And,
@@ -90,7 +91,8 @@ const OPERATIONS: [(&str, Operation, [bool; 4]); 6] = [
     ("choose", Operation::Choose, [true, true, true, false]),
 ];
 
-/// Whether an operation answers these bits, and leaves both bitmaps as they were.
+/// Returns whether an operation returns these bits or is out of memory, and leaves both bitmaps
+/// unchanged.
 fn operates(
     alloc: Global,
     operation: Operation,
@@ -115,7 +117,7 @@ fn operates(
 }
 
 #[test]
-fn operation_on_bitmaps(rt: HostRuntime) -> Result<(), Fail> {
+fn bitmap_operations(rt: HostRuntime) -> Result<(), Fail> {
     let first = Bitmap::from_bools(rt.alloc(), &FIRST)?;
     let second = Bitmap::from_bools(rt.alloc(), &SECOND)?;
     for (name, operation, bits) in OPERATIONS {
@@ -127,7 +129,7 @@ fn operation_on_bitmaps(rt: HostRuntime) -> Result<(), Fail> {
     Ok(())
 }
 
-/// Whether a call answered these values, or want of memory.
+/// Returns whether a call returned these values, or is out of memory.
 fn are_values(answer: PolarsResult<Buffer<u16>>, values: &[u16]) -> bool {
     match answer {
         Ok(buffer) => buffer.as_slice() == values,
@@ -136,7 +138,7 @@ fn are_values(answer: PolarsResult<Buffer<u16>>, values: &[u16]) -> bool {
 }
 
 #[test]
-fn buffer_of_values(rt: HostRuntime) -> Result<(), Fail> {
+fn buffer_from_vec(rt: HostRuntime) -> Result<(), Fail> {
     let alloc = rt.alloc();
     let values = vec![in alloc; 7u16, 8, 9]?;
     begins(alloc);
@@ -146,7 +148,7 @@ fn buffer_of_values(rt: HostRuntime) -> Result<(), Fail> {
     Ok(())
 }
 
-/// Whether a call answered these offsets, or want of memory.
+/// Returns whether a call returned these offsets, or is out of memory.
 fn are_offsets(answer: Result<OffsetsBuffer<i64>, MakeError>, offsets: &[i64]) -> bool {
     match answer {
         Ok(made) => made.as_slice() == offsets,
@@ -155,7 +157,7 @@ fn are_offsets(answer: Result<OffsetsBuffer<i64>, MakeError>, offsets: &[i64]) -
 }
 
 #[test]
-fn offsets_that_rise(rt: HostRuntime) -> Result<(), Fail> {
+fn offsets_from_vec(rt: HostRuntime) -> Result<(), Fail> {
     let alloc = rt.alloc();
     let values = vec![in alloc; 0i64, 2, 5]?;
     begins(alloc);
@@ -165,7 +167,7 @@ fn offsets_that_rise(rt: HostRuntime) -> Result<(), Fail> {
     Ok(())
 }
 
-/// Whether a call answered the offsets 0, 0 and 7, or want of memory.
+/// Returns whether a call returned the offsets 0, 0 and 7, or is out of memory.
 fn are_rising(answer: PolarsResult<OffsetsBuffer<i64>>) -> bool {
     match answer {
         Ok(made) => made.as_slice() == [0, 0, 7].as_slice(),
@@ -174,7 +176,7 @@ fn are_rising(answer: PolarsResult<OffsetsBuffer<i64>>) -> bool {
 }
 
 #[test]
-fn offsets_that_are_known_to_rise(rt: HostRuntime) -> Result<(), Fail> {
+fn offsets_from_rising_values(rt: HostRuntime) -> Result<(), Fail> {
     let alloc = rt.alloc();
     let values = Vec::from_array(alloc, [0i64, 0, 7])?;
     begins(alloc);
@@ -184,7 +186,7 @@ fn offsets_that_are_known_to_rise(rt: HostRuntime) -> Result<(), Fail> {
     Ok(())
 }
 
-/// Whether copies of a bitmap and of a buffer are made without memory.
+/// Returns whether a bitmap and a buffer are cloned without an allocation.
 fn copies_freely(alloc: Global, bitmap: &Bitmap, buffer: &Buffer<u16>) -> bool {
     begins_free(alloc);
     let bits = bitmap.try_clone();
@@ -193,7 +195,7 @@ fn copies_freely(alloc: Global, bitmap: &Bitmap, buffer: &Buffer<u16>) -> bool {
     bits.is_ok() && values.is_ok() && are_bits(bits, &FIRST) && are_values(values, &[7, 8])
 }
 
-/// The same of offsets.
+/// Returns whether offsets are cloned without an allocation.
 fn copies_offsets(alloc: Global, offsets: &OffsetsBuffer<i64>) -> bool {
     begins_free(alloc);
     let copy = offsets.try_clone();
@@ -205,7 +207,7 @@ fn copies_offsets(alloc: Global, offsets: &OffsetsBuffer<i64>) -> bool {
 }
 
 #[test]
-fn no_memory_for_copies_of_shared_parts(rt: HostRuntime) -> Result<(), Fail> {
+fn bitmap_and_buffer_clones_do_not_allocate(rt: HostRuntime) -> Result<(), Fail> {
     let bitmap = Bitmap::from_bools(rt.alloc(), &FIRST)?;
     let buffer = Buffer::from_vec(vec![in rt.alloc(); 7u16, 8]?)?;
     assert!(rt; copies_freely(rt.alloc(), &bitmap, &buffer));
@@ -213,13 +215,13 @@ fn no_memory_for_copies_of_shared_parts(rt: HostRuntime) -> Result<(), Fail> {
 }
 
 #[test]
-fn no_memory_for_copies_of_offsets(rt: HostRuntime) -> Result<(), Fail> {
+fn offsets_clone_does_not_allocate(rt: HostRuntime) -> Result<(), Fail> {
     let offsets = OffsetsBuffer::try_from(vec![in rt.alloc(); 0i64, 2]?)?;
     assert!(rt; copies_offsets(rt.alloc(), &offsets));
     Ok(())
 }
 
-/// Two words of 56 bits, of which the first and the last one are true.
+/// Packs two words of 56 bits, of which only the first and the last bit are true.
 fn packs_words(alloc: Global) -> PolarsResult<Bitmap> {
     let mut packer = BitPacker::with_capacity(alloc, 0)?;
     packer.append(1, 56)?;
@@ -227,7 +229,7 @@ fn packs_words(alloc: Global) -> PolarsResult<Bitmap> {
     packer.into_bitmap(112)
 }
 
-/// Three bits one by one.
+/// Packs three bits one by one.
 fn packs_bits(alloc: Global) -> PolarsResult<Bitmap> {
     let mut packer = BitPacker::with_capacity(alloc, 3)?;
     packer.push(true)?;
@@ -236,14 +238,14 @@ fn packs_bits(alloc: Global) -> PolarsResult<Bitmap> {
     packer.into_bitmap(3)
 }
 
-/// Seventy equal bits.
+/// Packs seventy equal bits.
 fn packs_copies(alloc: Global) -> PolarsResult<Bitmap> {
     let mut packer = BitPacker::with_capacity(alloc, 0)?;
     packer.extend_constant(70, true)?;
     packer.into_bitmap(70)
 }
 
-/// All bits but the first.
+/// Packs all bits but the first.
 fn packs_part(alloc: Global, source: &Bitmap) -> PolarsResult<Bitmap> {
     let mut packer = BitPacker::with_capacity(alloc, 0)?;
     if source.len() != 4 {
@@ -253,7 +255,8 @@ fn packs_part(alloc: Global, source: &Bitmap) -> PolarsResult<Bitmap> {
     packer.into_bitmap(3)
 }
 
-/// Whether a call answered so many bits, of which so many are true, or want of memory.
+/// Returns whether a call returned a bitmap of `len` bits with `set` true ones, or is out of
+/// memory.
 fn are_counted(answer: PolarsResult<Bitmap>, len: usize, set: usize) -> bool {
     match answer {
         Ok(bitmap) => bitmap.len() == len && bitmap.set_bits() == set,
@@ -262,7 +265,7 @@ fn are_counted(answer: PolarsResult<Bitmap>, len: usize, set: usize) -> bool {
 }
 
 #[test]
-fn words_and_bits_packed(rt: HostRuntime) {
+fn packer_appends_words_and_bits(rt: HostRuntime) {
     let alloc = rt.alloc();
     begins(alloc);
     let answer = packs_words(alloc);
@@ -275,7 +278,7 @@ fn words_and_bits_packed(rt: HostRuntime) {
 }
 
 #[test]
-fn copies_packed(rt: HostRuntime) {
+fn packer_appends_repeated_bit(rt: HostRuntime) {
     let alloc = rt.alloc();
     begins(alloc);
     let answer = packs_copies(alloc);
@@ -284,7 +287,7 @@ fn copies_packed(rt: HostRuntime) {
 }
 
 #[test]
-fn parts_packed(rt: HostRuntime) -> Result<(), Fail> {
+fn packer_appends_bitmap_slice(rt: HostRuntime) -> Result<(), Fail> {
     let source = Bitmap::from_bools(rt.alloc(), &FIRST)?;
     begins(rt.alloc());
     let answer = packs_part(rt.alloc(), &source);

@@ -1,4 +1,4 @@
-//! What masks keep of bits and of values, beneath the filters of columns.
+//! Filters of bits and of values with failing allocations, which the filters of columns call.
 
 use crate::alloc_bitmaps::are_bits;
 use crate::fixtures::has_bits;
@@ -23,7 +23,7 @@ const MASK: [bool; 5] = [false, true, true, false, true];
 
 const KEPT: [bool; 3] = [false, true, false];
 
-/// The kernels that keep bits.
+/// The filters of bits.
 #[derive(Debug, Clone, Copy)]
 enum Kernel {
     Chosen,
@@ -31,7 +31,8 @@ enum Kernel {
     Packed,
 }
 
-/// Whether a kernel keeps these bits, and leaves both bitmaps as they were.
+/// Returns whether a kernel returns these bits or is out of memory, and leaves both bitmaps
+/// unchanged.
 fn keeps_bits(alloc: Global, kernel: Kernel, values: &Bitmap, mask: &Bitmap) -> bool {
     if values.len() != mask.len() {
         return false;
@@ -55,7 +56,7 @@ fn keeps_bits(alloc: Global, kernel: Kernel, values: &Bitmap, mask: &Bitmap) -> 
 }
 
 #[test]
-fn kept_bits(rt: HostRuntime) -> Result<(), Fail> {
+fn filter_bits(rt: HostRuntime) -> Result<(), Fail> {
     let values = Bitmap::from_bools(rt.alloc(), &VALUES)?;
     let mask = Bitmap::from_bools(rt.alloc(), &MASK)?;
     for kernel in [Kernel::Chosen, Kernel::Sparse, Kernel::Packed] {
@@ -71,7 +72,7 @@ const NUMBERS: [u32; 5] = [10, 20, 30, 40, 50];
 
 const KEPT_NUMBERS: [u32; 3] = [20, 30, 50];
 
-/// Whether a call answered the kept numbers, or want of memory.
+/// Returns whether a call returned the selected numbers, or is out of memory.
 fn are_numbers(answer: PolarsResult<Vec<u32>>) -> bool {
     match answer {
         Ok(kept) => kept.as_slice() == KEPT_NUMBERS.as_slice(),
@@ -90,13 +91,14 @@ fn keeps_numbers(alloc: Global, mask: &Bitmap) -> bool {
 }
 
 #[test]
-fn kept_numbers(rt: HostRuntime) -> Result<(), Fail> {
+fn filter_numbers(rt: HostRuntime) -> Result<(), Fail> {
     let mask = Bitmap::from_bools(rt.alloc(), &MASK)?;
     assert!(rt; keeps_numbers(rt.alloc(), &mask));
     Ok(())
 }
 
-/// Whether runs of numbers are copied, or a beginning of them where memory was wanting.
+/// Returns whether the runs of numbers are copied, or a prefix of them if the call is out of
+/// memory.
 fn copies_runs(alloc: Global, mask: &Bitmap) -> bool {
     if mask.len() != 5 {
         return false;
@@ -118,14 +120,14 @@ fn copies_runs(alloc: Global, mask: &Bitmap) -> bool {
 }
 
 #[test]
-fn kept_runs(rt: HostRuntime) -> Result<(), Fail> {
+fn filter_by_runs(rt: HostRuntime) -> Result<(), Fail> {
     let mask = Bitmap::from_bools(rt.alloc(), &MASK)?;
     assert!(rt; copies_runs(rt.alloc(), &mask));
     Ok(())
 }
 
 #[test]
-fn numbers_behind_others(rt: HostRuntime) -> Result<(), Fail> {
+fn scalar_filter_appends(rt: HostRuntime) -> Result<(), Fail> {
     let mut out = vec![in rt.alloc(); 7u32]?;
     begins(rt.alloc());
     let answer = scalar_filter(&NUMBERS, &[0b10110], &mut out);
@@ -140,7 +142,8 @@ fn numbers_behind_others(rt: HostRuntime) -> Result<(), Fail> {
     Ok(())
 }
 
-/// The bits of a byte from the sixth on, and two more: the last three and the first two of the numbers' mask.
+/// Returns the bits of a byte from the sixth on, and two more: three bits before a byte boundary
+/// and two after it.
 fn late_mask(alloc: Global) -> Result<Bitmap, Fail> {
     let bits = [
         false, false, false, false, false, false, true, true, false, true,
@@ -152,7 +155,8 @@ fn late_mask(alloc: Global) -> Result<Bitmap, Fail> {
     Ok(all.sliced(5, 5))
 }
 
-/// Whether the numbers before a byte boundary are put behind 7, and where memory was wanting nothing.
+/// Returns whether the numbers before a byte boundary are appended to 7, or none if the call is out
+/// of memory.
 fn keeps_first(alloc: Global, mask: &Bitmap, out: &mut Vec<u32>) -> Result<bool, Fail> {
     if mask.len() != 5 {
         return Err(Fail::from("another length"));
@@ -171,14 +175,14 @@ fn keeps_first(alloc: Global, mask: &Bitmap, out: &mut Vec<u32>) -> Result<bool,
 }
 
 #[test]
-fn first_numbers_behind_others(rt: HostRuntime) -> Result<(), Fail> {
+fn scalar_filter_offset_appends(rt: HostRuntime) -> Result<(), Fail> {
     let mask = late_mask(rt.alloc())?;
     let mut out = vec![in rt.alloc(); 7u32]?;
     assert!(rt; keeps_first(rt.alloc(), &mask, &mut out)?);
     Ok(())
 }
 
-/// Whether a mask that begins at a byte leaves all numbers for later, without memory.
+/// Returns whether a mask that begins at a byte boundary leaves all numbers, without an allocation.
 fn keeps_none_first(alloc: Global, mask: &Bitmap) -> Result<bool, Fail> {
     if mask.len() != 5 {
         return Err(Fail::from("another length"));
@@ -194,7 +198,7 @@ fn keeps_none_first(alloc: Global, mask: &Bitmap) -> Result<bool, Fail> {
 }
 
 #[test]
-fn no_memory_at_a_byte_boundary(rt: HostRuntime) -> Result<(), Fail> {
+fn scalar_filter_offset_at_byte_boundary_does_not_allocate(rt: HostRuntime) -> Result<(), Fail> {
     let mask = Bitmap::from_bools(rt.alloc(), &MASK)?;
     assert!(rt; keeps_none_first(rt.alloc(), &mask)?);
     Ok(())

@@ -1,4 +1,4 @@
-//! The calls on bitmaps, buffers, words and readers that must not allocate, with every allocation refused.
+//! Functions on bitmaps, buffers, words and readers that must not allocate: each allocation fails.
 
 use crate::fixtures::{buffer, has_bits};
 use crate::marks::{begins_free, ends_answered};
@@ -18,7 +18,8 @@ use std::test::Fail;
 
 const BITS: [bool; 6] = [false, true, true, false, true, false];
 
-/// Whether a bitmap tells its bits, and gives up those at its ends and a part.
+/// Returns whether the properties of a bitmap are right, and its leading and trailing bits are
+/// removed.
 fn parts_bits(alloc: Global, bits: Bitmap) -> bool {
     if bits.len() != 6 {
         return false;
@@ -42,7 +43,7 @@ fn parts_bits(alloc: Global, bits: Bitmap) -> bool {
         && has_bits(&part, &[false, true])
 }
 
-/// Whether a part of a bitmap is taken.
+/// Returns whether a slice of a bitmap has its bits.
 fn slices_bits(alloc: Global, bits: Bitmap) -> bool {
     if bits.len() != 6 {
         return false;
@@ -54,13 +55,13 @@ fn slices_bits(alloc: Global, bits: Bitmap) -> bool {
 }
 
 #[test]
-fn no_memory_for_parts_of_bitmaps(rt: HostRuntime) -> Result<(), Fail> {
+fn bitmap_slices_do_not_allocate(rt: HostRuntime) -> Result<(), Fail> {
     assert!(rt; parts_bits(rt.alloc(), Bitmap::from_bools(rt.alloc(), &BITS)?));
     assert!(rt; slices_bits(rt.alloc(), Bitmap::from_bools(rt.alloc(), &BITS)?));
     Ok(())
 }
 
-/// Whether a buffer and offsets tell their values, and a part of them is taken.
+/// Returns whether a buffer, offsets and their slices have their values.
 fn parts_values(alloc: Global, values: Buffer<u8>, ends: OffsetsBuffer<i64>) -> bool {
     if values.len() != 3 || ends.len_proxy() != 2 {
         return false;
@@ -74,14 +75,14 @@ fn parts_values(alloc: Global, values: Buffer<u8>, ends: OffsetsBuffer<i64>) -> 
 }
 
 #[test]
-fn no_memory_for_parts_of_buffers(rt: HostRuntime) -> Result<(), Fail> {
+fn buffer_slices_do_not_allocate(rt: HostRuntime) -> Result<(), Fail> {
     let values = buffer(rt.alloc(), &[1u8, 2, 3])?;
     let ends = OffsetsBuffer::try_from(Vec::from_slice(rt.alloc(), &[0i64, 2, 5])?)?;
     assert!(rt; parts_values(rt.alloc(), values, ends));
     Ok(())
 }
 
-/// Whether the readers give the bits of a bitmap, and count what they gave.
+/// Returns whether the readers return the bits of a bitmap, and count what they return.
 fn reads(alloc: Global, bits: &Bitmap) -> bool {
     if bits.len() != 6 {
         return false;
@@ -96,13 +97,13 @@ fn reads(alloc: Global, bits: &Bitmap) -> bool {
 }
 
 #[test]
-fn no_memory_for_readers(rt: HostRuntime) -> Result<(), Fail> {
+fn readers_do_not_allocate(rt: HostRuntime) -> Result<(), Fail> {
     let bits = Bitmap::from_bools(rt.alloc(), &BITS)?;
     assert!(rt; reads(rt.alloc(), &bits));
     Ok(())
 }
 
-/// Whether words and numbers are worked on.
+/// Returns whether the functions on words and numbers return the right values.
 fn works_on_words(alloc: Global) -> bool {
     let mask = 0b1100_1100u64;
     begins_free(alloc);
@@ -124,7 +125,7 @@ fn works_on_words(alloc: Global) -> bool {
         && place_of == Some(7)
 }
 
-/// Whether a word keeps and moves what it is told to.
+/// Returns whether a moving word keeps and moves the bits under its masks.
 fn moves_a_word(alloc: Global) -> bool {
     begins_free(alloc);
     let mut word = MovingWord::new(0b1101_0110);
@@ -135,7 +136,7 @@ fn moves_a_word(alloc: Global) -> bool {
     told == (0b1101_0110, 0b1000_1010, 1)
 }
 
-/// Whether offsets and numbers are told.
+/// Returns whether the functions on offsets and numbers return the right values.
 fn tells_numbers(alloc: Global) -> bool {
     begins_free(alloc);
     let signs = ((-1i64).is_negative(), 3i32.is_below(5));
@@ -144,7 +145,7 @@ fn tells_numbers(alloc: Global) -> bool {
     signs == (true, true) && places == (5, 7)
 }
 
-/// Whether a copy of items begins and ends.
+/// Returns whether a copy without items is empty.
 fn copies_nothing(alloc: Global) -> bool {
     let source = [1u8, 2, 3];
     begins_free(alloc);
@@ -156,7 +157,7 @@ fn copies_nothing(alloc: Global) -> bool {
 }
 
 #[test]
-fn no_memory_for_words_and_numbers(rt: HostRuntime) {
+fn word_and_number_functions_do_not_allocate(rt: HostRuntime) {
     assert!(rt; works_on_words(rt.alloc()));
     assert!(rt; moves_a_word(rt.alloc()));
     assert!(rt; tells_numbers(rt.alloc()));

@@ -1,4 +1,4 @@
-//! Each public call once, against values worked by hand or bit by bit.
+//! Each public function once, against values that are worked out by hand or bit by bit.
 
 ghost use Rattle.std.specs.Prelude.{◌≡◌, ◌≤◌, ◌-◌, length, IfOk};
 
@@ -15,7 +15,8 @@ use std::alloc::Global;
 use std::process::Abort;
 use std::test::Fail;
 
-/// Whether bitmaps made of nothing, of one value, of zeros and of bits have these bits.
+/// Returns whether empty bitmaps, and bitmaps of one value, of zeros and of booleans have their
+/// bits.
 fn makers_hold_bits(alloc: Global) -> PolarsResult<bool> {
     let bits = [false, true, true, false, false, false, true, true, true];
     Ok(
@@ -30,11 +31,11 @@ fn makers_hold_bits(alloc: Global) -> PolarsResult<bool> {
 }
 
 #[test]
-fn bitmaps_hold_their_bits(rt: HostRuntime) {
+fn bitmap_constructors(rt: HostRuntime) {
     assert!(rt; makers_hold_bits(rt.alloc()) == Ok(true));
 }
 
-/// Whether the bits of the byte 0xB4 from the third on are these, and so counted.
+/// Returns whether the five bits of the byte 0xB4 from the third on, and their counts, are right.
 fn has_part(whole: Bitmap) -> bool
     requires { length whole.bits ≡ 8 }
 {
@@ -45,35 +46,35 @@ fn has_part(whole: Bitmap) -> bool
         && part.unset_bits() == 2
 }
 
-/// Whether the bits are those of the byte 0xB4.
+/// Returns whether the bits are those of the byte 0xB4.
 fn is_whole(whole: &Bitmap) -> bool {
     let bits = [false, false, true, false, true, true, false, true];
     has_bits(whole, &bits)
 }
 
 #[test]
-fn bitmaps_hold_a_part(rt: HostRuntime) -> Result<(), Fail> {
+fn bitmap_slice(rt: HostRuntime) -> Result<(), Fail> {
     let whole = Bitmap::from_u8_vec([0xB4u8].to_vec(rt.alloc())?, 8)?;
     assert!(rt; has_part(whole.try_clone()?));
     assert!(rt; is_whole(&whole));
     Ok(())
 }
 
-/// Whether the bytes of the bits 11 to 15 are the second byte, from its fourth bit on.
+/// Returns whether the bytes of the bits 11 to 15 are the second byte, from its fourth bit on.
 fn lends_bytes(part: &Bitmap) -> bool {
     let (bytes, offset, len) = part.as_slice();
     bytes == [0x0Fu8].as_slice() && offset == 3 && len == 5
 }
 
 #[test]
-fn bitmaps_lend_their_bytes(rt: HostRuntime) -> Result<(), Fail> {
+fn bitmap_as_slice(rt: HostRuntime) -> Result<(), Fail> {
     let bytes = [0xB4u8, 0x0F, 0xFF].to_vec(rt.alloc())?;
     let part = Bitmap::from_u8_vec(bytes, 24)?.sliced(11, 5);
     assert!(rt; lends_bytes(&part));
     Ok(())
 }
 
-/// Whether sixty zeros are taken in front and sixty-six behind, and three bits are left.
+/// Returns whether sixty leading and sixty-six trailing zeros are removed, and three bits remain.
 fn takes_both_ends(mut bitmap: Bitmap) -> bool {
     bitmap.take_leading_zeros() == 60
         && bitmap.take_trailing_zeros() == 66
@@ -81,7 +82,7 @@ fn takes_both_ends(mut bitmap: Bitmap) -> bool {
 }
 
 #[test]
-fn zeros_are_taken_at_both_ends(rt: HostRuntime) -> Result<(), Fail> {
+fn take_leading_and_trailing_zeros_of_bitmap(rt: HostRuntime) -> Result<(), Fail> {
     let mut bits = [false; 130];
     bits[61] = true;
     bits[63] = true;
@@ -90,19 +91,19 @@ fn zeros_are_taken_at_both_ends(rt: HostRuntime) -> Result<(), Fail> {
     Ok(())
 }
 
-/// Whether seventy zeros are taken behind, and then none in front.
+/// Returns whether seventy trailing zeros are removed, and then no leading ones.
 fn takes_one_end(mut zeros: Bitmap) -> bool {
     zeros.take_trailing_zeros() == 70 && zeros.take_leading_zeros() == 0
 }
 
 #[test]
-fn all_zeros_are_taken_at_one_end(rt: HostRuntime) -> Result<(), Fail> {
+fn take_trailing_zeros_of_zeroed_bitmap(rt: HostRuntime) -> Result<(), Fail> {
     assert!(rt; takes_one_end(Bitmap::new_zeroed(rt.alloc(), 70)?));
     Ok(())
 }
 
 #[test]
-fn packed_bits_stand_behind_one_another(rt: HostRuntime) -> Result<(), Fail> {
+fn packer_appends_words_and_bits(rt: HostRuntime) -> Result<(), Fail> {
     let mut packer = BitPacker::with_capacity(rt.alloc(), 9)?;
     packer.append(0b1_0110, 5)?;
     packer.push(true)?;
@@ -113,7 +114,8 @@ fn packed_bits_stand_behind_one_another(rt: HostRuntime) -> Result<(), Fail> {
     Ok(())
 }
 
-/// The bits of a word and of the one that follows it in a sequence, and then a few more, from bit `off` on.
+/// Returns the bits of a word and of the one that follows it in a sequence, and a few more, from
+/// bit `off` on.
 fn mixed_bits(alloc: Global, seed: u64, off: usize) -> PolarsResult<Bitmap>
     requires { off ≤ 30 }
     ensures { IfOk result (λ bitmap. length bitmap.bits ≡ 130) }
@@ -129,7 +131,8 @@ fn mixed_bits(alloc: Global, seed: u64, off: usize) -> PolarsResult<Bitmap>
     Ok(Bitmap::from_bools(alloc, &bits)?.sliced(off, 130))
 }
 
-/// Whether three bits stand first, then the 120 bits of the source from its sixth on, and then seventy true ones.
+/// Returns whether the bits are three bits, the 120 bits of the source from its sixth on, and
+/// seventy true ones.
 fn is_extended(packed: &Bitmap, source: &Bitmap) -> bool {
     if packed.len() != 193 || source.len() != 130 {
         return false;
@@ -147,7 +150,7 @@ fn is_extended(packed: &Bitmap, source: &Bitmap) -> bool {
     begins_with(packed, &[true, false, true])
 }
 
-/// Three bits, 120 of the source, and seventy true ones.
+/// Packs three bits, 120 of the source, and seventy true ones.
 fn packs_parts_and_copies(alloc: Global, source: &Bitmap) -> PolarsResult<Bitmap>
     requires { length source.now.bits ≡ 130 }
 {
@@ -161,14 +164,14 @@ fn packs_parts_and_copies(alloc: Global, source: &Bitmap) -> PolarsResult<Bitmap
 }
 
 #[test]
-fn packer_takes_parts_and_copies(rt: HostRuntime) -> Result<(), Fail> {
+fn packer_appends_slice_and_repeated_bit(rt: HostRuntime) -> Result<(), Fail> {
     let source = mixed_bits(rt.alloc(), 7, 9)?;
     let packed = packs_parts_and_copies(rt.alloc(), &source)?;
     assert!(rt; is_extended(&packed, &source));
     Ok(())
 }
 
-/// Two false bits, none of the source, no true ones, and one.
+/// Packs two false bits, an empty slice of the source, no true ones, and one true bit.
 fn packs_false_copies_and_none(alloc: Global, source: &Bitmap) -> PolarsResult<Bitmap>
     requires { length source.now.bits ≡ 130 }
 {
@@ -181,14 +184,14 @@ fn packs_false_copies_and_none(alloc: Global, source: &Bitmap) -> PolarsResult<B
 }
 
 #[test]
-fn packer_takes_false_copies_and_none(rt: HostRuntime) -> Result<(), Fail> {
+fn packer_appends_empty_slice_and_false_bits(rt: HostRuntime) -> Result<(), Fail> {
     let source = mixed_bits(rt.alloc(), 7, 9)?;
     let packed = packs_false_copies_and_none(rt.alloc(), &source)?;
     assert!(rt; has_bits(&packed, &[false, false, true]));
     Ok(())
 }
 
-/// Whether sixty ones are taken in front, and then none, and the three bits behind them are left.
+/// Returns whether sixty leading ones are removed, then none, and the three bits after them remain.
 fn takes_the_ones(mut bitmap: Bitmap) -> bool {
     bitmap.take_leading_ones() == 60
         && bitmap.take_leading_ones() == 0
@@ -196,7 +199,7 @@ fn takes_the_ones(mut bitmap: Bitmap) -> bool {
 }
 
 #[test]
-fn leading_ones_are_taken(rt: HostRuntime) -> Result<(), Fail> {
+fn take_leading_ones_of_bitmap(rt: HostRuntime) -> Result<(), Fail> {
     let mut bits = [true; 63];
     bits[60] = false;
     assert!(rt; takes_the_ones(Bitmap::from_bools(rt.alloc(), &bits)?));
@@ -207,7 +210,7 @@ fn leading_ones_are_taken(rt: HostRuntime) -> Result<(), Fail> {
     Ok(())
 }
 
-/// How many of 130 bits are true, bit by bit.
+/// Returns the number of true bits among 130, counted one by one.
 fn counted_bits(bits: &Bitmap) -> usize
     requires { length bits.now.bits ≡ 130 }
 {
@@ -219,7 +222,7 @@ fn counted_bits(bits: &Bitmap) -> usize
 }
 
 #[test]
-fn bits_of_several_words_are_counted(rt: HostRuntime) -> Result<(), Fail> {
+fn set_bits_across_words(rt: HostRuntime) -> Result<(), Fail> {
     for off in 0..30 {
         let bits = mixed_bits(rt.alloc(), 5, off)?;
         let count = counted_bits(&bits);
@@ -229,7 +232,7 @@ fn bits_of_several_words_are_counted(rt: HostRuntime) -> Result<(), Fail> {
     Ok(())
 }
 
-/// What the operations give, position by position.
+/// Returns the results of the operations, position by position.
 fn wanted_bits(a: &Bitmap, b: &Bitmap, c: &Bitmap) -> [[bool; 130]; 6]
     requires first { length a.now.bits ≡ 130 }
     requires second { length b.now.bits ≡ 130 }
@@ -248,7 +251,7 @@ fn wanted_bits(a: &Bitmap, b: &Bitmap, c: &Bitmap) -> [[bool; 130]; 6]
     wanted
 }
 
-/// Whether the operations on bitmaps of one length give what their definitions do.
+/// Returns whether the operations on bitmaps of the same length return what their definitions say.
 fn operations_are(alloc: Global, a: &Bitmap, b: &Bitmap, c: &Bitmap) -> PolarsResult<bool>
     requires first { length a.now.bits ≡ 130 }
     requires second { length b.now.bits ≡ 130 }
@@ -266,7 +269,7 @@ fn operations_are(alloc: Global, a: &Bitmap, b: &Bitmap, c: &Bitmap) -> PolarsRe
 }
 
 #[test]
-fn operations_go_position_by_position(rt: HostRuntime) -> Result<(), Fail> {
+fn bitmap_operations_are_elementwise(rt: HostRuntime) -> Result<(), Fail> {
     let a = mixed_bits(rt.alloc(), 1, 3)?;
     let b = mixed_bits(rt.alloc(), 2, 13)?;
     let c = mixed_bits(rt.alloc(), 3, 0)?;
@@ -274,7 +277,7 @@ fn operations_go_position_by_position(rt: HostRuntime) -> Result<(), Fail> {
     Ok(())
 }
 
-/// Whether the two numbers behind the first are these, and the whole keeps its four.
+/// Returns whether the two numbers after the first are right, and the whole buffer keeps its four.
 fn has_two_behind(whole: &Buffer<u16>) -> PolarsResult<bool> {
     if whole.len() != 4 {
         return Ok(false);
@@ -284,18 +287,18 @@ fn has_two_behind(whole: &Buffer<u16>) -> PolarsResult<bool> {
 }
 
 #[test]
-fn buffers_hold_a_part(rt: HostRuntime) -> Result<(), Fail> {
+fn buffer_slice(rt: HostRuntime) -> Result<(), Fail> {
     assert!(rt; has_two_behind(&buffer(rt.alloc(), &[5u16, 6, 7, 8])?)?);
     Ok(())
 }
 
-/// The rule that offsets break.
+/// Returns the rule that offsets break.
 fn fault_of(alloc: Global, offsets: &[i32]) -> Result<Option<MakeError>, Fail> {
     Ok(OffsetsBuffer::try_from(offsets.to_vec(alloc)?).err())
 }
 
 #[test]
-fn offsets_are_tested_in_order(rt: HostRuntime) -> Result<(), Fail> {
+fn offsets_rules_are_checked_in_order(rt: HostRuntime) -> Result<(), Fail> {
     let table: [(&[i32], Option<Malformed>); 5] = [
         (&[], Some(Malformed::OffsetCount)),
         (&[-1, 0], Some(Malformed::OffsetNegative)),
@@ -309,7 +312,7 @@ fn offsets_are_tested_in_order(rt: HostRuntime) -> Result<(), Fail> {
     Ok(())
 }
 
-/// Whether the two pieces behind the first lie between these offsets.
+/// Returns whether the slice after the first piece has these offsets.
 fn has_pieces_behind(whole: &OffsetsBuffer<i64>) -> PolarsResult<bool> {
     let part = whole.try_clone()?;
     if part.len_proxy() != 3 {
@@ -320,7 +323,7 @@ fn has_pieces_behind(whole: &OffsetsBuffer<i64>) -> PolarsResult<bool> {
 }
 
 #[test]
-fn offsets_of_a_part(rt: HostRuntime) -> Result<(), Fail> {
+fn offsets_slice(rt: HostRuntime) -> Result<(), Fail> {
     let whole = OffsetsBuffer::try_from([2i64, 2, 5, 9].to_vec(rt.alloc())?)?;
     assert!(rt; whole.first() == 2 && whole.last() == 9 && whole.len_proxy() == 3);
     assert!(rt; has_pieces_behind(&whole) == Ok(true));
@@ -328,29 +331,29 @@ fn offsets_of_a_part(rt: HostRuntime) -> Result<(), Fail> {
 }
 
 #[test]
-fn offsets_that_are_known_to_rise(rt: HostRuntime) -> Result<(), Fail> {
+fn offsets_from_rising_values(rt: HostRuntime) -> Result<(), Fail> {
     let offsets = OffsetsBuffer::of_rising(Vec::from_array(rt.alloc(), [0i32, 0, 7])?)?;
     assert!(rt; offsets.as_slice() == [0i32, 0, 7].as_slice());
     Ok(())
 }
 
-/// The number, made a value of the type and read again.
+/// Converts a number to the type and back.
 fn back<T: NativeType>(n: usize) -> Option<usize> {
     T::from_usize(n)?.try_usize()
 }
 
-/// Whether the first number is one of the type, and the other is none.
+/// Returns whether the first number fits the type and the second does not.
 fn ends_at<T: NativeType>(last: usize, next: usize) -> bool {
     back::<T>(last) == Some(last) && back::<T>(next).is_none()
 }
 
-/// Whether the greatest of all positions is a number of the type.
+/// Returns whether the greatest position fits the type.
 fn holds_positions<T: NativeType>() -> bool {
     back::<T>(usize::MAX) == Some(usize::MAX)
 }
 
 #[test]
-fn numbers_go_to_usize_and_back(rt: HostRuntime) {
+fn native_types_round_trip_usize(rt: HostRuntime) {
     assert!(rt; ends_at::<i8>(127, 128));
     assert!(rt; ends_at::<i16>(32767, 32768));
     assert!(rt; ends_at::<i32>(2147483647, 2147483648));
@@ -363,7 +366,7 @@ fn numbers_go_to_usize_and_back(rt: HostRuntime) {
 }
 
 #[test]
-fn numbers_that_are_no_positions(rt: HostRuntime) {
+fn native_types_out_of_usize_range(rt: HostRuntime) {
     assert!(rt; (-1i8).try_usize().is_none() && (1u128 << 64).try_usize().is_none());
     assert!(rt; 0i64.to_usize() == 0 && u64::MAX.to_usize() == usize::MAX);
     assert!(rt; 7i128.to_usize() == 7);
@@ -371,7 +374,7 @@ fn numbers_that_are_no_positions(rt: HostRuntime) {
     assert!(rt; u128::LEAST == 0);
 }
 
-/// How many of the indices are below the number.
+/// Returns the number of indices that are less than `n`.
 fn count_below<I: Index>(indices: &[I], n: usize) -> usize {
     indices
         .iter()
@@ -379,18 +382,19 @@ fn count_below<I: Index>(indices: &[I], n: usize) -> usize {
         .count()
 }
 
-/// Whether the first offset is negative and below the other, as the trait has it.
+/// Returns whether the first offset is negative and less than the second, by the functions of the
+/// trait.
 fn is_negative_and_below<O: Offset>(x: O, y: O) -> bool {
     x.is_negative() && x.is_below(y)
 }
 
-/// Whether the first offset is neither.
+/// Returns whether the first offset is not negative and not less than the second.
 fn is_neither<O: Offset>(x: O, y: O) -> bool {
     !x.is_negative() && !x.is_below(y)
 }
 
 #[test]
-fn indices_and_offsets_by_their_traits(rt: HostRuntime) {
+fn index_and_offset_traits(rt: HostRuntime) {
     assert!(rt; count_below(&[-1i64, 0, 4, 5], 5) == 2);
     assert!(rt; count_below(&[0u8, 255], 255) == 1);
     assert!(rt; is_negative_and_below(-1i32, 0));
@@ -399,7 +403,7 @@ fn indices_and_offsets_by_their_traits(rt: HostRuntime) {
 }
 
 #[test]
-fn places_from_both_ends(rt: HostRuntime) {
+fn negative_indices(rt: HostRuntime) {
     for (place, len, wanted) in [
         (0, 3, Some(0)),
         (2, 3, Some(2)),
@@ -418,7 +422,7 @@ fn places_from_both_ends(rt: HostRuntime) {
 }
 
 #[test]
-fn words_of_bits_and_bytes(rt: HostRuntime) {
+fn word_loads_and_prefix_xor(rt: HostRuntime) {
     assert!(rt; prefix_xorsum(0b1011) == 0xFFFF_FFFF_FFFF_FFF2);
     assert!(rt; load_padded_le_u64(&[0x01, 0x02]) == 0x201);
     assert!(rt; load_padded_le_u64(&[1, 2, 3, 4, 5, 6, 7, 8, 9]) == 0x0807_0605_0403_0201);
@@ -427,7 +431,7 @@ fn words_of_bits_and_bytes(rt: HostRuntime) {
 }
 
 #[test]
-fn refusals_have_texts(rt: HostRuntime) -> Result<(), Fail> {
+fn error_messages(rt: HostRuntime) -> Result<(), Fail> {
     for (refusal, text) in [
         (PolarsError::OutOfMemory, "out of memory"),
         (PolarsError::SizeLimit(Limit::Rows), "size limit rows"),

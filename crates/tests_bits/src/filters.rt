@@ -1,4 +1,5 @@
-//! Filters of bits and of values, the extraction of the bits of a word under a mask, and copies of blocks.
+//! Filters of bits and of values, the extraction of the bits of a word under a mask, and copies of
+//! blocks.
 
 ghost use Rattle.std.specs.Prelude.{◌≡◌, ◌≤◌, length, IfOk};
 
@@ -13,7 +14,7 @@ use std::alloc::Global;
 use std::test::Fail;
 
 #[test]
-fn bits_under_masks(rt: HostRuntime) {
+fn pext_of_worked_examples(rt: HostRuntime) {
     let rows = [
         (0b10110100, 0b11001100, 4, 0b1001),
         (0b10110100, 0b11111000, 5, 0b10110),
@@ -28,7 +29,7 @@ fn bits_under_masks(rt: HostRuntime) {
     }
 }
 
-// The extraction bit by bit, the highest kept bit first.
+// Extracts the bits one by one, from the highest one under the mask on.
 fn extracted(value: u64, mask: u64) -> u64 {
     let mut packed = 0u64;
     for place in (0..64u32).rev() {
@@ -39,7 +40,7 @@ fn extracted(value: u64, mask: u64) -> u64 {
     packed
 }
 
-// The `count` lowest set bits.
+// Returns the `count` lowest set bits.
 fn lowest_bits(word: u64, count: u32) -> u64 {
     let mut kept = 0u64;
     let mut left = word;
@@ -52,7 +53,7 @@ fn lowest_bits(word: u64, count: u32) -> u64 {
 }
 
 #[test]
-fn bits_of_many_words(rt: HostRuntime) {
+fn pext_equals_extraction_bit_by_bit(rt: HostRuntime) {
     let mut word = 1u64;
     let mut next = || {
         word = word
@@ -78,7 +79,7 @@ fn bits_of_many_words(rt: HostRuntime) {
     }
 }
 
-// 512 bits, true at these two places alone, which may be one.
+// Returns 512 bits, true only at these two positions, which may be equal.
 fn two_of_many(alloc: Global, first: usize, second: usize) -> PolarsResult<Bitmap> {
     let mut bits = Vec::new(alloc);
     for i in 0..512 {
@@ -87,7 +88,7 @@ fn two_of_many(alloc: Global, first: usize, second: usize) -> PolarsResult<Bitma
     Bitmap::from_bools(alloc, &bits)
 }
 
-// Whether the bits of the values under the mask are false and true.
+// Returns whether the bits of the values under the mask are false and true.
 fn keeps_last(alloc: Global, values: &Bitmap, mask: &Bitmap) -> PolarsResult<bool> {
     if values.len() != mask.len() {
         return Ok(false);
@@ -97,14 +98,14 @@ fn keeps_last(alloc: Global, values: &Bitmap, mask: &Bitmap) -> PolarsResult<boo
 }
 
 #[test]
-fn two_bits_of_many(rt: HostRuntime) -> Result<(), Fail> {
+fn filter_two_of_many_bits(rt: HostRuntime) -> Result<(), Fail> {
     let values = two_of_many(rt.alloc(), 511, 511)?;
     let mask = two_of_many(rt.alloc(), 63, 511)?;
     assert!(rt; keeps_last(rt.alloc(), &values, &mask) == Ok(true));
     Ok(())
 }
 
-/// The numbers from 0 to 64.
+/// Returns the numbers from 0 to 64.
 fn many_values(alloc: Global) -> PolarsResult<Vec<u64>> {
     let mut values = Vec::new(alloc);
     for i in 0..65u64 {
@@ -113,7 +114,7 @@ fn many_values(alloc: Global) -> PolarsResult<Vec<u64>> {
     Ok(values)
 }
 
-// Whether the values under these bytes of bits are four.
+// Returns whether these bytes of mask bits select four values.
 fn keeps_few(alloc: Global, values: &[u64]) -> PolarsResult<bool> {
     let bytes = [0b100101, 0, 0, 0, 0, 0, 0, 0, 0xFF];
     if values.len() > 8 * bytes.len() {
@@ -125,13 +126,13 @@ fn keeps_few(alloc: Global, values: &[u64]) -> PolarsResult<bool> {
 }
 
 #[test]
-fn values_by_bytes(rt: HostRuntime) -> Result<(), Fail> {
+fn scalar_filter_by_mask_bytes(rt: HostRuntime) -> Result<(), Fail> {
     let values = many_values(rt.alloc())?;
     assert!(rt; keeps_few(rt.alloc(), &values) == Ok(true));
     Ok(())
 }
 
-// `len` true bits at bit offset 5.
+// Returns `len` true bits at bit offset 5.
 fn true_bits(alloc: Global, len: usize) -> PolarsResult<Bitmap>
     requires { len ≤ 4 }
     ensures { IfOk result (λ bits. length bits.bits ≡ len) }
@@ -141,7 +142,7 @@ fn true_bits(alloc: Global, len: usize) -> PolarsResult<Bitmap>
 }
 
 #[test]
-fn values_up_to_a_byte(rt: HostRuntime) -> Result<(), Fail> {
+fn scalar_filter_offset_up_to_byte_boundary(rt: HostRuntime) -> Result<(), Fail> {
     let alloc = rt.alloc();
     let mask = true_bits(alloc, 4)?;
     let mut out = Vec::new(alloc);
@@ -155,7 +156,7 @@ fn values_up_to_a_byte(rt: HostRuntime) -> Result<(), Fail> {
 }
 
 #[test]
-fn no_values_behind_an_offset(rt: HostRuntime) -> Result<(), Fail> {
+fn scalar_filter_offset_of_empty_mask(rt: HostRuntime) -> Result<(), Fail> {
     let alloc = rt.alloc();
     let bytes = Vec::from_slice(alloc, &[0xFF])?;
     let empty = Bitmap::from_u8_vec(bytes, 8)?.sliced(3, 0);
@@ -166,7 +167,7 @@ fn no_values_behind_an_offset(rt: HostRuntime) -> Result<(), Fail> {
     Ok(())
 }
 
-// 112 bits at bit offset 3, true at even places.
+// Returns 112 bits at bit offset 3, true at even positions.
 fn even_bits(alloc: Global) -> Result<Bitmap, Fail> {
     let mut values = Vec::new(alloc);
     for _ in 0..3 {
@@ -182,7 +183,7 @@ fn even_bits(alloc: Global) -> Result<Bitmap, Fail> {
     Ok(all.sliced(3, 112))
 }
 
-// 112 bits, true at 0, 1, 2 and from 56 on.
+// Returns 112 bits, true at 0, 1, 2 and from 56 on.
 fn late_bits(alloc: Global) -> PolarsResult<Bitmap> {
     let mut mask = Vec::new(alloc);
     for i in 0..112 {
@@ -191,7 +192,8 @@ fn late_bits(alloc: Global) -> PolarsResult<Bitmap> {
     Bitmap::from_bools(alloc, &mask)
 }
 
-// Whether the bits of the values under the mask are so many, begin so, and half of them are true.
+// Returns whether the mask selects the right number of bits, with the right first bits and the
+// right number of true ones.
 fn keeps_even_bits(alloc: Global, values: &Bitmap, mask: &Bitmap) -> PolarsResult<bool> {
     if (values.len(), mask.len()) != (112, 112) {
         return Ok(false);
@@ -205,14 +207,14 @@ fn keeps_even_bits(alloc: Global, values: &Bitmap, mask: &Bitmap) -> PolarsResul
 }
 
 #[test]
-fn filter_keeps_even_bits(rt: HostRuntime) -> Result<(), Fail> {
+fn filter_even_bits(rt: HostRuntime) -> Result<(), Fail> {
     let values = even_bits(rt.alloc())?;
     let mask = late_bits(rt.alloc())?;
     assert!(rt; keeps_even_bits(rt.alloc(), &values, &mask) == Ok(true));
     Ok(())
 }
 
-// 65 bits, true at 0, 2, 5 and 64.
+// Returns 65 bits, true at 0, 2, 5 and 64.
 fn few_bits(alloc: Global) -> PolarsResult<Bitmap> {
     let mut mask = [false; 65];
     mask[0] = true;
@@ -223,7 +225,7 @@ fn few_bits(alloc: Global) -> PolarsResult<Bitmap> {
 }
 
 #[test]
-fn filter_keeps_few_values(rt: HostRuntime) -> Result<(), Fail> {
+fn filter_few_values(rt: HostRuntime) -> Result<(), Fail> {
     let values = many_values(rt.alloc())?;
     let mask = few_bits(rt.alloc())?;
     if values.len() != mask.len() {
@@ -235,7 +237,7 @@ fn filter_keeps_few_values(rt: HostRuntime) -> Result<(), Fail> {
 }
 
 #[test]
-fn parts_and_equal_values(rt: HostRuntime) -> Result<(), Fail> {
+fn block_copy_copies_and_fills(rt: HostRuntime) -> Result<(), Fail> {
     let source = [1u8, 2, 3];
     let mut out = BlockCopy::new(rt.alloc(), source.as_slice());
     assert!(rt; out.source_len() == 3 && out.copies() == 0);

@@ -1,16 +1,16 @@
-//! What several files and crates share: buffers of values, and bitmaps compared with bits.
+//! Shared by several files and crates: buffers of values, and bitmaps compared with bits.
 
 use sel_bits::bitmap::Bitmap;
 use sel_bits::buffer::Buffer;
 use sel_bits::faults::PolarsResult;
 use std::alloc::Global;
 
-/// The values as a buffer.
+/// Returns the values as a buffer.
 pub fn buffer<T: Copy>(alloc: Global, values: &[T]) -> PolarsResult<Buffer<T>> {
     Buffer::from_vec(Vec::from_slice(alloc, values)?)
 }
 
-/// Whether the bitmap begins with these bits.
+/// Returns whether the bitmap begins with these bits.
 pub fn begins_with(bitmap: &Bitmap, bits: &[bool]) -> bool {
     if bitmap.len() < bits.len() {
         return false;
@@ -23,7 +23,7 @@ pub fn begins_with(bitmap: &Bitmap, bits: &[bool]) -> bool {
     true
 }
 
-/// Whether the bitmap is these bits.
+/// Returns whether the bitmap has exactly these bits.
 pub fn has_bits(bitmap: &Bitmap, bits: &[bool]) -> bool {
     bitmap.len() == bits.len() && begins_with(bitmap, bits)
 }

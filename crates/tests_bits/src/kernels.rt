@@ -1,4 +1,4 @@
-//! The kernels of bits: what they keep, and how much they read for it.
+//! The filters of bits: the bits that they return, and how much they read.
 
 ghost use Rattle.std.specs.Prelude.{◌≡◌, length, IfOk};
 
@@ -14,7 +14,7 @@ use sel_filter::boolean::{
 use std::alloc::Global;
 use std::test::Fail;
 
-/// 168 bits, of which every third one is true, the first too.
+/// Returns 168 bits, of which every third one is true, from the first on.
 fn every_third(alloc: Global) -> PolarsResult<Bitmap>
     ensures { IfOk result (λ bitmap. length bitmap.bits ≡ 168) }
 {
@@ -25,7 +25,7 @@ fn every_third(alloc: Global) -> PolarsResult<Bitmap>
     Bitmap::from_bools(alloc, &bits)
 }
 
-/// 168 bits, of which those at 0 to 6 and at 56 to 118 are true.
+/// Returns 168 bits, of which those at 0 to 6 and at 56 to 118 are true.
 fn two_runs(alloc: Global) -> PolarsResult<Bitmap>
     ensures { IfOk result (λ bitmap. length bitmap.bits ≡ 168) }
 {
@@ -36,7 +36,8 @@ fn two_runs(alloc: Global) -> PolarsResult<Bitmap>
     Bitmap::from_bools(alloc, &bits)
 }
 
-/// Whether the packer keeps the 70 bits, of which 24 are true, in three blocks at the most.
+/// Returns whether the packing kernel selects the 70 bits, of which 24 are true, and reads at most
+/// three blocks.
 fn packs(alloc: Global, values: &Bitmap, mask: &Bitmap) -> PolarsResult<bool>
     requires { length values.now.bits ≡ length mask.now.bits }
 {
@@ -56,14 +57,14 @@ fn packs(alloc: Global, values: &Bitmap, mask: &Bitmap) -> PolarsResult<bool>
 }
 
 #[test]
-fn bits_are_packed(rt: HostRuntime) -> Result<(), Fail> {
+fn filter_bits_by_packing_kernel(rt: HostRuntime) -> Result<(), Fail> {
     let values = every_third(rt.alloc())?;
     let mask = two_runs(rt.alloc())?;
     assert!(rt; packs(rt.alloc(), &values, &mask)?);
     Ok(())
 }
 
-/// Whether the kernel that chooses keeps the same.
+/// Returns whether the kernel that dispatches on the mask selects as many bits.
 fn keeps(alloc: Global, values: &Bitmap, mask: &Bitmap) -> PolarsResult<bool>
     requires { length values.now.bits ≡ length mask.now.bits }
 {
@@ -72,14 +73,14 @@ fn keeps(alloc: Global, values: &Bitmap, mask: &Bitmap) -> PolarsResult<bool>
 }
 
 #[test]
-fn bits_are_kept(rt: HostRuntime) -> Result<(), Fail> {
+fn filter_bits_by_dispatching_kernel(rt: HostRuntime) -> Result<(), Fail> {
     let values = every_third(rt.alloc())?;
     let mask = two_runs(rt.alloc())?;
     assert!(rt; keeps(rt.alloc(), &values, &mask)?);
     Ok(())
 }
 
-/// Whether both kernels keep no bits of none.
+/// Returns whether both kernels return no bits for empty bitmaps.
 fn keep_none(alloc: Global, none: &Bitmap) -> PolarsResult<bool> {
     let packed = filter_boolean_kernel_pext(
         alloc,
@@ -95,13 +96,13 @@ fn keep_none(alloc: Global, none: &Bitmap) -> PolarsResult<bool> {
 }
 
 #[test]
-fn no_bits_are_kept_of_none(rt: HostRuntime) -> Result<(), Fail> {
+fn filter_empty_bitmap(rt: HostRuntime) -> Result<(), Fail> {
     let none = Bitmap::new(rt.alloc())?;
     assert!(rt; keep_none(rt.alloc(), &none)?);
     Ok(())
 }
 
-/// 512 bits, of which the last one is true, and the 64th too where that is asked for.
+/// Returns 512 bits, of which the last one is true, and the 64th one if `at_63` is true.
 fn late_bits(alloc: Global, at_63: bool) -> PolarsResult<Bitmap>
     ensures { IfOk result (λ bitmap. length bitmap.bits ≡ 512) }
 {
@@ -111,7 +112,7 @@ fn late_bits(alloc: Global, at_63: bool) -> PolarsResult<Bitmap>
     Bitmap::from_bools(alloc, &bits)
 }
 
-/// Whether two bits are read and kept.
+/// Returns whether the sparse kernel selects two bits and reads no others.
 fn reads_two(alloc: Global, values: &Bitmap, mask: &Bitmap) -> PolarsResult<bool>
     requires { length values.now.bits ≡ length mask.now.bits }
 {
@@ -121,7 +122,7 @@ fn reads_two(alloc: Global, values: &Bitmap, mask: &Bitmap) -> PolarsResult<bool
     Ok(has_bits(&kept, &[false, true]) && bits.bits_read() == 2 && words.words_read() == 8)
 }
 
-/// Whether the kernel that chooses keeps the same two.
+/// Returns whether the kernel that dispatches on the mask selects the same two bits.
 fn keeps_two(alloc: Global, values: &Bitmap, mask: &Bitmap) -> PolarsResult<bool>
     requires { length values.now.bits ≡ length mask.now.bits }
 {
@@ -130,7 +131,7 @@ fn keeps_two(alloc: Global, values: &Bitmap, mask: &Bitmap) -> PolarsResult<bool
 }
 
 #[test]
-fn few_bits_are_read_one_by_one(rt: HostRuntime) -> Result<(), Fail> {
+fn filter_bits_by_sparse_kernel(rt: HostRuntime) -> Result<(), Fail> {
     let values = late_bits(rt.alloc(), false)?;
     let mask = late_bits(rt.alloc(), true)?;
     assert!(rt; reads_two(rt.alloc(), &values, &mask)?);

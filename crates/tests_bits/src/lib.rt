@@ -1,5 +1,6 @@
-//! Tests of bitmaps, buffers, numbers and counted readers, and of what masks keep of bits and of values. The modules `alloc_*` mark
-//! where a call begins and ends, so that `tools/refuse` can refuse each allocation of it.
+//! Tests of bitmaps, buffers, numbers and counted readers, and of filters of bits and of values.
+//! The modules `alloc_*` mark where a call begins and ends, so that `tools/refuse` can make each of
+//! its allocations fail.
 #![tactic(auto)]
 
 #[cfg(test)]

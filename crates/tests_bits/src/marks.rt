@@ -1,5 +1,6 @@
-//! Marks where a call begins and ends, for `tools/refuse`, which refuses allocations between the two only. A mark is an allocation of
-//! a number of bytes that nothing else in a test asks for; `tools/refuse/growths.c` has the same numbers.
+//! Marks where a call begins and ends, for `tools/refuse`, which makes only allocations between the
+//! two fail. A mark is an allocation of a number of bytes that no other code of a test allocates;
+//! `tools/refuse/growths.c` has the same numbers.
 
 use sel_bits::faults::{PolarsError, PolarsResult};
 use std::alloc::Global;
@@ -23,7 +24,7 @@ pub fn begins(alloc: Global) {
     mark(alloc, BEGINS);
 }
 
-/// Marks the beginning of a call that must not allocate: every allocation in it is refused.
+/// Marks the beginning of a call that must not allocate: each of its allocations fails.
 pub fn begins_free(alloc: Global) {
     mark(alloc, BEGINS_FREE);
 }

@@ -1,5 +1,5 @@
-//! Bitmaps that begin inside a byte and have odd lengths, with all bits outside of them set, and with all of them clear, beside
-//! loops over single bits.
+//! Bitmaps with bit offsets inside a byte and odd lengths, with all bits outside of them set and
+//! with all of them clear, compared with loops over single bits.
 
 use crate::fixtures::has_bits;
 use sel_bits::aligned_words::AlignedWords;
@@ -18,7 +18,8 @@ const OFFSETS: [usize; 13] = [0, 1, 2, 3, 4, 5, 6, 7, 8, 9, 63, 64, 65];
 
 const LENGTHS: [usize; 14] = [0, 1, 7, 8, 55, 56, 57, 63, 64, 65, 111, 112, 113, 130];
 
-// The bit at a place of one of several patterns: mixed, seldom true, seldom false, and in long runs.
+// Returns the bit at a position of one of several patterns: mixed, seldom true, seldom false, and
+// in long runs.
 fn bit(kind: u8, i: usize) -> bool {
     match kind {
         0 => i % 3 == 0 || i % 7 == 1,
@@ -28,7 +29,7 @@ fn bit(kind: u8, i: usize) -> bool {
     }
 }
 
-// So many bits of a pattern.
+// Returns `len` bits of a pattern.
 fn bits(alloc: Global, kind: u8, len: usize) -> Result<Vec<bool>, Fail> {
     let mut bits = Vec::new(alloc);
     for i in 0..len {
@@ -37,7 +38,8 @@ fn bits(alloc: Global, kind: u8, len: usize) -> Result<Vec<bool>, Fail> {
     Ok(bits)
 }
 
-// The same as a bitmap that begins at this bit of its bytes, and which bits stand before and behind it.
+// Returns the same bits as a bitmap at this bit offset; `outside` is the value of the bits before
+// and after it.
 fn bitmap(
     alloc: Global,
     kind: u8,
@@ -62,7 +64,7 @@ fn bitmap(
     Ok(all.sliced(offset, len))
 }
 
-// How many of the bits are so.
+// Returns the number of bits with this value.
 fn count(bits: &[bool], value: bool) -> usize {
     let mut count = 0usize;
     for bit in bits {
@@ -73,7 +75,7 @@ fn count(bits: &[bool], value: bool) -> usize {
     count
 }
 
-// How many bits from the front on are so.
+// Returns the number of leading bits with this value.
 fn leading(bits: &[bool], value: bool) -> usize {
     for (i, bit) in bits.iter().enumerate() {
         if *bit != value {
@@ -83,7 +85,7 @@ fn leading(bits: &[bool], value: bool) -> usize {
     bits.len()
 }
 
-// How many bits from the back on are false.
+// Returns the number of trailing false bits.
 fn trailing(bits: &[bool]) -> usize {
     let mut count = 0usize;
     for bit in bits {
@@ -92,7 +94,7 @@ fn trailing(bits: &[bool]) -> usize {
     count
 }
 
-// Whether a bitmap of these bits tells of them what a loop tells.
+// Returns whether the counts and the single bits of a bitmap equal those of a loop.
 fn tells(bitmap: &Bitmap, bits: &[bool]) -> Result<bool, Fail> {
     let mut front = bitmap.try_clone()?;
     let mut ones = bitmap.try_clone()?;
@@ -108,7 +110,7 @@ fn tells(bitmap: &Bitmap, bits: &[bool]) -> Result<bool, Fail> {
     )
 }
 
-// Whether the words of a bitmap, one after another, are its bits.
+// Returns whether the words of a bitmap have its bits.
 fn has_words(bitmap: &Bitmap, bits: &[bool]) -> bool {
     let mut words = AlignedWords::new(bitmap);
     let mut at = 0usize;
@@ -126,7 +128,7 @@ fn has_words(bitmap: &Bitmap, bits: &[bool]) -> bool {
     false
 }
 
-// Whether its blocks are.
+// Returns whether the blocks of a bitmap have its bits.
 fn has_blocks(bitmap: &Bitmap, bits: &[bool]) -> bool {
     let mut blocks = U56Blocks::new(bitmap);
     let mut at = 0usize;
@@ -146,7 +148,7 @@ fn has_blocks(bitmap: &Bitmap, bits: &[bool]) -> bool {
 }
 
 #[test]
-fn bitmaps_tell_of_themselves(rt: HostRuntime) -> Result<(), Fail> {
+fn bitmap_counts_and_readers_at_odd_offsets(rt: HostRuntime) -> Result<(), Fail> {
     let alloc = rt.alloc();
     for kind in 0..4u8 {
         for offset in OFFSETS {
@@ -163,7 +165,7 @@ fn bitmaps_tell_of_themselves(rt: HostRuntime) -> Result<(), Fail> {
     Ok(())
 }
 
-/// An operation of two bitmaps.
+/// An operation on two bitmaps.
 #[derive(Clone, Copy)]
 enum Rule {
     And,
@@ -172,7 +174,7 @@ enum Rule {
     OrNot,
 }
 
-// What an operation makes of two bits.
+// Returns the result of an operation on two bits.
 fn made(rule: Rule, a: bool, b: bool) -> bool {
     match rule {
         Rule::And => a && b,
@@ -182,7 +184,8 @@ fn made(rule: Rule, a: bool, b: bool) -> bool {
     }
 }
 
-// Whether an operation of two bitmaps of one length answers what it makes of their bits.
+// Returns whether an operation on two bitmaps of the same length returns its result for each pair
+// of bits.
 fn joins(alloc: Global, rule: Rule, first: &Bitmap, second: &Bitmap) -> Result<bool, Fail> {
     if first.len() != second.len() {
         return Ok(false);
@@ -200,7 +203,8 @@ fn joins(alloc: Global, rule: Rule, first: &Bitmap, second: &Bitmap) -> Result<b
     Ok(has_bits(&answer, &wanted))
 }
 
-// Whether the opposite of a bitmap, and the choice by it between another one and it, are what they make of single bits.
+// Returns whether the complement of a bitmap, and if-then-else with it as the mask, equal those of
+// single bits.
 fn turns(alloc: Global, first: &Bitmap, second: &Bitmap) -> Result<bool, Fail> {
     if first.len() != second.len() {
         return Ok(false);
@@ -236,7 +240,7 @@ fn operations_at_odd_offsets(rt: HostRuntime) -> Result<(), Fail> {
     Ok(())
 }
 
-// The values' bits where the mask is true.
+// Returns the bits of the values where the mask is true.
 fn kept(alloc: Global, values: &Bitmap, mask: &Bitmap) -> Result<Vec<bool>, Fail> {
     let mut kept = Vec::new(alloc);
     for i in 0..values.len().min(mask.len()) {
@@ -247,7 +251,7 @@ fn kept(alloc: Global, values: &Bitmap, mask: &Bitmap) -> Result<Vec<bool>, Fail
     Ok(kept)
 }
 
-// Whether a filter of bits, and both kernels over readers, keep these bits.
+// Returns whether a filter of bits, and both kernels over readers, select these bits.
 fn filters(alloc: Global, values: &Bitmap, mask: &Bitmap) -> Result<bool, Fail> {
     if values.len() != mask.len() {
         return Ok(false);
@@ -261,7 +265,8 @@ fn filters(alloc: Global, values: &Bitmap, mask: &Bitmap) -> Result<bool, Fail> 
     Ok(has_bits(&by_size, &wanted) && has_bits(&by_blocks, &wanted) && has_bits(&by_bits, &wanted))
 }
 
-// Whether a filter of the numbers of the places, and one run by run, keep the places where the mask is true.
+// Returns whether a filter of the positions as numbers, and one by runs, select the positions where
+// the mask is true.
 fn keeps_places(alloc: Global, mask: &Bitmap) -> Result<bool, Fail> {
     let mut places = Vec::new(alloc);
     let mut wanted = Vec::new(alloc);

@@ -1,4 +1,4 @@
-//! What the readers give out, and how they count it.
+//! The words, blocks and bits that readers return, and how they count them.
 
 ghost use Rattle.std.specs.Prelude.{◌≡◌, length, IfOk};
 
@@ -10,7 +10,7 @@ use sel_bits::faults::PolarsResult;
 use std::alloc::Global;
 use std::test::Fail;
 
-/// The bits of three words: 0xB123456789ABCDEF, 0xFEDDBA987654321D and 0x0F1E2D3C4B5A6978.
+/// Returns the bits of three words: 0xB123456789ABCDEF, 0xFEDDBA987654321D and 0x0F1E2D3C4B5A6978.
 fn three_words(alloc: Global) -> PolarsResult<Bitmap>
     ensures { IfOk result (λ bitmap. length bitmap.bits ≡ 192) }
 {
@@ -21,7 +21,8 @@ fn three_words(alloc: Global) -> PolarsResult<Bitmap>
     Bitmap::from_u8_vec(bytes.to_vec(alloc)?, 192)
 }
 
-/// Whether 113 bits are two blocks of 56 and one with a single bit, and are counted as three.
+/// Returns whether 113 bits are two blocks of 56 bits and one of a single bit, and are counted as
+/// three.
 fn gives_blocks(bitmap: &Bitmap) -> bool {
     let mut blocks = U56Blocks::new(bitmap);
     blocks.len() == 113
@@ -34,13 +35,14 @@ fn gives_blocks(bitmap: &Bitmap) -> bool {
 }
 
 #[test]
-fn blocks_of_a_bitmap(rt: HostRuntime) -> Result<(), Fail> {
+fn blocks_of_56_bits(rt: HostRuntime) -> Result<(), Fail> {
     let bitmap = three_words(rt.alloc())?.sliced(0, 113);
     assert!(rt; gives_blocks(&bitmap));
     Ok(())
 }
 
-/// Whether 130 bits from the fourth one of the shared bytes on are words of 61, 64 and 5 bits.
+/// Returns whether 130 bits, from the fourth bit of the shared bytes on, are words of 61, 64 and 5
+/// bits.
 fn gives_three_words(bitmap: &Bitmap) -> bool {
     let mut words = AlignedWords::new(bitmap);
     words.len() == 130
@@ -51,7 +53,7 @@ fn gives_three_words(bitmap: &Bitmap) -> bool {
         && words.words_read() == 3
 }
 
-/// Whether ten bits from the 61st one on are words of 4 and 6 bits.
+/// Returns whether ten bits from the 61st one on are words of 4 and 6 bits.
 fn gives_two_words(bitmap: &Bitmap) -> bool {
     let mut words = AlignedWords::new(bitmap);
     words.next() == Some((0xB, 4))
@@ -60,14 +62,14 @@ fn gives_two_words(bitmap: &Bitmap) -> bool {
         && words.words_read() == 2
 }
 
-/// Whether no bits are no words.
+/// Returns whether an empty bitmap has no words.
 fn gives_no_words(bitmap: &Bitmap) -> bool {
     let mut words = AlignedWords::new(bitmap);
     words.next() == None && words.words_read() == 0
 }
 
 #[test]
-fn words_of_a_bitmap(rt: HostRuntime) -> Result<(), Fail> {
+fn words_of_sliced_bitmaps(rt: HostRuntime) -> Result<(), Fail> {
     let bitmap = three_words(rt.alloc())?;
     assert!(rt; gives_three_words(&bitmap.try_clone()?.sliced(3, 130)));
     assert!(rt; gives_two_words(&bitmap.try_clone()?.sliced(60, 10)));
@@ -75,7 +77,8 @@ fn words_of_a_bitmap(rt: HostRuntime) -> Result<(), Fail> {
     Ok(())
 }
 
-/// Whether 200 bits, true at the fourth place and at the last, have two words without a true bit between two others.
+/// Returns whether 200 bits, true only at the fourth position and the last, have two zero words
+/// between two others.
 fn skips_two_words(bitmap: &Bitmap) -> bool {
     let mut words = AlignedWords::new(bitmap);
     words.skip_zeros() == 0
@@ -89,7 +92,8 @@ fn skips_two_words(bitmap: &Bitmap) -> bool {
         && words.words_read() == 4
 }
 
-/// Whether the same bits behind the fourth one begin with a word of 60 bits, which is given out although none of them is true.
+/// Returns whether the same bits after the fourth one begin with a word of 60 bits, which is
+/// returned although it is zero.
 fn gives_a_part_of_zeros(bitmap: &Bitmap) -> bool {
     let mut words = AlignedWords::new(bitmap);
     words.skip_zeros() == 0
@@ -100,7 +104,7 @@ fn gives_a_part_of_zeros(bitmap: &Bitmap) -> bool {
 }
 
 #[test]
-fn words_without_a_true_bit(rt: HostRuntime) -> Result<(), Fail> {
+fn zero_words_are_skipped(rt: HostRuntime) -> Result<(), Fail> {
     let mut bits = Vec::new(rt.alloc());
     for i in 0..200 {
         bits.push(i == 3 || i == 199)?;
@@ -114,7 +118,8 @@ fn words_without_a_true_bit(rt: HostRuntime) -> Result<(), Fail> {
     Ok(())
 }
 
-/// Whether the first two of these bits are true and the fifth is not, each is counted, and so is one that is read again.
+/// Returns whether the first two of these bits are true and the fifth is not, and each read is
+/// counted, also of the same bit.
 fn gives_bits(bitmap: &Bitmap) -> bool
     requires { length bitmap.now.bits ≡ 192 }
 {
@@ -129,7 +134,7 @@ fn gives_bits(bitmap: &Bitmap) -> bool
 }
 
 #[test]
-fn bits_of_a_bitmap(rt: HostRuntime) -> Result<(), Fail> {
+fn single_bits_are_counted(rt: HostRuntime) -> Result<(), Fail> {
     let bitmap = three_words(rt.alloc())?;
     assert!(rt; gives_bits(&bitmap));
     Ok(())

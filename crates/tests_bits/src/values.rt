@@ -1,4 +1,4 @@
-//! What masks keep of values.
+//! Filters of values.
 
 use sel_bits::aligned_words::AlignedWords;
 use sel_bits::bitmap::Bitmap;
@@ -9,7 +9,7 @@ use sel_filter::scalar::scalar_filter;
 use std::alloc::Global;
 use std::test::Fail;
 
-/// The numbers below `count`.
+/// Returns the numbers less than `count`.
 fn numbers(alloc: Global, count: u32) -> PolarsResult<Vec<u32>> {
     let mut numbers = Vec::with_capacity(alloc, count as usize)?;
     for i in 0..count {
@@ -18,7 +18,7 @@ fn numbers(alloc: Global, count: u32) -> PolarsResult<Vec<u32>> {
     Ok(numbers)
 }
 
-/// The bits of the bytes.
+/// Returns the bits of the bytes.
 fn bits(alloc: Global, bytes: &[u8]) -> Result<Bitmap, Fail> {
     if bytes.len() > 1000 {
         return Err(Fail::from("too many bytes"));
@@ -26,7 +26,7 @@ fn bits(alloc: Global, bytes: &[u8]) -> Result<Bitmap, Fail> {
     Ok(Bitmap::from_u8_vec(bytes.to_vec(alloc)?, 8 * bytes.len())?)
 }
 
-/// The first `count` bits of the bytes.
+/// Returns the first `count` bits of the bytes.
 fn first_bits(alloc: Global, bytes: &[u8], count: usize) -> Result<Bitmap, Fail> {
     let all = bits(alloc, bytes)?;
     if count > all.len() {
@@ -35,7 +35,7 @@ fn first_bits(alloc: Global, bytes: &[u8], count: usize) -> Result<Bitmap, Fail>
     Ok(all.sliced(0, count))
 }
 
-/// The numbers that the mask keeps of as many as it has bits.
+/// Filters the numbers from 0 on by the mask.
 fn kept(alloc: Global, mask: &Bitmap) -> Result<Vec<u32>, Fail> {
     if mask.len() > 10000 {
         return Err(Fail::from("too many bits"));
@@ -47,14 +47,14 @@ fn kept(alloc: Global, mask: &Bitmap) -> Result<Vec<u32>, Fail> {
     Ok(filter_values(alloc, &values, mask)?)
 }
 
-/// Whether the mask keeps these of the numbers.
+/// Returns whether the mask selects these numbers.
 fn keeps(alloc: Global, mask: &Bitmap, wanted: &[u32]) -> Result<bool, Fail> {
     let kept = kept(alloc, mask)?;
     Ok(kept.as_slice() == wanted)
 }
 
 #[test]
-fn numbers_that_a_mask_keeps(rt: HostRuntime) -> Result<(), Fail> {
+fn filter_numbers_by_mask(rt: HostRuntime) -> Result<(), Fail> {
     let alloc = rt.alloc();
     let odd = bits(alloc, &[0xAA, 0xAA, 0xAA, 0xAA, 0, 0, 0, 0])?;
     let wanted = [1, 3, 5, 7, 9, 11, 13, 15, 17, 19, 21, 23, 25, 27, 29, 31];
@@ -64,7 +64,7 @@ fn numbers_that_a_mask_keeps(rt: HostRuntime) -> Result<(), Fail> {
     Ok(())
 }
 
-/// The numbers 0 to 16 and 64 to 127.
+/// Returns the numbers 0 to 16 and 64 to 127.
 fn in_two_runs(alloc: Global) -> PolarsResult<Vec<u32>> {
     let mut numbers = Vec::new(alloc);
     for i in 0..128 {
@@ -75,7 +75,7 @@ fn in_two_runs(alloc: Global) -> PolarsResult<Vec<u32>> {
     Ok(numbers)
 }
 
-/// Bits that are true at 0 to 16 and 64 to 127.
+/// Returns bits that are true at 0 to 16 and 64 to 127.
 fn two_runs(alloc: Global) -> Result<Bitmap, Fail> {
     let bytes = [
         0xFF, 0xFF, 1, 0, 0, 0, 0, 0, 0xFF, 0xFF, 0xFF, 0xFF, 0xFF, 0xFF, 0xFF, 0xFF,
@@ -83,7 +83,7 @@ fn two_runs(alloc: Global) -> Result<Bitmap, Fail> {
     bits(alloc, &bytes)
 }
 
-/// Whether two runs are kept run by run, read by two words, by at most four copies.
+/// Returns whether two runs are selected run by run, with two words read and at most four copies.
 fn keeps_two_runs(alloc: Global) -> Result<bool, Fail> {
     let mask = two_runs(alloc)?;
     let values = numbers(alloc, 128)?;
@@ -98,7 +98,7 @@ fn keeps_two_runs(alloc: Global) -> Result<bool, Fail> {
 }
 
 #[test]
-fn two_runs_are_kept(rt: HostRuntime) -> Result<(), Fail> {
+fn filter_two_runs_of_numbers(rt: HostRuntime) -> Result<(), Fail> {
     let alloc = rt.alloc();
     let wanted = in_two_runs(alloc)?;
     assert!(rt; keeps(alloc, &two_runs(alloc)?, &wanted)? && wanted.len() == 81);
@@ -107,7 +107,7 @@ fn two_runs_are_kept(rt: HostRuntime) -> Result<(), Fail> {
 }
 
 #[test]
-fn values_are_appended(rt: HostRuntime) -> Result<(), Fail> {
+fn scalar_filter_appends(rt: HostRuntime) -> Result<(), Fail> {
     let mut out = Vec::new(rt.alloc());
     out.push(0)?;
     scalar_filter(&[1, 2, 3], &[0xFF], &mut out)?;
@@ -115,7 +115,7 @@ fn values_are_appended(rt: HostRuntime) -> Result<(), Fail> {
     Ok(())
 }
 
-/// Whether the mask keeps what a plain loop keeps.
+/// Returns whether the filter selects the values that a plain loop selects.
 fn agrees<T: Copy + PartialEq>(alloc: Global, values: &[T], mask: &Bitmap) -> PolarsResult<bool> {
     if values.len() != mask.len() {
         return Ok(false);
@@ -130,7 +130,7 @@ fn agrees<T: Copy + PartialEq>(alloc: Global, values: &[T], mask: &Bitmap) -> Po
     Ok(kept.as_slice() == plain.as_slice())
 }
 
-/// So many bytes of bits, of which about `of_128` in 128 are true.
+/// Returns `count` bits, of which about `of_128` in 128 are true.
 fn scattered(alloc: Global, count: u32, of_128: u32) -> PolarsResult<Bitmap> {
     let mut bits = Vec::new(alloc);
     let mut state: u32 = 1;
@@ -141,7 +141,8 @@ fn scattered(alloc: Global, count: u32, of_128: u32) -> PolarsResult<Bitmap> {
     Bitmap::from_bools(alloc, &bits)
 }
 
-/// Whether 1,000 numbers are kept as by a plain loop, by 1,000 bits of scattered ones from bit `start` on.
+/// Returns whether 1,000 numbers are filtered as by a plain loop, by 1,000 scattered bits from bit
+/// `start` on.
 fn agrees_from(alloc: Global, start: usize, of_128: u32) -> Result<bool, Fail> {
     let all = scattered(alloc, 1063, of_128)?;
     if start > 63 || all.len() != 1063 {
@@ -153,7 +154,7 @@ fn agrees_from(alloc: Global, start: usize, of_128: u32) -> Result<bool, Fail> {
 }
 
 #[test]
-fn scattered_values_are_kept(rt: HostRuntime) -> Result<(), Fail> {
+fn filter_numbers_by_scattered_bits(rt: HostRuntime) -> Result<(), Fail> {
     let alloc = rt.alloc();
     for of_128 in [0, 1, 38, 90, 124, 128] {
         assert!(rt; agrees_from(alloc, 0, of_128)?);

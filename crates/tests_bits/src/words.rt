@@ -1,9 +1,9 @@
-//! The bits of a word that another one keeps, against an extraction bit by bit.
+//! The bits of a word under a mask, compared with an extraction bit by bit.
 
 use sel_bits::moving_word::MovingWord;
 use sel_filter::boolean::{pext64_polyfill, pext64_rounds};
 
-/// The bits of `v` where `m` has a set bit, from the lowest on, each taken by itself.
+/// Extracts the bits of `v` where `m` has a set bit, one by one from the lowest on.
 fn extracted(v: u64, m: u64) -> u64 {
     let mut bits = 0;
     let mut place = 0u32;
@@ -16,7 +16,8 @@ fn extracted(v: u64, m: u64) -> u64 {
     bits
 }
 
-/// What the rounds make of `v` under `m`; None where they take more than six moves or forget the word.
+/// Returns the result of the rounds for `v` under `m`; `None` if they take more than six moves or
+/// change the source.
 fn by_rounds(v: u64, m: u64) -> Option<u64> {
     let mut word = MovingWord::new(v);
     pext64_rounds(&mut word, m);
@@ -28,12 +29,12 @@ fn by_rounds(v: u64, m: u64) -> Option<u64> {
 }
 
 #[test]
-fn one_bit_and_none(rt: HostRuntime) {
+fn moving_word_of_single_bit(rt: HostRuntime) {
     assert!(rt; by_rounds(0x80, 0x80) == Some(1));
     assert!(rt; by_rounds(0x80, 0) == Some(0));
 }
 
-/// Whether a moving word keeps what it is told to, moves what it is told to, and counts the move.
+/// Returns whether a moving word keeps and moves the bits under its masks, and counts the move.
 fn moves_once() -> bool {
     let mut word = MovingWord::new(0b1101_0110);
     word.keep(0b1111_0000);
@@ -43,17 +44,17 @@ fn moves_once() -> bool {
 }
 
 #[test]
-fn a_word_is_moved(rt: HostRuntime) {
+fn moving_word_counts_moves(rt: HostRuntime) {
     assert!(rt; moves_once());
 }
 
-/// Whether both ways give what is extracted bit by bit.
+/// Returns whether both functions return the bits that are extracted one by one.
 fn agrees(v: u64, m: u64) -> bool {
     let bits = extracted(v, m);
     by_rounds(v, m) == Some(bits) && pext64_polyfill(v, m, m.count_ones()) == bits
 }
 
-/// The `count` lowest set bits of a word; all of them where it has fewer.
+/// Returns the `count` lowest set bits of a word; all of them if it has fewer.
 fn lowest_bits(word: u64, count: u32) -> u64 {
     let mut rest = word;
     for _ in 0..count {
@@ -62,8 +63,8 @@ fn lowest_bits(word: u64, count: u32) -> u64 {
     word ^ rest
 }
 
-/// Whether both ways are right for these words: `x` under `y`, under none, under all and under the `count` lowest bits of `y`; none
-/// and all under `y`.
+/// Returns whether both functions are right for these words: `x` under `y`, under no bits, under
+/// all bits and under the `count` lowest bits of `y`; no bits and all bits under `y`.
 fn agrees_for(x: u64, y: u64, count: u32) -> bool {
     agrees(x, y)
         && agrees(x, 0)
@@ -73,14 +74,14 @@ fn agrees_for(x: u64, y: u64, count: u32) -> bool {
         && agrees(u64::MAX, y)
 }
 
-/// The word that follows another one in the sequence.
+/// Returns the word that follows another one in the sequence.
 fn after(x: u64) -> u64 {
     x.wrapping_mul(6364136223846793005)
         .wrapping_add(1442695040888963407)
 }
 
 #[test]
-fn a_hundred_pairs_of_words(rt: HostRuntime) {
+fn pext_equals_extraction_for_100_pairs(rt: HostRuntime) {
     let mut x = 1;
     for n in 0..100u32 {
         let v = after(x);

@@ -1,4 +1,4 @@
-//! Each public call once, against rows worked by hand.
+//! Each public function once, against rows that are worked out by hand.
 
 ghost use Rattle.sel_arrow.specs.Masked.{Covers};
 ghost use Rattle.sel_arrow.specs.Rows.{IsWellFormed};
@@ -49,14 +49,14 @@ fn no_buffers(alloc: Global) -> PolarsResult<Buffer<Buffer<u8>>> {
     Buffer::from_vec(Vec::new(alloc))
 }
 
-/// Why one row of this view, over a buffer of the first thirteen letters, is no column.
+/// Returns the rule that one row of this view, over a buffer of the first thirteen letters, breaks.
 fn fault_of_view(alloc: Global, view: View, valid: bool) -> PolarsResult<Option<MakeError>> {
     let views = buffer(alloc, &[view])?;
     let buffers = one_buffer(alloc, b"abcdefghijklm")?;
     Ok(BinaryViewArray::try_new(views, buffers, validity(alloc, &[valid])?).err())
 }
 
-/// Why one row of this inline view is no column of texts.
+/// Returns the rule that one row of this inline view breaks in a string column.
 fn fault_of_text(alloc: Global, view: View, valid: bool) -> PolarsResult<Option<MakeError>> {
     let views = buffer(alloc, &[view])?;
     Ok(Utf8ViewArray::try_new(views, no_buffers(alloc)?, validity(alloc, &[valid])?).err())
@@ -71,31 +71,31 @@ fn fault_of_nulls(rows: usize) -> Option<MakeError> {
 }
 
 #[test]
-fn columns_of_nulls_have_a_limit(rt: HostRuntime) {
+fn null_column_row_limit(rt: HostRuntime) {
     assert!(rt; fault_of_nulls(4294967295).is_none());
     assert!(rt; fault_of_nulls(4294967296) == malformed(Malformed::TooManyRows));
 }
 
-/// Why two truth values under a validity of one row are no column.
+/// Returns the rule that two booleans with a validity of one row break.
 fn fault_of_truths(alloc: Global) -> PolarsResult<Option<MakeError>> {
     let bits = Bitmap::from_bools(alloc, &[true, false])?;
     Ok(BooleanArray::try_new(bits, validity(alloc, &[true])?).err())
 }
 
-/// Why one number under a validity of no rows is no column.
+/// Returns the rule that one number with a validity of no rows breaks.
 fn fault_of_numbers(alloc: Global) -> PolarsResult<Option<MakeError>> {
     let values = buffer(alloc, &[1i8])?;
     Ok(PrimitiveArray::try_new(values, validity(alloc, &[])?).err())
 }
 
 #[test]
-fn validities_are_as_long_as_the_values(rt: HostRuntime) {
+fn validity_length_mismatch(rt: HostRuntime) {
     let fault = Ok(malformed(Malformed::ValidityLength));
     assert!(rt; fault_of_truths(rt.alloc()) == fault);
     assert!(rt; fault_of_numbers(rt.alloc()) == fault);
 }
 
-/// Why two bytes are no column between offsets up to three.
+/// Returns the rule that two bytes with offsets up to three break.
 fn fault_of_bytes(alloc: Global) -> Result<Option<MakeError>, Fail> {
     let offsets = OffsetsBuffer::try_from(Vec::from_slice(alloc, &[0i32, 3])?)?;
     let bytes = buffer(alloc, b"ab")?;
@@ -103,13 +103,13 @@ fn fault_of_bytes(alloc: Global) -> Result<Option<MakeError>, Fail> {
 }
 
 #[test]
-fn last_offsets_are_within_the_bytes(rt: HostRuntime) -> Result<(), Fail> {
+fn offsets_out_of_range(rt: HostRuntime) -> Result<(), Fail> {
     assert!(rt; fault_of_bytes(rt.alloc())? == malformed(Malformed::OffsetRange));
     Ok(())
 }
 
 #[test]
-fn views_are_in_range_with_their_prefix(rt: HostRuntime) -> Result<(), Fail> {
+fn view_range_and_prefix(rt: HostRuntime) -> Result<(), Fail> {
     let range = malformed(Malformed::ViewRange);
     let prefix = malformed(Malformed::ViewPrefix);
     let far = View {
@@ -140,7 +140,7 @@ fn views_are_in_range_with_their_prefix(rt: HostRuntime) -> Result<(), Fail> {
 }
 
 #[test]
-fn valid_views_of_texts_are_texts(rt: HostRuntime) -> Result<(), Fail> {
+fn string_views_must_be_utf8(rt: HostRuntime) -> Result<(), Fail> {
     let broken = View {
         length: 1,
         prefix: 0xFF,
@@ -159,7 +159,8 @@ fn valid_views_of_texts_are_texts(rt: HostRuntime) -> Result<(), Fail> {
     Ok(())
 }
 
-/// Whether the first row of a column of this view, over a buffer of the text, is the text.
+/// Returns whether the first row of a column of this view, over a buffer of the string, is the
+/// string.
 fn is_named(alloc: Global, view: View, text: &str) -> Result<bool, Fail> {
     let buffers = one_buffer(alloc, text.as_bytes())?;
     let column = Utf8ViewArray::try_new(buffer(alloc, &[view])?, buffers, None)?;
@@ -167,7 +168,7 @@ fn is_named(alloc: Global, view: View, text: &str) -> Result<bool, Fail> {
 }
 
 #[test]
-fn views_name_their_bytes(rt: HostRuntime) -> Result<(), Fail> {
+fn view_from_bytes(rt: HostRuntime) -> Result<(), Fail> {
     let table = [
         ("abcdefgh", 8, 1684234849, 1751606885),
         ("abcdefghijklm", 13, 1684234849, 0),
@@ -194,7 +195,7 @@ fn short_views(alloc: Global) -> Result<BinaryViewArray, Fail> {
     Ok(BinaryViewArray::try_new(views, buffers, validity(alloc, &[true, false])?)?)
 }
 
-/// Whether the rows are four letters and a null.
+/// Returns whether the rows are four letters and a null.
 fn are_letters(alloc: Global, column: &BinaryViewArray) -> PolarsResult<bool> {
     Ok(
         column.len() == 2
@@ -204,15 +205,16 @@ fn are_letters(alloc: Global, column: &BinaryViewArray) -> PolarsResult<bool> {
 }
 
 #[test]
-fn views_hold_up_to_twelve_bytes(rt: HostRuntime) -> Result<(), Fail> {
+fn inline_views(rt: HostRuntime) -> Result<(), Fail> {
     let column = short_views(rt.alloc())?;
     assert!(rt; are_letters(rt.alloc(), &column) == Ok(true));
     Ok(())
 }
 
-/// What the column, its part and its copy tell of themselves, and the copy as a column of any type.
+/// Checks the properties of the column, its slice and its clone, and returns the clone as a column
+/// of any type.
 ///
-/// It takes a column of any kind, so that how the kind is dropped is no part of it.
+/// It is generic, so that the proof does not depend on how the type is dropped.
 fn check_column<A: Array + Drop>(
     rt: &(impl Abort + Alloc<A = Global>),
     column: A,
@@ -228,7 +230,7 @@ fn check_column<A: Array + Drop>(
     Ok(copy.into_ref())
 }
 
-/// The same of the column as one of any type.
+/// Checks the same of the column, and of it as a column of any type.
 fn check_erased<A: Array + Drop>(
     rt: &(impl Abort + Alloc<A = Global>),
     column: A,
@@ -240,7 +242,8 @@ fn check_erased<A: Array + Drop>(
     check_column(rt, erased, dtype, nulls)
 }
 
-/// The same of what lies in it, and that the empty column of the type has the type.
+/// Checks the same of the variant in a column of any type, and that the empty column of the type
+/// has the type.
 fn check_inside(
     rt: &(impl Abort + Alloc<A = Global>),
     column: &Column,
@@ -256,9 +259,9 @@ fn check_inside(
     assert!(rt; copy_has_validity(alloc, column) == Ok(nulls == 1));
 }
 
-// Columns of every kind are dropped by a call: a drop at the end of a body is proved kind by kind.
+// Columns of every type are dropped by a call: an implicit drop is proved type by type.
 
-/// Whether the empty column of the type has no rows and the type of the column.
+/// Returns whether the empty column of the type has no rows and the type of the column.
 fn is_like_empty(alloc: Global, column: &Column, dtype: &ArrowDataType) -> PolarsResult<bool>
     requires { IsWellFormed column.now }
 {
@@ -271,7 +274,7 @@ fn is_like_empty(alloc: Global, column: &Column, dtype: &ArrowDataType) -> Polar
     Ok(is_like)
 }
 
-/// Whether the part behind two of three rows has one.
+/// Returns whether the slice after two of three rows has one row.
 fn has_part(alloc: Global, column: &Column) -> PolarsResult<bool>
     requires { IsWellFormed column.now }
 {
@@ -284,7 +287,7 @@ fn has_part(alloc: Global, column: &Column) -> PolarsResult<bool>
     Ok(len == 1)
 }
 
-/// Whether the type that is read off the column is its type.
+/// Returns whether the type that the column returns is its type.
 fn is_of_own_dtype(alloc: Global, column: &Column) -> PolarsResult<bool>
     requires { IsWellFormed column.now }
 {
@@ -294,7 +297,7 @@ fn is_of_own_dtype(alloc: Global, column: &Column) -> PolarsResult<bool>
     Ok(is_own)
 }
 
-/// Whether a copy of the column has a validity.
+/// Returns whether a clone of the column has a validity.
 fn copy_has_validity(alloc: Global, column: &Column) -> PolarsResult<bool>
     requires { IsWellFormed column.now }
 {
@@ -304,7 +307,7 @@ fn copy_has_validity(alloc: Global, column: &Column) -> PolarsResult<bool>
     Ok(has_validity)
 }
 
-/// Whether the type of such numbers is this type, and is made so.
+/// Returns whether this type, and the type that `T` returns, are the type of such numbers.
 fn is_dtype_of<T: ArrowPrimitive>(dtype: &ArrowDataType) -> bool {
     let made = T::column_dtype();
     let is_dtype = T::is_column_dtype(dtype) && T::is_column_dtype(&made);
@@ -312,7 +315,8 @@ fn is_dtype_of<T: ArrowPrimitive>(dtype: &ArrowDataType) -> bool {
     is_dtype
 }
 
-/// A column of three numbers of each type, and back.
+/// Checks a column of three numbers, its conversion to a column of any type, and the conversion
+/// back.
 fn check_numbers<T: ArrowPrimitive + Debug + PartialEq + Drop>(
     rt: &(impl Abort + Alloc<A = Global>),
     values: &[T; 3],
@@ -325,7 +329,7 @@ fn check_numbers<T: ArrowPrimitive + Debug + PartialEq + Drop>(
     Ok(())
 }
 
-/// The column of one kind that was taken out of one of any type.
+/// Returns the typed array of a successful conversion.
 fn taken<A>(found: Result<A, ArrayRef>) -> Result<A, Fail> {
     match found {
         Ok(column) => Ok(column),
@@ -336,7 +340,7 @@ fn taken<A>(found: Result<A, ArrayRef>) -> Result<A, Fail> {
     }
 }
 
-/// The column of any type that is none of one kind.
+/// Returns the column that a failed conversion returns.
 fn kept<A: Drop>(found: Result<A, ArrayRef>) -> Result<ArrayRef, Fail> {
     match found {
         Ok(column) => {
@@ -347,7 +351,7 @@ fn kept<A: Drop>(found: Result<A, ArrayRef>) -> Result<ArrayRef, Fail> {
     }
 }
 
-/// Whether these numbers lie in the column of any type.
+/// Returns whether the column of any type has these numbers.
 fn are_numbers<T: ArrowPrimitive + PartialEq>(
     alloc: Global,
     erased: ArrayRef,
@@ -358,7 +362,8 @@ fn are_numbers<T: ArrowPrimitive + PartialEq>(
     Ok(keeps_numbers(column, bits, values))
 }
 
-/// Whether the column has these numbers, the second null, and keeps them without a validity and under this one.
+/// Returns whether the column has these numbers, the second one null, and keeps them without a
+/// validity and with this one.
 fn keeps_numbers<T: ArrowPrimitive + PartialEq>(
     column: PrimitiveArray<T>,
     bits: Option<Bitmap>,
@@ -376,7 +381,7 @@ fn keeps_numbers<T: ArrowPrimitive + PartialEq>(
     is_masked && is_whole && holds_behind(&column, values)
 }
 
-/// Whether these are the numbers, the second of them null.
+/// Returns whether the rows are these numbers, with the second one null.
 fn holds_masked<T: ArrowPrimitive + PartialEq>(
     column: &PrimitiveArray<T>,
     values: &[T; 3],
@@ -388,12 +393,12 @@ fn holds_masked<T: ArrowPrimitive + PartialEq>(
         && column.get(2) == Some(values[2])
 }
 
-/// Whether no row is null, nor the second number another.
+/// Returns whether no row is null, and the second row is its number.
 fn holds_all<T: ArrowPrimitive + PartialEq>(column: &PrimitiveArray<T>, values: &[T; 3]) -> bool {
     column.len() == 3 && column.null_count() == 0 && column.get(1) == Some(values[1])
 }
 
-/// Whether the first row is null and the second is its number.
+/// Returns whether the first row is null and the second one is its number.
 fn holds_behind<T: ArrowPrimitive + PartialEq>(
     column: &PrimitiveArray<T>,
     values: &[T; 3],
@@ -402,7 +407,7 @@ fn holds_behind<T: ArrowPrimitive + PartialEq>(
 }
 
 #[test]
-fn columns_hold_signed_numbers(rt: HostRuntime) -> Result<(), Fail> {
+fn signed_integer_columns(rt: HostRuntime) -> Result<(), Fail> {
     check_numbers(&rt, &[-128i8, 0, 127], &ArrowDataType::Int8)?;
     check_numbers(&rt, &[-32768i16, 0, 32767], &ArrowDataType::Int16)?;
     check_numbers(&rt, &[-2147483648i32, 0, 2147483647], &ArrowDataType::Int32)?;
@@ -411,7 +416,7 @@ fn columns_hold_signed_numbers(rt: HostRuntime) -> Result<(), Fail> {
 }
 
 #[test]
-fn columns_hold_unsigned_numbers(rt: HostRuntime) -> Result<(), Fail> {
+fn unsigned_integer_columns(rt: HostRuntime) -> Result<(), Fail> {
     check_numbers(&rt, &[1u8, 0, 255], &ArrowDataType::UInt8)?;
     check_numbers(&rt, &[1u16, 0, 65535], &ArrowDataType::UInt16)?;
     check_numbers(&rt, &[1u32, 0, 4294967295], &ArrowDataType::UInt32)?;
@@ -419,12 +424,13 @@ fn columns_hold_unsigned_numbers(rt: HostRuntime) -> Result<(), Fail> {
     check_numbers(&rt, &[1u128, 0, u128::MAX], &ArrowDataType::UInt128)
 }
 
-/// Whether a call was refused.
-fn is_refused<T: Drop, E: Drop>(answer: Result<T, E>) -> bool {
+/// Returns whether a call returned an error.
+fn is_error<T: Drop, E: Drop>(answer: Result<T, E>) -> bool {
     answer.is_err()
 }
 
-/// One index, made a column of any type and taken out of it.
+/// Returns the parts of a column of one index, after its conversion to a column of any type and
+/// back.
 fn one_index(alloc: Global) -> Result<(Buffer<u32>, Option<Bitmap>), Fail> {
     let indices = IdxArr::try_new(buffer(alloc, &[5u32])?, None)?;
     let ArrayRef { column } = indices.into_ref();
@@ -438,33 +444,33 @@ fn one_index(alloc: Global) -> Result<(Buffer<u32>, Option<Bitmap>), Fail> {
 }
 
 #[test]
-fn numbers_are_a_kind_of_column(rt: HostRuntime) -> Result<(), Fail> {
+fn conversion_to_another_integer_type_fails(rt: HostRuntime) -> Result<(), Fail> {
     let (values, bits) = one_index(rt.alloc())?;
     assert!(rt; values.len() == 1 && bits.is_none());
-    assert!(rt; is_refused(i64::from_column(u32::into_column(values, None))));
+    assert!(rt; is_error(i64::from_column(u32::into_column(values, None))));
     Ok(())
 }
 
-/// How many rows the column of nulls has that lies in one of any type.
+/// Returns the number of rows of the null column in a column of any type.
 fn nulls_again(erased: ArrayRef) -> Result<usize, Fail> {
     let erased = kept(erased.into_boolean())?;
     Ok(taken(erased.into_null())?.len())
 }
 
 #[test]
-fn columns_hold_nulls(rt: HostRuntime) -> Result<(), Fail> {
+fn null_columns(rt: HostRuntime) -> Result<(), Fail> {
     let erased = check_column(&rt, NullArray::try_new(3)?, &ArrowDataType::Null, (3, 2))?;
     assert!(rt; nulls_again(erased)? == 3);
     Ok(())
 }
 
-/// The column of truth values that lies in one of any type.
+/// Returns the boolean column in a column of any type.
 fn truths_again(erased: ArrayRef) -> Result<BooleanArray, Fail> {
     let erased = kept(erased.into_null())?;
     taken(erased.into_boolean())
 }
 
-/// Whether the truth values are these, and without the validity the second is true.
+/// Returns whether the rows are these booleans, and the second one is true without the validity.
 fn are_truths(column: BooleanArray) -> bool {
     if !has_truths(&column, &[Some(true), None, Some(false)]) || column.values().set_bits() != 2 {
         return false;
@@ -474,27 +480,27 @@ fn are_truths(column: BooleanArray) -> bool {
 }
 
 #[test]
-fn columns_hold_truth_values(rt: HostRuntime) -> Result<(), Fail> {
+fn boolean_columns(rt: HostRuntime) -> Result<(), Fail> {
     let column = truths(rt.alloc(), &[true, true, false], &[true, false, true])?;
     let erased = check_erased(&rt, column, &ArrowDataType::Boolean, (1, 1))?;
     assert!(rt; are_truths(truths_again(erased)?));
     Ok(())
 }
 
-/// Rows `ab`, nothing and null.
+/// Returns a column of the rows `ab`, empty and null.
 fn three_pieces<O: Offset>(alloc: Global, offsets: &[O]) -> Result<BinaryArray<O>, Fail> {
     let offsets = OffsetsBuffer::try_from(Vec::from_slice(alloc, offsets)?)?;
     let bytes = buffer(alloc, b"_abcde")?;
     Ok(BinaryArray::try_new(offsets, bytes, validity(alloc, &[true, true, false])?)?)
 }
 
-/// The column of bytes that lies in one of any type.
+/// Returns the binary column in a column of any type.
 fn bytes_again(erased: ArrayRef) -> Result<BinaryArray<i64>, Fail> {
     let erased = kept(erased.into_binview())?;
     taken(erased.into_binary())
 }
 
-/// Whether a part of such a column shares its bytes.
+/// Returns whether a slice of such a column shares its bytes.
 fn shares_bytes(alloc: Global, column: &BinaryArray<i64>) -> PolarsResult<bool> {
     if column.len() != 3 {
         return Ok(false);
@@ -507,14 +513,14 @@ fn shares_bytes(alloc: Global, column: &BinaryArray<i64>) -> PolarsResult<bool> 
 }
 
 #[test]
-fn columns_hold_bytes_between_wide_offsets(rt: HostRuntime) -> Result<(), Fail> {
+fn binary_columns_with_64_bit_offsets(rt: HostRuntime) -> Result<(), Fail> {
     let column = three_pieces(rt.alloc(), &[1i64, 3, 3, 6])?;
     let erased = check_erased(&rt, column, &ArrowDataType::LargeBinary, (1, 1))?;
     assert!(rt; shares_bytes(rt.alloc(), &bytes_again(erased)?)?);
     Ok(())
 }
 
-/// Whether the column has the rows `ab`, nothing and null, and tells so of itself.
+/// Returns whether the column has the rows `ab`, empty and null.
 fn are_pieces(column: &BinaryArray<i32>) -> bool {
     column.len() == 3
         && !column.is_empty()
@@ -524,20 +530,21 @@ fn are_pieces(column: &BinaryArray<i32>) -> bool {
         && has_bytes(column, &[Some(b"ab"), Some(b""), None])
 }
 
-/// Whether no row is null, and the last has the bytes that were beneath the null.
+/// Returns whether no row is null, and the last one has the bytes of the null slot.
 fn are_all_pieces(column: &BinaryArray<i32>) -> bool {
     column.len() == 3 && column.null_count() == 0 && column.get(2) == Some(b"cde".as_slice())
 }
 
 #[test]
-fn columns_hold_bytes_between_narrow_offsets(rt: HostRuntime) -> Result<(), Fail> {
+fn binary_columns_with_32_bit_offsets(rt: HostRuntime) -> Result<(), Fail> {
     let column = three_pieces(rt.alloc(), &[1i32, 3, 3, 6])?;
     assert!(rt; are_pieces(&column));
     assert!(rt; are_all_pieces(&column.with_validity(None)));
     Ok(())
 }
 
-/// A long text, a short one, and a null over a byte that is no text.
+/// Returns a column of views: a long string, a short one, and a null with a byte that is not UTF-8
+/// in its slot.
 fn three_views(alloc: Global) -> Result<BinaryViewArray, Fail> {
     let broken = View {
         length: 1,
@@ -549,18 +556,18 @@ fn three_views(alloc: Global) -> Result<BinaryViewArray, Fail> {
     Ok(BinaryViewArray::try_new(views, buffers, validity(alloc, &[true, true, false])?)?)
 }
 
-/// The column of views that lies in one of any type.
+/// Returns the view column in a column of any type.
 fn views_again(erased: ArrayRef) -> Result<BinaryViewArray, Fail> {
     let erased = kept(erased.into_utf8view())?;
     taken(erased.into_binview())
 }
 
-/// Whether there are three views of texts over one data buffer.
+/// Returns whether there are three views of strings over one data buffer.
 fn are_views(column: &BinaryViewArray) -> bool {
     column.views().len() == 3 && column.data_buffers().len() == 1 && column.is_utf8()
 }
 
-/// Whether no row is null, and the last is the byte that is no text.
+/// Returns whether no row is null, and the last one is the byte that is not UTF-8.
 fn are_all_views(alloc: Global, column: &BinaryViewArray) -> PolarsResult<bool> {
     Ok(
         column.len() == 3
@@ -571,7 +578,7 @@ fn are_all_views(alloc: Global, column: &BinaryViewArray) -> PolarsResult<bool> 
 }
 
 #[test]
-fn columns_hold_views(rt: HostRuntime) -> Result<(), Fail> {
+fn binary_view_columns(rt: HostRuntime) -> Result<(), Fail> {
     let views = three_views(rt.alloc())?;
     let erased = check_erased(&rt, views, &ArrowDataType::BinaryView, (1, 1))?;
     let column = views_again(erased)?;
@@ -580,20 +587,20 @@ fn columns_hold_views(rt: HostRuntime) -> Result<(), Fail> {
     Ok(())
 }
 
-/// The column of texts that lies in one of any type.
+/// Returns the string column in a column of any type.
 fn texts_again(erased: ArrayRef) -> Result<Utf8ViewArray, Fail> {
     let erased = kept(erased.into_binary())?;
     taken(erased.into_utf8view())
 }
 
-/// The views as a column of texts.
+/// Returns the views as a string column.
 fn three_texts(rt: &(impl Abort + Alloc<A = Global>)) -> Result<Utf8ViewArray, Fail> {
     let column = three_views(rt.alloc())?;
     assert!(rt; column.is_utf8());
     Ok(column.to_utf8view_unchecked(rt.alloc())?)
 }
 
-/// Whether the rows behind the first are a short text and a null.
+/// Returns whether the rows after the first are a short string and a null.
 fn has_texts(alloc: Global, texts: &Utf8ViewArray) -> PolarsResult<bool> {
     if texts.len() != 3 {
         return Ok(false);
@@ -604,7 +611,7 @@ fn has_texts(alloc: Global, texts: &Utf8ViewArray) -> PolarsResult<bool> {
     are_so
 }
 
-/// Whether there are a short text and a null.
+/// Returns whether the rows are a short string and a null.
 fn are_a_text_and_a_null(alloc: Global, texts: &Utf8ViewArray) -> PolarsResult<bool> {
     Ok(
         texts.len() == 2
@@ -613,7 +620,8 @@ fn are_a_text_and_a_null(alloc: Global, texts: &Utf8ViewArray) -> PolarsResult<b
     )
 }
 
-/// Whether the bytes of the texts are the same three rows, over the same data buffers.
+/// Returns whether the binary view column of the strings has the same three rows, over the same
+/// data buffers.
 fn has_bytes_of_texts(alloc: Global, texts: &Utf8ViewArray) -> PolarsResult<bool> {
     let bytes = texts.to_binview(alloc)?;
     let are_so = are_bytes_of_texts(alloc, &bytes);
@@ -621,7 +629,8 @@ fn has_bytes_of_texts(alloc: Global, texts: &Utf8ViewArray) -> PolarsResult<bool
     are_so
 }
 
-/// Whether there are the bytes of a long text and of a short one and a null, over one data buffer.
+/// Returns whether the rows are the bytes of a long string, of a short one, and a null, over one
+/// data buffer.
 fn are_bytes_of_texts(alloc: Global, bytes: &BinaryViewArray) -> PolarsResult<bool> {
     Ok(
         bytes.len() == 3
@@ -633,7 +642,7 @@ fn are_bytes_of_texts(alloc: Global, bytes: &BinaryViewArray) -> PolarsResult<bo
 }
 
 #[test]
-fn columns_hold_texts(rt: HostRuntime) -> Result<(), Fail> {
+fn string_columns(rt: HostRuntime) -> Result<(), Fail> {
     let texts = three_texts(&rt)?;
     assert!(rt; texts.views().len() == 3 && texts.data_buffers().len() == 1);
     let erased = check_erased(&rt, texts, &ArrowDataType::Utf8View, (1, 1))?;
@@ -643,7 +652,7 @@ fn columns_hold_texts(rt: HostRuntime) -> Result<(), Fail> {
     Ok(())
 }
 
-/// Whether without a validity each row is valid, in a part and in a copy too.
+/// Returns whether each row is valid without a validity, in a slice and in a clone too.
 fn missing_is_valid() -> PolarsResult<bool> {
     Ok(
         !has_other_length(&None, 2)
@@ -653,7 +662,7 @@ fn missing_is_valid() -> PolarsResult<bool> {
     )
 }
 
-/// Whether the validity of three rows has the second null, in a part too.
+/// Returns whether the second of three rows is null in the validity, and in a slice of it.
 fn has_second_null(bits: &Option<Bitmap>) -> PolarsResult<bool>
     requires { Covers bits.now 3 }
 {
@@ -667,7 +676,7 @@ fn has_second_null(bits: &Option<Bitmap>) -> PolarsResult<bool>
 }
 
 #[test]
-fn a_validity_may_be_missing(rt: HostRuntime) -> Result<(), Fail> {
+fn missing_validity(rt: HostRuntime) -> Result<(), Fail> {
     let bits = validity(rt.alloc(), &[true, false, true])?;
     assert!(rt; has_other_length(&bits, 2) && !has_other_length(&bits, 3));
     assert!(rt; has_second_null(&bits) == Ok(true));
@@ -677,7 +686,7 @@ fn a_validity_may_be_missing(rt: HostRuntime) -> Result<(), Fail> {
 }
 
 #[test]
-fn columns_of_options(rt: HostRuntime) -> Result<(), Fail> {
+fn columns_from_options(rt: HostRuntime) -> Result<(), Fail> {
     let alloc = rt.alloc();
     let rows = [Some(5i16), None, Some(-3)];
     let numbers = PrimitiveArray::from_options(alloc, &rows)?;

@@ -1,4 +1,4 @@
-//! What several files and crates share: columns made of rows, and columns compared with rows.
+//! Shared by several files and crates: columns built from rows, and columns compared with rows.
 
 ghost use Rattle.std.specs.Prelude.{length, IfOk};
 ghost use Rattle.sel_arrow.specs.Masked.{Covers};
@@ -22,24 +22,24 @@ use std::alloc::Global;
 use std::test::Fail;
 use tests_bits::fixtures::buffer;
 
-/// Offsets that rise.
+/// Returns these offsets.
 pub fn offsets(alloc: Global, offsets: &[i64]) -> Result<OffsetsBuffer<i64>, Fail> {
     Ok(OffsetsBuffer::try_from(Vec::from_slice(alloc, offsets)?)?)
 }
 
-/// These bits as a validity.
+/// Returns these bits as a validity.
 pub fn validity(alloc: Global, bits: &[bool]) -> PolarsResult<Option<Bitmap>>
     ensures { IfOk result (λ validity. Covers validity (length bits.now)) }
 {
     Ok(Some(Bitmap::from_bools(alloc, bits)?))
 }
 
-/// A column of so many nulls.
+/// Returns a null column.
 pub fn nulls(rows: usize) -> Result<ArrayRef, Fail> {
     Ok(NullArray::try_new(rows)?.into_ref())
 }
 
-/// A column of these numbers under this validity.
+/// Returns a column of these numbers with this validity.
 pub fn numbers<T: NativeType>(
     alloc: Global,
     values: &[T],
@@ -49,7 +49,7 @@ pub fn numbers<T: NativeType>(
     Ok(PrimitiveArray::try_new(buffer(alloc, values)?, Some(validity))?)
 }
 
-/// Which rows are there.
+/// Returns the validity of the rows.
 pub fn validity_of<T: Copy>(alloc: Global, rows: &[Option<T>]) -> PolarsResult<Bitmap> {
     let mut bits = Vec::new(alloc);
     for row in rows {
@@ -58,7 +58,7 @@ pub fn validity_of<T: Copy>(alloc: Global, rows: &[Option<T>]) -> PolarsResult<B
     Bitmap::from_bools(alloc, &bits)
 }
 
-/// The rows, with this number in the place of none.
+/// Returns the values of the rows, with this number in null slots.
 fn values_of<T: NativeType>(
     alloc: Global,
     rows: &[Option<T>],
@@ -71,13 +71,13 @@ fn values_of<T: NativeType>(
     Buffer::from_vec(values)
 }
 
-/// One data buffer of these bytes.
+/// Returns one data buffer of these bytes.
 pub fn one_buffer(alloc: Global, bytes: &[u8]) -> PolarsResult<Buffer<Buffer<u8>>> {
     let buffers = vec![in alloc; buffer(alloc, bytes)?]?;
     Buffer::from_vec(buffers)
 }
 
-/// A column of numbers; none is null over the hidden number.
+/// Returns a column of numbers, with the given number in null slots.
 pub fn column<T: NativeType>(
     alloc: Global,
     rows: &[Option<T>],
@@ -87,13 +87,13 @@ pub fn column<T: NativeType>(
     Ok(PrimitiveArray::try_new(values_of(alloc, rows, hidden)?, Some(validity))?)
 }
 
-/// A column of truth values with a validity.
+/// Returns a boolean column with a validity.
 pub fn truths(alloc: Global, values: &[bool], validity: &[bool]) -> Result<BooleanArray, Fail> {
     let values = Bitmap::from_bools(alloc, values)?;
     Ok(BooleanArray::try_new(values, Some(Bitmap::from_bools(alloc, validity)?))?)
 }
 
-/// Whether the column is these truth values; none is null.
+/// Returns whether the boolean column has these rows.
 pub fn has_truths(column: &BooleanArray, rows: &[Option<bool>]) -> bool {
     if column.len() != rows.len() {
         return false;
@@ -106,7 +106,7 @@ pub fn has_truths(column: &BooleanArray, rows: &[Option<bool>]) -> bool {
     true
 }
 
-/// Whether the column is these numbers; none is null.
+/// Returns whether the column has these numbers as rows.
 pub fn has_numbers<T: ArrowPrimitive + PartialEq>(
     column: &PrimitiveArray<T>,
     rows: &[Option<T>],
@@ -122,7 +122,7 @@ pub fn has_numbers<T: ArrowPrimitive + PartialEq>(
     true
 }
 
-/// The number at a place of a column of them, where there is one.
+/// Returns the row at a position of an integer column, if there is one.
 pub fn number_at(column: &Column, at: usize) -> Option<Option<i64>> {
     let Column::Int64(array) = column else {
         return None;
@@ -133,7 +133,7 @@ pub fn number_at(column: &Column, at: usize) -> Option<Option<i64>> {
     Some(array.get(at))
 }
 
-/// The truth value at a place of a column of them, where there is one.
+/// Returns the row at a position of a boolean column, if there is one.
 pub fn truth_at(column: &Column, at: usize) -> Option<Option<bool>> {
     let Column::Boolean(array) = column else {
         return None;
@@ -144,7 +144,7 @@ pub fn truth_at(column: &Column, at: usize) -> Option<Option<bool>> {
     Some(array.get(at))
 }
 
-/// Whether the entries between the places are these numbers.
+/// Returns whether the rows between two positions are these numbers.
 pub fn are_numbers(column: &Column, start: usize, end: usize, rows: &[Option<i64>]) -> bool {
     if start > end || end - start != rows.len() {
         return false;
@@ -157,7 +157,7 @@ pub fn are_numbers(column: &Column, start: usize, end: usize, rows: &[Option<i64
     true
 }
 
-/// Whether the column is these bytes, row by row; none is null.
+/// Returns whether the binary column has these rows.
 pub fn has_bytes<O: Offset>(column: &BinaryArray<O>, rows: &[Option<&[u8]>]) -> bool {
     if column.len() != rows.len() {
         return false;
@@ -170,7 +170,7 @@ pub fn has_bytes<O: Offset>(column: &BinaryArray<O>, rows: &[Option<&[u8]>]) -> 
     true
 }
 
-/// Whether the row at the place is these bytes.
+/// Returns whether the row at a position has these bytes.
 pub fn has_bytes_at(
     alloc: Global,
     column: &BinaryViewArray,
@@ -186,7 +186,7 @@ pub fn has_bytes_at(
     })
 }
 
-/// Whether the row at the place is this text.
+/// Returns whether the row at a position is this string.
 pub fn has_text(
     alloc: Global,
     column: &Utf8ViewArray,
@@ -202,7 +202,7 @@ pub fn has_text(
     })
 }
 
-/// Whether a column tells of itself that it has three rows, how many of them are null, and its type.
+/// Returns whether a column has three rows, `nulls` of them null, and this type.
 pub fn tells<A: Array>(column: &A, dtype: &ArrowDataType, nulls: usize) -> bool {
     column.len() == 3
         && !column.is_empty()
@@ -212,7 +212,7 @@ pub fn tells<A: Array>(column: &A, dtype: &ArrowDataType, nulls: usize) -> bool 
         && column.has_dtype(dtype)
 }
 
-/// Whether the type that is read off a column is its type.
+/// Returns whether the type that a column returns is its type.
 pub fn has_own_dtype<A: Array>(alloc: Global, column: &A) -> PolarsResult<bool> {
     let dtype = column.dtype(alloc)?;
     let is_own = column.has_dtype(&dtype);
@@ -220,7 +220,7 @@ pub fn has_own_dtype<A: Array>(alloc: Global, column: &A) -> PolarsResult<bool> 
     Ok(is_own)
 }
 
-/// Whether so many of the two rows behind the first are null.
+/// Returns whether `nulls` of the two rows after the first are null.
 pub fn part_tells<A: Array + Drop>(alloc: Global, column: &A, nulls: usize) -> PolarsResult<bool> {
     if column.len() != 3 {
         return Ok(false);
@@ -229,7 +229,7 @@ pub fn part_tells<A: Array + Drop>(alloc: Global, column: &A, nulls: usize) -> P
     Ok(part.len() == 2 && part.null_count() == nulls)
 }
 
-/// Whether a copy tells the same.
+/// Returns whether a clone of the column has the same properties.
 pub fn copy_tells<A: Array + Drop>(
     alloc: Global,
     column: &A,

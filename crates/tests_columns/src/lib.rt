@@ -1,4 +1,4 @@
-//! The worked rows of columns without children, and each of their public calls once, as tests.
+//! Tests of columns without children: worked examples, and each public function once.
 #![tactic(auto)]
 
 #[cfg(test)]

@@ -1,4 +1,5 @@
-//! The pieces of the kernels: copies of items, runs, validities, data buffers, the bytes and texts of views, and choices by words.
+//! The parts of the kernels with failing allocations: copies of items, runs, validities, data
+//! buffers, the rows of views, and if-then-else by words.
 
 use polars_compute::if_then_else::if_then_else_validity;
 use polars_compute::if_then_else::scalar::if_then_else_words;
@@ -21,10 +22,10 @@ use tests_bits::fixtures::{buffer, has_bits};
 use tests_bits::marks::{begins, ends_by};
 use tests_columns::fixtures::one_buffer;
 
-// The bytes of the only row of a column of views.
+// The bytes of the only row of a view column.
 const LETTERS: &str = "hhhhhhhhhhhhhh";
 
-/// Whether a call answered that it is done, or want of memory.
+/// Returns whether a call succeeded, or is out of memory.
 fn is_done(answer: &PolarsResult<()>) -> bool {
     match answer {
         Ok(()) => true,
@@ -32,7 +33,8 @@ fn is_done(answer: &PolarsResult<()>) -> bool {
     }
 }
 
-/// Whether room is made, a part copied and a value filled in, each of which changes nothing where memory was wanting.
+/// Returns whether capacity is reserved and a value filled in; a call that is out of memory changes
+/// nothing.
 fn copies_items(alloc: Global) -> bool {
     let source = [1u8, 2, 3];
     let mut out = BlockCopy::new(alloc, source.as_slice());
@@ -47,7 +49,7 @@ fn copies_items(alloc: Global) -> bool {
     is_done(&reserved) && is_done(&filled) && items.as_slice() == &[9u8; 40][..len]
 }
 
-/// The same of a part.
+/// Returns whether a part is copied; a call that is out of memory changes nothing.
 fn copies_part(alloc: Global) -> bool {
     let source = [1u8, 2, 3];
     let mut out = BlockCopy::new(alloc, source.as_slice());
@@ -60,12 +62,12 @@ fn copies_part(alloc: Global) -> bool {
 }
 
 #[test]
-fn items_copied(rt: HostRuntime) {
+fn block_copy_copies_and_fills(rt: HostRuntime) {
     assert!(rt; copies_items(rt.alloc()));
     assert!(rt; copies_part(rt.alloc()));
 }
 
-/// Whether the runs are two rows of source 0 from row 1 on, and a null.
+/// Returns whether the runs are two rows of source 0 from row 1 on, and a null.
 fn are_runs(answer: PolarsResult<Vec<Run>>) -> bool {
     match answer {
         Ok(runs) => {
@@ -81,7 +83,7 @@ fn are_runs(answer: PolarsResult<Vec<Run>>) -> bool {
 }
 
 #[test]
-fn runs_of_picked_rows(rt: HostRuntime) {
+fn runs_of_row_references(rt: HostRuntime) {
     let alloc = rt.alloc();
     begins(alloc);
     let answer = runs_of_picks(alloc, &[Some((0, 1)), Some((0, 2)), None]);
@@ -89,7 +91,7 @@ fn runs_of_picked_rows(rt: HostRuntime) {
     assert!(rt; are_runs(answer));
 }
 
-/// Whether a run is put behind none, or want of memory was told and there is still none.
+/// Returns whether a run is appended to none, or there is still none if the call is out of memory.
 fn pushes_run(alloc: Global) -> bool {
     let mut runs = Vec::new(alloc);
     begins(alloc);
@@ -100,11 +102,11 @@ fn pushes_run(alloc: Global) -> bool {
 }
 
 #[test]
-fn run_behind_others(rt: HostRuntime) {
+fn run_is_appended(rt: HostRuntime) {
     assert!(rt; pushes_run(rt.alloc()));
 }
 
-/// Two true bits, and behind them the last two of three, as a validity.
+/// Returns the validity of two true bits, followed by the last two of three.
 fn joins_validities(alloc: Global, bits: &Bitmap) -> PolarsResult<Option<Bitmap>> {
     let mut packer = BitPacker::with_capacity(alloc, 0)?;
     if bits.len() != 3 {
@@ -115,7 +117,7 @@ fn joins_validities(alloc: Global, bits: &Bitmap) -> PolarsResult<Option<Bitmap>
     validity_from(packer, 4)
 }
 
-/// Whether a call answered these bits as a validity, or want of memory.
+/// Returns whether a call returned these bits as a validity, or is out of memory.
 fn is_validity(answer: PolarsResult<Option<Bitmap>>, bits: &[bool]) -> bool {
     match answer {
         Ok(Some(validity)) => has_bits(&validity, bits),
@@ -125,7 +127,7 @@ fn is_validity(answer: PolarsResult<Option<Bitmap>>, bits: &[bool]) -> bool {
 }
 
 #[test]
-fn validities_joined(rt: HostRuntime) -> Result<(), Fail> {
+fn validities_are_concatenated(rt: HostRuntime) -> Result<(), Fail> {
     let alloc = rt.alloc();
     let bits = Bitmap::from_bools(alloc, &[true, false, true])?;
     begins(alloc);
@@ -136,7 +138,8 @@ fn validities_joined(rt: HostRuntime) -> Result<(), Fail> {
     Ok(())
 }
 
-/// Whether data buffers are those behind the first one, or a beginning of them.
+/// Returns whether the data buffers are the first one and those appended to it, or a prefix of
+/// these.
 fn are_joined(joined: &[Buffer<u8>], is_whole: bool) -> bool {
     match joined {
         [first] => !is_whole && first.as_slice() == [1].as_slice(),
@@ -148,7 +151,7 @@ fn are_joined(joined: &[Buffer<u8>], is_whole: bool) -> bool {
 }
 
 #[test]
-fn data_buffers_joined(rt: HostRuntime) -> Result<(), Fail> {
+fn data_buffers_are_concatenated(rt: HostRuntime) -> Result<(), Fail> {
     let alloc = rt.alloc();
     let mut joined = Vec::with_capacity(alloc, 1)?;
     joined.push(buffer(alloc, &[1u8])?)?;
@@ -162,7 +165,7 @@ fn data_buffers_joined(rt: HostRuntime) -> Result<(), Fail> {
     Ok(())
 }
 
-/// Whether the bytes of a row are 14 letters, or want of memory was told.
+/// Returns whether the bytes of a row are 14 letters, or the call is out of memory.
 fn are_letters(answer: PolarsResult<Option<Vec<u8>>>) -> bool {
     match answer {
         Ok(Some(bytes)) => bytes.as_slice() == LETTERS.as_bytes(),
@@ -171,7 +174,7 @@ fn are_letters(answer: PolarsResult<Option<Vec<u8>>>) -> bool {
     }
 }
 
-/// The same of a text.
+/// Returns whether the string of a row is 14 letters, or the call is out of memory.
 fn is_text(answer: PolarsResult<Option<String>>) -> bool {
     match answer {
         Ok(Some(text)) => text.as_str() == LETTERS,
@@ -216,7 +219,7 @@ fn row_of_binary_and_string_views(rt: HostRuntime) -> Result<(), Fail> {
 }
 
 #[test]
-fn validity_of_a_choice(rt: HostRuntime) -> Result<(), Fail> {
+fn validity_of_if_then_else(rt: HostRuntime) -> Result<(), Fail> {
     let alloc = rt.alloc();
     let mask = Bitmap::from_bools(alloc, &[true, false])?;
     let bits = Bitmap::from_bools(alloc, &[false, false])?;
@@ -231,7 +234,7 @@ fn validity_of_a_choice(rt: HostRuntime) -> Result<(), Fail> {
     Ok(())
 }
 
-/// Whether a call answered these numbers, or want of memory.
+/// Returns whether a call returned these numbers, or is out of memory.
 fn are_numbers(answer: PolarsResult<Vec<u64>>, numbers: &[u64]) -> bool {
     match answer {
         Ok(chosen) => chosen.as_slice() == numbers,
@@ -240,7 +243,7 @@ fn are_numbers(answer: PolarsResult<Vec<u64>>, numbers: &[u64]) -> bool {
 }
 
 #[test]
-fn values_of_a_choice(rt: HostRuntime) -> Result<(), Fail> {
+fn values_of_if_then_else(rt: HostRuntime) -> Result<(), Fail> {
     let alloc = rt.alloc();
     let mask = Bitmap::from_bools(alloc, &[true, false, true])?;
     if mask.len() != 3 {

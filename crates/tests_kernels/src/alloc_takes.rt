@@ -1,4 +1,5 @@
-//! Takes of bits, of blocks, and of binary columns by other index and offset types, with each allocation refused.
+//! Takes of bits, of blocks, and of binary columns by other index and offset types, with failing
+//! allocations.
 
 use polars_compute::gather::bitmap::{take_bitmap_nulls_unchecked, take_bitmap_unchecked};
 use polars_compute::gather::{
@@ -33,7 +34,7 @@ fn are_bits(found: PolarsResult<Bitmap>, bits: &[bool]) -> bool {
     }
 }
 
-/// Whether a call answered these bytes, or want of memory.
+/// Returns whether a call returned these bytes, or is out of memory.
 fn are_bytes<O: Offset + Drop>(
     answer: PolarsResult<BinaryArray<O>>,
     rows: &[Option<&[u8]>],
@@ -48,7 +49,7 @@ fn are_bytes<O: Offset + Drop>(
     }
 }
 
-/// These numbers, of which each type has all.
+/// Converts numbers that every type can represent.
 fn of_type<T: NativeType>(alloc: Global, numbers: &[usize]) -> PolarsResult<Vec<T>> {
     let mut found = Vec::with_capacity(alloc, numbers.len())?;
     for number in numbers {
@@ -59,14 +60,14 @@ fn of_type<T: NativeType>(alloc: Global, numbers: &[usize]) -> PolarsResult<Vec<
     Ok(found)
 }
 
-/// The rows of two bytes, a null over one byte, and one byte.
+/// Returns the rows of two bytes, a null with one byte in its slot, and one byte.
 fn three_rows<O: Offset>(alloc: Global) -> Result<BinaryArray<O>, Fail> {
     let offsets = OffsetsBuffer::try_from(of_type(alloc, &[0, 2, 3, 4])?)?;
     let bytes = buffer(alloc, &[2u8, 2, 0, 1])?;
     Ok(BinaryArray::try_new(offsets, bytes, validity(alloc, &[true, false, true])?)?)
 }
 
-/// The places 2, none, 0 and 1.
+/// Returns the indices 2, null, 0 and 1.
 fn four_places<I: Index>(alloc: Global) -> Result<PrimitiveArray<I>, Fail> {
     let places = Buffer::from_vec(of_type(alloc, &[2, 0, 0, 1])?)?;
     Ok(PrimitiveArray::try_new(places, validity(alloc, &[true, false, true, true])?)?)
@@ -89,7 +90,7 @@ fn takes_bytes<O: Offset + Drop, I: Index + Drop>(
     Ok(are_taken && has_bytes(values, &[Some(&[2, 2]), None, Some(&[1])]))
 }
 
-// By signed and by unsigned indices.
+// Takes rows by signed and by unsigned indices.
 fn takes_by_both<O: Offset + Drop>(alloc: Global, values: &BinaryArray<O>) -> Result<bool, Fail> {
     Ok(takes_bytes::<O, i8>(alloc, values)? && takes_bytes::<O, u64>(alloc, values)?)
 }
@@ -134,10 +135,11 @@ fn take_of_bits(rt: HostRuntime) -> Result<(), Fail> {
     Ok(())
 }
 
-/// What the take of blocks below gives.
+/// The result of the take of blocks below.
 const ITEMS: [i64; 6] = [4, 5, 6, 0, 0, 0];
 
-/// Whether blocks of a source are copied, or a beginning of them where memory was wanting.
+/// Returns whether the blocks of a source are copied, or a prefix of them if the call is out of
+/// memory.
 fn takes_blocks(alloc: Global) -> Result<bool, Fail> {
     let source = [1i64, 2, 3, 4, 5, 6];
     let places = column(alloc, &[Some(1u32), None], 9)?;
@@ -157,7 +159,7 @@ fn takes_blocks(alloc: Global) -> Result<bool, Fail> {
     })
 }
 
-/// Whether these are fewer items, as those above begin.
+/// Returns whether these are fewer items, and a prefix of those above.
 fn begins_items(items: &[i64]) -> bool {
     items.len() < ITEMS.len() && items == &ITEMS[..items.len()]
 }

@@ -1,4 +1,4 @@
-//! The calls on words, views, runs and validities that must not allocate, with every allocation refused.
+//! Functions on words, views, runs and validities that must not allocate: each allocation fails.
 
 use polars_compute::if_then_else::scalar::{
     if_then_else_broadcast_both_scalar_64, if_then_else_broadcast_both_scalar_rest,
@@ -20,7 +20,7 @@ use std::test::Fail;
 use tests_bits::fixtures::has_bits;
 use tests_bits::marks::{begins_free, ends_answered};
 
-/// Whether values are chosen by a few bits of a word.
+/// Returns whether if-then-else by a few bits of a word has the right values.
 fn chooses_few(alloc: Global) -> bool {
     let (mut both, mut one, mut none) = ([0u8; 3], [0u8; 3], [0u8; 3]);
     begins_free(alloc);
@@ -31,7 +31,7 @@ fn chooses_few(alloc: Global) -> bool {
     both == [1, 5, 3] && one == [1, 9, 3] && none == [8, 7, 7]
 }
 
-/// Whether values are chosen by all bits of a word.
+/// Returns whether if-then-else by all bits of a word has the right values.
 fn chooses_many(alloc: Global) -> bool {
     let (mut both, mut one, mut none) = ([0u8; 64], [0u8; 64], [0u8; 64]);
     begins_free(alloc);
@@ -42,7 +42,7 @@ fn chooses_many(alloc: Global) -> bool {
     both == [1; 64] && one == [4; 64] && none == [5; 64]
 }
 
-/// Whether runs of one row and of nulls are made, and a view is raised.
+/// Returns whether runs of one row and of nulls, and a view with a raised buffer index, are right.
 fn makes_runs(alloc: Global) -> bool {
     let far = View::new_from_bytes(b"abcdefghijklm", 2, 5);
     begins_free(alloc);
@@ -55,11 +55,11 @@ fn makes_runs(alloc: Global) -> bool {
 }
 
 #[test]
-fn no_memory_for_one_run(rt: HostRuntime) {
+fn single_runs_do_not_allocate(rt: HostRuntime) {
     assert!(rt; makes_runs(rt.alloc()));
 }
 
-/// Whether views are chosen by the bits of a word.
+/// Returns whether if-then-else of views by the bits of a word has the right views.
 fn chooses_views(alloc: Global) -> bool {
     let far = View::new_from_bytes(b"abcdefghijklm", 0, 0);
     let raised = View::new_from_bytes(b"abcdefghijklm", 1, 0);
@@ -77,7 +77,7 @@ fn chooses_views(alloc: Global) -> bool {
 }
 
 #[test]
-fn no_memory_for_choices_by_a_word(rt: HostRuntime) {
+fn if_then_else_by_a_word_does_not_allocate(rt: HostRuntime) {
     assert!(rt; chooses_few(rt.alloc()));
     assert!(rt; chooses_many(rt.alloc()));
     assert!(rt; chooses_views(rt.alloc()));
@@ -85,7 +85,7 @@ fn no_memory_for_choices_by_a_word(rt: HostRuntime) {
 
 const BITS: [bool; 5] = [true, false, true, true, false];
 
-/// Whether a call answered these bits as a validity.
+/// Returns whether a call returned these bits as a validity.
 fn is_validity(answer: PolarsResult<Option<Bitmap>>, bits: &[bool]) -> bool {
     match answer {
         Ok(Some(validity)) => has_bits(&validity, bits),
@@ -107,7 +107,7 @@ fn parts_validity(alloc: Global, validity: &Option<Bitmap>) -> bool {
 }
 
 #[test]
-fn no_memory_for_parts_of_validities(rt: HostRuntime) -> Result<(), Fail> {
+fn validity_slices_do_not_allocate(rt: HostRuntime) -> Result<(), Fail> {
     let validity = Some(Bitmap::from_bools(rt.alloc(), &BITS)?);
     assert!(rt; parts_validity(rt.alloc(), &validity));
     Ok(())

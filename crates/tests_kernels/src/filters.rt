@@ -8,7 +8,7 @@ use std::alloc::Global;
 use std::test::Fail;
 use tests_bits::fixtures::has_bits;
 
-// 112 bits at bit offset 3, true at even places.
+// Returns 112 bits at bit offset 3, true at even positions.
 fn even_bits(alloc: Global) -> Result<Bitmap, Fail> {
     let mut values = Vec::new(alloc);
     for _ in 0..3 {
@@ -24,7 +24,7 @@ fn even_bits(alloc: Global) -> Result<Bitmap, Fail> {
     Ok(all.sliced(3, 112))
 }
 
-// 112 bits, true at 0, 1, 2 and from 56 on.
+// Returns 112 bits, true at 0, 1, 2 and from 56 on.
 fn late_bits(alloc: Global) -> PolarsResult<Bitmap> {
     let mut mask = Vec::new(alloc);
     for i in 0..112 {
@@ -33,7 +33,7 @@ fn late_bits(alloc: Global) -> PolarsResult<Bitmap> {
     Bitmap::from_bools(alloc, &mask)
 }
 
-// The same under a validity, which is the mask.
+// Returns whether the bits are selected with a validity, which is the mask.
 fn keeps_validity(alloc: Global, values: &Bitmap, mask: &Bitmap) -> PolarsResult<bool> {
     if (values.len(), mask.len()) != (112, 112) {
         return Ok(false);
@@ -52,7 +52,8 @@ fn keeps_validity(alloc: Global, values: &Bitmap, mask: &Bitmap) -> PolarsResult
     )
 }
 
-// Whether the bits are those at even places, of which the mask keeps the first three and all from place 56 on.
+// Returns whether the bits are those at even positions of which the mask selects the first three
+// and all from position 56 on.
 fn are_kept_evens(bits: &Bitmap) -> bool {
     for k in 0..bits.len() {
         let place = if k < 3 { k } else { k - 3 };
@@ -63,7 +64,8 @@ fn are_kept_evens(bits: &Bitmap) -> bool {
     bits.len() == 59
 }
 
-// Whether of the values that are kept under a validity of 65 bits, true at 2 and 64 alone, those two are valid.
+// Returns whether, with a validity of 65 bits that is true only at 2 and 64, these two of the
+// selected values are valid.
 fn keeps_few_valid(alloc: Global, values: &[u64], mask: &Bitmap) -> PolarsResult<bool> {
     let mut valid = [false; 65];
     valid[2] = true;
@@ -83,14 +85,14 @@ fn keeps_few_valid(alloc: Global, values: &[u64], mask: &Bitmap) -> PolarsResult
 }
 
 #[test]
-fn kept_bits_with_their_validity(rt: HostRuntime) -> Result<(), Fail> {
+fn filter_bits_with_validity(rt: HostRuntime) -> Result<(), Fail> {
     let values = even_bits(rt.alloc())?;
     let mask = late_bits(rt.alloc())?;
     assert!(rt; keeps_validity(rt.alloc(), &values, &mask) == Ok(true));
     Ok(())
 }
 
-/// The numbers from 0 to 64.
+/// Returns the numbers from 0 to 64.
 fn many_values(alloc: Global) -> PolarsResult<Vec<u64>> {
     let mut values = Vec::new(alloc);
     for i in 0..65u64 {
@@ -99,7 +101,7 @@ fn many_values(alloc: Global) -> PolarsResult<Vec<u64>> {
     Ok(values)
 }
 
-// 65 bits, true at 0, 2, 5 and 64.
+// Returns 65 bits, true at 0, 2, 5 and 64.
 fn few_bits(alloc: Global) -> PolarsResult<Bitmap> {
     let mut mask = [false; 65];
     mask[0] = true;
@@ -109,7 +111,7 @@ fn few_bits(alloc: Global) -> PolarsResult<Bitmap> {
     Bitmap::from_bools(alloc, &mask)
 }
 
-// Whether these four values are kept, by themselves and beside a validity that is missing.
+// Returns whether these four values are selected, also without a validity.
 fn keeps_few(alloc: Global, values: &[u64], mask: &Bitmap) -> PolarsResult<bool> {
     if values.len() != mask.len() {
         return Ok(false);
@@ -119,7 +121,7 @@ fn keeps_few(alloc: Global, values: &[u64], mask: &Bitmap) -> PolarsResult<bool>
 }
 
 #[test]
-fn kept_values(rt: HostRuntime) -> Result<(), Fail> {
+fn filter_values_with_validity(rt: HostRuntime) -> Result<(), Fail> {
     let values = many_values(rt.alloc())?;
     let mask = few_bits(rt.alloc())?;
     assert!(rt; keeps_few(rt.alloc(), &values, &mask) == Ok(true));

@@ -1,4 +1,4 @@
-//! What several files share: masks, and columns as long as they are.
+//! Shared by several files: masks, and columns as long as they are.
 
 ghost use Rattle.std.specs.Prelude.{◌≡◌, ◌==◌, length};
 
@@ -7,12 +7,13 @@ use sel_bits::bitmap::Bitmap;
 use std::alloc::Global;
 use std::test::Fail;
 
-/// The bits that places have in a long mask.
+/// Returns the bit at a position of a long mask.
 pub fn long_bit(i: usize) -> bool {
     i % 3 == 0 || i % 7 == 1
 }
 
-/// A mask of 135 rows whose first bit is the fourth of its bytes: 61 bits, a word of 64 and 10 more. Row `i` has the bit of place `i + 3`.
+/// Returns a mask of 135 rows whose first bit is the fourth of its bytes: 61 bits, a word of 64 and
+/// 10 more. Row `i` has the bit of position `i + 3`.
 pub fn long_mask(alloc: Global) -> Result<Bitmap, Fail> {
     let mut bits = Vec::new(alloc);
     for i in 0..138 {
@@ -25,7 +26,7 @@ pub fn long_mask(alloc: Global) -> Result<Bitmap, Fail> {
     Ok(bitmap.sliced(3, 135))
 }
 
-/// Whether the column is as long as the mask.
+/// Returns whether the column is as long as the mask.
 pub fn is_as_long<A: Array>(column: &A, mask: &Bitmap) -> bool
     ensures { result ≡ (length (A.rows column.now) == length mask.now.bits) }
 {

@@ -20,7 +20,7 @@ fn is_named(alloc: Global, dtype: ArrowDataType, name: &str) -> Result<bool, Fai
 }
 
 #[test]
-fn types_have_names(rt: HostRuntime) -> Result<(), Fail> {
+fn types_print(rt: HostRuntime) -> Result<(), Fail> {
     let alloc = rt.alloc();
     assert!(rt; is_named(alloc, ArrowDataType::Null, "null")?);
     assert!(rt; is_named(alloc, ArrowDataType::Boolean, "bool")?);
@@ -34,7 +34,7 @@ fn types_have_names(rt: HostRuntime) -> Result<(), Fail> {
 }
 
 #[test]
-fn parsed_types_print_as_they_are_written(rt: HostRuntime) -> Result<(), Fail> {
+fn parsed_types_print_without_spaces(rt: HostRuntime) -> Result<(), Fail> {
     let alloc = rt.alloc();
     for (text, name) in [
         ("null", "null"),
@@ -102,7 +102,7 @@ fn one_row_prints(rt: HostRuntime) -> Result<(), Fail> {
 }
 
 #[test]
-fn bytes_of_an_inline_view_are_its_own(rt: HostRuntime) -> Result<(), Fail> {
+fn bytes_of_inline_view(rt: HostRuntime) -> Result<(), Fail> {
     let view = View::new_from_bytes(b"hello", 0, 0);
     let space = view.inline_space();
     assert!(rt; bytes_at(&[], view, &space) == b"hello".as_slice());

@@ -1,4 +1,5 @@
-//! Columns with children: other validities, conversions that give the column back, and tests of types.
+//! Columns with children: validities that are replaced, conversions that return the column, and
+//! checks of types.
 
 use crate::parsed::{fixed_lists, lists, parsed, prints, structs};
 use sel_arrow::array::Array;
@@ -50,7 +51,7 @@ fn with_validity_replaces_the_nulls(rt: HostRuntime) -> Result<(), Fail> {
     Ok(())
 }
 
-// Returns whether a conversion to another type gave the column back, with these rows.
+// Returns whether a conversion to another type failed and returned the column, with these rows.
 fn gives_back<A: Drop>(
     alloc: Global,
     converted: Result<A, ArrayRef>,
@@ -66,7 +67,7 @@ fn gives_back<A: Drop>(
 }
 
 #[test]
-fn conversion_to_another_type_gives_the_column_back(rt: HostRuntime) -> Result<(), Fail> {
+fn failed_conversion_returns_the_column(rt: HostRuntime) -> Result<(), Fail> {
     let alloc = rt.alloc();
     let rows = "[[1,2],null,[3]]";
     let column = parsed(alloc, "list<i64>", rows)?;

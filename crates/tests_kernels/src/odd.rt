@@ -1,5 +1,5 @@
-//! Choices by masks that begin inside a byte and have odd lengths, with all bits outside of them set, and with all of them clear,
-//! beside a loop over single bits.
+//! If-then-else by masks with bit offsets inside a byte and odd lengths, with all bits outside of
+//! them set and with all of them clear, compared with a loop over single bits.
 
 use sel_bits::aligned_words::AlignedWords;
 use sel_bits::bitmap::Bitmap;
@@ -11,7 +11,8 @@ const OFFSETS: [usize; 13] = [0, 1, 2, 3, 4, 5, 6, 7, 8, 9, 63, 64, 65];
 
 const LENGTHS: [usize; 14] = [0, 1, 7, 8, 55, 56, 57, 63, 64, 65, 111, 112, 113, 130];
 
-// The bit at a place of one of several patterns: mixed, seldom true, seldom false, and in long runs.
+// Returns the bit at a position of one of several patterns: mixed, seldom true, seldom false, and
+// in long runs.
 fn bit(kind: u8, i: usize) -> bool {
     match kind {
         0 => i % 3 == 0 || i % 7 == 1,
@@ -21,7 +22,8 @@ fn bit(kind: u8, i: usize) -> bool {
     }
 }
 
-// So many bits of a pattern as a bitmap that begins at this bit of its bytes, and which bits stand before and behind it.
+// Returns `len` bits of a pattern as a bitmap at this bit offset; `outside` is the value of the
+// bits before and after it.
 fn mask(alloc: Global, kind: u8, offset: usize, len: usize, outside: bool) -> Result<Bitmap, Fail> {
     let mut bits = Vec::new(alloc);
     for _ in 0..offset {
@@ -40,7 +42,7 @@ fn mask(alloc: Global, kind: u8, offset: usize, len: usize, outside: bool) -> Re
     Ok(bits.sliced(offset, len))
 }
 
-// So many numbers from the first on, each one more than the last.
+// Returns `len` consecutive numbers, from `first` on.
 fn numbers(alloc: Global, first: u16, len: usize) -> Result<Vec<u16>, Fail> {
     let mut numbers = Vec::new(alloc);
     let mut number = first;
@@ -51,7 +53,7 @@ fn numbers(alloc: Global, first: u16, len: usize) -> Result<Vec<u16>, Fail> {
     Ok(numbers)
 }
 
-// Whether each number is that of its side by the bit at its place.
+// Returns whether each number is the true or the false value, by the bit at its position.
 fn are_chosen(numbers: &[u16], mask: &Bitmap, if_true: &[u16], if_false: &[u16]) -> bool {
     if numbers.len() != mask.len() {
         return false;
@@ -65,7 +67,8 @@ fn are_chosen(numbers: &[u16], mask: &Bitmap, if_true: &[u16], if_false: &[u16])
     true
 }
 
-// Whether the choice by a mask is that of a loop, by no more words than its rows need.
+// Returns whether if-then-else by a mask equals that of a loop, and reads no more words than its
+// rows need.
 fn chooses(alloc: Global, mask: &Bitmap) -> Result<bool, Fail> {
     let if_true = numbers(alloc, 0, mask.len())?;
     let if_false = numbers(alloc, 1000, mask.len())?;
@@ -81,7 +84,7 @@ fn chooses(alloc: Global, mask: &Bitmap) -> Result<bool, Fail> {
 }
 
 #[test]
-fn choices_by_odd_masks(rt: HostRuntime) -> Result<(), Fail> {
+fn if_then_else_at_odd_offsets(rt: HostRuntime) -> Result<(), Fail> {
     for kind in 0..4u8 {
         for offset in OFFSETS {
             for len in LENGTHS {

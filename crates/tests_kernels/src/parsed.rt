@@ -8,7 +8,7 @@ use sel_arrow::fixed_size_list::FixedSizeListArray;
 use sel_arrow::list::ListArray;
 use sel_arrow::structure::StructArray;
 use sel_bits::faults::PolarsResult;
-use sel_text::build::Beneath;
+use sel_text::build::NullSlots;
 use sel_text::parse::parse_column;
 use sel_text::print::print_rows;
 use sel_text::read_type::parse_dtype;
@@ -20,7 +20,7 @@ pub fn parsed(alloc: Global, dtype: &str, rows: &str) -> Result<ArrayRef, Fail> 
     let Ok(dtype) = parse_dtype(alloc, dtype) else {
         return Err(Fail::from("not a type"));
     };
-    let column = parse_column(alloc, &dtype, rows, Beneath::Others);
+    let column = parse_column(alloc, &dtype, rows, NullSlots::Others);
     drop(dtype);
     match column {
         Ok(column) => Ok(column),

@@ -1,4 +1,5 @@
-//! The pieces by which rows are copied in runs: runs of picks, rows of one column, validities, views and data buffers.
+//! The parts that copy rows in runs: runs of row references, rows of one column, validities, views
+//! and data buffers.
 
 use sel_arrow::view::View;
 use sel_bits::bitmap::Bitmap;
@@ -13,25 +14,25 @@ use std::alloc::Global;
 use std::test::Fail;
 use tests_bits::fixtures::{buffer, has_bits};
 
-// Whether the run is so many rows of this source from this row on.
+// Returns whether the run is `len` rows of this source from row `start` on.
 fn is_run(run: &Run, source: u32, start: u32, len: u32) -> bool {
     run.source == Some(source) && run.start == start && run.len == len
 }
 
-// Whether the run is so many nulls.
+// Returns whether the run is `len` nulls.
 fn is_run_of_nulls(run: &Run, len: u32) -> bool {
     run.source.is_none() && run.len == len
 }
 
 #[test]
-fn a_pick_is_a_run_of_one(rt: HostRuntime) {
+fn run_of_one_row_reference(rt: HostRuntime) {
     assert!(rt; is_run(&run_of_pick(Some((2, 7))), 2, 7, 1));
     assert!(rt; is_run_of_nulls(&run_of_pick(None), 1));
     assert!(rt; is_run_of_nulls(&nulls_of(3), 3));
 }
 
 #[test]
-fn picks_that_go_on_are_one_run(rt: HostRuntime) -> Result<(), Fail> {
+fn consecutive_row_references_are_one_run(rt: HostRuntime) -> Result<(), Fail> {
     let picks = [
         Some((0, 1)),
         Some((0, 2)),
@@ -47,7 +48,7 @@ fn picks_that_go_on_are_one_run(rt: HostRuntime) -> Result<(), Fail> {
     Ok(())
 }
 
-// Two true bits, and behind them the last three of four.
+// Returns the validity of two true bits, followed by the last three of four.
 fn two_and_three_bits(alloc: Global) -> PolarsResult<Option<Bitmap>> {
     let bits = Bitmap::from_bools(alloc, &[false, true, false, true])?;
     let mut packer = BitPacker::with_capacity(alloc, 5)?;
@@ -56,7 +57,7 @@ fn two_and_three_bits(alloc: Global) -> PolarsResult<Option<Bitmap>> {
     validity_from(packer, 5)
 }
 
-// Three true bits, and behind them the last of two.
+// Returns the validity of three true bits, followed by the last of two.
 fn three_and_one_bit(alloc: Global) -> PolarsResult<Option<Bitmap>> {
     let bits = Bitmap::from_bools(alloc, &[false, true])?;
     let mut packer = BitPacker::with_capacity(alloc, 4)?;
@@ -66,7 +67,7 @@ fn three_and_one_bit(alloc: Global) -> PolarsResult<Option<Bitmap>> {
 }
 
 #[test]
-fn validities_behind_one_another(rt: HostRuntime) -> Result<(), Fail> {
+fn validities_are_concatenated(rt: HostRuntime) -> Result<(), Fail> {
     let bits = two_and_three_bits(rt.alloc())?.ok_or("all are true")?;
     assert!(rt; has_bits(&bits, &[true, true, true, false, true]));
     assert!(rt; three_and_one_bit(rt.alloc())?.is_none());
@@ -74,7 +75,7 @@ fn validities_behind_one_another(rt: HostRuntime) -> Result<(), Fail> {
 }
 
 #[test]
-fn long_views_alone_are_raised(rt: HostRuntime) {
+fn raised_view_of_long_and_inline_views(rt: HostRuntime) {
     let long = View::new_from_bytes(b"abcdefghijklm", 2, 5);
     let raised = View::new_from_bytes(b"abcdefghijklm", 5, 5);
     assert!(rt; raised_view(long, 3) == raised);
@@ -82,7 +83,7 @@ fn long_views_alone_are_raised(rt: HostRuntime) {
     assert!(rt; raised_view(short, 4_294_967_295) == short);
 }
 
-// The data buffers of 1, of 2 and 3, and of nothing.
+// Returns the data buffers of 1, of 2 and 3, and of no bytes.
 fn three_buffers(alloc: Global) -> PolarsResult<Vec<Buffer<u8>>> {
     let mut joined = vec![in alloc; buffer(alloc, &[1u8])?]?;
     let others = vec![in alloc; buffer(alloc, &[2u8, 3])?, buffer(alloc, &[])?]?;
@@ -90,7 +91,7 @@ fn three_buffers(alloc: Global) -> PolarsResult<Vec<Buffer<u8>>> {
     Ok(joined)
 }
 
-// Whether these are those buffers.
+// Returns whether these are those buffers.
 fn are_three_buffers(buffers: &[Buffer<u8>]) -> bool {
     buffers.len() == 3
         && buffers[0].as_slice() == [1].as_slice()
@@ -99,14 +100,14 @@ fn are_three_buffers(buffers: &[Buffer<u8>]) -> bool {
 }
 
 #[test]
-fn data_buffers_behind_one_another(rt: HostRuntime) -> Result<(), Fail> {
+fn data_buffers_are_concatenated(rt: HostRuntime) -> Result<(), Fail> {
     let buffers = three_buffers(rt.alloc())?;
     assert!(rt; are_three_buffers(&buffers));
     drop(buffers);
     Ok(())
 }
 
-// Two runs that go on from one another, and nulls.
+// Returns two consecutive runs, which are merged, and nulls.
 fn some_runs(alloc: Global) -> PolarsResult<Vec<Run>> {
     let mut runs = Vec::new(alloc);
     for (source, start, len) in [(Some(0), 1, 1), (Some(0), 2, 1), (None, 0, 2)] {
@@ -118,7 +119,7 @@ fn some_runs(alloc: Global) -> PolarsResult<Vec<Run>> {
 }
 
 #[test]
-fn runs_that_go_on_are_one(rt: HostRuntime) -> Result<(), Fail> {
+fn consecutive_runs_are_merged(rt: HostRuntime) -> Result<(), Fail> {
     let runs = some_runs(rt.alloc())?;
     assert!(rt; runs.len() == 2 && picked_rows(&runs) == 4);
     Ok(())

@@ -50,7 +50,7 @@ fn selected(
     result
 }
 
-// Returns whether the columns print as the last text of each part, and drops the columns.
+// Returns whether the columns print as the last string of each part, and drops the columns.
 fn are_rows(alloc: Global, columns: Vec<ArrayRef>, parts: &[Part]) -> Result<bool, Fail> {
     let mut left = columns;
     for (_, _, text) in parts.iter().rev() {

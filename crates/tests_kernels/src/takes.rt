@@ -1,4 +1,5 @@
-//! Takes of bits, of blocks, and of binary columns by indices of other types, and the limit of 32-bit offsets.
+//! Takes of bits, of blocks, and of binary columns by indices of other types, and the limit of
+//! 32-bit offsets.
 
 use polars_compute::gather::binary::take_unchecked;
 use polars_compute::gather::bitmap::{take_bitmap_nulls_unchecked, take_bitmap_unchecked};
@@ -19,12 +20,12 @@ use std::test::Fail;
 use tests_bits::fixtures::has_bits;
 use tests_columns::fixtures::{column, has_bytes, numbers, validity_of};
 
-// Indices; none is null over the greatest number.
+// Returns indices; a null one has the greatest number in its slot.
 fn indices(alloc: Global, rows: &[Option<u32>]) -> Result<IdxArr, Fail> {
     column(alloc, rows, u32::MAX)
 }
 
-// Whether the bits at these places are these.
+// Returns whether the bits at these positions are these.
 fn takes_bits(
     alloc: Global,
     values: &Bitmap,
@@ -38,7 +39,7 @@ fn takes_bits(
 }
 
 #[test]
-fn bits_at_places(rt: HostRuntime) -> Result<(), Fail> {
+fn take_of_bits(rt: HostRuntime) -> Result<(), Fail> {
     let values = Bitmap::from_bools(rt.alloc(), &[true, false, true])?;
     assert!(rt; !idx_slice_in_bounds(&[3], values.len()));
     let taken = [true, false, false, true];
@@ -46,7 +47,7 @@ fn bits_at_places(rt: HostRuntime) -> Result<(), Fail> {
     Ok(())
 }
 
-// The bits at these indices, where they are in bounds.
+// Returns the bits at these indices, if they are in bounds.
 fn bits_taken(alloc: Global, values: &Bitmap, places: &[Option<u32>]) -> Result<Bitmap, Fail> {
     let places = indices(alloc, places)?;
     if !indices_in_bounds(&places, values.len()) {
@@ -58,7 +59,7 @@ fn bits_taken(alloc: Global, values: &Bitmap, places: &[Option<u32>]) -> Result<
     Ok(taken?)
 }
 
-// Whether the bits at these indices are these.
+// Returns whether the bits at these indices, some of them null, are these.
 fn takes_bits_and_nulls(
     alloc: Global,
     values: &[bool],
@@ -70,14 +71,14 @@ fn takes_bits_and_nulls(
 }
 
 #[test]
-fn bits_at_indices(rt: HostRuntime) -> Result<(), Fail> {
+fn take_of_bits_with_null_indices(rt: HostRuntime) -> Result<(), Fail> {
     let alloc = rt.alloc();
     assert!(rt; takes_bits_and_nulls(alloc, &[], &[None, None], &[false, false])?);
     assert!(rt; takes_bits_and_nulls(alloc, &[true, false], &[None, Some(1)], &[true, false])?);
     Ok(())
 }
 
-// The bytes of the rows, one hidden byte for none.
+// Returns the bytes of the rows, with one byte in a null slot.
 fn bytes_of(alloc: Global, rows: &[Option<&[u8]>]) -> PolarsResult<Buffer<u8>> {
     let mut bytes = Vec::new(alloc);
     for row in rows {
@@ -89,7 +90,7 @@ fn bytes_of(alloc: Global, rows: &[Option<&[u8]>]) -> PolarsResult<Buffer<u8>> {
     Buffer::from_vec(bytes)
 }
 
-// Where those bytes begin and end, as far as the offsets' type has these places.
+// Returns the offsets of these bytes, as far as the offset type can represent them.
 fn ends_of<O: Offset>(alloc: Global, rows: &[Option<&[u8]>]) -> PolarsResult<Vec<O>> {
     let mut ends = Vec::new(alloc);
     let mut end = 0usize;
@@ -112,20 +113,21 @@ fn push_end<O: Offset>(ends: &mut Vec<O>, end: usize) -> PolarsResult<()> {
     Ok(())
 }
 
-// A column of bytes; none is null over one hidden byte.
+// Returns a binary column, with one byte in each null slot.
 fn bytes_column<O: Offset>(alloc: Global, rows: &[Option<&[u8]>]) -> Result<BinaryArray<O>, Fail> {
     let offsets = OffsetsBuffer::try_from(ends_of(alloc, rows)?)?;
     let bytes = bytes_of(alloc, rows)?;
     Ok(BinaryArray::try_new(offsets, bytes, Some(validity_of(alloc, rows)?))?)
 }
 
-// One row of 65,536 bytes.
+// Returns one row of 65,536 bytes.
 fn long_row(alloc: Global) -> Result<BinaryArray<i32>, Fail> {
     let bytes = vec![in alloc; 97u8; 65_536]?;
     bytes_column(alloc, &[Some(bytes.as_slice())])
 }
 
-// Whether a take of this row `count` times passes the limit of bytes, or how many nulls it has.
+// Takes this row `count` times; returns the number of nulls, or none if the limit of bytes is
+// exceeded.
 fn repeated(alloc: Global, column: &BinaryArray<i32>, count: usize) -> Result<Option<usize>, Fail> {
     let indices = zeros(alloc, count)?;
     if !indices_in_bounds_of(&indices, column.len()) {
@@ -145,7 +147,7 @@ fn repeated(alloc: Global, column: &BinaryArray<i32>, count: usize) -> Result<Op
     }
 }
 
-// Zeros as indices.
+// Returns zeros as indices.
 fn zeros(alloc: Global, count: usize) -> Result<IdxArr, Fail> {
     let mut numbers = Vec::new(alloc);
     for _ in 0..count {
@@ -154,7 +156,7 @@ fn zeros(alloc: Global, count: usize) -> Result<IdxArr, Fail> {
     Ok(PrimitiveArray::try_new(Buffer::from_vec(numbers)?, None)?)
 }
 
-// Whether the rows of bytes at these indices, which are in bounds, are these.
+// Returns whether the rows of bytes at these indices, which are in bounds, are these.
 fn takes_bytes<I: Index>(
     alloc: Global,
     column: &BinaryArray<i64>,
@@ -175,7 +177,7 @@ fn takes_bytes<I: Index>(
     Ok(are_bytes)
 }
 
-// Whether rows at signed and at unsigned indices are taken.
+// Returns whether rows are taken by signed and by unsigned indices.
 fn takes_bytes_of_both(alloc: Global, column: &BinaryArray<i64>) -> Result<bool, Fail> {
     let valid = [false, true];
     Ok(
@@ -185,7 +187,7 @@ fn takes_bytes_of_both(alloc: Global, column: &BinaryArray<i64>) -> Result<bool,
 }
 
 #[test]
-fn takes_of_bytes(rt: HostRuntime) -> Result<(), Fail> {
+fn take_of_binary(rt: HostRuntime) -> Result<(), Fail> {
     let alloc = rt.alloc();
     let column = bytes_column::<i64>(alloc, &[Some(b"a"), Some(b"bc")])?;
     let are_taken = takes_bytes_of_both(alloc, &column);
@@ -195,7 +197,7 @@ fn takes_of_bytes(rt: HostRuntime) -> Result<(), Fail> {
 }
 
 #[test]
-fn takes_past_the_limit_of_bytes(rt: HostRuntime) -> Result<(), Fail> {
+fn take_of_binary_exceeds_byte_limit(rt: HostRuntime) -> Result<(), Fail> {
     let alloc = rt.alloc();
     let column = long_row(alloc)?;
     let nulls = repeated(alloc, &column, 32_768);
@@ -218,7 +220,7 @@ fn null_rows_need_no_bytes(rt: HostRuntime) -> Result<(), Fail> {
 }
 
 #[test]
-fn bounds_of_indices(rt: HostRuntime) -> Result<(), Fail> {
+fn signed_and_unsigned_indices_in_bounds(rt: HostRuntime) -> Result<(), Fail> {
     let alloc = rt.alloc();
     let signed: [(&[i8], &[bool], usize, bool); 4] = [
         (&[0, 127], &[true, true], 128, true),
@@ -244,7 +246,8 @@ fn bounds_of_indices(rt: HostRuntime) -> Result<(), Fail> {
     Ok(())
 }
 
-/// Whether blocks of the source at these indices, with zeros for a null one, are these items, by so many copies.
+/// Returns whether the blocks of the source at these indices, with zeros for a null one, are these
+/// items, and take this number of copies.
 fn takes_blocks(
     alloc: Global,
     size: usize,
@@ -267,7 +270,7 @@ fn takes_blocks(
 }
 
 #[test]
-fn blocks_at_indices(rt: HostRuntime) -> Result<(), Fail> {
+fn take_of_blocks(rt: HostRuntime) -> Result<(), Fail> {
     let alloc = rt.alloc();
     assert!(rt; takes_blocks(alloc, 3, &[Some(1), None], &[4, 5, 6, 0, 0, 0], 2)?);
     assert!(rt; takes_blocks(alloc, 0, &[Some(1), None], &[], 2)?);

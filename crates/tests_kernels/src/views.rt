@@ -1,4 +1,4 @@
-//! Which views and data buffers a choice between columns of views has; what its rows are is told by tables.
+//! The views and data buffers of an if-then-else of view columns; its rows are tested as data.
 
 use crate::masks::is_as_long;
 use sel_arrow::array::Array;
@@ -16,20 +16,20 @@ const LONG: &[u8; 13] = b"abcdefghijklm";
 
 const OTHER: &[u8; 13] = b"nopqrstuvwxyz";
 
-// A column of 13 bytes in a data buffer.
+// Returns a column of 13 bytes in a data buffer.
 fn far_bytes(alloc: Global, bytes: &[u8; 13]) -> Result<BinaryViewArray, Fail> {
     let views = buffer(alloc, &[View::new_from_bytes(bytes, 0, 0)])?;
     Ok(BinaryViewArray::try_new(views, one_buffer(alloc, bytes)?, None)?)
 }
 
-// A column of 8 bytes in its view.
+// Returns a column of 8 bytes in its view.
 fn near_bytes(alloc: Global) -> Result<BinaryViewArray, Fail> {
     let views = buffer(alloc, &[View::new_from_bytes(b"abcdefgh", 0, 0)])?;
     let none = Buffer::from_vec(Vec::new(alloc))?;
     Ok(BinaryViewArray::try_new(views, none, None)?)
 }
 
-// The only row, where the mask has the only bit false.
+// Returns the only row of an if-then-else whose only mask bit is false.
 fn otherwise(
     alloc: Global,
     if_true: &BinaryViewArray,
@@ -42,7 +42,8 @@ fn otherwise(
     Ok(BinaryViewArray::if_then_else(alloc, &mask, if_true, if_false)?)
 }
 
-// Whether the only view is this one, of these bytes, over so many data buffers.
+// Returns whether the only view is this one, has these bytes, and the number of data buffers is
+// right.
 fn is_view(
     alloc: Global,
     chosen: &BinaryViewArray,
@@ -57,33 +58,33 @@ fn is_view(
     )
 }
 
-// Whether the view of the false side names the second data buffer.
+// Returns whether the view of the false values refers to the second data buffer.
 fn names_the_second_buffer(alloc: Global) -> Result<bool, Fail> {
     let chosen = otherwise(alloc, &far_bytes(alloc, LONG)?, &far_bytes(alloc, OTHER)?)?;
     is_view(alloc, &chosen, View::new_from_bytes(OTHER, 1, 0), OTHER, 2)
 }
 
 #[test]
-fn a_view_of_the_false_side_names_the_second_buffer(rt: HostRuntime) -> Result<(), Fail> {
+fn view_of_false_values_refers_to_second_buffer(rt: HostRuntime) -> Result<(), Fail> {
     assert!(rt; names_the_second_buffer(rt.alloc())?);
     Ok(())
 }
 
-// Whether a view that holds its bytes stays as it is.
+// Returns whether an inline view is unchanged.
 fn stays(alloc: Global, near: &BinaryViewArray, view: View, bytes: &[u8]) -> Result<bool, Fail> {
     let chosen = otherwise(alloc, &far_bytes(alloc, LONG)?, near)?;
     is_view(alloc, &chosen, view, bytes, 1)
 }
 
 #[test]
-fn a_view_that_holds_its_bytes_stays(rt: HostRuntime) -> Result<(), Fail> {
+fn inline_view_is_unchanged(rt: HostRuntime) -> Result<(), Fail> {
     let near = near_bytes(rt.alloc())?;
     let view = View::new_from_bytes(b"abcdefgh", 0, 0);
     assert!(rt; stays(rt.alloc(), &near, view, b"abcdefgh")?);
     Ok(())
 }
 
-// Four letters in a view whose other numbers are no place: nothing is behind them.
+// Four letters in an inline view with an arbitrary buffer index and offset.
 const FOUR: View = View {
     length: 4,
     prefix: 1684234849,
@@ -91,20 +92,20 @@ const FOUR: View = View {
     offset: 0,
 };
 
-// A column of that view alone.
+// Returns a column of only this view.
 fn four_letters(alloc: Global) -> Result<BinaryViewArray, Fail> {
     let none = Buffer::from_vec(Vec::new(alloc))?;
     Ok(BinaryViewArray::try_new(buffer(alloc, &[FOUR])?, none, None)?)
 }
 
 #[test]
-fn a_view_that_holds_its_bytes_stays_whatever_is_behind_them(rt: HostRuntime) -> Result<(), Fail> {
+fn inline_view_with_arbitrary_buffer_index_is_unchanged(rt: HostRuntime) -> Result<(), Fail> {
     let four = four_letters(rt.alloc())?;
     assert!(rt; stays(rt.alloc(), &four, FOUR, b"abcd")?);
     Ok(())
 }
 
-// How many data buffers a choice between bytes and one row of others has.
+// Returns the number of data buffers of an if-then-else of binary views and a scalar.
 fn buffers_beside_a_value(
     alloc: Global,
     column: &BinaryViewArray,
@@ -118,14 +119,14 @@ fn buffers_beside_a_value(
     Ok(chosen.data_buffers().len())
 }
 
-// The same of a column of a long row and a value.
+// Returns the number of data buffers for a column of a long row and a scalar.
 fn buffers_beside(alloc: Global, scalar: &[u8]) -> Result<usize, Fail> {
     let scalar = Vec::from_slice(alloc, scalar)?;
     buffers_beside_a_value(alloc, &far_bytes(alloc, LONG)?, &scalar)
 }
 
 #[test]
-fn a_long_value_has_a_data_buffer_of_its_own(rt: HostRuntime) -> Result<(), Fail> {
+fn long_scalar_has_its_own_data_buffer(rt: HostRuntime) -> Result<(), Fail> {
     assert!(rt; buffers_beside(rt.alloc(), OTHER)? == 2);
     Ok(())
 }

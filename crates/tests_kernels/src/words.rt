@@ -1,4 +1,4 @@
-//! The kernels of one word, the words of masks and validities.
+//! The if-then-else kernels of one word, and the words of masks and validities.
 
 use crate::masks::{long_bit, long_mask};
 use sel_arrow::view::View;
@@ -19,7 +19,7 @@ use std::test::Fail;
 use tests_bits::fixtures::has_bits;
 
 #[test]
-fn values_by_the_bits_of_a_word(rt: HostRuntime) -> Result<(), Fail> {
+fn if_then_else_by_a_partial_word(rt: HostRuntime) -> Result<(), Fail> {
     let mut out = [0, 0, 0];
     if_then_else_scalar_rest(0b101, &[1, 2, 3], &[4, 5, 6], &mut out);
     assert!(rt; out == [1, 5, 3]);
@@ -30,7 +30,7 @@ fn values_by_the_bits_of_a_word(rt: HostRuntime) -> Result<(), Fail> {
     Ok(())
 }
 
-// 64 values: the first, the last, and another in each place between.
+// Returns 64 values: the first, the last, and another at each position between.
 fn ends_and_middle<T: Copy>(first: T, middle: T, last: T) -> [T; 64] {
     let mut values = [middle; 64];
     values[0] = first;
@@ -39,7 +39,7 @@ fn ends_and_middle<T: Copy>(first: T, middle: T, last: T) -> [T; 64] {
 }
 
 #[test]
-fn values_by_all_bits_of_a_word(rt: HostRuntime) -> Result<(), Fail> {
+fn if_then_else_by_a_full_word(rt: HostRuntime) -> Result<(), Fail> {
     let mask = 1 | (1 << 63);
     let mut out = [0u8; 64];
     if_then_else_scalar_64(mask, &[1; 64], &[2; 64], &mut out);
@@ -72,7 +72,7 @@ const OTHER: View = View {
     offset: 0,
 };
 
-// The view over the data buffer behind its own.
+// Returns the view with the next buffer index.
 fn in_second(view: View) -> View {
     View {
         buffer_idx: 1,
@@ -81,7 +81,7 @@ fn in_second(view: View) -> View {
 }
 
 #[test]
-fn long_views_of_the_false_side_are_raised(rt: HostRuntime) -> Result<(), Fail> {
+fn false_values_have_raised_buffer_index(rt: HostRuntime) -> Result<(), Fail> {
     let views = [SHORT, LONG, OTHER];
     let mut out = views;
     if_then_else_view_rest(0, &views, &views, &mut out, 1);
@@ -92,7 +92,7 @@ fn long_views_of_the_false_side_are_raised(rt: HostRuntime) -> Result<(), Fail> 
 }
 
 #[test]
-fn inline_views_are_not_raised(rt: HostRuntime) -> Result<(), Fail> {
+fn inline_views_keep_their_buffer_index(rt: HostRuntime) -> Result<(), Fail> {
     let inline = View {
         length: 4,
         prefix: 0,
@@ -112,7 +112,7 @@ fn inline_views_are_not_raised(rt: HostRuntime) -> Result<(), Fail> {
 }
 
 #[test]
-fn views_by_all_bits_of_a_word(rt: HostRuntime) -> Result<(), Fail> {
+fn if_then_else_of_views_by_a_full_word(rt: HostRuntime) -> Result<(), Fail> {
     let mut out = [SHORT; 64];
     let falses = [OTHER; 64];
     if views_can_rise(&falses, 1) {
@@ -124,7 +124,7 @@ fn views_by_all_bits_of_a_word(rt: HostRuntime) -> Result<(), Fail> {
     Ok(())
 }
 
-// Whether 135 rows of a mask are given out in words of 61, 64 and 10 bits.
+// Returns whether 135 rows of a mask are returned in words of 61, 64 and 10 bits.
 fn gives_three_words(alloc: Global) -> Result<bool, Fail> {
     let mask = long_mask(alloc)?;
     let mut words = AlignedWords::new(&mask);
@@ -138,7 +138,7 @@ fn gives_three_words(alloc: Global) -> Result<bool, Fail> {
 }
 
 #[test]
-fn words_end_at_boundaries(rt: HostRuntime) -> Result<(), Fail> {
+fn aligned_words_end_at_word_boundaries(rt: HostRuntime) -> Result<(), Fail> {
     let mask = Bitmap::new_with_value(rt.alloc(), true, 5)?;
     let mut words = AlignedWords::new(&mask);
     assert!(rt; words.len() == 5 && words.next() == Some((0b11111, 5)) && words.next().is_none());
@@ -146,7 +146,7 @@ fn words_end_at_boundaries(rt: HostRuntime) -> Result<(), Fail> {
     Ok(())
 }
 
-// So many numbers from the first on, each one more than the last.
+// Returns `count` consecutive numbers, from `first` on.
 fn numbers_from(alloc: Global, first: u64, count: usize) -> Result<Vec<u64>, Fail> {
     let mut numbers = Vec::new(alloc);
     for i in 0..count {
@@ -155,7 +155,7 @@ fn numbers_from(alloc: Global, first: u64, count: usize) -> Result<Vec<u64>, Fai
     Ok(numbers)
 }
 
-// Whether each number is that of its side by the long mask.
+// Returns whether each number is the true or the false value, by the long mask.
 fn are_chosen(values: &[u64]) -> bool {
     for (i, value) in values.iter().enumerate() {
         let first = if long_bit(i.wrapping_add(3)) { 0 } else { 1000 };
@@ -166,7 +166,7 @@ fn are_chosen(values: &[u64]) -> bool {
     values.len() == 135
 }
 
-// Whether the numbers are chosen by three words of the mask.
+// Returns whether if-then-else by three words of the mask has the right values.
 fn chooses_by_words(alloc: Global, mask: &Bitmap) -> Result<bool, Fail> {
     let if_true = numbers_from(alloc, 0, 135)?;
     let if_false = numbers_from(alloc, 1000, 135)?;
@@ -179,13 +179,13 @@ fn chooses_by_words(alloc: Global, mask: &Bitmap) -> Result<bool, Fail> {
 }
 
 #[test]
-fn values_by_all_words_of_a_mask(rt: HostRuntime) -> Result<(), Fail> {
+fn if_then_else_by_all_words_of_a_mask(rt: HostRuntime) -> Result<(), Fail> {
     let mask = long_mask(rt.alloc())?;
     assert!(rt; chooses_by_words(rt.alloc(), &mask)?);
     Ok(())
 }
 
-// Whether the validity of a choice is these bits, or there is none.
+// Returns whether the validity of an if-then-else is these bits, or none.
 fn is_validity(
     alloc: Global,
     mask: &Bitmap,
@@ -210,7 +210,7 @@ fn is_validity(
 }
 
 #[test]
-fn validities_of_choices(rt: HostRuntime) -> Result<(), Fail> {
+fn validities_of_if_then_else(rt: HostRuntime) -> Result<(), Fail> {
     let alloc = rt.alloc();
     let mask = Bitmap::from_bools(alloc, &[true, false])?;
     let bits = Bitmap::from_bools(alloc, &[false, false])?;

@@ -13,9 +13,9 @@ use std::alloc::Global;
 
 /// Prints if-then-else of two columns, and of a column and a scalar.
 pub fn choices(alloc: Global, page: &mut String) -> Result<(), Stop> {
-    title(page, "if_then_else: row by row the one or the other")?;
+    title(page, "if_then_else: true or false values, by a mask")?;
     show_answer(alloc, page, "of two columns", cheap_or_dear(alloc))?;
-    show_answer(alloc, page, "of texts and one text", names_or_one(alloc))
+    show_answer(alloc, page, "of strings and a scalar", names_or_one(alloc))
 }
 
 fn mask(alloc: Global) -> Result<Bitmap, Stop> {
@@ -35,8 +35,8 @@ fn names_or_one(alloc: Global) -> Result<ArrayRef, Stop> {
     named(alloc, &mask, &names)
 }
 
-/// Returns the rows of `if_true` where the mask is true, else those of `if_false`; all must have
-/// one length.
+/// Returns the rows of `if_true` where the mask is true, else those of `if_false`; the lengths must
+/// match.
 fn chosen(
     alloc: Global,
     mask: &Bitmap,

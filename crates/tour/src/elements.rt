@@ -18,7 +18,7 @@ use std::alloc::Global;
 pub fn elements(alloc: Global, page: &mut String) -> Result<(), Stop> {
     title(
         page,
-        "sublist_get: of each list the element at an index, from the end where it is negative",
+        "sublist_get: the element of each list at an index, from the end if it is negative",
     )?;
     of_lists(alloc, page)?;
     of_blocks(alloc, page)?;
@@ -45,8 +45,8 @@ fn list(alloc: Global) -> Result<ListArray<i64>, Stop> {
 
 fn of_lists(alloc: Global, page: &mut String) -> Result<(), Stop> {
     show_answer(alloc, page, "lists", as_any(list(alloc)))?;
-    show_answer(alloc, page, "the last of each", element(alloc, -1))?;
-    show_answer(alloc, page, "the second of each", element(alloc, 1))?;
+    show_answer(alloc, page, "at index -1", element(alloc, -1))?;
+    show_answer(alloc, page, "at index 1", element(alloc, 1))?;
     lacks(alloc, page)
 }
 
@@ -55,7 +55,7 @@ fn lacks(alloc: Global, page: &mut String) -> Result<(), Stop> {
         true => "yes",
         false => "no",
     };
-    line(page, "whether some list has no second", text)
+    line(page, "whether index 1 is out of bounds for some list", text)
 }
 
 fn element(alloc: Global, index: i64) -> Result<ArrayRef, Stop> {
@@ -77,8 +77,8 @@ fn block(alloc: Global) -> Result<FixedSizeListArray, Stop> {
 }
 
 fn of_blocks(alloc: Global, page: &mut String) -> Result<(), Stop> {
-    show_answer(alloc, page, "lists of one length", as_any(block(alloc)))?;
-    show_answer(alloc, page, "the second of each", entry(alloc, 1))?;
+    show_answer(alloc, page, "fixed-size lists", as_any(block(alloc)))?;
+    show_answer(alloc, page, "at index 1", entry(alloc, 1))?;
     show_answer(alloc, page, "at the indices [1,0,-1]", entry_each(alloc))
 }
 
@@ -115,7 +115,7 @@ fn units(alloc: Global, page: &mut String) -> Result<(), Stop> {
         Ok(lists) => show(
             alloc,
             page,
-            "each row in a list of its own",
+            "each row as a list of one element",
             lists.into_ref(),
         ),
         Err((back, fault)) => {

@@ -15,19 +15,19 @@ use std::alloc::Global;
 pub fn joined(alloc: Global, page: &mut String) -> Result<(), Stop> {
     title(
         page,
-        "horizontal_flatten: row by row the parts of all columns",
+        "horizontal_flatten: the values of all columns, concatenated row by row",
     )?;
     show_answer(
         alloc,
         page,
-        "two numbers, then one, three times",
+        "of widths 2 and 1, three rows, the second column broadcast",
         side_by_side(alloc),
     )?;
-    title(page, "collect_rows: rows of several columns, by picks")?;
+    title(page, "collect_rows: rows gathered from several columns")?;
     show_answer(
         alloc,
         page,
-        "the second's first, nobody, the first's second",
+        "row 0 of column 1, null, row 1 of column 0",
         picked(alloc),
     )
 }

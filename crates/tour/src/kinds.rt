@@ -10,7 +10,7 @@ use std::alloc::Global;
 pub fn kinds(alloc: Global, page: &mut String) -> Result<(), Stop> {
     title(
         page,
-        "Columns: a type, and a list of rows of which each may be null",
+        "Columns: a type, and a list of rows, each of which may be null",
     )?;
     of_values(alloc, page)?;
     of_bytes(alloc, page)?;
@@ -34,7 +34,7 @@ fn of_bytes(alloc: Global, page: &mut String) -> Result<(), Stop> {
     show_made(alloc, page, pieces)?;
     let names = texts(
         alloc,
-        &[Some("Ada"), Some("a text of more than twelve bytes"), None],
+        &[Some("Ada"), Some("more than twelve bytes long"), None],
     );
     show_made(alloc, page, names)
 }

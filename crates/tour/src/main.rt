@@ -5,6 +5,7 @@
 mod choices;
 mod dictionaries;
 mod elements;
+mod errors;
 mod filters;
 mod joined;
 mod kinds;
@@ -12,7 +13,6 @@ mod made;
 mod nested;
 mod page;
 mod parts;
-mod refusals;
 mod stop;
 mod takes;
 
@@ -36,7 +36,7 @@ fn tour(alloc: Global) -> Result<String, Stop> {
     columns(alloc, &mut page)?;
     chosen(alloc, &mut page)?;
     arranged(alloc, &mut page)?;
-    refusals::refusals(alloc, &mut page)?;
+    errors::errors(alloc, &mut page)?;
     Ok(page)
 }
 

@@ -10,7 +10,7 @@ use std::alloc::Global;
 
 /// Prints a column of each nested type.
 pub fn nested(alloc: Global, page: &mut String) -> Result<(), Stop> {
-    title(page, "Columns over columns, to any depth")?;
+    title(page, "Nested columns, to any depth")?;
     over_numbers(alloc, page)?;
     over_tuples(alloc, page)
 }

@@ -14,7 +14,7 @@ pub fn parts(alloc: Global, page: &mut String) -> Result<(), Stop> {
     let part = sliced(alloc, ages(alloc), 1, 2);
     show_answer(alloc, page, "two rows from the second on", part)?;
     let part = sliced(alloc, people(alloc), 1, 2);
-    show_answer(alloc, page, "of structs, the last two", part)
+    show_answer(alloc, page, "the last two structs", part)
 }
 
 fn ages(alloc: Global) -> Result<ArrayRef, Stop> {

@@ -26,7 +26,7 @@ fn bounds(alloc: Global, page: &mut String) -> Result<(), Stop> {
         true => "yes",
         false => "no",
     };
-    line(page, "whether three rows have these indices", text)
+    line(page, "whether these indices are in bounds of 3 rows", text)
 }
 
 fn places(alloc: Global) -> Result<IdxArr, Stop> {

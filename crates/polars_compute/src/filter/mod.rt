@@ -5,7 +5,7 @@ ghost use Rattle.sel_bits.specs.Bits.{count_true};
 ghost use Rattle.sel_arrow.specs.Columns.{null_rows, boolean_rows, primitive_rows, binview_rows, utf8view_rows};
 ghost use Rattle.sel_arrow.specs.Rows.{rows, type_of, IsField, IsWellFormed};
 ghost use Rattle.sel_arrow.specs.declared.column.Column.{Struct};
-ghost use Rattle.polars_compute.specs.Select.{select, in_force};
+ghost use Rattle.polars_compute.specs.Select.{select, effective_mask};
 ghost use Rattle.polars_compute.specs.Trim.{KeepsAll};
 
 pub mod boolean;
@@ -42,12 +42,12 @@ use std::alloc::Global;
 pub fn filter(alloc: Global, array: &ArrayRef, mask: &BooleanArray) -> PolarsResult<ArrayRef>
     requires { length (rows array.now.column) ≡ length (boolean_rows mask.now) }
     ensures rows { IfOk result (λ kept. rows kept.column ≡
-        select (rows array.now.column) (in_force (boolean_rows mask.now))) }
+        select (rows array.now.column) (effective_mask (boolean_rows mask.now))) }
     ensures dtype { IfOk result (λ kept. type_of kept.column ≡ type_of array.now.column) }
     ensures refusal { IfErr result (λ fault. fault ≡ PolarsError.OutOfMemory) }
 {
-    let in_force = bits_in_force(alloc, mask)?;
-    filter_with_bitmap(alloc, array, &in_force)
+    let effective_mask = effective_bits(alloc, mask)?;
+    filter_with_bitmap(alloc, array, &effective_mask)
 }
 
 /// Returns the rows of `array` whose bit in `mask` is set, in order.
@@ -108,7 +108,8 @@ fn filter_trimmed(alloc: Global, array: ArrayRef, mask: &Bitmap) -> PolarsResult
 fn filter_column(alloc: Global, column: &Column, mask: &Bitmap) -> PolarsResult<ArrayRef>
     requires formed { IsWellFormed column.now }
     requires long { length (rows column.now) ≡ length mask.now.bits }
-    ensures rows { IfOk result (λ kept. rows kept.column ≡ select (rows column.now) mask.now.bits) }
+    ensures rows { IfOk result (λ kept. rows kept.column ≡ select (rows column.now)
+        mask.now.bits) }
     ensures dtype { IfOk result (λ kept. type_of kept.column ≡ type_of column.now) }
     ensures refusal { IfErr result (λ fault. fault ≡ PolarsError.OutOfMemory) }
 {
@@ -131,7 +132,7 @@ fn filter_column(alloc: Global, column: &Column, mask: &Bitmap) -> PolarsResult<
             len,
             fields,
             validity,
-        } => filter_tuples(alloc, *len, fields, validity, mask),
+        } => filter_struct(alloc, *len, fields, validity, mask),
         Column::LargeBinary(_) | Column::LargeList { .. } | Column::FixedSizeList { .. } => {
             Ok(filter_runs(alloc, column, mask)?)
         }
@@ -140,7 +141,7 @@ fn filter_column(alloc: Global, column: &Column, mask: &Bitmap) -> PolarsResult<
 
 /// Returns the struct values whose bit is set, of `_count` rows.
 #[cycle(filtering)]
-fn filter_tuples(
+fn filter_struct(
     alloc: Global,
     _count: usize,
     fields: &Vec<Column>,
@@ -206,7 +207,8 @@ fn filter_runs(alloc: Global, column: &Column, mask: &Bitmap) -> PolarsResult<Ar
     requires formed { IsWellFormed column.now }
     requires long { length (rows column.now) ≡ length mask.now.bits }
     requires few { length mask.now.bits ≤ 4294967295 }
-    ensures rows { IfOk result (λ kept. rows kept.column ≡ select (rows column.now) mask.now.bits) }
+    ensures rows { IfOk result (λ kept. rows kept.column ≡ select (rows column.now)
+        mask.now.bits) }
     ensures dtype { IfOk result (λ kept. type_of kept.column ≡ type_of column.now) }
     ensures refusal { IfErr result (λ fault. fault ≡ PolarsError.OutOfMemory) }
 {
@@ -216,8 +218,8 @@ fn filter_runs(alloc: Global, column: &Column, mask: &Bitmap) -> PolarsResult<Ar
 }
 
 /// Returns the effective mask: true where `mask` is true and valid.
-fn bits_in_force(alloc: Global, mask: &BooleanArray) -> PolarsResult<Bitmap>
-    ensures bits { IfOk result (λ bits. bits.bits ≡ in_force (boolean_rows mask.now)) }
+fn effective_bits(alloc: Global, mask: &BooleanArray) -> PolarsResult<Bitmap>
+    ensures bits { IfOk result (λ bits. bits.bits ≡ effective_mask (boolean_rows mask.now)) }
     ensures refusal { IfErr result (λ fault. fault ≡ PolarsError.OutOfMemory) }
 {
     match &mask.validity {

@@ -2,7 +2,7 @@
 
 ghost use Rattle.std.specs.Prelude.{IsTrue, ◌≡◌, ◌≤ℤ◌, pos, length, IfOk, IfErr};
 ghost use Rattle.sel_arrow.specs.Columns.{binary_rows, primitive_rows};
-ghost use Rattle.polars_compute.specs.Need.{bytes_needed, IsRefusal, IsPastBytes};
+ghost use Rattle.polars_compute.specs.Need.{bytes_needed, IsLimitOrMemory, ExceedsBytes};
 ghost use Rattle.polars_compute.specs.Pick.{all_within, take_rows};
 
 use crate::gather::generic_binary::{ByteRows, collect_bytes};
@@ -34,7 +34,7 @@ pub fn take_unchecked<O: Offset, I: Index>(
         take_rows (binary_rows values.now) (primitive_rows indices.now)) }
     ensures fits { IfOk result (λ _. pos (bytes_needed
         (take_rows (binary_rows values.now) (primitive_rows indices.now))) ≤ℤ O.number O.GREATEST) }
-    ensures refusal { IfErr result (IsRefusal (IsPastBytes
+    ensures refusal { IfErr result (IsLimitOrMemory (ExceedsBytes
         (O.number O.GREATEST) (take_rows (binary_rows values.now) (primitive_rows indices.now)))) }
 {
     collect_bytes(alloc, &TakenRows { values, indices })

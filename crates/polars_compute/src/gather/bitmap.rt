@@ -90,8 +90,9 @@ pub fn take_bitmap_nulls_unchecked(
     indices: &IdxArr,
 ) -> PolarsResult<Bitmap>
     requires { IsTrue (all_within (length values.now.bits) (primitive_rows indices.now)) }
-    ensures bits { IfOk result (λ taken. taken.bits ≡ pick (slice_index_or values.now.bits 0 false)
-        (values.now.bits ∷ []) (map pick_of (primitive_rows indices.now))) }
+    ensures bits { IfOk result (λ taken. taken.bits ≡
+        pick (slice_index_or values.now.bits 0 false) (values.now.bits ∷ [])
+        (map pick_of (primitive_rows indices.now))) }
     ensures refusal { IfErr result (λ fault. fault ≡ PolarsError.OutOfMemory) }
 {
     if indices.validity.is_none() {

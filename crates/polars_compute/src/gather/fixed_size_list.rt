@@ -4,9 +4,9 @@ ghost use Rattle.std.specs.Prelude.{◌≡◌, ◌+◌, ◌*◌, ◌^◌, ◌<�
 ghost use Rattle.sel_arrow.specs.Columns.{primitive_rows};
 ghost use Rattle.sel_arrow.specs.Masked.{number_value};
 ghost use Rattle.sel_arrow.specs.Rows.{rows, row_count, type_of, IsWellFormed};
-ghost use Rattle.polars_compute.specs.Blocks.{after_block, block_items, blocks_within, is_block_within, IsBeginning};
-ghost use Rattle.polars_compute.specs.BareBlocks.{holds_bare, is_bare, past_blocks, HoldsBlocks};
-ghost use Rattle.polars_compute.specs.Need.{IsPastRows, IsRefusal, past};
+ghost use Rattle.polars_compute.specs.Blocks.{after_block_copy, block_items, blocks_within, is_block_within, IsBeginning};
+ghost use Rattle.polars_compute.specs.BareBlocks.{holds_bare, is_bare, exceeded_blocks, HoldsBlocks};
+ghost use Rattle.polars_compute.specs.Need.{ExceedsRows, IsLimitOrMemory, exceeded_limits};
 ghost use Rattle.polars_compute.specs.Pick.{all_within, take_rows};
 
 use crate::gather::validity::take_bits;
@@ -75,7 +75,8 @@ fn take_block<T: Copy>(
         (is_block_within size (length out.old.source) (number_value pos index)) }
     requires short { length out.old.source < 2 ^ 64 }
     requires countable { out.old.copies ≤ 4294967295 }
-    ensures block { OnOk result (out.new ≡ after_block size zero out.old (number_value pos index)) }
+    ensures block { OnOk result (out.new ≡ after_block_copy size zero out.old
+        (number_value pos index)) }
     ensures unchanged { IfErr result (λ _. out.new ≡ out.old) }
     ensures refusal { IfErr result (λ fault. fault ≡ PolarsError.OutOfMemory) }
 {
@@ -141,8 +142,8 @@ pub(crate) fn take_unchecked(
         (λ taken. rows taken.column ≡ take_rows (rows values.now) (primitive_rows indices.now)) }
     ensures dtype { IfOk result (λ taken. type_of taken.column ≡ type_of values.now) }
     ensures refusal { IfErr result
-        (IsRefusal
-        (past (type_of values.now)
+        (IsLimitOrMemory
+        (exceeded_limits (type_of values.now)
         (take_rows (rows values.now) (primitive_rows indices.now)))) }
 {
     let Column::FixedSizeList {
@@ -178,7 +179,7 @@ fn rows_below(count: usize, size: usize) -> PolarsResult<usize>
     requires narrow { size ≤ 4294967295 }
     ensures below { IfOk result (λ below. below ≡ count * size) }
     ensures few { IfOk result (λ below. below ≤ 4294967295) }
-    ensures refusal { IfErr result (IsRefusal (IsPastRows (count * size))) }
+    ensures refusal { IfErr result (IsLimitOrMemory (ExceedsRows (count * size))) }
 {
     let below = count * size;
     if below > MOST_ROWS {
@@ -213,7 +214,7 @@ fn take_level(
     ensures count { IfOk result (λ taken. row_count taken ≡ count) }
     ensures dtype { IfOk result (λ taken. type_of taken ≡ type_of column.now) }
     ensures formed { IfOk result (λ taken. IsWellFormed taken) }
-    ensures refusal { IfErr result (IsRefusal (past_blocks (type_of column.now) count)) }
+    ensures refusal { IfErr result (IsLimitOrMemory (exceeded_blocks (type_of column.now) count)) }
 {
     match column {
         Column::Int8(numbers) => take_leaf(alloc, numbers, size, indices),

@@ -6,7 +6,7 @@ ghost use Rattle.sel_arrow.specs.Columns.{binary_rows};
 ghost use Rattle.sel_arrow.specs.Masked.{bytes_value};
 ghost use Rattle.sel_arrow.specs.Value.{Value, Null, is_valid, validities};
 ghost use Rattle.polars_compute.specs.JoinedBytes.{IsBytesRow, AllBytesRows, ends_from, joined_bytes};
-ghost use Rattle.polars_compute.specs.Need.{byte_count, bytes_needed, IsRefusal, IsPastBytes};
+ghost use Rattle.polars_compute.specs.Need.{byte_count, bytes_needed, IsLimitOrMemory, ExceedsBytes};
 
 use sel_arrow::binary::BinaryArray;
 use sel_bits::bitmap::Bitmap;
@@ -65,11 +65,12 @@ pub fn collect_bytes<O: Offset, S: ByteRows>(
     source: &S,
 ) -> PolarsResult<BinaryArray<O>>
     ensures rows { IfOk result (λ column. binary_rows column ≡ S.rows source.now) }
-    ensures offsets { IfOk result (λ column. column.offsets ≡ 0 ∷ ends_from 0 (S.rows source.now)) }
+    ensures offsets { IfOk result (λ column. column.offsets ≡ 0 ∷
+        ends_from 0 (S.rows source.now)) }
     ensures fits { IfOk result (λ _. pos
         (bytes_needed (S.rows source.now)) ≤ℤ O.number O.GREATEST) }
-    ensures refusal { IfErr result (IsRefusal
-        (IsPastBytes (O.number O.GREATEST) (S.rows source.now))) }
+    ensures refusal { IfErr result (IsLimitOrMemory
+        (ExceedsBytes (O.number O.GREATEST) (S.rows source.now))) }
 {
     let need = count_bytes(source);
     if need > most_bytes::<O>() as u128 {

@@ -4,7 +4,7 @@ ghost use Rattle.std.specs.Prelude.{◌≡◌, ◌≤◌, ◌<◌, length, slice
 ghost use Rattle.sel_arrow.specs.Columns.{null_rows, primitive_rows};
 ghost use Rattle.sel_arrow.specs.Rows.{rows, type_of, IsWellFormed};
 ghost use Rattle.polars_compute.specs.Blocks.{blocks_within};
-ghost use Rattle.polars_compute.specs.Need.{IsRefusal, PassesNone, past};
+ghost use Rattle.polars_compute.specs.Need.{IsLimitOrMemory, ExceedsNone, exceeded_limits};
 ghost use Rattle.sel_arrow.specs.Masked.{number_value};
 ghost use Rattle.sel_arrow.specs.Value.{Null};
 ghost use Rattle.polars_compute.specs.Pick.{is_within, all_within, all_below, take_rows};
@@ -52,9 +52,9 @@ pub fn take_unchecked(alloc: Global, values: &ArrayRef, indices: &IdxArr) -> Pol
     ensures rows { IfOk result (λ taken. rows taken.column ≡
         take_rows (rows values.now.column) (primitive_rows indices.now)) }
     ensures dtype { IfOk result (λ taken. type_of taken.column ≡ type_of values.now.column) }
-    ensures within { IfOk result (λ _. PassesNone (past (type_of values.now.column)
+    ensures within { IfOk result (λ _. ExceedsNone (exceeded_limits (type_of values.now.column)
         (take_rows (rows values.now.column) (primitive_rows indices.now)))) }
-    ensures refusal { IfErr result (IsRefusal (past (type_of values.now.column)
+    ensures refusal { IfErr result (IsLimitOrMemory (exceeded_limits (type_of values.now.column)
         (take_rows (rows values.now.column) (primitive_rows indices.now)))) }
 {
     let taken = take_any(alloc, values, indices)?;
@@ -67,7 +67,7 @@ fn take_any(alloc: Global, values: &ArrayRef, indices: &IdxArr) -> PolarsResult<
     ensures rows { IfOk result (λ taken. rows taken.column ≡
         take_rows (rows values.now.column) (primitive_rows indices.now)) }
     ensures dtype { IfOk result (λ taken. type_of taken.column ≡ type_of values.now.column) }
-    ensures refusal { IfErr result (IsRefusal (past (type_of values.now.column)
+    ensures refusal { IfErr result (IsLimitOrMemory (exceeded_limits (type_of values.now.column)
         (take_rows (rows values.now.column) (primitive_rows indices.now)))) }
 {
     match values.as_column() {
@@ -101,8 +101,9 @@ fn take_nested(alloc: Global, values: &Column, indices: &IdxArr) -> PolarsResult
     ensures rows { IfOk result (λ taken. rows taken.column ≡
         take_rows (rows values.now) (primitive_rows indices.now)) }
     ensures dtype { IfOk result (λ taken. type_of taken.column ≡ type_of values.now) }
-    ensures refusal { IfErr result (IsRefusal
-        (past (type_of values.now) (take_rows (rows values.now) (primitive_rows indices.now)))) }
+    ensures refusal { IfErr result
+        (IsLimitOrMemory (exceeded_limits (type_of values.now)
+        (take_rows (rows values.now) (primitive_rows indices.now)))) }
 {
     if fixed_size_list::holds_numbers(values) {
         return fixed_size_list::take_unchecked(alloc, values, indices);
@@ -124,8 +125,9 @@ fn take_numbers<T: ArrowPrimitive>(
     ensures rows { IfOk result (λ taken. rows taken.column ≡
         take_rows (primitive_rows values.now) (primitive_rows indices.now)) }
     ensures dtype { IfOk result (λ taken. type_of taken.column ≡ T.shape) }
-    ensures refusal { IfErr result (IsRefusal
-        (past T.shape (take_rows (primitive_rows values.now) (primitive_rows indices.now)))) }
+    ensures refusal { IfErr result
+        (IsLimitOrMemory (exceeded_limits T.shape
+        (take_rows (primitive_rows values.now) (primitive_rows indices.now)))) }
 {
     Ok(take_primitive_unchecked(alloc, values, indices)?.into_ref())
 }

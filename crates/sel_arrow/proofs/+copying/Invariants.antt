@@ -1,4 +1,4 @@
--- The copies so far.
+-- The copies so far are equal to the columns.
 use Rattle.std.proofs.Common.{◌≡◌, All, map, take}
 use Rattle.sel_arrow.specs.Rows.{rows, buffers_held, type_of, IsWellFormed}
 use Rattle.sel_arrow.proofs.+copying.Given as goal

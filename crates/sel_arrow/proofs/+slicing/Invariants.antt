@@ -1,4 +1,4 @@
--- The parts so far.
+-- The parts so far are slices of the columns.
 use Rattle.std.proofs.Common.{◌≡◌, All, map, take}
 use Rattle.sel_arrow.specs.Rows.{rows, buffers_held, type_of, IsField}
 use Rattle.sel_arrow.proofs.NestedParts.{part_rows}

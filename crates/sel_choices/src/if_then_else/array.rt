@@ -5,9 +5,9 @@ ghost use Rattle.sel_arrow.specs.NestedArrays.{block_column};
 ghost use Rattle.sel_arrow.specs.Rows.{rows, type_of};
 ghost use Rattle.sel_arrow.specs.Shape.{of_fixed_size_list};
 ghost use Rattle.sel_runs.specs.Children.{items_in};
-ghost use Rattle.sel_choices.specs.ListSides.{past_below};
+ghost use Rattle.sel_choices.specs.ListSides.{exceeded_below};
 ghost use Rattle.sel_choices.specs.ListParts.{chosen_from};
-ghost use Rattle.sel_choices.specs.Sides.{IsRefusal, PassesNone};
+ghost use Rattle.sel_choices.specs.Sides.{IsLimitOrMemory, ExceedsNone};
 
 use crate::if_then_else::IfThenElseKernel;
 use crate::if_then_else::list_parts::{HeldRows, held_by_blocks, held_column};
@@ -37,7 +37,7 @@ impl IfThenElseKernel for FixedSizeListArray {
 
     ghost is_own = { λ type. is_block_shape type ≡ true };
 
-    ghost past = { λ type if_true if_false chosen limit.
+    ghost exceeded = { λ type if_true if_false chosen limit.
         past_lists block_child type if_true if_false chosen limit };
 
     fn if_then_else(
@@ -104,12 +104,12 @@ fn choose_sized_lists<T: ListSide, F: ListSide>(
         chosen_from 0 mask.now.bits (T.row_at if_true.now) (F.row_at if_false.now)) }
     ensures dtype { IfOk result (λ lists. type_of (block_column lists) ≡
         of_fixed_size_list (type_of (T.held if_true.now)) size) }
-    ensures within { IfOk result (λ _. PassesNone
-        (past_below (of_fixed_size_list (type_of (T.held if_true.now)) size)
+    ensures within { IfOk result (λ _. ExceedsNone
+        (exceeded_below (of_fixed_size_list (type_of (T.held if_true.now)) size)
         (T.held if_true.now ∷ F.held if_false.now ∷ [])
         (chosen_from 0 mask.now.bits (T.row_at if_true.now) (F.row_at if_false.now)))) }
-    ensures refusal { IfErr result (IsRefusal
-        (past_below (of_fixed_size_list (type_of (T.held if_true.now)) size)
+    ensures refusal { IfErr result (IsLimitOrMemory
+        (exceeded_below (of_fixed_size_list (type_of (T.held if_true.now)) size)
         (T.held if_true.now ∷ F.held if_false.now ∷ [])
         (chosen_from 0 mask.now.bits (T.row_at if_true.now) (F.row_at if_false.now)))) }
 {

@@ -6,9 +6,9 @@ ghost use Rattle.sel_arrow.specs.Columns.{binview_rows};
 ghost use Rattle.sel_arrow.specs.DataType.{shape_of};
 ghost use Rattle.sel_arrow.specs.Shape.{of_binary_view};
 ghost use Rattle.sel_arrow.specs.Value.{Bytes};
-ghost use Rattle.sel_choices.specs.Choose.{choose, choose_of_two, choose_one, choose_or_one};
-ghost use Rattle.sel_choices.specs.Sides.{IsRefusal, PassesNone, column, scalar};
-ghost use Rattle.sel_choices.specs.ViewSides.{binview_buffers, past_binview, scalar_buffers};
+ghost use Rattle.sel_choices.specs.Choose.{choose, broadcast_both, broadcast_true, broadcast_false};
+ghost use Rattle.sel_choices.specs.Sides.{IsLimitOrMemory, ExceedsNone, column, scalar};
+ghost use Rattle.sel_choices.specs.ViewSides.{binview_buffers, exceeded_binview, scalar_buffers};
 
 use crate::if_then_else::IfThenElseKernel;
 use crate::if_then_else::view_columns::{
@@ -41,7 +41,8 @@ impl IfThenElseKernel for BinaryViewArray {
 
     ghost is_own = { λ type. type ≡ of_binary_view };
 
-    ghost past = { λ _ if_true if_false rows limit. past_binview if_true if_false rows limit };
+    ghost exceeded = { λ _ if_true if_false rows limit.
+        exceeded_binview if_true if_false rows limit };
 
     fn if_then_else(
         alloc: Global,
@@ -55,11 +56,11 @@ impl IfThenElseKernel for BinaryViewArray {
             choose mask.now.bits (binview_rows if_true.now) (binview_rows if_false.now)) }
         ensures buffers { IfOk result (λ chosen. binview_buffers chosen ≡
             binview_buffers if_true.now ++ binview_buffers if_false.now) }
-        ensures within { IfOk result (λ _. PassesNone
-            (past_binview (column if_true.now) (column if_false.now)
+        ensures within { IfOk result (λ _. ExceedsNone
+            (exceeded_binview (column if_true.now) (column if_false.now)
             (choose mask.now.bits (binview_rows if_true.now) (binview_rows if_false.now)))) }
-        ensures refusal { IfErr result (IsRefusal
-            (past_binview (column if_true.now) (column if_false.now)
+        ensures refusal { IfErr result (IsLimitOrMemory
+            (exceeded_binview (column if_true.now) (column if_false.now)
             (choose mask.now.bits (binview_rows if_true.now) (binview_rows if_false.now)))) }
     {
         choose_columns(alloc, mask, if_true, if_false)
@@ -72,17 +73,19 @@ impl IfThenElseKernel for BinaryViewArray {
         if_false: &BinaryViewArray,
     ) -> PolarsResult<BinaryViewArray>
         requires { length (binview_rows if_false.now) ≡ length mask.now.bits }
-        ensures rows { IfOk result (λ chosen. binview_rows chosen ≡
-            choose_one mask.now.bits (Bytes (vec_items if_true.now)) (binview_rows if_false.now)) }
+        ensures rows { IfOk result (λ chosen. binview_rows chosen ≡ broadcast_true mask.now.bits
+            (Bytes (vec_items if_true.now)) (binview_rows if_false.now)) }
         ensures buffers { IfOk result (λ chosen. binview_buffers chosen ≡
             binview_buffers if_false.now ++ scalar_buffers (vec_items if_true.now)) }
         ensures bytes { IfOk result (λ _. length (vec_items if_true.now) ≤ 4294967295) }
-        ensures within { IfOk result (λ _. PassesNone
-            (past_binview (scalar if_true.now) (column if_false.now) (choose_one mask.now.bits
-            (Bytes (vec_items if_true.now)) (binview_rows if_false.now)))) }
-        ensures refusal { IfErr result (IsRefusal
-            (past_binview (scalar if_true.now) (column if_false.now) (choose_one mask.now.bits
-            (Bytes (vec_items if_true.now)) (binview_rows if_false.now)))) }
+        ensures within { IfOk result
+            (λ _. ExceedsNone (exceeded_binview (scalar if_true.now) (column if_false.now)
+            (broadcast_true mask.now.bits (Bytes (vec_items if_true.now))
+            (binview_rows if_false.now)))) }
+        ensures refusal { IfErr result
+            (IsLimitOrMemory (exceeded_binview (scalar if_true.now) (column if_false.now)
+            (broadcast_true mask.now.bits (Bytes (vec_items if_true.now))
+            (binview_rows if_false.now)))) }
     {
         choose_bytes_true(alloc, mask, if_true.as_slice(), if_false)
     }
@@ -94,17 +97,19 @@ impl IfThenElseKernel for BinaryViewArray {
         if_false: &Vec<u8>,
     ) -> PolarsResult<BinaryViewArray>
         requires { length (binview_rows if_true.now) ≡ length mask.now.bits }
-        ensures rows { IfOk result (λ chosen. binview_rows chosen ≡ choose_or_one mask.now.bits
+        ensures rows { IfOk result (λ chosen. binview_rows chosen ≡ broadcast_false mask.now.bits
             (binview_rows if_true.now) (Bytes (vec_items if_false.now))) }
         ensures buffers { IfOk result (λ chosen. binview_buffers chosen ≡
             binview_buffers if_true.now ++ scalar_buffers (vec_items if_false.now)) }
         ensures bytes { IfOk result (λ _. length (vec_items if_false.now) ≤ 4294967295) }
-        ensures within { IfOk result (λ _. PassesNone
-            (past_binview (column if_true.now) (scalar if_false.now) (choose_or_one mask.now.bits
-            (binview_rows if_true.now) (Bytes (vec_items if_false.now))))) }
-        ensures refusal { IfErr result (IsRefusal
-            (past_binview (column if_true.now) (scalar if_false.now) (choose_or_one mask.now.bits
-            (binview_rows if_true.now) (Bytes (vec_items if_false.now))))) }
+        ensures within { IfOk result
+            (λ _. ExceedsNone (exceeded_binview (column if_true.now) (scalar if_false.now)
+            (broadcast_false mask.now.bits (binview_rows if_true.now)
+            (Bytes (vec_items if_false.now))))) }
+        ensures refusal { IfErr result
+            (IsLimitOrMemory (exceeded_binview (column if_true.now) (scalar if_false.now)
+            (broadcast_false mask.now.bits (binview_rows if_true.now)
+            (Bytes (vec_items if_false.now))))) }
     {
         choose_bytes_false(alloc, mask, if_true, if_false.as_slice())
     }
@@ -117,19 +122,21 @@ impl IfThenElseKernel for BinaryViewArray {
         if_false: &Vec<u8>,
     ) -> PolarsResult<BinaryViewArray>
         requires { shape_of dtype ≡ of_binary_view }
-        ensures rows { IfOk result (λ chosen. binview_rows chosen ≡ choose_of_two mask.now.bits
+        ensures rows { IfOk result (λ chosen. binview_rows chosen ≡ broadcast_both mask.now.bits
             (Bytes (vec_items if_true.now)) (Bytes (vec_items if_false.now))) }
         ensures dtype { IfOk result (λ _. shape_of dtype ≡ of_binary_view) }
         ensures buffers { IfOk result (λ chosen. binview_buffers chosen ≡
             scalar_buffers (vec_items if_true.now) ++ scalar_buffers (vec_items if_false.now)) }
         ensures bytes { IfOk result (λ _. max (length (vec_items if_true.now))
             (length (vec_items if_false.now)) ≤ 4294967295) }
-        ensures within { IfOk result (λ _. PassesNone
-            (past_binview (scalar if_true.now) (scalar if_false.now) (choose_of_two mask.now.bits
-            (Bytes (vec_items if_true.now)) (Bytes (vec_items if_false.now))))) }
-        ensures refusal { IfErr result (IsRefusal
-            (past_binview (scalar if_true.now) (scalar if_false.now) (choose_of_two mask.now.bits
-            (Bytes (vec_items if_true.now)) (Bytes (vec_items if_false.now))))) }
+        ensures within { IfOk result
+            (λ _. ExceedsNone (exceeded_binview (scalar if_true.now) (scalar if_false.now)
+            (broadcast_both mask.now.bits (Bytes (vec_items if_true.now))
+            (Bytes (vec_items if_false.now))))) }
+        ensures refusal { IfErr result
+            (IsLimitOrMemory (exceeded_binview (scalar if_true.now) (scalar if_false.now)
+            (broadcast_both mask.now.bits (Bytes (vec_items if_true.now))
+            (Bytes (vec_items if_false.now))))) }
     {
         drop(dtype);
         if mask.len() > MOST_ROWS {

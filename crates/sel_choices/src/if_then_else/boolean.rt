@@ -1,7 +1,7 @@
 //! If-then-else for boolean columns, by the words of their bitmaps.
 
 ghost use Rattle.std.specs.Prelude.{◌≡◌, length, IfOk, IfErr};
-ghost use Rattle.sel_choices.specs.Choose.{choose_of_two, choose_one, choose_or_one};
+ghost use Rattle.sel_choices.specs.Choose.{broadcast_both, broadcast_true, broadcast_false};
 
 use crate::if_then_else::IfThenElseKernel;
 use crate::if_then_else::validity::if_then_else_validity;
@@ -26,7 +26,7 @@ impl IfThenElseKernel for BooleanArray {
 
     ghost is_own = { λ type. type ≡ of_boolean };
 
-    ghost past = { λ _ if_true if_false rows limit. past_flat if_true if_false rows limit };
+    ghost exceeded = { λ _ if_true if_false rows limit. past_flat if_true if_false rows limit };
 
     fn if_then_else(
         alloc: Global,
@@ -94,7 +94,7 @@ fn value_or_bits(
 ) -> PolarsResult<Bitmap>
     requires { length if_false.now.bits ≡ length mask.now.bits }
     ensures bits { IfOk result (λ chosen. chosen.bits ≡
-        choose_one mask.now.bits if_true if_false.now.bits) }
+        broadcast_true mask.now.bits if_true if_false.now.bits) }
     ensures refusal { IfErr result (λ fault. fault ≡ PolarsError.OutOfMemory) }
 {
     if if_true {
@@ -114,7 +114,7 @@ fn bits_or_value(
 ) -> PolarsResult<Bitmap>
     requires { length if_true.now.bits ≡ length mask.now.bits }
     ensures bits { IfOk result (λ chosen. chosen.bits ≡
-        choose_or_one mask.now.bits if_true.now.bits if_false) }
+        broadcast_false mask.now.bits if_true.now.bits if_false) }
     ensures refusal { IfErr result (λ fault. fault ≡ PolarsError.OutOfMemory) }
 {
     if if_false {
@@ -133,7 +133,7 @@ fn one_of_values(
     if_false: bool,
 ) -> PolarsResult<Bitmap>
     ensures bits { IfOk result (λ chosen. chosen.bits ≡
-        choose_of_two mask.now.bits if_true if_false) }
+        broadcast_both mask.now.bits if_true if_false) }
     ensures refusal { IfErr result (λ fault. fault ≡ PolarsError.OutOfMemory) }
 {
     match (if_true, if_false) {

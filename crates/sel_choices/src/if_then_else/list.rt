@@ -4,9 +4,9 @@ ghost use Rattle.std.specs.Prelude.{◌≡◌, ◌≤◌, ◌<◌, ◌∷◌, []
 ghost use Rattle.sel_arrow.specs.NestedArrays.{list_column};
 ghost use Rattle.sel_arrow.specs.Rows.{rows, type_of};
 ghost use Rattle.sel_arrow.specs.Shape.{of_large_list};
-ghost use Rattle.sel_choices.specs.ListSides.{past_below};
+ghost use Rattle.sel_choices.specs.ListSides.{exceeded_below};
 ghost use Rattle.sel_choices.specs.ListParts.{chosen_from};
-ghost use Rattle.sel_choices.specs.Sides.{IsRefusal, PassesNone};
+ghost use Rattle.sel_choices.specs.Sides.{IsLimitOrMemory, ExceedsNone};
 
 use crate::if_then_else::IfThenElseKernel;
 use crate::if_then_else::list_parts::{HeldRows, held_by_lists, held_column};
@@ -36,7 +36,7 @@ impl IfThenElseKernel for ListArray<i64> {
 
     ghost is_own = { λ type. is_list_shape type ≡ true };
 
-    ghost past = { λ type if_true if_false chosen limit.
+    ghost exceeded = { λ type if_true if_false chosen limit.
         past_lists list_child type if_true if_false chosen limit };
 
     fn if_then_else(
@@ -96,12 +96,12 @@ fn choose_lists<T: ListSide, F: ListSide>(
         chosen_from 0 mask.now.bits (T.row_at if_true.now) (F.row_at if_false.now)) }
     ensures dtype { IfOk result (λ lists. type_of (list_column lists) ≡
         of_large_list (type_of (T.held if_true.now))) }
-    ensures within { IfOk result (λ _. PassesNone
-        (past_below (of_large_list (type_of (T.held if_true.now)))
+    ensures within { IfOk result (λ _. ExceedsNone
+        (exceeded_below (of_large_list (type_of (T.held if_true.now)))
         (T.held if_true.now ∷ F.held if_false.now ∷ [])
         (chosen_from 0 mask.now.bits (T.row_at if_true.now) (F.row_at if_false.now)))) }
-    ensures refusal { IfErr result (IsRefusal
-        (past_below (of_large_list (type_of (T.held if_true.now)))
+    ensures refusal { IfErr result (IsLimitOrMemory
+        (exceeded_below (of_large_list (type_of (T.held if_true.now)))
         (T.held if_true.now ∷ F.held if_false.now ∷ [])
         (chosen_from 0 mask.now.bits (T.row_at if_true.now) (F.row_at if_false.now)))) }
 {

@@ -6,7 +6,7 @@ ghost use Rattle.sel_arrow.specs.Rows.{rows, type_of, IsWellFormed};
 ghost use Rattle.sel_arrow.specs.Value.{Null, validities};
 ghost use Rattle.sel_runs.specs.Children.{joined_items};
 ghost use Rattle.sel_runs.specs.Ends.{item_ends};
-ghost use Rattle.sel_runs.specs.Need.{past_taken, IsPastRows, IsRefusal, PassesNone};
+ghost use Rattle.sel_runs.specs.Need.{exceeded_taken, ExceedsRows, IsLimitOrMemory, ExceedsNone};
 ghost use Rattle.sel_runs.specs.Picks.{pick, PickFits};
 ghost use Rattle.sel_runs.specs.Runs.{expand};
 ghost use Rattle.sel_runs.specs.Validity.{bits_for};
@@ -55,7 +55,7 @@ pub(crate) fn held_by_lists<T: ListSide, F: ListSide>(
     ensures covers { IfOk result (λ held. Covers held.0.validity (length mask.now.bits)) }
     ensures ends { IfOk result (λ held. held.1.items ≡ map pos (0 ∷ item_ends 0
         (chosen_from 0 mask.now.bits (T.row_at if_true.now) (F.row_at if_false.now)))) }
-    ensures refusal { IfErr result (IsRefusal (IsPastRows (length (joined_items 0
+    ensures refusal { IfErr result (IsLimitOrMemory (ExceedsRows (length (joined_items 0
         (chosen_from 0 mask.now.bits (T.row_at if_true.now) (F.row_at if_false.now)))))) }
 {
     let mut runs = Vec::new(alloc);
@@ -105,7 +105,7 @@ pub(crate) fn held_by_blocks<T: ListSide, F: ListSide>(
     ensures bits { IfOk result (λ held. bits_for (length mask.now.bits) held.validity ≡
         validities (chosen_from 0 mask.now.bits (T.row_at if_true.now) (F.row_at if_false.now))) }
     ensures covers { IfOk result (λ held. Covers held.validity (length mask.now.bits)) }
-    ensures refusal { IfErr result (IsRefusal (IsPastRows (length (joined_items width
+    ensures refusal { IfErr result (IsLimitOrMemory (ExceedsRows (length (joined_items width
         (chosen_from 0 mask.now.bits (T.row_at if_true.now) (F.row_at if_false.now)))))) }
 {
     let mut runs = Vec::new(alloc);
@@ -142,18 +142,19 @@ pub(crate) fn held_column(
     requires true_formed { IsWellFormed if_true.now }
     requires false_formed { IsWellFormed if_false.now }
     requires alike { type_of if_false.now ≡ type_of if_true.now }
-    requires fits { All (PickFits (rows if_true.now ∷ rows if_false.now ∷ [])) (expand runs.now) }
+    requires fits { All (PickFits (rows if_true.now ∷ rows if_false.now ∷ []))
+        (expand runs.now) }
     requires many { length (expand runs.now) ≡ count }
     requires room { count ≤ 4294967295 }
     ensures rows { IfOk result (λ column. rows column ≡
         pick Null (rows if_true.now ∷ rows if_false.now ∷ []) (expand runs.now)) }
     ensures dtype { IfOk result (λ column. type_of column ≡ type_of if_true.now) }
     ensures formed { IfOk result (λ column. IsWellFormed column) }
-    ensures within { IfOk result (λ _. PassesNone
-        (past_taken (type_of if_true.now) (if_true.now ∷ if_false.now ∷ [])
+    ensures within { IfOk result (λ _. ExceedsNone
+        (exceeded_taken (type_of if_true.now) (if_true.now ∷ if_false.now ∷ [])
         (pick Null (rows if_true.now ∷ rows if_false.now ∷ []) (expand runs.now)))) }
-    ensures refusal { IfErr result (IsRefusal
-        (past_taken (type_of if_true.now) (if_true.now ∷ if_false.now ∷ [])
+    ensures refusal { IfErr result (IsLimitOrMemory
+        (exceeded_taken (type_of if_true.now) (if_true.now ∷ if_false.now ∷ [])
         (pick Null (rows if_true.now ∷ rows if_false.now ∷ []) (expand runs.now)))) }
 {
     collect_runs(alloc, &[if_true, if_false], runs, count)

@@ -37,7 +37,8 @@ pub(crate) trait ListSide {
         ensures null { IfNone result (row_at self.now i ≡ Null) }
         ensures row { IfSome result (λ part. row_at self.now i ≡
             list_of (take part.1 (drop part.0 (rows (held self.now))))) }
-        ensures inside { IfSome result (λ part. part.0 + part.1 ≤ length (rows (held self.now))) };
+        ensures inside { IfSome result (λ part. part.0 + part.1 ≤ length
+            (rows (held self.now))) };
 }
 
 impl ListSide for ListArray<i64> {
@@ -137,8 +138,8 @@ pub(crate) fn chosen_part<T: ListSide, F: ListSide>(
 // Returns the child rows of row `i` as a run of `source`, or a run of `width` nulls if it is null.
 fn run_of_part<S: ListSide>(side: &S, i: usize, source: u32, width: u32) -> Run
     requires { S.is_row side.now i }
-    ensures { (xss : List (List Value)) → slice_index_or xss source [] ≡ rows (S.held side.now) →
-        IsPart xss width (S.row_at side.now i) result }
+    ensures { (xss : List (List Value)) → slice_index_or xss source [] ≡
+        rows (S.held side.now) → IsPart xss width (S.row_at side.now i) result }
 {
     match side.part(i) {
         None => Run {

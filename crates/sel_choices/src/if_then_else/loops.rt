@@ -2,7 +2,7 @@
 
 ghost use Rattle.std.specs.Prelude.{◌≡◌, ◌≤◌, ◌<◌, ◌+◌, ◌/◌, List, length, take, drop, replicate, IfOk, IfErr, OnOk};
 ghost use Rattle.sel_bits.specs.Words.{bits};
-ghost use Rattle.sel_choices.specs.Choose.{choose, choose_of_two, choose_or_one, choose_one};
+ghost use Rattle.sel_choices.specs.Choose.{choose, broadcast_both, broadcast_false, broadcast_true};
 
 use crate::if_then_else::scalar::{
     if_then_else_broadcast_both_scalar_rest, if_then_else_broadcast_false_scalar_rest,
@@ -177,7 +177,8 @@ pub(crate) fn choose_one_true<T: Copy>(
     if_false: &[T],
 ) -> PolarsResult<Vec<T>>
     requires { length if_false.now ≡ length mask.now.bits }
-    ensures items { IfOk result (λ out. out.items ≡ choose_one mask.now.bits if_true if_false.now) }
+    ensures items { IfOk result (λ out. out.items ≡ broadcast_true mask.now.bits if_true
+        if_false.now) }
     ensures refusal { IfErr result (λ fault. fault ≡ PolarsError.OutOfMemory) }
 {
     let mut out = Vec::from_slice(alloc, if_false)?;
@@ -195,7 +196,7 @@ pub(crate) fn choose_one_false<T: Copy>(
 ) -> PolarsResult<Vec<T>>
     requires { length if_true.now ≡ length mask.now.bits }
     ensures items { IfOk result (λ out. out.items ≡
-        choose_or_one mask.now.bits if_true.now if_false) }
+        broadcast_false mask.now.bits if_true.now if_false) }
     ensures refusal { IfErr result (λ fault. fault ≡ PolarsError.OutOfMemory) }
 {
     let mut out = Vec::from_slice(alloc, if_true)?;
@@ -211,7 +212,8 @@ pub(crate) fn choose_two<T: Copy>(
     if_true: T,
     if_false: T,
 ) -> PolarsResult<Vec<T>>
-    ensures items { IfOk result (λ out. out.items ≡ choose_of_two mask.now.bits if_true if_false) }
+    ensures items { IfOk result (λ out. out.items ≡ broadcast_both mask.now.bits if_true
+        if_false) }
     ensures refusal { IfErr result (λ fault. fault ≡ PolarsError.OutOfMemory) }
 {
     let len = mask.len();

@@ -4,8 +4,8 @@ ghost use Rattle.std.specs.Prelude.{◌≡◌, List, length, IfOk, IfErr};
 ghost use Rattle.sel_bits.specs.declared.faults.Limit.{Limit};
 ghost use Rattle.sel_arrow.specs.Shape.{Shape};
 ghost use Rattle.sel_arrow.specs.Value.{Value};
-ghost use Rattle.sel_choices.specs.Choose.{choose, choose_of_two, choose_one, choose_or_one};
-ghost use Rattle.sel_choices.specs.Sides.{Side, column, scalar, IsRefusal, PassesNone};
+ghost use Rattle.sel_choices.specs.Choose.{choose, broadcast_both, broadcast_true, broadcast_false};
+ghost use Rattle.sel_choices.specs.Sides.{Side, column, scalar, IsLimitOrMemory, ExceedsNone};
 
 use sel_arrow::array::Array;
 use sel_arrow::datatype::ArrowDataType;
@@ -50,7 +50,7 @@ pub trait IfThenElseKernel: Sized + Array {
     ghost is_own: { Shape → Type 0 };
 
     /// The limits exceeded by an if-then-else result of this type with these rows.
-    ghost past: { Shape → Side Self Self.Scalar → Side Self Self.Scalar → List Value →
+    ghost exceeded: { Shape → Side Self Self.Scalar → Side Self Self.Scalar → List Value →
         Limit → Type 0 };
 
     /// Returns a column with row k of `if_true` where bit k of `mask` is set, else of `if_false`.
@@ -69,11 +69,11 @@ pub trait IfThenElseKernel: Sized + Array {
         ensures rows { IfOk result (λ chosen. Self.rows chosen ≡
             choose mask.now.bits (Self.rows if_true.now) (Self.rows if_false.now)) }
         ensures dtype { IfOk result (λ chosen. Self.shape chosen ≡ Self.shape if_true.now) }
-        ensures within { IfOk result (λ _. PassesNone
-            (past (Self.shape if_true.now) (column if_true.now) (column if_false.now)
+        ensures within { IfOk result (λ _. ExceedsNone
+            (exceeded (Self.shape if_true.now) (column if_true.now) (column if_false.now)
             (choose mask.now.bits (Self.rows if_true.now) (Self.rows if_false.now)))) }
-        ensures refusal { IfErr result (IsRefusal
-            (past (Self.shape if_true.now) (column if_true.now) (column if_false.now)
+        ensures refusal { IfErr result (IsLimitOrMemory
+            (exceeded (Self.shape if_true.now) (column if_true.now) (column if_false.now)
             (choose mask.now.bits (Self.rows if_true.now) (Self.rows if_false.now)))) };
 
     /// Returns a column with the scalar where the bit of `mask` is set, else the row of `if_false`.
@@ -89,14 +89,14 @@ pub trait IfThenElseKernel: Sized + Array {
         requires false_side { length (Self.rows if_false.now) ≡ length mask.now.bits }
         requires fits { fits if_true.now (Self.shape if_false.now) }
         ensures rows { IfOk result (λ chosen. Self.rows chosen ≡
-            choose_one mask.now.bits (scalar_row if_true.now) (Self.rows if_false.now)) }
+            broadcast_true mask.now.bits (scalar_row if_true.now) (Self.rows if_false.now)) }
         ensures dtype { IfOk result (λ chosen. Self.shape chosen ≡ Self.shape if_false.now) }
-        ensures within { IfOk result (λ _. PassesNone
-            (past (Self.shape if_false.now) (scalar if_true.now) (column if_false.now)
-            (choose_one mask.now.bits (scalar_row if_true.now) (Self.rows if_false.now)))) }
-        ensures refusal { IfErr result (IsRefusal
-            (past (Self.shape if_false.now) (scalar if_true.now) (column if_false.now)
-            (choose_one mask.now.bits (scalar_row if_true.now) (Self.rows if_false.now)))) };
+        ensures within { IfOk result (λ _. ExceedsNone
+            (exceeded (Self.shape if_false.now) (scalar if_true.now) (column if_false.now)
+            (broadcast_true mask.now.bits (scalar_row if_true.now) (Self.rows if_false.now)))) }
+        ensures refusal { IfErr result (IsLimitOrMemory
+            (exceeded (Self.shape if_false.now) (scalar if_true.now) (column if_false.now)
+            (broadcast_true mask.now.bits (scalar_row if_true.now) (Self.rows if_false.now)))) };
 
     /// Returns a column with the row of `if_true` where the bit of `mask` is set, else the scalar.
     ///
@@ -111,14 +111,14 @@ pub trait IfThenElseKernel: Sized + Array {
         requires true_side { length (Self.rows if_true.now) ≡ length mask.now.bits }
         requires fits { fits if_false.now (Self.shape if_true.now) }
         ensures rows { IfOk result (λ chosen. Self.rows chosen ≡
-            choose_or_one mask.now.bits (Self.rows if_true.now) (scalar_row if_false.now)) }
+            broadcast_false mask.now.bits (Self.rows if_true.now) (scalar_row if_false.now)) }
         ensures dtype { IfOk result (λ chosen. Self.shape chosen ≡ Self.shape if_true.now) }
-        ensures within { IfOk result (λ _. PassesNone
-            (past (Self.shape if_true.now) (column if_true.now) (scalar if_false.now)
-            (choose_or_one mask.now.bits (Self.rows if_true.now) (scalar_row if_false.now)))) }
-        ensures refusal { IfErr result (IsRefusal
-            (past (Self.shape if_true.now) (column if_true.now) (scalar if_false.now)
-            (choose_or_one mask.now.bits (Self.rows if_true.now) (scalar_row if_false.now)))) };
+        ensures within { IfOk result (λ _. ExceedsNone
+            (exceeded (Self.shape if_true.now) (column if_true.now) (scalar if_false.now)
+            (broadcast_false mask.now.bits (Self.rows if_true.now) (scalar_row if_false.now)))) }
+        ensures refusal { IfErr result (IsLimitOrMemory
+            (exceeded (Self.shape if_true.now) (column if_true.now) (scalar if_false.now)
+            (broadcast_false mask.now.bits (Self.rows if_true.now) (scalar_row if_false.now)))) };
 
     /// Returns a column of type `dtype` with `if_true` where `mask` is set, else `if_false`.
     ///
@@ -135,12 +135,12 @@ pub trait IfThenElseKernel: Sized + Array {
         requires true_fits { fits if_true.now (shape_of dtype) }
         requires false_fits { fits if_false.now (shape_of dtype) }
         ensures rows { IfOk result (λ chosen. Self.rows chosen ≡
-            choose_of_two mask.now.bits (scalar_row if_true.now) (scalar_row if_false.now)) }
+            broadcast_both mask.now.bits (scalar_row if_true.now) (scalar_row if_false.now)) }
         ensures dtype { IfOk result (λ chosen. Self.shape chosen ≡ shape_of dtype) }
-        ensures within { IfOk result (λ _. PassesNone
-            (past (shape_of dtype) (scalar if_true.now) (scalar if_false.now)
-            (choose_of_two mask.now.bits (scalar_row if_true.now) (scalar_row if_false.now)))) }
-        ensures refusal { IfErr result (IsRefusal
-            (past (shape_of dtype) (scalar if_true.now) (scalar if_false.now)
-            (choose_of_two mask.now.bits (scalar_row if_true.now) (scalar_row if_false.now)))) };
+        ensures within { IfOk result (λ _. ExceedsNone
+            (exceeded (shape_of dtype) (scalar if_true.now) (scalar if_false.now)
+            (broadcast_both mask.now.bits (scalar_row if_true.now) (scalar_row if_false.now)))) }
+        ensures refusal { IfErr result (IsLimitOrMemory
+            (exceeded (shape_of dtype) (scalar if_true.now) (scalar if_false.now)
+            (broadcast_both mask.now.bits (scalar_row if_true.now) (scalar_row if_false.now)))) };
 }

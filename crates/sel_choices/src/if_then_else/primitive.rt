@@ -30,7 +30,7 @@ impl<T: ArrowPrimitive> IfThenElseKernel for PrimitiveArray<T> {
 
     ghost is_own = { λ type. type ≡ T.shape };
 
-    ghost past = { λ _ if_true if_false rows limit. past_flat if_true if_false rows limit };
+    ghost exceeded = { λ _ if_true if_false rows limit. past_flat if_true if_false rows limit };
 
     fn if_then_else(
         alloc: Global,

@@ -2,7 +2,7 @@
 
 ghost use Rattle.std.specs.Prelude.{◌≡◌, ◌≤◌, length};
 ghost use Rattle.sel_bits.specs.Words.{bits};
-ghost use Rattle.sel_choices.specs.Choose.{choose, choose_of_two, choose_or_one};
+ghost use Rattle.sel_choices.specs.Choose.{choose, broadcast_both, broadcast_false};
 
 pub use crate::if_then_else::loops::if_then_else_words;
 
@@ -34,7 +34,7 @@ pub fn if_then_else_broadcast_false_scalar_rest<T: Copy>(
 )
     requires few { length out.old ≤ 64 }
     requires true_side { length if_true.now ≡ length out.old }
-    ensures { out.new ≡ choose_or_one (bits (length out.old) mask) if_true.now if_false }
+    ensures { out.new ≡ broadcast_false (bits (length out.old) mask) if_true.now if_false }
 {
     for i in 0..out.len() {
         let one = if_true[i];
@@ -53,7 +53,7 @@ pub fn if_then_else_broadcast_both_scalar_rest<T: Copy>(
     out: &mut [T],
 )
     requires { length out.old ≤ 64 }
-    ensures { out.new ≡ choose_of_two (bits (length out.old) mask) if_true if_false }
+    ensures { out.new ≡ broadcast_both (bits (length out.old) mask) if_true if_false }
 {
     for i in 0..out.len() {
         out[i] = if (mask >> i) & 1 == 1 {
@@ -83,7 +83,7 @@ pub fn if_then_else_broadcast_false_scalar_64<T: Copy>(
     if_false: T,
     out: &mut [T; 64],
 )
-    ensures { out.new ≡ choose_or_one (bits 64 mask) if_true.now if_false }
+    ensures { out.new ≡ broadcast_false (bits 64 mask) if_true.now if_false }
 {
     if_then_else_broadcast_false_scalar_rest(mask, if_true, if_false, out)
 }
@@ -95,7 +95,7 @@ pub fn if_then_else_broadcast_both_scalar_64<T: Copy>(
     if_false: T,
     out: &mut [T; 64],
 )
-    ensures { out.new ≡ choose_of_two (bits 64 mask) if_true if_false }
+    ensures { out.new ≡ broadcast_both (bits 64 mask) if_true if_false }
 {
     if_then_else_broadcast_both_scalar_rest(mask, if_true, if_false, out)
 }

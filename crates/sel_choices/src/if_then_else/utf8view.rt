@@ -5,9 +5,9 @@ ghost use Rattle.sel_arrow.specs.Columns.{utf8view_rows};
 ghost use Rattle.sel_arrow.specs.DataType.{shape_of};
 ghost use Rattle.sel_arrow.specs.Shape.{of_utf8_view};
 ghost use Rattle.sel_arrow.specs.Value.{Bytes};
-ghost use Rattle.sel_choices.specs.Choose.{choose, choose_of_two, choose_one, choose_or_one};
-ghost use Rattle.sel_choices.specs.Sides.{IsRefusal, PassesNone, column, scalar};
-ghost use Rattle.sel_choices.specs.ViewSides.{utf8view_buffers, past_utf8view, scalar_buffers};
+ghost use Rattle.sel_choices.specs.Choose.{choose, broadcast_both, broadcast_true, broadcast_false};
+ghost use Rattle.sel_choices.specs.Sides.{IsLimitOrMemory, ExceedsNone, column, scalar};
+ghost use Rattle.sel_choices.specs.ViewSides.{utf8view_buffers, exceeded_utf8view, scalar_buffers};
 
 use crate::if_then_else::IfThenElseKernel;
 use crate::if_then_else::view_columns::{
@@ -40,7 +40,8 @@ impl IfThenElseKernel for Utf8ViewArray {
 
     ghost is_own = { λ type. type ≡ of_utf8_view };
 
-    ghost past = { λ _ if_true if_false rows limit. past_utf8view if_true if_false rows limit };
+    ghost exceeded = { λ _ if_true if_false rows limit.
+        exceeded_utf8view if_true if_false rows limit };
 
     fn if_then_else(
         alloc: Global,
@@ -54,11 +55,11 @@ impl IfThenElseKernel for Utf8ViewArray {
             choose mask.now.bits (utf8view_rows if_true.now) (utf8view_rows if_false.now)) }
         ensures buffers { IfOk result (λ chosen. utf8view_buffers chosen ≡
             utf8view_buffers if_true.now ++ utf8view_buffers if_false.now) }
-        ensures within { IfOk result (λ _. PassesNone
-            (past_utf8view (column if_true.now) (column if_false.now)
+        ensures within { IfOk result (λ _. ExceedsNone
+            (exceeded_utf8view (column if_true.now) (column if_false.now)
             (choose mask.now.bits (utf8view_rows if_true.now) (utf8view_rows if_false.now)))) }
-        ensures refusal { IfErr result (IsRefusal
-            (past_utf8view (column if_true.now) (column if_false.now)
+        ensures refusal { IfErr result (IsLimitOrMemory
+            (exceeded_utf8view (column if_true.now) (column if_false.now)
             (choose mask.now.bits (utf8view_rows if_true.now) (utf8view_rows if_false.now)))) }
     {
         let bytes = choose_columns(alloc, mask, &if_true.bytes, &if_false.bytes)?;
@@ -72,17 +73,19 @@ impl IfThenElseKernel for Utf8ViewArray {
         if_false: &Utf8ViewArray,
     ) -> PolarsResult<Utf8ViewArray>
         requires { length (utf8view_rows if_false.now) ≡ length mask.now.bits }
-        ensures rows { IfOk result (λ chosen. utf8view_rows chosen ≡ choose_one mask.now.bits
+        ensures rows { IfOk result (λ chosen. utf8view_rows chosen ≡ broadcast_true mask.now.bits
             (Bytes (string_bytes if_true.now)) (utf8view_rows if_false.now)) }
         ensures buffers { IfOk result (λ chosen. utf8view_buffers chosen ≡
             utf8view_buffers if_false.now ++ scalar_buffers (string_bytes if_true.now)) }
         ensures bytes { IfOk result (λ _. length (string_bytes if_true.now) ≤ 4294967295) }
-        ensures within { IfOk result (λ _. PassesNone
-            (past_utf8view (scalar if_true.now) (column if_false.now) (choose_one mask.now.bits
-            (Bytes (string_bytes if_true.now)) (utf8view_rows if_false.now)))) }
-        ensures refusal { IfErr result (IsRefusal
-            (past_utf8view (scalar if_true.now) (column if_false.now) (choose_one mask.now.bits
-            (Bytes (string_bytes if_true.now)) (utf8view_rows if_false.now)))) }
+        ensures within { IfOk result
+            (λ _. ExceedsNone (exceeded_utf8view (scalar if_true.now) (column if_false.now)
+            (broadcast_true mask.now.bits (Bytes (string_bytes if_true.now))
+            (utf8view_rows if_false.now)))) }
+        ensures refusal { IfErr result
+            (IsLimitOrMemory (exceeded_utf8view (scalar if_true.now) (column if_false.now)
+            (broadcast_true mask.now.bits (Bytes (string_bytes if_true.now))
+            (utf8view_rows if_false.now)))) }
     {
         let scalar = if_true.as_str().as_bytes();
         let bytes = choose_bytes_true(alloc, mask, scalar, &if_false.bytes)?;
@@ -96,17 +99,20 @@ impl IfThenElseKernel for Utf8ViewArray {
         if_false: &String,
     ) -> PolarsResult<Utf8ViewArray>
         requires { length (utf8view_rows if_true.now) ≡ length mask.now.bits }
-        ensures rows { IfOk result (λ chosen. utf8view_rows chosen ≡ choose_or_one mask.now.bits
-            (utf8view_rows if_true.now) (Bytes (string_bytes if_false.now))) }
+        ensures rows { IfOk result (λ chosen. utf8view_rows chosen ≡
+            broadcast_false mask.now.bits (utf8view_rows if_true.now)
+            (Bytes (string_bytes if_false.now))) }
         ensures buffers { IfOk result (λ chosen. utf8view_buffers chosen ≡
             utf8view_buffers if_true.now ++ scalar_buffers (string_bytes if_false.now)) }
         ensures bytes { IfOk result (λ _. length (string_bytes if_false.now) ≤ 4294967295) }
-        ensures within { IfOk result (λ _. PassesNone
-            (past_utf8view (column if_true.now) (scalar if_false.now) (choose_or_one mask.now.bits
-            (utf8view_rows if_true.now) (Bytes (string_bytes if_false.now))))) }
-        ensures refusal { IfErr result (IsRefusal
-            (past_utf8view (column if_true.now) (scalar if_false.now) (choose_or_one mask.now.bits
-            (utf8view_rows if_true.now) (Bytes (string_bytes if_false.now))))) }
+        ensures within { IfOk result
+            (λ _. ExceedsNone (exceeded_utf8view (column if_true.now) (scalar if_false.now)
+            (broadcast_false mask.now.bits (utf8view_rows if_true.now)
+            (Bytes (string_bytes if_false.now))))) }
+        ensures refusal { IfErr result
+            (IsLimitOrMemory (exceeded_utf8view (column if_true.now) (scalar if_false.now)
+            (broadcast_false mask.now.bits (utf8view_rows if_true.now)
+            (Bytes (string_bytes if_false.now))))) }
     {
         let scalar = if_false.as_str().as_bytes();
         let bytes = choose_bytes_false(alloc, mask, &if_true.bytes, scalar)?;
@@ -121,19 +127,21 @@ impl IfThenElseKernel for Utf8ViewArray {
         if_false: &String,
     ) -> PolarsResult<Utf8ViewArray>
         requires { shape_of dtype ≡ of_utf8_view }
-        ensures rows { IfOk result (λ chosen. utf8view_rows chosen ≡ choose_of_two mask.now.bits
+        ensures rows { IfOk result (λ chosen. utf8view_rows chosen ≡ broadcast_both mask.now.bits
             (Bytes (string_bytes if_true.now)) (Bytes (string_bytes if_false.now))) }
         ensures dtype { IfOk result (λ _. shape_of dtype ≡ of_utf8_view) }
         ensures buffers { IfOk result (λ chosen. utf8view_buffers chosen ≡ scalar_buffers
             (string_bytes if_true.now) ++ scalar_buffers (string_bytes if_false.now)) }
         ensures bytes { IfOk result (λ _. max (length (string_bytes if_true.now))
             (length (string_bytes if_false.now)) ≤ 4294967295) }
-        ensures within { IfOk result (λ _. PassesNone
-            (past_utf8view (scalar if_true.now) (scalar if_false.now) (choose_of_two mask.now.bits
-            (Bytes (string_bytes if_true.now)) (Bytes (string_bytes if_false.now))))) }
-        ensures refusal { IfErr result (IsRefusal
-            (past_utf8view (scalar if_true.now) (scalar if_false.now) (choose_of_two mask.now.bits
-            (Bytes (string_bytes if_true.now)) (Bytes (string_bytes if_false.now))))) }
+        ensures within { IfOk result
+            (λ _. ExceedsNone (exceeded_utf8view (scalar if_true.now) (scalar if_false.now)
+            (broadcast_both mask.now.bits (Bytes (string_bytes if_true.now))
+            (Bytes (string_bytes if_false.now))))) }
+        ensures refusal { IfErr result
+            (IsLimitOrMemory (exceeded_utf8view (scalar if_true.now) (scalar if_false.now)
+            (broadcast_both mask.now.bits (Bytes (string_bytes if_true.now))
+            (Bytes (string_bytes if_false.now))))) }
     {
         drop(dtype);
         if mask.len() > MOST_ROWS {

@@ -2,7 +2,7 @@
 
 ghost use Rattle.std.specs.Prelude.{◌≡◌, ◌≤◌, length, map, IfOk, IfErr, IsTrue};
 ghost use Rattle.sel_bits.specs.Words.{bits};
-ghost use Rattle.sel_choices.specs.Choose.{choose, choose_or_one};
+ghost use Rattle.sel_choices.specs.Choose.{choose, broadcast_false};
 ghost use Rattle.sel_choices.specs.ViewSides.{all_rise, can_rise, raised};
 
 use crate::if_then_else::loops::{BlockChoice, choose_blocks};
@@ -77,7 +77,7 @@ pub fn if_then_else_broadcast_false_view_64(
     if_false: View,
     out: &mut [View; 64],
 )
-    ensures { out.new ≡ choose_or_one (bits 64 mask) if_true.now if_false }
+    ensures { out.new ≡ broadcast_false (bits 64 mask) if_true.now if_false }
 {
     if_then_else_broadcast_false_scalar_64(mask, if_true, if_false, out)
 }

@@ -3,9 +3,9 @@
 ghost use Rattle.std.specs.Prelude.{◌≡◌, ◌≤◌, ◌+◌, ◌++◌, length, map, max, IfOk, IfErr, IsTrue};
 ghost use Rattle.sel_arrow.specs.Columns.{binview_rows};
 ghost use Rattle.sel_arrow.specs.Value.{Bytes};
-ghost use Rattle.sel_choices.specs.Choose.{choose, choose_of_two, choose_one, choose_or_one};
-ghost use Rattle.sel_choices.specs.Sides.{IsRefusal, PassesNone};
-ghost use Rattle.sel_choices.specs.ViewSides.{scalar_buffers, IsPastViews};
+ghost use Rattle.sel_choices.specs.Choose.{choose, broadcast_both, broadcast_true, broadcast_false};
+ghost use Rattle.sel_choices.specs.Sides.{IsLimitOrMemory, ExceedsNone};
+ghost use Rattle.sel_choices.specs.ViewSides.{scalar_buffers, ExceedsViews};
 
 use crate::if_then_else::loops::{choose_one_false, choose_one_true, choose_two};
 use crate::if_then_else::validity::if_then_else_validity;
@@ -34,10 +34,10 @@ pub(crate) fn choose_columns(
         choose mask.now.bits (binview_rows if_true.now) (binview_rows if_false.now)) }
     ensures buffers { IfOk result (λ chosen. chosen.buffers ≡
         if_true.now.buffers ++ if_false.now.buffers) }
-    ensures within { IfOk result (λ _. PassesNone
-        (IsPastViews (length if_true.now.buffers + length if_false.now.buffers) 0)) }
-    ensures refusal { IfErr result (IsRefusal
-        (IsPastViews (length if_true.now.buffers + length if_false.now.buffers) 0)) }
+    ensures within { IfOk result (λ _. ExceedsNone
+        (ExceedsViews (length if_true.now.buffers + length if_false.now.buffers) 0)) }
+    ensures refusal { IfErr result (IsLimitOrMemory
+        (ExceedsViews (length if_true.now.buffers + length if_false.now.buffers) 0)) }
 {
     let before = if_true.buffers.len();
     check_limits(before + if_false.buffers.len(), 0)?;
@@ -71,13 +71,13 @@ pub(crate) fn choose_bytes_true(
 ) -> PolarsResult<BinaryViewArray>
     requires { length (binview_rows if_false.now) ≡ length mask.now.bits }
     ensures rows { IfOk result (λ chosen. binview_rows chosen ≡
-        choose_one mask.now.bits (Bytes if_true.now) (binview_rows if_false.now)) }
+        broadcast_true mask.now.bits (Bytes if_true.now) (binview_rows if_false.now)) }
     ensures buffers { IfOk result (λ chosen. chosen.buffers ≡
         if_false.now.buffers ++ scalar_buffers if_true.now) }
     ensures bytes { IfOk result (λ _. length if_true.now ≤ 4294967295) }
-    ensures within { IfOk result (λ _. PassesNone (IsPastViews
+    ensures within { IfOk result (λ _. ExceedsNone (ExceedsViews
         (length (scalar_buffers if_true.now) + length if_false.now.buffers) (length if_true.now))) }
-    ensures refusal { IfErr result (IsRefusal (IsPastViews
+    ensures refusal { IfErr result (IsLimitOrMemory (ExceedsViews
         (length (scalar_buffers if_true.now) + length if_false.now.buffers) (length if_true.now))) }
 {
     let before = if_false.buffers.len();
@@ -104,13 +104,16 @@ pub(crate) fn choose_bytes_false(
 ) -> PolarsResult<BinaryViewArray>
     requires { length (binview_rows if_true.now) ≡ length mask.now.bits }
     ensures rows { IfOk result (λ chosen. binview_rows chosen ≡
-        choose_or_one mask.now.bits (binview_rows if_true.now) (Bytes if_false.now)) }
+        broadcast_false mask.now.bits (binview_rows if_true.now) (Bytes if_false.now)) }
     ensures buffers { IfOk result (λ chosen. chosen.buffers ≡
         if_true.now.buffers ++ scalar_buffers if_false.now) }
     ensures bytes { IfOk result (λ _. length if_false.now ≤ 4294967295) }
-    ensures within { IfOk result (λ _. PassesNone (IsPastViews (length if_true.now.buffers + length
-        (scalar_buffers if_false.now)) (length if_false.now))) }
-    ensures refusal { IfErr result (IsRefusal (IsPastViews (length if_true.now.buffers + length
+    ensures within { IfOk result
+        (λ _. ExceedsNone
+        (ExceedsViews (length if_true.now.buffers + length (scalar_buffers if_false.now))
+        (length if_false.now))) }
+    ensures refusal { IfErr result
+        (IsLimitOrMemory (ExceedsViews (length if_true.now.buffers + length
         (scalar_buffers if_false.now)) (length if_false.now))) }
 {
     let before = if_true.buffers.len();
@@ -137,15 +140,16 @@ pub(crate) fn choose_bytes(
 ) -> PolarsResult<BinaryViewArray>
     requires { length mask.now.bits ≤ 4294967295 }
     ensures rows { IfOk result (λ chosen. binview_rows chosen ≡
-        choose_of_two mask.now.bits (Bytes if_true.now) (Bytes if_false.now)) }
+        broadcast_both mask.now.bits (Bytes if_true.now) (Bytes if_false.now)) }
     ensures buffers { IfOk result (λ chosen. chosen.buffers ≡
         scalar_buffers if_true.now ++ scalar_buffers if_false.now) }
-    ensures bytes { IfOk result (λ _. max (length if_true.now) (length if_false.now) ≤ 4294967295) }
-    ensures within { IfOk result (λ _. PassesNone
-        (IsPastViews (length (scalar_buffers if_true.now) + length (scalar_buffers if_false.now))
+    ensures bytes { IfOk result (λ _. max (length if_true.now) (length if_false.now) ≤
+        4294967295) }
+    ensures within { IfOk result (λ _. ExceedsNone
+        (ExceedsViews (length (scalar_buffers if_true.now) + length (scalar_buffers if_false.now))
         (max (length if_true.now) (length if_false.now)))) }
-    ensures refusal { IfErr result (IsRefusal
-        (IsPastViews (length (scalar_buffers if_true.now) + length (scalar_buffers if_false.now))
+    ensures refusal { IfErr result (IsLimitOrMemory
+        (ExceedsViews (length (scalar_buffers if_true.now) + length (scalar_buffers if_false.now))
         (max (length if_true.now) (length if_false.now)))) }
 {
     let before = count_of_scalar(if_true);
@@ -170,8 +174,8 @@ pub(crate) fn choose_bytes(
 fn check_limits(buffers: usize, bytes: usize) -> PolarsResult<()>
     ensures buffers { IfOk result (λ _. buffers ≤ 4294967295) }
     ensures bytes { IfOk result (λ _. bytes ≤ 4294967295) }
-    ensures within { IfOk result (λ _. PassesNone (IsPastViews buffers bytes)) }
-    ensures refusal { IfErr result (IsRefusal (IsPastViews buffers bytes)) }
+    ensures within { IfOk result (λ _. ExceedsNone (ExceedsViews buffers bytes)) }
+    ensures refusal { IfErr result (IsLimitOrMemory (ExceedsViews buffers bytes)) }
 {
     if buffers > MOST_BUFFERS {
         return Err(PolarsError::SizeLimit(Limit::Buffers));

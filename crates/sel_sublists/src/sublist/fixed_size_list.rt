@@ -8,8 +8,8 @@ ghost use Rattle.sel_arrow.specs.NestedArrays.{block_column};
 ghost use Rattle.sel_arrow.specs.Rows.{rows, type_of};
 ghost use Rattle.sel_arrow.specs.Value.{Number};
 ghost use Rattle.sel_sublists.specs.Elements.{child_pick};
-ghost use Rattle.sel_runs.specs.Need.{PassesNone};
-ghost use Rattle.sel_sublists.specs.Entries.{fixed_get, at_each, entry_place, entry_places, out_of_bounds, place_of, IsGetRefusal, past_entries};
+ghost use Rattle.sel_runs.specs.Need.{ExceedsNone};
+ghost use Rattle.sel_sublists.specs.Entries.{fixed_get, at_each, entry_place, entry_places, is_get_error, place_of, IsGetError, exceeded_entries};
 
 use crate::sublist::pick_of_place;
 use sel_arrow::array::Array;
@@ -43,11 +43,12 @@ pub fn sub_fixed_size_list_get_literal(
         ≡ fixed_get (rows (block_column arr.now)) arr.now.size (at_each arr.now index)) }
     ensures dtype { IfOk result (λ taken. type_of taken.column ≡ type_of arr.now.values.value) }
     ensures inside { IfOk result (λ _.
-        out_of_bounds null_on_oob arr.now (at_each arr.now index) ≡ false) }
-    ensures within { IfOk result (λ _. PassesNone (past_entries arr.now (at_each arr.now index))) }
-    ensures refusal { IfErr result (IsGetRefusal null_on_oob arr.now (at_each arr.now index)) }
+        is_get_error null_on_oob arr.now (at_each arr.now index) ≡ false) }
+    ensures within { IfOk result
+        (λ _. ExceedsNone (exceeded_entries arr.now (at_each arr.now index))) }
+    ensures refusal { IfErr result (IsGetError null_on_oob arr.now (at_each arr.now index)) }
 {
-    if is_literal_refused(arr, index, null_on_oob) {
+    if is_literal_error(arr, index, null_on_oob) {
         return Err(PolarsError::ComputeError);
     }
     let place = negative_to_usize(index, arr.size);
@@ -87,12 +88,12 @@ pub fn sub_fixed_size_list_get(
         ≡ fixed_get (rows (block_column arr.now)) arr.now.size (primitive_rows index.now)) }
     ensures dtype { IfOk result (λ taken. type_of taken.column ≡ type_of arr.now.values.value) }
     ensures inside { IfOk result (λ _.
-        out_of_bounds null_on_oob arr.now (primitive_rows index.now) ≡ false) }
-    ensures within { IfOk result (λ _. PassesNone
-        (past_entries arr.now (primitive_rows index.now))) }
-    ensures refusal { IfErr result (IsGetRefusal null_on_oob arr.now (primitive_rows index.now)) }
+        is_get_error null_on_oob arr.now (primitive_rows index.now) ≡ false) }
+    ensures within { IfOk result (λ _. ExceedsNone
+        (exceeded_entries arr.now (primitive_rows index.now))) }
+    ensures refusal { IfErr result (IsGetError null_on_oob arr.now (primitive_rows index.now)) }
 {
-    if is_refused(arr, index, null_on_oob) {
+    if is_error(arr, index, null_on_oob) {
         return Err(PolarsError::ComputeError);
     }
     let places = EntryPlaces {
@@ -108,8 +109,8 @@ pub fn sub_fixed_size_list_get(
 }
 
 // Returns whether one index for all lists is an error.
-fn is_literal_refused(arr: &FixedSizeListArray, index: i64, null_on_oob: bool) -> bool
-    ensures { result ≡ out_of_bounds null_on_oob arr.now (at_each arr.now index) }
+fn is_literal_error(arr: &FixedSizeListArray, index: i64, null_on_oob: bool) -> bool
+    ensures { result ≡ is_get_error null_on_oob arr.now (at_each arr.now index) }
 {
     if null_on_oob {
         return false;
@@ -126,9 +127,9 @@ fn is_literal_refused(arr: &FixedSizeListArray, index: i64, null_on_oob: bool) -
 }
 
 // Returns whether some index is an error.
-fn is_refused(arr: &FixedSizeListArray, index: &PrimitiveArray<i64>, null_on_oob: bool) -> bool
+fn is_error(arr: &FixedSizeListArray, index: &PrimitiveArray<i64>, null_on_oob: bool) -> bool
     requires { length (primitive_rows index.now) ≡ length (rows (block_column arr.now)) }
-    ensures { result ≡ out_of_bounds null_on_oob arr.now (primitive_rows index.now) }
+    ensures { result ≡ is_get_error null_on_oob arr.now (primitive_rows index.now) }
 {
     if null_on_oob {
         return false;

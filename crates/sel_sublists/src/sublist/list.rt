@@ -9,7 +9,7 @@ ghost use Rattle.sel_arrow.specs.Pieces.{rows_between};
 ghost use Rattle.sel_arrow.specs.Rows.{rows, type_of};
 ghost use Rattle.sel_arrow.specs.Shape.{of_large_list};
 ghost use Rattle.sel_arrow.specs.Value.{Null};
-ghost use Rattle.sel_runs.specs.Need.{IsRefusal, PassesNone, past};
+ghost use Rattle.sel_runs.specs.Need.{IsLimitOrMemory, ExceedsNone, exceeded_limits};
 ghost use Rattle.sel_sublists.specs.Elements.{child_pick};
 ghost use Rattle.sel_sublists.specs.Lists.{list_get, lacks_place, oob, child_place, places_in, unit_lists};
 
@@ -39,10 +39,12 @@ pub fn sublist_get(alloc: Global, arr: &ListArray<i64>, index: i64) -> PolarsRes
     ensures rows { IfOk result (λ taken. rows taken.column ≡
         list_get (rows (list_column arr.now)) index) }
     ensures dtype { IfOk result (λ taken. type_of taken.column ≡ type_of arr.now.values.value) }
-    ensures within { IfOk result (λ _. PassesNone
-        (past (type_of arr.now.values.value) (list_get (rows (list_column arr.now)) index))) }
-    ensures refusal { IfErr result (IsRefusal
-        (past (type_of arr.now.values.value) (list_get (rows (list_column arr.now)) index))) }
+    ensures within { IfOk result
+        (λ _. ExceedsNone (exceeded_limits (type_of arr.now.values.value)
+        (list_get (rows (list_column arr.now)) index))) }
+    ensures refusal { IfErr result
+        (IsLimitOrMemory (exceeded_limits (type_of arr.now.values.value)
+        (list_get (rows (list_column arr.now)) index))) }
 {
     let places = ListPlaces { arr, index };
     let plan = Walk { places, at: 0 };

@@ -15,35 +15,35 @@ use Rattle.polars_compute.proofs.filter.+filtering.Goals as goal
 pub filter_column-filter_runs-requires-clause-few : goal.filter_column-filter_runs-requires-clause-few
 filter_column-filter_runs-requires-clause-few t c = omega (arith, few_rows c.args.column.now c.requires.formed, length-rows c.args.column.now, c.requires.long)
 
-pub filter_column-filter_tuples-requires : goal.filter_column-filter_tuples-requires
-filter_column-filter_tuples-requires t c =
+pub filter_column-filter_struct-requires : goal.filter_column-filter_struct-requires
+filter_column-filter_struct-requires t c =
     let len = c.in-Struct.len in
     let fields = c.in-Struct.fields in
     let validity = c.in-Struct.validity in
     let count = ap length (rows-Struct len fields validity) ∙ length-tuple_rows len (map rows fields.items) validity in
     (omega (arith, c.decreases, ap size_of (ap type_of c.in-Struct.is ∙ type_of-Struct len fields validity)), (ap well_formed (sym c.in-Struct.is) ∙ c.requires.formed, sym count ∙ ap (λ x. length (rows x)) (sym c.in-Struct.is) ∙ c.requires.long))
 
-pub filter_tuples-filter_fields-requires : goal.filter_tuples-filter_fields-requires
-filter_tuples-filter_fields-requires t c =
+pub filter_struct-filter_fields-requires : goal.filter_struct-filter_fields-requires
+filter_struct-filter_fields-requires t c =
     let has = has_fields c.args._count c.args.fields.now c.args.validity.now c.requires.formed in
     (omega (arith, c.decreases, ap (λ l. sizes_of (shapes_of (map type_of l))) c.deref.ensures.value), subst (All (IsField (length c.args.mask.now.bits))) (sym c.deref.ensures.value) (subst (λ n. All (IsField n) c.args.fields.now.items) c.requires.long has.fields))
 
-pub filter_tuples-invariant_of-result : goal.filter_tuples-invariant_of-result
-filter_tuples-invariant_of-result t c =
+pub filter_struct-invariant_of-result : goal.filter_struct-invariant_of-result
+filter_struct-invariant_of-result t c =
     let validity = rw c.as_ref.ensures.value at c.in_ok-validity.ensures.validity in
     record {
       formed = kept_struct_formed c.args._count c.set_bits-len.result c.args.fields.now c.in_ok-fields.fields c.args.validity.now c.in_ok-validity.validity c.args.mask.now.bits c.requires.formed c.requires.long c.set_bits-len.ensures c.in_ok-fields.ensures.fields validity;
     }
 
-pub filter_tuples-returns-clause-rows : goal.filter_tuples-returns-clause-rows
-filter_tuples-returns-clause-rows t c =
+pub filter_struct-returns-clause-rows : goal.filter_struct-returns-clause-rows
+filter_struct-returns-clause-rows t c =
     let ms = c.args.mask.now.bits in
     let validity = rw c.as_ref.ensures.value at c.in_ok-validity.ensures.validity in
     kept_struct_rows c.args._count c.set_bits-len.result c.args.fields.now c.in_ok-fields.fields c.args.validity.now c.in_ok-validity.validity ms c.requires.formed c.requires.long c.set_bits-len.ensures
     (c.in_ok-fields.ensures.rows ∙ ap (map (kept_of ms)) c.deref.ensures.value) validity
 
-pub filter_tuples-returns-clause-dtype : goal.filter_tuples-returns-clause-dtype
-filter_tuples-returns-clause-dtype t c =
+pub filter_struct-returns-clause-dtype : goal.filter_struct-returns-clause-dtype
+filter_struct-returns-clause-dtype t c =
     tuples_type c.args._count c.set_bits-len.result c.args.fields.now c.in_ok-fields.fields c.args.validity.now c.in_ok-validity.validity (c.in_ok-fields.ensures.dtypes ∙ ap (map type_of) c.deref.ensures.value)
 
 pub filter_fields-filter_column-requires : goal.filter_fields-filter_column-requires

@@ -1,4 +1,4 @@
--- The fields so far. A call goes on with what lies below.
+-- Termination: each recursive call is on a child or at a smaller measure.
 use Rattle.std.proofs.Common.{◌≡◌, ◌+◌, ◌*◌, All, map, take}
 use Rattle.sel_bits.specs.Bits.{count_true}
 use Rattle.sel_arrow.specs.Rows.{rows, type_of, IsField}
@@ -10,8 +10,8 @@ use Rattle.polars_compute.proofs.filter.+filtering.Given as goal
 abbrev pub decreases-filter_column : goal.decreases-filter_column
 decreases-filter_column l = 3 * size_of (type_of l.column.now) + 1
 
-abbrev pub decreases-filter_tuples : goal.decreases-filter_tuples
-decreases-filter_tuples l = 3 * sizes_of (shapes_of (map type_of l.fields.now.items)) + 3
+abbrev pub decreases-filter_struct : goal.decreases-filter_struct
+decreases-filter_struct l = 3 * sizes_of (shapes_of (map type_of l.fields.now.items)) + 3
 
 abbrev pub decreases-filter_fields : goal.decreases-filter_fields
 decreases-filter_fields l = 3 * sizes_of (shapes_of (map type_of l.columns.now)) + 2

@@ -6,7 +6,7 @@ use Rattle.sel_arrow.specs.Value.{Null}
 use Rattle.sel_runs.specs.Picks.{pick, PickFits}
 use Rattle.sel_runs.specs.Runs.{expand}
 use Rattle.sel_runs.proofs.Thinned.{memory_alone}
-use Rattle.polars_compute.specs.Need.{past}
+use Rattle.polars_compute.specs.Need.{exceeded_limits}
 use Rattle.polars_compute.specs.Pick.{place_pick}
 use Rattle.polars_compute.specs.Select.{kept}
 use Rattle.polars_compute.proofs.KeptRuns.{picked_kept, kept_fit, count_kept}
@@ -30,8 +30,8 @@ returns-in_err-kept-clause-refusal c =
     let picked = ap (pick Null (rows c.args.column.now ∷ [])) runs ∙ picked_kept (rows c.args.column.now) c.args.mask.now.bits c.requires.long in
     let column = c.args.column.now in
     rw (p.1, p.2)
-    (memory_alone (past (type_of column) (pick Null (rows column ∷ []) (expand c.deref.result.now))) c.in_err-kept.field-0.0
-    (λ limit h. kept_fits column c.requires.formed c.args.mask.now.bits limit (subst (λ l. past (type_of column) l limit) picked h)) c.in_err-kept.ensures.refusal)
+    (memory_alone (exceeded_limits (type_of column) (pick Null (rows column ∷ []) (expand c.deref.result.now))) c.in_err-kept.field-0.0
+    (λ limit h. kept_fits column c.requires.formed c.args.mask.now.bits limit (subst (λ l. exceeded_limits (type_of column) l limit) picked h)) c.in_err-kept.ensures.refusal)
 
 pub returns-clause-rows : goal.returns-clause-rows
 returns-clause-rows c =

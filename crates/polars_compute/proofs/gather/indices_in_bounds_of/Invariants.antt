@@ -1,4 +1,4 @@
--- The indices so far name rows.
+-- Loop invariant: the indices so far are in bounds.
 use Rattle.std.proofs.Common.{◌≡◌, true, take}
 use Rattle.sel_arrow.specs.Columns.{primitive_rows}
 use Rattle.polars_compute.specs.Pick.{all_within}

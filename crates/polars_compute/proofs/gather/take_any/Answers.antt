@@ -2,7 +2,7 @@ use Rattle.std.proofs.Common.{◌∙◌, sym}
 use Rattle.std.proofs.lemmas.Result.{err_from_is_err_and}
 use Rattle.polars_compute.proofs.gather.take_any.Goals as goal
 
--- only the bytes have a limit that rows pass
+-- Only a binary column has a limit that its rows can exceed.
 pub returns-in_err-take_unchecked-in-LargeBinary-clause-refusal : goal.returns-in_err-take_unchecked-in-LargeBinary-clause-refusal
 returns-in_err-take_unchecked-in-LargeBinary-clause-refusal c =
     let p = err_from_is_err_and c.from_residual-in_err-take_unchecked-in-LargeBinary.result c.from_residual-in_err-take_unchecked-in-LargeBinary.ensures.1 in

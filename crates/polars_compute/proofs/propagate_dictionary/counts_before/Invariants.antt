@@ -1,4 +1,4 @@
--- The counts so far, and how many bits were true.
+-- Loop invariant: the counts so far, and the number of true bits so far.
 use Rattle.std.proofs.Common.{◌≡◌, map, take}
 use Rattle.std.specs.List.{range_with_len}
 use Rattle.sel_bits.specs.Bits.{count_true}

@@ -1,4 +1,4 @@
--- The places so far, and then those of the other bits, are all of them.
+-- Loop invariant: the positions so far, followed by those of the remaining bits, are all positions.
 use Rattle.std.proofs.Common.{◌≡◌, ◌≤◌, ◌+◌, ◌++◌, length, map}
 use Rattle.sel_runs.specs.Runs.{expand}
 use Rattle.polars_compute.specs.Pick.{place_pick}

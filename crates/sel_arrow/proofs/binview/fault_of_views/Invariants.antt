@@ -1,4 +1,4 @@
--- The first fault of the views that are left is the first of all.
+-- The first fault of the remaining views is the first fault of all views.
 use Rattle.std.proofs.Common.{◌≡◌, drop}
 use Rattle.sel_arrow.specs.Makers.{views_fault}
 use Rattle.sel_arrow.proofs.binview.fault_of_views.Given as goal

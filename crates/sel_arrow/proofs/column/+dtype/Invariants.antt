@@ -3,6 +3,6 @@ use Rattle.sel_arrow.specs.DataType.{shape_of}
 use Rattle.sel_arrow.specs.Rows.{type_of}
 use Rattle.sel_arrow.proofs.column.+dtype.Given as goal
 
--- the types so far are those of the columns
+-- The types so far are those of the columns.
 abbrev pub invariant-dtypes_of-loop-column : goal.invariant-dtypes_of-loop-column
 invariant-dtypes_of-loop-column l = map shape_of l.dtypes.items ≡ map type_of (take l.column-index l.columns)

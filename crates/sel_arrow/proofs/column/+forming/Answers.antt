@@ -24,7 +24,7 @@ pub Column::is_well_formed-returns-then-are_fields : goal.Column::is_well_formed
 Column::is_well_formed-returns-then-are_fields t c =
     let struct = c.in-Struct in
     let all = subst (All (IsField struct.len)) c.deref-in-Struct.ensures.value (c.are_fields.ensures.0 c.if-are_fields.true) in
-    struct_test struct.len struct.fields struct.validity _ all (sym (ap is_some c.fault_of_tuples.ensures) ∙ c.is_none-then-are_fields.ensures)
+    struct_test struct.len struct.fields struct.validity _ all (sym (ap is_some c.fault_of_struct.ensures) ∙ c.is_none-then-are_fields.ensures)
     ∙ ap well_formed (sym struct.is)
 
 pub Column::is_well_formed-returns-else-are_fields : goal.Column::is_well_formed-returns-else-are_fields

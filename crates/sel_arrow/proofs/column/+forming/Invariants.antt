@@ -1,4 +1,4 @@
--- The columns so far are fields.
+-- The columns so far are well-formed and have `len` rows.
 use Rattle.std.proofs.Common.{All, take}
 use Rattle.sel_arrow.specs.Rows.{IsField}
 use Rattle.sel_arrow.proofs.column.+forming.Given as goal

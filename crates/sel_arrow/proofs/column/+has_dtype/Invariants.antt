@@ -3,6 +3,6 @@ use Rattle.sel_arrow.specs.DataType.{shape_of}
 use Rattle.sel_arrow.specs.Rows.{type_of}
 use Rattle.sel_arrow.proofs.column.+has_dtype.Given as goal
 
--- the types so far are those of the columns
+-- The columns so far have the given types.
 abbrev pub invariant-have_dtypes-loop-i : goal.invariant-have_dtypes-loop-i
 invariant-have_dtypes-loop-i l = map type_of (take l.i l.columns) ≡ map shape_of (take l.i l.dtypes)

@@ -3,6 +3,6 @@ use Rattle.std.specs.List.{list_all}
 use Rattle.sel_arrow.specs.DataType.{widths_fit}
 use Rattle.sel_arrow.proofs.datatype.+widths_fit.Given as goal
 
--- the widths so far fit
+-- The list sizes in the types so far are in bounds.
 abbrev pub invariant-all_widths_fit-loop-dtype : goal.invariant-all_widths_fit-loop-dtype
 invariant-all_widths_fit-loop-dtype l = list_all widths_fit (take l.dtype-index l.dtypes) ≡ true

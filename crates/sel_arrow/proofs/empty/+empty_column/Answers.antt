@@ -12,7 +12,7 @@ pub empty_column-returns-in_ok-empty_columns-in-Struct-clause-dtype :
     goal.empty_column-returns-in_ok-empty_columns-in-Struct-clause-dtype
 empty_column-returns-in_ok-empty_columns-in-Struct-clause-dtype t c =
     let same = rw c.deref-in-Struct.ensures.value at c.in_ok-empty_columns-in-Struct.ensures.dtypes in
-    c.no_tuples.ensures.dtype ∙ ap (λ l. of_struct (shapes_of l)) same ∙ sym (struct_shape _ _ c.in-Struct.is)
+    c.no_struct_rows.ensures.dtype ∙ ap (λ l. of_struct (shapes_of l)) same ∙ sym (struct_shape _ _ c.in-Struct.is)
 
 pub empty_column-empty_columns-requires : goal.empty_column-empty_columns-requires
 empty_column-empty_columns-requires t c =
@@ -28,12 +28,12 @@ empty_columns-loop-dtype-preserved t c =
       fields = rw c.in_ok-push.ensures.items (All-push (IsField 0) c.loop-dtype.columns.items column.field-0 c.loop-dtype.invariant.fields one);
     }
 
-pub empty_column-empty_truths-requires : goal.empty_column-empty_truths-requires
-empty_column-empty_truths-requires t c = tt
+pub empty_column-empty_booleans-requires : goal.empty_column-empty_booleans-requires
+empty_column-empty_booleans-requires t c = tt
 
 pub empty_column-returns-in-Boolean : goal.empty_column-returns-in-Boolean
 empty_column-returns-in-Boolean t c =
-    let made = c.empty_truths.ensures in
+    let made = c.empty_booleans.ensures in
     record { rows = made.rows; dtype = rw c.in-Boolean.is made.dtype; formed = made.formed; refusal = made.refusal }
 
 pub empty_column-returns-in-Int8 : goal.empty_column-returns-in-Int8

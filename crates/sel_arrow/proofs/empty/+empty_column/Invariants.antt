@@ -4,7 +4,7 @@ use Rattle.sel_arrow.specs.DataType.{shape_of}
 use Rattle.sel_arrow.specs.Rows.{type_of, IsField}
 use Rattle.sel_arrow.proofs.empty.+empty_column.Given as goal
 
--- the columns so far are of their types, and have no rows
+-- The columns so far have the given types and no rows.
 abbrev pub invariant-empty_columns-loop-dtype : goal.invariant-empty_columns-loop-dtype
 invariant-empty_columns-loop-dtype l = record {
   dtypes : map type_of l.columns.items ≡ map shape_of (take l.dtype-index l.dtypes);

@@ -1,4 +1,4 @@
--- Of the rows so far it is told which are there.
+-- The validity of the rows so far.
 use Rattle.std.proofs.Common.{◌≡◌, map, take}
 use Rattle.std.specs.Prelude.{is_some}
 use Rattle.sel_arrow.proofs.options.valid_rows.Given as goal

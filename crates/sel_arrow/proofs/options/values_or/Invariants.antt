@@ -1,4 +1,4 @@
--- The rows so far, with the one value in the place of those that are missing.
+-- The rows so far, with `hidden` for each missing one.
 use Rattle.std.proofs.Common.{◌≡◌, map, take}
 use Rattle.std.specs.Prelude.{unwrap_or}
 use Rattle.sel_arrow.proofs.options.values_or.Given as goal

@@ -8,7 +8,7 @@ use Rattle.sel_arrow.specs.declared.array_ref.ArrayRef.{ArrayRef}
 use Rattle.sel_arrow.specs.declared.column.Column.{Column}
 use Rattle.sel_arrow.proofs.structure.columns_of.Goals as goal
 
--- the loop went over all of them
+-- The loop visits all arrays.
 all_columns : (columns : List Column) (yielded arrays : List ArrayRef) → columns ≡ map (λ array. array.column) yielded → map (λ array. array) yielded ≡ arrays → columns ≡ map (λ array. array.column) arrays
 all_columns columns yielded arrays so_far all = so_far ∙ ap (map (λ (array : ArrayRef). array.column)) (sym (map-id yielded) ∙ all)
 

@@ -1,4 +1,4 @@
--- The columns so far.
+-- The columns of the arrays so far.
 use Rattle.std.proofs.Common.{◌≡◌, map}
 use Rattle.sel_arrow.proofs.structure.columns_of.Given as goal
 

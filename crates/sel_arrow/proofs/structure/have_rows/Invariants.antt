@@ -1,4 +1,4 @@
--- The columns so far have as many rows.
+-- The columns so far have `len` rows.
 use Rattle.std.proofs.Common.{◌≡◌, ◌==◌, true, take}
 use Rattle.std.specs.List.{list_all}
 use Rattle.sel_arrow.specs.Rows.{row_count}

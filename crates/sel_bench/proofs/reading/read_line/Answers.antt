@@ -4,7 +4,7 @@ use Rattle.std.proofs.KnownBytes.{Consumes-trans}
 use Rattle.sel_bench.proofs.Pieces.{no_feed_push}
 use Rattle.sel_bench.proofs.reading.read_line.Goals as goal
 
--- the byte was read before the push failed
+-- The byte was read before the push failed.
 pub returns-in_err-push-in-Some-clause-err : goal.returns-in_err-push-in-Some-clause-err
 returns-in_err-push-in-Some-clause-err g c =
     let p = err_from_is_err_and c.from_residual-in_err-push-in-Some.result c.from_residual-in_err-push-in-Some.ensures.1 in

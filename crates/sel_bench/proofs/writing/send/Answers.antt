@@ -3,7 +3,7 @@ use Rattle.sel_bench.specs.Counted.{counted_up, failures_of}
 use Rattle.sel_bench.proofs.Pieces.{sent_more, some_taken, none_taken}
 use Rattle.sel_bench.proofs.writing.send.Goals as goal
 
--- a write that took none of the rest
+-- A write that took none of the rest.
 pub returns-then-count-eq0-clause-failures : goal.returns-then-count-eq0-clause-failures
 returns-then-count-eq0-clause-failures g c =
     let rest = take (length c.args.text.now - c.loop-sent.sent) (drop c.loop-sent.sent c.args.text.now) in

@@ -1,4 +1,4 @@
--- What is left falls exactly where all of it does.
+-- The remaining offsets have a decrease exactly if all of them do.
 use Rattle.std.proofs.Common.{◌≡◌, drop}
 use Rattle.sel_bits.specs.Offsets.{falls_after}
 use Rattle.sel_bits.proofs.offsets.any_fall_after.Given as goal

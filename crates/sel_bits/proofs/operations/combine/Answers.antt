@@ -14,7 +14,7 @@ append-requires-clause-fits g c =
     let inside : at + (c.len-count.result - at) ≤ length made = omega (arith, long) in
     rw c.word_by.ensures (part_fits made at (c.len-count.result - at) inside)
 
--- the bits of the whole words, and behind them the rest
+-- The bits of the whole words, followed by the rest.
 all : (g : Over) (c : goal.In_ok-append g) → c.append.new.self ≡ zip_three g.R.BitRule.on_bits c.args.x.now.bits c.args.y.now.bits c.args.z.now.bits
 all g c =
     let made = zip_three g.R.BitRule.on_bits c.args.x.now.bits c.args.y.now.bits c.args.z.now.bits in

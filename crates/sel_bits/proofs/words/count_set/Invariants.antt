@@ -1,4 +1,4 @@
--- The bits of the blocks so far are counted.
+-- The set bits of the blocks so far are counted.
 use Rattle.std.proofs.Common.{◌≡◌, ◌*◌, take}
 use Rattle.sel_bits.specs.Bits.{bits_from, count_true}
 use Rattle.sel_bits.proofs.words.count_set.Given as goal

@@ -7,8 +7,8 @@ use Rattle.sel_flatten.proofs.Flattening.{as_sources}
 use Rattle.sel_runs.specs.Picks.{pick, PickFits}
 use Rattle.sel_runs.specs.Sources.{first_type}
 use Rattle.sel_arrow.specs.Shape.{Shape}
-use Rattle.sel_handle.specs.Status.{TellsLimits}
-use Rattle.sel_runs.specs.Need.{past_taken}
+use Rattle.sel_handle.specs.Status.{ReportsLimits}
+use Rattle.sel_runs.specs.Need.{exceeded_taken}
 use Rattle.sel_calls.specs.PickLengths.{HasRow}
 use Rattle.sel_calls.specs.Several.{first_shape, picks_from}
 use Rattle.sel_calls.proofs.Alike.{alike_columns, first_same}
@@ -91,6 +91,6 @@ returns-clause-limits c =
     let picks = picks_from 0 c.args.validity.now c.args.words.now in
     let vs = pick Null (map (λ (a : ArrayRef). rows a.column) c.args.arrays.now) picks in
     let passed = tells-passed c.status_of.result _ c.in-Err.fault c.status_of.ensures.number c.in-Err.ensures.refusal in
-    subst (λ (s : Shape). TellsLimits c.status_of.result (past_taken s columns vs)) (sym (first_same c.args.arrays.now))
-    (subst (λ (cs : List Column). TellsLimits c.status_of.result (past_taken (first_type cs) cs vs)) lent
-    (subst (λ (xss : List (List Value)). TellsLimits c.status_of.result (past_taken (first_type (map (λ (x : Bor Column). x.now) c.deref-2.result.now)) (map (λ (x : Bor Column). x.now) c.deref-2.result.now) (pick Null xss picks))) sources.rows passed))
+    subst (λ (s : Shape). ReportsLimits c.status_of.result (exceeded_taken s columns vs)) (sym (first_same c.args.arrays.now))
+    (subst (λ (cs : List Column). ReportsLimits c.status_of.result (exceeded_taken (first_type cs) cs vs)) lent
+    (subst (λ (xss : List (List Value)). ReportsLimits c.status_of.result (exceeded_taken (first_type (map (λ (x : Bor Column). x.now) c.deref-2.result.now)) (map (λ (x : Bor Column). x.now) c.deref-2.result.now) (pick Null xss picks))) sources.rows passed))

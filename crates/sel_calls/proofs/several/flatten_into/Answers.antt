@@ -2,8 +2,8 @@ use Rattle.std.proofs.Common.{map, subst, sym}
 use Rattle.sel_arrow.specs.Rows.{rows}
 use Rattle.sel_arrow.specs.Shape.{Shape}
 use Rattle.sel_arrow.specs.declared.array_ref.ArrayRef.{ArrayRef}
-use Rattle.sel_flatten.specs.Flatten.{flatten, past_flattened}
-use Rattle.sel_handle.specs.Status.{TellsLimits}
+use Rattle.sel_flatten.specs.Flatten.{flatten, exceeded_flattened}
+use Rattle.sel_handle.specs.Status.{ReportsLimits}
 use Rattle.sel_runs.specs.Sources.{first_type}
 use Rattle.sel_calls.proofs.Alike.{alike_columns, first_same}
 use Rattle.sel_calls.proofs.Limits.{tells-passed}
@@ -22,5 +22,5 @@ pub returns-in-Err-clause-limits : goal.returns-in-Err-clause-limits
 returns-in-Err-clause-limits c =
     let columns = map (λ (a : ArrayRef). a.column) c.args.arrays.now in
     let vs = flatten (map (λ (a : ArrayRef). rows a.column) c.args.arrays.now) c.args.widths.now c.args.height in
-    subst (λ (s : Shape). TellsLimits c.status_of.result (past_flattened c.args.height s columns vs)) (sym (first_same c.args.arrays.now))
-    (tells-passed c.status_of.result (past_flattened c.args.height (first_type columns) columns vs) c.in-Err.fault c.status_of.ensures.number c.in-Err.ensures.refusal)
+    subst (λ (s : Shape). ReportsLimits c.status_of.result (exceeded_flattened c.args.height s columns vs)) (sym (first_same c.args.arrays.now))
+    (tells-passed c.status_of.result (exceeded_flattened c.args.height (first_type columns) columns vs) c.in-Err.fault c.status_of.ensures.number c.in-Err.ensures.refusal)

@@ -2,27 +2,27 @@ use Rattle.std.proofs.Common.{◌≡◌, true, length, sym, ◌∙◌, subst}
 use Rattle.std.specs.Prelude.{nat_lt}
 use Rattle.sel_arrow.specs.DataType.{shape_of}
 use Rattle.sel_calls.specs.Parsed.{IsRowsText}
-use Rattle.sel_text.specs.Limits.{past_limit}
+use Rattle.sel_text.specs.Limits.{exceeds_limit}
 use Rattle.sel_arrow.specs.Depth.{depth}
-use Rattle.sel_text.specs.declared.build.Beneath.TheVariants.{Zeros}
+use Rattle.sel_text.specs.declared.build.NullSlots.TheVariants.{Zeros}
 use Rattle.sel_text.proofs.Making.{or_second}
 use Rattle.sel_text.proofs.OneType.{one_type}
 use Rattle.sel_calls.proofs.texts.parse_into.Goals as goal
 
 pub returns-in-Err-clause-type_place : goal.returns-in-Err-clause-type_place
-returns-in-Err-clause-type_place c = λ is. c.type_refusal.ensures.place (length c.args.name.now) c.in-Err.ensures.place is
+returns-in-Err-clause-type_place c = λ is. c.type_error_status.ensures.place (length c.args.name.now) c.in-Err.ensures.place is
 
 pub returns-in-Err-made-clause-accepted : goal.returns-in-Err-made-clause-accepted
 returns-in-Err-made-clause-accepted c = λ shape values named texts.
     let same : shape_of c.in-Ok.dtype ≡ shape = one_type (shape_of c.in-Ok.dtype) shape c.in-Ok.ensures.narrow named.0 (c.in-Ok.ensures.text ∙ named.2) in
     let short = c.in-Err-made.ensures.refused values (subst (λ s. IsRowsText s values c.args.text.now) (sym same) texts) in
-    or_second _ _ (c.rows_refusal.ensures.short short)
+    or_second _ _ (c.rows_error_status.ensures.short short)
 
 pub returns-in-Err-made-clause-place : goal.returns-in-Err-made-clause-place
-returns-in-Err-made-clause-place c = λ is. c.rows_refusal.ensures.place (length c.args.text.now) c.in-Err-made.ensures.place is
+returns-in-Err-made-clause-place c = λ is. c.rows_error_status.ensures.place (length c.args.text.now) c.in-Err-made.ensures.place is
 
 pub returns-in-Err-made-clause-limit : goal.returns-in-Err-made-clause-limit
 returns-in-Err-made-clause-limit c = λ limit shape values named texts.
     let same : shape_of c.in-Ok.dtype ≡ shape = one_type (shape_of c.in-Ok.dtype) shape c.in-Ok.ensures.narrow named.0 (c.in-Ok.ensures.text ∙ named.2) in
-    let past = c.in-Err-made.ensures.limit (c.rows_refusal.ensures.limit limit) values (subst (λ s. IsRowsText s values c.args.text.now) (sym same) texts) in
-    or_second (nat_lt 64 (depth shape)) (past_limit Zeros shape values) (subst (λ s. past_limit Zeros s values ≡ true) same past)
+    let past = c.in-Err-made.ensures.limit (c.rows_error_status.ensures.limit limit) values (subst (λ s. IsRowsText s values c.args.text.now) (sym same) texts) in
+    or_second (nat_lt 64 (depth shape)) (exceeds_limit Zeros shape values) (subst (λ s. exceeds_limit Zeros s values ≡ true) same past)

@@ -28,7 +28,7 @@ loop-block-preserved g c =
     part_kept xs bits at 64 c.whole_word-word.result same within word c.args.out.now.items c.loop-block.out.items c.filter_block.new.out.items c.loop-block.invariant c.in_ok-filter_block.ensures.appended
     ∙ ap (λ k. c.args.out.now.items ++ select (take k xs) (take k bits)) next
 
--- the word of the values behind the last block
+-- The word of the values after the last whole block.
 last_word : (bytes : List ℕ) (s n word : ℕ) → word ≡ word_of (bits_from (drop (n / 64 * 8) bytes) s (n - n / 64 * 64)) → word ≡ word_of (take (n - n / 64 * 64) (drop (n / 64 * 64) (bits_from bytes s n)))
 last_word bytes s n word is =
     let rest = n - n / 64 * 64 in

@@ -1,4 +1,4 @@
--- The kept ones of the values so far, behind what stood there before.
+-- The kept values of the blocks so far are appended to the initial items.
 use Rattle.std.proofs.Common.{◌≡◌, ◌*◌, ◌++◌, length, take}
 use Rattle.sel_bits.specs.Bits.{bits_from}
 use Rattle.sel_filter.specs.Select.{select}

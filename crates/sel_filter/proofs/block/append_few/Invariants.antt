@@ -1,4 +1,4 @@
--- What was appended, and then what the other bits keep, is all that is kept.
+-- The items so far and what the remaining bits select are the final items.
 use Rattle.std.proofs.Common.{◌≡◌, ◌+◌, ◌<◌, ◌≤◌, ◌^◌, ◌++◌, length, vec_len}
 use Rattle.std.specs.Prelude.{vec_capacity}
 use Rattle.sel_bits.specs.Words.{bits}

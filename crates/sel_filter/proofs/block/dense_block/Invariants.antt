@@ -1,4 +1,4 @@
--- The kept ones of the values so far.
+-- The kept values of the rounds so far are at the front of the buffer.
 use Rattle.std.proofs.Common.{◌≡◌, ◌*◌, ◌/◌, ◌^◌}
 use Rattle.sel_filter.proofs.Dense.{IsDense}
 use Rattle.sel_filter.proofs.block.dense_block.Given as goal

@@ -1,4 +1,4 @@
--- What was put behind the others, and then what the marks that are left select, is all that the word selects.
+-- The bits so far and what the remaining marks select are the final bits.
 use Rattle.std.proofs.Common.{◌≡◌, ◌+◌, ◌-◌, ◌++◌, length, drop}
 use Rattle.sel_bits.specs.Words.{bits}
 use Rattle.sel_bits.specs.Bits.{count_true}

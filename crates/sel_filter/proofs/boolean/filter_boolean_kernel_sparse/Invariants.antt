@@ -1,4 +1,4 @@
--- What was kept is what is kept of the bits that the mask has given out.
+-- The kept bits are those under the mask bits read so far.
 use Rattle.std.proofs.Common.{◌+◌, ◌-◌, ◌/◌, length}
 use Rattle.sel_filter.proofs.Filtering.{IsFiltered}
 use Rattle.sel_filter.proofs.boolean.filter_boolean_kernel_sparse.Given as goal

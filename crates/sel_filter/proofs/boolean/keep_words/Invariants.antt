@@ -1,4 +1,4 @@
--- What the words so far keep is kept.
+-- The kept bits are those of the words so far.
 use Rattle.std.proofs.Common.{◌≡◌, ◌*◌, take}
 use Rattle.sel_filter.specs.Select.{select}
 use Rattle.sel_filter.proofs.boolean.keep_words.Given as goal

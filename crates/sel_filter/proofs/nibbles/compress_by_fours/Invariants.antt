@@ -1,4 +1,4 @@
--- The bits so far are packed.
+-- The kept bits of the rounds so far are packed.
 use Rattle.sel_filter.proofs.ByFours.{IsPacked}
 use Rattle.sel_filter.proofs.nibbles.compress_by_fours.Given as goal
 

@@ -6,7 +6,7 @@ use Rattle.sel_arrow.specs.declared.array_ref.ArrayRef.{ArrayRef}
 use Rattle.sel_runs.specs.Sources.{first_type}
 use Rattle.sel_flatten.proofs.horizontal_flatten.are_of_one_type.Goals as goal
 
--- the type of the first column
+-- The type of the first column.
 first_kind : (arrays : List ArrayRef) (first : ArrayRef) → 0 < length arrays → first ≡ get_or arrays 0 first → type_of first.column ≡ first_type (map (λ a. a.column) arrays)
 first_kind [] first some is = absurd (omega (arith, some))
 first_kind (a ∷ arrays) first some is = ap (λ (x : ArrayRef). type_of x.column) is

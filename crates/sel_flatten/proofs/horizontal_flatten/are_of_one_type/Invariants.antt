@@ -1,4 +1,4 @@
--- Those so far are of the type of the first.
+-- Loop invariant: the columns so far have the type of the first.
 use Rattle.std.proofs.Common.{◌≡◌, All, take}
 use Rattle.sel_arrow.specs.Rows.{type_of}
 use Rattle.sel_flatten.proofs.horizontal_flatten.are_of_one_type.Given as goal

@@ -7,7 +7,7 @@ use Rattle.sel_arrow.specs.Value.{Null}
 use Rattle.sel_arrow.specs.declared.array_ref.ArrayRef.{ArrayRef}
 use Rattle.sel_arrow.specs.declared.column.Column.{Column}
 use Rattle.sel_runs.specs.Picks.{pick, PickFits}
-use Rattle.sel_runs.specs.Need.{IsPastRows, IsRefusal, PassesNone, past_taken}
+use Rattle.sel_runs.specs.Need.{ExceedsRows, IsLimitOrMemory, ExceedsNone, exceeded_taken}
 use Rattle.sel_runs.specs.Sources.{first_type}
 use Rattle.sel_runs.proofs.Below.{refused_more}
 use Rattle.sel_runs.proofs.RunLists.{length-pick}
@@ -103,9 +103,9 @@ returns-in_err-column-clause-refusal c =
     ap (λ l. pick Null l ps) (as_sources c.deref.result.now c.args.arrays.now columns c.requires.some c.requires.alike).rows ∙ ap (pick Null xss) picks ∙ rows_woven Null xss c.args.widths.now c.args.height c.requires.fit in
     let cs = map (λ (a : ArrayRef). a.column) c.args.arrays.now in
     let vs = flatten xss c.args.widths.now c.args.height in
-    rw (p.1, p.2) (refused_more (past_taken (first_type cs) cs vs) _ c.in_err-column.field-0.0 (λ limit h. (c.requires.high, inr h))
-    (subst (λ ys. IsRefusal (past_taken (first_type ys) ys vs) c.in_err-column.field-0.0) columns
-    (subst (λ l. IsRefusal (past_taken (first_type (map (λ (x : Bor Column). x.now) c.deref.result.now)) (map (λ (x : Bor Column). x.now) c.deref.result.now) l) c.in_err-column.field-0.0) picked c.in_err-column.ensures.refusal)))
+    rw (p.1, p.2) (refused_more (exceeded_taken (first_type cs) cs vs) _ c.in_err-column.field-0.0 (λ limit h. (c.requires.high, inr h))
+    (subst (λ ys. IsLimitOrMemory (exceeded_taken (first_type ys) ys vs) c.in_err-column.field-0.0) columns
+    (subst (λ l. IsLimitOrMemory (exceeded_taken (first_type (map (λ (x : Bor Column). x.now) c.deref.result.now)) (map (λ (x : Bor Column). x.now) c.deref.result.now) l) c.in_err-column.field-0.0) picked c.in_err-column.ensures.refusal)))
 
 pub returns-clause-rows : goal.returns-clause-rows
 returns-clause-rows c =
@@ -134,8 +134,8 @@ returns-clause-within c =
     ap (λ l. pick Null l ps) (as_sources c.deref.result.now c.args.arrays.now columns c.requires.some c.requires.alike).rows ∙ ap (pick Null xss) picks ∙ rows_woven Null xss c.args.widths.now c.args.height c.requires.fit in
     let cs = map (λ (a : ArrayRef). a.column) c.args.arrays.now in
     let vs = flatten xss c.args.widths.now c.args.height in
-    let taken = subst (λ ys. PassesNone (past_taken (first_type ys) ys vs)) columns
-    (subst (λ l. PassesNone (past_taken (first_type (map (λ (x : Bor Column). x.now) c.deref.result.now)) (map (λ (x : Bor Column). x.now) c.deref.result.now) l)) picked c.in_ok-column.ensures.within) in
+    let taken = subst (λ ys. ExceedsNone (exceeded_taken (first_type ys) ys vs)) columns
+    (subst (λ l. ExceedsNone (exceeded_taken (first_type (map (λ (x : Bor Column). x.now) c.deref.result.now)) (map (λ (x : Bor Column). x.now) c.deref.result.now) l)) picked c.in_ok-column.ensures.within) in
     let long = flat_length c.args.height c.args.height xss c.args.widths.now (omega arith) c.requires.fit in
     let few = few_rows_pass (length vs) (omega (arith, long, c.requires.len, c.requires.few)) in
-    λ limit past. passes_neither (IsPastRows (length vs)) (past_taken (first_type cs) cs vs) few taken limit past.1
+    λ limit past. passes_neither (ExceedsRows (length vs)) (exceeded_taken (first_type cs) cs vs) few taken limit past.1

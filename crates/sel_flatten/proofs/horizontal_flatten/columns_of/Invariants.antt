@@ -1,4 +1,4 @@
--- The columns so far.
+-- Loop invariant: the columns so far.
 use Rattle.std.proofs.Common.{◌≡◌, map, take}
 use Rattle.sel_flatten.proofs.horizontal_flatten.columns_of.Given as goal
 

@@ -1,4 +1,4 @@
--- The columns from here on decide.
+-- Loop invariant: the result depends only on the remaining columns.
 use Rattle.std.proofs.Common.{◌≡◌, drop, map}
 use Rattle.sel_arrow.specs.Rows.{rows}
 use Rattle.sel_flatten.specs.Flatten.{parts_fit}

@@ -1,4 +1,4 @@
--- The widths so far, each of them below 2 ^ 64.
+-- Loop invariant: the sum of the widths so far, each of which is less than 2^64.
 use Rattle.std.proofs.Common.{◌≡◌, ◌≤◌, ◌*◌, take}
 use Rattle.sel_flatten.specs.Widths.{row_width}
 use Rattle.sel_flatten.proofs.horizontal_flatten.width_of_row.Given as goal

@@ -2,7 +2,7 @@ use Rattle.std.proofs.Common.{◌∙◌, ap, subst, length, replicate, w64, to_z
 use Rattle.std.proofs.lemmas.Int.{to_z-of_z}
 use Rattle.std.proofs.lemmas.Result.{IfOk-weaker}
 use Rattle.sel_arrow.specs.Value.{Number}
-use Rattle.sel_sublists.specs.Entries.{at_each, IsGetRefusal}
+use Rattle.sel_sublists.specs.Entries.{at_each, IsGetError}
 use Rattle.sel_lines.specs.Columns.{column_text}
 use Rattle.sel_lines.specs.Fixed.{entries_text}
 use Rattle.sel_lines.proofs.ReadBlocks.{entries_printed, refusal_printed}
@@ -23,7 +23,7 @@ pub returns-in-ComputeError : goal.returns-in-ComputeError
 returns-in-ComputeError c =
     let arr = c.in_ok-array.array in
     let index = to_z w64 (of_z w64 c.args.index) in
-    let outside = subst (IsGetRefusal c.args.null_on_oob arr (at_each arr index)) c.in-ComputeError.is c.in-Err.ensures.refusal in
+    let outside = subst (IsGetError c.args.null_on_oob arr (at_each arr index)) c.in-ComputeError.is c.in-Err.ensures.refusal in
     IfOk-weaker c.from_str.result _ _
     (λ text made read has.
     made ∙ refusal_printed arr c.args.width read index c.args.null_on_oob (c.in_ok-array.ensures.rows read has) c.in_ok-array.ensures.size outside

@@ -1,4 +1,4 @@
--- The rows so far, and the parts that they are kept in.
+-- Loop invariant: the rows so far, and the parts that store them.
 use Rattle.std.proofs.Common.{◌≡◌, List, map, take, Some}
 use Rattle.sel_arrow.specs.Value.{Value}
 use Rattle.sel_lines.specs.Columns.{all_some}

@@ -21,4 +21,4 @@ returns c =
     let indices = primitive_rows c.args.indices.now in
     let all : length columns ≤ c.loop-column.column-index = omega (arith, c.loop-column-test.false) in
     let each = ap (list_all (λ (a : ArrayRef). length (rows a.column) == length mask)) (sym (take_all c.loop-column.column-index columns all)) ∙ c.loop-column.invariant in
-    c.indices_in_bounds.ensures ∙ ap (λ n. all_within n indices) c.rows_in_force.ensures ∙ all_long columns mask indices each
+    c.indices_in_bounds.ensures ∙ ap (λ n. all_within n indices) c.effective_len.ensures ∙ all_long columns mask indices each

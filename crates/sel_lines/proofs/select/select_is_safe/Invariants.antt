@@ -1,4 +1,4 @@
--- The columns so far are as long as the mask.
+-- Loop invariant: the columns so far are as long as the mask.
 use Rattle.std.proofs.Common.{◌≡◌, true, take, length}
 use Rattle.std.specs.Prelude.{◌==◌}
 use Rattle.std.specs.List.{list_all}

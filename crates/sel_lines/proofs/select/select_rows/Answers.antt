@@ -4,7 +4,7 @@ use Rattle.sel_arrow.specs.Columns.{boolean_rows, primitive_rows}
 use Rattle.sel_arrow.specs.Rows.{rows, type_of}
 use Rattle.sel_arrow.specs.declared.array_ref.ArrayRef.{ArrayRef}
 use Rattle.polars_compute.specs.Pick.{take_rows}
-use Rattle.polars_compute.specs.Select.{select, in_force}
+use Rattle.polars_compute.specs.Select.{select, effective_mask}
 use Rattle.sel_lines.proofs.SelectedRows.{long_at, mapped_step, none_past, refused_some, rows_mapped}
 use Rattle.sel_lines.proofs.select.select_rows.Goals as goal
 
@@ -22,7 +22,7 @@ returns-in-Err-clause-refusal c =
 pub loop-column-preserved : goal.loop-column-preserved
 loop-column-preserved c =
     let columns = c.args.columns.now in
-    let selected = λ (a : ArrayRef). take_rows (select (rows a.column) (in_force (boolean_rows c.args.mask.now))) (primitive_rows c.args.indices.now) in
+    let selected = λ (a : ArrayRef). take_rows (select (rows a.column) (effective_mask (boolean_rows c.args.mask.now))) (primitive_rows c.args.indices.now) in
     let i = c.loop-column.column-index in
     let x = c.column-item.result in
     let taken = c.in-Ok.taken in
@@ -41,7 +41,7 @@ returns-clause-rows c =
     let mask = boolean_rows c.args.mask.now in
     let indices = primitive_rows c.args.indices.now in
     let all : length columns ≤ c.loop-column.column-index = omega (arith, c.loop-column-test.false) in
-    c.loop-column.invariant.taken ∙ ap (map (λ (a : ArrayRef). take_rows (select (rows a.column) (in_force mask)) indices)) (take_all c.loop-column.column-index columns all) ∙ rows_mapped mask indices columns
+    c.loop-column.invariant.taken ∙ ap (map (λ (a : ArrayRef). take_rows (select (rows a.column) (effective_mask mask)) indices)) (take_all c.loop-column.column-index columns all) ∙ rows_mapped mask indices columns
 
 pub returns-clause-within : goal.returns-clause-within
 returns-clause-within c =
@@ -51,5 +51,5 @@ returns-clause-within c =
     let all : length columns ≤ c.loop-column.column-index = omega (arith, c.loop-column-test.false) in
     let whole = take_all c.loop-column.column-index columns all in
     none_past columns c.loop-column.selected.items mask indices
-    (c.loop-column.invariant.taken ∙ ap (map (λ (a : ArrayRef). take_rows (select (rows a.column) (in_force mask)) indices)) whole)
+    (c.loop-column.invariant.taken ∙ ap (map (λ (a : ArrayRef). take_rows (select (rows a.column) (effective_mask mask)) indices)) whole)
     (c.loop-column.invariant.types ∙ ap (map (λ (a : ArrayRef). type_of a.column)) whole)

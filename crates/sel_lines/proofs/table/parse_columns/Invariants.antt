@@ -1,4 +1,4 @@
--- The columns so far.
+-- Loop invariant: the columns so far.
 use Rattle.std.proofs.Common.{◌≡◌, ◌≤◌, All, Some, length, map, take, vec_len, vec_capacity}
 use Rattle.sel_arrow.specs.Rows.{type_of}
 use Rattle.sel_arrow.specs.Shape.{of_int64}

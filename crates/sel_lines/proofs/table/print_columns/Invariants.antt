@@ -1,4 +1,4 @@
--- The columns so far, printed.
+-- Loop invariant: the columns so far, printed.
 use Rattle.std.proofs.Common.{◌≡◌, map, take}
 use Rattle.std.specs.Prelude.{string_bytes}
 use Rattle.std.specs.List.{join_with_byte}

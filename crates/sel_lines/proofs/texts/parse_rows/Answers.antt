@@ -1,10 +1,10 @@
 use Rattle.std.proofs.Common.{◌∙◌, ap, map}
 use Rattle.std.proofs.lemmas.Result.{IfOk-weaker}
-use Rattle.sel_lines.specs.Texts.{text_of}
+use Rattle.sel_lines.specs.Texts.{string_value}
 use Rattle.sel_lines.proofs.RowLemmas.{column_from_rows}
 use Rattle.sel_lines.proofs.texts.parse_rows.Goals as goal
 
 pub returns : goal.returns
 returns c =
     let cut = ap (map (λ part. part.now)) c.deref.ensures.value ∙ c.in_ok-words.ensures.parts in
-    IfOk-weaker c.parse_words.result _ _ (λ rows made. made ∙ column_from_rows text_of c.args.word.now c.deref.result.now c.if-eq.ensures cut) c.parse_words.ensures
+    IfOk-weaker c.parse_words.result _ _ (λ rows made. made ∙ column_from_rows string_value c.args.word.now c.deref.result.now c.if-eq.ensures cut) c.parse_words.ensures

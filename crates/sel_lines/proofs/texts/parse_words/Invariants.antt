@@ -1,8 +1,8 @@
 use Rattle.std.proofs.Common.{◌≡◌, Some, map, take}
 use Rattle.sel_lines.specs.Columns.{all_some, row_of}
-use Rattle.sel_lines.specs.Texts.{text_of}
+use Rattle.sel_lines.specs.Texts.{string_value}
 use Rattle.sel_lines.specs.Parts.{text_row}
 use Rattle.sel_lines.proofs.texts.parse_words.Given as goal
 
 abbrev pub invariant-loop-word : goal.invariant-loop-word
-invariant-loop-word l = all_some (map (λ word. row_of text_of word.now) (take l.word-index l.words)) ≡ Some (map text_row l.rows.items)
+invariant-loop-word l = all_some (map (λ word. row_of string_value word.now) (take l.word-index l.words)) ≡ Some (map text_row l.rows.items)

@@ -5,7 +5,7 @@ use Rattle.std.proofs.lemmas.Iterator.Splits.{YieldsList-from_str_split}
 use Rattle.sel_lines.proofs.Pieces.{cut_count, cut_lengths}
 use Rattle.sel_lines.proofs.words.split_at_each.Goals as goal
 
--- the loop went over all parts that the text splits into
+-- The loop has visited all parts of the text.
 pub returns : goal.returns
 returns c =
     let same = c.into_iter-part-iterator.ensures.into_iter_gives in

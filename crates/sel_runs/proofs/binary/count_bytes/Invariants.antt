@@ -1,4 +1,4 @@
--- The bytes of the runs so far; a row has fewer than 2^64.
+-- The bytes of the runs so far are counted; each row has fewer than 2^64.
 use Rattle.std.proofs.Common.{◌≡◌, ◌≤◌, ◌*◌, length, map, take}
 use Rattle.sel_arrow.specs.Columns.{binary_rows}
 use Rattle.sel_arrow.specs.Value.{Null}

@@ -1,4 +1,4 @@
--- The ends of the rows so far stand behind those that were there.
+-- The ends of the rows so far are appended.
 use Rattle.std.proofs.Common.{◌≡◌, ◌++◌, map, pos, take, drop}
 use Rattle.sel_arrow.specs.Columns.{binary_rows}
 use Rattle.sel_runs.specs.JoinedBytes.{ends_from}

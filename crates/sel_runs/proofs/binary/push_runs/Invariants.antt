@@ -1,4 +1,4 @@
--- The rows of the runs so far.
+-- The rows of the runs so far are appended.
 use Rattle.std.proofs.Common.{map, take}
 use Rattle.sel_arrow.specs.Columns.{binary_rows}
 use Rattle.sel_arrow.specs.Value.{Null}

@@ -1,4 +1,4 @@
--- So many ends stand behind those that were there.
+-- The ends so far are appended, all equal.
 use Rattle.std.proofs.Common.{◌≡◌, ◌++◌, replicate, pos}
 use Rattle.sel_runs.proofs.binary.push_same_ends.Given as goal
 

@@ -1,7 +1,7 @@
 use Rattle.std.proofs.Common.{◌≡◌, ◌∙◌, length, map, ap, sym, subst, arith}
 use Rattle.sel_bits.specs.Bits.{Bits}
 use Rattle.sel_arrow.specs.Columns.{boolean_rows}
-use Rattle.sel_arrow.specs.Masked.{Covers, truth_rows}
+use Rattle.sel_arrow.specs.Masked.{Covers, bool_rows}
 use Rattle.sel_arrow.specs.Value.{Null, Truth}
 use Rattle.sel_runs.specs.Runs.{expand}
 use Rattle.sel_runs.proofs.Grown.{counted, finished, from_none}
@@ -34,4 +34,4 @@ returns-clause-rows c =
     let total = from_none Truth _ _ _ _ runs _ c.in_ok-with_capacity.ensures.value c.in_ok-with_capacity-2.ensures.value sources c.in_ok-values.ensures.rows in
     let long : length grown.validity ≡ c.args.len = counted Truth grown.values grown.validity _ c.args.len grown.lengths total (length-pick Null _ runs ∙ c.requires.len) in
     let done = finished Truth grown.values c.in_ok-validity.validity grown.validity c.args.len c.in_ok-validity.ensures.bits (sym grown.lengths ∙ long) in
-    ap (λ (b : Bits). truth_rows b.bits c.in_ok-validity.validity) c.in_ok-values-2.ensures.value ∙ done ∙ total
+    ap (λ (b : Bits). bool_rows b.bits c.in_ok-validity.validity) c.in_ok-values-2.ensures.value ∙ done ∙ total

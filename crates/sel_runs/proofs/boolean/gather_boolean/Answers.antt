@@ -3,7 +3,7 @@ use Rattle.std.specs.Option.{option_copied}
 use Rattle.std.proofs.lemmas.List.{length-map}
 use Rattle.sel_bits.specs.Bits.{Bits}
 use Rattle.sel_arrow.specs.Columns.{boolean_rows}
-use Rattle.sel_arrow.specs.Masked.{Covers, hidden, truth_rows}
+use Rattle.sel_arrow.specs.Masked.{Covers, hidden, bool_rows}
 use Rattle.sel_arrow.specs.Value.{Null, Truth}
 use Rattle.sel_runs.specs.Picks.{pick, PickFits}
 use Rattle.sel_runs.specs.Plans.{HasBit, bit_found, bits_found}
@@ -52,7 +52,7 @@ returns-clause-rows g c =
     let bits : bits_for (length ps) c.in_ok-validity.validity ≡ bits_found vs ps = c.in_ok-validity.ensures.bits ∙ ap (λ ms. bits_found ms ps) maps in
     let long = ap length c.in_ok-bits.ensures.bits ∙ length-map ps (bit_found (map option_copied c.as_slice-values.result.now)) in
     let values = c.in_ok-bits.ensures.bits ∙ ap (λ ms. bits_found ms ps) truths ∙ truths_found (λ s. s.now.values) arrays ps fits in
-    ap (λ (b : Bits). truth_rows b.bits c.in_ok-validity.validity) c.in_ok-values.ensures.value
+    ap (λ (b : Bits). bool_rows b.bits c.in_ok-validity.validity) c.in_ok-values.ensures.value
     ∙ finished Truth c.in_ok-bits.bits c.in_ok-validity.validity (bits_found vs ps) (length ps) bits long
     ∙ ap (λ xs. hidden (bits_found vs ps) (map Truth xs)) values
     ∙ rows_picked (λ s. s.now.values.bits) (λ s. s.now.validity) (λ s. s.now.validity_fits) Truth false arrays ps fits

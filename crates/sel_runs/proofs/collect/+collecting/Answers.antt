@@ -10,7 +10,7 @@ use Rattle.sel_arrow.proofs.Trees.{has_fields}
 use Rattle.sel_arrow.proofs.Types.{type_of-Struct}
 use Rattle.sel_runs.specs.Children.{child, field, is_listing, joined_items, part_at, parts_of}
 use Rattle.sel_runs.specs.Cleared.{cleared}
-use Rattle.sel_runs.specs.Need.{IsPastRows, IsRefusal, PassesNone, past_taken}
+use Rattle.sel_runs.specs.Need.{ExceedsRows, IsLimitOrMemory, ExceedsNone, exceeded_taken}
 use Rattle.sel_runs.specs.Picks.{pick, PickFits}
 use Rattle.sel_runs.specs.Runs.{expand}
 use Rattle.sel_runs.proofs.Below.{child_type, block_child_type, items_recurse, found_all, found_map, mapped_now, listed_shapes, refused_more, past_at, parts_more, field_kind}
@@ -38,7 +38,7 @@ collect_lists-returns-in_err-values-clause-refusal t c =
     let items = joined_items 0 (pick Null (rows_of c.args.sources.now) (expand c.args.runs.now)) in
     let fault = c.in_err-values.field-0.0 in
     let p = err_from_is_err_and c.from_residual.result c.from_residual.ensures.1 in
-    let here = subst (λ l. IsRefusal (past_taken (type_of c.args.child.now) l items) fault) (mapped_now child c.args.sources.now) c.in_err-values.ensures.refusal in
+    let here = subst (λ l. IsLimitOrMemory (exceeded_taken (type_of c.args.child.now) l items) fault) (mapped_now child c.args.sources.now) c.in_err-values.ensures.refusal in
     rw (p.1, p.2) (refused_more _ _ fault (λ limit h. inr h) here)
 
 pub collect_blocks-collect_items-requires : goal.collect_blocks-collect_items-requires
@@ -54,10 +54,10 @@ collect_blocks-returns-in_err-values-clause-refusal t c =
     let items = joined_items c.args.size (pick Null (rows_of c.args.sources.now) (expand c.args.runs.now)) in
     let fault = c.in_err-values.field-0.0 in
     let p = err_from_is_err_and c.from_residual.result c.from_residual.ensures.1 in
-    let here = subst (λ l. IsRefusal (past_taken (type_of c.args.child.now) l items) fault) (mapped_now child c.args.sources.now) c.in_err-values.ensures.refusal in
+    let here = subst (λ l. IsLimitOrMemory (exceeded_taken (type_of c.args.child.now) l items) fault) (mapped_now child c.args.sources.now) c.in_err-values.ensures.refusal in
     rw (p.1, p.2) (refused_more _ _ fault (λ limit h. inr h) here)
 
--- ---- the rows that lists hold
+-- ---- the child rows of lists
 
 pub collect_items-returns-in-Null-clause-rows : goal.collect_items-returns-in-Null-clause-rows
 collect_items-returns-in-Null-clause-rows t c =
@@ -87,8 +87,8 @@ collect_items-returns-in_err-values-clause-refusal t c =
     let found = ap (map (λ x. x.now)) c.deref.ensures.value ∙ c.in_ok-children.ensures.children in
     let below = items_recurse s xs cs found c.requires.lists c.requires.alike c.requires.formed in
     let items = ap (λ xss. pick Null xss (expand c.deref-2.result.now)) below.rows ∙ ap (λ ps. pick Null (below_of cs) ps) (ap expand c.deref-2.ensures.value) ∙ c.in_ok-below.ensures.items in
-    let here = subst (λ l. IsRefusal (past_taken s l (joined_items c.args.width (pick Null (rows_of cs) (expand c.args.runs.now)))) fault) found
-    (subst (λ l. IsRefusal (past_taken s (map (λ x. x.now) xs) l) fault) items c.in_err-values.ensures.refusal) in
+    let here = subst (λ l. IsLimitOrMemory (exceeded_taken s l (joined_items c.args.width (pick Null (rows_of cs) (expand c.args.runs.now)))) fault) found
+    (subst (λ l. IsLimitOrMemory (exceeded_taken s (map (λ x. x.now) xs) l) fault) items c.in_err-values.ensures.refusal) in
     rw (p.1, p.2) here
 
 pub collect_items-returns-clause-rows : goal.collect_items-returns-clause-rows
@@ -99,10 +99,10 @@ collect_items-returns-clause-rows t c =
     let below = items_recurse (type_of c.args.first.now) xs cs found c.requires.lists c.requires.alike c.requires.formed in
     c.in_ok-values.ensures.rows ∙ ap (λ xss. pick Null xss (expand c.deref-2.result.now)) below.rows ∙ ap (λ ps. pick Null (below_of cs) ps) (ap expand c.deref-2.ensures.value) ∙ c.in_ok-below.ensures.items
 
--- ---- tuples
+-- ---- struct rows
 
-pub collect_like-collect_tuples-requires : goal.collect_like-collect_tuples-requires
-collect_like-collect_tuples-requires t c =
+pub collect_like-collect_structs-requires : goal.collect_like-collect_structs-requires
+collect_like-collect_structs-requires t c =
     let fields = c.in-Struct.fields in
     let same = c.deref-in-Struct.ensures.value in
     let kind : type_of c.args.first.now ≡ of_struct (shapes_of (map type_of c.deref-in-Struct.result.now)) =
@@ -117,21 +117,21 @@ collect_like-returns-in-Struct-clause-dtype t c =
     let kind : type_of c.args.first.now ≡ of_struct (shapes_of (map type_of c.deref-in-Struct.result.now)) =
     ap type_of c.in-Struct.is ∙ type_of-Struct c.in-Struct.len c.in-Struct.fields c.in-Struct.validity ∙ ap (λ l. of_struct (shapes_of (map type_of l))) (sym c.deref-in-Struct.ensures.value)
     in
-    rw kind c.collect_tuples.ensures.dtype
+    rw kind c.collect_structs.ensures.dtype
 
 pub collect_like-returns-in-Struct-clause-within : goal.collect_like-returns-in-Struct-clause-within
 collect_like-returns-in-Struct-clause-within t c =
     let kind : type_of c.args.first.now ≡ of_struct (shapes_of (map type_of c.deref-in-Struct.result.now)) =
     ap type_of c.in-Struct.is ∙ type_of-Struct c.in-Struct.len c.in-Struct.fields c.in-Struct.validity ∙ ap (λ l. of_struct (shapes_of (map type_of l))) (sym c.deref-in-Struct.ensures.value)
     in
-    rw kind c.collect_tuples.ensures.within
+    rw kind c.collect_structs.ensures.within
 
 pub collect_like-returns-in-Struct-clause-refusal : goal.collect_like-returns-in-Struct-clause-refusal
 collect_like-returns-in-Struct-clause-refusal t c =
     let kind : type_of c.args.first.now ≡ of_struct (shapes_of (map type_of c.deref-in-Struct.result.now)) =
     ap type_of c.in-Struct.is ∙ type_of-Struct c.in-Struct.len c.in-Struct.fields c.in-Struct.validity ∙ ap (λ l. of_struct (shapes_of (map type_of l))) (sym c.deref-in-Struct.ensures.value)
     in
-    rw kind c.collect_tuples.ensures.refusal
+    rw kind c.collect_structs.ensures.refusal
 
 pub collect_fields-loop-j-init : goal.collect_fields-loop-j-init
 collect_fields-loop-j-init t c =
@@ -177,13 +177,13 @@ collect_fields-returns-in_err-field-clause-refusal t c =
     ∙ ap (λ ps. pick Null (field_rows j cs) ps) (ap expand c.deref-in-loop-j.ensures.value ∙ c.in_ok-split.ensures.picks) ∙ picked_parts ss j inside cs c.requires.alike (expand c.args.runs.now) in
     let vs = pick Null (rows_of c.args.sources.now) (expand c.args.runs.now) in
     let fault = c.in_err-field.field-0.0 in
-    let one = subst (λ l. IsRefusal (past_taken (type_of f) l (map (part_at j) vs)) fault) columns
-    (subst (λ l. IsRefusal (past_taken (type_of f) (map (λ x. x.now) xs) l) fault) parts c.in_err-field.ensures.refusal) in
-    let here = subst (λ s. IsRefusal (past_taken s (map (field j) (map (λ x. x.now) cs)) (map (part_at j) vs)) fault) (sym kind ∙ ap (λ l. get_or l j of_null) shapes) one in
+    let one = subst (λ l. IsLimitOrMemory (exceeded_taken (type_of f) l (map (part_at j) vs)) fault) columns
+    (subst (λ l. IsLimitOrMemory (exceeded_taken (type_of f) (map (λ x. x.now) xs) l) fault) parts c.in_err-field.ensures.refusal) in
+    let here = subst (λ s. IsLimitOrMemory (exceeded_taken s (map (field j) (map (λ x. x.now) cs)) (map (part_at j) vs)) fault) (sym kind ∙ ap (λ l. get_or l j of_null) shapes) one in
     let many : j < length firsts = omega (arith, c.loop-j-test.true, length-map c.args.firsts.now type_of) in
     let place : 0 + j ≡ j = omega arith in
     rw (p.1, p.2) (refused_more _ _ fault
-    (λ limit h. past_at firsts 0 j of_null (map (λ x. x.now) cs) vs limit many (subst (λ n. past_taken (get_or firsts j of_null) (map (field n) (map (λ x. x.now) cs)) (map (part_at n) vs) limit) (sym place) h)) here)
+    (λ limit h. past_at firsts 0 j of_null (map (λ x. x.now) cs) vs limit many (subst (λ n. exceeded_taken (get_or firsts j of_null) (map (field n) (map (λ x. x.now) cs)) (map (part_at n) vs) limit) (sym place) h)) here)
 
 pub collect_fields-loop-j-preserved : goal.collect_fields-loop-j-preserved
 collect_fields-loop-j-preserved t c =
@@ -207,9 +207,9 @@ collect_fields-loop-j-preserved t c =
     let columns = columns_of cs in
     let f = c.index-firsts-j.result in
     let kind : get_or (shape_list ss) j of_null ≡ type_of f = field_kind c.args.firsts.now j f c.loop-j-test.true c.index-firsts-j.is in
-    let taken = subst (λ l. PassesNone (past_taken (type_of f) l (map (part_at j) vs))) (found ∙ mapped_now (field j) cs)
-    (subst (λ l. PassesNone (past_taken (type_of f) (map (λ x. x.now) xs) l)) (sym c.in_ok-field.ensures.rows ∙ part) c.in_ok-field.ensures.within) in
-    let here = subst (λ s. PassesNone (past_taken s (map (field j) columns) (map (part_at j) vs))) (sym kind ∙ ap (λ l. get_or l j of_null) shapes) taken in
+    let taken = subst (λ l. ExceedsNone (exceeded_taken (type_of f) l (map (part_at j) vs))) (found ∙ mapped_now (field j) cs)
+    (subst (λ l. ExceedsNone (exceeded_taken (type_of f) (map (λ x. x.now) xs) l)) (sym c.in_ok-field.ensures.rows ∙ part) c.in_ok-field.ensures.within) in
+    let here = subst (λ s. ExceedsNone (exceeded_taken s (map (field j) columns) (map (part_at j) vs))) (sym kind ∙ ap (λ l. get_or l j of_null) shapes) taken in
     record {
       parts = parts_more j vs (map rows old) (map rows c.push.new.self.items) (rows one) c.loop-j.invariant.parts (ap (map rows) new ∙ map-append rows old (one ∷ [])) part;
       dtypes = ap (map type_of) new ∙ map-append type_of old (one ∷ []) ∙ ap (λ l. l ++ type_of one ∷ []) c.loop-j.invariant.dtypes
@@ -230,7 +230,7 @@ collect_fields-returns-clause-dtypes t c = c.loop-j.invariant.dtypes ∙ ap (map
 pub collect_fields-returns-clause-formed : goal.collect_fields-returns-clause-formed
 collect_fields-returns-clause-formed t c = c.loop-j.invariant.formed
 
--- ---- an answer passes no limit
+-- ---- a returned column exceeds no limit
 
 pub collect_like-returns-in-BinaryView-clause-within : goal.collect_like-returns-in-BinaryView-clause-within
 collect_like-returns-in-BinaryView-clause-within t c = rw c.in-BinaryView.is c.collect_binview.ensures.within
@@ -246,16 +246,16 @@ collect_lists-returns-clause-within t c =
     let items = joined_items 0 (picked c.args.sources.now c.args.runs.now) in
     let s = type_of c.args.child.now in
     let columns = columns_of c.args.sources.now in
-    let below = subst (λ l. PassesNone (past_taken s l items)) (mapped_now child c.args.sources.now) c.in_ok-values.ensures.within in
-    passes_neither (IsPastRows (length items)) (past_taken s (map child columns) items) (few_rows_pass (length items) (omega (arith, c.count_items-need.ensures, c.if-need.false))) below
+    let below = subst (λ l. ExceedsNone (exceeded_taken s l items)) (mapped_now child c.args.sources.now) c.in_ok-values.ensures.within in
+    passes_neither (ExceedsRows (length items)) (exceeded_taken s (map child columns) items) (few_rows_pass (length items) (omega (arith, c.count_items-need.ensures, c.if-need.false))) below
 
 pub collect_blocks-returns-clause-within : goal.collect_blocks-returns-clause-within
 collect_blocks-returns-clause-within t c =
     let items = joined_items c.args.size (picked c.args.sources.now c.args.runs.now) in
     let s = type_of c.args.child.now in
     let columns = columns_of c.args.sources.now in
-    let below = subst (λ l. PassesNone (past_taken s l items)) (mapped_now child c.args.sources.now) c.in_ok-values.ensures.within in
-    passes_neither (IsPastRows (length items)) (past_taken s (map child columns) items) (few_rows_pass (length items) (omega (arith, c.count_items-need.ensures, c.if-need.false))) below
+    let below = subst (λ l. ExceedsNone (exceeded_taken s l items)) (mapped_now child c.args.sources.now) c.in_ok-values.ensures.within in
+    passes_neither (ExceedsRows (length items)) (exceeded_taken s (map child columns) items) (few_rows_pass (length items) (omega (arith, c.count_items-need.ensures, c.if-need.false))) below
 
 pub collect_items-returns-clause-within : goal.collect_items-returns-clause-within
 collect_items-returns-clause-within t c =
@@ -265,8 +265,8 @@ collect_items-returns-clause-within t c =
     let found = ap (map (λ x. x.now)) c.deref.ensures.value ∙ c.in_ok-children.ensures.children in
     let below = items_recurse s xs cs found c.requires.lists c.requires.alike c.requires.formed in
     let items = ap (λ xss. pick Null xss (expand c.deref-2.result.now)) below.rows ∙ ap (λ ps. pick Null (below_of cs) ps) (ap expand c.deref-2.ensures.value) ∙ c.in_ok-below.ensures.items in
-    subst (λ l. PassesNone (past_taken s l (joined_items c.args.width (picked cs c.args.runs.now)))) found
-    (subst (λ l. PassesNone (past_taken s (map (λ x. x.now) xs) l)) items c.in_ok-values.ensures.within)
+    subst (λ l. ExceedsNone (exceeded_taken s l (joined_items c.args.width (picked cs c.args.runs.now)))) found
+    (subst (λ l. ExceedsNone (exceeded_taken s (map (λ x. x.now) xs) l)) items c.in_ok-values.ensures.within)
 
 pub collect_fields-returns-clause-within : goal.collect_fields-returns-clause-within
 collect_fields-returns-clause-within t c =
@@ -275,5 +275,5 @@ collect_fields-returns-clause-within t c =
     let vs = picked c.args.sources.now c.args.runs.now in
     fields_pass firsts 0 columns vs
     (λ k below. let place : k ≡ 0 + k = omega arith in
-    subst (λ n. PassesNone (past_taken (get_or firsts k of_null) (map (field n) columns) (map (part_at n) vs))) place
+    subst (λ n. ExceedsNone (exceeded_taken (get_or firsts k of_null) (map (field n) columns) (map (part_at n) vs))) place
     (c.loop-j.invariant.within k (omega (arith, below, length-map c.args.firsts.now type_of, c.loop-j-test.false))))

@@ -4,7 +4,7 @@ use Rattle.std.proofs.lemmas.Result.{err_from_is_err_and}
 use Rattle.sel_arrow.specs.Columns.{binary_rows}
 use Rattle.sel_arrow.specs.Value.{Value, Null}
 use Rattle.sel_runs.specs.Cleared.{cleared, IsLive}
-use Rattle.sel_runs.specs.Need.{IsPastBytes, IsRefusal, PassesNone}
+use Rattle.sel_runs.specs.Need.{ExceedsBytes, IsLimitOrMemory, ExceedsNone}
 use Rattle.sel_runs.specs.Picks.{pick, PickFits}
 use Rattle.sel_runs.specs.Runs.{expand}
 use Rattle.sel_runs.proofs.ItemRuns.{rows_of}
@@ -41,7 +41,7 @@ returns-in_err-array-clause-refusal c =
     let live = ap expand c.deref-2.ensures.value ∙ c.in_ok-live.ensures.picks in
     let same = ap (map (λ s. binary_rows s.now)) c.deref.ensures.value ∙ c.in_ok-found.ensures.rows in
     let rows = ap (λ (yss : List (List Value)). pick Null yss (expand c.deref-2.result.now)) same ∙ ap (pick Null xss) live ∙ cleared_picks xss (expand c.args.runs.now) in
-    rw (p.1, p.2) (subst (λ (vs : List Value). IsRefusal (IsPastBytes (pos 9223372036854775807) vs) c.in_err-array.field-0.0) rows c.in_err-array.ensures.refusal)
+    rw (p.1, p.2) (subst (λ (vs : List Value). IsLimitOrMemory (ExceedsBytes (pos 9223372036854775807) vs) c.in_err-array.field-0.0) rows c.in_err-array.ensures.refusal)
 
 pub returns-clause-within : goal.returns-clause-within
 returns-clause-within c =
@@ -49,4 +49,4 @@ returns-clause-within c =
     let live = ap expand c.deref-2.ensures.value ∙ c.in_ok-live.ensures.picks in
     let same = ap (map (λ s. binary_rows s.now)) c.deref.ensures.value ∙ c.in_ok-found.ensures.rows in
     let rows = ap (λ (yss : List (List Value)). pick Null yss (expand c.deref-2.result.now)) same ∙ ap (pick Null xss) live ∙ cleared_picks xss (expand c.args.runs.now) in
-    subst (λ (vs : List Value). PassesNone (IsPastBytes (pos 9223372036854775807) vs)) rows c.in_ok-array.ensures.within
+    subst (λ (vs : List Value). ExceedsNone (ExceedsBytes (pos 9223372036854775807) vs)) rows c.in_ok-array.ensures.within

@@ -1,4 +1,4 @@
--- What was copied so far.
+-- The values so far are copied.
 use Rattle.std.proofs.Common.{◌≡◌, ◌≤◌, ◌-◌, take, drop, map}
 use Rattle.sel_runs.specs.Picks.{pick}
 use Rattle.sel_runs.proofs.copied.copy_plan.Given as goal

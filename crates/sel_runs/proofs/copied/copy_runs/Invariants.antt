@@ -1,4 +1,4 @@
--- What was copied so far.
+-- The values of the runs so far are copied.
 use Rattle.std.proofs.Common.{◌≡◌, take, map}
 use Rattle.sel_runs.specs.Picks.{pick}
 use Rattle.sel_runs.specs.Runs.{expand}

@@ -1,4 +1,4 @@
--- The items of the runs so far.
+-- The child rows of the runs so far.
 use Rattle.std.proofs.Common.{◌≡◌, All, take}
 use Rattle.sel_arrow.specs.Value.{Null}
 use Rattle.sel_runs.specs.Children.{joined_items}

@@ -1,4 +1,4 @@
--- The children so far.
+-- The children of the sources so far.
 use Rattle.std.proofs.Common.{◌≡◌, map, take}
 use Rattle.sel_runs.specs.Children.{child}
 use Rattle.sel_runs.proofs.lists.children_of.Given as goal

@@ -1,4 +1,4 @@
--- The items of the runs so far; a row has fewer than 2^32.
+-- The child rows of the runs so far are counted; each row has fewer than 2^32.
 use Rattle.std.proofs.Common.{◌≡◌, ◌≤◌, ◌*◌, length, take}
 use Rattle.sel_arrow.specs.Value.{Null}
 use Rattle.sel_runs.specs.Children.{joined_items}

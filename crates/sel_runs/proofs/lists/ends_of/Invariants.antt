@@ -1,4 +1,4 @@
--- The ends of the runs so far.
+-- The ends of the lists of the runs so far.
 use Rattle.std.proofs.Common.{◌≡◌, ◌∷◌, length, map, take, pos}
 use Rattle.sel_arrow.specs.Value.{Null}
 use Rattle.sel_runs.specs.Children.{joined_items}

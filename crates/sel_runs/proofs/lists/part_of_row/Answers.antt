@@ -3,7 +3,7 @@ use Rattle.sel_arrow.specs.Pieces.{rows_between}
 use Rattle.sel_runs.proofs.ListParts.{OfList, list_has, list_inside, list_null, list_row, block_has, block_below, block_null, block_row}
 use Rattle.sel_runs.proofs.lists.part_of_row.Goals as goal
 
--- ---- lists between offsets
+-- ---- lists with offsets
 
 of_list : (c : goal.After-at-end) → OfList c.in-LargeList.offsets c.in-LargeList.values.value c.args.column.now c.args.i
 of_list c =
@@ -53,7 +53,7 @@ returns-else-not-is_valid_at-clause-row c = let h = of_list c in rw (c.at-start.
 pub returns-else-not-is_valid_at-clause-inside : goal.returns-else-not-is_valid_at-clause-inside
 returns-else-not-is_valid_at-clause-inside c = let h = of_list c in omega (arith, h.ordered, h.inside, c.at-start.ensures.value, c.at-end.ensures.value)
 
--- ---- lists of one length
+-- ---- fixed-size lists
 
 pub is_valid_at-requires-in-FixedSizeList : goal.is_valid_at-requires-in-FixedSizeList
 is_valid_at-requires-in-FixedSizeList c =

@@ -1,4 +1,4 @@
--- The items of the rows so far stand behind those that were there.
+-- The child rows of the rows so far are appended.
 use Rattle.std.proofs.Common.{◌≡◌, ◌++◌, All, take}
 use Rattle.sel_arrow.specs.Value.{Null}
 use Rattle.sel_runs.specs.Children.{joined_items}

@@ -3,13 +3,13 @@ use Rattle.std.specs.Prelude.{IfErr, IfOk}
 use Rattle.sel_arrow.specs.Rows.{type_of}
 use Rattle.sel_arrow.specs.Value.{Null}
 use Rattle.sel_arrow.specs.declared.column.Column.{Column}
-use Rattle.sel_runs.specs.Need.{IsRefusal, PassesNone, past_taken}
+use Rattle.sel_runs.specs.Need.{IsLimitOrMemory, ExceedsNone, exceeded_taken}
 use Rattle.sel_runs.specs.Picks.{pick}
 use Rattle.sel_runs.specs.Sources.{columns_of, first_type}
 use Rattle.sel_runs.proofs.ItemRuns.{rows_of}
 use Rattle.sel_runs.proofs.planned.collect_plan.Goals as goal
 
--- the type of the first source
+-- The type of the first source.
 first_kind : (cs : List (Bor Column)) (first : Bor Column) → 0 < length cs → first ≡ get_or cs 0 first → first_type (columns_of cs) ≡ type_of first.now
 first_kind [] first some is = absurd (omega (arith, some))
 first_kind (c ∷ cs) first some is = ap (λ (x : Bor Column). type_of x.now) (sym is)
@@ -31,10 +31,10 @@ pub returns-clause-within : goal.returns-clause-within
 returns-clause-within g c =
     let cs = c.args.sources.now in
     let kind = first_kind cs c.index-sources-0.result c.requires.some c.index-sources-0.is in
-    subst (λ s. IfOk c.gather_like.result (λ column. PassesNone (past_taken s (columns_of cs) (pick Null (rows_of cs) (g.P.Plan.picks c.args.plan.now))))) (sym kind) c.gather_like.ensures.within
+    subst (λ s. IfOk c.gather_like.result (λ column. ExceedsNone (exceeded_taken s (columns_of cs) (pick Null (rows_of cs) (g.P.Plan.picks c.args.plan.now))))) (sym kind) c.gather_like.ensures.within
 
 pub returns-clause-refusal : goal.returns-clause-refusal
 returns-clause-refusal g c =
     let cs = c.args.sources.now in
     let kind = first_kind cs c.index-sources-0.result c.requires.some c.index-sources-0.is in
-    subst (λ s. IfErr c.gather_like.result (IsRefusal (past_taken s (columns_of cs) (pick Null (rows_of cs) (g.P.Plan.picks c.args.plan.now))))) (sym kind) c.gather_like.ensures.refusal
+    subst (λ s. IfErr c.gather_like.result (IsLimitOrMemory (exceeded_taken s (columns_of cs) (pick Null (rows_of cs) (g.P.Plan.picks c.args.plan.now))))) (sym kind) c.gather_like.ensures.refusal

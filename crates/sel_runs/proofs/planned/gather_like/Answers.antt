@@ -2,7 +2,7 @@ use Rattle.std.proofs.Common.{◌≡◌, ◌∙◌, sym, subst}
 use Rattle.std.specs.Prelude.{IfErr, IfOk}
 use Rattle.sel_arrow.specs.Rows.{type_of}
 use Rattle.sel_arrow.specs.Value.{Null}
-use Rattle.sel_runs.specs.Need.{IsRefusal, PassesNone, past_taken}
+use Rattle.sel_runs.specs.Need.{IsLimitOrMemory, ExceedsNone, exceeded_taken}
 use Rattle.sel_runs.specs.Picks.{pick}
 use Rattle.sel_runs.specs.Sources.{columns_of}
 use Rattle.sel_runs.proofs.ItemRuns.{rows_of}
@@ -17,9 +17,9 @@ returns-in_default-clause-dtype g c = subst (λ s. IfOk c.collect_listed.result 
 pub returns-in_default-clause-within : goal.returns-in_default-clause-within
 returns-in_default-clause-within g c =
     let cs = c.args.sources.now in
-    subst (λ s. IfOk c.collect_listed.result (λ column. PassesNone (past_taken s (columns_of cs) (pick Null (rows_of cs) (g.P.Plan.picks c.args.plan.now))))) c.requires.kind c.collect_listed.ensures.within
+    subst (λ s. IfOk c.collect_listed.result (λ column. ExceedsNone (exceeded_taken s (columns_of cs) (pick Null (rows_of cs) (g.P.Plan.picks c.args.plan.now))))) c.requires.kind c.collect_listed.ensures.within
 
 pub returns-in_default-clause-refusal : goal.returns-in_default-clause-refusal
 returns-in_default-clause-refusal g c =
     let cs = c.args.sources.now in
-    subst (λ s. IfErr c.collect_listed.result (IsRefusal (past_taken s (columns_of cs) (pick Null (rows_of cs) (g.P.Plan.picks c.args.plan.now))))) c.requires.kind c.collect_listed.ensures.refusal
+    subst (λ s. IfErr c.collect_listed.result (IsLimitOrMemory (exceeded_taken s (columns_of cs) (pick Null (rows_of cs) (g.P.Plan.picks c.args.plan.now))))) c.requires.kind c.collect_listed.ensures.refusal

@@ -5,7 +5,7 @@ use Rattle.sel_runs.specs.declared.run.Run.{Run}
 use Rattle.sel_runs.proofs.RunLists.{expand-push, length-unrolled, none_unrolled}
 use Rattle.sel_runs.proofs.run.put_run.Goals as goal
 
--- one of no rows adds nothing
+-- An empty run adds nothing.
 pub returns-then-run-eq0-clause-picks : goal.returns-then-run-eq0-clause-picks
 returns-then-run-eq0-clause-picks c =
     let before = expand (c.args.runs.now.items ++ c.args.last.now ∷ []) in

@@ -4,7 +4,7 @@ use Rattle.sel_arrow.specs.Rows.{rows, type_of}
 use Rattle.sel_arrow.specs.Shape.{of_large_list}
 use Rattle.sel_arrow.specs.Value.{Null}
 use Rattle.sel_arrow.specs.declared.column.Column.{Column}
-use Rattle.sel_runs.specs.Need.{past_taken}
+use Rattle.sel_runs.specs.Need.{exceeded_taken}
 use Rattle.sel_runs.specs.Picks.{pick}
 use Rattle.sel_runs.specs.Runs.{expand}
 use Rattle.sel_runs.proofs.Below.{refused_more}
@@ -32,7 +32,7 @@ returns-in_err-lists-clause-refusal c =
     let typed = ap type_of c.in-LargeList.is ∙ ap (λ (x : Column). of_large_list (type_of x)) (sym c.deref.ensures) in
     let vs = pick Null (rows column ∷ []) (expand c.args.runs.now) in
     rw (p.1, p.2) (refused_more _ _ c.in_err-lists.field-0.0
-    (λ limit h. one_source column c.requires.formed vs limit (subst (λ t. past_taken t (column ∷ []) vs limit) (sym typed) h)) c.in_err-lists.ensures.refusal)
+    (λ limit h. one_source column c.requires.formed vs limit (subst (λ t. exceeded_taken t (column ∷ []) vs limit) (sym typed) h)) c.in_err-lists.ensures.refusal)
 
 pub returns-in-LargeList-clause-within : goal.returns-in-LargeList-clause-within
 returns-in-LargeList-clause-within c =

@@ -1,4 +1,4 @@
--- Those so far are.
+-- The sources so far are well-formed.
 use Rattle.std.proofs.Common.{All, take}
 use Rattle.sel_arrow.specs.Rows.{IsWellFormed}
 use Rattle.sel_runs.proofs.sources.are_well_formed.Given as goal

@@ -1,4 +1,4 @@
--- The fields so far.
+-- The fields of the sources so far.
 use Rattle.std.proofs.Common.{◌≡◌, map, take}
 use Rattle.sel_runs.specs.Children.{field}
 use Rattle.sel_runs.proofs.structs.fields_at.Given as goal

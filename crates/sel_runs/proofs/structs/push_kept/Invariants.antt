@@ -1,4 +1,4 @@
--- The rows so far stand behind those that were there; the bits that are left are those from the next row on.
+-- The row references so far are appended; the remaining bits are those from the next row on.
 use Rattle.std.proofs.Common.{◌≡◌, ◌≤◌, ◌+◌, ◌-◌, ◌++◌, length, map}
 use Rattle.sel_runs.specs.KeptPicks.{kept_by}
 use Rattle.sel_runs.specs.Runs.{expand, unrolled_from}

@@ -1,4 +1,4 @@
--- The runs so far.
+-- The cleared row references of the runs so far.
 use Rattle.std.proofs.Common.{◌≡◌, map, take}
 use Rattle.sel_runs.specs.Cleared.{cleared}
 use Rattle.sel_runs.specs.Runs.{expand}

@@ -3,7 +3,7 @@ use Rattle.std.specs.Option.{option_copied}
 use Rattle.std.proofs.lemmas.List.{length-map, map-append}
 use Rattle.sel_arrow.specs.Value.{Null, is_valid, validities}
 use Rattle.sel_runs.specs.Picks.{pick, PickFits}
-use Rattle.sel_runs.specs.Plans.{TellNulls}
+use Rattle.sel_runs.specs.Plans.{AreValidities}
 use Rattle.sel_runs.specs.Runs.{expand, unrolled}
 use Rattle.sel_runs.specs.Sources.{columns_of}
 use Rattle.sel_runs.proofs.Gathers.{all_none, all_there}
@@ -44,7 +44,7 @@ returns-then-not-is_any_there-clause-bits c =
     let ps = expand c.args.runs.now in
     let maps = map option_copied c.as_slice-maps.result.now in
     let found = ap (map option_copied) c.as_slice-maps.ensures.value in
-    let told = subst (λ vs. TellNulls vs (columns_of cs)) (sym found) c.in_ok-maps.ensures.told in
+    let told = subst (λ vs. AreValidities vs (columns_of cs)) (sym found) c.in_ok-maps.ensures.told in
     let none = all_none option_copied c.as_slice-maps.result.now (c.is_any_there.ensures c.if-not-is_any_there.true) in
     let picked = named_picked c.args.runs.now (c.is_any_null.ensures c.if-not-is_any_null.true) in
     ap (λ n. replicate n true) (sym c.requires.len) ∙ all_there maps ps none picked ∙ told_picked maps cs ps told c.requires.known c.requires.fits

@@ -1,4 +1,4 @@
--- The bits of the runs so far.
+-- The validity bits of the runs so far.
 use Rattle.std.proofs.Common.{◌≡◌, take}
 use Rattle.sel_arrow.specs.Value.{Null, validities}
 use Rattle.sel_runs.specs.Picks.{pick}

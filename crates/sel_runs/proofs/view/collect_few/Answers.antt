@@ -8,7 +8,7 @@ use Rattle.sel_runs.proofs.view.collect_few.Goals as goal
 
 pub validity_from-requires : goal.validity_from-requires
 validity_from-requires g c =
-    let f = view_value g.B.Beneath.buffers in
+    let f = view_value g.B.NullSlots.buffers in
     let grown = c.in_ok-views.field-0 in
     let runs = expand c.args.runs.now in
     let total = from_none f _ _ _ _ runs _ c.in_ok-with_capacity.ensures.items c.in_ok-with_capacity-2.ensures.value refl c.in_ok-views.ensures.rows in
@@ -16,7 +16,7 @@ validity_from-requires g c =
 
 pub invariant_of-result : goal.invariant_of-result
 invariant_of-result g c =
-    let f = view_value g.B.Beneath.buffers in
+    let f = view_value g.B.NullSlots.buffers in
     let grown = c.in_ok-views.field-0 in
     let runs = expand c.args.runs.now in
     let total = from_none f _ _ _ _ runs _ c.in_ok-with_capacity.ensures.items c.in_ok-with_capacity-2.ensures.value refl c.in_ok-views.ensures.rows in
@@ -33,7 +33,7 @@ invariant_of-result g c =
 
 pub returns-clause-rows : goal.returns-clause-rows
 returns-clause-rows g c =
-    let f = view_value g.B.Beneath.buffers in
+    let f = view_value g.B.NullSlots.buffers in
     let grown = c.in_ok-views.field-0 in
     let runs = expand c.args.runs.now in
     let total = from_none f _ _ _ _ runs _ c.in_ok-with_capacity.ensures.items c.in_ok-with_capacity-2.ensures.value refl c.in_ok-views.ensures.rows in

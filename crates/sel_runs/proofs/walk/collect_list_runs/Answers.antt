@@ -5,7 +5,7 @@ use Rattle.sel_arrow.specs.Rows.{type_of}
 use Rattle.sel_arrow.specs.Shape.{of_large_list}
 use Rattle.sel_arrow.specs.Value.{Null}
 use Rattle.sel_runs.specs.Children.{child, joined_items}
-use Rattle.sel_runs.specs.Need.{IsPastRows, IsRefusal, PassesNone, past_taken}
+use Rattle.sel_runs.specs.Need.{ExceedsRows, IsLimitOrMemory, ExceedsNone, exceeded_taken}
 use Rattle.sel_runs.specs.Picks.{pick}
 use Rattle.sel_runs.specs.Runs.{expand}
 use Rattle.sel_runs.specs.Sources.{columns_of, picked}
@@ -69,8 +69,8 @@ returns-in_err-values-clause-refusal c =
     let found = ap (map (λ x. x.now)) c.deref.ensures.value ∙ c.in_ok-children.ensures.children in
     let first = children_first s cs xs found c.requires.alike c.requires.formed c.requires.some in
     let same = children_picked s cs xs found c.requires.alike c.requires.formed c.deref-2.result.now c.in_ok-ends.below.items items c.deref-2.ensures.value c.in_ok-ends.ensures.items in
-    let here = subst (λ l. IsRefusal (past_taken s l items) fault) (children_columns s cs xs found c.requires.alike c.requires.formed)
-    (subst (λ l. IsRefusal (past_taken s (columns_of xs) l) fault) same (subst (λ t. IsRefusal (past_taken t (columns_of xs) (picked xs c.deref-2.result.now)) fault) first c.in_err-values.ensures.refusal)) in
+    let here = subst (λ l. IsLimitOrMemory (exceeded_taken s l items) fault) (children_columns s cs xs found c.requires.alike c.requires.formed)
+    (subst (λ l. IsLimitOrMemory (exceeded_taken s (columns_of xs) l) fault) same (subst (λ t. IsLimitOrMemory (exceeded_taken t (columns_of xs) (picked xs c.deref-2.result.now)) fault) first c.in_err-values.ensures.refusal)) in
     rw (p.1, p.2) (refused_more _ _ fault (λ limit h. inr h) here)
 
 pub returns-clause-dtype : goal.returns-clause-dtype
@@ -88,7 +88,7 @@ returns-clause-within c =
     let found = ap (map (λ x. x.now)) c.deref.ensures.value ∙ c.in_ok-children.ensures.children in
     let first = children_first s cs xs found c.requires.alike c.requires.formed c.requires.some in
     let same = children_picked s cs xs found c.requires.alike c.requires.formed c.deref-2.result.now c.in_ok-ends.below.items items c.deref-2.ensures.value c.in_ok-ends.ensures.items in
-    let below = subst (λ l. PassesNone (past_taken s l items)) (children_columns s cs xs found c.requires.alike c.requires.formed)
-    (subst (λ l. PassesNone (past_taken s (columns_of xs) l)) same (subst (λ t. PassesNone (past_taken t (columns_of xs) (picked xs c.deref-2.result.now))) first c.in_ok-values.ensures.within)) in
+    let below = subst (λ l. ExceedsNone (exceeded_taken s l items)) (children_columns s cs xs found c.requires.alike c.requires.formed)
+    (subst (λ l. ExceedsNone (exceeded_taken s (columns_of xs) l)) same (subst (λ t. ExceedsNone (exceeded_taken t (columns_of xs) (picked xs c.deref-2.result.now))) first c.in_ok-values.ensures.within)) in
     let long = ap length (sym c.in_ok-ends.ensures.items) in
-    IfOk-weaker c.lists_with.result _ _ (λ column same. passes_neither (IsPastRows (length items)) (past_taken s (map child (columns_of cs)) items) (few_rows_pass (length items) (omega (arith, long, length-pick Null (below_of cs) (expand c.in_ok-ends.below.items), c.in_ok-ends.ensures.count, c.in_ok-ends.ensures.few))) below) c.lists_with.ensures.rows
+    IfOk-weaker c.lists_with.result _ _ (λ column same. passes_neither (ExceedsRows (length items)) (exceeded_taken s (map child (columns_of cs)) items) (few_rows_pass (length items) (omega (arith, long, length-pick Null (below_of cs) (expand c.in_ok-ends.below.items), c.in_ok-ends.ensures.count, c.in_ok-ends.ensures.few))) below) c.lists_with.ensures.rows

@@ -1,4 +1,4 @@
--- The ends and the items of the rows so far stand behind those that were there.
+-- The ends and the child rows of the rows so far are appended.
 use Rattle.std.proofs.Common.{◌≡◌, ◌+◌, ◌++◌, ◌∷◌, [], All, length, map, take, pos}
 use Rattle.sel_arrow.specs.Value.{Null}
 use Rattle.sel_runs.specs.Children.{joined_items}

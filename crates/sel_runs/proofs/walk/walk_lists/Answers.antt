@@ -2,7 +2,7 @@ use Rattle.std.proofs.Common.{◌≤◌, ◌∙◌, ◌++◌, ◌∷◌, [], ◌
 use Rattle.std.proofs.lemmas.Result.{err_from_is_err_and}
 use Rattle.sel_arrow.specs.Value.{Null}
 use Rattle.sel_runs.specs.Children.{joined_items}
-use Rattle.sel_runs.specs.Need.{IsPastRows}
+use Rattle.sel_runs.specs.Need.{ExceedsRows}
 use Rattle.sel_runs.specs.Picks.{pick, PickFits}
 use Rattle.sel_runs.specs.Runs.{expand, unrolled}
 use Rattle.sel_runs.proofs.Below.{refused_more}
@@ -56,7 +56,7 @@ returns-in_err-end-clause-refusal g c =
     let counted = counts_behind 0 now before more c.loop-at.end so_far is c.loop-at.invariant.count (omega arith) in
     let below : so_far ≤ length (joined_items 0 (pick Null xss ps)) = omega (arith, counted, joined_first 0 xss ps (c.loop-at.at + run.len)) in
     let p = err_from_is_err_and c.from_residual-in_err-end.result c.from_residual-in_err-end.ensures.1 in
-    rw (p.1, p.2) (refused_more (IsPastRows so_far) (IsPastRows (length (joined_items 0 (pick Null xss ps)))) c.in_err-end.field-0.0 (past_more so_far _ below) c.in_err-end.ensures.refusal)
+    rw (p.1, p.2) (refused_more (ExceedsRows so_far) (ExceedsRows (length (joined_items 0 (pick Null xss ps)))) c.in_err-end.field-0.0 (past_more so_far _ below) c.in_err-end.ensures.refusal)
 
 pub returns-clause-items : goal.returns-clause-items
 returns-clause-items g c =

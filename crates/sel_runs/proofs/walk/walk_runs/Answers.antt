@@ -3,7 +3,7 @@ use Rattle.std.proofs.lemmas.Result.{err_from_is_err_and}
 use Rattle.sel_arrow.specs.Value.{Null}
 use Rattle.sel_runs.specs.Children.{joined_items}
 use Rattle.sel_runs.specs.Ends.{item_ends}
-use Rattle.sel_runs.specs.Need.{IsPastRows}
+use Rattle.sel_runs.specs.Need.{ExceedsRows}
 use Rattle.sel_runs.specs.Picks.{pick, PickFits}
 use Rattle.sel_runs.specs.Runs.{expand, unrolled}
 use Rattle.sel_runs.proofs.Below.{refused_more}
@@ -44,7 +44,7 @@ returns-in_err-end-clause-refusal c =
     let total = length (joined_items 0 (pick Null xss (expand runs))) in
     let below : so_far ≤ total = run_items_room 0 xss runs i c.loop-run.end total c.loop-run-test.true c.loop-run.invariant.count (omega arith) in
     let p = err_from_is_err_and c.from_residual-in_err-end.result c.from_residual-in_err-end.ensures.1 in
-    rw (p.1, p.2) (refused_more (IsPastRows so_far) (IsPastRows total) c.in_err-end.field-0.0 (past_more so_far _ below) c.in_err-end.ensures.refusal)
+    rw (p.1, p.2) (refused_more (ExceedsRows so_far) (ExceedsRows total) c.in_err-end.field-0.0 (past_more so_far _ below) c.in_err-end.ensures.refusal)
 
 pub returns-clause-ends : goal.returns-clause-ends
 returns-clause-ends c =

@@ -10,7 +10,7 @@ use Rattle.sel_arrow.proofs.NestedRows.{length-rows}
 use Rattle.sel_arrow.proofs.Types.{struct_shape}
 use Rattle.sel_text.specs.Fits.{fits}
 use Rattle.sel_text.specs.ItemValues.{item_value, rows_read}
-use Rattle.sel_text.specs.Limits.{any_past, block_in, entries_in, is_past, part_in, past_limit, IsTold, Makes}
+use Rattle.sel_text.specs.Limits.{any_exceeds_limit, block_in, entries_in, exceeds_max, part_in, exceeds_limit, ReportsLimit, MakesColumn}
 use Rattle.sel_text.proofs.Below.{all_below, block_below, blocks_made, blocks_past, list_below, lists_made, lists_past, same_blocks, same_lists}
 use Rattle.sel_text.proofs.Making.{all_nulls, maker_told, or_first, or_second, told_more}
 use Rattle.sel_text.proofs.PartRows.{parts_kept, parts_more, past_at, tuples_made, tuples_past}
@@ -30,7 +30,7 @@ pub build-returns-in-Struct : goal.build-returns-in-Struct
 build-returns-in-Struct t c =
     let shapes = shapes_of (map shape_of c.deref-in-Struct.result.now) in
     let same : of_struct shapes ≡ shape_of c.args.dtype.now = ap (λ l. of_struct (shapes_of (map shape_of l))) c.deref-in-Struct.ensures.value ∙ sym (struct_shape c.args.dtype.now c.in-Struct.fields c.in-Struct.is) in
-    subst (λ s. list_all (fits s) (rows_read c.args.items.now) ≡ true → Makes c.args.beneath s (rows_read c.args.items.now) c.tuples.result) same c.tuples.ensures
+    subst (λ s. list_all (fits s) (rows_read c.args.items.now) ≡ true → MakesColumn c.args.beneath s (rows_read c.args.items.now) c.tuples.result) same c.tuples.ensures
 
 -- ---- lists
 
@@ -42,8 +42,8 @@ lists-returns-in-Err-build t c = λ fit.
     let below = flat_map (entries_in b) vs in
     let read : rows_read c.deref.result.now ≡ below = ap rows_read c.deref.ensures.value ∙ c.in-Ok.ensures.entries refl in
     let kept = ap (list_all (fits s)) read ∙ all_below (entries_in b) (fits (of_large_list s)) (fits s) (list_below s b) vs fit in
-    told_more (past_limit b s below) (past_limit b (of_large_list s) vs) c.in-Err-build.fault (or_second (is_past (length vs)) (past_limit b s below))
-    (subst (λ l. IsTold (past_limit b s l) c.in-Err-build.fault) read (c.in-Err-build.ensures kept))
+    told_more (exceeds_limit b s below) (exceeds_limit b (of_large_list s) vs) c.in-Err-build.fault (or_second (exceeds_max (length vs)) (exceeds_limit b s below))
+    (subst (λ l. ReportsLimit (exceeds_limit b s l) c.in-Err-build.fault) read (c.in-Err-build.ensures kept))
 
 pub lists-returns-in-Ok-try_new : goal.lists-returns-in-Ok-try_new
 lists-returns-in-Ok-try_new t c = λ fit.
@@ -69,11 +69,11 @@ lists-returns t c = λ fit.
     let kept = ap (list_all (fits s)) read ∙ all_below (entries_in b) (fits (of_large_list s)) (fits s) (list_below s b) vs fit in
     let count = sym (length-rows c.in-Ok-build.child.column) ∙ ap length ((c.in-Ok-build.ensures kept).1 ∙ read) in
     let covers = subst (Covers c.in-Ok-validity_of.validity) (sym (length-map c.args.items.now (λ item. item_value item.now))) c.in-Ok-validity_of.ensures.covers in
-    let p = past_limit b (of_large_list s) vs in
-    subst (IsTold p) (sym c.from.ensures) (maker_told _ c.in-Err-try_new.fault p c.in-Err-try_new.ensures.refused
-    (λ m is. or_first (is_past (length vs)) (past_limit b s below) (lists_past (entries_in b) vs c.in-Ok.made.1 (row_count c.in-Ok-build.child.column) c.in-Ok-validity_of.validity m (c.in-Ok.ensures.offsets refl) count covers is)))
+    let p = exceeds_limit b (of_large_list s) vs in
+    subst (ReportsLimit p) (sym c.from.ensures) (maker_told _ c.in-Err-try_new.fault p c.in-Err-try_new.ensures.refused
+    (λ m is. or_first (exceeds_max (length vs)) (exceeds_limit b s below) (lists_past (entries_in b) vs c.in-Ok.made.1 (row_count c.in-Ok-build.child.column) c.in-Ok-validity_of.validity m (c.in-Ok.ensures.offsets refl) count covers is)))
 
--- ---- lists of one length
+-- ---- fixed-size lists
 
 pub blocks-returns-in-Err-build : goal.blocks-returns-in-Err-build
 blocks-returns-in-Err-build t c = λ fit.
@@ -84,8 +84,8 @@ blocks-returns-in-Err-build t c = λ fit.
     let below = flat_map (block_in size) vs in
     let read : rows_read c.deref.result.now ≡ below = ap rows_read c.deref.ensures.value ∙ c.in-Ok.ensures.entries refl in
     let kept = ap (list_all (fits s)) read ∙ all_below (block_in size) (fits (of_fixed_size_list s size)) (fits s) (block_below s size) vs fit in
-    told_more (past_limit b s below) (past_limit b (of_fixed_size_list s size) vs) c.in-Err-build.fault (or_second (is_past (length vs) || is_past size) (past_limit b s below))
-    (subst (λ l. IsTold (past_limit b s l) c.in-Err-build.fault) read (c.in-Err-build.ensures kept))
+    told_more (exceeds_limit b s below) (exceeds_limit b (of_fixed_size_list s size) vs) c.in-Err-build.fault (or_second (exceeds_max (length vs) || exceeds_max size) (exceeds_limit b s below))
+    (subst (λ l. ReportsLimit (exceeds_limit b s l) c.in-Err-build.fault) read (c.in-Err-build.ensures kept))
 
 pub blocks-returns-in-Ok-try_new : goal.blocks-returns-in-Ok-try_new
 blocks-returns-in-Ok-try_new t c = λ fit.
@@ -115,11 +115,11 @@ blocks-returns t c = λ fit.
     let count = sym (length-rows c.in-Ok-build.child.column) ∙ ap length ((c.in-Ok-build.ensures kept).1 ∙ read) in
     let long = length-map c.args.items.now (λ item. item_value item.now) in
     let covers = subst (Covers c.in-Ok-validity_of.validity) (sym long) c.in-Ok-validity_of.ensures.covers in
-    let p = past_limit b (of_fixed_size_list s size) vs in
-    subst (IsTold p) (sym c.from.ensures) (maker_told _ c.in-Err-try_new.fault p c.in-Err-try_new.ensures.refused
-    (λ m is. or_first (is_past (length vs) || is_past size) (past_limit b s below) (blocks_past s size vs (length c.args.items.now) (row_count c.in-Ok-build.child.column) c.in-Ok-validity_of.validity m fit (sym long) count covers is)))
+    let p = exceeds_limit b (of_fixed_size_list s size) vs in
+    subst (ReportsLimit p) (sym c.from.ensures) (maker_told _ c.in-Err-try_new.fault p c.in-Err-try_new.ensures.refused
+    (λ m is. or_first (exceeds_max (length vs) || exceeds_max size) (exceeds_limit b s below) (blocks_past s size vs (length c.args.items.now) (row_count c.in-Ok-build.child.column) c.in-Ok-validity_of.validity m fit (sym long) count covers is)))
 
--- ---- tuples
+-- ---- fields of structs
 
 pub push_fields-returns-in-Err-build-clause-limit : goal.push_fields-returns-in-Err-build-clause-limit
 push_fields-returns-in-Err-build-clause-limit t c = λ fit.
@@ -134,8 +134,8 @@ push_fields-returns-in-Err-build-clause-limit t c = λ fit.
     let inside : k < length shapes = rw length-map below in
     let read : rows_read c.deref.result.now ≡ map (part_in k) vs = ap rows_read c.deref.ensures.value ∙ c.in-Ok.ensures.parts refl in
     let kept = ap (list_all (fits (shape_of d))) read ∙ parts_kept shapes k (shape_of d) inside here vs fit in
-    told_more (past_limit b (shape_of d) (map (part_in k) vs)) (any_past b (shapes_of shapes) 0 vs) c.in-Err-build.fault (past_at b shapes 0 k k (shape_of d) vs inside here (omega arith))
-    (subst (λ l. IsTold (past_limit b (shape_of d) l) c.in-Err-build.fault) read (c.in-Err-build.ensures kept))
+    told_more (exceeds_limit b (shape_of d) (map (part_in k) vs)) (any_exceeds_limit b (shapes_of shapes) 0 vs) c.in-Err-build.fault (past_at b shapes 0 k k (shape_of d) vs inside here (omega arith))
+    (subst (λ l. ReportsLimit (exceeds_limit b (shape_of d) l) c.in-Err-build.fault) read (c.in-Err-build.ensures kept))
 
 pub push_fields-loop-k-preserved : goal.push_fields-loop-k-preserved
 push_fields-loop-k-preserved t c = λ fit.
@@ -170,6 +170,6 @@ tuples-returns-in-Err-try_new t c = λ fit.
     let has = c.in_default.ensures.fields fit in
     let long = length-map c.args.items.now (λ item. item_value item.now) in
     let covers = subst (Covers c.in-Ok.validity) (sym long) c.in-Ok.ensures.covers in
-    let p = past_limit b (of_struct (shapes_of shapes)) vs in
-    subst (IsTold p) (sym c.from.ensures) (maker_told _ c.in-Err-try_new.fault p c.in-Err-try_new.ensures.refused
-    (λ m is. or_first (is_past (length vs)) (any_past b (shapes_of shapes) 0 vs) (tuples_past shapes vs c.push_fields.new.fields.items _ (length c.args.items.now) c.in-Ok.validity m has c.in_ok-fields.ensures.items (sym long) covers is)))
+    let p = exceeds_limit b (of_struct (shapes_of shapes)) vs in
+    subst (ReportsLimit p) (sym c.from.ensures) (maker_told _ c.in-Err-try_new.fault p c.in-Err-try_new.ensures.refused
+    (λ m is. or_first (exceeds_max (length vs)) (any_exceeds_limit b (shapes_of shapes) 0 vs) (tuples_past shapes vs c.push_fields.new.fields.items _ (length c.args.items.now) c.in-Ok.validity m has c.in_ok-fields.ensures.items (sym long) covers is)))

@@ -1,4 +1,4 @@
--- The fields so far.
+-- Loop invariant: the fields so far.
 use Rattle.std.proofs.Common.{◌≡◌, map, take, true}
 use Rattle.std.specs.List.{list_all}
 use Rattle.sel_arrow.specs.DataType.{shape_of}

@@ -1,4 +1,4 @@
--- Those so far are true.
+-- Loop invariant: the bits so far are true.
 use Rattle.std.proofs.Common.{◌≡◌, true, take}
 use Rattle.std.specs.List.{list_all}
 use Rattle.sel_text.proofs.build.all_true.Given as goal

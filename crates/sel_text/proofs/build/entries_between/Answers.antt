@@ -3,7 +3,7 @@ use Rattle.std.proofs.lemmas.List.{length-map}
 use Rattle.sel_text.specs.Below.{offsets_below}
 use Rattle.sel_text.specs.ItemValues.{item_value, rows_read}
 use Rattle.sel_text.specs.Limits.{entries_in}
-use Rattle.sel_text.specs.TextErrors.{IsWanting}
+use Rattle.sel_text.specs.TextErrors.{IsMemoryFault}
 use Rattle.sel_text.proofs.ItemParts.{one_more, all_read}
 use Rattle.sel_text.proofs.Making.{maker_wanting}
 use Rattle.sel_text.proofs.OffsetsBelow.{end_kept, holds_more, no_offsets_fault, offsets_read}
@@ -27,4 +27,4 @@ returns-in-Ok-try_from-clause-offsets c = λ none.
 pub returns-clause-memory : goal.returns-clause-memory
 returns-clause-memory c = λ none.
     let kept = no_offsets_fault (entries_in c.args.beneath) _ _ c.loop-item.ends.items (c.loop-item.invariant none) in
-    subst IsWanting (sym c.from.ensures) (maker_wanting _ c.in-Err-try_from.fault c.in-Err-try_from.ensures.refusal kept)
+    subst IsMemoryFault (sym c.from.ensures) (maker_wanting _ c.in-Err-try_from.fault c.in-Err-try_from.ensures.refusal kept)

@@ -1,4 +1,4 @@
--- The entries and the ends so far.
+-- Loop invariant: the entries and the offsets so far.
 use Rattle.std.proofs.Common.{◌≡◌, take}
 use Rattle.sel_arrow.specs.Value.{Null}
 use Rattle.sel_text.specs.ItemValues.{item_value, rows_read}

@@ -1,4 +1,4 @@
--- The entries so far.
+-- Loop invariant: the entries so far.
 use Rattle.std.proofs.Common.{◌≡◌, take}
 use Rattle.std.specs.List.{flat_map}
 use Rattle.sel_arrow.specs.Value.{Null}

@@ -3,7 +3,7 @@ use Rattle.std.proofs.lemmas.List.{take_all}
 use Rattle.sel_arrow.specs.Masked.{Covers, masked}
 use Rattle.sel_arrow.specs.Value.{Number}
 use Rattle.sel_text.specs.ItemValues.{rows_read}
-use Rattle.sel_text.specs.Limits.{Shows}
+use Rattle.sel_text.specs.Limits.{ShowsRows}
 use Rattle.sel_text.proofs.Refusals.{flat_told, makes_told}
 use Rattle.sel_text.proofs.Shown.{item_fits, rows_count, shown_count, shown_more}
 use Rattle.sel_text.proofs.build.numbers.Goals as goal
@@ -18,7 +18,7 @@ pub returns-in_err-try_new : goal.returns-in_err-try_new
 returns-in_err-try_new g c = λ fit.
     let items = c.args.items.now in
     let all = take_all c.loop-item.item-index items (omega arith) in
-    let shown = subst (λ l. Shows (rows_read l) (map (λ x. Number (g.T.NativeType.number x)) c.loop-item.values.items)) all (c.loop-item.invariant fit) in
+    let shown = subst (λ l. ShowsRows (rows_read l) (map (λ x. Number (g.T.NativeType.number x)) c.loop-item.values.items)) all (c.loop-item.invariant fit) in
     let count : length c.in_ok-values-2.values ≡ length items = ap length c.in_ok-values-2.ensures.items ∙ shown_count (λ x. Number (g.T.NativeType.number x)) items c.loop-item.values.items shown in
     makes_told c.args.beneath g.T.ArrowPrimitive.shape (rows_read items) c.from_residual-in_err-try_new.result c.in_err-try_new.field-0.0 c.from_residual-in_err-try_new.ensures.1
     (λ fault told. flat_told c.args.beneath g.T.ArrowPrimitive.shape (rows_read items) (length c.in_ok-values-2.values) c.in_ok-validity_of.field-0 c.in_err-try_new.field-0.0 fault
@@ -29,7 +29,7 @@ returns g c = λ fit.
     let items = c.args.items.now in
     let column = c.in_ok-try_new.field-0 in
     let all = take_all c.loop-item.item-index items (omega arith) in
-    let shown = subst (λ l. Shows (rows_read l) (map (λ x. Number (g.T.NativeType.number x)) c.loop-item.values.items)) all (c.loop-item.invariant fit) in (
+    let shown = subst (λ l. ShowsRows (rows_read l) (map (λ x. Number (g.T.NativeType.number x)) c.loop-item.values.items)) all (c.loop-item.invariant fit) in (
       c.into_ref.ensures.dtype,
       c.into_ref.ensures.rows ∙ ap (λ l. masked column.validity (map (λ x. Number (g.T.NativeType.number x)) l)) (c.in_ok-try_new.ensures.values ∙ c.in_ok-values-2.ensures.items)
           ∙ ap (λ v. masked v (map (λ x. Number (g.T.NativeType.number x)) c.loop-item.values.items)) c.in_ok-try_new.ensures.validity ∙ c.in_ok-validity_of.ensures.hides (map (λ x. Number (g.T.NativeType.number x)) c.loop-item.values.items) shown,

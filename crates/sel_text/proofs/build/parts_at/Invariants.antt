@@ -1,4 +1,4 @@
--- The parts so far.
+-- Loop invariant: the field values so far.
 use Rattle.std.proofs.Common.{◌≡◌, map, take}
 use Rattle.sel_arrow.specs.Value.{Null}
 use Rattle.sel_text.specs.ItemValues.{item_value, rows_read}

@@ -6,7 +6,7 @@ use Rattle.sel_arrow.specs.Masked.{Covers, masked}
 use Rattle.sel_arrow.specs.Shape.{of_large_binary}
 use Rattle.sel_arrow.specs.Value.{Bytes}
 use Rattle.sel_text.specs.ItemValues.{rows_read}
-use Rattle.sel_text.specs.Limits.{past_limit}
+use Rattle.sel_text.specs.Limits.{exceeds_limit}
 use Rattle.sel_text.proofs.OffsetsBelow.{Holds, count_between, end_kept, ends_inside, holds_more, no_offsets_fault, offsets_read, parts_between}
 use Rattle.sel_text.proofs.Refusals.{binary_told, makes_told, memory_told}
 use Rattle.sel_text.proofs.Shown.{bytes_shown, of_binary, rows_count, stored_in}
@@ -26,7 +26,7 @@ returns-in_err-offsets c = λ fit.
     let rows = rows_read c.args.items.now in
     let broken = no_offsets_fault (stored_in c.args.beneath) _ _ c.loop-item.ends.items c.loop-item.invariant in
     makes_told c.args.beneath of_large_binary rows c.from_residual-in_err-offsets.result c.in_err-offsets.field-0.0 c.from_residual-in_err-offsets.ensures.1
-    (λ fault told. memory_told (past_limit c.args.beneath of_large_binary rows) _ c.in_err-offsets.field-0.0 fault broken c.in_err-offsets.ensures.refusal told)
+    (λ fault told. memory_told (exceeds_limit c.args.beneath of_large_binary rows) _ c.in_err-offsets.field-0.0 fault broken c.in_err-offsets.ensures.refusal told)
 
 pub returns-in_err-try_new : goal.returns-in_err-try_new
 returns-in_err-try_new c = λ fit.

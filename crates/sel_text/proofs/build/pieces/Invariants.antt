@@ -1,4 +1,4 @@
--- The bytes and the offsets of the rows so far.
+-- Loop invariant: the bytes and the offsets of the rows so far.
 use Rattle.std.proofs.Common.{take}
 use Rattle.sel_text.proofs.OffsetsBelow.{Holds}
 use Rattle.sel_text.proofs.Shown.{stored_in}

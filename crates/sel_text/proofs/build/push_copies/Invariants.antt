@@ -1,4 +1,4 @@
--- The copies so far.
+-- Loop invariant: the copies so far.
 use Rattle.std.proofs.Common.{◌≡◌, ◌++◌, replicate}
 use Rattle.sel_text.specs.ItemValues.{item_value, rows_read}
 use Rattle.sel_text.proofs.build.push_copies.Given as goal

@@ -1,4 +1,4 @@
--- The entries so far.
+-- Loop invariant: the entries so far.
 use Rattle.std.proofs.Common.{◌≡◌, ◌++◌, map, take}
 use Rattle.sel_text.specs.ItemValues.{item_value, rows_read}
 use Rattle.sel_text.proofs.build.push_each.Given as goal

@@ -1,4 +1,4 @@
--- Whether each row so far is valid.
+-- Loop invariant: the validity of the rows so far.
 use Rattle.std.proofs.Common.{◌≡◌, take}
 use Rattle.sel_text.proofs.Shown.{valid_items}
 use Rattle.sel_text.proofs.build.validity_of.Given as goal

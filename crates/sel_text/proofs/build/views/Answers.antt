@@ -7,7 +7,7 @@ use Rattle.sel_arrow.specs.Masked.{Covers, masked}
 use Rattle.sel_arrow.specs.Value.{Bytes}
 use Rattle.sel_arrow.specs.Views.{all_placed, view_rows}
 use Rattle.sel_text.specs.ItemValues.{rows_read}
-use Rattle.sel_text.specs.Limits.{is_past, past_limit}
+use Rattle.sel_text.specs.Limits.{exceeds_max, exceeds_limit}
 use Rattle.sel_text.specs.Stored.{bytes_behind}
 use Rattle.sel_text.proofs.BuiltViews.{Views, past_bytes, views_count, views_more}
 use Rattle.sel_text.proofs.Refusals.{binview_told, bytes_past, if_made, if_told, told_more, wanting_told}
@@ -21,7 +21,7 @@ returns-in_err-view_behind-clause-limit c =
     let store = c.loop-item.data.items in
     let all = stored_more c.args.beneath items c.loop-item.item-index c.item-item.result bytes (omega arith) c.item-item.is c.bytes_in.ensures in
     if_told c.from_residual-in_err-view_behind.result c.in_err-view_behind.field-0.0 _ c.from_residual-in_err-view_behind.ensures.1
-    (λ shape view fit. told_more (is_past (length store + length (bytes_behind bytes))) (past_limit c.args.beneath shape (rows_read items)) c.in_err-view_behind.field-0.0
+    (λ shape view fit. told_more (exceeds_max (length store + length (bytes_behind bytes))) (exceeds_limit c.args.beneath shape (rows_read items)) c.in_err-view_behind.field-0.0
     (λ past. bytes_past c.args.beneath shape (rows_read items) view
     (past_bytes shape (of_views shape view) c.args.beneath items c.loop-item.item-index store bytes c.loop-item.views.items fit c.loop-item.invariant all past)) c.in_err-view_behind.ensures.limit)
 
@@ -34,7 +34,7 @@ loop-item-preserved c =
 pub returns-in_err-validity_of-clause-limit : goal.returns-in_err-validity_of-clause-limit
 returns-in_err-validity_of-clause-limit c =
     if_told c.from_residual-in_err-validity_of.result c.in_err-validity_of.field-0.0 _ c.from_residual-in_err-validity_of.ensures.1
-    (λ shape view fit. wanting_told (past_limit c.args.beneath shape (rows_read c.args.items.now)) c.in_err-validity_of.field-0.0 c.in_err-validity_of.ensures.memory)
+    (λ shape view fit. wanting_told (exceeds_limit c.args.beneath shape (rows_read c.args.items.now)) c.in_err-validity_of.field-0.0 c.in_err-validity_of.ensures.memory)
 
 pub returns-in_err-try_new-clause-limit : goal.returns-in_err-try_new-clause-limit
 returns-in_err-try_new-clause-limit c =

@@ -1,4 +1,4 @@
--- The views and the data buffer of the rows so far.
+-- Loop invariant: the views and the data buffer of the rows so far.
 use Rattle.std.proofs.Common.{take}
 use Rattle.sel_text.proofs.BuiltViews.{Views}
 use Rattle.sel_text.proofs.Shown.{stored_bytes}

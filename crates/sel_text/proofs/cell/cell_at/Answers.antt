@@ -1,6 +1,6 @@
 use Rattle.std.proofs.Common.{ap, sym, subst, ◌∙◌, arith, All}
 use Rattle.sel_arrow.specs.Rows.{type_of}
-use Rattle.sel_text.specs.Cells.{HasRow}
+use Rattle.sel_text.specs.Cells.{HasCellRow}
 use Rattle.sel_text.specs.Texts.{is_text_shape}
 use Rattle.sel_text.proofs.CellRows.{list_inside, list_covered, list_valid, list_null, list_bounds, list_few, block_covered, block_valid, block_null, block_bounds, block_few, tuple_covered, tuple_valid, tuple_null, tuple_fields, tuple_types}
 use Rattle.sel_text.proofs.cell.cell_at.Goals as goal
@@ -58,7 +58,7 @@ returns-then-is_valid_at-3-clause-value c =
     rw (c.deref-then-is_valid_at-3.ensures.value) (tuple_valid _ _ _ _ _ c.in-Struct.is c.requires (sym c.is_valid_at-in-Struct.ensures ∙ c.if-is_valid_at-3.true))
 
 pub returns-then-is_valid_at-3-clause-fits : goal.returns-then-is_valid_at-3-clause-fits
-returns-then-is_valid_at-3-clause-fits c = subst (All (HasRow c.args.i)) (sym c.deref-then-is_valid_at-3.ensures.value) (tuple_fields _ _ _ _ _ c.in-Struct.is c.requires)
+returns-then-is_valid_at-3-clause-fits c = subst (All (HasCellRow c.args.i)) (sym c.deref-then-is_valid_at-3.ensures.value) (tuple_fields _ _ _ _ _ c.in-Struct.is c.requires)
 
 pub returns-then-is_valid_at-3-clause-kind : goal.returns-then-is_valid_at-3-clause-kind
 returns-then-is_valid_at-3-clause-kind c = rw (c.deref-then-is_valid_at-3.ensures.value) (tuple_types _ _ _ _ _ c.in-Struct.is c.requires)

@@ -1,4 +1,4 @@
--- The rows so far are the same.
+-- Loop invariant: the rows so far are equal.
 use Rattle.std.proofs.Common.{◌≡◌, take, drop, map}
 use Rattle.sel_arrow.specs.Rows.{rows}
 use Rattle.sel_arrow.specs.Value.{Null}

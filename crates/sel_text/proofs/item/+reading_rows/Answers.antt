@@ -7,7 +7,7 @@ use Rattle.sel_arrow.specs.Shape.{of_large_list, of_fixed_size_list, of_struct, 
 use Rattle.sel_arrow.specs.Value.{listed}
 use Rattle.sel_arrow.proofs.Types.{struct_shape}
 use Rattle.sel_text.specs.ItemValues.{item_value}
-use Rattle.sel_text.specs.TextErrors.{IsWanting}
+use Rattle.sel_text.specs.TextErrors.{IsMemoryFault}
 use Rattle.sel_text.specs.declared.text_error.Fault.{Fault}
 use Rattle.sel_text.specs.declared.text_error.Fault.TheVariants.{OutOfMemory}
 use Rattle.sel_text.proofs.Entries.{IsLeft, HasParts, shapes_from, items_opened, no_items, some_items, item_begins, last_item, more_items, less_room, bracket_or_comma, not_ended, parts_opened, part_left, comma_before, part_begins, part_read, parts_end}
@@ -16,9 +16,9 @@ use Rattle.sel_text.proofs.ItemRows.{item_more, items_value, parts_value}
 use Rattle.sel_text.proofs.Rows.{Reads, null_read, list_row, block_row, tuple_row}
 use Rattle.sel_text.proofs.item.+reading_rows.Goals as goal
 
-want_of_memory : {T : Type 0} (P : T → Type 0) (r : Result T Fault) → IsErrAnd r (λ fault. fault ≡ OutOfMemory) → MatchResult r P IsWanting
-want_of_memory P (Ok x) never = absurd never
-want_of_memory P (Err fault) is = subst IsWanting (sym is) tt
+memory_error : {T : Type 0} (P : T → Type 0) (r : Result T Fault) → IsErrAnd r (λ fault. fault ≡ OutOfMemory) → MatchResult r P IsMemoryFault
+memory_error P (Ok x) never = absurd never
+memory_error P (Err fault) is = subst IsMemoryFault (sym is) tt
 
 pub read_item-returns-in-Some : goal.read_item-returns-in-Some
 read_item-returns-in-Some t c = λ value more begins. null_read (shape_of c.args.dtype.now) value c.args.bytes.now _ more c.in-Some.ensures begins
@@ -35,7 +35,7 @@ pub read_item-returns-in-Err-read_parts : goal.read_item-returns-in-Err-read_par
 read_item-returns-in-Err-read_parts t c =
     let shapes = shapes_of (map shape_of c.deref-in-Struct.result.now) in
     let same : of_struct shapes ≡ shape_of c.args.dtype.now = ap (λ l. of_struct (shapes_of (map shape_of l))) c.deref-in-Struct.ensures.value ∙ sym (struct_shape c.args.dtype.now c.in-Struct.fields c.in-Struct.is) in
-    subst (λ s. Reads (λ v more. IsWanting c.in-Err-read_parts.fault) s c.args.bytes.now) same (tuple_row (λ v more. IsWanting c.in-Err-read_parts.fault) c.args.bytes.now c.in_default.ensures shapes c.in-Err-read_parts.ensures)
+    subst (λ s. Reads (λ v more. IsMemoryFault c.in-Err-read_parts.fault) s c.args.bytes.now) same (tuple_row (λ v more. IsMemoryFault c.in-Err-read_parts.fault) c.args.bytes.now c.in_default.ensures shapes c.in-Err-read_parts.ensures)
 
 pub read_items-returns-in-Some : goal.read_items-returns-in-Some
 read_items-returns-in-Some t c = λ entries more fit is.
@@ -115,7 +115,7 @@ read_item-returns-in-Err-read_items t c =
     let s = shape_of c.deref-in-FixedSizeList.result.now in
     let size = c.in-FixedSizeList.size in
     let same : of_fixed_size_list s size ≡ shape_of c.args.dtype.now = ap (λ d. of_fixed_size_list (shape_of d) size) c.deref-in-FixedSizeList.ensures ∙ sym (ap shape_of c.in-FixedSizeList.is) in
-    subst (λ s. Reads (λ v more. IsWanting c.in-Err-read_items.fault) s c.args.bytes.now) same (block_row (λ v more. IsWanting c.in-Err-read_items.fault) c.args.bytes.now c.in_default.ensures s size
+    subst (λ s. Reads (λ v more. IsMemoryFault c.in-Err-read_items.fault) s c.args.bytes.now) same (block_row (λ v more. IsMemoryFault c.in-Err-read_items.fault) c.args.bytes.now c.in_default.ensures s size
     (λ entries more count fit is. c.in-Err-read_items.ensures entries more fit is))
 
 pub read_items-returns-in-Err-read_item : goal.read_items-returns-in-Err-read_item
@@ -124,7 +124,7 @@ read_items-returns-in-Err-read_item t c = λ entries more fit is.
     c.in-Err-read_item.ensures left.first _ (item_begins _ _ _ _ more left)
 
 pub read_items-returns-in_err-push : goal.read_items-returns-in_err-push
-read_items-returns-in_err-push t c = λ entries more fit is. want_of_memory _ c.from_residual.result c.from_residual.ensures.1
+read_items-returns-in_err-push t c = λ entries more fit is. memory_error _ c.from_residual.result c.from_residual.ensures.1
 
 pub read_items-returns-in-Err-expect : goal.read_items-returns-in-Err-expect
 read_items-returns-in-Err-expect t c = λ entries more fit is.
@@ -143,7 +143,7 @@ read_parts-returns-in-Err-part_begun t c = λ entries more fit is.
     absurd (comma_before c.loop-k.k _ _ _ more c.in-Err-part_begun.ensures.refused part.text c.in-Err-part_begun.ensures.comma)
 
 pub read_parts-returns-in_err-push : goal.read_parts-returns-in_err-push
-read_parts-returns-in_err-push t c = λ entries more fit is. want_of_memory _ c.from_residual-in_err-push.result c.from_residual-in_err-push.ensures.1
+read_parts-returns-in_err-push t c = λ entries more fit is. memory_error _ c.from_residual-in_err-push.result c.from_residual-in_err-push.ensures.1
 
 pub read_parts-returns-in-Ok-expect : goal.read_parts-returns-in-Ok-expect
 read_parts-returns-in-Ok-expect t c = λ entries more fit is.

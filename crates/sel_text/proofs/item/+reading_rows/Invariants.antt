@@ -1,4 +1,4 @@
--- What is left behind the rows so far.
+-- Loop invariants: the text that remains after the rows so far.
 use Rattle.std.proofs.Common.{◌≡◌, ◌≤◌, ◌+◌, ℕ, true, List, ◌++◌, length, map}
 use Rattle.sel_arrow.specs.DataType.{shape_of}
 use Rattle.sel_arrow.specs.Shape.{shapes_of}

@@ -1,9 +1,9 @@
 use Rattle.std.specs.Prelude.{◌≡◌, MatchResult}
 use Rattle.sel_arrow.specs.Value.{Number}
 use Rattle.sel_text.specs.ItemValues.{item_value}
-use Rattle.sel_text.specs.TextErrors.{IsWanting}
+use Rattle.sel_text.specs.TextErrors.{IsMemoryFault}
 use Rattle.sel_text.proofs.Numbers.{minus_told}
 use Rattle.sel_text.proofs.item.read_number.Goals as goal
 
 pub returns-in-Some : goal.returns-in-Some
-returns-in-Some g c = minus_told (λ z more. MatchResult c.read_negative.result (λ read. (item_value read.0 ≡ Number z) × (read.1.now ≡ more)) IsWanting) _ _ _ c.in-Some.ensures c.read_negative.ensures
+returns-in-Some g c = minus_told (λ z more. MatchResult c.read_negative.result (λ read. (item_value read.0 ≡ Number z) × (read.1.now ≡ more)) IsMemoryFault) _ _ _ c.in-Some.ensures c.read_negative.ensures

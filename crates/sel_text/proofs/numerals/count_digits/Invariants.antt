@@ -1,4 +1,4 @@
--- Digits so far.
+-- Loop invariant: the bytes so far are digits.
 use Rattle.std.proofs.Common.{ℕ, ◌<◌, get_or}
 use Rattle.std.specs.Int.{IsInRange}
 use Rattle.sel_text.proofs.numerals.count_digits.Given as goal

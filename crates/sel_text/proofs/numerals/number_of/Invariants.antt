@@ -1,4 +1,4 @@
--- The number of the digits so far.
+-- Loop invariant: the number of the digits so far.
 use Rattle.std.proofs.Common.{◌≡◌, take}
 use Rattle.std.specs.Str.Parse.{digits_value}
 use Rattle.sel_text.proofs.numerals.number_of.Given as goal

@@ -1,4 +1,4 @@
--- The rows so far.
+-- Loop invariant: the rows so far.
 use Rattle.std.proofs.Common.{◌≡◌, map, take}
 use Rattle.sel_text.specs.ItemValues.{item_value, rows_read}
 use Rattle.sel_text.proofs.parse.build_rows.Given as goal

@@ -5,7 +5,7 @@ use Rattle.sel_arrow.specs.DataType.{shape_of}
 use Rattle.sel_arrow.specs.Value.{values_of}
 use Rattle.sel_text.specs.Fits.{fits}
 use Rattle.sel_text.specs.ItemValues.{item_value}
-use Rattle.sel_text.specs.Limits.{past_limit, Makes}
+use Rattle.sel_text.specs.Limits.{exceeds_limit, MakesColumn}
 use Rattle.sel_text.proofs.Equalities.{list_back}
 use Rattle.sel_text.proofs.Making.{told_wanting}
 use Rattle.sel_text.proofs.Rows.{rows_text}
@@ -15,7 +15,7 @@ use Rattle.sel_text.proofs.parse.read_rows.Goals as goal
 pub returns-in-Err : goal.returns-in-Err
 returns-in-Err c = λ values fit is.
     let s = shape_of c.args.dtype.now in
-    told_wanting (past_limit c.args.beneath s values) _ (c.in-Err.ensures (values_of values) [] (all_fits s values fit) (rows_text s values _ is))
+    told_wanting (exceeds_limit c.args.beneath s values) _ (c.in-Err.ensures (values_of values) [] (all_fits s values fit) (rows_text s values _ is))
 
 pub returns-then-not-is_empty : goal.returns-then-not-is_empty
 returns-then-not-is_empty c = λ values fit is.
@@ -29,4 +29,4 @@ returns c = λ values fit is.
     let s = shape_of c.args.dtype.now in
     let told = c.in-Ok.ensures (values_of values) [] (all_fits s values fit) (rows_text s values _ is) in
     let same = ap (map item_value) c.deref.ensures.value ∙ told.0 ∙ list_back values in
-    subst (λ vs. Makes c.args.beneath s vs c.build_rows.result) same (c.build_rows.ensures (ap (list_all (fits s)) same ∙ fit))
+    subst (λ vs. MakesColumn c.args.beneath s vs c.build_rows.result) same (c.build_rows.ensures (ap (list_all (fits s)) same ∙ fit))

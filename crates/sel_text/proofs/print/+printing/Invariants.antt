@@ -1,4 +1,4 @@
--- What was put behind the text so far.
+-- Loop invariants: the parts that are appended to the text so far.
 use Rattle.std.proofs.Common.{◌≡◌, map, take}
 use Rattle.std.specs.Prelude.{string_bytes}
 use Rattle.std.specs.List.{slice_range}

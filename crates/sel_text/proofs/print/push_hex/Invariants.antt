@@ -1,4 +1,4 @@
--- The bytes so far were put behind the text.
+-- Loop invariant: the bytes so far are appended to the text.
 use Rattle.std.proofs.Common.{◌≡◌, ◌++◌, take}
 use Rattle.std.specs.Prelude.{string_bytes, codes}
 use Rattle.std.specs.List.{flat_map}

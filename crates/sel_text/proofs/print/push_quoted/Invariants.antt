@@ -1,4 +1,4 @@
--- The characters so far were put behind the text.
+-- Loop invariant: the characters so far are appended to the text.
 use Rattle.std.proofs.Common.{◌≡◌, ◌∷◌, ◌++◌}
 use Rattle.std.specs.Prelude.{string_bytes}
 use Rattle.std.specs.List.{flat_map}

@@ -70,39 +70,39 @@ read_fields-loop-preserved t c =
           more_left (next_shape s ss) c.loop.fields.items c.push.new.self.items c.in-Ok.read.0 c.loop.rest.now c.in-Ok.read.1.now c.in-Some-behind.next.now more left c.in_ok-push.ensures.items told c.in-Some-behind.ensures;
     }
 
-pub read_tuples-returns-in-Some-clause-text : goal.read_tuples-returns-in-Some-clause-text
-read_tuples-returns-in-Some-clause-text t c =
+pub read_struct_type-returns-in-Some-clause-text : goal.read_struct_type-returns-in-Some-clause-text
+read_struct_type-returns-in-Some-clause-text t c =
     struct_behind c.new.result [] _ _ c.new.ensures.items (c.in_ok-rest.ensures.rest ∙ ap (λ l. 60 ∷ l) c.in-Some.ensures)
 
-pub read_tuples-returns-clause-text : goal.read_tuples-returns-clause-text
-read_tuples-returns-clause-text t c = struct_behind c.in_ok-fields.fields _ _ _ refl (c.in_ok-rest.ensures.rest ∙ c.in_ok-fields.ensures.text)
+pub read_struct_type-returns-clause-text : goal.read_struct_type-returns-clause-text
+read_struct_type-returns-clause-text t c = struct_behind c.in_ok-fields.fields _ _ _ refl (c.in_ok-rest.ensures.rest ∙ c.in_ok-fields.ensures.text)
 
-pub read_tuples-returns-in-Some-clause-levels : goal.read_tuples-returns-in-Some-clause-levels
-read_tuples-returns-in-Some-clause-levels t c =
+pub read_struct_type-returns-in-Some-clause-levels : goal.read_struct_type-returns-in-Some-clause-levels
+read_struct_type-returns-in-Some-clause-levels t c =
     let none = shape_of-Struct c.new.result ∙ ap (λ l. of_struct (shapes_of (map shape_of l))) c.new.ensures.items in
     subst (λ s. depth s ≤ c.args.levels) (sym none) c.requires
 
-pub read_tuples-returns-clause-levels : goal.read_tuples-returns-clause-levels
-read_tuples-returns-clause-levels t c =
+pub read_struct_type-returns-clause-levels : goal.read_struct_type-returns-clause-levels
+read_struct_type-returns-clause-levels t c =
     subst (λ s. depth s ≤ c.args.levels) (sym (shape_of-Struct c.in_ok-fields.fields)) (omega (arith, c.in_ok-fields.ensures.levels))
 
-pub read_tuples-returns-in-Some-clause-widths : goal.read_tuples-returns-in-Some-clause-widths
-read_tuples-returns-in-Some-clause-widths t c =
+pub read_struct_type-returns-in-Some-clause-widths : goal.read_struct_type-returns-in-Some-clause-widths
+read_struct_type-returns-in-Some-clause-widths t c =
     let none = shape_of-Struct c.new.result ∙ ap (λ l. of_struct (shapes_of (map shape_of l))) c.new.ensures.items in
     ap widths_written none
 
-pub read_tuples-returns-clause-widths : goal.read_tuples-returns-clause-widths
-read_tuples-returns-clause-widths t c = ap widths_written (shape_of-Struct c.in_ok-fields.fields) ∙ c.in_ok-fields.ensures.widths
+pub read_struct_type-returns-clause-widths : goal.read_struct_type-returns-clause-widths
+read_struct_type-returns-clause-widths t c = ap widths_written (shape_of-Struct c.in_ok-fields.fields) ∙ c.in_ok-fields.ensures.widths
 
-pub read_tuples-returns-in-Some-clause-whole : goal.read_tuples-returns-in-Some-clause-whole
-read_tuples-returns-in-Some-clause-whole t c = λ s more few is.
+pub read_struct_type-returns-in-Some-clause-whole : goal.read_struct_type-returns-in-Some-clause-whole
+read_struct_type-returns-in-Some-clause-whole t c = λ s more few is.
     let told = tuples_told s c.args.bytes.now more is in
     let here : c.args.bytes.now ≡ 60 ∷ 62 ∷ c.in-Some.rest.now = c.in_ok-rest.ensures.rest ∙ ap (λ l. 60 ∷ l) c.in-Some.ensures in
     let none = no_types told.0 c.in-Some.rest.now more (sym here ∙ told.2) in
     (shape_of-Struct c.new.result ∙ ap (λ l. of_struct (shapes_of (map shape_of l))) c.new.ensures.items ∙ ap of_struct (sym none.0) ∙ sym told.1, none.1)
 
-pub read_tuples-returns-clause-whole : goal.read_tuples-returns-clause-whole
-read_tuples-returns-clause-whole t c = λ s more few is.
+pub read_struct_type-returns-clause-whole : goal.read_struct_type-returns-clause-whole
+read_struct_type-returns-clause-whole t c = λ s more few is.
     let told = tuples_told s c.args.bytes.now more is in
     let here = sym c.in_ok-rest.ensures.rest ∙ told.2 in
     let some = some_types told.0 c.in_ok-rest.rest.now more here c.in_default.ensures in

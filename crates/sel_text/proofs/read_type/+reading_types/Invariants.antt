@@ -1,4 +1,5 @@
--- Each level takes three calls at most. The types so far, with a comma behind each.
+-- Termination: each level takes at most three calls. Loop invariant: the types so far, each
+-- followed by a comma.
 use Rattle.std.proofs.Common.{◌≡◌, ◌+◌, ◌*◌, ◌<◌, ◌≤◌, true, ℕ, List, ◌∷◌, ◌++◌, length, map}
 use Rattle.sel_arrow.specs.DataType.{shape_of}
 use Rattle.sel_arrow.specs.Shape.{Shape, Shapes, next_shape, shapes_of}
@@ -19,8 +20,8 @@ decreases-read_list l = 3 * l.levels + 2
 abbrev pub decreases-read_blocks : goal.decreases-read_blocks
 decreases-read_blocks l = 3 * l.levels + 2
 
-abbrev pub decreases-read_tuples : goal.decreases-read_tuples
-decreases-read_tuples l = 3 * l.levels + 2
+abbrev pub decreases-read_struct_type : goal.decreases-read_struct_type
+decreases-read_struct_type l = 3 * l.levels + 2
 
 abbrev pub decreases-read_fields : goal.decreases-read_fields
 decreases-read_fields l = 3 * l.levels + 1

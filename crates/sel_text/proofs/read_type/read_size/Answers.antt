@@ -13,7 +13,7 @@ returns-in-Ok c =
     let text : c.args.bytes.now ≡ decimal c.in-Ok.size ++ c.in_ok-digits.rest.now = read.parts ∙ ap (λ l. l ++ c.in_ok-digits.rest.now) (sym (ap decimal size ∙ printed_back _ read.digits read.some read.zero small)) in
     record { text = text; whole = λ n more few end is. numbers_told c.in-Ok.size n _ _ more (omega (arith, size, small)) (omega (arith, few)) read.end end text is }
 
--- digits of a number past 64 bits are no numeral of a lesser one
+-- Digits of a number that exceeds 64 bits are not those of a lesser number.
 pub returns-in_default-clause-whole : goal.returns-in_default-clause-whole
 returns-in_default-clause-whole c = λ n more few end is.
     let read = c.in_ok-digits.ensures in

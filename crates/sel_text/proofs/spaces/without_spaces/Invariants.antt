@@ -1,4 +1,5 @@
--- What was kept so far, and what will be of the rest.
+-- Loop invariant: the bytes kept so far, followed by those to be kept of the rest, are all bytes to
+-- be kept.
 use Rattle.std.proofs.Common.{◌≡◌, ◌++◌, drop}
 use Rattle.sel_text.specs.Spaces.{spaceless, spaceless_from}
 use Rattle.sel_text.proofs.spaces.without_spaces.Given as goal

@@ -1,4 +1,4 @@
--- What is left behind the bytes so far.
+-- Loop invariant: the text that remains after the bytes so far.
 use Rattle.std.proofs.Common.{◌≡◌, ℕ, List, ◌∷◌, ◌++◌, length}
 use Rattle.std.specs.Prelude.{IsTrue, nat_lt}
 use Rattle.std.specs.List.{flat_map, list_all}

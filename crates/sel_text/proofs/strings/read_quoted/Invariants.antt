@@ -1,4 +1,4 @@
--- What is left behind the bytes so far.
+-- Loop invariant: the text that remains after the bytes so far.
 use Rattle.std.proofs.Common.{◌≡◌, ℕ, true, List, ◌∷◌, ◌++◌, length}
 use Rattle.std.specs.List.{flat_map}
 use Rattle.sel_text.specs.Texts.{escaped}

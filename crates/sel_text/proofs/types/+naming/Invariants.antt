@@ -1,4 +1,4 @@
--- What was put behind the text so far.
+-- Loop invariant: the parts that are appended to the text so far.
 use Rattle.std.proofs.Common.{◌≡◌, map, take}
 use Rattle.std.specs.Prelude.{string_bytes}
 use Rattle.sel_arrow.specs.DataType.{shape_of}

@@ -1,4 +1,4 @@
--- What was taken so far.
+-- Loop invariant: the bits taken so far.
 use Rattle.std.proofs.Common.{◌≡◌, ◌≤◌, ◌-◌, take, map, [], ◌∷◌}
 use Rattle.sel_arrow.specs.Columns.{primitive_rows}
 use Rattle.polars_compute.specs.Pick.{pick, pick_of}

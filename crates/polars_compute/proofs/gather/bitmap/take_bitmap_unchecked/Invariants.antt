@@ -1,4 +1,5 @@
--- The bits so far, and then those at the places that are left, each of which is one of the bits'.
+-- Loop invariant: the bits so far, followed by those at the remaining positions, are all bits; each
+-- remaining position is in bounds.
 use Rattle.std.proofs.Common.{◌≡◌, ◌++◌, length, true}
 use Rattle.polars_compute.specs.Pick.{all_below}
 use Rattle.polars_compute.proofs.TakenBits.{bits_at}

@@ -1,4 +1,4 @@
--- The word so far.
+-- Loop invariant: the word has the bits so far.
 use Rattle.std.proofs.Common.{◌≡◌, take}
 use Rattle.sel_bits.specs.Bits.{bits_from}
 use Rattle.sel_bits.specs.Words.{word_of}

@@ -1,4 +1,4 @@
--- The word so far.
+-- Loop invariant: the word has the bits so far.
 use Rattle.std.proofs.Common.{◌≡◌, [], ◌∷◌, drop, map, take}
 use Rattle.sel_bits.specs.Words.{word_of}
 use Rattle.sel_arrow.specs.Columns.{primitive_rows}

@@ -1,4 +1,4 @@
--- The blocks so far.
+-- Loop invariant: the blocks at the indices so far.
 use Rattle.std.proofs.Common.{◌≡◌, ◌++◌, take}
 use Rattle.sel_arrow.specs.Columns.{primitive_rows}
 use Rattle.polars_compute.specs.Blocks.{block_items}

@@ -6,8 +6,8 @@ use Rattle.sel_arrow.specs.Nested.{blocks, list_of}
 use Rattle.sel_arrow.specs.Rows.{rows, row_count, type_of, well_formed}
 use Rattle.sel_runs.proofs.Below.{refused_more}
 use Rattle.polars_compute.specs.Blocks.{blocks_within}
-use Rattle.polars_compute.specs.BareBlocks.{past_blocks, HoldsBlocks}
-use Rattle.polars_compute.specs.Need.{IsPastRows}
+use Rattle.polars_compute.specs.BareBlocks.{exceeded_blocks, HoldsBlocks}
+use Rattle.polars_compute.specs.Need.{ExceedsRows}
 use Rattle.polars_compute.proofs.BlockNeeds.{past_taken_blocks}
 use Rattle.polars_compute.proofs.BlockTakes.{blocks_taken, whole_has, whole_validity, whole_within}
 use Rattle.polars_compute.proofs.gather.fixed_size_list.take_unchecked.Goals as goal
@@ -40,7 +40,7 @@ returns-in_err-count-clause-refusal c =
     (refused_more _ _ fault
     (λ limit h.
     past_taken_blocks c.args.values.now list.size list.len list.child list.validity list.is c.requires.formed indices limit
-    (inl (subst (λ n. IsPastRows (n * list.size) limit) c.len.ensures.len h)))
+    (inl (subst (λ n. ExceedsRows (n * list.size) limit) c.len.ensures.len h)))
     c.in_err-count.ensures.refusal)
 
 pub returns-in_err-below-clause-refusal : goal.returns-in_err-below-clause-refusal
@@ -54,7 +54,7 @@ returns-in_err-below-clause-refusal c =
     (refused_more _ _ fault
     (λ limit h.
     past_taken_blocks c.args.values.now list.size list.len list.child list.validity list.is c.requires.formed indices limit
-    (inr (subst (λ (d : _). past_blocks (type_of d) (length indices * list.size) limit) c.deref.ensures (subst (λ n. past_blocks (type_of c.deref.result.now) n limit) count h))))
+    (inr (subst (λ (d : _). exceeded_blocks (type_of d) (length indices * list.size) limit) c.deref.ensures (subst (λ n. exceeded_blocks (type_of c.deref.result.now) n limit) count h))))
     c.in_err-below.ensures.refusal)
 
 pub returns-clause-rows : goal.returns-clause-rows

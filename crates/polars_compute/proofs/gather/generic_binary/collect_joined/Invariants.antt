@@ -1,4 +1,4 @@
--- The bytes of the rows so far.
+-- Loop invariant: the bytes of the rows so far, concatenated.
 use Rattle.std.proofs.Common.{◌≡◌, take}
 use Rattle.polars_compute.specs.JoinedBytes.{joined_bytes}
 use Rattle.polars_compute.proofs.gather.generic_binary.collect_joined.Given as goal

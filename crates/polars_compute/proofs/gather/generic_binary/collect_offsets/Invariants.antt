@@ -1,4 +1,4 @@
--- The offsets so far, and then those of the other rows, are all of them.
+-- Loop invariant: the offsets so far, followed by those of the other rows, are all offsets.
 use Rattle.std.proofs.Common.{◌≡◌, ◌+◌, ◌++◌, ◌∷◌, pos, map, drop}
 use Rattle.polars_compute.specs.JoinedBytes.{ends_from}
 use Rattle.polars_compute.specs.Need.{bytes_needed}

@@ -1,4 +1,4 @@
--- The rows so far are null or bytes, and it is known which of them are null.
+-- Loop invariant: the rows so far are null or bytes, and the validity has one bit for each.
 use Rattle.std.proofs.Common.{◌≡◌, ℕ, ◌<◌, take, get_or}
 use Rattle.sel_arrow.specs.Value.{Null, validities}
 use Rattle.polars_compute.specs.JoinedBytes.{IsBytesRow}

@@ -1,4 +1,5 @@
--- The bytes so far and those of the other rows are all of them; a row has fewer than 2^64.
+-- Loop invariant: the number of bytes so far and that of the other rows add up to the total; a row
+-- has fewer than 2^64 bytes.
 use Rattle.std.proofs.Common.{◌≡◌, ◌+◌, ◌≤◌, ◌*◌, drop}
 use Rattle.polars_compute.specs.Need.{bytes_needed}
 use Rattle.polars_compute.proofs.gather.generic_binary.count_bytes.Given as goal

@@ -1,4 +1,4 @@
--- What was taken so far, and that there is room for the rest.
+-- Loop invariant: the values taken so far, and capacity for the rest.
 use Rattle.std.proofs.Common.{◌≡◌, ◌≤◌, length, map, slice_index_or, take}
 use Rattle.std.specs.Vec.{vec_len, vec_capacity}
 use Rattle.polars_compute.proofs.gather.primitive.take_places.Given as goal

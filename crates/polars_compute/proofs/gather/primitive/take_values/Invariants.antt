@@ -1,4 +1,4 @@
--- What was taken so far, and that there is room for the rest.
+-- Loop invariant: the values taken so far, and capacity for the rest.
 use Rattle.std.proofs.Common.{◌≡◌, ◌≤◌, take, length, map, [], ◌∷◌}
 use Rattle.std.specs.Vec.{vec_len, vec_capacity}
 use Rattle.sel_arrow.specs.Columns.{primitive_rows}

@@ -1,4 +1,4 @@
--- The rows so far are texts.
+-- The rows so far are UTF-8.
 use Rattle.std.proofs.Common.{◌≡◌, true, take}
 use Rattle.sel_arrow.specs.Columns.{binview_rows}
 use Rattle.sel_arrow.specs.Texts.{all_text}

@@ -1,14 +1,14 @@
 use Rattle.std.proofs.Common.{◌≡◌, ◌==◌, ◌∙◌, ap, sym, map, Bool, List, ℕ}
 use Rattle.std.specs.List.{list_all}
 use Rattle.std.proofs.lemmas.List.Folds.{list_all-map}
-use Rattle.sel_arrow.specs.Makers.{tuple_fault}
+use Rattle.sel_arrow.specs.Makers.{struct_length_fault}
 use Rattle.sel_arrow.specs.Rows.{row_count}
 use Rattle.sel_arrow.specs.declared.array_ref.ArrayRef.{ArrayRef}
 use Rattle.sel_arrow.specs.declared.column.Column.{Column}
 use Rattle.sel_arrow.proofs.NestedMakers.{tuples_make}
 use Rattle.sel_arrow.proofs.structure.StructArray.try_new.Goals as goal
 
--- the test of the rows of each field, on the numbers of rows, and on the columns
+-- Whether each field has `len` rows, from the numbers of rows and from the columns.
 by_counts : (len : ℕ) (arrays seen : List ArrayRef) (fit : Bool) → fit ≡ list_all (λ array. row_count array.column == len) seen → seen ≡ arrays → list_all (λ rows. rows == len) (map (λ array. row_count array.column) arrays) ≡ fit
 by_counts len arrays seen fit fits is =
     list_all-map (λ rows. rows == len) (λ (array : ArrayRef). row_count array.column) arrays ∙ ap (list_all (λ (array : ArrayRef). row_count array.column == len)) (sym is) ∙ sym fits
@@ -22,15 +22,15 @@ by_columns len arrays seen columns fit fits is are =
 
 pub returns-in-Some-clause-refused : goal.returns-in-Some-clause-refused
 returns-in-Some-clause-refused c =
-    ap (λ fit. tuple_fault c.args.len fit c.args.validity) (by_counts c.args.len c.args.fields.items c.deref.result.now c.have_rows-fit.result c.have_rows-fit.ensures c.deref.ensures.value) ∙ sym c.in-Some.ensures
+    ap (λ fit. struct_length_fault c.args.len fit c.args.validity) (by_counts c.args.len c.args.fields.items c.deref.result.now c.have_rows-fit.result c.have_rows-fit.ensures c.deref.ensures.value) ∙ sym c.in-Some.ensures
 
 pub returns-in-Ok-clause-accepted : goal.returns-in-Ok-clause-accepted
 returns-in-Ok-clause-accepted c =
-    ap (λ fit. tuple_fault c.args.len fit c.args.validity) (by_counts c.args.len c.args.fields.items c.deref.result.now c.have_rows-fit.result c.have_rows-fit.ensures c.deref.ensures.value) ∙ sym c.in_default.ensures
+    ap (λ fit. struct_length_fault c.args.len fit c.args.validity) (by_counts c.args.len c.args.fields.items c.deref.result.now c.have_rows-fit.result c.have_rows-fit.ensures c.deref.ensures.value) ∙ sym c.in_default.ensures
 
 pub returns-in-Err-clause-refused : goal.returns-in-Err-clause-refused
 returns-in-Err-clause-refused c =
-    ap (λ fit. tuple_fault c.args.len fit c.args.validity) (by_counts c.args.len c.args.fields.items c.deref.result.now c.have_rows-fit.result c.have_rows-fit.ensures c.deref.ensures.value) ∙ sym c.in_default.ensures
+    ap (λ fit. struct_length_fault c.args.len fit c.args.validity) (by_counts c.args.len c.args.fields.items c.deref.result.now c.have_rows-fit.result c.have_rows-fit.ensures c.deref.ensures.value) ∙ sym c.in_default.ensures
 
 pub invariant_of-result : goal.invariant_of-result
 invariant_of-result c =

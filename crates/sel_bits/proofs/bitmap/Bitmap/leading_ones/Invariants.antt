@@ -1,4 +1,4 @@
--- The bits before the word are true.
+-- The bits before the current word are true.
 use Rattle.std.proofs.Common.{◌≤◌, ◌-◌, length, map, not}
 use Rattle.sel_bits.proofs.Zeros.{AreFalse}
 use Rattle.sel_bits.proofs.bitmap.Bitmap.leading_ones.Given as goal

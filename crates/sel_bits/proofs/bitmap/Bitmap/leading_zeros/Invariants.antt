@@ -1,4 +1,4 @@
--- The bits before the word are false.
+-- The bits before the current word are false.
 use Rattle.std.proofs.Common.{◌≤◌, ◌-◌, length}
 use Rattle.sel_bits.proofs.Zeros.{AreFalse}
 use Rattle.sel_bits.proofs.bitmap.Bitmap.leading_zeros.Given as goal

@@ -1,4 +1,4 @@
--- The bits behind the word are false.
+-- The bits after the current word are false.
 use Rattle.std.proofs.Common.{◌≤◌, length}
 use Rattle.sel_bits.proofs.Zeros.{AreFalse}
 use Rattle.sel_bits.proofs.bitmap.Bitmap.trailing_zeros.Given as goal

@@ -1,4 +1,4 @@
--- The words so far have no true bit.
+-- The words so far have no set bit.
 use Rattle.std.proofs.Common.{◌-◌, ◌≡◌, ◌*◌, ◌≤◌, false, take, drop, replicate}
 use Rattle.sel_bits.proofs.bitmap.Bitmap.zero_words.Given as goal
 

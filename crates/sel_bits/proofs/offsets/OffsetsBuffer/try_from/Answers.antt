@@ -2,7 +2,7 @@ use Rattle.std.proofs.Common.{sym, ◌∙◌}
 use Rattle.sel_bits.proofs.OffsetLemmas.{accepted}
 use Rattle.sel_bits.proofs.offsets.OffsetsBuffer.try_from.Goals as goal
 
--- offsets at which no fault was found are well-formed
+-- Offsets without a broken rule are well-formed.
 pub invariant_of-result : goal.invariant_of-result
 invariant_of-result g c =
     rw c.in-Ok.ensures.items

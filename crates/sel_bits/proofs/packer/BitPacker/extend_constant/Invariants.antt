@@ -1,4 +1,4 @@
--- So many of the bits stand behind those that were there.
+-- The first `at` bits are appended to the initial ones.
 use Rattle.std.proofs.Common.{◌≡◌, ◌≤◌, ◌-◌, ◌++◌, replicate}
 use Rattle.sel_bits.proofs.packer.BitPacker.extend_constant.Given as goal
 

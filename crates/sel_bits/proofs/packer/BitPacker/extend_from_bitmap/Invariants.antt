@@ -1,4 +1,4 @@
--- So many of the bits stand behind those that were there.
+-- The first `at` bits are appended to the initial ones.
 use Rattle.std.proofs.Common.{◌≡◌, ◌≤◌, ◌-◌, ◌++◌, take, drop}
 use Rattle.sel_bits.proofs.packer.BitPacker.extend_from_bitmap.Given as goal
 

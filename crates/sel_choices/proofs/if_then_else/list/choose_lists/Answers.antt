@@ -8,7 +8,7 @@ use Rattle.sel_arrow.specs.declared.column.Column.{Column}
 use Rattle.sel_arrow.proofs.NestedRows.{lists_formed}
 use Rattle.sel_runs.specs.Children.{joined_items}
 use Rattle.sel_runs.specs.Ends.{item_ends}
-use Rattle.sel_runs.specs.Need.{IsPastRows, PassesNone, past_taken}
+use Rattle.sel_runs.specs.Need.{ExceedsRows, ExceedsNone, exceeded_taken}
 use Rattle.sel_runs.specs.Picks.{pick, PickFits}
 use Rattle.sel_runs.specs.Runs.{expand}
 use Rattle.sel_runs.proofs.Below.{refused_more}
@@ -16,9 +16,9 @@ use Rattle.sel_runs.proofs.JoinedRows.{offsets_of, same_numbers, map_same}
 use Rattle.sel_runs.proofs.Rebuilt.{rising_ends, lists_rebuilt, lists_fit}
 use Rattle.sel_runs.proofs.RunLists.{length-pick}
 use Rattle.sel_runs.proofs.Within.{few_rows_pass, passes_neither}
-use Rattle.sel_choices.specs.ListSides.{past_below}
+use Rattle.sel_choices.specs.ListSides.{exceeded_below}
 use Rattle.sel_choices.specs.ListParts.{chosen_from}
-use Rattle.sel_choices.specs.Sides.{IsRefusal}
+use Rattle.sel_choices.specs.Sides.{IsLimitOrMemory}
 use Rattle.sel_choices.proofs.ListRuns.{all_listed, length-chosen}
 use Rattle.sel_choices.proofs.if_then_else.list.choose_lists.Goals as goal
 
@@ -31,13 +31,13 @@ returns-in_err-values-clause-refusal g c =
     let vs = chosen_from 0 c.args.mask.now.bits (g.T.ListSide.row_at t) (g.F.ListSide.row_at f) in
     let fault = c.in_err-values.field-0.0 in
     let p = err_from_is_err_and c.from_residual-in_err-values.result c.from_residual-in_err-values.ensures.1 in
-    let given = λ (a b : Column) (values : List Value). IsRefusal (past_taken (type_of a) (a ∷ b ∷ []) values) fault in
+    let given = λ (a b : Column) (values : List Value). IsLimitOrMemory (exceeded_taken (type_of a) (a ∷ b ∷ []) values) fault in
     let picked = λ (a b : Column). pick Null (rows a ∷ rows b ∷ []) (expand c.deref.result.now) in
     let first = subst (λ a. given a c.child-2.result.now (picked a c.child-2.result.now)) c.child.ensures.column c.in_err-values.ensures.refusal in
     let second = subst (λ b. given ts b (picked ts b)) c.child-2.ensures.column first in
     let items : picked ts fs ≡ joined_items 0 vs = ap (λ rs. pick Null (rows ts ∷ rows fs ∷ []) (expand rs)) c.deref.ensures.value ∙ c.in_ok-held.ensures.held.items in
     let taken = subst (given ts fs) items second in
-    let here = refused_more (past_taken (type_of ts) (ts ∷ fs ∷ []) (joined_items 0 vs)) (past_below (of_large_list (type_of ts)) (ts ∷ fs ∷ []) vs) fault (λ limit past. inr past) taken in
+    let here = refused_more (exceeded_taken (type_of ts) (ts ∷ fs ∷ []) (joined_items 0 vs)) (exceeded_below (of_large_list (type_of ts)) (ts ∷ fs ∷ []) vs) fault (λ limit past. inr past) taken in
     rw (p.1, p.2) here
 
 pub of_rising-requires : goal.of_rising-requires
@@ -89,14 +89,14 @@ returns-clause-within g c =
     let ts = g.T.ListSide.held t in
     let fs = g.F.ListSide.held f in
     let vs = chosen_from 0 c.args.mask.now.bits (g.T.ListSide.row_at t) (g.F.ListSide.row_at f) in
-    let given = λ (a b : Column) (values : List Value). PassesNone (past_taken (type_of a) (a ∷ b ∷ []) values) in
+    let given = λ (a b : Column) (values : List Value). ExceedsNone (exceeded_taken (type_of a) (a ∷ b ∷ []) values) in
     let picked = λ (a b : Column). pick Null (rows a ∷ rows b ∷ []) (expand c.deref.result.now) in
     let first = subst (λ a. given a c.child-2.result.now (picked a c.child-2.result.now)) c.child.ensures.column c.in_ok-values.ensures.within in
     let second = subst (λ b. given ts b (picked ts b)) c.child-2.ensures.column first in
     let items : picked ts fs ≡ joined_items 0 vs = ap (λ rs. pick Null (rows ts ∷ rows fs ∷ []) (expand rs)) c.deref.ensures.value ∙ c.in_ok-held.ensures.held.items in
     let taken = subst (given ts fs) items second in
     let few = few_rows_pass (length (joined_items 0 vs)) (omega (arith, c.in_ok-held.ensures.held.many, c.in_ok-held.ensures.room)) in
-    passes_neither (IsPastRows (length (joined_items 0 vs))) (past_taken (type_of ts) (ts ∷ fs ∷ []) (joined_items 0 vs)) few taken
+    passes_neither (ExceedsRows (length (joined_items 0 vs))) (exceeded_taken (type_of ts) (ts ∷ fs ∷ []) (joined_items 0 vs)) few taken
 
 pub held_by_lists-requires-clause-true_side : goal.held_by_lists-requires-clause-true_side
 held_by_lists-requires-clause-true_side g c = c.requires.true_side
@@ -140,4 +140,4 @@ returns-in_err-held-clause-refusal g c =
     let vs = chosen_from 0 c.args.mask.now.bits (g.T.ListSide.row_at t) (g.F.ListSide.row_at f) in
     let p = err_from_is_err_and c.from_residual.result c.from_residual.ensures.1 in
     let t = type_of (g.T.ListSide.held t) in
-    rw (p.1, p.2) (refused_more (IsPastRows (length (joined_items 0 vs))) (past_below (of_large_list t) (g.T.ListSide.held c.args.if_true.now ∷ g.F.ListSide.held f ∷ []) vs) c.in_err-held.field-0.0 (λ limit past. inl past) c.in_err-held.ensures.refusal)
+    rw (p.1, p.2) (refused_more (ExceedsRows (length (joined_items 0 vs))) (exceeded_below (of_large_list t) (g.T.ListSide.held c.args.if_true.now ∷ g.F.ListSide.held f ∷ []) vs) c.in_err-held.field-0.0 (λ limit past. inl past) c.in_err-held.ensures.refusal)

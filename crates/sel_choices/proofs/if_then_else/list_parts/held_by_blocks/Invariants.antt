@@ -1,4 +1,4 @@
--- What the lists so far hold.
+-- Loop invariant: the child rows of the lists so far.
 use Rattle.std.proofs.Common.{◌≡◌, ◌≤◌, ◌∷◌, [], All, take}
 use Rattle.sel_arrow.specs.Rows.{rows}
 use Rattle.sel_arrow.specs.Value.{validities}

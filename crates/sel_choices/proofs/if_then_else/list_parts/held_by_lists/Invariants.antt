@@ -1,4 +1,4 @@
--- What the lists so far hold, and where they end.
+-- Loop invariant: the child rows of the lists so far, and the offsets.
 use Rattle.std.proofs.Common.{◌≡◌, ◌≤◌, ◌∷◌, [], All, map, pos, take}
 use Rattle.sel_arrow.specs.Rows.{rows}
 use Rattle.sel_arrow.specs.Value.{validities}

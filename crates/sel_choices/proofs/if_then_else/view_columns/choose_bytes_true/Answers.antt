@@ -4,11 +4,11 @@ use Rattle.std.proofs.lemmas.List.{length-append}
 use Rattle.std.proofs.lemmas.Result.{err_from_is_err_and}
 use Rattle.sel_arrow.specs.Masked.{masked}
 use Rattle.sel_arrow.specs.Views.{is_placed, view_of, view_value}
-use Rattle.sel_choices.specs.Choose.{choose_one}
-use Rattle.sel_choices.specs.Sides.{IsRefusal}
-use Rattle.sel_runs.specs.Need.{PassesNone}
+use Rattle.sel_choices.specs.Choose.{broadcast_true}
+use Rattle.sel_choices.specs.Sides.{IsLimitOrMemory}
+use Rattle.sel_runs.specs.Need.{ExceedsNone}
 use Rattle.sel_choices.specs.Validity.{chosen_validity}
-use Rattle.sel_choices.specs.ViewSides.{scalar_buffers, IsPastViews}
+use Rattle.sel_choices.specs.ViewSides.{scalar_buffers, ExceedsViews}
 use Rattle.sel_choices.proofs.JoinedViews.{one_placed, one_rows}
 use Rattle.sel_choices.proofs.Validities.{choice_covers, length-choose_one, no_validity, side_covers, side_long}
 use Rattle.sel_choices.proofs.if_then_else.view_columns.choose_bytes_true.Goals as goal
@@ -31,7 +31,7 @@ invariant_of-result c =
     let x = c.new_from_bytes-view.result in
     let is_x : x ≡ view_of bytes (length a.buffers) 0 = c.new_from_bytes-view.ensures.view ∙ ap (λ k. view_of bytes k 0) c.len-before.ensures in
     let joined : c.in_ok-buffers.buffers ≡ a.buffers ++ scalar_buffers bytes = c.in_ok-buffers.ensures.buffers ∙ (λ i. c.as_slice-2.ensures i ++ (c.deref.ensures.value ∙ c.in_ok-scalar.ensures.buffers) i) in
-    let out : c.in_ok-views-2.views ≡ choose_one ms x a.views = c.in_ok-views-2.ensures.items ∙ c.in_ok-views.ensures.items ∙ ap (λ l. choose_one ms x l) c.as_slice.ensures in
+    let out : c.in_ok-views-2.views ≡ broadcast_true ms x a.views = c.in_ok-views-2.ensures.items ∙ c.in_ok-views.ensures.items ∙ ap (λ l. broadcast_true ms x l) c.as_slice.ensures in
     let long : length c.in_ok-views-2.views ≡ length ms = ap length out ∙ length-choose_one ms x a.views p in
     record {
       rows_fit = omega (arith, long, p, a.rows_fit);
@@ -49,7 +49,7 @@ returns-clause-rows c =
     let x = c.new_from_bytes-view.result in
     let is_x : x ≡ view_of bytes (length a.buffers) 0 = c.new_from_bytes-view.ensures.view ∙ ap (λ k. view_of bytes k 0) c.len-before.ensures in
     let joined : c.in_ok-buffers.buffers ≡ a.buffers ++ scalar_buffers bytes = c.in_ok-buffers.ensures.buffers ∙ (λ i. c.as_slice-2.ensures i ++ (c.deref.ensures.value ∙ c.in_ok-scalar.ensures.buffers) i) in
-    let out : c.in_ok-views-2.views ≡ choose_one ms x a.views = c.in_ok-views-2.ensures.items ∙ c.in_ok-views.ensures.items ∙ ap (λ l. choose_one ms x l) c.as_slice.ensures in
+    let out : c.in_ok-views-2.views ≡ broadcast_true ms x a.views = c.in_ok-views-2.ensures.items ∙ c.in_ok-views.ensures.items ∙ ap (λ l. broadcast_true ms x l) c.as_slice.ensures in
     ap (λ bs. masked c.in_ok-validity.validity (map (view_value bs) c.in_ok-views-2.views)) joined
     ∙ one_rows a.buffers a.views a.placed bytes x is_x c.new_from_bytes-view.ensures.inline ms c.in_ok-views-2.views a.validity c.in_ok-validity.validity out p a.validity_fits
     (c.in_ok-validity.ensures.value ∙ ap (λ v. chosen_validity ms None v) c.as_ref.ensures.value)
@@ -58,10 +58,10 @@ pub returns-clause-buffers : goal.returns-clause-buffers
 returns-clause-buffers c = c.in_ok-buffers.ensures.buffers ∙ (λ i. c.as_slice-2.ensures i ++ (c.deref.ensures.value ∙ c.in_ok-scalar.ensures.buffers) i)
 
 pub returns-clause-within : goal.returns-clause-within
-returns-clause-within c = subst PassesNone (λ i. IsPastViews ((c.count_of_scalar.ensures.count i) + (c.len-before.ensures i)) (length c.args.if_true.now)) c.in_ok-check_limits.ensures.within
+returns-clause-within c = subst ExceedsNone (λ i. ExceedsViews ((c.count_of_scalar.ensures.count i) + (c.len-before.ensures i)) (length c.args.if_true.now)) c.in_ok-check_limits.ensures.within
 
 pub returns-in_err-check_limits-clause-refusal : goal.returns-in_err-check_limits-clause-refusal
 returns-in_err-check_limits-clause-refusal c =
     let p = err_from_is_err_and c.from_residual.result c.from_residual.ensures.1 in
     let fault = c.in_err-check_limits.field-0.0 in
-    rw (p.1, p.2) (subst (λ past. IsRefusal past fault) (λ i. IsPastViews ((c.count_of_scalar.ensures.count i) + (c.len-before.ensures i)) (length c.args.if_true.now)) c.in_err-check_limits.ensures.refusal)
+    rw (p.1, p.2) (subst (λ past. IsLimitOrMemory past fault) (λ i. ExceedsViews ((c.count_of_scalar.ensures.count i) + (c.len-before.ensures i)) (length c.args.if_true.now)) c.in_err-check_limits.ensures.refusal)

@@ -35,7 +35,7 @@ use Rattle.sel_handle.specs.contracts.column_ref.ColumnRef.column.Key.{name as #
 use Rattle.sel_handle.proofs.column_ref.ColumnRef.column.Statement.{statement}
 use Rattle.sel_handle.proofs.column_ref.ColumnRef.column.Code as code
 
--- the body of the other branch: the address as a `&`, in `Some`
+-- The body of the other branch: the address as a `&`, in `Some`.
 abbrev found : Body
 found = seq (assign (place 6 []) (rv_opd (copy (place 7 [])))) (assign (place 5 []) (aggregate (int w8 1 ∷ copy (place 6 []) ∷ [])))
 
@@ -46,20 +46,20 @@ column_spec 𝓤 𝓛 𝓜 𝓡 wired =
     proved 𝓛 ended hs c 𝓜 𝓡 (Goes-dropped 𝓛 1 self yes (λ κs x f. refl), tt) #self fn (code.unfolded 𝓤 H 𝓜 𝓡 wired) (λ κs. (shr_vals, tt)) (λ κs. (shr_Tells (named 0) κs.0 Row, tt)) (λ κs qs bounds a gh are.
     let b = a.0.ref_ptr.0 in let o = a.0.ref_ptr.1 in let κ : Lft = κs.0 in let d : Row.Denot = a.0.now in let Ref : RattleType = ShrRef (named 0) κ R in let Out : RattleType = type_at ended.signature.result κs in
     let y : (walk_of 𝓛 ended hs c).Ghost = ((κs, qs, bounds, a, (vptr b o ∷ [], tt)), gh) in let Post : Val → SProp 𝓤 = (walk_of 𝓛 ended hs c).post y in
-    -- the argument's `&`, with the token of its lifetime
+    -- The argument's `&`, with the token of its lifetime.
     qed 𝓛 (((‵ (flft κ qs.0) ⊛ ‵ ftrue) ⊛ ‵ (owns (types_at ended.signature.params κs) a y.0.4)) ∷ raw ((c κs a).requires gh) ∷ []) ∵
     split ! $ split ! $ move ! (2 ∷ []) $ fsplit ! $ fsplit ! $ keep ! (1 ∷ 3 ∷ 4 ∷ []) $
     enter ! 𝓣.C 𝓣.Λ fn (vptr b o ∷ []) Post $ alloc_all ! (λ l. pass_all ! refl ((tt, tt), tt) $ let Ev = env fn.locals l in
-    -- it is a `&` to the pointer field and a borrow of what the `ColumnRef` owns: null, or a `&` to the column
+    -- It is a `&` to the pointer field and a borrow of what the `ColumnRef` owns: null, or a `&` to the column.
     use2 𝓛 (later (‵ (hidden_shr Data κ (d.at, tt) b o) ⊛ (‵ (fbor κ (ref_owns d.at d.tree)) ⊛ ‵ (flft κ qs.0)))) (parted 𝓛 d b o κ qs.0) $ await ! tt $ split ! $ move ! (1 ∷ []) $ split ! $
     either_ref ! tt d.at d.tree
     (λ null empty. move ! (1 ∷ 0 ∷ []) $
-    -- the field is read: null
+    -- The field is read: null.
     looks ! tt Data (opened 𝓛) (d.at, tt) b o (λ s vs. move ! (1 ∷ []) $ peeks ! Data (Is Data) (shows 𝓛 Data) (d.at, tt) vs (λ is. let ev = told d.at vs is ∙ ap (λ (r : Ptr). word r ∷ []) null in
     rewrite ! 1 (λ (ws : List Val). ‵ (cell_at s Data.mir ws b o)) ev refl $
     sets ! (of_opd ! (load ! (through ! refl (fld ! refl (stop !))) (look_in ! 1 (sub ! 0 refl (whole !))))) refl (tt, record { fits = lit< tt }) $
     rewrite ! 1 (λ (ws : List Val). ‵ (cell_at s Data.mir ws b o)) (sym ev) refl $ move ! (1 ∷ 0 ∷ 2 ∷ []) $ shuts ! tt Data s (d.at, tt) vs b o $
-    -- the comparison is true, and `None` is returned
+    -- The comparison is true, and `None` is returned.
     sets ! (of_opd ! (get ! refl)) refl (tt, record { fits = lit< tt }) $ sets ! (bin ! (get ! refl) (lit ! tt) tt) refl (tt, tt) $ first ! $ branches ! (get ! refl)
     (λ _. sets_last ! (agg ! (and_then ! (lit ! tt) (no_more !))) refl (tt, (record { fits = lit< tt }, tt)) $ exec ! 𝓣.C 𝓣.Λ Ev (after 4 fn.body) (at_ret Ev Post) $ sets ! (of_opd ! (get ! refl)) refl (tt, (record { fits = lit< tt }, tt)) $
     use0 𝓛 (‵ (Out.own_val None (live 0 vnil ∷ []))) (none_of 𝓛 Ref) $ move ! (1 ∷ 3 ∷ []) $ join ! $
@@ -68,12 +68,12 @@ column_spec 𝓤 𝓛 𝓜 𝓡 wired =
     (λ wrong. absurd wrong))))
     (λ cb co x there held may. move ! (2 ∷ 1 ∷ []) $
     let v : Val = live 1 (vcons (vptr cb co) vnil) in let good : Good (layout Out) v = (tt, (record { fits = lit< tt }, (tt, tt))) in let column : Ref.Denot = record { ref_ptr = (cb, co); now = x } in
-    -- the field is read: the column's address
+    -- The field is read: the column's address.
     looks ! tt Data (opened 𝓛) (d.at, tt) b o (λ s vs. move ! (1 ∷ []) $ peeks ! Data (Is Data) (shows 𝓛 Data) (d.at, tt) vs (λ is. let ev = told d.at vs is ∙ ap (λ (r : Ptr). word r ∷ []) there in
     rewrite ! 1 (λ (ws : List Val). ‵ (cell_at s Data.mir ws b o)) ev refl $
     sets ! (of_opd ! (load ! (through ! refl (fld ! refl (stop !))) (look_in ! 1 (sub ! 0 refl (whole !))))) refl (tt, tt) $
     rewrite ! 1 (λ (ws : List Val). ‵ (cell_at s Data.mir ws b o)) (sym ev) refl $ move ! (1 ∷ 0 ∷ 2 ∷ []) $ shuts ! tt Data s (d.at, tt) vs b o $
-    -- the comparison is false, and the address is returned as a `&`, in `Some`
+    -- The comparison is false, and the address is returned as a `&`, in `Some`.
     sets ! (of_opd ! (get ! refl)) refl (tt, tt) $ sets ! (bin ! (get ! refl) (lit ! tt) (tests_null (block_ptr cb co) may)) refl (tt, tt) $ first ! $ branches ! (get ! refl)
     (λ wrong. absurd wrong)
     (λ _. first ! $ blocks ! $ sets ! (of_opd ! (get ! refl)) refl (tt, tt) $ sets ! (of_opd ! (get ! refl)) refl (tt, tt) $ sets_last ! (addr ! (through ! refl (stop !))) refl (tt, tt) $

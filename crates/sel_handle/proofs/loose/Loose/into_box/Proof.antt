@@ -71,7 +71,7 @@ into_box_spec 𝓤 𝓛 𝓜 𝓡 wired X A LX LA g d dx da met gluex gluea =
     enter ! 𝓣.C 𝓣.Λ fn (w ∷ []) (W.post z) $ alloc_all ! (λ l. pass_all ! refl (typed, tt) $
     sets ! (of_opd ! (get_in ! (fld ! refl (stop !)) (sub ! 0 refl (whole !)))) refl (tt, tt) $ sets ! (of_opd ! (get_in ! (fld ! refl (stop !)) (sub ! 1 refl (whole !)))) refl fits $
     first ! $ blocks ! $ sets ! (of_opd ! (get ! refl)) refl fits $
-    -- [what the box owned; the allocator; nothing; the tokens]
+    -- [what the box owned; the allocator; nothing; the tokens].
     move ! (2 ∷ []) $ feq_i ! (List Val) (vptr b o ∷ []) (vptr b o ∷ []) refl $ fjoin ! $ move ! (2 ∷ 0 ∷ []) $ fjoin ! $ move ! (2 ∷ 0 ∷ []) $ join ! $
     move ! (1 ∷ []) $ use0 𝓛 (raw (fact 𝓤 inA)) (fact_i 𝓤 inA (emp 𝓤) leA) $ join ! $ use0 𝓛 (raw (fact 𝓤 inX)) (fact_i 𝓤 inX (emp 𝓤) leX) $ join ! $ move ! (1 ∷ 0 ∷ []) $ join ! $
     use1 𝓛 (raw (Made.pre y)) (id⊢ 𝓤 _) $
@@ -83,7 +83,7 @@ into_box_spec 𝓤 𝓛 𝓜 𝓡 wired X A LX LA g d dx da met gluex gluea =
     split ! $ move ! (1 ∷ []) $ box_out Bx ! r (u ∷ []) (λ b' o' hv e' is' fits'. box_in Bx ! r b' o' r.value e' refl $
     rewrite ! 0 (λ (us : List Val). ‵ ((box.B Bx).own_val r us)) (sym is') refl $
     let good : T (has_ty (box.box_ty Bx) u) × WT u = subst (λ (x : Val). T (has_ty (box.box_ty Bx) x) × WT x) (sym (ap only is')) (box.box_typed Bx hv b' o' fits') in
-    -- [the box; the tokens]
+    -- [the box; the tokens].
     lands_last ! refl good $ exec ! 𝓣.C 𝓣.Λ (env fn.locals l) (after 3 fn.body) (at_ret (env fn.locals l) (W.post z)) $
     sets ! (of_opd ! (get ! refl)) refl good $ returns ! (look_at ! 0 refl) $ free_all ! refl $
     suffices ! _ (ends_at 𝓛 Tr hs c z u r ((tt, (tt, tt)), tt) (tt, tt)) $ says ! same $

@@ -71,7 +71,7 @@ of_spec 𝓤 𝓛 𝓜 𝓡 wired X A LX LA g d dx da met gluex gluea =
     let y : Apart.Ghost = ((z.0.0, z.0.1, tt, z.0.3, (w ∷ [], tt)), tt) in
     suffices ! (WpFn 𝓤 H 𝓣.C 𝓣.Λ fn (w ∷ []) (W.post z)) (subst (λ (us : List Val). ent 𝓤 (WpFn 𝓤 H 𝓣.C 𝓣.Λ fn (w ∷ []) (W.post z)) (WpFn 𝓤 H 𝓣.C 𝓣.Λ fn us (W.post z))) (sym (λ i. is i ++ [])) (id⊢ 𝓤 (WpFn 𝓤 H 𝓣.C 𝓣.Λ fn (w ∷ []) (W.post z)))) $
     enter ! 𝓣.C 𝓣.Λ fn (w ∷ []) (W.post z) $ alloc_all ! (λ l. pass_all ! refl (typed, tt) $ sets ! (of_opd ! (get ! refl)) refl typed $
-    -- [the box; nothing; the tokens]
+    -- [the box; nothing; the tokens].
     fjoin ! $ move ! (1 ∷ 0 ∷ []) $ join ! $
     nothing ! $ use0 𝓛 (raw (fact 𝓤 inA)) (fact_i 𝓤 inA (emp 𝓤) leA) $ join ! $ use0 𝓛 (raw (fact 𝓤 inX)) (fact_i 𝓤 inX (emp 𝓤) leX) $ join ! $ move ! (1 ∷ 0 ∷ []) $ join ! $
     use1 𝓛 (raw (Apart.pre y)) (id⊢ 𝓤 _) $
@@ -88,7 +88,7 @@ of_spec 𝓤 𝓛 𝓜 𝓡 wired X A LX LA g d dx da met gluex gluea =
     sets ! (of_opd ! (get_in ! (fld ! refl (stop !)) (sub ! 0 refl (whole !)))) refl (tt, tt) $ sets ! (of_opd ! (get_in ! (fld ! refl (stop !)) (sub ! 1 refl (whole !)))) refl fits' $
     sets ! (of_opd ! (get ! refl)) refl fits' $ sets ! (agg ! (and_then ! (get ! refl) (and_then ! (get ! refl) (no_more !)))) refl good $
     returns ! (look_at ! 0 refl) $ free_all ! refl $
-    -- [the allocator; nothing; the tokens; what the box owned]
+    -- [the allocator; nothing; the tokens; what the box owned].
     move ! (1 ∷ []) $ drop ! $ move ! (2 ∷ 0 ∷ []) $ loose_in (param 0 X) (param 1 A) (param_laws 1 A LA) g ! b' o' h v.alloc v.value $
     suffices ! _ (ends_at 𝓛 Tr hs c z (both (vptr b' o') h) (record { at = block_ptr b' o'; alloc = v.alloc; value = v.value }) ((tt, (tt, tt)), tt) (tt, tt)) $ says ! refl $
     nothing ! $ nothing ! $ fjoin ! $ join ! $ move ! (1 ∷ 0 ∷ []) $ join ! $ done !)))))))))))))))

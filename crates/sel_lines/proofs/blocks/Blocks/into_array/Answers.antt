@@ -33,8 +33,8 @@ returns-in-Ok-clause-rows c =
     ∙ blocks_made width len read c.args.self (rows items) c.in_ok-validity.validity has (omega (arith, c.len-len.ensures, c.args.self.validity.ok))
     (c.in_ok-items.ensures.rows ∙ ap (λ flags. hidden flags (map Number c.args.self.values.items)) c.deref-2.ensures.value) (ap (λ b. b.bits) c.in_ok-validity.ensures ∙ c.deref.ensures.value)
 
-pub want_of_parts-requires : goal.want_of_parts-requires
-want_of_parts-requires c =
+pub memory_error_after-requires : goal.memory_error_after-requires
+memory_error_after-requires c =
     let blocks = c.args.self in
     let width = c.args.width in
     let read = c.requires.kept.0 in

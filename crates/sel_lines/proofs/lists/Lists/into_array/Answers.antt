@@ -40,8 +40,8 @@ returns-in-Ok-try_new-clause-rows c =
     ∙ lists_made read c.args.self offsets (rows items) validity has (sym c.in-Ok.ensures.value ∙ map_same c.args.self.ends.items)
     (c.in_ok-items.ensures.rows ∙ ap (λ flags. hidden flags (map Number c.args.self.values.items)) c.deref-2.ensures.value) (ap (λ b. b.bits) c.in_ok-validity.ensures ∙ c.deref.ensures.value)
 
-pub want_of_parts-requires : goal.want_of_parts-requires
-want_of_parts-requires c =
+pub memory_error_after-requires : goal.memory_error_after-requires
+memory_error_after-requires c =
     let lists = c.args.self in
     let read = c.requires.0 in
     let has = c.requires.1 in

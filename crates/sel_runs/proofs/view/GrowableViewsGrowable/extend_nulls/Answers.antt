@@ -16,10 +16,10 @@ invariant_of-result g c =
       few = self.few;
       started = self.started;
       lengths = nulls_lengths self.views.items c.push_values.new.items.items no_bytes self.validity c.extend_constant.new.self c.args.len self.lengths c.in_ok-push_values.ensures.items c.in_ok-extend_constant.ensures.extended;
-      placed = nulls_placed (is_placed g.B.Beneath.buffers) self.views.items c.push_values.new.items.items no_bytes c.args.len refl self.placed c.in_ok-push_values.ensures.items;
+      placed = nulls_placed (is_placed g.B.NullSlots.buffers) self.views.items c.push_values.new.items.items no_bytes c.args.len refl self.placed c.in_ok-push_values.ensures.items;
     }
 
 pub returns-clause-rows : goal.returns-clause-rows
 returns-clause-rows g c =
-    grown_nulls (view_value g.B.Beneath.buffers) c.args.self.views.items c.push_values.new.items.items no_bytes c.args.self.validity c.extend_constant.new.self c.args.len
+    grown_nulls (view_value g.B.NullSlots.buffers) c.args.self.views.items c.push_values.new.items.items no_bytes c.args.self.validity c.extend_constant.new.self c.args.len
     c.args.self.lengths c.in_ok-push_values.ensures.items c.in_ok-extend_constant.ensures.extended

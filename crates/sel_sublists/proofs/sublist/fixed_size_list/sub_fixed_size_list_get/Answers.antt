@@ -28,7 +28,7 @@ returns-clause-dtype c = rw c.values.ensures.column at c.collect_one_plan.ensure
 
 pub returns-clause-inside : goal.returns-clause-inside
 returns-clause-inside c =
-    let asked = sym c.is_refused.ensures ∙ c.if-is_refused.false in
+    let asked = sym c.is_error.ensures ∙ c.if-is_error.false in
     IfOk-weaker c.collect_one_plan.result _ _ (λ taken is. asked) c.collect_one_plan.ensures.rows
 
 pub returns-clause-within : goal.returns-clause-within
@@ -43,6 +43,6 @@ returns-clause-refusal c =
     let arr = c.args.arr.now in
     let indices = primitive_rows c.args.index.now in
     let picked = entries_got arr indices in
-    let asked = sym c.is_refused.ensures ∙ c.if-is_refused.false in
+    let asked = sym c.is_error.ensures ∙ c.if-is_error.false in
     let refusal = rw (c.values.ensures.column, picked) at c.collect_one_plan.ensures.refusal in
     MatchResult-weaker c.collect_one_plan.result refusal (λ taken h. h) (λ fault h. refused_so arr indices c.args.null_on_oob fault asked h)

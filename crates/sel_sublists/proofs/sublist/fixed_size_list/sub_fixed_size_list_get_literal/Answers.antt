@@ -5,7 +5,7 @@ use Rattle.sel_arrow.specs.Rows.{rows}
 use Rattle.sel_arrow.specs.Value.{Null}
 use Rattle.sel_runs.specs.Picks.{pick, PickFits}
 use Rattle.sel_sublists.specs.Elements.{child_pick}
-use Rattle.sel_sublists.specs.Entries.{at_each, entry_places, out_of_bounds}
+use Rattle.sel_sublists.specs.Entries.{at_each, entry_places, is_get_error}
 use Rattle.sel_sublists.proofs.Blocks.{entries_fit, entries_got, refused_so}
 use Rattle.sel_sublists.proofs.sublist.fixed_size_list.sub_fixed_size_list_get_literal.Goals as goal
 
@@ -34,7 +34,7 @@ pub returns-clause-inside : goal.returns-clause-inside
 returns-clause-inside c =
     let arr = c.args.arr.now in
     let shown = to_z-of_z w64 c.args.index c.ranges.index in
-    let asked = sym (c.is_literal_refused.ensures ∙ ap (λ z. out_of_bounds c.args.null_on_oob arr (at_each arr z)) shown) ∙ c.if-is_literal_refused.false in
+    let asked = sym (c.is_literal_error.ensures ∙ ap (λ z. is_get_error c.args.null_on_oob arr (at_each arr z)) shown) ∙ c.if-is_literal_error.false in
     IfOk-weaker c.collect_one_plan.result _ _ (λ taken is. asked) c.collect_one_plan.ensures.rows
 
 pub returns-clause-within : goal.returns-clause-within
@@ -53,6 +53,6 @@ returns-clause-refusal c =
     let indices = at_each arr c.args.index in
     let picks = ap (λ z. map child_pick (entry_places arr (at_each arr z))) shown in
     let picked = ap (pick Null (rows arr.values.value ∷ [])) picks ∙ entries_got arr indices in
-    let asked = sym (c.is_literal_refused.ensures ∙ ap (λ z. out_of_bounds c.args.null_on_oob arr (at_each arr z)) shown) ∙ c.if-is_literal_refused.false in
+    let asked = sym (c.is_literal_error.ensures ∙ ap (λ z. is_get_error c.args.null_on_oob arr (at_each arr z)) shown) ∙ c.if-is_literal_error.false in
     let refusal = rw (c.values.ensures.column, picked) at c.collect_one_plan.ensures.refusal in
     MatchResult-weaker c.collect_one_plan.result refusal (λ taken h. h) (λ fault h. refused_so arr indices c.args.null_on_oob fault asked h)

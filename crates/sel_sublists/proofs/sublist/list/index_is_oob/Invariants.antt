@@ -1,4 +1,4 @@
--- The index has a place in the lists so far.
+-- Loop invariant: the index is in bounds for the lists so far that are not null.
 use Rattle.std.proofs.Common.{◌≡◌, false, take}
 use Rattle.std.specs.List.{list_any}
 use Rattle.sel_arrow.specs.NestedArrays.{list_column}

@@ -1,4 +1,4 @@
--- The places in the lists so far: each, or 0, and whether there is one.
+-- Loop invariant: the positions for the lists so far, 0 if there is none, and whether there is one.
 use Rattle.std.proofs.Common.{◌≡◌, map}
 use Rattle.std.specs.List.{range_with_len}
 use Rattle.std.specs.Option.{is_some, unwrap_or}

@@ -1,4 +1,4 @@
--- The numbers so far.
+-- Loop invariant: the offsets so far.
 use Rattle.std.proofs.Common.{◌≡◌, map, pos}
 use Rattle.std.specs.List.{range_with_len}
 use Rattle.sel_sublists.proofs.sublist.list.unit_offsets.Given as goal

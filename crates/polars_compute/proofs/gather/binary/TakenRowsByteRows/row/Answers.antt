@@ -6,7 +6,7 @@ use Rattle.polars_compute.specs.Pick.{is_within}
 use Rattle.polars_compute.proofs.Withins.{within_fits, within_at, taken_inside, null_taken, valid_taken}
 use Rattle.polars_compute.proofs.gather.binary.TakenRowsByteRows.row.Goals as goal
 
--- an index that names a row is a position, since there are few rows
+-- An index that refers to a row fits a position, because a column has at most 2^32 - 1 rows.
 pub to_usize-requires : goal.to_usize-requires
 to_usize-requires g c =
     let column = c.args.self.now.values.now in

@@ -6,7 +6,7 @@ use Rattle.sel_arrow.specs.NestedArrays.{block_column}
 use Rattle.sel_arrow.specs.Rows.{rows, type_of}
 use Rattle.sel_arrow.specs.Shape.{of_fixed_size_list}
 use Rattle.sel_runs.proofs.Within.{few_rows_pass}
-use Rattle.sel_choices.specs.Choose.{choose_of_two}
+use Rattle.sel_choices.specs.Choose.{broadcast_both}
 use Rattle.sel_choices.specs.ListSides.{block_child}
 use Rattle.sel_choices.specs.ListParts.{chosen_from}
 use Rattle.sel_choices.specs.Sides.{scalar}
@@ -43,7 +43,7 @@ returns-clause-refusal c =
     let size : c.len-size.result ≡ length (rows c.args.if_true.now.column) = c.len-size.ensures.len ∙ ap (λ x. length (rows x)) c.as_column.ensures.column in
     let is : given ≡ type = ap (of_fixed_size_list (type_of c.args.if_true.now.column)) size ∙ sym c.requires.true_fits in
     let chosen = chosen_from 0 ms (λ i. list_of (rows t.column)) (λ i. list_of (rows f.column)) in
-    let wanted = choose_of_two ms (list_of (rows t.column)) (list_of (rows f.column)) in
+    let wanted = broadcast_both ms (list_of (rows t.column)) (list_of (rows f.column)) in
     let same : chosen ≡ wanted = chosen_both ms (list_of (rows t.column)) (list_of (rows f.column)) in
     refused_choice c.choose_sized_lists.result block_child type given (scalar t) (scalar f) chosen wanted is same c.choose_sized_lists.ensures.refusal
 
@@ -57,6 +57,6 @@ returns-clause-within c =
     let size : c.len-size.result ≡ length (rows c.args.if_true.now.column) = c.len-size.ensures.len ∙ ap (λ x. length (rows x)) c.as_column.ensures.column in
     let is : given ≡ type = ap (of_fixed_size_list (type_of c.args.if_true.now.column)) size ∙ sym c.requires.true_fits in
     let chosen = chosen_from 0 ms (λ i. list_of (rows t.column)) (λ i. list_of (rows f.column)) in
-    let wanted = choose_of_two ms (list_of (rows t.column)) (list_of (rows f.column)) in
+    let wanted = broadcast_both ms (list_of (rows t.column)) (list_of (rows f.column)) in
     let same : chosen ≡ wanted = chosen_both ms (list_of (rows t.column)) (list_of (rows f.column)) in
     answered_choice c.choose_sized_lists.result block_child type given (scalar t) (scalar f) chosen wanted is same (few_rows_pass (length wanted) (omega (arith, length-choose_of_two ms (list_of (rows t.column)) (list_of (rows f.column)), c.len.ensures, c.if-len-gt-MOST_ROWS.false))) c.choose_sized_lists.ensures.within

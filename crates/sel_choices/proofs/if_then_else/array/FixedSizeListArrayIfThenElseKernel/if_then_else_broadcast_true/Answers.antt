@@ -5,7 +5,7 @@ use Rattle.sel_arrow.specs.NestedArrays.{block_column}
 use Rattle.sel_arrow.specs.Rows.{rows, type_of}
 use Rattle.sel_arrow.specs.Shape.{of_fixed_size_list}
 use Rattle.sel_arrow.specs.Value.{Null}
-use Rattle.sel_choices.specs.Choose.{choose_one}
+use Rattle.sel_choices.specs.Choose.{broadcast_true}
 use Rattle.sel_choices.specs.ListSides.{block_child}
 use Rattle.sel_choices.specs.ListParts.{chosen_from}
 use Rattle.sel_choices.specs.Sides.{column, scalar}
@@ -40,7 +40,7 @@ returns-clause-refusal c =
     let type = type_of (block_column c.args.if_false.now) in
     let is : given ≡ type = ap (of_fixed_size_list (type_of c.args.if_true.now.column)) (c.size.ensures.size ∙ same_width _ _ c.args.if_false.now.size (length (rows c.args.if_true.now.column)) c.requires.fits) ∙ sym c.requires.fits in
     let chosen = chosen_from 0 ms (λ i. list_of (rows t.column)) (λ i. get_or (rows (block_column f)) i Null) in
-    let wanted = choose_one ms (list_of (rows t.column)) (rows (block_column f)) in
+    let wanted = broadcast_true ms (list_of (rows t.column)) (rows (block_column f)) in
     let same : chosen ≡ wanted = chosen_true ms (list_of (rows t.column)) (rows (block_column f)) c.requires.false_side in
     refused_choice c.choose_sized_lists.result block_child type given (scalar t) (column f) chosen wanted is same c.choose_sized_lists.ensures.refusal
 
@@ -53,6 +53,6 @@ returns-clause-within c =
     let type = type_of (block_column c.args.if_false.now) in
     let is : given ≡ type = ap (of_fixed_size_list (type_of c.args.if_true.now.column)) (c.size.ensures.size ∙ same_width _ _ c.args.if_false.now.size (length (rows c.args.if_true.now.column)) c.requires.fits) ∙ sym c.requires.fits in
     let chosen = chosen_from 0 ms (λ i. list_of (rows t.column)) (λ i. get_or (rows (block_column f)) i Null) in
-    let wanted = choose_one ms (list_of (rows t.column)) (rows (block_column f)) in
+    let wanted = broadcast_true ms (list_of (rows t.column)) (rows (block_column f)) in
     let same : chosen ≡ wanted = chosen_true ms (list_of (rows t.column)) (rows (block_column f)) c.requires.false_side in
     answered_choice c.choose_sized_lists.result block_child type given (scalar t) (column f) chosen wanted is same (λ limit past. past) c.choose_sized_lists.ensures.within

@@ -7,7 +7,7 @@ use Rattle.sel_arrow.specs.Rows.{rows, type_of}
 use Rattle.sel_arrow.specs.Shape.{of_large_list}
 use Rattle.sel_arrow.specs.declared.column.Column.{Column}
 use Rattle.sel_runs.proofs.Within.{few_rows_pass}
-use Rattle.sel_choices.specs.Choose.{choose_of_two}
+use Rattle.sel_choices.specs.Choose.{broadcast_both}
 use Rattle.sel_choices.specs.ListParts.{chosen_from}
 use Rattle.sel_choices.specs.Sides.{scalar}
 use Rattle.sel_choices.proofs.ListChoices.{answered_choice, refused_choice}
@@ -32,7 +32,7 @@ returns-clause-refusal c =
     let type = shape_of c.args._dtype in
     let is : given ≡ type = sym c.requires.true_fits in
     let chosen = chosen_from 0 ms (λ i. list_of (rows t.column)) (λ i. list_of (rows f.column)) in
-    let wanted = choose_of_two ms (list_of (rows t.column)) (list_of (rows f.column)) in
+    let wanted = broadcast_both ms (list_of (rows t.column)) (list_of (rows f.column)) in
     let same : chosen ≡ wanted = chosen_both ms (list_of (rows t.column)) (list_of (rows f.column)) in
     refused_choice c.choose_lists.result (λ (child : Column). child) type given (scalar t) (scalar f) chosen wanted is same c.choose_lists.ensures.refusal
 
@@ -45,6 +45,6 @@ returns-clause-within c =
     let type = shape_of c.args._dtype in
     let is : given ≡ type = sym c.requires.true_fits in
     let chosen = chosen_from 0 ms (λ i. list_of (rows t.column)) (λ i. list_of (rows f.column)) in
-    let wanted = choose_of_two ms (list_of (rows t.column)) (list_of (rows f.column)) in
+    let wanted = broadcast_both ms (list_of (rows t.column)) (list_of (rows f.column)) in
     let same : chosen ≡ wanted = chosen_both ms (list_of (rows t.column)) (list_of (rows f.column)) in
     answered_choice c.choose_lists.result (λ (child : Column). child) type given (scalar t) (scalar f) chosen wanted is same (few_rows_pass (length wanted) (omega (arith, length-choose_of_two ms (list_of (rows t.column)) (list_of (rows f.column)), c.len.ensures, c.if-len-gt-MOST_ROWS.false))) c.choose_lists.ensures.within

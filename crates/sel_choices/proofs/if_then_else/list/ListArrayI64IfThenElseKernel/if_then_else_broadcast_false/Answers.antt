@@ -5,7 +5,7 @@ use Rattle.sel_arrow.specs.NestedArrays.{list_column}
 use Rattle.sel_arrow.specs.Rows.{rows, type_of}
 use Rattle.sel_arrow.specs.Shape.{of_large_list}
 use Rattle.sel_arrow.specs.Value.{Null}
-use Rattle.sel_choices.specs.Choose.{choose_or_one}
+use Rattle.sel_choices.specs.Choose.{broadcast_false}
 use Rattle.sel_choices.specs.ListSides.{list_child}
 use Rattle.sel_choices.specs.ListParts.{chosen_from}
 use Rattle.sel_choices.specs.Sides.{column, scalar}
@@ -29,7 +29,7 @@ returns-clause-refusal c =
     let type = type_of (list_column c.args.if_true.now) in
     let is : given ≡ type = refl in
     let chosen = chosen_from 0 ms (λ i. get_or (rows (list_column t)) i Null) (λ i. list_of (rows f.column)) in
-    let wanted = choose_or_one ms (rows (list_column t)) (list_of (rows f.column)) in
+    let wanted = broadcast_false ms (rows (list_column t)) (list_of (rows f.column)) in
     let same : chosen ≡ wanted = chosen_false ms (rows (list_column t)) (list_of (rows f.column)) c.requires.true_side in
     refused_choice c.choose_lists.result list_child type given (column t) (scalar f) chosen wanted is same c.choose_lists.ensures.refusal
 
@@ -42,6 +42,6 @@ returns-clause-within c =
     let type = type_of (list_column c.args.if_true.now) in
     let is : given ≡ type = refl in
     let chosen = chosen_from 0 ms (λ i. get_or (rows (list_column t)) i Null) (λ i. list_of (rows f.column)) in
-    let wanted = choose_or_one ms (rows (list_column t)) (list_of (rows f.column)) in
+    let wanted = broadcast_false ms (rows (list_column t)) (list_of (rows f.column)) in
     let same : chosen ≡ wanted = chosen_false ms (rows (list_column t)) (list_of (rows f.column)) c.requires.true_side in
     answered_choice c.choose_lists.result list_child type given (column t) (scalar f) chosen wanted is same (λ limit past. past) c.choose_lists.ensures.within

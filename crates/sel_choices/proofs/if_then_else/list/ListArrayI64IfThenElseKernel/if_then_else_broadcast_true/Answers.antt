@@ -5,7 +5,7 @@ use Rattle.sel_arrow.specs.NestedArrays.{list_column}
 use Rattle.sel_arrow.specs.Rows.{rows, type_of}
 use Rattle.sel_arrow.specs.Shape.{of_large_list}
 use Rattle.sel_arrow.specs.Value.{Null}
-use Rattle.sel_choices.specs.Choose.{choose_one}
+use Rattle.sel_choices.specs.Choose.{broadcast_true}
 use Rattle.sel_choices.specs.ListSides.{list_child}
 use Rattle.sel_choices.specs.ListParts.{chosen_from}
 use Rattle.sel_choices.specs.Sides.{column, scalar}
@@ -29,7 +29,7 @@ returns-clause-refusal c =
     let type = type_of (list_column c.args.if_false.now) in
     let is : given ≡ type = sym c.requires.fits in
     let chosen = chosen_from 0 ms (λ i. list_of (rows t.column)) (λ i. get_or (rows (list_column f)) i Null) in
-    let wanted = choose_one ms (list_of (rows t.column)) (rows (list_column f)) in
+    let wanted = broadcast_true ms (list_of (rows t.column)) (rows (list_column f)) in
     let same : chosen ≡ wanted = chosen_true ms (list_of (rows t.column)) (rows (list_column f)) c.requires.false_side in
     refused_choice c.choose_lists.result list_child type given (scalar t) (column f) chosen wanted is same c.choose_lists.ensures.refusal
 
@@ -42,6 +42,6 @@ returns-clause-within c =
     let type = type_of (list_column c.args.if_false.now) in
     let is : given ≡ type = sym c.requires.fits in
     let chosen = chosen_from 0 ms (λ i. list_of (rows t.column)) (λ i. get_or (rows (list_column f)) i Null) in
-    let wanted = choose_one ms (list_of (rows t.column)) (rows (list_column f)) in
+    let wanted = broadcast_true ms (list_of (rows t.column)) (rows (list_column f)) in
     let same : chosen ≡ wanted = chosen_true ms (list_of (rows t.column)) (rows (list_column f)) c.requires.false_side in
     answered_choice c.choose_lists.result list_child type given (scalar t) (column f) chosen wanted is same (λ limit past. past) c.choose_lists.ensures.within

@@ -1,6 +1,6 @@
 use Rattle.std.proofs.Common.{◌≡◌, ◌+◌, ◌-◌, ◌∙◌, length, take, drop, ap, arith}
 use Rattle.sel_bits.specs.Words.{bits}
-use Rattle.sel_choices.specs.Choose.{choose_or_one}
+use Rattle.sel_choices.specs.Choose.{broadcast_false}
 use Rattle.sel_choices.proofs.Parts.{part_or_one}
 use Rattle.sel_choices.proofs.if_then_else.loops.OneFalseBlockChoice.choose_block.Goals as goal
 
@@ -11,5 +11,5 @@ returns g c =
     let at = c.args.at in
     let width : at + k - at ≡ k = omega arith in
     c.if_then_else_broadcast_false_scalar_rest.ensures
-    ∙ ap (λ j. choose_or_one (bits k c.args.mask) (take j (drop at ts)) c.args.self.now.if_false) width
+    ∙ ap (λ j. broadcast_false (bits k c.args.mask) (take j (drop at ts)) c.args.self.now.if_false) width
     ∙ part_or_one (length ts) at k c.args.mask (take k (drop at ts)) c.args.self.now.if_false c.requires.true_side

@@ -1,6 +1,6 @@
 use Rattle.std.proofs.Common.{◌≡◌, ◌∙◌, length, ap, arith, None}
 use Rattle.sel_arrow.specs.Value.{Number}
-use Rattle.sel_choices.specs.Choose.{choose_or_one}
+use Rattle.sel_choices.specs.Choose.{broadcast_false}
 use Rattle.sel_choices.specs.Validity.{chosen_validity}
 use Rattle.sel_choices.proofs.Validities.{choice_covers, length-choose_or_one, no_validity, rows_choose_or_one, side_covers, side_long}
 use Rattle.sel_choices.proofs.if_then_else.primitive.PrimitiveArrayIfThenElseKernel.if_then_else_broadcast_false.Goals as goal
@@ -22,7 +22,7 @@ invariant_of-result g c =
     let ms = c.args.mask.now.bits in
     let x = c.args.if_false.now in
     let p = side_long (λ (x : g.row.T.Denot). Number (g.T.NativeType.number x)) ms a.values a.validity c.requires.true_side in
-    let items : c.in_ok-values-2.values ≡ choose_or_one ms a.values x = c.in_ok-values-2.ensures.items ∙ c.in_ok-values.ensures.items ∙ ap (λ l. choose_or_one ms l x) c.as_slice.ensures in
+    let items : c.in_ok-values-2.values ≡ broadcast_false ms a.values x = c.in_ok-values-2.ensures.items ∙ c.in_ok-values.ensures.items ∙ ap (λ l. broadcast_false ms l x) c.as_slice.ensures in
     let long : length c.in_ok-values-2.values ≡ length ms = ap length items ∙ length-choose_or_one ms a.values x p in
     record {
       rows_fit = omega (arith, long, p, a.rows_fit);
@@ -36,6 +36,6 @@ returns-clause-rows g c =
     let x = c.args.if_false.now in
     let f = λ (x : g.row.T.Denot). Number (g.T.NativeType.number x) in
     let p = side_long f ms a.values a.validity c.requires.true_side in
-    let items : c.in_ok-values-2.values ≡ choose_or_one ms a.values x = c.in_ok-values-2.ensures.items ∙ c.in_ok-values.ensures.items ∙ ap (λ l. choose_or_one ms l x) c.as_slice.ensures in
+    let items : c.in_ok-values-2.values ≡ broadcast_false ms a.values x = c.in_ok-values-2.ensures.items ∙ c.in_ok-values.ensures.items ∙ ap (λ l. broadcast_false ms l x) c.as_slice.ensures in
     rows_choose_or_one f ms c.in_ok-values-2.values c.in_ok-validity.validity a.validity a.values x p a.validity_fits items
     (c.in_ok-validity.ensures.value ∙ ap (λ v. chosen_validity ms v None) c.as_ref.ensures.value)

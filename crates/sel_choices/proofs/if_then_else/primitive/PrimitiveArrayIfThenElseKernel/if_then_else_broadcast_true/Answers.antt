@@ -1,6 +1,6 @@
 use Rattle.std.proofs.Common.{◌≡◌, ◌∙◌, length, ap, arith, None}
 use Rattle.sel_arrow.specs.Value.{Number}
-use Rattle.sel_choices.specs.Choose.{choose_one}
+use Rattle.sel_choices.specs.Choose.{broadcast_true}
 use Rattle.sel_choices.specs.Validity.{chosen_validity}
 use Rattle.sel_choices.proofs.Validities.{choice_covers, length-choose_one, no_validity, rows_choose_one, side_covers, side_long}
 use Rattle.sel_choices.proofs.if_then_else.primitive.PrimitiveArrayIfThenElseKernel.if_then_else_broadcast_true.Goals as goal
@@ -21,7 +21,7 @@ invariant_of-result g c =
     let b = c.args.if_false.now in
     let ms = c.args.mask.now.bits in
     let q = side_long (λ (x : g.row.T.Denot). Number (g.T.NativeType.number x)) ms b.values b.validity c.requires.false_side in
-    let items : c.in_ok-values-2.values ≡ choose_one ms c.args.if_true.now b.values = c.in_ok-values-2.ensures.items ∙ c.in_ok-values.ensures.items ∙ ap (choose_one ms c.args.if_true.now) c.as_slice.ensures in
+    let items : c.in_ok-values-2.values ≡ broadcast_true ms c.args.if_true.now b.values = c.in_ok-values-2.ensures.items ∙ c.in_ok-values.ensures.items ∙ ap (broadcast_true ms c.args.if_true.now) c.as_slice.ensures in
     let long : length c.in_ok-values-2.values ≡ length ms = ap length items ∙ length-choose_one ms c.args.if_true.now b.values q in
     record {
       rows_fit = omega (arith, long, q, b.rows_fit);
@@ -34,6 +34,6 @@ returns-clause-rows g c =
     let ms = c.args.mask.now.bits in
     let f = λ (x : g.row.T.Denot). Number (g.T.NativeType.number x) in
     let q = side_long f ms b.values b.validity c.requires.false_side in
-    let items : c.in_ok-values-2.values ≡ choose_one ms c.args.if_true.now b.values = c.in_ok-values-2.ensures.items ∙ c.in_ok-values.ensures.items ∙ ap (choose_one ms c.args.if_true.now) c.as_slice.ensures in
+    let items : c.in_ok-values-2.values ≡ broadcast_true ms c.args.if_true.now b.values = c.in_ok-values-2.ensures.items ∙ c.in_ok-values.ensures.items ∙ ap (broadcast_true ms c.args.if_true.now) c.as_slice.ensures in
     rows_choose_one f ms c.in_ok-values-2.values c.in_ok-validity.validity b.validity c.args.if_true.now b.values q b.validity_fits items
     (c.in_ok-validity.ensures.value ∙ ap (chosen_validity ms None) c.as_ref.ensures.value)

@@ -3,10 +3,10 @@ use Rattle.std.specs.Prelude.{max, string_bytes}
 use Rattle.sel_arrow.specs.Texts.{all_text, is_text}
 use Rattle.sel_arrow.specs.Value.{Bytes}
 use Rattle.sel_arrow.proofs.Texts.{utf8_passes}
-use Rattle.sel_runs.specs.Need.{IsPastRows, PassesNone}
+use Rattle.sel_runs.specs.Need.{ExceedsRows, ExceedsNone}
 use Rattle.sel_runs.proofs.Within.{few_rows_pass, passes_neither}
-use Rattle.sel_choices.specs.Choose.{choose_of_two}
-use Rattle.sel_choices.specs.ViewSides.{scalar_buffers, IsPastViews}
+use Rattle.sel_choices.specs.Choose.{broadcast_both}
+use Rattle.sel_choices.specs.ViewSides.{scalar_buffers, ExceedsViews}
 use Rattle.sel_choices.proofs.Placed.{all_chosen_of_two}
 use Rattle.sel_choices.proofs.Validities.{length-choose_of_two}
 use Rattle.sel_choices.proofs.if_then_else.utf8view.Utf8ViewArrayIfThenElseKernel.if_then_else_broadcast_both.Goals as goal
@@ -26,8 +26,8 @@ pub returns-clause-within : goal.returns-clause-within
 returns-clause-within c =
     let a = string_bytes c.args.if_true.now in
     let b = string_bytes c.args.if_false.now in
-    let views = λ (x y : List ℕ). PassesNone (IsPastViews (length (scalar_buffers x) + length (scalar_buffers y)) (max (length x) (length y))) in
+    let views = λ (x y : List ℕ). ExceedsNone (ExceedsViews (length (scalar_buffers x) + length (scalar_buffers y)) (max (length x) (length y))) in
     let given = subst (λ x. views x b) (c.as_bytes-first.ensures.value ∙ c.as_str.ensures.value) (subst (λ y. views c.as_bytes-first.result.now y) (c.as_bytes-second.ensures.value ∙ c.as_str-2.ensures.value) c.in_ok-bytes.ensures.within) in
-    let vs = choose_of_two c.args.mask.now.bits (Bytes a) (Bytes b) in
+    let vs = broadcast_both c.args.mask.now.bits (Bytes a) (Bytes b) in
     let few = few_rows_pass (length vs) (omega (arith, length-choose_of_two c.args.mask.now.bits (Bytes a) (Bytes b), c.len.ensures, c.if-len-gt-MOST_ROWS.false)) in
-    passes_neither (IsPastRows (length vs)) (IsPastViews (length (scalar_buffers a) + length (scalar_buffers b)) (max (length a) (length b))) few given
+    passes_neither (ExceedsRows (length vs)) (ExceedsViews (length (scalar_buffers a) + length (scalar_buffers b)) (max (length a) (length b))) few given
