@@ -54,7 +54,7 @@ typedef struct level {
     unsigned depth;
 } level;
 
-#define VALIDITY(l) (l)->bits ? (l)->bits : (const uint8_t *)nothing, (l)->bits_len, (l)->bits != NULL
+#define VALIDITY(l) (l)->bits, (l)->bits_len, (l)->bits != NULL
 
 /* Returns the items of a buffer from the level's first row on, aligned, or NULL if out of memory. */
 static const void *items(level *l, int64_t buffer, size_t size, size_t count) {
@@ -75,34 +75,34 @@ static int64_t count_nulls(const level *l) {
 }
 
 /* Reads the validity, and compares it with the null count if that is known. A null count of 0 says that there is none. */
-static uint32_t read_validity(level *l) {
+static sel_status read_validity(level *l) {
     const uint8_t *bits = l->array->buffers ? l->array->buffers[0] : NULL;
     int64_t nulls = l->array->null_count;
-    if (nulls == 0) return SEL_DONE;
-    if (!bits) return nulls > 0 ? SEL_ARROW_LENGTH : SEL_DONE;
+    if (nulls == 0) return SEL_OK;
+    if (!bits) return nulls > 0 ? SEL_ERROR_ARROW_LENGTH : SEL_OK;
     l->bits = packed_bits(bits, l->from, l->len);
     l->bits_len = bytes_of_bits(l->len);
-    if (!l->bits) return SEL_NO_MEMORY;
-    return nulls > 0 && nulls != count_nulls(l) ? SEL_ARROW_LENGTH : SEL_DONE;
+    if (!l->bits) return SEL_ERROR_OUT_OF_MEMORY;
+    return nulls > 0 && nulls != count_nulls(l) ? SEL_ERROR_ARROW_LENGTH : SEL_OK;
 }
 
 /* ---- import: columns without children */
 
-static uint32_t import_bits(level *l, sel_column *out) {
+static sel_status import_bits(level *l, sel_column *out) {
     uint8_t *values = l->len ? packed_bits(l->array->buffers[1], l->from, l->len) : calloc(1, 1);
-    if (!values) return SEL_NO_MEMORY;
-    uint32_t status = sel_boolean_new(values, bytes_of_bits(l->len), l->len, VALIDITY(l), out);
+    if (!values) return SEL_ERROR_OUT_OF_MEMORY;
+    sel_status status = sel_boolean_new(values, bytes_of_bits(l->len), l->len, VALIDITY(l), out);
     free(values);
     return status;
 }
 
-#define IMPORT_NUMBERS(type, make)                                                                                      \
-    do {                                                                                                                \
-        const void *values = items(l, 1, sizeof(type), l->len);                                                         \
-        return values ? make((const type *)values, l->len, VALIDITY(l), out) : SEL_NO_MEMORY;                           \
+#define IMPORT_NUMBERS(type, make)                                                                      \
+    do {                                                                                                \
+        const void *values = items(l, 1, sizeof(type), l->len);                                         \
+        return values ? make((const type *)values, l->len, VALIDITY(l), out) : SEL_ERROR_OUT_OF_MEMORY; \
     } while (0)
 
-static uint32_t import_numbers(level *l, char format, sel_column *out) {
+static sel_status import_numbers(level *l, char format, sel_column *out) {
     switch (format) {
     case 'c': IMPORT_NUMBERS(int8_t, sel_int8_new);
     case 'C': IMPORT_NUMBERS(uint8_t, sel_uint8_new);
@@ -112,20 +112,20 @@ static uint32_t import_numbers(level *l, char format, sel_column *out) {
     case 'I': IMPORT_NUMBERS(uint32_t, sel_uint32_new);
     case 'l': IMPORT_NUMBERS(int64_t, sel_int64_new);
     case 'L': IMPORT_NUMBERS(uint64_t, sel_uint64_new);
-    default: IMPORT_NUMBERS(sel_wide, sel_int128_new);
+    default: IMPORT_NUMBERS(sel_int128, sel_int128_new);
     }
 }
 
 /* Reads the offsets of the level's rows as 64-bit integers, relative to the first of them. Checks that they do not
  * decrease, so that only bytes between the first and the last offset are read. The offsets of an array without rows are
  * not read: their buffer may be empty. */
-static uint32_t read_offsets(level *l, bool wide, int64_t **out, int64_t *first, int64_t *last) {
+static sel_status read_offsets(level *l, bool wide, int64_t **out, int64_t *first, int64_t *last) {
     int64_t *offsets = calloc(l->len + 1, sizeof *offsets);
     *out = offsets;
     *first = *last = 0;
-    if (!offsets) return SEL_NO_MEMORY;
+    if (!offsets) return SEL_ERROR_OUT_OF_MEMORY;
     const char *at = l->array->buffers[1];
-    if (l->len == 0) return SEL_DONE;
+    if (l->len == 0) return SEL_OK;
     for (size_t i = 0; i <= l->len; i++) {
         int32_t narrow;
         if (wide) memcpy(&offsets[i], at + (l->from + i) * 8, 8);
@@ -133,11 +133,11 @@ static uint32_t read_offsets(level *l, bool wide, int64_t **out, int64_t *first,
     }
     *first = offsets[0];
     *last = offsets[l->len];
-    if (*first < 0) return SEL_OFFSET_NEGATIVE;
+    if (*first < 0) return SEL_ERROR_NEGATIVE_OFFSET;
     for (size_t i = 0; i < l->len; i++)
-        if (offsets[i + 1] < offsets[i]) return SEL_OFFSET_ORDER;
+        if (offsets[i + 1] < offsets[i]) return SEL_ERROR_DECREASING_OFFSET;
     for (size_t i = 0; i <= l->len; i++) offsets[i] -= *first;
-    return SEL_DONE;
+    return SEL_OK;
 }
 
 /* Returns the view of bytes, which holds up to 12 of them itself. */
@@ -164,40 +164,40 @@ static size_t most_slices(size_t rows, int64_t bytes) {
 }
 
 /* Imports strings with offsets as views over slices of their bytes, each at most as long as a view's offset can reach. */
-static uint32_t import_texts(level *l, const int64_t *offsets, const uint8_t *bytes, sel_column *out) {
+static sel_status import_texts(level *l, const int64_t *offsets, const uint8_t *bytes, sel_column *out) {
     sel_view *views = calloc(l->len + 1, sizeof *views);
-    sel_slice *slices = malloc(most_slices(l->len, offsets[l->len]) * sizeof *slices);
+    sel_bytes_ref *slices = malloc(most_slices(l->len, offsets[l->len]) * sizeof *slices);
     size_t count = 0;
-    uint32_t status = views && slices ? SEL_DONE : SEL_NO_MEMORY;
+    sel_status status = views && slices ? SEL_OK : SEL_ERROR_OUT_OF_MEMORY;
     int64_t begin = 0, end = 0;
-    for (size_t i = 0; status == SEL_DONE && i < l->len; i++) {
+    for (size_t i = 0; status == SEL_OK && i < l->len; i++) {
         int64_t len = offsets[i + 1] - offsets[i];
         if (l->bits && !bit_at(l->bits, i)) continue;
-        if (len > INT32_MAX) status = SEL_ARROW_RANGE;
-        if (status != SEL_DONE) break;
+        if (len > INT32_MAX) status = SEL_ERROR_ARROW_RANGE;
+        if (status != SEL_OK) break;
         if (offsets[i + 1] - begin > INT32_MAX) {
-            if (end > begin) slices[count++] = (sel_slice){bytes + begin, (size_t)(end - begin)};
+            if (end > begin) slices[count++] = (sel_bytes_ref){bytes + begin, (size_t)(end - begin)};
             begin = offsets[i];
         }
         views[i] = view_of(bytes + offsets[i], (size_t)len, (uint32_t)count, (uint32_t)(offsets[i] - begin));
         end = offsets[i + 1];
     }
-    if (status == SEL_DONE) {
-        if (end > begin) slices[count++] = (sel_slice){bytes + begin, (size_t)(end - begin)};
-        status = sel_utf8view_new(views, l->len, slices, count, VALIDITY(l), out);
+    if (status == SEL_OK) {
+        if (end > begin) slices[count++] = (sel_bytes_ref){bytes + begin, (size_t)(end - begin)};
+        status = sel_string_view_new(views, l->len, slices, count, VALIDITY(l), out);
     }
     free(views);
     free(slices);
     return status;
 }
 
-static uint32_t import_bytes(level *l, bool wide, bool texts, sel_column *out) {
+static sel_status import_bytes(level *l, bool wide, bool texts, sel_column *out) {
     int64_t *offsets, first, last;
-    uint32_t status = read_offsets(l, wide, &offsets, &first, &last);
+    sel_status status = read_offsets(l, wide, &offsets, &first, &last);
     const uint8_t *bytes = l->array->buffers[2];
-    if (status == SEL_DONE && last > first && !bytes) status = SEL_ARROW_BUFFERS;
-    if (status == SEL_DONE) bytes = last > first ? bytes + first : (const uint8_t *)nothing;
-    if (status == SEL_DONE)
+    if (status == SEL_OK && last > first && !bytes) status = SEL_ERROR_ARROW_BUFFERS;
+    if (status == SEL_OK) bytes = last > first ? bytes + first : (const uint8_t *)nothing;
+    if (status == SEL_OK)
         status = texts ? import_texts(l, offsets, bytes, out)
                        : sel_binary_new(offsets, l->len + 1, bytes, (size_t)(last - first), VALIDITY(l), out);
     free(offsets);
@@ -205,18 +205,18 @@ static uint32_t import_bytes(level *l, bool wide, bool texts, sel_column *out) {
 }
 
 /* Reads the data buffers of a column of views; the last buffer holds their lengths, maybe unaligned. */
-static uint32_t read_data_buffers(const level *l, int64_t count, sel_slice *slices) {
+static sel_status read_data_buffers(const level *l, int64_t count, sel_bytes_ref *slices) {
     const char *lengths = l->array->buffers[count + 2];
-    if (count > 0 && !lengths) return SEL_ARROW_BUFFERS;
+    if (count > 0 && !lengths) return SEL_ERROR_ARROW_BUFFERS;
     for (int64_t i = 0; i < count; i++) {
         const uint8_t *bytes = l->array->buffers[i + 2];
         int64_t length;
         memcpy(&length, lengths + i * 8, 8);
-        if (length < 0) return SEL_ARROW_LENGTH;
-        if (length > 0 && !bytes) return SEL_ARROW_BUFFERS;
-        slices[i] = (sel_slice){bytes ? bytes : (const uint8_t *)nothing, (size_t)length};
+        if (length < 0) return SEL_ERROR_ARROW_LENGTH;
+        if (length > 0 && !bytes) return SEL_ERROR_ARROW_BUFFERS;
+        slices[i] = (sel_bytes_ref){bytes ? bytes : (const uint8_t *)nothing, (size_t)length};
     }
-    return SEL_DONE;
+    return SEL_OK;
 }
 
 /* Replaces the views in null slots, which may be any bytes, by empty ones. Returns NULL if out of memory. */
@@ -233,71 +233,71 @@ static const sel_view *without_null_slots(level *l, const sel_view *views) {
     return copy;
 }
 
-static uint32_t import_views(level *l, bool texts, sel_column *out) {
+static sel_status import_views(level *l, bool texts, sel_column *out) {
     int64_t count = l->array->n_buffers - 3;
     const sel_view *views = without_null_slots(l, items(l, 1, sizeof *views, l->len));
-    sel_slice *slices = malloc(((size_t)count + 1) * sizeof *slices);
-    uint32_t status = views && slices ? read_data_buffers(l, count, slices) : SEL_NO_MEMORY;
-    if (status == SEL_DONE)
-        status = (texts ? sel_utf8view_new : sel_binview_new)(views, l->len, slices, (size_t)count, VALIDITY(l), out);
+    sel_bytes_ref *slices = malloc(((size_t)count + 1) * sizeof *slices);
+    sel_status status = views && slices ? read_data_buffers(l, count, slices) : SEL_ERROR_OUT_OF_MEMORY;
+    if (status == SEL_OK)
+        status = (texts ? sel_string_view_new : sel_binary_view_new)(views, l->len, slices, (size_t)count, VALIDITY(l), out);
     free(slices);
     return status;
 }
 
 /* ---- import: columns with children */
 
-static uint32_t import_node(const Array *array, const Schema *schema, unsigned depth, sel_column *out);
+static sel_status import_node(const Array *array, const Schema *schema, unsigned depth, sel_column *out);
 
-static uint32_t import_child(const level *l, int64_t i, sel_column *out) {
+static sel_status import_child(const level *l, int64_t i, sel_column *out) {
     const Array *array = l->array->children ? l->array->children[i] : NULL;
     const Schema *schema = l->schema->children ? l->schema->children[i] : NULL;
-    if (!array || !schema) return SEL_ARROW_CHILDREN;
+    if (!array || !schema) return SEL_ERROR_ARROW_CHILDREN;
     return import_node(array, schema, l->depth + 1, out);
 }
 
 /* Imports the rows of child `i` that belong to the level's rows, `width` for each of them. */
-static uint32_t import_part(const level *l, int64_t i, size_t width, sel_column *out) {
+static sel_status import_part(const level *l, int64_t i, size_t width, sel_column *out) {
     sel_column whole = {0};
-    uint32_t status = import_child(l, i, &whole);
-    if (status == SEL_DONE) {
+    sel_status status = import_child(l, i, &whole);
+    if (status == SEL_OK) {
         size_t rows = sel_len(&whole);
-        if (width > 0 && l->from + l->len > rows / width) status = SEL_ARROW_LENGTH;
-        else status = sel_sliced(&whole, l->from * width, l->len * width, out);
+        if (width > 0 && l->from + l->len > rows / width) status = SEL_ERROR_ARROW_LENGTH;
+        else status = sel_slice(&whole, l->from * width, l->len * width, out);
     }
     sel_free(&whole);
     return status;
 }
 
-static uint32_t import_list(level *l, bool wide, sel_column *out) {
+static sel_status import_list(level *l, bool wide, sel_column *out) {
     int64_t *offsets, first, last;
     sel_column child = {0}, part = {0};
-    uint32_t status = read_offsets(l, wide, &offsets, &first, &last);
-    if (status == SEL_DONE) status = import_child(l, 0, &child);
-    if (status == SEL_DONE && (uint64_t)last > sel_len(&child)) status = SEL_OFFSET_RANGE;
-    if (status == SEL_DONE) status = sel_sliced(&child, (size_t)first, (size_t)(last - first), &part);
-    if (status == SEL_DONE) status = sel_list_new(offsets, l->len + 1, VALIDITY(l), &part, out);
+    sel_status status = read_offsets(l, wide, &offsets, &first, &last);
+    if (status == SEL_OK) status = import_child(l, 0, &child);
+    if (status == SEL_OK && (uint64_t)last > sel_len(&child)) status = SEL_ERROR_OFFSET_RANGE;
+    if (status == SEL_OK) status = sel_slice(&child, (size_t)first, (size_t)(last - first), &part);
+    if (status == SEL_OK) status = sel_list_new(offsets, l->len + 1, VALIDITY(l), &part, out);
     free(offsets);
     sel_free(&child);
     sel_free(&part);
     return status;
 }
 
-static uint32_t import_fixed_list(level *l, const char *digits, sel_column *out) {
+static sel_status import_fixed_list(level *l, const char *digits, sel_column *out) {
     sel_column child = {0};
     unsigned long long width = strtoull(digits, NULL, 10);
-    if (width > UINT32_MAX) return SEL_WIDTH;
-    uint32_t status = import_part(l, 0, (size_t)width, &child);
-    if (status == SEL_DONE) status = sel_fixed_list_new((size_t)width, l->len, VALIDITY(l), &child, out);
+    if (width > UINT32_MAX) return SEL_ERROR_LIST_SIZE;
+    sel_status status = import_part(l, 0, (size_t)width, &child);
+    if (status == SEL_OK) status = sel_fixed_size_list_new((size_t)width, l->len, VALIDITY(l), &child, out);
     sel_free(&child);
     return status;
 }
 
-static uint32_t import_struct(level *l, sel_column *out) {
+static sel_status import_struct(level *l, sel_column *out) {
     size_t count = (size_t)l->array->n_children;
     sel_column *fields = calloc(count + 1, sizeof *fields);
-    uint32_t status = fields ? SEL_DONE : SEL_NO_MEMORY;
-    for (size_t i = 0; status == SEL_DONE && i < count; i++) status = import_part(l, (int64_t)i, 1, &fields[i]);
-    if (status == SEL_DONE) status = sel_struct_new(l->len, VALIDITY(l), fields, count, out);
+    sel_status status = fields ? SEL_OK : SEL_ERROR_OUT_OF_MEMORY;
+    for (size_t i = 0; status == SEL_OK && i < count; i++) status = import_part(l, (int64_t)i, 1, &fields[i]);
+    if (status == SEL_OK) status = sel_struct_new(l->len, VALIDITY(l), fields, count, out);
     for (size_t i = 0; fields && i < count; i++) sel_free(&fields[i]);
     free(fields);
     return status;
@@ -332,34 +332,34 @@ static enum layout layout_of(const char *format) {
 }
 
 /* Checks the number of children, in the array and in the schema. */
-static uint32_t check_children(const level *l, enum layout layout) {
+static sel_status check_children(const level *l, enum layout layout) {
     int64_t count = l->array->n_children;
-    if (count < 0 || count > MAX_COUNT || count != l->schema->n_children) return SEL_ARROW_CHILDREN;
+    if (count < 0 || count > MAX_COUNT || count != l->schema->n_children) return SEL_ERROR_ARROW_CHILDREN;
     bool has_one = layout == LISTS || layout == FIXED_LISTS;
-    if (layout != STRUCTS && count != (has_one ? 1 : 0)) return SEL_ARROW_CHILDREN;
-    return count > 0 && (!l->array->children || !l->schema->children) ? SEL_ARROW_CHILDREN : SEL_DONE;
+    if (layout != STRUCTS && count != (has_one ? 1 : 0)) return SEL_ERROR_ARROW_CHILDREN;
+    return count > 0 && (!l->array->children || !l->schema->children) ? SEL_ERROR_ARROW_CHILDREN : SEL_OK;
 }
 
 /* Checks the number of buffers, and that none is missing which a row needs; a validity may be missing. */
-static uint32_t check_buffers(const level *l, enum layout layout) {
+static sel_status check_buffers(const level *l, enum layout layout) {
     static const int64_t counts[] = {[BITS] = 2, [NUMBERS] = 2, [OFFSET_BYTES] = 3, [VIEWS] = 3, [LISTS] = 2,
                                      [FIXED_LISTS] = 1, [STRUCTS] = 1};
     int64_t count = l->array->n_buffers;
-    if (layout == NULLS) return SEL_DONE;
-    if (count < 0 || count > MAX_COUNT || !l->array->buffers) return SEL_ARROW_BUFFERS;
-    if (layout == VIEWS ? count < counts[VIEWS] : count != counts[layout]) return SEL_ARROW_BUFFERS;
+    if (layout == NULLS) return SEL_OK;
+    if (count < 0 || count > MAX_COUNT || !l->array->buffers) return SEL_ERROR_ARROW_BUFFERS;
+    if (layout == VIEWS ? count < counts[VIEWS] : count != counts[layout]) return SEL_ERROR_ARROW_BUFFERS;
     bool needs_second = l->len > 0 && counts[layout] > 1;
-    return needs_second && !l->array->buffers[1] ? SEL_ARROW_BUFFERS : SEL_DONE;
+    return needs_second && !l->array->buffers[1] ? SEL_ERROR_ARROW_BUFFERS : SEL_OK;
 }
 
 /* Checks the number of rows, the offset and the number of nulls. */
-static uint32_t check_rows(const Array *array) {
-    if (array->length < 0 || array->offset < 0) return SEL_ARROW_LENGTH;
-    if (array->length > MAX_ROWS || array->offset > MAX_ROWS - array->length) return SEL_TOO_MANY_ROWS;
-    return array->null_count < -1 || array->null_count > array->length ? SEL_ARROW_LENGTH : SEL_DONE;
+static sel_status check_rows(const Array *array) {
+    if (array->length < 0 || array->offset < 0) return SEL_ERROR_ARROW_LENGTH;
+    if (array->length > MAX_ROWS || array->offset > MAX_ROWS - array->length) return SEL_ERROR_TOO_MANY_ROWS;
+    return array->null_count < -1 || array->null_count > array->length ? SEL_ERROR_ARROW_LENGTH : SEL_OK;
 }
 
-static uint32_t import_layout(level *l, enum layout layout, sel_column *out) {
+static sel_status import_layout(level *l, enum layout layout, sel_column *out) {
     const char *format = l->schema->format;
     switch (layout) {
     case NULLS: return sel_null_new(l->len, out);
@@ -373,28 +373,28 @@ static uint32_t import_layout(level *l, enum layout layout, sel_column *out) {
     }
 }
 
-static uint32_t import_node(const Array *array, const Schema *schema, unsigned depth, sel_column *out) {
+static sel_status import_node(const Array *array, const Schema *schema, unsigned depth, sel_column *out) {
     level l = {array, schema, 0, 0, NULL, 0, NULL, depth};
-    if (depth > DEEPEST) return SEL_ARROW_DEPTH;
-    if (!array->release || !schema->release) return SEL_ARROW_RELEASED;
-    if (array->dictionary || schema->dictionary) return SEL_ARROW_DICTIONARY;
+    if (depth > DEEPEST) return SEL_ERROR_ARROW_DEPTH;
+    if (!array->release || !schema->release) return SEL_ERROR_ARROW_RELEASED;
+    if (array->dictionary || schema->dictionary) return SEL_ERROR_ARROW_DICTIONARY;
     enum layout layout = schema->format ? layout_of(schema->format) : NO_LAYOUT;
-    if (layout == NO_LAYOUT) return SEL_ARROW_FORMAT;
-    uint32_t status = check_rows(array);
-    if (status != SEL_DONE) return status;
+    if (layout == NO_LAYOUT) return SEL_ERROR_ARROW_FORMAT;
+    sel_status status = check_rows(array);
+    if (status != SEL_OK) return status;
     l.len = (size_t)array->length;
     l.from = (size_t)array->offset;
-    if ((status = check_children(&l, layout)) != SEL_DONE || (status = check_buffers(&l, layout)) != SEL_DONE) return status;
+    if ((status = check_children(&l, layout)) != SEL_OK || (status = check_buffers(&l, layout)) != SEL_OK) return status;
     if (layout != NULLS) status = read_validity(&l);
-    if (status == SEL_DONE) status = import_layout(&l, layout, out);
+    if (status == SEL_OK) status = import_layout(&l, layout, out);
     free(l.bits);
     free(l.copy);
     return status;
 }
 
-uint32_t sel_import(struct ArrowArray *array, const struct ArrowSchema *schema, sel_column *out) {
-    uint32_t status = import_node(array, schema, 0, out);
-    if (status == SEL_DONE) array->release(array);
+sel_status sel_import(struct ArrowArray *array, const struct ArrowSchema *schema, sel_column *out) {
+    sel_status status = import_node(array, schema, 0, out);
+    if (status == SEL_OK) array->release(array);
     return status;
 }
 
@@ -428,7 +428,7 @@ static void release_schema(Schema *schema) {
 
 /* One level of a column that is exported: the two structures that are filled. Their releases free all that they hold. */
 typedef struct target {
-    sel_column *of;
+    const sel_column *of;
     Array *array;
     Schema *schema;
     size_t len;
@@ -450,13 +450,13 @@ static bool with_buffers(target *t, int64_t count) {
     return true;
 }
 
-static uint32_t export_validity(target *t) {
+static sel_status export_validity(target *t) {
     bool has = false;
     size_t bytes = bytes_of_bits(t->len);
     uint8_t *bits = buffer(t, 0, bytes, 1);
-    if (!bits) return SEL_NO_MEMORY;
-    uint32_t status = sel_validity(t->of, bits, bytes, &has);
-    if (status == SEL_DONE && !has) {
+    if (!bits) return SEL_ERROR_OUT_OF_MEMORY;
+    sel_status status = sel_validity(t->of, bits, bytes, &has);
+    if (status == SEL_OK && !has) {
         free(bits);
         t->array->buffers[0] = NULL;
     }
@@ -470,20 +470,20 @@ static bool is_seen(const target *t, size_t row) {
     return (!valid || bit_at(valid, row)) && (!t->shown || bit_at(t->shown, row));
 }
 
-static uint32_t export_bits(target *t) {
+static sel_status export_bits(target *t) {
     size_t bytes = bytes_of_bits(t->len);
     uint8_t *values = buffer(t, 1, bytes, 1);
-    return values ? sel_boolean_values(t->of, values, bytes) : SEL_NO_MEMORY;
+    return values ? sel_boolean_values(t->of, values, bytes) : SEL_ERROR_OUT_OF_MEMORY;
 }
 
-#define EXPORT_NUMBERS(type, read)                                                                                      \
-    do {                                                                                                                \
-        type *values = buffer(t, 1, t->len, sizeof(type));                                                              \
-        return values ? read(t->of, values, t->len) : SEL_NO_MEMORY;                                                    \
+#define EXPORT_NUMBERS(type, read)                                             \
+    do {                                                                       \
+        type *values = buffer(t, 1, t->len, sizeof(type));                     \
+        return values ? read(t->of, values, t->len) : SEL_ERROR_OUT_OF_MEMORY; \
     } while (0)
 
 /* Tests whether a signed 128-bit integer has at most 38 digits: its absolute value is below 10 to the 38th. */
-static bool has_38_digits(sel_wide number) {
+static bool has_38_digits(sel_int128 number) {
     bool negative = number.high >> 63;
     uint64_t high = negative ? ~number.high + (number.low == 0) : number.high;
     uint64_t low = negative ? ~number.low + 1 : number.low;
@@ -491,88 +491,89 @@ static bool has_38_digits(sel_wide number) {
     return high < most_high || (high == most_high && low < most_low);
 }
 
-static uint32_t export_wide(target *t) {
-    sel_wide *values = buffer(t, 1, t->len, sizeof *values);
-    if (!values) return SEL_NO_MEMORY;
-    uint32_t status = sel_int128_values(t->of, values, t->len);
-    for (size_t i = 0; status == SEL_DONE && i < t->len; i++) {
-        if (!is_seen(t, i)) values[i] = (sel_wide){0, 0};
-        else if (!has_38_digits(values[i])) status = SEL_ARROW_RANGE;
+static sel_status export_wide(target *t) {
+    sel_int128 *values = buffer(t, 1, t->len, sizeof *values);
+    if (!values) return SEL_ERROR_OUT_OF_MEMORY;
+    sel_status status = sel_int128_values(t->of, values, t->len);
+    for (size_t i = 0; status == SEL_OK && i < t->len; i++) {
+        if (!is_seen(t, i)) values[i] = (sel_int128){0, 0};
+        else if (!has_38_digits(values[i])) status = SEL_ERROR_ARROW_RANGE;
     }
     return status;
 }
 
-static uint32_t export_numbers(target *t, uint32_t kind) {
+static sel_status export_numbers(target *t, sel_type_id kind) {
     switch (kind) {
-    case SEL_BOOLEAN: return export_bits(t);
-    case SEL_INT8: EXPORT_NUMBERS(int8_t, sel_int8_values);
-    case SEL_INT16: EXPORT_NUMBERS(int16_t, sel_int16_values);
-    case SEL_INT32: EXPORT_NUMBERS(int32_t, sel_int32_values);
-    case SEL_INT64: EXPORT_NUMBERS(int64_t, sel_int64_values);
-    case SEL_UINT8: EXPORT_NUMBERS(uint8_t, sel_uint8_values);
-    case SEL_UINT16: EXPORT_NUMBERS(uint16_t, sel_uint16_values);
-    case SEL_UINT32: EXPORT_NUMBERS(uint32_t, sel_uint32_values);
-    case SEL_UINT64: EXPORT_NUMBERS(uint64_t, sel_uint64_values);
+    case SEL_TYPE_BOOLEAN: return export_bits(t);
+    case SEL_TYPE_INT8: EXPORT_NUMBERS(int8_t, sel_int8_values);
+    case SEL_TYPE_INT16: EXPORT_NUMBERS(int16_t, sel_int16_values);
+    case SEL_TYPE_INT32: EXPORT_NUMBERS(int32_t, sel_int32_values);
+    case SEL_TYPE_INT64: EXPORT_NUMBERS(int64_t, sel_int64_values);
+    case SEL_TYPE_UINT8: EXPORT_NUMBERS(uint8_t, sel_uint8_values);
+    case SEL_TYPE_UINT16: EXPORT_NUMBERS(uint16_t, sel_uint16_values);
+    case SEL_TYPE_UINT32: EXPORT_NUMBERS(uint32_t, sel_uint32_values);
+    case SEL_TYPE_UINT64: EXPORT_NUMBERS(uint64_t, sel_uint64_values);
     default: return export_wide(t);
     }
 }
 
-static uint32_t export_bytes(target *t) {
+static sel_status export_bytes(target *t) {
     size_t len = 0;
     int64_t *offsets = buffer(t, 1, t->len + 1, sizeof *offsets);
-    uint32_t status = offsets ? sel_offsets(t->of, offsets, t->len + 1) : SEL_NO_MEMORY;
-    if (status == SEL_DONE) status = sel_bytes_len(t->of, &len);
-    if (status != SEL_DONE) return status;
+    sel_status status = offsets ? sel_offsets(t->of, offsets, t->len + 1) : SEL_ERROR_OUT_OF_MEMORY;
+    if (status == SEL_OK) status = sel_bytes_len(t->of, &len);
+    if (status != SEL_OK) return status;
     uint8_t *bytes = buffer(t, 2, len, 1);
-    return bytes ? sel_bytes(t->of, bytes, len) : SEL_NO_MEMORY;
+    return bytes ? sel_bytes(t->of, bytes, len) : SEL_ERROR_OUT_OF_MEMORY;
 }
 
 /* Clears the bytes behind a short view's own, as the format requires, and the views that cannot be seen. */
-static uint32_t clean_views(const target *t, sel_view *views) {
+static sel_status clean_views(const target *t, sel_view *views) {
     for (size_t i = 0; i < t->len; i++) {
         uint8_t space[12];
         if (!is_seen(t, i)) memset(&views[i], 0, sizeof views[i]);
         if (views[i].length > 12) {
-            if (views[i].length > INT32_MAX || views[i].offset > INT32_MAX || views[i].buffer > INT32_MAX) return SEL_ARROW_RANGE;
+            if (views[i].length > INT32_MAX || views[i].offset > INT32_MAX || views[i].buffer > INT32_MAX) return SEL_ERROR_ARROW_RANGE;
             continue;
         }
         memcpy(space, &views[i].prefix, 12);
         memset(space + views[i].length, 0, 12 - views[i].length);
         memcpy(&views[i].prefix, space, 12);
     }
-    return SEL_DONE;
+    return SEL_OK;
 }
 
-static uint32_t export_views(target *t) {
+static sel_status export_views(target *t) {
     int64_t count = t->array->n_buffers - 3;
     sel_view *views = buffer(t, 1, t->len, sizeof *views);
     int64_t *lengths = buffer(t, count + 2, (size_t)count, sizeof *lengths);
-    uint32_t status = views && lengths ? sel_views(t->of, views, t->len) : SEL_NO_MEMORY;
-    for (int64_t i = 0; status == SEL_DONE && i < count; i++) {
+    sel_status status = views && lengths ? sel_views(t->of, views, t->len) : SEL_ERROR_OUT_OF_MEMORY;
+    for (int64_t i = 0; status == SEL_OK && i < count; i++) {
         size_t len = 0;
         status = sel_buffer_len(t->of, (size_t)i, &len);
-        uint8_t *bytes = status == SEL_DONE ? buffer(t, i + 2, len, 1) : NULL;
-        if (status == SEL_DONE) status = bytes ? sel_buffer(t->of, (size_t)i, bytes, len) : SEL_NO_MEMORY;
+        uint8_t *bytes = status == SEL_OK ? buffer(t, i + 2, len, 1) : NULL;
+        if (status == SEL_OK) status = bytes ? sel_buffer(t->of, (size_t)i, bytes, len) : SEL_ERROR_OUT_OF_MEMORY;
         lengths[i] = (int64_t)len;
     }
-    return status == SEL_DONE ? clean_views(t, views) : status;
+    return status == SEL_OK ? clean_views(t, views) : status;
 }
 
-static uint32_t export_node(sel_column *of, const uint8_t *shown, Array *array, Schema *schema);
+static sel_status export_node(const sel_column *of, const uint8_t *shown, Array *array, Schema *schema);
 
 /* Checks that every level has an Arrow format, and that there are not more levels than an import accepts. */
-static uint32_t check_formats(sel_column *of, unsigned depth) {
-    uint32_t kind = sel_kind(of), status = SEL_DONE;
+static sel_status check_formats(const sel_column *of, unsigned depth) {
+    sel_type_id kind = sel_type_of(of);
+    sel_status status = SEL_OK;
     size_t count = 1;
-    if (kind >= SEL_NO_KIND) return SEL_NO_COLUMN;
-    if (depth > DEEPEST) return SEL_ARROW_DEPTH;
-    if (!formats[kind]) return SEL_ARROW_FORMAT;
-    if (kind != SEL_LARGE_LIST && kind != SEL_FIXED_SIZE_LIST && kind != SEL_STRUCT) return SEL_DONE;
-    if (kind == SEL_STRUCT) status = sel_field_count(of, &count);
-    for (size_t i = 0; status == SEL_DONE && i < count; i++) {
+    if (kind >= SEL_TYPE_NONE) return SEL_ERROR_NO_COLUMN;
+    if (depth > DEEPEST) return SEL_ERROR_ARROW_DEPTH;
+    if (!formats[kind]) return SEL_ERROR_ARROW_FORMAT;
+    if (kind != SEL_TYPE_LIST && kind != SEL_TYPE_FIXED_SIZE_LIST && kind != SEL_TYPE_STRUCT) return SEL_OK;
+    if (kind == SEL_TYPE_STRUCT) status = sel_field_count(of, &count);
+    for (size_t i = 0; status == SEL_OK && i < count; i++) {
         sel_column child = {0};
-        status = kind == SEL_STRUCT ? sel_field(of, i, &child) : sel_child(of, &child);
-        if (status == SEL_DONE) status = check_formats(&child, depth + 1);
+        status = kind == SEL_TYPE_STRUCT ? sel_field(of, i, &child) : sel_child(of, &child);
+        if (status == SEL_OK) status = check_formats(&child, depth + 1);
         sel_free(&child);
     }
     return status;
@@ -585,26 +586,26 @@ static void set_bits(uint8_t *bits, size_t from, size_t to) {
 }
 
 /* Tests whether an export looks at the values of a kind, or of its children. */
-static bool looks_at_values(uint32_t kind) {
-    return kind == SEL_INT128 || kind == SEL_BINARY_VIEW || kind == SEL_UTF8_VIEW || kind == SEL_LARGE_LIST
-        || kind == SEL_FIXED_SIZE_LIST || kind == SEL_STRUCT;
+static bool looks_at_values(sel_type_id kind) {
+    return kind == SEL_TYPE_INT128 || kind == SEL_TYPE_BINARY_VIEW || kind == SEL_TYPE_STRING_VIEW || kind == SEL_TYPE_LIST
+        || kind == SEL_TYPE_FIXED_SIZE_LIST || kind == SEL_TYPE_STRUCT;
 }
 
 /* Finds which rows of a child with `len` rows can be seen: those of the level's rows that can. Row `i` has the child's
  * rows from offsets[i] to offsets[i + 1], or `width` rows each without offsets. `out` is NULL if all can be seen, or if no
  * value of the child is looked at; else the caller frees it. */
-static uint32_t find_shown(const target *t, sel_column *child, const int64_t *offsets, size_t width, size_t len, uint8_t **out) {
+static sel_status find_shown(const target *t, const sel_column *child, const int64_t *offsets, size_t width, size_t len, uint8_t **out) {
     *out = NULL;
-    if ((!t->array->buffers[0] && !t->shown) || !looks_at_values(sel_kind(child))) return SEL_DONE;
+    if ((!t->array->buffers[0] && !t->shown) || !looks_at_values(sel_type_of(child))) return SEL_OK;
     uint8_t *bits = calloc(bytes_of_bits(len) + 1, 1);
-    if (!bits) return SEL_NO_MEMORY;
+    if (!bits) return SEL_ERROR_OUT_OF_MEMORY;
     for (size_t i = 0; i < t->len; i++) {
         if (!is_seen(t, i)) continue;
         if (offsets) set_bits(bits, (size_t)offsets[i], (size_t)offsets[i + 1]);
         else set_bits(bits, i * width, (i + 1) * width);
     }
     *out = bits;
-    return SEL_DONE;
+    return SEL_OK;
 }
 
 static bool with_children(target *t, size_t count) {
@@ -616,32 +617,32 @@ static bool with_children(target *t, size_t count) {
 }
 
 /* Exports child `i` under a name, and frees the child. Offsets or the width say which of its rows are whose. */
-static uint32_t export_child(target *t, size_t i, const char *name, const int64_t *offsets, size_t width, sel_column *child) {
+static sel_status export_child(target *t, size_t i, const char *name, const int64_t *offsets, size_t width, sel_column *child) {
     Array *array = calloc(1, sizeof *array);
     Schema *schema = calloc(1, sizeof *schema);
     uint8_t *shown = NULL;
     t->array->children[i] = array;
     t->schema->children[i] = schema;
-    uint32_t status = array && schema ? find_shown(t, child, offsets, width, sel_len(child), &shown) : SEL_NO_MEMORY;
-    if (status == SEL_DONE) status = export_node(child, shown, array, schema);
-    if (status == SEL_DONE) schema->name = name;
+    sel_status status = array && schema ? find_shown(t, child, offsets, width, sel_len(child), &shown) : SEL_ERROR_OUT_OF_MEMORY;
+    if (status == SEL_OK) status = export_node(child, shown, array, schema);
+    if (status == SEL_OK) schema->name = name;
     free(shown);
     sel_free(child);
     return status;
 }
 
-static uint32_t export_list(target *t) {
+static sel_status export_list(target *t) {
     sel_column child = {0}, part = {0};
     int64_t *offsets = buffer(t, 1, t->len + 1, sizeof *offsets);
-    uint32_t status = offsets && with_children(t, 1) ? sel_offsets(t->of, offsets, t->len + 1) : SEL_NO_MEMORY;
-    if (status == SEL_DONE) status = sel_child(t->of, &child);
-    if (status == SEL_DONE) {
+    sel_status status = offsets && with_children(t, 1) ? sel_offsets(t->of, offsets, t->len + 1) : SEL_ERROR_OUT_OF_MEMORY;
+    if (status == SEL_OK) status = sel_child(t->of, &child);
+    if (status == SEL_OK) {
         int64_t first = offsets[0];
-        status = sel_sliced(&child, (size_t)first, (size_t)(offsets[t->len] - first), &part);
+        status = sel_slice(&child, (size_t)first, (size_t)(offsets[t->len] - first), &part);
         for (size_t i = 0; i <= t->len; i++) offsets[i] -= first;
     }
     sel_free(&child);
-    return status == SEL_DONE ? export_child(t, 0, "item", offsets, 0, &part) : status;
+    return status == SEL_OK ? export_child(t, 0, "item", offsets, 0, &part) : status;
 }
 
 /* Returns the digits of a number behind `before`, which live as long as the schema. */
@@ -652,48 +653,51 @@ static char *numbered(Schema *schema, size_t room, const char *before, size_t nu
     return text;
 }
 
-static uint32_t export_fixed_list(target *t) {
+static sel_status export_fixed_list(target *t) {
     size_t width = 0;
     sel_column child = {0};
-    uint32_t status = sel_width(t->of, &width);
-    if (status == SEL_DONE && (!with_children(t, 1) || !(t->schema->format = numbered(t->schema, 0, "+w:", width)))) status = SEL_NO_MEMORY;
-    if (status == SEL_DONE) status = sel_child(t->of, &child);
-    return status == SEL_DONE ? export_child(t, 0, "item", NULL, width, &child) : status;
+    sel_status status = sel_fixed_size_list_size(t->of, &width);
+    if (status != SEL_OK) return status;
+    t->schema->format = numbered(t->schema, 0, "+w:", width);
+    if (!t->schema->format || !with_children(t, 1)) return SEL_ERROR_OUT_OF_MEMORY;
+    status = sel_child(t->of, &child);
+    return status == SEL_OK ? export_child(t, 0, "item", NULL, width, &child) : status;
 }
 
-static uint32_t export_struct(target *t) {
+static sel_status export_struct(target *t) {
     size_t count = 0;
-    uint32_t status = sel_field_count(t->of, &count);
-    if (status != SEL_DONE) return status;
+    sel_status status = sel_field_count(t->of, &count);
+    if (status != SEL_OK) return status;
     t->schema->private_data = malloc((count + 1) * 24);
-    if (!t->schema->private_data || !with_children(t, count)) return SEL_NO_MEMORY;
-    for (size_t i = 0; status == SEL_DONE && i < count; i++) {
+    if (!t->schema->private_data || !with_children(t, count)) return SEL_ERROR_OUT_OF_MEMORY;
+    for (size_t i = 0; status == SEL_OK && i < count; i++) {
         sel_column field = {0};
         status = sel_field(t->of, i, &field);
-        if (status == SEL_DONE) status = export_child(t, i, numbered(t->schema, i, "", i), NULL, 1, &field);
+        if (status == SEL_OK) status = export_child(t, i, numbered(t->schema, i, "", i), NULL, 1, &field);
     }
     return status;
 }
 
-static uint32_t export_level(target *t, uint32_t kind) {
+static sel_status export_level(target *t, sel_type_id kind) {
     size_t count = 0;
-    uint32_t status = SEL_DONE;
-    bool is_view = kind == SEL_BINARY_VIEW || kind == SEL_UTF8_VIEW;
-    if (is_view && (status = sel_buffer_count(t->of, &count)) != SEL_DONE) return status;
-    int64_t buffers = is_view ? (int64_t)count + 3 : kind == SEL_LARGE_BINARY ? 3 : kind == SEL_NULL ? 0 : kind == SEL_FIXED_SIZE_LIST || kind == SEL_STRUCT ? 1 : 2;
-    if (!with_buffers(t, buffers)) return SEL_NO_MEMORY;
-    if (kind == SEL_NULL) return SEL_DONE;
-    if ((status = export_validity(t)) != SEL_DONE) return status;
+    sel_status status = SEL_OK;
+    bool is_view = kind == SEL_TYPE_BINARY_VIEW || kind == SEL_TYPE_STRING_VIEW;
+    if (is_view && (status = sel_buffer_count(t->of, &count)) != SEL_OK) return status;
+    bool has_only_validity = kind == SEL_TYPE_FIXED_SIZE_LIST || kind == SEL_TYPE_STRUCT;
+    int64_t buffers = is_view ? (int64_t)count + 3 : kind == SEL_TYPE_BINARY ? 3 : kind == SEL_TYPE_NULL ? 0 : has_only_validity ? 1 : 2;
+    if (!with_buffers(t, buffers)) return SEL_ERROR_OUT_OF_MEMORY;
+    if (kind == SEL_TYPE_NULL) return SEL_OK;
+    if ((status = export_validity(t)) != SEL_OK) return status;
     if (is_view) return export_views(t);
-    if (kind == SEL_LARGE_BINARY) return export_bytes(t);
-    if (kind == SEL_LARGE_LIST) return export_list(t);
-    if (kind == SEL_FIXED_SIZE_LIST) return export_fixed_list(t);
-    return kind == SEL_STRUCT ? export_struct(t) : export_numbers(t, kind);
+    if (kind == SEL_TYPE_BINARY) return export_bytes(t);
+    if (kind == SEL_TYPE_LIST) return export_list(t);
+    if (kind == SEL_TYPE_FIXED_SIZE_LIST) return export_fixed_list(t);
+    return kind == SEL_TYPE_STRUCT ? export_struct(t) : export_numbers(t, kind);
 }
 
-static uint32_t export_node(sel_column *of, const uint8_t *shown, Array *array, Schema *schema) {
+static sel_status export_node(const sel_column *of, const uint8_t *shown, Array *array, Schema *schema) {
     target t = {of, array, schema, sel_len(of), shown};
-    uint32_t kind = sel_kind(of);
+    sel_type_id kind = sel_type_of(of);
     memset(array, 0, sizeof *array);
     memset(schema, 0, sizeof *schema);
     array->length = (int64_t)t.len;
@@ -706,65 +710,13 @@ static uint32_t export_node(sel_column *of, const uint8_t *shown, Array *array, 
     return export_level(&t, kind);
 }
 
-uint32_t sel_export(sel_column *of, struct ArrowArray *array, struct ArrowSchema *schema) {
+sel_status sel_export(const sel_column *of, struct ArrowArray *array, struct ArrowSchema *schema) {
     memset(array, 0, sizeof *array);
     memset(schema, 0, sizeof *schema);
-    uint32_t status = check_formats(of, 0);
-    if (status == SEL_DONE) status = export_node(of, NULL, array, schema);
-    if (status == SEL_DONE) return status;
+    sel_status status = check_formats(of, 0);
+    if (status == SEL_OK) status = export_node(of, NULL, array, schema);
+    if (status == SEL_OK) return status;
     if (array->release) array->release(array);
     if (schema->release) schema->release(schema);
     return status;
-}
-
-const char *sel_status_text(uint32_t status) {
-    static const struct { uint32_t status; const char *text; } texts[] = {
-        {SEL_DONE, "done"},
-        {SEL_NO_MEMORY, "out of memory"},
-        {SEL_NO_COLUMN, "a handle has no column"},
-        {SEL_OTHER_KIND, "wrong column type for this call"},
-        {SEL_OTHER_TYPE, "column types do not match"},
-        {SEL_OTHER_LENGTH, "lengths do not match"},
-        {SEL_OUT_OF_BOUNDS, "index out of bounds"},
-        {SEL_GET_OUT_OF_BOUNDS, "get index is out of bounds"},
-        {SEL_LIMIT_ROWS, "size limit exceeded: rows"},
-        {SEL_LIMIT_BYTES, "size limit exceeded: bytes"},
-        {SEL_LIMIT_BUFFERS, "size limit exceeded: data buffers"},
-        {SEL_LIMIT_VIEW_BYTES, "size limit exceeded: bytes of a view"},
-        {SEL_OFFSET_COUNT, "no offsets"},
-        {SEL_OFFSET_NEGATIVE, "negative offset"},
-        {SEL_OFFSET_ORDER, "offsets decrease"},
-        {SEL_TOO_MANY_ROWS, "too many rows"},
-        {SEL_TOO_MANY_BUFFERS, "too many data buffers"},
-        {SEL_WIDTH, "list size exceeds its limit"},
-        {SEL_OFFSET_RANGE, "the last offset exceeds the length of the values"},
-        {SEL_CHILD_LENGTH, "the length of the child is not the number of rows times the list size"},
-        {SEL_FIELD_LENGTH, "the length of a field is not that of its struct"},
-        {SEL_VALIDITY_LENGTH, "the validity is too short"},
-        {SEL_VIEW_RANGE, "a view refers to bytes outside of its data buffer"},
-        {SEL_VIEW_PREFIX, "the prefix of a view differs from its bytes"},
-        {SEL_UTF8, "a string is not valid UTF-8"},
-        {SEL_TYPE_SYNTAX, "syntax error in the type"},
-        {SEL_TEXT_SYNTAX, "syntax error in the row text"},
-        {SEL_TEXT_MISFIT, "a value in the row text does not fit the type"},
-        {SEL_TEXT_LIMIT, "the parsed type or column exceeds a limit"},
-        {SEL_ARROW_RELEASED, "the Arrow array or schema is released"},
-        {SEL_ARROW_FORMAT, "unsupported Arrow format"},
-        {SEL_ARROW_BUFFERS, "wrong number of Arrow buffers, or a missing one"},
-        {SEL_ARROW_CHILDREN, "wrong number of Arrow children, or a missing one"},
-        {SEL_ARROW_LENGTH, "an Arrow length, offset or null count is out of range, or a child is too short"},
-        {SEL_ARROW_DICTIONARY, "dictionary-encoded Arrow arrays are not supported"},
-        {SEL_ARROW_DEPTH, "more than 256 levels of nesting"},
-        {SEL_ARROW_RANGE, "a value or offset that the Arrow format cannot represent"},
-    };
-    for (size_t i = 0; i < sizeof texts / sizeof *texts; i++)
-        if (texts[i].status == status) return texts[i].text;
-    return "unknown status";
-}
-
-size_t sel_arrow_text(uint32_t status, uint8_t *out, size_t out_len) {
-    const char *text = sel_status_text(status);
-    size_t len = strlen(text);
-    memcpy(out, text, len < out_len ? len : out_len);
-    return len;
 }

@@ -85,9 +85,9 @@ static void imports(specimen *it, uint32_t wanted, const char *what, int64_t val
     cases++;
     uint32_t status = sel_import(&it->array, &it->schema, &out);
     bool holds = wanted == ANY || status == wanted;
-    if (status == SEL_DONE) {
+    if (status == SEL_OK) {
         holds = holds && releases == 1 && !it->array.release;
-        holds = holds && out.at && sel_print(&out, shown, sizeof shown, &len) == SEL_DONE && len >= 2;
+        holds = holds && out.at && sel_print(&out, shown, sizeof shown, &len) == SEL_OK && len >= 2;
     } else {
         holds = holds && releases == 0 && it->array.release == release && !memcmp(&out, &before, sizeof out);
     }
@@ -112,7 +112,7 @@ static void rows_at_extremes(specimen *it, const format *of, bool below) {
     for (int i = 0; i < EXTREMES; i++) {
         int64_t value = extremes[i];
         Array *array = below ? &it->child[0] : &it->array;
-        uint32_t range = value < 0 ? SEL_ARROW_LENGTH : SEL_TOO_MANY_ROWS;
+        uint32_t range = value < 0 ? SEL_ERROR_ARROW_LENGTH : SEL_ERROR_TOO_MANY_ROWS;
         make(it, of);
         array->length = value;
         imports(it, range, below ? "child length" : "length", value);
@@ -124,12 +124,12 @@ static void rows_at_extremes(specimen *it, const format *of, bool below) {
         imports(it, range, below ? "child length and offset" : "length and offset", value);
         make(it, of);
         array->null_count = value;
-        imports(it, value == -1 ? SEL_DONE : SEL_ARROW_LENGTH, below ? "child null_count" : "null_count", value);
+        imports(it, value == -1 ? SEL_OK : SEL_ERROR_ARROW_LENGTH, below ? "child null_count" : "null_count", value);
     }
     Array *array = below ? &it->child[0] : &it->array;
     make(it, of);
     array->offset = (int64_t)UINT32_MAX + 1 - array->length;
-    imports(it, SEL_TOO_MANY_ROWS, below ? "child offset" : "offset", array->offset);
+    imports(it, SEL_ERROR_TOO_MANY_ROWS, below ? "child offset" : "offset", array->offset);
 }
 
 static void counts_at_extremes(specimen *it, const format *of) {
@@ -137,29 +137,29 @@ static void counts_at_extremes(specimen *it, const format *of) {
         int64_t value = extremes[i];
         make(it, of);
         it->array.n_buffers = value;
-        imports(it, of->buffers == 0 ? SEL_DONE : SEL_ARROW_BUFFERS, "n_buffers", value);
+        imports(it, of->buffers == 0 ? SEL_OK : SEL_ERROR_ARROW_BUFFERS, "n_buffers", value);
         make(it, of);
         it->array.n_children = value;
-        imports(it, SEL_ARROW_CHILDREN, "n_children", value);
+        imports(it, SEL_ERROR_ARROW_CHILDREN, "n_children", value);
         make(it, of);
         it->schema.n_children = value;
-        imports(it, SEL_ARROW_CHILDREN, "n_children of the schema", value);
+        imports(it, SEL_ERROR_ARROW_CHILDREN, "n_children of the schema", value);
         make(it, of);
         it->array.n_children = it->schema.n_children = value;
-        imports(it, SEL_ARROW_CHILDREN, "n_children of both", value);
+        imports(it, SEL_ERROR_ARROW_CHILDREN, "n_children of both", value);
         make(it, of);
         it->schema.flags = value;
-        imports(it, SEL_DONE, "flags", value);
+        imports(it, SEL_OK, "flags", value);
     }
     for (int64_t count = 0; count < POINTERS; count++) {
         make(it, of);
         it->array.n_buffers = count;
         bool fits = of->buffers == 0 || count == of->buffers;
-        imports(it, fits ? SEL_DONE : SEL_ARROW_BUFFERS, "n_buffers", count);
+        imports(it, fits ? SEL_OK : SEL_ERROR_ARROW_BUFFERS, "n_buffers", count);
         make(it, of);
         it->array.n_children = it->schema.n_children = count;
         fits = count == of->children || (is_struct(of) && count <= 2);
-        imports(it, fits ? SEL_DONE : SEL_ARROW_CHILDREN, "n_children of both", count);
+        imports(it, fits ? SEL_OK : SEL_ERROR_ARROW_CHILDREN, "n_children of both", count);
     }
 }
 
@@ -169,80 +169,80 @@ static void lengths_that_fit(specimen *it, const format *of) {
         make(it, of);
         it->array.length = length;
         it->array.offset = ROWS - length;
-        imports(it, SEL_DONE, "length and offset that fit", length);
+        imports(it, SEL_OK, "length and offset that fit", length);
         make(it, of);
         it->array.null_count = length; /* of the three rows one is null */
-        imports(it, length <= 1 || of->buffers == 0 ? SEL_DONE : SEL_ARROW_LENGTH, "null_count", length);
+        imports(it, length <= 1 || of->buffers == 0 ? SEL_OK : SEL_ERROR_ARROW_LENGTH, "null_count", length);
     }
     make(it, of);
     it->array.null_count = ROWS + 1;
-    imports(it, SEL_ARROW_LENGTH, "null_count", ROWS + 1);
+    imports(it, SEL_ERROR_ARROW_LENGTH, "null_count", ROWS + 1);
     make(it, of);
     it->array.length = 0;
     memset(it->buffers, 0, sizeof it->buffers);
-    imports(it, SEL_DONE, "no rows and no buffer", 0);
+    imports(it, SEL_OK, "no rows and no buffer", 0);
 }
 
 static void missing_pointers(specimen *it, const format *of) {
     bool has_child = of->children > 0, has_second = of->buffers > 1;
     make(it, of);
     it->array.buffers = NULL;
-    imports(it, of->buffers == 0 ? SEL_DONE : SEL_ARROW_BUFFERS, "no buffers", 0);
+    imports(it, of->buffers == 0 ? SEL_OK : SEL_ERROR_ARROW_BUFFERS, "no buffers", 0);
     make(it, of);
     it->buffers[1] = NULL;
-    imports(it, has_second ? SEL_ARROW_BUFFERS : SEL_DONE, "no second buffer", 0);
+    imports(it, has_second ? SEL_ERROR_ARROW_BUFFERS : SEL_OK, "no second buffer", 0);
     make(it, of);
     it->buffers[2] = NULL;
-    imports(it, of->third ? SEL_ARROW_BUFFERS : SEL_DONE, "no third buffer", 0);
+    imports(it, of->third ? SEL_ERROR_ARROW_BUFFERS : SEL_OK, "no third buffer", 0);
     make(it, of);
     it->array.children = NULL;
-    imports(it, has_child ? SEL_ARROW_CHILDREN : SEL_DONE, "no children", 0);
+    imports(it, has_child ? SEL_ERROR_ARROW_CHILDREN : SEL_OK, "no children", 0);
     make(it, of);
     it->schema.children = NULL;
-    imports(it, has_child ? SEL_ARROW_CHILDREN : SEL_DONE, "no children of the schema", 0);
+    imports(it, has_child ? SEL_ERROR_ARROW_CHILDREN : SEL_OK, "no children of the schema", 0);
     make(it, of);
     it->children[0] = NULL;
-    imports(it, has_child ? SEL_ARROW_CHILDREN : SEL_DONE, "no first child", 0);
+    imports(it, has_child ? SEL_ERROR_ARROW_CHILDREN : SEL_OK, "no first child", 0);
     make(it, of);
     it->child_schemas[0] = NULL;
-    imports(it, has_child ? SEL_ARROW_CHILDREN : SEL_DONE, "no first child of the schema", 0);
+    imports(it, has_child ? SEL_ERROR_ARROW_CHILDREN : SEL_OK, "no first child of the schema", 0);
     make(it, of);
     it->array.dictionary = &it->child[0];
-    imports(it, SEL_ARROW_DICTIONARY, "a dictionary", 0);
+    imports(it, SEL_ERROR_ARROW_DICTIONARY, "a dictionary", 0);
     make(it, of);
     it->schema.dictionary = &it->child_schema[0];
-    imports(it, SEL_ARROW_DICTIONARY, "a dictionary of the schema", 0);
+    imports(it, SEL_ERROR_ARROW_DICTIONARY, "a dictionary of the schema", 0);
     make(it, of);
     it->schema.format = NULL;
-    imports(it, SEL_ARROW_FORMAT, "no format", 0);
+    imports(it, SEL_ERROR_ARROW_FORMAT, "no format", 0);
     make(it, of);
     it->schema.release = NULL;
-    imports(it, SEL_ARROW_RELEASED, "a released schema", 0);
+    imports(it, SEL_ERROR_ARROW_RELEASED, "a released schema", 0);
     make(it, of);
     it->array.release = NULL;
-    imports(it, SEL_ARROW_RELEASED, "a released array", 0);
+    imports(it, SEL_ERROR_ARROW_RELEASED, "a released array", 0);
     make(it, of);
     it->child[0].release = NULL;
-    imports(it, has_child ? SEL_ARROW_RELEASED : SEL_DONE, "a released child", 0);
+    imports(it, has_child ? SEL_ERROR_ARROW_RELEASED : SEL_OK, "a released child", 0);
 }
 
 /* The status of offsets that rise past every buffer: they are past the child, a string is too long for a view, or the
  * bytes do not fit in memory. */
 static uint32_t status_of_huge(const format *of) {
-    if (of->children > 0) return SEL_OFFSET_RANGE;
-    return of->text[0] == 'U' ? SEL_ARROW_RANGE : SEL_NO_MEMORY;
+    if (of->children > 0) return SEL_ERROR_OFFSET_RANGE;
+    return of->text[0] == 'U' ? SEL_ERROR_ARROW_RANGE : SEL_ERROR_OUT_OF_MEMORY;
 }
 
 /* Offsets at their extremes. */
 static void offsets_at_extremes(specimen *it, const format *of) {
     static const struct { int64_t offsets[ROWS + 1]; uint32_t status; bool fits_narrow; } given[] = {
-        {{-1, 0, 1, 3}, SEL_OFFSET_NEGATIVE, true}, {{INT32_MIN, 0, 0, 0}, SEL_OFFSET_NEGATIVE, true},
-        {{INT64_MIN, 0, 0, 0}, SEL_OFFSET_NEGATIVE, false}, {{INT64_MIN, INT64_MAX, 0, 0}, SEL_OFFSET_NEGATIVE, false},
-        {{0, 2, 1, 3}, SEL_OFFSET_ORDER, true}, {{0, 0, 0, -1}, SEL_OFFSET_ORDER, true},
-        {{0, INT32_MAX, 0, 0}, SEL_OFFSET_ORDER, true}, {{INT32_MAX, 0, INT32_MAX, 0}, SEL_OFFSET_ORDER, true},
-        {{0, INT64_MAX, INT64_MIN, 0}, SEL_OFFSET_ORDER, false}, {{INT64_MAX, 0, 0, 0}, SEL_OFFSET_ORDER, false},
-        {{INT32_MAX, INT32_MAX, INT32_MAX, INT32_MAX}, SEL_DONE, true},
-        {{INT64_MAX, INT64_MAX, INT64_MAX, INT64_MAX}, SEL_DONE, false},
+        {{-1, 0, 1, 3}, SEL_ERROR_NEGATIVE_OFFSET, true}, {{INT32_MIN, 0, 0, 0}, SEL_ERROR_NEGATIVE_OFFSET, true},
+        {{INT64_MIN, 0, 0, 0}, SEL_ERROR_NEGATIVE_OFFSET, false}, {{INT64_MIN, INT64_MAX, 0, 0}, SEL_ERROR_NEGATIVE_OFFSET, false},
+        {{0, 2, 1, 3}, SEL_ERROR_DECREASING_OFFSET, true}, {{0, 0, 0, -1}, SEL_ERROR_DECREASING_OFFSET, true},
+        {{0, INT32_MAX, 0, 0}, SEL_ERROR_DECREASING_OFFSET, true}, {{INT32_MAX, 0, INT32_MAX, 0}, SEL_ERROR_DECREASING_OFFSET, true},
+        {{0, INT64_MAX, INT64_MIN, 0}, SEL_ERROR_DECREASING_OFFSET, false}, {{INT64_MAX, 0, 0, 0}, SEL_ERROR_DECREASING_OFFSET, false},
+        {{INT32_MAX, INT32_MAX, INT32_MAX, INT32_MAX}, SEL_OK, true},
+        {{INT64_MAX, INT64_MAX, INT64_MAX, INT64_MAX}, SEL_OK, false},
         {{0, INT64_MAX, INT64_MAX, INT64_MAX}, HUGE, false}, {{0, 0, 0, INT64_MAX}, HUGE, false},
     };
     for (size_t i = 0; i < sizeof given / sizeof *given; i++) {
@@ -253,7 +253,7 @@ static void offsets_at_extremes(specimen *it, const format *of) {
         make(it, of);
         it->buffers[1] = is_narrow ? (const void *)small : given[i].offsets;
         uint32_t status = given[i].status == HUGE ? status_of_huge(of) : given[i].status;
-        if (status == SEL_DONE && of->children > 0) status = SEL_OFFSET_RANGE; /* the child has six rows */
+        if (status == SEL_OK && of->children > 0) status = SEL_ERROR_OFFSET_RANGE; /* the child has six rows */
         imports(it, status, "offsets of number", (int64_t)i);
     }
 }
@@ -276,7 +276,7 @@ static void views_at_extremes(specimen *it, const format *of) {
             it->buffers[1] = rows;
             it->buffers[2] = "abcd";
             it->buffers[3] = unaligned + 1;
-            uint32_t status = lengths[k] < 0 ? SEL_ARROW_LENGTH : lengths[k] > 4 ? ANY : SEL_VIEW_RANGE;
+            uint32_t status = lengths[k] < 0 ? SEL_ERROR_ARROW_LENGTH : lengths[k] > 4 ? ANY : SEL_ERROR_VIEW_RANGE;
             imports(it, status, "a view beside a length", lengths[k]);
         }
     }
@@ -293,22 +293,22 @@ static void formats_that_are_none(specimen *it) {
     for (size_t i = 0; i < sizeof given / sizeof *given; i++) {
         make(it, &formats[1]);
         it->schema.format = given[i];
-        imports(it, SEL_ARROW_FORMAT, given[i], 0);
+        imports(it, SEL_ERROR_ARROW_FORMAT, given[i], 0);
     }
     for (size_t i = 0; i < sizeof precisions / sizeof *precisions; i++) {
         make(it, &formats[10]);
         it->schema.format = precisions[i];
-        imports(it, SEL_DONE, precisions[i], 0);
+        imports(it, SEL_OK, precisions[i], 0);
     }
     static const char *const widths[] = {"+w:4294967296", "+w:18446744073709551615", "+w:18446744073709551616", "+w:99999999999999999999999"};
     for (size_t i = 0; i < sizeof widths / sizeof *widths; i++) {
         make(it, &formats[FORMATS - 2]);
         it->schema.format = widths[i];
-        imports(it, SEL_WIDTH, widths[i], 0);
+        imports(it, SEL_ERROR_LIST_SIZE, widths[i], 0);
     }
     make(it, &formats[FORMATS - 2]);
     it->schema.format = "+w:4294967295";
-    imports(it, SEL_ARROW_LENGTH, "+w:4294967295", 0);
+    imports(it, SEL_ERROR_ARROW_LENGTH, "+w:4294967295", 0);
 }
 
 /* Several fields at once, by a generator of pseudorandom numbers with a fixed seed. */

@@ -73,9 +73,9 @@ bool was_refused(void) {
     return was;
 }
 
-bool gives(uint32_t status, uint32_t wanted) { return status == (was_refused() ? (uint32_t)SEL_NO_MEMORY : wanted); }
+bool gives(sel_status status, sel_status wanted) { return status == (was_refused() ? SEL_ERROR_OUT_OF_MEMORY : wanted); }
 
-bool done(uint32_t status) { return gives(status, SEL_DONE); }
+bool done(sel_status status) { return gives(status, SEL_OK); }
 
 const uint8_t no_bits[1] = {0};
 
@@ -83,15 +83,15 @@ const uint8_t no_bits[1] = {0};
 
 static void test_nulls(void) {
     sel_column column = {0};
-    IS(sel_len(&column) == 0 && sel_null_count(&column) == 0 && sel_kind(&column) == SEL_NO_KIND);
-    IS(sel_null_new((size_t)4294967296, &column) == SEL_TOO_MANY_ROWS);
+    IS(sel_len(&column) == 0 && sel_null_count(&column) == 0 && sel_type_of(&column) == SEL_TYPE_NONE);
+    IS(sel_null_new((size_t)4294967296, &column) == SEL_ERROR_TOO_MANY_ROWS);
     IS(column.at == NULL);
     DONE(sel_null_new(3, &column));
     if (column.at != NULL) {
         uint8_t bits[1] = {9};
         bool has = true;
-        IS(sel_len(&column) == 3 && sel_null_count(&column) == 3 && sel_kind(&column) == SEL_NULL);
-        IS(sel_validity(&column, bits, 1, &has) == SEL_DONE && !has && bits[0] == 9);
+        IS(sel_len(&column) == 3 && sel_null_count(&column) == 3 && sel_type_of(&column) == SEL_TYPE_NULL);
+        IS(sel_validity(&column, bits, 1, &has) == SEL_OK && !has && bits[0] == 9);
     }
     sel_free(&column);
     IS(column.at == NULL);
@@ -104,111 +104,111 @@ static void test_booleans(void) {
     uint8_t read[2] = {0, 0};
     bool has = false;
     sel_column column = {0};
-    IS(sel_boolean_values(&column, read, 2) == SEL_NO_COLUMN);
-    IS(sel_validity(&column, read, 2, &has) == SEL_NO_COLUMN);
-    IS(sel_boolean_new(values, 1, 9, bits, 2, true, &column) == SEL_OTHER_LENGTH);
-    IS(gives(sel_boolean_new(values, 2, 9, bits, 1, true, &column), SEL_VALIDITY_LENGTH));
+    IS(sel_boolean_values(&column, read, 2) == SEL_ERROR_NO_COLUMN);
+    IS(sel_validity(&column, read, 2, &has) == SEL_ERROR_NO_COLUMN);
+    IS(sel_boolean_new(values, 1, 9, bits, 2, true, &column) == SEL_ERROR_LENGTH_MISMATCH);
+    IS(gives(sel_boolean_new(values, 2, 9, bits, 1, true, &column), SEL_ERROR_VALIDITY_LENGTH));
     DONE(sel_boolean_new(values, 2, 9, bits, 2, true, &column));
     if (column.at != NULL) {
-        IS(sel_len(&column) == 9 && sel_null_count(&column) == 1 && sel_kind(&column) == SEL_BOOLEAN);
-        IS(sel_boolean_values(&column, read, 1) == SEL_OTHER_LENGTH);
-        IS(sel_boolean_values(&column, read, 2) == SEL_DONE && read[0] == 0xA5 && (read[1] & 1) == 1);
-        IS(sel_validity(&column, read, 1, &has) == SEL_OTHER_LENGTH);
-        IS(sel_validity(&column, read, 2, &has) == SEL_DONE && has && read[0] == 0xFE && (read[1] & 1) == 1);
+        IS(sel_len(&column) == 9 && sel_null_count(&column) == 1 && sel_type_of(&column) == SEL_TYPE_BOOLEAN);
+        IS(sel_boolean_values(&column, read, 1) == SEL_ERROR_LENGTH_MISMATCH);
+        IS(sel_boolean_values(&column, read, 2) == SEL_OK && read[0] == 0xA5 && (read[1] & 1) == 1);
+        IS(sel_validity(&column, read, 1, &has) == SEL_ERROR_LENGTH_MISMATCH);
+        IS(sel_validity(&column, read, 2, &has) == SEL_OK && has && read[0] == 0xFE && (read[1] & 1) == 1);
         int8_t numbers[9];
-        IS(sel_int8_values(&column, numbers, 9) == SEL_OTHER_KIND);
+        IS(sel_int8_values(&column, numbers, 9) == SEL_ERROR_UNSUPPORTED_TYPE);
     }
     /* a slice begins within a byte */
     sel_column part = {0};
-    if (column.at != NULL && done(sel_sliced(&column, 2, 5, &part)) && part.at != NULL) {
-        uint32_t status = sel_boolean_values(&part, read, 1);
+    if (column.at != NULL && done(sel_slice(&column, 2, 5, &part)) && part.at != NULL) {
+        sel_status status = sel_boolean_values(&part, read, 1);
         IS(done(status));
-        IS(status != SEL_DONE || (read[0] & 31) == 9);
+        IS(status != SEL_OK || (read[0] & 31) == 9);
     }
     sel_free(&part);
     sel_free(&column);
 }
 
-#define NUMBERS(name, type, kind)                                                                       \
-    static void test_##name(void) {                                                                     \
-        const type values[3] = {1, (type)-2, 3};                                                        \
-        const uint8_t bits[1] = {5};                                                                    \
-        type read[3] = {0, 0, 0};                                                                       \
-        uint8_t flags[1] = {0};                                                                         \
-        bool has = false;                                                                               \
-        sel_column column = {0};                                                                        \
-        IS(sel_##name##_values(&column, read, 3) == SEL_NO_COLUMN);                                     \
-        IS(gives(sel_##name##_new(values, 3, no_bits, 0, true, &column), SEL_VALIDITY_LENGTH));   \
-        DONE(sel_##name##_new(values, 3, bits, 1, true, &column));                                      \
-        if (column.at != NULL) {                                                                        \
-            IS(sel_kind(&column) == kind && sel_len(&column) == 3 && sel_null_count(&column) == 1);     \
-            IS(sel_##name##_values(&column, read, 2) == SEL_OTHER_LENGTH);                              \
-            IS(sel_##name##_values(&column, read, 3) == SEL_DONE);                                      \
-            IS(read[0] == 1 && read[1] == (type)-2 && read[2] == 3);                                    \
-            IS(sel_boolean_values(&column, flags, 1) == SEL_OTHER_KIND);                                \
-            IS(sel_validity(&column, flags, 1, &has) == SEL_DONE && has && (flags[0] & 7) == 5);        \
-        }                                                                                               \
-        sel_free(&column);                                                                              \
+#define NUMBERS(name, type, kind)                                                                                   \
+    static void test_##name(void) {                                                                                 \
+        const type values[3] = {1, (type)-2, 3};                                                                    \
+        const uint8_t bits[1] = {5};                                                                                \
+        type read[3] = {0, 0, 0};                                                                                   \
+        uint8_t flags[1] = {0};                                                                                     \
+        bool has = false;                                                                                           \
+        sel_column column = {0};                                                                                    \
+        IS(sel_##name##_values(&column, read, 3) == SEL_ERROR_NO_COLUMN);                                           \
+        IS(gives(sel_##name##_new(values, 3, no_bits, 0, true, &column), SEL_ERROR_VALIDITY_LENGTH));               \
+        DONE(sel_##name##_new(values, 3, bits, 1, true, &column));                                                  \
+        if (column.at != NULL) {                                                                                    \
+            IS(sel_type_of(&column) == kind && sel_len(&column) == 3 && sel_null_count(&column) == 1);              \
+            IS(sel_##name##_values(&column, read, 2) == SEL_ERROR_LENGTH_MISMATCH);                                 \
+            IS(sel_##name##_values(&column, read, 3) == SEL_OK);                                                    \
+            IS(read[0] == 1 && read[1] == (type)-2 && read[2] == 3);                                                \
+            IS(sel_boolean_values(&column, flags, 1) == SEL_ERROR_UNSUPPORTED_TYPE);                                \
+            IS(sel_validity(&column, flags, 1, &has) == SEL_OK && has && (flags[0] & 7) == 5);                      \
+        }                                                                                                           \
+        sel_free(&column);                                                                                          \
     }
 
-NUMBERS(int8, int8_t, SEL_INT8)
-NUMBERS(int16, int16_t, SEL_INT16)
-NUMBERS(int32, int32_t, SEL_INT32)
-NUMBERS(int64, int64_t, SEL_INT64)
-NUMBERS(uint8, uint8_t, SEL_UINT8)
-NUMBERS(uint16, uint16_t, SEL_UINT16)
-NUMBERS(uint32, uint32_t, SEL_UINT32)
-NUMBERS(uint64, uint64_t, SEL_UINT64)
+NUMBERS(int8, int8_t, SEL_TYPE_INT8)
+NUMBERS(int16, int16_t, SEL_TYPE_INT16)
+NUMBERS(int32, int32_t, SEL_TYPE_INT32)
+NUMBERS(int64, int64_t, SEL_TYPE_INT64)
+NUMBERS(uint8, uint8_t, SEL_TYPE_UINT8)
+NUMBERS(uint16, uint16_t, SEL_TYPE_UINT16)
+NUMBERS(uint32, uint32_t, SEL_TYPE_UINT32)
+NUMBERS(uint64, uint64_t, SEL_TYPE_UINT64)
 
-#define WIDES(name, kind)                                                                               \
-    static void test_##name(void) {                                                                     \
-        const sel_wide values[3] = {{1, 0}, {7, UINT64_MAX}, {0, 3}};                                   \
-        const uint8_t bits[1] = {6};                                                                    \
-        sel_wide read[3] = {{0, 0}, {0, 0}, {0, 0}};                                                    \
-        sel_column column = {0};                                                                        \
-        IS(sel_##name##_values(&column, read, 3) == SEL_NO_COLUMN);                                     \
-        IS(gives(sel_##name##_new(values, 3, no_bits, 0, true, &column), SEL_VALIDITY_LENGTH));   \
-        DONE(sel_##name##_new(values, 3, bits, 1, true, &column));                                      \
-        if (column.at != NULL) {                                                                        \
-            int8_t small[3];                                                                            \
-            IS(sel_kind(&column) == kind && sel_len(&column) == 3 && sel_null_count(&column) == 1);     \
-            IS(sel_##name##_values(&column, read, 2) == SEL_OTHER_LENGTH);                              \
-            IS(sel_##name##_values(&column, read, 3) == SEL_DONE);                                      \
-            IS(read[0].low == 1 && read[0].high == 0 && read[1].low == 7);                              \
-            IS(read[1].high == UINT64_MAX && read[2].low == 0 && read[2].high == 3);                    \
-            IS(sel_int8_values(&column, small, 3) == SEL_OTHER_KIND);                                   \
-        }                                                                                               \
-        sel_free(&column);                                                                              \
-        DONE(sel_int8_new((const int8_t[1]){5}, 1, no_bits, 0, false, &column));                        \
-        IS(column.at == NULL || sel_##name##_values(&column, read, 1) == SEL_OTHER_KIND);               \
-        sel_free(&column);                                                                              \
+#define WIDES(name, kind)                                                                                           \
+    static void test_##name(void) {                                                                                 \
+        const sel_int128 values[3] = {{1, 0}, {7, UINT64_MAX}, {0, 3}};                                             \
+        const uint8_t bits[1] = {6};                                                                                \
+        sel_int128 read[3] = {{0, 0}, {0, 0}, {0, 0}};                                                              \
+        sel_column column = {0};                                                                                    \
+        IS(sel_##name##_values(&column, read, 3) == SEL_ERROR_NO_COLUMN);                                           \
+        IS(gives(sel_##name##_new(values, 3, no_bits, 0, true, &column), SEL_ERROR_VALIDITY_LENGTH));               \
+        DONE(sel_##name##_new(values, 3, bits, 1, true, &column));                                                  \
+        if (column.at != NULL) {                                                                                    \
+            int8_t small[3];                                                                                        \
+            IS(sel_type_of(&column) == kind && sel_len(&column) == 3 && sel_null_count(&column) == 1);              \
+            IS(sel_##name##_values(&column, read, 2) == SEL_ERROR_LENGTH_MISMATCH);                                 \
+            IS(sel_##name##_values(&column, read, 3) == SEL_OK);                                                    \
+            IS(read[0].low == 1 && read[0].high == 0 && read[1].low == 7);                                          \
+            IS(read[1].high == UINT64_MAX && read[2].low == 0 && read[2].high == 3);                                \
+            IS(sel_int8_values(&column, small, 3) == SEL_ERROR_UNSUPPORTED_TYPE);                                   \
+        }                                                                                                           \
+        sel_free(&column);                                                                                          \
+        DONE(sel_int8_new((const int8_t[1]){5}, 1, SEL_ALL_VALID, &column));                                        \
+        IS(column.at == NULL || sel_##name##_values(&column, read, 1) == SEL_ERROR_UNSUPPORTED_TYPE);               \
+        sel_free(&column);                                                                                          \
     }
 
-WIDES(int128, SEL_INT128)
-WIDES(uint128, SEL_UINT128)
+WIDES(int128, SEL_TYPE_INT128)
+WIDES(uint128, SEL_TYPE_UINT128)
 
 /* The column 10 20 30 40. */
 static sel_column tens(void) {
     const int64_t values[4] = {10, 20, 30, 40};
     sel_column column = {0};
-    DONE(sel_int64_new(values, 4, no_bits, 0, false, &column));
+    DONE(sel_int64_new(values, 4, SEL_ALL_VALID, &column));
     return column;
 }
 
 static bool holds(sel_column *column, const int64_t *wanted, size_t len) {
     int64_t read[8];
-    return sel_int64_values(column, read, len) == SEL_DONE && memcmp(read, wanted, len * sizeof *wanted) == 0;
+    return sel_int64_values(column, read, len) == SEL_OK && memcmp(read, wanted, len * sizeof *wanted) == 0;
 }
 
 static void test_whole(void) {
     const int64_t all[4] = {10, 20, 30, 40};
     sel_column column = {0}, other = {0};
-    IS(sel_share(&column, &other) == SEL_NO_COLUMN && sel_sliced(&column, 0, 0, &other) == SEL_NO_COLUMN);
+    IS(sel_share(&column, &other) == SEL_ERROR_NO_COLUMN && sel_slice(&column, 0, 0, &other) == SEL_ERROR_NO_COLUMN);
     column = tens();
     if (column.at != NULL) {
-        IS(sel_sliced(&column, 2, 3, &other) == SEL_OUT_OF_BOUNDS && sel_sliced(&column, 5, 0, &other) == SEL_OUT_OF_BOUNDS);
-        IS(sel_sliced(&column, SIZE_MAX, 2, &other) == SEL_OUT_OF_BOUNDS);
-        DONE(sel_sliced(&column, 1, 2, &other));
+        IS(sel_slice(&column, 2, 3, &other) == SEL_ERROR_INDEX_OUT_OF_BOUNDS && sel_slice(&column, 5, 0, &other) == SEL_ERROR_INDEX_OUT_OF_BOUNDS);
+        IS(sel_slice(&column, SIZE_MAX, 2, &other) == SEL_ERROR_INDEX_OUT_OF_BOUNDS);
+        DONE(sel_slice(&column, 1, 2, &other));
         IS(other.at == NULL || holds(&other, all + 1, 2));
         /* the old column of `other` is freed */
         DONE(sel_share(&column, &other));
@@ -226,21 +226,21 @@ static void test_filters(void) {
     const uint8_t values[1] = {13}, bits[1] = {11};
     const int64_t kept[2] = {10, 40}, by_bits[3] = {10, 30, 40};
     sel_column column = {0}, mask = {0}, out = {0};
-    IS(sel_filter(&column, &mask, &out) == SEL_NO_COLUMN);
-    IS(sel_filter_bits(&column, values, 1, 4, &out) == SEL_NO_COLUMN);
+    IS(sel_filter(&column, &mask, &out) == SEL_ERROR_NO_COLUMN);
+    IS(sel_filter_bits(&column, values, 1, 4, &out) == SEL_ERROR_NO_COLUMN);
     column = tens();
-    IS(sel_filter(&column, &mask, &out) == SEL_NO_COLUMN);
+    IS(sel_filter(&column, &mask, &out) == SEL_ERROR_NO_COLUMN);
     DONE(sel_boolean_new(values, 1, 4, bits, 1, true, &mask));
     if (column.at != NULL && mask.at != NULL) {
         DONE(sel_filter(&column, &mask, &out));
         IS(out.at == NULL || holds(&out, kept, 2));
-        IS(refused || gives(sel_filter(&column, &out, &mask), SEL_OTHER_KIND));
-        IS(sel_filter_bits(&column, values, 1, 3, &out) == SEL_OTHER_LENGTH);
-        IS(sel_filter_bits(&column, values, 0, 4, &out) == SEL_OTHER_LENGTH);
+        IS(refused || gives(sel_filter(&column, &out, &mask), SEL_ERROR_UNSUPPORTED_TYPE));
+        IS(sel_filter_bits(&column, values, 1, 3, &out) == SEL_ERROR_LENGTH_MISMATCH);
+        IS(sel_filter_bits(&column, values, 0, 4, &out) == SEL_ERROR_LENGTH_MISMATCH);
         DONE(sel_boolean_new(values, 1, 3, bits, 1, true, &mask));
-        IS(refused || gives(sel_filter(&column, &mask, &out), SEL_OTHER_LENGTH));
-        uint32_t status = sel_filter_bits(&column, values, 1, 4, &out);
-        IS(done(status) && (status != SEL_DONE || holds(&out, by_bits, 3)));
+        IS(refused || gives(sel_filter(&column, &mask, &out), SEL_ERROR_LENGTH_MISMATCH));
+        sel_status status = sel_filter_bits(&column, values, 1, 4, &out);
+        IS(done(status) && (status != SEL_OK || holds(&out, by_bits, 3)));
         IS(sel_len(&column) == 4);
     }
     sel_free(&column);
@@ -252,25 +252,25 @@ static void test_takes(void) {
     const uint32_t at[3] = {3, 9, 0};
     const uint8_t bits[1] = {5};
     sel_column column = tens(), indices = {0}, out = {0};
-    IS(sel_take(&column, &indices, &out) == SEL_NO_COLUMN);
-    IS(sel_take_rows(&indices, at, 1, bits, 0, false, &out) == SEL_NO_COLUMN);
+    IS(sel_take(&column, &indices, &out) == SEL_ERROR_NO_COLUMN);
+    IS(sel_take_rows(&indices, at, 1, bits, 0, false, &out) == SEL_ERROR_NO_COLUMN);
     DONE(sel_uint32_new(at, 3, bits, 1, true, &indices));
     if (column.at != NULL && indices.at != NULL) {
         int64_t read[3];
-        uint32_t status = sel_take(&column, &indices, &out);
+        sel_status status = sel_take(&column, &indices, &out);
         IS(done(status));
-        if (status == SEL_DONE) {
+        if (status == SEL_OK) {
             IS(sel_len(&out) == 3 && sel_null_count(&out) == 1);
-            IS(sel_int64_values(&out, read, 3) == SEL_DONE && read[0] == 40 && read[2] == 10);
+            IS(sel_int64_values(&out, read, 3) == SEL_OK && read[0] == 40 && read[2] == 10);
         }
-        DONE(sel_uint32_new(at, 3, no_bits, 0, false, &indices));
-        IS(refused || gives(sel_take(&column, &indices, &out), SEL_OUT_OF_BOUNDS));
+        DONE(sel_uint32_new(at, 3, SEL_ALL_VALID, &indices));
+        IS(refused || gives(sel_take(&column, &indices, &out), SEL_ERROR_INDEX_OUT_OF_BOUNDS));
         DONE(sel_share(&column, &indices));
-        IS(refused || gives(sel_take(&column, &indices, &out), SEL_OTHER_KIND));
+        IS(refused || gives(sel_take(&column, &indices, &out), SEL_ERROR_UNSUPPORTED_TYPE));
         status = sel_take_rows(&column, at, 3, bits, 1, true, &out);
-        IS(done(status) && (status != SEL_DONE || (sel_len(&out) == 3 && sel_null_count(&out) == 1)));
-        IS(gives(sel_take_rows(&column, at, 3, bits, 0, true, &out), SEL_VALIDITY_LENGTH));
-        IS(gives(sel_take_rows(&column, at, 2, bits, 0, false, &out), SEL_OUT_OF_BOUNDS));
+        IS(done(status) && (status != SEL_OK || (sel_len(&out) == 3 && sel_null_count(&out) == 1)));
+        IS(gives(sel_take_rows(&column, at, 3, bits, 0, true, &out), SEL_ERROR_VALIDITY_LENGTH));
+        IS(gives(sel_take_rows(&column, at, 2, bits, 0, false, &out), SEL_ERROR_INDEX_OUT_OF_BOUNDS));
     }
     sel_free(&column);
     sel_free(&indices);
@@ -283,23 +283,23 @@ static void test_bytes(void) {
     const int64_t offsets[4] = {0, 1, 1, 3}, falls[2] = {2, 1}, negative[2] = {-1, 1}, far[2] = {0, 4};
     const uint8_t text[3] = {'a', 'b', 'c'}, bits[1] = {5};
     sel_column column = {0};
-    IS(gives(sel_binary_new(offsets, 0, text, 3, no_bits, 0, false, &column), SEL_OFFSET_COUNT));
-    IS(gives(sel_binary_new(negative, 2, text, 3, no_bits, 0, false, &column), SEL_OFFSET_NEGATIVE));
-    IS(gives(sel_binary_new(falls, 2, text, 3, no_bits, 0, false, &column), SEL_OFFSET_ORDER));
-    IS(gives(sel_binary_new(far, 2, text, 3, no_bits, 0, false, &column), SEL_OFFSET_RANGE));
-    IS(gives(sel_binary_new(offsets, 4, text, 3, no_bits, 0, true, &column), SEL_VALIDITY_LENGTH));
+    IS(gives(sel_binary_new(offsets, 0, text, 3, SEL_ALL_VALID, &column), SEL_ERROR_NO_OFFSETS));
+    IS(gives(sel_binary_new(negative, 2, text, 3, SEL_ALL_VALID, &column), SEL_ERROR_NEGATIVE_OFFSET));
+    IS(gives(sel_binary_new(falls, 2, text, 3, SEL_ALL_VALID, &column), SEL_ERROR_DECREASING_OFFSET));
+    IS(gives(sel_binary_new(far, 2, text, 3, SEL_ALL_VALID, &column), SEL_ERROR_OFFSET_RANGE));
+    IS(gives(sel_binary_new(offsets, 4, text, 3, no_bits, 0, true, &column), SEL_ERROR_VALIDITY_LENGTH));
     DONE(sel_binary_new(offsets, 4, text, 3, bits, 1, true, &column));
     if (column.at != NULL) {
         int64_t places[4] = {9, 9, 9, 9};
         uint8_t read[3] = {0, 0, 0};
         size_t len = 0;
-        IS(sel_kind(&column) == SEL_LARGE_BINARY && sel_len(&column) == 3 && sel_null_count(&column) == 1);
-        IS(sel_offsets(&column, places, 3) == SEL_OTHER_LENGTH);
-        IS(sel_offsets(&column, places, 4) == SEL_DONE && memcmp(places, offsets, sizeof offsets) == 0);
-        IS(sel_bytes_len(&column, &len) == SEL_DONE && len == 3);
-        IS(sel_bytes(&column, read, 2) == SEL_OTHER_LENGTH);
-        IS(sel_bytes(&column, read, 3) == SEL_DONE && memcmp(read, text, 3) == 0);
-        IS(sel_views(&column, &(sel_view){0, 0, 0, 0}, 1) == SEL_OTHER_KIND);
+        IS(sel_type_of(&column) == SEL_TYPE_BINARY && sel_len(&column) == 3 && sel_null_count(&column) == 1);
+        IS(sel_offsets(&column, places, 3) == SEL_ERROR_LENGTH_MISMATCH);
+        IS(sel_offsets(&column, places, 4) == SEL_OK && memcmp(places, offsets, sizeof offsets) == 0);
+        IS(sel_bytes_len(&column, &len) == SEL_OK && len == 3);
+        IS(sel_bytes(&column, read, 2) == SEL_ERROR_LENGTH_MISMATCH);
+        IS(sel_bytes(&column, read, 3) == SEL_OK && memcmp(read, text, 3) == 0);
+        IS(sel_views(&column, &(sel_view){0, 0, 0, 0}, 1) == SEL_ERROR_UNSUPPORTED_TYPE);
     }
     sel_free(&column);
 }
@@ -308,30 +308,30 @@ static void test_bytes(void) {
 static void test_each(sel_column *lists) {
     const int64_t places[2] = {1, -2}, far[2] = {0, 2}, wanted[2] = {20, 30};
     sel_column at = {0}, out = {0}, flat = tens();
-    IS(sel_fixed_get_each(lists, &at, false, &out) == SEL_NO_COLUMN);
-    IS(sel_fixed_get_each(&out, lists, false, &at) == SEL_NO_COLUMN);
-    DONE(sel_int64_new(places, 2, no_bits, 0, false, &at));
+    IS(sel_fixed_size_list_get_each(lists, &at, false, &out) == SEL_ERROR_NO_COLUMN);
+    IS(sel_fixed_size_list_get_each(&out, lists, false, &at) == SEL_ERROR_NO_COLUMN);
+    DONE(sel_int64_new(places, 2, SEL_ALL_VALID, &at));
     if (at.at != NULL) {
-        IS(flat.at == NULL || gives(sel_fixed_get_each(&flat, &at, false, &out), SEL_OTHER_KIND));
-        DONE(sel_fixed_get_each(lists, &at, false, &out));
+        IS(flat.at == NULL || gives(sel_fixed_size_list_get_each(&flat, &at, false, &out), SEL_ERROR_UNSUPPORTED_TYPE));
+        DONE(sel_fixed_size_list_get_each(lists, &at, false, &out));
         IS(refused || holds(&out, wanted, 2));
     }
     sel_free(&flat);
-    DONE(sel_int64_new(places, 1, no_bits, 0, false, &at));
+    DONE(sel_int64_new(places, 1, SEL_ALL_VALID, &at));
     if (at.at != NULL && sel_len(&at) == 1) {
-        IS(gives(sel_fixed_get_each(lists, &at, false, &out), SEL_OTHER_LENGTH));
+        IS(gives(sel_fixed_size_list_get_each(lists, &at, false, &out), SEL_ERROR_LENGTH_MISMATCH));
     }
     sel_free(&at);
-    DONE(sel_int64_new(far, 2, no_bits, 0, false, &at));
+    DONE(sel_int64_new(far, 2, SEL_ALL_VALID, &at));
     if (at.at != NULL) {
-        IS(gives(sel_fixed_get_each(lists, &at, false, &out), SEL_GET_OUT_OF_BOUNDS));
+        IS(gives(sel_fixed_size_list_get_each(lists, &at, false, &out), SEL_ERROR_LIST_INDEX_OUT_OF_BOUNDS));
         sel_free(&out);
-        DONE(sel_fixed_get_each(lists, &at, true, &out));
+        DONE(sel_fixed_size_list_get_each(lists, &at, true, &out));
         IS(out.at == NULL || (sel_len(&out) == 2 && sel_null_count(&out) == 1));
     }
     sel_free(&at);
-    DONE(sel_int8_new((const int8_t[2]){0, 0}, 2, no_bits, 0, false, &at));
-    IS(at.at == NULL || gives(sel_fixed_get_each(lists, &at, true, &out), SEL_OTHER_KIND));
+    DONE(sel_int8_new((const int8_t[2]){0, 0}, 2, SEL_ALL_VALID, &at));
+    IS(at.at == NULL || gives(sel_fixed_size_list_get_each(lists, &at, true, &out), SEL_ERROR_UNSUPPORTED_TYPE));
     sel_free(&at);
     sel_free(&out);
 }
@@ -340,74 +340,76 @@ static void test_lists(void) {
     const int64_t offsets[3] = {0, 1, 4}, far[2] = {0, 5};
     sel_column child = {0}, lists = {0}, units = {0};
     bool lacks = false;
-    IS(sel_list_new(offsets, 3, no_bits, 0, false, &child, &lists) == SEL_NO_COLUMN);
-    IS(sel_index_is_oob(&child, 0, &lacks) == SEL_NO_COLUMN && sel_unit_list(&child, &lists) == SEL_NO_COLUMN);
-    IS(sel_sublist_get(&child, 0, &lists) == SEL_NO_COLUMN);
+    IS(sel_list_new(offsets, 3, SEL_ALL_VALID, &child, &lists) == SEL_ERROR_NO_COLUMN);
+    IS(sel_list_index_is_oob(&child, 0, &lacks) == SEL_ERROR_NO_COLUMN && sel_unit_list(&child, &lists) == SEL_ERROR_NO_COLUMN);
+    IS(sel_list_get(&child, 0, &lists) == SEL_ERROR_NO_COLUMN);
     child = tens();
     if (child.at != NULL) {
-        IS(gives(sel_index_is_oob(&child, 0, &lacks), SEL_OTHER_KIND));
+        IS(gives(sel_list_index_is_oob(&child, 0, &lacks), SEL_ERROR_UNSUPPORTED_TYPE));
         DONE(sel_unit_list(&child, &units));
         if (units.at != NULL) {
-            IS(sel_len(&units) == 4 && sel_kind(&units) == SEL_LARGE_LIST);
-            IS(done(sel_index_is_oob(&units, 1, &lacks)));
+            IS(sel_len(&units) == 4 && sel_type_of(&units) == SEL_TYPE_LIST);
+            IS(done(sel_list_index_is_oob(&units, 1, &lacks)));
             IS(refused || lacks);
         }
-        IS(gives(sel_sublist_get(&child, 0, &lists), SEL_OTHER_KIND));
-        IS(gives(sel_list_new(far, 2, no_bits, 0, false, &child, &lists), SEL_OFFSET_RANGE));
+        IS(gives(sel_list_get(&child, 0, &lists), SEL_ERROR_UNSUPPORTED_TYPE));
+        IS(gives(sel_list_new(far, 2, SEL_ALL_VALID, &child, &lists), SEL_ERROR_OFFSET_RANGE));
         IS(child.at == NULL);
     }
     child = tens();
     if (child.at != NULL) {
-        DONE(sel_list_new(offsets, 3, no_bits, 0, false, &child, &lists));
+        DONE(sel_list_new(offsets, 3, SEL_ALL_VALID, &child, &lists));
         IS(child.at == NULL);
-        IS(lists.at == NULL || (sel_len(&lists) == 2 && sel_kind(&lists) == SEL_LARGE_LIST));
+        IS(lists.at == NULL || (sel_len(&lists) == 2 && sel_type_of(&lists) == SEL_TYPE_LIST));
         if (lists.at != NULL) {
             const int64_t all[4] = {10, 20, 30, 40};
             int64_t places[3];
             size_t width = 7;
-            IS(sel_offsets(&lists, places, 3) == SEL_DONE && memcmp(places, offsets, sizeof offsets) == 0);
-            IS(sel_bytes_len(&lists, &width) == SEL_OTHER_KIND && sel_bytes(&lists, (uint8_t *)places, 3) == SEL_OTHER_KIND);
-            IS(sel_width(&lists, &width) == SEL_OTHER_KIND && sel_field_count(&lists, &width) == SEL_OTHER_KIND && width == 7);
-            IS(sel_field(&lists, 0, &child) == SEL_OUT_OF_BOUNDS);
+            IS(sel_offsets(&lists, places, 3) == SEL_OK && memcmp(places, offsets, sizeof offsets) == 0);
+            IS(sel_bytes_len(&lists, &width) == SEL_ERROR_UNSUPPORTED_TYPE);
+            IS(sel_bytes(&lists, (uint8_t *)places, 3) == SEL_ERROR_UNSUPPORTED_TYPE);
+            IS(sel_fixed_size_list_size(&lists, &width) == SEL_ERROR_UNSUPPORTED_TYPE);
+            IS(sel_field_count(&lists, &width) == SEL_ERROR_UNSUPPORTED_TYPE && width == 7);
+            IS(sel_field(&lists, 0, &child) == SEL_ERROR_INDEX_OUT_OF_BOUNDS);
             /* the last element of each list, then the second one, which the first list lacks */
             const int64_t last[2] = {10, 40};
-            DONE(sel_sublist_get(&lists, -1, &child));
+            DONE(sel_list_get(&lists, -1, &child));
             IS(refused || holds(&child, last, 2));
-            DONE(sel_sublist_get(&lists, 1, &child));
+            DONE(sel_list_get(&lists, 1, &child));
             IS(refused || (sel_len(&child) == 2 && sel_null_count(&child) == 1));
             DONE(sel_child(&lists, &child));
             IS(refused || holds(&child, all, 4));
-            IS(child.at == NULL || sel_child(&child, &units) == SEL_OTHER_KIND);
+            IS(child.at == NULL || sel_child(&child, &units) == SEL_ERROR_UNSUPPORTED_TYPE);
             sel_free(&child);
         }
     }
     child = tens();
     if (child.at != NULL) {
-        IS(gives(sel_fixed_list_new(3, 2, no_bits, 0, false, &child, &lists), SEL_CHILD_LENGTH));
+        IS(gives(sel_fixed_size_list_new(3, 2, SEL_ALL_VALID, &child, &lists), SEL_ERROR_CHILD_LENGTH));
         IS(child.at == NULL);
     }
     child = tens();
     if (child.at != NULL) {
-        uint32_t status = sel_fixed_list_new(2, 2, no_bits, 0, false, &child, &lists);
-        IS(done(status) && (status != SEL_DONE || (sel_len(&lists) == 2 && sel_kind(&lists) == SEL_FIXED_SIZE_LIST)));
+        sel_status status = sel_fixed_size_list_new(2, 2, SEL_ALL_VALID, &child, &lists);
+        IS(done(status) && (status != SEL_OK || (sel_len(&lists) == 2 && sel_type_of(&lists) == SEL_TYPE_FIXED_SIZE_LIST)));
     }
-    if (lists.at != NULL && sel_kind(&lists) == SEL_FIXED_SIZE_LIST) {
+    if (lists.at != NULL && sel_type_of(&lists) == SEL_TYPE_FIXED_SIZE_LIST) {
         size_t width = 0;
-        IS(sel_width(&lists, &width) == SEL_DONE && width == 2);
-        IS(sel_offsets(&lists, (int64_t[3]){0, 0, 0}, 3) == SEL_OTHER_KIND);
+        IS(sel_fixed_size_list_size(&lists, &width) == SEL_OK && width == 2);
+        IS(sel_offsets(&lists, (int64_t[3]){0, 0, 0}, 3) == SEL_ERROR_UNSUPPORTED_TYPE);
         /* the last entry of each list, then one that lists of two have not */
         const int64_t last[2] = {20, 40};
-        DONE(sel_fixed_get(&lists, -1, false, &child));
+        DONE(sel_fixed_size_list_get(&lists, -1, false, &child));
         IS(refused || holds(&child, last, 2));
-        IS(child.at == NULL || gives(sel_fixed_get(&child, 0, false, &units), SEL_OTHER_KIND));
-        IS(gives(sel_fixed_get(&lists, 2, false, &child), SEL_GET_OUT_OF_BOUNDS));
-        DONE(sel_fixed_get(&lists, 2, true, &child));
+        IS(child.at == NULL || gives(sel_fixed_size_list_get(&child, 0, false, &units), SEL_ERROR_UNSUPPORTED_TYPE));
+        IS(gives(sel_fixed_size_list_get(&lists, 2, false, &child), SEL_ERROR_LIST_INDEX_OUT_OF_BOUNDS));
+        DONE(sel_fixed_size_list_get(&lists, 2, true, &child));
         IS(refused || (sel_len(&child) == 2 && sel_null_count(&child) == 2));
         sel_free(&child);
-        IS(sel_fixed_get(&child, 0, false, &units) == SEL_NO_COLUMN);
+        IS(sel_fixed_size_list_get(&child, 0, false, &units) == SEL_ERROR_NO_COLUMN);
         test_each(&lists);
     }
-    IS(sel_fixed_list_new(2, 2, no_bits, 0, false, &child, &lists) == SEL_NO_COLUMN);
+    IS(sel_fixed_size_list_new(2, 2, SEL_ALL_VALID, &child, &lists) == SEL_ERROR_NO_COLUMN);
     sel_free(&lists);
     sel_free(&units);
 }
@@ -417,18 +419,18 @@ static void test_structs(void) {
     const uint8_t bits[1] = {13};
     sel_column fields[2] = {{0}, {0}}, column = {0}, field = {0};
     fields[0] = tens();
-    IS(gives(sel_struct_new(4, no_bits, 0, false, fields, 2, &column), SEL_NO_COLUMN));
+    IS(gives(sel_struct_new(4, SEL_ALL_VALID, fields, 2, &column), SEL_ERROR_NO_COLUMN));
     sel_free(&fields[0]);
     fields[0] = tens();
     DONE(sel_null_new(4, &fields[1]));
     if (fields[0].at != NULL && fields[1].at != NULL) {
-        uint32_t status = sel_struct_new(4, bits, 1, true, fields, 2, &column);
-        IS(done(status) && (status != SEL_DONE || (fields[0].at == NULL && fields[1].at == NULL)));
-        if (status == SEL_DONE) {
+        sel_status status = sel_struct_new(4, bits, 1, true, fields, 2, &column);
+        IS(done(status) && (status != SEL_OK || (fields[0].at == NULL && fields[1].at == NULL)));
+        if (status == SEL_OK) {
             size_t count = 0;
-            IS(sel_kind(&column) == SEL_STRUCT && sel_len(&column) == 4 && sel_null_count(&column) == 1);
-            IS(sel_field_count(&column, &count) == SEL_DONE && count == 2);
-            IS(sel_field(&column, 2, &field) == SEL_OUT_OF_BOUNDS);
+            IS(sel_type_of(&column) == SEL_TYPE_STRUCT && sel_len(&column) == 4 && sel_null_count(&column) == 1);
+            IS(sel_field_count(&column, &count) == SEL_OK && count == 2);
+            IS(sel_field(&column, 2, &field) == SEL_ERROR_INDEX_OUT_OF_BOUNDS);
             DONE(sel_field(&column, 0, &field));
             IS(refused || holds(&field, all, 4));
         }
@@ -436,7 +438,7 @@ static void test_structs(void) {
     sel_free(&fields[0]);
     sel_free(&fields[1]);
     fields[0] = tens();
-    IS(refused || gives(sel_struct_new(3, no_bits, 0, false, fields, 1, &column), SEL_FIELD_LENGTH));
+    IS(refused || gives(sel_struct_new(3, SEL_ALL_VALID, fields, 1, &column), SEL_ERROR_FIELD_LENGTH));
     sel_free(&fields[0]);
     sel_free(&field);
     sel_free(&column);
@@ -457,41 +459,41 @@ sel_view view_of(const char *text, uint32_t len, uint32_t offset) {
 
 static void test_views(void) {
     const char *far = "..thirteen bytes and more";
-    const sel_slice buffers[1] = {{(const uint8_t *)far, 25}};
+    const sel_bytes_ref buffers[1] = {{(const uint8_t *)far, 25}};
     sel_view views[2] = {view_of("near", 4, 0), view_of(far + 2, 23, 2)}, read[2];
     sel_column column = {0}, texts = {0};
     size_t count = 9;
     uint8_t bytes[25] = {0};
-    IS(sel_views(&column, read, 2) == SEL_NO_COLUMN && sel_buffer_count(&column, &count) == SEL_NO_COLUMN);
-    IS(sel_buffer_len(&column, 0, &count) == SEL_NO_COLUMN && sel_buffer(&column, 0, bytes, 25) == SEL_NO_COLUMN);
-    IS(sel_offsets(&column, (int64_t[1]){0}, 1) == SEL_NO_COLUMN && sel_bytes_len(&column, &count) == SEL_NO_COLUMN);
-    IS(sel_bytes(&column, bytes, 0) == SEL_NO_COLUMN && sel_child(&column, &texts) == SEL_NO_COLUMN);
-    IS(sel_width(&column, &count) == SEL_NO_COLUMN && sel_field_count(&column, &count) == SEL_NO_COLUMN);
-    IS(sel_field(&column, 0, &texts) == SEL_NO_COLUMN && count == 9);
-    DONE(sel_binview_new(views, 2, buffers, 1, no_bits, 0, false, &column));
-    DONE(sel_utf8view_new(views, 2, buffers, 1, no_bits, 0, false, &texts));
+    IS(sel_views(&column, read, 2) == SEL_ERROR_NO_COLUMN && sel_buffer_count(&column, &count) == SEL_ERROR_NO_COLUMN);
+    IS(sel_buffer_len(&column, 0, &count) == SEL_ERROR_NO_COLUMN && sel_buffer(&column, 0, bytes, 25) == SEL_ERROR_NO_COLUMN);
+    IS(sel_offsets(&column, (int64_t[1]){0}, 1) == SEL_ERROR_NO_COLUMN && sel_bytes_len(&column, &count) == SEL_ERROR_NO_COLUMN);
+    IS(sel_bytes(&column, bytes, 0) == SEL_ERROR_NO_COLUMN && sel_child(&column, &texts) == SEL_ERROR_NO_COLUMN);
+    IS(sel_fixed_size_list_size(&column, &count) == SEL_ERROR_NO_COLUMN && sel_field_count(&column, &count) == SEL_ERROR_NO_COLUMN);
+    IS(sel_field(&column, 0, &texts) == SEL_ERROR_NO_COLUMN && count == 9);
+    DONE(sel_binary_view_new(views, 2, buffers, 1, SEL_ALL_VALID, &column));
+    DONE(sel_string_view_new(views, 2, buffers, 1, SEL_ALL_VALID, &texts));
     if (column.at != NULL) {
-        IS(sel_kind(&column) == SEL_BINARY_VIEW && sel_len(&column) == 2);
-        IS(sel_views(&column, read, 1) == SEL_OTHER_LENGTH);
-        IS(sel_views(&column, read, 2) == SEL_DONE && memcmp(read, views, sizeof views) == 0);
-        IS(sel_buffer_count(&column, &count) == SEL_DONE && count == 1);
-        IS(sel_buffer_len(&column, 1, &count) == SEL_OUT_OF_BOUNDS && sel_buffer(&column, 1, bytes, 25) == SEL_OUT_OF_BOUNDS);
-        IS(sel_buffer_len(&column, 0, &count) == SEL_DONE && count == 25);
-        IS(sel_buffer(&column, 0, bytes, 24) == SEL_OTHER_LENGTH);
-        IS(sel_buffer(&column, 0, bytes, 25) == SEL_DONE && memcmp(bytes, far, 25) == 0);
-        IS(gives(sel_binary_new((int64_t[1]){0}, 1, bytes, 0, no_bits, 0, false, &column), SEL_DONE));
+        IS(sel_type_of(&column) == SEL_TYPE_BINARY_VIEW && sel_len(&column) == 2);
+        IS(sel_views(&column, read, 1) == SEL_ERROR_LENGTH_MISMATCH);
+        IS(sel_views(&column, read, 2) == SEL_OK && memcmp(read, views, sizeof views) == 0);
+        IS(sel_buffer_count(&column, &count) == SEL_OK && count == 1);
+        IS(sel_buffer_len(&column, 1, &count) == SEL_ERROR_INDEX_OUT_OF_BOUNDS && sel_buffer(&column, 1, bytes, 25) == SEL_ERROR_INDEX_OUT_OF_BOUNDS);
+        IS(sel_buffer_len(&column, 0, &count) == SEL_OK && count == 25);
+        IS(sel_buffer(&column, 0, bytes, 24) == SEL_ERROR_LENGTH_MISMATCH);
+        IS(sel_buffer(&column, 0, bytes, 25) == SEL_OK && memcmp(bytes, far, 25) == 0);
+        IS(gives(sel_binary_new((int64_t[1]){0}, 1, bytes, 0, SEL_ALL_VALID, &column), SEL_OK));
     }
     if (texts.at != NULL) {
-        IS(sel_kind(&texts) == SEL_UTF8_VIEW && sel_len(&texts) == 2);
-        IS(sel_views(&texts, read, 2) == SEL_DONE && memcmp(read, views, sizeof views) == 0);
+        IS(sel_type_of(&texts) == SEL_TYPE_STRING_VIEW && sel_len(&texts) == 2);
+        IS(sel_views(&texts, read, 2) == SEL_OK && memcmp(read, views, sizeof views) == 0);
     }
     views[1].offset = 3;
-    IS(gives(sel_binview_new(views, 2, buffers, 1, no_bits, 0, false, &column), SEL_VIEW_RANGE));
+    IS(gives(sel_binary_view_new(views, 2, buffers, 1, SEL_ALL_VALID, &column), SEL_ERROR_VIEW_RANGE));
     views[1].offset = 1;
-    IS(gives(sel_binview_new(views, 2, buffers, 1, no_bits, 0, false, &column), SEL_VIEW_PREFIX));
-    IS(gives(sel_utf8view_new(views, 2, buffers, 1, no_bits, 0, true, &column), SEL_VALIDITY_LENGTH));
+    IS(gives(sel_binary_view_new(views, 2, buffers, 1, SEL_ALL_VALID, &column), SEL_ERROR_VIEW_PREFIX));
+    IS(gives(sel_string_view_new(views, 2, buffers, 1, no_bits, 0, true, &column), SEL_ERROR_VALIDITY_LENGTH));
     views[0] = view_of("\xFF", 1, 0);
-    IS(gives(sel_utf8view_new(views, 1, buffers, 1, no_bits, 0, false, &column), SEL_UTF8));
+    IS(gives(sel_string_view_new(views, 1, buffers, 1, SEL_ALL_VALID, &column), SEL_ERROR_INVALID_UTF8));
     sel_free(&column);
     sel_free(&texts);
 }
@@ -500,7 +502,7 @@ static void (*const tests[])(void) = {
     test_nulls, test_booleans, test_int8, test_int16, test_int32, test_int64, test_uint8, test_uint16, test_uint32,
     test_uint64, test_int128, test_uint128, test_whole, test_filters, test_takes, test_bytes, test_lists, test_structs, test_views,
     test_choices, test_broadcasts, test_chosen_kinds, test_flattens, test_collected_rows, test_dictionaries, test_equal_rows, test_prints,
-    test_parses, test_misread_texts, test_flatten_limits, test_list_limits,
+    test_parses, test_misread_texts, test_flatten_limits, test_list_limits, test_empty_inputs, test_empty_outputs, test_strings,
 };
 
 int main(void) {

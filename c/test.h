@@ -11,14 +11,14 @@ extern bool refused;
 bool was_refused(void);
 
 /* Tests whether the status is the wanted one, or out of memory exactly if an allocation was refused since the last check. */
-bool gives(uint32_t status, uint32_t wanted);
+bool gives(sel_status status, sel_status wanted);
 
 void is(bool holds, const char *what, int line);
 
 #define IS(holds) is((holds), #holds, __LINE__)
 
 /* The same for a call that succeeds. */
-bool done(uint32_t status);
+bool done(sel_status status);
 
 #define DONE(call) is(done(call), #call, __LINE__)
 
@@ -40,5 +40,10 @@ void test_parses(void);
 void test_misread_texts(void);
 void test_flatten_limits(void);
 void test_list_limits(void);
+
+/* test_empty.c */
+void test_empty_inputs(void);
+void test_empty_outputs(void);
+void test_strings(void);
 
 #endif

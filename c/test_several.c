@@ -21,12 +21,12 @@ static sel_column truths(uint8_t values, size_t len, uint8_t bits) {
 /* Returns the string column of these strings of up to 12 bytes. */
 static sel_column texts(const char *const *words, size_t len, uint8_t bits) {
     sel_view views[8];
-    const sel_slice nothing[1] = {{no_bits, 0}};
+    const sel_bytes_ref nothing[1] = {{no_bits, 0}};
     sel_column column = {0};
     for (size_t i = 0; i < len; i += 1) {
         views[i] = view_of(words[i], (uint32_t)strlen(words[i]), 0);
     }
-    DONE(sel_utf8view_new(views, len, nothing, 0, &bits, 1, true, &column));
+    DONE(sel_string_view_new(views, len, nothing, 0, &bits, 1, true, &column));
     return column;
 }
 
@@ -37,17 +37,17 @@ static bool prints(sel_column *column, const char *text) {
     if (column->at == NULL) {
         return refused;
     }
-    uint32_t status = sel_print(column, room, sizeof room, &len);
-    if (status != SEL_DONE) {
+    sel_status status = sel_print(column, room, sizeof room, &len);
+    if (status != SEL_OK) {
         return done(status);
     }
     return len == strlen(text) && memcmp(room, text, len) == 0;
 }
 
 /* A call is done and its answer has the text; the answer is freed. */
-static void answers(uint32_t status, sel_column *out, const char *text, int line) {
+static void answers(sel_status status, sel_column *out, const char *text, int line) {
     is(done(status), "the call is done", line);
-    is(status != SEL_DONE || prints(out, text), text, line);
+    is(status != SEL_OK || prints(out, text), text, line);
     sel_free(out);
 }
 
@@ -73,22 +73,22 @@ static bool all_made(const sel_column *columns, size_t len) {
 void test_choices(void) {
     const int64_t first[4] = {1, 2, 3, 4}, second[4] = {10, 20, 30, 40};
     sel_column out = {0}, sides[5] = {{0}, {0}, {0}, {0}, {0}};
-    IS(sel_choose(&sides[0], &sides[1], &sides[2], &out) == SEL_NO_COLUMN);
+    IS(sel_if_then_else(&sides[0], &sides[1], &sides[2], &out) == SEL_ERROR_NO_COLUMN);
     /* true, null, true, false */
     sides[0] = truths(7, 4, 13);
-    IS(sel_choose(&sides[0], &sides[1], &sides[2], &out) == SEL_NO_COLUMN);
+    IS(sel_if_then_else(&sides[0], &sides[1], &sides[2], &out) == SEL_ERROR_NO_COLUMN);
     sides[1] = numbers(first, 4, 14);
-    IS(sel_choose(&sides[0], &sides[1], &sides[2], &out) == SEL_NO_COLUMN);
+    IS(sel_if_then_else(&sides[0], &sides[1], &sides[2], &out) == SEL_ERROR_NO_COLUMN);
     sides[2] = numbers(second, 4, 13);
     sides[3] = numbers(first, 3, 7);
     sides[4] = truths(1, 4, 15);
     if (all_made(sides, 5)) {
-        ANSWERS(sel_choose(&sides[0], &sides[1], &sides[2], &out), &out, "[null,null,3,40]");
-        ANSWERS(sel_choose(&sides[0], &sides[2], &sides[1], &out), &out, "[10,2,30,4]");
-        IS(gives(sel_choose(&sides[1], &sides[2], &sides[3], &out), SEL_OTHER_KIND));
-        IS(gives(sel_choose(&sides[0], &sides[1], &sides[4], &out), SEL_OTHER_TYPE));
-        IS(gives(sel_choose(&sides[0], &sides[1], &sides[3], &out), SEL_OTHER_LENGTH));
-        IS(gives(sel_choose(&sides[0], &sides[3], &sides[1], &out), SEL_OTHER_LENGTH));
+        ANSWERS(sel_if_then_else(&sides[0], &sides[1], &sides[2], &out), &out, "[null,null,3,40]");
+        ANSWERS(sel_if_then_else(&sides[0], &sides[2], &sides[1], &out), &out, "[10,2,30,4]");
+        IS(gives(sel_if_then_else(&sides[1], &sides[2], &sides[3], &out), SEL_ERROR_UNSUPPORTED_TYPE));
+        IS(gives(sel_if_then_else(&sides[0], &sides[1], &sides[4], &out), SEL_ERROR_TYPE_MISMATCH));
+        IS(gives(sel_if_then_else(&sides[0], &sides[1], &sides[3], &out), SEL_ERROR_LENGTH_MISMATCH));
+        IS(gives(sel_if_then_else(&sides[0], &sides[3], &sides[1], &out), SEL_ERROR_LENGTH_MISMATCH));
         IS(out.at == NULL && prints(&sides[0], "[true,null,true,false]"));
         IS(prints(&sides[1], "[null,2,3,4]") && prints(&sides[2], "[10,null,30,40]"));
     }
@@ -98,22 +98,22 @@ void test_choices(void) {
 void test_broadcasts(void) {
     const int64_t values[3] = {1, 2, 3};
     sel_column out = {0}, given[5] = {truths(5, 3, 7), numbers(values, 3, 3), numbers(values + 2, 1, 1), numbers(values, 1, 0), {0}};
-    IS(sel_choose_one(&given[0], &given[2], &given[4], &out) == SEL_NO_COLUMN);
-    IS(sel_choose_or_one(&given[0], &given[4], &given[2], &out) == SEL_NO_COLUMN);
-    IS(sel_choose_of_two(&given[4], &given[2], &given[3], &out) == SEL_NO_COLUMN);
+    IS(sel_if_then_else_broadcast_true(&given[0], &given[2], &given[4], &out) == SEL_ERROR_NO_COLUMN);
+    IS(sel_if_then_else_broadcast_false(&given[0], &given[4], &given[2], &out) == SEL_ERROR_NO_COLUMN);
+    IS(sel_if_then_else_broadcast_both(&given[4], &given[2], &given[3], &out) == SEL_ERROR_NO_COLUMN);
     if (all_made(given, 4)) {
-        ANSWERS(sel_choose_one(&given[0], &given[2], &given[1], &out), &out, "[3,2,3]");
-        ANSWERS(sel_choose_one(&given[0], &given[3], &given[1], &out), &out, "[null,2,null]");
-        ANSWERS(sel_choose_or_one(&given[0], &given[1], &given[2], &out), &out, "[1,3,null]");
-        ANSWERS(sel_choose_or_one(&given[0], &given[1], &given[3], &out), &out, "[1,null,null]");
-        ANSWERS(sel_choose_of_two(&given[0], &given[2], &given[3], &out), &out, "[3,null,3]");
-        ANSWERS(sel_choose_of_two(&given[0], &given[3], &given[2], &out), &out, "[null,3,null]");
-        IS(sel_choose_one(&given[0], &given[1], &given[1], &out) != SEL_DONE);
-        IS(gives(sel_choose_or_one(&given[0], &given[2], &given[3], &out), SEL_OTHER_LENGTH));
-        IS(gives(sel_choose_of_two(&given[0], &given[1], &given[2], &out), SEL_OTHER_LENGTH));
-        IS(gives(sel_choose_one(&given[0], &given[2], &given[3], &out), SEL_OTHER_LENGTH));
-        IS(sel_choose_one(&given[0], &given[2], &given[0], &out) != SEL_DONE);
-        IS(gives(sel_choose_of_two(&given[1], &given[2], &given[3], &out), SEL_OTHER_KIND));
+        ANSWERS(sel_if_then_else_broadcast_true(&given[0], &given[2], &given[1], &out), &out, "[3,2,3]");
+        ANSWERS(sel_if_then_else_broadcast_true(&given[0], &given[3], &given[1], &out), &out, "[null,2,null]");
+        ANSWERS(sel_if_then_else_broadcast_false(&given[0], &given[1], &given[2], &out), &out, "[1,3,null]");
+        ANSWERS(sel_if_then_else_broadcast_false(&given[0], &given[1], &given[3], &out), &out, "[1,null,null]");
+        ANSWERS(sel_if_then_else_broadcast_both(&given[0], &given[2], &given[3], &out), &out, "[3,null,3]");
+        ANSWERS(sel_if_then_else_broadcast_both(&given[0], &given[3], &given[2], &out), &out, "[null,3,null]");
+        IS(sel_if_then_else_broadcast_true(&given[0], &given[1], &given[1], &out) != SEL_OK);
+        IS(gives(sel_if_then_else_broadcast_false(&given[0], &given[2], &given[3], &out), SEL_ERROR_LENGTH_MISMATCH));
+        IS(gives(sel_if_then_else_broadcast_both(&given[0], &given[1], &given[2], &out), SEL_ERROR_LENGTH_MISMATCH));
+        IS(gives(sel_if_then_else_broadcast_true(&given[0], &given[2], &given[3], &out), SEL_ERROR_LENGTH_MISMATCH));
+        IS(sel_if_then_else_broadcast_true(&given[0], &given[2], &given[0], &out) != SEL_OK);
+        IS(gives(sel_if_then_else_broadcast_both(&given[1], &given[2], &given[3], &out), SEL_ERROR_UNSUPPORTED_TYPE));
     }
     free_all(given, 5);
     sel_free(&out);
@@ -123,8 +123,8 @@ void test_broadcasts(void) {
 static void chooses(sel_column *first, sel_column *second, const char *chosen, const char *turned) {
     sel_column mask = truths(1, 2, 3), out = {0};
     if (first->at != NULL && second->at != NULL && mask.at != NULL) {
-        ANSWERS(sel_choose(&mask, first, second, &out), &out, chosen);
-        ANSWERS(sel_choose(&mask, second, first, &out), &out, turned);
+        ANSWERS(sel_if_then_else(&mask, first, second, &out), &out, chosen);
+        ANSWERS(sel_if_then_else(&mask, second, first, &out), &out, turned);
     }
     sel_free(first);
     sel_free(second);
@@ -139,8 +139,8 @@ void test_chosen_kinds(void) {
     DONE(sel_null_new(2, &first));
     DONE(sel_null_new(2, &second));
     chooses(&first, &second, "[null,null]", "[null,null]");
-    DONE(sel_binary_new(offsets, 3, (const uint8_t *)"abc", 3, no_bits, 0, false, &first));
-    DONE(sel_binary_new(offsets, 3, (const uint8_t *)"xyz", 3, no_bits, 0, false, &second));
+    DONE(sel_binary_new(offsets, 3, (const uint8_t *)"abc", 3, SEL_ALL_VALID, &first));
+    DONE(sel_binary_new(offsets, 3, (const uint8_t *)"xyz", 3, SEL_ALL_VALID, &second));
     chooses(&first, &second, "[h\"61\",h\"797a\"]", "[h\"78\",h\"6263\"]");
     first = truths(2, 2, 3), second = truths(1, 2, 2);
     chooses(&first, &second, "[false,false]", "[null,true]");
@@ -150,9 +150,9 @@ void test_chosen_kinds(void) {
             sel_column child = {0};
             DONE(sel_share(&below[side], &child));
             if (child.at != NULL) {
-                DONE(kind == 0 ? sel_list_new(offsets, 3, no_bits, 0, false, &child, &made[side])
-                    : kind == 1 ? sel_fixed_list_new(1, 2, no_bits, 0, false, &child, &made[side])
-                    : sel_struct_new(2, no_bits, 0, false, &child, 1, &made[side]));
+                DONE(kind == 0 ? sel_list_new(offsets, 3, SEL_ALL_VALID, &child, &made[side])
+                    : kind == 1 ? sel_fixed_size_list_new(1, 2, SEL_ALL_VALID, &child, &made[side])
+                    : sel_struct_new(2, SEL_ALL_VALID, &child, 1, &made[side]));
             }
             sel_free(&child);
         }
@@ -169,20 +169,20 @@ void test_flattens(void) {
     const int64_t values[4] = {1, 2, 3, 4};
     const size_t widths[2] = {2, 1}, none[2] = {2, 0};
     sel_column out = {0}, given[2] = {{0}, {0}};
-    IS(gives(sel_flatten(given, 0, widths, 0, 2, &out), SEL_OTHER_LENGTH));
+    IS(gives(sel_flatten(given, 0, widths, 0, 2, &out), SEL_ERROR_LENGTH_MISMATCH));
     given[0] = numbers(values, 4, 15);
-    IS(gives(sel_flatten(given, 2, widths, 2, 2, &out), SEL_NO_COLUMN));
+    IS(gives(sel_flatten(given, 2, widths, 2, 2, &out), SEL_ERROR_NO_COLUMN));
     given[1] = numbers(values + 3, 1, 0);
     if (all_made(given, 2)) {
         ANSWERS(sel_flatten(given, 2, widths, 2, 2, &out), &out, "[1,2,null,3,4,null]");
-        IS(gives(sel_flatten(given, 2, widths, 1, 2, &out), SEL_OTHER_LENGTH));
-        IS(gives(sel_flatten(given, 2, none, 2, 2, &out), SEL_OTHER_LENGTH));
-        IS(gives(sel_flatten(given, 2, widths, 2, 3, &out), SEL_OTHER_LENGTH));
-        IS(gives(sel_flatten(given + 1, 1, widths + 1, 1, (size_t)4294967296, &out), SEL_LIMIT_ROWS));
+        IS(gives(sel_flatten(given, 2, widths, 1, 2, &out), SEL_ERROR_LENGTH_MISMATCH));
+        IS(gives(sel_flatten(given, 2, none, 2, 2, &out), SEL_ERROR_LENGTH_MISMATCH));
+        IS(gives(sel_flatten(given, 2, widths, 2, 3, &out), SEL_ERROR_LENGTH_MISMATCH));
+        IS(gives(sel_flatten(given + 1, 1, widths + 1, 1, (size_t)4294967296, &out), SEL_ERROR_ROW_LIMIT));
         ANSWERS(sel_flatten(given + 1, 1, widths + 1, 1, 3, &out), &out, "[null,null,null]");
         sel_free(&given[1]);
         given[1] = truths(1, 1, 1);
-        IS(given[1].at == NULL || gives(sel_flatten(given, 2, widths, 2, 2, &out), SEL_OTHER_TYPE));
+        IS(given[1].at == NULL || gives(sel_flatten(given, 2, widths, 2, 2, &out), SEL_ERROR_TYPE_MISMATCH));
         IS(sel_len(&given[0]) == 4);
     }
     free_all(given, 2);
@@ -190,23 +190,23 @@ void test_flattens(void) {
 
 void test_collected_rows(void) {
     const int64_t values[3] = {1, 2, 3};
-    const sel_pick picks[4] = {{1, 1}, {0, 2}, {9, 9}, {1, 0}};
+    const sel_row_ref picks[4] = {{1, 1}, {0, 2}, {9, 9}, {1, 0}};
     const uint8_t bits[1] = {11};
     sel_column out = {0}, given[2] = {{0}, {0}};
-    IS(gives(sel_collect_rows(given, 0, picks, 0, no_bits, 0, false, &out), SEL_OTHER_LENGTH));
+    IS(gives(sel_collect_rows(given, 0, picks, 0, SEL_ALL_VALID, &out), SEL_ERROR_LENGTH_MISMATCH));
     given[0] = numbers(values, 3, 7);
-    IS(gives(sel_collect_rows(given, 2, picks, 0, no_bits, 0, false, &out), SEL_NO_COLUMN));
+    IS(gives(sel_collect_rows(given, 2, picks, 0, SEL_ALL_VALID, &out), SEL_ERROR_NO_COLUMN));
     given[1] = numbers(values + 1, 2, 2);
     if (all_made(given, 2)) {
         ANSWERS(sel_collect_rows(given, 2, picks, 4, bits, 1, true, &out), &out, "[3,3,null,null]");
-        ANSWERS(sel_collect_rows(given, 2, picks, 0, no_bits, 0, false, &out), &out, "[]");
-        IS(gives(sel_collect_rows(given, 2, picks, 4, no_bits, 0, false, &out), SEL_OUT_OF_BOUNDS));
-        IS(gives(sel_collect_rows(given, 1, picks, 1, no_bits, 0, false, &out), SEL_OUT_OF_BOUNDS));
-        IS(gives(sel_collect_rows(given, 2, picks, 4, no_bits, 0, true, &out), SEL_VALIDITY_LENGTH));
-        IS(gives(sel_collect_rows(given, 2, picks, (size_t)4294967296, no_bits, 0, false, &out), SEL_TOO_MANY_ROWS));
+        ANSWERS(sel_collect_rows(given, 2, picks, 0, SEL_ALL_VALID, &out), &out, "[]");
+        IS(gives(sel_collect_rows(given, 2, picks, 4, SEL_ALL_VALID, &out), SEL_ERROR_INDEX_OUT_OF_BOUNDS));
+        IS(gives(sel_collect_rows(given, 1, picks, 1, SEL_ALL_VALID, &out), SEL_ERROR_INDEX_OUT_OF_BOUNDS));
+        IS(gives(sel_collect_rows(given, 2, picks, 4, no_bits, 0, true, &out), SEL_ERROR_VALIDITY_LENGTH));
+        IS(gives(sel_collect_rows(given, 2, picks, (size_t)4294967296, SEL_ALL_VALID, &out), SEL_ERROR_TOO_MANY_ROWS));
         sel_free(&given[1]);
         given[1] = truths(1, 1, 1);
-        IS(given[1].at == NULL || gives(sel_collect_rows(given, 2, picks, 0, no_bits, 0, false, &out), SEL_OTHER_TYPE));
+        IS(given[1].at == NULL || gives(sel_collect_rows(given, 2, picks, 0, SEL_ALL_VALID, &out), SEL_ERROR_TYPE_MISMATCH));
         IS(prints(&given[0], "[1,2,3]"));
     }
     free_all(given, 2);
@@ -219,18 +219,18 @@ void test_dictionaries(void) {
     const char *const words[3] = {"a", "", "c"};
     const uint8_t bits[1] = {7};
     sel_column given[2] = {{0}, {0}}, out[2] = {{0}, {0}};
-    IS(sel_propagate_dictionary(&given[0], &given[1], &out[0], &out[1]) == SEL_NO_COLUMN);
+    IS(sel_propagate_dictionary(&given[0], &given[1], &out[0], &out[1]) == SEL_ERROR_NO_COLUMN);
     DONE(sel_uint32_new(keys, 4, bits, 1, true, &given[0]));
-    IS(sel_propagate_dictionary(&given[0], &given[1], &out[0], &out[1]) == SEL_NO_COLUMN);
+    IS(sel_propagate_dictionary(&given[0], &given[1], &out[0], &out[1]) == SEL_ERROR_NO_COLUMN);
     given[1] = texts(words, 3, 5);
     if (all_made(given, 2)) {
-        uint32_t status = sel_propagate_dictionary(&given[0], &given[1], &out[0], &out[1]);
-        IS(done(status) && (out[0].at == NULL) == (status != SEL_DONE) && (out[1].at == NULL) == (status != SEL_DONE));
-        IS(status != SEL_DONE || (prints(&out[0], "[0,null,1,null]") && prints(&out[1], "[\"a\",\"c\"]")));
+        sel_status status = sel_propagate_dictionary(&given[0], &given[1], &out[0], &out[1]);
+        IS(done(status) && (out[0].at == NULL) == (status != SEL_OK) && (out[1].at == NULL) == (status != SEL_OK));
+        IS(status != SEL_OK || (prints(&out[0], "[0,null,1,null]") && prints(&out[1], "[\"a\",\"c\"]")));
         IS(prints(&given[0], "[0,1,2,null]") && prints(&given[1], "[\"a\",null,\"c\"]"));
-        IS(gives(sel_propagate_dictionary(&given[1], &given[0], &out[0], &out[1]), SEL_OTHER_KIND));
-        DONE(sel_uint32_new(far, 1, no_bits, 0, false, &given[0]));
-        IS(refused || gives(sel_propagate_dictionary(&given[0], &given[1], &out[0], &out[1]), SEL_OUT_OF_BOUNDS));
+        IS(gives(sel_propagate_dictionary(&given[1], &given[0], &out[0], &out[1]), SEL_ERROR_UNSUPPORTED_TYPE));
+        DONE(sel_uint32_new(far, 1, SEL_ALL_VALID, &given[0]));
+        IS(refused || gives(sel_propagate_dictionary(&given[0], &given[1], &out[0], &out[1]), SEL_ERROR_INDEX_OUT_OF_BOUNDS));
     }
     free_all(given, 2);
     free_all(out, 2);
@@ -244,14 +244,14 @@ void test_equal_rows(void) {
     const uint8_t bits[1] = {5};
     bool equal = false;
     sel_column given[3] = {{0}, {0}, {0}};
-    IS(sel_equal_rows(&given[0], &given[1], &equal) == SEL_NO_COLUMN);
+    IS(sel_equal_rows(&given[0], &given[1], &equal) == SEL_ERROR_NO_COLUMN);
     given[0] = numbers(values, 3, 5);
-    IS(sel_equal_rows(&given[0], &given[1], &equal) == SEL_NO_COLUMN);
+    IS(sel_equal_rows(&given[0], &given[1], &equal) == SEL_ERROR_NO_COLUMN);
     DONE(sel_int8_new(small, 3, bits, 1, true, &given[1]));
     given[2] = numbers(values, 3, 7);
     if (all_made(given, 3)) {
-        IS(sel_equal_rows(&given[0], &given[1], &equal) == SEL_DONE && equal);
-        IS(sel_equal_rows(&given[0], &given[2], &equal) == SEL_DONE && !equal);
+        IS(sel_equal_rows(&given[0], &given[1], &equal) == SEL_OK && equal);
+        IS(sel_equal_rows(&given[0], &given[2], &equal) == SEL_OK && !equal);
         IS(sel_len(&given[0]) == 3 && sel_len(&given[1]) == 3);
     }
     free_all(given, 3);
@@ -262,22 +262,22 @@ void test_prints(void) {
     uint8_t room[12] = "zzzzzzzzzzz";
     size_t len = 9;
     sel_column column = {0};
-    IS(sel_print(&column, room, 12, &len) == SEL_NO_COLUMN && len == 9);
+    IS(sel_print(&column, room, 12, &len) == SEL_ERROR_NO_COLUMN && len == 9);
     column = numbers(values, 3, 5);
     if (column.at != NULL) {
-        uint32_t status = sel_print(&column, room, 4, &len);
-        IS(done(status) && (status != SEL_DONE || (len == 11 && memcmp(room, "[1,nzzzzzzz", 11) == 0)));
+        sel_status status = sel_print(&column, room, 4, &len);
+        IS(done(status) && (status != SEL_OK || (len == 11 && memcmp(room, "[1,nzzzzzzz", 11) == 0)));
         status = sel_print(&column, room, 0, &len);
-        IS(done(status) && (status != SEL_DONE || len == 11));
+        IS(done(status) && (status != SEL_OK || len == 11));
         status = sel_print(&column, room, 12, &len);
-        IS(done(status) && (status != SEL_DONE || memcmp(room, "[1,null,-3]", 11) == 0));
+        IS(done(status) && (status != SEL_OK || memcmp(room, "[1,null,-3]", 11) == 0));
     }
     sel_free(&column);
 }
 
 /* ---- columns read from texts ---- */
 
-static uint32_t parse(const char *dtype, const char *text, size_t *at, sel_column *out) {
+static sel_status parse(const char *dtype, const char *text, size_t *at, sel_column *out) {
     return sel_parse((const uint8_t *)dtype, strlen(dtype), (const uint8_t *)text, strlen(text), at, out);
 }
 
@@ -286,11 +286,11 @@ static void reads(const char *dtype, const char *text, const char *printed, sel_
     size_t at = 77;
     bool equal = false;
     sel_column out = {0};
-    uint32_t status = parse(dtype, text, &at, &out);
-    is(done(status) && at == 77 && (out.at == NULL) == (status != SEL_DONE), dtype, line);
-    if (status == SEL_DONE && made->at != NULL) {
-        is(sel_equal_rows(&out, made, &equal) == SEL_DONE && equal, text, line);
-        is(sel_kind(&out) == sel_kind(made) && prints(&out, printed), printed, line);
+    sel_status status = parse(dtype, text, &at, &out);
+    is(done(status) && at == 77 && (out.at == NULL) == (status != SEL_OK), dtype, line);
+    if (status == SEL_OK && made->at != NULL) {
+        is(sel_equal_rows(&out, made, &equal) == SEL_OK && equal, text, line);
+        is(sel_type_of(&out) == sel_type_of(made) && prints(&out, printed), printed, line);
     }
     sel_free(&out);
     sel_free(made);
@@ -313,7 +313,7 @@ void test_parses(void) {
     READS("list< utf8 >", "[[\"ada\", \"a, b] c\"], null, []]", "[[\"ada\",\"a, b] c\"],null,[]]", &made);
     free_all(below, 1);
     below[0] = numbers(values, 4, 11);
-    IS(below[0].at == NULL || done(sel_fixed_list_new(2, 2, first, 1, true, &below[0], &made)));
+    IS(below[0].at == NULL || done(sel_fixed_size_list_new(2, 2, first, 1, true, &below[0], &made)));
     READS("fixed<2,i64>", "[[1,2],null]", "[[1,2],null]", &made);
     free_all(below, 1);
     below[0] = numbers(values, 2, 3), below[1] = truths(1, 2, 3);
@@ -325,10 +325,10 @@ void test_parses(void) {
 }
 
 /* Checks that sel_parse returns the status, writes the place of a fault, and leaves the column of `out`. */
-static void misreads(uint32_t status, const char *dtype, const char *text, size_t place, sel_column *out, int line) {
+static void misreads(sel_status status, const char *dtype, const char *text, size_t place, sel_column *out, int line) {
     size_t at = 77;
     const void *const before = out->at;
-    uint32_t answer = parse(dtype, text, &at, out);
+    sel_status answer = parse(dtype, text, &at, out);
     is(gives(answer, status), text, line);
     is(at == (answer == status ? place : 77), dtype, line);
     is(out->at == before && prints(out, "[1,2]"), "the column stays", line);
@@ -345,21 +345,21 @@ void test_misread_texts(void) {
         deep[65 * 5 + 2 + i] = '>';
     }
     memcpy(deep + 65 * 5, "i8", 2);
-    MISREADS(SEL_TYPE_SYNTAX, "", "[]", 0);
-    MISREADS(SEL_TYPE_SYNTAX, "i7", "[]", 0);
-    MISREADS(SEL_TYPE_SYNTAX, "list< float >", "[]", 6);
-    MISREADS(SEL_TYPE_SYNTAX, "list<i8", "[]", 7);
-    MISREADS(SEL_TYPE_SYNTAX, "i8\xFF", "[]", 2);
-    MISREADS(SEL_TEXT_SYNTAX, "i8", "", 0);
-    MISREADS(SEL_TEXT_SYNTAX, "i8", "[1, ]", 4);
-    MISREADS(SEL_TEXT_SYNTAX, "i8", "[1] 2", 4);
-    MISREADS(SEL_TEXT_SYNTAX, "utf8", "[\"a\xFF\"]", 3);
-    MISREADS(SEL_TEXT_SYNTAX, "utf8", "[\"\n\"]", 2);
-    MISREADS(SEL_TEXT_MISFIT, "i8", "[0, 128]", 4);
-    MISREADS(SEL_TEXT_MISFIT, "list<bool>", "[[true], 2]", 9);
-    MISREADS(SEL_TEXT_LIMIT, deep, "[]", 77);
-    MISREADS(SEL_TEXT_LIMIT, "fixed<4294967296,i8>", "[]", 77);
-    MISREADS(SEL_TEXT_LIMIT, "fixed<18446744073709551616,i8>", "[]", 77);
+    MISREADS(SEL_ERROR_TYPE_SYNTAX, "", "[]", 0);
+    MISREADS(SEL_ERROR_TYPE_SYNTAX, "i7", "[]", 0);
+    MISREADS(SEL_ERROR_TYPE_SYNTAX, "list< float >", "[]", 6);
+    MISREADS(SEL_ERROR_TYPE_SYNTAX, "list<i8", "[]", 7);
+    MISREADS(SEL_ERROR_TYPE_SYNTAX, "i8\xFF", "[]", 2);
+    MISREADS(SEL_ERROR_ROW_SYNTAX, "i8", "", 0);
+    MISREADS(SEL_ERROR_ROW_SYNTAX, "i8", "[1, ]", 4);
+    MISREADS(SEL_ERROR_ROW_SYNTAX, "i8", "[1] 2", 4);
+    MISREADS(SEL_ERROR_ROW_SYNTAX, "utf8", "[\"a\xFF\"]", 3);
+    MISREADS(SEL_ERROR_ROW_SYNTAX, "utf8", "[\"\n\"]", 2);
+    MISREADS(SEL_ERROR_ROW_TYPE_MISMATCH, "i8", "[0, 128]", 4);
+    MISREADS(SEL_ERROR_ROW_TYPE_MISMATCH, "list<bool>", "[[true], 2]", 9);
+    MISREADS(SEL_ERROR_TEXT_LIMIT, deep, "[]", 77);
+    MISREADS(SEL_ERROR_TEXT_LIMIT, "fixed<4294967296,i8>", "[]", 77);
+    MISREADS(SEL_ERROR_TEXT_LIMIT, "fixed<18446744073709551616,i8>", "[]", 77);
     sel_free(&out);
 }
 
@@ -375,14 +375,14 @@ static void lists_of_nulls(const int64_t *offsets, size_t len, uint8_t bits, sel
 }
 
 /* Checks the status of a call and the length of its result, which is freed. */
-static void has_rows(uint32_t status, uint32_t wanted, size_t len, sel_column *out, int line) {
+static void has_rows(sel_status status, sel_status wanted, size_t len, sel_column *out, int line) {
     is(gives(status, wanted), "the status of a limit", line);
-    is(sel_len(out) == (status == SEL_DONE ? len : 0), "the length of the result", line);
+    is(sel_len(out) == (status == SEL_OK ? len : 0), "the length of the result", line);
     sel_free(out);
 }
 
-#define HAS_ROWS(call, len, out) has_rows((call), SEL_DONE, (len), (out), __LINE__)
-#define EXCEEDS(call, out) has_rows((call), SEL_LIMIT_ROWS, 0, (out), __LINE__)
+#define HAS_ROWS(call, len, out) has_rows((call), SEL_OK, (len), (out), __LINE__)
+#define EXCEEDS(call, out) has_rows((call), SEL_ERROR_ROW_LIMIT, 0, (out), __LINE__)
 
 void test_flatten_limits(void) {
     const size_t widths[2] = {65536, 65537};
@@ -401,7 +401,7 @@ void test_flatten_limits(void) {
 void test_list_limits(void) {
     const int64_t one[2] = {0, most_rows}, first[3] = {0, most_rows, most_rows}, second[3] = {0, 0, most_rows};
     const uint32_t twice[2] = {0, 0};
-    const sel_pick picks[2] = {{0, 0}, {1, 0}};
+    const sel_row_ref picks[2] = {{0, 0}, {1, 0}};
     const size_t widths[1] = {1};
     sel_column out = {0}, given[6] = {{0}, {0}, {0}, {0}, truths(1, 2, 3), {0}};
     lists_of_nulls(one, 1, 1, &given[0]);
@@ -410,18 +410,18 @@ void test_list_limits(void) {
     lists_of_nulls(second, 2, 3, &given[3]);
     lists_of_nulls(one, 1, 1, &given[5]);
     if (all_made(given, 6)) {
-        EXCEEDS(sel_take_rows(&given[0], twice, 2, no_bits, 0, false, &out), &out);
-        HAS_ROWS(sel_take_rows(&given[0], twice, 1, no_bits, 0, false, &out), 1, &out);
-        HAS_ROWS(sel_take_rows(&given[1], twice, 2, no_bits, 0, false, &out), 2, &out);
-        HAS_ROWS(sel_sublist_get(&given[0], -1, &out), 1, &out);
-        EXCEEDS(sel_choose(&given[4], &given[2], &given[3], &out), &out);
-        HAS_ROWS(sel_choose(&given[4], &given[3], &given[2], &out), 2, &out);
-        EXCEEDS(sel_choose_one(&given[4], &given[0], &given[3], &out), &out);
-        HAS_ROWS(sel_choose_one(&given[4], &given[0], &given[2], &out), 2, &out);
-        EXCEEDS(sel_choose_or_one(&given[4], &given[2], &given[0], &out), &out);
-        EXCEEDS(sel_choose_of_two(&given[4], &given[0], &given[5], &out), &out);
-        EXCEEDS(sel_collect_rows(given, 2, (const sel_pick[2]){picks[0], picks[0]}, 2, no_bits, 0, false, &out), &out);
-        HAS_ROWS(sel_collect_rows(given, 2, picks, 2, no_bits, 0, false, &out), 2, &out);
+        EXCEEDS(sel_take_rows(&given[0], twice, 2, SEL_ALL_VALID, &out), &out);
+        HAS_ROWS(sel_take_rows(&given[0], twice, 1, SEL_ALL_VALID, &out), 1, &out);
+        HAS_ROWS(sel_take_rows(&given[1], twice, 2, SEL_ALL_VALID, &out), 2, &out);
+        HAS_ROWS(sel_list_get(&given[0], -1, &out), 1, &out);
+        EXCEEDS(sel_if_then_else(&given[4], &given[2], &given[3], &out), &out);
+        HAS_ROWS(sel_if_then_else(&given[4], &given[3], &given[2], &out), 2, &out);
+        EXCEEDS(sel_if_then_else_broadcast_true(&given[4], &given[0], &given[3], &out), &out);
+        HAS_ROWS(sel_if_then_else_broadcast_true(&given[4], &given[0], &given[2], &out), 2, &out);
+        EXCEEDS(sel_if_then_else_broadcast_false(&given[4], &given[2], &given[0], &out), &out);
+        EXCEEDS(sel_if_then_else_broadcast_both(&given[4], &given[0], &given[5], &out), &out);
+        EXCEEDS(sel_collect_rows(given, 2, (const sel_row_ref[2]){picks[0], picks[0]}, 2, SEL_ALL_VALID, &out), &out);
+        HAS_ROWS(sel_collect_rows(given, 2, picks, 2, SEL_ALL_VALID, &out), 2, &out);
         EXCEEDS(sel_flatten(given, 1, widths, 1, 2, &out), &out);
     }
     free_all(given, 6);

@@ -17,16 +17,16 @@ int main(void) {
 
     sel_column column = {0}, kept = {0};
     const uint8_t keep = 0x05; /* the first and the third row */
-    uint32_t status = sel_import(&array, &schema, &column);
+    sel_status status = sel_import(&array, &schema, &column);
     schema.release(&schema);
-    if (status == SEL_DONE) status = sel_filter_bits(&column, &keep, 1, 3, &kept);
+    if (status == SEL_OK) status = sel_filter_bits(&column, &keep, 1, 3, &kept);
     sel_free(&column);
 
     struct ArrowArray out;
     struct ArrowSchema type;
-    if (status == SEL_DONE) status = sel_export(&kept, &out, &type);
+    if (status == SEL_OK) status = sel_export(&kept, &out, &type);
     sel_free(&kept);
-    if (status != SEL_DONE) return (int)status;
+    if (status != SEL_OK) return (int)status;
 
     printf("%s: %d rows, %d null\n", type.format, (int)out.length, (int)out.null_count);
     const sel_view *views = out.buffers[1];

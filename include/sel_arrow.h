@@ -43,49 +43,33 @@ struct ArrowArray {
 };
 #endif
 
-/* Statuses of the two calls below, in addition to those of sel.h. */
-enum sel_arrow_status {
-    SEL_ARROW_RELEASED = 64,   /* the array or the schema, or one below it, was released */
-    SEL_ARROW_FORMAT = 65,     /* an unsupported format */
-    SEL_ARROW_BUFFERS = 66,    /* another number of buffers than the format has, or a missing one */
-    SEL_ARROW_CHILDREN = 67,   /* another number of children than the format has, or a missing one */
-    SEL_ARROW_LENGTH = 68,     /* a length, an offset or a null count out of range, or a child that is too short */
-    SEL_ARROW_DICTIONARY = 69, /* a dictionary-encoded array */
-    SEL_ARROW_DEPTH = 70,      /* more than 256 levels of children */
-    SEL_ARROW_RANGE = 71       /* a value or an offset that the format cannot represent */
-};
-
-/* Makes a column of an array, at every depth, and releases the array. The schema is only read. On error the array is not
- * released and `out` is unchanged, so that the call can be tried again.
+/* Makes a column of an array, at every depth, and releases the array. The schema is only read. On error the array is
+ * not released and `out` is unchanged, so that the call can be tried again.
  *
- * Formats: n, b, c, C, s, S, i, I, l, L; d:P,0 and d:P,0,128 with P from 1 to 38 (128-bit integers); z and Z (binary),
- * u and U (strings, as views), vz, vu; +l and +L (lists), +w:N (fixed-size lists), +s (structs). 32-bit offsets are
- * widened. Any other format is SEL_ARROW_FORMAT.
+ * Formats: n, b, c, C, s, S, i, I, l, L; d:P,0 and d:P,0,128 with P from 1 to 38 (128-bit integers); z and Z
+ * (binary), u and U (strings, as views), vz, vu; +l and +L (lists), +w:N (fixed-size lists), +s (structs). 32-bit
+ * offsets are widened. Any other format is SEL_ERROR_ARROW_FORMAT.
  *
- * Before a buffer is read, the counts of every level are checked: the length and the offset are not negative and are at
- * most 4,294,967,295 together (SEL_TOO_MANY_ROWS), the null count is -1 or at most the length, the array has as many
- * buffers and children as its format, and no more than 2,147,483,647. Then the rules of columns are checked; a null count
- * above 0 is the number of nulls in the validity, and a view in a null slot may be any bytes. The producer ensures that
- * the buffers are as long as the length, the offset and the offsets buffer say: no call can check that.
+ * Before a buffer is read, the counts of every level are checked: the length and the offset are not negative and are
+ * at most 4,294,967,295 together (SEL_ERROR_TOO_MANY_ROWS), the null count is -1 or at most the length, the array has
+ * as many buffers and children as its format, and no more than 2,147,483,647. Then the rules of columns are checked;
+ * a null count above 0 is the number of nulls in the validity, and a view in a null slot may be any bytes. The
+ * producer ensures that the buffers are as long as the length, the offset and the offsets buffer say: no call can
+ * check that.
  *
- * Errors: SEL_NO_MEMORY, the status of the rule of columns that is broken, or one of enum sel_arrow_status. */
-uint32_t sel_import(struct ArrowArray *array, const struct ArrowSchema *schema, sel_column *out);
+ * Errors: SEL_ERROR_OUT_OF_MEMORY, the status of the rule of columns that is broken, or a SEL_ERROR_ARROW_ status. */
+sel_status sel_import(struct ArrowArray *array, const struct ArrowSchema *schema, sel_column *out);
 
 /* Writes a copy of the column to two structures, which the caller releases. The column is unchanged.
  *
- * Binary columns are exported as Z, views as vz and vu, lists as +L, signed 128-bit integers as d:38,0,128; unsigned ones
- * have no format (SEL_ARROW_FORMAT). Fields are named by their numbers, "0", "1", ... A 128-bit integer or a view in a
- * null slot, also in that of a list or struct above it, is exported as 0 or as an empty view.
+ * Binary columns are exported as Z, views as vz and vu, lists as +L, signed 128-bit integers as d:38,0,128; unsigned
+ * ones have no format (SEL_ERROR_ARROW_FORMAT). Fields are named by their numbers, "0", "1", ... A 128-bit integer or
+ * a view in a null slot, also in that of a list or struct above it, is exported as 0 or as an empty view.
  *
- * Errors: SEL_NO_COLUMN, SEL_NO_MEMORY, SEL_ARROW_DEPTH, SEL_ARROW_FORMAT; then SEL_ARROW_RANGE if a row shows an integer
- * with more than 38 digits or a view beyond byte 2,147,483,647 of a data buffer. On error there is nothing to release. */
-uint32_t sel_export(sel_column *of, struct ArrowArray *array, struct ArrowSchema *schema);
-
-/* Returns the text of a status of either enum, a constant. */
-const char *sel_status_text(uint32_t status);
-
-/* Writes the text of a status without a terminating zero, as much of it as fits; returns its length. */
-size_t sel_arrow_text(uint32_t status, uint8_t *out, size_t out_len);
+ * Errors: SEL_ERROR_NO_COLUMN, SEL_ERROR_OUT_OF_MEMORY, SEL_ERROR_ARROW_DEPTH, SEL_ERROR_ARROW_FORMAT; then
+ * SEL_ERROR_ARROW_RANGE if a row shows an integer with more than 38 digits or a view beyond byte 2,147,483,647 of a
+ * data buffer. On error there is nothing to release. */
+sel_status sel_export(const sel_column *of, struct ArrowArray *array, struct ArrowSchema *schema);
 
 #ifdef __cplusplus
 }

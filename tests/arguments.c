@@ -70,7 +70,7 @@ static bool read_columns(struct arguments *out, const char *text) {
 }
 
 /* Reads rows that are no column here, none of which may be null. */
-static bool read_values(struct arguments *out, uint32_t kind, const char *text, struct rows *rows) {
+static bool read_values(struct arguments *out, sel_type_id kind, const char *text, struct rows *rows) {
     struct misread why;
     if (!read_rows(out->arena, leaf_type(kind), text, rows, &why)) {
         return fail("no rows of the type %s: %s at byte %zu of %s", type_text(out->arena, leaf_type(kind)), why.reason, why.at, text);
@@ -80,7 +80,7 @@ static bool read_values(struct arguments *out, uint32_t kind, const char *text, 
 
 /* Reads a mask, and packs its bits. */
 static bool read_mask(struct arguments *out, const char *text) {
-    if (!read_column(out, leaf_type(SEL_BOOLEAN), text)) {
+    if (!read_column(out, leaf_type(SEL_TYPE_BOOLEAN), text)) {
         return false;
     }
     const struct rows *rows = &out->columns[out->column_count - 1];
@@ -91,7 +91,7 @@ static bool read_mask(struct arguments *out, const char *text) {
 
 /* Reads indices, also as numbers with a validity. */
 static bool read_indices(struct arguments *out, const char *text) {
-    if (!read_column(out, leaf_type(SEL_UINT32), text)) {
+    if (!read_column(out, leaf_type(SEL_TYPE_UINT32), text)) {
         return false;
     }
     const struct rows *rows = &out->columns[out->column_count - 1];
@@ -123,7 +123,7 @@ static bool read_flag(struct arguments *out, const char *text) {
 
 static bool read_offsets(struct arguments *out, const char *text) {
     struct rows rows;
-    if (!read_values(out, SEL_INT64, text, &rows)) {
+    if (!read_values(out, SEL_TYPE_INT64, text, &rows)) {
         return false;
     }
     int64_t *offsets = arena_take(out->arena, rows.len, sizeof *offsets);
@@ -150,7 +150,7 @@ static bool read_validity(struct arguments *out, const char *text) {
     if (!out->has_bits) {
         return true;
     }
-    if (!read_values(out, SEL_BOOLEAN, text, &rows)) {
+    if (!read_values(out, SEL_TYPE_BOOLEAN, text, &rows)) {
         return false;
     }
     out->bits = packed_bits(out->arena, rows.values, rows.len);
@@ -195,7 +195,7 @@ static bool read_run(char *text, struct run *out) {
 
 /* Returns how many picks a text stands for, which are written if there is a place for them; SIZE_MAX if it is misspelled. A
  * null pick names a row that no column has. */
-static size_t write_picks(struct arguments *out, const char *text, sel_pick *picks, struct value *valid) {
+static size_t write_picks(struct arguments *out, const char *text, sel_row_ref *picks, struct value *valid) {
     char *rest = parts_of(out, text);
     size_t count = 0;
     for (char *part = next_part(&rest, " "); part != NULL; part = next_part(&rest, " ")) {
@@ -204,7 +204,7 @@ static size_t write_picks(struct arguments *out, const char *text, sel_pick *pic
             return SIZE_MAX;
         }
         for (size_t i = 0; i < run.count && picks != NULL; i += 1) {
-            picks[count + i] = run.is_null ? (sel_pick){UINT32_MAX, UINT32_MAX} : (sel_pick){(uint32_t)run.source, (uint32_t)(run.row + i)};
+            picks[count + i] = run.is_null ? (sel_row_ref){UINT32_MAX, UINT32_MAX} : (sel_row_ref){(uint32_t)run.source, (uint32_t)(run.row + i)};
             valid[count + i].low = !run.is_null;
             out->has_bits = out->has_bits || run.is_null;
         }
@@ -218,7 +218,7 @@ static bool read_picks(struct arguments *out, const char *text) {
     if (count == SIZE_MAX) {
         return fail("no picks: %s", text);
     }
-    sel_pick *picks = arena_take(out->arena, count, sizeof *picks);
+    sel_row_ref *picks = arena_take(out->arena, count, sizeof *picks);
     struct value *valid = arena_take(out->arena, count, sizeof *valid);
     write_picks(out, text, picks, valid);
     out->picks = picks;
@@ -236,8 +236,8 @@ static bool read_argument(struct arguments *out, char letter, const char *text) 
     case 'r': return read_column(out, out->type, text);
     case 'M': return read_mask(out, text);
     case 'U': return read_indices(out, text);
-    case 'I': return read_column(out, leaf_type(SEL_INT64), text);
-    case 'S': return read_column(out, leaf_type(SEL_UTF8_VIEW), text);
+    case 'I': return read_column(out, leaf_type(SEL_TYPE_INT64), text);
+    case 'S': return read_column(out, leaf_type(SEL_TYPE_STRING_VIEW), text);
     case 'c': return read_columns(out, text);
     case 'n': return read_number(out, text);
     case 'i': return read_index(text, &out->index) || fail("no index: %s", text);

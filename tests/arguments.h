@@ -25,7 +25,7 @@ struct arguments {
     size_t width_count;
     const size_t *widths;
     size_t pick_count;
-    const sel_pick *picks;
+    const sel_row_ref *picks;
     const char *type_text;      /* texts of a type and of rows, as they are written in the line */
     const char *rows_text;
 };

@@ -13,21 +13,21 @@ static const struct type *of_first_column(const struct arguments *given) {
 }
 
 static const struct type *of_item(const struct arguments *given) {
-    bool has_items = given->type->kind == SEL_LARGE_LIST || given->type->kind == SEL_FIXED_SIZE_LIST;
+    bool has_items = given->type->kind == SEL_TYPE_LIST || given->type->kind == SEL_TYPE_FIXED_SIZE_LIST;
     return has_items ? given->type->children : NULL;
 }
 
 static const struct type *of_field(const struct arguments *given) {
-    bool has_field = given->type->kind == SEL_STRUCT && given->numbers[0] < given->type->count;
+    bool has_field = given->type->kind == SEL_TYPE_STRUCT && given->numbers[0] < given->type->count;
     return has_field ? &given->type->children[given->numbers[0]] : NULL;
 }
 
 static const struct type *of_lists(const struct arguments *given) {
-    return list_type(given->arena, SEL_LARGE_LIST, 0, given->type);
+    return list_type(given->arena, SEL_TYPE_LIST, 0, given->type);
 }
 
 static const struct type *of_fixed_size_lists(const struct arguments *given) {
-    return list_type(given->arena, SEL_FIXED_SIZE_LIST, given->numbers[0], given->type);
+    return list_type(given->arena, SEL_TYPE_FIXED_SIZE_LIST, given->numbers[0], given->type);
 }
 
 static const struct type *of_structs(const struct arguments *given) {
@@ -36,13 +36,13 @@ static const struct type *of_structs(const struct arguments *given) {
     for (size_t i = 0; i < given->column_count; i += 1) {
         fields[i] = *given->columns[i].type;
     }
-    *type = (struct type){SEL_STRUCT, 0, given->column_count, fields};
+    *type = (struct type){SEL_TYPE_STRUCT, 0, given->column_count, fields};
     return type;
 }
 
 static const struct type *of_keys(const struct arguments *given) {
     (void)given;
-    return leaf_type(SEL_UINT32);
+    return leaf_type(SEL_TYPE_UINT32);
 }
 
 /* The type that a text names, which may have spaces between its parts. */
@@ -60,7 +60,7 @@ static const struct type *of_text(const struct arguments *given) {
 
 /* ---- the calls ---- */
 
-#define RUN(name) static uint32_t run_##name(const struct arguments *given, sel_column *columns, struct outcome *out)
+#define RUN(name) static sel_status run_##name(const struct arguments *given, sel_column *columns, struct outcome *out)
 #define PARSE(text) (const uint8_t *)(text), strlen(text)
 #define VALIDITY(given) (given)->bits, (given)->bits_len, (given)->has_bits
 
@@ -86,38 +86,38 @@ RUN(take) {
 
 RUN(if_then_else) {
     (void)given;
-    return sel_choose(&columns[0], &columns[1], &columns[2], &out->columns[0]);
+    return sel_if_then_else(&columns[0], &columns[1], &columns[2], &out->columns[0]);
 }
 
 RUN(broadcast_true) {
     (void)given;
-    return sel_choose_one(&columns[0], &columns[1], &columns[2], &out->columns[0]);
+    return sel_if_then_else_broadcast_true(&columns[0], &columns[1], &columns[2], &out->columns[0]);
 }
 
 RUN(broadcast_false) {
     (void)given;
-    return sel_choose_or_one(&columns[0], &columns[1], &columns[2], &out->columns[0]);
+    return sel_if_then_else_broadcast_false(&columns[0], &columns[1], &columns[2], &out->columns[0]);
 }
 
 RUN(broadcast_both) {
     (void)given;
-    return sel_choose_of_two(&columns[0], &columns[1], &columns[2], &out->columns[0]);
+    return sel_if_then_else_broadcast_both(&columns[0], &columns[1], &columns[2], &out->columns[0]);
 }
 
 RUN(list_get) {
-    return sel_sublist_get(&columns[0], given->index, &out->columns[0]);
+    return sel_list_get(&columns[0], given->index, &out->columns[0]);
 }
 
 RUN(index_is_oob) {
-    return sel_index_is_oob(&columns[0], given->index, &out->flag);
+    return sel_list_index_is_oob(&columns[0], given->index, &out->flag);
 }
 
 RUN(fixed_size_list_get) {
-    return sel_fixed_get(&columns[0], given->index, given->flag, &out->columns[0]);
+    return sel_fixed_size_list_get(&columns[0], given->index, given->flag, &out->columns[0]);
 }
 
 RUN(fixed_size_list_get_each) {
-    return sel_fixed_get_each(&columns[0], &columns[1], given->flag, &out->columns[0]);
+    return sel_fixed_size_list_get_each(&columns[0], &columns[1], given->flag, &out->columns[0]);
 }
 
 RUN(unit_list) {
@@ -126,7 +126,7 @@ RUN(unit_list) {
 }
 
 RUN(slice) {
-    return sel_sliced(&columns[0], given->numbers[0], given->numbers[1], &out->columns[0]);
+    return sel_slice(&columns[0], given->numbers[0], given->numbers[1], &out->columns[0]);
 }
 
 RUN(child) {
@@ -143,7 +143,7 @@ RUN(list_new) {
 }
 
 RUN(fixed_size_list_new) {
-    return sel_fixed_list_new(given->numbers[0], given->numbers[1], VALIDITY(given), &columns[0], &out->columns[0]);
+    return sel_fixed_size_list_new(given->numbers[0], given->numbers[1], VALIDITY(given), &columns[0], &out->columns[0]);
 }
 
 RUN(struct_new) {
@@ -191,12 +191,12 @@ RUN(read_back) {
     return sel_parse(PARSE(given->type_text), PARSE(given->columns[0].text), &out->place, &out->columns[0]);
 }
 
-static bool is_of_kind(const struct arguments *given, uint32_t kind) {
+static bool is_of_kind(const struct arguments *given, sel_type_id kind) {
     return given->columns[1].type->kind == kind;
 }
 
 static bool mask_has_no_nulls(const struct arguments *given) {
-    return is_of_kind(given, SEL_BOOLEAN) && null_count(&given->columns[1]) == 0;
+    return is_of_kind(given, SEL_TYPE_BOOLEAN) && null_count(&given->columns[1]) == 0;
 }
 
 RUN(filter_bits) {
@@ -204,7 +204,7 @@ RUN(filter_bits) {
 }
 
 static bool indices_fit(const struct arguments *given) {
-    return is_of_kind(given, SEL_UINT32);
+    return is_of_kind(given, SEL_TYPE_UINT32);
 }
 
 RUN(take_rows) {
@@ -219,20 +219,20 @@ const struct call calls[] = {
     {"filter", "trM", RESULT_ROWS, "sel_filter_bits", of_line, run_filter_bits, mask_has_no_nulls, false, false},
     {"take", "trU", RESULT_ROWS, "sel_take", of_line, run_take, NULL, false, false},
     {"take", "trU", RESULT_ROWS, "sel_take_rows", of_line, run_take_rows, indices_fit, false, false},
-    {"if_then_else", "tMrr", RESULT_ROWS, "sel_choose", of_line, run_if_then_else, NULL, false, false},
-    {"if_then_else_broadcast_true", "tMrr", RESULT_ROWS, "sel_choose_one", of_line, run_broadcast_true, NULL, false, false},
-    {"if_then_else_broadcast_false", "tMrr", RESULT_ROWS, "sel_choose_or_one", of_line, run_broadcast_false, NULL, false, false},
-    {"if_then_else_broadcast_both", "tMrr", RESULT_ROWS, "sel_choose_of_two", of_line, run_broadcast_both, NULL, false, false},
-    {"list_get", "tri", RESULT_ROWS, "sel_sublist_get", of_item, run_list_get, NULL, false, false},
-    {"index_is_oob", "tri", RESULT_FLAG, "sel_index_is_oob", NULL, run_index_is_oob, NULL, false, false},
-    {"fixed_size_list_get", "trif", RESULT_ROWS, "sel_fixed_get", of_item, run_fixed_size_list_get, NULL, false, false},
-    {"fixed_size_list_get_each", "trIf", RESULT_ROWS, "sel_fixed_get_each", of_item, run_fixed_size_list_get_each, NULL, false, false},
+    {"if_then_else", "tMrr", RESULT_ROWS, "sel_if_then_else", of_line, run_if_then_else, NULL, false, false},
+    {"if_then_else_broadcast_true", "tMrr", RESULT_ROWS, "sel_if_then_else_broadcast_true", of_line, run_broadcast_true, NULL, false, false},
+    {"if_then_else_broadcast_false", "tMrr", RESULT_ROWS, "sel_if_then_else_broadcast_false", of_line, run_broadcast_false, NULL, false, false},
+    {"if_then_else_broadcast_both", "tMrr", RESULT_ROWS, "sel_if_then_else_broadcast_both", of_line, run_broadcast_both, NULL, false, false},
+    {"list_get", "tri", RESULT_ROWS, "sel_list_get", of_item, run_list_get, NULL, false, false},
+    {"index_is_oob", "tri", RESULT_FLAG, "sel_list_index_is_oob", NULL, run_index_is_oob, NULL, false, false},
+    {"fixed_size_list_get", "trif", RESULT_ROWS, "sel_fixed_size_list_get", of_item, run_fixed_size_list_get, NULL, false, false},
+    {"fixed_size_list_get_each", "trIf", RESULT_ROWS, "sel_fixed_size_list_get_each", of_item, run_fixed_size_list_get_each, NULL, false, false},
     {"unit_list", "tr", RESULT_ROWS, "sel_unit_list", of_lists, run_unit_list, NULL, false, false},
-    {"slice", "trnn", RESULT_ROWS, "sel_sliced", of_line, run_slice, NULL, false, false},
+    {"slice", "trnn", RESULT_ROWS, "sel_slice", of_line, run_slice, NULL, false, false},
     {"child", "tr", RESULT_ITEMS, "sel_child", of_item, run_child, NULL, false, false},
     {"field", "trn", RESULT_FIELD, "sel_field", of_field, run_field, NULL, false, false},
     {"list_new", "trov", RESULT_ROWS, "sel_list_new", of_lists, run_list_new, NULL, true, false},
-    {"fixed_size_list_new", "trnnv", RESULT_ROWS, "sel_fixed_list_new", of_fixed_size_lists, run_fixed_size_list_new, NULL, true, false},
+    {"fixed_size_list_new", "trnnv", RESULT_ROWS, "sel_fixed_size_list_new", of_fixed_size_lists, run_fixed_size_list_new, NULL, true, false},
     {"struct_new", "cnv", RESULT_ROWS, "sel_struct_new", of_structs, run_struct_new, NULL, true, false},
     {"flatten", "cwn", RESULT_ROWS, "sel_flatten", of_first_column, run_flatten, NULL, false, false},
     {"collect_rows", "cp", RESULT_ROWS, "sel_collect_rows", of_first_column, run_collect_rows, NULL, false, false},

@@ -32,7 +32,7 @@ struct call {
     const char *called;         /* what is called */
     /* Returns the type of the rows of a result, NULL if there is none for these arguments. */
     const struct type *(*type_of_result)(const struct arguments *given);
-    uint32_t (*run)(const struct arguments *given, sel_column *columns, struct outcome *out);
+    sel_status (*run)(const struct arguments *given, sel_column *columns, struct outcome *out);
     /* Returns whether these arguments can be given by this call; NULL: always. */
     bool (*applies)(const struct arguments *given);
     bool takes_columns;         /* it takes the columns that it is given */

@@ -68,18 +68,18 @@ static void free_columns(struct attempt *attempt) {
 
 /* Checks that a column that was built plainly has a validity if a row is null, but not if there are only nulls. */
 static bool check_plain(const struct rows *rows, sel_column *column) {
-    return check_has_validity(column, rows->type->kind != SEL_NULL && null_count(rows) > 0, "an argument in the plain layout");
+    return check_has_validity(column, rows->type->kind != SEL_TYPE_NULL && null_count(rows) > 0, "an argument in the plain layout");
 }
 
 /* Builds the columns of a call; shares of them are kept if `is_shared`. */
 static bool build_columns(struct attempt *attempt, bool is_shared) {
     for (size_t i = 0; i < attempt->given->column_count; i += 1) {
         const struct rows *rows = &attempt->given->columns[i];
-        uint32_t status = build_column(layout_of(attempt->place, i), rows, &attempt->columns[i]);
-        if (status == SEL_DONE && is_shared) {
+        sel_status status = build_column(layout_of(attempt->place, i), rows, &attempt->columns[i]);
+        if (status == SEL_OK && is_shared) {
             status = sel_share(&attempt->columns[i], &attempt->shares[i]);
         }
-        if (status != SEL_DONE) {
+        if (status != SEL_OK) {
             return fail("argument %zu could not be built: status %u", i + 1, (unsigned)status);
         }
         if (attempt->place == 0 && !check_plain(rows, &attempt->columns[i])) {
@@ -90,9 +90,9 @@ static bool build_columns(struct attempt *attempt, bool is_shared) {
 }
 
 /* Checks that a call left its columns as they were, or took them. One that takes several may leave some if it fails. */
-static bool check_columns(struct attempt *attempt, uint32_t status) {
+static bool check_columns(struct attempt *attempt, sel_status status) {
     bool takes_columns = attempt->call->takes_columns;
-    bool takes_all = takes_columns && (status == SEL_DONE || attempt->call->letters[0] != 'c');
+    bool takes_all = takes_columns && (status == SEL_OK || attempt->call->letters[0] != 'c');
     for (size_t i = 0; i < attempt->given->column_count; i += 1) {
         sel_column *column = takes_columns ? &attempt->shares[i] : &attempt->columns[i];
         char what[60];
@@ -110,14 +110,14 @@ static bool check_columns(struct attempt *attempt, uint32_t status) {
 /* ---- one call ---- */
 
 /* Checks the status and what was made, or that nothing was if an allocation was refused. */
-static bool check_call(struct attempt *attempt, uint32_t status, long refused, const struct outcome *before, struct outcome *after) {
+static bool check_call(struct attempt *attempt, sel_status status, long refused, const struct outcome *before, struct outcome *after) {
     if (refused == 0) {
         return check_outcome(attempt->call, attempt->given, attempt->columns, attempt->wanted, status, before, after);
     }
     if (attempt->call->takes_no_memory) {
         return fail("the call took memory");
     }
-    if (status != SEL_NO_MEMORY) {
+    if (status != SEL_ERROR_OUT_OF_MEMORY) {
         return fail("expected out of memory, got status %u", (unsigned)status);
     }
     return check_unchanged(before, after);
@@ -141,7 +141,7 @@ static bool call_once(struct attempt *attempt, long refuse, bool and_later, long
         if (refuse >= 0) {
             memory_refuse(refuse, and_later);
         }
-        uint32_t status = attempt->call->run(attempt->given, attempt->columns, &after);
+        sel_status status = attempt->call->run(attempt->given, attempt->columns, &after);
         *refused = refuse >= 0 ? memory_allow() : 0;
         is_right = check_call(attempt, status, *refused, &before, &after) && check_columns(attempt, status);
     }

@@ -11,13 +11,13 @@
 const char *printed(struct arena *arena, sel_column *column) {
     size_t room = 500, len = 0;
     char *text = arena_take(arena, room + 1, 1);
-    uint32_t status = sel_print(column, (uint8_t *)text, room, &len);
-    if (status == SEL_DONE && len > room) {
+    sel_status status = sel_print(column, (uint8_t *)text, room, &len);
+    if (status == SEL_OK && len > room) {
         room = len;
         text = arena_take(arena, room + 1, 1);
         status = sel_print(column, (uint8_t *)text, room, &len);
     }
-    if (status != SEL_DONE) {
+    if (status != SEL_OK) {
         return status_text(arena, status);
     }
     return len <= room ? text : "a text that grew while it was printed";
@@ -26,8 +26,8 @@ const char *printed(struct arena *arena, sel_column *column) {
 static const struct type *type_of(struct arena *arena, sel_column *column);
 
 /* Returns the type of a child or a field, NULL if it cannot be had. The column is freed. */
-static bool take_type(struct arena *arena, uint32_t status, sel_column *column, struct type *out) {
-    const struct type *type = status == SEL_DONE ? type_of(arena, column) : NULL;
+static bool take_type(struct arena *arena, sel_status status, sel_column *column, struct type *out) {
+    const struct type *type = status == SEL_OK ? type_of(arena, column) : NULL;
     sel_free(column);
     if (type != NULL) {
         *out = *type;
@@ -39,19 +39,19 @@ static bool take_type(struct arena *arena, uint32_t status, sel_column *column, 
 static const struct type *type_of(struct arena *arena, sel_column *column) {
     struct type *type = arena_take(arena, 1, sizeof *type), *children;
     sel_column child = {0};
-    *type = (struct type){sel_kind(column), 0, 0, NULL};
-    bool is_fixed = type->kind == SEL_FIXED_SIZE_LIST, is_struct = type->kind == SEL_STRUCT;
-    if (type->kind < SEL_LARGE_LIST || type->kind >= SEL_NO_KIND) {
-        return type->kind < SEL_NO_KIND ? type : NULL;
+    *type = (struct type){sel_type_of(column), 0, 0, NULL};
+    bool is_fixed = type->kind == SEL_TYPE_FIXED_SIZE_LIST, is_struct = type->kind == SEL_TYPE_STRUCT;
+    if (type->kind < SEL_TYPE_LIST || type->kind >= SEL_TYPE_NONE) {
+        return type->kind < SEL_TYPE_NONE ? type : NULL;
     }
     type->count = 1;
-    if ((is_struct && sel_field_count(column, &type->count) != SEL_DONE)
-        || (is_fixed && sel_width(column, &type->list_size) != SEL_DONE)) {
+    if ((is_struct && sel_field_count(column, &type->count) != SEL_OK)
+        || (is_fixed && sel_fixed_size_list_size(column, &type->list_size) != SEL_OK)) {
         return NULL;
     }
     type->children = children = arena_take(arena, type->count, sizeof *children);
     for (size_t i = 0; i < type->count; i += 1) {
-        uint32_t status = is_struct ? sel_field(column, i, &child) : sel_child(column, &child);
+        sel_status status = is_struct ? sel_field(column, i, &child) : sel_child(column, &child);
         if (!take_type(arena, status, &child, &children[i])) {
             return NULL;
         }
@@ -73,12 +73,12 @@ static bool check_validity(struct arena *arena, sel_column *column, const struct
     size_t len = (wanted->len + 7) / 8;
     bool has = true;
     uint8_t *bits = arena_take(arena, len, 1);
-    uint32_t status = sel_validity(column, bits, len, &has);
-    if (status != SEL_DONE) {
+    sel_status status = sel_validity(column, bits, len, &has);
+    if (status != SEL_OK) {
         return fail("the validity of %s: %s", what, status_text(arena, status));
     }
     for (size_t i = 0; i < wanted->len; i += 1) {
-        bool is_valid = has ? bits[i / 8] >> (i % 8) & 1 : wanted->type->kind != SEL_NULL;
+        bool is_valid = has ? bits[i / 8] >> (i % 8) & 1 : wanted->type->kind != SEL_TYPE_NULL;
         if (is_valid == wanted->values[i].is_null) {
             return fail("the validity of %s: row %zu is %s", what, i, is_valid ? "valid" : "null");
         }
@@ -90,9 +90,9 @@ bool check_has_validity(sel_column *column, bool wanted, const char *what) {
     struct arena arena = {NULL};
     bool has = !wanted;
     size_t len = (sel_len(column) + 7) / 8;
-    uint32_t status = sel_validity(column, arena_take(&arena, len, 1), len, &has);
+    sel_status status = sel_validity(column, arena_take(&arena, len, 1), len, &has);
     arena_free(&arena);
-    return (status == SEL_DONE && has == wanted) || fail("%s has %s validity", what, wanted ? "no" : "a");
+    return (status == SEL_OK && has == wanted) || fail("%s has %s validity", what, wanted ? "no" : "a");
 }
 
 bool check_column(sel_column *column, const struct rows *wanted, const char *what) {
@@ -113,21 +113,21 @@ bool check_equal(sel_column *column, const struct rows *wanted) {
     struct arena arena = {NULL};
     sel_column other = {0};
     bool equal = false;
-    uint32_t status = build_column(&layouts[2], wanted, &other);
-    if (status == SEL_DONE) {
+    sel_status status = build_column(&layouts[2], wanted, &other);
+    if (status == SEL_OK) {
         status = sel_equal_rows(column, &other, &equal);
     }
     sel_free(&other);
-    if (status != SEL_DONE || !equal) {
-        fail("sel_equal_rows of the result and of %s: %s", wanted->text, status == SEL_DONE ? "false" : status_text(&arena, status));
+    if (status != SEL_OK || !equal) {
+        fail("sel_equal_rows of the result and of %s: %s", wanted->text, status == SEL_OK ? "false" : status_text(&arena, status));
     }
     arena_free(&arena);
-    return status == SEL_DONE && equal;
+    return status == SEL_OK && equal;
 }
 
 /* ---- Arrow ---- */
 
-static bool has_kind(const struct type *type, uint32_t kind) {
+static bool has_kind(const struct type *type, sel_type_id kind) {
     bool has = type->kind == kind;
     for (size_t i = 0; i < type->count; i += 1) {
         has = has || has_kind(&type->children[i], kind);
@@ -150,10 +150,10 @@ static bool is_past_decimals(const struct type *type, const struct value *values
         if (values[i].is_null) {
             continue;
         }
-        if (own->kind == SEL_INT128 && has_39_digits(&values[i])) {
+        if (own->kind == SEL_TYPE_INT128 && has_39_digits(&values[i])) {
             return true;
         }
-        if (own->count > 0 && is_past_decimals(own->children, values[i].items, own->kind == SEL_STRUCT, values[i].len)) {
+        if (own->count > 0 && is_past_decimals(own->children, values[i].items, own->kind == SEL_TYPE_STRUCT, values[i].len)) {
             return true;
         }
     }
@@ -161,13 +161,13 @@ static bool is_past_decimals(const struct type *type, const struct value *values
 }
 
 /* Checks the status of an export. */
-static bool check_export(struct arena *arena, uint32_t status, const struct rows *wanted) {
-    bool has_format = !has_kind(wanted->type, SEL_UINT128);
+static bool check_export(struct arena *arena, sel_status status, const struct rows *wanted) {
+    bool has_format = !has_kind(wanted->type, SEL_TYPE_UINT128);
     bool is_past = is_past_decimals(wanted->type, wanted->values, 0, wanted->len);
-    if ((!has_format && status == SEL_ARROW_FORMAT) || (is_past && status == SEL_ARROW_RANGE)) {
+    if ((!has_format && status == SEL_ERROR_ARROW_FORMAT) || (is_past && status == SEL_ERROR_ARROW_RANGE)) {
         return true;
     }
-    return (has_format && !is_past && status == SEL_DONE) || fail("export to Arrow: %s", status_text(arena, status));
+    return (has_format && !is_past && status == SEL_OK) || fail("export to Arrow: %s", status_text(arena, status));
 }
 
 bool check_through_arrow(sel_column *column, const struct rows *wanted) {
@@ -175,12 +175,12 @@ bool check_through_arrow(sel_column *column, const struct rows *wanted) {
     struct ArrowArray array;
     struct ArrowSchema schema;
     sel_column again = {0};
-    uint32_t status = sel_export(column, &array, &schema);
+    sel_status status = sel_export(column, &array, &schema);
     bool is_right = check_export(&arena, status, wanted);
-    if (status == SEL_DONE) {
+    if (status == SEL_OK) {
         status = sel_import(&array, &schema, &again);
         schema.release(&schema);
-        is_right = is_right && (status == SEL_DONE || fail("import from Arrow: %s", status_text(&arena, status)));
+        is_right = is_right && (status == SEL_OK || fail("import from Arrow: %s", status_text(&arena, status)));
         is_right = is_right && check_column(&again, wanted, "the column that came back from Arrow");
     }
     sel_free(&again);

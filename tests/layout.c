@@ -27,7 +27,7 @@ struct slots {
 #define VALIDITY(slots) (slots)->bits, (slots)->bits_len, (slots)->has_bits
 
 bool is_only_plain(const struct type *type) {
-    if (type->kind == SEL_FIXED_SIZE_LIST && type->list_size > MOST_ITEMS) {
+    if (type->kind == SEL_TYPE_FIXED_SIZE_LIST && type->list_size > MOST_ITEMS) {
         return true;
     }
     for (size_t i = 0; i < type->count; i += 1) {
@@ -67,26 +67,26 @@ static void other_bytes(struct value *out, size_t seed) {
 static const struct value *value_at(struct builder *builder, const struct type *type, size_t seed, size_t depth) {
     struct value *value = arena_take(&builder->arena, 1, sizeof *value);
     switch (type->kind) {
-    case SEL_NULL:
+    case SEL_TYPE_NULL:
         value->is_null = true;
         break;
-    case SEL_BOOLEAN:
+    case SEL_TYPE_BOOLEAN:
         value->low = 1;
         break;
-    case SEL_LARGE_BINARY:
-    case SEL_BINARY_VIEW:
-    case SEL_UTF8_VIEW:
+    case SEL_TYPE_BINARY:
+    case SEL_TYPE_BINARY_VIEW:
+    case SEL_TYPE_STRING_VIEW:
         other_bytes(value, seed);
         break;
-    case SEL_LARGE_LIST:
+    case SEL_TYPE_LIST:
         value->len = is_only_plain(type) ? 0 : depth < 2 ? 1 + seed % 3 : 1;
         value->items = items_at(builder, type->children, 0, value->len, seed, depth + 1);
         break;
-    case SEL_FIXED_SIZE_LIST:
+    case SEL_TYPE_FIXED_SIZE_LIST:
         value->len = type->list_size;
-        value->items = type->children->kind == SEL_NULL ? NULL : items_at(builder, type->children, 0, value->len, seed, depth + 1);
+        value->items = type->children->kind == SEL_TYPE_NULL ? NULL : items_at(builder, type->children, 0, value->len, seed, depth + 1);
         break;
-    case SEL_STRUCT:
+    case SEL_TYPE_STRUCT:
         value->len = type->count;
         value->items = items_at(builder, type->children, 1, value->len, seed, depth + 1);
         break;
@@ -105,7 +105,7 @@ static const struct value *other_value(struct builder *builder, const struct typ
 /* Returns what lies in the slot of a null. */
 static const struct value *null_slot(struct builder *builder, const struct type *type, size_t seed) {
     static const struct value not_utf8 = {.bytes = (const uint8_t *)"\xff\xfe", .len = 2};
-    return type->kind == SEL_UTF8_VIEW && seed % 2 == 0 ? &not_utf8 : other_value(builder, type, seed);
+    return type->kind == SEL_TYPE_STRING_VIEW && seed % 2 == 0 ? &not_utf8 : other_value(builder, type, seed);
 }
 
 /* Returns a row before or behind the rows of a slice: null or another value. */
@@ -125,25 +125,25 @@ static const struct value *padding(struct builder *builder, const struct type *t
         return make(numbers, slots->len, VALIDITY(slots), out);                                         \
     } while (0)
 
-static uint32_t build_wide_numbers(struct builder *builder, const struct slots *slots, sel_column *out) {
-    sel_wide *numbers = arena_take(&builder->arena, slots->len, sizeof *numbers);
+static sel_status build_wide_numbers(struct builder *builder, const struct slots *slots, sel_column *out) {
+    sel_int128 *numbers = arena_take(&builder->arena, slots->len, sizeof *numbers);
     for (size_t i = 0; i < slots->len; i += 1) {
-        numbers[i] = (sel_wide){slots->values[i]->low, slots->values[i]->high};
+        numbers[i] = (sel_int128){slots->values[i]->low, slots->values[i]->high};
     }
-    bool is_signed = slots->type->kind == SEL_INT128;
+    bool is_signed = slots->type->kind == SEL_TYPE_INT128;
     return (is_signed ? sel_int128_new : sel_uint128_new)(numbers, slots->len, VALIDITY(slots), out);
 }
 
-static uint32_t build_numbers(struct builder *builder, const struct slots *slots, sel_column *out) {
+static sel_status build_numbers(struct builder *builder, const struct slots *slots, sel_column *out) {
     switch (slots->type->kind) {
-    case SEL_INT8: NUMBERS(int8_t, sel_int8_new);
-    case SEL_INT16: NUMBERS(int16_t, sel_int16_new);
-    case SEL_INT32: NUMBERS(int32_t, sel_int32_new);
-    case SEL_INT64: NUMBERS(int64_t, sel_int64_new);
-    case SEL_UINT8: NUMBERS(uint8_t, sel_uint8_new);
-    case SEL_UINT16: NUMBERS(uint16_t, sel_uint16_new);
-    case SEL_UINT32: NUMBERS(uint32_t, sel_uint32_new);
-    case SEL_UINT64: NUMBERS(uint64_t, sel_uint64_new);
+    case SEL_TYPE_INT8: NUMBERS(int8_t, sel_int8_new);
+    case SEL_TYPE_INT16: NUMBERS(int16_t, sel_int16_new);
+    case SEL_TYPE_INT32: NUMBERS(int32_t, sel_int32_new);
+    case SEL_TYPE_INT64: NUMBERS(int64_t, sel_int64_new);
+    case SEL_TYPE_UINT8: NUMBERS(uint8_t, sel_uint8_new);
+    case SEL_TYPE_UINT16: NUMBERS(uint16_t, sel_uint16_new);
+    case SEL_TYPE_UINT32: NUMBERS(uint32_t, sel_uint32_new);
+    case SEL_TYPE_UINT64: NUMBERS(uint64_t, sel_uint64_new);
     default: return build_wide_numbers(builder, slots, out);
     }
 }
@@ -169,7 +169,7 @@ uint8_t *packed_bits(struct arena *arena, const struct value *booleans, size_t l
     return bits;
 }
 
-static uint32_t build_booleans(struct builder *builder, const struct slots *slots, sel_column *out) {
+static sel_status build_booleans(struct builder *builder, const struct slots *slots, sel_column *out) {
     uint8_t *bits = set_bits(&builder->arena, slots->len);
     for (size_t i = 0; i < slots->len; i += 1) {
         if (slots->values[i]->low == 0) {
@@ -201,7 +201,7 @@ static struct bytes room_for(struct builder *builder, const struct slots *slots)
     return (struct bytes){arena_take(&builder->arena, room, 1), 0};
 }
 
-static uint32_t build_binary(struct builder *builder, const struct slots *slots, sel_column *out) {
+static sel_status build_binary(struct builder *builder, const struct slots *slots, sel_column *out) {
     struct bytes bytes = room_for(builder, slots);
     int64_t *offsets = arena_take(&builder->arena, slots->len + 1, sizeof *offsets);
     append(&bytes, "before", is_plain(builder) ? 0 : 3);
@@ -232,11 +232,11 @@ static sel_view view_of(const struct builder *builder, const struct value *value
 
 /* Builds a column of views: over one buffer, or over three that begin with other bytes, of which two have the long values in
  * turn. */
-static uint32_t build_views(struct builder *builder, const struct slots *slots, sel_column *out) {
+static sel_status build_views(struct builder *builder, const struct slots *slots, sel_column *out) {
     size_t count = is_plain(builder) ? 1 : 3;
     sel_view *views = arena_take(&builder->arena, slots->len, sizeof *views);
     struct bytes buffers[3];
-    sel_slice slices[3];
+    sel_bytes_ref slices[3];
     for (size_t i = 0; i < count; i += 1) {
         buffers[i] = room_for(builder, slots);
         append(&buffers[i], "other", is_plain(builder) ? 0 : i + 1);
@@ -246,23 +246,23 @@ static uint32_t build_views(struct builder *builder, const struct slots *slots, 
         views[i] = view_of(builder, slots->values[i], (uint32_t)place, &buffers[place]);
     }
     for (size_t i = 0; i < count; i += 1) {
-        slices[i] = (sel_slice){buffers[i].at, buffers[i].len};
+        slices[i] = (sel_bytes_ref){buffers[i].at, buffers[i].len};
     }
-    bool is_string = slots->type->kind == SEL_UTF8_VIEW;
-    return (is_string ? sel_utf8view_new : sel_binview_new)(views, slots->len, slices, count, VALIDITY(slots), out);
+    bool is_string = slots->type->kind == SEL_TYPE_STRING_VIEW;
+    return (is_string ? sel_string_view_new : sel_binary_view_new)(views, slots->len, slices, count, VALIDITY(slots), out);
 }
 
 /* ---- columns with children ---- */
 
-static uint32_t build(struct builder *, const struct type *, const struct value *const *rows, size_t len, sel_column *out);
+static sel_status build(struct builder *, const struct type *, const struct value *const *rows, size_t len, sel_column *out);
 
 /* Builds the child of these items, or of nothing but nulls. */
-static uint32_t build_child(struct builder *builder, const struct type *type, const struct value **items, size_t len, sel_column *out) {
-    return type->kind == SEL_NULL ? sel_null_new(len, out) : build(builder, type, items, len, out);
+static sel_status build_child(struct builder *builder, const struct type *type, const struct value **items, size_t len, sel_column *out) {
+    return type->kind == SEL_TYPE_NULL ? sel_null_new(len, out) : build(builder, type, items, len, out);
 }
 
 /* Lists: other layouts than the plain one have two items before the first list, and one behind the last. */
-static uint32_t build_lists(struct builder *builder, const struct slots *slots, sel_column *out) {
+static sel_status build_lists(struct builder *builder, const struct slots *slots, sel_column *out) {
     const struct type *item = slots->type->children;
     size_t before = is_plain(builder) ? 0 : 2, behind = before / 2, len = before + behind;
     int64_t *offsets = arena_take(&builder->arena, slots->len + 1, sizeof *offsets);
@@ -285,34 +285,34 @@ static uint32_t build_lists(struct builder *builder, const struct slots *slots, 
     for (size_t k = 0; k < behind; k += 1, len += 1) {
         items[len] = padding(builder, item, k);
     }
-    uint32_t status = build_child(builder, item, items, len, &child);
-    return status == SEL_DONE ? sel_list_new(offsets, slots->len + 1, VALIDITY(slots), &child, out) : status;
+    sel_status status = build_child(builder, item, items, len, &child);
+    return status == SEL_OK ? sel_list_new(offsets, slots->len + 1, VALIDITY(slots), &child, out) : status;
 }
 
-static uint32_t build_fixed_size_lists(struct builder *builder, const struct slots *slots, sel_column *out) {
+static sel_status build_fixed_size_lists(struct builder *builder, const struct slots *slots, sel_column *out) {
     const struct type *item = slots->type->children;
-    size_t size = slots->type->list_size, count = item->kind == SEL_NULL ? 0 : slots->len * size;
+    size_t size = slots->type->list_size, count = item->kind == SEL_TYPE_NULL ? 0 : slots->len * size;
     const struct value **items = arena_take(&builder->arena, count, sizeof *items);
     sel_column child = {0};
     for (size_t i = 0; i < count; i += 1) {
         items[i] = &slots->values[i / size]->items[i % size];
     }
-    uint32_t status = build_child(builder, item, items, slots->len * size, &child);
-    return status == SEL_DONE ? sel_fixed_list_new(size, slots->len, VALIDITY(slots), &child, out) : status;
+    sel_status status = build_child(builder, item, items, slots->len * size, &child);
+    return status == SEL_OK ? sel_fixed_size_list_new(size, slots->len, VALIDITY(slots), &child, out) : status;
 }
 
-static uint32_t build_structs(struct builder *builder, const struct slots *slots, sel_column *out) {
+static sel_status build_structs(struct builder *builder, const struct slots *slots, sel_column *out) {
     size_t count = slots->type->count;
     const struct value **items = arena_take(&builder->arena, slots->len, sizeof *items);
     sel_column *fields = arena_take(&builder->arena, count, sizeof *fields);
-    uint32_t status = SEL_DONE;
-    for (size_t field = 0; field < count && status == SEL_DONE; field += 1) {
+    sel_status status = SEL_OK;
+    for (size_t field = 0; field < count && status == SEL_OK; field += 1) {
         for (size_t i = 0; i < slots->len; i += 1) {
             items[i] = &slots->values[i]->items[field];
         }
         status = build(builder, &slots->type->children[field], items, slots->len, &fields[field]);
     }
-    if (status == SEL_DONE) {
+    if (status == SEL_OK) {
         status = sel_struct_new(slots->len, VALIDITY(slots), fields, count, out);
     }
     for (size_t field = 0; field < count; field += 1) {
@@ -323,22 +323,22 @@ static uint32_t build_structs(struct builder *builder, const struct slots *slots
 
 /* ---- columns of any type ---- */
 
-static uint32_t build_slots(struct builder *builder, const struct slots *slots, sel_column *out) {
+static sel_status build_slots(struct builder *builder, const struct slots *slots, sel_column *out) {
     switch (slots->type->kind) {
-    case SEL_NULL:
+    case SEL_TYPE_NULL:
         return sel_null_new(slots->len, out);
-    case SEL_BOOLEAN:
+    case SEL_TYPE_BOOLEAN:
         return build_booleans(builder, slots, out);
-    case SEL_LARGE_BINARY:
+    case SEL_TYPE_BINARY:
         return build_binary(builder, slots, out);
-    case SEL_BINARY_VIEW:
-    case SEL_UTF8_VIEW:
+    case SEL_TYPE_BINARY_VIEW:
+    case SEL_TYPE_STRING_VIEW:
         return build_views(builder, slots, out);
-    case SEL_LARGE_LIST:
+    case SEL_TYPE_LIST:
         return build_lists(builder, slots, out);
-    case SEL_FIXED_SIZE_LIST:
+    case SEL_TYPE_FIXED_SIZE_LIST:
         return build_fixed_size_lists(builder, slots, out);
-    case SEL_STRUCT:
+    case SEL_TYPE_STRUCT:
         return build_structs(builder, slots, out);
     default:
         return build_numbers(builder, slots, out);
@@ -347,7 +347,7 @@ static uint32_t build_slots(struct builder *builder, const struct slots *slots, 
 
 /* Builds the column of rows, with no other rows before or behind them. A validity is given if a row is null, and always in
  * other layouts than the plain one. */
-static uint32_t build_whole(struct builder *builder, const struct type *type, const struct value *const *rows, size_t len, sel_column *out) {
+static sel_status build_whole(struct builder *builder, const struct type *type, const struct value *const *rows, size_t len, sel_column *out) {
     struct slots slots = {
         type, len, arena_take(&builder->arena, len, sizeof *slots.values), set_bits(&builder->arena, len), (len + 7) / 8,
         !is_plain(builder),
@@ -364,7 +364,7 @@ static uint32_t build_whole(struct builder *builder, const struct type *type, co
 }
 
 /* Builds the column of rows as a slice of one with other rows before and behind them, as the layout says. */
-static uint32_t build(struct builder *builder, const struct type *type, const struct value *const *rows, size_t len, sel_column *out) {
+static sel_status build(struct builder *builder, const struct type *type, const struct value *const *rows, size_t len, sel_column *out) {
     size_t offset = builder->layout->offset, whole_len = offset + len + ROWS_BEHIND;
     if (is_plain(builder)) {
         return build_whole(builder, type, rows, len, out);
@@ -374,21 +374,21 @@ static uint32_t build(struct builder *builder, const struct type *type, const st
     for (size_t i = 0; i < whole_len; i += 1) {
         all[i] = i < offset || i >= offset + len ? padding(builder, type, i) : rows[i - offset];
     }
-    uint32_t status = build_whole(builder, type, all, whole_len, &whole);
-    if (status == SEL_DONE) {
-        status = sel_sliced(&whole, offset, len, out);
+    sel_status status = build_whole(builder, type, all, whole_len, &whole);
+    if (status == SEL_OK) {
+        status = sel_slice(&whole, offset, len, out);
     }
     sel_free(&whole);
     return status;
 }
 
-uint32_t build_column(const struct layout *layout, const struct rows *rows, sel_column *out) {
+sel_status build_column(const struct layout *layout, const struct rows *rows, sel_column *out) {
     struct builder builder = {{NULL}, is_only_plain(rows->type) ? &layouts[0] : layout};
     const struct value **values = arena_take(&builder.arena, rows->len, sizeof *values);
     for (size_t i = 0; i < rows->len; i += 1) {
         values[i] = &rows->values[i];
     }
-    uint32_t status = build(&builder, rows->type, values, rows->len, out);
+    sel_status status = build(&builder, rows->type, values, rows->len, out);
     arena_free(&builder.arena);
     return status;
 }

@@ -16,8 +16,8 @@ enum { LAYOUT_COUNT = 6 };
 /* The plain layout, and slices at the offsets 1, 7, 8, 63 and 64. */
 extern const struct layout layouts[LAYOUT_COUNT];
 
-/* Builds the column of the rows. Returns the status of the call that failed, or SEL_DONE. */
-uint32_t build_column(const struct layout *layout, const struct rows *rows, sel_column *out);
+/* Builds the column of the rows. Returns the status of the call that failed, or SEL_OK. */
+sel_status build_column(const struct layout *layout, const struct rows *rows, sel_column *out);
 
 /* Returns whether rows of the type have so many items that the plain layout is the only one for them. */
 bool is_only_plain(const struct type *type);

@@ -84,15 +84,15 @@ static const char *const kind_names[] = {
 
 enum { KIND_COUNT = sizeof kind_names / sizeof kind_names[0] };
 
-const struct type *leaf_type(uint32_t kind) {
+const struct type *leaf_type(sel_type_id kind) {
     static struct type types[KIND_COUNT];
     types[kind].kind = kind;
     return &types[kind];
 }
 
-const struct type *list_type(struct arena *arena, uint32_t kind, size_t list_size, const struct type *child) {
+const struct type *list_type(struct arena *arena, sel_type_id kind, size_t list_size, const struct type *child) {
     struct type *type = arena_take(arena, 1, sizeof *type);
-    *type = (struct type){kind, kind == SEL_FIXED_SIZE_LIST ? list_size : 0, 1, child};
+    *type = (struct type){kind, kind == SEL_TYPE_FIXED_SIZE_LIST ? list_size : 0, 1, child};
     return type;
 }
 
@@ -131,10 +131,10 @@ static bool read_children(struct reader *reader, struct type *out) {
     if (!expects(reader, "<", "no < after the name of a nested type")) {
         return false;
     }
-    if (out->kind == SEL_STRUCT) {
+    if (out->kind == SEL_TYPE_STRUCT) {
         return read_fields(reader, out);
     }
-    if (out->kind == SEL_FIXED_SIZE_LIST) {
+    if (out->kind == SEL_TYPE_FIXED_SIZE_LIST) {
         if (!read_digits(reader, SIZE_MAX, &number) || !expects(reader, ",", "no comma after the list size")) {
             return false;
         }
@@ -149,7 +149,7 @@ static bool read_type_into(struct reader *reader, struct type *out) {
         if (strlen(kind_names[kind]) == len && strncmp(reader->at, kind_names[kind], len) == 0) {
             reader->at += len;
             *out = (struct type){kind, 0, 0, NULL};
-            return kind < SEL_LARGE_LIST || read_children(reader, out);
+            return kind < SEL_TYPE_LIST || read_children(reader, out);
         }
     }
     return stop(reader, "no name of a type");
@@ -168,10 +168,10 @@ const struct type *read_type(struct arena *arena, const char *text, struct misre
 static size_t write_type(const struct type *type, char *out) {
     char head[40];
     size_t len = (size_t)snprintf(head, sizeof head, "%s", kind_names[type->kind]);
-    if (type->kind >= SEL_LARGE_LIST) {
+    if (type->kind >= SEL_TYPE_LIST) {
         len += (size_t)snprintf(head + len, sizeof head - len, "<");
     }
-    if (type->kind == SEL_FIXED_SIZE_LIST) {
+    if (type->kind == SEL_TYPE_FIXED_SIZE_LIST) {
         len += (size_t)snprintf(head + len, sizeof head - len, "%zu,", type->list_size);
     }
     if (out != NULL) {
@@ -184,10 +184,10 @@ static size_t write_type(const struct type *type, char *out) {
         len += i > 0;
         len += write_type(&type->children[i], out == NULL ? NULL : out + len);
     }
-    if (type->kind >= SEL_LARGE_LIST && out != NULL) {
+    if (type->kind >= SEL_TYPE_LIST && out != NULL) {
         out[len] = '>';
     }
-    return len + (type->kind >= SEL_LARGE_LIST);
+    return len + (type->kind >= SEL_TYPE_LIST);
 }
 
 const char *type_text(struct arena *arena, const struct type *type) {
@@ -201,12 +201,12 @@ const char *type_text(struct arena *arena, const struct type *type) {
 static bool read_value(struct reader *reader, const struct type *type, struct value *out);
 
 /* Returns how many bits a number of this kind has. */
-static unsigned bits_of(uint32_t kind) {
-    return 8U << (kind <= SEL_INT128 ? kind - SEL_INT8 : kind - SEL_UINT8);
+static unsigned bits_of(sel_type_id kind) {
+    return 8U << (kind <= SEL_TYPE_INT128 ? kind - SEL_TYPE_INT8 : kind - SEL_TYPE_UINT8);
 }
 
-static bool read_number(struct reader *reader, uint32_t kind, struct value *out) {
-    bool is_signed = kind <= SEL_INT128, is_negative = passes(reader, "-");
+static bool read_number(struct reader *reader, sel_type_id kind, struct value *out) {
+    bool is_signed = kind <= SEL_TYPE_INT128, is_negative = passes(reader, "-");
     wide most = ~(wide)0 >> (128 - bits_of(kind)), number = 0;
     if (is_signed) {
         most = most / 2 + is_negative;
@@ -393,20 +393,20 @@ static bool read_struct(struct reader *reader, const struct type *type, struct v
 
 static bool read_present(struct reader *reader, const struct type *type, struct value *out) {
     switch (type->kind) {
-    case SEL_NULL:
+    case SEL_TYPE_NULL:
         return stop(reader, "a value in a column of nulls");
-    case SEL_BOOLEAN:
+    case SEL_TYPE_BOOLEAN:
         return read_boolean(reader, out);
-    case SEL_LARGE_BINARY:
-    case SEL_BINARY_VIEW:
+    case SEL_TYPE_BINARY:
+    case SEL_TYPE_BINARY_VIEW:
         return read_binary(reader, out);
-    case SEL_UTF8_VIEW:
+    case SEL_TYPE_STRING_VIEW:
         return read_string(reader, out);
-    case SEL_LARGE_LIST:
+    case SEL_TYPE_LIST:
         return read_items(reader, type->children, out);
-    case SEL_FIXED_SIZE_LIST:
+    case SEL_TYPE_FIXED_SIZE_LIST:
         return read_fixed_items(reader, type, out);
-    case SEL_STRUCT:
+    case SEL_TYPE_STRUCT:
         return read_struct(reader, type, out);
     default:
         return read_number(reader, type->kind, out);

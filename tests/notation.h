@@ -8,7 +8,7 @@
 
 /* The type of a column. */
 struct type {
-    uint32_t kind;               /* of enum sel_kind_number */
+    sel_type_id kind;
     size_t list_size;            /* of fixed-size lists */
     size_t count;                /* one child for lists, a child for each field of a struct, else none */
     const struct type *children;
@@ -49,10 +49,10 @@ bool read_rows(struct arena *arena, const struct type *type, const char *text, s
 const char *type_text(struct arena *arena, const struct type *type);
 
 /* Returns the type of lists of `child`: fixed-size lists of `list_size` items if the kind says so. */
-const struct type *list_type(struct arena *arena, uint32_t kind, size_t list_size, const struct type *child);
+const struct type *list_type(struct arena *arena, sel_type_id kind, size_t list_size, const struct type *child);
 
 /* Returns the type without children of this kind. */
-const struct type *leaf_type(uint32_t kind);
+const struct type *leaf_type(sel_type_id kind);
 
 /* Returns how many of the rows are null. */
 size_t null_count(const struct rows *rows);

@@ -81,37 +81,37 @@ const char *first_failure(void) {
 
 static const struct {
     const char *name;
-    uint32_t status;
+    sel_status status;
 } errors[] = {
-    {"out_of_memory", SEL_NO_MEMORY},
-    {"kind_mismatch", SEL_OTHER_KIND},
-    {"type_mismatch", SEL_OTHER_TYPE},
-    {"length_mismatch", SEL_OTHER_LENGTH},
-    {"index_out_of_bounds", SEL_OUT_OF_BOUNDS},
-    {"get_out_of_bounds", SEL_GET_OUT_OF_BOUNDS},
-    {"limit_rows", SEL_LIMIT_ROWS},
-    {"limit_bytes", SEL_LIMIT_BYTES},
-    {"limit_buffers", SEL_LIMIT_BUFFERS},
-    {"limit_view_bytes", SEL_LIMIT_VIEW_BYTES},
-    {"offset_count", SEL_OFFSET_COUNT},
-    {"offset_negative", SEL_OFFSET_NEGATIVE},
-    {"offset_order", SEL_OFFSET_ORDER},
-    {"offset_range", SEL_OFFSET_RANGE},
-    {"too_many_rows", SEL_TOO_MANY_ROWS},
-    {"too_many_buffers", SEL_TOO_MANY_BUFFERS},
-    {"list_size", SEL_WIDTH},
-    {"child_length", SEL_CHILD_LENGTH},
-    {"field_length", SEL_FIELD_LENGTH},
-    {"validity_length", SEL_VALIDITY_LENGTH},
-    {"type_syntax", SEL_TYPE_SYNTAX},
-    {"text_syntax", SEL_TEXT_SYNTAX},
-    {"text_misfit", SEL_TEXT_MISFIT},
-    {"text_limit", SEL_TEXT_LIMIT},
+    {"out_of_memory", SEL_ERROR_OUT_OF_MEMORY},
+    {"unsupported_type", SEL_ERROR_UNSUPPORTED_TYPE},
+    {"type_mismatch", SEL_ERROR_TYPE_MISMATCH},
+    {"length_mismatch", SEL_ERROR_LENGTH_MISMATCH},
+    {"index_out_of_bounds", SEL_ERROR_INDEX_OUT_OF_BOUNDS},
+    {"list_index_out_of_bounds", SEL_ERROR_LIST_INDEX_OUT_OF_BOUNDS},
+    {"row_limit", SEL_ERROR_ROW_LIMIT},
+    {"offset_limit", SEL_ERROR_OFFSET_LIMIT},
+    {"buffer_limit", SEL_ERROR_BUFFER_LIMIT},
+    {"view_limit", SEL_ERROR_VIEW_LIMIT},
+    {"no_offsets", SEL_ERROR_NO_OFFSETS},
+    {"negative_offset", SEL_ERROR_NEGATIVE_OFFSET},
+    {"decreasing_offset", SEL_ERROR_DECREASING_OFFSET},
+    {"offset_range", SEL_ERROR_OFFSET_RANGE},
+    {"too_many_rows", SEL_ERROR_TOO_MANY_ROWS},
+    {"too_many_buffers", SEL_ERROR_TOO_MANY_BUFFERS},
+    {"list_size", SEL_ERROR_LIST_SIZE},
+    {"child_length", SEL_ERROR_CHILD_LENGTH},
+    {"field_length", SEL_ERROR_FIELD_LENGTH},
+    {"validity_length", SEL_ERROR_VALIDITY_LENGTH},
+    {"type_syntax", SEL_ERROR_TYPE_SYNTAX},
+    {"row_syntax", SEL_ERROR_ROW_SYNTAX},
+    {"row_type_mismatch", SEL_ERROR_ROW_TYPE_MISMATCH},
+    {"text_limit", SEL_ERROR_TEXT_LIMIT},
 };
 
 enum { ERROR_COUNT = sizeof errors / sizeof errors[0] };
 
-const char *error_name(uint32_t status) {
+const char *error_name(sel_status status) {
     for (size_t i = 0; i < ERROR_COUNT; i += 1) {
         if (errors[i].status == status) {
             return errors[i].name;
@@ -120,7 +120,7 @@ const char *error_name(uint32_t status) {
     return NULL;
 }
 
-bool status_of(const char *name, uint32_t *out) {
+bool status_of(const char *name, sel_status *out) {
     for (size_t i = 0; i < ERROR_COUNT; i += 1) {
         if (strcmp(errors[i].name, name) == 0) {
             *out = errors[i].status;
@@ -130,10 +130,10 @@ bool status_of(const char *name, uint32_t *out) {
     return false;
 }
 
-const char *status_text(struct arena *arena, uint32_t status) {
+const char *status_text(struct arena *arena, sel_status status) {
     const char *name = error_name(status);
     char *text = arena_take(arena, 40, 1);
-    if (status == SEL_DONE) {
+    if (status == SEL_OK) {
         snprintf(text, 40, "no error");
     } else if (name != NULL) {
         snprintf(text, 40, "error %s", name);

@@ -3,8 +3,7 @@
 #define SEL_TESTS_REPORT_H
 
 #include "lines.h"
-
-#include <stdint.h>
+#include "sel.h"
 
 /* Names the line that is run from now on, and the call that it is about. */
 void report_line(const struct line *line);
@@ -28,12 +27,12 @@ size_t failures_of_line(void);
 const char *first_failure(void);
 
 /* Returns the error name of a status, NULL if it has none. */
-const char *error_name(uint32_t status);
+const char *error_name(sel_status status);
 
 /* Returns the status of an error name. Returns false if there is none. */
-bool status_of(const char *name, uint32_t *out);
+bool status_of(const char *name, sel_status *out);
 
 /* Returns `no error`, `error NAME`, or `status N` for a status without a name. */
-const char *status_text(struct arena *arena, uint32_t status);
+const char *status_text(struct arena *arena, sel_status status);
 
 #endif

@@ -8,8 +8,8 @@
 
 /* ---- the result of a line ---- */
 
-static bool has_place(uint32_t status) {
-    return status == SEL_TYPE_SYNTAX || status == SEL_TEXT_SYNTAX || status == SEL_TEXT_MISFIT;
+static bool has_place(sel_status status) {
+    return status == SEL_ERROR_TYPE_SYNTAX || status == SEL_ERROR_ROW_SYNTAX || status == SEL_ERROR_ROW_TYPE_MISMATCH;
 }
 
 /* Reads `error NAME`, or `error NAME PLACE` where a text goes wrong at a place. */
@@ -72,7 +72,7 @@ static bool read_done(const struct call *call, const struct arguments *given, co
     case RESULT_TWO_ROWS:
         out->column_count = 2;
         return read_wanted_rows(arena, type, fields[0], &out->rows[0])
-            && read_wanted_rows(arena, leaf_type(SEL_UTF8_VIEW), fields[1], &out->rows[1]);
+            && read_wanted_rows(arena, leaf_type(SEL_TYPE_STRING_VIEW), fields[1], &out->rows[1]);
     case RESULT_FIELD:
         return read_wanted_rows(arena, type, fields[0], &out->rows[0]) && check_field_nulls(given, &out->rows[0]);
     default:
@@ -84,7 +84,7 @@ bool read_result(const struct call *call, const struct arguments *given, const s
     size_t before = 1 + strlen(call->letters), columns = call->result == RESULT_TWO_ROWS ? 2 : 1;
     const char *const *fields = line->fields + before;
     bool is_error = line->count > before && strncmp(fields[0], "error ", strlen("error ")) == 0;
-    *out = (struct wanted){.status = SEL_DONE, .place = NO_PLACE};
+    *out = (struct wanted){.status = SEL_OK, .place = NO_PLACE};
     if (line->count != before + (is_error ? 1 : columns)) {
         return fail("%zu fields in place of %zu", line->count, before + (is_error ? 1 : columns));
     }
@@ -99,7 +99,7 @@ bool begin_outcome(struct arena *arena, const struct wanted *wanted, bool is_fil
     bool is_made = true;
     *out = (struct outcome){.flag = !wanted->flag, .place = NO_PLACE, .room = room, .len = NO_PLACE, .text = arena_take(arena, room + 1, 1)};
     for (size_t i = 0; i < wanted->column_count && is_filled; i += 1) {
-        is_made = is_made && sel_null_new(5 + i, &out->columns[i]) == SEL_DONE;
+        is_made = is_made && sel_null_new(5 + i, &out->columns[i]) == SEL_OK;
     }
     return is_made || fail("the column that is in the place of the result could not be made");
 }
@@ -123,11 +123,11 @@ bool check_unchanged(const struct outcome *before, struct outcome *after) {
 /* Appends the text of some rows of a column, without its brackets, to a text. */
 static bool append_part(struct arena *arena, sel_column *column, size_t from, size_t len, char *out, size_t room) {
     sel_column part = {0};
-    uint32_t status = sel_sliced(column, from, len, &part);
-    const char *text = status == SEL_DONE ? printed(arena, &part) : "[]";
+    sel_status status = sel_slice(column, from, len, &part);
+    const char *text = status == SEL_OK ? printed(arena, &part) : "[]";
     sel_free(&part);
-    if (status != SEL_DONE || *text != '[') {
-        return fail("rows %zu to %zu of the child: %s", from, from + len, status == SEL_DONE ? text : status_text(arena, status));
+    if (status != SEL_OK || *text != '[') {
+        return fail("rows %zu to %zu of the child: %s", from, from + len, status == SEL_OK ? text : status_text(arena, status));
     }
     size_t written = strlen(out), added = strlen(text) - 2;
     if (added > 0) {
@@ -143,8 +143,8 @@ static bool check_items(const struct arguments *given, sel_column *lists, const 
     size_t room = strlen(wanted->rows[0].text) + 4096;
     char *text = arena_take(&arena, room, 1);
     int64_t *offsets = arena_take(&arena, rows->len + 1, sizeof *offsets);
-    bool is_fixed = rows->type->kind == SEL_FIXED_SIZE_LIST;
-    bool is_right = is_fixed || sel_offsets(lists, offsets, rows->len + 1) == SEL_DONE || fail("the offsets cannot be read");
+    bool is_fixed = rows->type->kind == SEL_TYPE_FIXED_SIZE_LIST;
+    bool is_right = is_fixed || sel_offsets(lists, offsets, rows->len + 1) == SEL_OK || fail("the offsets cannot be read");
     text[0] = '[';
     for (size_t i = 0; is_right && i < rows->len; i += 1) {
         size_t from = is_fixed ? i * rows->type->list_size : (size_t)offsets[i];
@@ -211,21 +211,21 @@ static bool check_done(const struct call *call, const struct arguments *given, s
 }
 
 /* Returns what a call gave: the error, or the rows that it made. */
-static const char *given_text(struct arena *arena, uint32_t status, struct outcome *after) {
-    return status == SEL_DONE && after->columns[0].at != NULL ? printed(arena, &after->columns[0]) : status_text(arena, status);
+static const char *given_text(struct arena *arena, sel_status status, struct outcome *after) {
+    return status == SEL_OK && after->columns[0].at != NULL ? printed(arena, &after->columns[0]) : status_text(arena, status);
 }
 
 bool check_outcome(const struct call *call, const struct arguments *given, sel_column *columns, const struct wanted *wanted,
-    uint32_t status, const struct outcome *before, struct outcome *after) {
+    sel_status status, const struct outcome *before, struct outcome *after) {
     struct arena arena = {NULL};
     bool is_right = status == wanted->status;
     if (!is_right) {
         const char *text = wanted->rows[0].text;
-        fail("expected %s, got %s", wanted->status == SEL_DONE && text != NULL ? text : status_text(&arena, wanted->status),
+        fail("expected %s, got %s", wanted->status == SEL_OK && text != NULL ? text : status_text(&arena, wanted->status),
             given_text(&arena, status, after));
     } else if (after->place != wanted->place) {
         is_right = fail("the place in the text: expected %zu, got %zu", wanted->place, after->place);
-    } else if (status == SEL_DONE) {
+    } else if (status == SEL_OK) {
         is_right = check_done(call, given, columns, wanted, after);
     } else {
         struct outcome placed = *before;

@@ -6,7 +6,7 @@
 
 /* The result of a line. */
 struct wanted {
-    uint32_t status;
+    sel_status status;
     size_t place;               /* that of an error in a text, else NO_PLACE */
     size_t column_count;        /* how many columns are made */
     struct rows rows[2];
@@ -25,7 +25,7 @@ bool check_unchanged(const struct outcome *before, struct outcome *after);
 
 /* Checks the status of a call, and what it made of its columns. */
 bool check_outcome(const struct call *call, const struct arguments *given, sel_column *columns, const struct wanted *wanted,
-    uint32_t status, const struct outcome *before, struct outcome *after);
+    sel_status status, const struct outcome *before, struct outcome *after);
 
 /* Frees the columns of an outcome. */
 void end_outcome(struct outcome *outcome);

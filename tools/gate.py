@@ -156,6 +156,7 @@ def run_check(board: Board, name: str, command: list[str], beside: bool = False)
 
 DOCUMENTS = [
     ("API reference", ["tools/api", "--check"]),
+    ("statuses", ["tools/statuses.py", "--check"]),
     ("C header", ["tools/header", "--check"]),
     ("links", ["tools/links"]),
     ("terms", ["tools/terms"]),

@@ -4,8 +4,9 @@ from __future__ import annotations
 
 import os
 import pathlib
+import re
 import sys
-from typing import Dict, List, NamedTuple, Optional
+from typing import Dict, List, NamedTuple, Optional, Set
 
 from prover import crates_below, lines
 
@@ -13,8 +14,11 @@ ROOT = pathlib.Path(__file__).resolve().parent.parent
 BUILD = ROOT / "build"
 
 # changes when a function of the header is removed or changes its meaning
-ABI = 0
+ABI = 1
 SONAME = f"libsel.so.{ABI}"
+
+# the C files of the library, around the proved calls
+SOURCES = [ROOT / "c" / name for name in ("arrow.c", "calls.c", "status.c")]
 
 # the toolchain's default
 LEAST_CPU = "x86-64-v2"
@@ -30,6 +34,12 @@ class File(NamedTuple):
 
 def version() -> str:
     return (ROOT / "VERSION").read_text().strip()
+
+
+def functions() -> Set[str]:
+    """Returns the names of the functions that the headers declare, which are the symbols that the shared library exports."""
+    text = "".join(path.read_text() for path in sorted((ROOT / "include").glob("*.h")))
+    return set(re.findall(r"\b(sel_\w+)\(", re.sub(r"/\*.*?\*/", "", text, flags=re.S)))
 
 
 def filled(template: str, prefix: str) -> bytes:
@@ -60,7 +70,7 @@ def newer_sources() -> List[pathlib.Path]:
     built = (BUILD / "libsel.a").stat().st_mtime
     crates = [*crates_below("sel_c", {name: used for name, (_, used) in lines().items()}), "sel_c"]
     sources = [path for crate in crates for path in sorted((ROOT / "crates" / crate / "src").rglob("*.rt"))]
-    sources += [ROOT / "c" / "arrow.c", ROOT / "c" / "libsel.map"]
+    sources += [*SOURCES, *(ROOT / "include").glob("*.h")]
     return [path for path in sources if path.stat().st_mtime > built]
 
 

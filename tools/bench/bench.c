@@ -60,7 +60,7 @@ static uint64_t word_at(const uint8_t *bits, size_t word) {
 #define CALL(name, call)                                             \
     static bool name(job *j) {                                       \
         sel_column out = {0};                                        \
-        bool done = (call) == SEL_DONE;                              \
+        bool done = (call) == SEL_OK;                                \
         sel_free(&out);                                              \
         return done;                                                 \
     }                                                                \
@@ -68,17 +68,17 @@ static uint64_t word_at(const uint8_t *bits, size_t word) {
 
 CALL(filter, sel_filter(j->first, j->second, &out))
 CALL(take, sel_take(j->first, j->second, &out))
-CALL(choose, sel_choose(j->first, j->second, j->third, &out))
-CALL(choose_one, sel_choose_one(j->first, j->second, j->third, &out))
-CALL(choose_of_two, sel_choose_of_two(j->first, j->second, j->third, &out))
-CALL(sublist_get, sel_sublist_get(j->first, j->index, &out))
-CALL(fixed_get, sel_fixed_get(j->first, j->index, true, &out))
-CALL(collect_rows, sel_collect_rows(j->first, 2, (const sel_pick *)j->values, j->made, (const uint8_t[1]){0}, 0, false, &out))
+CALL(choose, sel_if_then_else(j->first, j->second, j->third, &out))
+CALL(choose_one, sel_if_then_else_broadcast_true(j->first, j->second, j->third, &out))
+CALL(choose_of_two, sel_if_then_else_broadcast_both(j->first, j->second, j->third, &out))
+CALL(sublist_get, sel_list_get(j->first, j->index, &out))
+CALL(fixed_get, sel_fixed_size_list_get(j->first, j->index, true, &out))
+CALL(collect_rows, sel_collect_rows(j->first, 2, (const sel_row_ref *)j->values, j->made, (const uint8_t[1]){0}, 0, false, &out))
 
 static bool flatten(job *j) {
     const size_t widths[2] = {j->width, j->width};
     sel_column out = {0};
-    bool done = sel_flatten(j->first, 2, widths, 2, j->height, &out) == SEL_DONE;
+    bool done = sel_flatten(j->first, 2, widths, 2, j->height, &out) == SEL_OK;
     sel_free(&out);
     return done;
 }
@@ -86,7 +86,7 @@ TIMED(flatten)
 
 static bool propagate(job *j) {
     sel_column keys = {0}, texts = {0};
-    bool done = sel_propagate_dictionary(j->first, j->second, &keys, &texts) == SEL_DONE;
+    bool done = sel_propagate_dictionary(j->first, j->second, &keys, &texts) == SEL_OK;
     sel_free(&keys);
     sel_free(&texts);
     return done;
@@ -114,26 +114,26 @@ static size_t kept_of(const job *j) {
 typedef struct wide { uint64_t low, high; } wide;
 
 /* For each word of the mask: copies the whole block, the values of the set bits, or writes each value and keeps it if its bit is set. */
-#define FILTER(name, type)                                           \
-    static size_t name(const job *j, const uint8_t *from, type *out) { \
-        const type *values = (const type *)from;                     \
-        size_t count = 0;                                            \
-        for (size_t w = 0; w < (j->rows + 63) / 64; w++) {           \
-            uint64_t m = word_at(j->mask, w);                        \
-            const type *block = values + w * 64;                     \
-            if (m == ~(uint64_t)0) {                                 \
-                memcpy(out + count, block, 64 * sizeof(type));       \
-                count += 64;                                         \
-            } else if (__builtin_popcountll(m) <= 16) {              \
+#define FILTER(name, type)                                                      \
+    static size_t name(const job *j, const uint8_t *from, type *out) {          \
+        const type *values = (const type *)from;                                \
+        size_t count = 0;                                                       \
+        for (size_t w = 0; w < (j->rows + 63) / 64; w++) {                      \
+            uint64_t m = word_at(j->mask, w);                                   \
+            const type *block = values + w * 64;                                \
+            if (m == ~(uint64_t)0) {                                            \
+                memcpy(out + count, block, 64 * sizeof(type));                  \
+                count += 64;                                                    \
+            } else if (__builtin_popcountll(m) <= 16) {                         \
                 for (; m; m &= m - 1) out[count++] = block[__builtin_ctzll(m)]; \
-            } else {                                                 \
-                for (unsigned i = 0; i < 64; i++) {                  \
-                    out[count] = block[i];                           \
-                    count += m >> i & 1;                             \
-                }                                                    \
-            }                                                        \
-        }                                                            \
-        return count;                                                \
+            } else {                                                            \
+                for (unsigned i = 0; i < 64; i++) {                             \
+                    out[count] = block[i];                                      \
+                    count += m >> i & 1;                                        \
+                }                                                               \
+            }                                                                   \
+        }                                                                       \
+        return count;                                                           \
     }
 FILTER(kept_1, uint8_t)
 FILTER(kept_2, uint16_t)
@@ -366,7 +366,7 @@ TIMED(loop_flatten)
 /* Gathers rows from two columns: `values` are the row references, `others` and `offsets` the values of the two columns. */
 static bool loop_collect_rows(job *j) {
     const uint64_t *const sources[2] = {(const uint64_t *)j->others, (const uint64_t *)j->offsets};
-    const sel_pick *picks = (const sel_pick *)j->values;
+    const sel_row_ref *picks = (const sel_row_ref *)j->values;
     uint64_t *out = (uint64_t *)room(j->made * 8);
     for (size_t i = 0; i < j->made; i++) out[i] = sources[picks[i].source][picks[i].row];
     keep((uint8_t *)out);

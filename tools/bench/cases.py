@@ -111,7 +111,7 @@ def views_of(rows):
 def texts(views, valid=None):
     column, bits = Column._empty(), packed(valid) if valid is not None else None
     given = (_NOTHING, 0, False) if bits is None else (bits.ctypes.data, len(bits), True)
-    call("sel_utf8view_new", views.ctypes.data, len(views), (Slice * 1)(), 0, *given, byref(column._handle))
+    call("sel_string_view_new", views.ctypes.data, len(views), (Slice * 1)(), 0, *given, byref(column._handle))
     return column
 
 
@@ -135,7 +135,7 @@ def read_lists(column):
 
 def blocks(width, values):
     column, child = Column._empty(), Column.from_numpy(values)
-    call("sel_fixed_list_new", width, len(values) // width, _NOTHING, 0, False, byref(child._handle), byref(column._handle))
+    call("sel_fixed_size_list_new", width, len(values) // width, _NOTHING, 0, False, byref(child._handle), byref(column._handle))
     return column
 
 
@@ -316,10 +316,10 @@ def choices(rows):
     yield Case("choose, 8 bytes", rows, "both columns", ("choose", "loop_choose"), lambda: equal(sel.choose(flags, one, two).to_numpy(), np.where(mask, first, second), "if-then-else"),
                lambda: np.where(mask, first, second), first=flags, second=one, third=two, **parts)
     yield Case("choose, 8 bytes", rows, "one scalar", ("choose_one", "loop_choose_one"),
-               lambda: equal(flags._new("sel_choose_one", scalar, two).to_numpy(), np.where(mask, first[0], second), "if-then-else with a scalar"),
+               lambda: equal(flags._new("sel_if_then_else_broadcast_true", scalar, two).to_numpy(), np.where(mask, first[0], second), "if-then-else with a scalar"),
                lambda: np.where(mask, first[0], second), first=flags, second=scalar, third=two, **parts)
     yield Case("choose, 8 bytes", rows, "two scalars", ("choose_of_two", "loop_choose_of_two"),
-               lambda: equal(flags._new("sel_choose_of_two", scalar, other).to_numpy(), np.where(mask, first[0], second[0]), "if-then-else of scalars"),
+               lambda: equal(flags._new("sel_if_then_else_broadcast_both", scalar, other).to_numpy(), np.where(mask, first[0], second[0]), "if-then-else of scalars"),
                lambda: np.where(mask, first[0], second[0]), first=flags, second=scalar, third=other, **parts)
     views, others = views_of(rows), views_of(rows)
     left, right = texts(views), texts(others)

@@ -14,4 +14,4 @@ __all__ = [
     "BrokenRule", "BrokenText", "Column", "LimitPassed", "OutOfBounds", "OutOfMemory", "SelError", "Type", "WrongArgument",
     "choose", "collect_rows", "concat", "flatten", "if_else", "parse_type", "propagate_dictionary",
 ]
-__version__ = "0.2.0"
+__version__ = "0.3.0"

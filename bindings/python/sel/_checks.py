@@ -11,7 +11,8 @@ import sys
 from collections.abc import Iterable
 from typing import Any, NamedTuple
 
-from ._errors import OUT_OF_BOUNDS, OutOfBounds
+from ._errors import OutOfBounds
+from ._statuses import INDEX_OUT_OF_BOUNDS
 
 __all__ = ["FIELD_NUMBER", "LIST_INDEX", "LIST_SIZE", "ROW_INDEX", "ROW_OFFSET", "SIZE", "Limits",
            "boolean", "booleans", "error_out_of_bounds", "error_outside", "integer", "integer_within", "integers_within", "is_boolean", "is_integer",
@@ -100,12 +101,12 @@ def error_outside(value: int, name: str, limits: Limits) -> Exception:
     text = f"{name}: {shown(value)} is outside [{limits.least}, {limits.most}]"
     if not limits.is_index:
         return OverflowError(text)
-    return OutOfBounds(OUT_OF_BOUNDS, f"{text}; negative indices are not supported" if value < 0 == limits.least else text)
+    return OutOfBounds(INDEX_OUT_OF_BOUNDS, f"{text}; negative indices are not supported" if value < 0 == limits.least else text)
 
 
 def error_out_of_bounds(value: int, name: str, count: int) -> OutOfBounds:
     """Returns the exception for an index that no row of a column has."""
-    return OutOfBounds(OUT_OF_BOUNDS, f"{name}: {shown(value)} is out of bounds of {count} rows")
+    return OutOfBounds(INDEX_OUT_OF_BOUNDS, f"{name}: {shown(value)} is out of bounds of {count} rows")
 
 
 def position_of(value: object, name: str, count: int) -> int:

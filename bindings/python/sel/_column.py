@@ -9,7 +9,7 @@ from typing import TYPE_CHECKING, Any, overload
 from . import _arrays
 from ._arguments import column_of, columns_of, indices_of, mask_of, picks_of, sizes_of
 from ._checks import FIELD_NUMBER, LIST_INDEX, ROW_OFFSET, SIZE, boolean, integer_within, is_integer, position_of, shown
-from ._errors import OTHER_TYPE, BrokenText, WrongArgument, error_of
+from ._errors import BrokenText, WrongArgument, error_of
 from ._indexing import selected
 from ._library import attempt, call, lib, status_of
 from ._makers import made_of
@@ -17,6 +17,7 @@ from ._memory import _NOTHING, NO_VALIDITY, unpacked
 from ._names import VALID_NAMES, short_names
 from ._owner import Owner, derived, distinct, from_several
 from ._readers import printed, rows_of, validity_bits
+from ._statuses import OK, ROW_SYNTAX, ROW_TYPE_MISMATCH, TYPE_MISMATCH, TYPE_SYNTAX
 from ._types import Type, parse_type, type_of_values
 
 if TYPE_CHECKING:
@@ -86,12 +87,12 @@ class Column(Owner):
         short, places = short_names(str(type))
         name, text = short.encode(), rows.encode()
         status = attempt("sel_parse", name, len(name), text, len(text), byref(place), byref(column._handle))
-        if status in (32, 33, 34):
-            before = len((name if status == 32 else text)[: place.value].decode(errors="ignore"))
-            if status == 32:
+        if status in (TYPE_SYNTAX, ROW_SYNTAX, ROW_TYPE_MISMATCH):
+            before = len((name if status == TYPE_SYNTAX else text)[: place.value].decode(errors="ignore"))
+            if status == TYPE_SYNTAX:
                 raise BrokenText(status, status_of(status), places[before], f"; {VALID_NAMES}")
             raise BrokenText(status, status_of(status), before)
-        if status != 0:
+        if status != OK:
             raise error_of(status, status_of(status))
         return column
 
@@ -114,7 +115,7 @@ class Column(Owner):
         if kind == "list":
             return Type(kind, (self._child().type,))
         if kind == "fixed":
-            return Type(kind, (self._child().type,), self._size("sel_width"))
+            return Type(kind, (self._child().type,), self._size("sel_fixed_size_list_size"))
         if kind == "struct":
             return Type(kind, tuple(self._field(number).type for number in range(self._size("sel_field_count"))))
         return Type(kind)
@@ -203,12 +204,12 @@ class Column(Owner):
 
         Raises IndexError for an index outside the 64-bit integers, which is out of bounds of every list.
         """
-        return self._new("sel_sublist_get", integer_within(index, "index", LIST_INDEX))
+        return self._new("sel_list_get", integer_within(index, "index", LIST_INDEX))
 
     def index_is_oob(self, index: SupportsIndex) -> bool:
         """Returns whether some list that is not null has no element at the index. Raises IndexError as `sublist_get` does."""
         answer = c_bool()
-        call("sel_index_is_oob", self._at(), integer_within(index, "index", LIST_INDEX), byref(answer))
+        call("sel_list_index_is_oob", self._at(), integer_within(index, "index", LIST_INDEX), byref(answer))
         return answer.value
 
     def fixed_get(self, index: SupportsIndex | Column, null_on_oob: Boolean = True) -> Column:
@@ -218,8 +219,8 @@ class Column(Owner):
         """
         flag = boolean(null_on_oob, "null_on_oob")
         if isinstance(index, Column):
-            return self._new("sel_fixed_get_each", distinct(index, self), flag)
-        return self._new("sel_fixed_get", integer_within(index, "index", LIST_INDEX), flag)
+            return self._new("sel_fixed_size_list_get_each", distinct(index, self), flag)
+        return self._new("sel_fixed_size_list_get", integer_within(index, "index", LIST_INDEX), flag)
 
     def list_element(self, index: SupportsIndex) -> Column:
         """Returns the element of each list or fixed-size list at the index, as `sublist_get` and `fixed_get` do.
@@ -251,7 +252,7 @@ class Column(Owner):
             return self.share()
         mask = Owner()
         call("sel_boolean_new", bits, bits.size(), len(self), *NO_VALIDITY, byref(mask._handle))
-        return Column._owning(derived(mask, "sel_choose_or_one", self, one))
+        return Column._owning(derived(mask, "sel_if_then_else_broadcast_false", self, one))
 
     def unit_list(self) -> Column:
         """Returns a column of lists with one row each."""
@@ -262,7 +263,7 @@ class Column(Owner):
 
         Raises IndexError if there are fewer rows, or if the offset is negative; OverflowError for a length outside [0, 2^64).
         """
-        return self._new("sel_sliced", integer_within(offset, "offset", ROW_OFFSET), integer_within(length, "length", SIZE))
+        return self._new("sel_slice", integer_within(offset, "offset", ROW_OFFSET), integer_within(length, "length", SIZE))
 
     def share(self) -> Column:
         """Returns the same rows as a second column, which shares memory with this one."""
@@ -333,7 +334,7 @@ def choose(mask: Column | Iterable[Boolean | None] | Array, if_true: Column | An
     first, other = (side if isinstance(side, Column) else made_of([side], wanted, name)
                     for side, name in ((if_true, "if_true"), (if_false, "if_false")))
     second = distinct(other, first)
-    name = {(True, True): "sel_choose", (False, True): "sel_choose_one", (True, False): "sel_choose_or_one", (False, False): "sel_choose_of_two"}[
+    name = {(True, True): "sel_if_then_else", (False, True): "sel_if_then_else_broadcast_true", (True, False): "sel_if_then_else_broadcast_false", (False, False): "sel_if_then_else_broadcast_both"}[
         isinstance(if_true, Column), isinstance(if_false, Column)]
     return Column._owning(derived(distinct(mask_of(mask, "mask"), first, second), name, first, second))
 
@@ -382,7 +383,7 @@ def concat(columns: Iterable[Column]) -> Column:
     wanted = given[0].type
     for position, column in enumerate(given):
         if column.type != wanted:
-            raise WrongArgument(OTHER_TYPE, f"columns[{position}]: a column of type {column.type}, where columns[0] has type {wanted}")
+            raise WrongArgument(TYPE_MISMATCH, f"columns[{position}]: a column of type {column.type}, where columns[0] has type {wanted}")
     # flatten takes no items of a column without rows
     parts = [column for column in given if len(column) > 0]
     return flatten(parts, map(len, parts), 1) if parts else given[0].share()

@@ -2,11 +2,9 @@
 
 from __future__ import annotations
 
-__all__ = ["BrokenRule", "BrokenText", "LimitPassed", "OutOfBounds", "OutOfMemory", "SelError", "WrongArgument"]
+from ._statuses import EXCEPTIONS
 
-# The statuses of columns of several types, and of an index out of bounds (SEL_OTHER_TYPE and SEL_OUT_OF_BOUNDS in include/sel.h).
-OTHER_TYPE = 4
-OUT_OF_BOUNDS = 6
+__all__ = ["BrokenRule", "BrokenText", "LimitPassed", "OutOfBounds", "OutOfMemory", "SelError", "WrongArgument"]
 
 
 class SelError(Exception):
@@ -49,14 +47,12 @@ class BrokenText(SelError, ValueError):
         self.place = place
 
 
+# The exception classes whose status and text say everything, by their names in _statuses.py; BrokenText also has a place.
+_CLASSES: dict[str, type[SelError]] = {
+    "OutOfMemory": OutOfMemory, "WrongArgument": WrongArgument, "OutOfBounds": OutOfBounds, "LimitPassed": LimitPassed, "BrokenRule": BrokenRule,
+}
+
+
 def error_of(status: int, text: str) -> SelError:
-    """Returns the exception of a status that is not `SEL_DONE`."""
-    if status == 1:
-        return OutOfMemory(status, text)
-    if status in (2, 3, 4, 5):
-        return WrongArgument(status, text)
-    if status in (OUT_OF_BOUNDS, 7):
-        return OutOfBounds(status, text)
-    if 8 <= status <= 11 or status == 35:
-        return LimitPassed(status, text)
-    return BrokenRule(status, text)
+    """Returns the exception of a status that is not `SEL_OK`."""
+    return _CLASSES.get(EXCEPTIONS.get(status, ""), BrokenRule)(status, text)

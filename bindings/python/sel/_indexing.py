@@ -56,7 +56,7 @@ def _sliced(column: Owner, place: slice) -> Owner:
     start, stop, step = slice(*[None if part is None else integer(part, f"slice {name}") for name, part in parts]).indices(len(column))
     if step != 1:
         return _rows_at(column, range(start, stop, step))
-    return derived(column, "sel_sliced", start, max(0, stop - start))
+    return derived(column, "sel_slice", start, max(0, stop - start))
 
 
 def _filtered(column: Owner, mask: Owner, name: str) -> Owner:

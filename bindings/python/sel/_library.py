@@ -4,12 +4,13 @@ from __future__ import annotations
 
 import ctypes
 import os
-from ctypes import POINTER, Structure, c_bool, c_char_p, c_int64, c_size_t, c_uint8, c_uint32, c_void_p
+from ctypes import POINTER, Structure, c_bool, c_char_p, c_int64, c_size_t, c_uint32, c_void_p
 from pathlib import Path
 from typing import Any
 
 from ._checks import shown
 from ._errors import error_of
+from ._statuses import OK
 
 __all__ = ["ArrowArray", "ArrowSchema", "Handle", "Slice", "attempt", "call", "lib", "status_of"]
 
@@ -21,7 +22,7 @@ class Handle(Structure):
 
 
 class Slice(Structure):
-    """`sel_slice`: the address and the length of bytes. Views, picks and 128-bit integers are passed as arrays of words,
+    """`sel_bytes_ref`: the address and the length of bytes. Views, picks and 128-bit integers are passed as arrays of words,
     which Python itself checks, and not as structures, which would wrap their integers."""
 
     _fields_ = [("at", c_void_p), ("len", c_size_t)]
@@ -53,7 +54,7 @@ def _places() -> list[str]:
     here = Path(__file__).resolve()
     told = [os.environ["SEL_LIBRARY"]] if "SEL_LIBRARY" in os.environ else []
     built = [str(up / "build" / "libsel.so") for up in list(here.parents)[2:4]]
-    return told + [place for place in [str(here.parent / "libsel.so"), *built] if os.path.exists(place)] + ["libsel.so.0"]
+    return told + [place for place in [str(here.parent / "libsel.so"), *built] if os.path.exists(place)] + ["libsel.so.1"]
 
 
 def _load() -> Any:
@@ -77,10 +78,10 @@ _CALLS: dict[str, list[Any]] = {
     **{f"sel_{name}_new": [_BYTES, _SIZE, *_BITS, _COLUMN] for name in
        ("int8", "int16", "int32", "int64", "int128", "uint8", "uint16", "uint32", "uint64", "uint128")},
     "sel_binary_new": [_BYTES, _SIZE, _BYTES, _SIZE, *_BITS, _COLUMN],
-    "sel_binview_new": [_BYTES, _SIZE, _BYTES, _SIZE, *_BITS, _COLUMN],
-    "sel_utf8view_new": [_BYTES, _SIZE, _BYTES, _SIZE, *_BITS, _COLUMN],
+    "sel_binary_view_new": [_BYTES, _SIZE, _BYTES, _SIZE, *_BITS, _COLUMN],
+    "sel_string_view_new": [_BYTES, _SIZE, _BYTES, _SIZE, *_BITS, _COLUMN],
     "sel_list_new": [_BYTES, _SIZE, *_BITS, _COLUMN, _COLUMN],
-    "sel_fixed_list_new": [_SIZE, _SIZE, *_BITS, _COLUMN, _COLUMN],
+    "sel_fixed_size_list_new": [_SIZE, _SIZE, *_BITS, _COLUMN, _COLUMN],
     "sel_struct_new": [_SIZE, *_BITS, _COLUMN, _SIZE, _COLUMN],
     "sel_validity": [_COLUMN, _BYTES, _SIZE, POINTER(c_bool)],
     **{f"sel_{name}_values": [_COLUMN, _BYTES, _SIZE] for name in
@@ -92,7 +93,7 @@ _CALLS: dict[str, list[Any]] = {
     "sel_buffer_count": [_COLUMN, POINTER(_SIZE)],
     "sel_buffer_len": [_COLUMN, _SIZE, POINTER(_SIZE)],
     "sel_buffer": [_COLUMN, _SIZE, _BYTES, _SIZE],
-    "sel_width": [_COLUMN, POINTER(_SIZE)],
+    "sel_fixed_size_list_size": [_COLUMN, POINTER(_SIZE)],
     "sel_field_count": [_COLUMN, POINTER(_SIZE)],
     "sel_child": [_COLUMN, _COLUMN],
     "sel_field": [_COLUMN, _SIZE, _COLUMN],
@@ -100,19 +101,19 @@ _CALLS: dict[str, list[Any]] = {
     "sel_filter_bits": [_COLUMN, _BYTES, _SIZE, _SIZE, _COLUMN],
     "sel_take": [_COLUMN, _COLUMN, _COLUMN],
     "sel_take_rows": [_COLUMN, _BYTES, _SIZE, *_BITS, _COLUMN],
-    "sel_choose": [_COLUMN, _COLUMN, _COLUMN, _COLUMN],
-    "sel_choose_one": [_COLUMN, _COLUMN, _COLUMN, _COLUMN],
-    "sel_choose_or_one": [_COLUMN, _COLUMN, _COLUMN, _COLUMN],
-    "sel_choose_of_two": [_COLUMN, _COLUMN, _COLUMN, _COLUMN],
-    "sel_sublist_get": [_COLUMN, c_int64, _COLUMN],
-    "sel_index_is_oob": [_COLUMN, c_int64, POINTER(c_bool)],
+    "sel_if_then_else": [_COLUMN, _COLUMN, _COLUMN, _COLUMN],
+    "sel_if_then_else_broadcast_true": [_COLUMN, _COLUMN, _COLUMN, _COLUMN],
+    "sel_if_then_else_broadcast_false": [_COLUMN, _COLUMN, _COLUMN, _COLUMN],
+    "sel_if_then_else_broadcast_both": [_COLUMN, _COLUMN, _COLUMN, _COLUMN],
+    "sel_list_get": [_COLUMN, c_int64, _COLUMN],
+    "sel_list_index_is_oob": [_COLUMN, c_int64, POINTER(c_bool)],
     "sel_unit_list": [_COLUMN, _COLUMN],
-    "sel_fixed_get": [_COLUMN, c_int64, c_bool, _COLUMN],
-    "sel_fixed_get_each": [_COLUMN, _COLUMN, c_bool, _COLUMN],
+    "sel_fixed_size_list_get": [_COLUMN, c_int64, c_bool, _COLUMN],
+    "sel_fixed_size_list_get_each": [_COLUMN, _COLUMN, c_bool, _COLUMN],
     "sel_flatten": [_COLUMN, _SIZE, _BYTES, _SIZE, _SIZE, _COLUMN],
     "sel_propagate_dictionary": [_COLUMN, _COLUMN, _COLUMN, _COLUMN],
     "sel_collect_rows": [_COLUMN, _SIZE, _BYTES, _SIZE, *_BITS, _COLUMN],
-    "sel_sliced": [_COLUMN, _SIZE, _SIZE, _COLUMN],
+    "sel_slice": [_COLUMN, _SIZE, _SIZE, _COLUMN],
     "sel_share": [_COLUMN, _COLUMN],
     "sel_equal_rows": [_COLUMN, _COLUMN, POINTER(c_bool)],
     "sel_print": [_COLUMN, _BYTES, _SIZE, POINTER(_SIZE)],
@@ -126,10 +127,10 @@ def _declare() -> None:
     for name, arguments in _CALLS.items():
         found = getattr(lib, name)
         found.argtypes, found.restype = arguments, c_uint32
-    for name, result in (("sel_len", c_size_t), ("sel_kind", c_uint32), ("sel_null_count", c_size_t), ("sel_free", None)):
+    for name, result in (("sel_len", c_size_t), ("sel_type_of", c_uint32), ("sel_null_count", c_size_t), ("sel_free", None)):
         found = getattr(lib, name)
         found.argtypes, found.restype = [_COLUMN], result
-    lib.sel_arrow_text.argtypes, lib.sel_arrow_text.restype = [c_uint32, POINTER(c_uint8), c_size_t], c_size_t
+    lib.sel_status_string.argtypes, lib.sel_status_string.restype = [c_uint32], c_char_p
 
 
 _declare()
@@ -153,9 +154,8 @@ _BOOLEANS = {name: [position for position, kind in enumerate(kinds, 1) if kind i
 
 
 def status_of(status: int) -> str:
-    """Returns the text of a status."""
-    room = (c_uint8 * 128)()
-    return bytes(room[: lib.sel_arrow_text(status, room, len(room))]).decode()
+    """Returns the string of a status."""
+    return str(lib.sel_status_string(status).decode())
 
 
 def _check(name: str, arguments: tuple[Any, ...]) -> None:
@@ -184,7 +184,7 @@ def attempt(name: str, *arguments: Any) -> int:
 
 
 def call(name: str, *arguments: Any) -> None:
-    """Makes a call, and raises the exception of its status unless it is done."""
+    """Makes a call, and raises the exception of its status unless it is `SEL_OK`."""
     status = attempt(name, *arguments)
-    if status != 0:
+    if status != OK:
         raise error_of(status, status_of(status))

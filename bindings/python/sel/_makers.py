@@ -107,7 +107,7 @@ def _views(pieces: Sequence[bytes], name: str) -> tuple[Memory, list[bytes]]:
 
 
 def _make_views(values: Sequence[Any], wanted: Type, name: str, valid: Sequence[bool]) -> Owner:
-    made, maker = Owner(), "sel_utf8view_new" if wanted.kind == "utf8" else "sel_binview_new"
+    made, maker = Owner(), "sel_string_view_new" if wanted.kind == "utf8" else "sel_binary_view_new"
     views, buffers = _views(_pieces(values, wanted, name), name)
     slices = (Slice * max(1, len(buffers)))(*[Slice(cast(c_char_p(buffer), c_void_p), len(buffer)) for buffer in buffers])
     call(maker, views, len(values), slices, len(buffers), *validity_of(valid), byref(made._handle))
@@ -146,7 +146,7 @@ def _fixed_list_items(values: Sequence[Any], wanted: Type, name: str) -> Owner:
 def _make_fixed_lists(values: Sequence[Any], wanted: Type, name: str, valid: Sequence[bool]) -> Owner:
     _check_rows(values, name, list, wanted.width)
     made, child = Owner(), _fixed_list_items(values, wanted, f"elements of {name}")
-    call("sel_fixed_list_new", wanted.width, len(values), *validity_of(valid), child._at(), byref(made._handle))
+    call("sel_fixed_size_list_new", wanted.width, len(values), *validity_of(valid), child._at(), byref(made._handle))
     return made
 
 

@@ -45,7 +45,7 @@ class Owner:
 
     def _kind(self) -> str:
         """Returns the kind of the column as its type names it."""
-        return KINDS[lib.sel_kind(self._at())]
+        return KINDS[lib.sel_type_of(self._at())]
 
     def _size(self, name: str, *arguments: Any) -> int:
         """Returns the number that a call reports of the column."""

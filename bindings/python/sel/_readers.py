@@ -157,12 +157,12 @@ def _printed_bytes(owner: Owner, size: int) -> list[Any]:
 def _read_lists(owner: Owner) -> list[Any]:
     offsets = _offsets(owner)
     first = offsets[0]
-    items = rows_of(derived(derived(owner, "sel_child"), "sel_sliced", first, offsets[-1] - first))
+    items = rows_of(derived(derived(owner, "sel_child"), "sel_slice", first, offsets[-1] - first))
     return [items[start - first : end - first] for start, end in zip(offsets, offsets[1:])]
 
 
 def _read_fixed_lists(owner: Owner) -> list[Any]:
-    width, items = owner._size("sel_width"), rows_of(derived(owner, "sel_child"))
+    width, items = owner._size("sel_fixed_size_list_size"), rows_of(derived(owner, "sel_child"))
     return [items[position * width : (position + 1) * width] for position in range(len(owner))]
 
 

@@ -115,7 +115,7 @@ class Layout:
     def _fixed_lists(self, values: list[Any], valid: list[bool], wanted: Type) -> Owner:
         made = Owner()
         child = self.column([item for value in values for item in value], wanted.children[0])
-        call("sel_fixed_list_new", wanted.width, len(values), *validity_of(valid), child._at(), byref(made._handle))
+        call("sel_fixed_size_list_new", wanted.width, len(values), *validity_of(valid), child._at(), byref(made._handle))
         return made
 
     def _structs(self, values: list[Any], valid: list[bool], wanted: Type) -> Owner:

@@ -35,10 +35,10 @@ NOT_RUN = {"parse": "the parser allocates memory for each row below a null, and 
 
 # Statuses by the names of tests/README.md; include/sel.h numbers them.
 STATUSES = {
-    "out_of_memory": 1, "kind_mismatch": 3, "type_mismatch": 4, "length_mismatch": 5, "index_out_of_bounds": 6, "get_out_of_bounds": 7,
-    "limit_rows": 8, "limit_bytes": 9, "limit_buffers": 10, "limit_view_bytes": 11, "offset_count": 16, "offset_negative": 17, "offset_order": 18,
+    "out_of_memory": 1, "unsupported_type": 3, "type_mismatch": 4, "length_mismatch": 5, "index_out_of_bounds": 6, "list_index_out_of_bounds": 7,
+    "row_limit": 8, "offset_limit": 9, "buffer_limit": 10, "view_limit": 11, "no_offsets": 16, "negative_offset": 17, "decreasing_offset": 18,
     "too_many_rows": 19, "too_many_buffers": 20, "list_size": 21, "offset_range": 22, "child_length": 23, "field_length": 24, "validity_length": 25,
-    "type_syntax": 32, "text_syntax": 33, "text_misfit": 34, "text_limit": 35,
+    "type_syntax": 32, "row_syntax": 33, "row_type_mismatch": 34, "text_limit": 35,
 }
 
 
@@ -133,7 +133,7 @@ def _list_new(given: Arguments, child: Column) -> Column:
 
 def _fixed_size_list_new(given: Arguments, child: Column) -> Column:
     (size, count, valid), made, taken = given.others, Owner(), child.share()
-    call("sel_fixed_list_new", size, count, *_validity(valid), taken._at(), byref(made._handle))
+    call("sel_fixed_size_list_new", size, count, *_validity(valid), taken._at(), byref(made._handle))
     return Column._owning(made)
 
 
@@ -231,13 +231,13 @@ CALLS = {
         Use(lambda given, mask, first, second: sel.choose(mask, first, second)),
         Use(lambda given, mask, first, second: sel.choose(given.columns[0].values, first, second), lambda given, expected: given.has_type(0, "bool"))]),
     "if_then_else_broadcast_true": Call("tMrr", [
-        _broadcast("sel_choose_one"),
+        _broadcast("sel_if_then_else_broadcast_true"),
         Use(lambda given, mask, first, second: sel.choose(mask, given.columns[1].values[0], second), _is_one_value(1, 2))]),
     "if_then_else_broadcast_false": Call("tMrr", [
-        _broadcast("sel_choose_or_one"),
+        _broadcast("sel_if_then_else_broadcast_false"),
         Use(lambda given, mask, first, second: sel.choose(mask, first, given.columns[2].values[0]), _is_one_value(2, 1))]),
     "if_then_else_broadcast_both": Call("tMrr", [
-        _broadcast("sel_choose_of_two"),
+        _broadcast("sel_if_then_else_broadcast_both"),
         Use(lambda given, mask, first, second: sel.choose(mask, given.columns[1].values[0], given.columns[2].values[0]), _are_two_values)]),
     "list_get": Call("tri", [
         Use(lambda given, lists: lists.sublist_get(given.others[0])),

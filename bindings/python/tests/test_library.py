@@ -12,7 +12,7 @@ from unittest.mock import patch
 
 import sel
 from cases import table
-from sel import _library, _memory
+from sel import _library, _memory, _types
 
 # The ranges of C's types, worked out here from their sizes.
 RANGES = {c_size_t: (0, 2 ** (8 * ctypes.sizeof(c_size_t)) - 1), c_uint32: (0, 2**32 - 1), c_int64: (-(2**63), 2**63 - 1),
@@ -51,7 +51,7 @@ def declared_type(text: str) -> Any:
     plain = {"size_t": c_size_t, "uint32_t": c_uint32, "int64_t": c_int64, "bool": c_bool}
     if "*" not in text:
         return plain[text.split()[0]]
-    if text.split()[0] == "sel_column":
+    if "sel_column" in text.split():
         return ctypes.POINTER(_library.Handle)
     is_single = name in ("len", "count", "width", "at", "has", "equal") or (name == "out" and text.split()[0] == "bool")
     return ctypes.POINTER(plain[text.split()[0]]) if is_single else c_void_p
@@ -124,20 +124,31 @@ class Declarations(unittest.TestCase):
     def test_declarations_are_those_of_the_header(self) -> None:
         """A parameter that were declared with another type would be checked by the range of that type."""
         found = {name: [declared_type(text) for text in parameters.split(",")]
-                 for name, parameters in re.findall(r"^uint32_t (sel_\w+)\(([^)]*)\);", HEADER.read_text(), re.MULTILINE)}
-        found.pop("sel_kind")
+                 for name, parameters in re.findall(r"^sel_status (sel_\w+)\(([^)]*)\);", HEADER.read_text(), re.MULTILINE)}
         declared = {name: kinds for name, kinds in _library._CALLS.items() if name not in ("sel_import", "sel_export")}
         self.assertEqual(set(found), set(declared))
         for name, kinds in declared.items():
             self.assertEqual(found[name], kinds, name)
+
+    @unittest.skipUnless(HEADER.exists(), f"{HEADER} is not there: the kinds are not compared with it")
+    def test_kinds_are_the_type_ids_of_the_header(self) -> None:
+        found = {int(number): name for name, number in re.findall(r"\bSEL_TYPE_(\w+) = (\d+),", HEADER.read_text())}
+        names = {"bool": "BOOLEAN", "binview": "BINARY_VIEW", "utf8": "STRING_VIEW", "fixed": "FIXED_SIZE_LIST"}
+        kinds = [names.get(kind, re.sub(r"^(u?)i?(\d+)$", r"\1int\2", kind).upper()) for kind in _types.KINDS]
+        self.assertEqual([found[number] for number in sorted(found)], [*kinds, "NONE"])
+
+    def test_versions_agree(self) -> None:
+        version = _library.lib.sel_version
+        version.restype = ctypes.c_char_p
+        self.assertEqual(version().decode(), sel.__version__)
 
     def test_only_calls_without_integers_are_made_directly(self) -> None:
         """All others go through `attempt`, which checks their integers."""
         direct = set()
         for path in sorted(PACKAGE.glob("*.py")):
             direct |= set(re.findall(r"\blib\.(sel_\w+)\(", path.read_text()))
-        self.assertEqual(direct, {"sel_arrow_text", "sel_free", "sel_kind", "sel_len", "sel_null_count"})
-        for name in direct - {"sel_arrow_text"}:
+        self.assertEqual(direct, {"sel_status_string", "sel_free", "sel_type_of", "sel_len", "sel_null_count"})
+        for name in direct - {"sel_status_string"}:
             self.assertEqual(getattr(_library.lib, name).argtypes, [_library._COLUMN])
 
     def test_structures_hold_no_integers_of_callers(self) -> None:

@@ -173,7 +173,7 @@ class Costs(unittest.TestCase):
     def test_fixed_size_lists_of_null_slots_are_not_read(self) -> None:
         big, made = 200_000, Owner()
         child = made_of([1] * (3 * big), Type("i8"))
-        _library.call("sel_fixed_list_new", big, 3, *validity_of([False, False, False]), child._at(), byref(made._handle))
+        _library.call("sel_fixed_size_list_new", big, 3, *validity_of([False, False, False]), child._at(), byref(made._handle))
         self.check(Column._owning(made), [None, None, None], Type("fixed", (Type("i8"),), big), "fixed")
 
     def test_rows_outside_of_lists_are_not_read(self) -> None:

@@ -209,7 +209,7 @@ class Runner(unittest.TestCase):
         """Each right line fails with another result in place of its own."""
         for text in RIGHT_LINES:
             before, _, result = text.rpartition(" | ")
-            for other in ("[null,null,null,null,null]", "[]", "true", "false", "error index_out_of_bounds", "error length_mismatch", "error text_syntax 1"):
+            for other in ("[null,null,null,null,null]", "[]", "true", "false", "error index_out_of_bounds", "error length_mismatch", "error row_syntax 1"):
                 if other != result:
                     with self.assertRaises(Exception, msg=(text, other)):
                         self.check(f"{before} | {other}")
@@ -252,7 +252,7 @@ RIGHT_LINES = (
     'dictionary | [0,1] | ["a",null] | [0,null] | ["a"]',
     "equal | i64 | [1] | u8 | [1] | true",
     "parse | i64 | [ 1, null ] | [1,null]",
-    "parse | utf8 | [\"\u00e9\";] | error text_syntax 5",
+    "parse | utf8 | [\"\u00e9\";] | error row_syntax 5",
     "parse_type |  fixed< 2,i8 >  | fixed<2,i8>",
 )
 

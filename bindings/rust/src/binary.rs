@@ -24,7 +24,7 @@ impl Column {
     /// # use sel::{Column, Error, Kind};
     /// # fn main() -> Result<(), Error> {
     /// let column = Column::from_bytes(&[Some(&[0u8, 255]), None, Some(b"")])?;
-    /// assert_eq!((column.kind(), column.to_text()?), (Kind::LargeBinary, r#"[h"00ff",null,h""]"#.to_string()));
+    /// assert_eq!((column.kind(), column.to_text()?), (Kind::Binary, r#"[h"00ff",null,h""]"#.to_string()));
     /// assert_eq!(column.to_bytes()?, [Some(vec![0, 255]), None, Some(vec![])]);
     /// # Ok(())
     /// # }
@@ -70,7 +70,7 @@ impl Column {
         offsets.push(0);
         for value in values {
             append(&mut bytes, value)?;
-            offsets.push(i64::try_from(bytes.len()).map_err(|_| Error::of(status::LIMIT_BYTES))?);
+            offsets.push(i64::try_from(bytes.len()).map_err(|_| Error::of(status::OFFSET_LIMIT))?);
         }
         Column::made_of_offsets(&offsets, &bytes, validity)
     }
@@ -89,7 +89,7 @@ impl Column {
     /// # }
     /// ```
     pub fn to_bytes(&self) -> Result<Vec<Option<Vec<u8>>>, Error> {
-        if self.kind() != Kind::LargeBinary {
+        if self.kind() != Kind::Binary {
             return self.view_bytes();
         }
         let (bytes, offsets) = (self.bytes()?, self.offsets()?);

@@ -58,7 +58,7 @@ impl Column {
     /// Returns the column of a handle; a kind that the crate does not know is an error.
     pub(crate) fn of(handle: OwnedHandle) -> Result<Column, Error> {
         // SAFETY: the handle is owned, and the function leaves it as it was.
-        let kind = Kind::try_from(unsafe { raw::sel_kind(handle.at()) })?;
+        let kind = Kind::try_from(unsafe { raw::sel_type_of(handle.at()) })?;
         Ok(Column { handle, kind })
     }
 
@@ -76,7 +76,7 @@ impl Column {
         if self.kind == kind {
             Ok(())
         } else {
-            Err(Error::of(status::WRONG_KIND))
+            Err(Error::of(status::UNSUPPORTED_TYPE))
         }
     }
 
@@ -93,7 +93,7 @@ impl Column {
     /// use sel::{Column, Error, Kind};
     /// # fn main() -> Result<(), Error> {
     /// let names = Column::parse("list<utf8>", r#"[["Ada", "Grace"], null, []]"#)?;
-    /// assert_eq!((names.kind(), names.len(), names.null_count()), (Kind::LargeList, 3, 1));
+    /// assert_eq!((names.kind(), names.len(), names.null_count()), (Kind::List, 3, 1));
     /// assert_eq!(names.to_text()?, r#"[["Ada","Grace"],null,[]]"#);
     /// assert_eq!(Column::parse("i64", "[1, null, -3]")?.to_options::<i64>()?, [Some(1), None, Some(-3)]);
     ///
@@ -112,7 +112,7 @@ impl Column {
         let status =
             unsafe { raw::sel_parse(dtype.as_ptr(), dtype.len(), rows.as_ptr(), rows.len(), &mut at, handle.at()) };
         match status {
-            status::DONE => Column::of(handle),
+            status::OK => Column::of(handle),
             _ => Err(Error::of_text(status, at)),
         }
     }
@@ -186,7 +186,7 @@ impl Column {
     /// ```
     pub fn slice(&self, offset: usize, len: usize) -> Result<Column, Error> {
         // SAFETY: two distinct handles.
-        Column::made(|out| unsafe { raw::sel_sliced(self.at(), offset, len, out) })
+        Column::made(|out| unsafe { raw::sel_slice(self.at(), offset, len, out) })
     }
 
     /// Returns the same as [`slice`](Column::slice).
@@ -281,7 +281,7 @@ impl Column {
         bytes = zeroed(len)?;
         // SAFETY: as in `len`; the bytes are valid for their length.
         checked(unsafe { raw::sel_print(self.at(), bytes.as_mut_ptr(), bytes.len(), &mut len) })?;
-        String::from_utf8(bytes).map_err(|_| Error::of(status::UTF8))
+        String::from_utf8(bytes).map_err(|_| Error::of(status::INVALID_UTF8))
     }
 }
 

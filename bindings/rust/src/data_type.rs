@@ -15,8 +15,8 @@ use std::str::FromStr;
 /// use sel::DataType;
 /// # fn main() -> Result<(), sel::Error> {
 /// let lists: DataType = "list<struct<i64, fixed<2, utf8>>>".parse()?;
-/// let pair = DataType::FixedSizeList(Box::new(DataType::Utf8View), 2);
-/// assert_eq!(lists, DataType::LargeList(Box::new(DataType::Struct(vec![DataType::Int64, pair]))));
+/// let pair = DataType::FixedSizeList(Box::new(DataType::StringView), 2);
+/// assert_eq!(lists, DataType::List(Box::new(DataType::Struct(vec![DataType::Int64, pair]))));
 /// assert_eq!(lists.to_string(), "list<struct<i64,fixed<2,utf8>>>");
 /// # Ok(())
 /// # }
@@ -48,13 +48,13 @@ pub enum DataType {
     /// Unsigned 128-bit integers: `u128`.
     UInt128,
     /// Binary values with 64-bit offsets: `binary`.
-    LargeBinary,
+    Binary,
     /// Binary views: `binview`.
     BinaryView,
     /// String views (UTF-8): `utf8`.
-    Utf8View,
+    StringView,
     /// Lists with 64-bit offsets: `list<TYPE>`.
-    LargeList(Box<DataType>),
+    List(Box<DataType>),
     /// Fixed-size lists, with their list size: `fixed<SIZE,TYPE>`.
     FixedSizeList(Box<DataType>, usize),
     /// Struct values: `struct<TYPE,..>`.
@@ -77,10 +77,10 @@ impl DataType {
             DataType::UInt32 => Kind::UInt32,
             DataType::UInt64 => Kind::UInt64,
             DataType::UInt128 => Kind::UInt128,
-            DataType::LargeBinary => Kind::LargeBinary,
+            DataType::Binary => Kind::Binary,
             DataType::BinaryView => Kind::BinaryView,
-            DataType::Utf8View => Kind::Utf8View,
-            DataType::LargeList(_) => Kind::LargeList,
+            DataType::StringView => Kind::StringView,
+            DataType::List(_) => Kind::List,
             DataType::FixedSizeList(..) => Kind::FixedSizeList,
             DataType::Struct(_) => Kind::Struct,
         }
@@ -101,10 +101,10 @@ impl DataType {
             DataType::UInt32 => "u32",
             DataType::UInt64 => "u64",
             DataType::UInt128 => "u128",
-            DataType::LargeBinary => "binary",
+            DataType::Binary => "binary",
             DataType::BinaryView => "binview",
-            DataType::Utf8View => "utf8",
-            DataType::LargeList(_) => "list",
+            DataType::StringView => "utf8",
+            DataType::List(_) => "list",
             DataType::FixedSizeList(..) => "fixed",
             DataType::Struct(_) => "struct",
         }
@@ -115,7 +115,7 @@ impl fmt::Display for DataType {
     fn fmt(&self, f: &mut fmt::Formatter<'_>) -> fmt::Result {
         f.write_str(self.name())?;
         match self {
-            DataType::LargeList(child) => write!(f, "<{child}>"),
+            DataType::List(child) => write!(f, "<{child}>"),
             DataType::FixedSizeList(child, list_size) => write!(f, "<{list_size},{child}>"),
             DataType::Struct(fields) => {
                 f.write_str("<")?;
@@ -146,7 +146,7 @@ impl Column {
     /// # use sel::{Column, DataType, Error};
     /// # fn main() -> Result<(), Error> {
     /// let lists = Column::from_values(&[1i64, 2])?.unit_list()?;
-    /// assert_eq!(lists.data_type()?, DataType::LargeList(Box::new(DataType::Int64)));
+    /// assert_eq!(lists.data_type()?, DataType::List(Box::new(DataType::Int64)));
     /// # Ok(())
     /// # }
     /// ```
@@ -164,10 +164,10 @@ impl Column {
             Kind::UInt32 => DataType::UInt32,
             Kind::UInt64 => DataType::UInt64,
             Kind::UInt128 => DataType::UInt128,
-            Kind::LargeBinary => DataType::LargeBinary,
+            Kind::Binary => DataType::Binary,
             Kind::BinaryView => DataType::BinaryView,
-            Kind::Utf8View => DataType::Utf8View,
-            Kind::LargeList => DataType::LargeList(Box::new(self.child()?.data_type()?)),
+            Kind::StringView => DataType::StringView,
+            Kind::List => DataType::List(Box::new(self.child()?.data_type()?)),
             Kind::FixedSizeList => DataType::FixedSizeList(Box::new(self.child()?.data_type()?), self.list_size()?),
             Kind::Struct => {
                 DataType::Struct(try_collect((0..self.field_count()?).map(|i| self.field(i)?.data_type()))?)

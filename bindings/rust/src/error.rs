@@ -1,19 +1,52 @@
 //! Errors of the library's functions.
 
 use crate::raw;
+use std::ffi::CStr;
 use std::fmt;
 
-/// The statuses of `include/sel.h` that the crate itself returns.
+/// The statuses of `include/sel.h`.
+#[allow(dead_code)] // The crate itself returns some of them.
 pub(crate) mod status {
-    pub(crate) const DONE: u32 = 0;
+    // begin: written by tools/statuses.py
+    pub(crate) const OK: u32 = 0;
     pub(crate) const OUT_OF_MEMORY: u32 = 1;
-    pub(crate) const WRONG_KIND: u32 = 3;
-    pub(crate) const LIMIT_BYTES: u32 = 9;
-    pub(crate) const LIMIT_VIEW_BYTES: u32 = 11;
+    pub(crate) const NO_COLUMN: u32 = 2;
+    pub(crate) const UNSUPPORTED_TYPE: u32 = 3;
+    pub(crate) const TYPE_MISMATCH: u32 = 4;
+    pub(crate) const LENGTH_MISMATCH: u32 = 5;
+    pub(crate) const INDEX_OUT_OF_BOUNDS: u32 = 6;
+    pub(crate) const LIST_INDEX_OUT_OF_BOUNDS: u32 = 7;
+    pub(crate) const ROW_LIMIT: u32 = 8;
+    pub(crate) const OFFSET_LIMIT: u32 = 9;
+    pub(crate) const BUFFER_LIMIT: u32 = 10;
+    pub(crate) const VIEW_LIMIT: u32 = 11;
+    pub(crate) const TOO_DEEP: u32 = 12;
+    pub(crate) const NO_OFFSETS: u32 = 16;
+    pub(crate) const NEGATIVE_OFFSET: u32 = 17;
+    pub(crate) const DECREASING_OFFSET: u32 = 18;
+    pub(crate) const TOO_MANY_ROWS: u32 = 19;
+    pub(crate) const TOO_MANY_BUFFERS: u32 = 20;
+    pub(crate) const LIST_SIZE: u32 = 21;
     pub(crate) const OFFSET_RANGE: u32 = 22;
+    pub(crate) const CHILD_LENGTH: u32 = 23;
+    pub(crate) const FIELD_LENGTH: u32 = 24;
     pub(crate) const VALIDITY_LENGTH: u32 = 25;
     pub(crate) const VIEW_RANGE: u32 = 26;
-    pub(crate) const UTF8: u32 = 28;
+    pub(crate) const VIEW_PREFIX: u32 = 27;
+    pub(crate) const INVALID_UTF8: u32 = 28;
+    pub(crate) const TYPE_SYNTAX: u32 = 32;
+    pub(crate) const ROW_SYNTAX: u32 = 33;
+    pub(crate) const ROW_TYPE_MISMATCH: u32 = 34;
+    pub(crate) const TEXT_LIMIT: u32 = 35;
+    pub(crate) const ARROW_RELEASED: u32 = 64;
+    pub(crate) const ARROW_FORMAT: u32 = 65;
+    pub(crate) const ARROW_BUFFERS: u32 = 66;
+    pub(crate) const ARROW_CHILDREN: u32 = 67;
+    pub(crate) const ARROW_LENGTH: u32 = 68;
+    pub(crate) const ARROW_DICTIONARY: u32 = 69;
+    pub(crate) const ARROW_DEPTH: u32 = 70;
+    pub(crate) const ARROW_RANGE: u32 = 71;
+    // end: written by tools/statuses.py
 }
 
 /// An error of a function, with its status in `include/sel.h` or `include/sel_arrow.h`.
@@ -59,7 +92,7 @@ pub enum Error {
 
 /// Returns the error of a status, if it is one.
 pub(crate) fn checked(status: u32) -> Result<(), Error> {
-    if status == status::DONE {
+    if status == status::OK {
         Ok(())
     } else {
         Err(Error::of(status))
@@ -70,12 +103,40 @@ impl Error {
     /// Returns the error with this status.
     pub(crate) fn of(status: u32) -> Error {
         match status {
+            // errors, begin: written by tools/statuses.py
             status::OUT_OF_MEMORY => Error::OutOfMemory,
-            2..=5 => Error::WrongArgument(status),
-            6 | 7 => Error::OutOfBounds(status),
-            8..=11 | 35 => Error::Limit(status),
-            16..=28 => Error::Malformed(status),
-            64..=71 => Error::Arrow(status),
+            status::NO_COLUMN | status::UNSUPPORTED_TYPE | status::TYPE_MISMATCH | status::LENGTH_MISMATCH => {
+                Error::WrongArgument(status)
+            }
+            status::INDEX_OUT_OF_BOUNDS | status::LIST_INDEX_OUT_OF_BOUNDS => Error::OutOfBounds(status),
+            status::ROW_LIMIT
+            | status::OFFSET_LIMIT
+            | status::BUFFER_LIMIT
+            | status::VIEW_LIMIT
+            | status::TOO_DEEP
+            | status::TEXT_LIMIT => Error::Limit(status),
+            status::NO_OFFSETS
+            | status::NEGATIVE_OFFSET
+            | status::DECREASING_OFFSET
+            | status::TOO_MANY_ROWS
+            | status::TOO_MANY_BUFFERS
+            | status::LIST_SIZE
+            | status::OFFSET_RANGE
+            | status::CHILD_LENGTH
+            | status::FIELD_LENGTH
+            | status::VALIDITY_LENGTH
+            | status::VIEW_RANGE
+            | status::VIEW_PREFIX
+            | status::INVALID_UTF8 => Error::Malformed(status),
+            status::ARROW_RELEASED
+            | status::ARROW_FORMAT
+            | status::ARROW_BUFFERS
+            | status::ARROW_CHILDREN
+            | status::ARROW_LENGTH
+            | status::ARROW_DICTIONARY
+            | status::ARROW_DEPTH
+            | status::ARROW_RANGE => Error::Arrow(status),
+            // errors, end: written by tools/statuses.py
             _ => Error::UnknownStatus(status),
         }
     }
@@ -83,7 +144,9 @@ impl Error {
     /// Returns the error with this status of the parser, which reports an offset with some statuses.
     pub(crate) fn of_text(status: u32, at: usize) -> Error {
         match status {
-            32..=34 => Error::Text { status, at },
+            // text errors, begin: written by tools/statuses.py
+            status::TYPE_SYNTAX | status::ROW_SYNTAX | status::ROW_TYPE_MISMATCH => Error::Text { status, at },
+            // text errors, end: written by tools/statuses.py
             _ => Error::of(status),
         }
     }
@@ -92,7 +155,7 @@ impl Error {
     pub fn status(self) -> u32 {
         match self {
             Error::OutOfMemory => status::OUT_OF_MEMORY,
-            Error::UnknownKind(_) => status::WRONG_KIND,
+            Error::UnknownKind(_) => status::UNSUPPORTED_TYPE,
             Error::WrongArgument(status)
             | Error::OutOfBounds(status)
             | Error::Limit(status)
@@ -106,10 +169,10 @@ impl Error {
 
 impl fmt::Display for Error {
     fn fmt(&self, f: &mut fmt::Formatter<'_>) -> fmt::Result {
-        let mut space = [0u8; 256];
-        // SAFETY: the pointer is valid for the length.
-        let len = unsafe { raw::sel_arrow_text(self.status(), space.as_mut_ptr(), space.len()) };
-        f.write_str(&String::from_utf8_lossy(space.get(..len).unwrap_or(&space)))?;
+        // SAFETY: the function returns a string that ends with a zero and is never freed.
+        let text = unsafe { CStr::from_ptr(raw::sel_status_string(self.status())) };
+        // All of the strings are ASCII.
+        f.write_str(text.to_str().unwrap_or_default())?;
         match self {
             Error::Text { at, .. } => write!(f, " at byte {at}"),
             Error::UnknownStatus(status) => write!(f, " (status {status})"),
@@ -124,29 +187,22 @@ impl std::error::Error for Error {}
 #[cfg(test)]
 mod tests {
     use super::*;
-    use std::ffi::CStr;
 
-    /// Returns the numbers of the header's enumerators `SEL_.. = NUMBER`, by their names.
-    fn enumerators(header: &str, name: &str) -> Vec<(String, u32)> {
-        let begin = header.find(&format!("enum {name} {{")).expect("the header has the enumeration");
-        let body = header[begin..].split('}').next().expect("the text before a brace");
-        let lines = body.lines().filter_map(|line| line.trim().split_once(" = "));
-        let numbers = lines
-            .map(|(name, rest)| (name.to_string(), rest.chars().take_while(char::is_ascii_digit).collect::<String>()));
-        numbers.map(|(name, digits)| (name, digits.parse().expect("a number"))).collect()
-    }
-
+    /// Returns the numbers of the header's statuses `SEL_.. = NUMBER`, by their names.
     fn statuses() -> Vec<(String, u32)> {
-        let mut all = enumerators(include_str!("../../../include/sel.h"), "sel_status");
-        all.extend(enumerators(include_str!("../../../include/sel_arrow.h"), "sel_arrow_status"));
-        all
+        let header = include_str!("../../../include/sel.h");
+        let begin = header.find("enum sel_status {").expect("the header has the enumeration");
+        let body = header[begin..].split('}').next().expect("the text before a brace");
+        let lines = body.lines().filter_map(|line| line.trim().trim_end_matches(',').split_once(" = "));
+        let statuses = lines.filter(|(name, _)| *name != "SEL_STATUS_FORCE_32_BITS");
+        statuses.map(|(name, number)| (name.to_string(), number.parse().expect("a number"))).collect()
     }
 
     #[test]
     fn each_status_of_the_headers_is_known() {
         let statuses = statuses();
         assert!(statuses.len() > 30, "{statuses:?}");
-        for (name, status) in statuses.iter().filter(|(_, status)| *status != status::DONE) {
+        for (name, status) in statuses.iter().filter(|(_, status)| *status != status::OK) {
             let error = Error::of_text(*status, 5);
             assert!(!matches!(error, Error::UnknownStatus(_)), "{name} = {status}");
             assert_eq!(error.status(), *status, "{name}");
@@ -156,20 +212,20 @@ mod tests {
     #[test]
     fn the_statuses_that_the_crate_returns_are_those_of_the_header() {
         let of = |name: &str| statuses().into_iter().find(|(other, _)| other == name).map(|(_, status)| status);
-        assert_eq!(of("SEL_DONE"), Some(status::DONE));
-        assert_eq!(of("SEL_NO_MEMORY"), Some(status::OUT_OF_MEMORY));
-        assert_eq!(of("SEL_OTHER_KIND"), Some(status::WRONG_KIND));
-        assert_eq!(of("SEL_LIMIT_BYTES"), Some(status::LIMIT_BYTES));
-        assert_eq!(of("SEL_LIMIT_VIEW_BYTES"), Some(status::LIMIT_VIEW_BYTES));
-        assert_eq!(of("SEL_OFFSET_RANGE"), Some(status::OFFSET_RANGE));
-        assert_eq!(of("SEL_VALIDITY_LENGTH"), Some(status::VALIDITY_LENGTH));
-        assert_eq!(of("SEL_VIEW_RANGE"), Some(status::VIEW_RANGE));
-        assert_eq!(of("SEL_UTF8"), Some(status::UTF8));
+        assert_eq!(of("SEL_OK"), Some(status::OK));
+        assert_eq!(of("SEL_ERROR_OUT_OF_MEMORY"), Some(status::OUT_OF_MEMORY));
+        assert_eq!(of("SEL_ERROR_UNSUPPORTED_TYPE"), Some(status::UNSUPPORTED_TYPE));
+        assert_eq!(of("SEL_ERROR_OFFSET_LIMIT"), Some(status::OFFSET_LIMIT));
+        assert_eq!(of("SEL_ERROR_VIEW_LIMIT"), Some(status::VIEW_LIMIT));
+        assert_eq!(of("SEL_ERROR_OFFSET_RANGE"), Some(status::OFFSET_RANGE));
+        assert_eq!(of("SEL_ERROR_VALIDITY_LENGTH"), Some(status::VALIDITY_LENGTH));
+        assert_eq!(of("SEL_ERROR_VIEW_RANGE"), Some(status::VIEW_RANGE));
+        assert_eq!(of("SEL_ERROR_INVALID_UTF8"), Some(status::INVALID_UTF8));
     }
 
     #[test]
     fn a_status_of_no_header_is_unknown() {
-        for unknown in [12, 29, 36, 63, 72, 1000, u32::MAX] {
+        for unknown in [13, 29, 36, 63, 72, 1000, u32::MAX] {
             assert_eq!(Error::of(unknown), Error::UnknownStatus(unknown));
             assert_eq!(checked(unknown), Err(Error::UnknownStatus(unknown)));
             assert!(Error::of(unknown).to_string().ends_with(&format!(" (status {unknown})")));
@@ -178,9 +234,9 @@ mod tests {
 
     #[test]
     fn texts_are_those_of_the_library() {
-        for status in statuses().iter().map(|(_, status)| *status).filter(|status| *status != status::DONE) {
+        for status in statuses().iter().map(|(_, status)| *status).filter(|status| *status != status::OK) {
             // SAFETY: the function returns a text that is never freed.
-            let text = unsafe { CStr::from_ptr(raw::sel_status_text(status)) };
+            let text = unsafe { CStr::from_ptr(raw::sel_status_string(status)) };
             assert!(!text.to_bytes().is_empty());
             assert_eq!(Error::of(status).to_string().split(" (status ").next(), text.to_str().ok(), "{status}");
         }
@@ -188,7 +244,7 @@ mod tests {
 
     #[test]
     fn an_unknown_kind_has_the_text_of_a_wrong_kind() {
-        let text = Error::WrongArgument(status::WRONG_KIND).to_string();
+        let text = Error::WrongArgument(status::UNSUPPORTED_TYPE).to_string();
         assert_eq!(Error::UnknownKind(99).to_string(), format!("{text} (kind 99)"));
         assert_eq!(Error::UnknownKind(99).status(), 3);
     }

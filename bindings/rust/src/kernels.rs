@@ -5,7 +5,7 @@ use crate::column::Column;
 use crate::error::{checked, Error};
 use crate::handle::{HandleArray, OwnedHandle};
 use crate::memory::collect;
-use crate::raw::{self, Handle, RawPick};
+use crate::raw::{self, Handle, RawRowRef};
 
 impl Column {
     /// Returns the rows where `mask`, a boolean column of the same length, is true; a null in it counts as false.
@@ -98,13 +98,13 @@ impl Column {
     /// # use sel::{Column, Error};
     /// # fn main() -> Result<(), Error> {
     /// let lists = Column::parse("list<i64>", "[[1,2],[],null,[3]]")?;
-    /// assert_eq!(lists.sublist_get(-1)?.to_text()?, "[2,null,null,3]");
+    /// assert_eq!(lists.list_get(-1)?.to_text()?, "[2,null,null,3]");
     /// # Ok(())
     /// # }
     /// ```
-    pub fn sublist_get(&self, index: i64) -> Result<Column, Error> {
+    pub fn list_get(&self, index: i64) -> Result<Column, Error> {
         // SAFETY: two distinct handles.
-        Column::made(|out| unsafe { raw::sel_sublist_get(self.at(), index, out) })
+        Column::made(|out| unsafe { raw::sel_list_get(self.at(), index, out) })
     }
 
     /// Returns whether `index` is out of bounds of a valid list.
@@ -116,14 +116,14 @@ impl Column {
     /// # use sel::{Column, Error};
     /// # fn main() -> Result<(), Error> {
     /// let lists = Column::parse("list<i64>", "[[1,2],null,[3]]")?;
-    /// assert!(!lists.index_is_oob(0)? && lists.index_is_oob(1)?);
+    /// assert!(!lists.list_index_is_oob(0)? && lists.list_index_is_oob(1)?);
     /// # Ok(())
     /// # }
     /// ```
-    pub fn index_is_oob(&self, index: i64) -> Result<bool, Error> {
+    pub fn list_index_is_oob(&self, index: i64) -> Result<bool, Error> {
         let mut is_oob = false;
         // SAFETY: the handle is owned by the column.
-        checked(unsafe { raw::sel_index_is_oob(self.at(), index, &mut is_oob) })?;
+        checked(unsafe { raw::sel_list_index_is_oob(self.at(), index, &mut is_oob) })?;
         Ok(is_oob)
     }
 
@@ -139,15 +139,15 @@ impl Column {
     /// # use sel::{Column, Error};
     /// # fn main() -> Result<(), Error> {
     /// let pairs = Column::parse("fixed<2,i64>", "[[1,2],null]")?;
-    /// assert_eq!(pairs.fixed_get(-1, false)?.to_text()?, "[2,null]");
-    /// assert_eq!(pairs.fixed_get(2, true)?.to_text()?, "[null,null]");
-    /// assert_eq!(pairs.fixed_get(2, false).err(), Some(Error::OutOfBounds(7)));
+    /// assert_eq!(pairs.fixed_size_list_get(-1, false)?.to_text()?, "[2,null]");
+    /// assert_eq!(pairs.fixed_size_list_get(2, true)?.to_text()?, "[null,null]");
+    /// assert_eq!(pairs.fixed_size_list_get(2, false).err(), Some(Error::OutOfBounds(7)));
     /// # Ok(())
     /// # }
     /// ```
-    pub fn fixed_get(&self, index: i64, null_on_oob: bool) -> Result<Column, Error> {
+    pub fn fixed_size_list_get(&self, index: i64, null_on_oob: bool) -> Result<Column, Error> {
         // SAFETY: two distinct handles.
-        Column::made(|out| unsafe { raw::sel_fixed_get(self.at(), index, null_on_oob, out) })
+        Column::made(|out| unsafe { raw::sel_fixed_size_list_get(self.at(), index, null_on_oob, out) })
     }
 
     /// Returns the element of each fixed-size list at its own index, of `indices`, an `i64` column.
@@ -164,14 +164,64 @@ impl Column {
     /// # fn main() -> Result<(), Error> {
     /// let pairs = Column::parse("fixed<2,i64>", "[[1,2],[3,4],null]")?;
     /// let indices = Column::from_values(&[0i64, -1, 7])?;
-    /// assert_eq!(pairs.fixed_get_each(&indices, false)?.to_text()?, "[1,4,null]");
+    /// assert_eq!(pairs.fixed_size_list_get_each(&indices, false)?.to_text()?, "[1,4,null]");
+    /// # Ok(())
+    /// # }
+    /// ```
+    pub fn fixed_size_list_get_each(&self, indices: &Column, null_on_oob: bool) -> Result<Column, Error> {
+        let indices = indices.try_clone()?;
+        // SAFETY: three distinct handles.
+        Column::made(|out| unsafe { raw::sel_fixed_size_list_get_each(self.at(), indices.at(), null_on_oob, out) })
+    }
+
+    /// Returns the same as [`list_get`](Column::list_get).
+    ///
+    /// ```
+    /// # fn main() -> Result<(), sel::Error> {
+    /// assert_eq!(sel::Column::parse("list<i64>", "[[1,2],[]]")?.sublist_get(0)?.to_text()?, "[1,null]");
+    /// # Ok(())
+    /// # }
+    /// ```
+    pub fn sublist_get(&self, index: i64) -> Result<Column, Error> {
+        self.list_get(index)
+    }
+
+    /// Returns the same as [`list_index_is_oob`](Column::list_index_is_oob).
+    ///
+    /// ```
+    /// # fn main() -> Result<(), sel::Error> {
+    /// assert!(sel::Column::parse("list<i64>", "[[1,2],[]]")?.index_is_oob(0)?);
+    /// # Ok(())
+    /// # }
+    /// ```
+    pub fn index_is_oob(&self, index: i64) -> Result<bool, Error> {
+        self.list_index_is_oob(index)
+    }
+
+    /// Returns the same as [`fixed_size_list_get`](Column::fixed_size_list_get).
+    ///
+    /// ```
+    /// # fn main() -> Result<(), sel::Error> {
+    /// assert_eq!(sel::Column::parse("fixed<2,i64>", "[[1,2],null]")?.fixed_get(1, false)?.to_text()?, "[2,null]");
+    /// # Ok(())
+    /// # }
+    /// ```
+    pub fn fixed_get(&self, index: i64, null_on_oob: bool) -> Result<Column, Error> {
+        self.fixed_size_list_get(index, null_on_oob)
+    }
+
+    /// Returns the same as [`fixed_size_list_get_each`](Column::fixed_size_list_get_each).
+    ///
+    /// ```
+    /// # use sel::{Column, Error};
+    /// # fn main() -> Result<(), Error> {
+    /// let indices = Column::from_values(&[1i64, 0])?;
+    /// assert_eq!(Column::parse("fixed<2,i64>", "[[1,2],[3,4]]")?.fixed_get_each(&indices, false)?.to_text()?, "[2,3]");
     /// # Ok(())
     /// # }
     /// ```
     pub fn fixed_get_each(&self, indices: &Column, null_on_oob: bool) -> Result<Column, Error> {
-        let indices = indices.try_clone()?;
-        // SAFETY: three distinct handles.
-        Column::made(|out| unsafe { raw::sel_fixed_get_each(self.at(), indices.at(), null_on_oob, out) })
+        self.fixed_size_list_get_each(indices, null_on_oob)
     }
 
     /// Returns a column of lists, each of which has the row as its only element.
@@ -192,7 +242,7 @@ impl Column {
     }
 }
 
-type IfThenElse = unsafe extern "C" fn(*mut Handle, *mut Handle, *mut Handle, *mut Handle) -> u32;
+type IfThenElse = unsafe extern "C" fn(*const Handle, *const Handle, *const Handle, *mut Handle) -> u32;
 
 fn if_then_else_by(call: IfThenElse, mask: &Column, if_true: &Column, if_false: &Column) -> Result<Column, Error> {
     let (if_true, if_false) = (if_true.try_clone()?, if_false.try_clone()?);
@@ -218,7 +268,7 @@ fn if_then_else_by(call: IfThenElse, mask: &Column, if_true: &Column, if_false: 
 /// # }
 /// ```
 pub fn if_then_else(mask: &Column, if_true: &Column, if_false: &Column) -> Result<Column, Error> {
-    if_then_else_by(raw::sel_choose, mask, if_true, if_false)
+    if_then_else_by(raw::sel_if_then_else, mask, if_true, if_false)
 }
 
 /// Returns the same as [`if_then_else`] with the only row of `if_true` for each row where `mask` is true.
@@ -232,7 +282,7 @@ pub fn if_then_else(mask: &Column, if_true: &Column, if_false: &Column) -> Resul
 /// # }
 /// ```
 pub fn if_then_else_broadcast_true(mask: &Column, if_true: &Column, if_false: &Column) -> Result<Column, Error> {
-    if_then_else_by(raw::sel_choose_one, mask, if_true, if_false)
+    if_then_else_by(raw::sel_if_then_else_broadcast_true, mask, if_true, if_false)
 }
 
 /// Returns the same as [`if_then_else`] with the only row of `if_false` for each row where `mask` is not true.
@@ -246,7 +296,7 @@ pub fn if_then_else_broadcast_true(mask: &Column, if_true: &Column, if_false: &C
 /// # }
 /// ```
 pub fn if_then_else_broadcast_false(mask: &Column, if_true: &Column, if_false: &Column) -> Result<Column, Error> {
-    if_then_else_by(raw::sel_choose_or_one, mask, if_true, if_false)
+    if_then_else_by(raw::sel_if_then_else_broadcast_false, mask, if_true, if_false)
 }
 
 /// Returns the same as [`if_then_else`] with the only row of `if_true` and the only row of `if_false`.
@@ -261,7 +311,7 @@ pub fn if_then_else_broadcast_false(mask: &Column, if_true: &Column, if_false: &
 /// # }
 /// ```
 pub fn if_then_else_broadcast_both(mask: &Column, if_true: &Column, if_false: &Column) -> Result<Column, Error> {
-    if_then_else_by(raw::sel_choose_of_two, mask, if_true, if_false)
+    if_then_else_by(raw::sel_if_then_else_broadcast_both, mask, if_true, if_false)
 }
 
 /// Returns the same as [`if_then_else`].
@@ -368,7 +418,7 @@ pub fn flatten(columns: &[&Column], widths: &[usize], height: usize) -> Result<C
 pub fn collect_rows(columns: &[&Column], picks: &[Option<(u32, u32)>]) -> Result<Column, Error> {
     let validity = Validity::of_options(picks)?;
     let rows = picks.iter().map(|pick| pick.unwrap_or_default());
-    let picks = collect(rows.map(|(source, row)| RawPick { source, row }))?;
+    let picks = collect(rows.map(|(source, row)| RawRowRef { source, row }))?;
     let mut handles = HandleArray::shares(columns)?;
     Column::made_with(&validity, |bits, bits_len, has_bits, out| {
         let (at, count) = (handles.at(), handles.len());

@@ -2,7 +2,7 @@
 
 use crate::error::Error;
 
-/// A kind of column, in the order of `enum sel_kind_number` in `include/sel.h`.
+/// A kind of column, in the order of `enum sel_type_id` in `include/sel.h`.
 #[derive(Clone, Copy, Debug, PartialEq, Eq, Hash)]
 pub enum Kind {
     /// Nulls only.
@@ -30,13 +30,13 @@ pub enum Kind {
     /// Unsigned 128-bit integers.
     UInt128,
     /// Binary values with 64-bit offsets.
-    LargeBinary,
+    Binary,
     /// Binary views.
     BinaryView,
     /// String views (UTF-8).
-    Utf8View,
+    StringView,
     /// Lists with 64-bit offsets.
-    LargeList,
+    List,
     /// Fixed-size lists.
     FixedSizeList,
     /// Struct values.
@@ -56,10 +56,10 @@ const KINDS: [Kind; 18] = [
     Kind::UInt32,
     Kind::UInt64,
     Kind::UInt128,
-    Kind::LargeBinary,
+    Kind::Binary,
     Kind::BinaryView,
-    Kind::Utf8View,
-    Kind::LargeList,
+    Kind::StringView,
+    Kind::List,
     Kind::FixedSizeList,
     Kind::Struct,
 ];

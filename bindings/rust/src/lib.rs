@@ -48,7 +48,7 @@
 //!
 //! | in the headers | in this crate |
 //! |---|---|
-//! | `sel_sliced` | [`Column::slice`], [`Column::sliced`] |
+//! | `sel_slice` | [`Column::slice`], [`Column::sliced`] |
 //! | `sel_share` | [`Column::try_clone`], [`Column::share`], [`Clone`] |
 //! | `sel_free` | dropping a [`Column`] |
 //! | `sel_null_new` | [`Column::new_null`] |
@@ -61,30 +61,30 @@
 //! | `sel_binary_new` | [`Column::new_binary`], [`Column::from_bytes`]; [`Column::from_values`] and [`Column::from_options`] of `&[u8]` and `Vec<u8>` |
 //! | `sel_bytes_len`, `sel_bytes` | [`Column::bytes`], [`Column::to_bytes`] |
 //! | `sel_list_new` | [`Column::new_list`], [`Column::lists`] |
-//! | `sel_fixed_list_new` | [`Column::new_fixed_size_list`], [`Column::fixed_lists`] |
+//! | `sel_fixed_size_list_new` | [`Column::new_fixed_size_list`], [`Column::fixed_lists`] |
 //! | `sel_struct_new` | [`Column::new_struct`], [`Column::tuples`] |
-//! | `sel_binview_new` | [`Column::new_binary_view`], [`Column::from_byte_views`] |
-//! | `sel_utf8view_new` | [`Column::new_utf8_view`], [`Column::from_texts`]; [`Column::from_values`] and [`Column::from_options`] of `&str` and `String` |
+//! | `sel_binary_view_new` | [`Column::new_binary_view`], [`Column::from_byte_views`] |
+//! | `sel_string_view_new` | [`Column::new_string_view`], [`Column::from_texts`]; [`Column::from_values`] and [`Column::from_options`] of `&str` and `String` |
 //! | `sel_views` | [`Column::views`], [`Column::to_texts`], [`Column::to_bytes`] |
 //! | `sel_buffer_count`, `sel_buffer_len`, `sel_buffer` | [`Column::buffers`], [`Column::to_texts`], [`Column::to_bytes`] |
 //! | `sel_len` | [`Column::len`] |
 //! | `sel_null_count` | [`Column::null_count`] |
-//! | `sel_kind` | [`Column::kind`], [`Column::data_type`] |
+//! | `sel_type_of` | [`Column::kind`], [`Column::data_type`] |
 //! | `sel_validity` | [`Column::validity`], [`Column::valid`] |
 //! | `sel_offsets` | [`Column::offsets`] |
 //! | `sel_filter` | [`Column::filter`] |
 //! | `sel_filter_bits` | [`Column::filter_bits`] |
 //! | `sel_take` | [`Column::take`] |
 //! | `sel_take_rows` | [`Column::take_rows`] |
-//! | `sel_choose` | [`if_then_else`], [`choose`] |
-//! | `sel_choose_one` | [`if_then_else_broadcast_true`], [`choose_one`] |
-//! | `sel_choose_or_one` | [`if_then_else_broadcast_false`], [`choose_or_one`] |
-//! | `sel_choose_of_two` | [`if_then_else_broadcast_both`], [`choose_of_two`] |
-//! | `sel_sublist_get` | [`Column::sublist_get`] |
-//! | `sel_index_is_oob` | [`Column::index_is_oob`] |
+//! | `sel_if_then_else` | [`if_then_else`], [`choose`] |
+//! | `sel_if_then_else_broadcast_true` | [`if_then_else_broadcast_true`], [`choose_one`] |
+//! | `sel_if_then_else_broadcast_false` | [`if_then_else_broadcast_false`], [`choose_or_one`] |
+//! | `sel_if_then_else_broadcast_both` | [`if_then_else_broadcast_both`], [`choose_of_two`] |
+//! | `sel_list_get` | [`Column::list_get`] |
+//! | `sel_list_index_is_oob` | [`Column::list_index_is_oob`] |
 //! | `sel_unit_list` | [`Column::unit_list`] |
-//! | `sel_fixed_get` | [`Column::fixed_get`] |
-//! | `sel_fixed_get_each` | [`Column::fixed_get_each`] |
+//! | `sel_fixed_size_list_get` | [`Column::fixed_size_list_get`] |
+//! | `sel_fixed_size_list_get_each` | [`Column::fixed_size_list_get_each`] |
 //! | `sel_flatten` | [`flatten`] |
 //! | `sel_collect_rows` | [`collect_rows`] |
 //! | `sel_propagate_dictionary` | [`propagate_dictionary`] |
@@ -92,12 +92,13 @@
 //! | `sel_print` | [`Column::to_text`], [`Display`](std::fmt::Display) |
 //! | `sel_parse` | [`Column::parse`], the [`FromStr`](std::str::FromStr) of [`DataType`] |
 //! | `sel_child` | [`Column::child`] |
-//! | `sel_width` | [`Column::list_size`] |
+//! | `sel_fixed_size_list_size` | [`Column::list_size`] |
 //! | `sel_field_count` | [`Column::field_count`] |
 //! | `sel_field` | [`Column::field`] |
 //! | `sel_import` | [`Column::from_arrow`] |
 //! | `sel_export` | [`Column::to_arrow`] |
-//! | `sel_arrow_text`, `sel_status_text` | the [`Display`](std::fmt::Display) of [`Error`] |
+//! | `sel_status_string` | the [`Display`](std::fmt::Display) of [`Error`] |
+//! | `sel_version` | [`version`] |
 #![deny(
     clippy::as_conversions,
     clippy::cast_lossless,
@@ -139,3 +140,14 @@ pub use kind::Kind;
 pub use number::Number;
 pub use value::{Iter, OwnedValue, Value};
 pub use views::View;
+
+/// Returns the version of the library.
+///
+/// ```
+/// assert_eq!(sel::version(), "0.3.0");
+/// ```
+pub fn version() -> &'static str {
+    // SAFETY: the function returns a string that ends with a zero and is never freed.
+    let version = unsafe { std::ffi::CStr::from_ptr(raw::sel_version()) };
+    version.to_str().unwrap_or_default()
+}

@@ -69,7 +69,7 @@ impl Column {
     ) -> Result<Column, Error> {
         Column::made_with(&Validity::new(validity, len)?, |bits, bits_len, has_bits, out| {
             // SAFETY: the bits are valid for their length, and the handles are distinct.
-            unsafe { raw::sel_fixed_list_new(list_size, len, bits, bits_len, has_bits, child.at(), out) }
+            unsafe { raw::sel_fixed_size_list_new(list_size, len, bits, bits_len, has_bits, child.at(), out) }
         })
     }
 
@@ -179,7 +179,7 @@ impl Column {
     pub fn list_size(&self) -> Result<usize, Error> {
         let mut list_size = 0;
         // SAFETY: the handle is owned by the column.
-        checked(unsafe { raw::sel_width(self.at(), &mut list_size) })?;
+        checked(unsafe { raw::sel_fixed_size_list_size(self.at(), &mut list_size) })?;
         Ok(list_size)
     }
 

@@ -5,7 +5,7 @@ use crate::column::Column;
 use crate::error::{checked, Error};
 use crate::kind::Kind;
 use crate::memory::{collect, zeroed};
-use crate::raw::{self, Handle, RawWide};
+use crate::raw::{self, Handle, RawInt128};
 use crate::value::OwnedValue;
 
 pub(crate) mod sealed {
@@ -28,7 +28,7 @@ pub trait Number: OwnedValue + Copy + Default + sealed::Integer {
 
 type Maker<T> = unsafe extern "C" fn(*const T, usize, *const u8, usize, bool, *mut Handle) -> u32;
 
-type Reader<T> = unsafe extern "C" fn(*mut Handle, *mut T, usize) -> u32;
+type Reader<T> = unsafe extern "C" fn(*const Handle, *mut T, usize) -> u32;
 
 fn make_by<T>(call: Maker<T>, values: &[T], validity: &Validity) -> Result<Column, Error> {
     Column::made_with(validity, |bits, bits_len, has_bits, out| {
@@ -75,15 +75,15 @@ words! {
 }
 
 /// Returns the two words of a 128-bit integer with these little-endian bytes.
-fn split(bytes: [u8; 16]) -> RawWide {
+fn split(bytes: [u8; 16]) -> RawInt128 {
     let (mut low, mut high) = ([0; 8], [0; 8]);
     low.copy_from_slice(&bytes[..8]);
     high.copy_from_slice(&bytes[8..]);
-    RawWide { low: u64::from_le_bytes(low), high: u64::from_le_bytes(high) }
+    RawInt128 { low: u64::from_le_bytes(low), high: u64::from_le_bytes(high) }
 }
 
 /// Returns the little-endian bytes of a 128-bit integer with these two words.
-fn join(wide: RawWide) -> [u8; 16] {
+fn join(wide: RawInt128) -> [u8; 16] {
     let mut bytes = [0; 16];
     bytes[..8].copy_from_slice(&wide.low.to_le_bytes());
     bytes[8..].copy_from_slice(&wide.high.to_le_bytes());
@@ -120,8 +120,8 @@ mod tests {
 
     #[test]
     fn wide_integers_are_two_words_in_twos_complement() {
-        assert_eq!(split((1u128 << 64 | 7).to_le_bytes()), RawWide { low: 7, high: 1 });
-        assert_eq!(split((-2i128).to_le_bytes()), RawWide { low: u64::MAX - 1, high: u64::MAX });
+        assert_eq!(split((1u128 << 64 | 7).to_le_bytes()), RawInt128 { low: 7, high: 1 });
+        assert_eq!(split((-2i128).to_le_bytes()), RawInt128 { low: u64::MAX - 1, high: u64::MAX });
         for value in [0, 1, -1, i128::MIN, i128::MAX, 1 << 64, -(1 << 64)] {
             assert_eq!(i128::from_le_bytes(join(split(value.to_le_bytes()))), value);
         }

@@ -15,39 +15,39 @@ impl Handle {
     pub const EMPTY: Handle = Handle { at: std::ptr::null_mut() };
 }
 
-/// A 128-bit integer as two words: `sel_wide`.
+/// A 128-bit integer as two words: `sel_int128`.
 #[repr(C)]
 #[derive(Clone, Copy, Debug, Default, PartialEq)]
-pub struct RawWide {
+pub struct RawInt128 {
     pub low: u64,
     pub high: u64,
 }
 
-/// Bytes of the caller: `sel_slice`.
+/// Bytes of the caller: `sel_bytes_ref`.
 #[repr(C)]
-pub struct RawSlice {
+pub struct RawBytesRef {
     pub at: *const u8,
     pub len: usize,
 }
 
-impl RawSlice {
+impl RawBytesRef {
     /// Returns the pointer and length of bytes, which must outlive their use.
-    pub fn of(bytes: &[u8]) -> RawSlice {
-        RawSlice { at: bytes.as_ptr(), len: bytes.len() }
+    pub fn of(bytes: &[u8]) -> RawBytesRef {
+        RawBytesRef { at: bytes.as_ptr(), len: bytes.len() }
     }
 }
 
-/// A row of one of several columns: `sel_pick`.
+/// A row of one of several columns: `sel_row_ref`.
 #[repr(C)]
 #[derive(Clone, Copy)]
-pub struct RawPick {
+pub struct RawRowRef {
     pub source: u32,
     pub row: u32,
 }
 
 extern "C" {
-    pub fn sel_sliced(of: *mut Handle, off: usize, len: usize, out: *mut Handle) -> u32;
-    pub fn sel_share(of: *mut Handle, out: *mut Handle) -> u32;
+    pub fn sel_slice(of: *const Handle, off: usize, len: usize, out: *mut Handle) -> u32;
+    pub fn sel_share(of: *const Handle, out: *mut Handle) -> u32;
     pub fn sel_free(of: *mut Handle);
     pub fn sel_null_new(len: usize, out: *mut Handle) -> u32;
     pub fn sel_boolean_new(
@@ -124,23 +124,23 @@ extern "C" {
         out: *mut Handle,
     ) -> u32;
     pub fn sel_int128_new(
-        values: *const RawWide,
+        values: *const RawInt128,
         values_len: usize,
         bits: *const u8,
         bits_len: usize,
         has_bits: bool,
         out: *mut Handle,
     ) -> u32;
-    pub fn sel_int128_values(of: *mut Handle, out: *mut RawWide, out_len: usize) -> u32;
+    pub fn sel_int128_values(of: *const Handle, out: *mut RawInt128, out_len: usize) -> u32;
     pub fn sel_uint128_new(
-        values: *const RawWide,
+        values: *const RawInt128,
         values_len: usize,
         bits: *const u8,
         bits_len: usize,
         has_bits: bool,
         out: *mut Handle,
     ) -> u32;
-    pub fn sel_uint128_values(of: *mut Handle, out: *mut RawWide, out_len: usize) -> u32;
+    pub fn sel_uint128_values(of: *const Handle, out: *mut RawInt128, out_len: usize) -> u32;
     pub fn sel_binary_new(
         offsets: *const i64,
         offsets_len: usize,
@@ -160,7 +160,7 @@ extern "C" {
         child: *mut Handle,
         out: *mut Handle,
     ) -> u32;
-    pub fn sel_fixed_list_new(
+    pub fn sel_fixed_size_list_new(
         width: usize,
         len: usize,
         bits: *const u8,
@@ -178,51 +178,51 @@ extern "C" {
         fields_len: usize,
         out: *mut Handle,
     ) -> u32;
-    pub fn sel_binview_new(
+    pub fn sel_binary_view_new(
         views: *const View,
         views_len: usize,
-        buffers: *const RawSlice,
+        buffers: *const RawBytesRef,
         buffers_len: usize,
         bits: *const u8,
         bits_len: usize,
         has_bits: bool,
         out: *mut Handle,
     ) -> u32;
-    pub fn sel_utf8view_new(
+    pub fn sel_string_view_new(
         views: *const View,
         views_len: usize,
-        buffers: *const RawSlice,
+        buffers: *const RawBytesRef,
         buffers_len: usize,
         bits: *const u8,
         bits_len: usize,
         has_bits: bool,
         out: *mut Handle,
     ) -> u32;
-    pub fn sel_views(of: *mut Handle, out: *mut View, out_len: usize) -> u32;
-    pub fn sel_buffer_count(of: *mut Handle, count: *mut usize) -> u32;
-    pub fn sel_buffer_len(of: *mut Handle, i: usize, len: *mut usize) -> u32;
-    pub fn sel_buffer(of: *mut Handle, i: usize, out: *mut u8, out_len: usize) -> u32;
-    pub fn sel_len(of: *mut Handle) -> usize;
-    pub fn sel_null_count(of: *mut Handle) -> usize;
-    pub fn sel_kind(of: *mut Handle) -> u32;
-    pub fn sel_validity(of: *mut Handle, out: *mut u8, out_len: usize, has: *mut bool) -> u32;
-    pub fn sel_boolean_values(of: *mut Handle, out: *mut u8, out_len: usize) -> u32;
-    pub fn sel_int8_values(of: *mut Handle, out: *mut i8, out_len: usize) -> u32;
-    pub fn sel_int16_values(of: *mut Handle, out: *mut i16, out_len: usize) -> u32;
-    pub fn sel_int32_values(of: *mut Handle, out: *mut i32, out_len: usize) -> u32;
-    pub fn sel_int64_values(of: *mut Handle, out: *mut i64, out_len: usize) -> u32;
-    pub fn sel_uint8_values(of: *mut Handle, out: *mut u8, out_len: usize) -> u32;
-    pub fn sel_uint16_values(of: *mut Handle, out: *mut u16, out_len: usize) -> u32;
-    pub fn sel_uint32_values(of: *mut Handle, out: *mut u32, out_len: usize) -> u32;
-    pub fn sel_uint64_values(of: *mut Handle, out: *mut u64, out_len: usize) -> u32;
-    pub fn sel_offsets(of: *mut Handle, out: *mut i64, out_len: usize) -> u32;
-    pub fn sel_bytes_len(of: *mut Handle, len: *mut usize) -> u32;
-    pub fn sel_bytes(of: *mut Handle, out: *mut u8, out_len: usize) -> u32;
-    pub fn sel_filter(of: *mut Handle, mask: *mut Handle, out: *mut Handle) -> u32;
-    pub fn sel_filter_bits(of: *mut Handle, mask: *const u8, mask_len: usize, len: usize, out: *mut Handle) -> u32;
-    pub fn sel_take(of: *mut Handle, indices: *mut Handle, out: *mut Handle) -> u32;
+    pub fn sel_views(of: *const Handle, out: *mut View, out_len: usize) -> u32;
+    pub fn sel_buffer_count(of: *const Handle, count: *mut usize) -> u32;
+    pub fn sel_buffer_len(of: *const Handle, i: usize, len: *mut usize) -> u32;
+    pub fn sel_buffer(of: *const Handle, i: usize, out: *mut u8, out_len: usize) -> u32;
+    pub fn sel_len(of: *const Handle) -> usize;
+    pub fn sel_null_count(of: *const Handle) -> usize;
+    pub fn sel_type_of(of: *const Handle) -> u32;
+    pub fn sel_validity(of: *const Handle, out: *mut u8, out_len: usize, has: *mut bool) -> u32;
+    pub fn sel_boolean_values(of: *const Handle, out: *mut u8, out_len: usize) -> u32;
+    pub fn sel_int8_values(of: *const Handle, out: *mut i8, out_len: usize) -> u32;
+    pub fn sel_int16_values(of: *const Handle, out: *mut i16, out_len: usize) -> u32;
+    pub fn sel_int32_values(of: *const Handle, out: *mut i32, out_len: usize) -> u32;
+    pub fn sel_int64_values(of: *const Handle, out: *mut i64, out_len: usize) -> u32;
+    pub fn sel_uint8_values(of: *const Handle, out: *mut u8, out_len: usize) -> u32;
+    pub fn sel_uint16_values(of: *const Handle, out: *mut u16, out_len: usize) -> u32;
+    pub fn sel_uint32_values(of: *const Handle, out: *mut u32, out_len: usize) -> u32;
+    pub fn sel_uint64_values(of: *const Handle, out: *mut u64, out_len: usize) -> u32;
+    pub fn sel_offsets(of: *const Handle, out: *mut i64, out_len: usize) -> u32;
+    pub fn sel_bytes_len(of: *const Handle, len: *mut usize) -> u32;
+    pub fn sel_bytes(of: *const Handle, out: *mut u8, out_len: usize) -> u32;
+    pub fn sel_filter(of: *const Handle, mask: *const Handle, out: *mut Handle) -> u32;
+    pub fn sel_filter_bits(of: *const Handle, mask: *const u8, mask_len: usize, len: usize, out: *mut Handle) -> u32;
+    pub fn sel_take(of: *const Handle, indices: *const Handle, out: *mut Handle) -> u32;
     pub fn sel_take_rows(
-        of: *mut Handle,
+        of: *const Handle,
         indices: *const u32,
         indices_len: usize,
         bits: *const u8,
@@ -230,17 +230,42 @@ extern "C" {
         has_bits: bool,
         out: *mut Handle,
     ) -> u32;
-    pub fn sel_choose(mask: *mut Handle, if_true: *mut Handle, if_false: *mut Handle, out: *mut Handle) -> u32;
-    pub fn sel_choose_one(mask: *mut Handle, if_true: *mut Handle, if_false: *mut Handle, out: *mut Handle) -> u32;
-    pub fn sel_choose_or_one(mask: *mut Handle, if_true: *mut Handle, if_false: *mut Handle, out: *mut Handle) -> u32;
-    pub fn sel_choose_of_two(mask: *mut Handle, if_true: *mut Handle, if_false: *mut Handle, out: *mut Handle) -> u32;
-    pub fn sel_sublist_get(of: *mut Handle, index: i64, out: *mut Handle) -> u32;
-    pub fn sel_index_is_oob(of: *mut Handle, index: i64, out: *mut bool) -> u32;
-    pub fn sel_unit_list(of: *mut Handle, out: *mut Handle) -> u32;
-    pub fn sel_fixed_get(of: *mut Handle, index: i64, null_on_oob: bool, out: *mut Handle) -> u32;
-    pub fn sel_fixed_get_each(of: *mut Handle, indices: *mut Handle, null_on_oob: bool, out: *mut Handle) -> u32;
+    pub fn sel_if_then_else(
+        mask: *const Handle,
+        if_true: *const Handle,
+        if_false: *const Handle,
+        out: *mut Handle,
+    ) -> u32;
+    pub fn sel_if_then_else_broadcast_true(
+        mask: *const Handle,
+        if_true: *const Handle,
+        if_false: *const Handle,
+        out: *mut Handle,
+    ) -> u32;
+    pub fn sel_if_then_else_broadcast_false(
+        mask: *const Handle,
+        if_true: *const Handle,
+        if_false: *const Handle,
+        out: *mut Handle,
+    ) -> u32;
+    pub fn sel_if_then_else_broadcast_both(
+        mask: *const Handle,
+        if_true: *const Handle,
+        if_false: *const Handle,
+        out: *mut Handle,
+    ) -> u32;
+    pub fn sel_list_get(of: *const Handle, index: i64, out: *mut Handle) -> u32;
+    pub fn sel_list_index_is_oob(of: *const Handle, index: i64, out: *mut bool) -> u32;
+    pub fn sel_unit_list(of: *const Handle, out: *mut Handle) -> u32;
+    pub fn sel_fixed_size_list_get(of: *const Handle, index: i64, null_on_oob: bool, out: *mut Handle) -> u32;
+    pub fn sel_fixed_size_list_get_each(
+        of: *const Handle,
+        indices: *const Handle,
+        null_on_oob: bool,
+        out: *mut Handle,
+    ) -> u32;
     pub fn sel_flatten(
-        columns: *mut Handle,
+        columns: *const Handle,
         columns_len: usize,
         widths: *const usize,
         widths_len: usize,
@@ -248,9 +273,9 @@ extern "C" {
         out: *mut Handle,
     ) -> u32;
     pub fn sel_collect_rows(
-        sources: *mut Handle,
+        sources: *const Handle,
         sources_len: usize,
-        picks: *const RawPick,
+        picks: *const RawRowRef,
         picks_len: usize,
         bits: *const u8,
         bits_len: usize,
@@ -258,13 +283,13 @@ extern "C" {
         out: *mut Handle,
     ) -> u32;
     pub fn sel_propagate_dictionary(
-        keys: *mut Handle,
-        values: *mut Handle,
+        keys: *const Handle,
+        values: *const Handle,
         out_keys: *mut Handle,
         out_values: *mut Handle,
     ) -> u32;
-    pub fn sel_equal_rows(of: *mut Handle, other: *mut Handle, equal: *mut bool) -> u32;
-    pub fn sel_print(of: *mut Handle, out: *mut u8, out_len: usize, len: *mut usize) -> u32;
+    pub fn sel_equal_rows(of: *const Handle, other: *const Handle, equal: *mut bool) -> u32;
+    pub fn sel_print(of: *const Handle, out: *mut u8, out_len: usize, len: *mut usize) -> u32;
     pub fn sel_parse(
         dtype: *const u8,
         dtype_len: usize,
@@ -273,13 +298,12 @@ extern "C" {
         at: *mut usize,
         out: *mut Handle,
     ) -> u32;
-    pub fn sel_child(of: *mut Handle, out: *mut Handle) -> u32;
-    pub fn sel_width(of: *mut Handle, width: *mut usize) -> u32;
-    pub fn sel_field_count(of: *mut Handle, count: *mut usize) -> u32;
-    pub fn sel_field(of: *mut Handle, i: usize, out: *mut Handle) -> u32;
+    pub fn sel_child(of: *const Handle, out: *mut Handle) -> u32;
+    pub fn sel_fixed_size_list_size(of: *const Handle, width: *mut usize) -> u32;
+    pub fn sel_field_count(of: *const Handle, count: *mut usize) -> u32;
+    pub fn sel_field(of: *const Handle, i: usize, out: *mut Handle) -> u32;
     pub fn sel_import(array: *mut ArrowArray, schema: *const ArrowSchema, out: *mut Handle) -> u32;
-    pub fn sel_export(of: *mut Handle, array: *mut ArrowArray, schema: *mut ArrowSchema) -> u32;
-    #[allow(dead_code)] // The text is read by `sel_arrow_text`, which needs no search for its end.
-    pub fn sel_status_text(status: u32) -> *const c_char;
-    pub fn sel_arrow_text(status: u32, out: *mut u8, out_len: usize) -> usize;
+    pub fn sel_export(of: *const Handle, array: *mut ArrowArray, schema: *mut ArrowSchema) -> u32;
+    pub fn sel_status_string(status: u32) -> *const c_char;
+    pub fn sel_version() -> *const c_char;
 }

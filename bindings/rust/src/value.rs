@@ -27,8 +27,8 @@ mod sealed {
 /// A type of the values that a column can be made of.
 ///
 /// Integers ([`Number`]) make columns of their kind, `bool` boolean columns, `&str` and `String` string columns
-/// ([`Kind::Utf8View`](crate::Kind::Utf8View)), `&[u8]` and `Vec<u8>` binary columns
-/// ([`Kind::LargeBinary`](crate::Kind::LargeBinary)). The trait is sealed.
+/// ([`Kind::StringView`](crate::Kind::StringView)), `&[u8]` and `Vec<u8>` binary columns
+/// ([`Kind::Binary`](crate::Kind::Binary)). The trait is sealed.
 pub trait Value: sealed::Make {}
 
 /// A type of the values that a column can be read as: an integer, `bool`, `String` or `Vec<u8>`. The trait is sealed.

@@ -5,7 +5,7 @@ use crate::column::Column;
 use crate::error::{checked, status, Error};
 use crate::kind::Kind;
 use crate::memory::{append, collect, copy, try_collect, zeroed};
-use crate::raw::{self, Handle, RawSlice};
+use crate::raw::{self, Handle, RawBytesRef};
 
 /// A view of the Arrow format, as four little-endian words: `sel_view`.
 ///
@@ -44,7 +44,7 @@ impl ViewBuilder {
 
     /// Appends a value: up to 12 bytes go into the view, more into the last data buffer or a new one.
     fn push(&mut self, value: &[u8]) -> Result<(), Error> {
-        let length = u32::try_from(value.len()).map_err(|_| Error::of(status::LIMIT_VIEW_BYTES))?;
+        let length = u32::try_from(value.len()).map_err(|_| Error::of(status::VIEW_LIMIT))?;
         let mut space = [0; INLINE];
         space.iter_mut().zip(value).for_each(|(to, from)| *to = *from);
         let [a, b, c, d, e, f, g, h, i, j, k, l] = space;
@@ -68,7 +68,7 @@ impl ViewBuilder {
         let number = self.buffers.len().saturating_sub(1);
         let Some(last) = self.buffers.last_mut() else { return Err(Error::OutOfMemory) };
         let (Ok(number), Ok(offset)) = (u32::try_from(number), u32::try_from(last.len())) else {
-            return Err(Error::of(status::LIMIT_VIEW_BYTES));
+            return Err(Error::of(status::VIEW_LIMIT));
         };
         append(last, value)?;
         Ok((number, offset))
@@ -90,13 +90,13 @@ fn bytes_of(view: &View, buffers: &[Vec<u8>]) -> Result<Vec<u8>, Error> {
 }
 
 fn text_of(bytes: Vec<u8>) -> Result<String, Error> {
-    String::from_utf8(bytes).map_err(|_| Error::of(status::UTF8))
+    String::from_utf8(bytes).map_err(|_| Error::of(status::INVALID_UTF8))
 }
 
 type Maker =
-    unsafe extern "C" fn(*const View, usize, *const RawSlice, usize, *const u8, usize, bool, *mut Handle) -> u32;
+    unsafe extern "C" fn(*const View, usize, *const RawBytesRef, usize, *const u8, usize, bool, *mut Handle) -> u32;
 
-fn make_by(call: Maker, views: &[View], buffers: &[RawSlice], validity: &Validity) -> Result<Column, Error> {
+fn make_by(call: Maker, views: &[View], buffers: &[RawBytesRef], validity: &Validity) -> Result<Column, Error> {
     Column::made_with(validity, |bits, bits_len, has_bits, out| {
         let (buffers, count) = (buffers.as_ptr(), buffers.len());
         // SAFETY: all slices are valid for their lengths, and the handle is empty.
@@ -113,7 +113,7 @@ fn make_of_values<'a>(
     for value in values {
         builder.push(value)?;
     }
-    let buffers = collect(builder.buffers.iter().map(|buffer| RawSlice::of(buffer)))?;
+    let buffers = collect(builder.buffers.iter().map(|buffer| RawBytesRef::of(buffer)))?;
     make_by(call, &builder.views, &buffers, validity)
 }
 
@@ -141,7 +141,7 @@ impl Column {
         values: impl Iterator<Item = &'a [u8]>,
         validity: &Validity,
     ) -> Result<Column, Error> {
-        make_of_values(raw::sel_utf8view_new, values, validity)
+        make_of_values(raw::sel_string_view_new, values, validity)
     }
 
     /// Makes a column of binary views, null where a row is `None`.
@@ -159,7 +159,7 @@ impl Column {
     /// ```
     pub fn from_byte_views(rows: &[Option<&[u8]>]) -> Result<Column, Error> {
         let values = rows.iter().map(|row| row.unwrap_or_default());
-        make_of_values(raw::sel_binview_new, values, &Validity::of_options(rows)?)
+        make_of_values(raw::sel_binary_view_new, values, &Validity::of_options(rows)?)
     }
 
     /// Makes a column of binary views into data buffers; row `i` is null where `validity[i]` is false.
@@ -180,8 +180,8 @@ impl Column {
     /// # }
     /// ```
     pub fn new_binary_view(views: &[View], buffers: &[&[u8]], validity: Option<&[bool]>) -> Result<Column, Error> {
-        let buffers = collect(buffers.iter().map(|buffer| RawSlice::of(buffer)))?;
-        make_by(raw::sel_binview_new, views, &buffers, &Validity::new(validity, views.len())?)
+        let buffers = collect(buffers.iter().map(|buffer| RawBytesRef::of(buffer)))?;
+        make_by(raw::sel_binary_view_new, views, &buffers, &Validity::new(validity, views.len())?)
     }
 
     /// Makes a string column of views into data buffers; row `i` is null where `validity[i]` is false.
@@ -193,16 +193,16 @@ impl Column {
     /// # use sel::{Column, Error, View};
     /// # fn main() -> Result<(), Error> {
     /// let view = View { length: 2, prefix: u32::from_le_bytes([0xc3, 0xa9, 0, 0]), buffer: 0, offset: 0 };
-    /// assert_eq!(Column::new_utf8_view(&[view], &[], None)?.to_texts()?, [Some("é".to_string())]);
+    /// assert_eq!(Column::new_string_view(&[view], &[], None)?.to_texts()?, [Some("é".to_string())]);
     /// let half = View { length: 1, ..view };
-    /// assert_eq!(Column::new_utf8_view(&[half], &[], None).err(), Some(Error::Malformed(28)));
-    /// assert_eq!(Column::new_utf8_view(&[half], &[], Some(&[false]))?.to_texts()?, [None]);
+    /// assert_eq!(Column::new_string_view(&[half], &[], None).err(), Some(Error::Malformed(28)));
+    /// assert_eq!(Column::new_string_view(&[half], &[], Some(&[false]))?.to_texts()?, [None]);
     /// # Ok(())
     /// # }
     /// ```
-    pub fn new_utf8_view(views: &[View], buffers: &[&[u8]], validity: Option<&[bool]>) -> Result<Column, Error> {
-        let buffers = collect(buffers.iter().map(|buffer| RawSlice::of(buffer)))?;
-        make_by(raw::sel_utf8view_new, views, &buffers, &Validity::new(validity, views.len())?)
+    pub fn new_string_view(views: &[View], buffers: &[&[u8]], validity: Option<&[bool]>) -> Result<Column, Error> {
+        let buffers = collect(buffers.iter().map(|buffer| RawBytesRef::of(buffer)))?;
+        make_by(raw::sel_string_view_new, views, &buffers, &Validity::new(validity, views.len())?)
     }
 
     /// Returns the rows of a string column.
@@ -218,7 +218,7 @@ impl Column {
     /// # }
     /// ```
     pub fn to_texts(&self) -> Result<Vec<Option<String>>, Error> {
-        self.expect_kind(Kind::Utf8View)?;
+        self.expect_kind(Kind::StringView)?;
         let rows = self.view_bytes()?.into_iter();
         try_collect(rows.map(|bytes| bytes.map(text_of).transpose()))
     }
@@ -247,7 +247,7 @@ impl Column {
     /// ```
     pub fn views(&self) -> Result<Vec<View>, Error> {
         if self.kind() != Kind::BinaryView {
-            self.expect_kind(Kind::Utf8View)?;
+            self.expect_kind(Kind::StringView)?;
         }
         let mut views = zeroed::<View>(self.len())?;
         // SAFETY: the views are valid for their length, and the handle is owned by the column.
@@ -301,10 +301,10 @@ mod tests {
         let long = View { length: 13, prefix: u32::from_le_bytes([0xc3; 4]), buffer: 0, offset: 1 };
         let padded = inline(2, *b"ab\xff\xff\xff\xff\xff\xff\xff\xff\xff\xff");
         let validity = Some(&[false, false, true][..]);
-        let column = Column::new_utf8_view(&[wrong, long, padded], &[&[0xc3; 16]], validity)?;
+        let column = Column::new_string_view(&[wrong, long, padded], &[&[0xc3; 16]], validity)?;
         assert_eq!(column.to_texts()?, [None, None, Some("ab".to_string())]);
         assert_eq!(column.sliced(1, 2)?.to_texts()?, [None, Some("ab".to_string())]);
-        assert_eq!(Column::new_utf8_view(&[wrong], &[], None).err(), Some(Error::of(status::UTF8)));
+        assert_eq!(Column::new_string_view(&[wrong], &[], None).err(), Some(Error::of(status::INVALID_UTF8)));
         Ok(())
     }
 

@@ -89,18 +89,18 @@ fn extreme_offsets_are_errors() {
 fn extreme_list_indices_give_nulls() {
     let lists = lists();
     for index in [i64::MIN, i64::MIN + 1, -3, 2, i64::MAX - 1, i64::MAX] {
-        assert_eq!(text(lists.sublist_get(index)), "[null,null,null]", "{index}");
-        assert_eq!(lists.index_is_oob(index), Ok(true), "{index}");
+        assert_eq!(text(lists.list_get(index)), "[null,null,null]", "{index}");
+        assert_eq!(lists.list_index_is_oob(index), Ok(true), "{index}");
     }
-    assert_eq!(text(lists.sublist_get(-2)), "[1,null,null]");
+    assert_eq!(text(lists.list_get(-2)), "[1,null,null]");
 }
 
 #[test]
 fn extreme_indices_of_fixed_size_lists_are_out_of_bounds_or_give_nulls() {
     let fixed = fixed();
     for index in [i64::MIN, i64::MIN + 1, -2, 1, i64::MAX] {
-        assert_eq!(fixed.fixed_get(index, false).err(), Some(Error::OutOfBounds(7)), "{index}");
-        assert_eq!(text(fixed.fixed_get(index, true)), "[null,null,null]", "{index}");
+        assert_eq!(fixed.fixed_size_list_get(index, false).err(), Some(Error::OutOfBounds(7)), "{index}");
+        assert_eq!(text(fixed.fixed_size_list_get(index, true)), "[null,null,null]", "{index}");
     }
 }
 
@@ -171,7 +171,7 @@ fn extreme_numbers_of_nulls_are_errors() {
 fn lists_of_extreme_sizes_without_memory_are_read() {
     let empty = Column::fixed_lists(0, MOST_ROWS, Column::new_null(0).expect("no nulls")).expect("empty lists");
     assert_eq!((empty.len(), empty.list_size(), empty.null_count()), (MOST_ROWS, Ok(0), 0));
-    assert_eq!(empty.fixed_get(i64::MIN, false).err(), Some(Error::OutOfBounds(7)));
+    assert_eq!(empty.fixed_size_list_get(i64::MIN, false).err(), Some(Error::OutOfBounds(7)));
     assert_eq!(text(empty.slice(MOST_ROWS - 1, 1)), "[[]]");
     let longest = Column::new_null(MOST_ROWS).and_then(|child| Column::fixed_lists(MOST_ROWS, 1, child));
     assert_eq!(longest.and_then(|column| column.list_size()), Ok(MOST_ROWS));
@@ -197,8 +197,8 @@ fn extreme_indices_for_each_fixed_size_list_are_out_of_bounds_or_give_nulls() {
     let fixed = fixed();
     for index in [i64::MIN, i64::MIN + 1, -2, 1, i64::MAX] {
         let indices = Column::from_values(&[0, -1, index]).expect("three indices");
-        assert_eq!(fixed.fixed_get_each(&indices, false).err(), Some(Error::OutOfBounds(7)), "{index}");
-        assert_eq!(text(fixed.fixed_get_each(&indices, true)), "[1,2,null]", "{index}");
+        assert_eq!(fixed.fixed_size_list_get_each(&indices, false).err(), Some(Error::OutOfBounds(7)), "{index}");
+        assert_eq!(text(fixed.fixed_size_list_get_each(&indices, true)), "[1,2,null]", "{index}");
     }
 }
 
@@ -210,7 +210,7 @@ fn views_with_extreme_parts_are_errors() {
         let view = View { length, prefix, buffer, offset };
         for validity in [None, Some(&[true][..]), Some(&[false][..])] {
             assert_eq!(
-                Column::new_utf8_view(&[view], &[bytes], validity).err(),
+                Column::new_string_view(&[view], &[bytes], validity).err(),
                 Some(Error::Malformed(26)),
                 "{view:?}"
             );
@@ -235,7 +235,7 @@ fn validities_of_another_length_are_errors() {
         assert_eq!(Column::new_binary(&[0, 1, 2, 3], b"abc", given).err(), wrong_length);
         assert_eq!(Column::new_fixed_size_list(1, 3, numbers(), given).err(), wrong_length);
         assert_eq!(Column::new_struct(3, vec![numbers()], given).err(), wrong_length);
-        assert_eq!(Column::new_utf8_view(&[View::default(); 3], &[], given).err(), wrong_length);
+        assert_eq!(Column::new_string_view(&[View::default(); 3], &[], given).err(), wrong_length);
     }
     assert_eq!(Column::new_list(&[0], numbers(), Some(&[true])).err(), wrong_length);
     assert_eq!(Column::new_struct(0, vec![], Some(&[true])).err(), wrong_length);

@@ -28,10 +28,11 @@ fn rust_type(c_type: &str) -> String {
         "bool" => "bool",
         "char" => "c_char",
         "sel_column" => "Handle",
-        "sel_wide" => "RawWide",
+        "sel_status" | "sel_type_id" => "u32",
+        "sel_int128" => "RawInt128",
         "sel_view" => "View",
-        "sel_slice" => "RawSlice",
-        "sel_pick" => "RawPick",
+        "sel_bytes_ref" => "RawBytesRef",
+        "sel_row_ref" => "RawRowRef",
         "uint8_t" => "u8",
         "uint16_t" => "u16",
         "uint32_t" => "u32",
@@ -67,7 +68,8 @@ fn functions_of_headers() -> BTreeMap<String, Signature> {
         let result = (result != "void").then(|| declared_type(result));
         let parameters =
             parameters.trim_end().strip_suffix(')').expect("a function's declaration ends with a parenthesis");
-        functions.insert(before[start..].to_string(), (parameters.split(',').map(declared_type).collect(), result));
+        let parameters = parameters.split(',').filter(|parameter| *parameter != "void");
+        functions.insert(before[start..].to_string(), (parameters.map(declared_type).collect(), result));
     }
     functions
 }
@@ -93,7 +95,7 @@ fn each_function_of_the_headers_is_declared_with_its_types() {
     assert!(headers.len() >= 70, "{headers:?}");
     assert_eq!(
         headers["sel_share"],
-        (vec!["*mut Handle".to_string(), "*mut Handle".to_string()], Some("u32".to_string()))
+        (vec!["*const Handle".to_string(), "*mut Handle".to_string()], Some("u32".to_string()))
     );
     for (name, signature) in &headers {
         assert_eq!(raw.get(name), Some(signature), "{name}");
@@ -140,8 +142,12 @@ fn fields_of_rust(name: &str) -> Vec<String> {
 
 #[test]
 fn the_structures_have_the_fields_of_the_header() {
-    for (c, rust) in [("sel_wide", "RawWide"), ("sel_view", "View"), ("sel_slice", "RawSlice"), ("sel_pick", "RawPick")]
-    {
+    for (c, rust) in [
+        ("sel_int128", "RawInt128"),
+        ("sel_view", "View"),
+        ("sel_bytes_ref", "RawBytesRef"),
+        ("sel_row_ref", "RawRowRef"),
+    ] {
         let fields = fields_of_header(c);
         assert!(fields.len() >= 2, "{c} {fields:?}");
         assert_eq!(fields_of_rust(rust), fields, "{c}");
@@ -153,9 +159,10 @@ fn the_structures_have_the_fields_of_the_header() {
 /// Returns the numbers of the enumeration of kinds, by their names.
 fn kinds_of_header() -> Vec<(String, u32)> {
     let source = HEADERS.map(without_comments).join("\n");
-    let (_, body) = source.split_once("enum sel_kind_number {").expect("the header has the enumeration");
+    let (_, body) = source.split_once("enum sel_type_id {").expect("the header has the enumeration");
     let (body, _) = body.split_once('}').expect("an enumeration ends with a brace");
     let pairs = body.split(',').filter_map(|pair| pair.split_once('='));
+    let pairs = pairs.filter(|(name, _)| name.trim() != "SEL_TYPE_ID_FORCE_32_BITS");
     pairs.map(|(name, number)| (name.trim().to_string(), number.trim().parse().expect("a number"))).collect()
 }
 
@@ -166,8 +173,8 @@ fn each_kind_of_the_header_has_its_number() {
     for (name, number) in kinds {
         let kind = Kind::try_from(number).map(|kind| format!("{kind:?}").to_uppercase());
         match name.as_str() {
-            "SEL_NO_KIND" => assert_eq!(kind, Err(Error::UnknownKind(number))),
-            _ => assert_eq!(kind, Ok(name.replace("SEL_", "").replace('_', ""))),
+            "SEL_TYPE_NONE" => assert_eq!(kind, Err(Error::UnknownKind(number))),
+            _ => assert_eq!(kind, Ok(name.replace("SEL_TYPE_", "").replace('_', ""))),
         }
     }
 }

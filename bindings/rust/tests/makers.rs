@@ -55,7 +55,7 @@ fn binary_values_and_views_are_read_by_their_kind() -> Result<(), Error> {
     let rows: [Option<&[u8]>; 5] = [Some(b""), None, Some(&[0, 255]), Some(&long), Some(b"twelve bytes")];
     let owned: Vec<Option<Vec<u8>>> = rows.iter().map(|row| row.map(<[u8]>::to_vec)).collect();
     let (binary, views) = (Column::from_bytes(&rows)?, Column::from_byte_views(&rows)?);
-    assert_eq!((binary.kind(), views.kind()), (Kind::LargeBinary, Kind::BinaryView));
+    assert_eq!((binary.kind(), views.kind()), (Kind::Binary, Kind::BinaryView));
     for column in [&binary, &views, &Column::from_options(&owned)?] {
         assert_eq!((column.to_bytes()?, column.iter()?.collect::<Vec<_>>()), (owned.clone(), owned.clone()));
         assert_eq!(column.slice(2, 3)?.to_bytes()?, owned[2..]);
@@ -81,11 +81,11 @@ fn views_share_a_buffer() -> Result<(), Error> {
     let view =
         |length, prefix: &[u8; 4], offset| View { length, prefix: u32::from_le_bytes(*prefix), buffer: 1, offset };
     let buffers: [&[u8]; 2] = [b"", b"a text that two views overlap in"];
-    let column = Column::new_utf8_view(&[view(20, b"a te", 0), view(13, b"two ", 12)], &buffers, None)?;
+    let column = Column::new_string_view(&[view(20, b"a te", 0), view(13, b"two ", 12)], &buffers, None)?;
     assert_eq!(column.to_text()?, r#"["a text that two view","two views ove"]"#);
     assert_eq!(column.views()?[1], view(13, b"two ", 12));
     assert_eq!(column.buffers()?, buffers);
-    let wrong = Column::new_utf8_view(&[view(20, b"A te", 0)], &buffers, None);
+    let wrong = Column::new_string_view(&[view(20, b"A te", 0)], &buffers, None);
     assert_eq!(wrong.err(), Some(Error::Malformed(27)));
     Ok(())
 }

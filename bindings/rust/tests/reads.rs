@@ -84,7 +84,7 @@ fn reading_another_kind_is_an_error() -> Result<(), Error> {
         assert_eq!(column.to_bools().err(), wrong_kind);
         assert_eq!(column.to_texts().err(), wrong_kind);
         assert_eq!(column.offsets().err(), wrong_kind);
-        assert_eq!(column.sublist_get(0).err(), wrong_kind);
+        assert_eq!(column.list_get(0).err(), wrong_kind);
     }
     Ok(())
 }

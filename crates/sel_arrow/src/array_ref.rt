@@ -29,7 +29,7 @@ pub struct ArrayRef {
 }
 
 impl ArrayRef {
-    ghost use Rattle.sel_arrow.specs.NestedArrays.{list_column, block_column, tuple_column};
+    ghost use Rattle.sel_arrow.specs.NestedArrays.{list_column, block_column, struct_column};
     ghost use Rattle.sel_arrow.specs.Shape.{is_list_shape, is_block_shape, is_struct_shape};
 
     /// Wraps `column` if it is well-formed (`Column::is_well_formed`).
@@ -232,10 +232,10 @@ impl ArrayRef {
     /// # Errors
     /// Returns the column unchanged if it has a different type.
     pub fn into_struct(self) -> Result<StructArray, ArrayRef>
-        ensures rows { IfOk result (λ array. rows (tuple_column array) ≡ rows self.column) }
-        ensures dtype { IfOk result (λ array. type_of (tuple_column array) ≡
+        ensures rows { IfOk result (λ array. rows (struct_column array) ≡ rows self.column) }
+        ensures dtype { IfOk result (λ array. type_of (struct_column array) ≡
             type_of self.column) }
-        ensures buffers { IfOk result (λ array. buffers_held (tuple_column array) ≡
+        ensures buffers { IfOk result (λ array. buffers_held (struct_column array) ≡
             buffers_held self.column) }
         ensures back { IfErr result (λ back. back.column ≡ self.column) }
         ensures other { IfErr result (λ _. is_struct_shape (type_of self.column) ≡ false) }

@@ -31,7 +31,7 @@ pub struct StructArray {
 
 #[tactic(auto, using(crate::proofs::NestedMakers::nested_makers))]
 impl StructArray {
-    ghost use Rattle.sel_arrow.specs.NestedArrays.{tuple_column};
+    ghost use Rattle.sel_arrow.specs.NestedArrays.{struct_column};
 
     /// Builds a struct column of `len` rows from its fields.
     ///
@@ -82,11 +82,12 @@ impl StructArray {
     /// # Requires
     /// The length of `validity` is the number of rows; check with `has_other_length`.
     pub fn with_validity(self, validity: Option<Bitmap>) -> StructArray
-        requires { Covers validity (length (rows (tuple_column self))) }
-        ensures rows { rows (tuple_column result) ≡
+        requires { Covers validity (length (rows (struct_column self))) }
+        ensures rows { rows (struct_column result) ≡
             struct_rows self.len (map rows self.fields.items) validity }
-        ensures dtype { type_of (tuple_column result) ≡ type_of (tuple_column self) }
-        ensures buffers { buffers_held (tuple_column result) ≡ buffers_held (tuple_column self) }
+        ensures dtype { type_of (struct_column result) ≡ type_of (struct_column self) }
+        ensures buffers { buffers_held (struct_column result) ≡
+            buffers_held (struct_column self) }
         ensures validity { result.validity ≡ validity }
     {
         let StructArray {
@@ -103,7 +104,7 @@ impl StructArray {
 
     /// Converts the array to a `Column`.
     pub(crate) fn into_column(self) -> Column
-        ensures column { result ≡ tuple_column self }
+        ensures column { result ≡ struct_column self }
         ensures formed { IsWellFormed result }
     {
         let StructArray {
@@ -131,11 +132,11 @@ impl StructArray {
     ) -> PolarsResult<StructArray>
         requires formed { IsWellFormed (Struct _count fields.now validity.now) }
         requires inside { off + len ≤ length (rows (Struct _count fields.now validity.now)) }
-        ensures rows { IfOk result (λ part. rows (tuple_column part) ≡
+        ensures rows { IfOk result (λ part. rows (struct_column part) ≡
             take len (drop off (rows (Struct _count fields.now validity.now)))) }
-        ensures dtype { IfOk result (λ part. type_of (tuple_column part) ≡
+        ensures dtype { IfOk result (λ part. type_of (struct_column part) ≡
             type_of (Struct _count fields.now validity.now)) }
-        ensures buffers { IfOk result (λ part. buffers_held (tuple_column part) ≡
+        ensures buffers { IfOk result (λ part. buffers_held (struct_column part) ≡
             buffers_held (Struct _count fields.now validity.now)) }
         ensures refusal { IfErr result (λ fault. fault ≡ PolarsError.OutOfMemory) }
     {
@@ -157,11 +158,11 @@ impl StructArray {
         alloc: Global,
     ) -> PolarsResult<StructArray>
         requires { IsWellFormed (Struct len fields.now validity.now) }
-        ensures rows { IfOk result (λ copy. rows (tuple_column copy) ≡
+        ensures rows { IfOk result (λ copy. rows (struct_column copy) ≡
             rows (Struct len fields.now validity.now)) }
-        ensures dtype { IfOk result (λ copy. type_of (tuple_column copy) ≡
+        ensures dtype { IfOk result (λ copy. type_of (struct_column copy) ≡
             type_of (Struct len fields.now validity.now)) }
-        ensures buffers { IfOk result (λ copy. buffers_held (tuple_column copy) ≡
+        ensures buffers { IfOk result (λ copy. buffers_held (struct_column copy) ≡
             buffers_held (Struct len fields.now validity.now)) }
         ensures refusal { IfErr result (λ fault. fault ≡ PolarsError.OutOfMemory) }
     {
@@ -177,13 +178,13 @@ impl StructArray {
 
 #[tactic(auto, using(crate::proofs::NestedMakers::nested_makers))]
 impl Array for StructArray {
-    ghost use Rattle.sel_arrow.specs.NestedArrays.{tuple_column};
+    ghost use Rattle.sel_arrow.specs.NestedArrays.{struct_column};
 
-    ghost rows = { λ array. rows (tuple_column array) };
+    ghost rows = { λ array. rows (struct_column array) };
 
-    ghost shape = { λ array. type_of (tuple_column array) };
+    ghost shape = { λ array. type_of (struct_column array) };
 
-    ghost held = { λ array. buffers_held (tuple_column array) };
+    ghost held = { λ array. buffers_held (struct_column array) };
 
     fn len(&self) -> usize {
         self.len

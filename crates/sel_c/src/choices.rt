@@ -5,7 +5,7 @@ ghost use Rattle.sel_arrow.specs.Rows.{rows, type_of};
 ghost use Rattle.sel_arrow.specs.Shape.{of_boolean};
 ghost use Rattle.sel_calls.specs.Chosen.{first_row};
 ghost use Rattle.sel_choices.specs.Choose.{choose, broadcast_true, broadcast_false, broadcast_both};
-ghost use Rattle.sel_handle.specs.Status.{done, no_memory, no_column, other_kind, other_type, other_length, limit_statuses, held_columns, held_rows, held_type, DemandsBefore, DemandsFirst, HasColumn, IsOneOf, Makes, ReportsLimits};
+ghost use Rattle.sel_handle.specs.Status.{ok, out_of_memory, no_column, unsupported_type, type_mismatch, length_mismatch, limit_statuses, held_columns, held_rows, held_type, DemandsBefore, DemandsFirst, HasColumn, IsOneOf, Makes, ReportsLimits};
 ghost use Rattle.sel_runs.specs.Need.{exceeded_taken};
 ghost use Rattle.polars_compute.specs.Select.{effective_mask};
 
@@ -17,12 +17,13 @@ use std::alloc::Global;
 /// Returns in `out` the column whose row k is row k of `if_true` where the boolean column `mask`
 /// is true, else row k of `if_false`. A null in the mask counts as false.
 ///
-/// Errors: SEL_NO_COLUMN: `mask`, `if_true` or `if_false` is empty. SEL_OTHER_KIND: the type of
-/// `mask` is not SEL_BOOLEAN. SEL_OTHER_TYPE: `if_true` and `if_false` have different types.
-/// SEL_OTHER_LENGTH: `if_true` or `if_false` does not have as many rows as `mask`. SEL_LIMIT_ROWS,
-/// SEL_LIMIT_BYTES, SEL_LIMIT_BUFFERS: the result exceeds a size limit.
+/// Errors: SEL_ERROR_NO_COLUMN: `mask`, `if_true` or `if_false` is empty.
+/// SEL_ERROR_UNSUPPORTED_TYPE: the type of `mask` is not SEL_TYPE_BOOLEAN. SEL_ERROR_TYPE_MISMATCH:
+/// `if_true` and `if_false` have different types. SEL_ERROR_LENGTH_MISMATCH: `if_true` or
+/// `if_false` does not have as many rows as `mask`. SEL_ERROR_ROW_LIMIT, SEL_ERROR_OFFSET_LIMIT,
+/// SEL_ERROR_BUFFER_LIMIT: the result exceeds a size limit.
 #[unsafe(no_mangle)]
-pub extern "C" fn sel_choose(
+pub extern "C" fn sel_if_then_else(
     alloc: Global,
     mask: &ColumnRef,
     if_true: &ColumnRef,
@@ -34,15 +35,15 @@ pub extern "C" fn sel_choose(
         (held_rows if_true.now.tree) (held_rows if_false.now.tree)) }
     ensures dtype { Makes result out.old.tree out.new.tree
         (λ made. type_of made.column ≡ held_type if_true.now.tree) }
-    ensures status { IsOneOf result (done ∷ no_memory ∷ no_column ∷ other_kind ∷
-        other_type ∷ other_length ∷ limit_statuses) }
+    ensures status { IsOneOf result (ok ∷ out_of_memory ∷ no_column ∷ unsupported_type ∷
+        type_mismatch ∷ length_mismatch ∷ limit_statuses) }
     ensures column { DemandsFirst result no_column (HasColumn mask.now.tree ×
         HasColumn if_true.now.tree × HasColumn if_false.now.tree) }
-    ensures kind { DemandsBefore result other_kind
-        (other_type ∷ other_length ∷ limit_statuses) (held_type mask.now.tree ≡ of_boolean) }
-    ensures alike { DemandsBefore result other_type (other_length ∷ limit_statuses)
+    ensures kind { DemandsBefore result unsupported_type
+        (type_mismatch ∷ length_mismatch ∷ limit_statuses) (held_type mask.now.tree ≡ of_boolean) }
+    ensures alike { DemandsBefore result type_mismatch (length_mismatch ∷ limit_statuses)
         (held_type if_true.now.tree ≡ held_type if_false.now.tree) }
-    ensures length { DemandsBefore result other_length limit_statuses
+    ensures length { DemandsBefore result length_mismatch limit_statuses
         ((length (held_rows if_true.now.tree) ≡ length (held_rows mask.now.tree)) ×
         (length (held_rows if_false.now.tree) ≡ length (held_rows mask.now.tree))) }
     ensures limits { ReportsLimits result (exceeded_taken (held_type if_true.now.tree)
@@ -53,14 +54,15 @@ pub extern "C" fn sel_choose(
     choose_handles(alloc, mask, if_true, if_false, true, true, out)
 }
 
-/// As `sel_choose`, with the true value broadcast: `if_true` has one row, which may be null.
+/// As `sel_if_then_else`, with the true value broadcast: `if_true` has one row, which may be null.
 ///
-/// Errors: SEL_NO_COLUMN: `mask`, `if_true` or `if_false` is empty. SEL_OTHER_KIND: the type of
-/// `mask` is not SEL_BOOLEAN. SEL_OTHER_TYPE: `if_true` and `if_false` have different types.
-/// SEL_OTHER_LENGTH: `if_true` does not have one row, or `if_false` does not have as many rows as
-/// `mask`. SEL_LIMIT_ROWS, SEL_LIMIT_BYTES, SEL_LIMIT_BUFFERS: the result exceeds a size limit.
+/// Errors: SEL_ERROR_NO_COLUMN: `mask`, `if_true` or `if_false` is empty.
+/// SEL_ERROR_UNSUPPORTED_TYPE: the type of `mask` is not SEL_TYPE_BOOLEAN. SEL_ERROR_TYPE_MISMATCH:
+/// `if_true` and `if_false` have different types. SEL_ERROR_LENGTH_MISMATCH: `if_true` does not
+/// have one row, or `if_false` does not have as many rows as `mask`. SEL_ERROR_ROW_LIMIT,
+/// SEL_ERROR_OFFSET_LIMIT, SEL_ERROR_BUFFER_LIMIT: the result exceeds a size limit.
 #[unsafe(no_mangle)]
-pub extern "C" fn sel_choose_one(
+pub extern "C" fn sel_if_then_else_broadcast_true(
     alloc: Global,
     mask: &ColumnRef,
     if_true: &ColumnRef,
@@ -72,15 +74,15 @@ pub extern "C" fn sel_choose_one(
         (first_row (held_rows if_true.now.tree)) (held_rows if_false.now.tree)) }
     ensures dtype { Makes result out.old.tree out.new.tree
         (λ made. type_of made.column ≡ held_type if_true.now.tree) }
-    ensures status { IsOneOf result (done ∷ no_memory ∷ no_column ∷ other_kind ∷
-        other_type ∷ other_length ∷ limit_statuses) }
+    ensures status { IsOneOf result (ok ∷ out_of_memory ∷ no_column ∷ unsupported_type ∷
+        type_mismatch ∷ length_mismatch ∷ limit_statuses) }
     ensures column { DemandsFirst result no_column (HasColumn mask.now.tree ×
         HasColumn if_true.now.tree × HasColumn if_false.now.tree) }
-    ensures kind { DemandsBefore result other_kind
-        (other_type ∷ other_length ∷ limit_statuses) (held_type mask.now.tree ≡ of_boolean) }
-    ensures alike { DemandsBefore result other_type (other_length ∷ limit_statuses)
+    ensures kind { DemandsBefore result unsupported_type
+        (type_mismatch ∷ length_mismatch ∷ limit_statuses) (held_type mask.now.tree ≡ of_boolean) }
+    ensures alike { DemandsBefore result type_mismatch (length_mismatch ∷ limit_statuses)
         (held_type if_true.now.tree ≡ held_type if_false.now.tree) }
-    ensures length { DemandsBefore result other_length limit_statuses
+    ensures length { DemandsBefore result length_mismatch limit_statuses
         ((length (held_rows if_true.now.tree) ≡ 1) ×
         (length (held_rows if_false.now.tree) ≡ length (held_rows mask.now.tree))) }
     ensures limits { ReportsLimits result (exceeded_taken (held_type if_true.now.tree)
@@ -91,14 +93,16 @@ pub extern "C" fn sel_choose_one(
     choose_handles(alloc, mask, if_true, if_false, false, true, out)
 }
 
-/// As `sel_choose`, with the false value broadcast: `if_false` has one row, which may be null.
+/// As `sel_if_then_else`, with the false value broadcast: `if_false` has one row, which may be
+/// null.
 ///
-/// Errors: SEL_NO_COLUMN: `mask`, `if_true` or `if_false` is empty. SEL_OTHER_KIND: the type of
-/// `mask` is not SEL_BOOLEAN. SEL_OTHER_TYPE: `if_true` and `if_false` have different types.
-/// SEL_OTHER_LENGTH: `if_false` does not have one row, or `if_true` does not have as many rows as
-/// `mask`. SEL_LIMIT_ROWS, SEL_LIMIT_BYTES, SEL_LIMIT_BUFFERS: the result exceeds a size limit.
+/// Errors: SEL_ERROR_NO_COLUMN: `mask`, `if_true` or `if_false` is empty.
+/// SEL_ERROR_UNSUPPORTED_TYPE: the type of `mask` is not SEL_TYPE_BOOLEAN. SEL_ERROR_TYPE_MISMATCH:
+/// `if_true` and `if_false` have different types. SEL_ERROR_LENGTH_MISMATCH: `if_false` does not
+/// have one row, or `if_true` does not have as many rows as `mask`. SEL_ERROR_ROW_LIMIT,
+/// SEL_ERROR_OFFSET_LIMIT, SEL_ERROR_BUFFER_LIMIT: the result exceeds a size limit.
 #[unsafe(no_mangle)]
-pub extern "C" fn sel_choose_or_one(
+pub extern "C" fn sel_if_then_else_broadcast_false(
     alloc: Global,
     mask: &ColumnRef,
     if_true: &ColumnRef,
@@ -110,15 +114,15 @@ pub extern "C" fn sel_choose_or_one(
         (held_rows if_true.now.tree) (first_row (held_rows if_false.now.tree))) }
     ensures dtype { Makes result out.old.tree out.new.tree
         (λ made. type_of made.column ≡ held_type if_true.now.tree) }
-    ensures status { IsOneOf result (done ∷ no_memory ∷ no_column ∷ other_kind ∷
-        other_type ∷ other_length ∷ limit_statuses) }
+    ensures status { IsOneOf result (ok ∷ out_of_memory ∷ no_column ∷ unsupported_type ∷
+        type_mismatch ∷ length_mismatch ∷ limit_statuses) }
     ensures column { DemandsFirst result no_column (HasColumn mask.now.tree ×
         HasColumn if_true.now.tree × HasColumn if_false.now.tree) }
-    ensures kind { DemandsBefore result other_kind
-        (other_type ∷ other_length ∷ limit_statuses) (held_type mask.now.tree ≡ of_boolean) }
-    ensures alike { DemandsBefore result other_type (other_length ∷ limit_statuses)
+    ensures kind { DemandsBefore result unsupported_type
+        (type_mismatch ∷ length_mismatch ∷ limit_statuses) (held_type mask.now.tree ≡ of_boolean) }
+    ensures alike { DemandsBefore result type_mismatch (length_mismatch ∷ limit_statuses)
         (held_type if_true.now.tree ≡ held_type if_false.now.tree) }
-    ensures length { DemandsBefore result other_length limit_statuses
+    ensures length { DemandsBefore result length_mismatch limit_statuses
         ((length (held_rows if_true.now.tree) ≡ length (held_rows mask.now.tree)) ×
         (length (held_rows if_false.now.tree) ≡ 1)) }
     ensures limits { ReportsLimits result (exceeded_taken (held_type if_true.now.tree)
@@ -129,15 +133,16 @@ pub extern "C" fn sel_choose_or_one(
     choose_handles(alloc, mask, if_true, if_false, true, false, out)
 }
 
-/// As `sel_choose`, with both values broadcast: `if_true` and `if_false` have one row each, which
-/// may be null. The result has as many rows as `mask`.
+/// As `sel_if_then_else`, with both values broadcast: `if_true` and `if_false` have one row each,
+/// which may be null. The result has as many rows as `mask`.
 ///
-/// Errors: SEL_NO_COLUMN: `mask`, `if_true` or `if_false` is empty. SEL_OTHER_KIND: the type of
-/// `mask` is not SEL_BOOLEAN. SEL_OTHER_TYPE: `if_true` and `if_false` have different types.
-/// SEL_OTHER_LENGTH: `if_true` or `if_false` does not have one row. SEL_LIMIT_ROWS,
-/// SEL_LIMIT_BYTES, SEL_LIMIT_BUFFERS: the result exceeds a size limit.
+/// Errors: SEL_ERROR_NO_COLUMN: `mask`, `if_true` or `if_false` is empty.
+/// SEL_ERROR_UNSUPPORTED_TYPE: the type of `mask` is not SEL_TYPE_BOOLEAN. SEL_ERROR_TYPE_MISMATCH:
+/// `if_true` and `if_false` have different types. SEL_ERROR_LENGTH_MISMATCH: `if_true` or
+/// `if_false` does not have one row. SEL_ERROR_ROW_LIMIT, SEL_ERROR_OFFSET_LIMIT,
+/// SEL_ERROR_BUFFER_LIMIT: the result exceeds a size limit.
 #[unsafe(no_mangle)]
-pub extern "C" fn sel_choose_of_two(
+pub extern "C" fn sel_if_then_else_broadcast_both(
     alloc: Global,
     mask: &ColumnRef,
     if_true: &ColumnRef,
@@ -149,15 +154,15 @@ pub extern "C" fn sel_choose_of_two(
         (first_row (held_rows if_true.now.tree)) (first_row (held_rows if_false.now.tree))) }
     ensures dtype { Makes result out.old.tree out.new.tree
         (λ made. type_of made.column ≡ held_type if_true.now.tree) }
-    ensures status { IsOneOf result (done ∷ no_memory ∷ no_column ∷ other_kind ∷
-        other_type ∷ other_length ∷ limit_statuses) }
+    ensures status { IsOneOf result (ok ∷ out_of_memory ∷ no_column ∷ unsupported_type ∷
+        type_mismatch ∷ length_mismatch ∷ limit_statuses) }
     ensures column { DemandsFirst result no_column (HasColumn mask.now.tree ×
         HasColumn if_true.now.tree × HasColumn if_false.now.tree) }
-    ensures kind { DemandsBefore result other_kind
-        (other_type ∷ other_length ∷ limit_statuses) (held_type mask.now.tree ≡ of_boolean) }
-    ensures alike { DemandsBefore result other_type (other_length ∷ limit_statuses)
+    ensures kind { DemandsBefore result unsupported_type
+        (type_mismatch ∷ length_mismatch ∷ limit_statuses) (held_type mask.now.tree ≡ of_boolean) }
+    ensures alike { DemandsBefore result type_mismatch (length_mismatch ∷ limit_statuses)
         (held_type if_true.now.tree ≡ held_type if_false.now.tree) }
-    ensures length { DemandsBefore result other_length limit_statuses
+    ensures length { DemandsBefore result length_mismatch limit_statuses
         ((length (held_rows if_true.now.tree) ≡ 1) ×
         (length (held_rows if_false.now.tree) ≡ 1)) }
     ensures limits { ReportsLimits result (exceeded_taken (held_type if_true.now.tree)

@@ -3,7 +3,7 @@
 ghost use Rattle.std.specs.Prelude.{◌≡◌, [], ◌∷◌, length, IsTrue};
 ghost use Rattle.sel_arrow.specs.Rows.{rows, type_of};
 ghost use Rattle.sel_arrow.specs.Shape.{of_uint32, of_utf8_view};
-ghost use Rattle.sel_handle.specs.Status.{done, no_memory, no_column, other_kind, out_of_bounds, held_rows, held_type, Demands, DemandsBefore, DemandsFirst, HasColumn, IsOneOf, Makes};
+ghost use Rattle.sel_handle.specs.Status.{ok, out_of_memory, no_column, unsupported_type, index_out_of_bounds, held_rows, held_type, Demands, DemandsBefore, DemandsFirst, HasColumn, IsOneOf, Makes};
 ghost use Rattle.polars_compute.specs.Dictionary.{propagated_keys, valid_values};
 ghost use Rattle.polars_compute.specs.Pick.{all_within};
 
@@ -17,9 +17,9 @@ use std::alloc::Global;
 /// in order, and in `out_keys` the keys of these. A key is null if it was null or if its value was
 /// null; else it refers to the same value as before.
 ///
-/// Errors: SEL_NO_COLUMN: `keys` or `values` is empty. SEL_OTHER_KIND: the type of `keys` is not
-/// SEL_UINT32, or the type of `values` is not SEL_UTF8_VIEW. SEL_OUT_OF_BOUNDS: a key that is not
-/// null is out of bounds.
+/// Errors: SEL_ERROR_NO_COLUMN: `keys` or `values` is empty. SEL_ERROR_UNSUPPORTED_TYPE: the type
+/// of `keys` is not SEL_TYPE_UINT32, or the type of `values` is not SEL_TYPE_STRING_VIEW.
+/// SEL_ERROR_INDEX_OUT_OF_BOUNDS: a key that is not null is out of bounds.
 #[unsafe(no_mangle)]
 pub extern "C" fn sel_propagate_dictionary(
     alloc: Global,
@@ -38,12 +38,12 @@ pub extern "C" fn sel_propagate_dictionary(
         (λ made. type_of made.column ≡ of_utf8_view) }
     ensures column { DemandsFirst result no_column
         (HasColumn keys.now.tree × HasColumn values.now.tree) }
-    ensures kind { DemandsBefore result other_kind (out_of_bounds ∷ [])
+    ensures kind { DemandsBefore result unsupported_type (index_out_of_bounds ∷ [])
         ((held_type keys.now.tree ≡ of_uint32) × (held_type values.now.tree ≡ of_utf8_view)) }
-    ensures bounds { Demands result out_of_bounds
+    ensures bounds { Demands result index_out_of_bounds
         (IsTrue (all_within (length (held_rows values.now.tree)) (held_rows keys.now.tree))) }
     ensures status { IsOneOf result
-        (done ∷ no_memory ∷ no_column ∷ other_kind ∷ out_of_bounds ∷ []) }
+        (ok ∷ out_of_memory ∷ no_column ∷ unsupported_type ∷ index_out_of_bounds ∷ []) }
 {
     let Some(at) = keys.column() else {
         return NO_COLUMN;

@@ -5,7 +5,7 @@ ghost use Rattle.sel_arrow.specs.Rows.{rows, type_of};
 ghost use Rattle.sel_arrow.specs.Shape.{of_int64, is_block_shape};
 ghost use Rattle.sel_calls.specs.Entries.{entries_at_each, any_index_is_error, exceeded_entries_at_each};
 ghost use Rattle.sel_calls.specs.Types.{entry_type};
-ghost use Rattle.sel_handle.specs.Status.{done, no_memory, no_column, other_kind, other_length, get_out_of_bounds, limit_statuses, held_rows, held_type, DemandsBefore, DemandsFirst, HasColumn, IsOneOf, Makes, ReportsLimits};
+ghost use Rattle.sel_handle.specs.Status.{ok, out_of_memory, no_column, unsupported_type, length_mismatch, list_index_out_of_bounds, limit_statuses, held_rows, held_type, DemandsBefore, DemandsFirst, HasColumn, IsOneOf, Makes, ReportsLimits};
 
 use sel_calls::fixed_each::fixed_get_each_into;
 use sel_handle::column_ref::ColumnRef;
@@ -17,13 +17,14 @@ use std::alloc::Global;
 /// if the list is null or, with `null_on_oob`, the index is null or out of bounds. A negative
 /// index counts from the end of the list.
 ///
-/// Errors: SEL_NO_COLUMN: `of` or `indices` is empty. SEL_OTHER_KIND: the type of `of` is not
-/// SEL_FIXED_SIZE_LIST, or the type of `indices` is not SEL_INT64. SEL_OTHER_LENGTH: `of` and
-/// `indices` have different lengths. SEL_GET_OUT_OF_BOUNDS: without `null_on_oob`, an index is
-/// null or out of bounds and its list is not null. SEL_LIMIT_ROWS, SEL_LIMIT_BYTES: the result
-/// exceeds a size limit.
+/// Errors: SEL_ERROR_NO_COLUMN: `of` or `indices` is empty. SEL_ERROR_UNSUPPORTED_TYPE: the type of
+/// `of` is not SEL_TYPE_FIXED_SIZE_LIST, or the type of `indices` is not SEL_TYPE_INT64.
+/// SEL_ERROR_LENGTH_MISMATCH: `of` and `indices` have different lengths.
+/// SEL_ERROR_LIST_INDEX_OUT_OF_BOUNDS: without `null_on_oob`, an index is null or out of bounds and
+/// its list is not null. SEL_ERROR_ROW_LIMIT, SEL_ERROR_OFFSET_LIMIT: the result exceeds a size
+/// limit.
 #[unsafe(no_mangle)]
-pub extern "C" fn sel_fixed_get_each(
+pub extern "C" fn sel_fixed_size_list_get_each(
     alloc: Global,
     of: &ColumnRef,
     indices: &ColumnRef,
@@ -35,17 +36,18 @@ pub extern "C" fn sel_fixed_get_each(
         (held_rows indices.now.tree)) }
     ensures dtype { Makes result out.old.tree out.new.tree
         (λ made. type_of made.column ≡ entry_type (held_type of.now.tree)) }
-    ensures status { IsOneOf result (done ∷ no_memory ∷ no_column ∷ other_kind ∷
-        other_length ∷ get_out_of_bounds ∷ limit_statuses) }
+    ensures status { IsOneOf result (ok ∷ out_of_memory ∷ no_column ∷ unsupported_type ∷
+        length_mismatch ∷ list_index_out_of_bounds ∷ limit_statuses) }
     ensures column { DemandsFirst result no_column
         (HasColumn of.now.tree × HasColumn indices.now.tree) }
-    ensures kind { DemandsBefore result other_kind
-        (other_length ∷ get_out_of_bounds ∷ limit_statuses)
+    ensures kind { DemandsBefore result unsupported_type
+        (length_mismatch ∷ list_index_out_of_bounds ∷ limit_statuses)
         (IsTrue (is_block_shape (held_type of.now.tree)) ×
         (held_type indices.now.tree ≡ of_int64)) }
-    ensures length { DemandsBefore result other_length (get_out_of_bounds ∷ limit_statuses)
+    ensures length { DemandsBefore result length_mismatch
+        (list_index_out_of_bounds ∷ limit_statuses)
         (length (held_rows indices.now.tree) ≡ length (held_rows of.now.tree)) }
-    ensures bounds { DemandsBefore result get_out_of_bounds limit_statuses
+    ensures bounds { DemandsBefore result list_index_out_of_bounds limit_statuses
         (any_index_is_error null_on_oob (held_rows of.now.tree) (held_type of.now.tree)
         (held_rows indices.now.tree) ≡ false) }
     ensures limits { ReportsLimits result

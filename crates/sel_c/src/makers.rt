@@ -8,19 +8,19 @@ ghost use Rattle.sel_arrow.specs.Rows.{rows, type_of};
 ghost use Rattle.sel_arrow.specs.Shape.{of_null, of_boolean, of_int8, of_int16, of_int32, of_int64, of_uint8, of_uint16, of_uint32, of_uint64};
 ghost use Rattle.sel_arrow.specs.Value.{Null};
 ghost use Rattle.sel_handle.specs.Inputs.{validity_in, flat_rules};
-ghost use Rattle.sel_handle.specs.Status.{other_length, DemandsFirst, Makes, ReportsOnly};
+ghost use Rattle.sel_handle.specs.Status.{length_mismatch, DemandsFirst, Makes, ReportsOnly};
 
 use sel_arrow::array::Array;
 use sel_arrow::null::NullArray;
 use sel_handle::handle::Handle;
 use sel_handle::inputs::booleans_of;
 use sel_handle::numbers::make_numbers;
-use sel_handle::status::{OTHER_LENGTH, put, status_of_maker};
+use sel_handle::status::{LENGTH_MISMATCH, put, status_of_maker};
 use std::alloc::Global;
 
 /// Returns in `out` a column of `len` nulls.
 ///
-/// Errors: SEL_TOO_MANY_ROWS: `len` is more than 4,294,967,295.
+/// Errors: SEL_ERROR_TOO_MANY_ROWS: `len` is more than 4,294,967,295.
 #[unsafe(no_mangle)]
 pub extern "C" fn sel_null_new(alloc: Global, len: usize, out: &mut Handle) -> u32
     ensures rows { Makes result out.old.tree out.new.tree
@@ -37,8 +37,9 @@ pub extern "C" fn sel_null_new(alloc: Global, len: usize, out: &mut Handle) -> u
 
 /// Returns in `out` the boolean column of `len` bits packed in `values`.
 ///
-/// Errors: SEL_OTHER_LENGTH: `values` has fewer than (len + 7) / 8 bytes. SEL_TOO_MANY_ROWS: `len`
-/// is more than 4,294,967,295. SEL_VALIDITY_LENGTH: the validity is too short.
+/// Errors: SEL_ERROR_LENGTH_MISMATCH: `values` has fewer than (len + 7) / 8 bytes.
+/// SEL_ERROR_TOO_MANY_ROWS: `len` is more than 4,294,967,295. SEL_ERROR_VALIDITY_LENGTH: the
+/// validity is too short.
 #[unsafe(no_mangle)]
 pub extern "C" fn sel_boolean_new(
     alloc: Global,
@@ -52,12 +53,12 @@ pub extern "C" fn sel_boolean_new(
         bool_rows (bits_from values.now 0 len) (validity_in bits.now has_bits len)) }
     ensures dtype { Makes result out.old.tree out.new.tree
         (λ made. type_of made.column ≡ of_boolean) }
-    ensures length { DemandsFirst result other_length (len ≤ 8 * length values.now) }
+    ensures length { DemandsFirst result length_mismatch (len ≤ 8 * length values.now) }
     ensures status { len ≤ 8 * length values.now →
         ReportsOnly result (flat_rules len bits.now has_bits) }
 {
     if values.len() < len.div_ceil(8) {
-        return OTHER_LENGTH;
+        return LENGTH_MISMATCH;
     }
     match booleans_of(alloc, values, len, bits, has_bits) {
         Ok(column) => put(alloc, column, out),
@@ -67,8 +68,8 @@ pub extern "C" fn sel_boolean_new(
 
 /// Returns in `out` the column of these 8-bit integers.
 ///
-/// Errors: SEL_TOO_MANY_ROWS: more than 4,294,967,295 values. SEL_VALIDITY_LENGTH: the validity is
-/// too short.
+/// Errors: SEL_ERROR_TOO_MANY_ROWS: more than 4,294,967,295 values. SEL_ERROR_VALIDITY_LENGTH: the
+/// validity is too short.
 #[unsafe(no_mangle)]
 pub extern "C" fn sel_int8_new(
     alloc: Global,
@@ -88,8 +89,8 @@ pub extern "C" fn sel_int8_new(
 
 /// Returns in `out` the column of these 16-bit integers.
 ///
-/// Errors: SEL_TOO_MANY_ROWS: more than 4,294,967,295 values. SEL_VALIDITY_LENGTH: the validity is
-/// too short.
+/// Errors: SEL_ERROR_TOO_MANY_ROWS: more than 4,294,967,295 values. SEL_ERROR_VALIDITY_LENGTH: the
+/// validity is too short.
 #[unsafe(no_mangle)]
 pub extern "C" fn sel_int16_new(
     alloc: Global,
@@ -109,8 +110,8 @@ pub extern "C" fn sel_int16_new(
 
 /// Returns in `out` the column of these 32-bit integers.
 ///
-/// Errors: SEL_TOO_MANY_ROWS: more than 4,294,967,295 values. SEL_VALIDITY_LENGTH: the validity is
-/// too short.
+/// Errors: SEL_ERROR_TOO_MANY_ROWS: more than 4,294,967,295 values. SEL_ERROR_VALIDITY_LENGTH: the
+/// validity is too short.
 #[unsafe(no_mangle)]
 pub extern "C" fn sel_int32_new(
     alloc: Global,
@@ -130,8 +131,8 @@ pub extern "C" fn sel_int32_new(
 
 /// Returns in `out` the column of these 64-bit integers.
 ///
-/// Errors: SEL_TOO_MANY_ROWS: more than 4,294,967,295 values. SEL_VALIDITY_LENGTH: the validity is
-/// too short.
+/// Errors: SEL_ERROR_TOO_MANY_ROWS: more than 4,294,967,295 values. SEL_ERROR_VALIDITY_LENGTH: the
+/// validity is too short.
 #[unsafe(no_mangle)]
 pub extern "C" fn sel_int64_new(
     alloc: Global,
@@ -151,8 +152,8 @@ pub extern "C" fn sel_int64_new(
 
 /// Returns in `out` the column of these unsigned 8-bit integers.
 ///
-/// Errors: SEL_TOO_MANY_ROWS: more than 4,294,967,295 values. SEL_VALIDITY_LENGTH: the validity is
-/// too short.
+/// Errors: SEL_ERROR_TOO_MANY_ROWS: more than 4,294,967,295 values. SEL_ERROR_VALIDITY_LENGTH: the
+/// validity is too short.
 #[unsafe(no_mangle)]
 pub extern "C" fn sel_uint8_new(
     alloc: Global,
@@ -172,8 +173,8 @@ pub extern "C" fn sel_uint8_new(
 
 /// Returns in `out` the column of these unsigned 16-bit integers.
 ///
-/// Errors: SEL_TOO_MANY_ROWS: more than 4,294,967,295 values. SEL_VALIDITY_LENGTH: the validity is
-/// too short.
+/// Errors: SEL_ERROR_TOO_MANY_ROWS: more than 4,294,967,295 values. SEL_ERROR_VALIDITY_LENGTH: the
+/// validity is too short.
 #[unsafe(no_mangle)]
 pub extern "C" fn sel_uint16_new(
     alloc: Global,
@@ -193,8 +194,8 @@ pub extern "C" fn sel_uint16_new(
 
 /// Returns in `out` the column of these unsigned 32-bit integers.
 ///
-/// Errors: SEL_TOO_MANY_ROWS: more than 4,294,967,295 values. SEL_VALIDITY_LENGTH: the validity is
-/// too short.
+/// Errors: SEL_ERROR_TOO_MANY_ROWS: more than 4,294,967,295 values. SEL_ERROR_VALIDITY_LENGTH: the
+/// validity is too short.
 #[unsafe(no_mangle)]
 pub extern "C" fn sel_uint32_new(
     alloc: Global,
@@ -214,8 +215,8 @@ pub extern "C" fn sel_uint32_new(
 
 /// Returns in `out` the column of these unsigned 64-bit integers.
 ///
-/// Errors: SEL_TOO_MANY_ROWS: more than 4,294,967,295 values. SEL_VALIDITY_LENGTH: the validity is
-/// too short.
+/// Errors: SEL_ERROR_TOO_MANY_ROWS: more than 4,294,967,295 values. SEL_ERROR_VALIDITY_LENGTH: the
+/// validity is too short.
 #[unsafe(no_mangle)]
 pub extern "C" fn sel_uint64_new(
     alloc: Global,

@@ -1,24 +1,26 @@
 //! Binary, list and struct columns, from offsets and child columns.
 
-ghost use Rattle.std.specs.Prelude.{◌≡◌, ◌≢◌, All, None, map};
+ghost use Rattle.std.specs.Prelude.{◌≡◌, ◌≢◌, ◌≤◌, ◌<◌, ◌⊎◌, All, None, map};
+ghost use Rattle.sel_arrow.specs.Depth.{depth, deepest};
 ghost use Rattle.sel_arrow.specs.Nested.{list_rows, block_rows, struct_rows};
 ghost use Rattle.sel_arrow.specs.Pieces.{byte_rows, rows_between};
 ghost use Rattle.sel_arrow.specs.Rows.{rows, type_of};
 ghost use Rattle.sel_arrow.specs.Shape.{of_large_binary, of_large_list, of_fixed_size_list, of_struct, shapes_of};
 ghost use Rattle.sel_handle.specs.Inputs.{positions, validity_in, binary_rules, list_rules, block_rules, struct_rules};
-ghost use Rattle.sel_handle.specs.Status.{done, no_column, held_count, held_rows, held_type, DemandsFirst, HasColumn, Makes, ReportsExactly};
+ghost use Rattle.sel_handle.specs.Status.{ok, out_of_memory, no_column, too_deep, held_count, held_rows, held_type, DemandsFirst, HasColumn, Makes, ReportsExactly};
 
 use sel_handle::handle::Handle;
-use sel_handle::nested::{binary_of, blocks_of, lists_of, struct_of};
-use sel_handle::several::take_all;
-use sel_handle::status::{NO_COLUMN, NO_MEMORY, put, status_of_maker};
+use sel_handle::nested::binary_of;
+use sel_handle::nested_into::{fixed_size_list_into, list_into, struct_into};
+use sel_handle::several::{clone_all, empty_all};
+use sel_handle::status::{NO_COLUMN, OK, put, status_of_maker};
 use std::alloc::Global;
 
 /// Returns in `out` the binary column whose row i is the bytes of `values` from `offsets[i]` up to
 /// `offsets[i + 1]`, exclusive.
 ///
-/// Errors: SEL_OFFSET_COUNT, SEL_OFFSET_NEGATIVE, SEL_OFFSET_ORDER, SEL_VALIDITY_LENGTH,
-/// SEL_TOO_MANY_ROWS, SEL_OFFSET_RANGE.
+/// Errors: SEL_ERROR_NO_OFFSETS, SEL_ERROR_NEGATIVE_OFFSET, SEL_ERROR_DECREASING_OFFSET,
+/// SEL_ERROR_VALIDITY_LENGTH, SEL_ERROR_TOO_MANY_ROWS, SEL_ERROR_OFFSET_RANGE.
 #[unsafe(no_mangle)]
 pub extern "C" fn sel_binary_new(
     alloc: Global,
@@ -42,10 +44,12 @@ pub extern "C" fn sel_binary_new(
 }
 
 /// Returns in `out` the list column whose row i is the rows of `child` from `offsets[i]` up to
-/// `offsets[i + 1]`, exclusive. Takes `child`: it is empty afterwards, on error too.
+/// `offsets[i + 1]`, exclusive. Takes `child`: on success it is empty afterwards, on error it is
+/// unchanged.
 ///
-/// Errors: SEL_NO_COLUMN: `child` is empty. SEL_OFFSET_COUNT, SEL_OFFSET_NEGATIVE,
-/// SEL_OFFSET_ORDER, SEL_VALIDITY_LENGTH, SEL_TOO_MANY_ROWS, SEL_OFFSET_RANGE.
+/// Errors: SEL_ERROR_NO_COLUMN: `child` is empty. SEL_ERROR_TOO_DEEP. SEL_ERROR_NO_OFFSETS,
+/// SEL_ERROR_NEGATIVE_OFFSET, SEL_ERROR_DECREASING_OFFSET, SEL_ERROR_VALIDITY_LENGTH,
+/// SEL_ERROR_TOO_MANY_ROWS, SEL_ERROR_OFFSET_RANGE.
 #[unsafe(no_mangle)]
 pub extern "C" fn sel_list_new(
     alloc: Global,
@@ -61,27 +65,31 @@ pub extern "C" fn sel_list_new(
     ensures dtype { Makes result out.old.tree out.new.tree
         (λ made. type_of made.column ≡ of_large_list (held_type child.old.tree)) }
     ensures column { DemandsFirst result no_column (HasColumn child.old.tree) }
-    ensures status { HasColumn child.old.tree →
-        ReportsExactly result (list_rules offsets.now (held_count child.old.tree) bits.now
-        has_bits) }
-    ensures taken { child.new.tree ≡ None }
+    ensures deep { 128 ≤ depth (held_type child.old.tree) → result ≡ too_deep }
+    ensures status { HasColumn child.old.tree → depth (held_type child.old.tree) < 128 → ReportsExactly result
+        (list_rules offsets.now (held_count child.old.tree) bits.now has_bits) }
+    ensures taken { result ≡ ok → child.new.tree ≡ None }
+    ensures kept { result ≢ ok → child.new.tree ≡ child.old.tree }
 {
-    let Some(entries) = child.take(alloc) else {
+    let Some(shared) = child.take(alloc) else {
         return NO_COLUMN;
     };
-    match lists_of(alloc, offsets, bits, has_bits, Box::into_inner(entries)) {
-        Ok(column) => put(alloc, column, out),
-        Err(fault) => status_of_maker(fault),
+    let status = list_into(alloc, offsets, bits, has_bits, shared.column(), out);
+    if status == OK {
+        drop(shared);
+    } else {
+        *child = Handle::of(shared);
     }
+    status
 }
 
 /// Returns in `out` the column of `len` fixed-size lists of `width` rows of `child` each, one list
-/// after the other. Takes `child`: it is empty afterwards, on error too.
+/// after the other. Takes `child`: on success it is empty afterwards, on error it is unchanged.
 ///
-/// Errors: SEL_NO_COLUMN: `child` is empty. SEL_VALIDITY_LENGTH, SEL_TOO_MANY_ROWS, SEL_WIDTH,
-/// SEL_CHILD_LENGTH.
+/// Errors: SEL_ERROR_NO_COLUMN: `child` is empty. SEL_ERROR_TOO_DEEP. SEL_ERROR_VALIDITY_LENGTH,
+/// SEL_ERROR_TOO_MANY_ROWS, SEL_ERROR_LIST_SIZE, SEL_ERROR_CHILD_LENGTH.
 #[unsafe(no_mangle)]
-pub extern "C" fn sel_fixed_list_new(
+pub extern "C" fn sel_fixed_size_list_new(
     alloc: Global,
     width: usize,
     len: usize,
@@ -95,26 +103,29 @@ pub extern "C" fn sel_fixed_list_new(
     ensures dtype { Makes result out.old.tree out.new.tree
         (λ made. type_of made.column ≡ of_fixed_size_list (held_type child.old.tree) width) }
     ensures column { DemandsFirst result no_column (HasColumn child.old.tree) }
-    ensures status { HasColumn child.old.tree →
-        ReportsExactly result (block_rules width len (held_count child.old.tree) bits.now
-        has_bits) }
-    ensures taken { child.new.tree ≡ None }
+    ensures deep { 128 ≤ depth (held_type child.old.tree) → result ≡ too_deep }
+    ensures status { HasColumn child.old.tree → depth (held_type child.old.tree) < 128 → ReportsExactly result
+        (block_rules width len (held_count child.old.tree) bits.now has_bits) }
+    ensures taken { result ≡ ok → child.new.tree ≡ None }
+    ensures kept { result ≢ ok → child.new.tree ≡ child.old.tree }
 {
-    let Some(entries) = child.take(alloc) else {
+    let Some(shared) = child.take(alloc) else {
         return NO_COLUMN;
     };
-    match blocks_of(alloc, width, len, bits, has_bits, Box::into_inner(entries)) {
-        Ok(column) => put(alloc, column, out),
-        Err(fault) => status_of_maker(fault),
+    let status = fixed_size_list_into(alloc, width, len, bits, has_bits, shared.column(), out);
+    if status == OK {
+        drop(shared);
+    } else {
+        *child = Handle::of(shared);
     }
+    status
 }
 
 /// Returns in `out` the struct column of `len` rows with these fields, in order. Takes the fields:
-/// on success each of them is empty afterwards; on error some may be, and the caller still has to
-/// free the others.
+/// on success each of them is empty afterwards, on error they are unchanged.
 ///
-/// Errors: SEL_NO_COLUMN: a field is empty. SEL_VALIDITY_LENGTH, SEL_TOO_MANY_ROWS,
-/// SEL_FIELD_LENGTH.
+/// Errors: SEL_ERROR_NO_COLUMN: a field is empty. SEL_ERROR_TOO_DEEP. SEL_ERROR_VALIDITY_LENGTH,
+/// SEL_ERROR_TOO_MANY_ROWS, SEL_ERROR_FIELD_LENGTH.
 #[unsafe(no_mangle)]
 pub extern "C" fn sel_struct_new(
     alloc: Global,
@@ -131,17 +142,24 @@ pub extern "C" fn sel_struct_new(
         of_struct (shapes_of (map (λ field. held_type field.tree) fields.old))) }
     ensures column { DemandsFirst result no_column
         (All (λ field. HasColumn field.tree) fields.old) }
-    ensures status { result ≢ no_column → ReportsExactly result
-        (struct_rules len (map (λ field. held_count field.tree) fields.old) bits.now has_bits) }
-    ensures taken { result ≡ done → All (λ field. field.tree ≡ None) fields.new }
+    ensures deep { All (λ field. HasColumn field.tree) fields.old →
+        128 ≤ deepest (shapes_of (map (λ field. held_type field.tree) fields.old)) →
+        (result ≡ too_deep) ⊎ (result ≡ out_of_memory) }
+    ensures status { All (λ field. HasColumn field.tree) fields.old →
+        deepest (shapes_of (map (λ field. held_type field.tree) fields.old)) < 128 →
+        ReportsExactly result (struct_rules len
+        (map (λ field. held_count field.tree) fields.old) bits.now has_bits) }
+    ensures taken { result ≡ ok → All (λ field. field.tree ≡ None) fields.new }
+    ensures kept { result ≢ ok →
+        map (λ field. field.tree) fields.new ≡ map (λ field. field.tree) fields.old }
 {
-    let taken = match take_all(alloc, fields) {
-        Ok(taken) => taken,
-        Err(NO_COLUMN) => return NO_COLUMN,
-        Err(_) => return NO_MEMORY,
+    let columns = match clone_all(alloc, fields) {
+        Ok(columns) => columns,
+        Err(status) => return status,
     };
-    match struct_of(alloc, len, bits, has_bits, taken) {
-        Ok(column) => put(alloc, column, out),
-        Err(fault) => status_of_maker(fault),
+    let status = struct_into(alloc, len, bits, has_bits, columns, out);
+    if status == OK {
+        empty_all(alloc, fields);
     }
+    status
 }

@@ -8,11 +8,11 @@ ghost use Rattle.sel_arrow.specs.Value.{is_null};
 ghost use Rattle.sel_handle.specs.Inputs.{validity_in};
 ghost use Rattle.sel_handle.specs.Kinds.{held_kind};
 ghost use Rattle.sel_handle.specs.Outputs.{Shows, numbers, bools};
-ghost use Rattle.sel_handle.specs.Status.{done, no_memory, no_column, other_kind, other_length, held_rows, held_type, Demands, DemandsBefore, DemandsFirst, HasColumn, IsOneOf};
+ghost use Rattle.sel_handle.specs.Status.{ok, out_of_memory, no_column, unsupported_type, length_mismatch, held_rows, held_type, Demands, DemandsBefore, DemandsFirst, HasColumn, IsOneOf};
 
 use sel_arrow::array::Array;
 use sel_handle::column_ref::ColumnRef;
-use sel_handle::kinds::{NO_KIND, kind_of};
+use sel_handle::kinds::{NONE, kind_of};
 use sel_handle::numbers::held_numbers_into;
 use sel_handle::outputs::{booleans_into, validity_into};
 use sel_handle::status::NO_COLUMN;
@@ -40,30 +40,31 @@ pub extern "C" fn sel_null_count(of: &ColumnRef) -> usize
     }
 }
 
-/// Returns the type of the column, one of `enum sel_kind_number`, or SEL_NO_KIND if `of` is empty.
+/// Returns the type of the column, one of `enum sel_type_id`, or SEL_TYPE_NONE if `of` is empty.
 #[unsafe(no_mangle)]
-pub extern "C" fn sel_kind(of: &ColumnRef) -> u32
+pub extern "C" fn sel_type_of(of: &ColumnRef) -> u32
     ensures kind { result ≡ held_kind of.now.tree }
 {
     match of.column() {
-        None => NO_KIND,
+        None => NONE,
         Some(column) => kind_of(column.as_column()),
     }
 }
 
 /// Copies the validity to `out`, of (rows + 7) / 8 bytes, and returns in `has` whether the column
 /// has one. If it has none, `out` is unchanged and may have any length: each row is valid, or, in
-/// a column of SEL_NULL, null.
+/// a column of SEL_TYPE_NULL, null.
 ///
-/// Errors: SEL_NO_COLUMN: `of` is empty. SEL_OTHER_LENGTH: `out_len` is not (rows + 7) / 8.
+/// Errors: SEL_ERROR_NO_COLUMN: `of` is empty. SEL_ERROR_LENGTH_MISMATCH: `out_len` is not (rows +
+/// 7) / 8.
 #[unsafe(no_mangle)]
 pub extern "C" fn sel_validity(alloc: Global, of: &ColumnRef, out: &mut [u8], has: &mut bool) -> u32
-    ensures validity { result ≡ done → IsValidityOf (held_type of.now.tree)
+    ensures validity { result ≡ ok → IsValidityOf (held_type of.now.tree)
         (validity_in out.new has.new (length (held_rows of.now.tree))) (held_rows of.now.tree) }
     ensures column { DemandsFirst result no_column (HasColumn of.now.tree) }
-    ensures length { result ≡ other_length →
+    ensures length { result ≡ length_mismatch →
         length out.old ≢ (length (held_rows of.now.tree) + 7) / 8 }
-    ensures status { IsOneOf result (done ∷ no_memory ∷ no_column ∷ other_length ∷ []) }
+    ensures status { IsOneOf result (ok ∷ out_of_memory ∷ no_column ∷ length_mismatch ∷ []) }
 {
     let Some(column) = of.column() else {
         return NO_COLUMN;
@@ -73,19 +74,19 @@ pub extern "C" fn sel_validity(alloc: Global, of: &ColumnRef, out: &mut [u8], ha
 
 /// Copies the values, including those in null slots, as packed bits to `out`.
 ///
-/// Errors: SEL_NO_COLUMN: `of` is empty. SEL_OTHER_KIND: its type is not SEL_BOOLEAN.
-/// SEL_OTHER_LENGTH: `out_len` is not (rows + 7) / 8.
+/// Errors: SEL_ERROR_NO_COLUMN: `of` is empty. SEL_ERROR_UNSUPPORTED_TYPE: its type is not
+/// SEL_TYPE_BOOLEAN. SEL_ERROR_LENGTH_MISMATCH: `out_len` is not (rows + 7) / 8.
 #[unsafe(no_mangle)]
 pub extern "C" fn sel_boolean_values(alloc: Global, of: &ColumnRef, out: &mut [u8]) -> u32
-    ensures values { result ≡ done → Shows
+    ensures values { result ≡ ok → Shows
         (bools (bits_from out.new 0 (length (held_rows of.now.tree)))) (held_rows of.now.tree) }
     ensures column { DemandsFirst result no_column (HasColumn of.now.tree) }
-    ensures kind { DemandsBefore result other_kind (other_length ∷ [])
+    ensures kind { DemandsBefore result unsupported_type (length_mismatch ∷ [])
         (held_type of.now.tree ≡ of_boolean) }
-    ensures length { Demands result other_length
+    ensures length { Demands result length_mismatch
         (length out.old ≡ (length (held_rows of.now.tree) + 7) / 8) }
     ensures status { IsOneOf result
-        (done ∷ no_memory ∷ no_column ∷ other_kind ∷ other_length ∷ []) }
+        (ok ∷ out_of_memory ∷ no_column ∷ unsupported_type ∷ length_mismatch ∷ []) }
 {
     let Some(column) = of.column() else {
         return NO_COLUMN;
@@ -95,144 +96,144 @@ pub extern "C" fn sel_boolean_values(alloc: Global, of: &ColumnRef, out: &mut [u
 
 /// Copies the values to `out`, including those in null slots.
 ///
-/// Errors: SEL_NO_COLUMN: `of` is empty. SEL_OTHER_KIND: its type is not SEL_INT8.
-/// SEL_OTHER_LENGTH: `out_len` is not the number of rows.
+/// Errors: SEL_ERROR_NO_COLUMN: `of` is empty. SEL_ERROR_UNSUPPORTED_TYPE: its type is not
+/// SEL_TYPE_INT8. SEL_ERROR_LENGTH_MISMATCH: `out_len` is not the number of rows.
 #[unsafe(no_mangle)]
 pub extern "C" fn sel_int8_values(alloc: Global, of: &ColumnRef, out: &mut [i8]) -> u32
-    ensures values { result ≡ done → Shows (numbers (λ x. x) out.new) (held_rows of.now.tree) }
+    ensures values { result ≡ ok → Shows (numbers (λ x. x) out.new) (held_rows of.now.tree) }
     ensures column { DemandsFirst result no_column (HasColumn of.now.tree) }
-    ensures kind { DemandsBefore result other_kind (other_length ∷ [])
+    ensures kind { DemandsBefore result unsupported_type (length_mismatch ∷ [])
         (held_type of.now.tree ≡ of_int8) }
-    ensures length { Demands result other_length
+    ensures length { Demands result length_mismatch
         (length out.old ≡ length (held_rows of.now.tree)) }
     ensures status { IsOneOf result
-        (done ∷ no_memory ∷ no_column ∷ other_kind ∷ other_length ∷ []) }
+        (ok ∷ out_of_memory ∷ no_column ∷ unsupported_type ∷ length_mismatch ∷ []) }
 {
     held_numbers_into(alloc, of, out)
 }
 
 /// Copies the values to `out`, including those in null slots.
 ///
-/// Errors: SEL_NO_COLUMN: `of` is empty. SEL_OTHER_KIND: its type is not SEL_INT16.
-/// SEL_OTHER_LENGTH: `out_len` is not the number of rows.
+/// Errors: SEL_ERROR_NO_COLUMN: `of` is empty. SEL_ERROR_UNSUPPORTED_TYPE: its type is not
+/// SEL_TYPE_INT16. SEL_ERROR_LENGTH_MISMATCH: `out_len` is not the number of rows.
 #[unsafe(no_mangle)]
 pub extern "C" fn sel_int16_values(alloc: Global, of: &ColumnRef, out: &mut [i16]) -> u32
-    ensures values { result ≡ done → Shows (numbers (λ x. x) out.new) (held_rows of.now.tree) }
+    ensures values { result ≡ ok → Shows (numbers (λ x. x) out.new) (held_rows of.now.tree) }
     ensures column { DemandsFirst result no_column (HasColumn of.now.tree) }
-    ensures kind { DemandsBefore result other_kind (other_length ∷ [])
+    ensures kind { DemandsBefore result unsupported_type (length_mismatch ∷ [])
         (held_type of.now.tree ≡ of_int16) }
-    ensures length { Demands result other_length
+    ensures length { Demands result length_mismatch
         (length out.old ≡ length (held_rows of.now.tree)) }
     ensures status { IsOneOf result
-        (done ∷ no_memory ∷ no_column ∷ other_kind ∷ other_length ∷ []) }
+        (ok ∷ out_of_memory ∷ no_column ∷ unsupported_type ∷ length_mismatch ∷ []) }
 {
     held_numbers_into(alloc, of, out)
 }
 
 /// Copies the values to `out`, including those in null slots.
 ///
-/// Errors: SEL_NO_COLUMN: `of` is empty. SEL_OTHER_KIND: its type is not SEL_INT32.
-/// SEL_OTHER_LENGTH: `out_len` is not the number of rows.
+/// Errors: SEL_ERROR_NO_COLUMN: `of` is empty. SEL_ERROR_UNSUPPORTED_TYPE: its type is not
+/// SEL_TYPE_INT32. SEL_ERROR_LENGTH_MISMATCH: `out_len` is not the number of rows.
 #[unsafe(no_mangle)]
 pub extern "C" fn sel_int32_values(alloc: Global, of: &ColumnRef, out: &mut [i32]) -> u32
-    ensures values { result ≡ done → Shows (numbers (λ x. x) out.new) (held_rows of.now.tree) }
+    ensures values { result ≡ ok → Shows (numbers (λ x. x) out.new) (held_rows of.now.tree) }
     ensures column { DemandsFirst result no_column (HasColumn of.now.tree) }
-    ensures kind { DemandsBefore result other_kind (other_length ∷ [])
+    ensures kind { DemandsBefore result unsupported_type (length_mismatch ∷ [])
         (held_type of.now.tree ≡ of_int32) }
-    ensures length { Demands result other_length
+    ensures length { Demands result length_mismatch
         (length out.old ≡ length (held_rows of.now.tree)) }
     ensures status { IsOneOf result
-        (done ∷ no_memory ∷ no_column ∷ other_kind ∷ other_length ∷ []) }
+        (ok ∷ out_of_memory ∷ no_column ∷ unsupported_type ∷ length_mismatch ∷ []) }
 {
     held_numbers_into(alloc, of, out)
 }
 
 /// Copies the values to `out`, including those in null slots.
 ///
-/// Errors: SEL_NO_COLUMN: `of` is empty. SEL_OTHER_KIND: its type is not SEL_INT64.
-/// SEL_OTHER_LENGTH: `out_len` is not the number of rows.
+/// Errors: SEL_ERROR_NO_COLUMN: `of` is empty. SEL_ERROR_UNSUPPORTED_TYPE: its type is not
+/// SEL_TYPE_INT64. SEL_ERROR_LENGTH_MISMATCH: `out_len` is not the number of rows.
 #[unsafe(no_mangle)]
 pub extern "C" fn sel_int64_values(alloc: Global, of: &ColumnRef, out: &mut [i64]) -> u32
-    ensures values { result ≡ done → Shows (numbers (λ x. x) out.new) (held_rows of.now.tree) }
+    ensures values { result ≡ ok → Shows (numbers (λ x. x) out.new) (held_rows of.now.tree) }
     ensures column { DemandsFirst result no_column (HasColumn of.now.tree) }
-    ensures kind { DemandsBefore result other_kind (other_length ∷ [])
+    ensures kind { DemandsBefore result unsupported_type (length_mismatch ∷ [])
         (held_type of.now.tree ≡ of_int64) }
-    ensures length { Demands result other_length
+    ensures length { Demands result length_mismatch
         (length out.old ≡ length (held_rows of.now.tree)) }
     ensures status { IsOneOf result
-        (done ∷ no_memory ∷ no_column ∷ other_kind ∷ other_length ∷ []) }
+        (ok ∷ out_of_memory ∷ no_column ∷ unsupported_type ∷ length_mismatch ∷ []) }
 {
     held_numbers_into(alloc, of, out)
 }
 
 /// Copies the values to `out`, including those in null slots.
 ///
-/// Errors: SEL_NO_COLUMN: `of` is empty. SEL_OTHER_KIND: its type is not SEL_UINT8.
-/// SEL_OTHER_LENGTH: `out_len` is not the number of rows.
+/// Errors: SEL_ERROR_NO_COLUMN: `of` is empty. SEL_ERROR_UNSUPPORTED_TYPE: its type is not
+/// SEL_TYPE_UINT8. SEL_ERROR_LENGTH_MISMATCH: `out_len` is not the number of rows.
 #[unsafe(no_mangle)]
 pub extern "C" fn sel_uint8_values(alloc: Global, of: &ColumnRef, out: &mut [u8]) -> u32
-    ensures values { result ≡ done → Shows (numbers pos out.new) (held_rows of.now.tree) }
+    ensures values { result ≡ ok → Shows (numbers pos out.new) (held_rows of.now.tree) }
     ensures column { DemandsFirst result no_column (HasColumn of.now.tree) }
-    ensures kind { DemandsBefore result other_kind (other_length ∷ [])
+    ensures kind { DemandsBefore result unsupported_type (length_mismatch ∷ [])
         (held_type of.now.tree ≡ of_uint8) }
-    ensures length { Demands result other_length
+    ensures length { Demands result length_mismatch
         (length out.old ≡ length (held_rows of.now.tree)) }
     ensures status { IsOneOf result
-        (done ∷ no_memory ∷ no_column ∷ other_kind ∷ other_length ∷ []) }
+        (ok ∷ out_of_memory ∷ no_column ∷ unsupported_type ∷ length_mismatch ∷ []) }
 {
     held_numbers_into(alloc, of, out)
 }
 
 /// Copies the values to `out`, including those in null slots.
 ///
-/// Errors: SEL_NO_COLUMN: `of` is empty. SEL_OTHER_KIND: its type is not SEL_UINT16.
-/// SEL_OTHER_LENGTH: `out_len` is not the number of rows.
+/// Errors: SEL_ERROR_NO_COLUMN: `of` is empty. SEL_ERROR_UNSUPPORTED_TYPE: its type is not
+/// SEL_TYPE_UINT16. SEL_ERROR_LENGTH_MISMATCH: `out_len` is not the number of rows.
 #[unsafe(no_mangle)]
 pub extern "C" fn sel_uint16_values(alloc: Global, of: &ColumnRef, out: &mut [u16]) -> u32
-    ensures values { result ≡ done → Shows (numbers pos out.new) (held_rows of.now.tree) }
+    ensures values { result ≡ ok → Shows (numbers pos out.new) (held_rows of.now.tree) }
     ensures column { DemandsFirst result no_column (HasColumn of.now.tree) }
-    ensures kind { DemandsBefore result other_kind (other_length ∷ [])
+    ensures kind { DemandsBefore result unsupported_type (length_mismatch ∷ [])
         (held_type of.now.tree ≡ of_uint16) }
-    ensures length { Demands result other_length
+    ensures length { Demands result length_mismatch
         (length out.old ≡ length (held_rows of.now.tree)) }
     ensures status { IsOneOf result
-        (done ∷ no_memory ∷ no_column ∷ other_kind ∷ other_length ∷ []) }
+        (ok ∷ out_of_memory ∷ no_column ∷ unsupported_type ∷ length_mismatch ∷ []) }
 {
     held_numbers_into(alloc, of, out)
 }
 
 /// Copies the values to `out`, including those in null slots.
 ///
-/// Errors: SEL_NO_COLUMN: `of` is empty. SEL_OTHER_KIND: its type is not SEL_UINT32.
-/// SEL_OTHER_LENGTH: `out_len` is not the number of rows.
+/// Errors: SEL_ERROR_NO_COLUMN: `of` is empty. SEL_ERROR_UNSUPPORTED_TYPE: its type is not
+/// SEL_TYPE_UINT32. SEL_ERROR_LENGTH_MISMATCH: `out_len` is not the number of rows.
 #[unsafe(no_mangle)]
 pub extern "C" fn sel_uint32_values(alloc: Global, of: &ColumnRef, out: &mut [u32]) -> u32
-    ensures values { result ≡ done → Shows (numbers pos out.new) (held_rows of.now.tree) }
+    ensures values { result ≡ ok → Shows (numbers pos out.new) (held_rows of.now.tree) }
     ensures column { DemandsFirst result no_column (HasColumn of.now.tree) }
-    ensures kind { DemandsBefore result other_kind (other_length ∷ [])
+    ensures kind { DemandsBefore result unsupported_type (length_mismatch ∷ [])
         (held_type of.now.tree ≡ of_uint32) }
-    ensures length { Demands result other_length
+    ensures length { Demands result length_mismatch
         (length out.old ≡ length (held_rows of.now.tree)) }
     ensures status { IsOneOf result
-        (done ∷ no_memory ∷ no_column ∷ other_kind ∷ other_length ∷ []) }
+        (ok ∷ out_of_memory ∷ no_column ∷ unsupported_type ∷ length_mismatch ∷ []) }
 {
     held_numbers_into(alloc, of, out)
 }
 
 /// Copies the values to `out`, including those in null slots.
 ///
-/// Errors: SEL_NO_COLUMN: `of` is empty. SEL_OTHER_KIND: its type is not SEL_UINT64.
-/// SEL_OTHER_LENGTH: `out_len` is not the number of rows.
+/// Errors: SEL_ERROR_NO_COLUMN: `of` is empty. SEL_ERROR_UNSUPPORTED_TYPE: its type is not
+/// SEL_TYPE_UINT64. SEL_ERROR_LENGTH_MISMATCH: `out_len` is not the number of rows.
 #[unsafe(no_mangle)]
 pub extern "C" fn sel_uint64_values(alloc: Global, of: &ColumnRef, out: &mut [u64]) -> u32
-    ensures values { result ≡ done → Shows (numbers pos out.new) (held_rows of.now.tree) }
+    ensures values { result ≡ ok → Shows (numbers pos out.new) (held_rows of.now.tree) }
     ensures column { DemandsFirst result no_column (HasColumn of.now.tree) }
-    ensures kind { DemandsBefore result other_kind (other_length ∷ [])
+    ensures kind { DemandsBefore result unsupported_type (length_mismatch ∷ [])
         (held_type of.now.tree ≡ of_uint64) }
-    ensures length { Demands result other_length
+    ensures length { Demands result length_mismatch
         (length out.old ≡ length (held_rows of.now.tree)) }
     ensures status { IsOneOf result
-        (done ∷ no_memory ∷ no_column ∷ other_kind ∷ other_length ∷ []) }
+        (ok ∷ out_of_memory ∷ no_column ∷ unsupported_type ∷ length_mismatch ∷ []) }
 {
     held_numbers_into(alloc, of, out)
 }

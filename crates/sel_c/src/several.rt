@@ -8,7 +8,7 @@ ghost use Rattle.sel_arrow.specs.Value.{Null};
 ghost use Rattle.sel_calls.specs.Several.{first_shape, picks_in, AreAlike};
 ghost use Rattle.sel_flatten.specs.Flatten.{flatten, parts_fit, exceeded_flattened};
 ghost use Rattle.sel_handle.specs.Inputs.{lacks_bits};
-ghost use Rattle.sel_handle.specs.Status.{done, no_memory, no_column, other_type, other_length, out_of_bounds, rule_status, limit_statuses, held_columns, held_rows, held_type, DemandsBefore, DemandsFirst, HasColumn, IsOneOf, Makes, ReportsLimits};
+ghost use Rattle.sel_handle.specs.Status.{ok, out_of_memory, no_column, type_mismatch, length_mismatch, index_out_of_bounds, rule_status, limit_statuses, held_columns, held_rows, held_type, DemandsBefore, DemandsFirst, HasColumn, IsOneOf, Makes, ReportsLimits};
 ghost use Rattle.sel_runs.specs.Need.{exceeded_taken};
 ghost use Rattle.sel_runs.specs.Picks.{pick, PickFits};
 
@@ -22,10 +22,11 @@ use std::alloc::Global;
 /// `widths[i]` rows of each column i: those from row `r * widths[i]` on, or, where the column has
 /// only `widths[i]` rows, all of them.
 ///
-/// Errors: SEL_NO_COLUMN: a column is empty. SEL_OTHER_TYPE: the columns have different types.
-/// SEL_OTHER_LENGTH: there are no columns, `widths_len` is not `columns_len`, a width is 0, or a
-/// column has neither `height * widths[i]` nor `widths[i]` rows. SEL_LIMIT_ROWS, SEL_LIMIT_BYTES,
-/// SEL_LIMIT_BUFFERS: the result exceeds a size limit.
+/// Errors: SEL_ERROR_NO_COLUMN: a column is empty. SEL_ERROR_TYPE_MISMATCH: the columns have
+/// different types. SEL_ERROR_LENGTH_MISMATCH: there are no columns, `widths_len` is not
+/// `columns_len`, a width is 0, or a column has neither `height * widths[i]` nor `widths[i]` rows.
+/// SEL_ERROR_ROW_LIMIT, SEL_ERROR_OFFSET_LIMIT, SEL_ERROR_BUFFER_LIMIT: the result exceeds a size
+/// limit.
 #[unsafe(no_mangle)]
 pub extern "C" fn sel_flatten(
     alloc: Global,
@@ -39,12 +40,12 @@ pub extern "C" fn sel_flatten(
     ensures dtype { Makes result out.old.tree out.new.tree (λ made. type_of made.column ≡
         first_shape (map (λ column. held_type column.tree) columns.now)) }
     ensures status { IsOneOf result
-        (done ∷ no_memory ∷ no_column ∷ other_type ∷ other_length ∷ limit_statuses) }
+        (ok ∷ out_of_memory ∷ no_column ∷ type_mismatch ∷ length_mismatch ∷ limit_statuses) }
     ensures column { DemandsFirst result no_column
         (All (λ column. HasColumn column.tree) columns.now) }
-    ensures alike { DemandsBefore result other_type (other_length ∷ limit_statuses)
+    ensures alike { DemandsBefore result type_mismatch (length_mismatch ∷ limit_statuses)
         (AreAlike (map (λ column. held_type column.tree) columns.now)) }
-    ensures length { DemandsBefore result other_length limit_statuses
+    ensures length { DemandsBefore result length_mismatch limit_statuses
         ((0 < length columns.now) × IsTrue
         (parts_fit height (map (λ column. held_rows column.tree) columns.now) widths.now)) }
     ensures limits { ReportsLimits result
@@ -65,11 +66,12 @@ pub extern "C" fn sel_flatten(
 /// Returns in `out` the column whose row k is row `picks[k].row` of `sources[picks[k].source]`, or
 /// null if bit k of the validity is 0.
 ///
-/// Errors: SEL_NO_COLUMN: a source is empty. SEL_TOO_MANY_ROWS: more than 4,294,967,295 picks.
-/// SEL_VALIDITY_LENGTH: the validity is too short. SEL_OTHER_LENGTH: there are no sources.
-/// SEL_OTHER_TYPE: the sources have different types. SEL_OUT_OF_BOUNDS: the source or the row of a
-/// pick that is not null is out of bounds. SEL_LIMIT_ROWS, SEL_LIMIT_BYTES, SEL_LIMIT_BUFFERS: the
-/// result exceeds a size limit.
+/// Errors: SEL_ERROR_NO_COLUMN: a source is empty. SEL_ERROR_TOO_MANY_ROWS: more than 4,294,967,295
+/// picks. SEL_ERROR_VALIDITY_LENGTH: the validity is too short. SEL_ERROR_LENGTH_MISMATCH: there
+/// are no sources. SEL_ERROR_TYPE_MISMATCH: the sources have different types.
+/// SEL_ERROR_INDEX_OUT_OF_BOUNDS: the source or the row of a pick that is not null is out of
+/// bounds. SEL_ERROR_ROW_LIMIT, SEL_ERROR_OFFSET_LIMIT, SEL_ERROR_BUFFER_LIMIT: the result exceeds
+/// a size limit.
 #[unsafe(no_mangle)]
 pub extern "C" fn sel_collect_rows(
     alloc: Global,
@@ -85,21 +87,21 @@ pub extern "C" fn sel_collect_rows(
     ensures dtype { Makes result out.old.tree out.new.tree (λ made. type_of made.column ≡
         first_shape (map (λ source. held_type source.tree) sources.now)) }
     ensures status { IsOneOf result
-        (done ∷ no_memory ∷ no_column ∷ rule_status TooManyRows ∷ rule_status ValidityLength ∷
-        other_length ∷ other_type ∷ out_of_bounds ∷ limit_statuses) }
+        (ok ∷ out_of_memory ∷ no_column ∷ rule_status TooManyRows ∷ rule_status ValidityLength ∷
+        length_mismatch ∷ type_mismatch ∷ index_out_of_bounds ∷ limit_statuses) }
     ensures column { DemandsFirst result no_column
         (All (λ source. HasColumn source.tree) sources.now) }
     ensures few { DemandsBefore result (rule_status TooManyRows) (rule_status ValidityLength ∷
-        other_length ∷ other_type ∷ out_of_bounds ∷ limit_statuses)
+        length_mismatch ∷ type_mismatch ∷ index_out_of_bounds ∷ limit_statuses)
         (length picks.now ≤ 4294967295) }
     ensures validity { DemandsBefore result (rule_status ValidityLength)
-        (other_length ∷ other_type ∷ out_of_bounds ∷ limit_statuses)
+        (length_mismatch ∷ type_mismatch ∷ index_out_of_bounds ∷ limit_statuses)
         (lacks_bits bits.now has_bits (length picks.now) ≡ false) }
-    ensures some { DemandsBefore result other_length
-        (other_type ∷ out_of_bounds ∷ limit_statuses) (0 < length sources.now) }
-    ensures alike { DemandsBefore result other_type (out_of_bounds ∷ limit_statuses)
+    ensures some { DemandsBefore result length_mismatch
+        (type_mismatch ∷ index_out_of_bounds ∷ limit_statuses) (0 < length sources.now) }
+    ensures alike { DemandsBefore result type_mismatch (index_out_of_bounds ∷ limit_statuses)
         (AreAlike (map (λ source. held_type source.tree) sources.now)) }
-    ensures bounds { DemandsBefore result out_of_bounds limit_statuses
+    ensures bounds { DemandsBefore result index_out_of_bounds limit_statuses
         (All (PickFits (map (λ source. held_rows source.tree) sources.now))
         (picks_in picks.now bits.now has_bits)) }
     ensures limits { ReportsLimits result

@@ -6,7 +6,7 @@ ghost use Rattle.sel_arrow.specs.Shape.{Shape};
 ghost use Rattle.sel_arrow.specs.Value.{Value};
 ghost use Rattle.sel_calls.specs.Parsed.{exceeds_parse_limit, IsRowsText, IsTypeText};
 ghost use Rattle.sel_calls.specs.Printed.{filled, held_text};
-ghost use Rattle.sel_handle.specs.Status.{done, no_memory, no_column, type_syntax, text_syntax, text_misfit, text_limit, held_rows, DemandsFirst, HasColumn, IsOneOf, Makes};
+ghost use Rattle.sel_handle.specs.Status.{ok, out_of_memory, no_column, type_syntax, row_syntax, row_type_mismatch, text_limit, held_rows, DemandsFirst, HasColumn, IsOneOf, Makes};
 ghost use Rattle.sel_text.specs.Spaces.{spaceless};
 ghost use Rattle.sel_text.specs.Texts.{text_of};
 ghost use Rattle.sel_text.specs.Types.{type_text};
@@ -14,7 +14,7 @@ ghost use Rattle.sel_text.specs.Types.{type_text};
 use sel_calls::texts::{parse_into, print_into};
 use sel_handle::column_ref::ColumnRef;
 use sel_handle::handle::Handle;
-use sel_handle::status::{DONE, NO_COLUMN};
+use sel_handle::status::{NO_COLUMN, OK};
 use sel_text::equal::equal_rows;
 use std::alloc::Global;
 
@@ -22,14 +22,14 @@ use std::alloc::Global;
 /// equal to 1 in columns of any integer types. Values in null slots are ignored. Does not
 /// allocate.
 ///
-/// Errors: SEL_NO_COLUMN: `of` or `other` is empty.
+/// Errors: SEL_ERROR_NO_COLUMN: `of` or `other` is empty.
 #[unsafe(no_mangle)]
 pub extern "C" fn sel_equal_rows(of: &ColumnRef, other: &ColumnRef, equal: &mut bool) -> u32
-    ensures told { result ≡ done →
+    ensures told { result ≡ ok →
         (IsTrue equal.new ↔ (held_rows of.now.tree ≡ held_rows other.now.tree)) }
     ensures column { DemandsFirst result no_column
         (HasColumn of.now.tree × HasColumn other.now.tree) }
-    ensures status { IsOneOf result (done ∷ no_column ∷ []) }
+    ensures status { IsOneOf result (ok ∷ no_column ∷ []) }
 {
     let Some(first) = of.column() else {
         return NO_COLUMN;
@@ -38,20 +38,20 @@ pub extern "C" fn sel_equal_rows(of: &ColumnRef, other: &ColumnRef, equal: &mut 
         return NO_COLUMN;
     };
     *equal = equal_rows(first.as_column(), second.as_column());
-    DONE
+    OK
 }
 
 /// Writes the rows as text, such as `[1,null,-3]`, without a terminating zero: as many bytes as
 /// fit into `out`. Returns in `len` the number of bytes of the whole text. Strings are quoted as
 /// in JSON; binary is written as `h"00ff"`, a list in brackets, a struct in parentheses.
 ///
-/// Errors: SEL_NO_COLUMN: `of` is empty.
+/// Errors: SEL_ERROR_NO_COLUMN: `of` is empty.
 #[unsafe(no_mangle)]
 pub extern "C" fn sel_print(alloc: Global, of: &ColumnRef, out: &mut [u8], len: &mut usize) -> u32
-    ensures text { result ≡ done → out.new ≡ filled (held_text of.now.tree) out.old }
-    ensures len { result ≡ done → len.new ≡ length (held_text of.now.tree) }
+    ensures text { result ≡ ok → out.new ≡ filled (held_text of.now.tree) out.old }
+    ensures len { result ≡ ok → len.new ≡ length (held_text of.now.tree) }
     ensures column { DemandsFirst result no_column (HasColumn of.now.tree) }
-    ensures status { IsOneOf result (done ∷ no_memory ∷ no_column ∷ []) }
+    ensures status { IsOneOf result (ok ∷ out_of_memory ∷ no_column ∷ []) }
 {
     let Some(column) = of.column() else {
         return NO_COLUMN;
@@ -64,11 +64,11 @@ pub extern "C" fn sel_print(alloc: Global, of: &ColumnRef, out: &mut [u8], len: 
 /// tokens are ignored. The types are null, bool, i8 to i128, u8 to u128, binary (with offsets),
 /// binview and utf8 (views), list<..>, fixed<n,..> and struct<..>.
 ///
-/// Errors: SEL_TYPE_SYNTAX: syntax error in `dtype`. SEL_TEXT_SYNTAX: syntax error in `text`.
-/// SEL_TEXT_MISFIT: a value in `text` does not fit the type. With these three, `at` is the index
-/// of the first wrong byte, or the length if the text ends too soon; else `at` is unchanged.
-/// SEL_TEXT_LIMIT: the column exceeds a size limit, or the type has more than 64 levels of
-/// children; if the type exceeds it, this is returned before later errors.
+/// Errors: SEL_ERROR_TYPE_SYNTAX: syntax error in `dtype`. SEL_ERROR_ROW_SYNTAX: syntax error in
+/// `text`. SEL_ERROR_ROW_TYPE_MISMATCH: a value in `text` does not fit the type. With these three,
+/// `at` is the index of the first wrong byte, or the length if the text ends too soon; else `at` is
+/// unchanged. SEL_ERROR_TEXT_LIMIT: the column exceeds a size limit, or the type has more than 64
+/// levels of children; if the type exceeds it, this is returned before later errors.
 #[unsafe(no_mangle)]
 pub extern "C" fn sel_parse(
     alloc: Global,
@@ -83,21 +83,21 @@ pub extern "C" fn sel_parse(
         (λ made. text_of (type_of made.column) (rows made.column) ≡ spaceless text.now) }
     ensures named { result ≡ type_syntax → (shape : Shape) → IsTypeText shape dtype.now →
         ⊥ }
-    ensures typed { IsOneOf result (text_syntax ∷ text_misfit ∷ []) →
+    ensures typed { IsOneOf result (row_syntax ∷ row_type_mismatch ∷ []) →
         (shape : Shape) × (type_text shape ≡ spaceless dtype.now) }
     ensures accepted { (shape : Shape) (values : List Value) →
         IsTypeText shape dtype.now → IsRowsText shape values text.now →
-        IsOneOf result (done ∷ no_memory ∷ text_limit ∷ []) }
+        IsOneOf result (ok ∷ out_of_memory ∷ text_limit ∷ []) }
     ensures limit { result ≡ text_limit → (shape : Shape) (values : List Value) →
         IsTypeText shape dtype.now → IsRowsText shape values text.now →
         IsTrue (exceeds_parse_limit shape values) }
     ensures type_place { result ≡ type_syntax → at.new ≤ length dtype.now }
-    ensures place { IsOneOf result (text_syntax ∷ text_misfit ∷ []) →
+    ensures place { IsOneOf result (row_syntax ∷ row_type_mismatch ∷ []) →
         at.new ≤ length text.now }
-    ensures no_place { IsOneOf result (done ∷ no_memory ∷ text_limit ∷ []) → at.new ≡
+    ensures no_place { IsOneOf result (ok ∷ out_of_memory ∷ text_limit ∷ []) → at.new ≡
         at.old }
     ensures status { IsOneOf result
-        (done ∷ no_memory ∷ type_syntax ∷ text_syntax ∷ text_misfit ∷ text_limit ∷ []) }
+        (ok ∷ out_of_memory ∷ type_syntax ∷ row_syntax ∷ row_type_mismatch ∷ text_limit ∷ []) }
 {
     parse_into(alloc, dtype, text, at, out)
 }

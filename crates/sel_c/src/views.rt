@@ -7,7 +7,7 @@ ghost use Rattle.sel_arrow.specs.Shape.{of_binary_view, of_utf8_view};
 ghost use Rattle.sel_arrow.specs.Views.{view_rows};
 ghost use Rattle.sel_handle.specs.Inputs.{validity_in, views_in, binview_rules, utf8view_rules};
 ghost use Rattle.sel_handle.specs.Layout.{held_buffers, held_views};
-ghost use Rattle.sel_handle.specs.Status.{done, no_column, other_kind, other_length, out_of_bounds, Demands, DemandsBefore, DemandsFirst, HasColumn, IsOneOf, Makes, ReportsExactly};
+ghost use Rattle.sel_handle.specs.Status.{ok, no_column, unsupported_type, length_mismatch, index_out_of_bounds, Demands, DemandsBefore, DemandsFirst, HasColumn, IsOneOf, Makes, ReportsExactly};
 
 use sel_handle::column_ref::ColumnRef;
 use sel_handle::handle::Handle;
@@ -19,10 +19,10 @@ use std::alloc::Global;
 /// Returns in `out` the binary column of these views: a value of up to 12 bytes is stored in its
 /// view, a longer one in a data buffer.
 ///
-/// Errors: SEL_VALIDITY_LENGTH, SEL_TOO_MANY_ROWS, SEL_TOO_MANY_BUFFERS; then for each view in
-/// order, in null slots too, SEL_VIEW_RANGE, SEL_VIEW_PREFIX.
+/// Errors: SEL_ERROR_VALIDITY_LENGTH, SEL_ERROR_TOO_MANY_ROWS, SEL_ERROR_TOO_MANY_BUFFERS; then for
+/// each view in order, in null slots too, SEL_ERROR_VIEW_RANGE, SEL_ERROR_VIEW_PREFIX.
 #[unsafe(no_mangle)]
-pub extern "C" fn sel_binview_new(
+pub extern "C" fn sel_binary_view_new(
     alloc: Global,
     views: &[ViewWords],
     buffers: &[&[u8]],
@@ -47,11 +47,11 @@ pub extern "C" fn sel_binview_new(
 /// Returns in `out` the string column of these views: a value of up to 12 bytes is stored in its
 /// view, a longer one in a data buffer.
 ///
-/// Errors: SEL_VALIDITY_LENGTH, SEL_TOO_MANY_ROWS, SEL_TOO_MANY_BUFFERS; then for each view in
-/// order, in null slots too, SEL_VIEW_RANGE, SEL_VIEW_PREFIX; then SEL_UTF8, for rows that are not
-/// null.
+/// Errors: SEL_ERROR_VALIDITY_LENGTH, SEL_ERROR_TOO_MANY_ROWS, SEL_ERROR_TOO_MANY_BUFFERS; then for
+/// each view in order, in null slots too, SEL_ERROR_VIEW_RANGE, SEL_ERROR_VIEW_PREFIX; then
+/// SEL_ERROR_INVALID_UTF8, for rows that are not null.
 #[unsafe(no_mangle)]
-pub extern "C" fn sel_utf8view_new(
+pub extern "C" fn sel_string_view_new(
     alloc: Global,
     views: &[ViewWords],
     buffers: &[&[u8]],
@@ -75,17 +75,19 @@ pub extern "C" fn sel_utf8view_new(
 
 /// Copies the views to `out`, including those in null slots.
 ///
-/// Errors: SEL_NO_COLUMN: `of` is empty. SEL_OTHER_KIND: its type is not SEL_BINARY_VIEW or
-/// SEL_UTF8_VIEW. SEL_OTHER_LENGTH: `out_len` is not the number of rows.
+/// Errors: SEL_ERROR_NO_COLUMN: `of` is empty. SEL_ERROR_UNSUPPORTED_TYPE: its type is not
+/// SEL_TYPE_BINARY_VIEW or SEL_TYPE_STRING_VIEW. SEL_ERROR_LENGTH_MISMATCH: `out_len` is not the
+/// number of rows.
 #[unsafe(no_mangle)]
 pub extern "C" fn sel_views(of: &ColumnRef, out: &mut [ViewWords]) -> u32
-    ensures views { result ≡ done → Some (views_in out.new) ≡ held_views of.now.tree }
+    ensures views { result ≡ ok → Some (views_in out.new) ≡ held_views of.now.tree }
     ensures column { DemandsFirst result no_column (HasColumn of.now.tree) }
     ensures kind { HasColumn of.now.tree →
-        DemandsBefore result other_kind (other_length ∷ []) (held_views of.now.tree ≢ None) }
-    ensures length { result ≡ other_length →
+        DemandsBefore result unsupported_type (length_mismatch ∷ [])
+        (held_views of.now.tree ≢ None) }
+    ensures length { result ≡ length_mismatch →
         Some (length out.old) ≢ option_map length (held_views of.now.tree) }
-    ensures status { IsOneOf result (done ∷ no_column ∷ other_kind ∷ other_length ∷ []) }
+    ensures status { IsOneOf result (ok ∷ no_column ∷ unsupported_type ∷ length_mismatch ∷ []) }
 {
     let Some(column) = of.column() else {
         return NO_COLUMN;
@@ -95,16 +97,16 @@ pub extern "C" fn sel_views(of: &ColumnRef, out: &mut [ViewWords]) -> u32
 
 /// Returns in `count` the number of data buffers of a view column.
 ///
-/// Errors: SEL_NO_COLUMN: `of` is empty. SEL_OTHER_KIND: its type is not SEL_BINARY_VIEW or
-/// SEL_UTF8_VIEW.
+/// Errors: SEL_ERROR_NO_COLUMN: `of` is empty. SEL_ERROR_UNSUPPORTED_TYPE: its type is not
+/// SEL_TYPE_BINARY_VIEW or SEL_TYPE_STRING_VIEW.
 #[unsafe(no_mangle)]
 pub extern "C" fn sel_buffer_count(of: &ColumnRef, count: &mut usize) -> u32
-    ensures count { result ≡ done → Some count.new ≡
+    ensures count { result ≡ ok → Some count.new ≡
         option_map length (held_buffers of.now.tree) }
     ensures column { DemandsFirst result no_column (HasColumn of.now.tree) }
     ensures kind { HasColumn of.now.tree →
-        Demands result other_kind (held_views of.now.tree ≢ None) }
-    ensures status { IsOneOf result (done ∷ no_column ∷ other_kind ∷ []) }
+        Demands result unsupported_type (held_views of.now.tree ≢ None) }
+    ensures status { IsOneOf result (ok ∷ no_column ∷ unsupported_type ∷ []) }
 {
     let Some(column) = of.column() else {
         return NO_COLUMN;
@@ -114,19 +116,21 @@ pub extern "C" fn sel_buffer_count(of: &ColumnRef, count: &mut usize) -> u32
 
 /// Returns in `len` the number of bytes of data buffer `i`, counted from 0.
 ///
-/// Errors: SEL_NO_COLUMN: `of` is empty. SEL_OTHER_KIND: its type is not SEL_BINARY_VIEW or
-/// SEL_UTF8_VIEW. SEL_OUT_OF_BOUNDS: there is no data buffer `i`.
+/// Errors: SEL_ERROR_NO_COLUMN: `of` is empty. SEL_ERROR_UNSUPPORTED_TYPE: its type is not
+/// SEL_TYPE_BINARY_VIEW or SEL_TYPE_STRING_VIEW. SEL_ERROR_INDEX_OUT_OF_BOUNDS: there is no data
+/// buffer `i`.
 #[unsafe(no_mangle)]
 pub extern "C" fn sel_buffer_len(of: &ColumnRef, i: usize, len: &mut usize) -> u32
-    ensures len { result ≡ done → option_map
+    ensures len { result ≡ ok → option_map
         (λ buffers. option_map length (slice_get buffers i)) (held_buffers of.now.tree) ≡
         Some (Some len.new) }
     ensures column { DemandsFirst result no_column (HasColumn of.now.tree) }
     ensures kind { HasColumn of.now.tree →
-        DemandsBefore result other_kind (out_of_bounds ∷ []) (held_views of.now.tree ≢ None) }
-    ensures bounds { result ≡ out_of_bounds →
+        DemandsBefore result unsupported_type (index_out_of_bounds ∷ [])
+        (held_views of.now.tree ≢ None) }
+    ensures bounds { result ≡ index_out_of_bounds →
         option_map (λ buffers. slice_get buffers i) (held_buffers of.now.tree) ≡ Some None }
-    ensures status { IsOneOf result (done ∷ no_column ∷ other_kind ∷ out_of_bounds ∷ []) }
+    ensures status { IsOneOf result (ok ∷ no_column ∷ unsupported_type ∷ index_out_of_bounds ∷ []) }
 {
     let Some(column) = of.column() else {
         return NO_COLUMN;
@@ -136,25 +140,25 @@ pub extern "C" fn sel_buffer_len(of: &ColumnRef, i: usize, len: &mut usize) -> u
 
 /// Copies the bytes of data buffer `i`, counted from 0, to `out`.
 ///
-/// Errors: SEL_NO_COLUMN: `of` is empty. SEL_OTHER_KIND: its type is not SEL_BINARY_VIEW or
-/// SEL_UTF8_VIEW. SEL_OUT_OF_BOUNDS: there is no data buffer `i`. SEL_OTHER_LENGTH: `out_len` is
-/// not the length of the buffer.
+/// Errors: SEL_ERROR_NO_COLUMN: `of` is empty. SEL_ERROR_UNSUPPORTED_TYPE: its type is not
+/// SEL_TYPE_BINARY_VIEW or SEL_TYPE_STRING_VIEW. SEL_ERROR_INDEX_OUT_OF_BOUNDS: there is no data
+/// buffer `i`. SEL_ERROR_LENGTH_MISMATCH: `out_len` is not the length of the buffer.
 #[unsafe(no_mangle)]
 pub extern "C" fn sel_buffer(of: &ColumnRef, i: usize, out: &mut [u8]) -> u32
-    ensures bytes { result ≡ done → option_map (λ buffers. slice_get buffers i)
+    ensures bytes { result ≡ ok → option_map (λ buffers. slice_get buffers i)
         (held_buffers of.now.tree) ≡ Some (Some out.new) }
     ensures column { DemandsFirst result no_column (HasColumn of.now.tree) }
     ensures kind { HasColumn of.now.tree →
-        DemandsBefore result other_kind (out_of_bounds ∷ other_length ∷ [])
+        DemandsBefore result unsupported_type (index_out_of_bounds ∷ length_mismatch ∷ [])
         (held_views of.now.tree ≢ None) }
-    ensures bounds { result ≡ out_of_bounds →
+    ensures bounds { result ≡ index_out_of_bounds →
         option_map (λ buffers. slice_get buffers i) (held_buffers of.now.tree) ≡ Some None }
-    ensures length { result ≡ other_length → option_map (λ buffers. option_map length
+    ensures length { result ≡ length_mismatch → option_map (λ buffers. option_map length
         (slice_get buffers i)) (held_buffers of.now.tree) ≢ Some (Some (length out.old)) }
-    ensures inside { result ≡ other_length →
+    ensures inside { result ≡ length_mismatch →
         option_map (λ buffers. slice_get buffers i) (held_buffers of.now.tree) ≢ Some None }
     ensures status { IsOneOf result
-        (done ∷ no_column ∷ other_kind ∷ other_length ∷ out_of_bounds ∷ []) }
+        (ok ∷ no_column ∷ unsupported_type ∷ length_mismatch ∷ index_out_of_bounds ∷ []) }
 {
     let Some(column) = of.column() else {
         return NO_COLUMN;

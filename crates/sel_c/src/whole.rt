@@ -2,20 +2,21 @@
 
 ghost use Rattle.std.specs.Prelude.{◌≡◌, ◌≤◌, ◌+◌, [], ◌∷◌, length, take, drop, None};
 ghost use Rattle.sel_arrow.specs.Rows.{rows, type_of};
-ghost use Rattle.sel_handle.specs.Status.{done, no_memory, no_column, out_of_bounds, held_rows, held_type, Demands, DemandsFirst, HasColumn, IsOneOf, Makes};
+ghost use Rattle.sel_handle.specs.Status.{ok, out_of_memory, no_column, index_out_of_bounds, held_rows, held_type, Demands, DemandsFirst, HasColumn, IsOneOf, Makes};
 
 use sel_arrow::array::Array;
 use sel_handle::column_ref::ColumnRef;
 use sel_handle::handle::Handle;
-use sel_handle::status::{NO_COLUMN, NO_MEMORY, OUT_OF_BOUNDS, put};
+use sel_handle::status::{INDEX_OUT_OF_BOUNDS, NO_COLUMN, OUT_OF_MEMORY, put, put_shared};
 use std::alloc::Global;
 
 /// Returns in `out` the `len` rows of `of` from row `off` on. The result shares the buffers of
 /// `of`.
 ///
-/// Errors: SEL_NO_COLUMN: `of` is empty. SEL_OUT_OF_BOUNDS: `of` has fewer than `off + len` rows.
+/// Errors: SEL_ERROR_NO_COLUMN: `of` is empty. SEL_ERROR_INDEX_OUT_OF_BOUNDS: `of` has fewer than
+/// `off + len` rows.
 #[unsafe(no_mangle)]
-pub extern "C" fn sel_sliced(
+pub extern "C" fn sel_slice(
     alloc: Global,
     of: &ColumnRef,
     off: usize,
@@ -27,25 +28,26 @@ pub extern "C" fn sel_sliced(
     ensures dtype { Makes result out.old.tree out.new.tree
         (λ made. type_of made.column ≡ held_type of.now.tree) }
     ensures column { DemandsFirst result no_column (HasColumn of.now.tree) }
-    ensures bounds { Demands result out_of_bounds (off + len ≤ length (held_rows of.now.tree)) }
-    ensures status { IsOneOf result (done ∷ no_memory ∷ no_column ∷ out_of_bounds ∷ []) }
+    ensures bounds { Demands result index_out_of_bounds
+        (off + len ≤ length (held_rows of.now.tree)) }
+    ensures status { IsOneOf result (ok ∷ out_of_memory ∷ no_column ∷ index_out_of_bounds ∷ []) }
 {
     let Some(column) = of.column() else {
         return NO_COLUMN;
     };
     let all = column.len();
     if off > all || len > all - off {
-        return OUT_OF_BOUNDS;
+        return INDEX_OUT_OF_BOUNDS;
     }
     match column.sliced(alloc, off, len) {
         Ok(part) => put(alloc, part, out),
-        Err(_) => NO_MEMORY,
+        Err(_) => OUT_OF_MEMORY,
     }
 }
 
-/// Returns in `out` a second column with the same rows, which shares the buffers of `of`.
+/// Returns in `out` a second handle to the column of `of`. Copies nothing.
 ///
-/// Errors: SEL_NO_COLUMN: `of` is empty.
+/// Errors: SEL_ERROR_NO_COLUMN: `of` is empty.
 #[unsafe(no_mangle)]
 pub extern "C" fn sel_share(alloc: Global, of: &ColumnRef, out: &mut Handle) -> u32
     ensures rows { Makes result out.old.tree out.new.tree
@@ -53,14 +55,14 @@ pub extern "C" fn sel_share(alloc: Global, of: &ColumnRef, out: &mut Handle) -> 
     ensures dtype { Makes result out.old.tree out.new.tree
         (λ made. type_of made.column ≡ held_type of.now.tree) }
     ensures column { DemandsFirst result no_column (HasColumn of.now.tree) }
-    ensures status { IsOneOf result (done ∷ no_memory ∷ no_column ∷ []) }
+    ensures status { IsOneOf result (ok ∷ out_of_memory ∷ no_column ∷ []) }
 {
-    let Some(column) = of.column() else {
+    let Some(shared) = of.shared() else {
         return NO_COLUMN;
     };
-    match column.try_clone(alloc) {
-        Ok(copy) => put(alloc, copy, out),
-        Err(_) => NO_MEMORY,
+    match shared.try_clone() {
+        Ok(shared) => put_shared(alloc, shared, out),
+        Err(_) => OUT_OF_MEMORY,
     }
 }
 

@@ -7,7 +7,7 @@ ghost use Rattle.sel_arrow.specs.Shape.{of_int128, of_uint128};
 ghost use Rattle.sel_calls.specs.Wides.{signed_wide, unsigned_wide};
 ghost use Rattle.sel_handle.specs.Inputs.{validity_in, flat_rules};
 ghost use Rattle.sel_handle.specs.Outputs.{Shows, numbers};
-ghost use Rattle.sel_handle.specs.Status.{done, no_memory, no_column, other_kind, other_length, held_rows, held_type, Demands, DemandsBefore, DemandsFirst, HasColumn, IsOneOf, Makes, ReportsExactly};
+ghost use Rattle.sel_handle.specs.Status.{ok, out_of_memory, no_column, unsupported_type, length_mismatch, held_rows, held_type, Demands, DemandsBefore, DemandsFirst, HasColumn, IsOneOf, Makes, ReportsExactly};
 
 use sel_arrow::primitive::ArrowPrimitive;
 use sel_calls::wides::{Wide, wides_into, wides_of};
@@ -18,8 +18,8 @@ use std::alloc::Global;
 
 /// Returns in `out` the column of these 128-bit integers in two's complement.
 ///
-/// Errors: SEL_TOO_MANY_ROWS: more than 4,294,967,295 values. SEL_VALIDITY_LENGTH: the validity is
-/// too short.
+/// Errors: SEL_ERROR_TOO_MANY_ROWS: more than 4,294,967,295 values. SEL_ERROR_VALIDITY_LENGTH: the
+/// validity is too short.
 #[unsafe(no_mangle)]
 pub extern "C" fn sel_int128_new(
     alloc: Global,
@@ -42,19 +42,19 @@ pub extern "C" fn sel_int128_new(
 
 /// Copies the values to `out`, including those in null slots.
 ///
-/// Errors: SEL_NO_COLUMN: `of` is empty. SEL_OTHER_KIND: its type is not SEL_INT128.
-/// SEL_OTHER_LENGTH: `out_len` is not the number of rows.
+/// Errors: SEL_ERROR_NO_COLUMN: `of` is empty. SEL_ERROR_UNSUPPORTED_TYPE: its type is not
+/// SEL_TYPE_INT128. SEL_ERROR_LENGTH_MISMATCH: `out_len` is not the number of rows.
 #[unsafe(no_mangle)]
 pub extern "C" fn sel_int128_values(alloc: Global, of: &ColumnRef, out: &mut [Wide]) -> u32
-    ensures values { result ≡ done → Shows (numbers signed_wide out.new)
+    ensures values { result ≡ ok → Shows (numbers signed_wide out.new)
         (held_rows of.now.tree) }
     ensures column { DemandsFirst result no_column (HasColumn of.now.tree) }
-    ensures kind { DemandsBefore result other_kind (other_length ∷ [])
+    ensures kind { DemandsBefore result unsupported_type (length_mismatch ∷ [])
         (held_type of.now.tree ≡ of_int128) }
-    ensures length { Demands result other_length
+    ensures length { Demands result length_mismatch
         (length out.old ≡ length (held_rows of.now.tree)) }
     ensures status { IsOneOf result
-        (done ∷ no_memory ∷ no_column ∷ other_kind ∷ other_length ∷ []) }
+        (ok ∷ out_of_memory ∷ no_column ∷ unsupported_type ∷ length_mismatch ∷ []) }
 {
     let Some(column) = of.column() else {
         return NO_COLUMN;
@@ -64,8 +64,8 @@ pub extern "C" fn sel_int128_values(alloc: Global, of: &ColumnRef, out: &mut [Wi
 
 /// Returns in `out` the column of these unsigned 128-bit integers.
 ///
-/// Errors: SEL_TOO_MANY_ROWS: more than 4,294,967,295 values. SEL_VALIDITY_LENGTH: the validity is
-/// too short.
+/// Errors: SEL_ERROR_TOO_MANY_ROWS: more than 4,294,967,295 values. SEL_ERROR_VALIDITY_LENGTH: the
+/// validity is too short.
 #[unsafe(no_mangle)]
 pub extern "C" fn sel_uint128_new(
     alloc: Global,
@@ -88,19 +88,19 @@ pub extern "C" fn sel_uint128_new(
 
 /// Copies the values to `out`, including those in null slots.
 ///
-/// Errors: SEL_NO_COLUMN: `of` is empty. SEL_OTHER_KIND: its type is not SEL_UINT128.
-/// SEL_OTHER_LENGTH: `out_len` is not the number of rows.
+/// Errors: SEL_ERROR_NO_COLUMN: `of` is empty. SEL_ERROR_UNSUPPORTED_TYPE: its type is not
+/// SEL_TYPE_UINT128. SEL_ERROR_LENGTH_MISMATCH: `out_len` is not the number of rows.
 #[unsafe(no_mangle)]
 pub extern "C" fn sel_uint128_values(alloc: Global, of: &ColumnRef, out: &mut [Wide]) -> u32
-    ensures values { result ≡ done → Shows (numbers unsigned_wide out.new)
+    ensures values { result ≡ ok → Shows (numbers unsigned_wide out.new)
         (held_rows of.now.tree) }
     ensures column { DemandsFirst result no_column (HasColumn of.now.tree) }
-    ensures kind { DemandsBefore result other_kind (other_length ∷ [])
+    ensures kind { DemandsBefore result unsupported_type (length_mismatch ∷ [])
         (held_type of.now.tree ≡ of_uint128) }
-    ensures length { Demands result other_length
+    ensures length { Demands result length_mismatch
         (length out.old ≡ length (held_rows of.now.tree)) }
     ensures status { IsOneOf result
-        (done ∷ no_memory ∷ no_column ∷ other_kind ∷ other_length ∷ []) }
+        (ok ∷ out_of_memory ∷ no_column ∷ unsupported_type ∷ length_mismatch ∷ []) }
 {
     let Some(column) = of.column() else {
         return NO_COLUMN;

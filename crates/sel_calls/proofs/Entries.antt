@@ -8,7 +8,7 @@ use Rattle.sel_arrow.specs.Rows.{rows}
 use Rattle.sel_arrow.specs.Value.{Value, Number}
 use Rattle.sel_arrow.specs.declared.fixed_size_list.FixedSizeListArray.{FixedSizeListArray}
 use Rattle.sel_arrow.proofs.NestedRows.{length-rows}
-use Rattle.sel_handle.specs.Status.{done, error_status, get_out_of_bounds, limit_statuses, IsOneOf, ReportsLimits}
+use Rattle.sel_handle.specs.Status.{ok, error_status, list_index_out_of_bounds, limit_statuses, IsOneOf, ReportsLimits}
 use Rattle.sel_sublists.specs.Entries.{at_each, is_get_error, exceeded_entries, IsGetError}
 use Rattle.sel_calls.proofs.Limits.{limit_high, tells-none, tells-passed}
 
@@ -22,12 +22,12 @@ get-limits status null_on_oob arr indices (SizeLimit limit) number refusal = tel
 get-limits status null_on_oob arr indices ComputeError number refusal = tells-none status (exceeded_entries arr indices) (omega (arith, number))
 
 -- A limit status implies that there is no error for an index.
-pub get-inside : (status : ℕ) (null_on_oob : Bool) (arr : FixedSizeListArray) (indices : List Value) (fault : PolarsError) → status ≡ error_status fault → IsGetError null_on_oob arr indices fault → IsOneOf status (done ∷ limit_statuses) → is_get_error null_on_oob arr indices ≡ false
+pub get-inside : (status : ℕ) (null_on_oob : Bool) (arr : FixedSizeListArray) (indices : List Value) (fault : PolarsError) → status ≡ error_status fault → IsGetError null_on_oob arr indices fault → IsOneOf status (ok ∷ limit_statuses) → is_get_error null_on_oob arr indices ≡ false
 get-inside status null_on_oob arr indices OutOfMemory number refusal one = refusal.0
 get-inside status null_on_oob arr indices (SizeLimit limit) number refusal one = refusal.0
-get-inside status null_on_oob arr indices ComputeError number refusal one = absurd (true≢false (sym (subst (λ s. IsOneOf s (done ∷ limit_statuses)) number one)))
+get-inside status null_on_oob arr indices ComputeError number refusal one = absurd (true≢false (sym (subst (λ s. IsOneOf s (ok ∷ limit_statuses)) number one)))
 
-pub get-bounds : (status : ℕ) (null_on_oob : Bool) (arr : FixedSizeListArray) (indices : List Value) (fault : PolarsError) → status ≡ error_status fault → IsGetError null_on_oob arr indices fault → status ≡ get_out_of_bounds → is_get_error null_on_oob arr indices ≡ false → ⊥
+pub get-bounds : (status : ℕ) (null_on_oob : Bool) (arr : FixedSizeListArray) (indices : List Value) (fault : PolarsError) → status ≡ error_status fault → IsGetError null_on_oob arr indices fault → status ≡ list_index_out_of_bounds → is_get_error null_on_oob arr indices ≡ false → ⊥
 get-bounds status null_on_oob arr indices OutOfMemory number refusal same inside = absurd (omega (arith, number, same))
 get-bounds status null_on_oob arr indices (SizeLimit limit) number refusal same inside = let high = limit_high limit in absurd (omega (arith, number, same, high))
 get-bounds status null_on_oob arr indices ComputeError number refusal same inside = absurd (cc (refusal, inside))

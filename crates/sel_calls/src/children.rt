@@ -1,36 +1,39 @@
 //! List children and struct fields as columns, which share the buffers of their parent.
 
 ghost use Rattle.std.specs.Prelude.{◌≡◌, ◌∷◌, ◌≢◌, ◌<◌, ◌≤◌, length, IfSome, IfNone, IsTrue, true, false, []};
+ghost use Rattle.sel_arrow.specs.Depth.{depth};
 ghost use Rattle.sel_arrow.specs.Rows.{rows, type_of, IsWellFormed};
 ghost use Rattle.sel_arrow.specs.Shape.{is_block_shape, is_struct_shape};
 ghost use Rattle.sel_calls.specs.Types.{width_of};
-ghost use Rattle.sel_handle.specs.Status.{done, no_memory, no_column, other_kind, out_of_bounds, Demands, IsOneOf, Makes};
+ghost use Rattle.sel_handle.specs.Status.{ok, out_of_memory, no_column, unsupported_type, index_out_of_bounds, Demands, IsOneOf, Makes};
 ghost use Rattle.sel_runs.specs.Children.{child, field, fields_of, is_listing};
 
 use sel_arrow::array_ref::ArrayRef;
 use sel_arrow::column::Column;
 use sel_handle::handle::Handle;
-use sel_handle::status::{DONE, NO_MEMORY, OTHER_KIND, OUT_OF_BOUNDS, put};
+use sel_handle::status::{INDEX_OUT_OF_BOUNDS, OK, OUT_OF_MEMORY, UNSUPPORTED_TYPE, put};
 use std::alloc::Global;
 
 /// Stores the child of a list or fixed-size list column in `out`.
 ///
-/// Errors: `OTHER_KIND` if the column has another type; `NO_MEMORY`.
+/// Errors: `UNSUPPORTED_TYPE` if the column has another type; `OUT_OF_MEMORY`.
 pub fn child_into(alloc: Global, column: &ArrayRef, out: &mut Handle) -> u32
+    requires { depth (type_of column.now.column) ≤ 128 }
     ensures rows { Makes result out.old.tree out.new.tree
         (λ made. rows made.column ≡ rows (child column.now.column)) }
     ensures dtype { Makes result out.old.tree out.new.tree
         (λ made. type_of made.column ≡ type_of (child column.now.column)) }
-    ensures status { IsOneOf result (done ∷ no_memory ∷ other_kind ∷ []) }
+    ensures status { IsOneOf result (ok ∷ out_of_memory ∷ unsupported_type ∷ []) }
     ensures column { result ≢ no_column }
-    ensures kind { Demands result other_kind (IsTrue (is_listing (type_of column.now.column))) }
+    ensures kind { Demands result unsupported_type
+        (IsTrue (is_listing (type_of column.now.column))) }
 {
     let Some(entries) = child_of(column) else {
-        return OTHER_KIND;
+        return UNSUPPORTED_TYPE;
     };
     match entries.try_clone(alloc) {
         Ok(column) => put(alloc, ArrayRef { column }, out),
-        Err(_) => NO_MEMORY,
+        Err(_) => OUT_OF_MEMORY,
     }
 }
 
@@ -51,37 +54,37 @@ fn child_of(column: &ArrayRef) -> Option<&Column>
 
 /// Writes the list size of a fixed-size list column to `width`.
 ///
-/// Errors: `OTHER_KIND` if the column has another type.
+/// Errors: `UNSUPPORTED_TYPE` if the column has another type.
 pub fn width_into(column: &Column, width: &mut usize) -> u32
-    ensures width { result ≡ done → width.new ≡ width_of (type_of column.now) }
-    ensures status { IsOneOf result (done ∷ other_kind ∷ []) }
+    ensures width { result ≡ ok → width.new ≡ width_of (type_of column.now) }
+    ensures status { IsOneOf result (ok ∷ unsupported_type ∷ []) }
     ensures column { result ≢ no_column }
-    ensures kind { Demands result other_kind (IsTrue (is_block_shape (type_of column.now))) }
+    ensures kind { Demands result unsupported_type (IsTrue (is_block_shape (type_of column.now))) }
 {
     match column {
         Column::FixedSizeList { size, .. } => {
             *width = *size;
-            DONE
+            OK
         }
-        _ => OTHER_KIND,
+        _ => UNSUPPORTED_TYPE,
     }
 }
 
 /// Writes the number of fields of a struct column to `count`.
 ///
-/// Errors: `OTHER_KIND` if the column has another type.
+/// Errors: `UNSUPPORTED_TYPE` if the column has another type.
 pub fn field_count_into(column: &ArrayRef, count: &mut usize) -> u32
-    ensures count { result ≡ done → count.new ≡ length (fields_of column.now.column) }
-    ensures status { IsOneOf result (done ∷ other_kind ∷ []) }
+    ensures count { result ≡ ok → count.new ≡ length (fields_of column.now.column) }
+    ensures status { IsOneOf result (ok ∷ unsupported_type ∷ []) }
     ensures column { result ≢ no_column }
-    ensures kind { Demands result other_kind
+    ensures kind { Demands result unsupported_type
         (IsTrue (is_struct_shape (type_of column.now.column))) }
 {
     let Some(fields) = struct_fields(column) else {
-        return OTHER_KIND;
+        return UNSUPPORTED_TYPE;
     };
     *count = fields.len();
-    DONE
+    OK
 }
 
 /// Returns the fields of a struct column, or none for another type.
@@ -100,23 +103,25 @@ fn struct_fields(column: &ArrayRef) -> Option<&[Column]>
 
 /// Stores field `i` of a struct column in `out`.
 ///
-/// Errors: `OUT_OF_BOUNDS` if the column has no field `i`, or is not a struct column; `NO_MEMORY`.
+/// Errors: `INDEX_OUT_OF_BOUNDS` if the column has no field `i`, or is not a struct column;
+/// `OUT_OF_MEMORY`.
 #[tactic(auto, using(crate::proofs::Below::below))]
 pub fn field_into(alloc: Global, column: &ArrayRef, i: usize, out: &mut Handle) -> u32
+    requires { depth (type_of column.now.column) ≤ 128 }
     ensures rows { Makes result out.old.tree out.new.tree
         (λ made. rows made.column ≡ rows (field i column.now.column)) }
     ensures dtype { Makes result out.old.tree out.new.tree
         (λ made. type_of made.column ≡ type_of (field i column.now.column)) }
-    ensures status { IsOneOf result (done ∷ no_memory ∷ out_of_bounds ∷ []) }
+    ensures status { IsOneOf result (ok ∷ out_of_memory ∷ index_out_of_bounds ∷ []) }
     ensures column { result ≢ no_column }
-    ensures bounds { Demands result out_of_bounds (i < length (fields_of column.now.column)) }
+    ensures bounds { Demands result index_out_of_bounds (i < length (fields_of column.now.column)) }
 {
     let Some(part) = field_of(column, i) else {
-        return OUT_OF_BOUNDS;
+        return INDEX_OUT_OF_BOUNDS;
     };
     match part.try_clone(alloc) {
         Ok(column) => put(alloc, ArrayRef { column }, out),
-        Err(_) => NO_MEMORY,
+        Err(_) => OUT_OF_MEMORY,
     }
 }
 

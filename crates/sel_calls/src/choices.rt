@@ -2,11 +2,12 @@
 
 ghost use Rattle.std.specs.Prelude.{◌≡◌, ◌≢◌, ◌≤◌, ◌++◌, ◌∷◌, [], length, true, false, IfOk, IfErr};
 ghost use Rattle.sel_arrow.specs.Columns.{boolean_rows};
+ghost use Rattle.sel_arrow.specs.Depth.{depth};
 ghost use Rattle.sel_arrow.specs.Rows.{rows, type_of};
 ghost use Rattle.sel_arrow.specs.Shape.{of_boolean};
 ghost use Rattle.sel_calls.specs.Chosen.{chosen_rows};
 ghost use Rattle.sel_calls.specs.ChosenPicks.{SideFits};
-ghost use Rattle.sel_handle.specs.Status.{done, no_memory, no_column, other_kind, other_type, other_length, limit_statuses, held_columns, held_rows, held_type, DemandsBefore, DemandsFirst, HasColumn, IsOneOf, Makes, ReportsLimits};
+ghost use Rattle.sel_handle.specs.Status.{ok, out_of_memory, no_column, unsupported_type, type_mismatch, length_mismatch, limit_statuses, held_columns, held_rows, held_type, DemandsBefore, DemandsFirst, HasColumn, IsOneOf, Makes, ReportsLimits};
 ghost use Rattle.sel_runs.specs.Need.{exceeded_taken};
 ghost use Rattle.polars_compute.specs.Select.{effective_mask};
 
@@ -19,7 +20,7 @@ use sel_bits::faults::PolarsResult;
 use sel_handle::column_ref::ColumnRef;
 use sel_handle::handle::Handle;
 use sel_handle::status::{
-    NO_COLUMN, NO_MEMORY, OTHER_KIND, OTHER_LENGTH, OTHER_TYPE, put, status_of,
+    LENGTH_MISMATCH, NO_COLUMN, OUT_OF_MEMORY, TYPE_MISMATCH, UNSUPPORTED_TYPE, put, status_of,
 };
 use std::alloc::Global;
 
@@ -29,10 +30,10 @@ use std::alloc::Global;
 /// If `true_column` is false, `if_true` has one row, which is broadcast; likewise for
 /// `false_column` and `if_false`.
 ///
-/// Errors: `NO_COLUMN` if a handle has no column; `OTHER_KIND` if the mask is not boolean;
-/// `OTHER_TYPE` if `if_true` and `if_false` have different types; `OTHER_LENGTH` if a column does
-/// not have as many rows as the mask, or a scalar does not have one row; `NO_MEMORY`; a `LIMIT_`
-/// status if the result would exceed a limit.
+/// Errors: `NO_COLUMN` if a handle has no column; `UNSUPPORTED_TYPE` if the mask is not boolean;
+/// `TYPE_MISMATCH` if `if_true` and `if_false` have different types; `LENGTH_MISMATCH` if a column
+/// does not have as many rows as the mask, or a scalar does not have one row; `OUT_OF_MEMORY`; a
+/// `_LIMIT` status if the result would exceed a limit.
 pub fn choose_handles(
     alloc: Global,
     mask: &ColumnRef,
@@ -47,15 +48,15 @@ pub fn choose_handles(
         (held_rows if_true.now.tree) (held_rows if_false.now.tree)) }
     ensures dtype { Makes result out.old.tree out.new.tree
         (λ made. type_of made.column ≡ held_type if_true.now.tree) }
-    ensures status { IsOneOf result (done ∷ no_memory ∷ no_column ∷ other_kind ∷
-        other_type ∷ other_length ∷ limit_statuses) }
+    ensures status { IsOneOf result (ok ∷ out_of_memory ∷ no_column ∷ unsupported_type ∷
+        type_mismatch ∷ length_mismatch ∷ limit_statuses) }
     ensures column { DemandsFirst result no_column (HasColumn mask.now.tree ×
         HasColumn if_true.now.tree × HasColumn if_false.now.tree) }
-    ensures kind { DemandsBefore result other_kind
-        (other_type ∷ other_length ∷ limit_statuses) (held_type mask.now.tree ≡ of_boolean) }
-    ensures alike { DemandsBefore result other_type (other_length ∷ limit_statuses)
+    ensures kind { DemandsBefore result unsupported_type
+        (type_mismatch ∷ length_mismatch ∷ limit_statuses) (held_type mask.now.tree ≡ of_boolean) }
+    ensures alike { DemandsBefore result type_mismatch (length_mismatch ∷ limit_statuses)
         (held_type if_true.now.tree ≡ held_type if_false.now.tree) }
-    ensures length { DemandsBefore result other_length limit_statuses (
+    ensures length { DemandsBefore result length_mismatch limit_statuses (
         SideFits true_column (length (held_rows if_true.now.tree))
         (length (held_rows mask.now.tree)) ×
         SideFits false_column (length (held_rows if_false.now.tree))
@@ -86,6 +87,7 @@ fn choose_into(
     false_column: bool,
     out: &mut Handle,
 ) -> u32
+    requires { depth (type_of if_true.now.column) ≤ 128 }
     ensures rows { Makes result out.old.tree out.new.tree (λ made. rows made.column ≡
         chosen_rows true_column false_column (effective_mask (rows mask.now.column))
         (rows if_true.now.column) (rows if_false.now.column)) }
@@ -93,12 +95,12 @@ fn choose_into(
         (λ made. type_of made.column ≡ type_of if_true.now.column) }
     ensures column { result ≢ no_column }
     ensures status { IsOneOf result
-        (done ∷ no_memory ∷ other_kind ∷ other_type ∷ other_length ∷ limit_statuses) }
-    ensures kind { DemandsBefore result other_kind
-        (other_type ∷ other_length ∷ limit_statuses) (type_of mask.now.column ≡ of_boolean) }
-    ensures alike { DemandsBefore result other_type (other_length ∷ limit_statuses)
+        (ok ∷ out_of_memory ∷ unsupported_type ∷ type_mismatch ∷ length_mismatch ∷ limit_statuses) }
+    ensures kind { DemandsBefore result unsupported_type
+        (type_mismatch ∷ length_mismatch ∷ limit_statuses) (type_of mask.now.column ≡ of_boolean) }
+    ensures alike { DemandsBefore result type_mismatch (length_mismatch ∷ limit_statuses)
         (type_of if_true.now.column ≡ type_of if_false.now.column) }
-    ensures length { DemandsBefore result other_length limit_statuses (
+    ensures length { DemandsBefore result length_mismatch limit_statuses (
         SideFits true_column (length (rows if_true.now.column)) (length (rows mask.now.column)) ×
         SideFits false_column (length (rows if_false.now.column))
         (length (rows mask.now.column))) }
@@ -112,13 +114,13 @@ fn choose_into(
         Err(status) => return status,
     };
     if !if_true.same_dtype(if_false) {
-        return OTHER_TYPE;
+        return TYPE_MISMATCH;
     }
     if !side_fits(if_true, true_column, bits.len()) {
-        return OTHER_LENGTH;
+        return LENGTH_MISMATCH;
     }
     if !side_fits(if_false, false_column, bits.len()) {
-        return OTHER_LENGTH;
+        return LENGTH_MISMATCH;
     }
     match choice(alloc, &bits, if_true, if_false, true_column, false_column) {
         Ok(chosen) => put(alloc, chosen, out),
@@ -141,29 +143,30 @@ fn side_fits(side: &ArrayRef, is_column: bool, len: usize) -> bool
 
 // Returns the effective mask: the bits that are true where the mask is true and valid.
 //
-// Errors: `OTHER_KIND` if the mask is not boolean; `NO_MEMORY`.
+// Errors: `UNSUPPORTED_TYPE` if the mask is not boolean; `OUT_OF_MEMORY`.
 fn bits_of_mask(alloc: Global, mask: &ArrayRef) -> Result<Bitmap, u32>
     ensures bits { IfOk result (λ bits. bits.bits ≡ effective_mask (rows mask.now.column)) }
     ensures len { IfOk result (λ bits. length bits.bits ≡ length (rows mask.now.column)) }
     ensures few { IfOk result (λ bits. length bits.bits ≤ 4294967295) }
     ensures kind { IfOk result (λ _. type_of mask.now.column ≡ of_boolean) }
-    ensures other { IfErr result (λ status. status ≡ other_kind →
+    ensures other { IfErr result (λ status. status ≡ unsupported_type →
         type_of mask.now.column ≢ of_boolean) }
-    ensures refusal { IfErr result (λ status. IsOneOf status (no_memory ∷ other_kind ∷ [])) }
+    ensures refusal { IfErr result
+        (λ status. IsOneOf status (out_of_memory ∷ unsupported_type ∷ [])) }
 {
     let Ok(copy) = mask.try_clone(alloc) else {
-        return Err(NO_MEMORY);
+        return Err(OUT_OF_MEMORY);
     };
     let truths = match copy.into_boolean() {
         Ok(truths) => truths,
         Err(back) => {
             drop(back);
-            return Err(OTHER_KIND);
+            return Err(UNSUPPORTED_TYPE);
         }
     };
     match effective_bits(alloc, &truths) {
         Ok(bits) => Ok(bits),
-        Err(_) => Err(NO_MEMORY),
+        Err(_) => Err(OUT_OF_MEMORY),
     }
 }
 

@@ -2,9 +2,10 @@
 
 ghost use Rattle.std.specs.Prelude.{◌≡◌, ◌≢◌, ◌≤◌, [], ◌∷◌, length, IfSome, IsTrue};
 ghost use Rattle.sel_arrow.specs.Columns.{primitive_rows, utf8view_rows};
+ghost use Rattle.sel_arrow.specs.Depth.{depth};
 ghost use Rattle.sel_arrow.specs.Rows.{rows, type_of};
 ghost use Rattle.sel_arrow.specs.Shape.{of_uint32, of_utf8_view};
-ghost use Rattle.sel_handle.specs.Status.{done, no_memory, no_column, other_kind, out_of_bounds, Demands, DemandsBefore, IsOneOf, Makes};
+ghost use Rattle.sel_handle.specs.Status.{ok, out_of_memory, no_column, unsupported_type, index_out_of_bounds, Demands, DemandsBefore, IsOneOf, Makes};
 ghost use Rattle.polars_compute.specs.Dictionary.{propagated_keys, valid_values};
 ghost use Rattle.polars_compute.specs.Pick.{all_within};
 
@@ -14,7 +15,8 @@ use sel_arrow::array_ref::ArrayRef;
 use sel_arrow::primitive::PrimitiveArray;
 use sel_arrow::utf8view::Utf8ViewArray;
 use sel_handle::handle::Handle;
-use sel_handle::status::{DONE, NO_MEMORY, OTHER_KIND, OUT_OF_BOUNDS};
+use sel_handle::shared_column::SharedColumn;
+use sel_handle::status::{INDEX_OUT_OF_BOUNDS, OK, OUT_OF_MEMORY, UNSUPPORTED_TYPE};
 use std::alloc::Global;
 
 /// Makes the keys of null values null, and drops the null values of a dictionary.
@@ -22,8 +24,9 @@ use std::alloc::Global;
 /// Stores in `out_keys` the keys, renumbered to the values that are left, and in `out_values` these
 /// values. On error both are unchanged.
 ///
-/// Errors: `OTHER_KIND` if the keys are not 32-bit unsigned integers or the values are not string
-/// views; `OUT_OF_BOUNDS` if a valid key is not less than the number of values; `NO_MEMORY`.
+/// Errors: `UNSUPPORTED_TYPE` if the keys are not 32-bit unsigned integers or the values are not
+/// string views; `INDEX_OUT_OF_BOUNDS` if a valid key is not less than the number of values;
+/// `OUT_OF_MEMORY`.
 pub fn propagate_columns_into(
     alloc: Global,
     keys: &ArrayRef,
@@ -40,20 +43,21 @@ pub fn propagate_columns_into(
     ensures value_dtype { Makes result out_values.old.tree out_values.new.tree
         (λ made. type_of made.column ≡ of_utf8_view) }
     ensures column { result ≢ no_column }
-    ensures kind { DemandsBefore result other_kind (out_of_bounds ∷ [])
+    ensures kind { DemandsBefore result unsupported_type (index_out_of_bounds ∷ [])
         ((type_of keys.now.column ≡ of_uint32) × (type_of values.now.column ≡ of_utf8_view)) }
-    ensures bounds { Demands result out_of_bounds
+    ensures bounds { Demands result index_out_of_bounds
         (IsTrue (all_within (length (rows values.now.column)) (rows keys.now.column))) }
-    ensures status { IsOneOf result (done ∷ no_memory ∷ other_kind ∷ out_of_bounds ∷ []) }
+    ensures status { IsOneOf result
+        (ok ∷ out_of_memory ∷ unsupported_type ∷ index_out_of_bounds ∷ []) }
 {
     let Ok(copy) = keys.try_clone(alloc) else {
-        return NO_MEMORY;
+        return OUT_OF_MEMORY;
     };
     let at = match copy.into_primitive::<u32>() {
         Ok(at) => at,
         Err(back) => {
             drop(back);
-            return OTHER_KIND;
+            return UNSUPPORTED_TYPE;
         }
     };
     propagate_keys_into(alloc, &at, values, out_keys, out_values)
@@ -75,20 +79,21 @@ fn propagate_keys_into(
     ensures value_dtype { Makes result out_values.old.tree out_values.new.tree
         (λ made. type_of made.column ≡ of_utf8_view) }
     ensures column { result ≢ no_column }
-    ensures kind { DemandsBefore result other_kind (out_of_bounds ∷ [])
+    ensures kind { DemandsBefore result unsupported_type (index_out_of_bounds ∷ [])
         (type_of values.now.column ≡ of_utf8_view) }
-    ensures bounds { Demands result out_of_bounds
+    ensures bounds { Demands result index_out_of_bounds
         (IsTrue (all_within (length (rows values.now.column)) (primitive_rows keys.now))) }
-    ensures status { IsOneOf result (done ∷ no_memory ∷ other_kind ∷ out_of_bounds ∷ []) }
+    ensures status { IsOneOf result
+        (ok ∷ out_of_memory ∷ unsupported_type ∷ index_out_of_bounds ∷ []) }
 {
     let Ok(copy) = values.try_clone(alloc) else {
-        return NO_MEMORY;
+        return OUT_OF_MEMORY;
     };
     let texts = match copy.into_utf8view() {
         Ok(texts) => texts,
         Err(back) => {
             drop(back);
-            return OTHER_KIND;
+            return UNSUPPORTED_TYPE;
         }
     };
     propagate_texts_into(alloc, keys, &texts, out_keys, out_values)
@@ -109,13 +114,13 @@ fn propagate_texts_into(
         (λ made. type_of made.column ≡ of_uint32) }
     ensures value_dtype { Makes result out_values.old.tree out_values.new.tree
         (λ made. type_of made.column ≡ of_utf8_view) }
-    ensures own { (result ≢ no_column) × (result ≢ other_kind) }
-    ensures bounds { Demands result out_of_bounds
+    ensures own { (result ≢ no_column) × (result ≢ unsupported_type) }
+    ensures bounds { Demands result index_out_of_bounds
         (IsTrue (all_within (length (utf8view_rows values.now)) (primitive_rows keys.now))) }
-    ensures status { IsOneOf result (done ∷ no_memory ∷ out_of_bounds ∷ []) }
+    ensures status { IsOneOf result (ok ∷ out_of_memory ∷ index_out_of_bounds ∷ []) }
 {
     if !keys_in_bounds(keys, values.len()) {
-        return OUT_OF_BOUNDS;
+        return INDEX_OUT_OF_BOUNDS;
     }
     match propagate_dictionary_value_nulls(alloc, keys, values) {
         Ok((keys, values)) => put_both(
@@ -125,12 +130,12 @@ fn propagate_texts_into(
             out_keys,
             out_values,
         ),
-        Err(_) => NO_MEMORY,
+        Err(_) => OUT_OF_MEMORY,
     }
 }
 
 // Stores a column in each of two handles, or in neither if an allocation fails. Errors:
-// `NO_MEMORY`.
+// `OUT_OF_MEMORY`.
 fn put_both(
     alloc: Global,
     first: ArrayRef,
@@ -138,32 +143,38 @@ fn put_both(
     out_first: &mut Handle,
     out_second: &mut Handle,
 ) -> u32
+    requires first { depth (type_of first.column) ≤ 128 }
+    requires second { depth (type_of second.column) ≤ 128 }
     ensures first { Makes result out_first.old.tree out_first.new.tree (λ made. made ≡ first) }
     ensures second { Makes result out_second.old.tree out_second.new.tree
         (λ made. made ≡ second) }
-    ensures status { result ≤ no_memory }
+    ensures status { result ≤ out_of_memory }
 {
     let Some(first) = boxed(alloc, first) else {
         drop(second);
-        return NO_MEMORY;
+        return OUT_OF_MEMORY;
     };
     let Some(second) = boxed(alloc, second) else {
         drop(first);
-        return NO_MEMORY;
+        return OUT_OF_MEMORY;
     };
     *out_first = Handle::of(first);
     *out_second = Handle::of(second);
-    DONE
+    OK
 }
 
-// Moves the column into a box; returns none and frees the column if the allocation fails.
-fn boxed(alloc: Global, column: ArrayRef) -> Option<Box<ArrayRef>>
+// Moves the column into a box; returns none and frees the column if an allocation fails.
+fn boxed(alloc: Global, column: ArrayRef) -> Option<Box<SharedColumn>>
+    requires { depth (type_of column.column) ≤ 128 }
     ensures { IfSome result (λ boxed. boxed.value ≡ column) }
 {
-    match Box::new(alloc, column) {
+    let Ok(shared) = SharedColumn::new(alloc, column) else {
+        return None;
+    };
+    match Box::new(alloc, shared) {
         Ok(boxed) => Some(boxed),
-        Err(refused) => {
-            drop(refused.value);
+        Err(failed) => {
+            drop(failed.value);
             None
         }
     }

@@ -3,12 +3,13 @@
 ghost use Rattle.std.specs.Prelude.{◌≡◌, ◌≢◌, ◌≤◌, ◌<◌, ◌∷◌, ◌↔◌, All, false, length, map, IsTrue, IfOk, IfErr};
 ghost use Rattle.sel_bits.specs.declared.faults.Malformed.TheVariants.{TooManyRows, ValidityLength};
 ghost use Rattle.sel_arrow.specs.Masked.{Covers};
+ghost use Rattle.sel_arrow.specs.Depth.{depth};
 ghost use Rattle.sel_arrow.specs.Rows.{rows, type_of};
 ghost use Rattle.sel_arrow.specs.Value.{Null};
 ghost use Rattle.sel_calls.specs.Several.{first_shape, picks_from, picks_in, AreAlike};
 ghost use Rattle.sel_flatten.specs.Flatten.{array_columns, flatten, parts_fit, exceeded_flattened};
 ghost use Rattle.sel_handle.specs.Inputs.{lacks_bits};
-ghost use Rattle.sel_handle.specs.Status.{done, no_memory, no_column, other_type, other_length, out_of_bounds, rule_status, limit_statuses, DemandsBefore, IsOneOf, Makes, ReportsLimits};
+ghost use Rattle.sel_handle.specs.Status.{ok, out_of_memory, no_column, type_mismatch, length_mismatch, index_out_of_bounds, rule_status, limit_statuses, DemandsBefore, IsOneOf, Makes, ReportsLimits};
 ghost use Rattle.sel_runs.specs.Need.{exceeded_taken};
 ghost use Rattle.sel_runs.specs.Picks.{pick, PickFits};
 
@@ -23,8 +24,8 @@ use sel_flatten::horizontal_flatten::{flatten_is_safe, horizontal_flatten_unchec
 use sel_handle::handle::Handle;
 use sel_handle::inputs::validity_of;
 use sel_handle::status::{
-    NO_MEMORY, OTHER_LENGTH, OTHER_TYPE, OUT_OF_BOUNDS, TOO_MANY_ROWS, VALIDITY_LENGTH, put,
-    status_of,
+    INDEX_OUT_OF_BOUNDS, LENGTH_MISMATCH, OUT_OF_MEMORY, TOO_MANY_ROWS, TYPE_MISMATCH,
+    VALIDITY_LENGTH, put, status_of,
 };
 use sel_runs::plan::Walk;
 use sel_runs::planned::collect_plan;
@@ -45,9 +46,10 @@ pub struct PickWords {
 /// Each of `height` steps appends the next `widths[k]` rows of every column `k`; a column of only
 /// `widths[k]` rows is broadcast.
 ///
-/// Errors: `OTHER_TYPE` if the columns have different types; `OTHER_LENGTH` if there are no
+/// Errors: `TYPE_MISMATCH` if the columns have different types; `LENGTH_MISMATCH` if there are no
 /// columns, not as many widths as columns, a width is 0, or column `k` has neither `widths[k]` rows
-/// nor `height` times as many; `NO_MEMORY`; a `LIMIT_` status if the result would exceed a limit.
+/// nor `height` times as many; `OUT_OF_MEMORY`; a `_LIMIT` status if the result would exceed a
+/// limit.
 pub fn flatten_into(
     alloc: Global,
     arrays: &[ArrayRef],
@@ -55,16 +57,17 @@ pub fn flatten_into(
     height: usize,
     out: &mut Handle,
 ) -> u32
+    requires { All (λ array. depth (type_of array.column) ≤ 128) arrays.now }
     ensures rows { Makes result out.old.tree out.new.tree (λ made. rows made.column ≡
         flatten (map (λ array. rows array.column) arrays.now) widths.now height) }
     ensures dtype { Makes result out.old.tree out.new.tree (λ made. type_of made.column ≡
         first_shape (map (λ array. type_of array.column) arrays.now)) }
     ensures column { result ≢ no_column }
     ensures status { IsOneOf result
-        (done ∷ no_memory ∷ other_type ∷ other_length ∷ limit_statuses) }
-    ensures alike { DemandsBefore result other_type (other_length ∷ limit_statuses)
+        (ok ∷ out_of_memory ∷ type_mismatch ∷ length_mismatch ∷ limit_statuses) }
+    ensures alike { DemandsBefore result type_mismatch (length_mismatch ∷ limit_statuses)
         (AreAlike (map (λ array. type_of array.column) arrays.now)) }
-    ensures length { DemandsBefore result other_length limit_statuses
+    ensures length { DemandsBefore result length_mismatch limit_statuses
         ((0 < length arrays.now) × IsTrue
         (parts_fit height (map (λ array. rows array.column) arrays.now) widths.now)) }
     ensures one_type { ReportsLimits result
@@ -75,10 +78,10 @@ pub fn flatten_into(
         (flatten (map (λ array. rows array.column) arrays.now) widths.now height)) }
 {
     if !are_alike(arrays) {
-        return OTHER_TYPE;
+        return TYPE_MISMATCH;
     }
     if !flatten_is_safe(arrays, widths, height) {
-        return OTHER_LENGTH;
+        return LENGTH_MISMATCH;
     }
     match horizontal_flatten_unchecked(alloc, arrays, widths, height) {
         Ok(flat) => put(alloc, flat, out),
@@ -105,9 +108,9 @@ fn are_alike(arrays: &[ArrayRef]) -> bool
 /// row.
 ///
 /// Errors: `TOO_MANY_ROWS` if there are more than 4,294,967,295 row references; `VALIDITY_LENGTH`
-/// if `bits` has fewer bits than there are references; `OTHER_LENGTH` if there are no columns;
-/// `OTHER_TYPE` if the columns have different types; `OUT_OF_BOUNDS` if a valid reference is out of
-/// bounds; `NO_MEMORY`; a `LIMIT_` status if the result would exceed a limit.
+/// if `bits` has fewer bits than there are references; `LENGTH_MISMATCH` if there are no columns;
+/// `TYPE_MISMATCH` if the columns have different types; `INDEX_OUT_OF_BOUNDS` if a valid reference
+/// is out of bounds; `OUT_OF_MEMORY`; a `_LIMIT` status if the result would exceed a limit.
 pub fn collect_into(
     alloc: Global,
     arrays: &[ArrayRef],
@@ -116,25 +119,27 @@ pub fn collect_into(
     has_bits: bool,
     out: &mut Handle,
 ) -> u32
+    requires { All (λ array. depth (type_of array.column) ≤ 128) arrays.now }
     ensures rows { Makes result out.old.tree out.new.tree (λ made. rows made.column ≡
         pick Null (map (λ array. rows array.column) arrays.now)
         (picks_in words.now bits.now has_bits)) }
     ensures dtype { Makes result out.old.tree out.new.tree (λ made. type_of made.column ≡
         first_shape (map (λ array. type_of array.column) arrays.now)) }
     ensures column { result ≢ no_column }
-    ensures status { IsOneOf result (done ∷ no_memory ∷ rule_status TooManyRows ∷
-        rule_status ValidityLength ∷ other_length ∷ other_type ∷ out_of_bounds ∷ limit_statuses) }
+    ensures status { IsOneOf result (ok ∷ out_of_memory ∷ rule_status TooManyRows ∷
+        rule_status ValidityLength ∷ length_mismatch ∷ type_mismatch ∷ index_out_of_bounds ∷
+        limit_statuses) }
     ensures few { DemandsBefore result (rule_status TooManyRows) (rule_status ValidityLength ∷
-        other_length ∷ other_type ∷ out_of_bounds ∷ limit_statuses)
+        length_mismatch ∷ type_mismatch ∷ index_out_of_bounds ∷ limit_statuses)
         (length words.now ≤ 4294967295) }
     ensures validity { DemandsBefore result (rule_status ValidityLength)
-        (other_length ∷ other_type ∷ out_of_bounds ∷ limit_statuses)
+        (length_mismatch ∷ type_mismatch ∷ index_out_of_bounds ∷ limit_statuses)
         (lacks_bits bits.now has_bits (length words.now) ≡ false) }
-    ensures some { DemandsBefore result other_length
-        (other_type ∷ out_of_bounds ∷ limit_statuses) (0 < length arrays.now) }
-    ensures alike { DemandsBefore result other_type (out_of_bounds ∷ limit_statuses)
+    ensures some { DemandsBefore result length_mismatch
+        (type_mismatch ∷ index_out_of_bounds ∷ limit_statuses) (0 < length arrays.now) }
+    ensures alike { DemandsBefore result type_mismatch (index_out_of_bounds ∷ limit_statuses)
         (AreAlike (map (λ array. type_of array.column) arrays.now)) }
-    ensures bounds { DemandsBefore result out_of_bounds limit_statuses
+    ensures bounds { DemandsBefore result index_out_of_bounds limit_statuses
         (All (PickFits (map (λ array. rows array.column) arrays.now))
         (picks_in words.now bits.now has_bits)) }
     ensures one_type { ReportsLimits result
@@ -151,7 +156,7 @@ pub fn collect_into(
         return VALIDITY_LENGTH;
     }
     let Ok(validity) = validity_of(alloc, bits, has_bits, words.len()) else {
-        return NO_MEMORY;
+        return OUT_OF_MEMORY;
     };
     collect_picks_into(alloc, arrays, words, &validity, out)
 }
@@ -163,6 +168,7 @@ fn collect_picks_into(
     validity: &Option<Bitmap>,
     out: &mut Handle,
 ) -> u32
+    requires depth { All (λ array. depth (type_of array.column) ≤ 128) arrays.now }
     requires few { length words.now ≤ 4294967295 }
     requires covers { Covers validity.now (length words.now) }
     ensures rows { Makes result out.old.tree out.new.tree (λ made. rows made.column ≡
@@ -173,12 +179,13 @@ fn collect_picks_into(
     ensures own { (result ≢ no_column) × (result ≢ rule_status TooManyRows) ×
         (result ≢ rule_status ValidityLength) }
     ensures status { IsOneOf result
-        (done ∷ no_memory ∷ other_length ∷ other_type ∷ out_of_bounds ∷ limit_statuses) }
-    ensures some { DemandsBefore result other_length
-        (other_type ∷ out_of_bounds ∷ limit_statuses) (0 < length arrays.now) }
-    ensures alike { DemandsBefore result other_type (out_of_bounds ∷ limit_statuses)
+        (ok ∷ out_of_memory ∷ length_mismatch ∷ type_mismatch ∷ index_out_of_bounds ∷
+        limit_statuses) }
+    ensures some { DemandsBefore result length_mismatch
+        (type_mismatch ∷ index_out_of_bounds ∷ limit_statuses) (0 < length arrays.now) }
+    ensures alike { DemandsBefore result type_mismatch (index_out_of_bounds ∷ limit_statuses)
         (AreAlike (map (λ array. type_of array.column) arrays.now)) }
-    ensures bounds { DemandsBefore result out_of_bounds limit_statuses
+    ensures bounds { DemandsBefore result index_out_of_bounds limit_statuses
         (All (PickFits (map (λ array. rows array.column) arrays.now))
         (picks_from 0 validity.now words.now)) }
     ensures one_type { ReportsLimits result
@@ -190,20 +197,20 @@ fn collect_picks_into(
         (picks_from 0 validity.now words.now))) }
 {
     if arrays.is_empty() {
-        return OTHER_LENGTH;
+        return LENGTH_MISMATCH;
     }
     if !are_alike(arrays) {
-        return OTHER_TYPE;
+        return TYPE_MISMATCH;
     }
     let Ok(lengths) = lengths_of(alloc, arrays) else {
-        return NO_MEMORY;
+        return OUT_OF_MEMORY;
     };
     let places = WordPlaces { words, validity };
     if !are_in_bounds(&lengths, &places) {
-        return OUT_OF_BOUNDS;
+        return INDEX_OUT_OF_BOUNDS;
     }
     let Ok(sources) = columns_of(alloc, arrays) else {
-        return NO_MEMORY;
+        return OUT_OF_MEMORY;
     };
     match collect_plan(alloc, &sources, &Walk { places, at: 0 }, false) {
         Ok(column) => put(alloc, ArrayRef { column }, out),

@@ -7,7 +7,7 @@ ghost use Rattle.sel_arrow.specs.Shape.{Shape};
 ghost use Rattle.sel_arrow.specs.Value.{Value};
 ghost use Rattle.sel_calls.specs.Parsed.{exceeds_parse_limit, IsRowsText, IsTypeText};
 ghost use Rattle.sel_calls.specs.Printed.{filled};
-ghost use Rattle.sel_handle.specs.Status.{done, no_memory, type_syntax, text_syntax, text_misfit, text_limit, IsOneOf, Makes};
+ghost use Rattle.sel_handle.specs.Status.{ok, out_of_memory, type_syntax, row_syntax, row_type_mismatch, text_limit, IsOneOf, Makes};
 ghost use Rattle.sel_text.specs.Limits.{exceeds_limit};
 ghost use Rattle.sel_text.specs.Spaces.{spaceless};
 ghost use Rattle.sel_text.specs.TextErrors.{IsLimitOrMemoryError, IsOffsetWithin};
@@ -18,7 +18,9 @@ ghost use Rattle.sel_text.specs.Written.{widths_written};
 use sel_arrow::array_ref::ArrayRef;
 use sel_arrow::datatype::ArrowDataType;
 use sel_handle::handle::Handle;
-use sel_handle::status::{DONE, NO_MEMORY, TEXT_LIMIT, TEXT_MISFIT, TEXT_SYNTAX, TYPE_SYNTAX, put};
+use sel_handle::status::{
+    OK, OUT_OF_MEMORY, ROW_SYNTAX, ROW_TYPE_MISMATCH, TEXT_LIMIT, TYPE_SYNTAX, put,
+};
 use sel_text::build::NullSlots;
 use sel_text::parse::parse_column;
 use sel_text::print::print_rows;
@@ -30,21 +32,21 @@ use std::str;
 /// Writes the row text of the column into `out`, truncated to its length, and the length of the
 /// whole text to `len`.
 ///
-/// Errors: `NO_MEMORY`.
+/// Errors: `OUT_OF_MEMORY`.
 pub fn print_into(alloc: Global, column: &ArrayRef, out: &mut [u8], len: &mut usize) -> u32
-    ensures text { result ≡ done → out.new ≡
+    ensures text { result ≡ ok → out.new ≡
         filled (text_of (type_of column.now.column) (rows column.now.column)) out.old }
-    ensures len { result ≡ done → len.new ≡
+    ensures len { result ≡ ok → len.new ≡
         length (text_of (type_of column.now.column) (rows column.now.column)) }
-    ensures status { IsOneOf result (done ∷ no_memory ∷ []) }
+    ensures status { IsOneOf result (ok ∷ out_of_memory ∷ []) }
 {
     let Ok(text) = print_rows(alloc, column.as_column()) else {
-        return NO_MEMORY;
+        return OUT_OF_MEMORY;
     };
     let bytes = text.as_str().as_bytes();
     *len = bytes.len();
     fill(bytes, out);
-    DONE
+    OK
 }
 
 // Copies as many bytes as fit.
@@ -57,10 +59,10 @@ fn fill(text: &[u8], out: &mut [u8])
 
 /// Parses the type `name` and the row text `text`, and stores the column in `out`.
 ///
-/// Errors: `TYPE_SYNTAX` if `name` is not a type, with its byte position in `at`; `TEXT_SYNTAX` if
-/// `text` is not row text, and `TEXT_MISFIT` if a value does not fit the type, with the byte
+/// Errors: `TYPE_SYNTAX` if `name` is not a type, with its byte position in `at`; `ROW_SYNTAX` if
+/// `text` is not row text, and `ROW_TYPE_MISMATCH` if a value does not fit the type, with the byte
 /// position in `text`; `TEXT_LIMIT` if the type or the rows exceed a size limit, or the type is
-/// nested more than 64 levels deep; `NO_MEMORY`. On error `out` is unchanged.
+/// nested more than 64 levels deep; `OUT_OF_MEMORY`. On error `out` is unchanged.
 pub fn parse_into(alloc: Global, name: &[u8], text: &[u8], at: &mut usize, out: &mut Handle) -> u32
     ensures dtype { Makes result out.old.tree out.new.tree
         (λ made. type_text (type_of made.column) ≡ spaceless name.now) }
@@ -68,21 +70,21 @@ pub fn parse_into(alloc: Global, name: &[u8], text: &[u8], at: &mut usize, out: 
         (λ made. text_of (type_of made.column) (rows made.column) ≡ spaceless text.now) }
     ensures named { result ≡ type_syntax → (shape : Shape) → IsTypeText shape name.now →
         ⊥ }
-    ensures typed { IsOneOf result (text_syntax ∷ text_misfit ∷ []) →
+    ensures typed { IsOneOf result (row_syntax ∷ row_type_mismatch ∷ []) →
         (shape : Shape) × (type_text shape ≡ spaceless name.now) }
     ensures accepted { (shape : Shape) (values : List Value) →
         IsTypeText shape name.now → IsRowsText shape values text.now →
-        IsOneOf result (done ∷ no_memory ∷ text_limit ∷ []) }
+        IsOneOf result (ok ∷ out_of_memory ∷ text_limit ∷ []) }
     ensures limit { result ≡ text_limit → (shape : Shape) (values : List Value) →
         IsTypeText shape name.now → IsRowsText shape values text.now →
         IsTrue (exceeds_parse_limit shape values) }
     ensures type_place { result ≡ type_syntax → at.new ≤ length name.now }
-    ensures place { IsOneOf result (text_syntax ∷ text_misfit ∷ []) →
+    ensures place { IsOneOf result (row_syntax ∷ row_type_mismatch ∷ []) →
         at.new ≤ length text.now }
-    ensures no_place { IsOneOf result (done ∷ no_memory ∷ text_limit ∷ []) → at.new ≡
+    ensures no_place { IsOneOf result (ok ∷ out_of_memory ∷ text_limit ∷ []) → at.new ≡
         at.old }
     ensures status { IsOneOf result
-        (done ∷ no_memory ∷ type_syntax ∷ text_syntax ∷ text_misfit ∷ text_limit ∷ []) }
+        (ok ∷ out_of_memory ∷ type_syntax ∷ row_syntax ∷ row_type_mismatch ∷ text_limit ∷ []) }
 {
     let dtype = match read_dtype(alloc, name) {
         Ok(dtype) => dtype,
@@ -155,14 +157,14 @@ fn read_rows(alloc: Global, dtype: &ArrowDataType, bytes: &[u8]) -> Result<Array
 
 /// Returns the status code of an error in the type, and writes its byte position, if any, to `at`.
 fn type_error_status(fault: TextError, at: &mut usize) -> u32
-    ensures refused { result ≢ done }
+    ensures refused { result ≢ ok }
     ensures short { IsLimitOrMemoryError fault →
-        IsOneOf result (no_memory ∷ text_limit ∷ []) }
+        IsOneOf result (out_of_memory ∷ text_limit ∷ []) }
     ensures limit { result ≡ text_limit → fault ≡ TextError.Limit }
     ensures place { (count : ℕ) → IsOffsetWithin count fault → result ≡ type_syntax →
         at.new ≤ count }
-    ensures no_place { IsOneOf result (no_memory ∷ text_limit ∷ []) → at.new ≡ at.old }
-    ensures status { IsOneOf result (no_memory ∷ type_syntax ∷ text_limit ∷ []) }
+    ensures no_place { IsOneOf result (out_of_memory ∷ text_limit ∷ []) → at.new ≡ at.old }
+    ensures status { IsOneOf result (out_of_memory ∷ type_syntax ∷ text_limit ∷ []) }
 {
     match fault {
         TextError::Syntax { at: place } | TextError::Type { at: place } => {
@@ -170,33 +172,33 @@ fn type_error_status(fault: TextError, at: &mut usize) -> u32
             TYPE_SYNTAX
         }
         TextError::Limit => TEXT_LIMIT,
-        TextError::OutOfMemory => NO_MEMORY,
+        TextError::OutOfMemory => OUT_OF_MEMORY,
     }
 }
 
 /// Returns the status code of an error in the row text, and writes its byte position, if any, to
 /// `at`.
 fn rows_error_status(fault: TextError, at: &mut usize) -> u32
-    ensures refused { result ≢ done }
+    ensures refused { result ≢ ok }
     ensures short { IsLimitOrMemoryError fault →
-        IsOneOf result (no_memory ∷ text_limit ∷ []) }
+        IsOneOf result (out_of_memory ∷ text_limit ∷ []) }
     ensures limit { result ≡ text_limit → fault ≡ TextError.Limit }
     ensures place { (count : ℕ) → IsOffsetWithin count fault →
-        IsOneOf result (text_syntax ∷ text_misfit ∷ []) → at.new ≤ count }
-    ensures no_place { IsOneOf result (no_memory ∷ text_limit ∷ []) → at.new ≡ at.old }
-    ensures status { IsOneOf result (no_memory ∷ text_syntax ∷ text_misfit ∷ text_limit ∷
+        IsOneOf result (row_syntax ∷ row_type_mismatch ∷ []) → at.new ≤ count }
+    ensures no_place { IsOneOf result (out_of_memory ∷ text_limit ∷ []) → at.new ≡ at.old }
+    ensures status { IsOneOf result (out_of_memory ∷ row_syntax ∷ row_type_mismatch ∷ text_limit ∷
         []) }
 {
     match fault {
         TextError::Syntax { at: place } => {
             *at = place;
-            TEXT_SYNTAX
+            ROW_SYNTAX
         }
         TextError::Type { at: place } => {
             *at = place;
-            TEXT_MISFIT
+            ROW_TYPE_MISMATCH
         }
         TextError::Limit => TEXT_LIMIT,
-        TextError::OutOfMemory => NO_MEMORY,
+        TextError::OutOfMemory => OUT_OF_MEMORY,
     }
 }

@@ -6,14 +6,14 @@ ghost use Rattle.sel_arrow.specs.Rows.{rows, type_of};
 ghost use Rattle.sel_calls.specs.Wides.{joined, signed_wide, unsigned_wide};
 ghost use Rattle.sel_handle.specs.Inputs.{validity_in, flat_rules, IsRuleOrMemory};
 ghost use Rattle.sel_handle.specs.Outputs.{Shows, numbers};
-ghost use Rattle.sel_handle.specs.Status.{done, no_memory, no_column, other_kind, other_length, Demands, DemandsBefore, IsOneOf};
+ghost use Rattle.sel_handle.specs.Status.{ok, out_of_memory, no_column, unsupported_type, length_mismatch, Demands, DemandsBefore, IsOneOf};
 
 use sel_arrow::array::Array;
 use sel_arrow::array_ref::ArrayRef;
 use sel_arrow::primitive::ArrowPrimitive;
 use sel_bits::faults::{MakeError, PolarsResult};
 use sel_handle::inputs::numbers_of;
-use sel_handle::status::{DONE, NO_MEMORY, OTHER_KIND, OTHER_LENGTH};
+use sel_handle::status::{LENGTH_MISMATCH, OK, OUT_OF_MEMORY, UNSUPPORTED_TYPE};
 use std::alloc::Global;
 
 /// A 128-bit integer as two 64-bit words, in the memory layout of a little-endian machine.
@@ -135,34 +135,34 @@ pub fn wides_of<T: InWords>(
 
 /// Copies the values, also those in null slots, into `out`.
 ///
-/// Errors: `OTHER_KIND` if the column's type is not that of `T`; `OTHER_LENGTH` if the length of
-/// `out` is not the number of rows; `NO_MEMORY`.
+/// Errors: `UNSUPPORTED_TYPE` if the column's type is not that of `T`; `LENGTH_MISMATCH` if the
+/// length of `out` is not the number of rows; `OUT_OF_MEMORY`.
 #[tactic(auto, using(crate::proofs::Shown::words))]
 pub fn wides_into<T: InWords>(alloc: Global, column: &ArrayRef, out: &mut [Wide]) -> u32
-    ensures values { result ≡ done → Shows (numbers T.shown_by out.new)
+    ensures values { result ≡ ok → Shows (numbers T.shown_by out.new)
         (rows column.now.column) }
-    ensures kind { DemandsBefore result other_kind (other_length ∷ [])
+    ensures kind { DemandsBefore result unsupported_type (length_mismatch ∷ [])
         (type_of column.now.column ≡ T.shape) }
-    ensures length { Demands result other_length
+    ensures length { Demands result length_mismatch
         (length out.old ≡ length (rows column.now.column)) }
     ensures status { IsOneOf result
-        (done ∷ no_memory ∷ no_column ∷ other_kind ∷ other_length ∷ []) }
+        (ok ∷ out_of_memory ∷ no_column ∷ unsupported_type ∷ length_mismatch ∷ []) }
     ensures column { result ≢ no_column }
 {
     let Ok(copy) = column.try_clone(alloc) else {
-        return NO_MEMORY;
+        return OUT_OF_MEMORY;
     };
     let array = match copy.into_primitive::<T>() {
         Ok(array) => array,
         Err(back) => {
             drop(back);
-            return OTHER_KIND;
+            return UNSUPPORTED_TYPE;
         }
     };
     let values = array.values().as_slice();
     if out.len() != values.len() {
-        return OTHER_LENGTH;
+        return LENGTH_MISMATCH;
     }
     split_all(values, out);
-    DONE
+    OK
 }

@@ -31,8 +31,8 @@ use denote.Struct.Owning.{shape, to}
 use denote.Struct.OwningLaws.{part_in, part_out}
 use denote.Struct.Struct.{Struct}
 use Rattle.std.specs.declared.option.Option.TheVariants.{None, Some}
-use Rattle.sel_arrow.proofs.array_ref.ArrayRef.TheLaws as tree_laws
-use Rattle.sel_arrow.specs.contracts.array_ref.ArrayRef as tree
+use Rattle.sel_handle.proofs.shared_column.SharedColumn.TheLaws as tree_laws
+use Rattle.sel_handle.specs.contracts.shared_column.SharedColumn as tree
 use Rattle.sel_handle.specs.Held.{Held}
 use Rattle.sel_handle.specs.ColumnRef.{lasts, ref_owns}
 use Rattle.sel_handle.specs.contracts.column_ref.ColumnRef as reference

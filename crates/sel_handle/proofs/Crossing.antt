@@ -5,7 +5,7 @@ use base.Shift.{Keyless}
 use denote.Builtin.{RawPtr}
 use denote.Memory.{lone}
 use denote.RawPtr.{Ptr}
-use denote.Param.Send.{IsSend, AllSend, owning_send, struct_send, sendable}
+use denote.Param.Send.{IsSend, IsSync, AllSend, owning_send, struct_send, sendable}
 use denote.Struct.Struct.{exits_of}
 use denote.Struct.Owning.{shape, fields, to}
 use Rattle.std.proofs.Crossing as heap
@@ -14,18 +14,24 @@ use Rattle.std.specs.declared.alloc.Global.{Global}
 use Rattle.std.specs.declared.option.Option.TheVariants.{None, Some}
 use Rattle.std_alloc.proofs.SendSync.{quiet, lies, seen}
 use Rattle.sel_arrow.proofs.Crossing.{array_send, array_sync}
-use Rattle.sel_arrow.specs.contracts.array_ref.ArrayRef as tree
+use Rattle.sel_handle.specs.contracts.shared_column.SharedColumn as tree
 use Rattle.sel_handle.specs.Held.{Held, held_owns}
 use Rattle.sel_handle.specs.ColumnRef.{ref_owns}
 use Rattle.sel_handle.specs.contracts.handle.Handle as handle
 use Rattle.sel_handle.specs.contracts.column_ref.ColumnRef as reference
+
+pub shared_send : IsSend tree.the_row
+shared_send = search (sendable, heap.Arc-send, array_send, array_sync) depth 20
+
+pub shared_sync : IsSync tree.the_row
+shared_sync = search (sendable, heap.Arc-sync, array_send, array_sync) depth 20
 
 pointer : IsSend RawPtr
 pointer = search sendable
 
 held_keyless : (a : Global) (p : Ptr) (held : Held) → Keyless (held_owns a p held)
 held_keyless a p None = tt
-held_keyless a p (Some column) = (lies tree.the_row array_send p column, heap.frees.frees a (raw (lone tree.the_row.mir)) p)
+held_keyless a p (Some column) = (lies tree.the_row shared_send p column, heap.frees.frees a (raw (lone tree.the_row.mir)) p)
 
 pub handle_send : IsSend handle.the_row
 handle_send =
@@ -35,7 +41,7 @@ handle_send =
 
 ref_keyless : (p : Ptr) (held : Held) → Keyless (ref_owns p held)
 ref_keyless p None = tt
-ref_keyless p (Some column) = ((λ may. tt), (λ a. ((λ share. tt), seen tree.the_row array_sync p column (a ∷ []))))
+ref_keyless p (Some column) = ((λ may. tt), (λ a. ((λ share. tt), seen tree.the_row shared_sync p column (a ∷ []))))
 
 pub ref_send : IsSend reference.the_row
 ref_send =

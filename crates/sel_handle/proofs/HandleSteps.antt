@@ -27,7 +27,7 @@ use Rattle.std.specs.declared.option.Option.TheVariants.{None, Some}
 use Rattle.std.proofs.GlobalToken.{dealloc_token-Testable}
 use Rattle.std_alloc.specs.Box.Ownership.{box_owns}
 use Rattle.std_alloc.proofs.ResultValues.{and_tt}
-use Rattle.sel_arrow.specs.contracts.array_ref.ArrayRef as tree
+use Rattle.sel_handle.specs.contracts.shared_column.SharedColumn as tree
 use Rattle.sel_handle.specs.Held.{Held, held_owns}
 use Rattle.sel_handle.specs.contracts.loose.Loose as loose
 use Rattle.sel_handle.specs.contracts.handle.Handle as handle

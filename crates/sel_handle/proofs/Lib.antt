@@ -1,8 +1,11 @@
+pub mod Cloned
 pub mod ColumnRefSteps
 pub mod Crossing
+pub mod Depths
+pub mod Emptied
 pub mod HandleSteps
 pub mod LooseSteps
 pub mod Positions
+pub mod Reported
 pub mod Shown
-pub mod Taken
 pub mod Tuples

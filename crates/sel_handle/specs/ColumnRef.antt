@@ -4,7 +4,7 @@ use denote.RawPtr.{Ptr, Testable, null_ptr}
 use denote.Struct.Lending.{lent_at}
 use Rattle.std.specs.Prelude.{ℕ, [], ◌∷◌}
 use Rattle.std.specs.declared.option.Option.TheVariants.{None, Some}
-use Rattle.sel_arrow.specs.contracts.array_ref.ArrayRef.{the_row}
+use Rattle.sel_handle.specs.contracts.shared_column.SharedColumn.{the_row}
 use Rattle.sel_handle.specs.Held.{Held}
 
 -- A share of the token of lifetime `a`: while it is held, the lifetime does not end.

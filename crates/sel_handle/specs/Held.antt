@@ -8,7 +8,7 @@ use Rattle.std.specs.declared.option.Option.{Option}
 use Rattle.std.specs.declared.option.Option.TheVariants.{None, Some}
 use Rattle.std.specs.contracts.option.Option as option
 use Rattle.std.specs.contracts.impls.GlobalAllocator.TheImpl.{ghosts}
-use Rattle.sel_arrow.specs.contracts.array_ref.ArrayRef.{the_row}
+use Rattle.sel_handle.specs.contracts.shared_column.SharedColumn.{the_row}
 
 -- A well-formed column, or none.
 abbrev pub Held : Type 0

@@ -18,48 +18,52 @@ use Rattle.sel_arrow.specs.declared.column.Column.{Column}
 use Rattle.sel_handle.specs.Held.{Held}
 
 -- Success.
-abbrev pub done : ℕ
-done = 0
+abbrev pub ok : ℕ
+ok = 0
 
 -- Out of memory: an allocation failed.
-abbrev pub no_memory : ℕ
-no_memory = 1
+abbrev pub out_of_memory : ℕ
+out_of_memory = 1
 
 -- A handle that must have a column is empty.
 abbrev pub no_column : ℕ
 no_column = 2
 
 -- The column has a type that the call does not support.
-abbrev pub other_kind : ℕ
-other_kind = 3
+abbrev pub unsupported_type : ℕ
+unsupported_type = 3
 
 -- The columns do not have the same type.
-abbrev pub other_type : ℕ
-other_type = 4
+abbrev pub type_mismatch : ℕ
+type_mismatch = 4
 
 -- Lengths do not match.
-abbrev pub other_length : ℕ
-other_length = 5
+abbrev pub length_mismatch : ℕ
+length_mismatch = 5
 
 -- An index, a key or a row reference is out of bounds.
-abbrev pub out_of_bounds : ℕ
-out_of_bounds = 6
+abbrev pub index_out_of_bounds : ℕ
+index_out_of_bounds = 6
 
 -- A list that is not null has no element at the index.
-abbrev pub get_out_of_bounds : ℕ
-get_out_of_bounds = 7
+abbrev pub list_index_out_of_bounds : ℕ
+list_index_out_of_bounds = 7
+
+-- The column would be nested more than 128 levels deep.
+abbrev pub too_deep : ℕ
+too_deep = 12
 
 -- Syntax error in the type.
 abbrev pub type_syntax : ℕ
 type_syntax = 32
 
 -- Syntax error in the row text.
-abbrev pub text_syntax : ℕ
-text_syntax = 33
+abbrev pub row_syntax : ℕ
+row_syntax = 33
 
 -- A value in the row text does not fit the type.
-abbrev pub text_misfit : ℕ
-text_misfit = 34
+abbrev pub row_type_mismatch : ℕ
+row_type_mismatch = 34
 
 -- The type or the rows exceed a size limit, or the type is nested too deeply.
 abbrev pub text_limit : ℕ
@@ -80,9 +84,9 @@ limit_statuses =
 
 -- The status of a kernel's error.
 abbrev pub error_status : PolarsError → ℕ
-error_status error.OutOfMemory = no_memory
+error_status error.OutOfMemory = out_of_memory
 error_status (error.SizeLimit limit) = limit_status limit
-error_status error.ComputeError = get_out_of_bounds
+error_status error.ComputeError = list_index_out_of_bounds
 
 -- The status of a broken rule.
 abbrev pub rule_status : Malformed → ℕ
@@ -103,16 +107,16 @@ rule_status rule.Utf8 = 28
 -- The status of an error in building a column.
 abbrev pub make_status : MakeError → ℕ
 make_status (make.Malformed rule) = rule_status rule
-make_status make.OutOfMemory = no_memory
+make_status make.OutOfMemory = out_of_memory
 
 -- The status is that of the broken rule; if no rule is broken, it is success or out of memory.
 abbrev pub ReportsOnly : ℕ → Option Malformed → Type 0
-ReportsOnly status None = status ≤ no_memory
+ReportsOnly status None = status ≤ out_of_memory
 ReportsOnly status (Some rule) = status ≡ rule_status rule
 
 -- On success, the handle has a column with this property; on error, the handle is unchanged.
 abbrev pub Makes : ℕ → Held → Held → (ArrayRef → Type 0) → Type 0
-Makes status before after Holds = cond (status == done) (IsSomeAnd after Holds) (after ≡ before)
+Makes status before after Holds = cond (status == ok) (IsSomeAnd after Holds) (after ≡ before)
 
 -- The rows, and the type, of a handle's column; no rows and the null type for an empty handle.
 abbrev pub held_rows : Held → List Value
@@ -125,13 +129,13 @@ held_type (Some column) = type_of column.column
 
 -- Success implies the condition, and the status implies that it does not hold.
 abbrev pub Demands : ℕ → ℕ → Type 0 → Type 0
-Demands status code Right = (status ≡ done → Right) × (status ≡ code → Right → ⊥)
+Demands status code Right = (status ≡ ok → Right) × (status ≡ code → Right → ⊥)
 
 -- The condition that is checked first: any other status but out of memory implies that it holds,
 -- and its own status that it does not.
 abbrev pub DemandsFirst : ℕ → ℕ → Type 0 → Type 0
 DemandsFirst status code Right =
-    (status ≢ no_memory → status ≢ code → Right) × (status ≡ code → Right → ⊥)
+    (status ≢ out_of_memory → status ≢ code → Right) × (status ≡ code → Right → ⊥)
 
 -- The status is one of these.
 abbrev pub IsOneOf : ℕ → List ℕ → Type 0
@@ -141,7 +145,7 @@ IsOneOf status codes = list_any (λ code. code == status) codes ≡ true
 -- it holds, and its own status that it does not.
 abbrev pub DemandsBefore : ℕ → ℕ → List ℕ → Type 0 → Type 0
 DemandsBefore status code others Right =
-    (IsOneOf status (done ∷ others) → Right) × (status ≡ code → Right → ⊥)
+    (IsOneOf status (ok ∷ others) → Right) × (status ≡ code → Right → ⊥)
 
 -- The handle has a column.
 abbrev pub HasColumn : Held → Type 0
@@ -151,8 +155,8 @@ HasColumn (Some column) = Unit {0}
 -- The status is not success, nor one that the C functions return for their own checks.
 abbrev pub IsOwnError : ℕ → Type 0
 IsOwnError status =
-    (status ≢ done) × (status ≢ no_column) × (status ≢ other_kind) × (status ≢ other_type)
-    × (status ≢ other_length) × (status ≢ out_of_bounds)
+    (status ≢ ok) × (status ≢ no_column) × (status ≢ unsupported_type) × (status ≢ type_mismatch)
+    × (status ≢ length_mismatch) × (status ≢ index_out_of_bounds)
 
 -- The status of a limit implies that the limit is exceeded.
 abbrev pub ReportsLimits : ℕ → (Limit → Type 0) → Type 0
@@ -160,8 +164,8 @@ ReportsLimits status Past = (limit : Limit) → status ≡ limit_status limit �
 
 -- Unless out of memory, the status is that of the broken rule, and success if no rule is broken.
 abbrev pub ReportsExactly : ℕ → Option Malformed → Type 0
-ReportsExactly status None = status ≤ no_memory
-ReportsExactly status (Some rule) = status ≢ no_memory → status ≡ rule_status rule
+ReportsExactly status None = status ≤ out_of_memory
+ReportsExactly status (Some rule) = status ≢ out_of_memory → status ≡ rule_status rule
 
 -- The number of rows of a handle's column.
 abbrev pub held_count : Held → ℕ

@@ -1,11 +1,14 @@
 //! Read access to the column of a handle.
 
-ghost use Rattle.std.specs.Prelude.{◌≡◌};
+ghost use Rattle.std.specs.Prelude.{◌≡◌, ◌≤◌, IfSome};
 ghost use Rattle.std.specs.Option.{MatchOption};
 ghost use Rattle.std.specs.declared.option.Option.TheVariants.{None, Some};
+ghost use Rattle.sel_arrow.specs.Depth.{depth};
+ghost use Rattle.sel_arrow.specs.Rows.{type_of};
 ghost use Rattle.sel_handle.specs.Held.{Held, held_coded};
 ghost use Rattle.sel_handle.specs.ColumnRef.{ref_owns};
 
+use crate::shared_column::SharedColumn;
 use sel_arrow::array_ref::ArrayRef;
 use std::marker::Model;
 
@@ -25,16 +28,28 @@ impl Model for ColumnRef {
 }
 
 impl ColumnRef {
-    /// Returns the column, or none if the handle has none.
-    pub fn column(&self) -> Option<&ArrayRef>
+    /// Returns the shared column, or none if the handle has none.
+    pub fn shared(&self) -> Option<&SharedColumn>
         ensures { MatchOption result (self.now.tree ≡ None)
-            (λ column. self.now.tree ≡ Some column.now) }
+            (λ shared. self.now.tree ≡ Some shared.now) }
     {
         let at = self.at;
         if at.is_null() {
             None
         } else {
-            Some(unsafe { &*(at as *const ArrayRef) })
+            Some(unsafe { &*(at as *const SharedColumn) })
+        }
+    }
+
+    /// Returns the column, or none if the handle has none.
+    pub fn column(&self) -> Option<&ArrayRef>
+        ensures column { MatchOption result (self.now.tree ≡ None)
+            (λ column. self.now.tree ≡ Some column.now) }
+        ensures depth { IfSome result (λ column. depth (type_of column.now.column) ≤ 128) }
+    {
+        match self.shared() {
+            None => None,
+            Some(shared) => Some(shared.column()),
         }
     }
 }

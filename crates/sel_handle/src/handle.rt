@@ -6,7 +6,7 @@ ghost use Rattle.std.specs.declared.option.Option.TheVariants.{None, Some};
 ghost use Rattle.sel_handle.specs.Held.{Held, held_coded, held_owns};
 
 use crate::loose::Loose;
-use sel_arrow::array_ref::ArrayRef;
+use crate::shared_column::SharedColumn;
 use std::alloc::Global;
 use std::marker::Model;
 use std::mem::replace;
@@ -37,7 +37,7 @@ impl Handle {
         }
     }
 
-    fn of_loose(loose: Loose<ArrayRef, Global>) -> Handle
+    fn of_loose(loose: Loose<SharedColumn, Global>) -> Handle
         ensures { result.tree ≡ Some loose.value }
     {
         let Loose { at, alloc } = loose;
@@ -47,7 +47,7 @@ impl Handle {
         }
     }
 
-    fn into_loose(self) -> Option<Loose<ArrayRef, Global>>
+    fn into_loose(self) -> Option<Loose<SharedColumn, Global>>
         ensures { MatchOption result (self.tree ≡ None)
             (λ loose. self.tree ≡ Some loose.value) }
     {
@@ -56,21 +56,21 @@ impl Handle {
             None
         } else {
             Some(Loose {
-                at: at as *mut ArrayRef,
+                at: at as *mut SharedColumn,
                 alloc,
             })
         }
     }
 
     /// Returns a handle that owns `column`.
-    pub fn of(column: Box<ArrayRef>) -> Handle
+    pub fn of(column: Box<SharedColumn>) -> Handle
         ensures { result.tree ≡ Some column.value }
     {
         Handle::of_loose(Loose::of(column))
     }
 
     /// Returns the column, or none if the handle has none.
-    pub fn into_box(self) -> Option<Box<ArrayRef>>
+    pub fn into_box(self) -> Option<Box<SharedColumn>>
         ensures { MatchOption result (self.tree ≡ None)
             (λ column. self.tree ≡ Some column.value) }
     {
@@ -81,7 +81,7 @@ impl Handle {
     }
 
     /// Takes the column out of the handle, which has none afterwards; returns none if it had none.
-    pub fn take(&mut self, alloc: Global) -> Option<Box<ArrayRef>>
+    pub fn take(&mut self, alloc: Global) -> Option<Box<SharedColumn>>
         ensures taken { self.new.tree ≡ None }
         ensures column { MatchOption result (self.old.tree ≡ None)
             (λ column. self.old.tree ≡ Some column.value) }

@@ -43,16 +43,16 @@ pub const UINT64: u32 = 10;
 pub const UINT128: u32 = 11;
 
 /// Binary with 64-bit offsets.
-pub const LARGE_BINARY: u32 = 12;
+pub const BINARY: u32 = 12;
 
 /// Binary views.
 pub const BINARY_VIEW: u32 = 13;
 
 /// UTF-8 string views.
-pub const UTF8_VIEW: u32 = 14;
+pub const STRING_VIEW: u32 = 14;
 
 /// Lists with 64-bit offsets.
-pub const LARGE_LIST: u32 = 15;
+pub const LIST: u32 = 15;
 
 /// Fixed-size lists.
 pub const FIXED_SIZE_LIST: u32 = 16;
@@ -61,7 +61,7 @@ pub const FIXED_SIZE_LIST: u32 = 16;
 pub const STRUCT: u32 = 17;
 
 /// The handle has no column.
-pub const NO_KIND: u32 = 18;
+pub const NONE: u32 = 18;
 
 /// Returns the number of the column's type.
 pub fn kind_of(column: &Column) -> u32
@@ -80,10 +80,10 @@ pub fn kind_of(column: &Column) -> u32
         Column::UInt32(_) => UINT32,
         Column::UInt64(_) => UINT64,
         Column::UInt128(_) => UINT128,
-        Column::LargeBinary(_) => LARGE_BINARY,
+        Column::LargeBinary(_) => BINARY,
         Column::BinaryView(_) => BINARY_VIEW,
-        Column::Utf8View(_) => UTF8_VIEW,
-        Column::LargeList { .. } => LARGE_LIST,
+        Column::Utf8View(_) => STRING_VIEW,
+        Column::LargeList { .. } => LIST,
         Column::FixedSizeList { .. } => FIXED_SIZE_LIST,
         Column::Struct { .. } => STRUCT,
     }

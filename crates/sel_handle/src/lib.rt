@@ -2,15 +2,18 @@
 #![tactic(auto)]
 
 pub mod column_ref;
+pub mod depth;
 pub mod handle;
 pub mod inputs;
 pub mod kinds;
 mod loose;
 pub mod nested;
+pub mod nested_into;
 pub mod numbers;
 pub mod outputs;
 pub mod parts;
 pub mod several;
+pub mod shared_column;
 pub mod status;
 pub mod view_parts;
 pub mod views;

@@ -7,9 +7,9 @@ ghost use Rattle.sel_arrow.specs.Rows.{rows, type_of};
 ghost use Rattle.sel_arrow.specs.Shape.{of_boolean};
 ghost use Rattle.sel_handle.specs.Inputs.{validity_in};
 ghost use Rattle.sel_handle.specs.Outputs.{Shows, numbers, bools};
-ghost use Rattle.sel_handle.specs.Status.{done, no_memory, no_column, other_kind, other_length, Demands, DemandsBefore, IsOneOf};
+ghost use Rattle.sel_handle.specs.Status.{ok, out_of_memory, no_column, unsupported_type, length_mismatch, Demands, DemandsBefore, IsOneOf};
 
-use crate::status::{DONE, NO_MEMORY, OTHER_KIND, OTHER_LENGTH};
+use crate::status::{LENGTH_MISMATCH, OK, OUT_OF_MEMORY, UNSUPPORTED_TYPE};
 use sel_arrow::array::Array;
 use sel_arrow::array_ref::ArrayRef;
 use sel_arrow::primitive::ArrowPrimitive;
@@ -20,34 +20,34 @@ use std::alloc::Global;
 
 /// Copies the values, also those in null slots, into `out`.
 ///
-/// Errors: `OTHER_KIND` if the column's type is not that of `T`; `OTHER_LENGTH` if the length of
-/// `out` is not the number of rows; `NO_MEMORY`.
+/// Errors: `UNSUPPORTED_TYPE` if the column's type is not that of `T`; `LENGTH_MISMATCH` if the
+/// length of `out` is not the number of rows; `OUT_OF_MEMORY`.
 #[tactic(auto, using(crate::proofs::Shown::shows))]
 pub fn numbers_into<T: ArrowPrimitive>(alloc: Global, column: &ArrayRef, out: &mut [T]) -> u32
-    ensures values { result ≡ done → Shows (numbers T.number out.new) (rows column.now.column) }
-    ensures kind { DemandsBefore result other_kind (other_length ∷ [])
+    ensures values { result ≡ ok → Shows (numbers T.number out.new) (rows column.now.column) }
+    ensures kind { DemandsBefore result unsupported_type (length_mismatch ∷ [])
         (type_of column.now.column ≡ T.shape) }
-    ensures length { Demands result other_length
+    ensures length { Demands result length_mismatch
         (length out.old ≡ length (rows column.now.column)) }
     ensures status { IsOneOf result
-        (done ∷ no_memory ∷ no_column ∷ other_kind ∷ other_length ∷ []) }
+        (ok ∷ out_of_memory ∷ no_column ∷ unsupported_type ∷ length_mismatch ∷ []) }
     ensures column { result ≢ no_column }
 {
     let Ok(copy) = column.try_clone(alloc) else {
-        return NO_MEMORY;
+        return OUT_OF_MEMORY;
     };
     match copy.into_primitive::<T>() {
         Ok(array) => {
             let values = array.values().as_slice();
             if out.len() != values.len() {
-                return OTHER_LENGTH;
+                return LENGTH_MISMATCH;
             }
             out.copy_from_slice(values);
-            DONE
+            OK
         }
         Err(back) => {
             drop(back);
-            OTHER_KIND
+            UNSUPPORTED_TYPE
         }
     }
 }
@@ -55,23 +55,23 @@ pub fn numbers_into<T: ArrowPrimitive>(alloc: Global, column: &ArrayRef, out: &m
 /// Copies the bits into `out`, least significant bit first. The bits after the last one are
 /// unspecified.
 ///
-/// Errors: `OTHER_LENGTH` if `out` does not have `(bits.len() + 7) / 8` bytes; `NO_MEMORY`.
+/// Errors: `LENGTH_MISMATCH` if `out` does not have `(bits.len() + 7) / 8` bytes; `OUT_OF_MEMORY`.
 pub fn bits_into(alloc: Global, bits: &Bitmap, out: &mut [u8]) -> u32
-    ensures bits { result ≡ done → bits_from out.new 0 (length bits.now.bits) ≡
+    ensures bits { result ≡ ok → bits_from out.new 0 (length bits.now.bits) ≡
         bits.now.bits }
-    ensures length { Demands result other_length
+    ensures length { Demands result length_mismatch
         (length out.old ≡ (length bits.now.bits + 7) / 8) }
-    ensures status { IsOneOf result (done ∷ no_memory ∷ other_length ∷ []) }
+    ensures status { IsOneOf result (ok ∷ out_of_memory ∷ length_mismatch ∷ []) }
 {
     if out.len() != bits.len().div_ceil(8) {
-        return OTHER_LENGTH;
+        return LENGTH_MISMATCH;
     }
     let Ok(aligned) = moved_to_front(alloc, bits) else {
-        return NO_MEMORY;
+        return OUT_OF_MEMORY;
     };
     let (bytes, _, _) = aligned.as_slice();
     out.copy_from_slice(bytes);
-    DONE
+    OK
 }
 
 /// Returns the same bits, starting at the first bit of a byte.
@@ -94,20 +94,20 @@ fn moved_to_front(alloc: Global, bits: &Bitmap) -> PolarsResult<Bitmap>
 /// Writes to `has` whether the column has a validity, and copies it into `out`, least significant
 /// bit first. Without a validity `out` is unchanged.
 ///
-/// Errors: `OTHER_LENGTH` if there is a validity and `out` does not have one byte for each eight
-/// rows, rounded up; `NO_MEMORY`.
+/// Errors: `LENGTH_MISMATCH` if there is a validity and `out` does not have one byte for each eight
+/// rows, rounded up; `OUT_OF_MEMORY`.
 pub fn validity_into(alloc: Global, column: &ArrayRef, out: &mut [u8], has: &mut bool) -> u32
-    ensures validity { result ≡ done → IsValidityOf (type_of column.now.column)
+    ensures validity { result ≡ ok → IsValidityOf (type_of column.now.column)
         (validity_in out.new has.new (length (rows column.now.column))) (rows column.now.column) }
-    ensures length { result ≡ other_length →
+    ensures length { result ≡ length_mismatch →
         length out.old ≢ (length (rows column.now.column) + 7) / 8 }
-    ensures status { IsOneOf result (done ∷ no_memory ∷ no_column ∷ other_length ∷ []) }
+    ensures status { IsOneOf result (ok ∷ out_of_memory ∷ no_column ∷ length_mismatch ∷ []) }
     ensures column { result ≢ no_column }
 {
     match column.validity() {
         None => {
             *has = false;
-            DONE
+            OK
         }
         Some(bits) => {
             *has = true;
@@ -118,28 +118,28 @@ pub fn validity_into(alloc: Global, column: &ArrayRef, out: &mut [u8], has: &mut
 
 /// Copies the booleans, also those in null slots, into `out`, least significant bit first.
 ///
-/// Errors: `OTHER_KIND` if the column is not boolean; `OTHER_LENGTH` if `out` does not have one
-/// byte for each eight rows, rounded up; `NO_MEMORY`.
+/// Errors: `UNSUPPORTED_TYPE` if the column is not boolean; `LENGTH_MISMATCH` if `out` does not
+/// have one byte for each eight rows, rounded up; `OUT_OF_MEMORY`.
 #[tactic(auto, using(crate::proofs::Shown::shows))]
 pub fn booleans_into(alloc: Global, column: &ArrayRef, out: &mut [u8]) -> u32
-    ensures values { result ≡ done → Shows
+    ensures values { result ≡ ok → Shows
         (bools (bits_from out.new 0 (length (rows column.now.column)))) (rows column.now.column) }
-    ensures kind { DemandsBefore result other_kind (other_length ∷ [])
+    ensures kind { DemandsBefore result unsupported_type (length_mismatch ∷ [])
         (type_of column.now.column ≡ of_boolean) }
-    ensures length { Demands result other_length
+    ensures length { Demands result length_mismatch
         (length out.old ≡ (length (rows column.now.column) + 7) / 8) }
     ensures status { IsOneOf result
-        (done ∷ no_memory ∷ no_column ∷ other_kind ∷ other_length ∷ []) }
+        (ok ∷ out_of_memory ∷ no_column ∷ unsupported_type ∷ length_mismatch ∷ []) }
     ensures column { result ≢ no_column }
 {
     let Ok(copy) = column.try_clone(alloc) else {
-        return NO_MEMORY;
+        return OUT_OF_MEMORY;
     };
     match copy.into_boolean() {
         Ok(array) => bits_into(alloc, array.values(), out),
         Err(back) => {
             drop(back);
-            OTHER_KIND
+            UNSUPPORTED_TYPE
         }
     }
 }

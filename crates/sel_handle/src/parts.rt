@@ -4,9 +4,9 @@ ghost use Rattle.std.specs.Prelude.{◌≡◌, ◌≢◌, length, Some, None, []
 ghost use Rattle.std.specs.Option.{option_copied, option_map};
 ghost use Rattle.sel_handle.specs.Layout.{offsets_in, bytes_in};
 ghost use Rattle.sel_handle.specs.Inputs.{positions};
-ghost use Rattle.sel_handle.specs.Status.{done, other_kind, other_length, Demands, DemandsBefore, IsOneOf};
+ghost use Rattle.sel_handle.specs.Status.{ok, unsupported_type, length_mismatch, Demands, DemandsBefore, IsOneOf};
 
-use crate::status::{DONE, OTHER_KIND, OTHER_LENGTH};
+use crate::status::{LENGTH_MISMATCH, OK, UNSUPPORTED_TYPE};
 use sel_arrow::column::Column;
 use sel_bits::offsets::OffsetsBuffer;
 
@@ -33,61 +33,61 @@ fn bytes_of_column(column: &Column) -> Option<&[u8]>
 
 /// Copies the offsets into `out`.
 ///
-/// Errors: `OTHER_KIND` if the column is neither binary nor a list with 64-bit offsets;
-/// `OTHER_LENGTH` if the length of `out` is not the number of offsets.
+/// Errors: `UNSUPPORTED_TYPE` if the column is neither binary nor a list with 64-bit offsets;
+/// `LENGTH_MISMATCH` if the length of `out` is not the number of offsets.
 #[tactic(auto, using(crate::proofs::Positions::shown))]
 pub fn offsets_into(column: &Column, out: &mut [i64]) -> u32
-    ensures offsets { result ≡ done → Some (positions out.new) ≡ offsets_in column.now }
-    ensures kind { DemandsBefore result other_kind (other_length ∷ [])
+    ensures offsets { result ≡ ok → Some (positions out.new) ≡ offsets_in column.now }
+    ensures kind { DemandsBefore result unsupported_type (length_mismatch ∷ [])
         (offsets_in column.now ≢ None) }
-    ensures length { result ≡ other_length →
+    ensures length { result ≡ length_mismatch →
         Some (length out.old) ≢ option_map length (offsets_in column.now) }
-    ensures status { IsOneOf result (done ∷ other_kind ∷ other_length ∷ []) }
+    ensures status { IsOneOf result (ok ∷ unsupported_type ∷ length_mismatch ∷ []) }
 {
     let Some(offsets) = offsets_of_column(column) else {
-        return OTHER_KIND;
+        return UNSUPPORTED_TYPE;
     };
     let numbers = offsets.as_slice();
     if out.len() != numbers.len() {
-        return OTHER_LENGTH;
+        return LENGTH_MISMATCH;
     }
     out.copy_from_slice(numbers);
-    DONE
+    OK
 }
 
 /// Copies the bytes, also those outside of all rows, into `out`.
 ///
-/// Errors: `OTHER_KIND` if the column is not binary with 64-bit offsets; `OTHER_LENGTH` if the
-/// length of `out` is not the number of bytes.
+/// Errors: `UNSUPPORTED_TYPE` if the column is not binary with 64-bit offsets; `LENGTH_MISMATCH` if
+/// the length of `out` is not the number of bytes.
 pub fn bytes_into(column: &Column, out: &mut [u8]) -> u32
-    ensures bytes { result ≡ done → Some out.new ≡ bytes_in column.now }
-    ensures kind { DemandsBefore result other_kind (other_length ∷ [])
+    ensures bytes { result ≡ ok → Some out.new ≡ bytes_in column.now }
+    ensures kind { DemandsBefore result unsupported_type (length_mismatch ∷ [])
         (bytes_in column.now ≢ None) }
-    ensures length { result ≡ other_length →
+    ensures length { result ≡ length_mismatch →
         Some (length out.old) ≢ option_map length (bytes_in column.now) }
-    ensures status { IsOneOf result (done ∷ other_kind ∷ other_length ∷ []) }
+    ensures status { IsOneOf result (ok ∷ unsupported_type ∷ length_mismatch ∷ []) }
 {
     let Some(bytes) = bytes_of_column(column) else {
-        return OTHER_KIND;
+        return UNSUPPORTED_TYPE;
     };
     if out.len() != bytes.len() {
-        return OTHER_LENGTH;
+        return LENGTH_MISMATCH;
     }
     out.copy_from_slice(bytes);
-    DONE
+    OK
 }
 
 /// Writes the number of bytes to `out`.
 ///
-/// Errors: `OTHER_KIND` if the column is not binary with 64-bit offsets.
+/// Errors: `UNSUPPORTED_TYPE` if the column is not binary with 64-bit offsets.
 pub fn bytes_len_into(column: &Column, out: &mut usize) -> u32
-    ensures bytes { result ≡ done → Some out.new ≡ option_map length (bytes_in column.now) }
-    ensures kind { Demands result other_kind (bytes_in column.now ≢ None) }
-    ensures status { IsOneOf result (done ∷ other_kind ∷ []) }
+    ensures bytes { result ≡ ok → Some out.new ≡ option_map length (bytes_in column.now) }
+    ensures kind { Demands result unsupported_type (bytes_in column.now ≢ None) }
+    ensures status { IsOneOf result (ok ∷ unsupported_type ∷ []) }
 {
     let Some(bytes) = bytes_of_column(column) else {
-        return OTHER_KIND;
+        return UNSUPPORTED_TYPE;
     };
     *out = bytes.len();
-    DONE
+    OK
 }

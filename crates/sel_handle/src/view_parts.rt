@@ -4,9 +4,9 @@ ghost use Rattle.std.specs.Prelude.{◌≡◌, ◌≢◌, ◌<◌, None, Some, [
 ghost use Rattle.std.specs.Option.{option_copied, option_map};
 ghost use Rattle.sel_handle.specs.Inputs.{views_in};
 ghost use Rattle.sel_handle.specs.Layout.{views_of};
-ghost use Rattle.sel_handle.specs.Status.{done, other_kind, other_length, out_of_bounds, Demands, DemandsBefore, IsOneOf};
+ghost use Rattle.sel_handle.specs.Status.{ok, unsupported_type, length_mismatch, index_out_of_bounds, Demands, DemandsBefore, IsOneOf};
 
-use crate::status::{DONE, OTHER_KIND, OTHER_LENGTH, OUT_OF_BOUNDS};
+use crate::status::{INDEX_OUT_OF_BOUNDS, LENGTH_MISMATCH, OK, UNSUPPORTED_TYPE};
 use crate::views::ViewWords;
 use sel_arrow::binview::BinaryViewArray;
 use sel_arrow::column::Column;
@@ -25,26 +25,26 @@ fn view_array_in(column: &Column) -> Option<&BinaryViewArray>
 
 /// Copies the views into `out`.
 ///
-/// Errors: `OTHER_KIND` if the column is not a view column; `OTHER_LENGTH` if the length of `out`
-/// is not the number of views.
+/// Errors: `UNSUPPORTED_TYPE` if the column is not a view column; `LENGTH_MISMATCH` if the length
+/// of `out` is not the number of views.
 pub fn views_into(column: &Column, out: &mut [ViewWords]) -> u32
-    ensures views { result ≡ done →
+    ensures views { result ≡ ok →
         Some (views_in out.new) ≡ option_map (λ array. array.views) (views_of column.now) }
-    ensures kind { DemandsBefore result other_kind (other_length ∷ [])
+    ensures kind { DemandsBefore result unsupported_type (length_mismatch ∷ [])
         (views_of column.now ≢ None) }
-    ensures length { result ≡ other_length →
+    ensures length { result ≡ length_mismatch →
         Some (length out.old) ≢ option_map (λ array. length array.views) (views_of column.now) }
-    ensures status { IsOneOf result (done ∷ other_kind ∷ other_length ∷ []) }
+    ensures status { IsOneOf result (ok ∷ unsupported_type ∷ length_mismatch ∷ []) }
 {
     let Some(array) = view_array_in(column) else {
-        return OTHER_KIND;
+        return UNSUPPORTED_TYPE;
     };
     let views = array.views.as_slice();
     if out.len() != views.len() {
-        return OTHER_LENGTH;
+        return LENGTH_MISMATCH;
     }
     write_views(views, out);
-    DONE
+    OK
 }
 
 fn write_views(views: &[View], out: &mut [ViewWords])
@@ -66,73 +66,73 @@ fn write_views(views: &[View], out: &mut [ViewWords])
 
 /// Writes the number of data buffers to `count`.
 ///
-/// Errors: `OTHER_KIND` if the column is not a view column.
+/// Errors: `UNSUPPORTED_TYPE` if the column is not a view column.
 pub fn buffer_count_into(column: &Column, count: &mut usize) -> u32
-    ensures count { result ≡ done →
+    ensures count { result ≡ ok →
         Some count.new ≡ option_map (λ array. length array.buffers) (views_of column.now) }
-    ensures kind { Demands result other_kind (views_of column.now ≢ None) }
-    ensures status { IsOneOf result (done ∷ other_kind ∷ []) }
+    ensures kind { Demands result unsupported_type (views_of column.now ≢ None) }
+    ensures status { IsOneOf result (ok ∷ unsupported_type ∷ []) }
 {
     let Some(array) = view_array_in(column) else {
-        return OTHER_KIND;
+        return UNSUPPORTED_TYPE;
     };
     *count = array.buffers.len();
-    DONE
+    OK
 }
 
 /// Writes the number of bytes of data buffer `i` to `len`.
 ///
-/// Errors: `OTHER_KIND` if the column is not a view column; `OUT_OF_BOUNDS` if there is no data
-/// buffer `i`.
+/// Errors: `UNSUPPORTED_TYPE` if the column is not a view column; `INDEX_OUT_OF_BOUNDS` if there is
+/// no data buffer `i`.
 pub fn buffer_len_into(column: &Column, i: usize, len: &mut usize) -> u32
-    ensures len { result ≡ done → option_map (λ array. option_map length
+    ensures len { result ≡ ok → option_map (λ array. option_map length
         (slice_get array.buffers i)) (views_of column.now) ≡ Some (Some len.new) }
-    ensures kind { DemandsBefore result other_kind (out_of_bounds ∷ [])
+    ensures kind { DemandsBefore result unsupported_type (index_out_of_bounds ∷ [])
         (views_of column.now ≢ None) }
-    ensures bounds { result ≡ out_of_bounds →
+    ensures bounds { result ≡ index_out_of_bounds →
         option_map (λ array. slice_get array.buffers i) (views_of column.now) ≡ Some None }
-    ensures status { IsOneOf result (done ∷ other_kind ∷ out_of_bounds ∷ []) }
+    ensures status { IsOneOf result (ok ∷ unsupported_type ∷ index_out_of_bounds ∷ []) }
 {
     let Some(array) = view_array_in(column) else {
-        return OTHER_KIND;
+        return UNSUPPORTED_TYPE;
     };
     let buffers = array.buffers.as_slice();
     if i >= buffers.len() {
-        return OUT_OF_BOUNDS;
+        return INDEX_OUT_OF_BOUNDS;
     }
     *len = buffers[i].len();
-    DONE
+    OK
 }
 
 /// Copies the bytes of data buffer `i` into `out`.
 ///
-/// Errors: `OTHER_KIND` if the column is not a view column; `OUT_OF_BOUNDS` if there is no data
-/// buffer `i`; `OTHER_LENGTH` if the length of `out` is not the number of its bytes.
+/// Errors: `UNSUPPORTED_TYPE` if the column is not a view column; `INDEX_OUT_OF_BOUNDS` if there is
+/// no data buffer `i`; `LENGTH_MISMATCH` if the length of `out` is not the number of its bytes.
 pub fn buffer_into(column: &Column, i: usize, out: &mut [u8]) -> u32
-    ensures bytes { result ≡ done → option_map (λ array. slice_get array.buffers i)
+    ensures bytes { result ≡ ok → option_map (λ array. slice_get array.buffers i)
         (views_of column.now) ≡ Some (Some out.new) }
-    ensures kind { DemandsBefore result other_kind (out_of_bounds ∷ other_length ∷ [])
-        (views_of column.now ≢ None) }
-    ensures bounds { result ≡ out_of_bounds →
+    ensures kind { DemandsBefore result unsupported_type
+        (index_out_of_bounds ∷ length_mismatch ∷ []) (views_of column.now ≢ None) }
+    ensures bounds { result ≡ index_out_of_bounds →
         option_map (λ array. slice_get array.buffers i) (views_of column.now) ≡ Some None }
-    ensures length { result ≡ other_length → option_map (λ array. option_map length
+    ensures length { result ≡ length_mismatch → option_map (λ array. option_map length
         (slice_get array.buffers i)) (views_of column.now) ≢ Some (Some (length out.old)) }
-    ensures inside { result ≡ other_length →
+    ensures inside { result ≡ length_mismatch →
         option_map (λ array. slice_get array.buffers i) (views_of column.now) ≢ Some None }
     ensures status { IsOneOf result
-        (done ∷ other_kind ∷ other_length ∷ out_of_bounds ∷ []) }
+        (ok ∷ unsupported_type ∷ length_mismatch ∷ index_out_of_bounds ∷ []) }
 {
     let Some(array) = view_array_in(column) else {
-        return OTHER_KIND;
+        return UNSUPPORTED_TYPE;
     };
     let buffers = array.buffers.as_slice();
     if i >= buffers.len() {
-        return OUT_OF_BOUNDS;
+        return INDEX_OUT_OF_BOUNDS;
     }
     let bytes = buffers[i].as_slice();
     if out.len() != bytes.len() {
-        return OTHER_LENGTH;
+        return LENGTH_MISMATCH;
     }
     out.copy_from_slice(bytes);
-    DONE
+    OK
 }

@@ -22,7 +22,7 @@ pub struct Rows<T> {
 }
 
 impl<T: NativeType> Rows<T> {
-    ghost use Rattle.sel_lines.specs.Rows.{rows_of};
+    ghost use Rattle.sel_lines.specs.Rows.{parsed_rows};
 
     /// Returns the primitive column of these rows.
     ///
@@ -30,7 +30,7 @@ impl<T: NativeType> Rows<T> {
     /// `OutOfMemory` if an allocation fails.
     pub fn into_primitive(self, alloc: Global) -> PolarsResult<PrimitiveArray<T>>
         ensures rows { IfOk result (λ column. primitive_rows column ≡
-            rows_of (λ x. Number (T.number x)) self) }
+            parsed_rows (λ x. Number (T.number x)) self) }
         ensures refusal { IfErr result (λ fault. fault ≡ PolarsError.OutOfMemory) }
     {
         let Rows { values, validity } = self;
@@ -44,14 +44,14 @@ impl<T: NativeType> Rows<T> {
 }
 
 impl Rows<bool> {
-    ghost use Rattle.sel_lines.specs.Rows.{rows_of};
+    ghost use Rattle.sel_lines.specs.Rows.{parsed_rows};
 
     /// Returns the boolean column of these rows.
     ///
     /// # Errors
     /// `OutOfMemory` if an allocation fails.
     pub fn into_boolean(self, alloc: Global) -> PolarsResult<BooleanArray>
-        ensures rows { IfOk result (λ column. boolean_rows column ≡ rows_of Truth self) }
+        ensures rows { IfOk result (λ column. boolean_rows column ≡ parsed_rows Truth self) }
         ensures refusal { IfErr result (λ fault. fault ≡ PolarsError.OutOfMemory) }
     {
         let Rows { values, validity } = self;

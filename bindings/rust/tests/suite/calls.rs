@@ -60,7 +60,7 @@ fn of_first_column(given: &Arguments) -> Option<Vec<DataType>> {
 
 fn of_item(given: &Arguments) -> Option<Vec<DataType>> {
     match given.dtype.clone()? {
-        DataType::LargeList(child) | DataType::FixedSizeList(child, _) => Some(vec![*child]),
+        DataType::List(child) | DataType::FixedSizeList(child, _) => Some(vec![*child]),
         _ => None,
     }
 }
@@ -73,7 +73,7 @@ fn of_field(given: &Arguments) -> Option<Vec<DataType>> {
 }
 
 fn of_lists(given: &Arguments) -> Option<Vec<DataType>> {
-    given.dtype.clone().map(|child| vec![DataType::LargeList(Box::new(child))])
+    given.dtype.clone().map(|child| vec![DataType::List(Box::new(child))])
 }
 
 fn of_fixed_size_lists(given: &Arguments) -> Option<Vec<DataType>> {
@@ -85,7 +85,7 @@ fn of_struct_values(given: &Arguments) -> Option<Vec<DataType>> {
 }
 
 fn of_dictionary(_: &Arguments) -> Option<Vec<DataType>> {
-    Some(vec![DataType::UInt32, DataType::Utf8View])
+    Some(vec![DataType::UInt32, DataType::StringView])
 }
 
 /// The type that a text names, which may have spaces between its parts.
@@ -235,28 +235,28 @@ pub const CALLS: [Call; 22] = [
         fields: &[Type, Rows, Index],
         comparison: AllRows,
         result_types: of_item,
-        ways: &[("sublist_get", |given, columns| one(columns[0].sublist_get(given.index)))],
+        ways: &[("sublist_get", |given, columns| one(columns[0].list_get(given.index)))],
     },
     Call {
         name: "index_is_oob",
         fields: &[Type, Rows, Index],
         comparison: Comparison::Flag,
         result_types: none,
-        ways: &[("index_is_oob", |given, columns| flag(columns[0].index_is_oob(given.index)))],
+        ways: &[("index_is_oob", |given, columns| flag(columns[0].list_index_is_oob(given.index)))],
     },
     Call {
         name: "fixed_size_list_get",
         fields: &[Type, Rows, Index, Flag],
         comparison: AllRows,
         result_types: of_item,
-        ways: &[("fixed_get", |given, columns| one(columns[0].fixed_get(given.index, given.flag)))],
+        ways: &[("fixed_get", |given, columns| one(columns[0].fixed_size_list_get(given.index, given.flag)))],
     },
     Call {
         name: "fixed_size_list_get_each",
         fields: &[Type, Rows, Positions, Flag],
         comparison: AllRows,
         result_types: of_item,
-        ways: &[("fixed_get_each", |given, columns| one(columns[0].fixed_get_each(&columns[1], given.flag)))],
+        ways: &[("fixed_get_each", |given, columns| one(columns[0].fixed_size_list_get_each(&columns[1], given.flag)))],
     },
     Call {
         name: "unit_list",

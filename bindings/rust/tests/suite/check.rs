@@ -42,7 +42,7 @@ pub fn check_made(column: &Column, expected: &Rows) -> Result<(), String> {
 fn has_type(dtype: &DataType, wanted: &DataType) -> bool {
     dtype == wanted
         || match dtype {
-            DataType::LargeList(child) | DataType::FixedSizeList(child, _) => has_type(child, wanted),
+            DataType::List(child) | DataType::FixedSizeList(child, _) => has_type(child, wanted),
             DataType::Struct(fields) => fields.iter().any(|field| has_type(field, wanted)),
             _ => false,
         }
@@ -110,9 +110,9 @@ fn read(column: &Column) -> Result<Vec<Value>, Error> {
         DataType::UInt32 => rows_of(column, |number: u32| Value::Unsigned(number.into())),
         DataType::UInt64 => rows_of(column, |number: u64| Value::Unsigned(number.into())),
         DataType::UInt128 => rows_of(column, Value::Unsigned),
-        DataType::LargeBinary | DataType::BinaryView => rows_of(column, Value::Bytes),
-        DataType::Utf8View => rows_of(column, |text: String| Value::Bytes(text.into_bytes())),
-        DataType::LargeList(_) | DataType::FixedSizeList(..) => {
+        DataType::Binary | DataType::BinaryView => rows_of(column, Value::Bytes),
+        DataType::StringView => rows_of(column, |text: String| Value::Bytes(text.into_bytes())),
+        DataType::List(_) | DataType::FixedSizeList(..) => {
             let lists = items_of(column, &column.child()?)?;
             Ok(lists.into_iter().map(|items| items.map_or(Value::Null, Value::Items)).collect())
         }

@@ -15,7 +15,7 @@ const MOST_ITEMS: usize = 1000;
 pub fn is_only_plain(dtype: &DataType) -> bool {
     match dtype {
         DataType::FixedSizeList(child, list_size) => *list_size > MOST_ITEMS || is_only_plain(child),
-        DataType::LargeList(child) => is_only_plain(child),
+        DataType::List(child) => is_only_plain(child),
         DataType::Struct(fields) => fields.iter().any(is_only_plain),
         _ => false,
     }
@@ -50,9 +50,9 @@ fn other_value(dtype: &DataType, seed: usize) -> Value {
             Value::Unsigned(u128::try_from(number).unwrap_or(90))
         }
         DataType::UInt128 => Value::Unsigned(u128::MAX - u128::try_from(number).unwrap_or(90)),
-        DataType::LargeBinary | DataType::BinaryView | DataType::Utf8View => Value::Bytes(TEXTS[seed % 4].into()),
-        DataType::LargeList(_) if is_only_plain(dtype) => Value::Items(Vec::new()),
-        DataType::LargeList(child) => Value::Items((0..1 + seed % 3).map(|i| other_value(child, seed + i)).collect()),
+        DataType::Binary | DataType::BinaryView | DataType::StringView => Value::Bytes(TEXTS[seed % 4].into()),
+        DataType::List(_) if is_only_plain(dtype) => Value::Items(Vec::new()),
+        DataType::List(child) => Value::Items((0..1 + seed % 3).map(|i| other_value(child, seed + i)).collect()),
         DataType::FixedSizeList(child, _) if **child == DataType::Null => Value::Items(Vec::new()),
         DataType::FixedSizeList(child, list_size) => {
             Value::Items((0..*list_size).map(|i| other_value(child, seed + i)).collect())
@@ -75,7 +75,7 @@ fn padding(dtype: &DataType, place: usize) -> Value {
 /// Returns what is in a null slot.
 fn null_slot(dtype: &DataType, place: usize) -> Value {
     match dtype {
-        DataType::Utf8View if place % 2 == 0 => Value::Bytes(vec![0xff, 0xfe]),
+        DataType::StringView if place % 2 == 0 => Value::Bytes(vec![0xff, 0xfe]),
         _ => other_value(dtype, place),
     }
 }
@@ -127,9 +127,9 @@ impl Slots<'_> {
             DataType::UInt32 => self.integers::<u32>(),
             DataType::UInt64 => self.integers::<u64>(),
             DataType::UInt128 => self.integers::<u128>(),
-            DataType::LargeBinary => self.binary(),
-            DataType::BinaryView | DataType::Utf8View => self.views(),
-            DataType::LargeList(child) => self.lists(child),
+            DataType::Binary => self.binary(),
+            DataType::BinaryView | DataType::StringView => self.views(),
+            DataType::List(child) => self.lists(child),
             DataType::FixedSizeList(child, list_size) => self.fixed_size_lists(child, *list_size),
             DataType::Struct(fields) => self.struct_values(fields),
         }
@@ -191,7 +191,7 @@ impl Slots<'_> {
         }
         let buffers: Vec<&[u8]> = buffers.iter().map(Vec::as_slice).collect();
         match self.dtype {
-            DataType::Utf8View => Column::new_utf8_view(&views, &buffers, self.validity()),
+            DataType::StringView => Column::new_string_view(&views, &buffers, self.validity()),
             _ => Column::new_binary_view(&views, &buffers, self.validity()),
         }
     }

@@ -100,12 +100,12 @@ impl<'a> Reader<'a> {
             "u32" => DataType::UInt32,
             "u64" => DataType::UInt64,
             "u128" => DataType::UInt128,
-            "binary" => DataType::LargeBinary,
+            "binary" => DataType::Binary,
             "binview" => DataType::BinaryView,
-            "utf8" => DataType::Utf8View,
+            "utf8" => DataType::StringView,
             "list" => {
                 self.expects("<")?;
-                DataType::LargeList(Box::new(self.last_child()?))
+                DataType::List(Box::new(self.last_child()?))
             }
             "fixed" => {
                 self.expects("<")?;
@@ -145,9 +145,9 @@ impl<'a> Reader<'a> {
             DataType::Null => self.stop("a value in a column of nulls"),
             DataType::Boolean if self.passes("true") => Ok(Value::Boolean(true)),
             DataType::Boolean => self.expects("false").map(|()| Value::Boolean(false)),
-            DataType::LargeBinary | DataType::BinaryView => self.bytes(),
-            DataType::Utf8View => self.string(),
-            DataType::LargeList(child) => self.items(child).map(Value::Items),
+            DataType::Binary | DataType::BinaryView => self.bytes(),
+            DataType::StringView => self.string(),
+            DataType::List(child) => self.items(child).map(Value::Items),
             DataType::FixedSizeList(child, list_size) => match self.items(child)? {
                 items if items.len() == *list_size => Ok(Value::Items(items)),
                 _ => self.stop("another list size"),

@@ -26,7 +26,7 @@ impl IfThenElseKernel for FixedSizeListArray {
     ghost use Rattle.sel_arrow.specs.Nested.{list_of};
     ghost use Rattle.sel_arrow.specs.Rows.{rows, type_of};
     ghost use Rattle.sel_arrow.specs.Shape.{is_block_shape, of_fixed_size_list};
-    ghost use Rattle.sel_choices.specs.ListSides.{block_child, past_lists};
+    ghost use Rattle.sel_choices.specs.ListSides.{block_child, exceeded_lists};
 
     type Scalar = ArrayRef;
 
@@ -38,7 +38,7 @@ impl IfThenElseKernel for FixedSizeListArray {
     ghost is_own = { λ type. is_block_shape type ≡ true };
 
     ghost exceeded = { λ type if_true if_false chosen limit.
-        past_lists block_child type if_true if_false chosen limit };
+        exceeded_lists block_child type if_true if_false chosen limit };
 
     fn if_then_else(
         alloc: Global,

@@ -16,7 +16,7 @@ impl IfThenElseKernel for BooleanArray {
     ghost use Rattle.std.specs.Prelude.{◌≡◌, ⊤};
     ghost use Rattle.sel_arrow.specs.Shape.{of_boolean};
     ghost use Rattle.sel_arrow.specs.Value.{Truth};
-    ghost use Rattle.sel_choices.specs.Sides.{past_flat};
+    ghost use Rattle.sel_choices.specs.Sides.{exceeded_flat};
 
     type Scalar = bool;
 
@@ -26,7 +26,7 @@ impl IfThenElseKernel for BooleanArray {
 
     ghost is_own = { λ type. type ≡ of_boolean };
 
-    ghost exceeded = { λ _ if_true if_false rows limit. past_flat if_true if_false rows limit };
+    ghost exceeded = { λ _ if_true if_false rows limit. exceeded_flat if_true if_false rows limit };
 
     fn if_then_else(
         alloc: Global,

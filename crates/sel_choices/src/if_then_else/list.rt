@@ -26,7 +26,7 @@ impl IfThenElseKernel for ListArray<i64> {
     ghost use Rattle.sel_arrow.specs.Nested.{list_of};
     ghost use Rattle.sel_arrow.specs.Rows.{rows, type_of};
     ghost use Rattle.sel_arrow.specs.Shape.{is_list_shape, of_large_list};
-    ghost use Rattle.sel_choices.specs.ListSides.{list_child, past_lists};
+    ghost use Rattle.sel_choices.specs.ListSides.{list_child, exceeded_lists};
 
     type Scalar = ArrayRef;
 
@@ -37,7 +37,7 @@ impl IfThenElseKernel for ListArray<i64> {
     ghost is_own = { λ type. is_list_shape type ≡ true };
 
     ghost exceeded = { λ type if_true if_false chosen limit.
-        past_lists list_child type if_true if_false chosen limit };
+        exceeded_lists list_child type if_true if_false chosen limit };
 
     fn if_then_else(
         alloc: Global,

@@ -20,7 +20,7 @@ use std::alloc::Global;
 impl<T: ArrowPrimitive> IfThenElseKernel for PrimitiveArray<T> {
     ghost use Rattle.std.specs.Prelude.{◌≡◌, ⊤};
     ghost use Rattle.sel_arrow.specs.Value.{Number};
-    ghost use Rattle.sel_choices.specs.Sides.{past_flat};
+    ghost use Rattle.sel_choices.specs.Sides.{exceeded_flat};
 
     type Scalar = T;
 
@@ -30,7 +30,7 @@ impl<T: ArrowPrimitive> IfThenElseKernel for PrimitiveArray<T> {
 
     ghost is_own = { λ type. type ≡ T.shape };
 
-    ghost exceeded = { λ _ if_true if_false rows limit. past_flat if_true if_false rows limit };
+    ghost exceeded = { λ _ if_true if_false rows limit. exceeded_flat if_true if_false rows limit };
 
     fn if_then_else(
         alloc: Global,

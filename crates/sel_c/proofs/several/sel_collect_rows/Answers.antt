@@ -2,14 +2,14 @@ use Rattle.std.proofs.Common.{List, ◌∷◌, ap, map, subst, ◌∙◌}
 use Rattle.sel_arrow.specs.Rows.{rows, type_of, buffers_held}
 use Rattle.sel_arrow.specs.Shape.{Shape}
 use Rattle.sel_arrow.specs.declared.array_ref.ArrayRef.{ArrayRef}
-use Rattle.sel_handle.specs.Status.{limit_statuses, other_type, out_of_bounds, DemandsBefore}
+use Rattle.sel_handle.specs.Status.{limit_statuses, type_mismatch, index_out_of_bounds, DemandsBefore}
 use Rattle.sel_calls.specs.Several.{picks_in, AreAlike}
 use Rattle.sel_calls.proofs.SameNeeds.{pick_limits}
 use Rattle.sel_c.proofs.several.sel_collect_rows.Goals as goal
 
 pub returns-in-Ok-clause-alike : goal.returns-in-Ok-clause-alike
 returns-in-Ok-clause-alike c =
-    subst (λ (types : List Shape). DemandsBefore c.collect_into-status.result other_type (out_of_bounds ∷ limit_statuses) (AreAlike types)) (ap (map (λ (x : ArrayRef). type_of x.column)) c.deref.ensures.value ∙ c.in-Ok.ensures.dtypes) c.collect_into-status.ensures.alike
+    subst (λ (types : List Shape). DemandsBefore c.collect_into-status.result type_mismatch (index_out_of_bounds ∷ limit_statuses) (AreAlike types)) (ap (map (λ (x : ArrayRef). type_of x.column)) c.deref.ensures.value ∙ c.in-Ok.ensures.dtypes) c.collect_into-status.ensures.alike
 
 pub returns-in-Ok-clause-limits : goal.returns-in-Ok-clause-limits
 returns-in-Ok-clause-limits c =

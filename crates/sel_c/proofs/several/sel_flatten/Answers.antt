@@ -2,14 +2,14 @@ use Rattle.std.proofs.Common.{List, ◌∷◌, ap, map, subst, ◌∙◌}
 use Rattle.sel_arrow.specs.Rows.{rows, type_of, buffers_held}
 use Rattle.sel_arrow.specs.Shape.{Shape}
 use Rattle.sel_arrow.specs.declared.array_ref.ArrayRef.{ArrayRef}
-use Rattle.sel_handle.specs.Status.{limit_statuses, other_type, other_length, DemandsBefore}
+use Rattle.sel_handle.specs.Status.{limit_statuses, type_mismatch, length_mismatch, DemandsBefore}
 use Rattle.sel_calls.specs.Several.{AreAlike}
 use Rattle.sel_calls.proofs.SameNeeds.{flat_limits}
 use Rattle.sel_c.proofs.several.sel_flatten.Goals as goal
 
 pub returns-in-Ok-clause-alike : goal.returns-in-Ok-clause-alike
 returns-in-Ok-clause-alike c =
-    subst (λ (types : List Shape). DemandsBefore c.flatten_into-status.result other_type (other_length ∷ limit_statuses) (AreAlike types)) (ap (map (λ (x : ArrayRef). type_of x.column)) c.deref.ensures.value ∙ c.in-Ok.ensures.dtypes) c.flatten_into-status.ensures.alike
+    subst (λ (types : List Shape). DemandsBefore c.flatten_into-status.result type_mismatch (length_mismatch ∷ limit_statuses) (AreAlike types)) (ap (map (λ (x : ArrayRef). type_of x.column)) c.deref.ensures.value ∙ c.in-Ok.ensures.dtypes) c.flatten_into-status.ensures.alike
 
 pub returns-in-Ok-clause-limits : goal.returns-in-Ok-clause-limits
 returns-in-Ok-clause-limits c =

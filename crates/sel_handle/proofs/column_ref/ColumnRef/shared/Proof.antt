@@ -1,4 +1,4 @@
--- `column` reads the pointer field, compares it with null, and returns a `&` to the column for the lifetime of the `&ColumnRef`.
+-- `shared` reads the pointer field, compares it with null, and returns a `&` to the column for the lifetime of the `&ColumnRef`.
 use Rattle.std.proofs.Common.{◌≡◌, List, [], ◌∷◌, refl, sym, ap, ◌∙◌, lit<}
 use mir.Syntax.{Body, seq, assign, place, rv_opd, copy, aggregate, int, w8, named}
 use mir.Val.{Val, vptr, vcons, vnil}
@@ -30,17 +30,17 @@ use Rattle.std.proofs.raw_atomic.Walks.{proved, leaves}
 use Rattle.std.specs.declared.option.Option.TheVariants.{None, Some}
 use Rattle.sel_handle.proofs.ColumnRefSteps.{R, Row, Data, word, told, opened, parted, either_ref}
 use Rattle.sel_handle.specs.ColumnRef.{ref_owns}
-use Rattle.sel_handle.specs.contracts.column_ref.ColumnRef.column.{ended, clauses}
-use Rattle.sel_handle.specs.contracts.column_ref.ColumnRef.column.Key.{name as #self}
-use Rattle.sel_handle.proofs.column_ref.ColumnRef.column.Statement.{statement}
-use Rattle.sel_handle.proofs.column_ref.ColumnRef.column.Code as code
+use Rattle.sel_handle.specs.contracts.column_ref.ColumnRef.shared.{ended, clauses}
+use Rattle.sel_handle.specs.contracts.column_ref.ColumnRef.shared.Key.{name as #self}
+use Rattle.sel_handle.proofs.column_ref.ColumnRef.shared.Statement.{statement}
+use Rattle.sel_handle.proofs.column_ref.ColumnRef.shared.Code as code
 
 -- The body of the other branch: the address as a `&`, in `Some`.
 abbrev found : Body
 found = seq (assign (place 6 []) (rv_opd (copy (place 7 [])))) (assign (place 5 []) (aggregate (int w8 1 ∷ copy (place 6 []) ∷ [])))
 
-pub column_spec : {M : Type 1} → statement M
-column_spec 𝓤 𝓛 𝓜 𝓡 wired =
+pub shared_spec : {M : Type 1} → statement M
+shared_spec 𝓤 𝓛 𝓜 𝓡 wired =
     let H = 𝓛.H in let 𝓣 = tables 𝓤 H 𝓜 𝓡 𝓡.env in let c = clauses 𝓛 𝓜.mem 𝓡.returns in let fn = code.function in
     let self = RefOf (0 ∷ []) tt (plain (λ _. Row)) (λ _. tt) in let hs : Stays ended.signature.params ended.kept = (stay_dropped self yes, tt) in
     proved 𝓛 ended hs c 𝓜 𝓡 (Goes-dropped 𝓛 1 self yes (λ κs x f. refl), tt) #self fn (code.unfolded 𝓤 H 𝓜 𝓡 wired) (λ κs. (shr_vals, tt)) (λ κs. (shr_Tells (named 0) κs.0 Row, tt)) (λ κs qs bounds a gh are.
