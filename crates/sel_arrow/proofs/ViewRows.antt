@@ -1,5 +1,5 @@
 -- Rows of views.
-use Rattle.std.proofs.Common.{◌≡◌, ◌≢◌, ℕ, ◌<◌, Bool, true, false, ◌&&◌, List, [], ◌∷◌, length, take, drop, Option, Some, None, refl, get_or}
+use Rattle.std.proofs.Common.{◌≡◌, ◌≢◌, ℕ, ◌<◌, Bool, true, false, ◌&&◌, List, [], ◌∷◌, length, take, drop, Option, Some, None, is_none, refl, get_or}
 use Rattle.std.specs.Prelude.{IsTrue, not}
 use Rattle.std.specs.Option.{option_map}
 use Rattle.sel_bits.specs.Bits.{Bits}
@@ -30,6 +30,15 @@ placed_by : (range prefix : Bool) → first_broken ((ViewRange, not range) ∷ (
 placed_by true true e = refl
 placed_by true false e = cc
 placed_by false prefix e = cc
+
+tests_placed : (range prefix : Bool) → is_none (first_broken ((ViewRange, not range) ∷ (ViewPrefix, not prefix) ∷ [])) ≡ (range && prefix)
+tests_placed true true = refl
+tests_placed true false = refl
+tests_placed false prefix = refl
+
+-- A view without a fault is in range and has the right prefix.
+pub fault_placed : (buffers : List (List ℕ)) (view : View) → is_none (view_fault buffers view) ≡ is_placed buffers view
+fault_placed buffers view = tests_placed (is_in_range buffers view) (has_prefix buffers view)
 
 -- Views that break no rule are well-formed.
 pub faultless : (buffers : List (List ℕ)) (views : List View) → views_fault buffers views ≡ None → IsTrue (all_placed buffers views)

@@ -279,11 +279,19 @@ fn fault_of_view(buffers: &[Buffer<u8>], view: View) -> Option<Malformed>
     None
 }
 
+/// Returns whether the view is within range of `buffers` and has the right prefix.
+#[tactic(auto, using(crate::proofs::ViewRows::fault_placed))]
+pub fn is_view_placed(buffers: &[Buffer<u8>], view: View) -> bool
+    ensures { result ≡ is_placed buffers.now view }
+{
+    fault_of_view(buffers, view).is_none()
+}
+
 /// Returns a reference to the bytes of `view`, without a copy.
 ///
 /// # Requires
-/// The view is within range of `buffers` and has the right prefix; `space` is the result of
-/// `View::inline_space` for `view`.
+/// The view is within range of `buffers` and has the right prefix (check with [`is_view_placed`]);
+/// `space` is the result of `View::inline_space` for `view`.
 #[tactic(auto, using(crate::proofs::ViewRows::placing))]
 pub fn bytes_at<'a>(buffers: &'a [Buffer<u8>], view: View, space: &'a [u8; 12]) -> &'a [u8]
     requires placed { IsTrue (is_placed buffers.now view) }

@@ -1,5 +1,5 @@
 -- The contract models of bitmap readers that count what they have returned.
-use Rattle.std.specs.Prelude.{ℕ, ◌+◌, ◌-◌, ◌*◌, ◌%◌, min, Bool, List, length, take, drop}
+use Rattle.std.specs.Prelude.{ℕ, ◌+◌, ◌-◌, ◌*◌, ◌/◌, ◌%◌, min, Bool, List, length, take, drop}
 use Rattle.sel_bits.specs.Bits.{Bits}
 
 -- A reader of words: its bitmap, and the number of words returned.
@@ -19,6 +19,13 @@ reached reading = bits_in reading.source reading.words_read
 -- The reader after its next word.
 abbrev pub after_word : WordReading → WordReading
 after_word reading = record { source = reading.source; words_read = reading.words_read + 1 }
+
+-- The reader after `skipped` bits in words of 64 bits.
+abbrev pub after_zeros : WordReading → ℕ → WordReading
+after_zeros reading skipped = record {
+  source = reading.source;
+  words_read = reading.words_read + skipped / 64;
+}
 
 -- The number of bits in the next word.
 abbrev pub next_count : WordReading → ℕ

@@ -1,7 +1,7 @@
 //! A reader of the bits of a bitmap in aligned words that counts the words read.
 
 ghost use Rattle.std.specs.Prelude.{◌≡◌, ◌≢◌, ◌+◌, ◌/◌, ◌<◌, ◌≤◌, length, take, drop, replicate, false, IfSome, IfNone, MatchOption};
-ghost use Rattle.sel_bits.specs.Reading.{after_word, next_bits, next_count, reached};
+ghost use Rattle.sel_bits.specs.Reading.{after_word, after_zeros, next_bits, next_count, reached};
 ghost use Rattle.sel_bits.specs.Words.{word_of};
 
 use crate::bitmap::Bitmap;
@@ -93,24 +93,40 @@ impl<'a> AlignedWords<'a> {
     }
 
     /// Skips the next words as long as they have 64 bits, all of them false, and returns the number
-    /// of bits skipped. Each skipped word counts as read.
+    /// of bits skipped and the word after them, as [`AlignedWords::next`] does.
+    ///
+    /// Each skipped word counts as read, and so does the returned one.
     #[inline]
-    pub fn skip_zeros(&mut self) -> usize
-        ensures zeros { take result (drop (reached self.old) self.old.source.bits) ≡
-            replicate result false }
-        ensures all { next_count self.new ≡ 64 → word_of (next_bits self.new) ≢ 0 }
-        ensures passed { reached self.new ≡ reached self.old + result }
-        ensures count { self.new.words_read ≡ self.old.words_read + result / 64 }
-        ensures source { self.new.source ≡ self.old.source }
+    pub fn next_after_zeros(&mut self) -> (usize, Option<(u64, usize)>)
+        ensures zeros { take result.0 (drop (reached self.old) self.old.source.bits) ≡
+            replicate result.0 false }
+        ensures skipped { reached (after_zeros self.old result.0) ≡ reached self.old + result.0 }
+        ensures some { IfSome result.1 (λ _. reached (after_zeros self.old result.0) <
+            length self.old.source.bits) }
+        ensures end { IfNone result.1 (reached (after_zeros self.old result.0) ≡
+            length self.old.source.bits) }
+        ensures word { IfSome result.1 (λ part. part.0 ≡
+            word_of (next_bits (after_zeros self.old result.0))) }
+        ensures count { IfSome result.1 (λ part. part.1 ≡
+            next_count (after_zeros self.old result.0)) }
+        ensures nonzero { IfSome result.1 (λ part. part.1 ≡ 64 → part.0 ≢ 0) }
+        ensures after { MatchOption result.1 (self.new ≡ after_zeros self.old result.0)
+            (λ _. self.new ≡ after_word (after_zeros self.old result.0)) }
         ensures bound { self.new.words_read ≤ length self.new.source.bits / 64 + 2 }
     {
         let bitmap = self.bitmap;
         if (bitmap.offset() + self.at) % 64 != 0 {
-            return 0;
+            return (0, self.next());
         }
-        let words = bitmap.zero_words(self.at);
+        let (words, stop) = bitmap.zero_words(self.at);
+        let skipped = 64 * words;
+        if let Some(word) = stop {
+            self.words += words as u64 + 1;
+            self.at += skipped + 64;
+            return (skipped, Some((word, 64)));
+        }
         self.words += words as u64;
-        self.at += 64 * words;
-        64 * words
+        self.at += skipped;
+        (skipped, self.next())
     }
 }

@@ -1,7 +1,7 @@
 //! Bitmaps: boolean values, eight to a byte, least significant bit first, in shared bytes.
 #![tactic(auto, using(crate::proofs::BitLists::length_bits_from))]
 
-ghost use Rattle.std.specs.Prelude.{◌≡◌, ◌≢◌, ℕ, ◌+◌, ◌-◌, ◌*◌, ◌/◌, ◌%◌, ◌^◌, ◌<◌, ◌≤◌, [], ◌∷◌, ◌++◌, Bool, false, length, take, drop, slice_index_or, replicate, IfOk, IfErr, IsTrue, ◌↔◌, vec_len, if◌then◌else◌};
+ghost use Rattle.std.specs.Prelude.{◌≡◌, ◌≢◌, ℕ, ◌+◌, ◌-◌, ◌*◌, ◌/◌, ◌%◌, ◌^◌, ◌<◌, ◌≤◌, [], ◌∷◌, ◌++◌, Bool, false, length, take, drop, slice_index_or, replicate, IfOk, IfErr, IfSome, IfNone, IsTrue, ◌↔◌, vec_len, if◌then◌else◌};
 ghost use Rattle.sel_bits.specs.Bits.{bits_from, count_true, count_false, leading_ones, leading_zeros, trailing_zeros, unsliced};
 ghost use Rattle.sel_bits.specs.Words.{word_of};
 
@@ -173,24 +173,29 @@ impl Bitmap {
         whole_word(&self.bytes, first / 8, first % 8)
     }
 
-    /// Returns the number of consecutive words of 64 false bits from bit `at` on.
-    pub(crate) fn zero_words(&self, at: usize) -> usize
+    /// Returns the number of consecutive words of 64 false bits from bit `at` on, and the first other
+    /// word of 64 bits, or `None` if fewer than 64 bits follow. Reads each word once.
+    pub(crate) fn zero_words(&self, at: usize) -> (usize, Option<u64>)
         requires { at ≤ length self.now.bits }
-        ensures within { at + 64 * result ≤ length self.now.bits }
-        ensures zeros { take (64 * result) (drop at self.now.bits) ≡
-            replicate (64 * result) false }
-        ensures all { at + 64 * result + 64 ≤ length self.now.bits →
-            word_of (take 64 (drop (at + 64 * result) self.now.bits)) ≢ 0 }
+        ensures within { at + 64 * result.0 ≤ length self.now.bits }
+        ensures zeros { take (64 * result.0) (drop at self.now.bits) ≡
+            replicate (64 * result.0) false }
+        ensures some { IfSome result.1 (λ _. at + 64 * result.0 + 64 ≤ length self.now.bits) }
+        ensures word { IfSome result.1 (λ word. word ≡
+            word_of (take 64 (drop (at + 64 * result.0) self.now.bits))) }
+        ensures nonzero { IfSome result.1 (λ word. word ≢ 0) }
+        ensures end { IfNone result.1 (length self.now.bits < at + 64 * result.0 + 64) }
     {
         let most = (self.len() - at) / 64;
         let mut words = 0;
         while words < most {
-            if self.whole_word_at(at + 64 * words) != 0 {
-                return words;
+            let next = self.whole_word_at(at + 64 * words);
+            if next != 0 {
+                return (words, Some(next));
             }
             words += 1;
         }
-        words
+        (words, None)
     }
 
     /// Returns the number of true bits.

@@ -1,7 +1,7 @@
 //! A bitmap builder that appends up to 64 bits at a time.
 #![tactic(auto, using(crate::proofs::BitLists::length_bits_from))]
 
-ghost use Rattle.std.specs.Prelude.{◌≡◌, ℕ, ◌+◌, ◌-◌, ◌*◌, ◌^◌, ◌<◌, ◌≤◌, [], ◌∷◌, ◌++◌, length, take, drop, replicate, IfOk, IfErr, OnOk};
+ghost use Rattle.std.specs.Prelude.{◌≡◌, ℕ, ◌+◌, ◌-◌, ◌*◌, ◌^◌, ◌<◌, ◌≤◌, [], ◌∷◌, ◌++◌, length, take, drop, replicate, IfOk, IfErr, IfSome, IfNone, OnOk};
 ghost use Rattle.sel_bits.specs.Bits.{unsliced};
 ghost use Rattle.sel_bits.specs.Words.{bits, word_of};
 
@@ -51,6 +51,18 @@ impl BitPacker {
             pending: 0,
             held: 0,
         })
+    }
+
+    /// Returns the number of bits so far, or `None` if it does not fit in `usize`.
+    #[tactic(auto, using(crate::proofs::Packs::length_packed))]
+    pub fn len(&self) -> Option<usize>
+        ensures some { IfSome result (λ len. len ≡ length self.now) }
+        ensures none { IfNone result (2 ^ 64 ≤ length self.now) }
+    {
+        let Some(whole) = self.bytes.len().checked_mul(8) else {
+            return None;
+        };
+        whole.checked_add(self.held as usize)
     }
 
     /// Appends the `count` lowest bits of `word`.
@@ -150,7 +162,7 @@ impl BitPacker {
     /// Returns the bits as a bitmap.
     ///
     /// # Requires
-    /// `len` is the number of bits.
+    /// `len` is the number of bits; check with [`BitPacker::len`].
     ///
     /// # Errors
     /// `OutOfMemory` if an allocation fails.

@@ -25,7 +25,8 @@ pub extern "C" fn sel_child(alloc: Global, of: &ColumnRef, out: &mut Handle) -> 
         (λ made. rows made.column ≡ held_child_rows of.now.tree) }
     ensures dtype { Makes result out.old.tree out.new.tree
         (λ made. type_of made.column ≡ held_child_type of.now.tree) }
-    ensures status { IsOneOf result (ok ∷ out_of_memory ∷ no_column ∷ unsupported_type ∷ []) }
+    ensures status { IsOneOf result (ok ∷ out_of_memory ∷ no_column ∷ unsupported_type ∷
+        []) }
     ensures column { DemandsFirst result no_column (HasColumn of.now.tree) }
     ensures kind { Demands result unsupported_type (IsTrue (is_listing (held_type of.now.tree))) }
 {
@@ -82,7 +83,8 @@ pub extern "C" fn sel_field(alloc: Global, of: &ColumnRef, i: usize, out: &mut H
         (λ made. rows made.column ≡ held_field_rows of.now.tree i) }
     ensures dtype { Makes result out.old.tree out.new.tree
         (λ made. type_of made.column ≡ held_field_type of.now.tree i) }
-    ensures status { IsOneOf result (ok ∷ out_of_memory ∷ no_column ∷ index_out_of_bounds ∷ []) }
+    ensures status { IsOneOf result (ok ∷ out_of_memory ∷ no_column ∷ index_out_of_bounds ∷
+        []) }
     ensures column { DemandsFirst result no_column (HasColumn of.now.tree) }
     ensures bounds { Demands result index_out_of_bounds (i < length (held_fields of.now.tree)) }
 {

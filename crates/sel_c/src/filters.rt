@@ -67,7 +67,8 @@ pub extern "C" fn sel_filter_bits(
     ensures column { DemandsFirst result no_column (HasColumn of.now.tree) }
     ensures length { Demands result length_mismatch
         ((len ≡ length (held_rows of.now.tree)) × (len ≤ 8 * length mask.now)) }
-    ensures status { IsOneOf result (ok ∷ out_of_memory ∷ no_column ∷ length_mismatch ∷ []) }
+    ensures status { IsOneOf result (ok ∷ out_of_memory ∷ no_column ∷ length_mismatch ∷
+        []) }
 {
     let Some(column) = of.column() else {
         return NO_COLUMN;

@@ -37,7 +37,8 @@ pub extern "C" fn sel_fixed_size_list_get(
         (ok ∷ out_of_memory ∷ no_column ∷ unsupported_type ∷ list_index_out_of_bounds ∷
         limit_statuses) }
     ensures column { DemandsFirst result no_column (HasColumn of.now.tree) }
-    ensures kind { DemandsBefore result unsupported_type (list_index_out_of_bounds ∷ limit_statuses)
+    ensures kind { DemandsBefore result unsupported_type
+        (list_index_out_of_bounds ∷ limit_statuses)
         (IsTrue (is_block_shape (held_type of.now.tree))) }
     ensures bounds { DemandsBefore result list_index_out_of_bounds limit_statuses
         (index_is_error null_on_oob (held_rows of.now.tree) (held_type of.now.tree) index ≡ false) }

@@ -55,7 +55,8 @@ pub extern "C" fn sel_list_index_is_oob(
     out: &mut bool,
 ) -> u32
     ensures told { result ≡ ok → out.new ≡ oob (held_rows of.now.tree) index }
-    ensures status { IsOneOf result (ok ∷ out_of_memory ∷ no_column ∷ unsupported_type ∷ []) }
+    ensures status { IsOneOf result (ok ∷ out_of_memory ∷ no_column ∷ unsupported_type ∷
+        []) }
     ensures column { DemandsFirst result no_column (HasColumn of.now.tree) }
     ensures kind { Demands result unsupported_type
         (IsTrue (is_list_shape (held_type of.now.tree))) }

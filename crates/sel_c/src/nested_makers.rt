@@ -66,8 +66,9 @@ pub extern "C" fn sel_list_new(
         (λ made. type_of made.column ≡ of_large_list (held_type child.old.tree)) }
     ensures column { DemandsFirst result no_column (HasColumn child.old.tree) }
     ensures deep { 128 ≤ depth (held_type child.old.tree) → result ≡ too_deep }
-    ensures status { HasColumn child.old.tree → depth (held_type child.old.tree) < 128 → ReportsExactly result
-        (list_rules offsets.now (held_count child.old.tree) bits.now has_bits) }
+    ensures status { HasColumn child.old.tree → depth (held_type child.old.tree) < 128 →
+        ReportsExactly result (list_rules offsets.now (held_count child.old.tree) bits.now
+        has_bits) }
     ensures taken { result ≡ ok → child.new.tree ≡ None }
     ensures kept { result ≢ ok → child.new.tree ≡ child.old.tree }
 {
@@ -104,8 +105,9 @@ pub extern "C" fn sel_fixed_size_list_new(
         (λ made. type_of made.column ≡ of_fixed_size_list (held_type child.old.tree) width) }
     ensures column { DemandsFirst result no_column (HasColumn child.old.tree) }
     ensures deep { 128 ≤ depth (held_type child.old.tree) → result ≡ too_deep }
-    ensures status { HasColumn child.old.tree → depth (held_type child.old.tree) < 128 → ReportsExactly result
-        (block_rules width len (held_count child.old.tree) bits.now has_bits) }
+    ensures status { HasColumn child.old.tree → depth (held_type child.old.tree) < 128 →
+        ReportsExactly result (block_rules width len (held_count child.old.tree) bits.now
+        has_bits) }
     ensures taken { result ≡ ok → child.new.tree ≡ None }
     ensures kept { result ≢ ok → child.new.tree ≡ child.old.tree }
 {

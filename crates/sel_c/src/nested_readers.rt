@@ -24,7 +24,8 @@ pub extern "C" fn sel_offsets(of: &ColumnRef, out: &mut [i64]) -> u32
         (held_offsets of.now.tree ≢ None) }
     ensures length { result ≡ length_mismatch →
         Some (length out.old) ≢ option_map length (held_offsets of.now.tree) }
-    ensures status { IsOneOf result (ok ∷ no_column ∷ unsupported_type ∷ length_mismatch ∷ []) }
+    ensures status { IsOneOf result (ok ∷ no_column ∷ unsupported_type ∷ length_mismatch ∷
+        []) }
 {
     let Some(column) = of.column() else {
         return NO_COLUMN;
@@ -64,7 +65,8 @@ pub extern "C" fn sel_bytes(of: &ColumnRef, out: &mut [u8]) -> u32
         (held_bytes of.now.tree ≢ None) }
     ensures length { result ≡ length_mismatch →
         Some (length out.old) ≢ option_map length (held_bytes of.now.tree) }
-    ensures status { IsOneOf result (ok ∷ no_column ∷ unsupported_type ∷ length_mismatch ∷ []) }
+    ensures status { IsOneOf result (ok ∷ no_column ∷ unsupported_type ∷ length_mismatch ∷
+        []) }
 {
     let Some(column) = of.column() else {
         return NO_COLUMN;

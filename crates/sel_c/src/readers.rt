@@ -64,7 +64,8 @@ pub extern "C" fn sel_validity(alloc: Global, of: &ColumnRef, out: &mut [u8], ha
     ensures column { DemandsFirst result no_column (HasColumn of.now.tree) }
     ensures length { result ≡ length_mismatch →
         length out.old ≢ (length (held_rows of.now.tree) + 7) / 8 }
-    ensures status { IsOneOf result (ok ∷ out_of_memory ∷ no_column ∷ length_mismatch ∷ []) }
+    ensures status { IsOneOf result (ok ∷ out_of_memory ∷ no_column ∷ length_mismatch ∷
+        []) }
 {
     let Some(column) = of.column() else {
         return NO_COLUMN;

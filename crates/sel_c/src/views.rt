@@ -87,7 +87,8 @@ pub extern "C" fn sel_views(of: &ColumnRef, out: &mut [ViewWords]) -> u32
         (held_views of.now.tree ≢ None) }
     ensures length { result ≡ length_mismatch →
         Some (length out.old) ≢ option_map length (held_views of.now.tree) }
-    ensures status { IsOneOf result (ok ∷ no_column ∷ unsupported_type ∷ length_mismatch ∷ []) }
+    ensures status { IsOneOf result (ok ∷ no_column ∷ unsupported_type ∷ length_mismatch ∷
+        []) }
 {
     let Some(column) = of.column() else {
         return NO_COLUMN;
@@ -130,7 +131,8 @@ pub extern "C" fn sel_buffer_len(of: &ColumnRef, i: usize, len: &mut usize) -> u
         (held_views of.now.tree ≢ None) }
     ensures bounds { result ≡ index_out_of_bounds →
         option_map (λ buffers. slice_get buffers i) (held_buffers of.now.tree) ≡ Some None }
-    ensures status { IsOneOf result (ok ∷ no_column ∷ unsupported_type ∷ index_out_of_bounds ∷ []) }
+    ensures status { IsOneOf result (ok ∷ no_column ∷ unsupported_type ∷
+        index_out_of_bounds ∷ []) }
 {
     let Some(column) = of.column() else {
         return NO_COLUMN;

@@ -30,7 +30,8 @@ pub extern "C" fn sel_slice(
     ensures column { DemandsFirst result no_column (HasColumn of.now.tree) }
     ensures bounds { Demands result index_out_of_bounds
         (off + len ≤ length (held_rows of.now.tree)) }
-    ensures status { IsOneOf result (ok ∷ out_of_memory ∷ no_column ∷ index_out_of_bounds ∷ []) }
+    ensures status { IsOneOf result (ok ∷ out_of_memory ∷ no_column ∷ index_out_of_bounds ∷
+        []) }
 {
     let Some(column) = of.column() else {
         return NO_COLUMN;

@@ -18,7 +18,8 @@ entries_at_each rows shape indices = fixed_get rows (width_of shape) indices
 
 -- Whether `null_on_oob` is false and the index of a list that is not null is null or out of bounds.
 abbrev pub any_index_is_error : Bool → List Value → Shape → List Value → Bool
-any_index_is_error null_on_oob rows shape indices = not null_on_oob && any_out_of_bounds rows (width_of shape) indices
+any_index_is_error null_on_oob rows shape indices =
+    not null_on_oob && any_out_of_bounds rows (width_of shape) indices
 
 -- The limits that these elements exceed.
 abbrev pub exceeded_entries_at_each : List Value → Shape → List Value → Limit → Type 0
@@ -28,8 +29,10 @@ exceeded_entries_at_each rows shape indices limit =
 -- Whether `null_on_oob` is false and the index is out of bounds for a list that is not null.
 abbrev pub index_is_error : Bool → List Value → Shape → ℤ → Bool
 index_is_error null_on_oob rows shape index =
-    not null_on_oob && any_out_of_bounds rows (width_of shape) (replicate (length rows) (Number index))
+    not null_on_oob && any_out_of_bounds rows (width_of shape)
+    (replicate (length rows) (Number index))
 
 -- The limits that the elements exceed.
 abbrev pub exceeded_entries_at : List Value → Shape → ℤ → Limit → Type 0
-exceeded_entries_at rows shape index limit = exceeded_limits (entry_type shape) (entries_at rows shape index) limit
+exceeded_entries_at rows shape index limit =
+    exceeded_limits (entry_type shape) (entries_at rows shape index) limit

@@ -71,7 +71,8 @@ pub fn filter_bits_into(
         (λ made. type_of made.column ≡ type_of column.now.column) }
     ensures length { Demands result length_mismatch
         ((len ≡ length (rows column.now.column)) × (len ≤ 8 * length mask.now)) }
-    ensures status { IsOneOf result (ok ∷ out_of_memory ∷ no_column ∷ length_mismatch ∷ []) }
+    ensures status { IsOneOf result (ok ∷ out_of_memory ∷ no_column ∷ length_mismatch ∷
+        []) }
     ensures column { result ≢ no_column }
 {
     if column.len() != len || mask.len() < len.div_ceil(8) {

@@ -39,7 +39,8 @@ pub fn fixed_get_into(
     ensures column { result ≢ no_column }
     ensures status { IsOneOf result
         (ok ∷ out_of_memory ∷ unsupported_type ∷ list_index_out_of_bounds ∷ limit_statuses) }
-    ensures kind { DemandsBefore result unsupported_type (list_index_out_of_bounds ∷ limit_statuses)
+    ensures kind { DemandsBefore result unsupported_type
+        (list_index_out_of_bounds ∷ limit_statuses)
         (IsTrue (is_block_shape (type_of column.now.column))) }
     ensures bounds { DemandsBefore result list_index_out_of_bounds limit_statuses
         (index_is_error null_on_oob (rows column.now.column) (type_of column.now.column) index

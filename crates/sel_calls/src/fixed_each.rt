@@ -42,8 +42,8 @@ pub fn fixed_get_each_into(
     ensures dtype { Makes result out.old.tree out.new.tree
         (λ made. type_of made.column ≡ entry_type (type_of column.now.column)) }
     ensures column { result ≢ no_column }
-    ensures status { IsOneOf result (ok ∷ out_of_memory ∷ unsupported_type ∷ length_mismatch ∷
-        list_index_out_of_bounds ∷ limit_statuses) }
+    ensures status { IsOneOf result (ok ∷ out_of_memory ∷ unsupported_type ∷
+        length_mismatch ∷ list_index_out_of_bounds ∷ limit_statuses) }
     ensures kind { DemandsBefore result unsupported_type
         (length_mismatch ∷ list_index_out_of_bounds ∷ limit_statuses)
         (IsTrue (is_block_shape (type_of column.now.column)) ×
@@ -85,8 +85,8 @@ fn entries_of_column_into(
     ensures dtype { Makes result out.old.tree out.new.tree
         (λ made. type_of made.column ≡ entry_type (type_of column.now.column)) }
     ensures column { result ≢ no_column }
-    ensures status { IsOneOf result (ok ∷ out_of_memory ∷ unsupported_type ∷ length_mismatch ∷
-        list_index_out_of_bounds ∷ limit_statuses) }
+    ensures status { IsOneOf result (ok ∷ out_of_memory ∷ unsupported_type ∷
+        length_mismatch ∷ list_index_out_of_bounds ∷ limit_statuses) }
     ensures kind { DemandsBefore result unsupported_type
         (length_mismatch ∷ list_index_out_of_bounds ∷ limit_statuses)
         (IsTrue (is_block_shape (type_of column.now.column))) }

@@ -65,7 +65,8 @@ fn take_at_into(alloc: Global, column: &ArrayRef, indices: &IdxArr, out: &mut Ha
         (λ made. type_of made.column ≡ type_of column.now.column) }
     ensures column { result ≢ no_column }
     ensures kind { result ≢ unsupported_type }
-    ensures status { IsOneOf result (ok ∷ out_of_memory ∷ index_out_of_bounds ∷ limit_statuses) }
+    ensures status { IsOneOf result (ok ∷ out_of_memory ∷ index_out_of_bounds ∷
+        limit_statuses) }
     ensures bounds { DemandsBefore result index_out_of_bounds limit_statuses
         (IsTrue (all_within (length (rows column.now.column)) (primitive_rows indices.now))) }
     ensures limits { ReportsLimits result (exceeded_limits (type_of column.now.column)

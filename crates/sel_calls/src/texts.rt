@@ -186,8 +186,8 @@ fn rows_error_status(fault: TextError, at: &mut usize) -> u32
     ensures place { (count : ℕ) → IsOffsetWithin count fault →
         IsOneOf result (row_syntax ∷ row_type_mismatch ∷ []) → at.new ≤ count }
     ensures no_place { IsOneOf result (out_of_memory ∷ text_limit ∷ []) → at.new ≡ at.old }
-    ensures status { IsOneOf result (out_of_memory ∷ row_syntax ∷ row_type_mismatch ∷ text_limit ∷
-        []) }
+    ensures status { IsOneOf result (out_of_memory ∷ row_syntax ∷ row_type_mismatch ∷
+        text_limit ∷ []) }
 {
     match fault {
         TextError::Syntax { at: place } => {

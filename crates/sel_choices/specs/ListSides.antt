@@ -29,19 +29,22 @@ below child (scalar s) = s.column
 -- The limits that rows of this type exceed if they are gathered from these columns: there are too
 -- many of them, or they need too much.
 abbrev pub exceeded_held : Shape → List Column → List Value → Limit → Type 0
-exceeded_held s columns rows limit = ExceedsRows (length rows) limit ⊎ exceeded_taken s columns rows limit
+exceeded_held s columns rows limit =
+    ExceedsRows (length rows) limit ⊎ exceeded_taken s columns rows limit
 
 -- The limits that the child rows of lists of this type exceed if they are gathered from these
 -- columns.
 abbrev pub exceeded_below : Shape → List Column → List Value → Limit → Type 0
-exceeded_below (of_large_list s) columns rows limit = exceeded_held s columns (joined_items 0 rows) limit
+exceeded_below (of_large_list s) columns rows limit =
+    exceeded_held s columns (joined_items 0 rows) limit
 exceeded_below (of_fixed_size_list s width) columns rows limit =
     exceeded_held s columns (joined_items width rows) limit
 exceeded_below s columns rows limit = ⊥
 
 -- The limits that an if-then-else of lists with this type and these rows exceeds: it has too many
 -- rows, or its child rows exceed a limit.
-abbrev pub exceeded_lists : {C : Type 0} → (C → Column) → Shape → Side C ArrayRef → Side C ArrayRef →
+abbrev pub exceeded_lists : {C : Type 0} → (C → Column) → Shape → Side C ArrayRef
+    → Side C ArrayRef →
     List Value → Limit → Type 0
 exceeded_lists child type if_true if_false rows limit =
     exceeded_flat if_true if_false rows limit

@@ -57,7 +57,8 @@ ExceedsViews buffers bytes _ = ⊥
 
 -- The limits that the result exceeds: that of rows, that of the data buffers of the true and false
 -- values together, and that of the bytes of the longest scalar.
-abbrev pub exceeded_views : {C S : Type 0} → (C → List (List ℕ)) → (S → List ℕ) → Side C S → Side C S →
+abbrev pub exceeded_views : {C S : Type 0} → (C → List (List ℕ)) → (S → List ℕ) → Side C S
+    → Side C S →
     List Value → Limit → Type 0
 exceeded_views of_column of_scalar if_true if_false rows limit =
     exceeded_flat if_true if_false rows limit
@@ -73,7 +74,8 @@ abbrev pub exceeded_binview : Side BinaryViewArray (Vec ℕ Global) →
 exceeded_binview if_true if_false rows limit =
     exceeded_views binview_buffers vec_items if_true if_false rows limit
 
-abbrev pub exceeded_utf8view : Side Utf8ViewArray (String Global) → Side Utf8ViewArray (String Global) →
+abbrev pub exceeded_utf8view : Side Utf8ViewArray (String Global)
+    → Side Utf8ViewArray (String Global) →
     List Value → Limit → Type 0
 exceeded_utf8view if_true if_false rows limit =
     exceeded_views utf8view_buffers string_bytes if_true if_false rows limit

@@ -1,5 +1,5 @@
 -- The invariant of a filter that reads its mask word by word, over plain variables.
-use Rattle.std.proofs.Common.{◌≡◌, ℕ, ◌+◌, ◌-◌, ◌^◌, ◌<◌, ◌≤◌, ◌∙◌, sym, refl, ap, subst, arith, List, [], ◌++◌, length, take, drop, replicate, Bool, false, append-nil}
+use Rattle.std.proofs.Common.{◌≡◌, ℕ, ◌+◌, ◌-◌, ◌^◌, ◌<◌, ◌≤◌, ◌∙◌, sym, refl, ap, arith, List, [], ◌++◌, length, take, drop, replicate, Bool, false, append-nil}
 use Rattle.std.proofs.lemmas.List.{take-append-drop, take_all, length-take, length-drop}
 use Rattle.std.proofs.lemmas.List.Sums.{count_by-le-length}
 use Rattle.std.proofs.Math.Seq.{take-add}
@@ -7,7 +7,7 @@ use lib.Pow.{pow_mono}
 use Rattle.sel_bits.specs.Words.{bits, word_of}
 use Rattle.sel_filter.specs.Select.{select}
 use Rattle.sel_bits.specs.Bits.{Bits, count_true}
-use Rattle.sel_bits.specs.Reading.{BitReading, WordReading, reached, next_count, next_bits, after_word}
+use Rattle.sel_bits.specs.Reading.{BitReading, WordReading, reached, next_count, next_bits, after_word, after_zeros}
 use Rattle.sel_bits.proofs.Padded.{word_of_lt}
 use Rattle.sel_filter.proofs.WordLists.{bits_word_of}
 use Rattle.sel_filter.proofs.Selects.{select-append, select_none, count_true-append, count_true_none, length-select}
@@ -156,8 +156,10 @@ module _ (vs ms : Bits) (out : List Bool) (start : ℕ) (values : BitReading) (m
     reads = omega (arith, was.reads, count_more vs.bits ms.bits start n was.lengths skipped_within, ap count_true skipped, count_true_none n);
   }
 
-  pub filtered_skip : (to : ℕ) → to ≡ start + n → IsFiltered vs ms out to values later
-  filtered_skip to is = subst (λ k. IsFiltered vs ms out k values later) (sym is) skipped_all
+-- The state after skipped zeros.
+pub filtered_zeros : (vs ms : Bits) (out : List Bool) (start : ℕ) (values : BitReading) (mask : WordReading) → IsFiltered vs ms out start values mask → (n : ℕ) → reached (after_zeros mask n) ≡ reached mask + n
+    → take n (drop (reached mask) mask.source.bits) ≡ replicate n false → IsFiltered vs ms out (start + n) values (after_zeros mask n)
+filtered_zeros vs ms out start values mask was n on none = skipped_all vs ms out start values mask was n (after_zeros mask n) refl on none
 
 -- After the last word all rows are filtered.
 module _ (vs ms : Bits) (out : List Bool) (start : ℕ) (values : BitReading) (mask : WordReading) (was : IsFiltered vs ms out start values mask) (end : reached mask ≡ length mask.source.bits) where

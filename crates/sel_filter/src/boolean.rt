@@ -94,11 +94,11 @@ pub fn filter_boolean_kernel_sparse(
     // The number of bits fits in `usize`.
     let whole = mask.len();
     let mut kept = BitPacker::with_capacity(alloc, whole)?;
-    let mut start = mask.skip_zeros();
-    while let Some((word, count)) = mask.next() {
+    let mut start = 0;
+    while let (zeros, Some((word, count))) = mask.next_after_zeros() {
+        start += zeros;
         append_marked(values, start, word, &mut kept)?;
         start += count;
-        start += mask.skip_zeros();
     }
     kept.into_bitmap(values.bits_read() as usize)
 }

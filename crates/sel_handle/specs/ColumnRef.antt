@@ -7,7 +7,7 @@ use Rattle.std.specs.declared.option.Option.TheVariants.{None, Some}
 use Rattle.sel_handle.specs.contracts.shared_column.SharedColumn.{the_row}
 use Rattle.sel_handle.specs.Held.{Held}
 
--- A share of the token of lifetime `a`: while it is held, the lifetime does not end.
+-- A share of the token of lifetime `a`: while it exists, the lifetime does not end.
 abbrev pub lasts : ℕ → Fml
 lasts a = fex Share (λ share. flft (a ∷ []) share)
 

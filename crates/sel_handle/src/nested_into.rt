@@ -103,11 +103,11 @@ pub fn struct_into(
         (map (λ field. rows field.column) fields.items) (validity_in bits.now has_bits len)) }
     ensures dtype { Makes result out.old.tree out.new.tree (λ made. type_of made.column ≡
         of_struct (shapes_of (map (λ field. type_of field.column) fields.items))) }
-    ensures deep { 128 ≤ deepest (shapes_of (map (λ field. type_of field.column) fields.items)) →
-        result ≡ too_deep }
-    ensures status { deepest (shapes_of (map (λ field. type_of field.column) fields.items)) < 128 →
-        ReportsExactly result (struct_rules len
-        (map (λ field. row_count field.column) fields.items) bits.now has_bits) }
+    ensures deep { 128 ≤ deepest
+        (shapes_of (map (λ field. type_of field.column) fields.items)) → result ≡ too_deep }
+    ensures status { deepest (shapes_of (map (λ field. type_of field.column) fields.items)) <
+        128 → ReportsExactly result
+        (struct_rules len (map (λ field. row_count field.column) fields.items) bits.now has_bits) }
     ensures column { result ≢ no_column }
 {
     if !arrays_are_within(&fields, MAX_DEPTH - 1) {

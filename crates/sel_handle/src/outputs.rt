@@ -101,7 +101,8 @@ pub fn validity_into(alloc: Global, column: &ArrayRef, out: &mut [u8], has: &mut
         (validity_in out.new has.new (length (rows column.now.column))) (rows column.now.column) }
     ensures length { result ≡ length_mismatch →
         length out.old ≢ (length (rows column.now.column) + 7) / 8 }
-    ensures status { IsOneOf result (ok ∷ out_of_memory ∷ no_column ∷ length_mismatch ∷ []) }
+    ensures status { IsOneOf result (ok ∷ out_of_memory ∷ no_column ∷ length_mismatch ∷
+        []) }
     ensures column { result ≢ no_column }
 {
     match column.validity() {

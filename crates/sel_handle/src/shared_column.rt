@@ -38,7 +38,8 @@ impl SharedColumn {
     /// Shares a column.
     ///
     /// # Requires
-    /// The column is nested at most 128 levels deep; check with [`is_within`](crate::depth::is_within).
+    /// The column is nested at most 128 levels deep; check with
+    /// [`is_within`](crate::depth::is_within).
     ///
     /// # Errors
     /// `OutOfMemory` if an allocation fails; then the column is freed.

@@ -9,7 +9,8 @@ use Rattle.sel_lines.specs.Words.{if_both}
 -- The rows that the mask selects, printed; none if the lengths do not match.
 abbrev pub filter_answer : List Value → List Value → Option (List ℕ)
 filter_answer rows mask =
-    if length rows == length mask then Some (column_text (select rows (effective_mask mask))) else None
+    if length rows == length mask
+    then Some (column_text (select rows (effective_mask mask))) else None
 
 -- The output for the arguments of `filter`.
 abbrev pub filter_words : List (List ℕ) → Option (List ℕ)

@@ -13,6 +13,7 @@ pub mod ListParts
 pub mod NullItems
 pub mod NullPicks
 pub mod OneSource
+pub mod PlanTests
 pub mod Raising
 pub mod Rebuilt
 pub mod Refusals

@@ -1,5 +1,5 @@
 -- Binary rows that are appended to others, step by step.
-use Rattle.std.specs.Prelude.{◌≡◌, ℕ, pos, ◌+◌, ◌<◌, ◌++◌, List, [], map, length, slice_index_or}
+use Rattle.std.specs.Prelude.{◌≡◌, ℕ, pos, ◌<◌, ◌++◌, List, [], map, length, slice_index_or}
 use Rattle.std.specs.List.{flat_map}
 use Rattle.sel_arrow.specs.Value.{Value, Null, Bytes, validities}
 use Rattle.sel_runs.specs.declared.binary.Joined.{Joined}

@@ -66,7 +66,8 @@ abbrev mutual
   pub exceeded_limits : Shape → List Value → Limit → Type 0
   exceeded_limits of_large_binary rows limit = ExceedsBytes (pos 9223372036854775807) rows limit
   exceeded_limits (of_large_list s) rows limit =
-      ExceedsRows (length (joined_items 0 rows)) limit ⊎ exceeded_limits s (joined_items 0 rows) limit
+      ExceedsRows (length (joined_items 0 rows)) limit
+      ⊎ exceeded_limits s (joined_items 0 rows) limit
   exceeded_limits (of_fixed_size_list s width) rows limit =
       ExceedsRows (length (joined_items width rows)) limit
       ⊎ exceeded_limits s (joined_items width rows) limit
@@ -85,7 +86,8 @@ abbrev mutual
   -- child rows, a null fixed-size list as many as its list size, and a null struct row one row of
   -- each field.
   pub exceeded_taken : Shape → List Column → List Value → Limit → Type 0
-  exceeded_taken of_large_binary columns rows limit = ExceedsBytes (pos 9223372036854775807) rows limit
+  exceeded_taken of_large_binary columns rows limit =
+      ExceedsBytes (pos 9223372036854775807) rows limit
   exceeded_taken of_binary_view columns rows limit = ExceedsBuffers (buffers_joined columns) limit
   exceeded_taken of_utf8_view columns rows limit = ExceedsBuffers (buffers_joined columns) limit
   exceeded_taken (of_large_list s) columns rows limit =

@@ -1,6 +1,6 @@
 //! Values without validity, copied run by run.
 
-ghost use Rattle.std.specs.Prelude.{◌≡◌, ◌≤◌, ◌+◌, ◌++◌, All, false, is_none, length, map, take, drop, IfOk, IfErr, OnOk};
+ghost use Rattle.std.specs.Prelude.{◌≡◌, ◌↔◌, ◌≤◌, ◌+◌, ◌++◌, All, false, is_none, length, map, take, drop, IfOk, IfErr, OnOk};
 ghost use Rattle.sel_runs.specs.Picks.{pick, PickFits};
 ghost use Rattle.sel_runs.specs.Runs.{expand, unrolled};
 
@@ -17,7 +17,7 @@ const SHORT_RUN: usize = 8;
 
 /// Returns whether some run has no source.
 pub(crate) fn is_any_null(runs: &[Run]) -> bool
-    ensures { result ≡ false → All (λ run. is_none run.source ≡ false) runs.now }
+    ensures { (result ≡ false) ↔ All (λ run. is_none run.source ≡ false) runs.now }
 {
     runs.iter().any(|run| run.source.is_none())
 }

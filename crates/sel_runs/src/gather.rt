@@ -1,6 +1,6 @@
 //! Gathers values and bits from several sources, one row reference at a time.
 
-ghost use Rattle.std.specs.Prelude.{◌≡◌, ◌≤◌, ◌<◌, ◌+◌, ◌∷◌, ◌++◌, [], All, None, false, length, slice_index_or, map, take, drop, vec_len, vec_capacity, IfOk, IfErr};
+ghost use Rattle.std.specs.Prelude.{◌≡◌, ◌≤◌, ◌<◌, ◌+◌, ◌∷◌, ◌++◌, [], ◌↔◌, All, None, false, length, slice_index_or, map, take, drop, vec_len, vec_capacity, IfOk, IfErr, IsTrue};
 ghost use Rattle.std.specs.Option.{ForSome, option_copied};
 ghost use Rattle.sel_bits.specs.Words.{word_of};
 ghost use Rattle.sel_arrow.specs.Masked.{Covers, valid_at};
@@ -140,7 +140,7 @@ pub(crate) fn gather_parts<P: Plan, T: Copy + Drop>(
 
 /// Returns whether some source has a validity bitmap.
 pub(crate) fn is_any_hidden<T: Copy>(parts: &[Part<T>]) -> bool
-    ensures { result ≡ false → All (λ s. option_copied s.validity ≡ None) parts.now }
+    ensures { (result ≡ false) ↔ All (λ s. option_copied s.validity ≡ None) parts.now }
 {
     parts.iter().any(|part| part.validity.is_some())
 }
@@ -247,7 +247,7 @@ pub(crate) fn gather_validity<P: Plan>(
 
 /// Returns whether some bitmap is present.
 pub(crate) fn is_any_there(maps: &[Option<&Bitmap>]) -> bool
-    ensures { result ≡ false → All (λ map. option_copied map ≡ None) maps.now }
+    ensures { (result ≡ false) ↔ All (λ map. option_copied map ≡ None) maps.now }
 {
     maps.iter().any(|map| map.is_some())
 }
@@ -257,7 +257,7 @@ pub(crate) fn is_any_there(maps: &[Option<&Bitmap>]) -> bool
 ///
 /// # Requires
 /// Every non-null row reference refers to an entry of `maps`, and to a bit of that bitmap if it is
-/// present.
+/// present; check with [`plan_has_bits`].
 ///
 /// # Errors
 /// `OutOfMemory` if an allocation fails.
@@ -281,6 +281,39 @@ pub fn gather_bits<P: Plan>(
         at += count;
     }
     Ok(bits)
+}
+
+/// Returns whether every non-null row reference refers to an entry of `maps`, and to a bit of that
+/// bitmap if it is present.
+pub fn plan_has_bits<P: Plan>(maps: &[Option<&Bitmap>], plan: &P) -> bool
+    ensures { IsTrue result ↔ All (HasBit (map option_copied maps.now)) (P.picks plan.now) }
+{
+    let mut rest = plan.again();
+    let mut left = plan.len();
+    while left > 0 {
+        if !has_bit(maps, rest.next()) {
+            return false;
+        }
+        left -= 1;
+    }
+    true
+}
+
+// Returns whether a row reference is null, or refers to an entry of `maps` and to a bit of that
+// bitmap if it is present.
+fn has_bit(maps: &[Option<&Bitmap>], pick: Option<(u32, u32)>) -> bool
+    ensures { IsTrue result ↔ HasBit (map option_copied maps.now) pick }
+{
+    let Some((source, row)) = pick else {
+        return true;
+    };
+    if source as usize >= maps.len() {
+        return false;
+    }
+    match maps[source as usize] {
+        None => true,
+        Some(bits) => (row as usize) < bits.len(),
+    }
 }
 
 // Consumes the next `count` row references, and returns the bits at them as one word.

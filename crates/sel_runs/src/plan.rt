@@ -40,11 +40,14 @@ pub trait Plan: Sized + Drop {
         ensures { picks result ≡ picks self.now };
 
     /// Returns false only if no row reference is null.
+    ///
+    /// The result is a hint for speed: an implementation may return true even if none is null.
     fn has_nulls(&self) -> bool
         ensures { result ≡ false → All IsPicked (picks self.now) };
 
-    /// Returns whether most runs have more than one row, so that copying by runs is faster. The
-    /// contract leaves the result open.
+    /// Returns whether most runs have more than one row, so that copying by runs is faster.
+    ///
+    /// The result is a hint for speed, which the contract leaves open.
     fn is_wide(&self) -> bool;
 }
 
@@ -113,6 +116,8 @@ pub trait Places: Sized + Drop {
         ensures { picks result ≡ picks self.now };
 
     /// Returns false only if no row reference is null.
+    ///
+    /// The result is a hint for speed: an implementation may return true even if none is null.
     fn has_nulls(&self) -> bool
         ensures { result ≡ false → All IsPicked (picks self.now) };
 }

@@ -29,7 +29,7 @@ use std::alloc::Global;
 /// # Requires
 /// There is at least one source, and all sources have the type of the first (check with
 /// `are_alike`) and are well-formed (check with `are_well_formed`). Every non-null row reference
-/// refers to a row of a source.
+/// refers to a row of a source (check with `plan_in_bounds`).
 ///
 /// # Errors
 /// Those of `collect_rows`.

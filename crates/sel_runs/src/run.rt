@@ -21,10 +21,11 @@ pub struct Run {
 /// The runs have at most 2^32 - 1 rows in total, including the new one.
 ///
 /// # Errors
-/// `OutOfMemory` if an allocation fails.
+/// `OutOfMemory` if an allocation fails; the runs are unchanged.
 pub fn push_run(runs: &mut Vec<Run>, run: Run) -> PolarsResult<()>
     requires { length (expand runs.old.items) + run.len ≤ 4294967295 }
     ensures picks { OnOk result (expand runs.new.items ≡ expand runs.old.items ++ unrolled run) }
+    ensures unchanged { IfErr result (λ _. runs.new.items ≡ runs.old.items) }
     ensures refusal { IfErr result (λ fault. fault ≡ PolarsError.OutOfMemory) }
 {
     if run.len == 0 {
@@ -42,12 +43,14 @@ pub fn push_run(runs: &mut Vec<Run>, run: Run) -> PolarsResult<()>
 }
 
 /// Appends a run like [`push_run`], with the last run stored in `last`, which is empty if there is
-/// none. Errors: `OutOfMemory`.
+/// none. Errors: `OutOfMemory`; the runs and `last` are unchanged.
 #[inline(always)]
 pub(crate) fn put_run(runs: &mut Vec<Run>, last: &mut Run, run: Run) -> PolarsResult<()>
     requires { length (expand (runs.old.items ++ last.old ∷ [])) + run.len ≤ 4294967295 }
     ensures picks { OnOk result (expand (runs.new.items ++ last.new ∷ []) ≡
         expand (runs.old.items ++ last.old ∷ []) ++ unrolled run) }
+    ensures unchanged { IfErr result (λ _. runs.new.items ≡ runs.old.items) }
+    ensures last_unchanged { IfErr result (λ _. last.new ≡ last.old) }
     ensures refusal { IfErr result (λ fault. fault ≡ PolarsError.OutOfMemory) }
 {
     if run.len == 0 {

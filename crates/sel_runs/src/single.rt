@@ -61,8 +61,8 @@ pub fn collect_one(
 /// null row.
 ///
 /// # Requires
-/// `column` is well-formed, and every non-null row reference is `(0, i)` with `i` less than
-/// `column.len()`.
+/// `column` is well-formed (check with `Column::is_well_formed`), and every non-null row reference
+/// is `(0, i)` with `i` less than `column.len()` (check with `plan_in_bounds(&[column], plan)`).
 ///
 /// # Errors
 /// Those of [`collect_one`].

@@ -6,6 +6,7 @@ ghost use Rattle.sel_runs.specs.Picks.{PickFits};
 ghost use Rattle.sel_runs.specs.Runs.{expand, unrolled};
 ghost use Rattle.sel_runs.specs.Sources.{columns_of, first_type, rows_of};
 
+use crate::plan::Plan;
 use crate::run::Run;
 use sel_arrow::column::Column;
 
@@ -91,6 +92,22 @@ pub fn picks_in_bounds(sources: &[&Column], picks: &[Option<(u32, u32)>]) -> boo
         if !pick_fits(sources, *pick) {
             return false;
         }
+    }
+    true
+}
+
+/// Returns whether every non-null row reference of `plan` refers to a row of a source. The sources
+/// need not be well-formed.
+pub fn plan_in_bounds<P: Plan>(sources: &[&Column], plan: &P) -> bool
+    ensures { IsTrue result ↔ All (PickFits (rows_of sources.now)) (P.picks plan.now) }
+{
+    let mut rest = plan.again();
+    let mut left = plan.len();
+    while left > 0 {
+        if !pick_fits(sources, rest.next()) {
+            return false;
+        }
+        left -= 1;
     }
     true
 }

@@ -1,6 +1,6 @@
 //! View columns, collected by runs of rows over the data buffers of all sources.
 
-ghost use Rattle.std.specs.Prelude.{◌≡◌, ◌≤◌, ◌<◌, ◌+◌, ◌++◌, All, length, map, take, drop, IfOk, IfErr, IsTrue, OnOk};
+ghost use Rattle.std.specs.Prelude.{◌≡◌, ◌≤◌, ◌<◌, ◌+◌, ◌++◌, ◌∷◌, [], All, length, map, take, drop, IfOk, IfErr, IsTrue, OnOk};
 ghost use Rattle.std.specs.List.{flat_map};
 ghost use Rattle.sel_bits.specs.declared.faults.Limit.TheVariants.{Buffers as BufferLimit};
 ghost use Rattle.sel_arrow.specs.Columns.{binview_rows};
@@ -225,14 +225,31 @@ fn joined_buffers(alloc: Global, sources: &[&BinaryViewArray]) -> PolarsResult<B
 /// Appends data buffers, which share their memory with the originals.
 ///
 /// # Errors
-/// `OutOfMemory` if an allocation fails.
+/// `OutOfMemory` if an allocation fails; the items of `joined` are unchanged.
 pub fn push_buffers(joined: &mut Vec<Buffer<u8>>, buffers: &[Buffer<u8>]) -> PolarsResult<()>
     ensures buffers { OnOk result (joined.new.items ≡ joined.old.items ++ buffers.now) }
+    ensures unchanged { IfErr result (λ _. joined.new.items ≡ joined.old.items) }
     ensures refusal { IfErr result (λ fault. fault ≡ PolarsError.OutOfMemory) }
 {
+    let before = joined.len();
+    joined.reserve(buffers.len())?;
     for buffer in buffers {
-        joined.push(buffer.try_clone()?)?;
+        if let Err(fault) = push_buffer(joined, buffer) {
+            joined.truncate(before);
+            return Err(fault);
+        }
     }
+    Ok(())
+}
+
+// Appends one data buffer, which shares its memory with the original. Errors: `OutOfMemory`; the
+// items of `joined` are unchanged.
+fn push_buffer(joined: &mut Vec<Buffer<u8>>, buffer: &Buffer<u8>) -> PolarsResult<()>
+    ensures buffers { OnOk result (joined.new.items ≡ joined.old.items ++ buffer.now ∷ []) }
+    ensures unchanged { IfErr result (λ _. joined.new.items ≡ joined.old.items) }
+    ensures refusal { IfErr result (λ fault. fault ≡ PolarsError.OutOfMemory) }
+{
+    joined.push(buffer.try_clone()?)?;
     Ok(())
 }
 

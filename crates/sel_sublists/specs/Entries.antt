@@ -56,7 +56,8 @@ is_get_error null_on_oob arr indices =
 -- The limits that the elements exceed.
 abbrev pub exceeded_entries : FixedSizeListArray → List Value → Limit → Type 0
 exceeded_entries arr indices limit =
-    exceeded_limits (type_of arr.values.value) (fixed_get (rows (block_column arr)) arr.size indices) limit
+    exceeded_limits (type_of arr.values.value)
+    (fixed_get (rows (block_column arr)) arr.size indices) limit
 
 -- `ComputeError` implies that `is_get_error` is true. Any other error implies that it is false,
 -- and is out of memory or a limit that the elements exceed.

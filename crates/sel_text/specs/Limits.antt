@@ -48,8 +48,10 @@ abbrev mutual
   -- Whether rows of a type exceed a limit: there are too many rows, here or at some depth, a list
   -- size is too large, or views need more bytes than a data buffer can have.
   pub exceeds_limit : NullSlots → Shape → List Value → Bool
-  exceeds_limit beneath of_binary_view rows = exceeds_max (length rows) || exceeds_max (all_placed_bytes rows)
-  exceeds_limit beneath of_utf8_view rows = exceeds_max (length rows) || exceeds_max (all_placed_bytes rows)
+  exceeds_limit beneath of_binary_view rows =
+      exceeds_max (length rows) || exceeds_max (all_placed_bytes rows)
+  exceeds_limit beneath of_utf8_view rows =
+      exceeds_max (length rows) || exceeds_max (all_placed_bytes rows)
   exceeds_limit beneath (of_large_list shape) rows =
       exceeds_max (length rows) || exceeds_limit beneath shape (flat_map (entries_in beneath) rows)
   exceeds_limit beneath (of_fixed_size_list shape size) rows =
@@ -77,7 +79,8 @@ ReportsLimit is_passed fault = ⊥
 abbrev pub MakesColumn : NullSlots → Shape → List Value → Result ArrayRef Fault → Type 0
 MakesColumn beneath shape values (Ok array) =
     (type_of array.column ≡ shape) × (rows array.column ≡ values)
-MakesColumn beneath shape values (Err fault) = ReportsLimit (exceeds_limit beneath shape values) fault
+MakesColumn beneath shape values (Err fault) =
+    ReportsLimit (exceeds_limit beneath shape values) fault
 
 -- The rows are these values, except in null slots: each non-null row equals the value at its
 -- position (Arrow columnar format: validity bitmaps).

@@ -108,6 +108,7 @@ fn packer_appends_words_and_bits(rt: HostRuntime) -> Result<(), Fail> {
     packer.append(0b1_0110, 5)?;
     packer.push(true)?;
     packer.append(0b001, 3)?;
+    assert!(rt; packer.len() == Some(9));
     let bitmap = packer.into_bitmap(9)?;
     let bits = [false, true, true, false, true, true, true, false, false];
     assert!(rt; has_bits(&bitmap, &bits));

@@ -77,44 +77,46 @@ fn words_of_sliced_bitmaps(rt: HostRuntime) -> Result<(), Fail> {
     Ok(())
 }
 
-/// Returns whether 200 bits, true only at the fourth position and the last, have two zero words
-/// between two others.
+/// Returns whether 256 bits, true only at 3 and 199, have two zero words between two others.
 fn skips_two_words(bitmap: &Bitmap) -> bool {
     let mut words = AlignedWords::new(bitmap);
-    words.skip_zeros() == 0
-        && words.words_read() == 0
-        && words.next() == Some((0b1000, 64))
-        && words.skip_zeros() == 128
-        && words.words_read() == 3
-        && words.next() == Some((0b1000_0000, 8))
-        && words.skip_zeros() == 0
-        && words.next() == None
+    words.next_after_zeros() == (0, Some((0b1000, 64)))
+        && words.words_read() == 1
+        && words.next_after_zeros() == (128, Some((0b1000_0000, 64)))
+        && words.words_read() == 4
+        && words.next_after_zeros() == (0, None)
         && words.words_read() == 4
 }
 
-/// Returns whether the same bits after the fourth one begin with a word of 60 bits, which is
-/// returned although it is zero.
-fn gives_a_part_of_zeros(bitmap: &Bitmap) -> bool {
+/// Returns whether the bits of the same bitmap from 4 to 200 begin with a word of 60 bits, which is
+/// returned although it is zero, and end with a word of 8 bits.
+fn returns_partial_word_of_zeros(bitmap: &Bitmap) -> bool {
     let mut words = AlignedWords::new(bitmap);
-    words.skip_zeros() == 0
-        && words.next() == Some((0, 60))
-        && words.skip_zeros() == 128
-        && words.next() == Some((0b1000_0000, 8))
-        && words.next() == None
+    words.next_after_zeros() == (0, Some((0, 60)))
+        && words.next_after_zeros() == (128, Some((0b1000_0000, 8)))
+        && words.next_after_zeros() == (0, None)
+        && words.words_read() == 4
+}
+
+/// Returns whether 128 false bits are skipped, and counted as two words.
+fn skips_to_end(bitmap: &Bitmap) -> bool {
+    let mut words = AlignedWords::new(bitmap);
+    words.next_after_zeros() == (128, None) && words.words_read() == 2
 }
 
 #[test]
 fn zero_words_are_skipped(rt: HostRuntime) -> Result<(), Fail> {
     let mut bits = Vec::new(rt.alloc());
-    for i in 0..200 {
+    for i in 0..256 {
         bits.push(i == 3 || i == 199)?;
     }
     let bitmap = Bitmap::from_bools(rt.alloc(), &bits)?;
-    assert!(rt; skips_two_words(&bitmap));
-    if bitmap.len() != 200 {
+    if bitmap.len() != 256 {
         return Err(Fail::from("another length"));
     }
-    assert!(rt; gives_a_part_of_zeros(&bitmap.sliced(4, 196)));
+    assert!(rt; skips_two_words(&bitmap));
+    assert!(rt; returns_partial_word_of_zeros(&bitmap.try_clone()?.sliced(4, 196)));
+    assert!(rt; skips_to_end(&bitmap.sliced(64, 128)));
     Ok(())
 }
 

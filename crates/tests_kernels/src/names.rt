@@ -3,7 +3,7 @@
 use crate::parsed::parsed;
 use sel_arrow::array::Array;
 use sel_arrow::array_ref::ArrayRef;
-use sel_arrow::binview::bytes_at;
+use sel_arrow::binview::{bytes_at, is_view_placed};
 use sel_arrow::datatype::ArrowDataType;
 use sel_arrow::view::View;
 use sel_text::print::row_at;
@@ -107,4 +107,10 @@ fn bytes_of_inline_view(rt: HostRuntime) -> Result<(), Fail> {
     let space = view.inline_space();
     assert!(rt; bytes_at(&[], view, &space) == b"hello".as_slice());
     Ok(())
+}
+
+#[test]
+fn long_views_need_their_buffer(rt: HostRuntime) {
+    assert!(rt; is_view_placed(&[], View::new_from_bytes(b"hello", 9, 9)));
+    assert!(rt; !is_view_placed(&[], View::new_from_bytes(b"abcdefghijklm", 0, 0)));
 }

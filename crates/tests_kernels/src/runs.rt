@@ -7,8 +7,10 @@ use sel_bits::buffer::Buffer;
 use sel_bits::faults::PolarsResult;
 use sel_bits::packer::BitPacker;
 use sel_runs::bits::{push_validity, validity_from};
+use sel_runs::gather::plan_has_bits;
+use sel_runs::plan::Listed;
 use sel_runs::run::{Run, nulls_of, push_run, run_of_pick, runs_of_picks};
-use sel_runs::sources::picked_rows;
+use sel_runs::sources::{picked_rows, plan_in_bounds};
 use sel_runs::view::{push_buffers, raised_view};
 use std::alloc::Global;
 use std::test::Fail;
@@ -45,6 +47,53 @@ fn consecutive_row_references_are_one_run(rt: HostRuntime) -> Result<(), Fail> {
     assert!(rt; runs.len() == 4);
     assert!(rt; is_run(&runs[0], 0, 1, 2) && is_run_of_nulls(&runs[1], 2));
     assert!(rt; is_run(&runs[2], 1, 3, 1) && is_run(&runs[3], 0, 3, 1));
+    Ok(())
+}
+
+#[test]
+fn row_references_in_bounds(rt: HostRuntime) -> Result<(), Fail> {
+    assert!(rt;
+        plan_in_bounds(
+            &[],
+            &Listed {
+                picks: &[None, None]
+            }
+        )
+    );
+    assert!(rt;
+        !plan_in_bounds(
+            &[],
+            &Listed {
+                picks: &[None, Some((0, 0))]
+            }
+        )
+    );
+    let bits = Bitmap::from_bools(rt.alloc(), &[true, false])?;
+    let maps = [None, Some(&bits)];
+    assert!(rt;
+        plan_has_bits(
+            &maps,
+            &Listed {
+                picks: &[Some((0, 9)), None, Some((1, 1))]
+            }
+        )
+    );
+    assert!(rt;
+        !plan_has_bits(
+            &maps,
+            &Listed {
+                picks: &[Some((1, 2))]
+            }
+        )
+    );
+    assert!(rt;
+        !plan_has_bits(
+            &maps,
+            &Listed {
+                picks: &[Some((2, 0))]
+            }
+        )
+    );
     Ok(())
 }
 

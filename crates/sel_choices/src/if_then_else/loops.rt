@@ -132,6 +132,7 @@ pub(crate) fn choose_blocks<C: BlockChoice>(
     ensures items { out.new ≡ choose mask.old.source.bits
         (C.trues choice.now) (C.falses choice.now) }
     ensures words { mask.new.words_read ≤ length mask.old.source.bits / 64 + 2 }
+    ensures source { mask.new.source ≡ mask.old.source }
 {
     let mut at = 0;
     while let Some((word, count)) = mask.next() {
@@ -161,6 +162,7 @@ pub fn if_then_else_words<T: Copy>(
     ensures items { IfOk result (λ out. out.items ≡
         choose mask.old.source.bits if_true.now if_false.now) }
     ensures words { OnOk result (mask.new.words_read ≤ length mask.old.source.bits / 64 + 2) }
+    ensures source { mask.new.source ≡ mask.old.source }
     ensures refusal { IfErr result (λ fault. fault ≡ PolarsError.OutOfMemory) }
 {
     let mut out = Vec::from_slice(alloc, if_false)?;

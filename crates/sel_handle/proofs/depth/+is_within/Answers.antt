@@ -23,9 +23,9 @@ are_within-returns-then-not-is_within t c =
     let l = c.loop-column in (
       λ never. absurd cc,
       λ deep.
-      let low = one_within type_of c.args.columns.now c.args.levels l.column-index c.column-item.result c.loop-column-test.true deep in
-      let yes = c.is_within.ensures.1 (subst (λ (x : Column). depth (type_of x) ≤ c.args.levels) (sym c.column-item.is) low) in
-      absurd (cc (yes, c.if-not-is_within.true)),
+          let low = one_within type_of c.args.columns.now c.args.levels l.column-index c.column-item.result c.loop-column-test.true deep in
+          let yes = c.is_within.ensures.1 (subst (λ (x : Column). depth (type_of x) ≤ c.args.levels) (sym c.column-item.is) low) in
+          absurd (cc (yes, c.if-not-is_within.true)),
     )
 
 pub are_within-loop-column-preserved : goal.are_within-loop-column-preserved

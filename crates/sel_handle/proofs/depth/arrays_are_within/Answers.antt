@@ -12,10 +12,10 @@ returns-then-not-is_within c =
     let l = c.loop-array in (
       λ never. absurd cc,
       λ deep.
-      let low = one_within (λ (x : ArrayRef). type_of x.column) c.args.arrays.now c.args.levels l.array-index c.array-item.result c.loop-array-test.true deep in
-      let here = subst (λ (x : ArrayRef). depth (type_of x.column) ≤ c.args.levels) (sym c.array-item.is) low in
-      let yes = c.is_within.ensures.1 (rw (c.as_column.ensures.column) here) in
-      absurd (cc (yes, c.if-not-is_within.true)),
+          let low = one_within (λ (x : ArrayRef). type_of x.column) c.args.arrays.now c.args.levels l.array-index c.array-item.result c.loop-array-test.true deep in
+          let here = subst (λ (x : ArrayRef). depth (type_of x.column) ≤ c.args.levels) (sym c.array-item.is) low in
+          let yes = c.is_within.ensures.1 (rw (c.as_column.ensures.column) here) in
+          absurd (cc (yes, c.if-not-is_within.true)),
     )
 
 pub loop-array-preserved : goal.loop-array-preserved

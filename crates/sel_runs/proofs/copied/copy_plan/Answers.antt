@@ -1,4 +1,4 @@
-use Rattle.std.proofs.Common.{◌≡◌, ◌∙◌, ◌++◌, ◌+◌, arith, ap, sym, length, map, take}
+use Rattle.std.proofs.Common.{◌∙◌, ◌++◌, arith, ap, sym, length, map, take}
 use Rattle.std.proofs.lemmas.List.{length-take-le, map-append, take_all}
 use Rattle.sel_runs.specs.Picks.{found, pick, PickFits}
 use Rattle.sel_runs.specs.Runs.{unrolled}

@@ -9,7 +9,7 @@ use Rattle.sel_runs.proofs.gather.gather_parts.Goals as goal
 pub returns-then-not-is_any_hidden-clause-bits : goal.returns-then-not-is_any_hidden-clause-bits
 returns-then-not-is_any_hidden-clause-bits g c =
     all_there (map (λ s. option_copied s.validity) c.args.parts.now) (g.P.Plan.picks c.args.plan.now)
-    (all_none (λ s. option_copied s.validity) c.args.parts.now (c.is_any_hidden.ensures c.if-not-is_any_hidden.true)) (c.has_nulls.ensures c.if-not-has_nulls.true)
+    (all_none (λ s. option_copied s.validity) c.args.parts.now (c.is_any_hidden.ensures.0 c.if-not-is_any_hidden.true)) (c.has_nulls.ensures c.if-not-has_nulls.true)
 
 pub validity_from-requires : goal.validity_from-requires
 validity_from-requires g c =

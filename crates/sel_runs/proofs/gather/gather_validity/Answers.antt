@@ -9,7 +9,7 @@ use Rattle.sel_runs.proofs.gather.gather_validity.Goals as goal
 pub returns-then-not-is_any_there-clause-bits : goal.returns-then-not-is_any_there-clause-bits
 returns-then-not-is_any_there-clause-bits g c =
     all_there (map option_copied c.args.maps.now) (g.P.Plan.picks c.args.plan.now)
-    (all_none option_copied c.args.maps.now (c.is_any_there.ensures c.if-not-is_any_there.true)) (c.has_nulls.ensures c.if-not-has_nulls.true)
+    (all_none option_copied c.args.maps.now (c.is_any_there.ensures.0 c.if-not-is_any_there.true)) (c.has_nulls.ensures c.if-not-has_nulls.true)
 
 pub validity_from-requires : goal.validity_from-requires
 validity_from-requires g c =

@@ -54,7 +54,7 @@ returns-then-not-is_any_null-clause-rows g c =
     let sources = ap (map (λ s. number_rows g.T.NativeType.number s.values.now (option_copied s.validity))) c.as_slice-parts.ensures.value ∙ c.in_ok-found.ensures.rows in
     let fits = values_fit (λ s. s.values.now) (λ s. option_copied s.validity) (λ s. s.covers) f c.LEAST.result parts ps (subst (λ xss. All (PickFits xss) ps) (sym sources) c.requires.fits) in
     let long = ap length c.in_ok-copied.ensures.values ∙ length-pick c.LEAST.result xss ps in
-    let bits = all_there vs ps (all_none (λ s. option_copied s.validity) parts (c.is_any_hidden.ensures c.if-not-is_any_hidden.true)) (named_picked c.args.runs.now (c.is_any_null.ensures c.if-not-is_any_null.true)) in
+    let bits = all_there vs ps (all_none (λ s. option_copied s.validity) parts (c.is_any_hidden.ensures.0 c.if-not-is_any_hidden.true)) (named_picked c.args.runs.now (c.is_any_null.ensures.0 c.if-not-is_any_null.true)) in
     c.into_column.ensures.rows
     ∙ ap (λ xs. number_rows g.T.NativeType.number xs None) c.in_ok-copied-2.ensures.items
     ∙ finished f c.in_ok-copied.copied.items None (bits_found vs ps) (length ps) bits long

@@ -1,7 +1,6 @@
-use Rattle.std.proofs.Common.{◌≡◌, ◌++◌, ◌∷◌, [], ◌∙◌, ap, sym, arith, append_assoc, length-append, length, List, Option, ℕ}
+use Rattle.std.proofs.Common.{◌++◌, ◌∷◌, [], ◌∙◌, ap, sym, arith, append_assoc, length-append, length}
 use Rattle.std.proofs.lemmas.List.{append-nil}
 use Rattle.sel_runs.specs.Runs.{expand, unrolled}
-use Rattle.sel_runs.specs.declared.run.Run.{Run}
 use Rattle.sel_runs.proofs.RunLists.{expand-push, length-unrolled, none_unrolled}
 use Rattle.sel_runs.proofs.run.put_run.Goals as goal
 

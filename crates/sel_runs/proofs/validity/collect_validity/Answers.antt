@@ -45,6 +45,6 @@ returns-then-not-is_any_there-clause-bits c =
     let maps = map option_copied c.as_slice-maps.result.now in
     let found = ap (map option_copied) c.as_slice-maps.ensures.value in
     let told = subst (λ vs. AreValidities vs (columns_of cs)) (sym found) c.in_ok-maps.ensures.told in
-    let none = all_none option_copied c.as_slice-maps.result.now (c.is_any_there.ensures c.if-not-is_any_there.true) in
-    let picked = named_picked c.args.runs.now (c.is_any_null.ensures c.if-not-is_any_null.true) in
+    let none = all_none option_copied c.as_slice-maps.result.now (c.is_any_there.ensures.0 c.if-not-is_any_there.true) in
+    let picked = named_picked c.args.runs.now (c.is_any_null.ensures.0 c.if-not-is_any_null.true) in
     ap (λ n. replicate n true) (sym c.requires.len) ∙ all_there maps ps none picked ∙ told_picked maps cs ps told c.requires.known c.requires.fits
