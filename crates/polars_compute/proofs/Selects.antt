@@ -196,15 +196,15 @@ pub ruleset kept_columns = (kept_numbers, kept_truths, kept_covers, few_kept, le
 
 -- ---- a mask of rows
 
-in_force-valid : (bits : List Bool) → effective_mask (bool_rows bits None) ≡ bits
-in_force-valid [] = refl
-in_force-valid (b ∷ bits) = ap (λ l. b ∷ l) (in_force-valid bits)
+effective_mask-valid : (bits : List Bool) → effective_mask (bool_rows bits None) ≡ bits
+effective_mask-valid [] = refl
+effective_mask-valid (b ∷ bits) = ap (λ l. b ∷ l) (effective_mask-valid bits)
 
-in_force-hidden : (bs bits : List Bool) → length bs ≡ length bits → map is_true (hidden bs (map Truth bits)) ≡ zip_with (λ x y. x && y) bits bs
-in_force-hidden [] [] h = refl
-in_force-hidden [] (x ∷ bits) h = absurd (omega arith)
-in_force-hidden (b ∷ bs) [] h = absurd (omega arith)
-in_force-hidden (b ∷ bs) (x ∷ bits) h = (λ i. first b x i ∷ in_force-hidden bs bits (omega arith) i)
+effective_mask-hidden : (bs bits : List Bool) → length bs ≡ length bits → map is_true (hidden bs (map Truth bits)) ≡ zip_with (λ x y. x && y) bits bs
+effective_mask-hidden [] [] h = refl
+effective_mask-hidden [] (x ∷ bits) h = absurd (omega arith)
+effective_mask-hidden (b ∷ bs) [] h = absurd (omega arith)
+effective_mask-hidden (b ∷ bs) (x ∷ bits) h = (λ i. first b x i ∷ effective_mask-hidden bs bits (omega arith) i)
   where
     first : (b x : Bool) → is_true (if b then Truth x else Null) ≡ (x && b)
     first true true = refl
@@ -213,12 +213,12 @@ in_force-hidden (b ∷ bs) (x ∷ bits) h = (λ i. first b x i ∷ in_force-hidd
     first false false = refl
 
 -- The effective mask of a boolean column.
-pub in_force-truths : (bits : List Bool) (validity : Option Bits) (v : Bits) → validity ≡ Some v → Covers validity (length bits) → effective_mask (bool_rows bits validity) ≡ zip_with (λ x y. x && y) bits v.bits
-in_force-truths bits validity v is covers = ap (λ o. effective_mask (bool_rows bits o)) is ∙ in_force-hidden v.bits bits (covers v is)
+pub effective_mask-bools : (bits : List Bool) (validity : Option Bits) (v : Bits) → validity ≡ Some v → Covers validity (length bits) → effective_mask (bool_rows bits validity) ≡ zip_with (λ x y. x && y) bits v.bits
+effective_mask-bools bits validity v is covers = ap (λ o. effective_mask (bool_rows bits o)) is ∙ effective_mask-hidden v.bits bits (covers v is)
 
 -- Without a validity it is the values of the column.
 pub in_force-all : (bits : List Bool) (validity : Option Bits) → validity ≡ None → effective_mask (bool_rows bits validity) ≡ bits
-in_force-all bits validity is = ap (λ o. effective_mask (bool_rows bits o)) is ∙ in_force-valid bits
+in_force-all bits validity is = ap (λ o. effective_mask (bool_rows bits o)) is ∙ effective_mask-valid bits
 
 pub length-in_force : (rows : List Value) → length (effective_mask rows) ≡ length rows
 length-in_force rows = length-map rows is_true

@@ -1,10 +1,13 @@
 -- Fixed-size list columns whose blocks a take copies as a whole, for its internal steps.
-use Rattle.std.specs.Prelude.{◌≡◌, ℕ, ◌*◌, ◌<◌, pos, Bool, false, ◌&&◌, List, length, take, drop, slice_index_or, is_none, ◌⊎◌}
+use Rattle.std.specs.Prelude.{◌≡◌, ℕ, ◌*◌, ◌<◌, pos, Bool, false, ◌&&◌, List, length, take, drop}
+use Rattle.std.specs.Prelude.{slice_index_or, is_none, ◌⊎◌}
 use Rattle.sel_bits.specs.declared.faults.Limit.{Limit}
 use Rattle.sel_arrow.specs.Shape.{Shape, of_fixed_size_list}
 use Rattle.sel_arrow.specs.Value.{Value, Null, Number}
 use Rattle.sel_arrow.specs.declared.column.Column.{Column}
-use Rattle.sel_arrow.specs.declared.column.Column.TheVariants.{Int8, Int16, Int32, Int64, Int128, UInt8, UInt16, UInt32, UInt64, UInt128, FixedSizeList'}
+use Rattle.sel_arrow.specs.declared.column.Column.TheVariants.{Int8, Int16, Int32, Int64, Int128}
+use Rattle.sel_arrow.specs.declared.column.Column.TheVariants.{UInt8, UInt16, UInt32, UInt64}
+use Rattle.sel_arrow.specs.declared.column.Column.TheVariants.{UInt128, FixedSizeList'}
 use Rattle.sel_runs.specs.Need.{ExceedsRows}
 
 -- Whether a column is numeric and has no validity, or is a fixed-size list without a validity over

@@ -1,6 +1,7 @@
 -- Laws that relate filters, takes and if-then-else on lists of any element type, and laws of null
 -- propagation in dictionaries.
-use Rattle.std.specs.Prelude.{◌≡◌, ℕ, pos, Bool, true, List, [], ◌∷◌, length, map, replicate, Option, None, not, count_by, slice_get, option_and_then}
+use Rattle.std.specs.Prelude.{◌≡◌, ℕ, pos, Bool, true, List, [], ◌∷◌, length, map, replicate}
+use Rattle.std.specs.Prelude.{Option, None, not, count_by, slice_get, option_and_then}
 use Rattle.sel_arrow.specs.Value.{Value, Null, Number, is_null}
 use Rattle.sel_choices.specs.Choose.{choose, broadcast_true, broadcast_false, broadcast_both}
 use Rattle.polars_compute.specs.Dictionary.{decode, propagated_keys, valid_values}

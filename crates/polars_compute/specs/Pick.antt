@@ -1,5 +1,6 @@
 -- Row references, and takes by indices.
-use Rattle.std.specs.Prelude.{ℕ, pos, negsuc, Bool, true, false, List, [], ◌∷◌, map, Option, Some, None, nat_lt}
+use Rattle.std.specs.Prelude.{ℕ, pos, negsuc, Bool, true, false, List, [], ◌∷◌, map, Option, Some}
+use Rattle.std.specs.Prelude.{None, nat_lt}
 use Rattle.std.specs.List.{list_all}
 use Rattle.sel_arrow.specs.Value.{Value, Null, Number}
 pub use Rattle.sel_runs.specs.Picks.{found, pick}

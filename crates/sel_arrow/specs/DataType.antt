@@ -3,9 +3,21 @@ use Rattle.std.specs.Prelude.{◌≡◌, Bool, true, ◌&&◌, length}
 use Rattle.sel_arrow.specs.Masked.{is_few}
 use Rattle.sel_arrow.specs.Rows.{rows, type_of}
 use Rattle.sel_arrow.specs.declared.column.Column.{Column}
-use Rattle.sel_arrow.specs.Shape.{Shape, Shapes, no_shapes, next_shape, of_large_list, of_fixed_size_list, of_struct, of_null, of_boolean, of_int8, of_int16, of_int32, of_int64, of_int128, of_uint8, of_uint16, of_uint32, of_uint64, of_uint128, of_large_binary, of_binary_view, of_utf8_view}
-use Rattle.sel_arrow.specs.declared.datatype.ArrowDataType.{ArrowDataType, Row_of-ArrowDataType, end_of-ArrowDataType, more_of-ArrowDataType}
-use Rattle.sel_arrow.specs.declared.datatype.ArrowDataType.TheVariants.{Null, Boolean, Int8, Int16, Int32, Int64, Int128, UInt8, UInt16, UInt32, UInt64, UInt128, LargeBinary, BinaryView, Utf8View, LargeList', FixedSizeList', Struct'}
+use Rattle.sel_arrow.specs.Shape.{Shape, Shapes, no_shapes, next_shape, of_large_list}
+use Rattle.sel_arrow.specs.Shape.{of_fixed_size_list, of_struct, of_null, of_boolean, of_int8}
+use Rattle.sel_arrow.specs.Shape.{of_int16, of_int32, of_int64, of_int128, of_uint8, of_uint16}
+use Rattle.sel_arrow.specs.Shape.{of_uint32, of_uint64, of_uint128, of_large_binary, of_binary_view}
+use Rattle.sel_arrow.specs.Shape.{of_utf8_view}
+use Rattle.sel_arrow.specs.declared.datatype.ArrowDataType.{ArrowDataType, Row_of-ArrowDataType}
+use Rattle.sel_arrow.specs.declared.datatype.ArrowDataType.{end_of-ArrowDataType}
+use Rattle.sel_arrow.specs.declared.datatype.ArrowDataType.{more_of-ArrowDataType}
+use Rattle.sel_arrow.specs.declared.datatype.ArrowDataType.TheVariants.{Null, Boolean, Int8, Int16}
+use Rattle.sel_arrow.specs.declared.datatype.ArrowDataType.TheVariants.{Int32, Int64, Int128, UInt8}
+use Rattle.sel_arrow.specs.declared.datatype.ArrowDataType.TheVariants.{UInt16, UInt32, UInt64}
+use Rattle.sel_arrow.specs.declared.datatype.ArrowDataType.TheVariants.{UInt128, LargeBinary}
+use Rattle.sel_arrow.specs.declared.datatype.ArrowDataType.TheVariants.{BinaryView, Utf8View}
+use Rattle.sel_arrow.specs.declared.datatype.ArrowDataType.TheVariants.{LargeList', FixedSizeList'}
+use Rattle.sel_arrow.specs.declared.datatype.ArrowDataType.TheVariants.{Struct'}
 
 abbrev mutual
   -- The layout of a type, at every depth (Arrow columnar format: data types).

@@ -1,6 +1,7 @@
 -- How deeply a type is nested.
 use Rattle.std.specs.Prelude.{ℕ, ◌+◌, max}
-use Rattle.sel_arrow.specs.Shape.{Shape, Shapes, no_shapes, next_shape, of_large_list, of_fixed_size_list, of_struct}
+use Rattle.sel_arrow.specs.Shape.{Shape, Shapes, no_shapes, next_shape, of_large_list}
+use Rattle.sel_arrow.specs.Shape.{of_fixed_size_list, of_struct}
 
 abbrev mutual
   -- The nesting depth of a type: the number of types with children on the longest path.

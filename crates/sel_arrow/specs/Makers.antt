@@ -1,10 +1,14 @@
 -- The rules for the parts of columns.
-use Rattle.std.specs.Prelude.{ℕ, ◌*◌, ◌==◌, Bool, [], ◌∷◌, List, length, Option, Some, None, not, nat_lt}
+use Rattle.std.specs.Prelude.{ℕ, ◌*◌, ◌==◌, Bool, [], ◌∷◌, List, length, Option, Some, None, not}
+use Rattle.std.specs.Prelude.{nat_lt}
 use Rattle.std.specs.List.{list_all}
 use Rattle.sel_bits.specs.Bits.{Bits}
 use Rattle.sel_bits.specs.Faults.{first_broken}
 use Rattle.sel_bits.specs.declared.faults.Malformed.{Malformed}
-use Rattle.sel_bits.specs.declared.faults.Malformed.TheVariants.{TooManyRows, TooManyBuffers, Width, OffsetRange, ChildLength, FieldLength, ValidityLength, ViewRange, ViewPrefix, Utf8}
+use Rattle.sel_bits.specs.declared.faults.Malformed.TheVariants.{TooManyRows, TooManyBuffers, Width}
+use Rattle.sel_bits.specs.declared.faults.Malformed.TheVariants.{OffsetRange, ChildLength}
+use Rattle.sel_bits.specs.declared.faults.Malformed.TheVariants.{FieldLength, ValidityLength}
+use Rattle.sel_bits.specs.declared.faults.Malformed.TheVariants.{ViewRange, ViewPrefix, Utf8}
 use Rattle.sel_arrow.specs.Masked.{too_many, validity_differs}
 use Rattle.sel_arrow.specs.Pieces.{rows_between, last_offset}
 use Rattle.sel_arrow.specs.Texts.{all_text}
@@ -79,4 +83,5 @@ struct_length_fault n fit validity =
 
 -- The first broken rule of n struct rows, given the number of rows of each field.
 abbrev pub struct_fault : ℕ → List ℕ → Option Bits → Option Malformed
-struct_fault n fields validity = struct_length_fault n (list_all (λ rows. rows == n) fields) validity
+struct_fault n fields validity =
+    struct_length_fault n (list_all (λ rows. rows == n) fields) validity

@@ -1,5 +1,7 @@
 -- Rows under a validity.
-use Rattle.std.specs.Prelude.{◌≡◌, ℕ, ℤ, ◌+◌, Bool, true, false, List, [], ◌∷◌, map, length, take, drop, slice_index_or, Option, Some, None, if◌then◌else◌, ◌==◌, not, nat_lt, nat_le}
+use Rattle.std.specs.Prelude.{◌≡◌, ℕ, ℤ, ◌+◌, Bool, true, false, List, [], ◌∷◌, map, length, take}
+use Rattle.std.specs.Prelude.{drop, slice_index_or, Option, Some, None, if◌then◌else◌, ◌==◌, not}
+use Rattle.std.specs.Prelude.{nat_lt, nat_le}
 use Rattle.std.specs.Option.{ForSome}
 use Rattle.sel_bits.specs.Bits.{Bits}
 use Rattle.sel_arrow.specs.Value.{Value, Null, Truth, Number, Bytes}

@@ -1,5 +1,6 @@
 -- Parts between offsets.
-use Rattle.std.specs.Prelude.{ℕ, ◌-◌, Bool, true, false, ◌&&◌, nat_le, List, [], ◌∷◌, map, length, Option, slice_index}
+use Rattle.std.specs.Prelude.{ℕ, ◌-◌, Bool, true, false, ◌&&◌, nat_le, List, [], ◌∷◌, map, length}
+use Rattle.std.specs.Prelude.{Option, slice_index}
 use Rattle.std.specs.List.{slice_range}
 use Rattle.sel_bits.specs.Bits.{Bits}
 use Rattle.sel_arrow.specs.Masked.{masked}

@@ -1,13 +1,24 @@
 -- The rows and the type of a column, and whether it is well-formed.
-use Rattle.std.specs.Prelude.{◌≡◌, ℕ, ◌*◌, Bool, true, ◌&&◌, nat_le, ◌==◌, List, [], ◌∷◌, ◌++◌, length, IsTrue}
+use Rattle.std.specs.Prelude.{◌≡◌, ℕ, ◌*◌, Bool, true, ◌&&◌, nat_le, ◌==◌, List, [], ◌∷◌, ◌++◌}
+use Rattle.std.specs.Prelude.{length, IsTrue}
 use Rattle.sel_arrow.specs.Value.{Value}
 use Rattle.sel_arrow.specs.Masked.{covers, is_few}
 use Rattle.sel_arrow.specs.Nested.{list_rows, block_rows, struct_rows}
-use Rattle.sel_arrow.specs.Shape.{Shape, Shapes, no_shapes, next_shape, of_large_list, of_fixed_size_list, of_struct, of_null, of_boolean, of_int8, of_int16, of_int32, of_int64, of_int128, of_uint8, of_uint16, of_uint32, of_uint64, of_uint128, of_large_binary, of_binary_view, of_utf8_view}
-use Rattle.sel_arrow.specs.Columns.{null_rows, boolean_rows, primitive_rows, binary_rows, binview_rows, utf8view_rows}
+use Rattle.sel_arrow.specs.Shape.{Shape, Shapes, no_shapes, next_shape, of_large_list}
+use Rattle.sel_arrow.specs.Shape.{of_fixed_size_list, of_struct, of_null, of_boolean, of_int8}
+use Rattle.sel_arrow.specs.Shape.{of_int16, of_int32, of_int64, of_int128, of_uint8, of_uint16}
+use Rattle.sel_arrow.specs.Shape.{of_uint32, of_uint64, of_uint128, of_large_binary, of_binary_view}
+use Rattle.sel_arrow.specs.Shape.{of_utf8_view}
+use Rattle.sel_arrow.specs.Columns.{null_rows, boolean_rows, primitive_rows, binary_rows}
+use Rattle.sel_arrow.specs.Columns.{binview_rows, utf8view_rows}
 use Rattle.sel_arrow.specs.Pieces.{rows_between, last_offset, is_rising}
-use Rattle.sel_arrow.specs.declared.column.Column.{Column, Row_of-Column, end_of-Column, more_of-Column}
-use Rattle.sel_arrow.specs.declared.column.Column.TheVariants.{Null as NullColumn, Boolean, Int8, Int16, Int32, Int64, Int128, UInt8, UInt16, UInt32, UInt64, UInt128, LargeBinary, BinaryView, Utf8View, LargeList', FixedSizeList', Struct'}
+use Rattle.sel_arrow.specs.declared.column.Column.{Column, Row_of-Column, end_of-Column}
+use Rattle.sel_arrow.specs.declared.column.Column.{more_of-Column}
+use Rattle.sel_arrow.specs.declared.column.Column.TheVariants.{Null as NullColumn, Boolean, Int8}
+use Rattle.sel_arrow.specs.declared.column.Column.TheVariants.{Int16, Int32, Int64, Int128, UInt8}
+use Rattle.sel_arrow.specs.declared.column.Column.TheVariants.{UInt16, UInt32, UInt64, UInt128}
+use Rattle.sel_arrow.specs.declared.column.Column.TheVariants.{LargeBinary, BinaryView, Utf8View}
+use Rattle.sel_arrow.specs.declared.column.Column.TheVariants.{LargeList', FixedSizeList', Struct'}
 
 abbrev mutual
   -- The rows of a column, by its layout (Arrow columnar format: physical memory layouts).

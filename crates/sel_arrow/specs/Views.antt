@@ -1,5 +1,7 @@
 -- Binary and string views.
-use Rattle.std.specs.Prelude.{ℕ, ◌+◌, Bool, ◌&&◌, ◌||◌, List, [], ◌∷◌, ◌++◌, map, length, take, Option, nat_lt, nat_le, ◌==◌, slice_index, slice_index_or, if◌then◌else◌}
+use Rattle.std.specs.Prelude.{ℕ, ◌+◌, Bool, ◌&&◌, ◌||◌, List, [], ◌∷◌, ◌++◌, map, length, take}
+use Rattle.std.specs.Prelude.{Option, nat_lt, nat_le, ◌==◌, slice_index, slice_index_or}
+use Rattle.std.specs.Prelude.{if◌then◌else◌}
 use Rattle.std.specs.Int.{w32, to_le_bytes, from_le_bytes}
 use Rattle.std.specs.List.{slice_range, list_all}
 use Rattle.sel_bits.specs.Bits.{Bits}
@@ -45,8 +47,18 @@ view_bytes buffers view =
 abbrev pub view_of : List ℕ → ℕ → ℕ → View
 view_of bytes buffer_idx offset =
     if nat_le (length bytes) 12
-    then record { length = length bytes; prefix = word_at bytes 0; buffer_idx = word_at bytes 4; offset = word_at bytes 8 }
-    else record { length = length bytes; prefix = word_at bytes 0; buffer_idx = buffer_idx; offset = offset }
+    then record {
+      length = length bytes;
+      prefix = word_at bytes 0;
+      buffer_idx = word_at bytes 4;
+      offset = word_at bytes 8;
+    }
+    else record {
+      length = length bytes;
+      prefix = word_at bytes 0;
+      buffer_idx = buffer_idx;
+      offset = offset;
+    }
 
 -- Whether a view is inline or its range lies within its data buffer (Arrow columnar format:
 -- variable-size binary view layout).

@@ -1,5 +1,6 @@
 -- The contract model of bitmaps, and functions on lists of booleans.
-use Rattle.std.specs.Prelude.{ℕ, ◌+◌, ◌/◌, ◌%◌, Bool, true, false, List, [], ◌∷◌, map, slice_index, count_by, not, reverse}
+use Rattle.std.specs.Prelude.{ℕ, ◌+◌, ◌/◌, ◌%◌, Bool, true, false, List, [], ◌∷◌, map, slice_index}
+use Rattle.std.specs.Prelude.{count_by, not, reverse}
 use Rattle.std.specs.List.{range_with_len}
 use Rattle.sel_bits.specs.Words.{is_set}
 

@@ -10,7 +10,11 @@ pub record Copying (A : Type 0) : Type 0 where
 -- The builder after the `len` items of the source from `at` on are appended.
 abbrev pub after_copy : {A : Type 0} → Copying A → ℕ → ℕ → Copying A
 after_copy c at len =
-    record { source = c.source; items = c.items ++ take len (drop at c.source); copies = c.copies + 1 }
+    record {
+      source = c.source;
+      items = c.items ++ take len (drop at c.source);
+      copies = c.copies + 1;
+    }
 
 -- The builder after `len` copies of one value are appended.
 abbrev pub after_fill : {A : Type 0} → Copying A → A → ℕ → Copying A

@@ -1,8 +1,10 @@
 -- Offsets as integers, and the rules for them.
-use Rattle.std.specs.Prelude.{◌≡◌, ℕ, ◌<◌, ◌≤◌, ℤ, pos, Bool, true, false, ◌||◌, List, [], ◌∷◌, map, length, Option, slice_index}
+use Rattle.std.specs.Prelude.{◌≡◌, ℕ, ◌<◌, ◌≤◌, ℤ, pos, Bool, true, false, ◌||◌, List, [], ◌∷◌, map}
+use Rattle.std.specs.Prelude.{length, Option, slice_index}
 use Rattle.std.specs.List.{list_any}
 use Rattle.sel_bits.specs.declared.faults.Malformed.{Malformed}
-use Rattle.sel_bits.specs.declared.faults.Malformed.TheVariants.{OffsetCount, OffsetNegative, OffsetOrder}
+use Rattle.sel_bits.specs.declared.faults.Malformed.TheVariants.{OffsetCount, OffsetNegative}
+use Rattle.sel_bits.specs.declared.faults.Malformed.TheVariants.{OffsetOrder}
 use Rattle.sel_bits.specs.Faults.{first_broken}
 use Rattle.sel_bits.specs.Signs.{is_negative, is_below, magnitude}
 

@@ -173,8 +173,8 @@ impl Bitmap {
         whole_word(&self.bytes, first / 8, first % 8)
     }
 
-    /// Returns the number of consecutive words of 64 false bits from bit `at` on, and the first other
-    /// word of 64 bits, or `None` if fewer than 64 bits follow. Reads each word once.
+    /// Returns the number of consecutive words of 64 false bits from bit `at` on, and the first
+    /// other word of 64 bits, or `None` if fewer than 64 bits follow. Reads each word once.
     pub(crate) fn zero_words(&self, at: usize) -> (usize, Option<u64>)
         requires { at ≤ length self.now.bits }
         ensures within { at + 64 * result.0 ≤ length self.now.bits }

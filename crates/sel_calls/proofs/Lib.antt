@@ -1,6 +1,7 @@
 pub mod Alike
 pub mod Below
 pub mod ChosenPicks
+pub mod Counts
 pub mod Depths
 pub mod Entries
 pub mod Limits

@@ -15,7 +15,7 @@ use Rattle.sel_arrow.specs.declared.column.Column.TheVariants.{LargeList', Fixed
 use Rattle.sel_flatten.specs.Flatten.{flatten, exceeded_flattened}
 use Rattle.sel_handle.specs.Held.{Held}
 use Rattle.sel_handle.specs.Status.{held_buffer_lists, held_columns, held_rows, held_type, HasColumn, ReportsLimits}
-use Rattle.sel_handle.specs.declared.handle.Handle.{Handle}
+use Rattle.sel_handle.specs.declared.column_ref.ColumnRef.{ColumnRef}
 use Rattle.sel_runs.specs.Children.{child, columns_in, field, joined_items, part_at}
 use Rattle.sel_runs.specs.Need.{buffer_count, buffers_joined, ExceedsBuffers, exceeded_taken, exceeded_in_fields}
 use Rattle.sel_runs.specs.Picks.{pick}
@@ -211,18 +211,18 @@ buffers_told None has cs = absurd has
 buffers_told (Some a) has cs = refl
 
 -- The types and the data buffers of the columns of handles.
-types_held : (hs : List Handle) → All (λ h. HasColumn h.tree) hs → map type_of (flat_map (λ h. held_columns h.tree) hs) ≡ map (λ h. held_type h.tree) hs
+types_held : (hs : List ColumnRef) → All (λ h. HasColumn h.tree) hs → map type_of (flat_map (λ h. held_columns h.tree) hs) ≡ map (λ h. held_type h.tree) hs
 types_held [] full = refl
 types_held (h ∷ hs) full =
     type_told h.tree (full 0 h (omega arith)) (flat_map (λ x. held_columns x.tree) hs) ∙ ap (λ l. held_type h.tree ∷ l) (types_held hs (λ k d below. full (suc k) d (omega (arith, below))))
 
-buffers_of_handles : (hs : List Handle) → All (λ h. HasColumn h.tree) hs → map buffers_held (flat_map (λ h. held_columns h.tree) hs) ≡ map (λ h. held_buffer_lists h.tree) hs
+buffers_of_handles : (hs : List ColumnRef) → All (λ h. HasColumn h.tree) hs → map buffers_held (flat_map (λ h. held_columns h.tree) hs) ≡ map (λ h. held_buffer_lists h.tree) hs
 buffers_of_handles [] full = refl
 buffers_of_handles (h ∷ hs) full =
     buffers_told h.tree (full 0 h (omega arith)) (flat_map (λ x. held_columns x.tree) hs) ∙ ap (λ l. held_buffer_lists h.tree ∷ l) (buffers_of_handles hs (λ k d below. full (suc k) d (omega (arith, below))))
 
 -- Rows that exceed a limit with the clones exceed it with the columns of the handles.
-pub shared_needs : (s : Shape) (arrays : List ArrayRef) (hs : List Handle) → All (λ a. type_of a.column ≡ s) arrays → All (λ h. HasColumn h.tree) hs →
+pub shared_needs : (s : Shape) (arrays : List ArrayRef) (hs : List ColumnRef) → All (λ a. type_of a.column ≡ s) arrays → All (λ h. HasColumn h.tree) hs →
     map (λ a. type_of a.column) arrays ≡ map (λ h. held_type h.tree) hs → map (λ a. buffers_held a.column) arrays ≡ map (λ h. held_buffer_lists h.tree) hs →
     (vs : List Value) (limit : Limit) → exceeded_taken s (map (λ a. a.column) arrays) vs limit → exceeded_taken s (flat_map (λ h. held_columns h.tree) hs) vs limit
 shared_needs s arrays hs alike full types held vs limit past =
@@ -243,30 +243,30 @@ either more (inl p) = inl p
 either more (inr q) = inr (more q)
 
 -- Of the horizontal flatten.
-pub flat_limits : (status h : ℕ) (arrays : List ArrayRef) (hs : List Handle) (ws : List ℕ) → All (λ h. HasColumn h.tree) hs →
+pub flat_limits : (status h : ℕ) (arrays : List ArrayRef) (hs : List ColumnRef) (ws : List ℕ) → All (λ h. HasColumn h.tree) hs →
     map (λ a. rows a.column) arrays ≡ map (λ h. held_rows h.tree) hs → map (λ a. type_of a.column) arrays ≡ map (λ h. held_type h.tree) hs → map (λ a. buffers_held a.column) arrays ≡ map (λ h. held_buffer_lists h.tree) hs →
     ReportsLimits status (λ limit. AreAlike (map (λ a. type_of a.column) arrays)) →
     ReportsLimits status (exceeded_flattened h (first_shape (map (λ a. type_of a.column) arrays)) (map (λ a. a.column) arrays) (flatten (map (λ a. rows a.column) arrays) ws h)) →
     ReportsLimits status (exceeded_flattened h (first_shape (map (λ h. held_type h.tree) hs)) (flat_map (λ h. held_columns h.tree) hs) (flatten (map (λ h. held_rows h.tree) hs) ws h))
 flat_limits status h arrays hs ws full same types held alike limits limit is =
-    let own = flat_map (λ (h : Handle). held_columns h.tree) hs in
+    let own = flat_map (λ (h : ColumnRef). held_columns h.tree) hs in
     let s = first_shape (map (λ (a : ArrayRef). type_of a.column) arrays) in
     let vs = flatten (map (λ (a : ArrayRef). rows a.column) arrays) ws h in
     let past = limits limit is in
     let more : exceeded_taken s (map (λ (a : ArrayRef). a.column) arrays) vs limit → exceeded_taken s own vs limit = shared_needs s arrays hs (alike_at arrays (alike limit is)) full types held vs limit in
-    subst (λ (xss : List (List Value)). exceeded_flattened h (first_shape (map (λ (h : Handle). held_type h.tree) hs)) own (flatten xss ws h) limit) same
+    subst (λ (xss : List (List Value)). exceeded_flattened h (first_shape (map (λ (h : ColumnRef). held_type h.tree) hs)) own (flatten xss ws h) limit) same
     (subst (λ (ts : List Shape). exceeded_flattened h (first_shape ts) own vs limit) types (past.0, either more past.1))
 
 -- Of gathered rows.
-pub pick_limits : (status : ℕ) (arrays : List ArrayRef) (hs : List Handle) (ps : List (Option (ℕ × ℕ))) → All (λ h. HasColumn h.tree) hs →
+pub pick_limits : (status : ℕ) (arrays : List ArrayRef) (hs : List ColumnRef) (ps : List (Option (ℕ × ℕ))) → All (λ h. HasColumn h.tree) hs →
     map (λ a. rows a.column) arrays ≡ map (λ h. held_rows h.tree) hs → map (λ a. type_of a.column) arrays ≡ map (λ h. held_type h.tree) hs → map (λ a. buffers_held a.column) arrays ≡ map (λ h. held_buffer_lists h.tree) hs →
     ReportsLimits status (λ limit. AreAlike (map (λ a. type_of a.column) arrays)) →
     ReportsLimits status (exceeded_taken (first_shape (map (λ a. type_of a.column) arrays)) (map (λ a. a.column) arrays) (pick Null (map (λ a. rows a.column) arrays) ps)) →
     ReportsLimits status (exceeded_taken (first_shape (map (λ h. held_type h.tree) hs)) (flat_map (λ h. held_columns h.tree) hs) (pick Null (map (λ h. held_rows h.tree) hs) ps))
 pick_limits status arrays hs ps full same types held alike limits limit is =
-    let own = flat_map (λ (h : Handle). held_columns h.tree) hs in
+    let own = flat_map (λ (h : ColumnRef). held_columns h.tree) hs in
     let s = first_shape (map (λ (a : ArrayRef). type_of a.column) arrays) in
     let vs = pick Null (map (λ (a : ArrayRef). rows a.column) arrays) ps in
-    subst (λ (xss : List (List Value)). exceeded_taken (first_shape (map (λ (h : Handle). held_type h.tree) hs)) own (pick Null xss ps) limit) same
+    subst (λ (xss : List (List Value)). exceeded_taken (first_shape (map (λ (h : ColumnRef). held_type h.tree) hs)) own (pick Null xss ps) limit) same
     (subst (λ (ts : List Shape). exceeded_taken (first_shape ts) own vs limit) types
     (shared_needs s arrays hs (alike_at arrays (alike limit is)) full types held vs limit (limits limit is)))

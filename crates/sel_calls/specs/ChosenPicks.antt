@@ -1,5 +1,6 @@
 -- If-then-else as row references.
-use Rattle.std.specs.Prelude.{◌≡◌, ℕ, ◌+◌, Bool, true, false, List, [], ◌∷◌, Option, Some, if◌then◌else◌}
+use Rattle.std.specs.Prelude.{◌≡◌, ℕ, ◌+◌, Bool, true, false, List, [], ◌∷◌, Option, Some}
+use Rattle.std.specs.Prelude.{if◌then◌else◌}
 
 -- A column has as many rows as the mask, and a scalar has one.
 abbrev pub SideFits : Bool → ℕ → ℕ → Type 0

@@ -1,5 +1,6 @@
 -- Row references and types of several columns.
-use Rattle.std.specs.Prelude.{◌≡◌, ℕ, ◌+◌, Bool, All, List, [], ◌∷◌, length, Option, Some, None, if◌then◌else◌}
+use Rattle.std.specs.Prelude.{◌≡◌, ℕ, ◌+◌, Bool, All, List, [], ◌∷◌, length, Option, Some, None}
+use Rattle.std.specs.Prelude.{if◌then◌else◌}
 use Rattle.sel_bits.specs.Bits.{Bits}
 use Rattle.sel_arrow.specs.Masked.{valid_at}
 use Rattle.sel_arrow.specs.Shape.{Shape, of_null}

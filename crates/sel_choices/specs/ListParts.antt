@@ -1,5 +1,6 @@
 -- The child rows of the lists that an if-then-else takes, for its internal steps.
-use Rattle.std.specs.Prelude.{◌≡◌, ⊤, ℕ, ◌+◌, Bool, All, List, [], ◌∷◌, length, is_some, if◌then◌else◌}
+use Rattle.std.specs.Prelude.{◌≡◌, ⊤, ℕ, ◌+◌, Bool, All, List, [], ◌∷◌, length, is_some}
+use Rattle.std.specs.Prelude.{if◌then◌else◌}
 use Rattle.sel_arrow.specs.Value.{Value, Null, Items, is_valid}
 use Rattle.sel_runs.specs.Children.{items_in, joined_items}
 use Rattle.sel_runs.specs.Picks.{pick, PickFits}

@@ -1,11 +1,13 @@
 -- The data buffers of the true and false values of an if-then-else of views, and the limits that
 -- its result exceeds.
-use Rattle.std.specs.Prelude.{ℕ, ◌+◌, ◌<◌, ◌||◌, ◌⊎◌, max, Bool, Vec, String, string_bytes, List, [], ◌∷◌, length, nat_le, if◌then◌else◌}
+use Rattle.std.specs.Prelude.{ℕ, ◌+◌, ◌<◌, ◌||◌, ◌⊎◌, max, Bool, Vec, String, string_bytes, List}
+use Rattle.std.specs.Prelude.{[], ◌∷◌, length, nat_le, if◌then◌else◌}
 use Rattle.std.specs.Global.{Global}
 use Rattle.std.specs.List.{list_all}
 use Rattle.std.specs.Vec.{vec_items}
 use Rattle.sel_bits.specs.declared.faults.Limit.{Limit}
-use Rattle.sel_bits.specs.declared.faults.Limit.TheVariants.{Buffers as BufferLimit, ViewBytes as ViewByteLimit}
+use Rattle.sel_bits.specs.declared.faults.Limit.TheVariants.{Buffers as BufferLimit}
+use Rattle.sel_bits.specs.declared.faults.Limit.TheVariants.{ViewBytes as ViewByteLimit}
 use Rattle.sel_arrow.specs.Value.{Value}
 use Rattle.sel_arrow.specs.Views.{is_inline}
 use Rattle.sel_arrow.specs.declared.binview.BinaryViewArray.{BinaryViewArray}

@@ -1,5 +1,6 @@
 -- The row references of a horizontal flatten.
-use Rattle.std.specs.Prelude.{ℕ, zero, suc, ◌+◌, ◌*◌, ◌==◌, List, [], ◌∷◌, ◌++◌, length, drop, Option, if◌then◌else◌}
+use Rattle.std.specs.Prelude.{ℕ, zero, suc, ◌+◌, ◌*◌, ◌==◌, List, [], ◌∷◌, ◌++◌, length, drop}
+use Rattle.std.specs.Prelude.{Option, if◌then◌else◌}
 use Rattle.sel_runs.specs.Runs.{picks_of}
 use Rattle.sel_flatten.specs.declared.woven.Lane.{Lane}
 

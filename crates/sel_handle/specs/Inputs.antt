@@ -1,5 +1,6 @@
 -- Validities, offsets and views that callers pass.
-use Rattle.std.specs.Prelude.{◌≡◌, ℕ, ℤ, ◌*◌, Bool, true, false, List, length, Option, None, Some, nat_lt, ◌&&◌, [], ◌∷◌, map}
+use Rattle.std.specs.Prelude.{◌≡◌, ℕ, ℤ, ◌*◌, Bool, true, false, List, length, Option, None, Some}
+use Rattle.std.specs.Prelude.{nat_lt, ◌&&◌, [], ◌∷◌, map}
 use Rattle.sel_handle.specs.declared.views.ViewWords.{ViewWords}
 use Rattle.sel_bits.specs.Faults.{first_broken}
 use Rattle.sel_bits.specs.declared.faults.Malformed.{Malformed}
@@ -7,7 +8,8 @@ use Rattle.sel_bits.specs.declared.faults.Malformed.TheVariants.{TooManyRows, Va
 use Rattle.sel_bits.specs.Offsets.{offsets_fault, magnitudes}
 use Rattle.sel_bits.specs.declared.faults.MakeError.{MakeError}
 use Rattle.sel_bits.specs.declared.faults.MakeError.TheVariants as make
-use Rattle.sel_arrow.specs.Makers.{or_else, binary_fault, list_fault, block_fault, struct_fault, binview_fault, utf8view_fault}
+use Rattle.sel_arrow.specs.Makers.{or_else, binary_fault, list_fault, block_fault, struct_fault}
+use Rattle.sel_arrow.specs.Makers.{binview_fault, utf8view_fault}
 use Rattle.sel_arrow.specs.declared.view.View.{View}
 use Rattle.sel_arrow.specs.Masked.{too_many}
 use Rattle.sel_arrow.specs.Pieces.{rows_between}
@@ -82,7 +84,12 @@ utf8view_rules views buffers bytes has =
 -- The view in four words (Arrow columnar format: variable-size binary view layout).
 abbrev pub view_in : ViewWords → View
 view_in words =
-    record { length = words.length; prefix = words.prefix; buffer_idx = words.buffer; offset = words.offset }
+    record {
+      length = words.length;
+      prefix = words.prefix;
+      buffer_idx = words.buffer;
+      offset = words.offset;
+    }
 
 -- The views that callers pass.
 abbrev pub views_in : List ViewWords → List View

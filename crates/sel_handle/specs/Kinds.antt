@@ -1,7 +1,10 @@
 -- The types of columns, as numbers.
 use Rattle.std.specs.Prelude.{ℕ, None, Some}
 use Rattle.sel_arrow.specs.Rows.{type_of}
-use Rattle.sel_arrow.specs.Shape.{Shape, of_null, of_boolean, of_int8, of_int16, of_int32, of_int64, of_int128, of_uint8, of_uint16, of_uint32, of_uint64, of_uint128, of_large_binary, of_binary_view, of_utf8_view, of_large_list, of_fixed_size_list, of_struct}
+use Rattle.sel_arrow.specs.Shape.{Shape, of_null, of_boolean, of_int8, of_int16, of_int32, of_int64}
+use Rattle.sel_arrow.specs.Shape.{of_int128, of_uint8, of_uint16, of_uint32, of_uint64, of_uint128}
+use Rattle.sel_arrow.specs.Shape.{of_large_binary, of_binary_view, of_utf8_view, of_large_list}
+use Rattle.sel_arrow.specs.Shape.{of_fixed_size_list, of_struct}
 use Rattle.sel_handle.specs.Held.{Held}
 
 -- The number of a type.

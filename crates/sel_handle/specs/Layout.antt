@@ -4,7 +4,8 @@ use Rattle.std.specs.Option.{option_map}
 use Rattle.sel_arrow.specs.declared.binview.BinaryViewArray.{BinaryViewArray}
 use Rattle.sel_arrow.specs.declared.column.Column.{Column}
 use Rattle.sel_arrow.specs.declared.view.View.{View}
-use Rattle.sel_arrow.specs.declared.column.Column.TheVariants.{LargeBinary, BinaryView, Utf8View, LargeList'}
+use Rattle.sel_arrow.specs.declared.column.Column.TheVariants.{LargeBinary, BinaryView, Utf8View}
+use Rattle.sel_arrow.specs.declared.column.Column.TheVariants.{LargeList'}
 use Rattle.sel_handle.specs.Held.{Held}
 
 -- The offsets of binary, or of lists with 64-bit offsets (Arrow columnar format: variable-size

@@ -1,5 +1,6 @@
 -- Fixed-size lists as words.
-use Rattle.std.specs.Prelude.{ℕ, ◌==◌, Bool, true, false, List, length, Option, None, Some, if◌then◌else◌, nat_le, option_and_then}
+use Rattle.std.specs.Prelude.{ℕ, ◌==◌, Bool, true, false, List, length, Option, None, Some}
+use Rattle.std.specs.Prelude.{if◌then◌else◌, nat_le, option_and_then}
 use Rattle.sel_arrow.specs.Value.{Value, Null, Items, listed}
 use Rattle.sel_lines.specs.Lists.{list_of_word, rows_of_bars}
 use Rattle.sel_lines.specs.Numbers.{size_of}

@@ -1,5 +1,6 @@
 -- The output for `choose MASK T F`.
-use Rattle.std.specs.Prelude.{ℕ, ◌==◌, ◌&&◌, List, [], ◌∷◌, length, count_by, Option, None, Some, option_map, if◌then◌else◌}
+use Rattle.std.specs.Prelude.{ℕ, ◌==◌, ◌&&◌, List, [], ◌∷◌, length, count_by, Option, None, Some}
+use Rattle.std.specs.Prelude.{option_map, if◌then◌else◌}
 use Rattle.sel_arrow.specs.Value.{Value, is_null}
 use Rattle.sel_choices.specs.Choose.{choose}
 use Rattle.polars_compute.specs.Select.{effective_mask}

@@ -1,5 +1,6 @@
 -- The output for `dict KEYS VALUES`.
-use Rattle.std.specs.Prelude.{ℕ, List, [], ◌∷◌, ◌++◌, length, Option, None, Some, option_map, if◌then◌else◌}
+use Rattle.std.specs.Prelude.{ℕ, List, [], ◌∷◌, ◌++◌, length, Option, None, Some, option_map}
+use Rattle.std.specs.Prelude.{if◌then◌else◌}
 use Rattle.sel_arrow.specs.Value.{Value}
 use Rattle.polars_compute.specs.Dictionary.{propagated_keys, valid_values}
 use Rattle.polars_compute.specs.Pick.{all_within}

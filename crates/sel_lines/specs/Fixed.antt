@@ -1,5 +1,6 @@
 -- The output for `fixed W LISTS INDEX OOB`.
-use Rattle.std.specs.Prelude.{ℕ, ◌&&◌, Bool, not, List, [], ◌∷◌, length, replicate, Option, None, Some, if◌then◌else◌, option_and_then}
+use Rattle.std.specs.Prelude.{ℕ, ◌&&◌, Bool, not, List, [], ◌∷◌, length, replicate, Option, None}
+use Rattle.std.specs.Prelude.{Some, if◌then◌else◌, option_and_then}
 use Rattle.sel_bits.specs.Faults.{error_text}
 use Rattle.sel_bits.specs.declared.faults.PolarsError.TheVariants.{ComputeError}
 use Rattle.sel_arrow.specs.Value.{Value, Number, Truth}

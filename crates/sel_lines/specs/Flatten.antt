@@ -1,5 +1,6 @@
 -- The output for `flatten H W:COL ...`.
-use Rattle.std.specs.Prelude.{ℕ, ◌==◌, ◌&&◌, nat_lt, List, [], ◌∷◌, map, length, Option, None, Some, option_map, if◌then◌else◌, codes}
+use Rattle.std.specs.Prelude.{ℕ, ◌==◌, ◌&&◌, nat_lt, List, [], ◌∷◌, map, length, Option, None, Some}
+use Rattle.std.specs.Prelude.{option_map, if◌then◌else◌, codes}
 use Rattle.std.specs.List.{slice_split}
 use Rattle.sel_arrow.specs.Value.{Value}
 use Rattle.sel_flatten.specs.Flatten.{flatten, parts_fit}

@@ -1,6 +1,7 @@
 -- How parsed lists are stored. Internal to the program; the contract of `run` does not depend on
 -- these definitions.
-use Rattle.std.specs.Prelude.{◌≡◌, ◌≤◌, ℕ, ℤ, ⊤, List, [], ◌∷◌, map, pos, length, slice_index_or, Option, None, Some}
+use Rattle.std.specs.Prelude.{◌≡◌, ◌≤◌, ℕ, ℤ, ⊤, List, [], ◌∷◌, map, pos, length, slice_index_or}
+use Rattle.std.specs.Prelude.{Option, None, Some}
 use Rattle.sel_arrow.specs.Masked.{hidden}
 use Rattle.sel_arrow.specs.Nested.{list_of}
 use Rattle.sel_arrow.specs.Value.{Value, Null, Number, Items, validities}

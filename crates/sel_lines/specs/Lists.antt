@@ -1,5 +1,6 @@
 -- Lists as words.
-use Rattle.std.specs.Prelude.{ℕ, ◌==◌, List, [], map, Option, Some, if◌then◌else◌, codes, bytes_eq, option_map}
+use Rattle.std.specs.Prelude.{ℕ, ◌==◌, List, [], map, Option, Some, if◌then◌else◌, codes, bytes_eq}
+use Rattle.std.specs.Prelude.{option_map}
 use Rattle.std.specs.List.{slice_split}
 use Rattle.sel_arrow.specs.Nested.{list_of}
 use Rattle.sel_arrow.specs.Value.{Value, Null}

@@ -1,5 +1,6 @@
 -- Integers and booleans as words.
-use Rattle.std.specs.Prelude.{ℕ, ◌^◌, ◌&&◌, ℤ, pos, List, Option, None, Some, true, false, if◌then◌else◌, codes, nat_lt, bytes_eq, option_map}
+use Rattle.std.specs.Prelude.{ℕ, ◌^◌, ◌&&◌, ℤ, pos, List, Option, None, Some, true, false}
+use Rattle.std.specs.Prelude.{if◌then◌else◌, codes, nat_lt, bytes_eq, option_map}
 use Rattle.std.specs.Str.Parse.{digits_value, signed_digits_value}
 use Rattle.std.specs.Fmt.{decimal, signed_decimal}
 use Rattle.std.specs.Int.Signed.{mag}

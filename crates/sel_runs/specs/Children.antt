@@ -3,7 +3,8 @@ use Rattle.std.specs.Prelude.{ℕ, List, [], ◌∷◌, map, Bool, true, false, 
 use Rattle.std.specs.List.{flat_map, range_with_len}
 use Rattle.sel_arrow.specs.Shape.{Shape, of_large_list, of_fixed_size_list}
 use Rattle.sel_arrow.specs.Value.{Value, Null, Items, Tuple, listed}
-use Rattle.sel_arrow.specs.declared.column.Column.{Column, Row_of-Column, end_of-Column, more_of-Column}
+use Rattle.sel_arrow.specs.declared.column.Column.{Column, Row_of-Column, end_of-Column}
+use Rattle.sel_arrow.specs.declared.column.Column.{more_of-Column}
 use Rattle.sel_arrow.specs.declared.column.Column.TheVariants.{LargeList', FixedSizeList', Struct'}
 
 -- Whether the type is lists with offsets or fixed-size lists (Arrow columnar format: list layouts).

@@ -1,5 +1,6 @@
 -- Row references under a list of bits.
-use Rattle.std.specs.Prelude.{ℕ, Bool, false, List, Option, Some, None, slice_index_or, if◌then◌else◌}
+use Rattle.std.specs.Prelude.{ℕ, Bool, false, List, Option, Some, None, slice_index_or}
+use Rattle.std.specs.Prelude.{if◌then◌else◌}
 
 -- The row reference, or none if the bit at its position is false.
 abbrev pub kept_by : List Bool → Option (ℕ × ℕ) → Option (ℕ × ℕ)

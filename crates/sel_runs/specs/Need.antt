@@ -1,10 +1,14 @@
 -- The limits that rows can exceed, and the errors for them.
 use Rattle.std.specs.Prelude.{ℕ, ◌+◌, ◌<◌, ℤ, pos, ◌<ℤ◌, ⊤, ◌⊎◌, List, [], ◌∷◌, length, map}
 use Rattle.sel_bits.specs.declared.faults.Limit.{Limit}
-use Rattle.sel_bits.specs.declared.faults.Limit.TheVariants.{Rows as RowLimit, Bytes as ByteLimit, Buffers as BufferLimit}
+use Rattle.sel_bits.specs.declared.faults.Limit.TheVariants.{Rows as RowLimit, Bytes as ByteLimit}
+use Rattle.sel_bits.specs.declared.faults.Limit.TheVariants.{Buffers as BufferLimit}
 use Rattle.sel_bits.specs.declared.faults.PolarsError.{PolarsError}
-use Rattle.sel_bits.specs.declared.faults.PolarsError.TheVariants.{OutOfMemory, SizeLimit, ComputeError}
-use Rattle.sel_arrow.specs.Shape.{Shape, Shapes, no_shapes, next_shape, of_large_binary, of_binary_view, of_utf8_view, of_large_list, of_fixed_size_list, of_struct}
+use Rattle.sel_bits.specs.declared.faults.PolarsError.TheVariants.{OutOfMemory, SizeLimit}
+use Rattle.sel_bits.specs.declared.faults.PolarsError.TheVariants.{ComputeError}
+use Rattle.sel_arrow.specs.Shape.{Shape, Shapes, no_shapes, next_shape, of_large_binary}
+use Rattle.sel_arrow.specs.Shape.{of_binary_view, of_utf8_view, of_large_list, of_fixed_size_list}
+use Rattle.sel_arrow.specs.Shape.{of_struct}
 use Rattle.sel_arrow.specs.Value.{Value, Bytes}
 use Rattle.sel_arrow.specs.declared.column.Column.{Column}
 use Rattle.sel_runs.specs.Children.{child, field, joined_items, part_at}

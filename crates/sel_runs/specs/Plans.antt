@@ -1,5 +1,6 @@
 -- Row references that are computed one by one, and the bits that they refer to.
-use Rattle.std.specs.Prelude.{ℕ, ◌<◌, ⊤, Bool, false, List, [], ◌∷◌, map, length, Option, Some, None, slice_index_or}
+use Rattle.std.specs.Prelude.{ℕ, ◌<◌, ⊤, Bool, false, List, [], ◌∷◌, map, length, Option, Some}
+use Rattle.std.specs.Prelude.{None, slice_index_or}
 use Rattle.std.specs.Option.{ForSome}
 use Rattle.sel_bits.specs.Bits.{Bits}
 use Rattle.sel_arrow.specs.Masked.{valid_at}

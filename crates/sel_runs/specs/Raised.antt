@@ -11,7 +11,12 @@ use Rattle.sel_arrow.specs.declared.view.View.{View}
 abbrev pub raised : View → ℕ → View
 raised view k =
     if is_inline view then view
-    else record { length = view.length; prefix = view.prefix; buffer_idx = view.buffer_idx + k; offset = view.offset }
+    else record {
+      length = view.length;
+      prefix = view.prefix;
+      buffer_idx = view.buffer_idx + k;
+      offset = view.offset;
+    }
 
 -- For each part, the number of entries in the parts before it.
 abbrev pub starts_of : {X A : Type 0} → (X → List A) → List X → List ℕ

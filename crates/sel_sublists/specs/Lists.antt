@@ -1,5 +1,6 @@
 -- Elements of lists, with one index for all lists.
-use Rattle.std.specs.Prelude.{ℕ, ◌+◌, ◌-◌, ℤ, Bool, false, List, [], ◌∷◌, map, length, Option, None, slice_index, if◌then◌else◌}
+use Rattle.std.specs.Prelude.{ℕ, ◌+◌, ◌-◌, ℤ, Bool, false, List, [], ◌∷◌, map, length, Option, None}
+use Rattle.std.specs.Prelude.{slice_index, if◌then◌else◌}
 use Rattle.std.specs.List.{list_any, range_with_len}
 use Rattle.std.specs.Option.{option_map, is_none}
 use Rattle.sel_bits.specs.Bits.{Bits}

@@ -1,5 +1,6 @@
 -- A row of a column as a cell, which refers to the column's data.
-use Rattle.std.specs.Prelude.{◌≡◌, ℕ, ℤ, ◌≤◌, ◌<◌, Bool, true, false, ⊤, All, map, pos, length, IsTrue}
+use Rattle.std.specs.Prelude.{◌≡◌, ℕ, ℤ, ◌≤◌, ◌<◌, Bool, true, false, ⊤, All, map, pos, length}
+use Rattle.std.specs.Prelude.{IsTrue}
 use Rattle.std.specs.List.{slice_range}
 use Rattle.std.specs.Str.{is_utf8}
 use denote.Param.Weighed.{most}
@@ -11,7 +12,10 @@ use Rattle.sel_arrow.specs.Views.{view_bytes, is_placed}
 use Rattle.sel_arrow.specs.declared.column.Column.{Column, size-Column}
 use Rattle.sel_text.specs.Texts.{is_text_shape, item_shape, part_shapes}
 use Rattle.sel_text.specs.declared.cell.Cell.{Cell}
-use Rattle.sel_text.specs.declared.cell.Cell.TheVariants.{Null as NullCell, Truth as TruthCell, Whole as WholeCell, Bytes as BytesCell, View as ViewCell, Text as TextCell, Items as ItemsCell, Parts as PartsCell}
+use Rattle.sel_text.specs.declared.cell.Cell.TheVariants.{Null as NullCell, Truth as TruthCell}
+use Rattle.sel_text.specs.declared.cell.Cell.TheVariants.{Whole as WholeCell, Bytes as BytesCell}
+use Rattle.sel_text.specs.declared.cell.Cell.TheVariants.{View as ViewCell, Text as TextCell}
+use Rattle.sel_text.specs.declared.cell.Cell.TheVariants.{Items as ItemsCell, Parts as PartsCell}
 use Rattle.sel_text.specs.declared.cell.Whole.{Whole}
 use Rattle.sel_text.specs.declared.cell.Whole.TheVariants.{Signed, Unsigned}
 

@@ -1,10 +1,15 @@
 -- The values that a column of a type can have.
-use Rattle.std.specs.Prelude.{ℕ, ℤ, ◌^◌, pos, negsuc, Bool, true, false, ◌&&◌, ◌==◌, nat_lt, List, length}
+use Rattle.std.specs.Prelude.{ℕ, ℤ, ◌^◌, pos, negsuc, Bool, true, false, ◌&&◌, ◌==◌, nat_lt, List}
+use Rattle.std.specs.Prelude.{length}
 use Rattle.std.specs.Int.Signed.{mag}
 use Rattle.std.specs.List.{list_all}
 use Rattle.std.specs.Str.{is_utf8}
-use Rattle.sel_arrow.specs.Shape.{Shape, Shapes, no_shapes, next_shape, of_boolean, of_int8, of_int16, of_int32, of_int64, of_int128, of_uint8, of_uint16, of_uint32, of_uint64, of_uint128, of_large_binary, of_binary_view, of_utf8_view, of_large_list, of_fixed_size_list, is_struct_shape}
-use Rattle.sel_arrow.specs.Value.{Value, Null, Truth, Number, Bytes, Items, Tuple, Values, no_values, next_value, listed}
+use Rattle.sel_arrow.specs.Shape.{Shape, Shapes, no_shapes, next_shape, of_boolean, of_int8}
+use Rattle.sel_arrow.specs.Shape.{of_int16, of_int32, of_int64, of_int128, of_uint8, of_uint16}
+use Rattle.sel_arrow.specs.Shape.{of_uint32, of_uint64, of_uint128, of_large_binary, of_binary_view}
+use Rattle.sel_arrow.specs.Shape.{of_utf8_view, of_large_list, of_fixed_size_list, is_struct_shape}
+use Rattle.sel_arrow.specs.Value.{Value, Null, Truth, Number, Bytes, Items, Tuple, Values}
+use Rattle.sel_arrow.specs.Value.{no_values, next_value, listed}
 use Rattle.sel_text.specs.Texts.{item_shape, part_shapes}
 
 -- Whether a number is an unsigned integer of `bits` bits.

@@ -1,10 +1,13 @@
 -- The values of parsed rows.
 use Rattle.std.specs.Prelude.{List, map}
 use Rattle.std.specs.Borrow.{Bor}
-use Rattle.sel_arrow.specs.Value.{Value, Null, Truth, Number, Bytes, Items, Tuple, Values, no_values, next_value}
+use Rattle.sel_arrow.specs.Value.{Value, Null, Truth, Number, Bytes, Items, Tuple, Values}
+use Rattle.sel_arrow.specs.Value.{no_values, next_value}
 use Rattle.sel_text.specs.Cells.{whole_number}
 use Rattle.sel_text.specs.declared.item.Item.{Item, Row_of-Item, end_of-Item, more_of-Item}
-use Rattle.sel_text.specs.declared.item.Item.TheVariants.{Null as NullItem, Truth as TruthItem, Number as NumberItem, Bytes as BytesItem, Items', Parts'}
+use Rattle.sel_text.specs.declared.item.Item.TheVariants.{Null as NullItem, Truth as TruthItem}
+use Rattle.sel_text.specs.declared.item.Item.TheVariants.{Number as NumberItem, Bytes as BytesItem}
+use Rattle.sel_text.specs.declared.item.Item.TheVariants.{Items', Parts'}
 
 abbrev mutual
   -- The row that was parsed.

@@ -1,8 +1,11 @@
 -- The size limits that rows exceed when a column is built from them.
-use Rattle.std.specs.Prelude.{◌≡◌, ⊤, ℕ, ◌+◌, Bool, true, false, ◌||◌, List, [], ◌∷◌, map, length, replicate, slice_index_or, if◌then◌else◌, nat_le, nat_lt, Result, Ok, Err}
+use Rattle.std.specs.Prelude.{◌≡◌, ⊤, ℕ, ◌+◌, Bool, true, false, ◌||◌, List, [], ◌∷◌, map, length}
+use Rattle.std.specs.Prelude.{replicate, slice_index_or, if◌then◌else◌, nat_le, nat_lt, Result, Ok}
+use Rattle.std.specs.Prelude.{Err}
 use Rattle.std.specs.List.{flat_map}
 use Rattle.sel_arrow.specs.Rows.{rows, type_of}
-use Rattle.sel_arrow.specs.Shape.{Shape, Shapes, no_shapes, next_shape, of_binary_view, of_utf8_view, of_large_list, of_fixed_size_list, of_struct}
+use Rattle.sel_arrow.specs.Shape.{Shape, Shapes, no_shapes, next_shape, of_binary_view}
+use Rattle.sel_arrow.specs.Shape.{of_utf8_view, of_large_list, of_fixed_size_list, of_struct}
 use Rattle.sel_arrow.specs.Value.{Value, Null, Bytes, Items, Tuple, listed}
 use Rattle.sel_arrow.specs.declared.array_ref.ArrayRef.{ArrayRef}
 use Rattle.sel_text.specs.declared.build.NullSlots.{NullSlots}

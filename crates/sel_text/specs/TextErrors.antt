@@ -6,9 +6,11 @@ use Rattle.sel_bits.specs.declared.faults.MakeError.TheVariants.{OutOfMemory as 
 use Rattle.sel_bits.specs.declared.faults.PolarsError.{PolarsError}
 use Rattle.sel_bits.specs.declared.faults.PolarsError.TheVariants.{OutOfMemory as KernelMemory}
 use Rattle.sel_text.specs.declared.text_error.Fault.{Fault}
-use Rattle.sel_text.specs.declared.text_error.Fault.TheVariants.{Limit as LimitFault, OutOfMemory as MemoryFault}
+use Rattle.sel_text.specs.declared.text_error.Fault.TheVariants.{Limit as LimitFault}
+use Rattle.sel_text.specs.declared.text_error.Fault.TheVariants.{OutOfMemory as MemoryFault}
 use Rattle.sel_text.specs.declared.text_error.TextError.{TextError}
-use Rattle.sel_text.specs.declared.text_error.TextError.TheVariants.{Syntax, «Type», Limit, OutOfMemory}
+use Rattle.sel_text.specs.declared.text_error.TextError.TheVariants.{Syntax, «Type», Limit}
+use Rattle.sel_text.specs.declared.text_error.TextError.TheVariants.{OutOfMemory}
 
 -- The message of an error.
 abbrev pub parse_error_text : TextError → List ℕ

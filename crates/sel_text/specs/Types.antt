@@ -2,7 +2,11 @@
 use Rattle.std.specs.Prelude.{ℕ, List, [], ◌∷◌, ◌++◌, codes}
 use Rattle.std.specs.Fmt.{decimal}
 use Rattle.std.specs.List.{join_with_byte}
-use Rattle.sel_arrow.specs.Shape.{Shape, Shapes, no_shapes, next_shape, of_null, of_boolean, of_int8, of_int16, of_int32, of_int64, of_int128, of_uint8, of_uint16, of_uint32, of_uint64, of_uint128, of_large_binary, of_binary_view, of_utf8_view, of_large_list, of_fixed_size_list, of_struct}
+use Rattle.sel_arrow.specs.Shape.{Shape, Shapes, no_shapes, next_shape, of_null, of_boolean}
+use Rattle.sel_arrow.specs.Shape.{of_int8, of_int16, of_int32, of_int64, of_int128, of_uint8}
+use Rattle.sel_arrow.specs.Shape.{of_uint16, of_uint32, of_uint64, of_uint128, of_large_binary}
+use Rattle.sel_arrow.specs.Shape.{of_binary_view, of_utf8_view, of_large_list, of_fixed_size_list}
+use Rattle.sel_arrow.specs.Shape.{of_struct}
 
 -- Parts in angle brackets, separated by commas, as in `<i8,bool>`.
 abbrev pub angled : List (List ℕ) → List ℕ

@@ -1,6 +1,7 @@
 -- Types whose text can be parsed.
 use Rattle.std.specs.Prelude.{Bool, true, false, ◌&&◌, nat_lt, ◌^◌}
-use Rattle.sel_arrow.specs.Shape.{Shape, Shapes, no_shapes, next_shape, of_large_list, of_fixed_size_list, of_struct}
+use Rattle.sel_arrow.specs.Shape.{Shape, Shapes, no_shapes, next_shape, of_large_list}
+use Rattle.sel_arrow.specs.Shape.{of_fixed_size_list, of_struct}
 
 abbrev mutual
   -- Whether each list size in a type, at every depth, is an unsigned 64-bit integer.

@@ -9,8 +9,8 @@ pub fn law_text_determines_rows()
 {}
 
 /// Two types whose list sizes fit in 64 bits, as those of every column do, are equal if their
-/// notations are equal. So if `parse_dtype` accepts the output of `print_dtype`, it returns the same
-/// type.
+/// notations are equal. So if `parse_dtype` accepts the output of `print_dtype`, it returns the
+/// same type.
 pub fn law_text_determines_type()
     ensures { TextDeterminesType }
 {}

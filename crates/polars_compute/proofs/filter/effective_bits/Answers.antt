@@ -1,7 +1,7 @@
 use Rattle.std.proofs.Common.{◌∙◌, sym, ap}
 use Rattle.std.proofs.lemmas.Result.{IfOk-weaker}
 use Rattle.sel_bits.specs.Bits.{Bits}
-use Rattle.polars_compute.proofs.Selects.{in_force-all, in_force-truths}
+use Rattle.polars_compute.proofs.Selects.{in_force-all, effective_mask-bools}
 use Rattle.polars_compute.proofs.filter.effective_bits.Goals as goal
 
 pub returns-in-None-clause-bits : goal.returns-in-None-clause-bits
@@ -11,5 +11,5 @@ returns-in-None-clause-bits c =
 
 pub returns-in-Some-clause-bits : goal.returns-in-Some-clause-bits
 returns-in-Some-clause-bits c =
-    let all = in_force-truths c.args.mask.now.values.bits c.args.mask.now.validity c.in-Some.validity c.in-Some.is c.args.mask.now.validity_fits in
+    let all = effective_mask-bools c.args.mask.now.values.bits c.args.mask.now.validity c.in-Some.validity c.in-Some.is c.args.mask.now.validity_fits in
     IfOk-weaker c.and.result _ _ (λ bits is. ap (λ (b : Bits). b.bits) is ∙ sym all) c.and.ensures.value

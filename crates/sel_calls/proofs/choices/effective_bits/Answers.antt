@@ -5,7 +5,7 @@ use Rattle.sel_bits.specs.Bits.{Bits}
 use Rattle.sel_arrow.proofs.Rows.{length-truth_rows}
 use Rattle.sel_arrow.specs.Columns.{boolean_rows}
 use Rattle.polars_compute.specs.Select.{is_true}
-use Rattle.polars_compute.proofs.Selects.{in_force-all, in_force-truths}
+use Rattle.polars_compute.proofs.Selects.{in_force-all, effective_mask-bools}
 use Rattle.sel_calls.proofs.choices.effective_bits.Goals as goal
 
 pub returns-in-None-clause-bits : goal.returns-in-None-clause-bits
@@ -15,17 +15,17 @@ returns-in-None-clause-bits c =
 
 pub returns-in-Some-clause-bits : goal.returns-in-Some-clause-bits
 returns-in-Some-clause-bits c =
-    let all = in_force-truths c.args.mask.now.values.bits c.args.mask.now.validity c.in-Some.validity c.in-Some.is c.args.mask.now.validity_fits in
+    let all = effective_mask-bools c.args.mask.now.values.bits c.args.mask.now.validity c.in-Some.validity c.in-Some.is c.args.mask.now.validity_fits in
     IfOk-weaker c.and.result _ _ (λ bits is. ap (λ (b : Bits). b.bits) is ∙ sym all) c.and.ensures.value
 
 pub returns-in-Some-clause-len : goal.returns-in-Some-clause-len
 returns-in-Some-clause-len c =
-    let all = in_force-truths c.args.mask.now.values.bits c.args.mask.now.validity c.in-Some.validity c.in-Some.is c.args.mask.now.validity_fits in
+    let all = effective_mask-bools c.args.mask.now.values.bits c.args.mask.now.validity c.in-Some.validity c.in-Some.is c.args.mask.now.validity_fits in
     IfOk-weaker c.and.result _ _ (λ bits is. ap (λ (b : Bits). length b.bits) is ∙ sym (ap length all) ∙ length-map (boolean_rows c.args.mask.now) is_true) c.and.ensures.value
 
 pub returns-in-Some-clause-few : goal.returns-in-Some-clause-few
 returns-in-Some-clause-few c =
-    let all = in_force-truths c.args.mask.now.values.bits c.args.mask.now.validity c.in-Some.validity c.in-Some.is c.args.mask.now.validity_fits in
+    let all = effective_mask-bools c.args.mask.now.values.bits c.args.mask.now.validity c.in-Some.validity c.in-Some.is c.args.mask.now.validity_fits in
     let long = length-truth_rows c.args.mask.now.values.bits c.args.mask.now.validity in
     let fit = c.args.mask.now.rows_fit in
     IfOk-weaker c.and.result _ _ (λ bits is. let same = ap (λ (b : Bits). length b.bits) is ∙ sym (ap length all) ∙ length-map (boolean_rows c.args.mask.now) is_true in omega (arith, same, long, fit)) c.and.ensures.value

@@ -1,4 +1,4 @@
-use Rattle.std.proofs.Common.{rules, arith, ◌≡◌, ◌<◌, ◌∙◌, ℕ, All, Bor, ap, sym, subst, map, length, List}
+use Rattle.std.proofs.Common.{rules, arith, ◌≡◌, ◌≤◌, ◌<◌, ◌∙◌, ℕ, All, Bor, ap, sym, subst, map, length, List}
 use Rattle.sel_arrow.specs.Rows.{rows, type_of}
 use Rattle.sel_arrow.specs.Value.{Value, Null}
 use Rattle.sel_arrow.specs.declared.array_ref.ArrayRef.{ArrayRef}
@@ -12,6 +12,8 @@ use Rattle.sel_runs.specs.Need.{exceeded_taken}
 use Rattle.sel_calls.specs.PickLengths.{HasRow}
 use Rattle.sel_calls.specs.Several.{first_shape, picks_from}
 use Rattle.sel_calls.proofs.Alike.{alike_columns, first_same}
+use Rattle.sel_arrow.specs.Depth.{depth}
+use Rattle.sel_calls.proofs.Depths.{first_depth}
 use Rattle.sel_calls.proofs.Limits.{tells-passed}
 use Rattle.sel_calls.proofs.Made.{makes-put}
 use Rattle.sel_calls.proofs.PickWords.{rows_fit, rows_had}
@@ -94,3 +96,8 @@ returns-clause-limits c =
     subst (λ (s : Shape). ReportsLimits c.status_of.result (exceeded_taken s columns vs)) (sym (first_same c.args.arrays.now))
     (subst (λ (cs : List Column). ReportsLimits c.status_of.result (exceeded_taken (first_type cs) cs vs)) lent
     (subst (λ (xss : List (List Value)). ReportsLimits c.status_of.result (exceeded_taken (first_type (map (λ (x : Bor Column). x.now) c.deref-2.result.now)) (map (λ (x : Bor Column). x.now) c.deref-2.result.now) (pick Null xss picks))) sources.rows passed))
+
+pub put-requires : goal.put-requires
+put-requires c =
+    let same = c.in-Ok-collect_plan.ensures.dtype ∙ ap first_type (ap (map (λ (x : Bor Column). x.now)) c.deref-2.ensures.value ∙ c.in-Ok-columns_of.ensures.columns) ∙ sym (first_same c.args.arrays.now) in
+    subst (λ (s : Shape). depth s ≤ 128) (sym same) (first_depth (λ (a : ArrayRef). type_of a.column) c.args.arrays.now 128 c.requires.depth)

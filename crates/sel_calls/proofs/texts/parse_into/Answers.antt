@@ -1,6 +1,7 @@
-use Rattle.std.proofs.Common.{◌≡◌, true, length, sym, ◌∙◌, subst}
+use Rattle.std.proofs.Common.{◌≡◌, ◌≤◌, true, length, sym, ◌∙◌, arith, subst}
 use Rattle.std.specs.Prelude.{nat_lt}
 use Rattle.sel_arrow.specs.DataType.{shape_of}
+use Rattle.sel_arrow.specs.Shape.{Shape}
 use Rattle.sel_calls.specs.Parsed.{IsRowsText}
 use Rattle.sel_text.specs.Limits.{exceeds_limit}
 use Rattle.sel_arrow.specs.Depth.{depth}
@@ -26,3 +27,8 @@ returns-in-Err-made-clause-limit c = λ limit shape values named texts.
     let same : shape_of c.in-Ok.dtype ≡ shape = one_type (shape_of c.in-Ok.dtype) shape c.in-Ok.ensures.narrow named.0 (c.in-Ok.ensures.text ∙ named.2) in
     let past = c.in-Err-made.ensures.limit (c.rows_error_status.ensures.limit limit) values (subst (λ s. IsRowsText s values c.args.text.now) (sym same) texts) in
     or_second (nat_lt 64 (depth shape)) (exceeds_limit Zeros shape values) (subst (λ s. exceeds_limit Zeros s values ≡ true) same past)
+
+pub put-requires : goal.put-requires
+put-requires c =
+    let levels = c.in-Ok.ensures.levels in
+    subst (λ (s : Shape). depth s ≤ 128) (sym c.in-Ok-made.ensures.dtype) (omega (arith, levels))
