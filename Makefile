@@ -3,9 +3,9 @@
 # make setup     installs what the checks use besides the toolchain, and says what for
 # make tour      prints columns of each kind, each kernel once and each error once
 # make run       runs the program on its stored input, or on a file: make run INPUT=file; make build proves and builds it
-# make lib       builds the C library into build/; for newer processors: make lib CPU=x86-64-v3
-# make install   copies the C library that make lib built: make install PREFIX=folder DESTDIR=folder; make uninstall removes it
-# make dist      packs it with its headers into build/sel-VERSION-linux-x86_64.tar.gz
+# make lib       builds the C library into build/; for newer processors into build/x86-64-v3/: make lib CPU=x86-64-v3
+# make install   copies the C libraries that make lib built: make install PREFIX=folder DESTDIR=folder; make uninstall removes them
+# make dist      packs them with the headers into build/sel-VERSION-linux-x86_64.tar.gz
 # make bench     times the kernels and writes docs/BENCHMARKS.md; make bench QUICK=1 only compares their answers
 # make mutants   tries every mutant, not only those of make test
 # make api       writes the API reference, the C header and the statuses

@@ -9,7 +9,8 @@
 #include <stdlib.h>
 #include <string.h>
 
-enum { DEEPEST = 256 };
+/* The most levels of lists and structs of a column. */
+enum { MAX_LEVELS = 128 };
 
 /* The most rows of a column, with those before its offset; a 32-bit index reaches each of them. */
 #define MAX_ROWS UINT32_MAX
@@ -51,7 +52,7 @@ typedef struct level {
     uint8_t *bits;      /* the validity, packed from bit 0 on; NULL if every row is valid */
     size_t bits_len;
     void *copy;         /* an aligned copy of a buffer, or NULL */
-    unsigned depth;
+    unsigned depth;     /* the number of levels above this one */
 } level;
 
 #define VALIDITY(l) (l)->bits, (l)->bits_len, (l)->bits != NULL
@@ -331,6 +332,8 @@ static enum layout layout_of(const char *format) {
     return is_whole_decimal(format) ? NUMBERS : NO_LAYOUT;
 }
 
+static bool has_children(enum layout layout) { return layout == LISTS || layout == FIXED_LISTS || layout == STRUCTS; }
+
 /* Checks the number of children, in the array and in the schema. */
 static sel_status check_children(const level *l, enum layout layout) {
     int64_t count = l->array->n_children;
@@ -375,11 +378,11 @@ static sel_status import_layout(level *l, enum layout layout, sel_column *out) {
 
 static sel_status import_node(const Array *array, const Schema *schema, unsigned depth, sel_column *out) {
     level l = {array, schema, 0, 0, NULL, 0, NULL, depth};
-    if (depth > DEEPEST) return SEL_ERROR_ARROW_DEPTH;
     if (!array->release || !schema->release) return SEL_ERROR_ARROW_RELEASED;
     if (array->dictionary || schema->dictionary) return SEL_ERROR_ARROW_DICTIONARY;
     enum layout layout = schema->format ? layout_of(schema->format) : NO_LAYOUT;
     if (layout == NO_LAYOUT) return SEL_ERROR_ARROW_FORMAT;
+    if (has_children(layout) && depth >= MAX_LEVELS) return SEL_ERROR_TOO_DEEP;
     sel_status status = check_rows(array);
     if (status != SEL_OK) return status;
     l.len = (size_t)array->length;
@@ -560,20 +563,19 @@ static sel_status export_views(target *t) {
 
 static sel_status export_node(const sel_column *of, const uint8_t *shown, Array *array, Schema *schema);
 
-/* Checks that every level has an Arrow format, and that there are not more levels than an import accepts. */
-static sel_status check_formats(const sel_column *of, unsigned depth) {
+/* Checks that every level has an Arrow format. */
+static sel_status check_formats(const sel_column *of) {
     sel_type_id kind = sel_type_of(of);
     sel_status status = SEL_OK;
     size_t count = 1;
     if (kind >= SEL_TYPE_NONE) return SEL_ERROR_NO_COLUMN;
-    if (depth > DEEPEST) return SEL_ERROR_ARROW_DEPTH;
     if (!formats[kind]) return SEL_ERROR_ARROW_FORMAT;
     if (kind != SEL_TYPE_LIST && kind != SEL_TYPE_FIXED_SIZE_LIST && kind != SEL_TYPE_STRUCT) return SEL_OK;
     if (kind == SEL_TYPE_STRUCT) status = sel_field_count(of, &count);
     for (size_t i = 0; status == SEL_OK && i < count; i++) {
         sel_column child = {0};
         status = kind == SEL_TYPE_STRUCT ? sel_field(of, i, &child) : sel_child(of, &child);
-        if (status == SEL_OK) status = check_formats(&child, depth + 1);
+        if (status == SEL_OK) status = check_formats(&child);
         sel_free(&child);
     }
     return status;
@@ -713,7 +715,7 @@ static sel_status export_node(const sel_column *of, const uint8_t *shown, Array 
 sel_status sel_export(const sel_column *of, struct ArrowArray *array, struct ArrowSchema *schema) {
     memset(array, 0, sizeof *array);
     memset(schema, 0, sizeof *schema);
-    sel_status status = check_formats(of, 0);
+    sel_status status = check_formats(of);
     if (status == SEL_OK) status = export_node(of, NULL, array, schema);
     if (status == SEL_OK) return status;
     if (array->release) array->release(array);

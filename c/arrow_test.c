@@ -280,25 +280,71 @@ static void trees_are_refused(void) {
     CHECK(sel_import(&keyed, &list, &out) == SEL_ERROR_ARROW_DICTIONARY && !out.at);
 }
 
-/* Lists of lists, 300 deep, over no rows. */
-static void depth_has_an_end(void) {
-    enum { LEVELS = 300 };
-    static struct ArrowArray arrays[LEVELS], *below[LEVELS];
-    static struct ArrowSchema types[LEVELS], *types_below[LEVELS];
-    static const void *buffers[2];
+/* The formats of nested levels, and the number of buffers of each. */
+static const struct { const char *format; int64_t buffers; } nested[] = {{"+l", 2}, {"+L", 2}, {"+w:0", 1}, {"+w:1", 1}, {"+s", 1}};
+enum { NESTED = sizeof nested / sizeof *nested, MOST = 128 };
+
+/* Arrays without rows, each the child of the one before it; the last one may have no children. */
+typedef struct chain {
+    struct ArrowArray arrays[MOST + 2], *below[MOST + 2];
+    struct ArrowSchema types[MOST + 2], *types_below[MOST + 2];
+    const void *buffers[2];
+} chain;
+
+/* Makes level `i` of a chain with the format of number `which`, or a null column if that is negative. */
+static void make_level(chain *it, int i, int which) {
+    it->arrays[i] = (struct ArrowArray){.n_buffers = which < 0 ? 0 : nested[which].buffers, .n_children = which >= 0, .buffers = it->buffers,
+                                        .children = &it->below[i], .release = keep_array};
+    it->types[i] = type(which < 0 ? "n" : nested[which].format);
+    it->types[i].n_children = which >= 0;
+    it->types[i].children = &it->types_below[i];
+    if (which >= 0) it->below[i] = &it->arrays[i + 1], it->types_below[i] = &it->types[i + 1];
+}
+
+/* An import that returns SEL_ERROR_TOO_DEEP, releases nothing, and leaves `out` unchanged. */
+static void is_too_deep(chain *it) {
     sel_column out = {0};
-    for (int i = 0; i < LEVELS; i++) {
-        bool last = i + 1 == LEVELS;
-        arrays[i] = (struct ArrowArray){.n_buffers = last ? 0 : 1, .n_children = !last, .buffers = buffers, .children = &below[i], .release = keep_array};
-        types[i] = type(last ? "n" : "+w:1");
-        types[i].n_children = !last;
-        types[i].children = &types_below[i];
-        if (!last) below[i] = &arrays[i + 1], types_below[i] = &types[i + 1];
-    }
-    CHECK(sel_import(&arrays[0], &types[0], &out) == SEL_ERROR_ARROW_DEPTH && !out.at);
-    arrays[200].release = arrays[299].release = keep_array;
-    CHECK(sel_import(&arrays[200], &types[200], &out) == SEL_OK && sel_type_of(&out) == SEL_TYPE_FIXED_SIZE_LIST);
+    CHECK(sel_import(&it->arrays[0], &it->types[0], &out) == SEL_ERROR_TOO_DEEP && !out.at);
+    CHECK(it->arrays[0].release == keep_array);
     sel_free(&out);
+}
+
+/* 128 levels are imported, of one format or of all in turn; level 129 is an error, whatever is below it. */
+static void depth_has_an_end(void) {
+    static chain it;
+    for (int format = 0; format <= NESTED; format++) {
+        sel_column out = {0};
+        for (int i = 0; i < MOST; i++) make_level(&it, i, format < NESTED ? format : i % NESTED);
+        make_level(&it, MOST, -1);
+        CHECK(sel_import(&it.arrays[0], &it.types[0], &out) == SEL_OK && out.at && !it.arrays[0].release);
+        sel_free(&out);
+        it.arrays[0].release = keep_array;
+        make_level(&it, MOST, format % NESTED);
+        make_level(&it, MOST + 1, -1);
+        is_too_deep(&it);
+        /* level 129 is not read any further: it has other counts than its format, and no children */
+        it.arrays[MOST].n_buffers = it.arrays[MOST].n_children = -1;
+        it.arrays[MOST].children = NULL;
+        it.types[MOST].children = NULL;
+        is_too_deep(&it);
+    }
+    /* a struct without fields is a level too */
+    make_level(&it, MOST, NESTED - 1);
+    it.arrays[MOST].n_children = it.types[MOST].n_children = 0;
+    is_too_deep(&it);
+}
+
+/* An array that is its own child, or that is below its child, has no end of levels. */
+static void cycles_have_an_end(void) {
+    static chain it;
+    for (int format = 0; format < NESTED; format++) {
+        for (int length = 1; length <= 3; length++) {
+            for (int i = 0; i < length; i++) make_level(&it, i, (format + i) % NESTED);
+            it.below[length - 1] = &it.arrays[0];
+            it.types_below[length - 1] = &it.types[0];
+            is_too_deep(&it);
+        }
+    }
 }
 
 static void exports_are_released(void) {
@@ -343,25 +389,6 @@ static void formats_are_checked_before_values(void) {
         CHECK(sel_export(&both, &array, &schema) == SEL_ERROR_ARROW_FORMAT && !array.release && !schema.release);
         sel_free(&both);
     }
-}
-
-/* An export has at most as many levels as an import accepts. */
-static void exported_depth_has_an_end(void) {
-    struct ArrowArray array;
-    struct ArrowSchema schema;
-    sel_column lists = {0}, again = {0};
-    CHECK(sel_null_new(1, &lists) == SEL_OK);
-    for (int level = 1; level <= 257; level++) {
-        sel_column child = lists;
-        lists.at = NULL;
-        CHECK(sel_fixed_size_list_new(1, 1, some_bits, 0, false, &child, &lists) == SEL_OK);
-        if (level != 256) continue;
-        CHECK(sel_export(&lists, &array, &schema) == SEL_OK && sel_import(&array, &schema, &again) == SEL_OK);
-        schema.release(&schema);
-    }
-    CHECK(sel_export(&lists, &array, &schema) == SEL_ERROR_ARROW_DEPTH && !array.release && !schema.release);
-    sel_free(&again);
-    sel_free(&lists);
 }
 
 /* Exports a column and checks the status; if it is SEL_OK, imports the arrays again and compares the rows. Returns the
@@ -506,7 +533,7 @@ static void each_allocation_is_refused(void) {
 
 static void strings_of_statuses(void) {
     for (int status = SEL_ERROR_ARROW_RELEASED; status <= SEL_ERROR_ARROW_RANGE; status++)
-        CHECK(strcmp(sel_status_string((sel_status)status), "unknown status") != 0);
+        CHECK((strcmp(sel_status_string((sel_status)status), "unknown status") == 0) == (status == 70));
     CHECK(!strcmp(sel_status_string(SEL_ERROR_ARROW_FORMAT), "unsupported Arrow format"));
 }
 
@@ -520,11 +547,11 @@ int main(void) {
     trees_come_in();
     trees_are_refused();
     depth_has_an_end();
+    cycles_have_an_end();
     null_counts_are_checked();
     views_in_null_slots_are_not_read();
     exports_are_released();
     formats_are_checked_before_values();
-    exported_depth_has_an_end();
     values_in_null_slots_are_not_exported();
     views_in_null_slots_are_cleared();
     each_allocation_is_refused();

@@ -40,7 +40,6 @@ const char *sel_status_string(sel_status status) {
         {SEL_ERROR_ARROW_CHILDREN, "wrong number of Arrow children, or a missing one"},
         {SEL_ERROR_ARROW_LENGTH, "an Arrow length, offset or null count is out of range, or a child is too short"},
         {SEL_ERROR_ARROW_DICTIONARY, "dictionary-encoded Arrow arrays are not supported"},
-        {SEL_ERROR_ARROW_DEPTH, "more than 256 levels of nesting"},
         {SEL_ERROR_ARROW_RANGE, "a value or offset that the Arrow format cannot represent"},
         /* end: written by tools/statuses.py */
     };

@@ -4,8 +4,14 @@
 
 #include "sel.h"
 
-/* an allocation was refused in this run of a test, so that a column may be missing */
+/* An allocation was refused in this run of a test, so that a column may be missing. */
 extern bool refused;
+
+/* Refuses the allocation with this number, counted from 0 from now on; none if it is negative. Sets `refused` to false. */
+void refuse(long number);
+
+/* Returns the number of blocks that are not freed. */
+long blocks_in_use(void);
 
 /* Tests whether an allocation was refused since the last check. */
 bool was_refused(void);
@@ -13,19 +19,25 @@ bool was_refused(void);
 /* Tests whether the status is the wanted one, or out of memory exactly if an allocation was refused since the last check. */
 bool gives(sel_status status, sel_status wanted);
 
-void is(bool holds, const char *what, int line);
+void is_at(bool holds, const char *what, const char *file, int line);
 
-#define IS(holds) is((holds), #holds, __LINE__)
+#define IS(holds) is_at((holds), #holds, __FILE__, __LINE__)
 
 /* The same for a call that succeeds. */
 bool done(sel_status status);
 
-#define DONE(call) is(done(call), #call, __LINE__)
+#define DONE(call) is_at(done(call), #call, __FILE__, __LINE__)
 
 extern const uint8_t no_bits[1];
 
 /* The view of up to 12 bytes, and one of more of them in a data buffer. */
 sel_view view_of(const char *text, uint32_t len, uint32_t offset);
+
+/* Runs each test, then again with each of its allocations refused in turn, and checks that all blocks are freed. */
+void run_tests(void (*const *tests)(void), size_t count);
+
+/* Prints the number of tests, refused allocations and failures; returns the exit status. */
+int finish(void);
 
 /* test_several.c */
 void test_choices(void);

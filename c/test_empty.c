@@ -7,7 +7,7 @@
 /* Tests whether a call made a column of `len` rows of a type, and frees it. */
 static void makes(sel_status status, sel_column *out, sel_type_id type, size_t len, int line) {
     const bool holds = done(status) && (status != SEL_OK || (sel_type_of(out) == type && sel_len(out) == len && sel_null_count(out) == 0));
-    is(holds, "a column from null pointers", line);
+    is_at(holds, "a column from null pointers", __FILE__, line);
     sel_free(out);
 }
 
@@ -55,6 +55,7 @@ static void test_empty_bytes(void) {
     IS(gives(sel_string_view_new(far, 1, refs, 1, SEL_ALL_VALID, &out), SEL_ERROR_VIEW_RANGE));
     child = empty_of("i8");
     if (child.at != NULL) MAKES(sel_list_new(zeros, 2, SEL_ALL_VALID, &child, &out), SEL_TYPE_LIST, 1);
+    sel_free(&child);
     child = empty_of("i8");
     if (child.at != NULL) MAKES(sel_fixed_size_list_new(2, 0, SEL_ALL_VALID, &child, &out), SEL_TYPE_FIXED_SIZE_LIST, 0);
     sel_free(&child);

@@ -46,8 +46,8 @@ static bool prints(sel_column *column, const char *text) {
 
 /* A call is done and its answer has the text; the answer is freed. */
 static void answers(sel_status status, sel_column *out, const char *text, int line) {
-    is(done(status), "the call is done", line);
-    is(status != SEL_OK || prints(out, text), text, line);
+    is_at(done(status), "the call is done", __FILE__, line);
+    is_at(status != SEL_OK || prints(out, text), text, __FILE__, line);
     sel_free(out);
 }
 
@@ -287,10 +287,10 @@ static void reads(const char *dtype, const char *text, const char *printed, sel_
     bool equal = false;
     sel_column out = {0};
     sel_status status = parse(dtype, text, &at, &out);
-    is(done(status) && at == 77 && (out.at == NULL) == (status != SEL_OK), dtype, line);
+    is_at(done(status) && at == 77 && (out.at == NULL) == (status != SEL_OK), dtype, __FILE__, line);
     if (status == SEL_OK && made->at != NULL) {
-        is(sel_equal_rows(&out, made, &equal) == SEL_OK && equal, text, line);
-        is(sel_type_of(&out) == sel_type_of(made) && prints(&out, printed), printed, line);
+        is_at(sel_equal_rows(&out, made, &equal) == SEL_OK && equal, text, __FILE__, line);
+        is_at(sel_type_of(&out) == sel_type_of(made) && prints(&out, printed), printed, __FILE__, line);
     }
     sel_free(&out);
     sel_free(made);
@@ -329,9 +329,9 @@ static void misreads(sel_status status, const char *dtype, const char *text, siz
     size_t at = 77;
     const void *const before = out->at;
     sel_status answer = parse(dtype, text, &at, out);
-    is(gives(answer, status), text, line);
-    is(at == (answer == status ? place : 77), dtype, line);
-    is(out->at == before && prints(out, "[1,2]"), "the column stays", line);
+    is_at(gives(answer, status), text, __FILE__, line);
+    is_at(at == (answer == status ? place : 77), dtype, __FILE__, line);
+    is_at(out->at == before && prints(out, "[1,2]"), "the column stays", __FILE__, line);
 }
 
 #define MISREADS(status, dtype, text, place) misreads((status), (dtype), (text), (place), &out, __LINE__)
@@ -372,12 +372,13 @@ static void lists_of_nulls(const int64_t *offsets, size_t len, uint8_t bits, sel
     sel_column child = {0};
     DONE(sel_null_new((size_t)offsets[len], &child));
     IS(child.at == NULL || done(sel_list_new(offsets, len + 1, &bits, 1, true, &child, out)));
+    sel_free(&child);
 }
 
 /* Checks the status of a call and the length of its result, which is freed. */
 static void has_rows(sel_status status, sel_status wanted, size_t len, sel_column *out, int line) {
-    is(gives(status, wanted), "the status of a limit", line);
-    is(sel_len(out) == (status == SEL_OK ? len : 0), "the length of the result", line);
+    is_at(gives(status, wanted), "the status of a limit", __FILE__, line);
+    is_at(sel_len(out) == (status == SEL_OK ? len : 0), "the length of the result", __FILE__, line);
     sel_free(out);
 }
 

@@ -148,8 +148,6 @@ typedef enum sel_status {
     SEL_ERROR_ARROW_LENGTH = 68,
     /* A dictionary-encoded array. */
     SEL_ERROR_ARROW_DICTIONARY = 69,
-    /* More than 256 levels of children. */
-    SEL_ERROR_ARROW_DEPTH = 70,
     /* A value or an offset that the format cannot represent. */
     SEL_ERROR_ARROW_RANGE = 71,
     /* Not returned: makes the type 32 bits wide. */

@@ -57,7 +57,8 @@ struct ArrowArray {
  * producer ensures that the buffers are as long as the length, the offset and the offsets buffer say: no call can
  * check that.
  *
- * Errors: SEL_ERROR_OUT_OF_MEMORY, the status of the rule of columns that is broken, or a SEL_ERROR_ARROW_ status. */
+ * Errors: SEL_ERROR_OUT_OF_MEMORY, SEL_ERROR_TOO_DEEP (a list or struct below 128 others, whose children are not read),
+ * the status of the rule of columns that is broken, or a SEL_ERROR_ARROW_ status. */
 sel_status sel_import(struct ArrowArray *array, const struct ArrowSchema *schema, sel_column *out);
 
 /* Writes a copy of the column to two structures, which the caller releases. The column is unchanged.
@@ -66,9 +67,9 @@ sel_status sel_import(struct ArrowArray *array, const struct ArrowSchema *schema
  * ones have no format (SEL_ERROR_ARROW_FORMAT). Fields are named by their numbers, "0", "1", ... A 128-bit integer or
  * a view in a null slot, also in that of a list or struct above it, is exported as 0 or as an empty view.
  *
- * Errors: SEL_ERROR_NO_COLUMN, SEL_ERROR_OUT_OF_MEMORY, SEL_ERROR_ARROW_DEPTH, SEL_ERROR_ARROW_FORMAT; then
- * SEL_ERROR_ARROW_RANGE if a row shows an integer with more than 38 digits or a view beyond byte 2,147,483,647 of a
- * data buffer. On error there is nothing to release. */
+ * Errors: SEL_ERROR_NO_COLUMN, SEL_ERROR_OUT_OF_MEMORY, SEL_ERROR_ARROW_FORMAT; then SEL_ERROR_ARROW_RANGE if a row
+ * shows an integer with more than 38 digits or a view beyond byte 2,147,483,647 of a data buffer. On error there is
+ * nothing to release. */
 sel_status sel_export(const sel_column *of, struct ArrowArray *array, struct ArrowSchema *schema);
 
 #ifdef __cplusplus

@@ -35,7 +35,7 @@ struct call {
     sel_status (*run)(const struct arguments *given, sel_column *columns, struct outcome *out);
     /* Returns whether these arguments can be given by this call; NULL: always. */
     bool (*applies)(const struct arguments *given);
-    bool takes_columns;         /* it takes the columns that it is given */
+    bool takes_columns;         /* it takes the columns that it is given, if it succeeds */
     bool takes_no_memory;       /* the header says so */
 };
 

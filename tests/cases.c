@@ -17,7 +17,7 @@ struct attempt {
     const struct wanted *wanted;
     size_t place;                       /* which of CASE_COUNT layouts of all columns */
     sel_column columns[MOST_COLUMNS];
-    sel_column shares[MOST_COLUMNS];    /* of columns that the call takes */
+    sel_column shares[MOST_COLUMNS];    /* of columns that the call takes if it succeeds */
 };
 
 /* ---- layouts of all columns of a call ---- */
@@ -71,6 +71,11 @@ static bool check_plain(const struct rows *rows, sel_column *column) {
     return check_has_validity(column, rows->type->kind != SEL_TYPE_NULL && null_count(rows) > 0, "an argument in the plain layout");
 }
 
+/* Returns whether the columns of a call were built, and not taken since. */
+static bool has_columns(const struct attempt *attempt) {
+    return attempt->given->column_count == 0 || attempt->columns[0].at != NULL;
+}
+
 /* Builds the columns of a call; shares of them are kept if `is_shared`. */
 static bool build_columns(struct attempt *attempt, bool is_shared) {
     for (size_t i = 0; i < attempt->given->column_count; i += 1) {
@@ -89,18 +94,25 @@ static bool build_columns(struct attempt *attempt, bool is_shared) {
     return true;
 }
 
-/* Checks that a call left its columns as they were, or took them. One that takes several may leave some if it fails. */
+/* Returns whether a call takes its columns: only some calls do, and only if they succeed. */
+static bool takes_columns(const struct attempt *attempt, sel_status status) {
+    return attempt->call->takes_columns && status == SEL_OK;
+}
+
+/* Checks that a call left its columns as they were, or took them. */
 static bool check_columns(struct attempt *attempt, sel_status status) {
-    bool takes_columns = attempt->call->takes_columns;
-    bool takes_all = takes_columns && (status == SEL_OK || attempt->call->letters[0] != 'c');
+    bool is_taken = takes_columns(attempt, status);
     for (size_t i = 0; i < attempt->given->column_count; i += 1) {
-        sel_column *column = takes_columns ? &attempt->shares[i] : &attempt->columns[i];
+        const struct rows *rows = &attempt->given->columns[i];
         char what[60];
         snprintf(what, sizeof what, "argument %zu after the call", i + 1);
-        if (takes_all && attempt->columns[i].at != NULL) {
-            return fail("argument %zu was not taken", i + 1);
+        if (is_taken != (attempt->columns[i].at == NULL)) {
+            return fail("argument %zu was %staken", i + 1, is_taken ? "not " : "");
         }
-        if (column->at != NULL && !check_column(column, &attempt->given->columns[i], what)) {
+        if (!is_taken && !check_column(&attempt->columns[i], rows, what)) {
+            return false;
+        }
+        if (attempt->shares[i].at != NULL && !check_column(&attempt->shares[i], rows, what)) {
             return false;
         }
     }
@@ -134,6 +146,7 @@ static bool check_in_use(long before) {
 static bool call_once(struct attempt *attempt, long refuse, bool and_later, long *refused) {
     struct arena arena = {NULL};
     struct outcome before, after;
+    sel_status status = SEL_OK;
     long in_use = memory_in_use();
     bool is_right = begin_outcome(&arena, attempt->wanted, is_filled(attempt->place), &before);
     after = before;
@@ -141,25 +154,25 @@ static bool call_once(struct attempt *attempt, long refuse, bool and_later, long
         if (refuse >= 0) {
             memory_refuse(refuse, and_later);
         }
-        sel_status status = attempt->call->run(attempt->given, attempt->columns, &after);
+        status = attempt->call->run(attempt->given, attempt->columns, &after);
         *refused = refuse >= 0 ? memory_allow() : 0;
         is_right = check_call(attempt, status, *refused, &before, &after) && check_columns(attempt, status);
     }
     end_outcome(&after);
     arena_free(&arena);
-    return is_right && (attempt->call->takes_columns || check_in_use(in_use));
+    return is_right && (takes_columns(attempt, status) || check_in_use(in_use));
 }
 
-/* Calls with columns of their own, if the call takes them, or with those that are there. */
+/* Calls with the columns that are there: a call that failed is tried again with the same ones. Builds others if the call before
+ * took them, and shares of them, so that they can be checked when they are taken again. */
 static bool refuse_once(struct attempt *attempt, long number, bool and_later, long *refused) {
-    if (!attempt->call->takes_columns) {
-        return call_once(attempt, number, and_later, refused);
+    if (!has_columns(attempt)) {
+        free_columns(attempt);
+        if (!build_columns(attempt, true)) {
+            return false;
+        }
     }
-    free_columns(attempt);
-    long in_use = memory_in_use();
-    bool is_right = build_columns(attempt, true) && call_once(attempt, number, and_later, refused);
-    free_columns(attempt);
-    return is_right && check_in_use(in_use);
+    return call_once(attempt, number, and_later, refused);
 }
 
 /* Calls with each allocation refused in turn, until none is reached. */

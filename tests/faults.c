@@ -197,10 +197,21 @@ WRAP(sel_equal_rows, const sel_column *of, const sel_column *other, bool *equal)
 WRAP(sel_list_new, const int64_t *offsets, size_t len, const uint8_t *bits, size_t bits_len, bool has_bits, sel_column *child, sel_column *out) {
     sel_column other = {0};
     if (!has_fault("child_left")) {
-        return __real_sel_list_new(offsets, len, bits, bits_len, has_bits, child, out);
+        sel_status status = __real_sel_list_new(offsets, len, bits, bits_len, has_bits, child, out);
+        if (has_fault("child_taken") && status != SEL_OK) {
+            sel_free(child);
+        }
+        if (has_fault("child_changed") && status != SEL_OK) {
+            shorten(child);
+        }
+        return status;
     }
     sel_status status = sel_share(child, &other);
-    return status == SEL_OK ? __real_sel_list_new(offsets, len, bits, bits_len, has_bits, &other, out) : status;
+    if (status == SEL_OK) {
+        status = __real_sel_list_new(offsets, len, bits, bits_len, has_bits, &other, out);
+        sel_free(&other);
+    }
+    return status;
 }
 
 WRAP(sel_export, const sel_column *of, struct ArrowArray *array, struct ArrowSchema *schema) {

@@ -286,7 +286,11 @@ static sel_status build_lists(struct builder *builder, const struct slots *slots
         items[len] = padding(builder, item, k);
     }
     sel_status status = build_child(builder, item, items, len, &child);
-    return status == SEL_OK ? sel_list_new(offsets, slots->len + 1, VALIDITY(slots), &child, out) : status;
+    if (status == SEL_OK) {
+        status = sel_list_new(offsets, slots->len + 1, VALIDITY(slots), &child, out);
+    }
+    sel_free(&child);
+    return status;
 }
 
 static sel_status build_fixed_size_lists(struct builder *builder, const struct slots *slots, sel_column *out) {
@@ -298,7 +302,11 @@ static sel_status build_fixed_size_lists(struct builder *builder, const struct s
         items[i] = &slots->values[i / size]->items[i % size];
     }
     sel_status status = build_child(builder, item, items, slots->len * size, &child);
-    return status == SEL_OK ? sel_fixed_size_list_new(size, slots->len, VALIDITY(slots), &child, out) : status;
+    if (status == SEL_OK) {
+        status = sel_fixed_size_list_new(size, slots->len, VALIDITY(slots), &child, out);
+    }
+    sel_free(&child);
+    return status;
 }
 
 static sel_status build_structs(struct builder *builder, const struct slots *slots, sel_column *out) {

@@ -35,6 +35,7 @@ BEGUN = time.monotonic()
 SETUP = {
     "valgrind": "finds reads and writes outside of a buffer, and leaks, in the C library",
     "sanitizers": "find the same, and undefined behaviour, in the C code around the library",
+    "tsan": "finds unsynchronized accesses of several threads in the C code around the library",
     "c++": "compiles the headers as C++",
     "numpy": "computes the results that the benchmark compares with",
     "dask": "runs the example on partitions",

@@ -2,16 +2,18 @@
 
 from __future__ import annotations
 
+import hashlib
 import os
 import pathlib
 import re
 import sys
-from typing import Dict, List, NamedTuple, Optional, Set
+from typing import Dict, Iterable, List, NamedTuple, Optional, Set
 
 from prover import crates_below, lines
 
 ROOT = pathlib.Path(__file__).resolve().parent.parent
-BUILD = ROOT / "build"
+# the folder of the libraries that are built; tools/dist --check names another one
+BUILD = pathlib.Path(os.environ.get("SEL_BUILD") or ROOT / "build")
 
 # changes when a function of the header is removed or changes its meaning
 ABI = 1
@@ -20,8 +22,9 @@ SONAME = f"libsel.so.{ABI}"
 # the C files of the library, around the proved calls
 SOURCES = [ROOT / "c" / name for name in ("arrow.c", "calls.c", "status.c")]
 
-# the toolchain's default
+# the toolchain's default, and the newer processors for which the loader of glibc takes another library if it is installed
 LEAST_CPU = "x86-64-v2"
+NEWER_CPUS = ("x86-64-v3",)
 
 
 class File(NamedTuple):
@@ -50,42 +53,70 @@ def filled(template: str, prefix: str) -> bytes:
     return text.encode()
 
 
-def built_for() -> str:
-    """Returns the processors that the library in build/ was built for."""
-    path = BUILD / "cpu"
-    return path.read_text().strip() if path.exists() else LEAST_CPU
+def folder_of(cpu: str, build: pathlib.Path = BUILD) -> pathlib.Path:
+    """Returns the folder of the library for these processors, which is build/ for the least ones."""
+    return build if cpu == LEAST_CPU else build / cpu
+
+
+def built_for(build: pathlib.Path = BUILD) -> List[str]:
+    """Returns the processors for which libraries are built that `install` copies: the least ones, then newer ones."""
+    return [cpu for cpu in (LEAST_CPU, *NEWER_CPUS) if (folder_of(cpu, build) / "libsel.so").exists()]
 
 
 def require_built(build: pathlib.Path, cpu: Optional[str] = None) -> None:
-    """Exits if a library is missing, or was built for other processors than those asked for."""
+    """Exits if the library is missing, or the one for the processors asked for."""
     for name in ("libsel.a", "libsel.so"):
         if not (build / name).exists():
             sys.exit(f"build/{name} is missing: run `make lib` first")
-    if cpu not in (None, built_for()):
-        sys.exit(f"the library in build/ was built for {built_for()}: run `make lib CPU={cpu}` first")
+    if cpu is not None and cpu not in built_for(build):
+        sys.exit(f"no library is built for {cpu}: run `make lib CPU={cpu}` first")
+    for newer in built_for(build):
+        if (folder_of(newer, build) / "sources").read_text() != (build / "sources").read_text():
+            sys.exit(f"build/{newer}/ and build/ were built from different sources: run `make lib` and `make lib CPU={newer}` first")
 
 
-def newer_sources() -> List[pathlib.Path]:
-    """Returns the sources of the library that were modified after it was built."""
-    built = (BUILD / "libsel.a").stat().st_mtime
+def sources() -> List[pathlib.Path]:
+    """Returns the sources of the library."""
     crates = [*crates_below("sel_c", {name: used for name, (_, used) in lines().items()}), "sel_c"]
-    sources = [path for crate in crates for path in sorted((ROOT / "crates" / crate / "src").rglob("*.rt"))]
-    sources += [*SOURCES, *(ROOT / "include").glob("*.h")]
-    return [path for path in sources if path.stat().st_mtime > built]
+    rattle = [path for crate in crates for path in sorted((ROOT / "crates" / crate / "src").rglob("*.rt"))]
+    return [*rattle, *SOURCES, *sorted((ROOT / "include").glob("*.h"))]
+
+
+def hash_of_sources() -> str:
+    """Returns a number of the contents of all sources, which is kept next to each library that is built from them."""
+    found = hashlib.sha256()
+    for path in sources():
+        found.update(f"{path.relative_to(ROOT)} {hashlib.sha256(path.read_bytes()).hexdigest()}\n".encode())
+    return found.hexdigest()
+
+
+def newer_sources(cpu: str) -> List[pathlib.Path]:
+    """Returns the sources of the library that were modified after it was built for these processors."""
+    built = (folder_of(cpu) / "libsel.a").stat().st_mtime
+    return [path for path in sources() if path.stat().st_mtime > built]
 
 
 def report_newer_sources() -> None:
-    found = newer_sources()
-    if found:
-        more = f" and {len(found) - 1} more" if len(found) > 1 else ""
-        print(f"note: {found[0].relative_to(ROOT)}{more} modified after build/libsel.a; `make lib` builds it anew", file=sys.stderr)
+    for cpu in built_for():
+        found = newer_sources(cpu)
+        if found:
+            more = f" and {len(found) - 1} more" if len(found) > 1 else ""
+            archive = os.path.relpath(folder_of(cpu) / "libsel.a", ROOT)
+            command = "make lib" if cpu == LEAST_CPU else f"make lib CPU={cpu}"
+            print(f"note: {found[0].relative_to(ROOT)}{more} modified after {archive}; `{command}` builds it anew", file=sys.stderr)
 
 
-def paths() -> List[str]:
-    """Returns the paths of the files of an installed library below the prefix."""
+def path_for(cpu: str) -> str:
+    """Returns the path of the shared library for newer processors, where the loader looks for it before it looks in lib/."""
+    return f"lib/glibc-hwcaps/{cpu}/{SONAME}"
+
+
+def paths(cpus: Iterable[str]) -> List[str]:
+    """Returns the paths of the files of a library below the prefix that is installed for these processors."""
     headers = [f"include/{path.name}" for path in sorted((ROOT / "include").glob("*.h"))]
     cmake = [f"lib/cmake/sel/{name}" for name in ("selConfig.cmake", "selConfigVersion.cmake")]
-    return [*headers, "lib/libsel.a", f"lib/{SONAME}", "lib/libsel.so", "lib/pkgconfig/sel.pc", *cmake]
+    newer = [path_for(cpu) for cpu in NEWER_CPUS if cpu in cpus]
+    return [*headers, "lib/libsel.a", f"lib/{SONAME}", "lib/libsel.so", "lib/pkgconfig/sel.pc", *cmake, *newer]
 
 
 def file_at(path: str, prefix: str) -> File:
@@ -96,14 +127,15 @@ def file_at(path: str, prefix: str) -> File:
     if name == "libsel.so":
         return File(link=SONAME)
     if name == SONAME:
-        return File((BUILD / "libsel.so").read_bytes(), 0o755)
+        cpu = next((cpu for cpu in NEWER_CPUS if path == path_for(cpu)), LEAST_CPU)
+        return File((folder_of(cpu) / "libsel.so").read_bytes(), 0o755)
     if name == "libsel.a":
         return File((BUILD / name).read_bytes())
     return File(filled(f"{name}.in", prefix))
 
 
 def files(prefix: str) -> Dict[str, File]:
-    return {path: file_at(path, prefix) for path in paths()}
+    return {path: file_at(path, prefix) for path in paths(built_for())}
 
 
 def write(path: pathlib.Path, file: File) -> None:
@@ -124,23 +156,32 @@ def staged(prefix: str, destdir: str) -> pathlib.Path:
 
 
 def install(prefix: str, destdir: str, cpu: Optional[str]) -> int:
-    """Copies the library that is built, its headers, sel.pc and the files for CMake. Returns the number of files."""
+    """Copies the libraries that are built, the headers, sel.pc and the files for CMake. Returns the number of files."""
     require_built(BUILD, cpu)
     report_newer_sources()
-    folder = staged(prefix, destdir)
-    for path, file in files(prefix).items():
+    folder, found = staged(prefix, destdir), files(prefix)
+    # the loader would prefer one of another version
+    remove(folder, [path_for(cpu) for cpu in NEWER_CPUS if path_for(cpu) not in found])
+    for path, file in found.items():
         write(folder / path, file)
-    return len(paths())
+    return len(found)
+
+
+def remove(folder: pathlib.Path, names: List[str]) -> int:
+    """Removes those of these files that are there, and the folders that are only of this library if they are empty then. Returns the number
+    of removed files."""
+    removed = 0
+    for name in names:
+        if (folder / name).is_symlink() or (folder / name).exists():
+            (folder / name).unlink()
+            removed += 1
+    own = [folder / "lib" / "cmake" / "sel", *[(folder / path_for(cpu)).parent for cpu in NEWER_CPUS], folder / "lib" / "glibc-hwcaps"]
+    for path in own:
+        if path.is_dir() and not any(path.iterdir()):
+            path.rmdir()
+    return removed
 
 
 def uninstall(prefix: str, destdir: str) -> int:
-    """Removes the files that `install` copies, and the folder lib/cmake/sel if it is empty then. Returns the number of removed files."""
-    folder, removed = staged(prefix, destdir), 0
-    for path in paths():
-        if (folder / path).is_symlink() or (folder / path).exists():
-            (folder / path).unlink()
-            removed += 1
-    own = folder / "lib" / "cmake" / "sel"
-    if own.is_dir() and not any(own.iterdir()):
-        own.rmdir()
-    return removed
+    """Removes the files that `install` copies. Returns the number of removed files."""
+    return remove(staged(prefix, destdir), paths(NEWER_CPUS))

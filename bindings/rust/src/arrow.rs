@@ -154,7 +154,8 @@ impl Column {
     /// # Errors
     /// [`Error::Arrow`] if the array or the schema is released, has an unsupported format, other buffers or children than
     /// its format has, or a length, an offset or a null count out of range; [`Error::Malformed`] if its values break a rule
-    /// of columns, or for more than 4,294,967,295 rows; [`Error::OutOfMemory`].
+    /// of columns, or for more than 4,294,967,295 rows; [`Error::Limit`] for more than 128 levels of lists and structs;
+    /// [`Error::OutOfMemory`].
     ///
     /// # Safety
     /// The array is of the type that the schema describes, and its buffers are as long as this type and its length
@@ -182,8 +183,8 @@ impl Column {
     /// of struct values have their numbers as names.
     ///
     /// # Errors
-    /// [`Error::Arrow`] for more than 256 levels, for unsigned 128-bit integers, which have no format, for a signed one of
-    /// more than 38 digits, and for an offset in a data buffer of more than 2,147,483,647; [`Error::OutOfMemory`].
+    /// [`Error::Arrow`] for unsigned 128-bit integers, which have no format, for a signed one of more than 38 digits, and
+    /// for an offset in a data buffer of more than 2,147,483,647; [`Error::OutOfMemory`].
     ///
     /// ```
     /// # use sel::{Column, Error};

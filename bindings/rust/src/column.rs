@@ -11,7 +11,26 @@ use std::{fmt, ptr};
 
 /// A column of rows, each of which is a value or null. It is immutable.
 ///
-/// Slices, clones and children share the memory of their column. A column is neither `Send` nor `Sync`.
+/// Slices, clones and children share the memory of their column.
+///
+/// # Threads
+/// A column is [`Send`] and [`Sync`]: several threads may read one column at the same time, and columns that share
+/// memory may be moved to, and dropped on, different threads. Nothing is locked; the reference counts of shared memory
+/// are atomic.
+///
+/// ```
+/// # use sel::{Column, Error};
+/// # fn main() -> Result<(), Error> {
+/// let (ages, mask) = (Column::from_values(&[31i64, 27, 45])?, Column::from_bools(&[true, false, true])?);
+/// let kept: Vec<Result<Column, Error>> = std::thread::scope(|scope| {
+///     let threads: Vec<_> = (0..4).map(|_| scope.spawn(|| ages.filter(&mask))).collect();
+///     threads.into_iter().flat_map(|thread| thread.join()).collect()
+/// });
+/// assert_eq!(kept.len(), 4);
+/// assert!(kept.into_iter().all(|column| column == Column::from_values(&[31i64, 45])));
+/// # Ok(())
+/// # }
+/// ```
 ///
 /// # Equality
 /// Two columns are equal by `==` if they have the same type and the same rows; values in null slots are ignored.
@@ -37,8 +56,8 @@ pub struct Column {
 impl Column {
     /// Returns the column that a function writes into an empty handle.
     pub(crate) fn made(call: impl FnOnce(*mut Handle) -> u32) -> Result<Column, Error> {
-        let handle = OwnedHandle::empty();
-        checked(call(handle.at()))?;
+        let mut handle = OwnedHandle::empty();
+        checked(call(handle.at_mut()))?;
         Column::of(handle)
     }
 
@@ -57,14 +76,19 @@ impl Column {
 
     /// Returns the column of a handle; a kind that the crate does not know is an error.
     pub(crate) fn of(handle: OwnedHandle) -> Result<Column, Error> {
-        // SAFETY: the handle is owned, and the function leaves it as it was.
+        // SAFETY: the handle is valid, and the function only reads it.
         let kind = Kind::try_from(unsafe { raw::sel_type_of(handle.at()) })?;
         Ok(Column { handle, kind })
     }
 
-    /// Returns the pointer that the library's functions take.
-    pub(crate) fn at(&self) -> *mut Handle {
+    /// Returns the pointer for functions that read the column.
+    pub(crate) fn at(&self) -> *const Handle {
         self.handle.at()
+    }
+
+    /// Returns the pointer for functions that take the column if they succeed; it is only used to drop the column afterwards.
+    pub(crate) fn at_mut(&mut self) -> *mut Handle {
+        self.handle.at_mut()
     }
 
     pub(crate) fn into_handle(self) -> OwnedHandle {
@@ -107,10 +131,10 @@ impl Column {
     /// # }
     /// ```
     pub fn parse(dtype: &str, rows: &str) -> Result<Column, Error> {
-        let (handle, mut at) = (OwnedHandle::empty(), 0);
+        let (mut handle, mut at) = (OwnedHandle::empty(), 0);
         // SAFETY: both texts are valid for their lengths, and the handle is empty.
         let status =
-            unsafe { raw::sel_parse(dtype.as_ptr(), dtype.len(), rows.as_ptr(), rows.len(), &mut at, handle.at()) };
+            unsafe { raw::sel_parse(dtype.as_ptr(), dtype.len(), rows.as_ptr(), rows.len(), &mut at, handle.at_mut()) };
         match status {
             status::OK => Column::of(handle),
             _ => Err(Error::of_text(status, at)),
@@ -119,7 +143,7 @@ impl Column {
 
     /// Returns the number of rows.
     pub fn len(&self) -> usize {
-        // SAFETY: the handle is owned, and the function leaves it as it was.
+        // SAFETY: the handle is valid, and the function only reads it.
         unsafe { raw::sel_len(self.at()) }
     }
 
@@ -246,8 +270,8 @@ impl Column {
     /// # }
     /// ```
     pub fn equals(&self, other: &Column) -> Result<bool, Error> {
-        let (other, mut is_equal) = (other.try_clone()?, false);
-        // SAFETY: two distinct handles.
+        let mut is_equal = false;
+        // SAFETY: as in `len`; both handles may be the same.
         checked(unsafe { raw::sel_equal_rows(self.at(), other.at(), &mut is_equal) })?;
         Ok(is_equal)
     }

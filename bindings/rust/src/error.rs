@@ -44,7 +44,6 @@ pub(crate) mod status {
     pub(crate) const ARROW_CHILDREN: u32 = 67;
     pub(crate) const ARROW_LENGTH: u32 = 68;
     pub(crate) const ARROW_DICTIONARY: u32 = 69;
-    pub(crate) const ARROW_DEPTH: u32 = 70;
     pub(crate) const ARROW_RANGE: u32 = 71;
     // end: written by tools/statuses.py
 }
@@ -134,7 +133,6 @@ impl Error {
             | status::ARROW_CHILDREN
             | status::ARROW_LENGTH
             | status::ARROW_DICTIONARY
-            | status::ARROW_DEPTH
             | status::ARROW_RANGE => Error::Arrow(status),
             // errors, end: written by tools/statuses.py
             _ => Error::UnknownStatus(status),

@@ -3,35 +3,49 @@
 use crate::column::Column;
 use crate::error::Error;
 use crate::raw::{self, Handle};
-use std::cell::UnsafeCell;
 use std::mem;
 
-/// A handle with a column of its own, or with none.
+/// A handle with a column, which may have other handles too, or with none.
 pub(crate) struct OwnedHandle {
-    // Functions that only read take a mutable pointer too: they move the column out of the handle and back.
-    handle: UnsafeCell<Handle>,
+    handle: Handle,
 }
+
+// SAFETY: a handle is one pointer to a column on the heap, and no function of the library depends on the thread that
+// calls it: `sel.h` ("Threads") allows any thread to read and to free a handle. Handles on several threads may have the
+// same column, or columns that share buffers: columns are never changed, and their reference counts are atomic, so that
+// the last handle frees a column on whatever thread it is.
+unsafe impl Send for OwnedHandle {}
+
+// SAFETY: a shared reference gives only `at`, a pointer to const, and `sel.h` ("Threads") allows functions that take a
+// handle by such a pointer to read the same handle at the same time, from any threads. What writes or frees a handle
+// takes it by `at_mut`, which borrows it mutably, or by value.
+unsafe impl Sync for OwnedHandle {}
 
 impl OwnedHandle {
     /// Returns a handle without a column.
     pub(crate) const fn empty() -> OwnedHandle {
-        OwnedHandle { handle: UnsafeCell::new(Handle::EMPTY) }
+        OwnedHandle { handle: Handle::EMPTY }
     }
 
-    /// Returns the pointer that the library's functions take.
-    pub(crate) fn at(&self) -> *mut Handle {
-        self.handle.get()
+    /// Returns the pointer for functions that read the handle.
+    pub(crate) fn at(&self) -> *const Handle {
+        &self.handle
+    }
+
+    /// Returns the pointer for functions that write the handle.
+    pub(crate) fn at_mut(&mut self) -> *mut Handle {
+        &mut self.handle
     }
 
     fn into_raw(mut self) -> Handle {
-        mem::replace(self.handle.get_mut(), Handle::EMPTY)
+        mem::replace(&mut self.handle, Handle::EMPTY)
     }
 }
 
 impl Drop for OwnedHandle {
     fn drop(&mut self) {
-        // SAFETY: the handle has a column of its own or none, and is not used again.
-        unsafe { raw::sel_free(self.handle.get()) }
+        // SAFETY: the handle has a column or none, and is not used again.
+        unsafe { raw::sel_free(&mut self.handle) }
     }
 }
 
@@ -63,8 +77,13 @@ impl HandleArray {
         Ok(HandleArray { handles })
     }
 
-    /// Returns the pointer to the first handle.
-    pub(crate) fn at(&mut self) -> *mut Handle {
+    /// Returns the pointer to the first handle, for functions that read the handles.
+    pub(crate) fn at(&self) -> *const Handle {
+        self.handles.as_ptr()
+    }
+
+    /// Returns the pointer to the first handle, for functions that write the handles.
+    pub(crate) fn at_mut(&mut self) -> *mut Handle {
         self.handles.as_mut_ptr()
     }
 
@@ -77,7 +96,7 @@ impl HandleArray {
 impl Drop for HandleArray {
     fn drop(&mut self) {
         for handle in &mut self.handles {
-            // SAFETY: each handle has a column of its own or none, and is not used again.
+            // SAFETY: each handle has a column or none, and is not used again.
             unsafe { raw::sel_free(handle) }
         }
     }

@@ -227,7 +227,7 @@ impl Column {
     /// Returns a column of lists, each of which has the row as its only element.
     ///
     /// # Errors
-    /// [`Error::OutOfMemory`].
+    /// [`Error::Limit`] if the column has 128 levels of lists and structs; [`Error::OutOfMemory`].
     ///
     /// ```
     /// # use sel::{Column, Error};
@@ -245,8 +245,7 @@ impl Column {
 type IfThenElse = unsafe extern "C" fn(*const Handle, *const Handle, *const Handle, *mut Handle) -> u32;
 
 fn if_then_else_by(call: IfThenElse, mask: &Column, if_true: &Column, if_false: &Column) -> Result<Column, Error> {
-    let (if_true, if_false) = (if_true.try_clone()?, if_false.try_clone()?);
-    // SAFETY: four distinct handles.
+    // SAFETY: the handles are valid; those that are read may be the same, and `out` is another one.
     Column::made(|out| unsafe { call(mask.at(), if_true.at(), if_false.at(), out) })
 }
 
@@ -392,9 +391,9 @@ pub fn choose_of_two(mask: &Column, if_true: &Column, if_false: &Column) -> Resu
 /// # }
 /// ```
 pub fn flatten(columns: &[&Column], widths: &[usize], height: usize) -> Result<Column, Error> {
-    let mut handles = HandleArray::shares(columns)?;
+    let handles = HandleArray::shares(columns)?;
     Column::made(|out| {
-        // SAFETY: the handles and the widths are valid for their lengths, and all handles are distinct.
+        // SAFETY: the handles and the widths are valid for their lengths, and `out` is another handle.
         unsafe { raw::sel_flatten(handles.at(), handles.len(), widths.as_ptr(), widths.len(), height, out) }
     })
 }
@@ -419,10 +418,10 @@ pub fn collect_rows(columns: &[&Column], picks: &[Option<(u32, u32)>]) -> Result
     let validity = Validity::of_options(picks)?;
     let rows = picks.iter().map(|pick| pick.unwrap_or_default());
     let picks = collect(rows.map(|(source, row)| RawRowRef { source, row }))?;
-    let mut handles = HandleArray::shares(columns)?;
+    let handles = HandleArray::shares(columns)?;
     Column::made_with(&validity, |bits, bits_len, has_bits, out| {
         let (at, count) = (handles.at(), handles.len());
-        // SAFETY: the handles, picks and bits are valid for their lengths, and all handles are distinct.
+        // SAFETY: the handles, picks and bits are valid for their lengths, and `out` is another handle.
         unsafe { raw::sel_collect_rows(at, count, picks.as_ptr(), picks.len(), bits, bits_len, has_bits, out) }
     })
 }
@@ -445,9 +444,8 @@ pub fn collect_rows(columns: &[&Column], picks: &[Option<(u32, u32)>]) -> Result
 /// # }
 /// ```
 pub fn propagate_dictionary(keys: &Column, values: &Column) -> Result<(Column, Column), Error> {
-    let values = values.try_clone()?;
-    let (new_keys, new_values) = (OwnedHandle::empty(), OwnedHandle::empty());
-    // SAFETY: four distinct handles.
-    checked(unsafe { raw::sel_propagate_dictionary(keys.at(), values.at(), new_keys.at(), new_values.at()) })?;
+    let (mut new_keys, mut new_values) = (OwnedHandle::empty(), OwnedHandle::empty());
+    // SAFETY: the handles are valid, and the two that are written are others.
+    checked(unsafe { raw::sel_propagate_dictionary(keys.at(), values.at(), new_keys.at_mut(), new_values.at_mut()) })?;
     Ok((Column::of(new_keys)?, Column::of(new_values)?))
 }

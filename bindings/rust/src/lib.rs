@@ -40,7 +40,9 @@
 //! The crate has no dependencies and requires Rust 1.73. It links `libsel.a` from the folder that the environment variable
 //! `SEL_LIBRARY_DIR` names at build time, or else from the checkout's `build`.
 //!
-//! A column is neither `Send` nor `Sync`: columns that share memory stay on one thread.
+//! # Threads
+//! A [`Column`] is `Send` and `Sync`: threads may read the same column at the same time, and move and drop columns that
+//! share memory. `examples/threads.rs` filters the columns of a batch on several threads.
 //!
 //! No function panics, except that cloning, comparison and formatting cannot return an error: see [`Column`].
 //!

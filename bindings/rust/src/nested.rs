@@ -12,8 +12,9 @@ impl Column {
     /// `validity[i]` is false.
     ///
     /// # Errors
-    /// [`Error::Malformed`] if there is no offset, one is negative, decreases or exceeds the length of the child, or the
-    /// validity has not one item for each list; [`Error::OutOfMemory`].
+    /// [`Error::Limit`] if the child has 128 levels of lists and structs; [`Error::Malformed`] if there is no offset, one is
+    /// negative, decreases or exceeds the length of the child, or the validity has not one item for each list;
+    /// [`Error::OutOfMemory`]. The child is dropped.
     ///
     /// ```
     /// # use sel::{Column, Error};
@@ -24,11 +25,12 @@ impl Column {
     /// # Ok(())
     /// # }
     /// ```
-    pub fn new_list(offsets: &[i64], child: Column, validity: Option<&[bool]>) -> Result<Column, Error> {
+    pub fn new_list(offsets: &[i64], mut child: Column, validity: Option<&[bool]>) -> Result<Column, Error> {
         let validity = Validity::new(validity, offsets.len().saturating_sub(1))?;
         Column::made_with(&validity, |bits, bits_len, has_bits, out| {
-            // SAFETY: both slices are valid for their lengths, and the handles are distinct.
-            unsafe { raw::sel_list_new(offsets.as_ptr(), offsets.len(), bits, bits_len, has_bits, child.at(), out) }
+            // SAFETY: both slices are valid for their lengths, and the handles are distinct. The child is empty
+            // afterwards, or unchanged on an error; dropping it is right for both.
+            unsafe { raw::sel_list_new(offsets.as_ptr(), offsets.len(), bits, bits_len, has_bits, child.at_mut(), out) }
         })
     }
 
@@ -49,8 +51,9 @@ impl Column {
     /// null where `validity[i]` is false.
     ///
     /// # Errors
-    /// [`Error::Malformed`] if the child has not `len * list_size` rows, one of both numbers exceeds 4,294,967,295, or the
-    /// validity has not one item for each list; [`Error::OutOfMemory`].
+    /// [`Error::Limit`] if the child has 128 levels of lists and structs; [`Error::Malformed`] if the child has not
+    /// `len * list_size` rows, one of both numbers exceeds 4,294,967,295, or the validity has not one item for each list;
+    /// [`Error::OutOfMemory`]. The child is dropped.
     ///
     /// ```
     /// # use sel::{Column, Error};
@@ -64,12 +67,13 @@ impl Column {
     pub fn new_fixed_size_list(
         list_size: usize,
         len: usize,
-        child: Column,
+        mut child: Column,
         validity: Option<&[bool]>,
     ) -> Result<Column, Error> {
         Column::made_with(&Validity::new(validity, len)?, |bits, bits_len, has_bits, out| {
-            // SAFETY: the bits are valid for their length, and the handles are distinct.
-            unsafe { raw::sel_fixed_size_list_new(list_size, len, bits, bits_len, has_bits, child.at(), out) }
+            // SAFETY: the bits are valid for their length, and the handles are distinct; the child is dropped as in
+            // `new_list`.
+            unsafe { raw::sel_fixed_size_list_new(list_size, len, bits, bits_len, has_bits, child.at_mut(), out) }
         })
     }
 
@@ -89,8 +93,9 @@ impl Column {
     /// Makes a column of `len` struct values with these fields; row `i` is null where `validity[i]` is false.
     ///
     /// # Errors
-    /// [`Error::Malformed`] if a field has not `len` rows, `len` exceeds 4,294,967,295, or the validity has not one item
-    /// for each row; [`Error::OutOfMemory`].
+    /// [`Error::Limit`] if a field has 128 levels of lists and structs; [`Error::Malformed`] if a field has not `len` rows,
+    /// `len` exceeds 4,294,967,295, or the validity has not one item for each row; [`Error::OutOfMemory`]. The fields are
+    /// dropped.
     ///
     /// ```
     /// # use sel::{Column, Error};
@@ -103,8 +108,10 @@ impl Column {
     pub fn new_struct(len: usize, fields: Vec<Column>, validity: Option<&[bool]>) -> Result<Column, Error> {
         let (validity, mut handles) = (Validity::new(validity, len)?, HandleArray::of(fields)?);
         Column::made_with(&validity, |bits, bits_len, has_bits, out| {
-            // SAFETY: the bits and handles are valid for their lengths, and all handles are distinct.
-            unsafe { raw::sel_struct_new(len, bits, bits_len, has_bits, handles.at(), handles.len(), out) }
+            let (at, count) = (handles.at_mut(), handles.len());
+            // SAFETY: the bits and handles are valid for their lengths, and all handles are distinct; the fields are
+            // dropped as in `new_list`.
+            unsafe { raw::sel_struct_new(len, bits, bits_len, has_bits, at, count, out) }
         })
     }
 

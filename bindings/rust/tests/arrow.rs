@@ -218,13 +218,16 @@ fn columns_without_a_format_are_errors() -> Result<(), Error> {
 }
 
 #[test]
-fn columns_of_too_many_levels_are_not_exported() -> Result<(), Error> {
+fn columns_of_128_levels_come_back_from_arrow() -> Result<(), Error> {
     let mut lists = Column::from_values(&[1i8])?;
-    for _ in 0..256 {
+    for _ in 0..128 {
         lists = lists.unit_list()?;
     }
-    assert_eq!(lists.to_arrow().map(|_| ()), Ok(()));
-    assert_eq!(lists.unit_list()?.to_arrow().err(), Some(Error::Arrow(70)));
+    let (array, schema) = lists.to_arrow()?;
+    // SAFETY: both were written for the same column.
+    let copy = unsafe { Column::from_arrow(array, &schema)? };
+    assert_eq!(copy.to_text()?, format!("[{}1{}]", "[".repeat(128), "]".repeat(128)));
+    assert_eq!(copy, lists);
     Ok(())
 }
 

@@ -116,6 +116,25 @@ fn a_maker_that_fails_frees_its_children() -> Result<(), Error> {
 }
 
 #[test]
+fn a_column_has_at_most_128_levels() -> Result<(), Error> {
+    let too_deep = Some(Error::Limit(12));
+    let mut deep = Column::from_values(&[1i8, 2])?;
+    for level in 0..128 {
+        deep = match level % 3 {
+            0 => Column::lists(&[0, 1, 2], deep)?,
+            1 => Column::fixed_lists(1, 2, deep)?,
+            _ => Column::tuples(2, vec![Column::new_null(2)?, deep])?,
+        };
+    }
+    assert_eq!(deep.unit_list().err(), too_deep);
+    assert_eq!(Column::lists(&[0, 1, 2], deep.clone()).err(), too_deep);
+    assert_eq!(Column::fixed_lists(1, 2, deep.clone()).err(), too_deep);
+    assert_eq!(Column::tuples(2, vec![Column::new_null(2)?, deep.clone()]).err(), too_deep);
+    assert_eq!((deep.len(), deep.slice(1, 1)?.len(), deep.equals(&deep)?), (2, 1, true));
+    Ok(())
+}
+
+#[test]
 fn types_are_printed_and_parsed() -> Result<(), Error> {
     let leaves = "null bool i8 i16 i32 i64 i128 u8 u16 u32 u64 u128 binary binview utf8";
     let nested = ["list<null>", "fixed<0,bool>", "fixed<4294967295,utf8>", "struct<>", "struct<i8,list<struct<u8>>>"];

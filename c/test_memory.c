@@ -1,0 +1,141 @@
+/* What the tests of the library for C share: the allocator, which counts blocks and fails on request, and the checks. A test is
+ * linked with -Wl,--wrap=NAME for each of the four functions below. */
+
+#include "test.h"
+
+#include <stdio.h>
+#include <stdlib.h>
+#include <string.h>
+
+/* ---- the allocator ---- */
+
+void *__real_malloc(size_t size);
+void *__real_calloc(size_t count, size_t size);
+void *__real_realloc(void *block, size_t size);
+void __real_free(void *block);
+void *__wrap_malloc(size_t size);
+void *__wrap_calloc(size_t count, size_t size);
+void *__wrap_realloc(void *block, size_t size);
+void __wrap_free(void *block);
+
+static long blocks = 0;
+static long until_refused = -1;
+static long refusals = 0;
+bool refused = false;
+
+/* an allocation was refused since the last check */
+static bool is_pending = false;
+
+static bool refuses(void) {
+    if (until_refused < 0) {
+        return false;
+    }
+    if (until_refused == 0) {
+        refused = is_pending = true;
+        refusals += 1;
+        until_refused = -1;
+        return true;
+    }
+    until_refused -= 1;
+    return false;
+}
+
+static void *counted(void *block) {
+    blocks += block != NULL;
+    return block;
+}
+
+void *__wrap_malloc(size_t size) { return refuses() ? NULL : counted(__real_malloc(size)); }
+
+void *__wrap_calloc(size_t count, size_t size) { return refuses() ? NULL : counted(__real_calloc(count, size)); }
+
+void *__wrap_realloc(void *block, size_t size) {
+    if (refuses()) {
+        return NULL;
+    }
+    void *moved = __real_realloc(block, size);
+    blocks += block == NULL && moved != NULL;
+    return moved;
+}
+
+void __wrap_free(void *block) {
+    blocks -= block != NULL;
+    __real_free(block);
+}
+
+void refuse(long number) {
+    until_refused = number;
+    refused = is_pending = false;
+}
+
+long blocks_in_use(void) { return blocks; }
+
+/* ---- what a test says ---- */
+
+enum { PRINTED = 50 };
+
+static int failures = 0;
+
+void is_at(bool holds, const char *what, const char *file, int line) {
+    if (!holds) {
+        const char *slash = strrchr(file, '/');
+        failures += 1;
+        if (failures <= PRINTED) {
+            printf("%s:%d: %s\n", slash == NULL ? file : slash + 1, line, what);
+        }
+    }
+}
+
+bool was_refused(void) {
+    const bool was = is_pending;
+    is_pending = false;
+    return was;
+}
+
+bool gives(sel_status status, sel_status wanted) { return status == (was_refused() ? SEL_ERROR_OUT_OF_MEMORY : wanted); }
+
+bool done(sel_status status) { return gives(status, SEL_OK); }
+
+const uint8_t no_bits[1] = {0};
+
+sel_view view_of(const char *text, uint32_t len, uint32_t offset) {
+    sel_view view = {len, 0, 0, 0};
+    if (len <= 12) {
+        memcpy(&view.prefix, text, len);
+    } else {
+        memcpy(&view.prefix, text, 4);
+        view.offset = offset;
+    }
+    return view;
+}
+
+/* ---- tests ---- */
+
+static size_t tests_run = 0;
+
+void run_tests(void (*const *tests)(void), size_t count) {
+    for (size_t i = 0; i < count; i += 1) {
+        const long before = blocks;
+        refuse(-1);
+        tests[i]();
+        IS(blocks == before);
+        /* again, with the first allocation refused, then the second, and so on */
+        for (long n = 0;; n += 1) {
+            refuse(n);
+            tests[i]();
+            until_refused = -1;
+            IS(blocks == before && !was_refused()); /* each refusal was seen by the check of its call */
+            if (!refused) {
+                break;
+            }
+        }
+        tests_run += 1;
+    }
+    refuse(-1);
+}
+
+int finish(void) {
+    IS(blocks == 0 && refusals > 0);
+    printf("%zu tests, %ld refused allocations, %d failures\n", tests_run, refusals, failures);
+    return failures == 0 ? 0 : 1;
+}
