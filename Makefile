@@ -8,7 +8,7 @@
 # make dist      packs them with the headers into build/sel-VERSION-linux-x86_64.tar.gz
 # make bench     times the kernels and writes docs/BENCHMARKS.md; make bench QUICK=1 only compares their answers
 # make mutants   tries every mutant, not only those of make test
-# make api       writes the API reference, the C header and the statuses
+# make api       writes the API references, the C header and the statuses
 
 INPUT ?= crates/sel_bench/stdin
 PREFIX ?= /usr/local
@@ -55,3 +55,4 @@ api:
 	tools/statuses.py
 	tools/api
 	tools/header
+	tools/python_docs.py

@@ -1,4 +1,4 @@
-"""A table of many partitions, filtered and taken by two worker processes of a local Dask cluster, beside numpy."""
+"""A table of many partitions, filtered and taken by a local Dask cluster of two processes with two threads each, compared with numpy."""
 
 import numpy
 from dask.distributed import Client, LocalCluster
@@ -23,8 +23,8 @@ def every_second_kept(seed: int) -> numpy.ndarray:
 
 
 def main() -> None:
-    # A column stays on its thread: each worker has one.
-    with LocalCluster(n_workers=2, threads_per_worker=1, processes=True, dashboard_address=None) as cluster, Client(cluster) as client:
+    # Calls release the interpreter's lock, so the threads of a worker run in parallel.
+    with LocalCluster(n_workers=2, threads_per_worker=2, processes=True, dashboard_address=None) as cluster, Client(cluster) as client:
         parts = client.gather(client.map(every_second_kept, range(PARTITIONS)))
     for seed, part in enumerate(parts):
         values, wanted = partition(seed)

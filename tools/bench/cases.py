@@ -10,6 +10,7 @@ import numpy as np
 import sel
 from sel._column import _NOTHING, Column
 from sel._library import Handle, Slice, call
+from sel._owner import Owner
 
 RNG = np.random.default_rng(7)
 DENSITIES = (.001, .01, .1, .5, .9, .99, .999)
@@ -87,16 +88,21 @@ def mask_column(mask, offset=0):
     return Column.from_numpy(np.concatenate([np.zeros(offset, dtype=bool), mask])).sliced(offset, len(mask))
 
 
+def made_by(name, *arguments):
+    """Returns the column that a call makes."""
+    made = Owner()
+    call(name, *arguments, byref(made._handle))
+    return Column._owning(made)
+
+
 def wides(values):
     """Returns the UInt128 column of pairs of words."""
-    column = Column._empty()
-    call("sel_uint128_new", values.ctypes.data, len(values), _NOTHING, 0, False, byref(column._handle))
-    return column
+    return made_by("sel_uint128_new", values.ctypes.data, len(values), _NOTHING, 0, False)
 
 
 def read_wides(column):
     values = np.zeros((len(column), 2), dtype=np.uint64)
-    call("sel_uint128_values", column._at(), values.ctypes.data, len(column))
+    call("sel_uint128_values", column, values.ctypes.data, len(column))
     return values
 
 
@@ -109,40 +115,33 @@ def views_of(rows):
 
 
 def texts(views, valid=None):
-    column, bits = Column._empty(), packed(valid) if valid is not None else None
+    bits = packed(valid) if valid is not None else None
     given = (_NOTHING, 0, False) if bits is None else (bits.ctypes.data, len(bits), True)
-    call("sel_string_view_new", views.ctypes.data, len(views), (Slice * 1)(), 0, *given, byref(column._handle))
-    return column
+    return made_by("sel_string_view_new", views.ctypes.data, len(views), (Slice * 1)(), 0, *given)
 
 
 def read_views(column):
     views = np.zeros((len(column), 4), dtype=np.uint32)
-    call("sel_views", column._at(), views.ctypes.data, len(column))
+    call("sel_views", column, views.ctypes.data, len(column))
     return views
 
 
 def lists(offsets, values):
-    column, child = Column._empty(), Column.from_numpy(values)
-    call("sel_list_new", offsets.ctypes.data, len(offsets), _NOTHING, 0, False, byref(child._handle), byref(column._handle))
-    return column
+    return made_by("sel_list_new", offsets.ctypes.data, len(offsets), _NOTHING, 0, False, Column.from_numpy(values))
 
 
 def read_lists(column):
     offsets = np.zeros(len(column) + 1, dtype=np.int64)
-    call("sel_offsets", column._at(), offsets.ctypes.data, len(offsets))
+    call("sel_offsets", column, offsets.ctypes.data, len(offsets))
     return np.diff(offsets), column._child().to_numpy()[offsets[0]:offsets[-1]]
 
 
 def blocks(width, values):
-    column, child = Column._empty(), Column.from_numpy(values)
-    call("sel_fixed_size_list_new", width, len(values) // width, _NOTHING, 0, False, byref(child._handle), byref(column._handle))
-    return column
+    return made_by("sel_fixed_size_list_new", width, len(values) // width, _NOTHING, 0, False, Column.from_numpy(values))
 
 
 def binaries(offsets, values):
-    column = Column._empty()
-    call("sel_binary_new", offsets.ctypes.data, len(offsets), values.ctypes.data, len(values), _NOTHING, 0, False, byref(column._handle))
-    return column
+    return made_by("sel_binary_new", offsets.ctypes.data, len(offsets), values.ctypes.data, len(values), _NOTHING, 0, False)
 
 
 def several(columns):
@@ -227,8 +226,8 @@ def filter_of_blocks(rows, density):
 
 def filter_of_structs(rows, density):
     mask, first, second = random_mask(rows, density), padded(RNG.integers(0, 2 ** 62, rows)), padded(RNG.integers(0, 2 ** 62, rows))
-    column, (handles, shares) = Column._empty(), several([Column.from_numpy(first), Column.from_numpy(second)])
-    call("sel_struct_new", rows, _NOTHING, 0, False, handles, 2, byref(column._handle))
+    handles, shares = several([Column.from_numpy(first), Column.from_numpy(second)])
+    column = made_by("sel_struct_new", rows, _NOTHING, 0, False, handles, 2)
     for share in shares:
         share._handle = Handle()
     flags, kept = mask_column(mask), int(mask.sum())
@@ -291,11 +290,11 @@ def take_of_others(rows):
     def check_bytes():
         answer = joined.take(indices)
         found = np.zeros(rows + 1, dtype=np.int64)
-        call("sel_offsets", answer._at(), found.ctypes.data, rows + 1)
+        call("sel_offsets", answer, found.ctypes.data, rows + 1)
         size = c_size_t()
-        call("sel_bytes_len", answer._at(), byref(size))
+        call("sel_bytes_len", answer, byref(size))
         data = np.zeros(max(1, size.value), dtype=np.uint8)
-        call("sel_bytes", answer._at(), data.ctypes.data, size.value)
+        call("sel_bytes", answer, data.ctypes.data, size.value)
         wanted = np.repeat(offsets[places] - np.concatenate([[0], np.cumsum(lengths[places])[:-1]]), lengths[places]) + np.arange(int(lengths[places].sum()))
         equal(np.diff(found), lengths[places], "lengths of taken bytes")
         equal(data[found[0]:found[-1]], text[wanted], "taken bytes")
@@ -357,8 +356,8 @@ def lists_and_several(rows):
     both = np.stack([one, two])
 
     def check_picks():
-        answer, given = Column._empty(), several(pair)
-        call("sel_collect_rows", given[0], 2, picks.ctypes.data, rows, _NOTHING, 0, False, byref(answer._handle))
+        given = several(pair)
+        answer = made_by("sel_collect_rows", given[0], 2, picks.ctypes.data, rows, _NOTHING, 0, False)
         equal(answer.to_numpy(), both[picks[:, 0], picks[:, 1]], "gathered rows")
 
     yield Case("collect_rows", rows, "random, of two", ("collect_rows", "loop_collect_rows"), check_picks, lambda: both[picks[:, 0], picks[:, 1]],

@@ -1,9 +1,16 @@
-"""Proved selection kernels over Arrow columns: filter, take, if-then-else, list access, flatten.
+"""Proved selection kernels over Arrow columns of any nesting: filter, take, if-then-else, list element access, flatten.
+
+A `Column` is made of Python values, of a numpy array, of text, or of Arrow data of another library. Its methods and the functions
+of this module return new columns. The types are `null`, `bool`, `i8` to `i128`, `u8` to `u128`, `binary`, `binview` (binary views),
+`utf8` (string views), `list<..>`, `fixed<n,..>` (fixed-size lists) and `struct<..>`. Arrow's names are accepted as well: `int64`,
+`string`, `list<item: string>`, `fixed_size_list<item: int64>[2]`. The fields of structs have no names.
 
 >>> import sel
 >>> ages = sel.Column([31, None, 27, 45])
 >>> ages.filter([True, True, False, True])
 Column(i64, [31,null,45])
+>>> ages.take([3, None, 0]).to_pylist()
+[45, None, 31]
 """
 
 from ._column import Column, choose, collect_rows, concat, flatten, if_else, propagate_dictionary

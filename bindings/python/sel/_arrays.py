@@ -14,7 +14,7 @@ from ._owner import Owner
 from ._readers import validity_bits
 from ._types import NUMBERS
 
-__all__ = ["array_of", "checked", "is_array", "is_of_objects", "made_of_array", "opened", "picks_of_array", "positions_of_array"]
+__all__ = ["array_of", "checked", "is_array", "is_of_objects", "made_of_array", "opened", "picks_of_array", "plain_array_of", "positions_of_array"]
 
 
 def _numpy() -> Any:
@@ -38,8 +38,8 @@ def _validity_of(flags: Any) -> tuple[Memory, int, bool]:
 
 
 def is_array(values: object) -> bool:
-    """Returns whether the value is an array of numpy, or an object that numpy can make one of."""
-    return hasattr(values, "__array__")
+    """Returns whether the value is an array of numpy, or an object other than a column that numpy can make one of."""
+    return hasattr(values, "__array__") and not isinstance(values, Owner)
 
 
 def opened(values: Any, name: str, dimensions: int = 1) -> Any:
@@ -116,8 +116,9 @@ def picks_of_array(array: Any, name: str) -> tuple[Memory, int, tuple[Memory, in
     numpy = _numpy()
     if array.shape[1] != 2:
         raise ValueError(f"{name}: an array of shape {array.shape}, where each row must be a column number and a row number")
-    numbers = numpy.ma.getdata(checked(array, name, "iu", ROW_INDEX))
-    numbers = numpy.ascontiguousarray(numbers, dtype=numpy.uint32)
+    checked(array, name, "iu", ROW_INDEX)
+    # A copy in any case: the call checks the picks before it reads rows, and another thread may write to the caller's array.
+    numbers = numpy.array(numpy.ma.getdata(array), dtype=numpy.uint32, order="C")
     return _memory_of(numbers), len(array), _validity_of(~numpy.ma.getmaskarray(array).any(axis=1))
 
 
@@ -152,11 +153,11 @@ def array_of(owner: Owner) -> Any:
     numpy, kind, count = _numpy(), owner._kind(), len(owner)
     if kind == "bool":
         bits = room_for_bits(count)
-        call("sel_boolean_values", owner._at(), bits, bits.size())
+        call("sel_boolean_values", owner, bits, bits.size())
         values = _unpacked(bits, count)
     elif kind in NUMBERS and NUMBERS[kind][0] in CODES:
         values = numpy.empty(count, dtype=NUMBERS[kind][0])
-        call(f"sel_{NUMBERS[kind][0]}_values", owner._at(), _memory_of(values), count)
+        call(f"sel_{NUMBERS[kind][0]}_values", owner, _memory_of(values), count)
     else:
         raise TypeError(f"no array has values of type {kind}")
     validity = validity_bits(owner)
@@ -164,3 +165,13 @@ def array_of(owner: Owner) -> Any:
         return values
     valid = _unpacked(validity, count)
     return values if valid.all() else numpy.ma.masked_array(values, mask=~valid)
+
+
+def plain_array_of(owner: Owner, dtype: Any, copy: bool | None) -> Any:
+    """Returns the array of a column without nulls, of the type that numpy needs. Raises ValueError for a null, or if a copy is not allowed."""
+    if copy is False:
+        raise ValueError("an array of a column is always a copy")
+    array = array_of(owner)
+    if _numpy().ma.isMaskedArray(array):
+        raise ValueError("a column with nulls is no plain array: to_numpy() masks them, fill_null(value) replaces them")
+    return array if dtype is None else array.astype(dtype, copy=False)

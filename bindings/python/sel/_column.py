@@ -15,7 +15,7 @@ from ._library import attempt, call, lib, status_of
 from ._makers import made_of
 from ._memory import _NOTHING, NO_VALIDITY, unpacked
 from ._names import VALID_NAMES, short_names
-from ._owner import Owner, derived, distinct, from_several
+from ._owner import Owner, concatenated, derived, from_several
 from ._readers import printed, rows_of, validity_bits
 from ._statuses import OK, ROW_SYNTAX, ROW_TYPE_MISMATCH, TYPE_MISMATCH, TYPE_SYNTAX
 from ._types import Type, parse_type, type_of_values
@@ -24,6 +24,7 @@ if TYPE_CHECKING:
     from typing import SupportsIndex, Union
 
     import numpy
+    from typing_extensions import Self
 
     Boolean = Union[bool, numpy.bool_]
     Array = numpy.ndarray[Any, Any]
@@ -35,7 +36,8 @@ __all__ = ["_NOTHING", "Column", "choose", "collect_rows", "concat", "flatten", 
 class Column(Owner):
     """A column of rows, each of which is a value or null. It never changes.
 
-    A column and all columns derived from it belong to the thread that made the first of them.
+    Columns may be used by several threads at the same time. The library works without the interpreter's lock: threads that filter
+    columns run in parallel.
 
     Indices and sizes are ints or other objects with `__index__`, such as numpy's integers. Booleans and floats raise TypeError.
     An index that no row has raises IndexError, as does an index of a list outside the 64-bit integers; a size outside its
@@ -44,22 +46,31 @@ class Column(Owner):
     Columns can be copied by `copy` and pickled. A copy shares memory with its column; a pickle has the type and the rows as
     Python values, and its cost is in proportion to the rows.
 
-    >>> Column([1, 2, None])
+    Each method that takes a mask or indices takes a column, a numpy array or an iterable of Python values. `None` and what is
+    masked are null.
+
+    >>> sel.Column([1, 2, None])
     Column(i64, [1,2,null])
-    >>> Column([1, None], "uint8")
-    Column(u8, [1,null])
+    >>> sel.Column([["a"], [], None], "list<string>")
+    Column(list<utf8>, [["a"],[],null])
     """
 
     __slots__ = ()
 
     # ---- making
 
-    def __init__(self, values: Iterable[Any], type: str | Type | None = None) -> None:
+    # Not __init__: that can be called again, and would free a column which another thread may be reading.
+    def __new__(cls, values: Iterable[Any], type: str | Type | None = None) -> Self:
         """Makes the column of Python values, of the type or of the one that the first value has; `None` is null.
 
         Integers of numpy and other objects with `__index__` are integers, a numpy.bool_ is a boolean, and neither is the other.
-        A column as the values keeps its type if none is given. Raises TypeError for a value of another type, and OverflowError
-        for an integer that the type cannot hold.
+        A column as the values keeps its type if none is given. Raises TypeError for a value of another type, OverflowError for an
+        integer that the type cannot hold, and LimitPassed, an OverflowError, for a type with more than 128 levels.
+
+        >>> sel.Column([1, None], "uint8")
+        Column(u8, [1,null])
+        >>> sel.Column([(1, "a"), None])
+        Column(struct<i64,utf8>, [(1,"a"),null])
         """
         if isinstance(values, Column) and type is None:
             made = derived(values, "sel_share")
@@ -69,24 +80,30 @@ class Column(Owner):
             if not isinstance(wanted, Type):
                 raise TypeError(f"type: {shown(type)} is neither a Type nor the text of one")
             made = made_of(rows, wanted)
-        self._handle, made._handle = made._handle, self._handle
+        return cls._owning(made)
 
     @staticmethod
     def from_pylist(values: Iterable[Any], type: str | Type | None = None) -> Column:
-        """Returns the column of Python values, as `Column(values, type)` does."""
+        """Returns the column of Python values, as `Column(values, type)` does.
+
+        >>> sel.Column.from_pylist([True, None])
+        Column(bool, [true,null])
+        """
         return Column(values, type)
 
     @staticmethod
     def parse(type: str | Type, rows: str) -> Column:
         """Returns the column of a type with the rows of a text, both as `str` prints them; spaces between their parts are skipped.
 
-        >>> Column.parse("list<utf8>", '[["Ada", "Grace"], null]')
+        Raises BrokenText, a ValueError with the place of the first wrong character, and LimitPassed, an OverflowError.
+
+        >>> sel.Column.parse("list<utf8>", '[["Ada", "Grace"], null]')
         Column(list<utf8>, [["Ada","Grace"],null])
         """
-        column, place = Column._empty(), c_size_t()
+        made, place = Owner(), c_size_t()
         short, places = short_names(str(type))
         name, text = short.encode(), rows.encode()
-        status = attempt("sel_parse", name, len(name), text, len(text), byref(place), byref(column._handle))
+        status = attempt("sel_parse", name, len(name), text, len(text), byref(place), byref(made._handle))
         if status in (TYPE_SYNTAX, ROW_SYNTAX, ROW_TYPE_MISMATCH):
             before = len((name if status == TYPE_SYNTAX else text)[: place.value].decode(errors="ignore"))
             if status == TYPE_SYNTAX:
@@ -94,13 +111,18 @@ class Column(Owner):
             raise BrokenText(status, status_of(status), before)
         if status != OK:
             raise error_of(status, status_of(status))
-        return column
+        return Column._owning(made)
 
     @staticmethod
     def from_numpy(values: Array, valid: Iterable[Boolean] | Array | None = None) -> Column:
         """Returns the column of an array of one dimension, of integers of 8 to 64 bits or booleans.
 
-        A row is null if it is masked, or if `valid`, a boolean for each row, is false. Raises TypeError for an array of another type.
+        A row is null if it is masked, or if `valid`, a boolean for each row, is false. The array is copied; no other thread may write
+        to it meanwhile. Raises TypeError for an array of another type.
+
+        >>> import numpy
+        >>> sel.Column.from_numpy(numpy.array([1, 2, 3], dtype="int16"), valid=[True, False, True])
+        Column(i16, [1,null,3])
         """
         if not _arrays.is_array(values):
             raise TypeError(f"values: {shown(values)} is not an array")
@@ -110,7 +132,11 @@ class Column(Owner):
 
     @property
     def type(self) -> Type:
-        """The type of the rows."""
+        """The type of the rows.
+
+        >>> str(sel.Column([[1], None]).type)
+        'list<i64>'
+        """
         kind = self._kind()
         if kind == "list":
             return Type(kind, (self._child().type,))
@@ -122,26 +148,64 @@ class Column(Owner):
 
     @property
     def null_count(self) -> int:
-        """The number of null rows."""
-        return int(lib.sel_null_count(self._at()))
+        """The number of null rows.
+
+        >>> sel.Column([1, None, None]).null_count
+        2
+        """
+        return int(lib.sel_null_count(self))
 
     def valid(self) -> list[bool]:
-        """Returns for each row whether it is valid, that is, not null."""
+        """Returns for each row whether it is valid, that is, not null.
+
+        >>> sel.Column([1, None]).valid()
+        [True, False]
+        """
         bits = validity_bits(self)
         if bits is None:
             return [self._kind() != "null"] * len(self)
         return unpacked(bits, len(self))
 
     def to_pylist(self) -> list[Any]:
-        """Returns the rows as Python values: int, bool, str, bytes, list, tuple, and `None` for null."""
+        """Returns the rows as Python values: int, bool, str, bytes, list, tuple (of a struct), and `None` for null.
+
+        >>> sel.Column.parse("struct<i8,binary>", '[(1, h"00ff"), null]').to_pylist()
+        [(1, b'\\x00\\xff'), None]
+        """
         return rows_of(self)
 
     def to_numpy(self) -> Array:
-        """Returns the integers of 8 to 64 bits or the booleans as an array, a masked one if some row is null."""
+        """Returns the integers of 8 to 64 bits or the booleans as an array, a masked one if some row is null. It is always a copy.
+
+        Raises TypeError for a column of another type.
+
+        >>> sel.Column([1, 2]).to_numpy()
+        array([1, 2])
+        >>> sel.Column([1, None]).to_numpy().mask
+        array([False,  True])
+        """
         array: Array = _arrays.array_of(self)
         return array
 
+    def __array__(self, dtype: Any = None, copy: bool | None = None) -> Array:
+        """Returns the rows for `numpy.asarray` and the like, as `to_numpy` does: always a copy, and only of a column without nulls.
+
+        An array that numpy makes has no mask. So nulls raise ValueError; `to_numpy` masks them, and `fill_null` replaces them. Columns of
+        other types than integers of 8 to 64 bits and booleans raise TypeError, and `copy=False` raises ValueError.
+
+        >>> import numpy
+        >>> numpy.asarray(sel.Column([1, None, 3]).fill_null(0))
+        array([1, 0, 3])
+        """
+        array: Array = _arrays.plain_array_of(self, dtype, copy)
+        return array
+
     def __iter__(self) -> Iterator[Any]:
+        """Returns an iterator over the rows as Python values.
+
+        >>> [row for row in sel.Column(["a", None])]
+        ['a', None]
+        """
         return iter(self.to_pylist())
 
     @overload
@@ -160,7 +224,7 @@ class Column(Owner):
 
         Raises IndexError for an index that no row has, and ValueError for a mask of another length.
 
-        >>> column = Column(["a", "b", "c"])
+        >>> column = sel.Column(["a", "b", "c"])
         >>> column[-1]
         'c'
         >>> column[::-1], column[[2, 0]], column[[True, False, True]]
@@ -171,61 +235,105 @@ class Column(Owner):
         return Column._owning(selected(self, place, "index"))
 
     def __repr__(self) -> str:
+        """Returns the type and the first 12 rows as text."""
         most = 12
         if len(self) <= most:
             return f"Column({self.type}, {self})"
         return f"Column({self.type}, {str(self.sliced(0, most))[:-1]}, ... {len(self) - most} more])"
 
     def __str__(self) -> str:
-        """Returns the rows as text, as in `[1,null,-3]`: strings as in JSON, bytes as in `h"00ff"`, structs in parentheses."""
+        """Returns the rows as text, as in `[1,null,-3]`: strings as in JSON, bytes as in `h"00ff"`, structs in parentheses.
+
+        >>> str(sel.Column([("a", b"\\xff"), None]))
+        '[("a",h"ff"),null]'
+        """
         return printed(self)
 
+    def __eq__(self, other: object) -> bool:
+        """Returns whether the other value is a column with the same rows, as `equals` does. It is one bool, not one for each row.
+
+        Columns with equal rows may have different types, so a column has no hash. An array of numpy is no column: numpy compares it
+        with the array of a column, row by row.
+
+        >>> sel.Column([1, None]) == sel.Column([1, None]), sel.Column([1, 2]) == sel.Column([1, 3]), sel.Column([1, 2]) == [1, 2]
+        (True, False, False)
+        """
+        if not isinstance(other, Column):
+            return NotImplemented
+        return self.equals(other)
+
+    __hash__ = None  # type: ignore[assignment]
+
     def equals(self, other: Column) -> bool:
-        """Returns whether both columns have the same rows, whatever their types."""
-        answer, second = c_bool(), distinct(column_of(other, "other"), self)
-        call("sel_equal_rows", self._at(), second._at(), byref(answer))
+        """Returns whether both columns have the same rows, whatever their types. Null is equal to null.
+
+        >>> sel.Column([1, None], "i8").equals(sel.Column([1, None], "u64"))
+        True
+        """
+        answer = c_bool()
+        call("sel_equal_rows", self, column_of(other, "other"), byref(answer))
         return answer.value
 
     # ---- kernels
 
     def filter(self, mask: Column | Iterable[Boolean | None] | Array) -> Column:
-        """Returns the rows where the mask is true; a null of the mask counts as false. Raises TypeError for integers as a mask."""
-        return self._new("sel_filter", distinct(mask_of(mask, "mask"), self))
+        """Returns the rows where the mask is true; a null of the mask counts as false.
+
+        Raises TypeError for integers as a mask, and WrongArgument, a TypeError, for a mask of another length.
+
+        >>> sel.Column([31, None, 27, 45]).filter([True, True, None, True])
+        Column(i64, [31,null,45])
+        """
+        return self._new("sel_filter", mask_of(mask, "mask"))
 
     def take(self, indices: Column | Iterable[SupportsIndex | None] | Array) -> Column:
         """Returns the rows at the indices, null where an index is null or masked.
 
         Raises IndexError for an index that no row has; negative ones do not count from the end.
+
+        >>> sel.Column(["a", "b", "c"]).take([2, None, 0, 2])
+        Column(utf8, ["c",null,"a","c"])
         """
-        return self._new("sel_take", distinct(indices_of(indices, "indices"), self))
+        return self._new("sel_take", indices_of(indices, "indices"))
 
     def sublist_get(self, index: SupportsIndex) -> Column:
         """Returns the element of each list at the index, null if there is none; a negative index counts from the end.
 
         Raises IndexError for an index outside the 64-bit integers, which is out of bounds of every list.
+
+        >>> sel.Column([[1, 2], [3], [], None]).sublist_get(-1)
+        Column(i64, [2,3,null,null])
         """
         return self._new("sel_list_get", integer_within(index, "index", LIST_INDEX))
 
     def index_is_oob(self, index: SupportsIndex) -> bool:
-        """Returns whether some list that is not null has no element at the index. Raises IndexError as `sublist_get` does."""
+        """Returns whether some list that is not null has no element at the index. Raises IndexError as `sublist_get` does.
+
+        >>> sel.Column([[1, 2], [3], None]).index_is_oob(1)
+        True
+        """
         answer = c_bool()
-        call("sel_list_index_is_oob", self._at(), integer_within(index, "index", LIST_INDEX), byref(answer))
+        call("sel_list_index_is_oob", self, integer_within(index, "index", LIST_INDEX), byref(answer))
         return answer.value
 
     def fixed_get(self, index: SupportsIndex | Column, null_on_oob: Boolean = True) -> Column:
         """Returns the element of each fixed-size list at the index, or at its row in a column of 64-bit indices.
 
         An index out of bounds gives null, or raises IndexError if `null_on_oob` is false or the index is outside the 64-bit integers.
+
+        >>> pairs = sel.Column([[1, 2], [3, 4], None], "fixed<2,i64>")
+        >>> pairs.fixed_get(1), pairs.fixed_get(sel.Column([0, -1, 0]))
+        (Column(i64, [2,4,null]), Column(i64, [1,4,null]))
         """
         flag = boolean(null_on_oob, "null_on_oob")
         if isinstance(index, Column):
-            return self._new("sel_fixed_size_list_get_each", distinct(index, self), flag)
+            return self._new("sel_fixed_size_list_get_each", index, flag)
         return self._new("sel_fixed_size_list_get", integer_within(index, "index", LIST_INDEX), flag)
 
     def list_element(self, index: SupportsIndex) -> Column:
         """Returns the element of each list or fixed-size list at the index, as `sublist_get` and `fixed_get` do.
 
-        >>> Column([[1, 2], [3], None]).list_element(1)
+        >>> sel.Column([[1, 2], [3], None]).list_element(1)
         Column(i64, [2,null,null])
         """
         return self.fixed_get(index) if self._kind() == "fixed" else self.sublist_get(index)
@@ -233,7 +341,7 @@ class Column(Owner):
     def drop_null(self) -> Column:
         """Returns the rows that are not null.
 
-        >>> Column([1, None, 3]).drop_null()
+        >>> sel.Column([1, None, 3]).drop_null()
         Column(i64, [1,3])
         """
         bits = validity_bits(self)
@@ -244,7 +352,7 @@ class Column(Owner):
     def fill_null(self, value: Any) -> Column:
         """Returns the rows with a value in place of each null. Raises TypeError or OverflowError if the type cannot hold the value.
 
-        >>> Column([1, None, 3]).fill_null(0)
+        >>> sel.Column([1, None, 3]).fill_null(0)
         Column(i64, [1,0,3])
         """
         one, bits = made_of([value], self.type, "value"), validity_bits(self)
@@ -255,24 +363,37 @@ class Column(Owner):
         return Column._owning(derived(mask, "sel_if_then_else_broadcast_false", self, one))
 
     def unit_list(self) -> Column:
-        """Returns a column of lists with one row each."""
+        """Returns a column of lists with one row each. Raises LimitPassed, an OverflowError, for a column of 128 levels.
+
+        >>> sel.Column([1, None]).unit_list()
+        Column(list<i64>, [[1],[null]])
+        """
         return self._new("sel_unit_list")
 
     def sliced(self, offset: SupportsIndex, length: SupportsIndex) -> Column:
         """Returns `length` rows from row `offset` on, which share memory with this column.
 
         Raises IndexError if there are fewer rows, or if the offset is negative; OverflowError for a length outside [0, 2^64).
+
+        >>> sel.Column([10, 11, 12, 13]).sliced(1, 2)
+        Column(i64, [11,12])
         """
         return self._new("sel_slice", integer_within(offset, "offset", ROW_OFFSET), integer_within(length, "length", SIZE))
 
     def share(self) -> Column:
-        """Returns the same rows as a second column, which shares memory with this one."""
+        """Returns the same rows as a second column, which shares memory with this one.
+
+        >>> sel.Column([1, 2]).share()
+        Column(i64, [1,2])
+        """
         return self._new("sel_share")
 
     def __copy__(self) -> Column:
+        """Returns what `share` returns."""
         return self.share()
 
     def __deepcopy__(self, memo: object) -> Column:
+        """Returns what `share` returns: columns never change."""
         return self.share()
 
     def __reduce__(self) -> tuple[Any, ...]:
@@ -282,33 +403,45 @@ class Column(Owner):
     # ---- Arrow
 
     def __arrow_c_schema__(self) -> object:
+        """Returns a capsule with the type, for other Arrow libraries. The fields of structs have the names `0`, `1` and so on."""
         from ._arrow import export
 
-        return export(self)[0]
+        return export(self.sliced(0, 0))[0]
 
     def __arrow_c_array__(self, requested_schema: object = None) -> tuple[object, object]:
+        """Returns capsules with the type and a copy of the rows, for other Arrow libraries, as in `pyarrow.array(column)`.
+
+        The type is this column's, whatever is requested. Raises BrokenRule, a ValueError, for unsigned 128-bit integers, and for
+        signed ones of more than 38 digits.
+        """
         from ._arrow import export
 
         return export(self)
 
     @staticmethod
     def from_arrow(source: Any) -> Column:
-        """Returns a copy of an object with `__arrow_c_array__`, such as an array or column of pyarrow, polars, duckdb or nanoarrow."""
-        from ._arrow import import_array
+        """Returns a copy of Arrow data of another library, by the Arrow PyCapsule interface.
 
-        return Column._owning(import_array(source))
+        The source has `__arrow_c_array__`, as an array of pyarrow or nanoarrow has, or `__arrow_c_stream__`, as a Series or DataFrame
+        of pandas or polars and a ChunkedArray or Table of pyarrow have. The chunks of a stream are concatenated; without any chunk
+        the column has the stream's type and no rows. A table is a column of structs. A source with both gives its array.
+
+        Raises TypeError for a source with neither, BrokenRule, a ValueError, for an array that breaks the format's rules or has a type
+        without a column here, and what the stream reports: MemoryError, ValueError, NotImplementedError or else OSError.
+
+        >>> sel.Column.from_arrow(sel.Column(["a", None]))
+        Column(utf8, ["a",null])
+        """
+        from ._arrow import imported
+
+        return Column._owning(imported(source))
 
     # ---- internal
 
     @classmethod
-    def _empty(cls) -> Column:
-        """Returns an empty handle, for a call to write over."""
-        return cls.__new__(cls)
-
-    @staticmethod
-    def _owning(owner: Owner) -> Column:
-        """Moves the column of an owner into a new Column."""
-        column = Column._empty()
+    def _owning(cls, owner: Owner) -> Self:
+        """Moves the column of an owner, which nothing else refers to, into a new column of this class."""
+        column = Owner.__new__(cls)
         column._handle, owner._handle = owner._handle, column._handle
         return column
 
@@ -328,30 +461,37 @@ class Column(Owner):
 def choose(mask: Column | Iterable[Boolean | None] | Array, if_true: Column | Any, if_false: Column | Any) -> Column:
     """Returns the rows of `if_true` where the mask is true, and else those of `if_false`; both have one type.
 
-    A side that is not a column is one value for all rows; a null of the mask counts as false.
+    A side that is not a column is one value for all rows; a null of the mask counts as false. Raises WrongArgument, a TypeError, for
+    columns of several types or lengths.
+
+    >>> sel.choose([True, False, None], sel.Column([1, 2, 3]), 0)
+    Column(i64, [1,0,0])
     """
     wanted = if_true.type if isinstance(if_true, Column) else if_false.type if isinstance(if_false, Column) else type_of_values([if_true, if_false])
-    first, other = (side if isinstance(side, Column) else made_of([side], wanted, name)
-                    for side, name in ((if_true, "if_true"), (if_false, "if_false")))
-    second = distinct(other, first)
+    first, second = (side if isinstance(side, Column) else made_of([side], wanted, name)
+                     for side, name in ((if_true, "if_true"), (if_false, "if_false")))
     name = {(True, True): "sel_if_then_else", (False, True): "sel_if_then_else_broadcast_true", (True, False): "sel_if_then_else_broadcast_false", (False, False): "sel_if_then_else_broadcast_both"}[
         isinstance(if_true, Column), isinstance(if_false, Column)]
-    return Column._owning(derived(distinct(mask_of(mask, "mask"), first, second), name, first, second))
+    return Column._owning(derived(mask_of(mask, "mask"), name, first, second))
 
 
 def if_else(mask: Column | Iterable[Boolean | None] | Array, if_true: Column | Any, if_false: Column | Any) -> Column:
     """Returns the rows of `if_true` where the mask is true, and else those of `if_false`, as `choose` does.
 
-    >>> if_else([True, False], Column([1, 2]), 0)
+    >>> sel.if_else([True, False], sel.Column([1, 2]), 0)
     Column(i64, [1,0])
     """
     return choose(mask, if_true, if_false)
 
 
 def flatten(columns: Iterable[Column], widths: Iterable[SupportsIndex] | Array, height: SupportsIndex) -> Column:
-    """Returns `height` rows concatenated, each of which has the next `widths[i]` items of each column i.
+    """Concatenates columns row by row: returns, `height` times, the next `widths[i]` rows of each column i.
 
-    Raises OverflowError for a width or a height outside [0, 2^64).
+    A column with only `widths[i]` rows gives them each time. Raises OverflowError for a width or a height outside [0, 2^64), and
+    WrongArgument, a TypeError, for columns of several types and for a column with another number of rows.
+
+    >>> sel.flatten([sel.Column([1, 2, 3, 4]), sel.Column([10, 20])], [2, 1], 2)
+    Column(i64, [1,2,10,3,4,20])
     """
     owners, sizes, rows = columns_of(columns, "columns"), sizes_of(widths, "widths"), integer_within(height, "height", SIZE)
     return Column._owning(from_several(owners, lambda handles, made: call(
@@ -361,7 +501,11 @@ def flatten(columns: Iterable[Column], widths: Iterable[SupportsIndex] | Array, 
 def collect_rows(columns: Iterable[Column], picks: Iterable[tuple[SupportsIndex, SupportsIndex] | None] | Array) -> Column:
     """Returns the rows that the picks name, each by a column number and a row number; null where a pick is `None` or masked.
 
-    Raises IndexError for a number that no column or row has, and ValueError for a pick that is not a pair.
+    Raises IndexError for a number that no column or row has, ValueError for a pick that is not a pair, and WrongArgument, a TypeError,
+    for columns of several types.
+
+    >>> sel.collect_rows([sel.Column(["a", "b"]), sel.Column(["x"])], [(1, 0), None, (0, 1)])
+    Column(utf8, ["x",null,"b"])
     """
     owners, (numbers, count, validity) = columns_of(columns, "columns"), picks_of(picks, "picks")
     return Column._owning(from_several(owners, lambda handles, made: call(
@@ -373,7 +517,7 @@ def concat(columns: Iterable[Column]) -> Column:
 
     Raises ValueError if there is no column, and WrongArgument, a TypeError, if they have several types.
 
-    >>> concat([Column([1, None]), Column([3])])
+    >>> sel.concat([sel.Column([1, None]), sel.Column([3])])
     Column(i64, [1,null,3])
     """
     given = list(columns)
@@ -384,14 +528,15 @@ def concat(columns: Iterable[Column]) -> Column:
     for position, column in enumerate(given):
         if column.type != wanted:
             raise WrongArgument(TYPE_MISMATCH, f"columns[{position}]: a column of type {column.type}, where columns[0] has type {wanted}")
-    # flatten takes no items of a column without rows
-    parts = [column for column in given if len(column) > 0]
-    return flatten(parts, map(len, parts), 1) if parts else given[0].share()
+    return Column._owning(concatenated(given))
 
 
 def propagate_dictionary(keys: Column, values: Column) -> tuple[Column, Column]:
-    """Returns 32-bit keys and strings without null strings: the key of a null string becomes null."""
-    new_keys, new_values = Column._empty(), Column._empty()
-    texts = distinct(column_of(values, "values"), column_of(keys, "keys"))
-    call("sel_propagate_dictionary", keys._at(), texts._at(), byref(new_keys._handle), byref(new_values._handle))
-    return new_keys, new_values
+    """Returns 32-bit keys and strings without null strings: the key of a null string becomes null.
+
+    >>> sel.propagate_dictionary(sel.Column([0, 1, 2, None], "u32"), sel.Column(["a", None, "c"]))
+    (Column(u32, [0,null,1,null]), Column(utf8, ["a","c"]))
+    """
+    new_keys, new_values = Owner(), Owner()
+    call("sel_propagate_dictionary", column_of(keys, "keys"), column_of(values, "values"), byref(new_keys._handle), byref(new_values._handle))
+    return Column._owning(new_keys), Column._owning(new_values)

@@ -10,7 +10,7 @@ from . import _arrays
 from ._checks import booleans, integer, is_boolean, position_of, shown
 from ._makers import made_of
 from ._memory import NO_VALIDITY, words
-from ._owner import Owner, derived, distinct
+from ._owner import Owner, derived
 from ._readers import rows_of
 from ._types import NUMBERS, Type
 
@@ -62,7 +62,7 @@ def _sliced(column: Owner, place: slice) -> Owner:
 def _filtered(column: Owner, mask: Owner, name: str) -> Owner:
     if len(mask) != len(column):
         raise ValueError(f"{name}: a mask of {len(mask)} booleans for {len(column)} rows")
-    return derived(column, "sel_filter", distinct(mask, column))
+    return derived(column, "sel_filter", mask)
 
 
 def _taken(column: Owner, rows: Owner) -> Owner:

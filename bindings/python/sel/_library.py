@@ -12,7 +12,7 @@ from ._checks import shown
 from ._errors import error_of
 from ._statuses import OK
 
-__all__ = ["ArrowArray", "ArrowSchema", "Handle", "Slice", "attempt", "call", "lib", "status_of"]
+__all__ = ["ArrowArray", "ArrowArrayStream", "ArrowSchema", "Handle", "Slice", "attempt", "call", "lib", "status_of"]
 
 
 class Handle(Structure):
@@ -49,6 +49,12 @@ ArrowArray._fields_ = [
 ]
 
 
+class ArrowArrayStream(Structure):
+    """A stream of arrays of one type, as defined by the Arrow C Stream Interface."""
+
+    _fields_ = [("get_schema", c_void_p), ("get_next", c_void_p), ("get_last_error", c_void_p), ("release", c_void_p), ("private_data", c_void_p)]
+
+
 def _places() -> list[str]:
     """Returns the paths to try: $SEL_LIBRARY, next to this file, the build folder of a checkout, and the system's own search."""
     here = Path(__file__).resolve()
@@ -57,17 +63,24 @@ def _places() -> list[str]:
     return told + [place for place in [str(here.parent / "libsel.so"), *built] if os.path.exists(place)] + ["libsel.so.1"]
 
 
-def _load() -> Any:
+def _load() -> tuple[Any, Any]:
+    """Returns the library twice: its calls release the interpreter's lock, so that those of several threads run in parallel, or keep it."""
     for place in _places():
         try:
-            # PyDLL keeps the interpreter's lock during each call: two calls never run at once.
-            return ctypes.PyDLL(place)
+            return ctypes.CDLL(place), ctypes.PyDLL(place)
         except OSError as error:
             fault = error
     raise ImportError(f"libsel was not found (build it by make lib, or set SEL_LIBRARY to its path): {fault}")
 
 
-lib = _load()
+lib, _keeping_lock = _load()
+
+# Calls that take little time whatever the column is. They keep the lock: while another thread runs Python code, it would take
+# milliseconds to get the lock back.
+_SHORT = ("sel_len", "sel_type_of", "sel_status_string", "sel_share", "sel_child", "sel_field", "sel_field_count", "sel_fixed_size_list_size", "sel_bytes_len",
+          "sel_buffer_count", "sel_buffer_len")
+for _name in _SHORT:
+    setattr(lib, _name, getattr(_keeping_lock, _name))
 
 _COLUMN, _BYTES, _SIZE = POINTER(Handle), c_void_p, c_size_t
 _BITS = [c_void_p, c_size_t, c_bool]

@@ -129,7 +129,7 @@ def _make_lists(values: Sequence[Any], wanted: Type, name: str, valid: Sequence[
     _check_rows(values, name, list)
     made, offsets = Owner(), _offsets(len(value or ()) for value in values)
     child = made_of([item for value in values for item in value or ()], wanted.children[0], f"elements of {name}")
-    call("sel_list_new", offsets, len(values) + 1, *validity_of(valid), child._at(), byref(made._handle))
+    call("sel_list_new", offsets, len(values) + 1, *validity_of(valid), child, byref(made._handle))
     return made
 
 
@@ -146,7 +146,7 @@ def _fixed_list_items(values: Sequence[Any], wanted: Type, name: str) -> Owner:
 def _make_fixed_lists(values: Sequence[Any], wanted: Type, name: str, valid: Sequence[bool]) -> Owner:
     _check_rows(values, name, list, wanted.width)
     made, child = Owner(), _fixed_list_items(values, wanted, f"elements of {name}")
-    call("sel_fixed_size_list_new", wanted.width, len(values), *validity_of(valid), child._at(), byref(made._handle))
+    call("sel_fixed_size_list_new", wanted.width, len(values), *validity_of(valid), child, byref(made._handle))
     return made
 
 

@@ -28,7 +28,7 @@ _INLINE_BYTES = 12
 def validity_bits(owner: Owner) -> Memory | None:
     """Returns the bits of the validity; none if every row is valid, and also for the kind null."""
     bits, has = room_for_bits(len(owner)), c_bool()
-    call("sel_validity", owner._at(), bits, bits.size(), byref(has))
+    call("sel_validity", owner, bits, bits.size(), byref(has))
     return bits if has.value else None
 
 
@@ -56,10 +56,10 @@ def _values_of(owner: Owner, kind: str) -> list[Any]:
 def printed(owner: Owner, bytes_expected: int = 0) -> str:
     """Returns the rows as text. One call is enough if the text has at most the bytes that are expected."""
     count, text = c_size_t(), room("B", bytes_expected)
-    call("sel_print", owner._at(), text, text.size(), byref(count))
+    call("sel_print", owner, text, text.size(), byref(count))
     if count.value > text.size():
         text = room("B", count.value)
-        call("sel_print", owner._at(), text, text.size(), byref(count))
+        call("sel_print", owner, text, text.size(), byref(count))
     return bytes(text.items[: count.value]).decode()
 
 
@@ -67,25 +67,25 @@ def _read_numbers(owner: Owner, kind: str) -> list[Any]:
     (name, bits), count = NUMBERS[kind], len(owner)
     if abs(bits) != 128:
         items = room(CODES[name], count)
-        call(f"sel_{name}_values", owner._at(), items, count)
+        call(f"sel_{name}_values", owner, items, count)
         values: list[int] = items.items.tolist()
         return values
     items = room("Q", 2 * count)
-    call(f"sel_{name}_values", owner._at(), items, count)
+    call(f"sel_{name}_values", owner, items, count)
     numbers = [high << 64 | low for low, high in zip(items.items[0::2], items.items[1::2])]
     return [number - (1 << 128) if bits < 0 and number >> 127 else number for number in numbers]
 
 
 def _read_booleans(owner: Owner) -> list[Any]:
     bits = room_for_bits(len(owner))
-    call("sel_boolean_values", owner._at(), bits, bits.size())
+    call("sel_boolean_values", owner, bits, bits.size())
     return unpacked(bits, len(owner))
 
 
 def _offsets(owner: Owner) -> list[int]:
     count = len(owner) + 1
     offsets = room("q", count)
-    call("sel_offsets", owner._at(), offsets, count)
+    call("sel_offsets", owner, offsets, count)
     values: list[int] = offsets.items.tolist()
     return values
 
@@ -107,7 +107,7 @@ def _read_bytes(owner: Owner) -> list[Any]:
         owner = _compacted(owner)
         offsets = _offsets(owner)
     joined = room("B", owner._size("sel_bytes_len"))
-    call("sel_bytes", owner._at(), joined, joined.size())
+    call("sel_bytes", owner, joined, joined.size())
     whole = bytes(joined.items)
     return [whole[start:end] for start, end in zip(offsets, offsets[1:])]
 
@@ -116,7 +116,7 @@ def _read_views(owner: Owner) -> list[Any]:
     """Returns the values that views refer to: from the data buffers if the rows are most of them, else from printed rows."""
     count, is_text = len(owner), owner._kind() == "utf8"
     views = room("I", 4 * count)
-    call("sel_views", owner._at(), views, count)
+    call("sel_views", owner, views, count)
     lengths, numbers = views.items[0::4], views.items[2::4]
     used = {number for length, number in zip(lengths, numbers) if length > _INLINE_BYTES}
     sizes = {number: owner._size("sel_buffer_len", number) for number in used}
@@ -129,7 +129,7 @@ def _read_views(owner: Owner) -> list[Any]:
 def _buffer(owner: Owner, number: int, size: int) -> bytes:
     """Returns a data buffer of a column of views."""
     buffer = room("B", size)
-    call("sel_buffer", owner._at(), number, buffer, size)
+    call("sel_buffer", owner, number, buffer, size)
     return bytes(buffer.items)
 
 

@@ -21,7 +21,13 @@ NUMBERS = {"i8": ("int8", -8), "i16": ("int16", -16), "i32": ("int32", -32), "i6
 
 @dataclass(frozen=True)
 class Type:
-    """The type of a column: its kind, the types of its children, and the list size of fixed-size lists."""
+    """The type of a column: its kind, the types of its children, and the list size of fixed-size lists.
+
+    Types are compared by `==`, can be hashed, and print as in `list<fixed<2,i64>>`.
+
+    >>> sel.Type("list", (sel.Type("i64"),)) == sel.parse_type("list<item: int64>")
+    True
+    """
 
     kind: str
     children: tuple[Type, ...] = ()
@@ -31,6 +37,11 @@ class Type:
         object.__setattr__(self, "width", integer_within(self.width, "width", LIST_SIZE))
 
     def __str__(self) -> str:
+        """Returns the short name of the type.
+
+        >>> str(sel.Type("fixed", (sel.Type("i64"),), 2))
+        'fixed<2,i64>'
+        """
         inner = ",".join(map(str, self.children))
         if self.kind == "fixed":
             return f"fixed<{self.width},{inner}>"
@@ -42,7 +53,7 @@ def parse_type(text: str) -> Type:
 
     Raises ValueError if it names none, and OverflowError if a list size is more than 4,294,967,295.
 
-    >>> str(parse_type("struct<id: int64, tags: list<item: string>>"))
+    >>> str(sel.parse_type("struct<id: int64, tags: list<item: string>>"))
     'struct<i64,list<utf8>>'
     """
     plain = "".join(short_names(text)[0].split())

@@ -109,13 +109,13 @@ class Layout:
     def _lists(self, values: list[Any], valid: list[bool], wanted: Type) -> Owner:
         made, offsets = Owner(), words("q", accumulate(map(len, values), initial=0))
         child = self.column([item for value in values for item in value], wanted.children[0])
-        call("sel_list_new", offsets, len(values) + 1, *validity_of(valid), child._at(), byref(made._handle))
+        call("sel_list_new", offsets, len(values) + 1, *validity_of(valid), child, byref(made._handle))
         return made
 
     def _fixed_lists(self, values: list[Any], valid: list[bool], wanted: Type) -> Owner:
         made = Owner()
         child = self.column([item for value in values for item in value], wanted.children[0])
-        call("sel_fixed_size_list_new", wanted.width, len(values), *validity_of(valid), child._at(), byref(made._handle))
+        call("sel_fixed_size_list_new", wanted.width, len(values), *validity_of(valid), child, byref(made._handle))
         return made
 
     def _structs(self, values: list[Any], valid: list[bool], wanted: Type) -> Owner:

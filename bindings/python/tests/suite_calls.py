@@ -3,15 +3,15 @@
 from __future__ import annotations
 
 import pickle
-from collections.abc import Callable
-from ctypes import byref
+from collections.abc import Callable, Sequence
+from ctypes import byref, c_bool
 from typing import Any, NamedTuple
 
 import sel
 from cases import numpy
 from notation import read_rows, read_typed_rows
 from sel import Column, Type, _readers
-from sel._library import call
+from sel._library import Handle, call
 from sel._memory import NO_VALIDITY, packed, words
 from sel._owner import Owner, derived, from_several
 from sel._types import type_of_values
@@ -36,7 +36,7 @@ NOT_RUN = {"parse": "the parser allocates memory for each row below a null, and 
 # Statuses by the names of tests/README.md; include/sel.h numbers them.
 STATUSES = {
     "out_of_memory": 1, "unsupported_type": 3, "type_mismatch": 4, "length_mismatch": 5, "index_out_of_bounds": 6, "list_index_out_of_bounds": 7,
-    "row_limit": 8, "offset_limit": 9, "buffer_limit": 10, "view_limit": 11, "no_offsets": 16, "negative_offset": 17, "decreasing_offset": 18,
+    "row_limit": 8, "offset_limit": 9, "buffer_limit": 10, "view_limit": 11, "too_deep": 12, "no_offsets": 16, "negative_offset": 17, "decreasing_offset": 18,
     "too_many_rows": 19, "too_many_buffers": 20, "list_size": 21, "offset_range": 22, "child_length": 23, "field_length": 24, "validity_length": 25,
     "type_syntax": 32, "row_syntax": 33, "row_type_mismatch": 34, "text_limit": 35,
 }
@@ -125,22 +125,44 @@ def _validity(flags: list[bool] | None) -> tuple[Any, int, bool]:
     return bits, bits.size(), True
 
 
+def _has_rows_of(handle: Handle, column: Column) -> bool:
+    equal = c_bool()
+    call("sel_equal_rows", byref(handle), column, byref(equal))
+    return equal.value
+
+
+def _made_of_children(children: Sequence[Column], make: Callable[[Any, Owner], None]) -> Column:
+    """Returns what a call makes of children, and checks that it takes them if it succeeds, and that they are unchanged if it fails."""
+
+    def checked(handles: Any, made: Owner) -> None:
+        try:
+            make(handles, made)
+        except sel.SelError:
+            if not all(handle.at and _has_rows_of(handle, child) for handle, child in zip(handles, children)):
+                raise AssertionError("a child has changed, although the call failed") from None
+            raise
+        if any(handle.at for handle in handles):
+            raise AssertionError("a child is still there, although the call succeeded")
+
+    return Column._owning(from_several(children, checked))
+
+
 def _list_new(given: Arguments, child: Column) -> Column:
-    (offsets, valid), made, taken = given.others, Owner(), child.share()
-    call("sel_list_new", words("q", offsets), len(offsets), *_validity(valid), taken._at(), byref(made._handle))
-    return Column._owning(made)
+    offsets, valid = given.others
+    return _made_of_children([child], lambda handles, made: call(
+        "sel_list_new", words("q", offsets), len(offsets), *_validity(valid), handles, byref(made._handle)))
 
 
 def _fixed_size_list_new(given: Arguments, child: Column) -> Column:
-    (size, count, valid), made, taken = given.others, Owner(), child.share()
-    call("sel_fixed_size_list_new", size, count, *_validity(valid), taken._at(), byref(made._handle))
-    return Column._owning(made)
+    size, count, valid = given.others
+    return _made_of_children([child], lambda handles, made: call(
+        "sel_fixed_size_list_new", size, count, *_validity(valid), handles, byref(made._handle)))
 
 
 def _struct_new(given: Arguments, *fields: Column) -> Column:
     count, valid = given.others
-    return Column._owning(from_several(fields, lambda handles, made: call(
-        "sel_struct_new", count, *_validity(valid), handles, len(fields), byref(made._handle))))
+    return _made_of_children(fields, lambda handles, made: call(
+        "sel_struct_new", count, *_validity(valid), handles, len(fields), byref(made._handle)))
 
 
 def _broadcast(name: str) -> Use:

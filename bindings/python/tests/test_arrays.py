@@ -35,6 +35,36 @@ class Values(unittest.TestCase):
         self.assertEqual(Column.from_numpy(numpy.array([], dtype="int64")).to_pylist(), [])
         self.assertEqual(Column.from_numpy(numpy.array([], dtype="bool"), valid=[]).to_numpy().tolist(), [])
 
+    def test_asarray(self) -> None:
+        """numpy makes an array of a column without nulls, as `to_numpy` does."""
+        for name in (*INTEGERS, "bool"):
+            values = numpy.array([1, 0, 1, 1], dtype=name)
+            column = Column.from_numpy(values)
+            for found in (numpy.asarray(column), numpy.array(column), column.__array__(), column.__array__(None, True), numpy.asarray(column[::-1])[::-1]):
+                numpy.testing.assert_array_equal(found, values)
+                self.assertEqual((type(found), found.dtype), (numpy.ndarray, values.dtype))
+            for other in ("float64", "int64", "object"):
+                numpy.testing.assert_array_equal(numpy.asarray(column, dtype=other), values.astype(other))
+                self.assertEqual(numpy.asarray(column, dtype=other).dtype, other)
+            self.assertEqual((numpy.sum(column), numpy.add(column, 1).tolist()), (3, [2, 1, 2, 2]))
+            self.assertEqual(numpy.asarray(Column([1, None, 0] if name != "bool" else [True, None, False], "bool" if name == "bool" else name).drop_null()).tolist(), [1, 0])
+            self.assertEqual(numpy.asarray(Column([], "bool" if name == "bool" else name)).dtype, values.dtype)
+
+    def test_asarray_of_nulls_and_other_types(self) -> None:
+        for column in (Column([1, None]), Column([None, True]), Column([None], "u8")):
+            for use in table(numpy.asarray, numpy.ma.asarray, numpy.sum, lambda column: column.__array__()):
+                with self.assertRaisesRegex(ValueError, r"to_numpy\(\).*fill_null"):
+                    use(column)
+        self.assertEqual([(each == numpy.array([10, 0, 30])).tolist() for each in table(NUMBERS)], [[True, False, True]])
+        for rows, kind in table((["a"], "utf8"), ([b"a"], "binary"), ([None], "null"), ([1], "i128"), ([[1]], "list<i64>"), ([[1]], "fixed<1,i64>"), ([(1,)], "struct<i64>")):
+            with self.assertRaisesRegex(TypeError, "no array has values of type"):
+                numpy.asarray(Column(rows, kind))
+        with self.assertRaises(ValueError):
+            NUMBERS.__array__(copy=False)
+        with self.assertRaises(TypeError):
+            Column.from_numpy(NUMBERS)
+        self.assertEqual(Column.from_numpy(numpy.array([1, 2]), valid=Column([True, False])).to_pylist(), [1, None])
+
     def test_both_byte_orders(self) -> None:
         for name in INTEGERS:
             info = numpy.iinfo(name)

@@ -90,6 +90,28 @@ class Columns(unittest.TestCase):
         self.assertEqual(str(Column.from_pylist([[("\u00e9\n", b"\x00")], None])), '[[("\u00e9\\n",h"00")],null]')
         self.assertEqual(Column.from_pylist(["a", "b"])[-1], "b")
 
+    def test_equality(self) -> None:
+        """`==` is one bool: whether the other value is a column with the same rows."""
+        column = Column([1, None, 3])
+        for other, equal in table((column, True), (Column([1, None, 3]), True), (Column([1, None, 3], "u8"), True), (Column([1, None]), False), (Column([1, 0, 3]), False),
+                                  (Column(["1", None, "3"]), False), ([1, None, 3], False), ((1, None, 3), False), (None, False), (1, False), ("[1,null,3]", False)):
+            self.assertIs(column == other, equal)
+            self.assertIs(other == column, equal)
+            self.assertIs(column != other, not equal)
+            self.assertIs(other != column, not equal)
+        self.assertEqual([column, Column([[1]])], [Column([1, None, 3]), Column([[1]])])
+        self.assertIn(column[1:], [column, Column([None, 3])])
+        for use in table(hash, lambda column: {column}, lambda column: {column: 1}):
+            with self.assertRaises(TypeError):
+                use(column)
+
+    def test_random_equality(self) -> None:
+        rng = random.Random(11)
+        for _ in range(CASES):
+            wanted = model.random_type(rng, 2)
+            rows, others = (model.random_rows(rng, wanted, rng.randrange(3)) for _ in range(2))
+            self.assertIs(model.laid_out(rng, rows, wanted) == model.laid_out(rng, others, wanted), rows == others)
+
     def test_copies_outlive_their_column(self) -> None:
         for copied in table(copy.copy, copy.deepcopy, Column.share):
             column = Column.from_pylist(["a", None])

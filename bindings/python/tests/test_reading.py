@@ -173,13 +173,13 @@ class Costs(unittest.TestCase):
     def test_fixed_size_lists_of_null_slots_are_not_read(self) -> None:
         big, made = 200_000, Owner()
         child = made_of([1] * (3 * big), Type("i8"))
-        _library.call("sel_fixed_size_list_new", big, 3, *validity_of([False, False, False]), child._at(), byref(made._handle))
+        _library.call("sel_fixed_size_list_new", big, 3, *validity_of([False, False, False]), child, byref(made._handle))
         self.check(Column._owning(made), [None, None, None], Type("fixed", (Type("i8"),), big), "fixed")
 
     def test_rows_outside_of_lists_are_not_read(self) -> None:
         for kind, items in table(("i64", list(range(50_000))), ("utf8", [f"{number:030}" for number in range(50_000)])):
             made, child, offsets = Owner(), made_of(items, Type(kind)), words("q", (20_000, 20_000, 20_002, 20_003))
-            _library.call("sel_list_new", offsets, 4, *validity_of([True] * 3), child._at(), byref(made._handle))
+            _library.call("sel_list_new", offsets, 4, *validity_of([True] * 3), child, byref(made._handle))
             wanted = Type("list", (Type(kind),))
             self.check(Column._owning(made), [[], items[20_000:20_002], items[20_002:20_003]], wanted, kind)
 
