@@ -422,6 +422,6 @@ static void (*const tests[])(void) = {
 };
 
 int main(void) {
-    run_tests(tests, sizeof tests / sizeof tests[0]);
+    run_tests(tests, sizeof tests / sizeof tests[0], 1);
     return finish();
 }

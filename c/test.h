@@ -33,8 +33,8 @@ extern const uint8_t no_bits[1];
 /* The view of up to 12 bytes, and one of more of them in a data buffer. */
 sel_view view_of(const char *text, uint32_t len, uint32_t offset);
 
-/* Runs each test, then again with each of its allocations refused in turn, and checks that all blocks are freed. */
-void run_tests(void (*const *tests)(void), size_t count);
+/* Runs each test, then again with each `step`-th of its allocations refused in turn, and checks that all blocks are freed. */
+void run_tests(void (*const *tests)(void), size_t count, long step);
 
 /* Prints the number of tests, refused allocations and failures; returns the exit status. */
 int finish(void);

@@ -1,5 +1,5 @@
-/* Columns of 128 levels, the most that a column can have: every function of both headers on a thread with a stack of 256 KiB, with each
- * allocation refused in turn; the errors of level 129; and the makers, which leave their children unchanged on error, so that the
+/* Columns of 128 levels, the most that a column can have: every function of both headers on a thread with a stack of 256 KiB, with
+ * allocations refused in turn; the errors of level 129; and the makers, which leave their children unchanged on error, so that the
  * call succeeds when it is tried again. */
 #define _POSIX_C_SOURCE 200809L
 
@@ -23,9 +23,9 @@ static const sel_type_id shapes[][3] = {
 };
 enum { SHAPES = sizeof shapes / sizeof *shapes };
 
-/* The shape that is tested, and columns of it. `deep` has 128 levels and its last row is null; `below` has 127 levels. */
+/* The shape that is tested, and columns of it. `deep` has 128 levels and its last row is null; `below` has 127 levels, `leaf` none. */
 static size_t shape;
-static sel_column pair[2], turned, below, mask, places;
+static sel_column pair[2], turned, below, leaf, mask, places;
 static sel_column *const deep = &pair[0], *const one = &pair[1];
 
 static sel_type_id type_of_level(size_t level) { return shapes[shape][level % 3]; }
@@ -147,6 +147,7 @@ static void make_columns(void) {
     const uint8_t bits[1] = {3}, flags[1] = {5};
     make_levels(MOST, deep);
     make_levels(MOST - 1, &below);
+    make_leaf(&leaf);
     DONE(sel_take_rows(deep, rows, LEN, SEL_ALL_VALID, &turned));
     DONE(sel_slice(deep, 0, 1, one));
     DONE(sel_boolean_new(flags, 1, LEN, SEL_ALL_VALID, &mask));
@@ -161,6 +162,7 @@ static void free_columns(void) {
     sel_free(one);
     sel_free(&turned);
     sel_free(&below);
+    sel_free(&leaf);
     sel_free(&mask);
     sel_free(&places);
 }
@@ -467,8 +469,10 @@ static void unchanged(children *given, int line) {
     bool is_same = given->fields[0].at == given->at[0] && given->fields[1].at == given->at[1];
     is_at(is_same, "the children are unchanged", __FILE__, line);
     if (is_same) {
+        bool is_equal = false;
+        sel_status status = sel_equal_rows(&given->fields[1], given->levels == 0 ? &leaf : &below, &is_equal);
         is_at(sel_len(&given->fields[0]) == LEN, "the first field is unchanged", __FILE__, line);
-        shows(&given->fields[1], given->levels, ROWS(0, 1, 2), line);
+        is_at(status == SEL_OK && is_equal, "the child is unchanged", __FILE__, line);
     }
 }
 
@@ -580,16 +584,24 @@ static void test_leaves(void) {
 /* ---- the thread ---- */
 
 static void (*const tests[])(void) = {
-    test_values, test_properties, test_children, test_parts, test_selections, test_choices_of_deep_columns, test_elements,
-    test_several_columns, test_comparison, test_parsing, test_arrow, test_level_129, test_unit_list_of_127_levels, test_flat_children,
+    test_values, test_properties, test_children, test_comparison, test_level_129, test_unit_list_of_127_levels, test_flat_children,
     test_deep_lists, test_deep_fixed_size_lists, test_deep_structs, test_leaves,
 };
+
+/* Each of these makes some thousand allocations, of which every 37th is refused; those of test_arrow are some ten thousand. */
+static void (*const long_tests[])(void) = {
+    test_parts, test_elements, test_parsing, test_selections, test_choices_of_deep_columns, test_several_columns,
+};
+static void (*const longest_tests[])(void) = {test_arrow};
+enum { STEP = 37, LONG_STEP = 499 };
 
 static void *run_shapes(void *unused) {
     (void)unused;
     for (shape = 0; shape < SHAPES; shape += 1) {
         make_columns();
-        run_tests(tests, sizeof tests / sizeof *tests);
+        run_tests(tests, sizeof tests / sizeof *tests, 1);
+        run_tests(long_tests, sizeof long_tests / sizeof *long_tests, STEP);
+        run_tests(longest_tests, sizeof longest_tests / sizeof *longest_tests, LONG_STEP);
         free_columns();
     }
     return NULL;

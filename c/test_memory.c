@@ -113,14 +113,14 @@ sel_view view_of(const char *text, uint32_t len, uint32_t offset) {
 
 static size_t tests_run = 0;
 
-void run_tests(void (*const *tests)(void), size_t count) {
+void run_tests(void (*const *tests)(void), size_t count, long step) {
     for (size_t i = 0; i < count; i += 1) {
         const long before = blocks;
         refuse(-1);
         tests[i]();
         IS(blocks == before);
-        /* again, with the first allocation refused, then the second, and so on */
-        for (long n = 0;; n += 1) {
+        /* again, with the first allocation refused, then a later one, and so on */
+        for (long n = 0;; n += step) {
             refuse(n);
             tests[i]();
             until_refused = -1;

@@ -108,11 +108,11 @@ void test_broadcasts(void) {
         ANSWERS(sel_if_then_else_broadcast_false(&given[0], &given[1], &given[3], &out), &out, "[1,null,null]");
         ANSWERS(sel_if_then_else_broadcast_both(&given[0], &given[2], &given[3], &out), &out, "[3,null,3]");
         ANSWERS(sel_if_then_else_broadcast_both(&given[0], &given[3], &given[2], &out), &out, "[null,3,null]");
-        IS(sel_if_then_else_broadcast_true(&given[0], &given[1], &given[1], &out) != SEL_OK);
+        IS(gives(sel_if_then_else_broadcast_true(&given[0], &given[1], &given[1], &out), SEL_ERROR_LENGTH_MISMATCH));
         IS(gives(sel_if_then_else_broadcast_false(&given[0], &given[2], &given[3], &out), SEL_ERROR_LENGTH_MISMATCH));
         IS(gives(sel_if_then_else_broadcast_both(&given[0], &given[1], &given[2], &out), SEL_ERROR_LENGTH_MISMATCH));
         IS(gives(sel_if_then_else_broadcast_true(&given[0], &given[2], &given[3], &out), SEL_ERROR_LENGTH_MISMATCH));
-        IS(sel_if_then_else_broadcast_true(&given[0], &given[2], &given[0], &out) != SEL_OK);
+        IS(gives(sel_if_then_else_broadcast_true(&given[0], &given[2], &given[0], &out), SEL_ERROR_TYPE_MISMATCH));
         IS(gives(sel_if_then_else_broadcast_both(&given[1], &given[2], &given[3], &out), SEL_ERROR_UNSUPPORTED_TYPE));
     }
     free_all(given, 5);

@@ -1,4 +1,4 @@
-"""Builds the wheel: the package's files, the licence and the library, which `make lib` has built. It needs nothing but Python and objdump.
+"""Builds the wheel: the package's files, the licence and the library, which `make lib` has built, also for newer processors. It needs nothing but Python and objdump.
 
     python3 bindings/python/build_backend/wheel_of_sel.py [FOLDER]     writes the wheel into FOLDER or, without it, into build/
 
@@ -20,20 +20,15 @@ from pathlib import Path
 HERE = Path(__file__).resolve().parents[1]
 ROOT = HERE.parents[1]
 BUILD = ROOT / "build"
+# For every processor with x86-64-v2; `make lib CPU=NAME` builds those for newer ones into other folders.
 LIBRARY = BUILD / "libsel.so"
-# The processors that `make lib` builds for; the version of a wheel for others names them.
-LEAST_CPU = "x86-64-v2"
+# Newer processors, whose library `make lib CPU=NAME` builds into build/NAME; the package loads it where glibc would.
+NEWER_CPUS = ("x86-64-v3",)
+VERSION = (ROOT / "VERSION").read_text().split()[0]
 
 
 class UnsupportedOperation(Exception):
     """Something that PEP 517 lets a backend refuse."""
-
-
-def _version() -> str:
-    version = (ROOT / "VERSION").read_text().split()[0]
-    built = BUILD / "cpu"
-    cpu = built.read_text().strip() if built.exists() else LEAST_CPU
-    return version if cpu == LEAST_CPU else f"{version}+{re.sub('[^a-z0-9]', '.', cpu.lower())}"
 
 
 def _from_project(name: str) -> str:
@@ -46,7 +41,7 @@ def _from_project(name: str) -> str:
 
 def _metadata() -> str:
     fields = (
-        ("Metadata-Version", "2.1"), ("Name", "sel"), ("Version", _version()), ("Summary", _from_project("description")), ("License", "MIT"),
+        ("Metadata-Version", "2.1"), ("Name", "sel"), ("Version", VERSION), ("Summary", _from_project("description")), ("License", "MIT"),
         ("License-File", "LICENSE"), ("Classifier", "License :: OSI Approved :: MIT License"), ("Classifier", "Operating System :: POSIX :: Linux"),
         ("Classifier", "Programming Language :: Python :: 3"), ("Classifier", "Typing :: Typed"), ("Requires-Python", _from_project("requires-python")),
         ("Description-Content-Type", "text/markdown"),
@@ -82,7 +77,7 @@ def _line(name: str, content: bytes) -> str:
 
 def _write(folder: str, tag: str, files: dict[str, bytes]) -> str:
     """Writes a wheel of these files and its own; the same files give the same bytes. Returns its name."""
-    stem = f"sel-{_version()}"
+    stem = f"sel-{VERSION}"
     info = f"{stem}.dist-info"
     files = {
         **files,
@@ -106,7 +101,12 @@ def build_wheel(wheel_directory: str, config_settings: object = None, metadata_d
     if not LIBRARY.exists():
         raise FileNotFoundError(f"{LIBRARY} is missing: make lib builds it")
     files = {f"sel/{path.name}": path.read_bytes() for path in sorted((HERE / "sel").iterdir()) if path.suffix in (".py", ".typed")}
-    return _write(wheel_directory, f"py3-none-{_platform()}", {**files, "sel/libsel.so": LIBRARY.read_bytes()})
+    files["sel/libsel.so"] = LIBRARY.read_bytes()
+    for cpu in NEWER_CPUS:
+        library = BUILD / cpu / "libsel.so"
+        if library.exists():
+            files[f"sel/glibc-hwcaps/{cpu}/libsel.so"] = library.read_bytes()
+    return _write(wheel_directory, f"py3-none-{_platform()}", files)
 
 
 def build_editable(wheel_directory: str, config_settings: object = None, metadata_directory: object = None) -> str:

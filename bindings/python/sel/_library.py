@@ -55,12 +55,31 @@ class ArrowArrayStream(Structure):
     _fields_ = [("get_schema", c_void_p), ("get_next", c_void_p), ("get_last_error", c_void_p), ("release", c_void_p), ("private_data", c_void_p)]
 
 
+# The flags of /proc/cpuinfo that glibc asks for before it loads a library from glibc-hwcaps/NAME.
+_CPUS = {"x86-64-v3": frozenset(("avx", "avx2", "bmi1", "bmi2", "f16c", "fma", "abm", "movbe", "xsave"))}
+
+
+def _cpu_flags() -> frozenset[str]:
+    """Returns the flags of the processor, or none where the system does not list them."""
+    try:
+        lines = Path("/proc/cpuinfo").read_text().splitlines()
+    except OSError:
+        return frozenset()
+    return frozenset(next((line.partition(":")[2] for line in lines if line.startswith("flags")), "").split())
+
+
+def _packed(folder: Path, flags: frozenset[str]) -> list[str]:
+    """Returns the paths of the libraries that are packed in the folder, the one for a processor with these flags first."""
+    newer = [folder / "glibc-hwcaps" / name / "libsel.so" for name, needed in _CPUS.items() if needed <= flags]
+    return [str(path) for path in [*newer, folder / "libsel.so"] if path.exists()]
+
+
 def _places() -> list[str]:
     """Returns the paths to try: $SEL_LIBRARY, next to this file, the build folder of a checkout, and the system's own search."""
     here = Path(__file__).resolve()
     told = [os.environ["SEL_LIBRARY"]] if "SEL_LIBRARY" in os.environ else []
     built = [str(up / "build" / "libsel.so") for up in list(here.parents)[2:4]]
-    return told + [place for place in [str(here.parent / "libsel.so"), *built] if os.path.exists(place)] + ["libsel.so.1"]
+    return told + _packed(here.parent, _cpu_flags()) + [place for place in built if os.path.exists(place)] + ["libsel.so.1"]
 
 
 def _load() -> tuple[Any, Any]:

@@ -57,6 +57,12 @@ def uses_of(kind: str, rows: list[Any]) -> list[Callable[[], Any]]:
     return uses
 
 
+def setUpModule() -> None:
+    """Lets the collector leave out what the modules have made: it runs thousands of times."""
+    gc.collect()
+    gc.freeze()
+
+
 class Refused(unittest.TestCase):
     def check_in_use(self, before: int, what: Any) -> None:
         """Checks the number of blocks in use."""

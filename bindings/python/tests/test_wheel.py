@@ -15,6 +15,8 @@ from unittest.mock import patch
 
 from cases import table
 
+from sel import _library
+
 PACKAGE = Path(__file__).resolve().parents[1]
 
 
@@ -52,13 +54,41 @@ class Tags(unittest.TestCase):
         with patch.object(backend.subprocess, "run", side_effect=FileNotFoundError), patch.object(backend.platform, "machine", return_value="x86_64"):
             self.assertEqual(backend._platform(), "linux_x86_64")
 
-    def test_the_processor_is_a_part_of_the_version(self) -> None:
-        version = (backend.ROOT / "VERSION").read_text().split()[0]
-        with tempfile.TemporaryDirectory() as folder, patch.object(backend, "BUILD", Path(folder)):
-            self.assertEqual(backend._version(), version)
-            for cpu, expected in (("x86-64-v2", version), ("x86-64-v3", f"{version}+x86.64.v3")):
-                (Path(folder) / "cpu").write_text(f"{cpu}\n")
-                self.assertEqual(backend._version(), expected)
+
+class Processors(unittest.TestCase):
+    def test_the_newest_packed_library_that_the_processor_supports_is_loaded_first(self) -> None:
+        with tempfile.TemporaryDirectory() as name:
+            folder = Path(name)
+            plain, newer = folder / "libsel.so", folder / "glibc-hwcaps" / "x86-64-v3" / "libsel.so"
+            needed = _library._CPUS["x86-64-v3"]
+            self.assertEqual(_library._packed(folder, needed), [])
+            plain.write_bytes(b"plain")
+            self.assertEqual(_library._packed(folder, needed), [str(plain)])
+            newer.parent.mkdir(parents=True)
+            newer.write_bytes(b"newer")
+            self.assertEqual(_library._packed(folder, needed), [str(newer), str(plain)])
+            self.assertEqual(_library._packed(folder, needed | {"avx512f"}), [str(newer), str(plain)])
+            for flag in needed:
+                self.assertEqual(_library._packed(folder, needed - {flag}), [str(plain)])
+
+    def test_flags_of_the_processor(self) -> None:
+        with patch.object(Path, "read_text", return_value="processor : 0\nflags\t\t: fpu avx avx2\n\nprocessor : 1\nflags\t\t: fpu\n"):
+            self.assertEqual(_library._cpu_flags(), {"fpu", "avx", "avx2"})
+        with patch.object(Path, "read_text", return_value="model : 1\n"):
+            self.assertEqual(_library._cpu_flags(), frozenset())
+        with patch.object(Path, "read_text", side_effect=FileNotFoundError):
+            self.assertEqual(_library._cpu_flags(), frozenset())
+
+    def test_the_wheel_has_the_library_for_newer_processors(self) -> None:
+        with tempfile.TemporaryDirectory() as name, patch.object(backend, "BUILD", Path(name)), patch.object(backend, "LIBRARY", Path(name) / "libsel.so"):
+            (Path(name) / "libsel.so").write_bytes(b"plain")
+            with zipfile.ZipFile(Path(name) / backend.build_wheel(name)) as wheel:
+                self.assertEqual([path for path in wheel.namelist() if path.endswith(".so")], ["sel/libsel.so"])
+            (Path(name) / "x86-64-v3").mkdir()
+            (Path(name) / "x86-64-v3" / "libsel.so").write_bytes(b"newer")
+            with zipfile.ZipFile(Path(name) / backend.build_wheel(name)) as wheel:
+                self.assertEqual(wheel.read("sel/libsel.so"), b"plain")
+                self.assertEqual(wheel.read("sel/glibc-hwcaps/x86-64-v3/libsel.so"), b"newer")
 
 
 class Wheels(unittest.TestCase):

@@ -21,17 +21,17 @@ use Rattle.polars_compute.specs.Select.{select, effective_mask, is_true}
 use Rattle.sel_filter.proofs.Selects.{length-select}
 use Rattle.sel_lines.specs.Columns.{all_some, column_of}
 use Rattle.sel_lines.specs.Numbers.{index_of, number_of, truth_of}
-use Rattle.sel_lines.specs.SelectRows.{rows_of_each, type_of_each, select_rows_of, selection_fits, exceeded_selected}
+use Rattle.sel_lines.specs.SelectRows.{rows_of_arrays, type_of_each, select_rows_of, selection_fits, exceeded_selected}
 use Rattle.sel_lines.specs.Table.{table_read, table_words}
 use Rattle.sel_lines.proofs.RowLemmas.{map_now}
 
 -- ---- what the precondition implies
 
-pub long_at : (columns : List ArrayRef) (mask indices : List Value) (i : ℕ) (d : ArrayRef) → selection_fits (rows_of_each columns) mask indices ≡ true → i < length columns →
+pub long_at : (columns : List ArrayRef) (mask indices : List Value) (i : ℕ) (d : ArrayRef) → selection_fits (rows_of_arrays columns) mask indices ≡ true → i < length columns →
     length (rows (get_or columns i d).column) ≡ length mask
 long_at columns mask indices i d fits h =
     let p = λ (xs : List Value). length xs == length mask in
-    let each = sym (list_all-map p (λ (c : ArrayRef). rows c.column) columns) ∙ and_first (list_all p (rows_of_each columns)) (all_within (count_by is_true mask) indices) fits in
+    let each = sym (list_all-map p (λ (c : ArrayRef). rows c.column) columns) ∙ and_first (list_all p (rows_of_arrays columns)) (all_within (count_by is_true mask) indices) fits in
     (Decides-eqb _ _).0 (all_at (λ (c : ArrayRef). p (rows c.column)) columns i d each h)
 
 count_forced : (mask : List Value) → count_by (λ b. b) (effective_mask mask) ≡ count_by is_true mask
@@ -45,14 +45,14 @@ kept_count xs mask long = length-select xs (effective_mask mask) (long ∙ sym (
 
 -- A column that is not as long as the mask breaks the precondition.
 pub unfit_at : (columns : List ArrayRef) (mask indices : List Value) (i : ℕ) (x : ArrayRef) → i < length columns → x ≡ get_or columns i x → (length (rows x.column) ≡ length mask → ⊥) →
-    false ≡ selection_fits (rows_of_each columns) mask indices
+    false ≡ selection_fits (rows_of_arrays columns) mask indices
 unfit_at columns mask indices i x h at other =
     let p = λ (xs : List Value). length xs == length mask in
     let none : p (rows (get_or columns i x).column) ≡ false = ap (λ (c : ArrayRef). p (rows c.column)) (sym at) ∙ ne_eqb _ _ other in
     sym (ap (λ b. b && all_within (count_by is_true mask) indices) (list_all-map p (λ (c : ArrayRef). rows c.column) columns ∙ list_all_at (λ (c : ArrayRef). p (rows c.column)) columns i x h none))
 
 pub all_long : (columns : List ArrayRef) (mask indices : List Value) → list_all (λ c. length (rows c.column) == length mask) columns ≡ true →
-    all_within (count_by is_true mask) indices ≡ selection_fits (rows_of_each columns) mask indices
+    all_within (count_by is_true mask) indices ≡ selection_fits (rows_of_arrays columns) mask indices
 all_long columns mask indices each =
     sym (ap (λ b. b && all_within (count_by is_true mask) indices) (list_all-map (λ xs. length xs == length mask) (λ (c : ArrayRef). rows c.column) columns ∙ each))
 
@@ -65,7 +65,7 @@ mapped_step f g xs sel new i x taken h at made same so_far =
     ∙ sym (ap (map g) (take_more xs i x h) ∙ map-append g (take i xs) (get_or xs i x ∷ []))
 
 pub rows_mapped : (mask indices : List Value) (columns : List ArrayRef) →
-    map (λ c. take_rows (select (rows c.column) (effective_mask mask)) indices) columns ≡ select_rows_of (rows_of_each columns) mask indices
+    map (λ c. take_rows (select (rows c.column) (effective_mask mask)) indices) columns ≡ select_rows_of (rows_of_arrays columns) mask indices
 rows_mapped mask indices [] = refl
 rows_mapped mask indices (c ∷ columns) = ap (λ l. take_rows (select (rows c.column) (effective_mask mask)) indices ∷ l) (rows_mapped mask indices columns)
 
@@ -107,7 +107,7 @@ pub rest_is : (words : List (Bor (List ℕ))) (n : ℕ) → take (length words -
 rest_is words n = take_all (length words - n) (drop n words) (omega (arith, length-drop n words))
 
 -- The result exceeds no limit.
-pub none_past : (columns selected : List ArrayRef) (mask indices : List Value) → rows_of_each selected ≡ map (λ c. take_rows (select (rows c.column) (effective_mask mask)) indices) columns → type_of_each selected ≡ type_of_each columns →
+pub none_past : (columns selected : List ArrayRef) (mask indices : List Value) → rows_of_arrays selected ≡ map (λ c. take_rows (select (rows c.column) (effective_mask mask)) indices) columns → type_of_each selected ≡ type_of_each columns →
     ExceedsNone (exceeded_selected columns mask indices)
 none_past columns selected mask indices same types limit exceeded_limits =
     let taken = λ (c : ArrayRef). take_rows (select (rows c.column) (effective_mask mask)) indices in

@@ -11,8 +11,8 @@ use Rattle.polars_compute.specs.Pick.{take_rows, all_within}
 use Rattle.polars_compute.specs.Select.{select, effective_mask, is_true}
 
 -- The rows of each column.
-abbrev pub rows_of_each : List ArrayRef → List (List Value)
-rows_of_each columns = map (λ c. rows c.column) columns
+abbrev pub rows_of_arrays : List ArrayRef → List (List Value)
+rows_of_arrays columns = map (λ c. rows c.column) columns
 
 -- The type of each column.
 abbrev pub type_of_each : List ArrayRef → List Shape

@@ -5,7 +5,7 @@ ghost use Rattle.sel_arrow.specs.Rows.{rows, type_of};
 ghost use Rattle.polars_compute.specs.Need.{IsLimitOrMemory, ExceedsNone, exceeded_limits};
 ghost use Rattle.polars_compute.specs.Pick.{all_within, take_rows};
 ghost use Rattle.polars_compute.specs.Select.{select, effective_mask, is_true};
-ghost use Rattle.sel_lines.specs.SelectRows.{rows_of_each, type_of_each, select_rows_of, selection_fits, exceeded_selected};
+ghost use Rattle.sel_lines.specs.SelectRows.{rows_of_arrays, type_of_each, select_rows_of, selection_fits, exceeded_selected};
 
 use polars_compute::filter::filter;
 use polars_compute::gather::{indices_in_bounds, take_unchecked};
@@ -34,9 +34,9 @@ pub fn select_rows(
     indices: &IdxArr,
 ) -> PolarsResult<Vec<ArrayRef>>
     requires { IsTrue (selection_fits
-        (rows_of_each columns.now) (boolean_rows mask.now) (primitive_rows indices.now)) }
-    ensures rows { IfOk result (λ selected. rows_of_each selected.items ≡ select_rows_of
-        (rows_of_each columns.now) (boolean_rows mask.now) (primitive_rows indices.now)) }
+        (rows_of_arrays columns.now) (boolean_rows mask.now) (primitive_rows indices.now)) }
+    ensures rows { IfOk result (λ selected. rows_of_arrays selected.items ≡ select_rows_of
+        (rows_of_arrays columns.now) (boolean_rows mask.now) (primitive_rows indices.now)) }
     ensures types { IfOk result (λ selected.
         type_of_each selected.items ≡ type_of_each columns.now) }
     ensures within { IfOk result (λ _. ExceedsNone
@@ -87,7 +87,7 @@ fn select_column(
 /// of mask rows that are true and valid. Does not allocate.
 pub fn select_is_safe(columns: &[ArrayRef], mask: &BooleanArray, indices: &IdxArr) -> bool
     ensures { result ≡ selection_fits
-        (rows_of_each columns.now) (boolean_rows mask.now) (primitive_rows indices.now) }
+        (rows_of_arrays columns.now) (boolean_rows mask.now) (primitive_rows indices.now) }
 {
     for column in columns {
         if column.len() != mask.len() {

@@ -8,7 +8,7 @@ ghost use Rattle.sel_lines.specs.Columns.{all_some, column_of, column_text};
 ghost use Rattle.sel_lines.specs.Lines.{longest_line};
 ghost use Rattle.sel_lines.specs.Numbers.{number_of};
 ghost use Rattle.sel_lines.specs.Rows.{parsed_rows};
-ghost use Rattle.sel_lines.specs.SelectRows.{rows_of_each};
+ghost use Rattle.sel_lines.specs.SelectRows.{rows_of_arrays};
 ghost use Rattle.sel_lines.specs.Table.{columns_text, selected_rows, table_answer, table_words};
 ghost use Rattle.sel_lines.specs.Parts.{AreNumbers};
 
@@ -54,7 +54,7 @@ pub fn answer_table(alloc: Global, words: &[&str]) -> Result<Option<String>, All
 fn parse_columns(alloc: Global, words: &[&str]) -> Result<Option<Vec<ArrayRef>>, AllocError>
     requires { All (λ word. length word.now ≤ longest_line) words.now }
     ensures rows { IfOk result (λ columns.
-        option_map (λ columns. rows_of_each columns.items) columns
+        option_map (λ columns. rows_of_arrays columns.items) columns
         ≡ all_some (map (λ word. column_of number_of word.now) words.now)) }
     ensures dtype { IfOk result (λ columns. IfSome columns
         (λ columns. AreNumbers columns.items)) }
@@ -101,7 +101,7 @@ fn answer_columns(
     requires { AreNumbers columns.now }
     ensures { IfOk result (λ answer. option_map string_bytes answer
         ≡ table_answer (parsed_rows Truth mask) (parsed_rows (λ n. Number (pos n)) indices)
-        (rows_of_each columns.now)) }
+        (rows_of_arrays columns.now)) }
 {
     match select_read(alloc, mask, indices, columns) {
         Ok(Some(selected)) => {
@@ -122,9 +122,9 @@ fn select_read(
 ) -> PolarsResult<Option<Vec<ArrayRef>>>
     requires { AreNumbers columns.now }
     ensures rows { IfOk result (λ selected.
-        option_map (λ selected. rows_of_each selected.items) selected
+        option_map (λ selected. rows_of_arrays selected.items) selected
         ≡ selected_rows (parsed_rows Truth mask) (parsed_rows (λ n. Number (pos n)) indices)
-        (rows_of_each columns.now)) }
+        (rows_of_arrays columns.now)) }
     ensures dtype { IfOk result (λ selected. IfSome selected
         (λ selected. AreNumbers selected.items)) }
     ensures refusal { IfErr result (λ fault. fault ≡ PolarsError.OutOfMemory) }
@@ -144,9 +144,9 @@ fn select_columns(
 ) -> PolarsResult<Option<Vec<ArrayRef>>>
     requires { AreNumbers columns.now }
     ensures rows { IfOk result (λ selected.
-        option_map (λ selected. rows_of_each selected.items) selected
+        option_map (λ selected. rows_of_arrays selected.items) selected
         ≡ selected_rows (boolean_rows mask.now) (primitive_rows indices.now)
-        (rows_of_each columns.now)) }
+        (rows_of_arrays columns.now)) }
     ensures dtype { IfOk result (λ selected. IfSome selected
         (λ selected. AreNumbers selected.items)) }
     ensures refusal { IfErr result (λ fault. fault ≡ PolarsError.OutOfMemory) }
@@ -160,7 +160,8 @@ fn select_columns(
 // Formats int64 columns, separated by spaces.
 fn print_columns(alloc: Global, columns: &[ArrayRef]) -> Result<String, AllocError>
     requires { AreNumbers columns.now }
-    ensures { IfOk result (λ text. string_bytes text ≡ columns_text (rows_of_each columns.now)) }
+    ensures { IfOk result (λ text. string_bytes text ≡
+        columns_text (rows_of_arrays columns.now)) }
 {
     let mut text = String::new(alloc);
     for place in 0..columns.len() {

@@ -6,7 +6,7 @@ use Rattle.sel_arrow.specs.Shape.{Shape, Shapes, no_shapes, next_shape, shapes_o
 use Rattle.sel_arrow.specs.Value.{Value, Values, no_values, next_value, listed}
 use Rattle.sel_arrow.specs.declared.datatype.ArrowDataType.{ArrowDataType}
 use Rattle.sel_arrow.proofs.Lists.{and_first, and_second}
-use Rattle.sel_text.specs.Fits.{fits, all_fit, parts_fit}
+use Rattle.sel_text.specs.Fits.{fits, all_fit, fields_fit}
 use Rattle.sel_text.specs.Readings.{BeginsWith}
 use Rattle.sel_text.specs.Texts.{bracketed, item_texts, parenthesized, part_texts, value_text}
 use Rattle.sel_text.proofs.Told.{after, inside, joined_inside, after_no_digit, no_value}
@@ -106,10 +106,10 @@ parts_from (suc place) texts more = after 41 texts more
 pub record HasParts (ss : Shapes) (all read : List Value) (place : ℕ) (rest more : List ℕ) : Type 0 where
   pub others : Values
   pub whole : read ++ listed others ≡ all
-  pub fit : parts_fit ss others ≡ true
+  pub fit : fields_fit ss others ≡ true
   pub text : rest ≡ parts_from place (part_texts ss others) more
 
-pub parts_opened : (ss : Shapes) (vs : Values) (text rest more : List ℕ) → parts_fit ss vs ≡ true → text ≡ 40 ∷ rest → text ≡ parenthesized (part_texts ss vs) ++ more → HasParts ss (listed vs) [] 0 rest more
+pub parts_opened : (ss : Shapes) (vs : Values) (text rest more : List ℕ) → fields_fit ss vs ≡ true → text ≡ 40 ∷ rest → text ≡ parenthesized (part_texts ss vs) ++ more → HasParts ss (listed vs) [] 0 rest more
 parts_opened ss vs text rest more fit opens is = record { others = vs; whole = refl; fit = fit; text = ap (drop 1) (sym opens ∙ is) ∙ joined_inside 41 (part_texts ss vs) more }
 
 -- The next of these values.
@@ -118,20 +118,20 @@ pub record HasPart (s : Shape) (ss : Shapes) (all read : List Value) (place : �
   pub others : Values
   pub whole : read ++ (first ∷ listed others) ≡ all
   pub fit : fits s first ≡ true
-  pub others_fit : parts_fit ss others ≡ true
+  pub others_fit : fields_fit ss others ≡ true
   pub text : rest ≡ parts_from place (value_text s first ∷ part_texts ss others) more
 
 has_part : (s : Shape) (ss : Shapes) (all read : List Value) (place : ℕ) (rest more : List ℕ) → HasParts (next_shape s ss) all read place rest more → HasPart s ss all read place rest more
 has_part s ss all read place rest more has = go has.others has.whole has.fit has.text
   where
-    go : (vs : Values) → read ++ listed vs ≡ all → parts_fit (next_shape s ss) vs ≡ true → rest ≡ parts_from place (part_texts (next_shape s ss) vs) more → HasPart s ss all read place rest more
+    go : (vs : Values) → read ++ listed vs ≡ all → fields_fit (next_shape s ss) vs ≡ true → rest ≡ parts_from place (part_texts (next_shape s ss) vs) more → HasPart s ss all read place rest more
     go no_values whole fit is = absurd (true≢false (sym fit))
     go (next_value v vs) whole fit is = record {
       first = v;
       others = vs;
       whole = whole;
-      fit = and_first (fits s v) (parts_fit ss vs) fit;
-      others_fit = and_second (fits s v) (parts_fit ss vs) fit;
+      fit = and_first (fits s v) (fields_fit ss vs) fit;
+      others_fit = and_second (fits s v) (fields_fit ss vs) fit;
       text = is;
     }
 
@@ -176,7 +176,7 @@ parts_end dtypes all read place rest more past has =
     let none : drop place dtypes ≡ [] = drop_all place dtypes past in
     go place (subst (λ ds. HasParts (shapes_of (map shape_of ds)) all read place rest more) none has)
   where
-    closed : (place : ℕ) (vs : Values) → read ++ listed vs ≡ all → parts_fit no_shapes vs ≡ true → rest ≡ parts_from place (part_texts no_shapes vs) more → (read ≡ all) × (rest ≡ 41 ∷ more)
+    closed : (place : ℕ) (vs : Values) → read ++ listed vs ≡ all → fields_fit no_shapes vs ≡ true → rest ≡ parts_from place (part_texts no_shapes vs) more → (read ≡ all) × (rest ≡ 41 ∷ more)
     closed zero no_values whole fit is = (sym (append-nil read) ∙ whole, is)
     closed (suc place) no_values whole fit is = (sym (append-nil read) ∙ whole, is)
     closed place (next_value v vs) whole fit is = absurd (true≢false (sym fit))

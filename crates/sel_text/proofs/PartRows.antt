@@ -24,7 +24,7 @@ use Rattle.sel_arrow.proofs.NestedRows.{length-rows}
 use Rattle.sel_arrow.proofs.Trees.{rows-Struct}
 use Rattle.sel_arrow.proofs.Types.{type_of-Struct}
 use Rattle.sel_text.specs.Below.{parts_below, HasParts}
-use Rattle.sel_text.specs.Fits.{fits, parts_fit}
+use Rattle.sel_text.specs.Fits.{fits, fields_fit}
 use Rattle.sel_text.specs.Limits.{any_exceeds_limit, part_in, exceeds_limit, ShowsRows}
 use Rattle.sel_text.specs.declared.build.NullSlots.{NullSlots}
 use Rattle.sel_text.proofs.ItemRows.{values_back}
@@ -34,11 +34,11 @@ use Rattle.sel_text.proofs.Shown.{show_next}
 
 -- ---- the field values fit their types
 
-part_fits : (shapes : List Shape) (es : Values) (k : ℕ) (s : Shape) → parts_fit (shapes_of shapes) es ≡ true → k < length shapes → s ≡ get_or shapes k s → fits s (slice_index_or (listed es) k Null) ≡ true
+part_fits : (shapes : List Shape) (es : Values) (k : ℕ) (s : Shape) → fields_fit (shapes_of shapes) es ≡ true → k < length shapes → s ≡ get_or shapes k s → fits s (slice_index_or (listed es) k Null) ≡ true
 part_fits [] es k s fit below is = absurd (omega arith)
 part_fits (x ∷ xs) no_values k s fit below is = absurd cc
-part_fits (x ∷ xs) (next_value v vs) zero s fit below is = subst (λ t. fits t v ≡ true) (sym is) (and_first (fits x v) (parts_fit (shapes_of xs) vs) fit)
-part_fits (x ∷ xs) (next_value v vs) (suc k) s fit below is = part_fits xs vs k s (and_second (fits x v) (parts_fit (shapes_of xs) vs) fit) (omega arith) is
+part_fits (x ∷ xs) (next_value v vs) zero s fit below is = subst (λ t. fits t v ≡ true) (sym is) (and_first (fits x v) (fields_fit (shapes_of xs) vs) fit)
+part_fits (x ∷ xs) (next_value v vs) (suc k) s fit below is = part_fits xs vs k s (and_second (fits x v) (fields_fit (shapes_of xs) vs) fit) (omega arith) is
 
 row_part : (shapes : List Shape) (k : ℕ) (s : Shape) → k < length shapes → s ≡ get_or shapes k s → (row : Value) → fits (of_struct (shapes_of shapes)) row ≡ true → fits s (part_in k row) ≡ true
 row_part shapes k s below is Null fit = refl
@@ -64,11 +64,11 @@ past_at b (x ∷ xs) place (suc k) n s vs below is at past =
 
 -- ---- a struct row is made of its field values
 
-count_parts : (shapes : List Shape) (es : Values) → parts_fit (shapes_of shapes) es ≡ true → length (listed es) ≡ length shapes
+count_parts : (shapes : List Shape) (es : Values) → fields_fit (shapes_of shapes) es ≡ true → length (listed es) ≡ length shapes
 count_parts [] no_values fit = refl
 count_parts [] (next_value v vs) fit = absurd cc
 count_parts (x ∷ xs) no_values fit = absurd cc
-count_parts (x ∷ xs) (next_value v vs) fit = ap suc (count_parts xs vs (and_second (fits x v) (parts_fit (shapes_of xs) vs) fit))
+count_parts (x ∷ xs) (next_value v vs) fit = ap suc (count_parts xs vs (and_second (fits x v) (fields_fit (shapes_of xs) vs) fit))
 
 entry_here : (pre rest : List Value) (v : Value) (k : ℕ) → length pre ≡ k → get_or (pre ++ v ∷ rest) k Null ≡ v
 entry_here pre rest v k long =

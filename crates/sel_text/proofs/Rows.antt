@@ -6,7 +6,7 @@ use Rattle.sel_arrow.specs.Shape.{Shape, Shapes, of_large_list, of_fixed_size_li
 use Rattle.sel_arrow.specs.Value.{Value, Null, Truth, Number, Bytes, Items, Tuple, Values, listed, values_of}
 use Rattle.sel_arrow.proofs.Lists.{and_first, and_second}
 use Rattle.sel_text.specs.Digits.{NoDigit}
-use Rattle.sel_text.specs.Fits.{all_fit, parts_fit, fits_bytes, fits_count, fits_number, is_boolean_shape}
+use Rattle.sel_text.specs.Fits.{all_fit, fields_fit, fits_bytes, fits_count, fits_number, is_boolean_shape}
 use Rattle.sel_text.specs.Readings.{BeginsWith}
 use Rattle.sel_text.specs.Texts.{bracketed, bytes_text, item_shape, item_texts, parenthesized, part_shapes, part_texts, text_of, bool_text}
 use Rattle.sel_text.proofs.Printed.{listed_texts}
@@ -26,7 +26,7 @@ module _ (R : Value → List ℕ → Type 0) (s : Shape) (text : List ℕ) (fill
     (numbers : (z : ℤ) (more : List ℕ) → fits_number s z ≡ true → NoDigit more → text ≡ signed_decimal z ++ more → R (Number z) more)
     (bytes : (bs more : List ℕ) → fits_bytes s bs ≡ true → text ≡ bytes_text s bs ++ more → R (Bytes bs) more)
     (lists : (vs : Values) (more : List ℕ) → fits_count s (length (listed vs)) ≡ true → all_fit (item_shape s) vs ≡ true → text ≡ bracketed (item_texts (item_shape s) vs) ++ more → R (Items vs) more)
-    (tuples : (vs : Values) (more : List ℕ) → is_struct_shape s ≡ true → parts_fit (part_shapes s) vs ≡ true → text ≡ parenthesized (part_texts (part_shapes s) vs) ++ more → R (Tuple vs) more) where
+    (tuples : (vs : Values) (more : List ℕ) → is_struct_shape s ≡ true → fields_fit (part_shapes s) vs ≡ true → text ≡ parenthesized (part_texts (part_shapes s) vs) ++ more → R (Tuple vs) more) where
   pub row_read : Reads R s text
   row_read Null more begins = absurd (filled more begins.whole)
   row_read (Truth b) more begins = truths b more begins.fit begins.whole
@@ -35,7 +35,7 @@ module _ (R : Value → List ℕ → Type 0) (s : Shape) (text : List ℕ) (fill
   row_read (Items vs) more begins =
       lists vs more (and_first (fits_count s (length (listed vs))) (all_fit (item_shape s) vs) begins.fit) (and_second (fits_count s (length (listed vs))) (all_fit (item_shape s) vs) begins.fit) begins.whole
   row_read (Tuple vs) more begins =
-      tuples vs more (and_first (is_struct_shape s) (parts_fit (part_shapes s) vs) begins.fit) (and_second (is_struct_shape s) (parts_fit (part_shapes s) vs) begins.fit) begins.whole
+      tuples vs more (and_first (is_struct_shape s) (fields_fit (part_shapes s) vs) begins.fit) (and_second (is_struct_shape s) (fields_fit (part_shapes s) vs) begins.fit) begins.whole
 
 never : {A : Type 0} → false ≡ true → A
 never is = absurd (true≢false (sym is))
@@ -50,7 +50,7 @@ module _ (R : Value → List ℕ → Type 0) (text : List ℕ) (filled : NotNull
   block_row s size read =
       row_read R (of_fixed_size_list s size) text filled (λ b more is whole. never is) (λ z more is end whole. never is) (λ bs more is whole. never is) (λ vs more is fit whole. read vs more is fit whole) (λ vs more is fit whole. never is)
 
-  pub tuple_row : (ss : Shapes) → ((vs : Values) (more : List ℕ) → parts_fit ss vs ≡ true → text ≡ parenthesized (part_texts ss vs) ++ more → R (Tuple vs) more) → Reads R (of_struct ss) text
+  pub tuple_row : (ss : Shapes) → ((vs : Values) (more : List ℕ) → fields_fit ss vs ≡ true → text ≡ parenthesized (part_texts ss vs) ++ more → R (Tuple vs) more) → Reads R (of_struct ss) text
   tuple_row ss read =
       row_read R (of_struct ss) text filled (λ b more is whole. never is) (λ z more is end whole. never is) (λ bs more is whole. never is) (λ vs more is fit whole. never is) (λ vs more is fit whole. read vs more fit whole)
 

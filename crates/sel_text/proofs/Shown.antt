@@ -8,7 +8,7 @@ use Rattle.sel_arrow.specs.Masked.{hidden}
 use Rattle.sel_arrow.specs.Shape.{Shape, of_null, of_boolean, of_int8, of_int16, of_int32, of_int64, of_int128, of_uint8, of_uint16, of_uint32, of_uint64, of_uint128, of_large_binary, of_binary_view, of_utf8_view, of_large_list, of_fixed_size_list, of_struct, is_struct_shape}
 use Rattle.sel_arrow.specs.Value.{Value, Null, Truth, Number, Bytes, Items, Tuple, is_valid, listed}
 use Rattle.sel_arrow.proofs.Lists.{and_first, and_second}
-use Rattle.sel_text.specs.Fits.{fits, fits_count, fits_number, is_boolean_shape, all_fit, parts_fit}
+use Rattle.sel_text.specs.Fits.{fits, fits_count, fits_number, is_boolean_shape, all_fit, fields_fit}
 use Rattle.sel_text.specs.ItemValues.{item_value, rows_read}
 use Rattle.sel_text.specs.Limits.{ShowsRows, is_view_shape}
 use Rattle.sel_text.specs.Stored.{bytes_stored, bool_stored}
@@ -197,7 +197,7 @@ bytes_shown s of beneath (item ∷ items) fit =
     same (Number z) fit valid = no_truth (sym (of.numbers z) ∙ fit)
     same (Bytes bs) fit valid = refl
     same (Items es) fit valid = no_truth (sym (of.counts (length (listed es))) ∙ and_first (fits_count s (length (listed es))) (all_fit (item_shape s) es) fit)
-    same (Tuple es) fit valid = no_truth (sym of.tuples ∙ and_first (is_struct_shape s) (parts_fit (part_shapes s) es) fit)
+    same (Tuple es) fit valid = no_truth (sym of.tuples ∙ and_first (is_struct_shape s) (fields_fit (part_shapes s) es) fit)
 
 -- One more row.
 pub stored_more : (beneath : NullSlots) (items : List (Bor Item)) (i : ℕ) (item : Bor Item) (bytes : List ℕ) → i < length items → item ≡ get_or items i item → bytes ≡ bytes_stored beneath (item_value item.now) →

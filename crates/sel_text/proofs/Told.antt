@@ -12,7 +12,7 @@ use Rattle.std.proofs.lemmas.Fmt.{decimal_is_IsNumeral_wide}
 use Rattle.sel_arrow.specs.Shape.{Shape, Shapes, no_shapes, next_shape, is_struct_shape, of_null, of_boolean, of_int8, of_int16, of_int32, of_int64, of_int128, of_uint8, of_uint16, of_uint32, of_uint64, of_uint128, of_large_binary, of_binary_view, of_utf8_view, of_large_list, of_fixed_size_list, of_struct}
 use Rattle.sel_arrow.specs.Value.{Value, Null, Truth, Number, Bytes, Items, Tuple, Values, no_values, next_value, values_of, listed}
 use Rattle.sel_arrow.proofs.Lists.{both, and_first, and_second}
-use Rattle.sel_text.specs.Fits.{fits, all_fit, parts_fit, fits_count, fits_number, fits_unsigned}
+use Rattle.sel_text.specs.Fits.{fits, all_fit, fields_fit, fits_count, fits_number, fits_unsigned}
 use Rattle.sel_text.specs.Laws.{TextDeterminesRows}
 use Rattle.sel_text.specs.Texts.{bracketed, hex_byte, escaped, hex_text, quoted, is_text_shape, bytes_text, item_shape, part_shapes, item_texts, part_texts, value_text, text_of}
 use Rattle.sel_text.specs.Digits.{NoDigit}
@@ -192,7 +192,7 @@ record TellsItems (s : Shape) (vs : Values) : Type 0 where
   told : (ws : Values) (r t : List ℕ) → all_fit s vs ≡ true → all_fit s ws ≡ true → after 93 (item_texts s vs) r ≡ after 93 (item_texts s ws) t → (vs ≡ ws) × (r ≡ t)
 
 record TellsParts (ss : Shapes) (vs : Values) : Type 0 where
-  told : (ws : Values) (r t : List ℕ) → parts_fit ss vs ≡ true → parts_fit ss ws ≡ true → after 41 (part_texts ss vs) r ≡ after 41 (part_texts ss ws) t → (vs ≡ ws) × (r ≡ t)
+  told : (ws : Values) (r t : List ℕ) → fields_fit ss vs ≡ true → fields_fit ss ws ≡ true → after 41 (part_texts ss vs) r ≡ after 41 (part_texts ss ws) t → (vs ≡ ws) × (r ≡ t)
 
 null_told : (s : Shape) (w : Value) (r t : List ℕ) → fits s Null ≡ true → fits s w ≡ true → NoDigit r → NoDigit t → value_text s Null ++ r ≡ value_text s w ++ t → (Null ≡ w) × (r ≡ t)
 null_told s Null r t fv fw nr nt e = (refl, cc)
@@ -238,7 +238,7 @@ items_inside s no_values (next_value w ws) r t tells fv fw e = absurd (no_value 
 items_inside s (next_value v vs) no_values r t tells fv fw e = absurd (no_value s v 93 t (after 93 (item_texts s vs) r) (and_first (fits s v) (all_fit s vs) fv) refl (sym e))
 items_inside s (next_value v vs) (next_value w ws) r t tells fv fw e = tells.told (next_value w ws) r t fv fw (ap (λ l. 44 ∷ l) e)
 
-parts_inside : (ss : Shapes) (vs ws : Values) (r t : List ℕ) → TellsParts ss vs → parts_fit ss vs ≡ true → parts_fit ss ws ≡ true → inside 41 (part_texts ss vs) r ≡ inside 41 (part_texts ss ws) t → (vs ≡ ws) × (r ≡ t)
+parts_inside : (ss : Shapes) (vs ws : Values) (r t : List ℕ) → TellsParts ss vs → fields_fit ss vs ≡ true → fields_fit ss ws ≡ true → inside 41 (part_texts ss vs) r ≡ inside 41 (part_texts ss ws) t → (vs ≡ ws) × (r ≡ t)
 parts_inside no_shapes no_values no_values r t tells fv fw e = (refl, cc)
 parts_inside no_shapes no_values (next_value w ws) r t tells fv fw e = absurd (false≢true fw)
 parts_inside no_shapes (next_value v vs) ws r t tells fv fw e = absurd (false≢true fv)
@@ -265,7 +265,7 @@ items_told s vs tells (Tuple y) r t fv fw nr nt e = absurd (unlike s (Items vs) 
 tuple_told : (s : Shape) (vs : Values) (tells : TellsParts (part_shapes s) vs) (w : Value) (r t : List ℕ) → fits s (Tuple vs) ≡ true → fits s w ≡ true → NoDigit r → NoDigit t → value_text s (Tuple vs) ++ r ≡ value_text s w ++ t → (Tuple vs ≡ w) × (r ≡ t)
 tuple_told s vs tells (Tuple ws) r t fv fw nr nt e =
     let shapes = part_shapes s in
-    let parts = parts_inside shapes vs ws r t tells (and_second (is_struct_shape s) (parts_fit shapes vs) fv) (and_second (is_struct_shape s) (parts_fit shapes ws) fw)
+    let parts = parts_inside shapes vs ws r t tells (and_second (is_struct_shape s) (fields_fit shapes vs) fv) (and_second (is_struct_shape s) (fields_fit shapes ws) fw)
     (unbracket 40 41 (part_texts shapes vs) (part_texts shapes ws) r t e) in
     (ap Tuple parts.0, parts.1)
 tuple_told s vs tells Null r t fv fw nr nt e = absurd (unlike s (Tuple vs) Null r t fv fw e refl)
@@ -287,19 +287,19 @@ next_told s v vs tells more (next_value w ws) r t fv fw e =
     let rest = more.told ws r t (and_second (fits s v) (all_fit s vs) fv) (and_second (fits s w) (all_fit s ws) fw) one.1 in
     (ap (λ x. next_value x vs) one.0 ∙ ap (next_value w) rest.0, rest.1)
 
-no_parts_told : (ss : Shapes) (ws : Values) (r t : List ℕ) → parts_fit ss no_values ≡ true → parts_fit ss ws ≡ true → after 41 (part_texts ss no_values) r ≡ after 41 (part_texts ss ws) t → (no_values ≡ ws) × (r ≡ t)
+no_parts_told : (ss : Shapes) (ws : Values) (r t : List ℕ) → fields_fit ss no_values ≡ true → fields_fit ss ws ≡ true → after 41 (part_texts ss no_values) r ≡ after 41 (part_texts ss ws) t → (no_values ≡ ws) × (r ≡ t)
 no_parts_told no_shapes no_values r t fv fw e = (refl, ap (drop 1) e)
 no_parts_told no_shapes (next_value w ws) r t fv fw e = absurd (false≢true fw)
 no_parts_told (next_shape s ss) ws r t fv fw e = absurd (false≢true fv)
 
 next_part_told : (ss : Shapes) (v : Value) (vs : Values) → ((s : Shape) → Tells s v) → ((rest : Shapes) → TellsParts rest vs) →
-    (ws : Values) (r t : List ℕ) → parts_fit ss (next_value v vs) ≡ true → parts_fit ss ws ≡ true → after 41 (part_texts ss (next_value v vs)) r ≡ after 41 (part_texts ss ws) t → (next_value v vs ≡ ws) × (r ≡ t)
+    (ws : Values) (r t : List ℕ) → fields_fit ss (next_value v vs) ≡ true → fields_fit ss ws ≡ true → after 41 (part_texts ss (next_value v vs)) r ≡ after 41 (part_texts ss ws) t → (next_value v vs ≡ ws) × (r ≡ t)
 next_part_told no_shapes v vs tells more ws r t fv fw e = absurd (false≢true fv)
 next_part_told (next_shape s ss) v vs tells more no_values r t fv fw e = absurd (false≢true fw)
 next_part_told (next_shape s ss) v vs tells more (next_value w ws) r t fv fw e =
-    let one = (tells s).told w (after 41 (part_texts ss vs) r) (after 41 (part_texts ss ws) t) (and_first (fits s v) (parts_fit ss vs) fv) (and_first (fits s w) (parts_fit ss ws) fw)
+    let one = (tells s).told w (after 41 (part_texts ss vs) r) (after 41 (part_texts ss ws) t) (and_first (fits s v) (fields_fit ss vs) fv) (and_first (fits s w) (fields_fit ss ws) fw)
     (after_no_digit 41 (part_texts ss vs) r (omega arith)) (after_no_digit 41 (part_texts ss ws) t (omega arith)) (ap (drop 1) e) in
-    let rest = (more ss).told ws r t (and_second (fits s v) (parts_fit ss vs) fv) (and_second (fits s w) (parts_fit ss ws) fw) one.1 in
+    let rest = (more ss).told ws r t (and_second (fits s v) (fields_fit ss vs) fv) (and_second (fits s w) (fields_fit ss ws) fw) one.1 in
     (ap (λ x. next_value x vs) one.0 ∙ ap (next_value w) rest.0, rest.1)
 
 mutual

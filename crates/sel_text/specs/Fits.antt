@@ -61,7 +61,7 @@ abbrev mutual
   fits shape (Bytes bytes) = fits_bytes shape bytes
   fits shape (Items entries) =
       fits_count shape (length (listed entries)) && all_fit (item_shape shape) entries
-  fits shape (Tuple entries) = is_struct_shape shape && parts_fit (part_shapes shape) entries
+  fits shape (Tuple entries) = is_struct_shape shape && fields_fit (part_shapes shape) entries
 
   -- Whether each entry of a list fits the type.
   pub all_fit : Shape → Values → Bool
@@ -70,9 +70,9 @@ abbrev mutual
 
   -- Whether there is one value for each field type, and each fits its type (Arrow columnar format:
   -- struct layout).
-  pub parts_fit : Shapes → Values → Bool
-  parts_fit no_shapes no_values = true
-  parts_fit no_shapes (next_value value entries) = false
-  parts_fit (next_shape shape types) no_values = false
-  parts_fit (next_shape shape types) (next_value value entries) =
-      fits shape value && parts_fit types entries
+  pub fields_fit : Shapes → Values → Bool
+  fields_fit no_shapes no_values = true
+  fields_fit no_shapes (next_value value entries) = false
+  fields_fit (next_shape shape types) no_values = false
+  fields_fit (next_shape shape types) (next_value value entries) =
+      fits shape value && fields_fit types entries

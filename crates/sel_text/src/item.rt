@@ -7,7 +7,7 @@ ghost use Rattle.sel_arrow.specs.DataType.{shape_of};
 ghost use Rattle.sel_arrow.specs.Shape.{shapes_of};
 ghost use Rattle.sel_arrow.specs.Value.{Value, Truth, Number, Bytes, Values, listed};
 ghost use Rattle.sel_text.specs.Digits.{NoDigit};
-ghost use Rattle.sel_text.specs.Fits.{all_fit, fits_number, parts_fit};
+ghost use Rattle.sel_text.specs.Fits.{all_fit, fits_number, fields_fit};
 ghost use Rattle.sel_text.specs.Readings.{BeginsWith};
 ghost use Rattle.sel_text.specs.ItemValues.{item_value};
 ghost use Rattle.sel_text.specs.TextErrors.{IsMemoryFault};
@@ -270,7 +270,7 @@ fn read_parts<'a>(
     bytes: &'a [u8],
 ) -> Result<(Vec<Item>, &'a [u8]), Fault>
     ensures { (entries : Values) (more : List ℕ) →
-        let shapes = shapes_of (map shape_of dtypes.now) in IsTrue (parts_fit shapes entries) →
+        let shapes = shapes_of (map shape_of dtypes.now) in IsTrue (fields_fit shapes entries) →
         bytes.now ≡ parenthesized (part_texts shapes entries) ++ more →
         MatchResult result (λ read. (map item_value read.0.items ≡ listed entries) ×
         (read.1.now ≡ more)) IsMemoryFault }

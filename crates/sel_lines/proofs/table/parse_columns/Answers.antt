@@ -7,7 +7,7 @@ use Rattle.sel_arrow.specs.Shape.{of_int64}
 use Rattle.sel_arrow.specs.declared.array_ref.ArrayRef.{ArrayRef}
 use Rattle.sel_lines.specs.Columns.{column_of}
 use Rattle.sel_lines.specs.Numbers.{number_of}
-use Rattle.sel_lines.specs.SelectRows.{rows_of_each}
+use Rattle.sel_lines.specs.SelectRows.{rows_of_arrays}
 use Rattle.sel_lines.proofs.RowLemmas.{rows_step, rows_none}
 use Rattle.sel_lines.proofs.table.parse_columns.Goals as goal
 
@@ -19,7 +19,7 @@ returns-in-Ok-None-clause-rows c =
 pub loop-word-preserved : goal.loop-word-preserved
 loop-word-preserved c =
     let is_number = λ (a : ArrayRef). type_of a.column ≡ of_int64 in
-    let more = ap rows_of_each c.push_reserved.ensures.items ∙ map-append (λ (a : ArrayRef). rows a.column) c.loop-word.columns.items _ in
+    let more = ap rows_of_arrays c.push_reserved.ensures.items ∙ map-append (λ (a : ArrayRef). rows a.column) c.loop-word.columns.items _ in
     let number = subst (λ o. IfSome o is_number) c.in-Ok-Some.field-0-is c.in-Ok-Some.ensures.dtype in
     record {
       read = rows_step (λ (word : Bor (List ℕ)). column_of number_of word.now) c.args.words.now c.loop-word.word-index _ _ _ (omega arith) c.loop-word.invariant.read

@@ -4,12 +4,12 @@ use Rattle.sel_arrow.specs.Rows.{type_of}
 use Rattle.sel_arrow.specs.Shape.{of_int64}
 use Rattle.sel_lines.specs.Columns.{all_some, column_of}
 use Rattle.sel_lines.specs.Numbers.{number_of}
-use Rattle.sel_lines.specs.SelectRows.{rows_of_each}
+use Rattle.sel_lines.specs.SelectRows.{rows_of_arrays}
 use Rattle.sel_lines.proofs.table.parse_columns.Given as goal
 
 abbrev pub invariant-loop-word : goal.invariant-loop-word
 invariant-loop-word l = record {
-  read : all_some (map (λ word. column_of number_of word.now) (take l.word-index l.words)) ≡ Some (rows_of_each l.columns.items);
+  read : all_some (map (λ word. column_of number_of word.now) (take l.word-index l.words)) ≡ Some (rows_of_arrays l.columns.items);
   numbers : All (λ c. type_of c.column ≡ of_int64) l.columns.items;
   count : vec_len l.columns ≡ l.word-index;
   room : length l.words ≤ vec_capacity l.columns;

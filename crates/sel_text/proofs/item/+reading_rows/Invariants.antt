@@ -3,7 +3,7 @@ use Rattle.std.proofs.Common.{◌≡◌, ◌≤◌, ◌+◌, ℕ, true, List, �
 use Rattle.sel_arrow.specs.DataType.{shape_of}
 use Rattle.sel_arrow.specs.Shape.{shapes_of}
 use Rattle.sel_arrow.specs.Value.{Values, listed}
-use Rattle.sel_text.specs.Fits.{all_fit, parts_fit}
+use Rattle.sel_text.specs.Fits.{all_fit, fields_fit}
 use Rattle.sel_text.specs.ItemValues.{item_value}
 use Rattle.sel_text.specs.Texts.{bracketed, item_texts, parenthesized, part_texts}
 use Rattle.sel_text.proofs.Entries.{IsLeft, HasParts, shapes_from}
@@ -16,5 +16,5 @@ invariant-read_items-loop l =
 
 abbrev pub invariant-read_parts-loop-k : goal.invariant-read_parts-loop-k
 invariant-read_parts-loop-k l =
-    (entries : Values) (more : List ℕ) → parts_fit (shapes_of (map shape_of l.dtypes)) entries ≡ true → l.fn.bytes ≡ parenthesized (part_texts (shapes_of (map shape_of l.dtypes)) entries) ++ more →
+    (entries : Values) (more : List ℕ) → fields_fit (shapes_of (map shape_of l.dtypes)) entries ≡ true → l.fn.bytes ≡ parenthesized (part_texts (shapes_of (map shape_of l.dtypes)) entries) ++ more →
     HasParts (shapes_from l.k l.dtypes) (listed entries) (map item_value l.parts.items) l.k l.rest more
