@@ -6,7 +6,7 @@
  * test_threads [ROUNDS]   the exit status is 0 if all results are equal
  * test_threads race       two threads write one variable, to see that a checker of races finds it
  *
- * Run plainly, under valgrind's memcheck and helgrind, and built with ThreadSanitizer together with c/arrow.c; the proved functions
+ * Run plainly, under valgrind's memcheck and helgrind, and built with ThreadSanitizer together with c/arrow_*.c; the proved functions
  * themselves are not instrumented then, but helgrind sees their reads and writes. */
 #define _POSIX_C_SOURCE 200809L
 
