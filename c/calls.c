@@ -530,6 +530,11 @@ sel_status sel_print(const sel_column *of, uint8_t *out, size_t out_len, size_t 
     return sel_proved_print(of, output(out, out_len), out_len, len);
 }
 
+sel_status sel_proved_print_type(const sel_column *of, uint8_t *out, size_t out_len, size_t *len);
+sel_status sel_print_type(const sel_column *of, uint8_t *out, size_t out_len, size_t *len) {
+    return sel_proved_print_type(of, output(out, out_len), out_len, len);
+}
+
 sel_status sel_proved_parse(
     const uint8_t *dtype,
     size_t dtype_len,

@@ -48,6 +48,7 @@ void test_collected_rows(void);
 void test_dictionaries(void);
 void test_equal_rows(void);
 void test_prints(void);
+void test_prints_types(void);
 void test_parses(void);
 void test_misread_texts(void);
 void test_flatten_limits(void);

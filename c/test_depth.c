@@ -330,6 +330,13 @@ static void test_comparison(void) {
     IS(sel_equal_rows(&below, deep, &is_equal) == SEL_OK && !is_equal);
 }
 
+static void test_type_text(void) {
+    size_t size = 0;
+    write_type(wanted, MOST);
+    sel_status status = sel_print_type(deep, (uint8_t *)found, sizeof found, &size);
+    IS(done(status) && (status != SEL_OK || (size == strlen(wanted) && memcmp(found, wanted, size) == 0)));
+}
+
 /* A type of 64 levels is parsed, and none of more. */
 static void test_parsing(void) {
     static const int rows[LEN] = {0, 1, 2};
@@ -584,7 +591,7 @@ static void test_leaves(void) {
 /* ---- the thread ---- */
 
 static void (*const tests[])(void) = {
-    test_values, test_properties, test_children, test_comparison, test_level_129, test_unit_list_of_127_levels, test_flat_children,
+    test_values, test_properties, test_children, test_comparison, test_type_text, test_level_129, test_unit_list_of_127_levels, test_flat_children,
     test_deep_lists, test_deep_fixed_size_lists, test_deep_structs, test_leaves,
 };
 

@@ -106,6 +106,8 @@ void test_empty_outputs(void) {
     READS("i8", sel_validity(&of, NULL, 0, &has));
     READS("i8", sel_print(&of, NULL, 0, &len));
     IS(refused || len == 2);
+    READS("i8", sel_print_type(&of, NULL, 0, &len));
+    IS(refused || len == 2);
     sel_column of = empty_of("binary"), views = {0};
     IS(of.at == NULL || gives(sel_offsets(&of, NULL, 0), SEL_ERROR_LENGTH_MISMATCH));
     sel_free(&of);

@@ -275,6 +275,30 @@ void test_prints(void) {
     sel_free(&column);
 }
 
+void test_prints_types(void) {
+    const int64_t values[3] = {1, 2, -3};
+    const char *const type = "fixed<2,struct<i64,list<utf8>>>";
+    uint8_t room[40] = "zzzzzzzzzzz";
+    size_t len = 9, at = 0;
+    sel_column column = {0};
+    IS(sel_print_type(&column, room, sizeof room, &len) == SEL_ERROR_NO_COLUMN && len == 9 && room[0] == 'z');
+    column = numbers(values, 3, 5);
+    if (column.at != NULL) {
+        sel_status status = sel_print_type(&column, room, 2, &len);
+        IS(done(status) && (status != SEL_OK || (len == 3 && memcmp(room, "i6zzzzzzzzz", 11) == 0)));
+        status = sel_print_type(&column, NULL, 0, &len);
+        IS(done(status) && (status != SEL_OK || len == 3));
+    }
+    sel_free(&column);
+    sel_status status = sel_parse((const uint8_t *)type, strlen(type), (const uint8_t *)"[]", 2, &at, &column);
+    IS(done(status));
+    if (status == SEL_OK) {
+        status = sel_print_type(&column, room, sizeof room, &len);
+        IS(done(status) && (status != SEL_OK || (len == strlen(type) && memcmp(room, type, len) == 0)));
+    }
+    sel_free(&column);
+}
+
 /* ---- columns read from texts ---- */
 
 static sel_status parse(const char *dtype, const char *text, size_t *at, sel_column *out) {
@@ -308,6 +332,8 @@ void test_parses(void) {
     READS(" i64 ", "[ ]", "[]", &made);
     made = truths(1, 3, 5);
     READS("bool", "[true,null,false]", "[true,null,false]", &made);
+    made = truths(1, 3, 5);
+    READS("\tbool\r\n", "\n[\r\n\ttrue ,\nnull\r,\tfalse\n]\n", "[true,null,false]", &made);
     below[0] = texts(words, 2, 3);
     IS(below[0].at == NULL || done(sel_list_new(offsets, 4, outer, 1, true, &below[0], &made)));
     READS("list< utf8 >", "[[\"ada\", \"a, b] c\"], null, []]", "[[\"ada\",\"a, b] c\"],null,[]]", &made);
@@ -346,14 +372,24 @@ void test_misread_texts(void) {
     }
     memcpy(deep + 65 * 5, "i8", 2);
     MISREADS(SEL_ERROR_TYPE_SYNTAX, "", "[]", 0);
-    MISREADS(SEL_ERROR_TYPE_SYNTAX, "i7", "[]", 0);
-    MISREADS(SEL_ERROR_TYPE_SYNTAX, "list< float >", "[]", 6);
+    MISREADS(SEL_ERROR_TYPE_SYNTAX, "i7", "[]", 1);
+    MISREADS(SEL_ERROR_TYPE_SYNTAX, "list< float >", "[]", 7);
     MISREADS(SEL_ERROR_TYPE_SYNTAX, "list<i8", "[]", 7);
     MISREADS(SEL_ERROR_TYPE_SYNTAX, "i8\xFF", "[]", 2);
     MISREADS(SEL_ERROR_ROW_SYNTAX, "i8", "", 0);
     MISREADS(SEL_ERROR_ROW_SYNTAX, "i8", "[1, ]", 4);
     MISREADS(SEL_ERROR_ROW_SYNTAX, "i8", "[1] 2", 4);
+    MISREADS(SEL_ERROR_TYPE_SYNTAX, "l\xFF", "[]", 1);
+    MISREADS(SEL_ERROR_TYPE_SYNTAX, "x\xFF", "[]", 0);
     MISREADS(SEL_ERROR_ROW_SYNTAX, "utf8", "[\"a\xFF\"]", 3);
+    MISREADS(SEL_ERROR_ROW_SYNTAX, "utf8", "[1;\"\xFF\"]", 2);
+    MISREADS(SEL_ERROR_ROW_SYNTAX, "utf8", "[\"\xC3", 3);
+    MISREADS(SEL_ERROR_ROW_SYNTAX, "utf8", "[\"\xC3x\"]", 3);
+    MISREADS(SEL_ERROR_ROW_SYNTAX, "utf8", "[\"\xE0\x9F\x80\"]", 3);
+    MISREADS(SEL_ERROR_ROW_SYNTAX, "utf8", "[\"\xED\xA0\x80\"]", 3);
+    MISREADS(SEL_ERROR_ROW_SYNTAX, "utf8", "[\"\xF0\x9F\x98\"]", 5);
+    MISREADS(SEL_ERROR_ROW_SYNTAX, "utf8", "[\"\xF4\x90\x80\x80\"]", 3);
+    MISREADS(SEL_ERROR_ROW_SYNTAX, "utf8", "[\"\xC1\x81\"]", 2);
     MISREADS(SEL_ERROR_ROW_SYNTAX, "utf8", "[\"\n\"]", 2);
     MISREADS(SEL_ERROR_ROW_TYPE_MISMATCH, "i8", "[0, 128]", 4);
     MISREADS(SEL_ERROR_ROW_TYPE_MISMATCH, "list<bool>", "[[true], 2]", 9);

@@ -123,6 +123,9 @@ static void mix_text(worker *w, const sel_column *of) {
     mix(w, sel_print(of, w->room.bytes, ROOM, &len));
     mix(w, len);
     mix_room(w, len);
+    mix(w, sel_print_type(of, w->room.bytes, ROOM, &len));
+    mix(w, len);
+    mix_room(w, len);
 }
 
 /* Mixes the status of a call and the column that it made, which is freed. */

@@ -729,15 +729,23 @@ sel_status sel_equal_rows(const sel_column *of, const sel_column *other, bool *e
  * Errors: SEL_ERROR_NO_COLUMN: `of` is empty. */
 sel_status sel_print(const sel_column *of, uint8_t *out, size_t out_len, size_t *len);
 
+/* Writes the type as text, such as `list<i64>`, without a terminating zero and without spaces: as many bytes as fit
+ * into `out`. Returns in `len` the number of bytes of the whole text. `sel_parse` reads the types of at most 64
+ * levels of children.
+ * Errors: SEL_ERROR_NO_COLUMN: `of` is empty. */
+sel_status sel_print_type(const sel_column *of, uint8_t *out, size_t out_len, size_t *len);
+
 /* Returns in `out` the column of the type `dtype`, such as `struct<list<i8>,fixed<2,utf8>>`, with the rows of
- * `text`, in the format that `sel_print` writes. Both are UTF-8. Spaces between tokens are ignored. The types are
- * null, bool, i8 to i128, u8 to u128, binary (with offsets), binview and utf8 (views), list<..>, fixed<n,..> and
- * struct<..>.
- * Errors: SEL_ERROR_TYPE_SYNTAX: syntax error in `dtype`. SEL_ERROR_ROW_SYNTAX: syntax error in `text`.
- * SEL_ERROR_ROW_TYPE_MISMATCH: a value in `text` does not fit the type. With these three, `at` is the index of the
- * first wrong byte, or the length if the text ends too soon; else `at` is unchanged. SEL_ERROR_TEXT_LIMIT: the
- * column exceeds a size limit, or the type has more than 64 levels of children; if the type exceeds it, this is
- * returned before later errors. */
+ * `text`, in the format that `sel_print` writes. Both are UTF-8. Between tokens there may be white space as in JSON,
+ * and strings may have all of JSON's escapes. The types are null, bool, i8 to i128, u8 to u128, binary (with
+ * offsets), binview and utf8 (views), list<..>, fixed<n,..> and struct<..>.
+ * Errors: SEL_ERROR_TYPE_SYNTAX: syntax error in `dtype`. SEL_ERROR_ROW_SYNTAX: syntax error in `text`, which is not
+ * that of rows of any type. With these two, `at` is the index of the first byte with which no type or no rows go on,
+ * or the length if the text ends too soon. SEL_ERROR_ROW_TYPE_MISMATCH: a value in `text` does not fit the type;
+ * `at` is the index of the first one. Values are compared with their types as they end, so a list or struct of the
+ * wrong length comes after its values. With any other status `at` is unchanged. SEL_ERROR_TEXT_LIMIT: the column
+ * exceeds a size limit, or the type has more than 64 levels of children; if the type exceeds it, this is returned
+ * before later errors. */
 sel_status sel_parse(
     const uint8_t *dtype,
     size_t dtype_len,

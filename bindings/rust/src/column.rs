@@ -106,12 +106,14 @@ impl Column {
 
     /// Parses rows of a type, both in the notation that [`to_text`](Column::to_text) prints.
     ///
-    /// Spaces between the parts are skipped. Types are `null`, `bool`, `i8` to `i128`, `u8` to `u128`, `binary` (with
-    /// 64-bit offsets), `binview`, `utf8` (string views), `list<TYPE>`, `fixed<SIZE,TYPE>` and `struct<TYPE,..>`.
+    /// Between tokens there may be white space as in JSON, and strings may have all of JSON's escapes. Types are `null`,
+    /// `bool`, `i8` to `i128`, `u8` to `u128`, `binary` (with 64-bit offsets), `binview`, `utf8` (string views),
+    /// `list<TYPE>`, `fixed<SIZE,TYPE>` and `struct<TYPE,..>`.
     ///
     /// # Errors
-    /// [`Error::Text`] with the offset of the first wrong byte; [`Error::Limit`] if a size limit would be exceeded or the
-    /// type has more than 64 levels; [`Error::OutOfMemory`].
+    /// [`Error::Text`] with the offset of the first byte with which no type or no rows go on, or of the first value that
+    /// does not fit the type; [`Error::Limit`] if a size limit would be exceeded or the type has more than 64 levels;
+    /// [`Error::OutOfMemory`].
     ///
     /// ```
     /// use sel::{Column, Error, Kind};
@@ -124,7 +126,7 @@ impl Column {
     /// let error = Column::parse("i8", "[1, 300]").unwrap_err();
     /// assert_eq!(error, Error::Text { status: 34, at: 4 });
     /// assert!(error.to_string().ends_with(" at byte 4"));
-    /// assert_eq!(Column::parse("list<i7>", "[]").unwrap_err(), Error::Text { status: 32, at: 5 });
+    /// assert_eq!(Column::parse("list<i7>", "[]").unwrap_err(), Error::Text { status: 32, at: 6 });
     /// assert_eq!(Column::parse("i8", "[1").unwrap_err(), Error::Text { status: 33, at: 2 });
     /// assert_eq!(Column::parse("fixed<4294967296,i8>", "[]").unwrap_err(), Error::Limit(35));
     /// # Ok(())
@@ -305,6 +307,25 @@ impl Column {
         bytes = zeroed(len)?;
         // SAFETY: as in `len`; the bytes are valid for their length.
         checked(unsafe { raw::sel_print(self.at(), bytes.as_mut_ptr(), bytes.len(), &mut len) })?;
+        String::from_utf8(bytes).map_err(|_| Error::of(status::INVALID_UTF8))
+    }
+
+    /// The type as text, as [`Column::parse`] reads it.
+    ///
+    /// ```
+    /// # use sel::{Column, Error};
+    /// # fn main() -> Result<(), Error> {
+    /// assert_eq!(Column::parse("list< i8 >", "[]")?.type_to_text()?, "list<i8>");
+    /// # Ok(())
+    /// # }
+    /// ```
+    pub fn type_to_text(&self) -> Result<String, Error> {
+        let (mut bytes, mut len) = (Vec::new(), 0);
+        // SAFETY: as in `len`; nothing is written to a length of 0.
+        checked(unsafe { raw::sel_print_type(self.at(), bytes.as_mut_ptr(), 0, &mut len) })?;
+        bytes = zeroed(len)?;
+        // SAFETY: as in `len`; the bytes are valid for their length.
+        checked(unsafe { raw::sel_print_type(self.at(), bytes.as_mut_ptr(), bytes.len(), &mut len) })?;
         String::from_utf8(bytes).map_err(|_| Error::of(status::INVALID_UTF8))
     }
 }

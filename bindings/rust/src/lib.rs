@@ -92,6 +92,7 @@
 //! | `sel_propagate_dictionary` | [`propagate_dictionary`] |
 //! | `sel_equal_rows` | [`Column::equals`], `==` |
 //! | `sel_print` | [`Column::to_text`], [`Display`](std::fmt::Display) |
+//! | `sel_print_type` | [`Column::type_to_text`] |
 //! | `sel_parse` | [`Column::parse`], the [`FromStr`](std::str::FromStr) of [`DataType`] |
 //! | `sel_child` | [`Column::child`] |
 //! | `sel_fixed_size_list_size` | [`Column::list_size`] |

@@ -290,6 +290,7 @@ extern "C" {
     ) -> u32;
     pub fn sel_equal_rows(of: *const Handle, other: *const Handle, equal: *mut bool) -> u32;
     pub fn sel_print(of: *const Handle, out: *mut u8, out_len: usize, len: *mut usize) -> u32;
+    pub fn sel_print_type(of: *const Handle, out: *mut u8, out_len: usize, len: *mut usize) -> u32;
     pub fn sel_parse(
         dtype: *const u8,
         dtype_len: usize,

@@ -143,7 +143,7 @@ fn types_are_printed_and_parsed() -> Result<(), Error> {
         assert_eq!(parsed.to_string(), text);
         assert_eq!(parsed.kind(), Column::parse(text, "[]")?.kind());
     }
-    assert_eq!("list<i7>".parse::<DataType>(), Err(Error::Text { status: 32, at: 5 }));
+    assert_eq!("list<i7>".parse::<DataType>(), Err(Error::Text { status: 32, at: 6 }));
     assert_eq!("".parse::<DataType>(), Err(Error::Text { status: 32, at: 0 }));
     Ok(())
 }

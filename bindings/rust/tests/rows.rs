@@ -57,7 +57,7 @@ fn right_lines_pass_in_all_layouts() {
         ("equal | i8 | [1] | i8 | [2] | false", 36),
         ("parse | list< i8 > | [ [1], null ] | [[1],null]", 1),
         ("parse | i8 | [300] | error row_type_mismatch 1", 1),
-        ("parse_type | list<i7> | error type_syntax 5", 1),
+        ("parse_type | list<i7> | error type_syntax 6", 1),
         ("parse_type | struct< i8 , bool > | struct<i8,bool>", 1),
     ];
     for (text, calls) in lines {

@@ -1,17 +1,17 @@
 //! Comparison, printing and parsing.
 
-ghost use Rattle.std.specs.Prelude.{◌≡◌, ◌≤◌, ◌↔◌, List, [], ◌∷◌, length, IsTrue};
+ghost use Rattle.std.specs.Prelude.{◌≡◌, ◌≤◌, ◌↔◌, List, [], ◌∷◌, Some, false, length, IsTrue};
 ghost use Rattle.sel_arrow.specs.Rows.{rows, type_of};
 ghost use Rattle.sel_arrow.specs.Shape.{Shape};
 ghost use Rattle.sel_arrow.specs.Value.{Value};
 ghost use Rattle.sel_calls.specs.Parsed.{exceeds_parse_limit, IsRowsText, IsTypeText};
-ghost use Rattle.sel_calls.specs.Printed.{filled, held_text};
+ghost use Rattle.sel_calls.specs.Printed.{filled, held_text, held_type_text};
 ghost use Rattle.sel_handle.specs.Status.{ok, out_of_memory, no_column, type_syntax, row_syntax, row_type_mismatch, text_limit, held_rows, DemandsFirst, HasColumn, IsOneOf, Makes};
-ghost use Rattle.sel_text.specs.Spaces.{spaceless};
+ghost use Rattle.sel_text.specs.Spelling.{spelled};
 ghost use Rattle.sel_text.specs.Texts.{text_of};
 ghost use Rattle.sel_text.specs.Types.{type_text};
 
-use sel_calls::texts::{parse_into, print_into};
+use sel_calls::texts::{parse_into, print_into, print_type_into};
 use sel_handle::column_ref::ColumnRef;
 use sel_handle::handle::Handle;
 use sel_handle::status::{NO_COLUMN, OK};
@@ -59,16 +59,43 @@ pub extern "C" fn sel_print(alloc: Global, of: &ColumnRef, out: &mut [u8], len: 
     print_into(alloc, column, out, len)
 }
 
+/// Writes the type as text, such as `list<i64>`, without a terminating zero and without spaces: as
+/// many bytes as fit into `out`. Returns in `len` the number of bytes of the whole text. `sel_parse`
+/// reads the types of at most 64 levels of children.
+///
+/// Errors: SEL_ERROR_NO_COLUMN: `of` is empty.
+#[unsafe(no_mangle)]
+pub extern "C" fn sel_print_type(
+    alloc: Global,
+    of: &ColumnRef,
+    out: &mut [u8],
+    len: &mut usize,
+) -> u32
+    ensures text { result ≡ ok → out.new ≡ filled (held_type_text of.now.tree) out.old }
+    ensures len { result ≡ ok → len.new ≡ length (held_type_text of.now.tree) }
+    ensures column { DemandsFirst result no_column (HasColumn of.now.tree) }
+    ensures status { IsOneOf result (ok ∷ out_of_memory ∷ no_column ∷ []) }
+{
+    let Some(column) = of.column() else {
+        return NO_COLUMN;
+    };
+    print_type_into(alloc, column, out, len)
+}
+
 /// Returns in `out` the column of the type `dtype`, such as `struct<list<i8>,fixed<2,utf8>>`, with
-/// the rows of `text`, in the format that `sel_print` writes. Both are UTF-8. Spaces between
-/// tokens are ignored. The types are null, bool, i8 to i128, u8 to u128, binary (with offsets),
-/// binview and utf8 (views), list<..>, fixed<n,..> and struct<..>.
+/// the rows of `text`, in the format that `sel_print` writes. Both are UTF-8. Between tokens there
+/// may be white space as in JSON, and strings may have all of JSON's escapes. The types are null,
+/// bool, i8 to i128, u8 to u128, binary (with offsets), binview and utf8 (views), list<..>,
+/// fixed<n,..> and struct<..>.
 ///
 /// Errors: SEL_ERROR_TYPE_SYNTAX: syntax error in `dtype`. SEL_ERROR_ROW_SYNTAX: syntax error in
-/// `text`. SEL_ERROR_ROW_TYPE_MISMATCH: a value in `text` does not fit the type. With these three,
-/// `at` is the index of the first wrong byte, or the length if the text ends too soon; else `at` is
-/// unchanged. SEL_ERROR_TEXT_LIMIT: the column exceeds a size limit, or the type has more than 64
-/// levels of children; if the type exceeds it, this is returned before later errors.
+/// `text`, which is not that of rows of any type. With these two, `at` is the index of the first
+/// byte with which no type or no rows go on, or the length if the text ends too soon.
+/// SEL_ERROR_ROW_TYPE_MISMATCH: a value in `text` does not fit the type; `at` is the index of the
+/// first one. Values are compared with their types as they end, so a list or struct of the wrong
+/// length comes after its values. With any other status `at` is unchanged. SEL_ERROR_TEXT_LIMIT:
+/// the column exceeds a size limit, or the type has more than 64 levels of children; if the type
+/// exceeds it, this is returned before later errors.
 #[unsafe(no_mangle)]
 pub extern "C" fn sel_parse(
     alloc: Global,
@@ -78,13 +105,16 @@ pub extern "C" fn sel_parse(
     out: &mut Handle,
 ) -> u32
     ensures dtype { Makes result out.old.tree out.new.tree
-        (λ made. type_text (type_of made.column) ≡ spaceless dtype.now) }
+        (λ made. spelled dtype.now ≡ Some (type_text (type_of made.column))) }
     ensures rows { Makes result out.old.tree out.new.tree
-        (λ made. text_of (type_of made.column) (rows made.column) ≡ spaceless text.now) }
+        (λ made. spelled text.now ≡ Some (text_of (type_of made.column) (rows made.column))) }
     ensures named { result ≡ type_syntax → (shape : Shape) → IsTypeText shape dtype.now →
         ⊥ }
     ensures typed { IsOneOf result (row_syntax ∷ row_type_mismatch ∷ []) →
-        (shape : Shape) × (type_text shape ≡ spaceless dtype.now) }
+        (shape : Shape) × (spelled dtype.now ≡ Some (type_text shape)) }
+    ensures within { result ≡ ok → (shape : Shape) (values : List Value) →
+        IsTypeText shape dtype.now → IsRowsText shape values text.now →
+        exceeds_parse_limit shape values ≡ false }
     ensures accepted { (shape : Shape) (values : List Value) →
         IsTypeText shape dtype.now → IsRowsText shape values text.now →
         IsOneOf result (ok ∷ out_of_memory ∷ text_limit ∷ []) }

@@ -1,12 +1,17 @@
--- The row text of a handle's column, and the bytes of it that are copied.
+-- The texts of a handle's column, and the bytes of them that are copied.
 use Rattle.std.specs.Prelude.{ℕ, List, length, take, drop, ◌++◌}
 use Rattle.sel_handle.specs.Held.{Held}
 use Rattle.sel_handle.specs.Status.{held_rows, held_type}
 use Rattle.sel_text.specs.Texts.{text_of}
+use Rattle.sel_text.specs.Types.{type_text}
 
 -- The row text, as in `[1,null,-3]`.
 abbrev pub held_text : Held → List ℕ
 held_text held = text_of (held_type held) (held_rows held)
+
+-- The text of the type, as in `list<i8>`.
+abbrev pub held_type_text : Held → List ℕ
+held_type_text held = type_text (held_type held)
 
 -- A buffer after the text is copied into it: as much of the text as fits, then the old bytes.
 abbrev pub filled : List ℕ → List ℕ → List ℕ

@@ -1,6 +1,6 @@
 //! Columns printed as row text and parsed from it.
 
-ghost use Rattle.std.specs.Prelude.{◌≡◌, ◌≢◌, ◌≤◌, ℕ, List, [], ◌∷◌, length, IfOk, IfErr, IsTrue};
+ghost use Rattle.std.specs.Prelude.{◌≡◌, ◌≢◌, ◌≤◌, ℕ, List, [], ◌∷◌, Some, false, length, IfOk, IfErr, IfSome, IsTrue};
 ghost use Rattle.sel_arrow.specs.DataType.{shape_of};
 ghost use Rattle.sel_arrow.specs.Depth.{depth};
 ghost use Rattle.sel_arrow.specs.Rows.{rows, type_of};
@@ -10,7 +10,7 @@ ghost use Rattle.sel_calls.specs.Parsed.{exceeds_parse_limit, IsRowsText, IsType
 ghost use Rattle.sel_calls.specs.Printed.{filled};
 ghost use Rattle.sel_handle.specs.Status.{ok, out_of_memory, type_syntax, row_syntax, row_type_mismatch, text_limit, IsOneOf, Makes};
 ghost use Rattle.sel_text.specs.Limits.{exceeds_limit};
-ghost use Rattle.sel_text.specs.Spaces.{spaceless};
+ghost use Rattle.sel_text.specs.Spelling.{spelled};
 ghost use Rattle.sel_text.specs.TextErrors.{IsLimitOrMemoryError, IsOffsetWithin};
 ghost use Rattle.sel_text.specs.Texts.{text_of};
 ghost use Rattle.sel_text.specs.Types.{type_text};
@@ -26,8 +26,10 @@ use sel_text::build::NullSlots;
 use sel_text::parse::parse_column;
 use sel_text::print::print_rows;
 use sel_text::read_type::parse_dtype;
+use sel_text::syntax::{find_row_error, find_type_error};
 use sel_text::text_error::TextError;
-use std::alloc::Global;
+use sel_text::types::print_dtype;
+use std::alloc::{AllocError, Global};
 use std::str;
 
 /// Writes the row text of the column into `out`, truncated to its length, and the length of the
@@ -42,6 +44,30 @@ pub fn print_into(alloc: Global, column: &ArrayRef, out: &mut [u8], len: &mut us
     ensures status { IsOneOf result (ok ∷ out_of_memory ∷ []) }
 {
     let Ok(text) = print_rows(alloc, column.as_column()) else {
+        return OUT_OF_MEMORY;
+    };
+    let bytes = text.as_str().as_bytes();
+    *len = bytes.len();
+    fill(bytes, out);
+    OK
+}
+
+/// Writes the text of the column's type into `out`, truncated to its length, and the length of the
+/// whole text to `len`.
+///
+/// Errors: `OUT_OF_MEMORY`.
+pub fn print_type_into(alloc: Global, column: &ArrayRef, out: &mut [u8], len: &mut usize) -> u32
+    ensures text { result ≡ ok → out.new ≡
+        filled (type_text (type_of column.now.column)) out.old }
+    ensures len { result ≡ ok → len.new ≡ length (type_text (type_of column.now.column)) }
+    ensures status { IsOneOf result (ok ∷ out_of_memory ∷ []) }
+{
+    let Ok(dtype) = column.as_column().dtype(alloc) else {
+        return OUT_OF_MEMORY;
+    };
+    let printed = print_dtype(alloc, &dtype);
+    drop(dtype);
+    let Ok(text) = printed else {
         return OUT_OF_MEMORY;
     };
     let bytes = text.as_str().as_bytes();
@@ -66,13 +92,16 @@ fn fill(text: &[u8], out: &mut [u8])
 /// nested more than 64 levels deep; `OUT_OF_MEMORY`. On error `out` is unchanged.
 pub fn parse_into(alloc: Global, name: &[u8], text: &[u8], at: &mut usize, out: &mut Handle) -> u32
     ensures dtype { Makes result out.old.tree out.new.tree
-        (λ made. type_text (type_of made.column) ≡ spaceless name.now) }
+        (λ made. spelled name.now ≡ Some (type_text (type_of made.column))) }
     ensures rows { Makes result out.old.tree out.new.tree
-        (λ made. text_of (type_of made.column) (rows made.column) ≡ spaceless text.now) }
+        (λ made. spelled text.now ≡ Some (text_of (type_of made.column) (rows made.column))) }
     ensures named { result ≡ type_syntax → (shape : Shape) → IsTypeText shape name.now →
         ⊥ }
     ensures typed { IsOneOf result (row_syntax ∷ row_type_mismatch ∷ []) →
-        (shape : Shape) × (type_text shape ≡ spaceless name.now) }
+        (shape : Shape) × (spelled name.now ≡ Some (type_text shape)) }
+    ensures within { result ≡ ok → (shape : Shape) (values : List Value) →
+        IsTypeText shape name.now → IsRowsText shape values text.now →
+        exceeds_parse_limit shape values ≡ false }
     ensures accepted { (shape : Shape) (values : List Value) →
         IsTypeText shape name.now → IsRowsText shape values text.now →
         IsOneOf result (ok ∷ out_of_memory ∷ text_limit ∷ []) }
@@ -105,7 +134,7 @@ pub fn parse_into(alloc: Global, name: &[u8], text: &[u8], at: &mut usize, out: 
 /// `Syntax` or `Type` with the byte position; `Limit`, also if a list size exceeds what a column
 /// can have; `OutOfMemory`.
 fn read_dtype(alloc: Global, bytes: &[u8]) -> Result<ArrowDataType, TextError>
-    ensures text { IfOk result (λ dtype. type_text (shape_of dtype) ≡ spaceless bytes.now) }
+    ensures text { IfOk result (λ dtype. spelled bytes.now ≡ Some (type_text (shape_of dtype))) }
     ensures narrow { IfOk result (λ dtype. IsTrue (widths_written (shape_of dtype))) }
     ensures levels { IfOk result (λ dtype. depth (shape_of dtype) ≤ 64) }
     ensures refused { IfErr result (λ error. (shape : Shape) →
@@ -117,11 +146,7 @@ fn read_dtype(alloc: Global, bytes: &[u8]) -> Result<ArrowDataType, TextError>
 {
     let text = match str::from_utf8(bytes) {
         Ok(text) => text,
-        Err(fault) => {
-            return Err(TextError::Syntax {
-                at: fault.valid_up_to(),
-            });
-        }
+        Err(fault) => return Err(not_utf8(find_type_error(alloc, bytes), fault.valid_up_to())),
     };
     let dtype = match parse_dtype(alloc, text) {
         Ok(dtype) => dtype,
@@ -141,7 +166,10 @@ fn read_dtype(alloc: Global, bytes: &[u8]) -> Result<ArrowDataType, TextError>
 fn read_rows(alloc: Global, dtype: &ArrowDataType, bytes: &[u8]) -> Result<ArrayRef, TextError>
     ensures dtype { IfOk result (λ made. type_of made.column ≡ shape_of dtype.now) }
     ensures text { IfOk result (λ made.
-        text_of (shape_of dtype.now) (rows made.column) ≡ spaceless bytes.now) }
+        spelled bytes.now ≡ Some (text_of (shape_of dtype.now) (rows made.column))) }
+    ensures within { IfOk result (λ _. (values : List Value) →
+        IsRowsText (shape_of dtype.now) values bytes.now →
+        exceeds_limit NullSlots.Zeros (shape_of dtype.now) values ≡ false) }
     ensures refused { IfErr result (λ error. (values : List Value) →
         IsRowsText (shape_of dtype.now) values bytes.now → IsLimitOrMemoryError error) }
     ensures limit { IfErr result (λ error. error ≡ TextError.Limit → (values : List Value) →
@@ -151,9 +179,21 @@ fn read_rows(alloc: Global, dtype: &ArrowDataType, bytes: &[u8]) -> Result<Array
 {
     match str::from_utf8(bytes) {
         Ok(text) => parse_column(alloc, dtype, text, NullSlots::Zeros),
-        Err(fault) => Err(TextError::Syntax {
-            at: fault.valid_up_to(),
-        }),
+        Err(fault) => Err(not_utf8(find_row_error(alloc, bytes), fault.valid_up_to())),
+    }
+}
+
+/// Returns the error of bytes that are not UTF-8: a syntax error where it was found, else at
+/// `place`.
+fn not_utf8(found: Result<Option<usize>, AllocError>, place: usize) -> TextError
+    ensures within { (count : ℕ) → place ≤ count →
+        IfOk found (λ at. IfSome at (λ at. at ≤ count)) → IsOffsetWithin count result }
+    ensures limit { result ≢ TextError.Limit }
+{
+    match found {
+        Ok(Some(at)) => TextError::Syntax { at },
+        Ok(None) => TextError::Syntax { at: place },
+        Err(_) => TextError::OutOfMemory,
     }
 }
 

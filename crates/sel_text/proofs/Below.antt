@@ -148,6 +148,9 @@ blocks_made s size vs child n validity fit count is hides =
     ∙ ap (λ l. masked validity (map list_of l)) (blocks_from below (fits (of_fixed_size_list s size)) size (block_long s size) vs [] child 0 fit (omega arith) is)
     ∙ hides (map list_of (map below vs)) (lists_show below (fits (of_fixed_size_list s size)) (block_entries s size) vs fit)
 
+pub blocks_count : (s : Shape) (size n : ℕ) (vs : List Value) → list_all (fits (of_fixed_size_list s size)) vs ≡ true → n ≡ length vs → length (flat_map (block_in size) vs) ≡ n * size
+blocks_count s size n vs fit same = blocks_long (block_in size) (fits (of_fixed_size_list s size)) size (block_long s size) vs fit ∙ ap (λ k. k * size) (sym same)
+
 pub blocks_past : (s : Shape) (size : ℕ) (vs : List Value) (n count : ℕ) (validity : Option Bits) (m : Malformed) → list_all (fits (of_fixed_size_list s size)) vs ≡ true → n ≡ length vs → count ≡ length (flat_map (block_in size) vs) → Covers validity (length vs) →
     block_fault size n count validity ≡ Some m → (too_many (length vs) || too_many size) ≡ true
 blocks_past s size vs n count validity m fit same long covers is =

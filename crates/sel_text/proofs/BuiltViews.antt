@@ -1,5 +1,5 @@
 -- Views into one data buffer that grows.
-use Rattle.std.proofs.Common.{◌≡◌, ℕ, ◌+◌, ◌-◌, ◌≤◌, ◌<◌, Bool, true, false, true≢false, cond, Bor, List, [], ◌∷◌, ◌++◌, length, take, drop, map, arith, refl, ap, sym, subst, ◌∙◌, length-append}
+use Rattle.std.proofs.Common.{◌≡◌, ℕ, ◌+◌, ◌≤◌, ◌<◌, Bool, true, false, true≢false, cond, Bor, List, [], ◌∷◌, ◌++◌, length, take, drop, map, arith, refl, ap, sym, subst, ◌∙◌, length-append}
 use Rattle.std.specs.Prelude.{leb, IsTrue}
 use Rattle.std.specs.List.{list_all}
 use Rattle.std.proofs.lemmas.Bool.{leb-true, ltb-true}
@@ -99,3 +99,12 @@ past_bytes s of beneath items i store p views fit so next past =
     let many : 4294967295 < length store + length (bytes_behind p) = ltb-true _ _ past in
     let more : 4294967295 < all_placed_bytes (rows_read items) = omega (arith, all, cut, here, held, many) in
     grind (arith, nat_tests, more)
+
+-- The rows need no more bytes than the data buffer has.
+pub bytes_within : (s : Shape) → IsOfBytes s → (beneath : NullSlots) (items : List (Bor Item)) (store : List ℕ) (views : List View) → list_all (fits_type s) (rows_read items) ≡ true →
+    Views store views (stored_bytes beneath items) → length store ≤ 4294967295 → exceeds_max (all_placed_bytes (rows_read items)) ≡ false
+bytes_within s of beneath items store views fit so few =
+    let all = all_in_rows s of beneath items fit in
+    let held = so.held in
+    let small : all_placed_bytes (rows_read items) ≤ 4294967295 = omega (arith, all, held, few) in
+    grind (arith, nat_tests, small)

@@ -1,6 +1,8 @@
 pub mod Below
+pub mod Blocks
 pub mod BuiltViews
 pub mod CellRows
+pub mod ColumnTypes
 pub mod Commas
 pub mod Decimals
 pub mod Decoded
@@ -21,7 +23,9 @@ pub mod Quotes
 pub mod Refusals
 pub mod Rows
 pub mod Shown
-pub mod Spaceless
+pub mod Spelled
+pub mod Spellings
 pub mod Told
 pub mod TypeTexts
 pub mod TypesTold
+pub mod Within

@@ -5,6 +5,8 @@ use Rattle.std.specs.Fmt.{decimal}
 use Rattle.sel_arrow.specs.Shape.{Shape, Shapes, no_shapes, next_shape, of_large_list, of_fixed_size_list, of_struct}
 use Rattle.sel_arrow.proofs.Lists.{and_first, and_second}
 use Rattle.sel_text.specs.Types.{angled, type_text, type_texts}
+use Rattle.sel_text.specs.Spelling.{spelled}
+use Rattle.std.specs.Prelude.{Some, unwrap_or}
 use Rattle.sel_text.specs.Written.{widths_written, all_widths_written}
 use Rattle.sel_text.proofs.Ends.{numbers_told}
 use Rattle.sel_text.proofs.Fields.{behind_first, behind_bracket, block_narrow, no_types}
@@ -87,3 +89,7 @@ mutual
 -- Types whose list sizes have 64 bits are equal if their texts are equal.
 pub one_type : (s t : Shape) → widths_written s ≡ true → widths_written t ≡ true → type_text s ≡ type_text t → s ≡ t
 one_type s t narrow narrow_other same = ((tells s).told t [] [] narrow narrow_other (ap (λ l. l ++ []) same)).0
+
+-- The same where both are the canonical spelling of a text.
+pub one_spelled : (text : List ℕ) (s t : Shape) → widths_written s ≡ true → widths_written t ≡ true → spelled text ≡ Some (type_text s) → spelled text ≡ Some (type_text t) → s ≡ t
+one_spelled text s t narrow narrow_other is other = one_type s t narrow narrow_other (ap (λ o. unwrap_or o []) (sym is ∙ other))

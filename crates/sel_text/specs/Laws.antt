@@ -1,9 +1,13 @@
--- Row text determines the rows, and the text of a type determines the type.
-use Rattle.std.specs.Prelude.{◌≡◌, List, IsTrue}
+-- Row text determines the rows, the text of a type determines the type, and both are read as they
+-- are printed.
+use Rattle.std.specs.Prelude.{◌≡◌, List, Some, IsTrue}
 use Rattle.std.specs.List.{list_all}
+use Rattle.sel_arrow.specs.Rows.{type_of, IsWellFormed}
 use Rattle.sel_arrow.specs.Shape.{Shape}
 use Rattle.sel_arrow.specs.Value.{Value}
+use Rattle.sel_arrow.specs.declared.column.Column.{Column}
 use Rattle.sel_text.specs.Fits.{fits}
+use Rattle.sel_text.specs.Spelling.{spelled}
 use Rattle.sel_text.specs.Texts.{text_of}
 use Rattle.sel_text.specs.Types.{type_text}
 use Rattle.sel_text.specs.Written.{widths_written}
@@ -20,3 +24,14 @@ abbrev pub TextDeterminesType : Type 0
 TextDeterminesType =
     (shape other : Shape) → IsTrue (widths_written shape) → IsTrue (widths_written other) →
     type_text shape ≡ type_text other → shape ≡ other
+
+-- The list sizes in the type of a well-formed column are unsigned 64-bit integers.
+abbrev pub ColumnTypesAreWritten : Type 0
+ColumnTypesAreWritten =
+    (column : Column) → IsWellFormed column → IsTrue (widths_written (type_of column))
+
+-- The text of a type whose list sizes are such integers is its own canonical spelling.
+abbrev pub TypeTextIsSpelled : Type 0
+TypeTextIsSpelled =
+    (shape : Shape) → IsTrue (widths_written shape) →
+    spelled (type_text shape) ≡ Some (type_text shape)

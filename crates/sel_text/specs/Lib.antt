@@ -6,7 +6,7 @@ pub mod Digits
 pub mod ItemValues
 pub mod Limits
 pub mod Readings
-pub mod Spaces
+pub mod Spelling
 pub mod Stored
 pub mod TextErrors
 pub mod Texts

@@ -77,11 +77,12 @@ ReportsLimit is_passed Limit = is_passed ≡ true
 ReportsLimit is_passed OutOfMemory = ⊤
 ReportsLimit is_passed fault = ⊥
 
--- The result is a column of the type with these rows, `Limit` if the rows exceed a limit, or
--- `OutOfMemory`.
+-- The result is a column of the type with these rows, which exceed no limit, `Limit` if the rows
+-- exceed one, or `OutOfMemory`.
 abbrev pub MakesColumn : NullSlots → Shape → List Value → Result ArrayRef Fault → Type 0
 MakesColumn beneath shape values (Ok array) =
     (type_of array.column ≡ shape) × (rows array.column ≡ values)
+    × (exceeds_limit beneath shape values ≡ false)
 MakesColumn beneath shape values (Err fault) =
     ReportsLimit (exceeds_limit beneath shape values) fault
 

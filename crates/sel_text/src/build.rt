@@ -1,6 +1,6 @@
 //! Builds columns from parsed rows.
 
-ghost use Rattle.std.specs.Prelude.{◌≡◌, ◌<◌, ◌≤◌, ◌+◌, ◌∷◌, ◌++◌, [], pos, true, List, IfOk, IfErr, OnOk, length, map, replicate};
+ghost use Rattle.std.specs.Prelude.{◌≡◌, ◌<◌, ◌≤◌, ◌+◌, ◌∷◌, ◌++◌, [], pos, true, false, List, IfOk, IfErr, OnOk, length, map, replicate};
 ghost use Rattle.std.specs.List.{flat_map, list_all};
 ghost use Rattle.sel_arrow.specs.Columns.{binview_rows};
 ghost use Rattle.sel_arrow.specs.DataType.{shape_of};
@@ -9,9 +9,9 @@ ghost use Rattle.sel_arrow.specs.Shape.{Shape, shapes_of, of_boolean, of_large_b
 ghost use Rattle.sel_arrow.specs.Views.{inline_bytes, view_of};
 ghost use Rattle.sel_arrow.specs.Value.{Value, Null, Number, is_valid};
 ghost use Rattle.sel_text.specs.Below.{offsets_below, HasParts};
-ghost use Rattle.sel_text.specs.Fits.{fits};
+ghost use Rattle.sel_text.specs.Fits.{fits, fits_number};
 ghost use Rattle.sel_text.specs.ItemValues.{item_value, rows_read};
-ghost use Rattle.sel_text.specs.Limits.{any_exceeds_limit, block_in, entries_in, exceeds_max, is_view_shape, part_in, exceeds_limit, ReportsLimit, MakesColumn, ShowsRows};
+ghost use Rattle.sel_text.specs.Limits.{all_placed_bytes, any_exceeds_limit, block_in, entries_in, exceeds_max, is_view_shape, part_in, exceeds_limit, ReportsLimit, MakesColumn, ShowsRows};
 ghost use Rattle.sel_text.specs.Stored.{bytes_behind, bytes_stored, bool_stored};
 ghost use Rattle.sel_text.specs.TextErrors.{IsMemoryFault};
 
@@ -31,6 +31,7 @@ use sel_arrow::null::NullArray;
 use sel_arrow::primitive::PrimitiveArray;
 use sel_arrow::structure::StructArray;
 use sel_arrow::utf8view::Utf8ViewArray;
+use sel_arrow::validity::MOST_ROWS;
 use sel_arrow::view::View;
 use sel_bits::bitmap::Bitmap;
 use sel_bits::buffer::Buffer;
@@ -152,24 +153,25 @@ fn numbers<T: FromWhole>(
     ensures { list_all (fits T.shape) (rows_read items.now) ≡ true →
         MakesColumn beneath T.shape (rows_read items.now) result }
 {
-    let mut values = Vec::with_capacity(alloc, items.len())?;
-    for item in items {
-        values.push(number_in::<T>(item, beneath))?;
-    }
-    let values = Buffer::from_vec(values)?;
-    Ok(PrimitiveArray::try_new(values, validity_of(alloc, items)?)?.into_ref())
-}
-
-/// Returns the integer of a row, or the value for a null slot.
-fn number_in<T: FromWhole>(item: &Item, beneath: NullSlots) -> T
-    ensures { fits T.shape (item_value item.now) ≡ true →
-        ShowsRows (item_value item.now ∷ []) (Number (T.number result) ∷ []) }
-{
     let zero = T::zero();
     let other = match beneath {
         NullSlots::Zeros => zero,
         NullSlots::Others => T::GREATEST,
     };
+    let mut values = Vec::with_capacity(alloc, items.len())?;
+    for item in items {
+        values.push(number_in::<T>(item, other))?;
+    }
+    let values = Buffer::from_vec(values)?;
+    Ok(PrimitiveArray::try_new(values, validity_of(alloc, items)?)?.into_ref())
+}
+
+/// Returns the integer of a row, or `other` for a null row.
+fn number_in<T: FromWhole>(item: &Item, other: T) -> T
+    requires { fits_number T.shape (pos 0) ≡ true }
+    ensures { fits T.shape (item_value item.now) ≡ true →
+        ShowsRows (item_value item.now ∷ []) (Number (T.number result) ∷ []) }
+{
     match item {
         Item::Number(whole) => T::from_whole(*whole).unwrap_or(other),
         _ => other,
@@ -225,6 +227,9 @@ fn views(alloc: Global, items: &[&Item], beneath: NullSlots) -> Result<BinaryVie
     ensures views { IfOk result (λ array. (shape : Shape) → is_view_shape shape ≡ true →
         list_all (fits shape) (rows_read items.now) ≡ true →
         binview_rows array ≡ rows_read items.now) }
+    ensures within { IfOk result (λ _. (shape : Shape) → is_view_shape shape ≡ true →
+        list_all (fits shape) (rows_read items.now) ≡ true →
+        exceeds_max (all_placed_bytes (rows_read items.now)) ≡ false) }
     ensures limit { IfErr result (λ fault. (shape : Shape) → is_view_shape shape ≡ true →
         list_all (fits shape) (rows_read items.now) ≡ true →
         ReportsLimit (exceeds_limit beneath shape (rows_read items.now)) fault) }
@@ -248,6 +253,8 @@ fn view_behind(placed: &mut Vec<u8>, bytes: &[u8]) -> Result<View, Fault>
         bytes.now) }
     ensures placed { IfOk result (λ _.
         placed.new.items ≡ placed.old.items ++ bytes_behind bytes.now) }
+    ensures within { length placed.old.items ≤ 4294967295 →
+        OnOk result (length placed.new.items ≤ 4294967295) }
     ensures limit { IfErr result
         (λ fault. ReportsLimit
         (exceeds_max (length placed.old.items + length (bytes_behind bytes.now))) fault) }
@@ -255,9 +262,12 @@ fn view_behind(placed: &mut Vec<u8>, bytes: &[u8]) -> Result<View, Fault>
     if bytes.len() <= 12 {
         return Ok(View::new_from_bytes(bytes, 0, 0));
     }
-    let (Ok(_), Ok(start)) = (u32::try_from(bytes.len()), u32::try_from(placed.len())) else {
+    let (Ok(size), Ok(start)) = (u32::try_from(bytes.len()), u32::try_from(placed.len())) else {
         return Err(Fault::Limit);
     };
+    if size > u32::MAX - start {
+        return Err(Fault::Limit);
+    }
     placed.extend_from_slice(bytes)?;
     Ok(View::new_from_bytes(bytes, 0, start))
 }
@@ -382,23 +392,50 @@ fn blocks(
         (rows_read items.now) ≡ true → MakesColumn beneath
         (of_fixed_size_list (shape_of dtype.now) size) (rows_read items.now) result }
 {
-    let null = Item::Null;
-    let entries = match entries_of(alloc, items, &null, size) {
-        Ok(entries) => entries,
+    let child = match block_child(dtype, size, alloc, items, beneath) {
+        Ok(child) => child,
         Err(fault) => return Err(fault),
     };
     let validity = match validity_of(alloc, items) {
         Ok(validity) => validity,
         Err(fault) => return Err(fault),
     };
-    let child = match build(dtype, alloc, &entries, beneath) {
-        Ok(child) => child,
-        Err(fault) => return Err(fault),
-    };
     match FixedSizeListArray::try_new(alloc, size, items.len(), child, validity) {
         Ok(array) => Ok(array.into_ref()),
         Err(fault) => Err(Fault::from(fault)),
     }
+}
+
+/// Builds the child of a fixed-size list column. Checks the number of its rows before it lists them,
+/// and only counts them if they are of the null type, which has no data.
+#[cycle(building)]
+fn block_child(
+    dtype: &ArrowDataType,
+    size: usize,
+    alloc: Global,
+    items: &[&Item],
+    beneath: NullSlots,
+) -> Result<ArrayRef, Fault>
+    ensures { list_all (fits (of_fixed_size_list (shape_of dtype.now) size))
+        (rows_read items.now) ≡ true → MakesColumn beneath (shape_of dtype.now)
+        (flat_map (block_in size) (rows_read items.now)) result }
+{
+    let count = match items.len().checked_mul(size) {
+        Some(count) => count,
+        None => return Err(Fault::Limit),
+    };
+    if count > MOST_ROWS {
+        return Err(Fault::Limit);
+    }
+    if let ArrowDataType::Null = dtype {
+        return Ok(NullArray::try_new(count)?.into_ref());
+    }
+    let null = Item::Null;
+    let entries = match entries_of(alloc, items, &null, size) {
+        Ok(entries) => entries,
+        Err(fault) => return Err(fault),
+    };
+    build(dtype, alloc, &entries, beneath)
 }
 
 /// Returns the concatenated entries of the lists, with `size` nulls for each null row. Fails only
@@ -491,6 +528,9 @@ fn push_fields(
     ensures fields { list_all (fits (of_struct (shapes_of (map shape_of dtypes.now))))
         (rows_read items.now) ≡ true → OnOk result (HasParts fields.new.items
         fields.old.items (map shape_of dtypes.now) (rows_read items.now)) }
+    ensures within { list_all (fits (of_struct (shapes_of (map shape_of dtypes.now))))
+        (rows_read items.now) ≡ true → OnOk result (any_exceeds_limit beneath
+        (shapes_of (map shape_of dtypes.now)) 0 (rows_read items.now) ≡ false) }
     ensures limit { list_all (fits (of_struct (shapes_of (map shape_of dtypes.now))))
         (rows_read items.now) ≡ true → IfErr result (ReportsLimit (any_exceeds_limit beneath
         (shapes_of (map shape_of dtypes.now)) 0 (rows_read items.now))) }

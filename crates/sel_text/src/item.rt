@@ -77,20 +77,25 @@ pub(crate) fn read_item<'a>(
         },
         ArrowDataType::Struct(fields) => match read_parts(fields, alloc, bytes) {
             Ok((parts, rest)) => Ok((Item::Parts(parts), rest)),
-            Err(fault) => Err(fault),
+            Err(fault) => Err(of_value(fault, bytes)),
         },
     }
 }
 
-/// Returns the error for input that starts no row of the type: `Type` if it starts like a row of
-/// another type, else `Syntax`.
+/// Returns the error for input that starts no row of the type.
 fn mismatch(bytes: &[u8]) -> Fault {
-    match bytes {
-        [
-            b'n' | b't' | b'f' | b'h' | b'"' | b'[' | b'(' | b'-' | b'0'..=b'9',
-            ..
-        ] => { Fault::Type(bytes.len()) }
-        _ => Fault::Syntax(bytes.len()),
+    Fault::Type(bytes.len())
+}
+
+/// Returns the error for an error in the struct value at the front: a wrong number of fields is an
+/// error of the value.
+fn of_value(fault: Fault, bytes: &[u8]) -> Fault
+    ensures { IsMemoryFault fault → IsMemoryFault result }
+{
+    match fault {
+        Fault::Syntax(_) => Fault::Type(bytes.len()),
+        Fault::Type(_) if bytes.starts_with(b"()") => Fault::Type(bytes.len()),
+        _ => fault,
     }
 }
 
@@ -175,7 +180,7 @@ fn read_positive<T: FromWhole>(bytes: &[u8]) -> Result<(Item, &[u8]), Fault>
 {
     let (digits, rest) = match read_digits(bytes) {
         Ok(read) => read,
-        Err(fault) => return Err(without_digit(bytes, fault)),
+        Err(_) => return Err(mismatch(bytes)),
     };
     let Some(number) = number_of(digits) else {
         return Err(Fault::Type(bytes.len()));
@@ -184,14 +189,6 @@ fn read_positive<T: FromWhole>(bytes: &[u8]) -> Result<(Item, &[u8]), Fault>
     match T::from_whole(whole) {
         Some(_) => Ok((Item::Number(whole), rest)),
         None => Err(Fault::Type(bytes.len())),
-    }
-}
-
-/// Returns `fault` if the input starts with a digit, else the error of `mismatch`.
-fn without_digit(bytes: &[u8], fault: Fault) -> Fault {
-    match bytes {
-        [b'0'..=b'9', ..] => fault,
-        _ => mismatch(bytes),
     }
 }
 

@@ -1,6 +1,6 @@
-//! Uniqueness of the notation.
+//! Uniqueness of the notation, and that it is read as it is printed.
 
-ghost use Rattle.sel_text.specs.Laws.{TextDeterminesRows, TextDeterminesType};
+ghost use Rattle.sel_text.specs.Laws.{ColumnTypesAreWritten, TextDeterminesRows, TextDeterminesType, TypeTextIsSpelled};
 
 /// Two lists of values that fit the same type are equal if their notations are equal: the type and
 /// the notation of a column determine its rows. Tests that compare notations rely on this.
@@ -13,4 +13,16 @@ pub fn law_text_determines_rows()
 /// same type.
 pub fn law_text_determines_type()
     ensures { TextDeterminesType }
+{}
+
+/// The list sizes in the type of a well-formed column fit in 64 bits, as `parse_dtype` reads them.
+pub fn law_column_types_are_written()
+    ensures { ColumnTypesAreWritten }
+{}
+
+/// The text of a type is its own canonical spelling: `parse_dtype` accepts the output of
+/// `print_dtype`, unless the type is nested too deeply or memory is exhausted, and returns the same
+/// type if its list sizes fit in 64 bits.
+pub fn law_type_text_is_spelled()
+    ensures { TypeTextIsSpelled }
 {}

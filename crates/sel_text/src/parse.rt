@@ -1,6 +1,6 @@
 //! Parsing of columns.
 
-ghost use Rattle.std.specs.Prelude.{◌≡◌, true, List, IfOk, IfErr, IsTrue, length, map};
+ghost use Rattle.std.specs.Prelude.{◌≡◌, true, false, List, Some, IfOk, IfErr, IsTrue, length, map};
 ghost use Rattle.std.specs.List.{list_all};
 ghost use Rattle.sel_arrow.specs.DataType.{shape_of};
 ghost use Rattle.sel_arrow.specs.Rows.{rows, type_of};
@@ -8,14 +8,15 @@ ghost use Rattle.sel_arrow.specs.Value.{Value};
 ghost use Rattle.sel_text.specs.Fits.{fits};
 ghost use Rattle.sel_text.specs.ItemValues.{item_value};
 ghost use Rattle.sel_text.specs.Limits.{exceeds_limit, ReportsLimit, MakesColumn};
-ghost use Rattle.sel_text.specs.Spaces.{spaceless};
+ghost use Rattle.sel_text.specs.Spelling.{spelled};
 ghost use Rattle.sel_text.specs.TextErrors.{IsLimitOrMemoryError, IsMemoryFault, IsOffsetWithin};
 ghost use Rattle.sel_text.specs.Texts.{text_of};
 
 use crate::build::{NullSlots, build};
 use crate::item::{Item, read_items};
 use crate::print::print_rows;
-use crate::spaces::without_spaces;
+use crate::spelling::spelling;
+use crate::syntax::find_row_error;
 use crate::text_error::{Fault, TextError};
 use sel_arrow::array::Array;
 use sel_arrow::array_ref::ArrayRef;
@@ -24,12 +25,16 @@ use std::alloc::Global;
 
 /// Parses the rows of a column of type `dtype`, as in `[1, null, -3]`.
 ///
-/// `print_rows` prints the result as `text` without the spaces outside quotes, so each integer and
-/// each quoted string must be spelled as it is printed. `beneath` selects the values in null slots.
+/// White space may stand between tokens, and strings may have all of JSON's escapes: `print_rows`
+/// prints the result as the canonical spelling of `text`. `beneath` selects the values in null
+/// slots.
 ///
 /// # Errors
-/// `Syntax` or `Type`, with the byte position, if `text` is not the notation of rows of this type;
-/// `Limit` if the column would exceed a size limit; `OutOfMemory` if an allocation fails.
+/// `Syntax` if `text` is not the notation of rows of any type, with the position of the first byte
+/// with which no such text goes on. Otherwise `Type` if a value does not fit the type, with the
+/// position of the first one: values are compared with their types as they end, so a list or struct
+/// value of the wrong length comes after its values. Otherwise `Limit` if the column would exceed a
+/// size limit. `OutOfMemory` if an allocation fails.
 pub fn parse_column(
     alloc: Global,
     dtype: &ArrowDataType,
@@ -38,22 +43,48 @@ pub fn parse_column(
 ) -> Result<ArrayRef, TextError>
     ensures dtype { IfOk result (λ array. type_of array.column ≡ shape_of dtype.now) }
     ensures text { IfOk result (λ array.
-        text_of (shape_of dtype.now) (rows array.column) ≡ spaceless text.now) }
+        spelled text.now ≡ Some (text_of (shape_of dtype.now) (rows array.column))) }
+    ensures within { IfOk result (λ _. (values : List Value) →
+        IsTrue (list_all (fits (shape_of dtype.now)) values) →
+        spelled text.now ≡ Some (text_of (shape_of dtype.now) values) →
+        exceeds_limit beneath (shape_of dtype.now) values ≡ false) }
     ensures refused { IfErr result (λ error. (values : List Value) →
         IsTrue (list_all (fits (shape_of dtype.now)) values) →
-        spaceless text.now ≡ text_of (shape_of dtype.now) values → IsLimitOrMemoryError error) }
+        spelled text.now ≡ Some (text_of (shape_of dtype.now) values) →
+        IsLimitOrMemoryError error) }
     ensures limit { IfErr result (λ error. error ≡ TextError.Limit → (values : List Value) →
         IsTrue (list_all (fits (shape_of dtype.now)) values) →
-        spaceless text.now ≡ text_of (shape_of dtype.now) values →
+        spelled text.now ≡ Some (text_of (shape_of dtype.now) values) →
         IsTrue (exceeds_limit beneath (shape_of dtype.now) values)) }
     ensures place { IfErr result (IsOffsetWithin (length text.now)) }
 {
-    let Ok(bytes) = without_spaces(alloc, text) else {
-        return Err(TextError::OutOfMemory);
+    let bytes = match spelling(alloc, text) {
+        Ok(bytes) => bytes,
+        Err(error) => return Err(located(alloc, text, error)),
     };
     match read_whole(dtype, alloc, &bytes, beneath) {
         Ok(array) => Ok(array),
-        Err(fault) => Err(fault.placed(text, bytes.len())),
+        Err(fault) => Err(located(alloc, text, fault.placed(text, bytes.len()))),
+    }
+}
+
+/// Returns a syntax error of `text`, with its position, if the text is not that of rows of any type
+/// and `error` is an error of the text; else `error`, as a misfit if it is one of the text.
+fn located(alloc: Global, text: &str, error: TextError) -> TextError
+    ensures place { IsOffsetWithin (length text.now) error →
+        IsOffsetWithin (length text.now) result }
+    ensures short { IsLimitOrMemoryError error → result ≡ error }
+    ensures limit { result ≡ TextError.Limit → error ≡ TextError.Limit }
+{
+    match error {
+        TextError::Syntax { at } | TextError::Type { at } => {
+            match find_row_error(alloc, text.as_bytes()) {
+                Ok(Some(place)) => TextError::Syntax { at: place },
+                Ok(None) => TextError::Type { at },
+                Err(_) => TextError::OutOfMemory,
+            }
+        }
+        TextError::Limit | TextError::OutOfMemory => error,
     }
 }
 
@@ -69,6 +100,10 @@ fn read_whole(
     ensures dtype { IfOk result (λ array. type_of array.column ≡ shape_of dtype.now) }
     ensures text { IfOk result (λ array.
         text_of (shape_of dtype.now) (rows array.column) ≡ bytes.now) }
+    ensures within { IfOk result (λ _. (values : List Value) →
+        IsTrue (list_all (fits (shape_of dtype.now)) values) →
+        bytes.now ≡ text_of (shape_of dtype.now) values →
+        exceeds_limit beneath (shape_of dtype.now) values ≡ false) }
     ensures refused { IfErr result (λ fault. (values : List Value) →
         IsTrue (list_all (fits (shape_of dtype.now)) values) →
         bytes.now ≡ text_of (shape_of dtype.now) values →

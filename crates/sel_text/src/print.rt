@@ -188,7 +188,7 @@ fn push_quoted(bytes: &[u8], text: &mut String) -> Result<(), AllocError>
 
 /// Appends a character as it is written between quotes to `text`.
 #[tactic(auto, using(crate::proofs::Escapes::plain_letter))]
-fn push_escaped(letter: char, text: &mut String) -> Result<(), AllocError>
+pub(crate) fn push_escaped(letter: char, text: &mut String) -> Result<(), AllocError>
     ensures { OnOk result (string_bytes text.new ≡ string_bytes text.old ++
         flat_map escaped (encode_utf8 letter)) }
 {

@@ -3,7 +3,7 @@
 ghost use Rattle.std.specs.Prelude.{◌≡◌, ◌≢◌, ◌<◌, ◌≤◌, ◌∷◌, ◌++◌, ◌^◌, ℕ, List, true, IfOk, IfErr, IfSome, IfNone, IsOkAnd, MatchResult, IsTrue, map, length, nat_lt, codes};
 ghost use Rattle.std.specs.Fmt.{decimal};
 ghost use Rattle.sel_arrow.specs.DataType.{shape_of};
-ghost use Rattle.sel_text.specs.Spaces.{spaceless};
+ghost use Rattle.sel_text.specs.Spelling.{spelled};
 ghost use Rattle.sel_arrow.specs.Shape.{Shape, Shapes, next_shape, shapes_of, of_struct};
 ghost use Rattle.sel_text.specs.Digits.{NoDigit};
 ghost use Rattle.sel_text.specs.Limits.{ReportsLimit};
@@ -13,7 +13,8 @@ ghost use Rattle.sel_text.specs.Written.{all_widths_written, is_plain, widths_wr
 ghost use Rattle.sel_text.specs.Types.{angled, type_text, type_texts};
 
 use crate::numerals::{behind, expect, number_of, read_digits};
-use crate::spaces::without_spaces;
+use crate::spelling::spelling;
+use crate::syntax::find_type_error;
 use crate::text_error::{Fault, TextError};
 use sel_arrow::datatype::ArrowDataType;
 use std::alloc::Global;
@@ -23,28 +24,52 @@ pub const DEEPEST: usize = 64;
 
 /// Parses a data type, as in `struct<list<i8>, fixed<2, utf8>>`.
 ///
-/// `print_dtype` prints the result as `text` without the spaces.
+/// White space may stand between tokens: `print_dtype` prints the result as the canonical spelling
+/// of `text`.
 ///
 /// # Errors
-/// The first error found: `Syntax` or `Type`, with the byte position, if `text` is not the notation
-/// of a type; `Limit` at a list size above 18,446,744,073,709,551,615, or inside 64 nested types at
-/// anything but a type without children; `OutOfMemory` if an allocation fails.
+/// `Syntax` if `text` is not the notation of a type, with the position of the first byte with which
+/// no such text goes on; `Limit` if the text begins with that of a type up to a list size above
+/// 18,446,744,073,709,551,615, or inside 64 nested types up to anything but a type without children,
+/// whatever comes after; `OutOfMemory` if an allocation fails.
 pub fn parse_dtype(alloc: Global, text: &str) -> Result<ArrowDataType, TextError>
-    ensures text { IfOk result (λ dtype. type_text (shape_of dtype) ≡ spaceless text.now) }
+    ensures text { IfOk result (λ dtype. spelled text.now ≡ Some (type_text (shape_of dtype))) }
     ensures levels { IfOk result (λ dtype. depth (shape_of dtype) ≤ 64) }
     ensures widths { IfOk result (λ dtype. IsTrue (widths_written (shape_of dtype))) }
     ensures refused { IfErr result (λ error. (shape : Shape) → IsTrue (widths_written shape) →
-        spaceless text.now ≡ type_text shape → IsLimitOrMemoryError error) }
+        spelled text.now ≡ Some (type_text shape) → IsLimitOrMemoryError error) }
     ensures limit { IfErr result (λ error. error ≡ TextError.Limit → (shape : Shape) →
-        IsTrue (widths_written shape) → spaceless text.now ≡ type_text shape → 64 < depth shape) }
+        IsTrue (widths_written shape) → spelled text.now ≡ Some (type_text shape) →
+        64 < depth shape) }
     ensures place { IfErr result (IsOffsetWithin (length text.now)) }
 {
-    let Ok(bytes) = without_spaces(alloc, text) else {
-        return Err(TextError::OutOfMemory);
+    let bytes = match spelling(alloc, text) {
+        Ok(bytes) => bytes,
+        Err(error) => return Err(located(alloc, text, error)),
     };
     match read_whole(alloc, &bytes) {
         Ok(dtype) => Ok(dtype),
-        Err(fault) => Err(fault.placed(text, bytes.len())),
+        Err(fault) => Err(located(alloc, text, fault.placed(text, bytes.len()))),
+    }
+}
+
+/// Returns a syntax error of `text` with its position, if `error` is an error of the text; else
+/// `error`.
+fn located(alloc: Global, text: &str, error: TextError) -> TextError
+    ensures place { IsOffsetWithin (length text.now) error →
+        IsOffsetWithin (length text.now) result }
+    ensures short { IsLimitOrMemoryError error → result ≡ error }
+    ensures limit { result ≡ TextError.Limit → error ≡ TextError.Limit }
+{
+    match error {
+        TextError::Syntax { at } | TextError::Type { at } => {
+            match find_type_error(alloc, text.as_bytes()) {
+                Ok(Some(place)) => TextError::Syntax { at: place },
+                Ok(None) => TextError::Syntax { at },
+                Err(_) => TextError::OutOfMemory,
+            }
+        }
+        TextError::Limit | TextError::OutOfMemory => error,
     }
 }
 
@@ -93,10 +118,7 @@ fn read_type(alloc: Global, bytes: &[u8], levels: usize) -> Result<(ArrowDataTyp
     if let Some(rest) = behind(bytes, b"struct") {
         return read_struct_type(alloc, rest, levels);
     }
-    match bytes {
-        [b'a'..=b'z', ..] => Err(Fault::Type(bytes.len())),
-        _ => Err(Fault::Syntax(bytes.len())),
-    }
+    Err(Fault::Syntax(bytes.len()))
 }
 
 /// Parses a type without children at the front, and returns it with the rest of the input.

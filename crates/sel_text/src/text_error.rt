@@ -4,18 +4,19 @@ ghost use Rattle.std.specs.Prelude.{◌≡◌, ◌≤◌, Some, length};
 ghost use Rattle.sel_text.specs.TextErrors.{parse_error_text, kernel_fault, make_fault, IsLimitOrMemoryFault, IsLimitOrMemoryError, IsOffsetWithin};
 ghost use Rattle.sel_text.specs.declared.text_error.Fault.TheVariants.{OutOfMemory};
 
-use crate::spaces::place_in;
+use crate::spelling::place_in;
 use sel_bits::faults::{MakeError, PolarsError};
 use std::alloc::{AllocError, AllocFailed};
 use std::fmt;
 
-/// An error of `parse_column` or `parse_dtype`. A position is the index of the byte at which the
-/// error was found, counted from 0, or the length of the text if the text is too short.
+/// An error of `parse_column` or `parse_dtype`. A position is the index of a byte, counted from 0,
+/// or the length of the text.
 #[derive(Debug, Clone, Copy, PartialEq, Eq)]
 pub enum TextError {
-    /// Syntax error at this position.
+    /// The text is not that of rows, or of a type. The position is that of the first byte with which
+    /// no such text goes on, or the length of the text if it ends too soon.
     Syntax { at: usize },
-    /// The value at this position does not fit the type, or the type name is unknown.
+    /// The value at this position does not fit the type.
     Type { at: usize },
     /// The column would exceed a size limit, or the type is nested too deeply or has a list size
     /// that does not fit in 64 bits.
@@ -38,7 +39,7 @@ impl fmt::Display for TextError {
     }
 }
 
-/// An error while parsing text without spaces. A position is the number of bytes left.
+/// An error while parsing text in its canonical spelling. A position is the number of bytes left.
 #[derive(Clone, Copy)]
 pub(crate) enum Fault {
     Syntax(usize),
@@ -48,8 +49,7 @@ pub(crate) enum Fault {
 }
 
 impl Fault {
-    /// Converts the error to one of `text`, which has `count` bytes without the spaces outside
-    /// quotes.
+    /// Converts the error to one of `text`, whose canonical spelling has `count` bytes.
     pub(crate) fn placed(self, text: &str, count: usize) -> TextError
         ensures place { IsOffsetWithin (length text.now) result }
         ensures short { IsLimitOrMemoryFault self → IsLimitOrMemoryError result }

@@ -38,7 +38,7 @@ fn parsed_types_print_without_spaces(rt: HostRuntime) -> Result<(), Fail> {
     let alloc = rt.alloc();
     for (text, name) in [
         ("null", "null"),
-        (" i 128 ", "i128"),
+        (" i128\t", "i128"),
         ("binview", "binview"),
         ("struct< >", "struct<>"),
         (

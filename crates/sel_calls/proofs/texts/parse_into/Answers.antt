@@ -1,4 +1,4 @@
-use Rattle.std.proofs.Common.{◌≡◌, ◌≤◌, true, length, sym, ◌∙◌, arith, subst}
+use Rattle.std.proofs.Common.{◌≡◌, ◌≤◌, true, false, length, sym, ◌∙◌, arith, subst}
 use Rattle.std.specs.Prelude.{nat_lt}
 use Rattle.sel_arrow.specs.DataType.{shape_of}
 use Rattle.sel_arrow.specs.Shape.{Shape}
@@ -7,7 +7,9 @@ use Rattle.sel_text.specs.Limits.{exceeds_limit}
 use Rattle.sel_arrow.specs.Depth.{depth}
 use Rattle.sel_text.specs.declared.build.NullSlots.TheVariants.{Zeros}
 use Rattle.sel_text.proofs.Making.{or_second}
-use Rattle.sel_text.proofs.OneType.{one_type}
+use Rattle.std.proofs.lemmas.Bool.Decides.{nat_tests}
+use Rattle.sel_text.proofs.Within.{neither}
+use Rattle.sel_text.proofs.OneType.{one_spelled}
 use Rattle.sel_calls.proofs.texts.parse_into.Goals as goal
 
 pub returns-in-Err-clause-type_place : goal.returns-in-Err-clause-type_place
@@ -15,7 +17,7 @@ returns-in-Err-clause-type_place c = λ is. c.type_error_status.ensures.place (l
 
 pub returns-in-Err-made-clause-accepted : goal.returns-in-Err-made-clause-accepted
 returns-in-Err-made-clause-accepted c = λ shape values named texts.
-    let same : shape_of c.in-Ok.dtype ≡ shape = one_type (shape_of c.in-Ok.dtype) shape c.in-Ok.ensures.narrow named.0 (c.in-Ok.ensures.text ∙ named.2) in
+    let same : shape_of c.in-Ok.dtype ≡ shape = one_spelled c.args.name.now (shape_of c.in-Ok.dtype) shape c.in-Ok.ensures.narrow named.0 c.in-Ok.ensures.text named.2 in
     let short = c.in-Err-made.ensures.refused values (subst (λ s. IsRowsText s values c.args.text.now) (sym same) texts) in
     or_second _ _ (c.rows_error_status.ensures.short short)
 
@@ -24,7 +26,7 @@ returns-in-Err-made-clause-place c = λ is. c.rows_error_status.ensures.place (l
 
 pub returns-in-Err-made-clause-limit : goal.returns-in-Err-made-clause-limit
 returns-in-Err-made-clause-limit c = λ limit shape values named texts.
-    let same : shape_of c.in-Ok.dtype ≡ shape = one_type (shape_of c.in-Ok.dtype) shape c.in-Ok.ensures.narrow named.0 (c.in-Ok.ensures.text ∙ named.2) in
+    let same : shape_of c.in-Ok.dtype ≡ shape = one_spelled c.args.name.now (shape_of c.in-Ok.dtype) shape c.in-Ok.ensures.narrow named.0 c.in-Ok.ensures.text named.2 in
     let past = c.in-Err-made.ensures.limit (c.rows_error_status.ensures.limit limit) values (subst (λ s. IsRowsText s values c.args.text.now) (sym same) texts) in
     or_second (nat_lt 64 (depth shape)) (exceeds_limit Zeros shape values) (subst (λ s. exceeds_limit Zeros s values ≡ true) same past)
 
@@ -32,3 +34,11 @@ pub put-requires : goal.put-requires
 put-requires c =
     let levels = c.in-Ok.ensures.levels in
     subst (λ (s : Shape). depth s ≤ 128) (sym c.in-Ok-made.ensures.dtype) (omega (arith, levels))
+
+pub returns-in-Ok-made-clause-within : goal.returns-in-Ok-made-clause-within
+returns-in-Ok-made-clause-within c = λ is shape values named texts.
+    let same : shape_of c.in-Ok.dtype ≡ shape = one_spelled c.args.name.now (shape_of c.in-Ok.dtype) shape c.in-Ok.ensures.narrow named.0 c.in-Ok.ensures.text named.2 in
+    let levels : depth shape ≤ 64 = subst (λ s. depth s ≤ 64) same c.in-Ok.ensures.levels in
+    let shallow : nat_lt 64 (depth shape) ≡ false = grind (arith, nat_tests, levels) in
+    let fits = c.in-Ok-made.ensures.within values (subst (λ s. IsRowsText s values c.args.text.now) (sym same) texts) in
+    neither (nat_lt 64 (depth shape)) (exceeds_limit Zeros shape values) shallow (subst (λ s. exceeds_limit Zeros s values ≡ false) same fits)

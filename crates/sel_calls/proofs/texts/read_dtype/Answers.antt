@@ -4,26 +4,26 @@ use Rattle.std.proofs.lemmas.Bool.Decides.{nat_tests}
 use Rattle.std.proofs.lemmas.Str.{IsUtf8-from_is_utf8}
 use Rattle.sel_arrow.specs.DataType.{shape_of}
 use Rattle.sel_text.specs.Limits.{exceeds_limit}
-use Rattle.sel_text.specs.Spaces.{spaceless}
+use Rattle.sel_text.specs.Spelling.{spelled}
 use Rattle.sel_arrow.specs.Depth.{depth}
 use Rattle.sel_text.specs.declared.build.NullSlots.TheVariants.{Zeros}
 use Rattle.sel_text.proofs.Making.{or_first, or_second}
-use Rattle.sel_text.proofs.OneType.{one_type}
+use Rattle.sel_text.proofs.OneType.{one_spelled}
 use Rattle.sel_calls.proofs.WideTypes.{wide_past}
 use Rattle.sel_calls.proofs.texts.read_dtype.Goals as goal
 
 pub returns-in-Err-clause-refused : goal.returns-in-Err-clause-refused
-returns-in-Err-clause-refused c = λ shape named. c.in-Err.ensures.cases.0 (IsUtf8-from_is_utf8 c.args.bytes.now named.1)
+returns-in-Err-clause-refused c = λ shape named. absurd (c.in-Err.ensures.cases.0 (IsUtf8-from_is_utf8 c.args.bytes.now named.1))
 
 pub returns-in-Err-parse_dtype-clause-limit : goal.returns-in-Err-parse_dtype-clause-limit
 returns-in-Err-parse_dtype-clause-limit c = λ limit shape values named.
     let read : c.in-Ok.text.now ≡ c.args.bytes.now = c.in-Ok.ensures.cases.0 in
-    let deep : 64 < depth shape = c.in-Err-parse_dtype.ensures.limit limit shape named.0 (ap spaceless read ∙ named.2) in
+    let deep : 64 < depth shape = c.in-Err-parse_dtype.ensures.limit limit shape named.0 (ap spelled read ∙ named.2) in
     or_first (nat_lt 64 (depth shape)) (exceeds_limit Zeros shape values) (grind (arith, nat_tests, deep))
 
 pub returns-then-not-widths_fit-clause-limit : goal.returns-then-not-widths_fit-clause-limit
 returns-then-not-widths_fit-clause-limit c = λ limit shape values named.
     let read : c.in-Ok.text.now ≡ c.args.bytes.now = c.in-Ok.ensures.cases.0 in
-    let same : shape_of c.in-Ok-parse_dtype.dtype ≡ shape = one_type (shape_of c.in-Ok-parse_dtype.dtype) shape c.in-Ok-parse_dtype.ensures.widths named.0 (c.in-Ok-parse_dtype.ensures.text ∙ ap spaceless read ∙ named.2) in
+    let same : shape_of c.in-Ok-parse_dtype.dtype ≡ shape = one_spelled c.in-Ok.text.now (shape_of c.in-Ok-parse_dtype.dtype) shape c.in-Ok-parse_dtype.ensures.widths named.0 c.in-Ok-parse_dtype.ensures.text (ap spelled read ∙ named.2) in
     let past = wide_past Zeros c.in-Ok-parse_dtype.dtype (sym c.widths_fit.ensures ∙ c.if-not-widths_fit.true) values in
     or_second (nat_lt 64 (depth shape)) (exceeds_limit Zeros shape values) (subst (λ s. exceeds_limit Zeros s values ≡ true) same past)

@@ -6,6 +6,9 @@ use Rattle.sel_text.specs.ItemValues.{rows_read}
 use Rattle.sel_text.specs.Limits.{ShowsRows}
 use Rattle.sel_text.proofs.Refusals.{flat_told, makes_told}
 use Rattle.sel_text.proofs.Shown.{item_fits, rows_count, shown_count, shown_more}
+use Rattle.sel_text.proofs.Within.{numbers_within, rows_few}
+use Rattle.std.specs.Prelude.{pos}
+use Rattle.sel_arrow.specs.Rows.{rows}
 use Rattle.sel_text.proofs.build.numbers.Goals as goal
 
 pub loop-item-preserved : goal.loop-item-preserved
@@ -29,8 +32,8 @@ returns g c = λ fit.
     let items = c.args.items.now in
     let column = c.in_ok-try_new.field-0 in
     let all = take_all c.loop-item.item-index items (omega arith) in
-    let shown = subst (λ l. ShowsRows (rows_read l) (map (λ x. Number (g.T.NativeType.number x)) c.loop-item.values.items)) all (c.loop-item.invariant fit) in (
-      c.into_ref.ensures.dtype,
-      c.into_ref.ensures.rows ∙ ap (λ l. masked column.validity (map (λ x. Number (g.T.NativeType.number x)) l)) (c.in_ok-try_new.ensures.values ∙ c.in_ok-values-2.ensures.items)
-          ∙ ap (λ v. masked v (map (λ x. Number (g.T.NativeType.number x)) c.loop-item.values.items)) c.in_ok-try_new.ensures.validity ∙ c.in_ok-validity_of.ensures.hides (map (λ x. Number (g.T.NativeType.number x)) c.loop-item.values.items) shown,
-    )
+    let shown = subst (λ l. ShowsRows (rows_read l) (map (λ x. Number (g.T.NativeType.number x)) c.loop-item.values.items)) all (c.loop-item.invariant fit) in
+    let made : rows c.into_ref.result.column ≡ rows_read items =
+    c.into_ref.ensures.rows ∙ ap (λ l. masked column.validity (map (λ x. Number (g.T.NativeType.number x)) l)) (c.in_ok-try_new.ensures.values ∙ c.in_ok-values-2.ensures.items)
+    ∙ ap (λ v. masked v (map (λ x. Number (g.T.NativeType.number x)) c.loop-item.values.items)) c.in_ok-try_new.ensures.validity ∙ c.in_ok-validity_of.ensures.hides (map (λ x. Number (g.T.NativeType.number x)) c.loop-item.values.items) shown in
+    (c.into_ref.ensures.dtype, made, numbers_within c.args.beneath g.T.ArrowPrimitive.shape (pos 0) (rows_read items) c.zero-zero.ensures (rows_few c.into_ref.result (rows_read items) made))

@@ -10,6 +10,8 @@ use Rattle.sel_text.specs.Limits.{exceeds_limit}
 use Rattle.sel_text.proofs.OffsetsBelow.{Holds, count_between, end_kept, ends_inside, holds_more, no_offsets_fault, offsets_read, parts_between}
 use Rattle.sel_text.proofs.Refusals.{binary_told, makes_told, memory_told}
 use Rattle.sel_text.proofs.Shown.{bytes_shown, of_binary, rows_count, stored_in}
+use Rattle.sel_text.proofs.Within.{rows_few}
+use Rattle.sel_arrow.specs.Rows.{rows}
 use Rattle.sel_text.proofs.build.pieces.Goals as goal
 
 pub loop-item-preserved : goal.loop-item-preserved
@@ -51,4 +53,5 @@ returns c = λ fit.
     let are = offsets_read below items _ _ c.in_ok-offsets.offsets so c.in_ok-offsets.ensures.value in
     let held = parts_between below items _ (c.in_ok-try_new.ensures.offsets ∙ c.offsets.view_is ∙ are) column.values (c.in_ok-try_new.ensures.values ∙ c.in_ok-bytes.ensures.items ∙ so.entries_are) in
     let shown = c.in_ok-validity_of.ensures.hides (map Bytes (map below items)) (bytes_shown of_large_binary of_binary c.args.beneath items fit) in
-    (c.into_ref.ensures.dtype, c.into_ref.ensures.rows ∙ ap (λ l. masked column.validity (map Bytes l)) held ∙ ap (λ v. masked v (map Bytes (map below items))) c.in_ok-try_new.ensures.validity ∙ shown)
+    let made : rows c.into_ref.result.column ≡ rows_read items = c.into_ref.ensures.rows ∙ ap (λ l. masked column.validity (map Bytes l)) held ∙ ap (λ v. masked v (map Bytes (map below items))) c.in_ok-try_new.ensures.validity ∙ shown in
+    (c.into_ref.ensures.dtype, made, rows_few c.into_ref.result (rows_read items) made)

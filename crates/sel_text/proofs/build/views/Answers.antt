@@ -9,7 +9,7 @@ use Rattle.sel_arrow.specs.Views.{all_placed, view_rows}
 use Rattle.sel_text.specs.ItemValues.{rows_read}
 use Rattle.sel_text.specs.Limits.{exceeds_max, exceeds_limit}
 use Rattle.sel_text.specs.Stored.{bytes_behind}
-use Rattle.sel_text.proofs.BuiltViews.{Views, past_bytes, views_count, views_more}
+use Rattle.sel_text.proofs.BuiltViews.{Views, bytes_within, past_bytes, views_count, views_more}
 use Rattle.sel_text.proofs.Refusals.{binview_told, bytes_past, if_made, if_told, told_more, wanting_told}
 use Rattle.sel_text.proofs.Shown.{bytes_shown, of_views, rows_count, stored_bytes, stored_count, stored_more}
 use Rattle.sel_text.proofs.build.views.Goals as goal
@@ -23,13 +23,22 @@ returns-in_err-view_behind-clause-limit c =
     if_told c.from_residual-in_err-view_behind.result c.in_err-view_behind.field-0.0 _ c.from_residual-in_err-view_behind.ensures.1
     (λ shape view fit. told_more (exceeds_max (length store + length (bytes_behind bytes))) (exceeds_limit c.args.beneath shape (rows_read items)) c.in_err-view_behind.field-0.0
     (λ past. bytes_past c.args.beneath shape (rows_read items) view
-    (past_bytes shape (of_views shape view) c.args.beneath items c.loop-item.item-index store bytes c.loop-item.views.items fit c.loop-item.invariant all past)) c.in_err-view_behind.ensures.limit)
+    (past_bytes shape (of_views shape view) c.args.beneath items c.loop-item.item-index store bytes c.loop-item.views.items fit c.loop-item.invariant.views all past)) c.in_err-view_behind.ensures.limit)
 
 pub loop-item-preserved : goal.loop-item-preserved
 loop-item-preserved c =
     let all = stored_more c.args.beneath c.args.items.now c.loop-item.item-index c.item-item.result c.bytes_in.result.now (omega arith) c.item-item.is c.bytes_in.ensures in
-    subst (Views c.view_behind.new.placed.items c.push.new.self.items) (sym all)
-    (views_more c.loop-item.data.items _ c.loop-item.views.items _ _ c.bytes_in.result.now _ c.loop-item.invariant c.in_ok-view_behind.ensures.view c.in_ok-view_behind.ensures.inline c.in_ok-view_behind.ensures.placed c.in_ok-push.ensures.items)
+    record {
+      views = subst (Views c.view_behind.new.placed.items c.push.new.self.items) (sym all)
+          (views_more c.loop-item.data.items _ c.loop-item.views.items _ _ c.bytes_in.result.now _ c.loop-item.invariant.views c.in_ok-view_behind.ensures.view c.in_ok-view_behind.ensures.inline c.in_ok-view_behind.ensures.placed c.in_ok-push.ensures.items);
+      few = c.in_ok-view_behind.ensures.within c.loop-item.invariant.few;
+    }
+
+pub returns-clause-within : goal.returns-clause-within
+returns-clause-within c = λ shape view fit.
+    let items = c.args.items.now in
+    let so = subst (λ l. Views c.loop-item.data.items c.loop-item.views.items (stored_bytes c.args.beneath l)) (take_all c.loop-item.item-index items (omega arith)) c.loop-item.invariant.views in
+    bytes_within shape (of_views shape view) c.args.beneath items c.loop-item.data.items c.loop-item.views.items fit so c.loop-item.invariant.few
 
 pub returns-in_err-validity_of-clause-limit : goal.returns-in_err-validity_of-clause-limit
 returns-in_err-validity_of-clause-limit c =
@@ -43,7 +52,7 @@ returns-in_err-try_new-clause-limit c =
     let views = c.in_ok-views-2.views in
     let validity = c.in_ok-validity_of.field-0 in
     let error = c.in_err-try_new.field-0.0 in
-    let so = subst (λ l. Views store c.loop-item.views.items (stored_bytes c.args.beneath l)) (take_all c.loop-item.item-index items (omega arith)) c.loop-item.invariant in
+    let so = subst (λ l. Views store c.loop-item.views.items (stored_bytes c.args.beneath l)) (take_all c.loop-item.item-index items (omega arith)) c.loop-item.invariant.views in
     let viewed = c.buffers.view_is ∙ c.in_ok-buffers.ensures.items ∙ c.in_ok-vec.ensures.items ∙ ap (λ d. d ∷ []) c.in_ok-data.ensures.items in
     let count : length views ≡ length (rows_read items) =
     ap length c.in_ok-views-2.ensures.items ∙ views_count store c.loop-item.views.items (stored_bytes c.args.beneath items) so ∙ stored_count c.args.beneath items in
@@ -59,7 +68,7 @@ returns-clause-views c = λ shape view fit.
     let store = c.loop-item.data.items in
     let column = c.in_ok-try_new.field-0 in
     let ps = stored_bytes c.args.beneath items in
-    let so = subst (λ l. Views store c.loop-item.views.items (stored_bytes c.args.beneath l)) (take_all c.loop-item.item-index items (omega arith)) c.loop-item.invariant in
+    let so = subst (λ l. Views store c.loop-item.views.items (stored_bytes c.args.beneath l)) (take_all c.loop-item.item-index items (omega arith)) c.loop-item.invariant.views in
     let viewed = c.buffers.view_is ∙ c.in_ok-buffers.ensures.items ∙ c.in_ok-vec.ensures.items ∙ ap (λ d. d ∷ []) c.in_ok-data.ensures.items in
     let shown = c.in_ok-validity_of.ensures.hides (map Bytes ps) (bytes_shown shape (of_views shape view) c.args.beneath items fit) in
     ap (λ v. view_rows v column.buffers column.validity) (c.in_ok-try_new.ensures.views ∙ c.in_ok-views-2.ensures.items)

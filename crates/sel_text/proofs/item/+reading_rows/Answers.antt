@@ -35,7 +35,8 @@ pub read_item-returns-in-Err-read_parts : goal.read_item-returns-in-Err-read_par
 read_item-returns-in-Err-read_parts t c =
     let shapes = shapes_of (map shape_of c.deref-in-Struct.result.now) in
     let same : of_struct shapes ≡ shape_of c.args.dtype.now = ap (λ l. of_struct (shapes_of (map shape_of l))) c.deref-in-Struct.ensures.value ∙ sym (struct_shape c.args.dtype.now c.in-Struct.fields c.in-Struct.is) in
-    subst (λ s. Reads (λ v more. IsMemoryFault c.in-Err-read_parts.fault) s c.args.bytes.now) same (tuple_row (λ v more. IsMemoryFault c.in-Err-read_parts.fault) c.args.bytes.now c.in_default.ensures shapes c.in-Err-read_parts.ensures)
+    subst (λ s. Reads (λ v more. IsMemoryFault c.of_value.result) s c.args.bytes.now) same (tuple_row (λ v more. IsMemoryFault c.of_value.result) c.args.bytes.now c.in_default.ensures shapes
+    (λ entries more fit is. c.of_value.ensures (c.in-Err-read_parts.ensures entries more fit is)))
 
 pub read_items-returns-in-Some : goal.read_items-returns-in-Some
 read_items-returns-in-Some t c = λ entries more fit is.
