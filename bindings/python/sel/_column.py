@@ -93,9 +93,10 @@ class Column(Owner):
 
     @staticmethod
     def parse(type: str | Type, rows: str) -> Column:
-        """Returns the column of a type with the rows of a text, both as `str` prints them; spaces between their parts are skipped.
+        """Returns the column of a type with the rows of a text, both as `str` prints them, with JSON's white space and escapes.
 
-        Raises BrokenText, a ValueError with the place of the first wrong character, and LimitPassed, an OverflowError.
+        Raises BrokenText, a ValueError with the place of the first character with which no such text goes on, or of the first value that does
+        not fit the type, and LimitPassed, an OverflowError.
 
         >>> sel.Column.parse("list<utf8>", '[["Ada", "Grace"], null]')
         Column(list<utf8>, [["Ada","Grace"],null])

@@ -149,6 +149,7 @@ _CALLS: dict[str, list[Any]] = {
     "sel_share": [_COLUMN, _COLUMN],
     "sel_equal_rows": [_COLUMN, _COLUMN, POINTER(c_bool)],
     "sel_print": [_COLUMN, _BYTES, _SIZE, POINTER(_SIZE)],
+    "sel_print_type": [_COLUMN, _BYTES, _SIZE, POINTER(_SIZE)],
     "sel_parse": [_BYTES, _SIZE, _BYTES, _SIZE, POINTER(_SIZE), _COLUMN],
     "sel_import": [POINTER(ArrowArray), POINTER(ArrowSchema), _COLUMN],
     "sel_export": [_COLUMN, POINTER(ArrowArray), POINTER(ArrowSchema)],

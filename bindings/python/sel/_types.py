@@ -2,6 +2,7 @@
 
 from __future__ import annotations
 
+import re
 from collections.abc import Sequence
 from dataclasses import dataclass
 from typing import Any
@@ -48,15 +49,20 @@ class Type:
         return f"{self.kind}<{inner}>" if self.kind in ("list", "struct") else self.kind
 
 
+# White space as in JSON, and a bracket or a comma with such space around it.
+_SPACE = " \t\n\r"
+_SPACED = re.compile(rf"[{_SPACE}]*([<>,])[{_SPACE}]*")
+
+
 def parse_type(text: str) -> Type:
-    """Returns the type that a text names; spaces are skipped. Arrow's longer names are accepted, too, also with names of fields.
+    """Returns the type that a text names; white space between its parts is skipped. Arrow's longer names are accepted, too, also with names of fields.
 
     Raises ValueError if it names none, and OverflowError if a list size is more than 4,294,967,295.
 
     >>> str(sel.parse_type("struct<id: int64, tags: list<item: string>>"))
     'struct<i64,list<utf8>>'
     """
-    plain = "".join(short_names(text)[0].split())
+    plain = _SPACED.sub(r"\1", short_names(text)[0]).strip(_SPACE)
     found, rest = _read(plain)
     if rest:
         raise ValueError(f"{text!r} has {rest!r} after the end of its type")

@@ -16,7 +16,7 @@ from sel._memory import NO_VALIDITY, packed, words
 from sel._owner import Owner, derived, from_several
 from sel._types import type_of_values
 
-__all__ = ["CALLS", "NOT_PUBLIC", "NOT_RUN", "STATUSES", "Arguments", "Rows"]
+__all__ = ["CALLS", "NOT_PUBLIC", "STATUSES", "Arguments", "Rows"]
 
 # Calls that the public API does not have, or not with all arguments, and why. Lines that it cannot make are made by internal calls.
 NOT_PUBLIC = {
@@ -29,9 +29,6 @@ NOT_PUBLIC = {
     "if_then_else_broadcast_false": "choose takes one value, of the type of the other side, and no column of another length or type for it",
     "if_then_else_broadcast_both": "choose infers the type of two values, and takes no columns for them",
 }
-
-# Lines that are not run, by their call, and why.
-NOT_RUN = {"parse": "the parser allocates memory for each row below a null, and these would be gigabytes"}
 
 # Statuses by the names of tests/README.md; include/sel.h numbers them.
 STATUSES = {

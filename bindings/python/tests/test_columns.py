@@ -72,8 +72,8 @@ class Columns(unittest.TestCase):
 
     def test_texts_that_are_none(self) -> None:
         for status, wanted, text, place in (
-            (32, "", "[]", 0), (32, "list<i7>", "[]", 5), (32, "list<i8", "[]", 7), (32, "\u00e9", "[]", 0),
-            (33, "i8", "[1", 2), (33, "i8", "[1, ]", 4), (33, "utf8", '["\u00e9";]', 4), (33, "struct<i8,bool>", "[(1)]", 3),
+            (32, "", "[]", 0), (32, "list<i7>", "[]", 6), (32, "list<i8", "[]", 7), (32, "\u00e9", "[]", 0),
+            (33, "i8", "[1", 2), (33, "i8", "[1, ]", 4), (33, "utf8", '["\u00e9";]', 4), (34, "struct<i8,bool>", "[(1)]", 1),
             (34, "i8", "[0, 128]", 4), (34, "list<utf8>", '[["\u00e9\u00e9"], 2]', 9), (34, "null", "[0]", 1),
         ):
             with self.assertRaises(sel.BrokenText, msg=text) as caught:
@@ -130,7 +130,8 @@ class Columns(unittest.TestCase):
 
     def test_types_are_read(self) -> None:
         self.assertEqual(sel.parse_type(" fixed< 2 , list<i8> > "), Type("fixed", (Type("list", (Type("i8"),)),), 2))
-        for text in ("", "i7", "list", "list<", "list<i8", "list<i8,i8>", "fixed<i8>", "fixed<2>", "i8>", "struct<i8"):
+        self.assertEqual(sel.parse_type("\tlist <\n i8 \r>"), Type("list", (Type("i8"),)))
+        for text in ("", "i7", "list", "list<", "list<i8", "list<i8,i8>", "fixed<i8>", "fixed<2>", "i8>", "struct<i8", "i 8", "l ist<i8>", "fixed<1 2,i8>"):
             with self.assertRaises(ValueError, msg=text):
                 sel.parse_type(text)
 

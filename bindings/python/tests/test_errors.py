@@ -83,7 +83,7 @@ class Errors(unittest.TestCase):
 
     def test_the_place_in_a_text(self) -> None:
         found = pickle.loads(pickle.dumps(raised_by(sel.BrokenText)))
-        self.assertEqual((found.status, found.place), (32, 0))
+        self.assertEqual((found.status, found.place), (32, 1))
 
     def test_of_another_process(self) -> None:
         with ProcessPoolExecutor(1, mp_context=multiprocessing.get_context("spawn")) as pool:

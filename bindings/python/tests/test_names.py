@@ -65,8 +65,8 @@ class Names(unittest.TestCase):
             parse_type("list<item: float64>")
 
     def test_errors_name_the_place_in_the_text(self) -> None:
-        for text, place in (("list<item: float64>", 11), ("struct<a: int64, b: strin>", 20), ("int65", 0), ("list<item: int64", 16), ("list<item: int64>>", 17),
-                            ("list<i7>", 5), ("struct<string, \u00e9>", 15)):
+        for text, place in (("list<item: float64>", 12), ("struct<a: int64, b: strin>", 23), ("int65", 1), ("list<item: int64", 16), ("list<item: int64>>", 17),
+                            ("list<i7>", 6), ("struct<string, \u00e9>", 15)):
             with self.assertRaises(sel.BrokenText, msg=text) as caught:
                 Column.parse(text, "[]")
             self.assertEqual((caught.exception.status, caught.exception.place), (32, place), text)

@@ -18,7 +18,7 @@ import model
 import sel
 from notation import Line, lines_of, read_kinds, read_rows
 from sel import Column, Type
-from suite_calls import CALLS, NOT_PUBLIC, NOT_RUN, STATUSES, Arguments, Rows
+from suite_calls import CALLS, NOT_PUBLIC, STATUSES, Arguments, Rows
 
 SUITE = Path(os.environ.get("SEL_SUITE", Path(__file__).resolve().parents[3] / "tests"))
 
@@ -27,7 +27,6 @@ OFFSETS = (1, 7, 8, 63, 64)
 
 # A type with more rows below a null row than this is laid out plainly alone: other values in null slots would have as many.
 MOST_ROWS_LAID_OUT = 1_000
-MOST_ROWS_PARSED = 1_000_000
 
 
 class Wrong(Exception):
@@ -38,16 +37,6 @@ def _rows_below(wanted: Type) -> int:
     """Returns the most rows that a null row has below itself, of the type or of one in it."""
     below = max(map(_rows_below, wanted.children), default=1)
     return below * max(1, wanted.width)
-
-
-def _needs_much_memory(name: str, given: Arguments) -> bool:
-    """Returns whether a line parses null rows that have too many rows below them."""
-    if name != "parse" or "null" not in given.others[1]:
-        return False
-    try:
-        return _rows_below(sel.parse_type(given.others[0])) > MOST_ROWS_PARSED
-    except (ValueError, OverflowError):
-        return False
 
 
 # Other values of each type, which columns have beside their rows.
@@ -140,9 +129,6 @@ def run_line(line: Line, counts: Counter[str], layouts: tuple[int | None, ...] =
     if len(line.fields) < 2 + len(kind.letters):
         raise Wrong(f"{len(line.fields)} fields")
     given, rng = Arguments(kind.letters, line.fields[1:]), random.Random(line.place)
-    if _needs_much_memory(name, given):
-        counts[f"not run: {name}"] += 1
-        return
     expected = _expected_of(line, given)
     uses = [use for use in kind.uses if use.applies(given, expected)]
     is_large = any(_rows_below(rows.type) > MOST_ROWS_LAID_OUT for rows in given.columns)
@@ -180,12 +166,11 @@ class Suite(unittest.TestCase):
         self.assertEqual(wrong[:20], [], f"{len(wrong)} lines fail")
 
     def report(self, counts: Counter[str]) -> None:
-        """Reports the lines that were run by internal calls alone, and those that were not run."""
+        """Reports the lines that were run by internal calls alone."""
         print(f"conformance suite: {counts['lines']} of {counts['read']} lines run, by {counts['calls']} calls", file=sys.stderr)
-        for title, what, reasons in (("not public", "run by internal calls alone", NOT_PUBLIC), ("not run", "not run", NOT_RUN)):
-            for name, reason in reasons.items():
-                if counts[f"{title}: {name}"]:
-                    print(f"    {counts[f'{title}: {name}']} lines of {name} {what}: {reason}", file=sys.stderr)
+        for name, reason in NOT_PUBLIC.items():
+            if counts[f"not public: {name}"]:
+                print(f"    {counts[f'not public: {name}']} lines of {name} run by internal calls alone: {reason}", file=sys.stderr)
 
 
 class Runner(unittest.TestCase):
@@ -214,9 +199,10 @@ class Runner(unittest.TestCase):
                     with self.assertRaises(Exception, msg=(text, other)):
                         self.check(f"{before} | {other}")
 
-    def test_lines_that_need_much_memory_are_counted(self) -> None:
-        for rows in ("[null]", "[null,null]"):
-            self.assertEqual(self.check(f"parse | list<fixed<2147483648,null>> | [{rows}] | [{rows}]"), Counter({"not run: parse": 1}))
+    def test_nulls_with_many_rows_below_are_parsed(self) -> None:
+        for result in ("[[null]]", "error text_limit"):
+            rows = "[[null]]" if result == "[[null]]" else "[[null,null]]"
+            self.assertEqual(self.check(f"parse | list<fixed<2147483648,null>> | {rows} | {result}")["lines"], 1)
         self.assertEqual(self.check("parse | list<fixed<2147483648,null>> | [[]] | [[]]")["lines"], 1)
 
     def test_misspelled_lines(self) -> None:
