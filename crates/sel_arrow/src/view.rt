@@ -9,6 +9,7 @@ pub const INLINE_BYTES: u32 = 12;
 /// A view of a byte string. Up to 12 bytes are inline, in the little-endian bytes of `prefix`,
 /// `buffer_idx` and `offset`, in this order. A longer byte string is in a data buffer, and `prefix`
 /// is its first four bytes. (Arrow columnar format: variable-size binary view layout.)
+#[repr(C)]
 #[derive(Debug, Clone, Copy, PartialEq, Eq)]
 pub struct View {
     /// The length in bytes.

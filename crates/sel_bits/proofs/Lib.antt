@@ -4,6 +4,7 @@ pub mod BlockParts
 pub mod Combining
 pub mod Counts
 pub mod Extended
+pub mod LentSteps
 pub mod Lists
 pub mod Loads
 pub mod OffsetLemmas

@@ -9,4 +9,5 @@ pub mod Place
 pub mod Ranges
 pub mod Reading
 pub mod Signs
+pub mod Storage
 pub mod Words

@@ -3,39 +3,42 @@
 
 ghost use Rattle.std.specs.Prelude.{◌≡◌, ◌≢◌, ℕ, ◌+◌, ◌-◌, ◌*◌, ◌/◌, ◌%◌, ◌^◌, ◌<◌, ◌≤◌, [], ◌∷◌, ◌++◌, Bool, false, length, take, drop, slice_index_or, replicate, IfOk, IfErr, IfSome, IfNone, IsTrue, ◌↔◌, vec_len, if◌then◌else◌};
 ghost use Rattle.sel_bits.specs.Bits.{bits_from, count_true, count_false, leading_ones, leading_zeros, trailing_zeros, unsliced};
+ghost use Rattle.sel_bits.specs.Storage.{BitsOf};
 ghost use Rattle.sel_bits.specs.Words.{word_of};
 
+use crate::buffer::Buffer;
 use crate::faults::{PolarsError, PolarsResult};
+use crate::lent::Lent;
 use crate::operations::{Not, word_by};
 use crate::packer::{BitPacker, MOST_BITS};
+use crate::storage::Storage;
 use crate::words::{count_set, first_word, whole_word};
 use std::alloc::Global;
 use std::marker::Model;
-use std::sync::ArcSlice;
 
 /// A list of booleans, the first of which is bit `offset` of shared bytes.
 ///
 /// Contract model: the list and the bit offset. (Arrow columnar format: validity bitmaps.)
 #[derive(Drop)]
 pub struct Bitmap {
-    bytes: ArcSlice<u8>,
+    bytes: Storage<u8>,
     offset: usize,
     len: usize,
 }
 
 impl Model for Bitmap {
     ghost use Rattle.std.specs.Prelude.{◌+◌, ◌*◌, ◌≤◌, ◌<◌, ◌^◌, length};
-    ghost use Rattle.std.specs.Arc.{arc_slice_items};
+    ghost use Rattle.sel_bits.specs.Storage.{storage_items};
     ghost use Rattle.sel_bits.specs.Bits.{Bits, bits_from};
 
     ghost Value = { Bits };
 
     ghost view = { λ b. record {
-      bits = bits_from (arc_slice_items b.bytes) b.offset b.len;
+      bits = bits_from (storage_items b.bytes) b.offset b.len;
       offset = b.offset;
     } };
 
-    ghost invariant = { λ b. (b.offset + b.len ≤ 8 * length (arc_slice_items b.bytes)) ×
+    ghost invariant = { λ b. (b.offset + b.len ≤ 8 * length (storage_items b.bytes)) ×
         (b.offset + b.len < 2 ^ 64) };
 }
 
@@ -87,12 +90,53 @@ impl Bitmap {
         ensures len { IfOk result (λ bitmap. length bitmap.bits ≡ len) }
         ensures refusal { IfErr result (λ fault. fault ≡ PolarsError.OutOfMemory) }
     {
-        let bytes = ArcSlice::from_vec(bytes)?;
+        let bytes = Storage::from_vec(bytes)?;
         Ok(Bitmap {
             bytes,
             offset: 0,
             len,
         })
+    }
+
+    /// Returns a bitmap of the `len` bits from bit `first` of lent bytes on, without a copy.
+    ///
+    /// # Requires
+    /// The bytes have at least `first + len` bits, and `first + len` fits `usize`.
+    ///
+    /// # Errors
+    /// The lent bytes, if an allocation fails.
+    pub fn from_lent(
+        alloc: Global,
+        bytes: Lent<u8>,
+        first: usize,
+        len: usize,
+    ) -> Result<Bitmap, Lent<u8>>
+        requires within { first + len ≤ 8 * length bytes.items }
+        requires fits { first + len < 2 ^ 64 }
+        ensures value { IfOk result (λ bitmap. bitmap ≡
+            record { bits = bits_from bytes.items first len; offset = first }) }
+        ensures len { IfOk result (λ bitmap. length bitmap.bits ≡ len) }
+        ensures refusal { IfErr result (λ lent. lent.items ≡ bytes.items) }
+    {
+        let bytes = Storage::from_lent(alloc, bytes)?;
+        Ok(Bitmap {
+            bytes,
+            offset: first,
+            len,
+        })
+    }
+
+    /// Returns the lent bytes, or the bitmap if its bytes are not lent or something else reads
+    /// them.
+    pub fn into_lent(self) -> Result<Lent<u8>, Bitmap>
+        ensures value { IfOk result (λ lent. BitsOf self lent.items) }
+        ensures refusal { IfErr result (λ bitmap. bitmap ≡ self) }
+    {
+        let Bitmap { bytes, offset, len } = self;
+        match bytes.into_lent() {
+            Ok(lent) => Ok(lent),
+            Err(bytes) => Err(Bitmap { bytes, offset, len }),
+        }
     }
 
     /// Returns a bitmap of these booleans.
@@ -145,7 +189,7 @@ impl Bitmap {
         ensures { result ≡ slice_index_or self.now.bits i false }
     {
         let at = self.offset + i;
-        (self.bytes[at / 8] >> (at % 8)) & 1 == 1
+        (self.bytes.as_slice()[at / 8] >> (at % 8)) & 1 == 1
     }
 
     /// Returns the word of the `len` bits from bit `at` on, with zeros above them.
@@ -160,7 +204,7 @@ impl Bitmap {
             return self.whole_word_at(at);
         }
         let first = self.offset + at;
-        first_word(&self.bytes[first / 8..], first % 8, len)
+        first_word(&self.bytes.as_slice()[first / 8..], first % 8, len)
     }
 
     /// Returns the word of the 64 bits from bit `at` on.
@@ -170,7 +214,7 @@ impl Bitmap {
         ensures { result ≡ word_of (take 64 (drop at self.now.bits)) }
     {
         let first = self.offset + at;
-        whole_word(&self.bytes, first / 8, first % 8)
+        whole_word(self.bytes.as_slice(), first / 8, first % 8)
     }
 
     /// Returns the number of consecutive words of 64 false bits from bit `at` on, and the first
@@ -349,7 +393,27 @@ impl Bitmap {
         let first = self.offset / 8;
         let within = self.offset % 8;
         let count = (within + self.len).div_ceil(8);
-        (&self.bytes[first..first + count], within, self.len)
+        (
+            &self.bytes.as_slice()[first..first + count],
+            within,
+            self.len,
+        )
+    }
+
+    /// Returns the bytes of `as_slice` as a buffer, without a copy.
+    ///
+    /// # Errors
+    /// `OutOfMemory` if the bytes cannot be shared once more.
+    pub fn to_buffer(&self) -> PolarsResult<Buffer<u8>>
+        ensures bits { IfOk result (λ bytes. self.now.bits ≡
+            bits_from bytes (self.now.offset % 8) (length self.now.bits)) }
+        ensures bytes { IfOk result (λ bytes. length bytes ≡
+            (self.now.offset % 8 + length self.now.bits + 7) / 8) }
+        ensures refusal { IfErr result (λ fault. fault ≡ PolarsError.OutOfMemory) }
+    {
+        let count = (self.offset % 8 + self.len).div_ceil(8);
+        let bytes = self.bytes.try_clone()?;
+        Ok(Buffer::of_part(bytes, self.offset / 8, count))
     }
 
     /// Returns a bitmap of the same bits, without a copy of the shared bytes.
@@ -360,7 +424,7 @@ impl Bitmap {
         ensures value { IfOk result (λ bitmap. bitmap ≡ self.now) }
         ensures refusal { IfErr result (λ fault. fault ≡ PolarsError.OutOfMemory) }
     {
-        let bytes = self.bytes.clone()?;
+        let bytes = self.bytes.try_clone()?;
         Ok(Bitmap {
             bytes,
             offset: self.offset,

@@ -1,28 +1,31 @@
 //! A slice of shared values.
 
 ghost use Rattle.std.specs.Prelude.{◌≡◌, ◌+◌, ◌≤◌, length, take, drop, IfOk, IfErr};
+ghost use Rattle.sel_bits.specs.Storage.{IsPart, storage_items};
 
 use crate::faults::{PolarsError, PolarsResult};
+use crate::lent::Lent;
+use crate::storage::Storage;
+use std::alloc::Global;
 use std::marker::Model;
-use std::sync::ArcSlice;
 
 /// A slice of values that several buffers can share. Contract model: the list of the values.
 #[derive(Drop)]
 pub struct Buffer<T> {
-    shared: ArcSlice<T>,
+    shared: Storage<T>,
     start: usize,
     count: usize,
 }
 
 impl<T> Model for Buffer<T> {
     ghost use Rattle.std.specs.Prelude.{List, take, drop, length, ◌≤◌, ◌+◌};
-    ghost use Rattle.std.specs.Arc.{arc_slice_items};
+    ghost use Rattle.sel_bits.specs.Storage.{storage_items};
 
     ghost Value = { List T };
 
-    ghost view = { λ b. take b.count (drop b.start (arc_slice_items b.shared)) };
+    ghost view = { λ b. take b.count (drop b.start (storage_items b.shared)) };
 
-    ghost invariant = { λ b. b.start + b.count ≤ length (arc_slice_items b.shared) };
+    ghost invariant = { λ b. b.start + b.count ≤ length (storage_items b.shared) };
 }
 
 impl<T: Drop> Buffer<T> {
@@ -35,12 +38,57 @@ impl<T: Drop> Buffer<T> {
         ensures refusal { IfErr result (λ fault. fault ≡ PolarsError.OutOfMemory) }
     {
         let count = values.len();
-        let shared = ArcSlice::from_vec(values)?;
+        let shared = Storage::from_vec(values)?;
         Ok(Buffer {
             shared,
             start: 0,
             count,
         })
+    }
+
+    /// Returns a buffer of the `count` values of `shared` from `start` on.
+    ///
+    /// # Requires
+    /// `shared` has at least `start + count` values.
+    pub(crate) fn of_part(shared: Storage<T>, start: usize, count: usize) -> Buffer<T>
+        requires { start + count ≤ length (storage_items shared) }
+        ensures { result ≡ take count (drop start (storage_items shared)) }
+    {
+        Buffer {
+            shared,
+            start,
+            count,
+        }
+    }
+
+    /// Returns a buffer of lent values, without a copy.
+    ///
+    /// # Errors
+    /// The lent values, if an allocation fails.
+    pub fn from_lent(alloc: Global, values: Lent<T>) -> Result<Buffer<T>, Lent<T>>
+        ensures items { IfOk result (λ buffer. buffer ≡ values.items) }
+        ensures refusal { IfErr result (λ lent. lent.items ≡ values.items) }
+    {
+        let shared = Storage::from_lent(alloc, values)?;
+        let count = shared.as_slice().len();
+        Ok(Buffer::of_part(shared, 0, count))
+    }
+
+    /// Returns the lent values, of which the buffer's are a part, or the buffer if its values are
+    /// not lent or something else reads them.
+    pub fn into_lent(self) -> Result<Lent<T>, Buffer<T>>
+        ensures items { IfOk result (λ lent. IsPart self lent.items) }
+        ensures refusal { IfErr result (λ buffer. buffer ≡ self) }
+    {
+        let Buffer {
+            shared,
+            start,
+            count,
+        } = self;
+        match shared.into_lent() {
+            Ok(lent) => Ok(lent),
+            Err(shared) => Err(Buffer::of_part(shared, start, count)),
+        }
     }
 
     /// Returns the values as a slice.
@@ -81,7 +129,7 @@ impl<T: Drop> Buffer<T> {
         ensures items { IfOk result (λ buffer. buffer ≡ self.now) }
         ensures refusal { IfErr result (λ fault. fault ≡ PolarsError.OutOfMemory) }
     {
-        let shared = self.shared.clone()?;
+        let shared = self.shared.try_clone()?;
         Ok(Buffer {
             shared,
             start: self.start,

@@ -1,7 +1,7 @@
 //! Offsets buffers of variable-size columns.
 
 ghost use Rattle.std.specs.Prelude.{◌≡◌, ◌≤ℤ◌, ◌+◌, ◌-◌, ◌≤◌, ◌<◌, slice_index, ℤ, pos, length, take, drop, map, Some, None, IfOk, IfErr};
-ghost use Rattle.sel_bits.specs.Faults.{IsFaultOrMemory};
+ghost use Rattle.sel_bits.specs.Faults.{IsFault, IsFaultOrMemory};
 ghost use Rattle.sel_bits.specs.Offsets.{IsOffsets, IsRising, has_negative, has_fall, falls_after, offsets_fault};
 
 use crate::buffer::Buffer;
@@ -47,6 +47,37 @@ impl<O: Offset> OffsetsBuffer<O> {
         match Buffer::from_vec(offsets) {
             Ok(offsets) => Ok(OffsetsBuffer { offsets }),
             Err(_) => Err(MakeError::OutOfMemory),
+        }
+    }
+
+    /// Returns these offsets after validation, without a copy.
+    ///
+    /// # Errors
+    /// `Malformed` with the first rule that the offsets break, in this order: `OffsetCount`,
+    /// `OffsetNegative`, `OffsetOrder`.
+    #[tactic(auto, using(crate::proofs::OffsetLemmas::accepting))]
+    pub fn try_from_buffer(offsets: Buffer<O>) -> Result<OffsetsBuffer<O>, MakeError>
+        ensures value { IfOk result (λ buffer. map O.number offsets ≡ map pos buffer) }
+        ensures accepted { IfOk result (λ _. offsets_fault O.number offsets ≡ None) }
+        ensures refusal { IfErr result (IsFault (offsets_fault O.number offsets)) }
+    {
+        if let Some(fault) = fault_of(offsets.as_slice()) {
+            return Err(MakeError::Malformed(fault));
+        }
+        Ok(OffsetsBuffer { offsets })
+    }
+
+    /// Returns a buffer of the offsets, without a copy.
+    ///
+    /// # Errors
+    /// `OutOfMemory` if the slice cannot be shared once more.
+    pub fn to_buffer(&self) -> PolarsResult<Buffer<O>>
+        ensures numbers { IfOk result (λ buffer. map O.number buffer ≡ map pos self.now) }
+        ensures refusal { IfErr result (λ fault. fault ≡ PolarsError.OutOfMemory) }
+    {
+        match self.offsets.try_clone() {
+            Ok(buffer) => Ok(buffer),
+            Err(fault) => Err(fault),
         }
     }
 

@@ -1,8 +1,9 @@
--- A `&ColumnRef` gives a `&` to its pointer field and, if it has a column, a `&` to the column for the same lifetime. Assumes `Logic`.
---     word, Row, Data          the machine value of a `ColumnRef`, its type, and that of its pointer field
---     told, opened             the pointer field's machine value, and a `&` to that field
---     parted                   a `&ColumnRef` as a `&` to its pointer field and a borrow of what it owns
---     either_ref               the two cases of that borrow: null, and a `&` to the column
+-- A `&ColumnRef` gives a `&` to its pointer field and, if it has a column, a `&` to the column for
+-- the same lifetime. Assumes `Logic`.
+--     word, Row, Data   the machine value of a `ColumnRef`, its type, and that of its pointer field
+--     told, opened      the pointer field's machine value, and a `&` to that field
+--     parted            a `&ColumnRef` as a `&` to its pointer field and a borrow of what it owns
+--     either_ref        the two cases of that borrow: null, and a `&` to the column
 use Rattle.std.proofs.Common.{◌≡◌, ℕ, List, [], ◌∷◌, ◌++◌, refl, ap, ◌∙◌}
 use seplogic.Ra.Ura.{Ura}
 use mir.Val.{Val, vstruct, vcons, vnil, of_list}
@@ -157,7 +158,8 @@ module _ {M : Type 1} {𝓤 : Ura M} (𝓛 : Logic 𝓤) where
         move ! (0 ∷ 2 ∷ []) $ now ! $ done !)
 
 module _ {M : Type 1} {𝓤 : Ura M} {𝓛 : Logic 𝓤} {K : Type 0} {Γ : List (Item 𝓤)} {G : Goal 𝓤 𝓛.H} where
-  -- A borrow of what a `ColumnRef` owns: no column if the pointer is null, else a `&` to the column, and a pointer that can be compared with null.
+  -- A borrow of what a `ColumnRef` owns: no column if the pointer is null, else a `&` to the column,
+  -- and a pointer that can be compared with null.
   pub either_ref : K → Soaks G → (p : Ptr) (held : Held) {κ : Lft} {q : Share}
       → (p ≡ null_ptr → held ≡ None → Seq K 𝓛 (‵ (flft κ q) ∷ Γ) G)
       → ((b o : ℕ) (x : R.Denot) → p ≡ block_ptr b o → held ≡ Some x → Testable (block_ptr b o) → Seq K 𝓛 (‵ (hidden_shr R κ x b o) ∷ ‵ (flft κ q) ∷ Γ) G)

@@ -6,7 +6,7 @@ pub mod depth;
 pub mod handle;
 pub mod inputs;
 pub mod kinds;
-mod loose;
+pub mod loose;
 pub mod nested;
 pub mod nested_into;
 pub mod numbers;

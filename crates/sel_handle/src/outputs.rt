@@ -1,6 +1,6 @@
 //! Values and validity of columns, copied into slices of callers.
 
-ghost use Rattle.std.specs.Prelude.{◌≡◌, ◌≢◌, ◌+◌, ◌/◌, ◌%◌, length, [], ◌∷◌, IfOk};
+ghost use Rattle.std.specs.Prelude.{◌≡◌, ◌≢◌, ◌+◌, ◌/◌, ◌%◌, length, [], ◌∷◌, true, false, IfOk};
 ghost use Rattle.sel_bits.specs.Bits.{bits_from};
 ghost use Rattle.sel_arrow.specs.Nulls.{IsValidityOf};
 ghost use Rattle.sel_arrow.specs.Rows.{rows, type_of};
@@ -99,6 +99,9 @@ fn moved_to_front(alloc: Global, bits: &Bitmap) -> PolarsResult<Bitmap>
 pub fn validity_into(alloc: Global, column: &ArrayRef, out: &mut [u8], has: &mut bool) -> u32
     ensures validity { result ≡ ok → IsValidityOf (type_of column.now.column)
         (validity_in out.new has.new (length (rows column.now.column))) (rows column.now.column) }
+    ensures unchanged { has.new ≡ false → out.new ≡ out.old }
+    ensures fits { result ≡ ok → has.new ≡ true →
+        length out.old ≡ (length (rows column.now.column) + 7) / 8 }
     ensures length { result ≡ length_mismatch →
         length out.old ≢ (length (rows column.now.column) + 7) / 8 }
     ensures status { IsOneOf result (ok ∷ out_of_memory ∷ no_column ∷ length_mismatch ∷

@@ -1,5 +1,5 @@
 use Rattle.std.proofs.Common.{◌≤◌, ◌+◌, List, Bool, ap, arith}
-use Rattle.std.specs.Arc.{arc_slice_items}
+use Rattle.sel_bits.specs.Storage.{storage_items}
 use Rattle.sel_bits.specs.Bits.{Bits}
 use Rattle.sel_bits.proofs.BitLists.{length_bits_from}
 use Rattle.sel_bits.proofs.Zeros.{bits_from_dropped}
@@ -8,7 +8,7 @@ use Rattle.sel_bits.proofs.bitmap.Bitmap.drop_front.Goals as goal
 pub returns : goal.returns
 returns c =
     let inside = c.self.inside in
-    let bytes = arc_slice_items inside.bytes in
+    let bytes = storage_items inside.bytes in
     let asked = rw (← c.self.view_is) at c.requires in
     let within : c.args.count ≤ inside.len = omega (arith, asked, length_bits_from bytes inside.offset inside.len) in
     let with_bits = λ (bits : List Bool). let b : Bits = record { bits = bits; offset = inside.offset + c.args.count } in b in

@@ -1,5 +1,5 @@
 use Rattle.std.proofs.Common.{List, Bool, ap}
-use Rattle.std.specs.Arc.{arc_slice_items}
+use Rattle.sel_bits.specs.Storage.{storage_items}
 use Rattle.sel_bits.specs.Bits.{Bits}
 use Rattle.sel_bits.proofs.BitLists.{length_bits_from}
 use Rattle.sel_bits.proofs.Zeros.{bits_from_kept}
@@ -8,7 +8,7 @@ use Rattle.sel_bits.proofs.bitmap.Bitmap.take_trailing_zeros.Goals as goal
 pub returns-clause-rest : goal.returns-clause-rest
 returns-clause-rest c =
     let inside = c.self.inside in
-    let bytes = arc_slice_items inside.bytes in
+    let bytes = storage_items inside.bytes in
     let count = c.trailing_zeros-count.result in
     let with_bits = λ (bits : List Bool). let b : Bits = record { bits = bits; offset = inside.offset } in b in
     rw (← c.self.view_is, length_bits_from bytes inside.offset inside.len) (ap with_bits (bits_from_kept bytes inside.offset inside.len count))

@@ -1,4 +1,5 @@
--- `shared` reads the pointer field, compares it with null, and returns a `&` to the column for the lifetime of the `&ColumnRef`.
+-- `shared` reads the pointer field, compares it with null, and returns a `&` to the column for the
+-- lifetime of the `&ColumnRef`.
 use Rattle.std.proofs.Common.{◌≡◌, List, [], ◌∷◌, refl, sym, ap, ◌∙◌, lit<}
 use mir.Syntax.{Body, seq, assign, place, rv_opd, copy, aggregate, int, w8, named}
 use mir.Val.{Val, vptr, vcons, vnil}
@@ -50,7 +51,8 @@ shared_spec 𝓤 𝓛 𝓜 𝓡 wired =
     qed 𝓛 (((‵ (flft κ qs.0) ⊛ ‵ ftrue) ⊛ ‵ (owns (types_at ended.signature.params κs) a y.0.4)) ∷ raw ((c κs a).requires gh) ∷ []) ∵
     split ! $ split ! $ move ! (2 ∷ []) $ fsplit ! $ fsplit ! $ keep ! (1 ∷ 3 ∷ 4 ∷ []) $
     enter ! 𝓣.C 𝓣.Λ fn (vptr b o ∷ []) Post $ alloc_all ! (λ l. pass_all ! refl ((tt, tt), tt) $ let Ev = env fn.locals l in
-    -- It is a `&` to the pointer field and a borrow of what the `ColumnRef` owns: null, or a `&` to the column.
+    -- It is a `&` to the pointer field and a borrow of what the `ColumnRef` owns: null, or a `&` to
+    -- the column.
     use2 𝓛 (later (‵ (hidden_shr Data κ (d.at, tt) b o) ⊛ (‵ (fbor κ (ref_owns d.at d.tree)) ⊛ ‵ (flft κ qs.0)))) (parted 𝓛 d b o κ qs.0) $ await ! tt $ split ! $ move ! (1 ∷ []) $ split ! $
     either_ref ! tt d.at d.tree
     (λ null empty. move ! (1 ∷ 0 ∷ []) $

@@ -1,0 +1,3 @@
+pub mod BufferHandleSteps
+pub mod BufferRefSteps
+pub mod Crossing

@@ -1,0 +1,6 @@
+use Rattle.std.proofs.Common.{◌≡◌, take, map}
+use Rattle.sel_lent.specs.Buffers.{bytes_of}
+use Rattle.sel_lent.proofs.view_columns.data_from.Given as goal
+
+abbrev pub invariant-loop-handle : goal.invariant-loop-handle
+invariant-loop-handle l = l.buffers.items ≡ map (λ handle. bytes_of handle.buffer) (take l.handle-index l.handles)

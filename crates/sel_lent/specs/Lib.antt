@@ -1,0 +1,3 @@
+pub mod BufferRef
+pub mod Buffers
+pub mod Held

@@ -1,0 +1,140 @@
+//! View columns over shared buffers, without a copy.
+
+ghost use Rattle.std.specs.Prelude.{◌≡◌, ◌≢◌, length, IfOk, IfErr, map};
+ghost use Rattle.sel_arrow.specs.Rows.{rows, type_of};
+ghost use Rattle.sel_arrow.specs.Shape.{of_binary_view, of_utf8_view};
+ghost use Rattle.sel_arrow.specs.Views.{view_rows};
+ghost use Rattle.sel_handle.specs.Status.{ok, Makes};
+ghost use Rattle.sel_lent.specs.Buffers.{bytes_of, validity_over, views_of};
+
+use crate::buffer_ref::BufferRef;
+use crate::columns::validity_from;
+use crate::shared_buffer::SharedBuffer;
+use sel_arrow::array::Array;
+use sel_arrow::binview::BinaryViewArray;
+use sel_arrow::utf8view::Utf8ViewArray;
+use sel_arrow::view::View;
+use sel_bits::buffer::Buffer;
+use sel_handle::handle::Handle;
+use sel_handle::status::{OUT_OF_MEMORY, UNSUPPORTED_TYPE, put, status_of_maker};
+use std::alloc::Global;
+
+/// Returns the views of a buffer.
+///
+/// Errors: `UNSUPPORTED_TYPE` if the handle has no buffer of views; `OUT_OF_MEMORY`.
+fn views_from(of: &BufferRef) -> Result<Buffer<View>, u32>
+    ensures value { IfOk result (λ views. views ≡ views_of of.now.buffer) }
+    ensures refusal { IfErr result (λ status. status ≢ ok) }
+{
+    let Some(SharedBuffer::Views(views)) = of.shared() else {
+        return Err(UNSUPPORTED_TYPE);
+    };
+    match views.try_clone() {
+        Ok(views) => Ok(views),
+        Err(_) => Err(OUT_OF_MEMORY),
+    }
+}
+
+/// Returns the bytes of several buffers.
+///
+/// Errors: `UNSUPPORTED_TYPE` if a handle has no buffer of bytes; `OUT_OF_MEMORY`.
+fn data_from(alloc: Global, handles: &[BufferRef]) -> Result<Buffer<Buffer<u8>>, u32>
+    ensures value { IfOk result (λ buffers. buffers ≡
+        map (λ handle. bytes_of handle.buffer) handles.now) }
+    ensures refusal { IfErr result (λ status. status ≢ ok) }
+{
+    let Ok(mut buffers) = Vec::with_capacity(alloc, handles.len()) else {
+        return Err(OUT_OF_MEMORY);
+    };
+    for handle in handles {
+        let Some(SharedBuffer::UInt8(bytes)) = handle.shared() else {
+            return Err(UNSUPPORTED_TYPE);
+        };
+        let Ok(bytes) = bytes.try_clone() else {
+            return Err(OUT_OF_MEMORY);
+        };
+        if buffers.push(bytes).is_err() {
+            return Err(OUT_OF_MEMORY);
+        }
+    }
+    match Buffer::from_vec(buffers) {
+        Ok(buffers) => Ok(buffers),
+        Err(_) => Err(OUT_OF_MEMORY),
+    }
+}
+
+/// Stores in `out` the binary view column of a buffer of views and of data buffers. Its validity is
+/// as in [`validity_from`].
+///
+/// Errors: `UNSUPPORTED_TYPE` if the handles have no such buffers; those of [`validity_from`];
+/// `TOO_MANY_ROWS`, `TOO_MANY_BUFFERS`, `VIEW_RANGE`, `VIEW_PREFIX`; `OUT_OF_MEMORY`. On error
+/// `out` is unchanged.
+pub fn binary_views_over(
+    alloc: Global,
+    views: &BufferRef,
+    buffers: &[BufferRef],
+    validity: &BufferRef,
+    first: usize,
+    out: &mut Handle,
+) -> u32
+    ensures rows { Makes result out.old.tree out.new.tree (λ made. rows made.column ≡
+        view_rows (views_of views.now.buffer) (map (λ handle. bytes_of handle.buffer) buffers.now)
+        (validity_over validity.now.buffer first (length (views_of views.now.buffer)))) }
+    ensures dtype { Makes result out.old.tree out.new.tree
+        (λ made. type_of made.column ≡ of_binary_view) }
+{
+    let views = match views_from(views) {
+        Ok(views) => views,
+        Err(status) => return status,
+    };
+    let bits = match validity_from(validity, first, views.len()) {
+        Ok(bits) => bits,
+        Err(status) => return status,
+    };
+    let data = match data_from(alloc, buffers) {
+        Ok(data) => data,
+        Err(status) => return status,
+    };
+    match BinaryViewArray::try_new(views, data, bits) {
+        Ok(array) => put(alloc, array.into_ref(), out),
+        Err(fault) => status_of_maker(fault),
+    }
+}
+
+/// Stores in `out` the string view column of a buffer of views and of data buffers. Its validity is
+/// as in [`validity_from`].
+///
+/// Errors: `UNSUPPORTED_TYPE` if the handles have no such buffers; those of [`validity_from`];
+/// `TOO_MANY_ROWS`, `TOO_MANY_BUFFERS`, `VIEW_RANGE`, `VIEW_PREFIX`, `INVALID_UTF8`;
+/// `OUT_OF_MEMORY`. On error `out` is unchanged.
+pub fn string_views_over(
+    alloc: Global,
+    views: &BufferRef,
+    buffers: &[BufferRef],
+    validity: &BufferRef,
+    first: usize,
+    out: &mut Handle,
+) -> u32
+    ensures rows { Makes result out.old.tree out.new.tree (λ made. rows made.column ≡
+        view_rows (views_of views.now.buffer) (map (λ handle. bytes_of handle.buffer) buffers.now)
+        (validity_over validity.now.buffer first (length (views_of views.now.buffer)))) }
+    ensures dtype { Makes result out.old.tree out.new.tree
+        (λ made. type_of made.column ≡ of_utf8_view) }
+{
+    let views = match views_from(views) {
+        Ok(views) => views,
+        Err(status) => return status,
+    };
+    let bits = match validity_from(validity, first, views.len()) {
+        Ok(bits) => bits,
+        Err(status) => return status,
+    };
+    let data = match data_from(alloc, buffers) {
+        Ok(data) => data,
+        Err(status) => return status,
+    };
+    match Utf8ViewArray::try_new(views, data, bits) {
+        Ok(array) => put(alloc, array.into_ref(), out),
+        Err(fault) => status_of_maker(fault),
+    }
+}
