@@ -1,7 +1,7 @@
 -- The child of a fixed-size list column needs as many rows as the lists have entries, null or not.
-use Rattle.std.proofs.Common.{◌≡◌, ℕ, zero, suc, ◌+◌, ◌-◌, ◌*◌, ◌≤◌, ◌<◌, ◌⊎◌, inl, inr, ⊎_elim, pos, true, false, Bool, All, List, [], ◌∷◌, ◌++◌, length, take, drop, map, replicate, Option, Some, None, refl, ap, sym, subst, ◌∙◌, arith, get_or, length-append, Box, Global}
+use Rattle.std.proofs.Common.{◌≡◌, ℕ, suc, ◌+◌, ◌-◌, ◌*◌, ◌≤◌, ◌<◌, ◌⊎◌, inl, inr, ⊎_elim, pos, true, false, Bool, All, List, [], ◌∷◌, length, take, drop, map, Option, Some, None, ap, sym, subst, ◌∙◌, arith, length-append, Box, Global}
 use Rattle.std.specs.Prelude.{⊤}
-use Rattle.std.specs.List.{range_with_len, slice_range}
+use Rattle.std.specs.List.{slice_range}
 use Rattle.std.proofs.Math.Nat.{suc-mul}
 use Rattle.std.proofs.lemmas.Bool.{cases_lt}
 use Rattle.std.proofs.lemmas.Nat.{mul-le}
@@ -11,8 +11,8 @@ use Rattle.std.proofs.lemmas.List.FromFn.{get_or-map-range_with_len}
 use Rattle.sel_bits.specs.Bits.{Bits}
 use Rattle.sel_bits.specs.declared.faults.Limit.{Limit}
 use Rattle.sel_arrow.specs.Masked.{hidden, masked}
-use Rattle.sel_arrow.specs.Nested.{blocks, block_rows, list_of}
-use Rattle.sel_arrow.specs.Rows.{rows, row_count, type_of, well_formed}
+use Rattle.sel_arrow.specs.Nested.{blocks, list_of}
+use Rattle.sel_arrow.specs.Rows.{rows, type_of, well_formed}
 use Rattle.sel_arrow.specs.Shape.{Shape, of_fixed_size_list}
 use Rattle.sel_arrow.specs.Value.{Value, Null, Number}
 use Rattle.sel_arrow.specs.declared.column.Column.{Column, FixedSizeList}

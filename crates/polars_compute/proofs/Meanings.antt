@@ -6,6 +6,7 @@ use Rattle.std.proofs.lemmas.Int.{ints}
 use Rattle.std.proofs.lemmas.List.{length-map}
 use Rattle.sel_bits.specs.declared.faults.Limit.{Limit}
 use Rattle.sel_bits.specs.declared.faults.Limit.TheVariants.{Rows as RowLimit, Bytes as ByteLimit}
+use Rattle.sel_bits.specs.declared.faults.Limit.TheVariants.{Buffers as BufferLimit, ViewBytes as ViewLimit}
 use Rattle.sel_arrow.specs.Nested.{list_of}
 use Rattle.sel_arrow.specs.Rows.{rows, type_of, well_formed}
 use Rattle.sel_arrow.specs.Shape.{Shape, Shapes, no_shapes, next_shape, of_large_binary, of_large_list, of_fixed_size_list, of_struct}
@@ -20,8 +21,8 @@ use Rattle.sel_runs.proofs.Thinned.{whole_fits}
 use Rattle.sel_sublists.specs.Entries.{fixed_get, any_out_of_bounds}
 use Rattle.sel_sublists.specs.Lists.{list_get, oob}
 use Rattle.polars_compute.specs.Dictionary.{decode, propagated_keys, rank, valid_values}
-use Rattle.polars_compute.specs.Meaning.{MeansTheSame, Alike}
-use Rattle.polars_compute.specs.Need.{bytes_needed, exceeded_limits, exceeded_in_parts, Needed, so_many_rows, so_many_bytes, need, need_of_parts, NoneGreater, NoneAbove}
+use Rattle.polars_compute.specs.Meaning.{MeansTheSame, Alike, NeedsDecideLimits}
+use Rattle.polars_compute.specs.Need.{bytes_needed, ExceedsBytes, ExceedsRows, exceeded_limits, exceeded_in_parts, Needed, so_many_rows, so_many_bytes, need, need_of_parts, NoneGreater, NoneAbove}
 use Rattle.polars_compute.specs.Pick.{pick}
 use Rattle.polars_compute.specs.Select.{select, effective_mask}
 use Rattle.sel_filter.proofs.Selects.{few_kept}
@@ -153,3 +154,55 @@ mutual
 pub needs_fit : (c : Column) → well_formed c ≡ true → NoneAbove (need (type_of c) (rows c))
 needs_fit c formed =
     within (type_of c) (rows c) (let few = few_rows c formed in omega (arith, few, length-rows c)) (whole_fits c formed)
+
+-- ---- limits decided by needs
+
+above-first : (ks bs : List Needed) → NoneAbove (ks ++ bs) → NoneAbove ks
+above-first [] bs h = tt
+above-first (so_many_rows n ∷ ks) bs h = (h.0, above-first ks bs h.1)
+above-first (so_many_bytes n ∷ ks) bs h = (h.0, above-first ks bs h.1)
+
+above-second : (ks bs : List Needed) → NoneAbove (ks ++ bs) → NoneAbove bs
+above-second [] bs h = h
+above-second (so_many_rows n ∷ ks) bs h = above-second ks bs h.1
+above-second (so_many_bytes n ∷ ks) bs h = above-second ks bs h.1
+
+rows_few : (s : Shape) (vs : List Value) → NoneAbove (need s vs) → length vs ≤ 4294967295
+rows_few of_large_binary vs h = h.0
+rows_few (of_large_list s) vs h = h.0
+rows_few (of_fixed_size_list s w) vs h = h.0
+rows_few (of_struct ss) vs h = h.0
+rows_few s vs h = h.0
+
+not_rows : (n : ℕ) (limit : Limit) → n ≤ 4294967295 → ExceedsRows n limit → ⊥
+not_rows n RowLimit few e = omega (arith, few, e)
+not_rows n ByteLimit few e = e
+not_rows n BufferLimit few e = e
+not_rows n ViewLimit few e = e
+
+not_bytes : (vs : List Value) (limit : Limit) → bytes_needed vs ≤ 9223372036854775807 → ExceedsBytes (pos 9223372036854775807) vs limit → ⊥
+not_bytes vs RowLimit few e = e
+not_bytes vs ByteLimit few e = omega (ints, arith, few, e)
+not_bytes vs BufferLimit few e = e
+not_bytes vs ViewLimit few e = e
+
+mutual
+  -- Rows that need no more than the limits exceed none.
+  below : (s : Shape) (vs : List Value) → NoneAbove (need s vs) → (limit : Limit) → exceeded_limits s vs limit → ⊥
+  below of_large_binary vs h limit e = not_bytes vs limit h.1.0 e
+  below (of_large_list s) vs h limit (inl e) = not_rows (length (joined_items 0 vs)) limit (rows_few s (joined_items 0 vs) h.1) e
+  below (of_large_list s) vs h limit (inr e) = below s (joined_items 0 vs) h.1 limit e
+  below (of_fixed_size_list s w) vs h limit (inl e) = not_rows (length (joined_items w vs)) limit (rows_few s (joined_items w vs) h.1) e
+  below (of_fixed_size_list s w) vs h limit (inr e) = below s (joined_items w vs) h.1 limit e
+  below (of_struct ss) vs h limit e = below_parts ss 0 vs h.1 limit e
+  below s vs h limit e = e
+
+  below_parts : (ss : Shapes) (j : ℕ) (vs : List Value) → NoneAbove (need_of_parts ss j vs) → (limit : Limit) → exceeded_in_parts ss j vs limit → ⊥
+  below_parts no_shapes j vs h limit e = e
+  below_parts (next_shape s ss) j vs h limit (inl e) =
+      below s (map (part_at j) vs) (above-first (need s (map (part_at j) vs)) (need_of_parts ss (j + 1) vs) h) limit e
+  below_parts (next_shape s ss) j vs h limit (inr e) =
+      below_parts ss (j + 1) vs (above-second (need s (map (part_at j) vs)) (need_of_parts ss (j + 1) vs) h) limit e
+
+pub needs_decide : NeedsDecideLimits
+needs_decide s xs few = (below s xs, within s xs few)

@@ -9,5 +9,6 @@ pub mod Need
 pub mod Pick
 pub mod Scalar
 pub mod Select
+pub mod SelectRows
 pub mod Trim
 pub mod ValidPicks

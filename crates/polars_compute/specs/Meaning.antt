@@ -1,5 +1,5 @@
 -- Results that depend only on the type and the rows of a column, not on its layout.
-use Rattle.std.specs.Prelude.{◌≡◌, ℕ, ℤ, Bool, List, ◌∷◌, ◌++◌, Option}
+use Rattle.std.specs.Prelude.{◌≡◌, ◌≤◌, ℕ, ℤ, Bool, List, ◌∷◌, ◌++◌, length, Option}
 use Rattle.sel_arrow.specs.Nested.{list_of}
 use Rattle.sel_arrow.specs.Rows.{rows, type_of, IsWellFormed}
 use Rattle.sel_arrow.specs.Shape.{Shape}
@@ -10,7 +10,7 @@ use Rattle.sel_flatten.specs.Flatten.{flatten}
 use Rattle.sel_sublists.specs.Entries.{fixed_get, any_out_of_bounds}
 use Rattle.sel_sublists.specs.Lists.{list_get, oob}
 use Rattle.polars_compute.specs.Dictionary.{decode, propagated_keys, rank, valid_values}
-use Rattle.polars_compute.specs.Need.{need, NoneGreater, NoneAbove}
+use Rattle.polars_compute.specs.Need.{need, NoneGreater, NoneAbove, ExceedsNone, exceeded_limits}
 use Rattle.polars_compute.specs.Pick.{pick}
 use Rattle.polars_compute.specs.Select.{select, effective_mask}
 
@@ -68,3 +68,10 @@ KeptNeedsNoMore =
 -- The rows of a well-formed column need no more than its limits.
 abbrev pub NeedsWithinLimits : Type 0
 NeedsWithinLimits = (c : Column) → IsWellFormed c → NoneAbove (need (type_of c) (rows c))
+
+-- As many rows as a column may have exceed a limit exactly if a number that they need is above its
+-- limit.
+abbrev pub NeedsDecideLimits : Type 0
+NeedsDecideLimits = (s : Shape) (xs : List Value) → length xs ≤ 4294967295 →
+    (NoneAbove (need s xs) → ExceedsNone (exceeded_limits s xs))
+    × (ExceedsNone (exceeded_limits s xs) → NoneAbove (need s xs))

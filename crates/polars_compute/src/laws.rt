@@ -1,7 +1,7 @@
 //! Theorems about filter, gather, if-then-else, dictionaries and equal columns.
 
 ghost use Rattle.sel_arrow.specs.Value.{Value};
-ghost use Rattle.polars_compute.specs.Meaning.{EqualMeaning, KeptNeedsNoMore, NeedsWithinLimits};
+ghost use Rattle.polars_compute.specs.Meaning.{EqualMeaning, KeptNeedsNoMore, NeedsDecideLimits, NeedsWithinLimits};
 ghost use Rattle.polars_compute.specs.Laws.{FilterIsTake, TakesCompose, KeepsThen, KeepsOtherwise, RepeatsThen, RepeatsOtherwise, RepeatsBoth, SelectedRowsAreTaken, PropagationDecodes, PropagationLeavesNoNull};
 
 /// Proves that a filter equals the gather of the positions at which its mask is true.
@@ -55,13 +55,15 @@ pub fn law_propagate()
     ensures valid { PropagationLeavesNoNull }
 {}
 
-/// Proves three facts about the rows of a column.
+/// Proves four facts about the rows of a column.
 ///
 /// Two columns of one type with equal rows have equal size requirements and give equal results in
 /// every kernel definition, whatever their layout. The rows that a mask keeps require no more than
-/// all rows. The rows of a well-formed column exceed no limit. Batch executors depend on it.
+/// all rows. The rows of a well-formed column exceed no limit. Rows exceed a limit exactly if what
+/// they require is above it. Batch executors depend on it.
 pub fn law_equal_meaning()
     ensures alike { EqualMeaning }
     ensures kept { KeptNeedsNoMore }
     ensures within { NeedsWithinLimits }
+    ensures decided { NeedsDecideLimits }
 {}

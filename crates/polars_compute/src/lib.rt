@@ -6,6 +6,7 @@ pub mod gather;
 pub mod laws;
 pub mod propagate_dictionary;
 mod runs;
+pub mod select;
 
 pub use sel_choices::if_then_else;
 pub use sel_flatten::horizontal_flatten;

@@ -7,6 +7,8 @@ mod dictionaries;
 mod filters;
 mod fixed;
 mod fixed_each;
+mod lent_buffers;
+mod lent_columns;
 mod lists;
 mod makers;
 mod nested_makers;

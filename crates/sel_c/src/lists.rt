@@ -1,6 +1,6 @@
 //! List element access.
 
-ghost use Rattle.std.specs.Prelude.{◌≡◌, ◌<◌, ◌∷◌, [], IsTrue};
+ghost use Rattle.std.specs.Prelude.{◌≡◌, ◌≢◌, ◌<◌, ◌∷◌, [], IsTrue};
 ghost use Rattle.sel_arrow.specs.Depth.{depth};
 ghost use Rattle.sel_arrow.specs.Rows.{rows, type_of};
 ghost use Rattle.sel_arrow.specs.Shape.{of_large_list, is_list_shape};
@@ -43,20 +43,16 @@ pub extern "C" fn sel_list_get(alloc: Global, of: &ColumnRef, index: i64, out: &
     sublist_get_into(alloc, column, index, out)
 }
 
-/// Returns in `out` whether `index` is out of bounds in some list that is not null.
+/// Returns in `out` whether `index` is out of bounds in some list that is not null. Does not
+/// allocate; on error `out` is unchanged.
 ///
 /// Errors: SEL_ERROR_NO_COLUMN: `of` is empty. SEL_ERROR_UNSUPPORTED_TYPE: the type of `of` is not
 /// SEL_TYPE_LIST.
 #[unsafe(no_mangle)]
-pub extern "C" fn sel_list_index_is_oob(
-    alloc: Global,
-    of: &ColumnRef,
-    index: i64,
-    out: &mut bool,
-) -> u32
-    ensures told { result ≡ ok → out.new ≡ oob (held_rows of.now.tree) index }
-    ensures status { IsOneOf result (ok ∷ out_of_memory ∷ no_column ∷ unsupported_type ∷
-        []) }
+pub extern "C" fn sel_list_index_is_oob(of: &ColumnRef, index: i64, out: &mut bool) -> u32
+    ensures found { result ≡ ok → out.new ≡ oob (held_rows of.now.tree) index }
+    ensures unchanged { result ≢ ok → out.new ≡ out.old }
+    ensures status { IsOneOf result (ok ∷ no_column ∷ unsupported_type ∷ []) }
     ensures column { DemandsFirst result no_column (HasColumn of.now.tree) }
     ensures kind { Demands result unsupported_type
         (IsTrue (is_list_shape (held_type of.now.tree))) }
@@ -64,7 +60,7 @@ pub extern "C" fn sel_list_index_is_oob(
     let Some(column) = of.column() else {
         return NO_COLUMN;
     };
-    index_is_oob_into(alloc, column, index, out)
+    index_is_oob_into(column, index, out)
 }
 
 /// Returns in `out` the column whose row k is a list of one element, row k of `of`.

@@ -1,6 +1,6 @@
 //! Properties and values of a column.
 
-ghost use Rattle.std.specs.Prelude.{◌≡◌, ◌≢◌, ◌+◌, ◌/◌, [], ◌∷◌, length, pos, count_by};
+ghost use Rattle.std.specs.Prelude.{◌≡◌, ◌≢◌, ◌+◌, ◌/◌, [], ◌∷◌, length, pos, count_by, true, false};
 ghost use Rattle.sel_bits.specs.Bits.{bits_from};
 ghost use Rattle.sel_arrow.specs.Nulls.{IsValidityOf};
 ghost use Rattle.sel_arrow.specs.Shape.{of_boolean, of_int8, of_int16, of_int32, of_int64, of_uint8, of_uint16, of_uint32, of_uint64};
@@ -61,6 +61,9 @@ pub extern "C" fn sel_type_of(of: &ColumnRef) -> u32
 pub extern "C" fn sel_validity(alloc: Global, of: &ColumnRef, out: &mut [u8], has: &mut bool) -> u32
     ensures validity { result ≡ ok → IsValidityOf (held_type of.now.tree)
         (validity_in out.new has.new (length (held_rows of.now.tree))) (held_rows of.now.tree) }
+    ensures unchanged { result ≡ ok → has.new ≡ false → out.new ≡ out.old }
+    ensures fits { result ≡ ok → has.new ≡ true →
+        length out.old ≡ (length (held_rows of.now.tree) + 7) / 8 }
     ensures column { DemandsFirst result no_column (HasColumn of.now.tree) }
     ensures length { result ≡ length_mismatch →
         length out.old ≢ (length (held_rows of.now.tree) + 7) / 8 }

@@ -15,6 +15,7 @@ use crate::sides::choice;
 use sel_arrow::array::Array;
 use sel_arrow::array_ref::ArrayRef;
 use sel_arrow::boolean::BooleanArray;
+use sel_arrow::column::Column;
 use sel_bits::bitmap::Bitmap;
 use sel_bits::faults::PolarsResult;
 use sel_handle::column_ref::ColumnRef;
@@ -154,17 +155,10 @@ fn bits_of_mask(alloc: Global, mask: &ArrayRef) -> Result<Bitmap, u32>
     ensures refusal { IfErr result
         (λ status. IsOneOf status (out_of_memory ∷ unsupported_type ∷ [])) }
 {
-    let Ok(copy) = mask.try_clone(alloc) else {
-        return Err(OUT_OF_MEMORY);
+    let Column::Boolean(truths) = mask.as_column() else {
+        return Err(UNSUPPORTED_TYPE);
     };
-    let truths = match copy.into_boolean() {
-        Ok(truths) => truths,
-        Err(back) => {
-            drop(back);
-            return Err(UNSUPPORTED_TYPE);
-        }
-    };
-    match effective_bits(alloc, &truths) {
+    match effective_bits(alloc, truths) {
         Ok(bits) => Ok(bits),
         Err(_) => Err(OUT_OF_MEMORY),
     }

@@ -2,6 +2,7 @@
 
 ghost use Rattle.std.specs.Prelude.{◌≡◌, ◌≢◌, ◌≤◌, ◌*◌, [], ◌∷◌, length};
 ghost use Rattle.sel_bits.specs.Bits.{bits_from};
+ghost use Rattle.sel_arrow.specs.Columns.{boolean_rows};
 ghost use Rattle.sel_arrow.specs.Depth.{depth};
 ghost use Rattle.sel_arrow.specs.Rows.{rows, type_of};
 ghost use Rattle.sel_arrow.specs.Shape.{of_boolean};
@@ -11,6 +12,8 @@ ghost use Rattle.polars_compute.specs.Select.{select, effective_mask};
 use polars_compute::filter::{filter, filter_with_bitmap};
 use sel_arrow::array::Array;
 use sel_arrow::array_ref::ArrayRef;
+use sel_arrow::boolean::BooleanArray;
+use sel_arrow::column::Column;
 use sel_bits::bitmap::Bitmap;
 use sel_handle::handle::Handle;
 use sel_handle::status::{LENGTH_MISMATCH, OUT_OF_MEMORY, UNSUPPORTED_TYPE, put};
@@ -34,20 +37,28 @@ pub fn filter_into(alloc: Global, column: &ArrayRef, mask: &ArrayRef, out: &mut 
         (ok ∷ out_of_memory ∷ no_column ∷ unsupported_type ∷ length_mismatch ∷ []) }
     ensures column { result ≢ no_column }
 {
-    let Ok(copy) = mask.try_clone(alloc) else {
-        return OUT_OF_MEMORY;
-    };
-    let truths = match copy.into_boolean() {
-        Ok(truths) => truths,
-        Err(back) => {
-            drop(back);
-            return UNSUPPORTED_TYPE;
-        }
-    };
-    if column.len() != truths.len() {
+    match mask.as_column() {
+        Column::Boolean(truths) => filter_by(alloc, column, truths, out),
+        _ => UNSUPPORTED_TYPE,
+    }
+}
+
+// Stores in `out` the rows of `column` where `mask` is true and valid.
+fn filter_by(alloc: Global, column: &ArrayRef, mask: &BooleanArray, out: &mut Handle) -> u32
+    requires { depth (type_of column.now.column) ≤ 128 }
+    ensures rows { Makes result out.old.tree out.new.tree (λ made. rows made.column ≡
+        select (rows column.now.column) (effective_mask (boolean_rows mask.now))) }
+    ensures dtype { Makes result out.old.tree out.new.tree
+        (λ made. type_of made.column ≡ type_of column.now.column) }
+    ensures length { Demands result length_mismatch
+        (length (rows column.now.column) ≡ length (boolean_rows mask.now)) }
+    ensures status { IsOneOf result (ok ∷ out_of_memory ∷ length_mismatch ∷ []) }
+    ensures own { (result ≢ no_column) × (result ≢ unsupported_type) }
+{
+    if column.len() != mask.len() {
         return LENGTH_MISMATCH;
     }
-    match filter(alloc, column, &truths) {
+    match filter(alloc, column, mask) {
         Ok(kept) => put(alloc, kept, out),
         Err(_) => OUT_OF_MEMORY,
     }

@@ -15,7 +15,7 @@ use sel_arrow::array_ref::ArrayRef;
 use sel_arrow::list::ListArray;
 use sel_handle::handle::Handle;
 use sel_handle::status::{OK, OUT_OF_MEMORY, UNSUPPORTED_TYPE, put, status_of};
-use sel_sublists::sublist::list::{index_is_oob, sublist_get};
+use sel_sublists::sublist::list::{column_index_is_oob, sublist_get};
 use std::alloc::Global;
 
 /// Stores in `out` the element at `index` of each list; a null list or an index out of bounds gives
@@ -69,27 +69,20 @@ fn element_into(alloc: Global, lists: &ListArray<i64>, index: i64, out: &mut Han
     }
 }
 
-/// Writes to `out` whether `index` is out of bounds for a list that is not null.
+/// Writes to `out` whether `index` is out of bounds for a list that is not null. Does not allocate.
 ///
-/// Errors: `UNSUPPORTED_TYPE` if the column is not a list with 64-bit offsets; `OUT_OF_MEMORY`.
-pub fn index_is_oob_into(alloc: Global, column: &ArrayRef, index: i64, out: &mut bool) -> u32
-    ensures told { result ≡ ok → out.new ≡ oob (rows column.now.column) index }
-    ensures column { result ≢ no_column }
-    ensures status { IsOneOf result (ok ∷ out_of_memory ∷ unsupported_type ∷ []) }
+/// Errors: `UNSUPPORTED_TYPE` if the column is not a list with 64-bit offsets; `out` is then
+/// unchanged.
+pub fn index_is_oob_into(column: &ArrayRef, index: i64, out: &mut bool) -> u32
+    ensures found { result ≡ ok → out.new ≡ oob (rows column.now.column) index }
+    ensures unchanged { result ≢ ok → out.new ≡ out.old }
+    ensures status { IsOneOf result (ok ∷ unsupported_type ∷ []) }
     ensures kind { Demands result unsupported_type
         (IsTrue (is_list_shape (type_of column.now.column))) }
 {
-    let Ok(copy) = column.try_clone(alloc) else {
-        return OUT_OF_MEMORY;
+    let Some(found) = column_index_is_oob(column, index) else {
+        return UNSUPPORTED_TYPE;
     };
-    let lists = match copy.into_list() {
-        Ok(lists) => lists,
-        Err(back) => {
-            drop(back);
-            return UNSUPPORTED_TYPE;
-        }
-    };
-    *out = index_is_oob(&lists, index);
-    drop(lists);
+    *out = found;
     OK
 }

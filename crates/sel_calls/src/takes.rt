@@ -15,6 +15,7 @@ ghost use Rattle.polars_compute.specs.Pick.{all_within, take_rows};
 use polars_compute::gather::{indices_in_bounds, take_unchecked};
 use sel_arrow::array::Array;
 use sel_arrow::array_ref::ArrayRef;
+use sel_arrow::column::Column;
 use sel_arrow::primitive::IdxArr;
 use sel_handle::handle::Handle;
 use sel_handle::inputs::numbers_of;
@@ -44,17 +45,10 @@ pub fn take_into(alloc: Global, column: &ArrayRef, indices: &ArrayRef, out: &mut
     ensures limits { ReportsLimits result (exceeded_limits (type_of column.now.column)
         (take_rows (rows column.now.column) (rows indices.now.column))) }
 {
-    let Ok(copy) = indices.try_clone(alloc) else {
-        return OUT_OF_MEMORY;
-    };
-    let at = match copy.into_primitive::<u32>() {
-        Ok(at) => at,
-        Err(back) => {
-            drop(back);
-            return UNSUPPORTED_TYPE;
-        }
-    };
-    take_at_into(alloc, column, &at, out)
+    match indices.as_column() {
+        Column::UInt32(at) => take_at_into(alloc, column, at, out),
+        _ => UNSUPPORTED_TYPE,
+    }
 }
 
 fn take_at_into(alloc: Global, column: &ArrayRef, indices: &IdxArr, out: &mut Handle) -> u32
@@ -117,7 +111,11 @@ pub fn take_rows_into(
         (number_rows pos indices.now (validity_in bits.now has_bits (length indices.now))))) }
 {
     match numbers_of(alloc, indices, bits, has_bits) {
-        Ok(at) => take_into(alloc, column, &at, out),
+        Ok(at) => {
+            let status = take_into(alloc, column, &at, out);
+            drop(at);
+            status
+        }
         Err(fault) => status_of_maker(fault),
     }
 }

@@ -11,7 +11,8 @@ ghost use Rattle.sel_handle.specs.Status.{ok, out_of_memory, no_column, unsuppor
 use sel_arrow::array::Array;
 use sel_arrow::array_ref::ArrayRef;
 use sel_arrow::primitive::ArrowPrimitive;
-use sel_bits::faults::{MakeError, PolarsResult};
+use sel_arrow::validity::MOST_ROWS;
+use sel_bits::faults::{MakeError, Malformed, PolarsResult};
 use sel_handle::inputs::numbers_of;
 use sel_handle::status::{LENGTH_MISMATCH, OK, OUT_OF_MEMORY, UNSUPPORTED_TYPE};
 use std::alloc::Global;
@@ -127,6 +128,13 @@ pub fn wides_of<T: InWords>(
     ensures accepted { IfOk result (λ _. flat_rules (length words.now) bytes.now has ≡ None) }
     ensures refused { IfErr result (IsRuleOrMemory (flat_rules (length words.now) bytes.now has)) }
 {
+    // errors are found before the words are copied, which takes time and memory by their number
+    if words.len() > MOST_ROWS {
+        return Err(MakeError::Malformed(Malformed::TooManyRows));
+    }
+    if has && bytes.len() < words.len().div_ceil(8) {
+        return Err(MakeError::Malformed(Malformed::ValidityLength));
+    }
     let Ok(numbers) = joined_all::<T>(alloc, words) else {
         return Err(MakeError::OutOfMemory);
     };

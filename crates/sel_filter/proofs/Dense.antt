@@ -53,7 +53,8 @@ all_set xs m fits all = all_kept xs (bits (length xs) m) (sym (length_bits (leng
 bits_first : (n w b half : ℕ) → w % 2 ≡ b → w / 2 ≡ half → bits (suc n) w ≡ (b == 1) ∷ bits n half
 bits_first n w b half low rest = bits_suc n w ∙ (λ i. ((bit_at_lowest w ∙ low) i == 1) ∷ bits n (rest i))
 
--- The value at the lowest set bit is the first one kept; the others are those at the other set bits.
+-- The value at the lowest set bit is the first one kept.
+-- The others are those at the other set bits.
 abbrev pub LowestKept : {A : Type 0} → List A → ℕ → ℕ → A → Type 0
 LowestKept xs t m d = (t < length xs) × (select xs (bits (length xs) m) ≡ get_or xs t d ∷ select xs (bits (length xs) (bit_and m (m - 1))))
 

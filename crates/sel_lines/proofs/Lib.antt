@@ -9,5 +9,5 @@ pub mod Printed
 pub mod ReadBlocks
 pub mod ReadLists
 pub mod RowLemmas
-pub mod SelectedRows
+pub mod TableWords
 pub mod TextViews

@@ -15,7 +15,6 @@ pub mod Numbers
 pub mod Parts
 pub mod Pext
 pub mod Rows
-pub mod SelectRows
 pub mod Table
 pub mod Take
 pub mod Texts

@@ -81,8 +81,24 @@ fn propagate_rows(
     ensures refusal { IfErr result (λ fault. fault ≡ PolarsError.OutOfMemory) }
 {
     let keys = keys.into_primitive(alloc)?;
-    if !keys_in_bounds(&keys, values.len()) {
+    let propagated = propagate_column(alloc, &keys, values);
+    drop(keys);
+    propagated
+}
+
+// Returns the new keys and values, or `None` if a key is out of bounds.
+fn propagate_column(
+    alloc: Global,
+    keys: &PrimitiveArray<u32>,
+    values: &Utf8ViewArray,
+) -> PolarsResult<Option<(PrimitiveArray<u32>, Utf8ViewArray)>>
+    ensures rows { IfOk result (λ both. option_map
+        (λ both. (primitive_rows both.0, utf8view_rows both.1)) both
+        ≡ without_nulls (primitive_rows keys.now) (utf8view_rows values.now)) }
+    ensures refusal { IfErr result (λ fault. fault ≡ PolarsError.OutOfMemory) }
+{
+    if !keys_in_bounds(keys, values.len()) {
         return Ok(None);
     }
-    Ok(Some(propagate_dictionary_value_nulls(alloc, &keys, values)?))
+    Ok(Some(propagate_dictionary_value_nulls(alloc, keys, values)?))
 }

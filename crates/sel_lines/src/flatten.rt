@@ -1,5 +1,5 @@
 //! The command `flatten H W:COL ...`.
-ghost use Rattle.std.specs.Prelude.{◌≡◌, ◌≤◌, IfOk, IfErr, All, Some, length, map, option_map, string_bytes, codes};
+ghost use Rattle.std.specs.Prelude.{◌≡◌, ◌≤◌, IfOk, IfErr, All, Some, length, map, option_map, string_bytes, codes, ◌++◌, ◌∷◌, []};
 ghost use Rattle.sel_arrow.specs.Columns.{primitive_rows};
 ghost use Rattle.sel_arrow.specs.Rows.{rows, type_of};
 ghost use Rattle.sel_arrow.specs.Shape.{of_int64};
@@ -150,12 +150,27 @@ fn arrays_of(alloc: Global, parts: Vec<Part>) -> PolarsResult<Vec<ArrayRef>>
 {
     let mut arrays = Vec::with_capacity(alloc, parts.len())?;
     for part in parts {
-        if arrays.push(part.column.into_ref()).is_err() {
+        let column = part.column.into_ref();
+        if let Err(fault) = push_array(&mut arrays, column) {
             drop(arrays);
-            return Err(PolarsError::OutOfMemory);
+            return Err(fault);
         }
     }
     Ok(arrays)
+}
+
+// Appends an array. Errors: `OutOfMemory`, and the arrays are unchanged.
+fn push_array(arrays: &mut Vec<ArrayRef>, array: ArrayRef) -> PolarsResult<()>
+    ensures items { IfOk result (λ _. arrays.new.items ≡ arrays.old.items ++ array ∷ []) }
+    ensures refusal { IfErr result (λ fault. fault ≡ PolarsError.OutOfMemory) }
+{
+    match arrays.push(array) {
+        Ok(()) => Ok(()),
+        Err(refused) => {
+            drop(refused.value);
+            Err(PolarsError::OutOfMemory)
+        }
+    }
 }
 
 // Returns the horizontal flatten of the columns, or `None` if `flatten_is_safe` returns false.

@@ -15,7 +15,6 @@ mod lists;
 mod numbers;
 mod pext;
 mod rows;
-pub mod select;
 mod table;
 mod take;
 mod texts;

@@ -8,14 +8,14 @@ ghost use Rattle.sel_lines.specs.Columns.{all_some, column_of, column_text};
 ghost use Rattle.sel_lines.specs.Lines.{longest_line};
 ghost use Rattle.sel_lines.specs.Numbers.{number_of};
 ghost use Rattle.sel_lines.specs.Rows.{parsed_rows};
-ghost use Rattle.sel_lines.specs.SelectRows.{rows_of_arrays};
+ghost use Rattle.polars_compute.specs.SelectRows.{rows_of_arrays};
 ghost use Rattle.sel_lines.specs.Table.{columns_text, selected_rows, table_answer, table_words};
 ghost use Rattle.sel_lines.specs.Parts.{AreNumbers};
 
 use crate::columns::{parse_column, print_column};
 use crate::line_errors::memory_error;
 use crate::rows::Rows;
-use crate::select::{select_is_safe, select_rows};
+use polars_compute::select::{select_is_safe, select_rows};
 use sel_arrow::array::Array;
 use sel_arrow::array_ref::ArrayRef;
 use sel_arrow::boolean::BooleanArray;

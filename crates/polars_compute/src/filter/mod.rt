@@ -46,8 +46,13 @@ pub fn filter(alloc: Global, array: &ArrayRef, mask: &BooleanArray) -> PolarsRes
     ensures dtype { IfOk result (λ kept. type_of kept.column ≡ type_of array.now.column) }
     ensures refusal { IfErr result (λ fault. fault ≡ PolarsError.OutOfMemory) }
 {
-    let effective_mask = effective_bits(alloc, mask)?;
-    filter_with_bitmap(alloc, array, &effective_mask)
+    match &mask.validity {
+        None => filter_with_bitmap(alloc, array, &mask.values),
+        Some(validity) => {
+            let effective_mask = mask.values.and(alloc, validity)?;
+            filter_with_bitmap(alloc, array, &effective_mask)
+        }
+    }
 }
 
 /// Returns the rows of `array` whose bit in `mask` is set, in order.
@@ -215,17 +220,6 @@ fn filter_runs(alloc: Global, column: &Column, mask: &Bitmap) -> PolarsResult<Ar
     let runs = runs_of_mask(alloc, mask)?;
     let kept = collect_one(alloc, column, &runs, mask.set_bits())?;
     Ok(kept)
-}
-
-/// Returns the effective mask: true where `mask` is true and valid.
-fn effective_bits(alloc: Global, mask: &BooleanArray) -> PolarsResult<Bitmap>
-    ensures bits { IfOk result (λ bits. bits.bits ≡ effective_mask (boolean_rows mask.now)) }
-    ensures refusal { IfErr result (λ fault. fault ≡ PolarsError.OutOfMemory) }
-{
-    match &mask.validity {
-        None => mask.values.try_clone(),
-        Some(validity) => mask.values.and(alloc, validity),
-    }
 }
 
 /// Returns one null for each set bit of `mask`.

@@ -1,14 +1,16 @@
 //! Element access for lists with 64-bit offsets, by one index for all lists.
 
-ghost use Rattle.std.specs.Prelude.{◌≡◌, ◌<◌, ◌≤◌, ◌+◌, pos, [], ◌∷◌, map, length, slice_index_or, IfOk, IfErr};
+ghost use Rattle.std.specs.Prelude.{◌≡◌, ◌<◌, ◌≤◌, ◌+◌, pos, [], ◌∷◌, map, length, slice_index_or, IfOk, IfErr, IfSome};
 ghost use Rattle.std.specs.List.{range_with_len};
+ghost use Rattle.std.specs.Option.{is_some};
 ghost use Rattle.sel_arrow.specs.Columns.{primitive_rows};
 ghost use Rattle.sel_arrow.specs.Masked.{number_value};
 ghost use Rattle.sel_arrow.specs.NestedArrays.{list_column};
 ghost use Rattle.sel_arrow.specs.Pieces.{rows_between};
-ghost use Rattle.sel_arrow.specs.Rows.{rows, type_of};
-ghost use Rattle.sel_arrow.specs.Shape.{of_large_list};
+ghost use Rattle.sel_arrow.specs.Rows.{rows, type_of, IsWellFormed};
+ghost use Rattle.sel_arrow.specs.Shape.{of_large_list, is_list_shape};
 ghost use Rattle.sel_arrow.specs.Value.{Null};
+ghost use Rattle.sel_arrow.specs.declared.column.Column.{LargeList};
 ghost use Rattle.sel_runs.specs.Need.{IsLimitOrMemory, ExceedsNone, exceeded_limits};
 ghost use Rattle.sel_sublists.specs.Elements.{child_pick};
 ghost use Rattle.sel_sublists.specs.Lists.{list_get, lacks_place, oob, child_place, places_in, unit_lists};
@@ -16,9 +18,11 @@ ghost use Rattle.sel_sublists.specs.Lists.{list_get, lacks_place, oob, child_pla
 use crate::sublist::pick_of_place;
 use sel_arrow::array::Array;
 use sel_arrow::array_ref::ArrayRef;
+use sel_arrow::column::Column;
 use sel_arrow::list::ListArray;
 use sel_arrow::primitive::{IdxArr, PrimitiveArray};
 use sel_arrow::validity::is_valid_at;
+use sel_bits::bitmap::Bitmap;
 use sel_bits::buffer::Buffer;
 use sel_bits::faults::{PolarsError, PolarsResult};
 use sel_bits::number::negative_to_usize;
@@ -83,8 +87,37 @@ pub fn sublist_get_indexes(alloc: Global, arr: &ListArray<i64>, index: i64) -> P
 pub fn index_is_oob(arr: &ListArray<i64>, index: i64) -> bool
     ensures { result ≡ oob (rows (list_column arr.now)) index }
 {
-    for k in 0..arr.offsets.len_proxy() {
-        if is_oob_at(arr, index, k) {
+    is_any_oob(&arr.offsets, &arr.values, &arr.validity, index)
+}
+
+/// Returns whether the index is out of bounds for some list of a column, or `None` if its type is
+/// not a list with 64-bit offsets. Null lists are skipped. Does not allocate.
+pub fn column_index_is_oob(column: &ArrayRef, index: i64) -> Option<bool>
+    ensures found { IfSome result (λ found. found ≡ oob (rows column.now.column) index) }
+    ensures kind { is_some result ≡ is_list_shape (type_of column.now.column) }
+{
+    match column.as_column() {
+        Column::LargeList {
+            offsets,
+            values,
+            validity,
+        } => Some(is_any_oob(offsets, values, validity, index)),
+        _ => None,
+    }
+}
+
+// Returns whether the index is out of bounds for some list of the column of these parts.
+fn is_any_oob(
+    offsets: &OffsetsBuffer<i64>,
+    values: &Box<Column>,
+    validity: &Option<Bitmap>,
+    index: i64,
+) -> bool
+    requires { IsWellFormed (LargeList offsets.now values.now validity.now) }
+    ensures { result ≡ oob (rows (LargeList offsets.now values.now validity.now)) index }
+{
+    for k in 0..offsets.len_proxy() {
+        if is_oob_at(offsets, values, validity, index, k) {
             return true;
         }
     }
@@ -204,14 +237,23 @@ fn place_in_child(arr: &ListArray<i64>, index: i64, k: usize) -> Option<u32>
     Some((start + place) as u32)
 }
 
-// Returns whether list `k` is not null and the index is out of bounds for it.
-fn is_oob_at(arr: &ListArray<i64>, index: i64, k: usize) -> bool
-    requires { k < rows_between arr.now.offsets }
-    ensures { result ≡ lacks_place index (slice_index_or (rows (list_column arr.now)) k Null) }
+// Returns whether list `k` of the column of these parts is not null and the index is out of bounds
+// for it.
+fn is_oob_at(
+    offsets: &OffsetsBuffer<i64>,
+    values: &Box<Column>,
+    validity: &Option<Bitmap>,
+    index: i64,
+    k: usize,
+) -> bool
+    requires formed { IsWellFormed (LargeList offsets.now values.now validity.now) }
+    requires inside { k < rows_between offsets.now }
+    ensures { result ≡ lacks_place index
+        (slice_index_or (rows (LargeList offsets.now values.now validity.now)) k Null) }
 {
-    if !is_valid_at(&arr.validity, k) {
+    if !is_valid_at(validity, k) {
         return false;
     }
-    let len = arr.offsets.at(k + 1) - arr.offsets.at(k);
+    let len = offsets.at(k + 1) - offsets.at(k);
     negative_to_usize(index, len).is_none()
 }

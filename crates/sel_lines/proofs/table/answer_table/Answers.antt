@@ -3,9 +3,9 @@ use Rattle.std.specs.Prelude.{option_map}
 use Rattle.std.proofs.lemmas.Result.{IfOk-weaker}
 use Rattle.sel_arrow.specs.Value.{Number, Truth}
 use Rattle.sel_lines.specs.Rows.{parsed_rows}
-use Rattle.sel_lines.specs.SelectRows.{rows_of_arrays}
+use Rattle.polars_compute.specs.SelectRows.{rows_of_arrays}
 use Rattle.sel_lines.specs.Table.{table_answer}
-use Rattle.sel_lines.proofs.SelectedRows.{rest_is, table_words_read}
+use Rattle.sel_lines.proofs.TableWords.{rest_is, table_words_read}
 use Rattle.sel_lines.proofs.table.answer_table.Goals as goal
 
 pub returns-in_default-3 : goal.returns-in_default-3

@@ -7,7 +7,7 @@ use Rattle.sel_arrow.specs.Shape.{of_int64}
 use Rattle.sel_arrow.specs.declared.array_ref.ArrayRef.{ArrayRef}
 use Rattle.sel_lines.specs.Columns.{column_of}
 use Rattle.sel_lines.specs.Numbers.{number_of}
-use Rattle.sel_lines.specs.SelectRows.{rows_of_arrays}
+use Rattle.polars_compute.specs.SelectRows.{rows_of_arrays}
 use Rattle.sel_lines.proofs.RowLemmas.{rows_step, rows_none}
 use Rattle.sel_lines.proofs.table.parse_columns.Goals as goal
 

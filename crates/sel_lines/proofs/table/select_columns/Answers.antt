@@ -1,4 +1,4 @@
-use Rattle.sel_lines.proofs.SelectedRows.{same_types}
+use Rattle.sel_lines.proofs.TableWords.{same_types}
 use Rattle.sel_lines.proofs.table.select_columns.Goals as goal
 
 pub returns-clause-dtype : goal.returns-clause-dtype

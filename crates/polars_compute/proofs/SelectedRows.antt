@@ -1,10 +1,10 @@
 -- Rows of several columns, column by column.
-use Rattle.std.proofs.Common.{◌≡◌, ℕ, ◌+◌, ◌-◌, ◌<◌, true, false, cond, Bor, List, [], ◌∷◌, ◌++◌, All, length, get_or, map, take, drop, Option, Some, arith, refl, ap, sym, ◌∙◌}
+use Rattle.std.proofs.Common.{◌≡◌, ℕ, ◌+◌, ◌<◌, true, false, cond, List, [], ◌∷◌, ◌++◌, length, get_or, map, take, arith, refl, ap, sym, ◌∙◌}
 use Rattle.std.specs.Prelude.{◌==◌, ◌&&◌, count_by}
 use Rattle.std.specs.List.{list_all}
 use Rattle.std.proofs.lemmas.Bool.{ne_eqb}
 use Rattle.std.proofs.lemmas.Bool.Decides.{Decides-eqb}
-use Rattle.std.proofs.lemmas.List.{get_or-map, length-map, map-append, length-drop, take_all, take_more}
+use Rattle.std.proofs.lemmas.List.{get_or-map, length-map, map-append, take_more}
 use Rattle.std.proofs.lemmas.List.Folds.{list_all-map, list_all_at}
 use Rattle.std.proofs.lemmas.List.Sums.{sum_by-cons}
 use Rattle.sel_bits.specs.declared.faults.PolarsError.{PolarsError}
@@ -19,11 +19,7 @@ use Rattle.polars_compute.specs.Need.{IsLimitOrMemory, ExceedsNone, exceeded_lim
 use Rattle.polars_compute.specs.Pick.{take_rows, all_within}
 use Rattle.polars_compute.specs.Select.{select, effective_mask, is_true}
 use Rattle.sel_filter.proofs.Selects.{length-select}
-use Rattle.sel_lines.specs.Columns.{all_some, column_of}
-use Rattle.sel_lines.specs.Numbers.{index_of, number_of, truth_of}
-use Rattle.sel_lines.specs.SelectRows.{rows_of_arrays, type_of_each, select_rows_of, selection_fits, exceeded_selected}
-use Rattle.sel_lines.specs.Table.{table_read, table_words}
-use Rattle.sel_lines.proofs.RowLemmas.{map_now}
+use Rattle.polars_compute.specs.SelectRows.{rows_of_arrays, type_of_each, select_rows_of, selection_fits, exceeded_selected}
 
 -- ---- what the precondition implies
 
@@ -76,35 +72,6 @@ pub refused_some : (columns : List ArrayRef) (mask indices : List Value) (i : �
 refused_some columns mask indices i x OutOfMemory h at refused = tt
 refused_some columns mask indices i x (SizeLimit limit) h at refused = (i, x, h, sym at, refused)
 refused_some columns mask indices i x ComputeError h at refused = absurd refused
-
--- ---- types
-
-pub same_types : (xs ys : List ArrayRef) → type_of_each xs ≡ type_of_each ys → All (λ c. type_of c.column ≡ of_int64) ys → All (λ c. type_of c.column ≡ of_int64) xs
-same_types xs ys same numbers = λ k d h.
-    let type = λ (c : ArrayRef). type_of c.column in
-    let there : k < length ys = omega (arith, h, length-map xs type, length-map ys type, ap length same) in
-    sym (get_or-map type xs k d of_int64 h) ∙ ap (λ l. get_or l k of_int64) same ∙ get_or-map type ys k d of_int64 there ∙ numbers k d there
-
--- ---- the words of a line
-
-table_shape : (words rest : List (Bor (List ℕ))) (d : Bor (List ℕ)) → 2 < length words → rest ≡ drop 2 words →
-    table_read (column_of truth_of (get_or words 0 d).now) (column_of index_of (get_or words 1 d).now) (all_some (map (λ word. column_of number_of word.now) rest)) ≡ table_words (map (λ word. word.now) words)
-table_shape [] rest d h is = absurd (omega arith)
-table_shape (mask ∷ []) rest d h is = absurd (omega arith)
-table_shape (mask ∷ indices ∷ []) rest d h is = absurd (omega arith)
-table_shape (mask ∷ indices ∷ column ∷ columns) rest d h is =
-    ap (λ l. table_read (column_of truth_of mask.now) (column_of index_of indices.now) (all_some l))
-    (ap (map (λ word. column_of number_of word.now)) is ∙ map_now (column_of number_of) (column ∷ columns))
-
-pub table_words_read : (words rest : List (Bor (List ℕ))) (d : Bor (List ℕ)) (mask indices : List Value) (columns : Option (List (List Value))) → 2 < length words → rest ≡ drop 2 words →
-    Some mask ≡ column_of truth_of (get_or words 0 d).now → Some indices ≡ column_of index_of (get_or words 1 d).now → columns ≡ all_some (map (λ word. column_of number_of word.now) rest) →
-    table_read (Some mask) (Some indices) columns ≡ table_words (map (λ word. word.now) words)
-table_words_read words rest d mask indices columns h is masked indexed read =
-    ap (table_read (Some mask) (Some indices)) read ∙ ap (λ x. table_read (Some mask) x (all_some (map (λ word. column_of number_of word.now) rest))) indexed
-    ∙ ap (λ x. table_read x (column_of index_of (get_or words 1 d).now) (all_some (map (λ word. column_of number_of word.now) rest))) masked ∙ table_shape words rest d h is
-
-pub rest_is : (words : List (Bor (List ℕ))) (n : ℕ) → take (length words - n) (drop n words) ≡ drop n words
-rest_is words n = take_all (length words - n) (drop n words) (omega (arith, length-drop n words))
 
 -- The result exceeds no limit.
 pub none_past : (columns selected : List ArrayRef) (mask indices : List Value) → rows_of_arrays selected ≡ map (λ c. take_rows (select (rows c.column) (effective_mask mask)) indices) columns → type_of_each selected ≡ type_of_each columns →

@@ -3,7 +3,7 @@ use Rattle.std.proofs.Common.{◌≡◌, take}
 use Rattle.std.specs.Prelude.{count_by}
 use Rattle.sel_arrow.specs.Columns.{boolean_rows}
 use Rattle.polars_compute.specs.Select.{is_true}
-use Rattle.sel_lines.proofs.select.effective_len.Given as goal
+use Rattle.polars_compute.proofs.select.effective_len.Given as goal
 
 abbrev pub invariant-loop-place : goal.invariant-loop-place
 invariant-loop-place l = l.count ≡ count_by is_true (take l.place (boolean_rows l.mask))

@@ -6,8 +6,8 @@ use Rattle.sel_arrow.specs.Columns.{boolean_rows, primitive_rows}
 use Rattle.sel_arrow.specs.Rows.{rows}
 use Rattle.sel_arrow.specs.declared.array_ref.ArrayRef.{ArrayRef}
 use Rattle.polars_compute.specs.Pick.{all_within}
-use Rattle.sel_lines.proofs.SelectedRows.{all_long, unfit_at}
-use Rattle.sel_lines.proofs.select.select_is_safe.Goals as goal
+use Rattle.polars_compute.proofs.SelectedRows.{all_long, unfit_at}
+use Rattle.polars_compute.proofs.select.select_is_safe.Goals as goal
 
 pub returns-then-len : goal.returns-then-len
 returns-then-len c =

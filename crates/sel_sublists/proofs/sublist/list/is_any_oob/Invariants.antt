@@ -1,10 +1,10 @@
 -- Loop invariant: the index is in bounds for the lists so far that are not null.
 use Rattle.std.proofs.Common.{◌≡◌, false, take}
 use Rattle.std.specs.List.{list_any}
-use Rattle.sel_arrow.specs.NestedArrays.{list_column}
 use Rattle.sel_arrow.specs.Rows.{rows}
+use Rattle.sel_arrow.specs.declared.column.Column.{LargeList}
 use Rattle.sel_sublists.specs.Lists.{lacks_place}
-use Rattle.sel_sublists.proofs.sublist.list.index_is_oob.Given as goal
+use Rattle.sel_sublists.proofs.sublist.list.is_any_oob.Given as goal
 
 abbrev pub invariant-loop-k : goal.invariant-loop-k
-invariant-loop-k l = list_any (lacks_place l.index) (take l.k (rows (list_column l.arr))) ≡ false
+invariant-loop-k l = list_any (lacks_place l.index) (take l.k (rows (LargeList l.offsets l.values l.validity))) ≡ false

@@ -5,10 +5,10 @@ ghost use Rattle.sel_arrow.specs.Rows.{rows, type_of};
 ghost use Rattle.polars_compute.specs.Need.{IsLimitOrMemory, ExceedsNone, exceeded_limits};
 ghost use Rattle.polars_compute.specs.Pick.{all_within, take_rows};
 ghost use Rattle.polars_compute.specs.Select.{select, effective_mask, is_true};
-ghost use Rattle.sel_lines.specs.SelectRows.{rows_of_arrays, type_of_each, select_rows_of, selection_fits, exceeded_selected};
+ghost use Rattle.polars_compute.specs.SelectRows.{rows_of_arrays, type_of_each, select_rows_of, selection_fits, exceeded_selected};
 
-use polars_compute::filter::filter;
-use polars_compute::gather::{indices_in_bounds, take_unchecked};
+use crate::filter::filter;
+use crate::gather::{indices_in_bounds, take_unchecked};
 use sel_arrow::array::Array;
 use sel_arrow::array_ref::ArrayRef;
 use sel_arrow::boolean::BooleanArray;

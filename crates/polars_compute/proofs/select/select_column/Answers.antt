@@ -2,8 +2,8 @@ use Rattle.std.proofs.Common.{◌∙◌, ap, length}
 use Rattle.sel_arrow.specs.Columns.{boolean_rows, primitive_rows}
 use Rattle.sel_arrow.specs.Rows.{rows}
 use Rattle.polars_compute.specs.Pick.{all_within}
-use Rattle.sel_lines.proofs.SelectedRows.{kept_count}
-use Rattle.sel_lines.proofs.select.select_column.Goals as goal
+use Rattle.polars_compute.proofs.SelectedRows.{kept_count}
+use Rattle.polars_compute.proofs.select.select_column.Goals as goal
 
 pub take_unchecked-taken-requires : goal.take_unchecked-taken-requires
 take_unchecked-taken-requires c =

@@ -4,7 +4,7 @@ use Rattle.sel_arrow.specs.Columns.{boolean_rows, primitive_rows}
 use Rattle.sel_arrow.specs.Rows.{rows, type_of}
 use Rattle.polars_compute.specs.Pick.{take_rows}
 use Rattle.polars_compute.specs.Select.{select, effective_mask}
-use Rattle.sel_lines.proofs.select.select_rows.Given as goal
+use Rattle.polars_compute.proofs.select.select_rows.Given as goal
 
 abbrev pub invariant-loop-column : goal.invariant-loop-column
 invariant-loop-column l = record {

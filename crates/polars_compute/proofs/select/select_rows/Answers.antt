@@ -5,8 +5,8 @@ use Rattle.sel_arrow.specs.Rows.{rows, type_of}
 use Rattle.sel_arrow.specs.declared.array_ref.ArrayRef.{ArrayRef}
 use Rattle.polars_compute.specs.Pick.{take_rows}
 use Rattle.polars_compute.specs.Select.{select, effective_mask}
-use Rattle.sel_lines.proofs.SelectedRows.{long_at, mapped_step, none_past, refused_some, rows_mapped}
-use Rattle.sel_lines.proofs.select.select_rows.Goals as goal
+use Rattle.polars_compute.proofs.SelectedRows.{long_at, mapped_step, none_past, refused_some, rows_mapped}
+use Rattle.polars_compute.proofs.select.select_rows.Goals as goal
 
 pub select_column-requires-clause-long : goal.select_column-requires-clause-long
 select_column-requires-clause-long c =

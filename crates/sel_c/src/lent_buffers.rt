@@ -1,0 +1,436 @@
+//! Buffers over lent memory. Internal to the C library: its Arrow interface calls these functions,
+//! and no header for programs declares them.
+
+ghost use Rattle.std.specs.Prelude.{◌≡◌, ◌≢◌, ◌≤◌, ◌*◌, None, Some};
+ghost use Rattle.sel_bits.specs.Bits.{bits_from, unsliced};
+ghost use Rattle.sel_handle.specs.Status.{ok, out_of_memory};
+ghost use Rattle.sel_lent.specs.Buffers.{IsBitsOf, IsPartOf};
+ghost use Rattle.sel_lent.specs.declared.shared_buffer.SharedBuffer.TheVariants.{Bits, Int8, Int16, Int32, Int64, UInt8, UInt16, UInt32, UInt64, Views};
+
+use sel_arrow::view::View;
+use sel_bits::lent::Lent;
+use sel_handle::status::{LENGTH_MISMATCH, OK, OUT_OF_MEMORY};
+use sel_lent::buffer_handle::BufferHandle;
+use sel_lent::lending::{give_back, give_back_bits, lend, lend_bits};
+use sel_lent::memory::{
+    Int8Memory, Int16Memory, Int32Memory, Int64Memory, UInt8Memory, UInt16Memory, UInt32Memory,
+    UInt64Memory, ViewMemory,
+};
+use std::alloc::Global;
+use std::mem::replace;
+
+/// The buffer is in use, or not over lent memory of this type.
+const IN_USE: u32 = 127;
+
+/// Empties the handle, and frees one owner of its buffer.
+#[unsafe(no_mangle)]
+pub extern "C" fn sel_buffer_free(alloc: Global, of: &mut BufferHandle)
+    ensures { of.new.buffer ≡ None }
+{
+    *of = BufferHandle::empty(alloc);
+}
+
+/// Returns in `out` a buffer of the values, without a copy. On error `from` keeps them.
+#[unsafe(no_mangle)]
+pub extern "C" fn sel_int8_lend(alloc: Global, from: &mut Int8Memory, out: &mut BufferHandle) -> u32
+    ensures buffer { result ≡ ok → out.new.buffer ≡ Some (Int8 from.old.items) }
+    ensures kept { result ≢ ok → from.new.items ≡ from.old.items }
+    ensures unchanged { result ≢ ok → out.new.buffer ≡ out.old.buffer }
+    ensures status { result ≤ out_of_memory }
+{
+    let memory = replace(from, Int8Memory::of_lent(Lent::none()));
+    match lend(alloc, memory.into_lent(), out) {
+        None => OK,
+        Some(lent) => {
+            *from = Int8Memory::of_lent(lent);
+            OUT_OF_MEMORY
+        }
+    }
+}
+
+/// Returns in `out` the lent memory of the buffer, of which `of` must be the last owner. `of` is
+/// empty afterwards. On error `of` is unchanged.
+#[unsafe(no_mangle)]
+pub extern "C" fn sel_int8_back(alloc: Global, of: &mut BufferHandle, out: &mut Int8Memory) -> u32
+    ensures given { result ≡ ok → IsPartOf (λ values. Int8 values) of.old.buffer out.new.items }
+    ensures taken { result ≡ ok → of.new.buffer ≡ None }
+    ensures unchanged { result ≢ ok → of.new.buffer ≡ of.old.buffer }
+{
+    match give_back::<i8>(alloc, of) {
+        None => IN_USE,
+        Some(lent) => {
+            *out = Int8Memory::of_lent(lent);
+            OK
+        }
+    }
+}
+
+/// Returns in `out` a buffer of the values, without a copy. On error `from` keeps them.
+#[unsafe(no_mangle)]
+pub extern "C" fn sel_int16_lend(
+    alloc: Global,
+    from: &mut Int16Memory,
+    out: &mut BufferHandle,
+) -> u32
+    ensures buffer { result ≡ ok → out.new.buffer ≡ Some (Int16 from.old.items) }
+    ensures kept { result ≢ ok → from.new.items ≡ from.old.items }
+    ensures unchanged { result ≢ ok → out.new.buffer ≡ out.old.buffer }
+    ensures status { result ≤ out_of_memory }
+{
+    let memory = replace(from, Int16Memory::of_lent(Lent::none()));
+    match lend(alloc, memory.into_lent(), out) {
+        None => OK,
+        Some(lent) => {
+            *from = Int16Memory::of_lent(lent);
+            OUT_OF_MEMORY
+        }
+    }
+}
+
+/// Returns in `out` the lent memory of the buffer, of which `of` must be the last owner. `of` is
+/// empty afterwards. On error `of` is unchanged.
+#[unsafe(no_mangle)]
+pub extern "C" fn sel_int16_back(alloc: Global, of: &mut BufferHandle, out: &mut Int16Memory) -> u32
+    ensures given { result ≡ ok → IsPartOf (λ values. Int16 values) of.old.buffer out.new.items }
+    ensures taken { result ≡ ok → of.new.buffer ≡ None }
+    ensures unchanged { result ≢ ok → of.new.buffer ≡ of.old.buffer }
+{
+    match give_back::<i16>(alloc, of) {
+        None => IN_USE,
+        Some(lent) => {
+            *out = Int16Memory::of_lent(lent);
+            OK
+        }
+    }
+}
+
+/// Returns in `out` a buffer of the values, without a copy. On error `from` keeps them.
+#[unsafe(no_mangle)]
+pub extern "C" fn sel_int32_lend(
+    alloc: Global,
+    from: &mut Int32Memory,
+    out: &mut BufferHandle,
+) -> u32
+    ensures buffer { result ≡ ok → out.new.buffer ≡ Some (Int32 from.old.items) }
+    ensures kept { result ≢ ok → from.new.items ≡ from.old.items }
+    ensures unchanged { result ≢ ok → out.new.buffer ≡ out.old.buffer }
+    ensures status { result ≤ out_of_memory }
+{
+    let memory = replace(from, Int32Memory::of_lent(Lent::none()));
+    match lend(alloc, memory.into_lent(), out) {
+        None => OK,
+        Some(lent) => {
+            *from = Int32Memory::of_lent(lent);
+            OUT_OF_MEMORY
+        }
+    }
+}
+
+/// Returns in `out` the lent memory of the buffer, of which `of` must be the last owner. `of` is
+/// empty afterwards. On error `of` is unchanged.
+#[unsafe(no_mangle)]
+pub extern "C" fn sel_int32_back(alloc: Global, of: &mut BufferHandle, out: &mut Int32Memory) -> u32
+    ensures given { result ≡ ok → IsPartOf (λ values. Int32 values) of.old.buffer out.new.items }
+    ensures taken { result ≡ ok → of.new.buffer ≡ None }
+    ensures unchanged { result ≢ ok → of.new.buffer ≡ of.old.buffer }
+{
+    match give_back::<i32>(alloc, of) {
+        None => IN_USE,
+        Some(lent) => {
+            *out = Int32Memory::of_lent(lent);
+            OK
+        }
+    }
+}
+
+/// Returns in `out` a buffer of the values, without a copy. On error `from` keeps them.
+#[unsafe(no_mangle)]
+pub extern "C" fn sel_int64_lend(
+    alloc: Global,
+    from: &mut Int64Memory,
+    out: &mut BufferHandle,
+) -> u32
+    ensures buffer { result ≡ ok → out.new.buffer ≡ Some (Int64 from.old.items) }
+    ensures kept { result ≢ ok → from.new.items ≡ from.old.items }
+    ensures unchanged { result ≢ ok → out.new.buffer ≡ out.old.buffer }
+    ensures status { result ≤ out_of_memory }
+{
+    let memory = replace(from, Int64Memory::of_lent(Lent::none()));
+    match lend(alloc, memory.into_lent(), out) {
+        None => OK,
+        Some(lent) => {
+            *from = Int64Memory::of_lent(lent);
+            OUT_OF_MEMORY
+        }
+    }
+}
+
+/// Returns in `out` the lent memory of the buffer, of which `of` must be the last owner. `of` is
+/// empty afterwards. On error `of` is unchanged.
+#[unsafe(no_mangle)]
+pub extern "C" fn sel_int64_back(alloc: Global, of: &mut BufferHandle, out: &mut Int64Memory) -> u32
+    ensures given { result ≡ ok → IsPartOf (λ values. Int64 values) of.old.buffer out.new.items }
+    ensures taken { result ≡ ok → of.new.buffer ≡ None }
+    ensures unchanged { result ≢ ok → of.new.buffer ≡ of.old.buffer }
+{
+    match give_back::<i64>(alloc, of) {
+        None => IN_USE,
+        Some(lent) => {
+            *out = Int64Memory::of_lent(lent);
+            OK
+        }
+    }
+}
+
+/// Returns in `out` a buffer of the values, without a copy. On error `from` keeps them.
+#[unsafe(no_mangle)]
+pub extern "C" fn sel_uint8_lend(
+    alloc: Global,
+    from: &mut UInt8Memory,
+    out: &mut BufferHandle,
+) -> u32
+    ensures buffer { result ≡ ok → out.new.buffer ≡ Some (UInt8 from.old.items) }
+    ensures kept { result ≢ ok → from.new.items ≡ from.old.items }
+    ensures unchanged { result ≢ ok → out.new.buffer ≡ out.old.buffer }
+    ensures status { result ≤ out_of_memory }
+{
+    let memory = replace(from, UInt8Memory::of_lent(Lent::none()));
+    match lend(alloc, memory.into_lent(), out) {
+        None => OK,
+        Some(lent) => {
+            *from = UInt8Memory::of_lent(lent);
+            OUT_OF_MEMORY
+        }
+    }
+}
+
+/// Returns in `out` the lent memory of the buffer, of which `of` must be the last owner. `of` is
+/// empty afterwards. On error `of` is unchanged.
+#[unsafe(no_mangle)]
+pub extern "C" fn sel_uint8_back(alloc: Global, of: &mut BufferHandle, out: &mut UInt8Memory) -> u32
+    ensures given { result ≡ ok → IsPartOf (λ values. UInt8 values) of.old.buffer out.new.items }
+    ensures taken { result ≡ ok → of.new.buffer ≡ None }
+    ensures unchanged { result ≢ ok → of.new.buffer ≡ of.old.buffer }
+{
+    match give_back::<u8>(alloc, of) {
+        None => IN_USE,
+        Some(lent) => {
+            *out = UInt8Memory::of_lent(lent);
+            OK
+        }
+    }
+}
+
+/// Returns in `out` a buffer of the values, without a copy. On error `from` keeps them.
+#[unsafe(no_mangle)]
+pub extern "C" fn sel_uint16_lend(
+    alloc: Global,
+    from: &mut UInt16Memory,
+    out: &mut BufferHandle,
+) -> u32
+    ensures buffer { result ≡ ok → out.new.buffer ≡ Some (UInt16 from.old.items) }
+    ensures kept { result ≢ ok → from.new.items ≡ from.old.items }
+    ensures unchanged { result ≢ ok → out.new.buffer ≡ out.old.buffer }
+    ensures status { result ≤ out_of_memory }
+{
+    let memory = replace(from, UInt16Memory::of_lent(Lent::none()));
+    match lend(alloc, memory.into_lent(), out) {
+        None => OK,
+        Some(lent) => {
+            *from = UInt16Memory::of_lent(lent);
+            OUT_OF_MEMORY
+        }
+    }
+}
+
+/// Returns in `out` the lent memory of the buffer, of which `of` must be the last owner. `of` is
+/// empty afterwards. On error `of` is unchanged.
+#[unsafe(no_mangle)]
+pub extern "C" fn sel_uint16_back(
+    alloc: Global,
+    of: &mut BufferHandle,
+    out: &mut UInt16Memory,
+) -> u32
+    ensures given { result ≡ ok → IsPartOf (λ values. UInt16 values) of.old.buffer out.new.items }
+    ensures taken { result ≡ ok → of.new.buffer ≡ None }
+    ensures unchanged { result ≢ ok → of.new.buffer ≡ of.old.buffer }
+{
+    match give_back::<u16>(alloc, of) {
+        None => IN_USE,
+        Some(lent) => {
+            *out = UInt16Memory::of_lent(lent);
+            OK
+        }
+    }
+}
+
+/// Returns in `out` a buffer of the values, without a copy. On error `from` keeps them.
+#[unsafe(no_mangle)]
+pub extern "C" fn sel_uint32_lend(
+    alloc: Global,
+    from: &mut UInt32Memory,
+    out: &mut BufferHandle,
+) -> u32
+    ensures buffer { result ≡ ok → out.new.buffer ≡ Some (UInt32 from.old.items) }
+    ensures kept { result ≢ ok → from.new.items ≡ from.old.items }
+    ensures unchanged { result ≢ ok → out.new.buffer ≡ out.old.buffer }
+    ensures status { result ≤ out_of_memory }
+{
+    let memory = replace(from, UInt32Memory::of_lent(Lent::none()));
+    match lend(alloc, memory.into_lent(), out) {
+        None => OK,
+        Some(lent) => {
+            *from = UInt32Memory::of_lent(lent);
+            OUT_OF_MEMORY
+        }
+    }
+}
+
+/// Returns in `out` the lent memory of the buffer, of which `of` must be the last owner. `of` is
+/// empty afterwards. On error `of` is unchanged.
+#[unsafe(no_mangle)]
+pub extern "C" fn sel_uint32_back(
+    alloc: Global,
+    of: &mut BufferHandle,
+    out: &mut UInt32Memory,
+) -> u32
+    ensures given { result ≡ ok → IsPartOf (λ values. UInt32 values) of.old.buffer out.new.items }
+    ensures taken { result ≡ ok → of.new.buffer ≡ None }
+    ensures unchanged { result ≢ ok → of.new.buffer ≡ of.old.buffer }
+{
+    match give_back::<u32>(alloc, of) {
+        None => IN_USE,
+        Some(lent) => {
+            *out = UInt32Memory::of_lent(lent);
+            OK
+        }
+    }
+}
+
+/// Returns in `out` a buffer of the values, without a copy. On error `from` keeps them.
+#[unsafe(no_mangle)]
+pub extern "C" fn sel_uint64_lend(
+    alloc: Global,
+    from: &mut UInt64Memory,
+    out: &mut BufferHandle,
+) -> u32
+    ensures buffer { result ≡ ok → out.new.buffer ≡ Some (UInt64 from.old.items) }
+    ensures kept { result ≢ ok → from.new.items ≡ from.old.items }
+    ensures unchanged { result ≢ ok → out.new.buffer ≡ out.old.buffer }
+    ensures status { result ≤ out_of_memory }
+{
+    let memory = replace(from, UInt64Memory::of_lent(Lent::none()));
+    match lend(alloc, memory.into_lent(), out) {
+        None => OK,
+        Some(lent) => {
+            *from = UInt64Memory::of_lent(lent);
+            OUT_OF_MEMORY
+        }
+    }
+}
+
+/// Returns in `out` the lent memory of the buffer, of which `of` must be the last owner. `of` is
+/// empty afterwards. On error `of` is unchanged.
+#[unsafe(no_mangle)]
+pub extern "C" fn sel_uint64_back(
+    alloc: Global,
+    of: &mut BufferHandle,
+    out: &mut UInt64Memory,
+) -> u32
+    ensures given { result ≡ ok → IsPartOf (λ values. UInt64 values) of.old.buffer out.new.items }
+    ensures taken { result ≡ ok → of.new.buffer ≡ None }
+    ensures unchanged { result ≢ ok → of.new.buffer ≡ of.old.buffer }
+{
+    match give_back::<u64>(alloc, of) {
+        None => IN_USE,
+        Some(lent) => {
+            *out = UInt64Memory::of_lent(lent);
+            OK
+        }
+    }
+}
+
+/// Returns in `out` a buffer of the values, without a copy. On error `from` keeps them.
+#[unsafe(no_mangle)]
+pub extern "C" fn sel_views_lend(
+    alloc: Global,
+    from: &mut ViewMemory,
+    out: &mut BufferHandle,
+) -> u32
+    ensures buffer { result ≡ ok → out.new.buffer ≡ Some (Views from.old.items) }
+    ensures kept { result ≢ ok → from.new.items ≡ from.old.items }
+    ensures unchanged { result ≢ ok → out.new.buffer ≡ out.old.buffer }
+    ensures status { result ≤ out_of_memory }
+{
+    let memory = replace(from, ViewMemory::of_lent(Lent::none()));
+    match lend(alloc, memory.into_lent(), out) {
+        None => OK,
+        Some(lent) => {
+            *from = ViewMemory::of_lent(lent);
+            OUT_OF_MEMORY
+        }
+    }
+}
+
+/// Returns in `out` the lent memory of the buffer, of which `of` must be the last owner. `of` is
+/// empty afterwards. On error `of` is unchanged.
+#[unsafe(no_mangle)]
+pub extern "C" fn sel_views_back(alloc: Global, of: &mut BufferHandle, out: &mut ViewMemory) -> u32
+    ensures given { result ≡ ok → IsPartOf (λ values. Views values) of.old.buffer out.new.items }
+    ensures taken { result ≡ ok → of.new.buffer ≡ None }
+    ensures unchanged { result ≢ ok → of.new.buffer ≡ of.old.buffer }
+{
+    match give_back::<View>(alloc, of) {
+        None => IN_USE,
+        Some(lent) => {
+            *out = ViewMemory::of_lent(lent);
+            OK
+        }
+    }
+}
+
+/// Returns in `out` a bitmap of the first `len` bits of the bytes, without a copy. On error `from`
+/// keeps them.
+#[unsafe(no_mangle)]
+pub extern "C" fn sel_bits_lend(
+    alloc: Global,
+    from: &mut UInt8Memory,
+    len: usize,
+    out: &mut BufferHandle,
+) -> u32
+    ensures buffer { result ≡ ok →
+        out.new.buffer ≡ Some (Bits (unsliced (bits_from from.old.items 0 len))) }
+    ensures kept { result ≢ ok → from.new.items ≡ from.old.items }
+    ensures unchanged { result ≢ ok → out.new.buffer ≡ out.old.buffer }
+{
+    let memory = replace(from, UInt8Memory::of_lent(Lent::none()));
+    let (count, bytes) = memory.into_lent().counted();
+    if count < len.div_ceil(8) {
+        *from = UInt8Memory::of_lent(bytes);
+        return LENGTH_MISMATCH;
+    }
+    match lend_bits(alloc, bytes, len, out) {
+        None => OK,
+        Some(lent) => {
+            *from = UInt8Memory::of_lent(lent);
+            OUT_OF_MEMORY
+        }
+    }
+}
+
+/// Returns in `out` the lent memory of the bitmap, of which `of` must be the last owner. `of` is
+/// empty afterwards. On error `of` is unchanged.
+#[unsafe(no_mangle)]
+pub extern "C" fn sel_bits_back(alloc: Global, of: &mut BufferHandle, out: &mut UInt8Memory) -> u32
+    ensures given { result ≡ ok → IsBitsOf of.old.buffer out.new.items }
+    ensures taken { result ≡ ok → of.new.buffer ≡ None }
+    ensures unchanged { result ≢ ok → of.new.buffer ≡ of.old.buffer }
+{
+    match give_back_bits(alloc, of) {
+        None => IN_USE,
+        Some(lent) => {
+            *out = UInt8Memory::of_lent(lent);
+            OK
+        }
+    }
+}
