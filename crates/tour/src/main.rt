@@ -15,6 +15,7 @@ mod page;
 mod parts;
 mod stop;
 mod takes;
+mod together;
 
 use crate::stop::Stop;
 use std::alloc::Global;
@@ -58,5 +59,6 @@ fn chosen(alloc: Global, page: &mut String) -> Result<(), Stop> {
 fn arranged(alloc: Global, page: &mut String) -> Result<(), Stop> {
     elements::elements(alloc, page)?;
     joined::joined(alloc, page)?;
+    together::together(alloc, page)?;
     dictionaries::dictionaries(alloc, page)
 }
