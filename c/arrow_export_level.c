@@ -5,7 +5,7 @@
 #include <string.h>
 
 void *sel_arrow_buffer(target *t, int64_t i, size_t count, size_t size) {
-    if (count > SIZE_MAX / 32) return NULL;
+    if (size > 0 && count > SIZE_MAX / 2 / size) return NULL;
     void *at = calloc(count * size + 8, 1);
     t->array->buffers[i] = at;
     return at;
@@ -13,40 +13,58 @@ void *sel_arrow_buffer(target *t, int64_t i, size_t count, size_t size) {
 
 bool sel_arrow_with_buffers(target *t, int64_t count) {
     t->array->buffers = calloc((size_t)count + 1, sizeof *t->array->buffers);
-    if (!t->array->buffers) return false;
+    t->array->private_data = calloc((size_t)count + 1, sizeof(lent_buffer));
+    if (!t->array->buffers || !t->array->private_data) return false;
     t->array->n_buffers = count;
     return true;
 }
 
-sel_status sel_arrow_export_validity(target *t) {
-    bool has = false;
-    size_t bytes = bytes_of_bits(t->len);
-    uint8_t *bits = sel_arrow_buffer(t, 0, bytes, 1);
-    if (!bits) return SEL_ERROR_OUT_OF_MEMORY;
-    sel_status status = sel_validity(t->of, bits, bytes, &has);
-    if (status == SEL_OK && !has) {
-        free(bits);
-        t->array->buffers[0] = NULL;
-    }
-    return status;
-}
+/* ---- validity */
 
 bool sel_arrow_is_seen(const target *t, size_t row) {
     const uint8_t *valid = t->array->buffers[0];
     return (!valid || bit_at(valid, row)) && (!t->shown || bit_at(t->shown, row));
 }
 
+static void without_validity(target *t) {
+    sel_arrow_drop_buffer(t, 0);
+    t->array->null_count = 0;
+}
+
+/* Tests whether a null is not hidden by a null list or struct above it. */
+static bool shows_null(const target *t, const uint8_t *valid) {
+    for (size_t i = 0; i < t->len; i++)
+        if (!bit_at(valid, i) && (!t->shown || bit_at(t->shown, i))) return true;
+    return false;
+}
+
+/* Copies the validity to buffer 0. */
+static sel_status copy_validity(target *t) {
+    bool has = true;
+    size_t bytes = bytes_of_bits(t->len);
+    uint8_t *bits = sel_arrow_buffer(t, 0, bytes, 1);
+    return bits ? sel_validity(t->of, bits, bytes, &has) : SEL_ERROR_OUT_OF_MEMORY;
+}
+
+sel_status sel_arrow_export_validity(target *t) {
+    bool has = false, is_nullable = t->type->flags & ARROW_FLAG_NULLABLE;
+    sel_status status = sel_arrow_share_validity(t, &has);
+    if (status == SEL_OK && has && !t->array->buffers[0]) status = copy_validity(t);
+    if (status != SEL_OK) return status;
+    if (has && !is_nullable && shows_null(t, t->array->buffers[0])) return SEL_ERROR_ARROW_NULL;
+    if (!has || !is_nullable) without_validity(t);
+    return SEL_OK;
+}
+
+/* ---- bits and numbers */
+
 static sel_status export_bits(target *t) {
     size_t bytes = bytes_of_bits(t->len);
+    sel_status status = sel_arrow_share_values(t, t->of);
+    if (status != SEL_OK || t->array->buffers[1]) return status;
     uint8_t *values = sel_arrow_buffer(t, 1, bytes, 1);
     return values ? sel_boolean_values(t->of, values, bytes) : SEL_ERROR_OUT_OF_MEMORY;
 }
-
-#define EXPORT_NUMBERS(type, read)                                             \
-    do {                                                                       \
-        type *values = sel_arrow_buffer(t, 1, t->len, sizeof(type));                     \
-        return values ? read(t->of, values, t->len) : SEL_ERROR_OUT_OF_MEMORY; \
-    } while (0)
 
 /* Tests whether a signed 128-bit integer has at most 38 digits: its absolute value is below 10 to the 38th. */
 static bool has_38_digits(sel_int128 number) {
@@ -57,7 +75,7 @@ static bool has_38_digits(sel_int128 number) {
     return high < most_high || (high == most_high && low < most_low);
 }
 
-static sel_status export_wide(target *t) {
+static sel_status export_decimals(target *t) {
     sel_int128 *values = sel_arrow_buffer(t, 1, t->len, sizeof *values);
     if (!values) return SEL_ERROR_OUT_OF_MEMORY;
     sel_status status = sel_int128_values(t->of, values, t->len);
@@ -68,30 +86,134 @@ static sel_status export_wide(target *t) {
     return status;
 }
 
-static sel_status export_numbers(target *t, sel_type_id kind) {
-    switch (kind) {
-    case SEL_TYPE_BOOLEAN: return export_bits(t);
-    case SEL_TYPE_INT8: EXPORT_NUMBERS(int8_t, sel_int8_values);
-    case SEL_TYPE_INT16: EXPORT_NUMBERS(int16_t, sel_int16_values);
-    case SEL_TYPE_INT32: EXPORT_NUMBERS(int32_t, sel_int32_values);
-    case SEL_TYPE_INT64: EXPORT_NUMBERS(int64_t, sel_int64_values);
-    case SEL_TYPE_UINT8: EXPORT_NUMBERS(uint8_t, sel_uint8_values);
-    case SEL_TYPE_UINT16: EXPORT_NUMBERS(uint16_t, sel_uint16_values);
-    case SEL_TYPE_UINT32: EXPORT_NUMBERS(uint32_t, sel_uint32_values);
-    case SEL_TYPE_UINT64: EXPORT_NUMBERS(uint64_t, sel_uint64_values);
-    default: return export_wide(t);
-    }
+static sel_status export_numbers(target *t) {
+    if (t->type->format.storage == SEL_TYPE_INT128) return export_decimals(t);
+    if (t->type->format.storage != SEL_TYPE_UINT128) return sel_arrow_share_values(t, t->of);
+    sel_int128 *values = sel_arrow_buffer(t, 1, t->len, sizeof *values);
+    return values ? sel_uint128_values(t->of, values, t->len) : SEL_ERROR_OUT_OF_MEMORY;
 }
 
-static sel_status export_bytes(target *t) {
-    size_t len = 0;
-    int64_t *offsets = sel_arrow_buffer(t, 1, t->len + 1, sizeof *offsets);
-    sel_status status = offsets ? sel_offsets(t->of, offsets, t->len + 1) : SEL_ERROR_OUT_OF_MEMORY;
-    if (status == SEL_OK) status = sel_bytes_len(t->of, &len);
-    if (status != SEL_OK) return status;
-    uint8_t *bytes = sel_arrow_buffer(t, 2, len, 1);
-    return bytes ? sel_bytes(t->of, bytes, len) : SEL_ERROR_OUT_OF_MEMORY;
+/* ---- values of a fixed number of bytes: fixed-size lists of bytes */
+
+/* Tests whether a byte of a row that can be seen is null. */
+static sel_status check_bytes(const target *t, const sel_column *bytes) {
+    size_t len = sel_len(bytes), width = t->type->format.width;
+    if (sel_null_count(bytes) == 0) return SEL_OK;
+    uint8_t *valid = malloc(bytes_of_bits(len) + 1);
+    bool has = false;
+    sel_status status = valid ? sel_validity(bytes, valid, bytes_of_bits(len), &has) : SEL_ERROR_OUT_OF_MEMORY;
+    for (size_t i = 0; status == SEL_OK && has && i < len; i++)
+        if (!bit_at(valid, i) && sel_arrow_is_seen(t, i / width)) status = SEL_ERROR_ARROW_NULL;
+    free(valid);
+    return status;
 }
+
+static sel_status export_fixed_bytes(target *t) {
+    sel_column bytes = {0};
+    sel_status status = sel_child(t->of, &bytes);
+    if (status == SEL_OK) status = sel_arrow_share_values(t, &bytes);
+    if (status == SEL_OK) status = check_bytes(t, &bytes);
+    sel_free(&bytes);
+    return status;
+}
+
+/* ---- offsets, binary and strings */
+
+sel_status sel_arrow_export_offsets(target *t, const int64_t *offsets) {
+    if (t->type->format.wide) {
+        int64_t *out = sel_arrow_buffer(t, 1, t->len + 1, sizeof *out);
+        return out ? memcpy(out, offsets, (t->len + 1) * sizeof *out), SEL_OK : SEL_ERROR_OUT_OF_MEMORY;
+    }
+    if (offsets[t->len] > INT32_MAX) return SEL_ERROR_ARROW_RANGE;
+    int32_t *out = sel_arrow_buffer(t, 1, t->len + 1, sizeof *out);
+    for (size_t i = 0; out && i <= t->len; i++) out[i] = (int32_t)offsets[i];
+    return out ? SEL_OK : SEL_ERROR_OUT_OF_MEMORY;
+}
+
+/* Copies the bytes of the rows, which lie from the first offset on. */
+static sel_status copy_bytes(target *t, size_t first, size_t count) {
+    lent_buffer all = {NULL};
+    const void *at = NULL;
+    size_t len = 0, bit = 0;
+    uint8_t *bytes = sel_arrow_buffer(t, 2, count, 1);
+    sel_status status = bytes ? sel_bytes_of(t->of, &all) : SEL_ERROR_OUT_OF_MEMORY;
+    if (status == SEL_OK) status = sel_buffer_show(&all, &at, &len, &bit);
+    if (status == SEL_OK && count > 0) memcpy(bytes, (const char *)at + first, count);
+    sel_buffer_free(&all);
+    return status;
+}
+
+/* Exports a binary column: as it is, or, if the type has 32-bit offsets, of its bytes those of its rows. */
+static sel_status export_binary(target *t) {
+    if (t->type->format.wide) return sel_arrow_share_binary(t);
+    int64_t *offsets = malloc((t->len + 1) * sizeof *offsets);
+    sel_status status = offsets ? sel_offsets(t->of, offsets, t->len + 1) : SEL_ERROR_OUT_OF_MEMORY;
+    if (status == SEL_OK) {
+        const int64_t first = offsets[0];
+        for (size_t i = 0; i <= t->len; i++) offsets[i] -= first;
+        status = sel_arrow_export_offsets(t, offsets);
+        if (status == SEL_OK) status = copy_bytes(t, (size_t)first, (size_t)offsets[t->len]);
+    }
+    free(offsets);
+    return status;
+}
+
+/* Views that are exported as strings with offsets, with copies of the data buffers that they refer to. */
+typedef struct texts {
+    sel_view *views;
+    uint8_t **buffers;
+    size_t count;
+} texts;
+
+static void free_texts(texts *it) {
+    for (size_t i = 0; it->buffers && i < it->count; i++) free(it->buffers[i]);
+    free(it->buffers);
+    free(it->views);
+}
+
+static sel_status read_buffer(const target *t, texts *it, size_t i) {
+    size_t len = 0;
+    if (it->buffers[i]) return SEL_OK;
+    sel_status status = sel_buffer_len(t->of, i, &len);
+    if (status == SEL_OK && !(it->buffers[i] = malloc(len + 1))) status = SEL_ERROR_OUT_OF_MEMORY;
+    return status == SEL_OK ? sel_buffer(t->of, i, it->buffers[i], len) : status;
+}
+
+/* Reads the views, the data buffers that they refer to, and the offsets of their bytes one after the other. */
+static sel_status read_texts(const target *t, texts *it, int64_t *offsets) {
+    sel_status status = sel_buffer_count(t->of, &it->count);
+    if (status != SEL_OK) return status;
+    it->views = malloc((t->len + 1) * sizeof *it->views);
+    it->buffers = calloc(it->count + 1, sizeof *it->buffers);
+    status = it->views && it->buffers ? sel_views(t->of, it->views, t->len) : SEL_ERROR_OUT_OF_MEMORY;
+    for (size_t i = 0; status == SEL_OK && i < t->len; i++) {
+        const sel_view *view = &it->views[i];
+        bool is_seen = sel_arrow_is_seen(t, i);
+        offsets[i + 1] = offsets[i] + (is_seen ? view->length : 0);
+        if (is_seen && view->length > 12) status = read_buffer(t, it, view->buffer);
+    }
+    return status;
+}
+
+static sel_status export_texts(target *t) {
+    texts it = {NULL, NULL, 0};
+    int64_t *offsets = calloc(t->len + 1, sizeof *offsets);
+    uint8_t *bytes = NULL;
+    sel_status status = offsets ? read_texts(t, &it, offsets) : SEL_ERROR_OUT_OF_MEMORY;
+    if (status == SEL_OK) status = sel_arrow_export_offsets(t, offsets);
+    if (status == SEL_OK && !(bytes = sel_arrow_buffer(t, 2, (size_t)offsets[t->len], 1))) status = SEL_ERROR_OUT_OF_MEMORY;
+    for (size_t i = 0; status == SEL_OK && i < t->len; i++) {
+        const sel_view *view = &it.views[i];
+        size_t len = (size_t)(offsets[i + 1] - offsets[i]);
+        const void *from = view->length > 12 && len > 0 ? (const void *)(it.buffers[view->buffer] + view->offset) : &view->prefix;
+        memcpy(bytes + offsets[i], from, len);
+    }
+    free_texts(&it);
+    free(offsets);
+    return status;
+}
+
+/* ---- views */
 
 /* Clears the bytes behind a short view's own, as the format requires, and the views that cannot be seen. */
 static sel_status clean_views(const target *t, sel_view *views) {
@@ -109,22 +231,42 @@ static sel_status clean_views(const target *t, sel_view *views) {
     return SEL_OK;
 }
 
-static sel_status export_views(target *t) {
-    int64_t count = t->array->n_buffers - 3;
+/* Copies the views, and cleans them. */
+static sel_status copy_views(target *t) {
     sel_view *views = sel_arrow_buffer(t, 1, t->len, sizeof *views);
-    int64_t *lengths = sel_arrow_buffer(t, count + 2, (size_t)count, sizeof *lengths);
-    sel_status status = views && lengths ? sel_views(t->of, views, t->len) : SEL_ERROR_OUT_OF_MEMORY;
-    for (int64_t i = 0; status == SEL_OK && i < count; i++) {
-        size_t len = 0;
-        status = sel_buffer_len(t->of, (size_t)i, &len);
-        uint8_t *bytes = status == SEL_OK ? sel_arrow_buffer(t, i + 2, len, 1) : NULL;
-        if (status == SEL_OK) status = bytes ? sel_buffer(t->of, (size_t)i, bytes, len) : SEL_ERROR_OUT_OF_MEMORY;
-        lengths[i] = (int64_t)len;
-    }
+    sel_status status = views ? sel_views(t->of, views, t->len) : SEL_ERROR_OUT_OF_MEMORY;
     return status == SEL_OK ? clean_views(t, views) : status;
 }
 
-sel_status sel_arrow_export_buffers(target *t, sel_type_id kind) {
-    if (kind == SEL_TYPE_BINARY_VIEW || kind == SEL_TYPE_STRING_VIEW) return export_views(t);
-    return kind == SEL_TYPE_BINARY ? export_bytes(t) : export_numbers(t, kind);
+static sel_status export_views(target *t) {
+    int64_t count = t->array->n_buffers - 3;
+    int64_t *lengths = sel_arrow_buffer(t, count + 2, (size_t)count, sizeof *lengths);
+    sel_status status = lengths ? sel_arrow_share_views(t) : SEL_ERROR_OUT_OF_MEMORY;
+    if (status == SEL_OK && !t->array->buffers[1]) status = copy_views(t);
+    for (int64_t i = 0; status == SEL_OK && i < count; i++) {
+        size_t len = 0;
+        status = sel_arrow_share_data(t, (size_t)i, &len);
+        lengths[i] = (int64_t)len;
+    }
+    return status;
+}
+
+sel_status sel_arrow_buffer_count(const sel_column *of, const node *type, int64_t *count) {
+    static const int64_t counts[] = {[NULLS] = 0, [BITS] = 2, [NUMBERS] = 2, [FIXED_BYTES] = 2, [OFFSET_BYTES] = 3, [LISTS] = 2,
+                                     [FIXED_LISTS] = 1, [STRUCTS] = 1};
+    size_t buffers = 0;
+    sel_status status = SEL_OK;
+    if (type->format.layout == VIEWS) status = sel_buffer_count(of, &buffers);
+    *count = type->format.layout == VIEWS ? (int64_t)buffers + 3 : counts[type->format.layout];
+    return status;
+}
+
+sel_status sel_arrow_export_buffers(target *t) {
+    switch (t->type->format.layout) {
+    case BITS: return export_bits(t);
+    case NUMBERS: return export_numbers(t);
+    case FIXED_BYTES: return export_fixed_bytes(t);
+    case VIEWS: return export_views(t);
+    default: return t->type->format.storage == SEL_TYPE_BINARY ? export_binary(t) : export_texts(t);
+    }
 }

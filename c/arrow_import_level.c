@@ -1,4 +1,5 @@
-/* Makes columns of the buffers of one level of an Arrow array. Every offset is checked before bytes behind it are read. */
+/* Makes columns of the buffers of one level of an Arrow array that cannot be lent as they are: 128-bit integers, and strings with
+ * offsets, which get views over their bytes. Every offset is checked before bytes behind it are read. */
 #include "arrow_internal.h"
 
 #include <stdlib.h>
@@ -27,51 +28,18 @@ static const void *items(level *l, int64_t buffer, size_t size, size_t count) {
     return l->copy ? memcpy(l->copy, at, count * size) : NULL;
 }
 
-static int64_t count_nulls(const level *l) {
-    size_t valid = 0, whole = l->len / 8;
-    for (size_t i = 0; i < whole; i++)
-        for (unsigned byte = l->bits[i]; byte; byte &= byte - 1) valid++;
-    for (size_t i = whole * 8; i < l->len; i++) valid += bit_at(l->bits, i);
-    return (int64_t)(l->len - valid);
-}
-
 sel_status sel_arrow_read_validity(level *l) {
-    const uint8_t *bits = l->array->buffers ? l->array->buffers[0] : NULL;
-    int64_t nulls = l->array->null_count;
-    if (nulls == 0) return SEL_OK;
-    if (!bits) return nulls > 0 ? SEL_ERROR_ARROW_LENGTH : SEL_OK;
-    l->bits = sel_arrow_packed_bits(bits, l->from, l->len);
+    if (!l->validity->at) return SEL_OK;
+    l->bits = sel_arrow_packed_bits(l->array->buffers[0], l->from, l->len);
     l->bits_len = bytes_of_bits(l->len);
-    if (!l->bits) return SEL_ERROR_OUT_OF_MEMORY;
-    return nulls > 0 && nulls != count_nulls(l) ? SEL_ERROR_ARROW_LENGTH : SEL_OK;
+    return l->bits ? SEL_OK : SEL_ERROR_OUT_OF_MEMORY;
 }
 
-static sel_status import_bits(level *l, sel_column *out) {
-    uint8_t *values = l->len ? sel_arrow_packed_bits(l->array->buffers[1], l->from, l->len) : calloc(1, 1);
+/* Imports 128-bit integers, which the format aligns to 8 bytes only. */
+static sel_status import_wide_integers(level *l, sel_column *out) {
+    const sel_int128 *values = items(l, 1, sizeof *values, l->len);
     if (!values) return SEL_ERROR_OUT_OF_MEMORY;
-    sel_status status = sel_boolean_new(values, bytes_of_bits(l->len), l->len, VALIDITY(l), out);
-    free(values);
-    return status;
-}
-
-#define IMPORT_NUMBERS(type, make)                                                                      \
-    do {                                                                                                \
-        const void *values = items(l, 1, sizeof(type), l->len);                                         \
-        return values ? make((const type *)values, l->len, VALIDITY(l), out) : SEL_ERROR_OUT_OF_MEMORY; \
-    } while (0)
-
-static sel_status import_numbers(level *l, char format, sel_column *out) {
-    switch (format) {
-    case 'c': IMPORT_NUMBERS(int8_t, sel_int8_new);
-    case 'C': IMPORT_NUMBERS(uint8_t, sel_uint8_new);
-    case 's': IMPORT_NUMBERS(int16_t, sel_int16_new);
-    case 'S': IMPORT_NUMBERS(uint16_t, sel_uint16_new);
-    case 'i': IMPORT_NUMBERS(int32_t, sel_int32_new);
-    case 'I': IMPORT_NUMBERS(uint32_t, sel_uint32_new);
-    case 'l': IMPORT_NUMBERS(int64_t, sel_int64_new);
-    case 'L': IMPORT_NUMBERS(uint64_t, sel_uint64_new);
-    default: IMPORT_NUMBERS(sel_int128, sel_int128_new);
-    }
+    return (l->format.storage == SEL_TYPE_INT128 ? sel_int128_new : sel_uint128_new)(values, l->len, VALIDITY(l), out);
 }
 
 sel_status sel_arrow_read_offsets(level *l, bool wide, int64_t **out, int64_t *first, int64_t *last) {
@@ -88,7 +56,8 @@ sel_status sel_arrow_read_offsets(level *l, bool wide, int64_t **out, int64_t *f
     }
     *first = offsets[0];
     *last = offsets[l->len];
-    if (*first < 0) return SEL_ERROR_NEGATIVE_OFFSET;
+    for (size_t i = 0; i <= l->len; i++)
+        if (offsets[i] < 0) return SEL_ERROR_NEGATIVE_OFFSET;
     for (size_t i = 0; i < l->len; i++)
         if (offsets[i + 1] < offsets[i]) return SEL_ERROR_DECREASING_OFFSET;
     for (size_t i = 0; i <= l->len; i++) offsets[i] -= *first;
@@ -139,73 +108,27 @@ static sel_status import_texts(level *l, const int64_t *offsets, const uint8_t *
     }
     if (status == SEL_OK) {
         if (end > begin) slices[count++] = (sel_bytes_ref){bytes + begin, (size_t)(end - begin)};
-        status = sel_string_view_new(views, l->len, slices, count, VALIDITY(l), out);
-    }
-    free(views);
+        status = sel_arrow_lend_strings(l, views, slices, count, out);
+    } else free(views);
     free(slices);
     return status;
 }
 
-static sel_status import_bytes(level *l, bool wide, bool texts, sel_column *out) {
+static sel_status import_strings(level *l, sel_column *out) {
     int64_t *offsets, first, last;
-    sel_status status = sel_arrow_read_offsets(l, wide, &offsets, &first, &last);
+    sel_status status = sel_arrow_read_offsets(l, l->format.wide, &offsets, &first, &last);
     const uint8_t *bytes = l->array->buffers[2];
     if (status == SEL_OK && last > first && !bytes) status = SEL_ERROR_ARROW_BUFFERS;
     if (status == SEL_OK) bytes = last > first ? bytes + first : (const uint8_t *)sel_arrow_nothing;
-    if (status == SEL_OK)
-        status = texts ? import_texts(l, offsets, bytes, out)
-                       : sel_binary_new(offsets, l->len + 1, bytes, (size_t)(last - first), VALIDITY(l), out);
+    if (status == SEL_OK) status = import_texts(l, offsets, bytes, out);
     free(offsets);
     return status;
 }
 
-/* Reads the data buffers of a column of views; the last buffer holds their lengths, maybe unaligned. */
-static sel_status read_data_buffers(const level *l, int64_t count, sel_bytes_ref *slices) {
-    const char *lengths = l->array->buffers[count + 2];
-    if (count > 0 && !lengths) return SEL_ERROR_ARROW_BUFFERS;
-    for (int64_t i = 0; i < count; i++) {
-        const uint8_t *bytes = l->array->buffers[i + 2];
-        int64_t length;
-        memcpy(&length, lengths + i * 8, 8);
-        if (length < 0) return SEL_ERROR_ARROW_LENGTH;
-        if (length > 0 && !bytes) return SEL_ERROR_ARROW_BUFFERS;
-        slices[i] = (sel_bytes_ref){bytes ? bytes : (const uint8_t *)sel_arrow_nothing, (size_t)length};
-    }
-    return SEL_OK;
-}
-
-/* Replaces the views in null slots, which may be any bytes, by empty ones. Returns NULL if out of memory. */
-static const sel_view *without_null_slots(level *l, const sel_view *views) {
-    if (!views || !l->bits || l->len == 0) return views;
-    if (!l->copy) {
-        l->copy = malloc(l->len * sizeof *views);
-        if (!l->copy) return NULL;
-        memcpy(l->copy, views, l->len * sizeof *views);
-    }
-    sel_view *copy = l->copy;
-    for (size_t i = 0; i < l->len; i++)
-        if (!bit_at(l->bits, i)) memset(&copy[i], 0, sizeof copy[i]);
-    return copy;
-}
-
-static sel_status import_views(level *l, bool texts, sel_column *out) {
-    int64_t count = l->array->n_buffers - 3;
-    const sel_view *views = without_null_slots(l, items(l, 1, sizeof *views, l->len));
-    sel_bytes_ref *slices = malloc(((size_t)count + 1) * sizeof *slices);
-    sel_status status = views && slices ? read_data_buffers(l, count, slices) : SEL_ERROR_OUT_OF_MEMORY;
-    if (status == SEL_OK)
-        status = (texts ? sel_string_view_new : sel_binary_view_new)(views, l->len, slices, (size_t)count, VALIDITY(l), out);
-    free(slices);
-    return status;
-}
-
-sel_status sel_arrow_import_buffers(level *l, enum layout layout, sel_column *out) {
-    const char *format = l->schema->format;
-    switch (layout) {
+sel_status sel_arrow_import_buffers(level *l, sel_column *out) {
+    switch (l->format.layout) {
     case NULLS: return sel_null_new(l->len, out);
-    case BITS: return import_bits(l, out);
-    case NUMBERS: return import_numbers(l, format[0], out);
-    case OFFSET_BYTES: return import_bytes(l, format[0] == 'Z' || format[0] == 'U', format[0] == 'u' || format[0] == 'U', out);
-    default: return import_views(l, format[1] == 'u', out);
+    case NUMBERS: return import_wide_integers(l, out);
+    default: return import_strings(l, out);
     }
 }

@@ -39,8 +39,10 @@ const char *sel_status_string(sel_status status) {
         {SEL_ERROR_ARROW_BUFFERS, "wrong number of Arrow buffers, or a missing one"},
         {SEL_ERROR_ARROW_CHILDREN, "wrong number of Arrow children, or a missing one"},
         {SEL_ERROR_ARROW_LENGTH, "an Arrow length, offset or null count is out of range, or a child is too short"},
-        {SEL_ERROR_ARROW_DICTIONARY, "dictionary-encoded Arrow arrays are not supported"},
+        {SEL_ERROR_ARROW_DICTIONARY, "an Arrow dictionary is missing, or has no type to be kept in"},
         {SEL_ERROR_ARROW_RANGE, "a value or offset that the Arrow format cannot represent"},
+        {SEL_ERROR_ARROW_NULL, "a null in an Arrow field that is not nullable"},
+        {SEL_ERROR_ARROW_STREAM, "the producer of the Arrow stream reports an error"},
         /* end: written by tools/statuses.py */
     };
     for (size_t i = 0; i < sizeof strings / sizeof *strings; i++)

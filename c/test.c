@@ -414,11 +414,27 @@ static void test_views(void) {
     sel_free(&texts);
 }
 
+/* A validity that is too short is an error before anything is allocated, and so before the values are copied. */
+static void test_short_validities(void) {
+    static const sel_int128 wide[64];
+    static const int64_t numbers[64];
+    static const uint8_t bits[8];
+    sel_column out = {0};
+    refuse(0);
+    IS(sel_uint128_new(wide, 64, bits, 7, true, &out) == SEL_ERROR_VALIDITY_LENGTH);
+    IS(sel_int128_new(wide, 64, bits, 7, true, &out) == SEL_ERROR_VALIDITY_LENGTH);
+    IS(sel_int64_new(numbers, 64, bits, 7, true, &out) == SEL_ERROR_VALIDITY_LENGTH);
+    IS(sel_boolean_new(bits, 8, 64, bits, 7, true, &out) == SEL_ERROR_VALIDITY_LENGTH);
+    IS(!was_refused());
+    refuse(-1);
+}
+
 static void (*const tests[])(void) = {
     test_nulls, test_booleans, test_int8, test_int16, test_int32, test_int64, test_uint8, test_uint16, test_uint32,
     test_uint64, test_int128, test_uint128, test_whole, test_filters, test_takes, test_bytes, test_lists, test_structs, test_views,
     test_choices, test_broadcasts, test_chosen_kinds, test_flattens, test_collected_rows, test_dictionaries, test_equal_rows, test_prints, test_prints_types,
     test_parses, test_misread_texts, test_flatten_limits, test_list_limits, test_empty_inputs, test_empty_outputs, test_strings,
+    test_short_validities,
 };
 
 int main(void) {

@@ -46,6 +46,7 @@ static const char *const sources[][2] = {
 enum { COLUMNS = sizeof sources / sizeof *sources };
 
 static sel_column shared[COLUMNS], mask, indices, places, keys, words, lists;
+static sel_type types[COLUMNS], coded; /* of the columns, and of the keys, with the words as their dictionary */
 
 static void stop(const char *what, sel_status status) {
     printf("%s: %s\n", what, sel_status_string(status));
@@ -82,18 +83,20 @@ static void make_columns(void) {
     for (size_t i = 0; i < sizeof flags; i++) flags[i] = (uint8_t)(0x5b + 37 * i), valid[i] = (uint8_t)(0xf7 - 16 * (i % 3));
     for (uint32_t i = 0; i < TAKEN; i++) rows[i] = i * 31 % LEN;
     for (uint32_t i = 0; i < LEN; i++) small[i] = i % 4, each[i] = (int64_t)(i % 3) - 1;
-    for (size_t i = 0; i < COLUMNS; i++) make_source(i, &shared[i]);
+    for (size_t i = 0; i < COLUMNS; i++) make_source(i, &shared[i]), must(sel_type_of_storage(&shared[i], &types[i]));
     must(sel_boolean_new(flags, sizeof flags, LEN, valid, sizeof valid, true, &mask));
     must(sel_uint32_new(rows, TAKEN, valid, sizeof valid, true, &indices));
     must(sel_int64_new(each, LEN, SEL_ALL_VALID, &places));
     must(sel_uint32_new(small, LEN, valid, sizeof valid, true, &keys));
     parse("utf8", "[\"a\",null,\"a string of more than twelve bytes\",\"d\"]", &words);
     parse("list<i64>", "[[1,2],[3]]", &lists);
+    must(sel_type_dictionary_new("I", &words, NULL, false, &coded));
 }
 
 static void free_columns(void) {
     sel_column *const all[] = {&mask, &indices, &places, &keys, &words, &lists};
-    for (size_t i = 0; i < COLUMNS; i++) sel_free(&shared[i]);
+    for (size_t i = 0; i < COLUMNS; i++) sel_free(&shared[i]), sel_type_free(&types[i]);
+    sel_type_free(&coded);
     for (size_t i = 0; i < sizeof all / sizeof *all; i++) sel_free(all[i]);
 }
 
@@ -289,27 +292,97 @@ static void nest(worker *w, const sel_column *of) {
     }
 }
 
-static void go_through_arrow(worker *w, const sel_column *of) {
+/* Reads a type that all threads share, and frees handles of its own. */
+static void read_type(worker *w, const sel_type *of) {
+    sel_type again = {0}, child = {0};
+    struct ArrowSchema schema;
+    size_t len = 0;
+    mix(w, sel_type_share(of, &again));
+    mix(w, sel_type_equal(of, &again));
+    mix(w, sel_type_format(of, w->room.bytes, ROOM, &len));
+    mix_room(w, len);
+    mix(w, strlen(sel_type_arrow_format(of)) + strlen(sel_type_name(of)));
+    for (size_t i = 0; i < sel_type_child_count(of); i++) mix(w, sel_type_child(of, i, &child));
+    mix(w, sel_type_as_field(of, "name", false, &child));
+    mix(w, sel_type_new("+l", of, 1, &child));
+    if (sel_type_export(of, &schema) == SEL_OK) {
+        mix(w, sel_unsupported_format(&schema) == NULL);
+        mix(w, sel_type_import(&schema, &child));
+        schema.release(&schema);
+    }
+    mix(w, sel_type_equal(of, &child));
+    sel_type_free(&again);
+    sel_type_free(&child);
+}
+
+/* Decodes keys of a dictionary that all threads share, and joins them with a column. */
+static void read_dictionary(worker *w, const sel_column *of, const sel_type *type) {
+    const sel_column two[2] = {keys, *of}, same[2] = {keys, keys};
+    const sel_type types_of_two[2] = {coded, *type}, same_types[2] = {coded, coded};
+    sel_column out[2] = {{0}, {0}};
+    sel_type found = {0};
+    sel_status status = sel_decode(&keys, &coded, &out[0], &found);
+    mix_made(w, status, &out[0]);
+    mix(w, sel_type_dictionary(&coded, &out[0], &found));
+    mix(w, sel_common_type(same, same_types, 2, out, &found));
+    mix(w, sel_common_type(two, types_of_two, 2, out, &found));
+    sel_free(&out[0]);
+    sel_free(&out[1]);
+    sel_type_free(&found);
+}
+
+/* The batch of a stream: a column, once. */
+static sel_status next_batch(void *context, sel_column *out, sel_type *type) {
+    const sel_column **of = context;
+    sel_status status = *of ? sel_share(*of, out) : SEL_OK;
+    (void)type;
+    *of = NULL;
+    return status;
+}
+
+/* Passes a column through a stream of this thread. */
+static void go_through_stream(worker *w, const sel_column *of, const sel_type *type) {
+    const sel_column *batch = of;
+    struct ArrowArrayStream source;
+    sel_stream stream = {0};
+    sel_column out = {0};
+    sel_type found = {0};
+    if (sel_stream_export(type, next_batch, &batch, NULL, &source) != SEL_OK) return;
+    mix(w, sel_stream_open(&source, &stream));
+    mix(w, sel_stream_type(&stream, &found));
+    mix(w, sel_stream_message(&stream) == NULL);
+    sel_status status = sel_stream_next(&stream, &out, &found);
+    mix_made(w, status, &out);
+    mix(w, sel_stream_next(&stream, &out, &found));
+    sel_stream_free(&stream);
+    sel_free(&out);
+    sel_type_free(&found);
+}
+
+static void go_through_arrow(worker *w, const sel_column *of, const sel_type *type) {
     struct ArrowArray array;
     struct ArrowSchema schema;
     bool is_equal = false;
     sel_column out = {0};
-    sel_status status = sel_export(of, &array, &schema);
+    sel_type again = {0};
+    sel_status status = sel_export(of, type, &array, &schema);
     mix(w, status);
     if (status != SEL_OK) return;
     mix(w, (uint64_t)array.length);
     mix(w, (uint64_t)array.null_count);
     mix(w, (uint64_t)schema.format[0]);
-    status = sel_import(&array, &schema, &out);
+    status = sel_import(&array, &schema, &out, &again);
     schema.release(&schema);
     mix(w, status);
+    mix(w, sel_type_equal(type, &again));
+    sel_type_free(&again);
     mix(w, sel_equal_rows(&out, of, &is_equal));
     mix(w, is_equal);
     mix_made(w, status, &out);
 }
 
 /* Returns a number of all that the calls return for a column. */
-static uint64_t read_all(worker *w, const sel_column *of) {
+static uint64_t read_all(worker *w, const sel_column *of, const sel_type *type) {
     w->hash = UINT64_C(0xcbf29ce484222325);
     read_properties(w, of);
     read_values(w, of);
@@ -319,7 +392,10 @@ static uint64_t read_all(worker *w, const sel_column *of) {
     get_elements(w, of);
     combine_columns(w, of);
     nest(w, of);
-    go_through_arrow(w, of);
+    read_type(w, type);
+    read_dictionary(w, of, type);
+    go_through_stream(w, of, type);
+    go_through_arrow(w, of, type);
     return w->hash;
 }
 
@@ -368,7 +444,7 @@ static void *work(void *of) {
         /* in every other round all threads read the same column at once */
         for (size_t i = 0; i < COLUMNS; i++) {
             size_t column = (i + (round % 2) * w->number) % COLUMNS;
-            check(w, read_all(w, &shared[column]) == wanted[column]);
+            check(w, read_all(w, &shared[column], &types[column]) == wanted[column]);
         }
         for (size_t from = 0; from < THREADS; from++) {
             w->hash = 0;
@@ -389,7 +465,7 @@ static int run(size_t rounds) {
     size_t wrong = 0, checked = 0;
     make_columns();
     for (size_t i = 0; i < COLUMNS; i++) {
-        wanted[i] = read_all(&workers[0], &shared[i]);
+        wanted[i] = read_all(&workers[0], &shared[i], &types[i]);
         for (size_t k = 0; k < i; k++)
             if (wanted[k] == wanted[i]) wrong++; /* the number says nothing of the column */
     }
@@ -406,7 +482,7 @@ static int run(size_t rounds) {
     }
     pthread_barrier_destroy(&barrier);
     /* the shared columns are unchanged */
-    for (size_t i = 0; i < COLUMNS; i++) wrong += read_all(&workers[0], &shared[i]) != wanted[i];
+    for (size_t i = 0; i < COLUMNS; i++) wrong += read_all(&workers[0], &shared[i], &types[i]) != wanted[i];
     free_columns();
     printf("%d threads, %zu rounds, %d columns: %zu results compared, %zu wrong\n", THREADS, rounds, COLUMNS, checked, wrong);
     return wrong == 0 && checked > 0 ? 0 : 1;

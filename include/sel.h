@@ -146,10 +146,15 @@ typedef enum sel_status {
     SEL_ERROR_ARROW_CHILDREN = 67,
     /* A length, an offset or a null count is out of range, or a child is too short. */
     SEL_ERROR_ARROW_LENGTH = 68,
-    /* A dictionary-encoded array. */
+    /* A dictionary in only one of the array and the schema, keys that are not integers, or no type to keep a
+     * dictionary in. */
     SEL_ERROR_ARROW_DICTIONARY = 69,
     /* A value or an offset that the format cannot represent. */
     SEL_ERROR_ARROW_RANGE = 71,
+    /* A null in a field that is not nullable, or in run ends. */
+    SEL_ERROR_ARROW_NULL = 72,
+    /* The producer of a stream reports an error. */
+    SEL_ERROR_ARROW_STREAM = 73,
     /* Not returned: makes the type 32 bits wide. */
     SEL_STATUS_FORCE_32_BITS = 0x7fffffff
 } sel_status;
@@ -637,7 +642,8 @@ sel_status sel_if_then_else_broadcast_both(
  * SEL_ERROR_ROW_LIMIT, SEL_ERROR_OFFSET_LIMIT: the result exceeds a size limit. */
 sel_status sel_list_get(const sel_column *of, int64_t index, sel_column *out);
 
-/* Returns in `out` whether `index` is out of bounds in some list that is not null.
+/* Returns in `out` whether `index` is out of bounds in some list that is not null. Does not allocate; on error `out`
+ * is unchanged.
  * Errors: SEL_ERROR_NO_COLUMN: `of` is empty. SEL_ERROR_UNSUPPORTED_TYPE: the type of `of` is not SEL_TYPE_LIST. */
 sel_status sel_list_index_is_oob(const sel_column *of, int64_t index, bool *out);
 

@@ -1,0 +1,135 @@
+/* Tests lent memory on several threads: columns over it are shared, sliced, exported, passed to the next thread and freed there. Each
+ * array is released once, by whatever thread frees its last owner. Made to be run under helgrind.
+ *
+ * test_lease_threads ROUNDS */
+#include "sel_arrow.h"
+
+#include <pthread.h>
+#include <stdatomic.h>
+#include <stdio.h>
+#include <stdlib.h>
+#include <string.h>
+
+enum { THREADS = 8, ROWS = 64 };
+
+static int failures;
+
+static void check(bool holds, const char *what, int line) {
+    if (holds) return;
+    failures++;
+    printf("test_lease_threads.c:%d: %s\n", line, what);
+}
+
+#define CHECK(holds) check((holds), #holds, __LINE__)
+
+/* ---- a producer */
+
+typedef struct producer {
+    int64_t values[ROWS];
+    const void *buffers[2];
+    atomic_int releases;
+    struct ArrowArray array;
+    struct ArrowSchema schema;
+} producer;
+
+static void release(struct ArrowArray *array) {
+    producer *p = array->private_data;
+    array->release = NULL;
+    atomic_fetch_add(&p->releases, 1);
+}
+
+static void release_schema(struct ArrowSchema *schema) { schema->release = NULL; }
+
+static bool import(producer *p, int64_t first, sel_column *out) {
+    for (int64_t i = 0; i < ROWS; i++) p->values[i] = first + i;
+    p->buffers[0] = NULL;
+    p->buffers[1] = p->values;
+    atomic_init(&p->releases, 0);
+    p->array = (struct ArrowArray){ROWS, 0, 0, 2, 0, p->buffers, NULL, NULL, release, p};
+    p->schema = (struct ArrowSchema){"l", "", NULL, ARROW_FLAG_NULLABLE, 0, NULL, NULL, release_schema, NULL};
+    return sel_import(&p->array, &p->schema, out, NULL) == SEL_OK;
+}
+
+static bool begins_with(const sel_column *column, int64_t first) {
+    int64_t values[ROWS] = {0};
+    size_t len = sel_len(column);
+    return len <= ROWS && sel_int64_values(column, values, len) == SEL_OK && values[0] == first;
+}
+
+/* ---- a place where a thread leaves an array for the next one */
+
+typedef struct place {
+    pthread_mutex_t lock;
+    struct ArrowArray array;
+} place;
+
+static place places[THREADS];
+
+/* Puts an array into a place, and releases the one that was there. */
+static void leave(place *at, struct ArrowArray array) {
+    pthread_mutex_lock(&at->lock);
+    struct ArrowArray before = at->array;
+    at->array = array;
+    pthread_mutex_unlock(&at->lock);
+    if (before.release) before.release(&before);
+}
+
+static sel_column common;
+static producer shared;
+static long rounds;
+
+typedef struct worker {
+    size_t index;
+    long wrong;
+    producer *producers; /* one for each round */
+} worker;
+
+/* Imports an array, and leaves a slice of it and one of the common column, exported, for the next thread. */
+static bool one_round(worker *it, producer *p, int64_t first) {
+    sel_column own = {0}, part = {0}, of_common = {0};
+    struct ArrowArray array, other;
+    struct ArrowSchema schema, other_schema;
+    bool is_right = import(p, first, &own) && sel_slice(&own, 7, 9, &part) == SEL_OK && sel_slice(&common, 5, 20, &of_common) == SEL_OK &&
+                    begins_with(&part, first + 7) && begins_with(&of_common, 5) && sel_export(&part, NULL, &array, &schema) == SEL_OK &&
+                    sel_export(&of_common, NULL, &other, &other_schema) == SEL_OK;
+    sel_free(&own);
+    sel_free(&part);
+    sel_free(&of_common);
+    if (!is_right) return false;
+    schema.release(&schema);
+    other_schema.release(&other_schema);
+    is_right = ((const int64_t *)array.buffers[1])[0] == first + 7 && other.buffers[1] == shared.values + 5;
+    leave(&places[(it->index + 1) % THREADS], array);
+    other.release(&other);
+    return is_right;
+}
+
+static void *work(void *with) {
+    worker *it = with;
+    for (long i = 0; i < rounds; i++) it->wrong += !one_round(it, &it->producers[i], (int64_t)it->index * 1000 + i);
+    return NULL;
+}
+
+int main(int argc, char **argv) {
+    pthread_t threads[THREADS];
+    worker workers[THREADS];
+    rounds = argc > 1 ? strtol(argv[1], NULL, 10) : 100;
+    CHECK(import(&shared, 0, &common));
+    for (size_t i = 0; i < THREADS; i++) pthread_mutex_init(&places[i].lock, NULL);
+    for (size_t i = 0; i < THREADS; i++) {
+        workers[i] = (worker){i, 0, calloc((size_t)rounds, sizeof(producer))};
+        CHECK(pthread_create(&threads[i], NULL, work, &workers[i]) == 0);
+    }
+    for (size_t i = 0; i < THREADS; i++) pthread_join(threads[i], NULL);
+    for (size_t i = 0; i < THREADS; i++) leave(&places[i], (struct ArrowArray){0});
+    CHECK(atomic_load(&shared.releases) == 0);
+    sel_free(&common);
+    CHECK(atomic_load(&shared.releases) == 1);
+    for (size_t i = 0; i < THREADS; i++) {
+        CHECK(workers[i].wrong == 0);
+        for (long k = 0; k < rounds; k++) CHECK(atomic_load(&workers[i].producers[k].releases) == 1);
+        free(workers[i].producers);
+    }
+    printf("%d threads, %ld rounds, %d failures\n", THREADS, rounds, failures);
+    return failures ? 1 : 0;
+}
