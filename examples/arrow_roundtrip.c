@@ -1,4 +1,4 @@
-/* A column from an Arrow array, filtered, and out again.  cc arrow_roundtrip.c -I../include -L../build -lsel */
+/* A column from an Arrow array, filtered, and out again in the same type.  cc arrow_roundtrip.c -I../include -L../build -lsel */
 #include "sel_arrow.h"
 
 #include <stdio.h>
@@ -16,21 +16,23 @@ int main(void) {
     struct ArrowSchema schema = {.format = "u", .name = "words", .flags = ARROW_FLAG_NULLABLE, .release = release_schema};
 
     sel_column column = {0}, kept = {0};
+    sel_type logical = {0}; /* the schema that came in, beside the column */
     const uint8_t keep = 0x05; /* the first and the third row */
-    sel_status status = sel_import(&array, &schema, &column);
+    sel_status status = sel_import(&array, &schema, &column, &logical);
     schema.release(&schema);
     if (status == SEL_OK) status = sel_filter_bits(&column, &keep, 1, 3, &kept);
     sel_free(&column);
 
     struct ArrowArray out;
     struct ArrowSchema type;
-    if (status == SEL_OK) status = sel_export(&kept, &out, &type);
+    if (status == SEL_OK) status = sel_export(&kept, &logical, &out, &type);
     sel_free(&kept);
+    sel_type_free(&logical);
     if (status != SEL_OK) return (int)status;
 
-    printf("%s: %d rows, %d null\n", type.format, (int)out.length, (int)out.null_count);
-    const sel_view *views = out.buffers[1];
-    printf("%.*s\n", (int)views[1].length, (const char *)&views[1].prefix);
+    printf("%s of format %s: %d rows, %d null\n", type.name, type.format, (int)out.length, (int)out.null_count);
+    const int32_t *ends = out.buffers[1];
+    printf("%.*s\n", (int)(ends[2] - ends[1]), (const char *)out.buffers[2] + ends[1]);
     out.release(&out);
     type.release(&type);
     return 0;

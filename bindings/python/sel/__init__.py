@@ -5,6 +5,9 @@ of this module return new columns. The types are `null`, `bool`, `i8` to `i128`,
 `utf8` (string views), `list<..>`, `fixed<n,..>` (fixed-size lists) and `struct<..>`. Arrow's names are accepted as well: `int64`,
 `string`, `list<item: string>`, `fixed_size_list<item: int64>[2]`. The fields of structs have no names.
 
+A column also has a logical type, an `ArrowType`, if it says more than the storage: `double`, `timestamp[ms, tz=UTC]`, dictionaries,
+and what else comes in from Arrow. A `Table` has columns with names; a `Stream` has tables one after the other.
+
 >>> import sel
 >>> ages = sel.Column([31, None, 27, 45])
 >>> ages.filter([True, True, False, True])
@@ -15,10 +18,12 @@ Column(i64, [31,null,45])
 
 from ._column import Column, choose, collect_rows, concat, flatten, if_else, propagate_dictionary
 from ._errors import BrokenRule, BrokenText, LimitPassed, OutOfBounds, OutOfMemory, SelError, WrongArgument
+from ._logical import ArrowType
+from ._table import Stream, Table
 from ._types import Type, parse_type
 
 __all__ = [
-    "BrokenRule", "BrokenText", "Column", "LimitPassed", "OutOfBounds", "OutOfMemory", "SelError", "Type", "WrongArgument",
+    "ArrowType", "BrokenRule", "BrokenText", "Column", "LimitPassed", "OutOfBounds", "OutOfMemory", "SelError", "Stream", "Table", "Type", "WrongArgument",
     "choose", "collect_rows", "concat", "flatten", "if_else", "parse_type", "propagate_dictionary",
 ]
 __version__ = "0.3.0"

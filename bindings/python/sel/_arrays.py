@@ -8,13 +8,14 @@ from typing import Any
 
 from ._checks import ROW_INDEX, Limits, booleans, error_out_of_bounds, error_outside
 from ._library import call
+from ._logical import ArrowType, decoded, of_format
 from ._makers import CODES
 from ._memory import NO_VALIDITY, Memory, room_for_bits
 from ._owner import Owner
 from ._readers import validity_bits
 from ._types import NUMBERS
 
-__all__ = ["array_of", "checked", "is_array", "is_of_objects", "made_of_array", "opened", "picks_of_array", "plain_array_of", "positions_of_array"]
+__all__ = ["array_of", "checked", "is_array", "is_of_objects", "made_of_array", "made_with_type", "opened", "picks_of_array", "plain_array_of", "positions_of_array"]
 
 
 def _numpy() -> Any:
@@ -143,13 +144,72 @@ def made_of_array(array: Any, name: str, valid: Any = None) -> Owner:
     return made
 
 
+_UNITS = {"s": "s", "m": "ms", "u": "us", "n": "ns"}
+_FLOAT_FORMATS = {"float16": "e", "float32": "f", "float64": "g"}
+
+
+def _format_of(kind: Any) -> str | None:
+    """Returns the Arrow format of numpy's floats, datetime64 and timedelta64."""
+    if kind.kind == "f":
+        return _FLOAT_FORMATS.get(kind.name)
+    if kind.kind not in "mM":
+        return None
+    unit, count = _numpy().datetime_data(kind)
+    if count != 1 or unit not in ("D", *_UNITS.values()):
+        return None
+    if unit == "D":
+        return "tdD" if kind.kind == "M" else None
+    letter = next(letter for letter, name in _UNITS.items() if name == unit)
+    return f"ts{letter}:" if kind.kind == "M" else f"tD{letter}"
+
+
+def made_with_type(array: Any, name: str, valid: Any = None) -> tuple[Owner, ArrowType | None]:
+    """Returns the column of a masked array and its logical type. A datetime or timedelta that is NaT is null."""
+    numpy, format = _numpy(), _format_of(array.dtype)
+    if format is None:
+        return made_of_array(array, name, valid), None
+    logical = of_format(format)
+    plain = numpy.ma.getdata(array).astype(array.dtype.newbyteorder("="), copy=False)
+    mask = numpy.ma.getmaskarray(array)
+    if format[0] == "t":
+        mask = mask | numpy.isnat(plain)
+        numbers = plain.astype("int64")
+        numbers = numpy.where(mask, 0, numbers)
+        if format == "tdD":
+            checked(numpy.ma.array(numbers, mask=mask), name, "i", Limits(-(1 << 31), (1 << 31) - 1))
+        bits = numbers.astype("int32" if format == "tdD" else "int64")
+    else:
+        bits = numpy.ascontiguousarray(plain).view(f"uint{8 * plain.dtype.itemsize}")
+    return made_of_array(numpy.ma.array(bits, mask=mask), name, valid), logical
+
+
+def _as_logical(values: Any, logical: ArrowType) -> Any:
+    """Returns the values of the storage as those of a logical type. Raises TypeError if numpy has none."""
+    format = logical.format
+    if format in _FLOAT_FORMATS.values():
+        return values.view(f"float{8 * values.dtype.itemsize}")
+    if format == "tdD":
+        return values.astype("datetime64[D]")
+    if format == "tdm":
+        return values.view("datetime64[ms]")
+    if format.startswith("ts"):
+        return values.view(f"datetime64[{_UNITS[format[2]]}]")
+    if format.startswith("tD"):
+        return values.view(f"timedelta64[{_UNITS[format[2]]}]")
+    if format in ("b", "c", "C", "s", "S", "i", "I", "l", "L"):
+        return values
+    raise TypeError(f"no array has values of type {logical}")
+
+
 def _unpacked(bits: Memory, count: int) -> Any:
     numpy = _numpy()
     return numpy.unpackbits(numpy.frombuffer(bits.items, dtype=numpy.uint8), count=count, bitorder="little").astype(numpy.bool_)
 
 
-def array_of(owner: Owner) -> Any:
-    """Returns the integers of 8 to 64 bits or booleans as an array, a masked one if some row is null."""
+def array_of(owner: Owner, logical: ArrowType | None = None) -> Any:
+    """Returns the integers of 8 to 64 bits, booleans, floats, dates, timestamps or durations as an array, masked if some row is null."""
+    if logical is not None and logical.is_dictionary:
+        return array_of(*decoded(owner, logical))
     numpy, kind, count = _numpy(), owner._kind(), len(owner)
     if kind == "bool":
         bits = room_for_bits(count)
@@ -159,7 +219,9 @@ def array_of(owner: Owner) -> Any:
         values = numpy.empty(count, dtype=NUMBERS[kind][0])
         call(f"sel_{NUMBERS[kind][0]}_values", owner, _memory_of(values), count)
     else:
-        raise TypeError(f"no array has values of type {kind}")
+        raise TypeError(f"no array has values of type {kind if logical is None else logical}")
+    if logical is not None:
+        values = _as_logical(values, logical)
     validity = validity_bits(owner)
     if validity is None:
         return values
@@ -167,11 +229,11 @@ def array_of(owner: Owner) -> Any:
     return values if valid.all() else numpy.ma.masked_array(values, mask=~valid)
 
 
-def plain_array_of(owner: Owner, dtype: Any, copy: bool | None) -> Any:
+def plain_array_of(owner: Owner, dtype: Any, copy: bool | None, logical: ArrowType | None = None) -> Any:
     """Returns the array of a column without nulls, of the type that numpy needs. Raises ValueError for a null, or if a copy is not allowed."""
     if copy is False:
         raise ValueError("an array of a column is always a copy")
-    array = array_of(owner)
+    array = array_of(owner, logical)
     if _numpy().ma.isMaskedArray(array):
         raise ValueError("a column with nulls is no plain array: to_numpy() masks them, fill_null(value) replaces them")
     return array if dtype is None else array.astype(dtype, copy=False)

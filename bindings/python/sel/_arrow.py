@@ -7,15 +7,16 @@ import errno
 import os
 import threading
 from ctypes import CFUNCTYPE, POINTER, byref, c_char_p, c_int, c_void_p, py_object
-from typing import Any
+from typing import Any, Iterator, Optional, Tuple
 
 from ._checks import shown
-from ._errors import error_of
-from ._library import ArrowArray, ArrowArrayStream, ArrowSchema, call, status_of
+from ._errors import BrokenRule, WrongArgument, error_of
+from ._library import ArrowArray, ArrowArrayStream, ArrowSchema, attempt, call, lib, status_of
+from ._logical import ArrowType, TypeOwner, as_logical_of, common_type, logical_type, type_parameter
 from ._owner import Owner, concatenated
-from ._statuses import ARROW_RELEASED
+from ._statuses import ARROW_FORMAT, ARROW_RELEASED, OK
 
-__all__ = ["export", "imported"]
+__all__ = ["Typed", "batches", "export", "export_type", "imported", "new_stream"]
 
 _api = ctypes.pythonapi
 _api.PyCapsule_New.restype, _api.PyCapsule_New.argtypes = py_object, [c_void_p, c_char_p, c_void_p]
@@ -60,6 +61,7 @@ def _destructor(kind: Any, name: c_char_p) -> Any:
 
 
 _DESTROY_SCHEMA, _DESTROY_ARRAY = _destructor(ArrowSchema, _SCHEMA), _destructor(ArrowArray, _ARRAY)
+_DESTROY_STREAM = _destructor(ArrowArrayStream, _STREAM)
 
 
 def _room(kind: Any) -> int:
@@ -70,17 +72,54 @@ def _room(kind: Any) -> int:
     return int(address)
 
 
-def export(column: Owner) -> tuple[object, object]:
+def _new_capsule(kind: Any, name: c_char_p, destroy: Any) -> tuple[Any, object]:
+    """Returns an empty structure, and the capsule that releases and frees it."""
+    address = _room(kind)
+    return kind.from_address(address), _api.PyCapsule_New(address, name, ctypes.cast(destroy, c_void_p))
+
+
+def new_stream() -> tuple[Any, object]:
+    """Returns an empty stream, and its capsule."""
+    return _new_capsule(ArrowArrayStream, _STREAM, _DESTROY_STREAM)
+
+
+def _requested(column: Owner, logical: ArrowType | None, schema: object) -> TypeOwner:
+    """Returns the type to export with: the requested one if it has the same meaning and another layout, else the column's."""
+    own = type_parameter(logical)
+    if schema is None:
+        return own
+    there, wanted = ArrowSchema.from_address(_api.PyCapsule_GetPointer(schema, _SCHEMA)), TypeOwner()
+    try:
+        call("sel_type_import", byref(there), byref(wanted._handle))
+        common_type((column, column), (ArrowType(wanted), as_logical_of(column, logical)))
+        return wanted
+    except (WrongArgument, BrokenRule):
+        return own
+
+
+def export(column: Owner, logical: ArrowType | None, requested: object = None) -> tuple[object, object]:
     """Returns two capsules, of the type and of a copy of the rows."""
-    schema, array = _room(ArrowSchema), _room(ArrowArray)
-    first = _api.PyCapsule_New(schema, _SCHEMA, ctypes.cast(_DESTROY_SCHEMA, c_void_p))
-    second = _api.PyCapsule_New(array, _ARRAY, ctypes.cast(_DESTROY_ARRAY, c_void_p))
-    call("sel_export", column, ArrowArray.from_address(array), ArrowSchema.from_address(schema))
+    wanted = _requested(column, logical, requested)
+    schema, first = _new_capsule(ArrowSchema, _SCHEMA, _DESTROY_SCHEMA)
+    array, second = _new_capsule(ArrowArray, _ARRAY, _DESTROY_ARRAY)
+    try:
+        call("sel_export", column, wanted, array, schema)
+    except BrokenRule:  # such as a null, where the requested type has none
+        if requested is None:
+            raise
+        call("sel_export", column, type_parameter(logical), array, schema)
     return first, second
 
 
-def imported(source: Any) -> Owner:
-    """Returns a copy of the array of a source, or else of the arrays of its stream."""
+def export_type(column: Owner, logical: ArrowType | None) -> object:
+    """Returns a capsule of the type."""
+    schema, capsule = _new_capsule(ArrowSchema, _SCHEMA, _DESTROY_SCHEMA)
+    call("sel_type_export", as_logical_of(column, logical)._owner, schema)
+    return capsule
+
+
+def imported(source: Any) -> tuple[Owner, ArrowType | None]:
+    """Returns a copy of the array of a source, or else of the arrays of its stream, and the logical type."""
     if hasattr(source, "__arrow_c_array__"):
         return _import_array(*source.__arrow_c_array__())
     if hasattr(source, "__arrow_c_stream__"):
@@ -88,33 +127,56 @@ def imported(source: Any) -> Owner:
     raise TypeError(f"source: {shown(source)} is of type {type(source).__name__}, which has neither __arrow_c_array__ nor __arrow_c_stream__")
 
 
-def _copied(array: ArrowArray, schema: ArrowSchema) -> Owner:
-    """Returns a copy of an array, and releases the array in any case."""
-    made = Owner()
+Typed = Tuple[Owner, Optional[ArrowType]]
+
+
+def _copied(array: ArrowArray, schema: ArrowSchema) -> Typed:
+    """Returns a copy of an array and its logical type, and releases the array in any case."""
+    made, found = Owner(), TypeOwner()
     try:
-        call("sel_import", byref(array), byref(schema), byref(made._handle))
+        status = attempt("sel_import", byref(array), byref(schema), byref(made._handle), byref(found._handle))
+        if status == ARROW_FORMAT:
+            format = (lib.sel_unsupported_format(byref(schema)) or b"").decode(errors="replace")
+            raise error_of(status, f"{status_of(status)} {format!r}")
+        if status != OK:
+            raise error_of(status, status_of(status))
     finally:
         _release(array)
-    return made
+    return made, logical_type(made, found)
 
 
-def _import_array(schema: object, array: object) -> Owner:
+def _import_array(schema: object, array: object) -> Typed:
     """Returns a copy of the array in a capsule."""
     there = ArrowSchema.from_address(_api.PyCapsule_GetPointer(schema, _SCHEMA))
     return _copied(_moved(ArrowArray.from_address(_api.PyCapsule_GetPointer(array, _ARRAY))), there)
 
 
-def _import_stream(capsule: object) -> Owner:
-    """Returns a copy of the arrays of the stream in a capsule, one after the other, and releases the stream in any case."""
+def batches(capsule: object) -> Iterator[Typed]:
+    """Returns an iterator over copies of the arrays of the stream in a capsule; without an array, over one without rows.
+
+    The stream is released at the end, after an error, and when the iterator is closed.
+    """
     stream, schema = _moved(ArrowArrayStream.from_address(_api.PyCapsule_GetPointer(capsule, _STREAM))), ArrowSchema()
     if not stream.release:
         raise error_of(ARROW_RELEASED, status_of(ARROW_RELEASED))
     try:
         _get(stream, stream.get_schema, schema)
-        return concatenated(_chunks(stream, schema) or [_copied(_empty_array(schema), schema)])
+        count = 0
+        for batch in _chunks(stream, schema):
+            count += 1
+            yield batch
+        if count == 0:
+            yield _copied(_empty_array(schema), schema)
     finally:
         _release(schema)
         _release(stream)
+
+
+def _import_stream(capsule: object) -> Typed:
+    """Returns a copy of the arrays of the stream in a capsule, one after the other."""
+    chunks = list(batches(capsule))
+    owners, logical = common_type([owner for owner, _ in chunks], [logical for _, logical in chunks])
+    return concatenated(owners), logical
 
 
 def _get(stream: ArrowArrayStream, function: int, out: ArrowArray | ArrowSchema) -> None:
@@ -128,15 +190,14 @@ def _get(stream: ArrowArrayStream, function: int, out: ArrowArray | ArrowSchema)
     raise kinds[code](message) if code in kinds else OSError(code, message)
 
 
-def _chunks(stream: ArrowArrayStream, schema: ArrowSchema) -> list[Owner]:
-    """Returns a copy of each array of a stream, up to the released array at its end."""
-    chunks: list[Owner] = []
+def _chunks(stream: ArrowArrayStream, schema: ArrowSchema) -> Iterator[Typed]:
+    """Returns an iterator over copies of the arrays of a stream, up to the released array at its end."""
     while True:
         array = ArrowArray()
         _get(stream, stream.get_next, array)
         if not array.release:
-            return chunks
-        chunks.append(_copied(array, schema))
+            return
+        yield _copied(array, schema)
 
 
 # The library does not look at what is below this level.
@@ -147,10 +208,12 @@ _NO_RELEASE = _Release(lambda address: None)
 def _empty_array(schema: ArrowSchema, level: int = 0) -> ArrowArray:
     """Returns an array of a schema without rows. It has as many buffers as the format's layout: the library checks the format."""
     name = schema.format or b""
-    buffers = 1 if name[:2] in (b"+s", b"+w") else 3 if name[:1] in (b"z", b"Z", b"u", b"U", b"v") else 2
+    buffers = 0 if name == b"+r" else 1 if name[:2] in (b"+s", b"+w") else 3 if name[:1] in (b"z", b"Z", b"u", b"U", b"v") or name[:2] == b"+v" else 2
     array = ArrowArray(n_buffers=buffers, buffers=(c_void_p * buffers)(), n_children=schema.n_children, release=ctypes.cast(_NO_RELEASE, c_void_p))
     if name[:1] == b"+" and schema.children and level < _DEEPEST:
         children = [schema.children[number] for number in range(schema.n_children)]
         array.children = (POINTER(ArrowArray) * len(children))(*[
             ctypes.pointer(_empty_array(child.contents, level + 1)) if child else POINTER(ArrowArray)() for child in children])
+    if schema.dictionary and level < _DEEPEST:
+        array.dictionary = ctypes.pointer(_empty_array(schema.dictionary.contents, level + 1))
     return array

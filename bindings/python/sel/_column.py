@@ -12,11 +12,12 @@ from ._checks import FIELD_NUMBER, LIST_INDEX, ROW_OFFSET, SIZE, boolean, intege
 from ._errors import BrokenText, WrongArgument, error_of
 from ._indexing import selected
 from ._library import attempt, call, lib, status_of
+from ._logical import ArrowType, as_logical_of, common_type, decoded, nullable, of_format, storage_type
 from ._makers import made_of
 from ._memory import _NOTHING, NO_VALIDITY, unpacked
 from ._names import VALID_NAMES, short_names
 from ._owner import Owner, concatenated, derived, from_several
-from ._readers import printed, rows_of, validity_bits
+from ._readers import printed, rows_of, text_of, validity_bits
 from ._statuses import OK, ROW_SYNTAX, ROW_TYPE_MISMATCH, TYPE_MISMATCH, TYPE_SYNTAX
 from ._types import Type, parse_type, type_of_values
 
@@ -55,7 +56,9 @@ class Column(Owner):
     Column(list<utf8>, [["a"],[],null])
     """
 
-    __slots__ = ()
+    __slots__ = ("_logical",)
+
+    _logical: ArrowType | None
 
     # ---- making
 
@@ -73,14 +76,12 @@ class Column(Owner):
         Column(struct<i64,utf8>, [(1,"a"),null])
         """
         if isinstance(values, Column) and type is None:
-            made = derived(values, "sel_share")
-        else:
-            rows = list(values)
-            wanted = type_of_values(rows) if type is None else parse_type(type) if isinstance(type, str) else type
-            if not isinstance(wanted, Type):
-                raise TypeError(f"type: {shown(type)} is neither a Type nor the text of one")
-            made = made_of(rows, wanted)
-        return cls._owning(made)
+            return cls._owning(derived(values, "sel_share"), values._logical)
+        rows = list(values)
+        wanted = type_of_values(rows) if type is None else parse_type(type) if isinstance(type, str) else type
+        if not isinstance(wanted, Type):
+            raise TypeError(f"type: {shown(type)} is neither a Type nor the text of one")
+        return cls._owning(made_of(rows, wanted), wanted if isinstance(wanted, ArrowType) else None)
 
     @staticmethod
     def from_pylist(values: Iterable[Any], type: str | Type | None = None) -> Column:
@@ -116,7 +117,7 @@ class Column(Owner):
 
     @staticmethod
     def from_numpy(values: Array, valid: Iterable[Boolean] | Array | None = None) -> Column:
-        """Returns the column of an array of one dimension, of integers of 8 to 64 bits or booleans.
+        """Returns the column of an array of one dimension, of integers of 8 to 64 bits, floats, booleans, datetime64 or timedelta64.
 
         A row is null if it is masked, or if `valid`, a boolean for each row, is false. The array is copied; no other thread may write
         to it meanwhile. Raises TypeError for an array of another type.
@@ -127,25 +128,35 @@ class Column(Owner):
         """
         if not _arrays.is_array(values):
             raise TypeError(f"values: {shown(values)} is not an array")
-        return Column._owning(_arrays.made_of_array(_arrays.opened(values, "values"), "values", valid))
+        return Column._owning(*_arrays.made_with_type(_arrays.opened(values, "values"), "values", valid))
 
     # ---- reading
 
     @property
     def type(self) -> Type:
-        """The type of the rows.
+        """The type of the rows: an `ArrowType` if the column has a logical type, else that of the storage.
 
-        >>> str(sel.Column([[1], None]).type)
-        'list<i64>'
+        >>> str(sel.Column([[1], None]).type), str(sel.Column([0.5]).type)
+        ('list<i64>', 'double')
         """
-        kind = self._kind()
-        if kind == "list":
-            return Type(kind, (self._child().type,))
-        if kind == "fixed":
-            return Type(kind, (self._child().type,), self._size("sel_fixed_size_list_size"))
-        if kind == "struct":
-            return Type(kind, tuple(self._field(number).type for number in range(self._size("sel_field_count"))))
-        return Type(kind)
+        return self.storage if self._logical is None else self._logical
+
+    @property
+    def storage(self) -> Type:
+        """The type of the storage, which the kernels see.
+
+        >>> str(sel.Column([0.5]).storage)
+        'u64'
+        """
+        return storage_type(self)
+
+    def decoded(self) -> Column:
+        """Returns the column without dictionaries, at every depth: the values in place of their keys.
+
+        >>> sel.Column([1, None]).decoded()
+        Column(i64, [1,null])
+        """
+        return self.share() if self._logical is None else Column._owning(*decoded(self, self._logical))
 
     @property
     def null_count(self) -> int:
@@ -170,13 +181,18 @@ class Column(Owner):
     def to_pylist(self) -> list[Any]:
         """Returns the rows as Python values: int, bool, str, bytes, list, tuple (of a struct), and `None` for null.
 
+        With a logical type they are float, date, time, datetime, timedelta, Decimal, the values of a dictionary, and dicts of structs whose
+        fields have names; maps are lists of pairs. What Python cannot represent, such as nanoseconds in a datetime, is an int.
+
         >>> sel.Column.parse("struct<i8,binary>", '[(1, h"00ff"), null]').to_pylist()
         [(1, b'\\x00\\xff'), None]
         """
-        return rows_of(self)
+        return rows_of(self, self._logical)
 
     def to_numpy(self) -> Array:
-        """Returns the integers of 8 to 64 bits or the booleans as an array, a masked one if some row is null. It is always a copy.
+        """Returns integers of 8 to 64 bits, floats, booleans, dates, timestamps and durations as an array, masked if some row is null.
+
+        It is always a copy. Dates and timestamps are of type datetime64, durations of type timedelta64.
 
         Raises TypeError for a column of another type.
 
@@ -185,7 +201,7 @@ class Column(Owner):
         >>> sel.Column([1, None]).to_numpy().mask
         array([False,  True])
         """
-        array: Array = _arrays.array_of(self)
+        array: Array = _arrays.array_of(self, self._logical)
         return array
 
     def __array__(self, dtype: Any = None, copy: bool | None = None) -> Array:
@@ -198,7 +214,7 @@ class Column(Owner):
         >>> numpy.asarray(sel.Column([1, None, 3]).fill_null(0))
         array([1, 0, 3])
         """
-        array: Array = _arrays.plain_array_of(self, dtype, copy)
+        array: Array = _arrays.plain_array_of(self, dtype, copy, self._logical)
         return array
 
     def __iter__(self) -> Iterator[Any]:
@@ -233,7 +249,7 @@ class Column(Owner):
         """
         if is_integer(place):
             return self.sliced(position_of(place, "index", len(self)), 1).to_pylist()[0]
-        return Column._owning(selected(self, place, "index"))
+        return Column._owning(selected(self, place, "index"), nullable(self._logical))
 
     def __repr__(self) -> str:
         """Returns the type and the first 12 rows as text."""
@@ -248,7 +264,7 @@ class Column(Owner):
         >>> str(sel.Column([("a", b"\\xff"), None]))
         '[("a",h"ff"),null]'
         """
-        return printed(self)
+        return printed(self) if self._logical is None else text_of(self.to_pylist())
 
     def __eq__(self, other: object) -> bool:
         """Returns whether the other value is a column with the same rows, as `equals` does. It is one bool, not one for each row.
@@ -272,8 +288,45 @@ class Column(Owner):
         True
         """
         answer = c_bool()
-        call("sel_equal_rows", self, column_of(other, "other"), byref(answer))
+        column_of(other, "other")
+        first, second = self, other
+        if self._logical is not None or other._logical is not None:
+            try:
+                (one, two), _ = common_type((self, other), (self._logical, other._logical))
+            except WrongArgument:
+                return self.to_pylist() == other.to_pylist()
+            first, second = Column._owning(one), Column._owning(two)
+        call("sel_equal_rows", first, second, byref(answer))
         return answer.value
+
+    # ---- parts
+
+    def child(self) -> Column:
+        """Returns the elements of lists or fixed-size lists as a column, with those outside of the lists. It shares memory with this one.
+
+        >>> sel.Column([[1, 2], [], None, [3]]).child()
+        Column(i64, [1,2,3])
+        """
+        return self._new("sel_child", logical=self._field_type(0))
+
+    def field(self, field: str | SupportsIndex) -> Column:
+        """Returns a field of structs by its name or its number. It shares memory with this column; in null structs it is as stored.
+
+        Raises KeyError for a name and IndexError for a number that no field has.
+
+        >>> sel.Column([(1, "a"), (2, "b")]).field(1)
+        Column(utf8, ["a","b"])
+        >>> sel.Column.from_arrow(sel.Table({"id": [1, 2], "price": [0.5, 2.5]})).field("price")
+        Column(double, [0.5,2.5])
+        """
+        place = self._place_of(field) if isinstance(field, str) else integer_within(field, "field", FIELD_NUMBER)
+        return self._new("sel_field", place, logical=self._field_type(place))
+
+    def _place_of(self, name: str) -> int:
+        names = [] if self._logical is None else [field.name for field in self._logical.fields]
+        if name not in names:
+            raise KeyError(f"there is no field {name!r}; {'the fields are ' + ', '.join(map(repr, names)) if names else 'fields have no names'}")
+        return names.index(name)
 
     # ---- kernels
 
@@ -285,7 +338,7 @@ class Column(Owner):
         >>> sel.Column([31, None, 27, 45]).filter([True, True, None, True])
         Column(i64, [31,null,45])
         """
-        return self._new("sel_filter", mask_of(mask, "mask"))
+        return self._like("sel_filter", mask_of(mask, "mask"))
 
     def take(self, indices: Column | Iterable[SupportsIndex | None] | Array) -> Column:
         """Returns the rows at the indices, null where an index is null or masked.
@@ -295,7 +348,7 @@ class Column(Owner):
         >>> sel.Column(["a", "b", "c"]).take([2, None, 0, 2])
         Column(utf8, ["c",null,"a","c"])
         """
-        return self._new("sel_take", indices_of(indices, "indices"))
+        return self._new("sel_take", indices_of(indices, "indices"), logical=nullable(self._logical))
 
     def sublist_get(self, index: SupportsIndex) -> Column:
         """Returns the element of each list at the index, null if there is none; a negative index counts from the end.
@@ -305,7 +358,7 @@ class Column(Owner):
         >>> sel.Column([[1, 2], [3], [], None]).sublist_get(-1)
         Column(i64, [2,3,null,null])
         """
-        return self._new("sel_list_get", integer_within(index, "index", LIST_INDEX))
+        return self._new("sel_list_get", integer_within(index, "index", LIST_INDEX), logical=self._element_type())
 
     def index_is_oob(self, index: SupportsIndex) -> bool:
         """Returns whether some list that is not null has no element at the index. Raises IndexError as `sublist_get` does.
@@ -328,8 +381,8 @@ class Column(Owner):
         """
         flag = boolean(null_on_oob, "null_on_oob")
         if isinstance(index, Column):
-            return self._new("sel_fixed_size_list_get_each", index, flag)
-        return self._new("sel_fixed_size_list_get", integer_within(index, "index", LIST_INDEX), flag)
+            return self._new("sel_fixed_size_list_get_each", index, flag, logical=self._element_type())
+        return self._new("sel_fixed_size_list_get", integer_within(index, "index", LIST_INDEX), flag, logical=self._element_type())
 
     def list_element(self, index: SupportsIndex) -> Column:
         """Returns the element of each list or fixed-size list at the index, as `sublist_get` and `fixed_get` do.
@@ -348,7 +401,7 @@ class Column(Owner):
         bits = validity_bits(self)
         if bits is None:
             return self.sliced(0, 0) if self._kind() == "null" else self.share()
-        return self._new("sel_filter_bits", bits, bits.size(), len(self))
+        return self._like("sel_filter_bits", bits, bits.size(), len(self))
 
     def fill_null(self, value: Any) -> Column:
         """Returns the rows with a value in place of each null. Raises TypeError or OverflowError if the type cannot hold the value.
@@ -361,7 +414,7 @@ class Column(Owner):
             return self.share()
         mask = Owner()
         call("sel_boolean_new", bits, bits.size(), len(self), *NO_VALIDITY, byref(mask._handle))
-        return Column._owning(derived(mask, "sel_if_then_else_broadcast_false", self, one))
+        return Column._owning(derived(mask, "sel_if_then_else_broadcast_false", self, one), self._logical)
 
     def unit_list(self) -> Column:
         """Returns a column of lists with one row each. Raises LimitPassed, an OverflowError, for a column of 128 levels.
@@ -369,7 +422,7 @@ class Column(Owner):
         >>> sel.Column([1, None]).unit_list()
         Column(list<i64>, [[1],[null]])
         """
-        return self._new("sel_unit_list")
+        return self._new("sel_unit_list", logical=None if self._logical is None else of_format("+L", [self._logical]))
 
     def sliced(self, offset: SupportsIndex, length: SupportsIndex) -> Column:
         """Returns `length` rows from row `offset` on, which share memory with this column.
@@ -379,7 +432,7 @@ class Column(Owner):
         >>> sel.Column([10, 11, 12, 13]).sliced(1, 2)
         Column(i64, [11,12])
         """
-        return self._new("sel_slice", integer_within(offset, "offset", ROW_OFFSET), integer_within(length, "length", SIZE))
+        return self._like("sel_slice", integer_within(offset, "offset", ROW_OFFSET), integer_within(length, "length", SIZE))
 
     def share(self) -> Column:
         """Returns the same rows as a second column, which shares memory with this one.
@@ -387,7 +440,7 @@ class Column(Owner):
         >>> sel.Column([1, 2]).share()
         Column(i64, [1,2])
         """
-        return self._new("sel_share")
+        return self._like("sel_share")
 
     def __copy__(self) -> Column:
         """Returns what `share` returns."""
@@ -398,30 +451,41 @@ class Column(Owner):
         return self.share()
 
     def __reduce__(self) -> tuple[Any, ...]:
-        """Returns what `pickle` stores: the rows as Python values, and the text of the type."""
-        return Column, (self.to_pylist(), str(self.type))
+        """Returns what `pickle` stores: the rows as Python values of the storage, the text of its type, and the logical type."""
+        rows = rows_of(self), str(self.storage)
+        return (Column, rows) if self._logical is None else (_with_type, (*rows, self._logical))
 
     # ---- Arrow
 
     def __arrow_c_schema__(self) -> object:
-        """Returns a capsule with the type, for other Arrow libraries. The fields of structs have the names `0`, `1` and so on."""
-        from ._arrow import export
+        """Returns a capsule with the type, for other Arrow libraries.
 
-        return export(self.sliced(0, 0))[0]
+        Without a logical type the fields of structs have the names `0`, `1` and so on.
+        """
+        from ._arrow import export_type
+
+        return export_type(self, self._logical)
 
     def __arrow_c_array__(self, requested_schema: object = None) -> tuple[object, object]:
-        """Returns capsules with the type and a copy of the rows, for other Arrow libraries, as in `pyarrow.array(column)`.
+        """Returns capsules with the type and the rows, for other Arrow libraries, as in `pyarrow.array(column)`. Buffers are shared.
 
-        The type is this column's, whatever is requested. Raises BrokenRule, a ValueError, for unsigned 128-bit integers, and for
-        signed ones of more than 38 digits.
+        A requested schema is honoured if it only differs in the layout: strings, binary and lists with offsets of 32 or 64 bits, or
+        views. Else the type is this column's. Unsigned 128-bit integers are 16 bytes with the extension name `sel.uint128`. Raises
+        BrokenRule, a ValueError, for signed 128-bit integers of more than 38 digits.
         """
         from ._arrow import export
 
-        return export(self)
+        return export(self, self._logical, requested_schema)
+
+    def __arrow_c_stream__(self, requested_schema: object = None) -> object:
+        """Returns a capsule with a stream of one array, the column."""
+        from ._stream import stream_of
+
+        return stream_of(iter([(self, self._logical)]), as_logical_of(self, self._logical))
 
     @staticmethod
     def from_arrow(source: Any) -> Column:
-        """Returns a copy of Arrow data of another library, by the Arrow PyCapsule interface.
+        """Returns Arrow data of another library, by the Arrow PyCapsule interface. It shares the buffers and keeps the Arrow type.
 
         The source has `__arrow_c_array__`, as an array of pyarrow or nanoarrow has, or `__arrow_c_stream__`, as a Series or DataFrame
         of pandas or polars and a ChunkedArray or Table of pyarrow have. The chunks of a stream are concatenated; without any chunk
@@ -435,25 +499,38 @@ class Column(Owner):
         """
         from ._arrow import imported
 
-        return Column._owning(imported(source))
+        return Column._owning(*imported(source))
 
     # ---- internal
 
     @classmethod
-    def _owning(cls, owner: Owner) -> Self:
-        """Moves the column of an owner, which nothing else refers to, into a new column of this class."""
+    def _owning(cls, owner: Owner, logical: ArrowType | None = None) -> Self:
+        """Moves the column of an owner, which nothing else refers to, into a new column of this class, with a logical type."""
         column = Owner.__new__(cls)
         column._handle, owner._handle = owner._handle, column._handle
+        column._logical = logical
         return column
 
-    def _new(self, name: str, *arguments: Any) -> Column:
-        return Column._owning(derived(self, name, *arguments))
+    def _new(self, name: str, *arguments: Any, logical: ArrowType | None = None) -> Column:
+        return Column._owning(derived(self, name, *arguments), logical)
 
-    def _child(self) -> Column:
-        return self._new("sel_child")
+    def _like(self, name: str, *arguments: Any) -> Column:
+        """Returns what a call makes, which has the type of this column."""
+        return self._new(name, *arguments, logical=self._logical)
 
-    def _field(self, number: SupportsIndex) -> Column:
-        return self._new("sel_field", integer_within(number, "field", FIELD_NUMBER))
+    def _field_type(self, number: int) -> ArrowType | None:
+        fields = () if self._logical is None else self._logical.fields
+        return fields[number] if number < len(fields) else None
+
+    def _element_type(self) -> ArrowType | None:
+        """Returns the type of an element of a list, or of none."""
+        return nullable(self._field_type(0), "")
+
+
+
+def _with_type(rows: list[Any], storage: str, logical: ArrowType) -> Column:
+    """Returns a column that was pickled."""
+    return Column._owning(made_of(rows, parse_type(storage)), logical)
 
 
 # ---- kernels over several columns
@@ -469,11 +546,12 @@ def choose(mask: Column | Iterable[Boolean | None] | Array, if_true: Column | An
     Column(i64, [1,0,0])
     """
     wanted = if_true.type if isinstance(if_true, Column) else if_false.type if isinstance(if_false, Column) else type_of_values([if_true, if_false])
-    first, second = (side if isinstance(side, Column) else made_of([side], wanted, name)
-                     for side, name in ((if_true, "if_true"), (if_false, "if_false")))
+    sides = [side if isinstance(side, Column) else Column._owning(made_of([side], wanted, name), nullable(wanted if isinstance(wanted, ArrowType) else None))
+             for side, name in ((if_true, "if_true"), (if_false, "if_false"))]
+    (first, second), logical = common_type(sides, [side._logical for side in sides])
     name = {(True, True): "sel_if_then_else", (False, True): "sel_if_then_else_broadcast_true", (True, False): "sel_if_then_else_broadcast_false", (False, False): "sel_if_then_else_broadcast_both"}[
         isinstance(if_true, Column), isinstance(if_false, Column)]
-    return Column._owning(derived(mask_of(mask, "mask"), name, first, second))
+    return Column._owning(derived(mask_of(mask, "mask"), name, first, second), logical)
 
 
 def if_else(mask: Column | Iterable[Boolean | None] | Array, if_true: Column | Any, if_false: Column | Any) -> Column:
@@ -494,9 +572,10 @@ def flatten(columns: Iterable[Column], widths: Iterable[SupportsIndex] | Array, 
     >>> sel.flatten([sel.Column([1, 2, 3, 4]), sel.Column([10, 20])], [2, 1], 2)
     Column(i64, [1,2,10,3,4,20])
     """
-    owners, sizes, rows = columns_of(columns, "columns"), sizes_of(widths, "widths"), integer_within(height, "height", SIZE)
+    given, sizes, rows = columns_of(columns, "columns"), sizes_of(widths, "widths"), integer_within(height, "height", SIZE)
+    owners, logical = common_type(given, _types_of(given))
     return Column._owning(from_several(owners, lambda handles, made: call(
-        "sel_flatten", handles, len(owners), sizes, len(sizes.items), rows, byref(made._handle))))
+        "sel_flatten", handles, len(owners), sizes, len(sizes.items), rows, byref(made._handle))), logical)
 
 
 def collect_rows(columns: Iterable[Column], picks: Iterable[tuple[SupportsIndex, SupportsIndex] | None] | Array) -> Column:
@@ -508,9 +587,10 @@ def collect_rows(columns: Iterable[Column], picks: Iterable[tuple[SupportsIndex,
     >>> sel.collect_rows([sel.Column(["a", "b"]), sel.Column(["x"])], [(1, 0), None, (0, 1)])
     Column(utf8, ["x",null,"b"])
     """
-    owners, (numbers, count, validity) = columns_of(columns, "columns"), picks_of(picks, "picks")
+    given, (numbers, count, validity) = columns_of(columns, "columns"), picks_of(picks, "picks")
+    owners, logical = common_type(given, _types_of(given))
     return Column._owning(from_several(owners, lambda handles, made: call(
-        "sel_collect_rows", handles, len(owners), numbers, count, *validity, byref(made._handle))))
+        "sel_collect_rows", handles, len(owners), numbers, count, *validity, byref(made._handle))), nullable(logical))
 
 
 def concat(columns: Iterable[Column]) -> Column:
@@ -527,9 +607,14 @@ def concat(columns: Iterable[Column]) -> Column:
         raise ValueError("columns: there is no column, and so no type of the result")
     wanted = given[0].type
     for position, column in enumerate(given):
-        if column.type != wanted:
+        if column.storage != given[0].storage:
             raise WrongArgument(TYPE_MISMATCH, f"columns[{position}]: a column of type {column.type}, where columns[0] has type {wanted}")
-    return Column._owning(concatenated(given))
+    owners, logical = common_type(given, _types_of(given))
+    return Column._owning(concatenated(owners), logical)
+
+
+def _types_of(columns: Iterable[Owner]) -> list[ArrowType | None]:
+    return [column._logical if isinstance(column, Column) else None for column in columns]
 
 
 def propagate_dictionary(keys: Column, values: Column) -> tuple[Column, Column]:

@@ -12,11 +12,17 @@ from ._checks import shown
 from ._errors import error_of
 from ._statuses import OK
 
-__all__ = ["ArrowArray", "ArrowArrayStream", "ArrowSchema", "Handle", "Slice", "attempt", "call", "lib", "status_of"]
+__all__ = ["ArrowArray", "ArrowArrayStream", "ArrowSchema", "Handle", "Slice", "TypeHandle", "attempt", "call", "lib", "status_of"]
 
 
 class Handle(Structure):
     """`sel_column`: a column that the library holds."""
+
+    _fields_ = [("at", c_void_p)]
+
+
+class TypeHandle(Structure):
+    """`sel_type`: a logical type that the library holds."""
 
     _fields_ = [("at", c_void_p)]
 
@@ -101,7 +107,8 @@ _SHORT = ("sel_len", "sel_type_of", "sel_status_string", "sel_share", "sel_child
 for _name in _SHORT:
     setattr(lib, _name, getattr(_keeping_lock, _name))
 
-_COLUMN, _BYTES, _SIZE = POINTER(Handle), c_void_p, c_size_t
+_COLUMN, _TYPE, _BYTES, _SIZE = POINTER(Handle), POINTER(TypeHandle), c_void_p, c_size_t
+_ARRAY, _SCHEMA = POINTER(ArrowArray), POINTER(ArrowSchema)
 _BITS = [c_void_p, c_size_t, c_bool]
 
 _CALLS: dict[str, list[Any]] = {
@@ -151,8 +158,20 @@ _CALLS: dict[str, list[Any]] = {
     "sel_print": [_COLUMN, _BYTES, _SIZE, POINTER(_SIZE)],
     "sel_print_type": [_COLUMN, _BYTES, _SIZE, POINTER(_SIZE)],
     "sel_parse": [_BYTES, _SIZE, _BYTES, _SIZE, POINTER(_SIZE), _COLUMN],
-    "sel_import": [POINTER(ArrowArray), POINTER(ArrowSchema), _COLUMN],
-    "sel_export": [_COLUMN, POINTER(ArrowArray), POINTER(ArrowSchema)],
+    "sel_import": [_ARRAY, _SCHEMA, _COLUMN, _TYPE],
+    "sel_export": [_COLUMN, _TYPE, _ARRAY, _SCHEMA],
+    "sel_type_import": [_SCHEMA, _TYPE],
+    "sel_type_export": [_TYPE, _SCHEMA],
+    "sel_type_of_storage": [_COLUMN, _TYPE],
+    "sel_type_new": [_BYTES, _TYPE, _SIZE, _TYPE],
+    "sel_type_dictionary_new": [_BYTES, _COLUMN, _TYPE, c_bool, _TYPE],
+    "sel_type_as_field": [_TYPE, _BYTES, c_bool, _TYPE],
+    "sel_type_share": [_TYPE, _TYPE],
+    "sel_type_child": [_TYPE, _SIZE, _TYPE],
+    "sel_type_format": [_TYPE, _BYTES, _SIZE, POINTER(_SIZE)],
+    "sel_type_dictionary": [_TYPE, _COLUMN, _TYPE],
+    "sel_decode": [_COLUMN, _TYPE, _COLUMN, _TYPE],
+    "sel_common_type": [_COLUMN, _TYPE, _SIZE, _COLUMN, _TYPE],
 }
 
 
@@ -164,6 +183,12 @@ def _declare() -> None:
         found = getattr(lib, name)
         found.argtypes, found.restype = [_COLUMN], result
     lib.sel_status_string.argtypes, lib.sel_status_string.restype = [c_uint32], c_char_p
+    lib.sel_unsupported_format.argtypes, lib.sel_unsupported_format.restype = [_SCHEMA], c_char_p
+    lib.sel_type_equal.argtypes, lib.sel_type_equal.restype = [_TYPE, _TYPE], c_bool
+    of_types: dict[str, Any] = {"sel_type_free": None, "sel_type_child_count": c_size_t, "sel_type_name": c_char_p, "sel_type_arrow_format": c_char_p}
+    for name, kind in of_types.items():
+        found = getattr(lib, name)
+        found.argtypes, found.restype = [_TYPE], kind
 
 
 _declare()

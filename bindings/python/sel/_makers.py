@@ -10,9 +10,11 @@ from typing import Any
 
 from ._checks import Limits, booleans, integer_within, integers_within, shown
 from ._library import Slice, call
+from ._logical import ArrowType, dictionary_of
 from ._memory import Memory, packed, validity_of, words
 from ._owner import Owner, from_several
 from ._types import NUMBERS, Type
+from ._values import has_values, storage_values
 
 __all__ = ["CODES", "made_of"]
 
@@ -31,7 +33,33 @@ def made_of(values: Sequence[Any], wanted: Type, name: str = "values", valid: Se
     The name is that of the values in the messages of errors.
     """
     flags = [value is not None for value in values] if valid is None else valid
+    if isinstance(wanted, ArrowType):
+        return _make_logical(values, wanted, name, flags)
     return _MAKERS.get(wanted.kind, _make_numbers)(values, wanted, name, flags)
+
+
+def _make_logical(values: Sequence[Any], wanted: ArrowType, name: str, valid: Sequence[bool]) -> Owner:
+    """Returns the column of the storage of a logical type."""
+    if wanted.is_dictionary:
+        return _make_keys(values, wanted, name, valid)
+    if has_values(wanted):
+        values = storage_values(values, wanted, name)
+    if wanted.format == "+s":
+        names = [field.name for field in wanted.fields]
+        values = [tuple(map(value.get, names)) if isinstance(value, dict) else value for value in values]
+    return _MAKERS.get(wanted.kind, _make_numbers)(values, wanted, name, valid)
+
+
+def _make_keys(values: Sequence[Any], wanted: ArrowType, name: str, valid: Sequence[bool]) -> Owner:
+    """Returns the keys of values that a dictionary has."""
+    from ._readers import rows_of
+
+    places = {value: place for place, value in reversed(list(enumerate(rows_of(*dictionary_of(wanted)))))}
+    for position, value in enumerate(values):
+        if value is not None and value not in places:
+            raise ValueError(f"{name}[{position}]: the dictionary does not have {shown(value)}")
+    keys = [None if value is None else places[value] for value in values]
+    return _make_numbers(keys, Type(wanted.kind), name, valid)
 
 
 def _nulls(count: int) -> Owner:

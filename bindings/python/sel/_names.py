@@ -2,9 +2,10 @@
 
 from __future__ import annotations
 
+import datetime
 import re
 
-__all__ = ["LONG_NAMES", "VALID_NAMES", "short_names"]
+__all__ = ["LOGICAL_NAMES", "LONG_NAMES", "VALID_NAMES", "format_of_value", "logical_format", "short_names"]
 
 # The short name of each longer one.
 LONG_NAMES = {
@@ -16,6 +17,47 @@ LONG_NAMES = {
 VALID_NAMES = ("the types are null, bool (boolean), i8 to i128 (int8 to int128), u8 to u128 (uint8 to uint128), binary (large_binary), "
                "binview (binary_view), utf8 (string, large_string, string_view), list<..> (large_list<..>), "
                "fixed<n,..> (fixed_size_list<..>[n]) and struct<..>")
+
+# The Arrow formats of logical types, by their names.
+_FORMATS = {
+    "halffloat": "e", "float16": "e", "float": "f", "float32": "f", "double": "g", "float64": "g", "date32": "tdD", "date32[day]": "tdD",
+    "date64": "tdm", "date64[ms]": "tdm", "time32[s]": "tts", "time32[ms]": "ttm", "time64[us]": "ttu", "time64[ns]": "ttn",
+    **{f"duration[{unit}]": f"tD{unit[0]}" for unit in ("s", "ms", "us", "ns")}, "month_interval": "tiM", "day_time_interval": "tiD",
+    "month_day_nano_interval": "tin",
+}
+_TIMESTAMP = re.compile(r"timestamp\[(s|ms|us|ns)(?:,(?:tz=)?([^\]]+))?\]")
+_DECIMAL = re.compile(r"decimal(32|64|128|256)?\((\d+),(-?\d+)\)")
+_FIXED_BINARY = re.compile(r"fixed_size_binary\[(\d+)\]")
+
+
+def logical_format(word: str) -> str | None:
+    """Returns the Arrow format of a logical type without children, which is named without spaces; none if there is no such type.
+
+    >>> logical_format("timestamp[ms,tz=UTC]"), logical_format("decimal128(10,2)"), logical_format("i64")
+    ('tsm:UTC', 'd:10,2', None)
+    """
+    if word in _FORMATS:
+        return _FORMATS[word]
+    if found := _TIMESTAMP.fullmatch(word):
+        return f"ts{found[1][0]}:{found[2] or ''}"
+    if found := _DECIMAL.fullmatch(word):
+        return f"d:{found[2]},{found[3]}" + (f",{found[1]}" if found[1] not in (None, "128") else "")
+    found = _FIXED_BINARY.fullmatch(word)
+    return f"w:{found[1]}" if found else None
+
+
+def format_of_value(value: object) -> str | None:
+    """Returns the Arrow format of the type of a float, date, time, datetime or timedelta; none for other values."""
+    if isinstance(value, float):
+        return "g"
+    if isinstance(value, datetime.datetime):
+        return "tsu:" if value.tzinfo is None else "tsu:UTC"
+    kinds = {datetime.date: "tdD", datetime.time: "ttu", datetime.timedelta: "tDu"}
+    return next((format for kind, format in kinds.items() if isinstance(value, kind)), None)
+
+
+LOGICAL_NAMES = ("logical types are halffloat, float, double, date32, date64, time32[s], time64[us], timestamp[ms], timestamp[ms, tz=UTC], duration[s], "
+                 "decimal128(9, 2), fixed_size_binary[16] and the like")
 
 _TOKEN = re.compile(r"[A-Za-z0-9_]+|.", re.DOTALL)
 _WORD = re.compile(r"[A-Za-z0-9_]+")

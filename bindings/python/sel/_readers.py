@@ -8,16 +8,19 @@ of any size, are never read: a column whose values have no fixed size is read wi
 from __future__ import annotations
 
 import json
+from collections.abc import Callable, Sequence
 from ctypes import byref, c_bool, c_size_t
 from typing import Any
 
 from ._library import call
+from ._logical import ArrowType, dictionary_of
 from ._makers import CODES
 from ._memory import NO_VALIDITY, Memory, room, room_for_bits, unpacked, words
 from ._owner import Owner, derived
 from ._types import NUMBERS
+from ._values import python_value
 
-__all__ = ["printed", "rows_of", "validity_bits"]
+__all__ = ["printed", "rows_of", "text_of", "validity_bits"]
 
 # A buffer is read as a whole if it has at most so many times the bytes of the rows, or few bytes at all.
 _SPARE_FACTOR = 2
@@ -32,25 +35,38 @@ def validity_bits(owner: Owner) -> Memory | None:
     return bits if has.value else None
 
 
-def rows_of(owner: Owner) -> list[Any]:
-    """Returns the rows as Python values, `None` for null."""
+def rows_of(owner: Owner, logical: ArrowType | None = None) -> list[Any]:
+    """Returns the rows as Python values of the logical type, `None` for null."""
+    if logical is not None and logical.is_dictionary:
+        return _read_keys(owner, logical)
     kind = owner._kind()
     if kind == "null":
         return [None] * len(owner)
     bits = validity_bits(owner)
     if bits is None:
-        return _values_of(owner, kind)
+        return _values_of(owner, kind, logical)
     valid = unpacked(bits, len(owner))
     if kind not in _VARIABLE:
-        return [value if is_valid else None for value, is_valid in zip(_values_of(owner, kind), valid)]
-    values = iter(_values_of(derived(owner, "sel_filter_bits", bits, bits.size(), len(valid)), kind))
+        return [value if is_valid else None for value, is_valid in zip(_values_of(owner, kind, logical), valid)]
+    values = iter(_values_of(derived(owner, "sel_filter_bits", bits, bits.size(), len(valid)), kind, logical))
     return [next(values) if is_valid else None for is_valid in valid]
 
 
-def _values_of(owner: Owner, kind: str) -> list[Any]:
+def _read_keys(owner: Owner, logical: ArrowType) -> list[Any]:
+    """Returns for each key the value of the dictionary that it names."""
+    dictionary, value_type = dictionary_of(logical)
+    values = rows_of(dictionary, value_type)
+    return [None if key is None else values[key] for key in rows_of(owner)]
+
+
+def _values_of(owner: Owner, kind: str, logical: ArrowType | None) -> list[Any]:
     """Returns the values of all rows, those of null slots too."""
+    if kind in _NESTED and (logical is None or logical.format.startswith("+")):
+        return _NESTED[kind](owner, logical)
     reader = _READERS.get(kind)
-    return _read_numbers(owner, kind) if reader is None else reader(owner)
+    values = _NESTED[kind](owner, None) if kind in _NESTED else _read_numbers(owner, kind) if reader is None else reader(owner)
+    convert = None if logical is None else python_value(logical)
+    return values if convert is None else list(map(convert, values))
 
 
 def printed(owner: Owner, bytes_expected: int = 0) -> str:
@@ -61,6 +77,20 @@ def printed(owner: Owner, bytes_expected: int = 0) -> str:
         text = room("B", count.value)
         call("sel_print", owner, text, text.size(), byref(count))
     return bytes(text.items[: count.value]).decode()
+
+
+def text_of(value: Any) -> str:
+    """Returns Python values as text: strings as in JSON, bytes as in `h"00ff"`, dicts as in JSON."""
+    if value is None or isinstance(value, (bool, str)):
+        return json.dumps(value, ensure_ascii=False)
+    if isinstance(value, bytes):
+        return f'h"{value.hex()}"'
+    if isinstance(value, (list, tuple)):
+        inner = ",".join(map(text_of, value))
+        return f"[{inner}]" if isinstance(value, list) else f"({inner})"
+    if isinstance(value, dict):
+        return "{" + ",".join(f"{text_of(name)}:{text_of(item)}" for name, item in value.items()) + "}"
+    return str(value)
 
 
 def _read_numbers(owner: Owner, kind: str) -> list[Any]:
@@ -154,25 +184,37 @@ def _printed_bytes(owner: Owner, size: int) -> list[Any]:
     return [bytes.fromhex(piece[2:-1]) for piece in text[1:-1].split(",")]
 
 
-def _read_lists(owner: Owner) -> list[Any]:
+def _read_lists(owner: Owner, logical: ArrowType | None) -> list[Any]:
     offsets = _offsets(owner)
     first = offsets[0]
-    items = rows_of(derived(derived(owner, "sel_child"), "sel_slice", first, offsets[-1] - first))
+    part = derived(derived(owner, "sel_child"), "sel_slice", first, offsets[-1] - first)
+    if logical is not None and logical.format == "+m":
+        items: list[Any] = _tuples(part, logical.fields[0].fields)
+    else:
+        items = rows_of(part, None if logical is None else logical.fields[0])
     return [items[start - first : end - first] for start, end in zip(offsets, offsets[1:])]
 
 
-def _read_fixed_lists(owner: Owner) -> list[Any]:
-    width, items = owner._size("sel_fixed_size_list_size"), rows_of(derived(owner, "sel_child"))
+def _read_fixed_lists(owner: Owner, logical: ArrowType | None) -> list[Any]:
+    width, items = owner._size("sel_fixed_size_list_size"), rows_of(derived(owner, "sel_child"), None if logical is None else logical.fields[0])
     return [items[position * width : (position + 1) * width] for position in range(len(owner))]
 
 
-def _read_structs(owner: Owner) -> list[Any]:
-    count = owner._size("sel_field_count")
-    if count == 0:
+def _tuples(owner: Owner, fields: Sequence[ArrowType | None]) -> list[Any]:
+    if not fields:
         return [()] * len(owner)
-    return list(zip(*[rows_of(derived(owner, "sel_field", number)) for number in range(count)]))
+    return list(zip(*[rows_of(derived(owner, "sel_field", number), field) for number, field in enumerate(fields)]))
 
 
-_READERS = {"bool": _read_booleans, "binary": _read_bytes, "binview": _read_views, "utf8": _read_views,
-            "list": _read_lists, "fixed": _read_fixed_lists, "struct": _read_structs}
+def _read_structs(owner: Owner, logical: ArrowType | None) -> list[Any]:
+    """Returns structs as dicts if the names of their fields are known and distinct, else as tuples."""
+    if logical is None:
+        return _tuples(owner, [None] * owner._size("sel_field_count"))
+    names = [field.name for field in logical.fields]
+    rows = _tuples(owner, logical.fields)
+    return [dict(zip(names, row)) for row in rows] if all(names) and len(set(names)) == len(names) else rows
+
+
+_READERS = {"bool": _read_booleans, "binary": _read_bytes, "binview": _read_views, "utf8": _read_views}
+_NESTED: dict[str, Callable[[Owner, ArrowType | None], list[Any]]] = {"list": _read_lists, "fixed": _read_fixed_lists, "struct": _read_structs}
 _VARIABLE = ("binary", "binview", "utf8", "list", "fixed", "struct")

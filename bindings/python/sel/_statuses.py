@@ -39,6 +39,8 @@ ARROW_CHILDREN = 67
 ARROW_LENGTH = 68
 ARROW_DICTIONARY = 69
 ARROW_RANGE = 71
+ARROW_NULL = 72
+ARROW_STREAM = 73
 
 EXCEPTIONS = {
     OUT_OF_MEMORY: "OutOfMemory",
@@ -77,4 +79,6 @@ EXCEPTIONS = {
     ARROW_LENGTH: "BrokenRule",
     ARROW_DICTIONARY: "BrokenRule",
     ARROW_RANGE: "BrokenRule",
+    ARROW_NULL: "BrokenRule",
+    ARROW_STREAM: "BrokenRule",
 }

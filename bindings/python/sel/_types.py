@@ -8,7 +8,7 @@ from dataclasses import dataclass
 from typing import Any
 
 from ._checks import LIST_SIZE, integer_within, is_boolean, is_integer
-from ._names import VALID_NAMES, short_names
+from ._names import LOGICAL_NAMES, VALID_NAMES, format_of_value, logical_format, short_names
 
 __all__ = ["KINDS", "NUMBERS", "Type", "parse_type", "type_of_values"]
 
@@ -70,10 +70,15 @@ def parse_type(text: str) -> Type:
 
 
 def _read(text: str) -> tuple[Type, str]:
-    end = next((place for place, letter in enumerate(text) if letter in "<>,"), len(text))
+    end = _end_of_word(text)
     kind, rest = text[:end], text[end:]
+    format = logical_format(kind)
+    if format is not None:
+        from ._logical import of_format
+
+        return of_format(format), rest
     if kind not in KINDS:
-        raise ValueError(f"there is no type {kind!r}; {VALID_NAMES}")
+        raise ValueError(f"there is no type {kind!r}; {VALID_NAMES}; {LOGICAL_NAMES}")
     if kind not in ("list", "fixed", "struct"):
         return Type(kind), rest
     if not rest.startswith("<"):
@@ -90,7 +95,21 @@ def _read(text: str) -> tuple[Type, str]:
         rest = rest[1:]
     if not rest.startswith(">") or (kind != "struct" and len(children) != 1):
         raise ValueError(f"{kind} is not closed, or it does not have exactly one child type")
+    if any(type(child) is not Type for child in children):
+        from ._logical import of_format
+
+        return of_format({"list": "+L", "struct": "+s"}.get(kind, f"+w:{width}"), children), rest[1:]
     return Type(kind, tuple(children), width), rest[1:]
+
+
+def _end_of_word(text: str) -> int:
+    """Returns the length of the word at the beginning; a comma in square or round brackets belongs to it."""
+    depth = 0
+    for place, letter in enumerate(text):
+        depth += {"[": 1, "(": 1, "]": -1, ")": -1}.get(letter, 0)
+        if letter in "<>" or (letter == "," and depth <= 0):
+            return place
+    return len(text)
 
 
 def _read_width(text: str) -> tuple[int, str]:
@@ -114,15 +133,26 @@ def type_of_values(values: Sequence[Any]) -> Type:
         return Type("bool")
     if is_integer(first):
         return Type("i64")
+    format = format_of_value(first)
+    if format is not None:
+        from ._logical import of_format
+
+        return of_format(format)
     if isinstance(first, str):
         return Type("utf8")
     if isinstance(first, (bytes, bytearray)):
         return Type("binview")
     if isinstance(first, tuple):
+        from ._logical import ArrowType, of_format
+
         fields = range(len(first))
         if any(isinstance(row, tuple) and len(row) != len(first) for row in there):
             raise ValueError(f"values: some tuples have {len(first)} values, and some do not")
-        return Type("struct", tuple(type_of_values([row[place] for row in there]) for place in fields))
+        inner = [type_of_values([row[place] for row in there]) for place in fields]
+        return of_format("+s", inner) if any(isinstance(one, ArrowType) for one in inner) else Type("struct", tuple(inner))
     if isinstance(first, list):
-        return Type("list", (type_of_values([item for row in there for item in row]),))
+        from ._logical import ArrowType, of_format
+
+        items = type_of_values([item for row in there for item in row])
+        return of_format("+L", [items]) if isinstance(items, ArrowType) else Type("list", (items,))
     raise TypeError(f"no type of column has values of type {type(first).__name__}")

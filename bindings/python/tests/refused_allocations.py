@@ -6,6 +6,7 @@ blocks of memory in use and refuses allocations on demand. SEL_LIBRARY names tha
 
 from __future__ import annotations
 
+import datetime
 import gc
 import pickle
 import random
@@ -20,14 +21,27 @@ import sel
 import test_rows
 from cases import numpy, table
 from notation import Line, lines_of, read_kinds
-from sel import Column, parse_type
+from sel import Column, Table, parse_type
 from sel._library import lib
+from sel._logical import coded_type
+from sel._makers import made_of
 from streams import Stream
 from suite_calls import CALLS, Arguments
 
 lib.memory_refuse.argtypes, lib.memory_refuse.restype = [c_long, c_bool], None
 lib.memory_allow.argtypes, lib.memory_allow.restype = [], c_long
 lib.memory_in_use.argtypes, lib.memory_in_use.restype = [], c_long
+
+
+class Only:
+    """An object that offers only a stream."""
+
+    def __init__(self, source: Any) -> None:
+        self.source = source
+
+    def __arrow_c_stream__(self, requested_schema: object = None) -> object:
+        return self.source.__arrow_c_stream__(requested_schema)
+
 
 # The calls that take their children if they succeed.
 OF_CHILDREN = ("list_new", "fixed_size_list_new", "struct_new")
@@ -123,6 +137,25 @@ class Refused(unittest.TestCase):
             refused = self.check_line(Line(text, text.split(" | ")))
             if text.split(" | ")[0] not in ("rows", "slice", "child", "field", "index_is_oob", "equal"):
                 self.assertGreater(refused, 0, text)
+
+    def test_logical_types(self) -> None:
+        """Columns with logical types, with dictionaries among them, and tables."""
+        day, words = datetime.date(2024, 2, 29), Column(["a", None, "longer than twelve"])
+        coded, others = (Column._owning(made_of([2, 0, None], parse_type("u8")), coded_type("C", one)) for one in (words, Column(["a", "b", "c"])))
+        columns: list[tuple[Column, Any]] = [(Column([0.5, None, 1.5]), 0.5), (Column([[day], None, []]), [day]), (Column([(0.5, "a"), None, (1.5, "b")]), (0.5, "a")), (coded, "a")]
+        total = 0
+        for column, value in columns:
+            uses: list[Callable[[], Any]] = [
+                column.to_pylist, lambda: str(column), lambda: repr(column), lambda: column.type, lambda: column[0], lambda: column[::-1], lambda: column.take([0, None]),
+                lambda: column.filter([True, False, True]), column.unit_list, column.decoded, lambda: column.fill_null(value), lambda: pickle.loads(pickle.dumps(column)),
+                lambda: sel.if_else([True, False, None], column, value), lambda: sel.if_else([True, False, None], column, column), lambda: sel.concat([column, column]),
+                lambda: column.equals(column), column.__arrow_c_schema__, column.__arrow_c_array__, lambda: Column.from_arrow(column),
+                lambda: column.__arrow_c_array__(column.__arrow_c_schema__()), lambda: Column.from_arrow(Only(column)),
+                lambda: Table.from_arrow(Only(Table({"a": column, "b": column}))), lambda: list(sel.Stream.from_arrow(sel.Stream([Table({"a": column})] * 2))),
+            ]
+            total += sum(self.check(use, (column, number)) for number, use in enumerate(uses))
+        total += self.check(lambda: sel.concat([coded, others]), "other dictionaries")
+        self.assertGreater(total, 1000)
 
     def test_calls_that_take_their_children(self) -> None:
         """With all lines of the suite, those of errors too: a child that a call has not taken is freed by its owner."""

@@ -10,6 +10,7 @@ from typing import Any
 
 from sel import Column
 from sel._library import ArrowArray, ArrowArrayStream, ArrowSchema, call
+from sel._logical import type_parameter
 
 __all__ = ["Stream", "counted"]
 
@@ -58,7 +59,7 @@ class Stream:
 
     def _export(self, column: Column, kind: Any) -> None:
         array, schema = ArrowArray(), ArrowSchema()
-        call("sel_export", column, array, schema)
+        call("sel_export", column, type_parameter(column._logical), array, schema)
         wanted, other = (schema, array) if kind is ArrowSchema else (array, schema)
         _Release(other.release)(addressof(other))
         self.waiting.append(wanted)

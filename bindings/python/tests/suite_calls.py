@@ -20,8 +20,6 @@ __all__ = ["CALLS", "NOT_PUBLIC", "STATUSES", "Arguments", "Rows"]
 
 # Calls that the public API does not have, or not with all arguments, and why. Lines that it cannot make are made by internal calls.
 NOT_PUBLIC = {
-    "child": "to_pylist returns the elements of lists, and no call returns their column",
-    "field": "to_pylist returns the fields of structs, and no call returns one as a column",
     "list_new": "from_pylist takes lists, and no call takes offsets and a child",
     "fixed_size_list_new": "from_pylist takes lists, and no call takes a child",
     "struct_new": "from_pylist takes tuples, and no call takes fields",
@@ -190,7 +188,7 @@ def _is_mask(given: Arguments, expected: Any) -> bool:
 
 def _items(given: Arguments, lists: Column) -> Any:
     """Returns the rows of the child that lie in lists which are not null, and the type of the child."""
-    child, items = lists._child(), []
+    child, items = lists.child(), []
     offsets = _readers._offsets(lists) if lists._kind() == "list" else [number * lists.type.width for number in range(len(lists) + 1)]
     for number, is_valid in enumerate(lists.valid()):
         if is_valid:
@@ -200,7 +198,7 @@ def _items(given: Arguments, lists: Column) -> Any:
 
 def _field(given: Arguments, structs: Column) -> Any:
     """Returns the rows of a field, with null at the structs that are null, and its type."""
-    field = structs._field(given.others[0])
+    field = structs.field(given.others[0])
     return str(field.type), len(field), [row if is_valid else None for row, is_valid in zip(field.to_pylist(), structs.valid())]
 
 
@@ -268,8 +266,8 @@ CALLS = {
     "slice": Call("trnn", [
         Use(lambda given, column: column.sliced(*given.others)),
         Use(lambda given, column: column[given.others[0] : sum(given.others)], _has_rows)]),
-    "child": Call("tr", [_internal(_items, expected=_as_values)], _type_of_item),
-    "field": Call("trn", [_internal(_field, expected=_as_values)], lambda given: given.type.children[given.others[0]]),
+    "child": Call("tr", [Use(_items, expected=_as_values)], _type_of_item),
+    "field": Call("trn", [Use(_field, expected=_as_values)], lambda given: given.type.children[given.others[0]]),
     "list_new": Call("trov", [_internal(_list_new)], lambda given: Type("list", (given.type,))),
     "fixed_size_list_new": Call("trnnv", [_internal(_fixed_size_list_new)], lambda given: Type("fixed", (given.type,), given.others[0])),
     "struct_new": Call("cnv", [_internal(_struct_new)], _type_of_struct),

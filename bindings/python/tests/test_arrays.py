@@ -92,7 +92,7 @@ class Values(unittest.TestCase):
         return attempt(name, *arguments)
 
     def test_types_without_a_column(self) -> None:
-        for name in OTHERS:
+        for name in ("complex64", "complex128", "datetime64[h]", "timedelta64[D]", "U3", "S3", "V3"):
             with self.assertRaises(TypeError, msg=name):
                 Column.from_numpy(numpy.zeros(2, dtype=name))
         for array in table(numpy.array([1, None]), numpy.array([2**64]), numpy.zeros(2, dtype=[("a", "i4")])):
@@ -234,7 +234,7 @@ class Arguments(unittest.TestCase):
         self.assertEqual(Column.from_numpy(series).to_pylist(), [1, 2])
         self.assertEqual(NUMBERS.take(Series([1, 2])).to_pylist(), [20, 30])
         self.assertEqual(NUMBERS.filter(Series([True, False, True])).to_pylist(), [10, 30])
-        for use, values in table((Column.from_numpy, [1.0]), (NUMBERS.take, [1.0]), (NUMBERS.take, [True]), (NUMBERS.filter, [1, 0, 1])):
+        for use, values in table((Column.from_numpy, [1j]), (NUMBERS.take, [1.0]), (NUMBERS.take, [True]), (NUMBERS.filter, [1, 0, 1])):
             with self.assertRaises(TypeError):
                 use(Series(values))
 

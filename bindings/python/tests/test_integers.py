@@ -64,7 +64,7 @@ PARAMETERS = [
     Parameter("Column.fixed_get", "index", PAIRS.fixed_get, -I64 - 1, I64, [None, None], [None, None], IndexError),
     Parameter("Column.sliced", "offset", lambda value: NUMBERS.sliced(value, 1), 0, U64, [10], sel.OutOfBounds, IndexError),
     Parameter("Column.sliced", "length", lambda value: NUMBERS.sliced(0, value), 0, U64, [], sel.OutOfBounds, OverflowError),
-    Parameter("Column._field", "field", STRUCTS._field, 0, U64, [1], sel.OutOfBounds, IndexError),
+    Parameter("Column.field", "field", STRUCTS.field, 0, U64, [1], sel.OutOfBounds, IndexError),
     Parameter("flatten", "widths", lambda value: sel.flatten([NUMBERS], [value], 1), 0, U64, sel.WrongArgument, sel.WrongArgument, OverflowError),
     Parameter("flatten", "height", lambda value: sel.flatten([NUMBERS], [3], value), 0, U64, [], sel.LimitPassed, OverflowError),
     Parameter("collect_rows", "picks", lambda value: sel.collect_rows([NUMBERS], [(value, 0)]), 0, U32, [10], sel.OutOfBounds, IndexError),
@@ -170,9 +170,11 @@ class Integers(unittest.TestCase):
         for parameter in PARAMETERS:
             inferred = parameter.call == "Column.from_pylist" and parameter is PARAMETERS[-1]
             for value in (True, False, *NOT_NUMBERS, *(() if parameter.nulls else (None,))):
-                if inferred and isinstance(value, (bool, str, bytes, list, tuple)):
+                if inferred and isinstance(value, (bool, float, str, bytes, list, tuple)):
                     continue
                 if parameter.use is row_at and isinstance(value, (list, tuple)):
+                    continue
+                if parameter.call == "Column.field" and isinstance(value, str):  # the name of a field
                     continue
                 with self.assertRaises(TypeError, msg=(parameter, value)) as caught:
                     parameter.use(value)
@@ -309,7 +311,7 @@ class Examples(unittest.TestCase):
             (TypeError, lambda: PAIRS.fixed_get(0, "no")),
             (IndexError, lambda: NUMBERS.sliced(2**64, 1)),
             (OverflowError, lambda: NUMBERS.sliced(0, 2**64 + 1)),
-            (IndexError, lambda: STRUCTS._field(2**64)),
+            (IndexError, lambda: STRUCTS.field(2**64)),
             (IndexError, lambda: sel.collect_rows([NUMBERS], [(0, 2**32)])),
             (IndexError, lambda: sel.collect_rows([NUMBERS], [(2**32, 0)])),
             (ValueError, lambda: sel.collect_rows([NUMBERS], table(()))),
@@ -349,7 +351,9 @@ class NumpyScalars(unittest.TestCase):
             inferred = parameter is PARAMETERS[-1]
             for kind in NUMPY_KINDS[len(INTEGER_KINDS) :]:
                 value = kind(1)
-                if inferred and isinstance(value, (numpy.bool_, numpy.str_, numpy.bytes_)):
+                if inferred and isinstance(value, (numpy.bool_, numpy.str_, numpy.bytes_, numpy.float64)):
+                    continue
+                if parameter.call == "Column.field" and isinstance(value, str):
                     continue
                 for scalar in (value, numpy.array(value)):
                     with self.assertRaises(TypeError, msg=(parameter, kind, scalar)) as caught:
@@ -370,10 +374,11 @@ class NumpyScalars(unittest.TestCase):
         self.assertEqual(Column.from_pylist([numpy.str_("a"), "b"]).to_pylist(), ["a", "b"])
         self.assertEqual(Column.from_pylist([numpy.bytes_(b"a"), b"b"]).to_pylist(), [b"a", b"b"])
         self.assertEqual(Column.from_pylist([[numpy.uint8(1)], [(2**63 - 1)]]).to_pylist(), [[1], [2**63 - 1]])
-        for values in table([1, numpy.bool_(True)], [numpy.bool_(True), 1], [numpy.float64(1)], [1, numpy.float32(1)], [numpy.datetime64(1, "D")],
-                       [1, True], [True, 1], [1.0], [numpy.timedelta64(1, "s")], [numpy.array(1.0)], [numpy.array(True)], [numpy.ma.masked]):
+        for values in table([1, numpy.bool_(True)], [numpy.bool_(True), 1], [1, numpy.float64(1)], [1, numpy.float32(1)], [numpy.datetime64(1, "D")],
+                       [1, True], [True, 1], [1, 1.0], [1.0, True], [numpy.timedelta64(1, "s")], [numpy.array(1.0)], [numpy.array(True)], [numpy.ma.masked]):
             with self.assertRaises(TypeError, msg=values):
                 Column.from_pylist(values)
+        self.assertEqual(str(Column.from_pylist([numpy.float64(1.5), 2]).type), "double")
         with self.assertRaises(OverflowError):
             Column.from_pylist([numpy.uint64(2**63)])
         self.assertEqual(Column.from_pylist([numpy.uint64(2**64 - 1)], "u64").to_pylist(), [2**64 - 1])

@@ -125,7 +125,7 @@ class Declarations(unittest.TestCase):
         """A parameter that were declared with another type would be checked by the range of that type."""
         found = {name: [declared_type(text) for text in parameters.split(",")]
                  for name, parameters in re.findall(r"^sel_status (sel_\w+)\(([^)]*)\);", HEADER.read_text(), re.MULTILINE)}
-        declared = {name: kinds for name, kinds in _library._CALLS.items() if name not in ("sel_import", "sel_export")}
+        declared = {name: kinds for name, kinds in _library._CALLS.items() if name in found}
         self.assertEqual(set(found), set(declared))
         for name, kinds in declared.items():
             self.assertEqual(found[name], kinds, name)
@@ -147,9 +147,11 @@ class Declarations(unittest.TestCase):
         direct = set()
         for path in sorted(PACKAGE.glob("*.py")):
             direct |= set(re.findall(r"\blib\.(sel_\w+)\(", path.read_text()))
-        self.assertEqual(direct, {"sel_status_string", "sel_free", "sel_type_of", "sel_len", "sel_null_count"})
-        for name in direct - {"sel_status_string"}:
-            self.assertEqual(getattr(_library.lib, name).argtypes, [_library._COLUMN])
+        of_types = {"sel_type_free", "sel_type_equal", "sel_type_child_count", "sel_type_name", "sel_type_arrow_format"}
+        self.assertEqual(direct, {"sel_status_string", "sel_free", "sel_type_of", "sel_len", "sel_null_count", "sel_unsupported_format", "sel_stream_export", *of_types})
+        for name in direct - {"sel_status_string", "sel_stream_export"}:
+            expected = _library._TYPE if name in of_types else _library._SCHEMA if name == "sel_unsupported_format" else _library._COLUMN
+            self.assertEqual(set(getattr(_library.lib, name).argtypes), {expected})
 
     def test_structures_hold_no_integers_of_callers(self) -> None:
         """Structures wrap integers silently. The only ones here are lengths that Python counted, and fields of Arrow's producers."""

@@ -59,13 +59,13 @@ class Names(unittest.TestCase):
             self.assertIn(name.replace("int64", "int8 to int128"), VALID_NAMES)
         for use in table(parse_type, lambda text: Column([], text), lambda text: Column.parse(text, "[]")):
             with self.assertRaises(ValueError) as caught:
-                use("list<item: float64>")
+                use("list<item: float80>")
             self.assertIn(VALID_NAMES, str(caught.exception))
-        with self.assertRaisesRegex(ValueError, "there is no type 'float64'"):
-            parse_type("list<item: float64>")
+        with self.assertRaisesRegex(ValueError, "there is no type 'float80'"):
+            parse_type("list<item: float80>")
 
     def test_errors_name_the_place_in_the_text(self) -> None:
-        for text, place in (("list<item: float64>", 12), ("struct<a: int64, b: strin>", 23), ("int65", 1), ("list<item: int64", 16), ("list<item: int64>>", 17),
+        for text, place in (("list<item: float80>", 12), ("struct<a: int64, b: strin>", 23), ("int65", 1), ("list<item: int64", 16), ("list<item: int64>>", 17),
                             ("list<i7>", 6), ("struct<string, \u00e9>", 15)):
             with self.assertRaises(sel.BrokenText, msg=text) as caught:
                 Column.parse(text, "[]")

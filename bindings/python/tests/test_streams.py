@@ -38,7 +38,7 @@ class Exported:
 
 class Streams(unittest.TestCase):
     def check_released(self, stream: Stream) -> None:
-        """Each structure that the producer handed out has been released once."""
+        """Each structure that the producer handed out has been released once: when no column uses an array any more."""
         self.assertEqual(stream.released, stream.made)
         self.assertEqual(stream.released["stream"], 1)
 
@@ -49,16 +49,18 @@ class Streams(unittest.TestCase):
             found = Column.from_arrow(stream)
             self.assertEqual((str(found.type), found.to_pylist(), type(found)), ("i64", expected, Column))
             self.assertEqual(stream.made, {"stream": 1, "schema": 1, "array": len(chunks)} if chunks else {"stream": 1, "schema": 1})
+            del found
             self.check_released(stream)
 
     def test_random_columns(self) -> None:
         rng = random.Random(1)
         for _ in range(CASES):
-            wanted = model.random_type(rng, 3, but=("u128",))
+            wanted = model.random_type(rng, 3)
             parts = [model.random_rows(rng, wanted, rng.randrange(5)) for _ in range(rng.randrange(5))]
             stream = Stream(Column([], wanted), [model.laid_out(rng, part, wanted) for part in parts])
             found = Column.from_arrow(stream)
             self.assertEqual((found.type, found.to_pylist()), (wanted, [row for part in parts for row in part]))
+            del found
             self.check_released(stream)
 
     def test_a_stream_without_chunks_has_no_rows(self) -> None:
@@ -85,7 +87,7 @@ class Streams(unittest.TestCase):
     def test_types_without_a_column(self) -> None:
         """The error is the same whether there is a chunk or none."""
         column = Column([1, 2])
-        for format, status in table((b"g", 65), (b"tdD", 65), (b"", 65), (b"+m", 65), (b"w:3", 65), (b"d:5,2", 65), (b"+l", 67), (b"+w:2", 67)):
+        for format, status in table((b"+us:0", 65), (b"+ud:0,1", 65), (b"", 65), (b"tdd", 65), (b"d:39,2", 65), (b"+m", 67), (b"+r", 67), (b"+l", 67), (b"+w:2", 67)):
             for chunks in table([], [column], [column, column]):
                 stream = Stream(column, chunks, format=format)
                 with self.assertRaises(sel.BrokenRule, msg=format) as caught:

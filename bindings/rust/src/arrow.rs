@@ -1,9 +1,10 @@
 //! Columns in and out by the Arrow C data interface.
 
+use crate::arrow_type::ArrowType;
 use crate::column::Column;
 use crate::error::{checked, Error};
-use crate::raw;
-use std::ffi::{c_char, c_void};
+use crate::raw::{self, TypeHandle};
+use std::ffi::{c_char, c_void, CStr};
 use std::{fmt, ptr};
 
 /// An array of the Arrow C data interface, in the layout of its `struct ArrowArray`. Dropping it releases it.
@@ -63,6 +64,32 @@ pub struct ArrowSchema {
     dictionary: *mut ArrowSchema,
     release: Option<unsafe extern "C" fn(*mut ArrowSchema)>,
     private_data: *mut c_void,
+}
+
+/// A stream of arrays of one type by the Arrow C stream interface, in the layout of its `struct ArrowArrayStream`. Dropping
+/// it releases it.
+///
+/// [`export_stream`](crate::export_stream) writes one; [`StreamReader`](crate::StreamReader) reads one.
+#[repr(C)]
+pub struct ArrowArrayStream {
+    get_schema: Option<unsafe extern "C" fn(*mut ArrowArrayStream, *mut ArrowSchema) -> i32>,
+    get_next: Option<unsafe extern "C" fn(*mut ArrowArrayStream, *mut ArrowArray) -> i32>,
+    get_last_error: Option<unsafe extern "C" fn(*mut ArrowArrayStream) -> *const c_char>,
+    release: Option<unsafe extern "C" fn(*mut ArrowArrayStream)>,
+    private_data: *mut c_void,
+}
+
+impl ArrowArrayStream {
+    /// Returns a released stream, for a producer to write to.
+    pub const fn empty() -> ArrowArrayStream {
+        ArrowArrayStream {
+            get_schema: None,
+            get_next: None,
+            get_last_error: None,
+            release: None,
+            private_data: ptr::null_mut(),
+        }
+    }
 }
 
 impl ArrowArray {
@@ -143,13 +170,24 @@ macro_rules! structures {
     )*};
 }
 
-structures! { ArrowArray ArrowSchema }
+structures! { ArrowArray ArrowSchema ArrowArrayStream }
+
+/// Returns the first format of a schema, at any depth, that [`Column::from_arrow`] does not support.
+///
+/// # Safety
+/// The schema is released, or one that the Arrow C data interface allows.
+pub unsafe fn unsupported_format(schema: &ArrowSchema) -> Option<String> {
+    // SAFETY: the caller ensures that the schema is valid.
+    let text = unsafe { raw::sel_unsupported_format(schema) };
+    // SAFETY: the text ends with a zero, and lives as long as the schema.
+    (!text.is_null()).then(|| unsafe { CStr::from_ptr(text) }.to_string_lossy().into_owned())
+}
 
 impl Column {
     /// Copies an array of the Arrow C data interface into a column. The array is dropped, also on an error.
     ///
-    /// Strings and binary values with 32-bit offsets are widened; strings become views. Formats that have no kind of column
-    /// here, such as floating-point numbers, times and dictionaries, are errors.
+    /// The column has the storage of the array's type: floats and times are integers, strings views. Its type is lost;
+    /// [`from_arrow_with_type`](Column::from_arrow_with_type) returns it too. Unions are errors, and keys of a dictionary.
     ///
     /// # Errors
     /// [`Error::Arrow`] if the array or the schema is released, has an unsupported format, other buffers or children than
@@ -174,31 +212,63 @@ impl Column {
     /// ```
     pub unsafe fn from_arrow(mut array: ArrowArray, schema: &ArrowSchema) -> Result<Column, Error> {
         // SAFETY: both structures are valid or released, and the caller ensures that they belong together.
-        Column::made(|out| unsafe { raw::sel_import(&mut array, schema, out) })
+        Column::made(|out| unsafe { raw::sel_import(&mut array, schema, out, ptr::null_mut()) })
+    }
+
+    /// Copies an array of the Arrow C data interface into a column, and returns its logical type too. The array is dropped,
+    /// also on an error.
+    ///
+    /// # Errors
+    /// As [`from_arrow`](Column::from_arrow); [`Error::OutOfBounds`] if a key has no row in its dictionary.
+    ///
+    /// # Safety
+    /// As for [`from_arrow`](Column::from_arrow).
+    pub unsafe fn from_arrow_with_type(
+        mut array: ArrowArray,
+        schema: &ArrowSchema,
+    ) -> Result<(Column, ArrowType), Error> {
+        let mut of_type = ArrowType::empty();
+        // SAFETY: both structures are valid or released, and the caller ensures that they belong together.
+        let column = Column::made(|out| unsafe { raw::sel_import(&mut array, schema, out, of_type.at_mut()) })?;
+        Ok((column, of_type))
     }
 
     /// Copies the column into an array of the Arrow C data interface and its schema.
     ///
-    /// Binary values have the format `Z`, views `vz` and `vu`, lists `+L`, signed 128-bit integers `d:38,0,128`. The fields
-    /// of struct values have their numbers as names.
+    /// Binary values have the format `Z`, views `vz` and `vu`, lists `+L`, signed 128-bit integers `d:38,0,128`, unsigned
+    /// ones `w:16` with the extension name `sel.uint128`. The fields of struct values have their numbers as names.
     ///
     /// # Errors
-    /// [`Error::Arrow`] for unsigned 128-bit integers, which have no format, for a signed one of more than 38 digits, and
-    /// for an offset in a data buffer of more than 2,147,483,647; [`Error::OutOfMemory`].
+    /// [`Error::Arrow`] for a signed 128-bit integer of more than 38 digits, and for an offset in a data buffer of more than
+    /// 2,147,483,647; [`Error::OutOfMemory`].
     ///
     /// ```
     /// # use sel::{Column, Error};
     /// # fn main() -> Result<(), Error> {
     /// let (array, schema) = Column::from_values(&[1i64, 2])?.to_arrow()?;
     /// assert!(!array.is_released() && !schema.is_released());
-    /// assert_eq!(Column::from_values(&[1u128])?.to_arrow().err(), Some(Error::Arrow(65)));
+    /// assert_eq!(Column::from_values(&[i128::MAX])?.to_arrow().err(), Some(Error::Arrow(71)));
     /// # Ok(())
     /// # }
     /// ```
     pub fn to_arrow(&self) -> Result<(ArrowArray, ArrowSchema), Error> {
+        self.exported(ptr::null())
+    }
+
+    /// Copies the column into an array of the Arrow C data interface with exactly the schema of a type.
+    ///
+    /// # Errors
+    /// [`Error::WrongArgument`] if the column does not have the storage of the type; [`Error::OutOfBounds`] if a key has no
+    /// row in its dictionary; [`Error::Arrow`] for a value that the format cannot represent, and for a null in a field that
+    /// is not nullable; [`Error::OutOfMemory`].
+    pub fn to_arrow_as(&self, of_type: &ArrowType) -> Result<(ArrowArray, ArrowSchema), Error> {
+        self.exported(of_type.at())
+    }
+
+    fn exported(&self, of_type: *const TypeHandle) -> Result<(ArrowArray, ArrowSchema), Error> {
         let (mut array, mut schema) = (ArrowArray::empty(), ArrowSchema::empty());
-        // SAFETY: the handle is owned by the column, and both structures are released.
-        checked(unsafe { raw::sel_export(self.at(), &mut array, &mut schema) })?;
+        // SAFETY: the handle is owned by the column, the type is valid or a null pointer, and both structures are released.
+        checked(unsafe { raw::sel_export(self.at(), of_type, &mut array, &mut schema) })?;
         Ok((array, schema))
     }
 }

@@ -45,6 +45,8 @@ pub(crate) mod status {
     pub(crate) const ARROW_LENGTH: u32 = 68;
     pub(crate) const ARROW_DICTIONARY: u32 = 69;
     pub(crate) const ARROW_RANGE: u32 = 71;
+    pub(crate) const ARROW_NULL: u32 = 72;
+    pub(crate) const ARROW_STREAM: u32 = 73;
     // end: written by tools/statuses.py
 }
 
@@ -81,7 +83,7 @@ pub enum Error {
         /// The offset of the first wrong byte, or the length of the text if it ends too early.
         at: usize,
     },
-    /// An Arrow array cannot be imported, or a column cannot be exported (status 64 to 71).
+    /// An Arrow array cannot be imported, or a column cannot be exported (status 64 to 73).
     Arrow(u32),
     /// The library returned a status that this crate does not know.
     UnknownStatus(u32),
@@ -133,7 +135,9 @@ impl Error {
             | status::ARROW_CHILDREN
             | status::ARROW_LENGTH
             | status::ARROW_DICTIONARY
-            | status::ARROW_RANGE => Error::Arrow(status),
+            | status::ARROW_RANGE
+            | status::ARROW_NULL
+            | status::ARROW_STREAM => Error::Arrow(status),
             // errors, end: written by tools/statuses.py
             _ => Error::UnknownStatus(status),
         }
@@ -223,7 +227,7 @@ mod tests {
 
     #[test]
     fn a_status_of_no_header_is_unknown() {
-        for unknown in [13, 29, 36, 63, 72, 1000, u32::MAX] {
+        for unknown in [13, 29, 36, 63, 70, 1000, u32::MAX] {
             assert_eq!(Error::of(unknown), Error::UnknownStatus(unknown));
             assert_eq!(checked(unknown), Err(Error::UnknownStatus(unknown)));
             assert!(Error::of(unknown).to_string().ends_with(&format!(" (status {unknown})")));

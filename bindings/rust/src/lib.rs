@@ -98,8 +98,23 @@
 //! | `sel_fixed_size_list_size` | [`Column::list_size`] |
 //! | `sel_field_count` | [`Column::field_count`] |
 //! | `sel_field` | [`Column::field`] |
-//! | `sel_import` | [`Column::from_arrow`] |
-//! | `sel_export` | [`Column::to_arrow`] |
+//! | `sel_import` | [`Column::from_arrow`], [`Column::from_arrow_with_type`] |
+//! | `sel_export` | [`Column::to_arrow`], [`Column::to_arrow_as`] |
+//! | `sel_unsupported_format` | [`unsupported_format`] |
+//! | `sel_type_import`, `sel_type_export` | [`ArrowType::from_schema`], [`ArrowType::to_schema`] |
+//! | `sel_type_of_storage` | [`ArrowType::of_storage`] |
+//! | `sel_type_new`, `sel_type_as_field` | [`ArrowType::new`], [`ArrowType::as_field`] |
+//! | `sel_type_dictionary_new`, `sel_type_dictionary` | [`ArrowType::dictionary`], [`ArrowType::dictionary_values`] |
+//! | `sel_type_share`, `sel_type_free`, `sel_type_equal` | the [`Clone`], [`Drop`] and [`PartialEq`] of [`ArrowType`] |
+//! | `sel_type_child_count`, `sel_type_child` | [`ArrowType::child_count`], [`ArrowType::child`] |
+//! | `sel_type_name`, `sel_type_arrow_format` | [`ArrowType::name`], [`ArrowType::format`] |
+//! | `sel_type_format` | the [`Display`](std::fmt::Display) of [`ArrowType`] |
+//! | `sel_decode` | [`Column::decode`] |
+//! | `sel_common_type` | [`common_type`] |
+//! | `sel_stream_open`, `sel_stream_free` | [`StreamReader::open`], its [`Drop`] |
+//! | `sel_stream_next` | the [`Iterator`] of [`StreamReader`] |
+//! | `sel_stream_type`, `sel_stream_message` | [`StreamReader::arrow_type`], [`StreamReader::message`] |
+//! | `sel_stream_export` | [`export_stream`] |
 //! | `sel_status_string` | the [`Display`](std::fmt::Display) of [`Error`] |
 //! | `sel_version` | [`version`] |
 #![deny(
@@ -115,6 +130,7 @@
 )]
 
 mod arrow;
+mod arrow_type;
 mod binary;
 mod bits;
 mod column;
@@ -128,10 +144,13 @@ mod memory;
 mod nested;
 mod number;
 mod raw;
+mod stream;
+mod typed;
 mod value;
 mod views;
 
-pub use arrow::{ArrowArray, ArrowSchema};
+pub use arrow::{unsupported_format, ArrowArray, ArrowArrayStream, ArrowSchema};
+pub use arrow_type::{common_type, ArrowType};
 pub use column::Column;
 pub use data_type::DataType;
 pub use error::Error;
@@ -141,6 +160,8 @@ pub use kernels::{
 };
 pub use kind::Kind;
 pub use number::Number;
+pub use stream::{export_stream, Batch, StreamReader};
+pub use typed::TypedColumn;
 pub use value::{Iter, OwnedValue, Value};
 pub use views::View;
 

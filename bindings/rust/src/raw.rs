@@ -1,6 +1,6 @@
 //! Declares all functions and structures of `include/sel.h` and `include/sel_arrow.h`.
 
-use crate::arrow::{ArrowArray, ArrowSchema};
+use crate::arrow::{ArrowArray, ArrowArrayStream, ArrowSchema};
 use crate::views::View;
 use std::ffi::{c_char, c_void};
 
@@ -14,6 +14,29 @@ impl Handle {
     /// A handle without a column.
     pub const EMPTY: Handle = Handle { at: std::ptr::null_mut() };
 }
+
+/// A handle of a logical type: `sel_type`.
+#[repr(C)]
+pub struct TypeHandle {
+    pub at: *mut c_void,
+}
+
+impl TypeHandle {
+    /// A handle without a type.
+    pub const EMPTY: TypeHandle = TypeHandle { at: std::ptr::null_mut() };
+}
+
+/// A handle of a stream that is read: `sel_stream`.
+#[repr(C)]
+pub struct StreamHandle {
+    pub at: *mut c_void,
+}
+
+/// A producer of batches: `sel_next_batch`.
+pub type NextBatch = unsafe extern "C" fn(*mut c_void, *mut Handle, *mut TypeHandle) -> u32;
+
+/// Frees the context of a producer: `sel_free_context`.
+pub type FreeContext = unsafe extern "C" fn(*mut c_void);
 
 /// A 128-bit integer as two words: `sel_int128`.
 #[repr(C)]
@@ -303,8 +326,71 @@ extern "C" {
     pub fn sel_fixed_size_list_size(of: *const Handle, width: *mut usize) -> u32;
     pub fn sel_field_count(of: *const Handle, count: *mut usize) -> u32;
     pub fn sel_field(of: *const Handle, i: usize, out: *mut Handle) -> u32;
-    pub fn sel_import(array: *mut ArrowArray, schema: *const ArrowSchema, out: *mut Handle) -> u32;
-    pub fn sel_export(of: *const Handle, array: *mut ArrowArray, schema: *mut ArrowSchema) -> u32;
+    pub fn sel_import(
+        array: *mut ArrowArray,
+        schema: *const ArrowSchema,
+        out: *mut Handle,
+        r#type: *mut TypeHandle,
+    ) -> u32;
+    pub fn sel_export(
+        of: *const Handle,
+        r#type: *const TypeHandle,
+        array: *mut ArrowArray,
+        schema: *mut ArrowSchema,
+    ) -> u32;
+    pub fn sel_unsupported_format(schema: *const ArrowSchema) -> *const c_char;
+    pub fn sel_type_import(schema: *const ArrowSchema, out: *mut TypeHandle) -> u32;
+    pub fn sel_type_export(of: *const TypeHandle, schema: *mut ArrowSchema) -> u32;
+    pub fn sel_type_of_storage(of: *const Handle, out: *mut TypeHandle) -> u32;
+    pub fn sel_type_new(
+        format: *const c_char,
+        children: *const TypeHandle,
+        children_len: usize,
+        out: *mut TypeHandle,
+    ) -> u32;
+    pub fn sel_type_dictionary_new(
+        format: *const c_char,
+        values: *const Handle,
+        r#type: *const TypeHandle,
+        is_ordered: bool,
+        out: *mut TypeHandle,
+    ) -> u32;
+    pub fn sel_type_as_field(
+        of: *const TypeHandle,
+        name: *const c_char,
+        is_nullable: bool,
+        out: *mut TypeHandle,
+    ) -> u32;
+    pub fn sel_type_share(of: *const TypeHandle, out: *mut TypeHandle) -> u32;
+    pub fn sel_type_free(of: *mut TypeHandle);
+    pub fn sel_type_equal(of: *const TypeHandle, other: *const TypeHandle) -> bool;
+    pub fn sel_type_child_count(of: *const TypeHandle) -> usize;
+    pub fn sel_type_child(of: *const TypeHandle, i: usize, out: *mut TypeHandle) -> u32;
+    pub fn sel_type_name(of: *const TypeHandle) -> *const c_char;
+    pub fn sel_type_arrow_format(of: *const TypeHandle) -> *const c_char;
+    pub fn sel_type_format(of: *const TypeHandle, out: *mut u8, out_len: usize, len: *mut usize) -> u32;
+    pub fn sel_type_dictionary(of: *const TypeHandle, values: *mut Handle, r#type: *mut TypeHandle) -> u32;
+    pub fn sel_decode(of: *const Handle, r#type: *const TypeHandle, out: *mut Handle, out_type: *mut TypeHandle)
+        -> u32;
+    pub fn sel_common_type(
+        columns: *const Handle,
+        types: *const TypeHandle,
+        len: usize,
+        out: *mut Handle,
+        out_type: *mut TypeHandle,
+    ) -> u32;
+    pub fn sel_stream_open(source: *mut ArrowArrayStream, out: *mut StreamHandle) -> u32;
+    pub fn sel_stream_type(of: *const StreamHandle, r#type: *mut TypeHandle) -> u32;
+    pub fn sel_stream_next(of: *mut StreamHandle, out: *mut Handle, r#type: *mut TypeHandle) -> u32;
+    pub fn sel_stream_message(of: *mut StreamHandle) -> *const c_char;
+    pub fn sel_stream_free(of: *mut StreamHandle);
+    pub fn sel_stream_export(
+        r#type: *const TypeHandle,
+        next: NextBatch,
+        context: *mut c_void,
+        free_context: FreeContext,
+        out: *mut ArrowArrayStream,
+    ) -> u32;
     pub fn sel_status_string(status: u32) -> *const c_char;
     pub fn sel_version() -> *const c_char;
 }

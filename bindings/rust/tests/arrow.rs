@@ -6,6 +6,10 @@ use std::ffi::{c_char, c_void, CStr};
 use std::mem::size_of;
 use std::ptr::{addr_of_mut, null, null_mut};
 use std::rc::Rc;
+use std::sync::atomic::{AtomicUsize, Ordering};
+use std::sync::Arc;
+use std::thread::sleep;
+use std::time::Duration;
 
 /// An array as another library declares it.
 #[repr(C)]
@@ -40,13 +44,13 @@ struct ForeignSchema {
 struct Owned {
     buffers: Vec<*const c_void>,
     _values: Vec<Vec<u8>>,
-    releases: Rc<Cell<usize>>,
+    releases: Arc<AtomicUsize>,
 }
 
 unsafe extern "C" fn release_array(array: *mut ForeignArray) {
     // SAFETY: the private data is that of `array_of`, and this is called once.
     let owned = unsafe { Box::from_raw((*array).private_data.cast::<Owned>()) };
-    owned.releases.set(owned.releases.get() + 1);
+    owned.releases.fetch_add(1, Ordering::SeqCst);
     // SAFETY: the array is valid.
     unsafe { (*array).release = None };
 }
@@ -60,7 +64,7 @@ unsafe extern "C" fn release_schema(schema: *mut ForeignSchema) {
 }
 
 /// Returns an array of these buffers; an empty one is missing. Its release is counted.
-fn array_of(length: i64, offset: i64, values: Vec<Vec<u8>>, releases: &Rc<Cell<usize>>) -> ArrowArray {
+fn array_of(length: i64, offset: i64, values: Vec<Vec<u8>>, releases: &Arc<AtomicUsize>) -> ArrowArray {
     let buffers = values.iter().map(|bytes| if bytes.is_empty() { null() } else { bytes.as_ptr().cast() }).collect();
     let mut owned = Box::new(Owned { buffers, _values: values, releases: releases.clone() });
     let mut array = ForeignArray {
@@ -108,29 +112,43 @@ fn bytes_of(words: &[i32]) -> Vec<u8> {
     words.iter().flat_map(|word| word.to_le_bytes()).collect()
 }
 
-/// Imports an array, checks that it is released once and that the schema is not, and returns the result.
-fn imported(format: &'static [u8], length: i64, offset: i64, values: Vec<Vec<u8>>) -> Result<Column, Error> {
-    let (arrays, schemas) = (Rc::default(), Rc::default());
+/// Waits until an array is released once: the thread that frees any column may do it.
+fn assert_released(releases: &AtomicUsize) {
+    for _ in 0..2000 {
+        if releases.load(Ordering::SeqCst) > 0 {
+            break;
+        }
+        sleep(Duration::from_millis(1));
+    }
+    assert_eq!(releases.load(Ordering::SeqCst), 1);
+}
+
+/// Imports an array, checks that the schema is not released, and reads the result. Checks that the array is released once,
+/// after the column is dropped.
+fn imported(format: &'static [u8], length: i64, offset: i64, values: Vec<Vec<u8>>) -> Result<String, Error> {
+    let (arrays, schemas) = (Arc::default(), Rc::default());
     let (array, schema) = (array_of(length, offset, values, &arrays), schema_of(c_text(format), &schemas));
     // SAFETY: the tests give the buffers that the format and the length require.
     let result = unsafe { Column::from_arrow(array, &schema) };
-    assert_eq!((arrays.get(), schemas.get()), (1, 0));
+    assert_eq!(schemas.get(), 0);
     assert!(!schema.is_released());
     drop(schema);
     assert_eq!(schemas.get(), 1);
-    result
+    let text = result.map(|column| format!("{column:?}"));
+    assert_released(&arrays);
+    text
 }
 
 #[test]
-fn arrays_of_other_producers_are_copied_and_released() -> Result<(), Error> {
+fn arrays_of_other_producers_are_read_and_released() -> Result<(), Error> {
     let numbers = imported(b"i\0", 3, 1, vec![vec![0b1011], bytes_of(&[9, -1, 8, 7])])?;
-    assert_eq!(format!("{numbers:?}"), "i32 [-1,null,7]");
+    assert_eq!(numbers, "i32 [-1,null,7]");
     let texts = imported(b"u\0", 3, 0, vec![vec![], bytes_of(&[0, 1, 1, 18]), b"aanother long text".to_vec()])?;
-    assert_eq!(format!("{texts:?}"), r#"utf8 ["a","","another long text"]"#);
+    assert_eq!(texts, r#"utf8 ["a","","another long text"]"#);
     let bits = imported(b"b\0", 4, 3, vec![vec![], vec![0b0101_1000]])?;
-    assert_eq!(format!("{bits:?}"), "bool [true,true,false,true]");
+    assert_eq!(bits, "bool [true,true,false,true]");
     let nulls = imported(b"n\0", 2, 0, vec![])?;
-    assert_eq!(format!("{nulls:?}"), "null [null,null]");
+    assert_eq!(nulls, "null [null,null]");
     Ok(())
 }
 
@@ -141,7 +159,7 @@ type Wrong = (&'static [u8], i64, i64, Vec<Vec<u8>>, Error);
 fn arrays_that_cannot_be_imported_are_released_too() {
     let four = || vec![vec![], bytes_of(&[1, 2, 3, 4])];
     let wrong: [Wrong; 8] = [
-        (b"g\0", 2, 0, four(), Error::Arrow(65)),
+        (b"+us:0\0", 2, 0, four(), Error::Arrow(65)),
         (b"\0", 2, 0, four(), Error::Arrow(65)),
         (b"i\0", 2, 0, vec![vec![]], Error::Arrow(66)),
         (b"i\0", 2, 0, vec![vec![], vec![]], Error::Arrow(66)),
@@ -169,7 +187,7 @@ fn released_structures_are_errors() -> Result<(), Error> {
     Ok(())
 }
 
-const ROWS: [(&str, &str); 18] = [
+const ROWS: [(&str, &str); 20] = [
     ("null", "[null,null,null]"),
     ("bool", "[true,null,false]"),
     ("i8", "[-128,null,127]"),
@@ -181,6 +199,8 @@ const ROWS: [(&str, &str); 18] = [
     ("u16", "[0,null,65535]"),
     ("u32", "[0,null,4294967295]"),
     ("u64", "[0,null,18446744073709551615]"),
+    ("u128", "[0,null,340282366920938463463374607431768211455]"),
+    ("list<u128>", "[[0],null,[null,1]]"),
     ("binary", r#"[h"00ff",null,h""]"#),
     ("binview", r#"[h"000102030405060708090a0b0c",null,h"0f"]"#),
     ("utf8", r#"["a string of 21 bytes.",null,"é"]"#),
@@ -205,12 +225,10 @@ fn columns_of_all_types_are_exported_and_imported() -> Result<(), Error> {
 }
 
 #[test]
-fn columns_without_a_format_are_errors() -> Result<(), Error> {
+fn values_without_a_format_are_errors() -> Result<(), Error> {
     for (dtype, rows, status) in [
-        ("u128", "[1]", 65),
-        ("list<u128>", "[]", 65),
         ("i128", "[100000000000000000000000000000000000000]", 71),
-        ("struct<i8,u128>", "[(1,2)]", 65),
+        ("list<i128>", "[[null,-100000000000000000000000000000000000000]]", 71),
     ] {
         assert_eq!(Column::parse(dtype, rows)?.to_arrow().err(), Some(Error::Arrow(status)), "{dtype}");
     }

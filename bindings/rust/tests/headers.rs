@@ -27,7 +27,12 @@ fn rust_type(c_type: &str) -> String {
         "size_t" => "usize",
         "bool" => "bool",
         "char" => "c_char",
+        "void" => "c_void",
         "sel_column" => "Handle",
+        "sel_type" => "TypeHandle",
+        "sel_stream" => "StreamHandle",
+        "sel_next_batch" => "NextBatch",
+        "sel_free_context" => "FreeContext",
         "sel_status" | "sel_type_id" => "u32",
         "sel_int128" => "RawInt128",
         "sel_view" => "View",
@@ -63,6 +68,9 @@ fn functions_of_headers() -> BTreeMap<String, Signature> {
     let mut functions = BTreeMap::new();
     for statement in HEADERS.map(without_comments).join("\n").split([';', '{', '}']) {
         let Some((before, parameters)) = statement.split_once('(') else { continue };
+        if before.trim_start().starts_with("typedef") {
+            continue;
+        }
         let Some(start) = before.rfind("sel_") else { continue };
         let result = before[..start].trim();
         let result = (result != "void").then(|| declared_type(result));
@@ -92,7 +100,7 @@ fn functions_of_raw() -> BTreeMap<String, Signature> {
 #[test]
 fn each_function_of_the_headers_is_declared_with_its_types() {
     let (headers, raw) = (functions_of_headers(), functions_of_raw());
-    assert!(headers.len() >= 70, "{headers:?}");
+    assert!(headers.len() >= 90, "{headers:?}");
     assert_eq!(
         headers["sel_share"],
         (vec!["*const Handle".to_string(), "*mut Handle".to_string()], Some("u32".to_string()))
@@ -152,8 +160,10 @@ fn the_structures_have_the_fields_of_the_header() {
         assert!(fields.len() >= 2, "{c} {fields:?}");
         assert_eq!(fields_of_rust(rust), fields, "{c}");
     }
-    assert_eq!(fields_of_header("sel_column"), ["at: *mut void"]);
-    assert_eq!(fields_of_rust("Handle"), ["at: *mut c_void"]);
+    for (c, rust) in [("sel_column", "Handle"), ("sel_type", "TypeHandle"), ("sel_stream", "StreamHandle")] {
+        assert_eq!(fields_of_header(c), ["at: *mut c_void"], "{c}");
+        assert_eq!(fields_of_rust(rust), ["at: *mut c_void"], "{rust}");
+    }
 }
 
 /// Returns the numbers of the enumeration of kinds, by their names.

@@ -39,15 +39,6 @@ pub fn check_made(column: &Column, expected: &Rows) -> Result<(), String> {
     check_through_arrow(column, expected)
 }
 
-fn has_type(dtype: &DataType, wanted: &DataType) -> bool {
-    dtype == wanted
-        || match dtype {
-            DataType::List(child) | DataType::FixedSizeList(child, _) => has_type(child, wanted),
-            DataType::Struct(fields) => fields.iter().any(|field| has_type(field, wanted)),
-            _ => false,
-        }
-}
-
 /// Returns whether an integer among the values has more than 38 digits.
 fn has_39_digits(values: &[Value]) -> bool {
     const LIMIT: u128 = 10u128.pow(38);
@@ -60,9 +51,6 @@ fn has_39_digits(values: &[Value]) -> bool {
 
 fn check_through_arrow(column: &Column, expected: &Rows) -> Result<(), String> {
     let exported = column.to_arrow();
-    if has_type(&expected.dtype, &DataType::UInt128) {
-        return same("the export of unsigned 128-bit integers", exported.err(), Some(Error::Arrow(65)));
-    }
     if has_39_digits(&expected.values) {
         return same("the export of integers of 39 digits", exported.err(), Some(Error::Arrow(71)));
     }

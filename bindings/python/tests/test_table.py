@@ -1,0 +1,140 @@
+"""Tables and streams of tables."""
+
+from __future__ import annotations
+
+import datetime
+import unittest
+from collections.abc import Iterator
+from typing import Any
+
+import sel
+from cases import table
+from sel import Column, Stream, Table
+
+DAY = datetime.date(2020, 1, 1)
+ROWS: dict[str, list[Any]] = {"id": [1, 2, 3], "when": [DAY, None, DAY], "name": ["a", "a name of more than twelve bytes", None], "lists": [[0.5], [], None]}
+
+
+class Only:
+    """An object that offers only a stream."""
+
+    def __init__(self, source: Any) -> None:
+        self.source = source
+
+    def __arrow_c_stream__(self, requested_schema: object = None) -> object:
+        return self.source.__arrow_c_stream__(requested_schema)
+
+
+class Tables(unittest.TestCase):
+    def test_columns(self) -> None:
+        made = Table(ROWS)
+        self.assertEqual((made.column_names, len(made), made.to_pydict()), (list(ROWS), 3, ROWS))
+        self.assertEqual(made.to_pylist()[1], {"id": 2, "when": None, "name": "a name of more than twelve bytes", "lists": []})
+        self.assertEqual((made["id"], made.column(0), made.column(-1).to_pylist()), (made.columns[0], made.columns[0], ROWS["lists"]))
+        self.assertEqual(made[2], {name: rows[2] for name, rows in ROWS.items()})
+        for error, key in table((KeyError, "other"), (IndexError, 4), (IndexError, -5)):
+            with self.assertRaises(error):
+                made.column(key)
+        with self.assertRaisesRegex(ValueError, "column 'b' has 2 rows, and the first one 1"):
+            Table({"a": [1], "b": [1, 2]})
+        self.assertEqual((len(Table({})), Table({}).to_pylist()), (0, []))
+
+    def test_kernels(self) -> None:
+        made = Table(ROWS)
+        for found, rows in table((made.filter([True, False, True]), [0, 2]), (made.filter(Column([False, True, None])), [1]), (made.take([2, 0, 0]), [2, 0, 0]), (made[1:], [1, 2]),
+                                 (made[[2, 1]], [2, 1]), (made[::-1], [2, 1, 0]), (made.slice(1, 1), [1]), (made[[True, False, False]], [0])):
+            self.assertEqual(found.to_pydict(), {name: [values[row] for row in rows] for name, values in ROWS.items()})
+            self.assertEqual([str(column.type) for column in found.columns], [str(column.type) for column in made.columns])
+        self.assertEqual(made.take([None, 1]).to_pylist()[0], dict.fromkeys(ROWS))
+        other = made.take([2, 1, 0])
+        self.assertEqual(made.if_else([True, True, False], other).to_pylist(), [*made.to_pylist()[:2], made.to_pylist()[0]])
+        with self.assertRaises(ValueError):
+            made.if_else([True] * 3, Table({"a": [1, 2, 3]}))
+        with self.assertRaises(IndexError):
+            made.take([-1])
+        self.assertEqual(repr(Table({"a": list(range(9)), "b": [0.5] * 9})), "Table of 9 rows\na: i64 [0,1,2,3,4,5, ...]\nb: double [0.5,0.5,0.5,0.5,0.5,0.5, ...]")
+
+    def test_arrow(self) -> None:
+        made = Table(ROWS)
+        for source in table(made, Only(made)):
+            again = Table.from_arrow(source)
+            self.assertEqual((again, again.column_names), (made, made.column_names))
+            self.assertEqual([str(column.type) for column in again.columns], ["i64", "date32[day]", "string_view", "large_list<item: double>"])
+        column = Column.from_arrow(made)
+        self.assertEqual(str(column.type), "struct<id: i64, when: date32[day], name: string_view, lists: large_list<item: double>>")
+        self.assertEqual(column.to_pylist(), made.to_pylist())
+        for source in table(Column([1]), Column([(1,), None])):
+            with self.assertRaises(ValueError):
+                Table.from_arrow(source)
+        self.assertEqual(Table.from_arrow(Column([(1, "a")])).to_pydict(), {"0": [1], "1": ["a"]})
+
+    def test_requested_schema(self) -> None:
+        """A request is honoured if it only changes offsets or views."""
+        for text, requested, found in table(("string", "large_string", "large_string"), ("string", "string_view", "string_view"), ("double", "u64", "double")):
+            wanted = Table({"a": Column(["x"] if text == "string" else [0.5])})
+            strings = {"string": "u", "large_string": "U", "string_view": "vu", "u64": "L"}
+            type_ = sel._logical.of_format(strings[requested])
+            like = Column._owning(sel._makers.made_of([], sel.parse_type("utf8" if text == "string" else "u64")), type_)
+            schema, array = wanted["a"].__arrow_c_array__(like.__arrow_c_schema__())
+
+            class Given:
+                def __arrow_c_array__(self, requested_schema: object = None) -> tuple[object, object]:
+                    return schema, array
+
+            again = Column.from_arrow(Given())
+            self.assertEqual(str(again.type), "utf8" if found == "string_view" else found)
+            self.assertEqual(again.to_pylist(), wanted["a"].to_pylist())
+
+    def test_unions_are_named(self) -> None:
+        from streams import Stream as Producer
+
+        with self.assertRaisesRegex(sel.BrokenRule, r"unsupported Arrow format '\+us:0,1'"):
+            Column.from_arrow(Producer(Column([1]), [Column([1])], format=b"+us:0,1"))
+
+
+class Streams(unittest.TestCase):
+    def test_batches_pass_one_by_one(self) -> None:
+        asked: list[int] = []
+
+        def made() -> Iterator[Table]:
+            for number in range(4):
+                asked.append(number)
+                yield Table({"a": [number, -number], "b": [0.5, None]})
+
+        rows = []
+        for count, part in enumerate(Stream.from_arrow(Only(Stream(made()))), 1):
+            self.assertLessEqual(len(asked), count)
+            rows.append(part.filter([True, False]).to_pydict())
+        self.assertEqual(rows, [{"a": [number], "b": [0.5]} for number in range(4)])
+        self.assertEqual(sel._stream._OPEN, {})
+
+    def test_errors_pass_through(self) -> None:
+        def failing(error: BaseException) -> Iterator[Table]:
+            yield Table({"a": [1]})
+            raise error
+
+        for error, kind in table((KeyError("x"), ValueError), (MemoryError(), MemoryError), (sel.OutOfBounds(6, "index out of bounds"), ValueError)):
+            stream = iter(Stream.from_arrow(Stream(failing(error))))
+            self.assertEqual(next(stream).to_pydict(), {"a": [1]})
+            with self.assertRaises(kind):
+                next(stream)
+        with self.assertRaises(ValueError):
+            list(Stream.from_arrow(Stream(iter([Table({"a": [1]}), Table({"b": [1]})]))))
+        with self.assertRaises(ValueError):
+            Stream(iter(())).__arrow_c_stream__()
+        with self.assertRaises(TypeError):
+            Stream.from_arrow([1])
+
+    def test_a_stream_that_is_not_read_is_released(self) -> None:
+        capsule = Stream(iter([Table({"a": [1]})])).__arrow_c_stream__()
+        self.assertEqual(len(sel._stream._OPEN), 1)
+        del capsule
+        self.assertEqual(sel._stream._OPEN, {})
+
+    def test_a_table_of_a_stream(self) -> None:
+        parts = [Table({"a": [1.5, None]}), Table({"a": [2.5]})]
+        self.assertEqual(Table.from_arrow(Only(Stream(parts))).to_pydict(), {"a": [1.5, None, 2.5]})
+
+
+if __name__ == "__main__":
+    unittest.main()

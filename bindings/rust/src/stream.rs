@@ -1,0 +1,156 @@
+//! Streams of record batches by the Arrow C stream interface: data larger than memory passes batch by batch.
+
+use crate::arrow::ArrowArrayStream;
+use crate::arrow_type::ArrowType;
+use crate::column::Column;
+use crate::error::{checked, status, Error};
+use crate::handle::OwnedHandle;
+use crate::raw::{self, Handle, StreamHandle, TypeHandle};
+use std::ffi::{c_void, CStr};
+use std::panic::{catch_unwind, AssertUnwindSafe};
+use std::ptr;
+
+/// A stream that is read: an iterator over its batches, columns with their types.
+///
+/// A batch that could not be imported is imported again by the next call.
+///
+/// ```
+/// # use sel::{export_stream, ArrowType, Column, Error, StreamReader};
+/// # fn main() -> Result<(), Error> {
+/// let date = ArrowType::new("tdD", &[])?;
+/// let batches = (0..3).map(|day| Ok((Column::from_values(&[day, day + 1])?, None)));
+/// let reader = StreamReader::open(export_stream(&date, batches)?)?;
+/// assert_eq!(reader.arrow_type()?, date);
+/// let texts: Result<Vec<String>, Error> = reader.map(|batch| Ok(batch?.0.to_string())).collect();
+/// assert_eq!(texts?, ["[0,1]", "[1,2]", "[2,3]"]);
+/// # Ok(())
+/// # }
+/// ```
+#[derive(Debug)]
+pub struct StreamReader {
+    handle: OwnedStream,
+}
+
+#[derive(Debug)]
+struct OwnedStream {
+    at: *mut c_void,
+}
+
+impl OwnedStream {
+    fn with<T>(&mut self, call: impl FnOnce(*mut StreamHandle) -> T) -> T {
+        let mut handle = StreamHandle { at: self.at };
+        let found = call(&mut handle);
+        self.at = handle.at;
+        found
+    }
+}
+
+impl Drop for OwnedStream {
+    fn drop(&mut self) {
+        // SAFETY: the handle has a stream or none, and is not used again.
+        self.with(|handle| unsafe { raw::sel_stream_free(handle) });
+    }
+}
+
+impl StreamReader {
+    /// Takes a stream of a producer and gets its schema. The stream is dropped on an error.
+    ///
+    /// # Errors
+    /// [`Error::Arrow`] if the stream is released, the producer reports an error, or the schema is unsupported;
+    /// [`Error::Limit`] for more than 128 levels; [`Error::OutOfMemory`].
+    pub fn open(mut stream: ArrowArrayStream) -> Result<StreamReader, Error> {
+        let mut handle = OwnedStream { at: ptr::null_mut() };
+        // SAFETY: the stream is valid or released, and the handle is empty.
+        checked(handle.with(|out| unsafe { raw::sel_stream_open(&mut stream, out) }))?;
+        Ok(StreamReader { handle })
+    }
+
+    /// Returns the type of the batches, without the values of dictionaries.
+    ///
+    /// # Errors
+    /// [`Error::OutOfMemory`].
+    pub fn arrow_type(&self) -> Result<ArrowType, Error> {
+        let handle = StreamHandle { at: self.handle.at };
+        // SAFETY: the handle is valid, and is only read.
+        ArrowType::made(|out| unsafe { raw::sel_stream_type(&handle, out) })
+    }
+
+    /// Returns the producer's message of its last error.
+    pub fn message(&mut self) -> Option<String> {
+        // SAFETY: the handle is valid; the text lives up to the next call, and is copied.
+        self.handle.with(|handle| unsafe {
+            let text = raw::sel_stream_message(handle);
+            (!text.is_null()).then(|| CStr::from_ptr(text).to_string_lossy().into_owned())
+        })
+    }
+
+    fn next_batch(&mut self) -> Result<Option<(Column, ArrowType)>, Error> {
+        let (mut column, mut of_type) = (OwnedHandle::empty(), ArrowType::empty());
+        // SAFETY: the handle is valid, and both results are empty.
+        checked(self.handle.with(|handle| unsafe { raw::sel_stream_next(handle, column.at_mut(), of_type.at_mut()) }))?;
+        // SAFETY: the handle is valid, and is only read.
+        if unsafe { (*column.at()).at.is_null() } {
+            return Ok(None);
+        }
+        Ok(Some((Column::of(column)?, of_type)))
+    }
+}
+
+impl Iterator for StreamReader {
+    type Item = Result<(Column, ArrowType), Error>;
+
+    fn next(&mut self) -> Option<Self::Item> {
+        self.next_batch().transpose()
+    }
+}
+
+/// A batch of a stream that is written, and its type; without one it has that of the stream.
+pub type Batch = Result<(Column, Option<ArrowType>), Error>;
+
+type Batches = Box<dyn Iterator<Item = Batch>>;
+
+unsafe extern "C" fn next_of(context: *mut c_void, out: *mut Handle, out_type: *mut TypeHandle) -> u32 {
+    // SAFETY: the context is that of `export_stream`, and the consumer makes one call at a time.
+    let batches = unsafe { &mut *context.cast::<Batches>() };
+    // a panic must not pass through the consumer: the stream reports an error
+    let Ok(next) = catch_unwind(AssertUnwindSafe(|| batches.next())) else { return status::ARROW_STREAM };
+    match next {
+        None => status::OK,
+        Some(Err(error)) => error.status(),
+        Some(Ok((column, of_type))) => {
+            // SAFETY: both results are valid and empty handles.
+            let shared = unsafe { raw::sel_share(column.at(), out) };
+            match of_type {
+                // SAFETY: the type is valid.
+                Some(of_type) if shared == status::OK => unsafe { raw::sel_type_share(of_type.at(), out_type) },
+                _ => shared,
+            }
+        }
+    }
+}
+
+unsafe extern "C" fn free_of(context: *mut c_void) {
+    // SAFETY: the context is that of `export_stream`, and this is called once.
+    drop(unsafe { Box::from_raw(context.cast::<Batches>()) });
+}
+
+/// Returns a stream that exports the batches of an iterator as the consumer asks for them. Each has the schema of the type.
+///
+/// # Errors
+/// [`Error::OutOfMemory`].
+pub fn export_stream(
+    of_type: &ArrowType,
+    batches: impl Iterator<Item = Batch> + 'static,
+) -> Result<ArrowArrayStream, Error> {
+    let boxed: Batches = Box::new(batches);
+    let context = Box::into_raw(Box::new(boxed)).cast::<c_void>();
+    let mut stream = ArrowArrayStream::empty();
+    // SAFETY: the type is valid, the stream is released, and the functions are those of this context.
+    let found = unsafe { raw::sel_stream_export(of_type.at(), next_of, context, free_of, &mut stream) };
+    if let Err(error) = checked(found) {
+        // SAFETY: on an error the context is not freed.
+        unsafe { free_of(context) };
+        return Err(error);
+    }
+    Ok(stream)
+}

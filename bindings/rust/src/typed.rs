@@ -1,0 +1,160 @@
+//! Columns with their logical types, which the kernels keep.
+
+use crate::arrow::{ArrowArray, ArrowSchema};
+use crate::arrow_type::{common_type, ArrowType};
+use crate::column::Column;
+use crate::error::Error;
+use crate::kernels;
+
+/// A column with its logical type: kernels return columns of the type that the result has in Arrow.
+///
+/// ```
+/// # use sel::{ArrowType, Column, Error, TypedColumn};
+/// # fn main() -> Result<(), Error> {
+/// let dates = TypedColumn::new(Column::from_values(&[0i32, 1, 2])?, ArrowType::new("tdD", &[])?)?;
+/// let kept = dates.filter(&Column::from_bools(&[true, false, true])?)?;
+/// assert_eq!((kept.column().to_string(), kept.arrow_type().to_string()), ("[0,2]".into(), "date32[day]".into()));
+/// let (array, schema) = kept.to_arrow()?;
+/// // SAFETY: both were written for the same column.
+/// assert_eq!(unsafe { TypedColumn::from_arrow(array, &schema)? }, kept);
+/// # Ok(())
+/// # }
+/// ```
+///
+/// # Errors
+/// Each function returns the errors of the function of [`Column`] that has its name. Functions of several columns return
+/// those of [`common_type`] too.
+#[derive(Clone, Debug, PartialEq)]
+pub struct TypedColumn {
+    column: Column,
+    arrow_type: ArrowType,
+}
+
+/// Returns the columns of several typed columns in one type.
+fn joined(columns: &[&TypedColumn]) -> Result<(Vec<Column>, ArrowType), Error> {
+    let given: Vec<_> = columns.iter().map(|it| (&it.column, Some(&it.arrow_type))).collect();
+    common_type(&given)
+}
+
+impl TypedColumn {
+    /// Returns a column with its type.
+    ///
+    /// # Errors
+    /// [`Error::WrongArgument`] if the column does not have the storage of the type; [`Error::OutOfBounds`] if a key has no
+    /// row in its dictionary; [`Error::Arrow`] for a dictionary without values; [`Error::OutOfMemory`].
+    pub fn new(column: Column, arrow_type: ArrowType) -> Result<TypedColumn, Error> {
+        common_type(&[(&column, Some(&arrow_type))])?;
+        Ok(TypedColumn { column, arrow_type })
+    }
+
+    /// Returns a column with the type of its storage.
+    pub fn of_storage(column: Column) -> Result<TypedColumn, Error> {
+        let arrow_type = ArrowType::of_storage(&column)?;
+        Ok(TypedColumn { column, arrow_type })
+    }
+
+    /// Copies an array of the Arrow C data interface into a column, as [`Column::from_arrow_with_type`] does.
+    ///
+    /// # Safety
+    /// As for [`Column::from_arrow`].
+    pub unsafe fn from_arrow(array: ArrowArray, schema: &ArrowSchema) -> Result<TypedColumn, Error> {
+        // SAFETY: the caller ensures that they belong together.
+        let (column, arrow_type) = unsafe { Column::from_arrow_with_type(array, schema)? };
+        Ok(TypedColumn { column, arrow_type })
+    }
+
+    /// Copies the column into an array of the Arrow C data interface, as [`Column::to_arrow_as`] does.
+    pub fn to_arrow(&self) -> Result<(ArrowArray, ArrowSchema), Error> {
+        self.column.to_arrow_as(&self.arrow_type)
+    }
+
+    /// Returns the column.
+    pub fn column(&self) -> &Column {
+        &self.column
+    }
+
+    /// Returns the logical type.
+    pub fn arrow_type(&self) -> &ArrowType {
+        &self.arrow_type
+    }
+
+    /// Returns the column and its type.
+    pub fn into_parts(self) -> (Column, ArrowType) {
+        (self.column, self.arrow_type)
+    }
+
+    /// Returns a column of the type of this one.
+    fn like(&self, column: Column) -> Result<TypedColumn, Error> {
+        Ok(TypedColumn { column, arrow_type: self.arrow_type.try_clone()? })
+    }
+
+    /// Returns the rows where the mask is true.
+    pub fn filter(&self, mask: &Column) -> Result<TypedColumn, Error> {
+        self.like(self.column.filter(mask)?)
+    }
+
+    /// Returns the rows at the indices. The result is nullable if an index is null.
+    pub fn take(&self, indices: &Column) -> Result<TypedColumn, Error> {
+        let column = self.column.take(indices)?;
+        if indices.null_count() == 0 {
+            return self.like(column);
+        }
+        Ok(TypedColumn { column, arrow_type: self.arrow_type.as_field(self.arrow_type.name(), true)? })
+    }
+
+    /// Returns `len` rows from row `offset` on.
+    pub fn slice(&self, offset: usize, len: usize) -> Result<TypedColumn, Error> {
+        self.like(self.column.slice(offset, len)?)
+    }
+
+    /// Returns the element of each list at the index, null if there is none.
+    pub fn list_get(&self, index: i64) -> Result<TypedColumn, Error> {
+        let column = self.column.list_get(index)?;
+        Ok(TypedColumn { column, arrow_type: self.arrow_type.child(0)?.as_field("", true)? })
+    }
+
+    /// Returns a field of structs.
+    pub fn field(&self, number: usize) -> Result<TypedColumn, Error> {
+        Ok(TypedColumn { column: self.column.field(number)?, arrow_type: self.arrow_type.child(number)? })
+    }
+
+    /// Returns the field of structs with this name, the first one if there are several.
+    pub fn field_named(&self, name: &str) -> Result<Option<TypedColumn>, Error> {
+        for number in 0..self.arrow_type.child_count() {
+            if self.arrow_type.child(number)?.name() == name {
+                return self.field(number).map(Some);
+            }
+        }
+        Ok(None)
+    }
+
+    /// Returns the column without dictionaries, at every depth.
+    pub fn decode(&self) -> Result<TypedColumn, Error> {
+        let (column, arrow_type) = self.column.decode(&self.arrow_type)?;
+        Ok(TypedColumn { column, arrow_type })
+    }
+
+    /// Returns the rows of `if_true` where the mask is true, and else those of `if_false`.
+    pub fn if_then_else(mask: &Column, if_true: &TypedColumn, if_false: &TypedColumn) -> Result<TypedColumn, Error> {
+        let (columns, arrow_type) = joined(&[if_true, if_false])?;
+        Ok(TypedColumn { column: kernels::if_then_else(mask, &columns[0], &columns[1])?, arrow_type })
+    }
+
+    /// Concatenates columns row by row, as [`flatten`](crate::flatten) does.
+    pub fn flatten(columns: &[&TypedColumn], widths: &[usize], height: usize) -> Result<TypedColumn, Error> {
+        let (columns, arrow_type) = joined(columns)?;
+        let columns: Vec<&Column> = columns.iter().collect();
+        Ok(TypedColumn { column: kernels::flatten(&columns, widths, height)?, arrow_type })
+    }
+
+    /// Returns the rows that the picks name, as [`collect_rows`](crate::collect_rows) does. The result is nullable if a pick is null.
+    pub fn collect_rows(columns: &[&TypedColumn], picks: &[Option<(u32, u32)>]) -> Result<TypedColumn, Error> {
+        let (columns, arrow_type) = joined(columns)?;
+        let columns: Vec<&Column> = columns.iter().collect();
+        let column = kernels::collect_rows(&columns, picks)?;
+        if picks.iter().all(Option::is_some) {
+            return Ok(TypedColumn { column, arrow_type });
+        }
+        Ok(TypedColumn { column, arrow_type: arrow_type.as_field(arrow_type.name(), true)? })
+    }
+}
