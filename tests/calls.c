@@ -224,7 +224,7 @@ const struct call calls[] = {
     {"if_then_else_broadcast_false", "tMrr", RESULT_ROWS, "sel_if_then_else_broadcast_false", of_line, run_broadcast_false, NULL, false, false},
     {"if_then_else_broadcast_both", "tMrr", RESULT_ROWS, "sel_if_then_else_broadcast_both", of_line, run_broadcast_both, NULL, false, false},
     {"list_get", "tri", RESULT_ROWS, "sel_list_get", of_item, run_list_get, NULL, false, false},
-    {"index_is_oob", "tri", RESULT_FLAG, "sel_list_index_is_oob", NULL, run_index_is_oob, NULL, false, false},
+    {"index_is_oob", "tri", RESULT_FLAG, "sel_list_index_is_oob", NULL, run_index_is_oob, NULL, false, true},
     {"fixed_size_list_get", "trif", RESULT_ROWS, "sel_fixed_size_list_get", of_item, run_fixed_size_list_get, NULL, false, false},
     {"fixed_size_list_get_each", "trIf", RESULT_ROWS, "sel_fixed_size_list_get_each", of_item, run_fixed_size_list_get_each, NULL, false, false},
     {"unit_list", "tr", RESULT_ROWS, "sel_unit_list", of_lists, run_unit_list, NULL, false, false},

@@ -127,14 +127,6 @@ bool check_equal(sel_column *column, const struct rows *wanted) {
 
 /* ---- Arrow ---- */
 
-static bool has_kind(const struct type *type, sel_type_id kind) {
-    bool has = type->kind == kind;
-    for (size_t i = 0; i < type->count; i += 1) {
-        has = has || has_kind(&type->children[i], kind);
-    }
-    return has;
-}
-
 /* Returns whether a number of 128 bits is one of 39 digits, which no decimal of Arrow has: 10 to the 38th, or more. */
 static bool has_39_digits(const struct value *value) {
     bool is_negative = value->high >> 63;
@@ -162,12 +154,8 @@ static bool is_past_decimals(const struct type *type, const struct value *values
 
 /* Checks the status of an export. */
 static bool check_export(struct arena *arena, sel_status status, const struct rows *wanted) {
-    bool has_format = !has_kind(wanted->type, SEL_TYPE_UINT128);
     bool is_past = is_past_decimals(wanted->type, wanted->values, 0, wanted->len);
-    if ((!has_format && status == SEL_ERROR_ARROW_FORMAT) || (is_past && status == SEL_ERROR_ARROW_RANGE)) {
-        return true;
-    }
-    return (has_format && !is_past && status == SEL_OK) || fail("export to Arrow: %s", status_text(arena, status));
+    return status == (is_past ? SEL_ERROR_ARROW_RANGE : SEL_OK) || fail("export to Arrow: %s", status_text(arena, status));
 }
 
 bool check_through_arrow(sel_column *column, const struct rows *wanted) {
@@ -175,10 +163,10 @@ bool check_through_arrow(sel_column *column, const struct rows *wanted) {
     struct ArrowArray array;
     struct ArrowSchema schema;
     sel_column again = {0};
-    sel_status status = sel_export(column, &array, &schema);
+    sel_status status = sel_export(column, NULL, &array, &schema);
     bool is_right = check_export(&arena, status, wanted);
     if (status == SEL_OK) {
-        status = sel_import(&array, &schema, &again);
+        status = sel_import(&array, &schema, &again, NULL);
         schema.release(&schema);
         is_right = is_right && (status == SEL_OK || fail("import from Arrow: %s", status_text(&arena, status)));
         is_right = is_right && check_column(&again, wanted, "the column that came back from Arrow");

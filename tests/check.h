@@ -19,7 +19,7 @@ bool check_has_validity(sel_column *column, bool wanted, const char *what);
 /* Checks that sel_equal_rows says of a column that it has the rows, which are laid out otherwise. */
 bool check_equal(sel_column *column, const struct rows *wanted);
 
-/* Checks that a column comes back from Arrow with its type and rows, or that its type or a number has no Arrow format. */
+/* Checks that a column comes back from Arrow with its type and rows, or that a number has too many digits for Arrow. */
 bool check_through_arrow(sel_column *column, const struct rows *wanted);
 
 #endif

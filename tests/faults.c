@@ -15,7 +15,7 @@ REAL(sel_take, const sel_column *of, const sel_column *indices, sel_column *out)
 REAL(sel_take_rows, const sel_column *of, const uint32_t *indices, size_t len, const uint8_t *bits, size_t bits_len, bool has_bits, sel_column *out);
 REAL(sel_equal_rows, const sel_column *of, const sel_column *other, bool *equal);
 REAL(sel_list_new, const int64_t *offsets, size_t len, const uint8_t *bits, size_t bits_len, bool has_bits, sel_column *child, sel_column *out);
-REAL(sel_export, const sel_column *of, struct ArrowArray *array, struct ArrowSchema *schema);
+REAL(sel_export, const sel_column *of, const sel_type *type, struct ArrowArray *array, struct ArrowSchema *schema);
 REAL(sel_parse, const uint8_t *dtype, size_t dtype_len, const uint8_t *text, size_t text_len, size_t *at, sel_column *out);
 REAL(sel_validity, const sel_column *of, uint8_t *out, size_t out_len, bool *has);
 REAL(sel_print, const sel_column *of, uint8_t *out, size_t out_len, size_t *len);
@@ -214,8 +214,8 @@ WRAP(sel_list_new, const int64_t *offsets, size_t len, const uint8_t *bits, size
     return status;
 }
 
-WRAP(sel_export, const sel_column *of, struct ArrowArray *array, struct ArrowSchema *schema) {
-    sel_status status = __real_sel_export(of, array, schema);
+WRAP(sel_export, const sel_column *of, const sel_type *type, struct ArrowArray *array, struct ArrowSchema *schema) {
+    sel_status status = __real_sel_export(of, type, array, schema);
     if (status == SEL_OK && has_fault("export") && array->length > 0) {
         array->length -= 1;
         array->null_count = -1;

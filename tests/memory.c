@@ -1,5 +1,6 @@
 #include "memory.h"
 
+#include <stdatomic.h>
 #include <stdint.h>
 #include <stdio.h>
 #include <stdlib.h>
@@ -16,7 +17,8 @@ void __wrap_free(void *block);
 
 /* ---- the allocator ---- */
 
-static long in_use;
+/* Several threads may allocate at once, but not while allocations are refused. */
+static atomic_long in_use;
 static bool is_refusing, refuses_later;
 static long until_refused, refused;
 

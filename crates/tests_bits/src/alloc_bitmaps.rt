@@ -116,16 +116,22 @@ fn operates(
     are_bits(answer, bits) && has_bits(first, &FIRST) && has_bits(second, &SECOND)
 }
 
+/// Returns the name of the first operation that returns other bits, or nothing.
+fn wrong_operation(alloc: Global, first: &Bitmap, second: &Bitmap) -> &'static str {
+    for (name, operation, bits) in OPERATIONS {
+        if !operates(alloc, operation, first, second, &bits) {
+            return name;
+        }
+    }
+    ""
+}
+
 #[test]
 fn bitmap_operations(rt: HostRuntime) -> Result<(), Fail> {
     let first = Bitmap::from_bools(rt.alloc(), &FIRST)?;
     let second = Bitmap::from_bools(rt.alloc(), &SECOND)?;
-    for (name, operation, bits) in OPERATIONS {
-        assert!(rt;
-            operates(rt.alloc(), operation, &first, &second, &bits),
-            "{name}"
-        );
-    }
+    let wrong = wrong_operation(rt.alloc(), &first, &second);
+    assert!(rt; wrong.is_empty(), "{wrong}");
     Ok(())
 }
 

@@ -22,6 +22,8 @@ mod odd;
 #[cfg(test)]
 mod readers;
 #[cfg(test)]
+mod shared;
+#[cfg(test)]
 mod values;
 #[cfg(test)]
 mod words;

@@ -1,6 +1,7 @@
 //! `select_rows`: the rows of several columns at indices among those that a mask keeps.
 
 use crate::parsed::{parsed, prints};
+use polars_compute::select::{select_is_safe, select_rows};
 use sel_arrow::array::Array;
 use sel_arrow::array_ref::ArrayRef;
 use sel_arrow::boolean::BooleanArray;
@@ -8,7 +9,6 @@ use sel_arrow::fixed_size_list::FixedSizeListArray;
 use sel_arrow::null::NullArray;
 use sel_arrow::primitive::IdxArr;
 use sel_bits::faults::{Limit, PolarsError, PolarsResult};
-use sel_lines::select::{select_is_safe, select_rows};
 use std::alloc::Global;
 use std::test::Fail;
 use tests_columns::fixtures::{column, truths};
