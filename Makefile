@@ -7,13 +7,15 @@
 # make install   copies the C libraries that make lib built: make install PREFIX=folder DESTDIR=folder; make uninstall removes them
 # make dist      packs them with the headers into build/sel-VERSION-linux-x86_64.tar.gz
 # make bench     times the kernels and writes docs/BENCHMARKS.md; make bench QUICK=1 only compares their answers
+# make fuzz      runs the fuzz targets: make fuzz MINUTES=n
+# make soak      compares calls on random columns with a model: make soak MINUTES=n SEED=n
 # make mutants   tries every mutant, not only those of make test
 # make api       writes the API references, the C header and the statuses
 
 INPUT ?= crates/sel_bench/stdin
 PREFIX ?= /usr/local
 
-.PHONY: run tour build lib install uninstall dist bench test check setup mutants api
+.PHONY: run tour build lib install uninstall dist bench test check setup fuzz soak mutants api
 
 run:
 	@tools/run sel_bench $(INPUT)
@@ -47,6 +49,12 @@ check:
 
 setup:
 	tools/gate.py setup
+
+fuzz:
+	tools/fuzz.py $(if $(MINUTES),--minutes $(MINUTES))
+
+soak:
+	tools/soak.py $(if $(MINUTES),--minutes $(MINUTES)) $(if $(SEED),--seed $(SEED))
 
 mutants:
 	tools/mutants --all

@@ -1,7 +1,7 @@
 #!/usr/bin/env python3
 """Runs the checks of the repository, and prints a table of their results and the line `N passed, M failed`.
 
-tools/gate.py         every check: what `make test` runs. Proofs that `rt ci` has done on this machine before count
+tools/gate.py         every check: what `make test` runs. Proofs that `rt ci` has kept from an earlier run count
 tools/gate.py anew    the same as a clean build, to measure the time: what `make test ANEW=1` runs
 tools/gate.py check   proves what has changed over cached proofs and runs the fast checks: what `make check` runs
 tools/gate.py setup   installs the optional programs and libraries that the checks use: what `make setup` runs
@@ -36,6 +36,7 @@ SETUP = {
     "valgrind": "finds reads and writes outside of a buffer, and leaks, in the C library",
     "sanitizers": "find the same, and undefined behaviour, in the C code around the library",
     "tsan": "finds unsynchronized accesses of several threads in the C code around the library",
+    "fuzzer": "looks for inputs that make the C code around the library fail",
     "c++": "compiles the headers as C++",
     "numpy": "computes the results that the benchmark compares with",
     "mypy": "checks the types of the Python package",
@@ -43,6 +44,7 @@ SETUP = {
     "venv": "installs the Python wheel in a virtual environment",
     "cargo": "builds and tests the Rust package",
     "pkg-config": "finds the packed C library for the examples",
+    "gdal": "produces Arrow streams that the C library reads",
     "cmake": "finds it too, for projects that use CMake",
 }
 
@@ -93,12 +95,17 @@ class Board:
         return failed == 0 and len(self.results) == self.total
 
 
+def keeps_proofs() -> bool:
+    """Returns whether this toolchain's `rt ci` keeps proofs between runs. Others prove everything in every run, and have no `--anew`."""
+    return "--anew" in subprocess.run(["rt", "help"], capture_output=True, text=True, check=False).stderr
+
+
 class Proofs:
     """A run of `rt ci`: the crates that it has proved so far, and its exit status."""
 
     def __init__(self, board: Board, anew: bool) -> None:
         self.board, self.changed = board, threading.Condition()
-        self.command = ["rt", "ci", *(["--anew"] if anew else [])]
+        self.command = ["rt", "ci", *(["--anew"] if anew and keeps_proofs() else [])]
         self.proved: set[str] = set()
         self.status: int | None = None
 
@@ -164,13 +171,17 @@ DOCUMENTS = [
     ("links", ["tools/links"]),
     ("terms", ["tools/terms"]),
     ("mutant texts", ["tools/mutants", "--texts"]),
+    ("toolchain", ["tools/toolchain.py", "--check"]),
 ]
 AFTER_LIBRARY = [
     ("conformance suite", ["tools/rows.py"]),
+    ("random columns", ["tools/soak.py", "--check"]),
+    ("fuzz targets", ["tools/fuzz.py", "--check"]),
     ("Arrow interface in C", ["tools/bindings", "c"]),
     ("Rust package", ["tools/bindings", "rust"]),
     ("Python package", ["tools/bindings", "python"]),
     ("Dask example", ["tools/bindings", "dask"]),
+    ("Arrow streams of GDAL", ["tools/bindings", "gdal"]),
     ("archive", ["tools/dist", "--check"]),
 ]
 AFTER_PROOFS = [

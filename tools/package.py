@@ -20,8 +20,9 @@ ABI = 1
 SONAME = f"libsel.so.{ABI}"
 
 # the C files of the library, around the proved calls
-ARROW_SOURCES = [ROOT / "c" / f"arrow_{name}.c" for name in ("export", "export_level", "format", "import", "import_level")]
-SOURCES = [*ARROW_SOURCES, *[ROOT / "c" / name for name in ("calls.c", "status.c")]]
+ARROW_SOURCES = [ROOT / "c" / f"arrow_{name}.c" for name in (
+    "convert", "dictionary", "export", "export_level", "format", "import", "import_level", "lease", "lend", "schema", "share", "stream", "text", "type")]
+SOURCES = [*ARROW_SOURCES, *[ROOT / "c" / name for name in ("calls.c", "memory.c", "status.c")]]
 
 # the toolchain's default, and the newer processors for which the loader of glibc takes another library if it is installed
 LEAST_CPU = "x86-64-v2"
@@ -80,7 +81,7 @@ def sources() -> List[pathlib.Path]:
     """Returns the sources of the library."""
     crates = [*crates_below("sel_c", {name: used for name, (_, used) in lines().items()}), "sel_c"]
     rattle = [path for crate in crates for path in sorted((ROOT / "crates" / crate / "src").rglob("*.rt"))]
-    return [*rattle, *SOURCES, ROOT / "c" / "arrow_internal.h", *sorted((ROOT / "include").glob("*.h"))]
+    return [*rattle, *SOURCES, ROOT / "c" / "arrow_internal.h", ROOT / "c" / "arrow_lease.h", *sorted((ROOT / "include").glob("*.h"))]
 
 
 def hash_of_sources() -> str:

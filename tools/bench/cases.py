@@ -133,7 +133,7 @@ def lists(offsets, values):
 def read_lists(column):
     offsets = np.zeros(len(column) + 1, dtype=np.int64)
     call("sel_offsets", column, offsets.ctypes.data, len(offsets))
-    return np.diff(offsets), column._child().to_numpy()[offsets[0]:offsets[-1]]
+    return np.diff(offsets), column.child().to_numpy()[offsets[0]:offsets[-1]]
 
 
 def blocks(width, values):
@@ -220,7 +220,7 @@ def filter_of_blocks(rows, density):
     mask, values = random_mask(rows, density), RNG.integers(0, 2 ** 62, rows * 4, dtype=np.int64)
     column, flags, kept, square = blocks(4, values), mask_column(mask), int(mask.sum()), values.reshape(-1, 4)
     return Case("filter, lists of four", rows, f"{density:g} random", ("filter", "loop_filter_blocks"),
-                lambda: equal(column.filter(flags)._child().to_numpy(), square[mask].reshape(-1), "blocks"), lambda: square[mask],
+                lambda: equal(column.filter(flags).child().to_numpy(), square[mask].reshape(-1), "blocks"), lambda: square[mask],
                 made=kept, width=4, read=rows // 8 + kept * 32, written=kept * 32, mask=packed(mask), values=values, first=column, second=flags)
 
 
@@ -234,8 +234,8 @@ def filter_of_structs(rows, density):
 
     def check():
         answer = column.filter(flags)
-        equal(answer._field(0).to_numpy(), first[mask], "the first field")
-        equal(answer._field(1).to_numpy(), second[mask], "the second field")
+        equal(answer.field(0).to_numpy(), first[mask], "the first field")
+        equal(answer.field(1).to_numpy(), second[mask], "the second field")
 
     return Case("filter, two fields", rows, f"{density:g} random", ("filter", "loop_filter_pairs"), check, lambda: (first[mask], second[mask]),
                 made=kept, read=rows // 8 + kept * 16, written=kept * 16, mask=packed(mask), values=first, others=second, first=column, second=flags)

@@ -184,7 +184,7 @@ def charts(docs: pathlib.Path, results: list, scale: list) -> None:
         chart(docs / f"bench-{name}-size.svg", f"{kernel.capitalize()} of 8-byte values: ns per row, by the number of rows", labels, lines_of(found))
 
 
-def write(docs: pathlib.Path, results: list, scale: list, words: list[str], load: list[float], compiler: str, flags: list[str]) -> None:
+def write(docs: pathlib.Path, results: list, scale: list, sections: list[str], load: list[float], compiler: str, flags: list[str]) -> None:
     rows = sorted((row_of(each) for each in results), key=lambda row: -row[0])
     worse, others = [row for row in rows if row[0] > 1], [row for row in rows if row[0] <= 1]
     repeats = sum(spread(each[3]) <= .1 for each in results)
@@ -199,6 +199,6 @@ def write(docs: pathlib.Path, results: list, scale: list, words: list[str], load
     text += [f"## Slower than the best peer: {len(worse)} of {len(rows)} rows", "", "The last column is the number of the cause:", "", *causes(worse), "",
              *table(worse, True), ""]
     text += [f"## As fast or faster: {len(others)} rows", "", *table(others, False), ""]
-    text += ["## By the number of rows", "", *table([row_of(each) for each in scale], False), "", *words]
+    text += ["## By the number of rows", "", *table([row_of(each) for each in scale], False), "", *sections]
     (docs / "BENCHMARKS.md").write_text("\n".join(text))
     charts(docs, results, scale)

@@ -1,0 +1,62 @@
+#!/usr/bin/env python3
+"""Compares calls of the C library on random nested columns with the plain model of tests/random.
+
+tools/soak.py [--minutes N] [--seed N]   for N minutes (1 if no number is given), half of them with 8 threads that share columns
+tools/soak.py --check                    100,000 calls alone and 100,000 with threads: what `make test` runs
+
+A failure names the seed of its round; `build/soak --seed SEED --calls 1` runs that round again. Without --seed the seed is chosen by
+chance, and printed.
+"""
+
+from __future__ import annotations
+
+import argparse
+import os
+import pathlib
+import random
+import subprocess
+import sys
+from typing import List
+
+ROOT = pathlib.Path(__file__).resolve().parent.parent
+TESTS = ROOT / "tests"
+BUILD = ROOT / "build"
+CC = os.environ.get("CC", "cc")
+FLAGS = ["-std=c11", "-g", "-O2", "-Wall", "-Wextra", "-pedantic", "-Werror", "-I", str(ROOT / "include"), "-pthread"]
+RUNNER = [TESTS / f"{name}.c" for name in ("check", "layout", "lines", "memory", "notation", "report")]
+WRAPPED = [f"-Wl,--wrap={name}" for name in ("malloc", "calloc", "realloc", "free")]
+CALLS = 100_000
+
+
+def built() -> pathlib.Path:
+    """Compiles the program. Exits if that fails."""
+    program = BUILD / "soak"
+    sources = [*sorted((TESTS / "random").glob("*.c")), *RUNNER]
+    command = [CC, *FLAGS, *map(str, sources), str(BUILD / "libsel.a"), *WRAPPED, "-o", str(program)]
+    if subprocess.run(command, check=False).returncode != 0:
+        sys.exit(f"failed: {' '.join(command)}")
+    return program
+
+
+def run(program: pathlib.Path, *words: str) -> bool:
+    """Runs the program, and returns whether nothing failed."""
+    return subprocess.run([str(program), *words], check=False).returncode == 0
+
+
+def main() -> int:
+    parser = argparse.ArgumentParser(description=__doc__, formatter_class=argparse.RawDescriptionHelpFormatter)
+    parser.add_argument("--minutes", type=float, default=1)
+    parser.add_argument("--seed", type=int, default=random.SystemRandom().randrange(1, 2**40))
+    parser.add_argument("--check", action="store_true")
+    given = parser.parse_args()
+    if not (BUILD / "libsel.a").exists():
+        sys.exit("build/libsel.a is not there: make lib builds it")
+    program = built()
+    limit: List[str] = ["--calls", str(CALLS)] if given.check else ["--seconds", str(round(30 * given.minutes))]
+    seed = ["--seed", str(given.seed)]
+    results = [run(program, *seed, *limit), run(program, *seed, *limit, "--threads", "8")]
+    return 0 if all(results) else 1
+
+
+if __name__ == "__main__":
+    sys.exit(main())
