@@ -21,6 +21,7 @@ pub mod PartRows
 pub mod Printed
 pub mod Quotes
 pub mod Refusals
+pub mod RowRuns
 pub mod Rows
 pub mod Shown
 pub mod Spelled

@@ -6,6 +6,7 @@ pub mod Digits
 pub mod ItemValues
 pub mod Limits
 pub mod Readings
+pub mod RowRuns
 pub mod Spelling
 pub mod Stored
 pub mod TextErrors

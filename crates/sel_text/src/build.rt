@@ -1,6 +1,6 @@
 //! Builds columns from parsed rows.
 
-ghost use Rattle.std.specs.Prelude.{◌≡◌, ◌<◌, ◌≤◌, ◌+◌, ◌∷◌, ◌++◌, [], pos, true, false, List, IfOk, IfErr, OnOk, length, map, replicate};
+ghost use Rattle.std.specs.Prelude.{◌≡◌, ◌<◌, ◌≤◌, ◌+◌, ◌∷◌, ◌++◌, [], pos, true, false, ℕ, List, IfOk, IfErr, IfSome, IfNone, OnOk, length, map, replicate};
 ghost use Rattle.std.specs.List.{flat_map, list_all};
 ghost use Rattle.sel_arrow.specs.Columns.{binview_rows};
 ghost use Rattle.sel_arrow.specs.DataType.{shape_of};
@@ -12,11 +12,13 @@ ghost use Rattle.sel_text.specs.Below.{offsets_below, HasParts};
 ghost use Rattle.sel_text.specs.Fits.{fits, fits_number};
 ghost use Rattle.sel_text.specs.ItemValues.{item_value, rows_read};
 ghost use Rattle.sel_text.specs.Limits.{all_placed_bytes, any_exceeds_limit, block_in, entries_in, exceeds_max, is_view_shape, part_in, exceeds_limit, ReportsLimit, MakesColumn, ShowsRows};
+ghost use Rattle.sel_text.specs.RowRuns.{repeated, rows_repeated};
 ghost use Rattle.sel_text.specs.Stored.{bytes_behind, bytes_stored, bool_stored};
 ghost use Rattle.sel_text.specs.TextErrors.{IsMemoryFault};
 
 use crate::cell::Whole;
 use crate::item::Item;
+use crate::row_runs::{RowRun, RowWalk, once_each, row_count};
 use crate::text_error::Fault;
 use crate::whole::FromWhole;
 use sel_arrow::array::Array;
@@ -52,14 +54,14 @@ pub enum NullSlots {
 pub(crate) fn build(
     dtype: &ArrowDataType,
     alloc: Global,
-    items: &[&Item],
+    items: &[RowRun<'_>],
     beneath: NullSlots,
 ) -> Result<ArrayRef, Fault>
-    ensures { list_all (fits (shape_of dtype.now)) (rows_read items.now) ≡ true →
-        MakesColumn beneath (shape_of dtype.now) (rows_read items.now) result }
+    ensures { list_all (fits (shape_of dtype.now)) (rows_repeated items.now) ≡ true →
+        MakesColumn beneath (shape_of dtype.now) (rows_repeated items.now) result }
 {
     match dtype {
-        ArrowDataType::Null => Ok(NullArray::try_new(items.len())?.into_ref()),
+        ArrowDataType::Null => Ok(NullArray::try_new(row_count(items)?)?.into_ref()),
         ArrowDataType::Boolean => truths(alloc, items, beneath),
         ArrowDataType::Int8 => numbers::<i8>(alloc, items, beneath),
         ArrowDataType::Int16 => numbers::<i16>(alloc, items, beneath),
@@ -82,15 +84,17 @@ pub(crate) fn build(
 
 /// Returns the validity of the rows, or `None` if all rows are valid. Fails only with
 /// `OutOfMemory`.
-fn validity_of(alloc: Global, items: &[&Item]) -> Result<Option<Bitmap>, Fault>
-    ensures covers { IfOk result (λ validity. Covers validity (length items.now)) }
+fn validity_of(alloc: Global, items: &[RowRun<'_>]) -> Result<Option<Bitmap>, Fault>
+    ensures covers { IfOk result (λ validity. Covers validity (length (rows_repeated items.now))) }
     ensures hides { IfOk result (λ validity. (plain : List Value) →
-        ShowsRows (rows_read items.now) plain → masked validity plain ≡ rows_read items.now) }
+        ShowsRows (rows_repeated items.now) plain → masked validity plain ≡ rows_repeated items.now) }
     ensures memory { IfErr result IsMemoryFault }
 {
-    let mut valid = Vec::with_capacity(alloc, items.len())?;
-    for item in items {
-        valid.push(is_filled(item))?;
+    let count = row_count(items)?;
+    let mut rows = RowWalk::new(items);
+    let mut valid = Vec::with_capacity(alloc, count)?;
+    for _ in 0..count {
+        valid.push(is_filled(rows.next()))?;
     }
     if all_true(&valid) {
         return Ok(None);
@@ -119,13 +123,15 @@ fn is_filled(item: &Item) -> bool
 }
 
 /// Builds a boolean column.
-fn truths(alloc: Global, items: &[&Item], beneath: NullSlots) -> Result<ArrayRef, Fault>
-    ensures { list_all (fits of_boolean) (rows_read items.now) ≡ true →
-        MakesColumn beneath of_boolean (rows_read items.now) result }
+fn truths(alloc: Global, items: &[RowRun<'_>], beneath: NullSlots) -> Result<ArrayRef, Fault>
+    ensures { list_all (fits of_boolean) (rows_repeated items.now) ≡ true →
+        MakesColumn beneath of_boolean (rows_repeated items.now) result }
 {
-    let mut values = Vec::with_capacity(alloc, items.len())?;
-    for item in items {
-        values.push(boolean_in(item, beneath))?;
+    let count = row_count(items)?;
+    let mut rows = RowWalk::new(items);
+    let mut values = Vec::with_capacity(alloc, count)?;
+    for _ in 0..count {
+        values.push(boolean_in(rows.next(), beneath))?;
     }
     let values = Bitmap::from_bools(alloc, &values)?;
     Ok(BooleanArray::try_new(values, validity_of(alloc, items)?)?.into_ref())
@@ -147,20 +153,22 @@ fn boolean_in(item: &Item, beneath: NullSlots) -> bool
 /// Builds a primitive column.
 fn numbers<T: FromWhole>(
     alloc: Global,
-    items: &[&Item],
+    items: &[RowRun<'_>],
     beneath: NullSlots,
 ) -> Result<ArrayRef, Fault>
-    ensures { list_all (fits T.shape) (rows_read items.now) ≡ true →
-        MakesColumn beneath T.shape (rows_read items.now) result }
+    ensures { list_all (fits T.shape) (rows_repeated items.now) ≡ true →
+        MakesColumn beneath T.shape (rows_repeated items.now) result }
 {
     let zero = T::zero();
     let other = match beneath {
         NullSlots::Zeros => zero,
         NullSlots::Others => T::GREATEST,
     };
-    let mut values = Vec::with_capacity(alloc, items.len())?;
-    for item in items {
-        values.push(number_in::<T>(item, other))?;
+    let count = row_count(items)?;
+    let mut rows = RowWalk::new(items);
+    let mut values = Vec::with_capacity(alloc, count)?;
+    for _ in 0..count {
+        values.push(number_in::<T>(rows.next(), other))?;
     }
     let values = Buffer::from_vec(values)?;
     Ok(PrimitiveArray::try_new(values, validity_of(alloc, items)?)?.into_ref())
@@ -192,14 +200,16 @@ fn bytes_in(item: &Item, beneath: NullSlots) -> &[u8]
 }
 
 /// Builds a binary column with 64-bit offsets (LargeBinary).
-fn pieces(alloc: Global, items: &[&Item], beneath: NullSlots) -> Result<ArrayRef, Fault>
-    ensures { list_all (fits of_large_binary) (rows_read items.now) ≡ true →
-        MakesColumn beneath of_large_binary (rows_read items.now) result }
+fn pieces(alloc: Global, items: &[RowRun<'_>], beneath: NullSlots) -> Result<ArrayRef, Fault>
+    ensures { list_all (fits of_large_binary) (rows_repeated items.now) ≡ true →
+        MakesColumn beneath of_large_binary (rows_repeated items.now) result }
 {
+    let count = row_count(items)?;
+    let mut rows = RowWalk::new(items);
     let mut bytes = Vec::new(alloc);
     let mut ends: Vec<i64> = vec![in alloc; 0]?;
-    for item in items {
-        bytes.extend_from_slice(bytes_in(item, beneath))?;
+    for _ in 0..count {
+        bytes.extend_from_slice(bytes_in(rows.next(), beneath))?;
         ends.push(offset_at(bytes.len())?)?;
     }
     let offsets = OffsetsBuffer::try_from(ends)?;
@@ -223,21 +233,23 @@ fn offset_at(place: usize) -> Result<i64, Fault>
 }
 
 /// Builds a binary view column; byte strings longer than 12 bytes go to a single data buffer.
-fn views(alloc: Global, items: &[&Item], beneath: NullSlots) -> Result<BinaryViewArray, Fault>
+fn views(alloc: Global, items: &[RowRun<'_>], beneath: NullSlots) -> Result<BinaryViewArray, Fault>
     ensures views { IfOk result (λ array. (shape : Shape) → is_view_shape shape ≡ true →
-        list_all (fits shape) (rows_read items.now) ≡ true →
-        binview_rows array ≡ rows_read items.now) }
+        list_all (fits shape) (rows_repeated items.now) ≡ true →
+        binview_rows array ≡ rows_repeated items.now) }
     ensures within { IfOk result (λ _. (shape : Shape) → is_view_shape shape ≡ true →
-        list_all (fits shape) (rows_read items.now) ≡ true →
-        exceeds_max (all_placed_bytes (rows_read items.now)) ≡ false) }
+        list_all (fits shape) (rows_repeated items.now) ≡ true →
+        exceeds_max (all_placed_bytes (rows_repeated items.now)) ≡ false) }
     ensures limit { IfErr result (λ fault. (shape : Shape) → is_view_shape shape ≡ true →
-        list_all (fits shape) (rows_read items.now) ≡ true →
-        ReportsLimit (exceeds_limit beneath shape (rows_read items.now)) fault) }
+        list_all (fits shape) (rows_repeated items.now) ≡ true →
+        ReportsLimit (exceeds_limit beneath shape (rows_repeated items.now)) fault) }
 {
+    let count = row_count(items)?;
+    let mut rows = RowWalk::new(items);
     let mut data = Vec::new(alloc);
-    let mut views = Vec::with_capacity(alloc, items.len())?;
-    for item in items {
-        views.push(view_behind(&mut data, bytes_in(item, beneath))?)?;
+    let mut views = Vec::with_capacity(alloc, count)?;
+    for _ in 0..count {
+        views.push(view_behind(&mut data, bytes_in(rows.next(), beneath))?)?;
     }
     let data = Buffer::from_vec(data)?;
     let buffers = Buffer::from_vec(vec![in alloc; data]?)?;
@@ -273,9 +285,9 @@ fn view_behind(placed: &mut Vec<u8>, bytes: &[u8]) -> Result<View, Fault>
 }
 
 /// Builds a string view column (Utf8View).
-fn texts(alloc: Global, items: &[&Item], beneath: NullSlots) -> Result<ArrayRef, Fault>
-    ensures { list_all (fits of_utf8_view) (rows_read items.now) ≡ true →
-        MakesColumn beneath of_utf8_view (rows_read items.now) result }
+fn texts(alloc: Global, items: &[RowRun<'_>], beneath: NullSlots) -> Result<ArrayRef, Fault>
+    ensures { list_all (fits of_utf8_view) (rows_repeated items.now) ≡ true →
+        MakesColumn beneath of_utf8_view (rows_repeated items.now) result }
 {
     let BinaryViewArray {
         views,
@@ -290,16 +302,20 @@ fn texts(alloc: Global, items: &[&Item], beneath: NullSlots) -> Result<ArrayRef,
 fn lists(
     dtype: &ArrowDataType,
     alloc: Global,
-    items: &[&Item],
+    items: &[RowRun<'_>],
     beneath: NullSlots,
 ) -> Result<ArrayRef, Fault>
-    ensures { list_all (fits (of_large_list (shape_of dtype.now))) (rows_read items.now) ≡
-        true → MakesColumn beneath (of_large_list (shape_of dtype.now)) (rows_read items.now)
+    ensures { list_all (fits (of_large_list (shape_of dtype.now))) (rows_repeated items.now) ≡
+        true → MakesColumn beneath (of_large_list (shape_of dtype.now)) (rows_repeated items.now)
         result }
 {
     let null = Item::Null;
     let (entries, offsets) = match entries_between(alloc, items, &null, beneath) {
         Ok(made) => made,
+        Err(fault) => return Err(fault),
+    };
+    let entries = match once_each(alloc, &entries) {
+        Ok(entries) => entries,
         Err(fault) => return Err(fault),
     };
     let validity = match validity_of(alloc, items) {
@@ -319,21 +335,26 @@ fn lists(
 /// Returns the concatenated entries of the lists, and their offsets.
 fn entries_between<'a, 'b: 'a>(
     alloc: Global,
-    items: &[&'b Item],
+    items: &[RowRun<'b>],
     null: &'a Item,
     beneath: NullSlots,
 ) -> Result<(Vec<&'a Item>, OffsetsBuffer<i64>), Fault>
     ensures entries { item_value null.now ≡ Null →
         IfOk result (λ made. rows_read made.0.items ≡ flat_map (entries_in beneath)
-        (rows_read items.now)) }
+        (rows_repeated items.now)) }
     ensures offsets { item_value null.now ≡ Null → IfOk result (λ made. made.1 ≡
-        offsets_below (entries_in beneath) (rows_read items.now)) }
+        offsets_below (entries_in beneath) (rows_repeated items.now)) }
     ensures memory { item_value null.now ≡ Null → IfErr result IsMemoryFault }
 {
+    let count = match row_count(items) {
+        Ok(count) => count,
+        Err(fault) => return Err(fault),
+    };
+    let mut rows = RowWalk::new(items);
     let mut entries = Vec::new(alloc);
     let mut ends: Vec<i64> = vec![in alloc; 0]?;
-    for item in items {
-        if let Err(fault) = push_below(&mut entries, item, null, beneath) {
+    for _ in 0..count {
+        if let Err(fault) = push_below(&mut entries, rows.next(), null, beneath) {
             return Err(fault);
         }
         match offset_at(entries.len()) {
@@ -385,12 +406,12 @@ fn blocks(
     dtype: &ArrowDataType,
     size: usize,
     alloc: Global,
-    items: &[&Item],
+    items: &[RowRun<'_>],
     beneath: NullSlots,
 ) -> Result<ArrayRef, Fault>
     ensures { list_all (fits (of_fixed_size_list (shape_of dtype.now) size))
-        (rows_read items.now) ≡ true → MakesColumn beneath
-        (of_fixed_size_list (shape_of dtype.now) size) (rows_read items.now) result }
+        (rows_repeated items.now) ≡ true → MakesColumn beneath
+        (of_fixed_size_list (shape_of dtype.now) size) (rows_repeated items.now) result }
 {
     let child = match block_child(dtype, size, alloc, items, beneath) {
         Ok(child) => child,
@@ -400,7 +421,11 @@ fn blocks(
         Ok(validity) => validity,
         Err(fault) => return Err(fault),
     };
-    match FixedSizeListArray::try_new(alloc, size, items.len(), child, validity) {
+    let count = match row_count(items) {
+        Ok(count) => count,
+        Err(fault) => return Err(fault),
+    };
+    match FixedSizeListArray::try_new(alloc, size, count, child, validity) {
         Ok(array) => Ok(array.into_ref()),
         Err(fault) => Err(Fault::from(fault)),
     }
@@ -413,14 +438,18 @@ fn block_child(
     dtype: &ArrowDataType,
     size: usize,
     alloc: Global,
-    items: &[&Item],
+    items: &[RowRun<'_>],
     beneath: NullSlots,
 ) -> Result<ArrayRef, Fault>
     ensures { list_all (fits (of_fixed_size_list (shape_of dtype.now) size))
-        (rows_read items.now) ≡ true → MakesColumn beneath (shape_of dtype.now)
-        (flat_map (block_in size) (rows_read items.now)) result }
+        (rows_repeated items.now) ≡ true → MakesColumn beneath (shape_of dtype.now)
+        (flat_map (block_in size) (rows_repeated items.now)) result }
 {
-    let count = match items.len().checked_mul(size) {
+    let len = match row_count(items) {
+        Ok(len) => len,
+        Err(fault) => return Err(fault),
+    };
+    let count = match len.checked_mul(size) {
         Some(count) => count,
         None => return Err(Fault::Limit),
     };
@@ -438,42 +467,94 @@ fn block_child(
     build(dtype, alloc, &entries, beneath)
 }
 
-/// Returns the concatenated entries of the lists, with `size` nulls for each null row. Fails only
-/// with `OutOfMemory`.
+/// Returns the concatenated entries of the lists, with a run of `size` nulls for each null row.
+/// Fails only with `OutOfMemory`.
 fn entries_of<'a, 'b: 'a>(
     alloc: Global,
-    items: &[&'b Item],
+    items: &[RowRun<'b>],
     null: &'a Item,
     size: usize,
-) -> Result<Vec<&'a Item>, Fault>
+) -> Result<Vec<RowRun<'a>>, Fault>
     ensures entries { item_value null.now ≡ Null → IfOk result (λ entries.
-        rows_read entries.items ≡ flat_map (block_in size) (rows_read items.now)) }
+        rows_repeated entries.items ≡ flat_map (block_in size) (rows_repeated items.now)) }
     ensures memory { IfErr result IsMemoryFault }
 {
     let mut entries = Vec::new(alloc);
-    for item in items {
-        if let Err(fault) = push_block(&mut entries, item, null, size) {
+    for run in items {
+        if let Err(fault) = push_blocks(&mut entries, run, null, size) {
             return Err(fault);
         }
     }
     Ok(entries)
 }
 
-/// Appends the entries of a list, or `size` nulls for a null row. Fails only with `OutOfMemory`.
-fn push_block<'a, 'b: 'a>(
-    entries: &mut Vec<&'a Item>,
-    item: &'b Item,
+/// Appends the entries of a list, or `size` nulls for a null row, as often as the row is repeated.
+/// Fails only with `OutOfMemory`.
+fn push_blocks<'a, 'b: 'a>(
+    entries: &mut Vec<RowRun<'a>>,
+    run: &RowRun<'b>,
     null: &'a Item,
     size: usize,
 ) -> Result<(), Fault>
-    ensures entries { item_value null.now ≡ Null → OnOk result (rows_read entries.new.items ≡
-        rows_read entries.old.items ++ block_in size (item_value item.now)) }
+    ensures entries { item_value null.now ≡ Null → OnOk result
+        (rows_repeated entries.new.items ≡ rows_repeated entries.old.items ++ flat_map
+        (block_in size) (replicate run.now.times (item_value run.now.item.now))) }
     ensures memory { IfErr result IsMemoryFault }
 {
-    if let Item::Items(list) = item {
-        return push_each(entries, list);
+    if let Some(list) = list_of(run.item) {
+        return push_repeated(entries, list, run.times);
     }
-    push_copies(entries, null, size)
+    match run.times.checked_mul(size) {
+        Some(times) => entries.push(RowRun { item: null, times })?,
+        None => return Err(Fault::OutOfMemory),
+    }
+    Ok(())
+}
+
+/// Returns the entries of a list, or none for any other row.
+fn list_of(item: &Item) -> Option<&[Item]>
+    ensures list { IfSome result (λ list. (size : ℕ) →
+        block_in size (item_value item.now) ≡ map item_value list.now) }
+    ensures other { IfNone result ((size : ℕ) →
+        block_in size (item_value item.now) ≡ replicate size Null) }
+{
+    match item {
+        Item::Items(list) => Some(list),
+        _ => None,
+    }
+}
+
+/// Appends each entry of a list, `times` times. Fails only with `OutOfMemory`.
+fn push_repeated<'a>(
+    entries: &mut Vec<RowRun<'a>>,
+    list: &'a [Item],
+    times: usize,
+) -> Result<(), Fault>
+    ensures entries { OnOk result (rows_repeated entries.new.items ≡
+        rows_repeated entries.old.items ++ repeated times (map item_value list.now)) }
+    ensures memory { IfErr result IsMemoryFault }
+{
+    for _ in 0..times {
+        if let Err(fault) = push_entries(entries, list) {
+            return Err(fault);
+        }
+    }
+    Ok(())
+}
+
+/// Appends each entry of a list. Fails only with `OutOfMemory`.
+fn push_entries<'a>(entries: &mut Vec<RowRun<'a>>, list: &'a [Item]) -> Result<(), Fault>
+    ensures entries { OnOk result (rows_repeated entries.new.items ≡
+        rows_repeated entries.old.items ++ map item_value list.now) }
+    ensures memory { IfErr result IsMemoryFault }
+{
+    for entry in list {
+        entries.push(RowRun {
+            item: entry,
+            times: 1,
+        })?;
+    }
+    Ok(())
 }
 
 /// Appends `count` copies of an entry. Fails only with `OutOfMemory`.
@@ -493,12 +574,12 @@ fn push_copies<'a>(entries: &mut Vec<&'a Item>, entry: &'a Item, count: usize) -
 fn tuples(
     dtypes: &[ArrowDataType],
     alloc: Global,
-    items: &[&Item],
+    items: &[RowRun<'_>],
     beneath: NullSlots,
 ) -> Result<ArrayRef, Fault>
     ensures { list_all (fits (of_struct (shapes_of (map shape_of dtypes.now))))
-        (rows_read items.now) ≡ true →
-        MakesColumn beneath (of_struct (shapes_of (map shape_of dtypes.now))) (rows_read items.now)
+        (rows_repeated items.now) ≡ true →
+        MakesColumn beneath (of_struct (shapes_of (map shape_of dtypes.now))) (rows_repeated items.now)
         result }
 {
     let validity = match validity_of(alloc, items) {
@@ -510,7 +591,14 @@ fn tuples(
         drop(fields);
         return Err(fault);
     }
-    match StructArray::try_new(alloc, items.len(), fields, validity) {
+    let count = match row_count(items) {
+        Ok(count) => count,
+        Err(fault) => {
+            drop(fields);
+            return Err(fault);
+        }
+    };
+    match StructArray::try_new(alloc, count, fields, validity) {
         Ok(array) => Ok(array.into_ref()),
         Err(fault) => Err(Fault::from(fault)),
     }
@@ -522,18 +610,18 @@ fn push_fields(
     fields: &mut Vec<ArrayRef>,
     dtypes: &[ArrowDataType],
     alloc: Global,
-    items: &[&Item],
+    items: &[RowRun<'_>],
     beneath: NullSlots,
 ) -> Result<(), Fault>
     ensures fields { list_all (fits (of_struct (shapes_of (map shape_of dtypes.now))))
-        (rows_read items.now) ≡ true → OnOk result (HasParts fields.new.items
-        fields.old.items (map shape_of dtypes.now) (rows_read items.now)) }
+        (rows_repeated items.now) ≡ true → OnOk result (HasParts fields.new.items
+        fields.old.items (map shape_of dtypes.now) (rows_repeated items.now)) }
     ensures within { list_all (fits (of_struct (shapes_of (map shape_of dtypes.now))))
-        (rows_read items.now) ≡ true → OnOk result (any_exceeds_limit beneath
-        (shapes_of (map shape_of dtypes.now)) 0 (rows_read items.now) ≡ false) }
+        (rows_repeated items.now) ≡ true → OnOk result (any_exceeds_limit beneath
+        (shapes_of (map shape_of dtypes.now)) 0 (rows_repeated items.now) ≡ false) }
     ensures limit { list_all (fits (of_struct (shapes_of (map shape_of dtypes.now))))
-        (rows_read items.now) ≡ true → IfErr result (ReportsLimit (any_exceeds_limit beneath
-        (shapes_of (map shape_of dtypes.now)) 0 (rows_read items.now))) }
+        (rows_repeated items.now) ≡ true → IfErr result (ReportsLimit (any_exceeds_limit beneath
+        (shapes_of (map shape_of dtypes.now)) 0 (rows_repeated items.now))) }
 {
     for (k, dtype) in dtypes.iter().enumerate() {
         let null = Item::Null;
@@ -557,17 +645,19 @@ fn push_fields(
 /// with `OutOfMemory`.
 fn parts_at<'a, 'b: 'a>(
     alloc: Global,
-    items: &[&'b Item],
+    items: &[RowRun<'b>],
     place: usize,
     other: &'a Item,
-) -> Result<Vec<&'a Item>, Fault>
+) -> Result<Vec<RowRun<'a>>, Fault>
     ensures parts { item_value other.now ≡ Null → IfOk result (λ parts.
-        rows_read parts.items ≡ map (part_in place) (rows_read items.now)) }
+        rows_repeated parts.items ≡ map (part_in place) (rows_repeated items.now)) }
     ensures memory { IfErr result IsMemoryFault }
 {
     let mut parts = Vec::with_capacity(alloc, items.len())?;
-    for item in items {
-        parts.push(part_at(item, place, other))?;
+    for run in items {
+        let item = part_at(run.item, place, other);
+        let times = run.times;
+        parts.push(RowRun { item, times })?;
     }
     Ok(parts)
 }

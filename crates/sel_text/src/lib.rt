@@ -10,6 +10,7 @@ mod numerals;
 pub mod parse;
 pub mod print;
 pub mod read_type;
+mod row_runs;
 mod spelling;
 mod strings;
 pub mod syntax;

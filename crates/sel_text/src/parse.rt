@@ -15,6 +15,7 @@ ghost use Rattle.sel_text.specs.Texts.{text_of};
 use crate::build::{NullSlots, build};
 use crate::item::{Item, read_items};
 use crate::print::print_rows;
+use crate::row_runs::RowRun;
 use crate::spelling::spelling;
 use crate::syntax::find_row_error;
 use crate::text_error::{Fault, TextError};
@@ -185,7 +186,7 @@ fn build_rows(
 {
     let mut rows = Vec::with_capacity(alloc, items.len())?;
     for item in items {
-        rows.push(item)?;
+        rows.push(RowRun { item, times: 1 })?;
     }
     build(dtype, alloc, &rows, beneath)
 }

@@ -2,7 +2,6 @@ use Rattle.std.proofs.Common.{◌≡◌, ◌<◌, ◌*◌, ◌||◌, map, length
 use Rattle.std.specs.List.{flat_map, list_all}
 use Rattle.std.proofs.lemmas.List.{length-map, get_or-map, take_all}
 use Rattle.sel_arrow.specs.DataType.{shape_of}
-use Rattle.sel_arrow.specs.Masked.{Covers}
 use Rattle.sel_arrow.specs.Rows.{rows, row_count, type_of}
 use Rattle.sel_arrow.specs.Shape.{of_null, of_binary_view, of_large_list, of_fixed_size_list, of_struct, shapes_of}
 use Rattle.sel_arrow.specs.Value.{Null}
@@ -10,7 +9,8 @@ use Rattle.sel_arrow.proofs.NestedRows.{length-rows}
 use Rattle.sel_arrow.proofs.Types.{struct_shape}
 use Rattle.sel_text.specs.Below.{HasParts}
 use Rattle.sel_text.specs.Fits.{fits}
-use Rattle.sel_text.specs.ItemValues.{item_value, rows_read}
+use Rattle.sel_text.specs.ItemValues.{rows_read}
+use Rattle.sel_text.specs.RowRuns.{rows_repeated}
 use Rattle.sel_text.specs.Limits.{all_placed_bytes, any_exceeds_limit, block_in, entries_in, exceeds_max, part_in, exceeds_limit, ReportsLimit, MakesColumn}
 use Rattle.sel_text.proofs.Below.{all_below, block_below, blocks_made, blocks_past, list_below, lists_made, lists_past, same_blocks, same_lists}
 use Rattle.sel_text.proofs.Making.{all_nulls, maker_told, or_first, or_second, told_more}
@@ -24,16 +24,16 @@ use Rattle.sel_text.proofs.build.+building.Goals as goal
 pub build-returns-in_ok-try_new-in-Null : goal.build-returns-in_ok-try_new-in-Null
 build-returns-in_ok-try_new-in-Null t c = λ fit.
     let shape = ap shape_of c.in-Null.is in
-    let nulls = all_nulls (rows_read c.args.items.now) (ap (λ s. list_all (fits s) (rows_read c.args.items.now)) (sym shape) ∙ fit) in
+    let nulls = all_nulls (rows_repeated c.args.items.now) (ap (λ s. list_all (fits s) (rows_repeated c.args.items.now)) (sym shape) ∙ fit) in
     let made = c.into_ref.ensures in
-    let long = c.in_ok-try_new-in-Null.ensures.length ∙ sym (length-map c.args.items.now (λ item. item_value item.now)) in
-    let are : rows c.into_ref.result.column ≡ rows_read c.args.items.now = made.rows ∙ ap (λ n. replicate n Null) long ∙ nulls in
-    (made.dtype ∙ sym shape, are, ap (λ s. exceeds_limit c.args.beneath s (rows_read c.args.items.now)) shape ∙ rows_few c.into_ref.result (rows_read c.args.items.now) are)
+    let long = c.in_ok-try_new-in-Null.ensures.length ∙ c.in_ok-row_count-in-Null.ensures.count in
+    let are : rows c.into_ref.result.column ≡ rows_repeated c.args.items.now = made.rows ∙ ap (λ n. replicate n Null) long ∙ nulls in
+    (made.dtype ∙ sym shape, are, ap (λ s. exceeds_limit c.args.beneath s (rows_repeated c.args.items.now)) shape ∙ rows_few c.into_ref.result (rows_repeated c.args.items.now) are)
 
 pub build-returns-in_ok-views-in-BinaryView : goal.build-returns-in_ok-views-in-BinaryView
 build-returns-in_ok-views-in-BinaryView t c = λ fit.
     let shape = ap shape_of c.in-BinaryView.is in
-    let vs = rows_read c.args.items.now in
+    let vs = rows_repeated c.args.items.now in
     let fits_view : list_all (fits of_binary_view) vs ≡ true = ap (λ s. list_all (fits s) vs) (sym shape) ∙ fit in
     let made = c.into_ref-in-BinaryView in
     let are : rows made.result.column ≡ vs = made.ensures.rows ∙ c.in_ok-views-in-BinaryView.ensures.views of_binary_view refl fits_view in
@@ -44,7 +44,7 @@ pub build-returns-in-Struct : goal.build-returns-in-Struct
 build-returns-in-Struct t c =
     let shapes = shapes_of (map shape_of c.deref-in-Struct.result.now) in
     let same : of_struct shapes ≡ shape_of c.args.dtype.now = ap (λ l. of_struct (shapes_of (map shape_of l))) c.deref-in-Struct.ensures.value ∙ sym (struct_shape c.args.dtype.now c.in-Struct.fields c.in-Struct.is) in
-    subst (λ s. list_all (fits s) (rows_read c.args.items.now) ≡ true → MakesColumn c.args.beneath s (rows_read c.args.items.now) c.tuples.result) same c.tuples.ensures
+    subst (λ s. list_all (fits s) (rows_repeated c.args.items.now) ≡ true → MakesColumn c.args.beneath s (rows_repeated c.args.items.now) c.tuples.result) same c.tuples.ensures
 
 -- ---- lists
 
@@ -52,9 +52,9 @@ pub lists-returns-in-Err-build : goal.lists-returns-in-Err-build
 lists-returns-in-Err-build t c = λ fit.
     let s = shape_of c.args.dtype.now in
     let b = c.args.beneath in
-    let vs = rows_read c.args.items.now in
+    let vs = rows_repeated c.args.items.now in
     let below = flat_map (entries_in b) vs in
-    let read : rows_read c.deref.result.now ≡ below = ap rows_read c.deref.ensures.value ∙ c.in-Ok.ensures.entries refl in
+    let read : rows_repeated c.deref-2.result.now ≡ below = ap rows_repeated c.deref-2.ensures.value ∙ c.in-Ok-once_each.ensures.rows ∙ ap rows_read c.deref.ensures.value ∙ c.in-Ok.ensures.entries refl in
     let kept = ap (list_all (fits s)) read ∙ all_below (entries_in b) (fits (of_large_list s)) (fits s) (list_below s b) vs fit in
     told_more (exceeds_limit b s below) (exceeds_limit b (of_large_list s) vs) c.in-Err-build.fault (or_second (exceeds_max (length vs)) (exceeds_limit b s below))
     (subst (λ l. ReportsLimit (exceeds_limit b s l) c.in-Err-build.fault) read (c.in-Err-build.ensures kept))
@@ -63,8 +63,8 @@ pub lists-returns-in-Ok-try_new : goal.lists-returns-in-Ok-try_new
 lists-returns-in-Ok-try_new t c = λ fit.
     let s = shape_of c.args.dtype.now in
     let b = c.args.beneath in
-    let vs = rows_read c.args.items.now in
-    let read : rows_read c.deref.result.now ≡ flat_map (entries_in b) vs = ap rows_read c.deref.ensures.value ∙ c.in-Ok.ensures.entries refl in
+    let vs = rows_repeated c.args.items.now in
+    let read : rows_repeated c.deref-2.result.now ≡ flat_map (entries_in b) vs = ap rows_repeated c.deref-2.ensures.value ∙ c.in-Ok-once_each.ensures.rows ∙ ap rows_read c.deref.ensures.value ∙ c.in-Ok.ensures.entries refl in
     let kept = ap (list_all (fits s)) read ∙ all_below (entries_in b) (fits (of_large_list s)) (fits s) (list_below s b) vs fit in
     let child = c.in-Ok-build.ensures kept in
     let made = c.in-Ok-try_new.ensures in
@@ -80,12 +80,12 @@ pub lists-returns : goal.lists-returns
 lists-returns t c = λ fit.
     let s = shape_of c.args.dtype.now in
     let b = c.args.beneath in
-    let vs = rows_read c.args.items.now in
+    let vs = rows_repeated c.args.items.now in
     let below = flat_map (entries_in b) vs in
-    let read : rows_read c.deref.result.now ≡ below = ap rows_read c.deref.ensures.value ∙ c.in-Ok.ensures.entries refl in
+    let read : rows_repeated c.deref-2.result.now ≡ below = ap rows_repeated c.deref-2.ensures.value ∙ c.in-Ok-once_each.ensures.rows ∙ ap rows_read c.deref.ensures.value ∙ c.in-Ok.ensures.entries refl in
     let kept = ap (list_all (fits s)) read ∙ all_below (entries_in b) (fits (of_large_list s)) (fits s) (list_below s b) vs fit in
     let count = sym (length-rows c.in-Ok-build.child.column) ∙ ap length ((c.in-Ok-build.ensures kept).1 ∙ read) in
-    let covers = subst (Covers c.in-Ok-validity_of.validity) (sym (length-map c.args.items.now (λ item. item_value item.now))) c.in-Ok-validity_of.ensures.covers in
+    let covers = c.in-Ok-validity_of.ensures.covers in
     let p = exceeds_limit b (of_large_list s) vs in
     subst (ReportsLimit p) (sym c.from.ensures) (maker_told _ c.in-Err-try_new.fault p c.in-Err-try_new.ensures.refused
     (λ m is. or_first (exceeds_max (length vs)) (exceeds_limit b s below) (lists_past (entries_in b) vs c.in-Ok.made.1 (row_count c.in-Ok-build.child.column) c.in-Ok-validity_of.validity m (c.in-Ok.ensures.offsets refl) count covers is)))
@@ -94,26 +94,23 @@ lists-returns t c = λ fit.
 
 pub block_child-returns-in-None : goal.block_child-returns-in-None
 block_child-returns-in-None t c = λ fit.
-    let long = length-map c.args.items.now (λ item. item_value item.now) in
-    blocks_wide c.args.beneath (shape_of c.args.dtype.now) c.args.size (length c.args.items.now) (rows_read c.args.items.now) fit (sym long) c.in-None.ensures
+    blocks_wide c.args.beneath (shape_of c.args.dtype.now) c.args.size c.in-Ok.len (rows_repeated c.args.items.now) fit c.in-Ok.ensures.count c.in-None.ensures
 
 pub block_child-returns-then-count-gt-MOST_ROWS : goal.block_child-returns-then-count-gt-MOST_ROWS
 block_child-returns-then-count-gt-MOST_ROWS t c = λ fit.
-    let long = length-map c.args.items.now (λ item. item_value item.now) in
-    let many : 4294967295 < length c.args.items.now * c.args.size = subst (λ n. 4294967295 < n) c.in-Some.ensures.1 c.if-count-gt-MOST_ROWS.true in
-    blocks_many c.args.beneath (shape_of c.args.dtype.now) c.args.size (length c.args.items.now) (rows_read c.args.items.now) fit (sym long) many
+    let many : 4294967295 < c.in-Ok.len * c.args.size = subst (λ n. 4294967295 < n) c.in-Some.ensures.1 c.if-count-gt-MOST_ROWS.true in
+    blocks_many c.args.beneath (shape_of c.args.dtype.now) c.args.size c.in-Ok.len (rows_repeated c.args.items.now) fit c.in-Ok.ensures.count many
 
 pub block_child-returns-in-Null : goal.block_child-returns-in-Null
 block_child-returns-in-Null t c = λ fit.
     let b = c.args.beneath in
     let size = c.args.size in
-    let vs = rows_read c.args.items.now in
+    let vs = rows_repeated c.args.items.now in
     let below = flat_map (block_in size) vs in
     let shape : shape_of c.args.dtype.now ≡ of_null = ap shape_of c.in-Null.is in
     let fit_nulls : list_all (fits (of_fixed_size_list of_null size)) vs ≡ true = subst (λ s. list_all (fits (of_fixed_size_list s size)) vs ≡ true) shape fit in
-    let long = length-map c.args.items.now (λ item. item_value item.now) in
     let count = c.in_ok-try_new.ensures.length ∙ c.in-Some.ensures.1 in
-    let are : rows c.into_ref.result.column ≡ below = c.into_ref.ensures.rows ∙ ap (λ n. replicate n Null) count ∙ blocks_null size (length c.args.items.now) vs fit_nulls (sym long) in
+    let are : rows c.into_ref.result.column ≡ below = c.into_ref.ensures.rows ∙ ap (λ n. replicate n Null) count ∙ blocks_null size c.in-Ok.len vs fit_nulls c.in-Ok.ensures.count in
     (c.into_ref.ensures.dtype ∙ sym shape, are, ap (λ s. exceeds_limit b s below) shape ∙ rows_few c.into_ref.result below are)
 
 pub block_child-returns : goal.block_child-returns
@@ -121,8 +118,8 @@ block_child-returns t c = λ fit.
     let s = shape_of c.args.dtype.now in
     let b = c.args.beneath in
     let size = c.args.size in
-    let vs = rows_read c.args.items.now in
-    let read : rows_read c.deref.result.now ≡ flat_map (block_in size) vs = ap rows_read c.deref.ensures.value ∙ c.in-Ok.ensures.entries refl in
+    let vs = rows_repeated c.args.items.now in
+    let read : rows_repeated c.deref.result.now ≡ flat_map (block_in size) vs = ap rows_repeated c.deref.ensures.value ∙ c.in-Ok-entries_of.ensures.entries refl in
     let kept = ap (list_all (fits s)) read ∙ all_below (block_in size) (fits (of_fixed_size_list s size)) (fits s) (block_below s size) vs fit in
     subst (λ l. MakesColumn b s l c.build.result) read (c.build.ensures kept)
 
@@ -131,7 +128,7 @@ blocks-returns-in-Err t c = λ fit.
     let s = shape_of c.args.dtype.now in
     let b = c.args.beneath in
     let size = c.args.size in
-    let vs = rows_read c.args.items.now in
+    let vs = rows_repeated c.args.items.now in
     let below = flat_map (block_in size) vs in
     told_more (exceeds_limit b s below) (exceeds_limit b (of_fixed_size_list s size) vs) c.in-Err.fault (or_second (exceeds_max (length vs) || exceeds_max size) (exceeds_limit b s below)) (c.in-Err.ensures fit)
 
@@ -140,13 +137,13 @@ blocks-returns-in-Ok-try_new t c = λ fit.
     let s = shape_of c.args.dtype.now in
     let b = c.args.beneath in
     let size = c.args.size in
-    let vs = rows_read c.args.items.now in
+    let vs = rows_repeated c.args.items.now in
     let child = c.in-Ok.ensures fit in
     let made = c.in-Ok-try_new.ensures in
     let same = same_blocks _ _ _ _ _ _ _ _ made.size made.len made.values made.validity in
-    let count = sym (length-map c.args.items.now (λ item. item_value item.now)) in
+    let count = c.in-Ok-row_count.ensures.count in
     let are : rows c.into_ref.result.column ≡ vs =
-    c.into_ref.ensures.rows ∙ same ∙ blocks_made s size vs (rows c.in-Ok.child.column) (length c.args.items.now) c.in-Ok-validity_of.validity fit count child.1 c.in-Ok-validity_of.ensures.hides in
+    c.into_ref.ensures.rows ∙ same ∙ blocks_made s size vs (rows c.in-Ok.child.column) c.in-Ok-row_count.count c.in-Ok-validity_of.validity fit count child.1 c.in-Ok-validity_of.ensures.hides in
     let narrow : exceeds_max size ≡ false = subst (λ n. exceeds_max n ≡ false) made.size (width_few c.in-Ok-try_new.array) in (
       c.into_ref.ensures.dtype ∙ ap (λ x. of_fixed_size_list (type_of x) c.in-Ok-try_new.array.size) made.values ∙ ap (λ x. of_fixed_size_list x c.in-Ok-try_new.array.size) child.0 ∙ ap (of_fixed_size_list s) made.size,
       are,
@@ -158,14 +155,14 @@ blocks-returns-in-Err-try_new t c = λ fit.
     let s = shape_of c.args.dtype.now in
     let b = c.args.beneath in
     let size = c.args.size in
-    let vs = rows_read c.args.items.now in
+    let vs = rows_repeated c.args.items.now in
     let below = flat_map (block_in size) vs in
     let count = sym (length-rows c.in-Ok.child.column) ∙ ap length (c.in-Ok.ensures fit).1 in
-    let long = length-map c.args.items.now (λ item. item_value item.now) in
-    let covers = subst (Covers c.in-Ok-validity_of.validity) (sym long) c.in-Ok-validity_of.ensures.covers in
+    let long = c.in-Ok-row_count.ensures.count in
+    let covers = c.in-Ok-validity_of.ensures.covers in
     let p = exceeds_limit b (of_fixed_size_list s size) vs in
     subst (ReportsLimit p) (sym c.from.ensures) (maker_told _ c.in-Err-try_new.fault p c.in-Err-try_new.ensures.refused
-    (λ m is. or_first (exceeds_max (length vs) || exceeds_max size) (exceeds_limit b s below) (blocks_past s size vs (length c.args.items.now) (row_count c.in-Ok.child.column) c.in-Ok-validity_of.validity m fit (sym long) count covers is)))
+    (λ m is. or_first (exceeds_max (length vs) || exceeds_max size) (exceeds_limit b s below) (blocks_past s size vs c.in-Ok-row_count.count (row_count c.in-Ok.child.column) c.in-Ok-validity_of.validity m fit long count covers is)))
 
 -- ---- fields of structs
 
@@ -176,11 +173,11 @@ push_fields-returns-in-Err-build-clause-limit t c = λ fit.
     let d = c.index-dtypes-k.result in
     let b = c.args.beneath in
     let shapes = map shape_of dtypes in
-    let vs = rows_read c.args.items.now in
+    let vs = rows_repeated c.args.items.now in
     let below : k < length dtypes = omega arith in
     let here = ap shape_of c.index-dtypes-k.is ∙ sym (get_or-map shape_of dtypes k d (shape_of d) below) in
     let inside : k < length shapes = rw length-map below in
-    let read : rows_read c.deref.result.now ≡ map (part_in k) vs = ap rows_read c.deref.ensures.value ∙ c.in-Ok.ensures.parts refl in
+    let read : rows_repeated c.deref.result.now ≡ map (part_in k) vs = ap rows_repeated c.deref.ensures.value ∙ c.in-Ok.ensures.parts refl in
     let kept = ap (list_all (fits (shape_of d))) read ∙ parts_kept shapes k (shape_of d) inside here vs fit in
     told_more (exceeds_limit b (shape_of d) (map (part_in k) vs)) (any_exceeds_limit b (shapes_of shapes) 0 vs) c.in-Err-build.fault (past_at b shapes 0 k k (shape_of d) vs inside here (omega arith))
     (subst (λ l. ReportsLimit (exceeds_limit b (shape_of d) l) c.in-Err-build.fault) read (c.in-Err-build.ensures kept))
@@ -192,7 +189,7 @@ pub push_fields-returns : goal.push_fields-returns
 push_fields-returns t c =
     let dtypes = c.args.dtypes.now in
     let all = ap (map shape_of) (take_all c.loop-k.k dtypes (omega arith)) in
-    let vs = rows_read c.args.items.now in
+    let vs = rows_repeated c.args.items.now in
     record {
       fields = λ fit. subst (λ shapes. HasParts c.loop-k.fields.items c.args.fields.now.items shapes vs) all (c.loop-k.invariant fit).0;
       within = λ fit. subst (λ shapes. any_exceeds_limit c.args.beneath (shapes_of shapes) 0 vs ≡ false) all (c.loop-k.invariant fit).1;
@@ -205,11 +202,11 @@ push_fields-loop-k-preserved t c = λ fit.
     let k = c.loop-k.k in
     let d = c.index-dtypes-k.result in
     let shapes = map shape_of dtypes in
-    let vs = rows_read c.args.items.now in
+    let vs = rows_repeated c.args.items.now in
     let below : k < length dtypes = omega arith in
     let here = ap shape_of c.index-dtypes-k.is ∙ sym (get_or-map shape_of dtypes k d (shape_of d) below) in
     let inside : k < length shapes = rw length-map below in
-    let read : rows_read c.deref.result.now ≡ map (part_in k) vs = ap rows_read c.deref.ensures.value ∙ c.in-Ok.ensures.parts refl in
+    let read : rows_repeated c.deref.result.now ≡ map (part_in k) vs = ap rows_repeated c.deref.ensures.value ∙ c.in-Ok.ensures.parts refl in
     let kept = ap (list_all (fits (shape_of d))) read ∙ parts_kept shapes k (shape_of d) inside here vs fit in
     let made = c.in-Ok-build.ensures kept in
     let so = c.loop-k.invariant fit in (
@@ -220,11 +217,11 @@ push_fields-loop-k-preserved t c = λ fit.
 pub tuples-returns-in-Ok-try_new : goal.tuples-returns-in-Ok-try_new
 tuples-returns-in-Ok-try_new t c = λ fit.
     let shapes = map shape_of c.args.dtypes.now in
-    let vs = rows_read c.args.items.now in
+    let vs = rows_repeated c.args.items.now in
     let has = c.in_default.ensures.fields fit in
     let made = c.in-Ok-try_new.ensures in
-    let long = length-map c.args.items.now (λ item. item_value item.now) in
-    let whole = tuples_made shapes vs c.push_fields.new.fields.items _ c.in-Ok-try_new.array c.in-Ok.validity fit has c.in_ok-fields.ensures.items (made.len ∙ sym long) made.fields made.validity c.in-Ok.ensures.hides in
+    let long = c.in-Ok-row_count.ensures.count in
+    let whole = tuples_made shapes vs c.push_fields.new.fields.items _ c.in-Ok-try_new.array c.in-Ok.validity fit has c.in_ok-fields.ensures.items (made.len ∙ long) made.fields made.validity c.in-Ok.ensures.hides in
     let are : rows c.into_ref.result.column ≡ vs = c.into_ref.ensures.rows ∙ whole.1 in (
       c.into_ref.ensures.dtype ∙ whole.0,
       are,
@@ -235,10 +232,10 @@ pub tuples-returns-in-Err-try_new : goal.tuples-returns-in-Err-try_new
 tuples-returns-in-Err-try_new t c = λ fit.
     let shapes = map shape_of c.args.dtypes.now in
     let b = c.args.beneath in
-    let vs = rows_read c.args.items.now in
+    let vs = rows_repeated c.args.items.now in
     let has = c.in_default.ensures.fields fit in
-    let long = length-map c.args.items.now (λ item. item_value item.now) in
-    let covers = subst (Covers c.in-Ok.validity) (sym long) c.in-Ok.ensures.covers in
+    let long = c.in-Ok-row_count.ensures.count in
+    let covers = c.in-Ok.ensures.covers in
     let p = exceeds_limit b (of_struct (shapes_of shapes)) vs in
     subst (ReportsLimit p) (sym c.from.ensures) (maker_told _ c.in-Err-try_new.fault p c.in-Err-try_new.ensures.refused
-    (λ m is. or_first (exceeds_max (length vs)) (any_exceeds_limit b (shapes_of shapes) 0 vs) (tuples_past shapes vs c.push_fields.new.fields.items _ (length c.args.items.now) c.in-Ok.validity m has c.in_ok-fields.ensures.items (sym long) covers is)))
+    (λ m is. or_first (exceeds_max (length vs)) (any_exceeds_limit b (shapes_of shapes) 0 vs) (tuples_past shapes vs c.push_fields.new.fields.items _ c.in-Ok-row_count.count c.in-Ok.validity m has c.in_ok-fields.ensures.items long covers is)))

@@ -2,9 +2,10 @@
 use Rattle.std.proofs.Common.{◌≡◌, take}
 use Rattle.std.specs.List.{flat_map}
 use Rattle.sel_arrow.specs.Value.{Null}
-use Rattle.sel_text.specs.ItemValues.{item_value, rows_read}
+use Rattle.sel_text.specs.ItemValues.{item_value}
+use Rattle.sel_text.specs.RowRuns.{rows_repeated}
 use Rattle.sel_text.specs.Limits.{block_in}
 use Rattle.sel_text.proofs.build.entries_of.Given as goal
 
-abbrev pub invariant-loop-item : goal.invariant-loop-item
-invariant-loop-item l = item_value l.null ≡ Null → rows_read l.entries.items ≡ flat_map (block_in l.size) (rows_read (take l.item-index l.items))
+abbrev pub invariant-loop-run : goal.invariant-loop-run
+invariant-loop-run l = item_value l.null ≡ Null → rows_repeated l.entries.items ≡ flat_map (block_in l.size) (rows_repeated (take l.run-index l.items))

@@ -9,31 +9,39 @@ use Rattle.sel_text.proofs.Shown.{item_fits, rows_count, shown_count, shown_more
 use Rattle.sel_text.proofs.Within.{numbers_within, rows_few}
 use Rattle.std.specs.Prelude.{pos}
 use Rattle.sel_arrow.specs.Rows.{rows}
+use Rattle.sel_text.specs.RowRuns.{all_items}
+use Rattle.sel_text.proofs.RowRuns.{count_rows, next_of}
 use Rattle.sel_text.proofs.build.numbers.Goals as goal
 
-pub loop-item-preserved : goal.loop-item-preserved
-loop-item-preserved g c = λ fit.
-    let items = c.args.items.now in
-    let here = item_fits g.T.ArrowPrimitive.shape items c.loop-item.item-index c.item-item.result fit (omega arith) c.item-item.is in
-    shown_more (λ x. Number (g.T.NativeType.number x)) items c.loop-item.item-index c.item-item.result c.loop-item.values.items _ _ (omega arith) c.item-item.is (c.loop-item.invariant fit) (c.number_in.ensures here) c.in_ok-push.ensures.items
+pub loop-preserved : goal.loop-preserved
+loop-preserved g c =
+    let items = all_items c.args.items.now in
+    let next = next_of items c.loop.counter c.next.result _ (sym c.loop.invariant.0 ∙ c.next.ensures) in (
+      next.others,
+      λ fit.
+          let here = item_fits g.T.ArrowPrimitive.shape items c.loop.counter c.next.result fit next.inside next.is in
+          shown_more (λ x. Number (g.T.NativeType.number x)) items c.loop.counter c.next.result c.loop.values.items _ _ next.inside next.is (c.loop.invariant.1 fit) (c.number_in.ensures here) c.in_ok-push.ensures.items,
+    )
 
 pub returns-in_err-try_new : goal.returns-in_err-try_new
 returns-in_err-try_new g c = λ fit.
-    let items = c.args.items.now in
-    let all = take_all c.loop-item.item-index items (omega arith) in
-    let shown = subst (λ l. ShowsRows (rows_read l) (map (λ x. Number (g.T.NativeType.number x)) c.loop-item.values.items)) all (c.loop-item.invariant fit) in
-    let count : length c.in_ok-values-2.values ≡ length items = ap length c.in_ok-values-2.ensures.items ∙ shown_count (λ x. Number (g.T.NativeType.number x)) items c.loop-item.values.items shown in
+    let items = all_items c.args.items.now in
+    let counted = c.in_ok-count.ensures.count ∙ count_rows c.args.items.now in
+    let all = take_all c.loop.counter items (omega (arith, counted)) in
+    let shown = subst (λ l. ShowsRows (rows_read l) (map (λ x. Number (g.T.NativeType.number x)) c.loop.values.items)) all (c.loop.invariant.1 fit) in
+    let count : length c.in_ok-values-2.values ≡ length items = ap length c.in_ok-values-2.ensures.items ∙ shown_count (λ x. Number (g.T.NativeType.number x)) items c.loop.values.items shown in
     makes_told c.args.beneath g.T.ArrowPrimitive.shape (rows_read items) c.from_residual-in_err-try_new.result c.in_err-try_new.field-0.0 c.from_residual-in_err-try_new.ensures.1
     (λ fault told. flat_told c.args.beneath g.T.ArrowPrimitive.shape (rows_read items) (length c.in_ok-values-2.values) c.in_ok-validity_of.field-0 c.in_err-try_new.field-0.0 fault
-    (count ∙ sym (rows_count items)) (subst (Covers c.in_ok-validity_of.field-0) (sym count) c.in_ok-validity_of.ensures.covers) c.in_err-try_new.ensures.refused told)
+    (count ∙ sym (rows_count items)) (subst (Covers c.in_ok-validity_of.field-0) (rows_count items ∙ sym count) c.in_ok-validity_of.ensures.covers) c.in_err-try_new.ensures.refused told)
 
 pub returns : goal.returns
 returns g c = λ fit.
-    let items = c.args.items.now in
+    let items = all_items c.args.items.now in
     let column = c.in_ok-try_new.field-0 in
-    let all = take_all c.loop-item.item-index items (omega arith) in
-    let shown = subst (λ l. ShowsRows (rows_read l) (map (λ x. Number (g.T.NativeType.number x)) c.loop-item.values.items)) all (c.loop-item.invariant fit) in
+    let counted = c.in_ok-count.ensures.count ∙ count_rows c.args.items.now in
+    let all = take_all c.loop.counter items (omega (arith, counted)) in
+    let shown = subst (λ l. ShowsRows (rows_read l) (map (λ x. Number (g.T.NativeType.number x)) c.loop.values.items)) all (c.loop.invariant.1 fit) in
     let made : rows c.into_ref.result.column ≡ rows_read items =
     c.into_ref.ensures.rows ∙ ap (λ l. masked column.validity (map (λ x. Number (g.T.NativeType.number x)) l)) (c.in_ok-try_new.ensures.values ∙ c.in_ok-values-2.ensures.items)
-    ∙ ap (λ v. masked v (map (λ x. Number (g.T.NativeType.number x)) c.loop-item.values.items)) c.in_ok-try_new.ensures.validity ∙ c.in_ok-validity_of.ensures.hides (map (λ x. Number (g.T.NativeType.number x)) c.loop-item.values.items) shown in
+    ∙ ap (λ v. masked v (map (λ x. Number (g.T.NativeType.number x)) c.loop.values.items)) c.in_ok-try_new.ensures.validity ∙ c.in_ok-validity_of.ensures.hides (map (λ x. Number (g.T.NativeType.number x)) c.loop.values.items) shown in
     (c.into_ref.ensures.dtype, made, numbers_within c.args.beneath g.T.ArrowPrimitive.shape (pos 0) (rows_read items) c.zero-zero.ensures (rows_few c.into_ref.result (rows_read items) made))

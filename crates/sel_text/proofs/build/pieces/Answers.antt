@@ -2,7 +2,7 @@ use Rattle.std.proofs.Common.{◌≡◌, ◌<◌, [], ◌∷◌, ◌++◌, ap, s
 use Rattle.std.proofs.lemmas.List.{take_all, take_more}
 use Rattle.sel_bits.specs.Faults.{IsFault}
 use Rattle.sel_arrow.specs.Makers.{binary_fault}
-use Rattle.sel_arrow.specs.Masked.{Covers, masked}
+use Rattle.sel_arrow.specs.Masked.{masked}
 use Rattle.sel_arrow.specs.Shape.{of_large_binary}
 use Rattle.sel_arrow.specs.Value.{Bytes}
 use Rattle.sel_text.specs.ItemValues.{rows_read}
@@ -12,44 +12,49 @@ use Rattle.sel_text.proofs.Refusals.{binary_told, makes_told, memory_told}
 use Rattle.sel_text.proofs.Shown.{bytes_shown, of_binary, rows_count, stored_in}
 use Rattle.sel_text.proofs.Within.{rows_few}
 use Rattle.sel_arrow.specs.Rows.{rows}
+use Rattle.sel_text.specs.RowRuns.{all_items}
+use Rattle.sel_text.proofs.RowRuns.{count_rows, next_of}
 use Rattle.sel_text.proofs.build.pieces.Goals as goal
 
-pub loop-item-preserved : goal.loop-item-preserved
-loop-item-preserved c =
-    let items = c.args.items.now in
-    let more = take_more items c.loop-item.item-index c.item-item.result (omega arith) ∙ ap (λ item. take c.loop-item.item-index items ++ item ∷ []) (sym c.item-item.is) in
+pub loop-preserved : goal.loop-preserved
+loop-preserved c =
+    let items = all_items c.args.items.now in
+    let next = next_of items c.loop.counter c.next.result _ (sym c.loop.invariant.0 ∙ c.next.ensures) in
+    let more = take_more items c.loop.counter c.next.result next.inside ∙ ap (λ item. take c.loop.counter items ++ item ∷ []) (sym next.is) in
     let small : c.len.result < 9223372036854775808 = omega (arith, c.len.ensures, c.extend_from_slice.new.self.ok, c.extend_from_slice.new.self.small) in
     let long : c.len.result ≡ length c.extend_from_slice.new.self.items = omega (arith, c.len.ensures, c.extend_from_slice.new.self.ok) in
-    let put = c.in_ok-extend_from_slice.ensures.items ∙ ap (λ l. c.loop-item.bytes.items ++ l) c.bytes_in.ensures in
-    holds_more (stored_in c.args.beneath) _ _ c.item-item.result _ _ _ _ _ c.len.result c.loop-item.invariant more put c.in_ok-push.ensures.items (end_kept c.in_ok-offset_at.field-0 c.len.result c.in_ok-offset_at.ensures.value small) long
+    let put = c.in_ok-extend_from_slice.ensures.items ∙ ap (λ l. c.loop.bytes.items ++ l) c.bytes_in.ensures in
+    (next.others, holds_more (stored_in c.args.beneath) _ _ c.next.result _ _ _ _ _ c.len.result c.loop.invariant.1 more put c.in_ok-push.ensures.items (end_kept c.in_ok-offset_at.field-0 c.len.result c.in_ok-offset_at.ensures.value small) long)
 
 pub returns-in_err-offsets : goal.returns-in_err-offsets
 returns-in_err-offsets c = λ fit.
-    let rows = rows_read c.args.items.now in
-    let broken = no_offsets_fault (stored_in c.args.beneath) _ _ c.loop-item.ends.items c.loop-item.invariant in
+    let rows = rows_read (all_items c.args.items.now) in
+    let broken = no_offsets_fault (stored_in c.args.beneath) _ _ c.loop.ends.items c.loop.invariant.1 in
     makes_told c.args.beneath of_large_binary rows c.from_residual-in_err-offsets.result c.in_err-offsets.field-0.0 c.from_residual-in_err-offsets.ensures.1
     (λ fault told. memory_told (exceeds_limit c.args.beneath of_large_binary rows) _ c.in_err-offsets.field-0.0 fault broken c.in_err-offsets.ensures.refusal told)
 
 pub returns-in_err-try_new : goal.returns-in_err-try_new
 returns-in_err-try_new c = λ fit.
-    let items = c.args.items.now in
+    let items = all_items c.args.items.now in
     let below = stored_in c.args.beneath in
     let offsets = c.in_ok-offsets.offsets in
-    let so = subst (λ l. Holds below l c.loop-item.bytes.items c.loop-item.ends.items) (take_all c.loop-item.item-index items (omega arith)) c.loop-item.invariant in
+    let counted = c.in_ok-count.ensures.count ∙ count_rows c.args.items.now in
+    let so = subst (λ l. Holds below l c.loop.bytes.items c.loop.ends.items) (take_all c.loop.counter items (omega (arith, counted))) c.loop.invariant.1 in
     let are = offsets_read below items _ _ offsets so c.in_ok-offsets.ensures.value in
     let count = count_between below items offsets are ∙ sym (rows_count items) in
     let inside = ends_inside below items offsets are (length c.in_ok-bytes.bytes) (ap length (c.in_ok-bytes.ensures.items ∙ so.entries_are)) in
     makes_told c.args.beneath of_large_binary (rows_read items) c.from_residual-in_err-try_new.result c.in_err-try_new.field-0.0 c.from_residual-in_err-try_new.ensures.1
     (λ fault told. binary_told c.args.beneath of_large_binary (rows_read items) offsets c.in_ok-bytes.bytes c.in_ok-validity_of.field-0 c.in_err-try_new.field-0.0 fault
-    count inside (subst (Covers c.in_ok-validity_of.field-0) (sym (rows_count items)) c.in_ok-validity_of.ensures.covers)
+    count inside c.in_ok-validity_of.ensures.covers
     (subst (λ o. IsFault (binary_fault o c.in_ok-bytes.bytes c.in_ok-validity_of.field-0) c.in_err-try_new.field-0.0) c.offsets.view_is c.in_err-try_new.ensures.refused) told)
 
 pub returns : goal.returns
 returns c = λ fit.
-    let items = c.args.items.now in
+    let items = all_items c.args.items.now in
     let below = stored_in c.args.beneath in
     let column = c.in_ok-try_new.field-0 in
-    let so = subst (λ l. Holds below l c.loop-item.bytes.items c.loop-item.ends.items) (take_all c.loop-item.item-index items (omega arith)) c.loop-item.invariant in
+    let counted = c.in_ok-count.ensures.count ∙ count_rows c.args.items.now in
+    let so = subst (λ l. Holds below l c.loop.bytes.items c.loop.ends.items) (take_all c.loop.counter items (omega (arith, counted))) c.loop.invariant.1 in
     let are = offsets_read below items _ _ c.in_ok-offsets.offsets so c.in_ok-offsets.ensures.value in
     let held = parts_between below items _ (c.in_ok-try_new.ensures.offsets ∙ c.offsets.view_is ∙ are) column.values (c.in_ok-try_new.ensures.values ∙ c.in_ok-bytes.ensures.items ∙ so.entries_are) in
     let shown = c.in_ok-validity_of.ensures.hides (map Bytes (map below items)) (bytes_shown of_large_binary of_binary c.args.beneath items fit) in

@@ -1,8 +1,9 @@
--- Loop invariant: the bytes and the offsets of the rows so far.
-use Rattle.std.proofs.Common.{take}
+-- Loop invariant: the bytes and the offsets of the rows so far, and the rows that are left.
+use Rattle.std.proofs.Common.{◌≡◌, take, drop}
 use Rattle.sel_text.proofs.OffsetsBelow.{Holds}
 use Rattle.sel_text.proofs.Shown.{stored_in}
+use Rattle.sel_text.specs.RowRuns.{all_items, left}
 use Rattle.sel_text.proofs.build.pieces.Given as goal
 
-abbrev pub invariant-loop-item : goal.invariant-loop-item
-invariant-loop-item l = Holds (stored_in l.beneath) (take l.item-index l.items) l.bytes.items l.ends.items
+abbrev pub invariant-loop : goal.invariant-loop
+invariant-loop l = (left l.rows ≡ drop l.counter (all_items l.items)) × (Holds (stored_in l.beneath) (take l.counter (all_items l.items)) l.bytes.items l.ends.items)

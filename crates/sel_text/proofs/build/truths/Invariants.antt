@@ -1,8 +1,9 @@
--- Loop invariant: the booleans of the rows so far.
-use Rattle.std.proofs.Common.{◌≡◌, map, take}
+-- Loop invariant: the booleans of the rows so far, and the rows that are left.
+use Rattle.std.proofs.Common.{◌≡◌, map, take, drop}
 use Rattle.sel_text.specs.ItemValues.{item_value}
 use Rattle.sel_text.specs.Stored.{bool_stored}
+use Rattle.sel_text.specs.RowRuns.{all_items, left}
 use Rattle.sel_text.proofs.build.truths.Given as goal
 
-abbrev pub invariant-loop-item : goal.invariant-loop-item
-invariant-loop-item l = l.values.items ≡ map (λ item. bool_stored l.beneath (item_value item.now)) (take l.item-index l.items)
+abbrev pub invariant-loop : goal.invariant-loop
+invariant-loop l = (left l.rows ≡ drop l.counter (all_items l.items)) × (l.values.items ≡ map (λ item. bool_stored l.beneath (item_value item.now)) (take l.counter (all_items l.items)))

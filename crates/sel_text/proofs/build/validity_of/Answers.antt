@@ -1,17 +1,33 @@
-use Rattle.std.proofs.Common.{ap, sym, ◌∙◌, arith}
+use Rattle.std.proofs.Common.{◌∷◌, [], ◌++◌, ap, sym, ◌∙◌, take, arith}
+use Rattle.std.specs.Borrow.{Bor}
 use Rattle.std.specs.List.{list_all}
-use Rattle.std.proofs.lemmas.List.{take_all}
+use Rattle.sel_arrow.specs.Value.{is_valid}
+use Rattle.sel_text.specs.ItemValues.{item_value}
+use Rattle.sel_text.specs.declared.item.Item.{Item}
+use Rattle.std.proofs.lemmas.List.{map_more, take_all}
 use Rattle.sel_bits.specs.Bits.{Bits}
 use Rattle.sel_text.proofs.Shown.{items_hidden, items_shown, valid_items}
+use Rattle.sel_text.specs.RowRuns.{all_items}
+use Rattle.sel_text.proofs.RowRuns.{count_rows, next_of}
 use Rattle.sel_text.proofs.build.validity_of.Goals as goal
+
+pub loop-preserved : goal.loop-preserved
+loop-preserved c =
+    let items = all_items c.args.items.now in
+    let next = next_of items c.loop.counter c.next.result _ (sym c.loop.invariant.0 ∙ c.next.ensures) in
+    let more = map_more (λ (item : Bor Item). is_valid (item_value item.now)) items c.loop.counter c.next.result next.inside in
+    let here = c.is_filled.ensures ∙ ap (λ (item : Bor Item). is_valid (item_value item.now)) next.is in
+    (next.others, c.in_ok-push.ensures.items ∙ ap (λ l. l ++ c.is_filled.result ∷ []) c.loop.invariant.1 ∙ ap (λ b. valid_items (take c.loop.counter items) ++ b ∷ []) here ∙ sym more)
 
 pub returns-then-all_true-clause-hides : goal.returns-then-all_true-clause-hides
 returns-then-all_true-clause-hides c =
-    let all = ap valid_items (take_all c.loop-item.item-index c.args.items.now (omega arith)) in
-    items_shown c.args.items.now c.loop-item.valid.items (c.loop-item.invariant ∙ all) (ap (list_all (λ b. b)) (sym c.deref.ensures.value) ∙ sym c.all_true.ensures ∙ c.if-all_true.true)
+    let counted = c.in_ok-count.ensures.count ∙ count_rows c.args.items.now in
+    let all = ap valid_items (take_all c.loop.counter (all_items c.args.items.now) (omega (arith, counted))) in
+    items_shown (all_items c.args.items.now) c.loop.valid.items (c.loop.invariant.1 ∙ all) (ap (list_all (λ b. b)) (sym c.deref.ensures.value) ∙ sym c.all_true.ensures ∙ c.if-all_true.true)
 
 pub returns-clause-hides : goal.returns-clause-hides
 returns-clause-hides c =
-    let all = ap valid_items (take_all c.loop-item.item-index c.args.items.now (omega arith)) in
+    let counted = c.in_ok-count.ensures.count ∙ count_rows c.args.items.now in
+    let all = ap valid_items (take_all c.loop.counter (all_items c.args.items.now) (omega (arith, counted))) in
     let bits = ap (λ (b : Bits). b.bits) c.in_ok-from_bools.ensures.value in
-    items_hidden c.args.items.now c.in_ok-from_bools.field-0.bits (bits ∙ c.deref-2.ensures.value ∙ c.loop-item.invariant ∙ all)
+    items_hidden (all_items c.args.items.now) c.in_ok-from_bools.field-0.bits (bits ∙ c.deref-2.ensures.value ∙ c.loop.invariant.1 ∙ all)

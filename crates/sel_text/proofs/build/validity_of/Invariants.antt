@@ -1,7 +1,8 @@
--- Loop invariant: the validity of the rows so far.
-use Rattle.std.proofs.Common.{◌≡◌, take}
+-- Loop invariant: the validity of the rows so far, and the rows that are left.
+use Rattle.std.proofs.Common.{◌≡◌, take, drop}
 use Rattle.sel_text.proofs.Shown.{valid_items}
+use Rattle.sel_text.specs.RowRuns.{all_items, left}
 use Rattle.sel_text.proofs.build.validity_of.Given as goal
 
-abbrev pub invariant-loop-item : goal.invariant-loop-item
-invariant-loop-item l = l.valid.items ≡ valid_items (take l.item-index l.items)
+abbrev pub invariant-loop : goal.invariant-loop
+invariant-loop l = (left l.rows ≡ drop l.counter (all_items l.items)) × (l.valid.items ≡ valid_items (take l.counter (all_items l.items)))

@@ -3,7 +3,7 @@ use Rattle.std.specs.Prelude.{IsTrue}
 use Rattle.std.proofs.lemmas.List.{take_all}
 use Rattle.sel_bits.specs.Faults.{IsFault}
 use Rattle.sel_arrow.specs.Makers.{binview_fault}
-use Rattle.sel_arrow.specs.Masked.{Covers, masked}
+use Rattle.sel_arrow.specs.Masked.{masked}
 use Rattle.sel_arrow.specs.Value.{Bytes}
 use Rattle.sel_arrow.specs.Views.{all_placed, view_rows}
 use Rattle.sel_text.specs.ItemValues.{rows_read}
@@ -11,66 +11,75 @@ use Rattle.sel_text.specs.Limits.{exceeds_max, exceeds_limit}
 use Rattle.sel_text.specs.Stored.{bytes_behind}
 use Rattle.sel_text.proofs.BuiltViews.{Views, bytes_within, past_bytes, views_count, views_more}
 use Rattle.sel_text.proofs.Refusals.{binview_told, bytes_past, if_made, if_told, told_more, wanting_told}
-use Rattle.sel_text.proofs.Shown.{bytes_shown, of_views, rows_count, stored_bytes, stored_count, stored_more}
+use Rattle.sel_text.proofs.Shown.{bytes_shown, of_views, stored_bytes, stored_count, stored_more}
+use Rattle.sel_text.specs.RowRuns.{all_items}
+use Rattle.sel_text.proofs.RowRuns.{count_rows, next_of}
 use Rattle.sel_text.proofs.build.views.Goals as goal
 
 pub returns-in_err-view_behind-clause-limit : goal.returns-in_err-view_behind-clause-limit
 returns-in_err-view_behind-clause-limit c =
-    let items = c.args.items.now in
+    let items = all_items c.args.items.now in
     let bytes = c.bytes_in.result.now in
-    let store = c.loop-item.data.items in
-    let all = stored_more c.args.beneath items c.loop-item.item-index c.item-item.result bytes (omega arith) c.item-item.is c.bytes_in.ensures in
+    let store = c.loop.data.items in
+    let next = next_of items c.loop.counter c.next.result _ (sym c.loop.invariant.rows ∙ c.next.ensures) in
+    let all = stored_more c.args.beneath items c.loop.counter c.next.result bytes next.inside next.is c.bytes_in.ensures in
     if_told c.from_residual-in_err-view_behind.result c.in_err-view_behind.field-0.0 _ c.from_residual-in_err-view_behind.ensures.1
     (λ shape view fit. told_more (exceeds_max (length store + length (bytes_behind bytes))) (exceeds_limit c.args.beneath shape (rows_read items)) c.in_err-view_behind.field-0.0
     (λ past. bytes_past c.args.beneath shape (rows_read items) view
-    (past_bytes shape (of_views shape view) c.args.beneath items c.loop-item.item-index store bytes c.loop-item.views.items fit c.loop-item.invariant.views all past)) c.in_err-view_behind.ensures.limit)
+    (past_bytes shape (of_views shape view) c.args.beneath items c.loop.counter store bytes c.loop.views.items fit c.loop.invariant.views all past)) c.in_err-view_behind.ensures.limit)
 
-pub loop-item-preserved : goal.loop-item-preserved
-loop-item-preserved c =
-    let all = stored_more c.args.beneath c.args.items.now c.loop-item.item-index c.item-item.result c.bytes_in.result.now (omega arith) c.item-item.is c.bytes_in.ensures in
+pub loop-preserved : goal.loop-preserved
+loop-preserved c =
+    let items = all_items c.args.items.now in
+    let next = next_of items c.loop.counter c.next.result _ (sym c.loop.invariant.rows ∙ c.next.ensures) in
+    let all = stored_more c.args.beneath items c.loop.counter c.next.result c.bytes_in.result.now next.inside next.is c.bytes_in.ensures in
     record {
+      rows = next.others;
       views = subst (Views c.view_behind.new.placed.items c.push.new.self.items) (sym all)
-          (views_more c.loop-item.data.items _ c.loop-item.views.items _ _ c.bytes_in.result.now _ c.loop-item.invariant.views c.in_ok-view_behind.ensures.view c.in_ok-view_behind.ensures.inline c.in_ok-view_behind.ensures.placed c.in_ok-push.ensures.items);
-      few = c.in_ok-view_behind.ensures.within c.loop-item.invariant.few;
+          (views_more c.loop.data.items _ c.loop.views.items _ _ c.bytes_in.result.now _ c.loop.invariant.views c.in_ok-view_behind.ensures.view c.in_ok-view_behind.ensures.inline c.in_ok-view_behind.ensures.placed c.in_ok-push.ensures.items);
+      few = c.in_ok-view_behind.ensures.within c.loop.invariant.few;
     }
 
 pub returns-clause-within : goal.returns-clause-within
 returns-clause-within c = λ shape view fit.
-    let items = c.args.items.now in
-    let so = subst (λ l. Views c.loop-item.data.items c.loop-item.views.items (stored_bytes c.args.beneath l)) (take_all c.loop-item.item-index items (omega arith)) c.loop-item.invariant.views in
-    bytes_within shape (of_views shape view) c.args.beneath items c.loop-item.data.items c.loop-item.views.items fit so c.loop-item.invariant.few
+    let items = all_items c.args.items.now in
+    let counted = c.in_ok-count.ensures.count ∙ count_rows c.args.items.now in
+    let so = subst (λ l. Views c.loop.data.items c.loop.views.items (stored_bytes c.args.beneath l)) (take_all c.loop.counter items (omega (arith, counted))) c.loop.invariant.views in
+    bytes_within shape (of_views shape view) c.args.beneath items c.loop.data.items c.loop.views.items fit so c.loop.invariant.few
 
 pub returns-in_err-validity_of-clause-limit : goal.returns-in_err-validity_of-clause-limit
 returns-in_err-validity_of-clause-limit c =
     if_told c.from_residual-in_err-validity_of.result c.in_err-validity_of.field-0.0 _ c.from_residual-in_err-validity_of.ensures.1
-    (λ shape view fit. wanting_told (exceeds_limit c.args.beneath shape (rows_read c.args.items.now)) c.in_err-validity_of.field-0.0 c.in_err-validity_of.ensures.memory)
+    (λ shape view fit. wanting_told (exceeds_limit c.args.beneath shape (rows_read (all_items c.args.items.now))) c.in_err-validity_of.field-0.0 c.in_err-validity_of.ensures.memory)
 
 pub returns-in_err-try_new-clause-limit : goal.returns-in_err-try_new-clause-limit
 returns-in_err-try_new-clause-limit c =
-    let items = c.args.items.now in
-    let store = c.loop-item.data.items in
+    let items = all_items c.args.items.now in
+    let store = c.loop.data.items in
     let views = c.in_ok-views-2.views in
     let validity = c.in_ok-validity_of.field-0 in
     let error = c.in_err-try_new.field-0.0 in
-    let so = subst (λ l. Views store c.loop-item.views.items (stored_bytes c.args.beneath l)) (take_all c.loop-item.item-index items (omega arith)) c.loop-item.invariant.views in
+    let counted = c.in_ok-count.ensures.count ∙ count_rows c.args.items.now in
+    let so = subst (λ l. Views store c.loop.views.items (stored_bytes c.args.beneath l)) (take_all c.loop.counter items (omega (arith, counted))) c.loop.invariant.views in
     let viewed = c.buffers.view_is ∙ c.in_ok-buffers.ensures.items ∙ c.in_ok-vec.ensures.items ∙ ap (λ d. d ∷ []) c.in_ok-data.ensures.items in
     let count : length views ≡ length (rows_read items) =
-    ap length c.in_ok-views-2.ensures.items ∙ views_count store c.loop-item.views.items (stored_bytes c.args.beneath items) so ∙ stored_count c.args.beneath items in
+    ap length c.in_ok-views-2.ensures.items ∙ views_count store c.loop.views.items (stored_bytes c.args.beneath items) so ∙ stored_count c.args.beneath items in
     let placed = subst (λ v. IsTrue (all_placed (store ∷ []) v)) (sym c.in_ok-views-2.ensures.items) so.placed in
-    let covers = subst (Covers validity) (sym (rows_count items)) c.in_ok-validity_of.ensures.covers in
+    let covers = c.in_ok-validity_of.ensures.covers in
     let fallen = subst (λ b. IsFault (binview_fault views b validity) error) viewed c.in_err-try_new.ensures.refused in
     if_made c.from_residual-in_err-try_new.result error _ c.from_residual-in_err-try_new.ensures.1
     (λ fault told. λ shape view fit. binview_told c.args.beneath shape (rows_read items) views (store ∷ []) validity error fault count refl placed covers fallen told)
 
 pub returns-clause-views : goal.returns-clause-views
 returns-clause-views c = λ shape view fit.
-    let items = c.args.items.now in
-    let store = c.loop-item.data.items in
+    let items = all_items c.args.items.now in
+    let store = c.loop.data.items in
     let column = c.in_ok-try_new.field-0 in
     let ps = stored_bytes c.args.beneath items in
-    let so = subst (λ l. Views store c.loop-item.views.items (stored_bytes c.args.beneath l)) (take_all c.loop-item.item-index items (omega arith)) c.loop-item.invariant.views in
+    let counted = c.in_ok-count.ensures.count ∙ count_rows c.args.items.now in
+    let so = subst (λ l. Views store c.loop.views.items (stored_bytes c.args.beneath l)) (take_all c.loop.counter items (omega (arith, counted))) c.loop.invariant.views in
     let viewed = c.buffers.view_is ∙ c.in_ok-buffers.ensures.items ∙ c.in_ok-vec.ensures.items ∙ ap (λ d. d ∷ []) c.in_ok-data.ensures.items in
     let shown = c.in_ok-validity_of.ensures.hides (map Bytes ps) (bytes_shown shape (of_views shape view) c.args.beneath items fit) in
     ap (λ v. view_rows v column.buffers column.validity) (c.in_ok-try_new.ensures.views ∙ c.in_ok-views-2.ensures.items)
-    ∙ ap (λ b. view_rows c.loop-item.views.items b column.validity) (c.in_ok-try_new.ensures.buffers ∙ viewed)
+    ∙ ap (λ b. view_rows c.loop.views.items b column.validity) (c.in_ok-try_new.ensures.buffers ∙ viewed)
     ∙ ap (masked column.validity) so.shown ∙ ap (λ v. masked v (map Bytes ps)) c.in_ok-try_new.ensures.validity ∙ shown

@@ -1,7 +1,8 @@
 -- Loop invariant: the rows so far.
 use Rattle.std.proofs.Common.{◌≡◌, map, take}
-use Rattle.sel_text.specs.ItemValues.{item_value, rows_read}
+use Rattle.sel_text.specs.ItemValues.{item_value}
+use Rattle.sel_text.specs.RowRuns.{rows_repeated}
 use Rattle.sel_text.proofs.parse.build_rows.Given as goal
 
 abbrev pub invariant-loop-item : goal.invariant-loop-item
-invariant-loop-item l = rows_read l.rows.items ≡ map item_value (take l.item-index l.items)
+invariant-loop-item l = rows_repeated l.rows.items ≡ map item_value (take l.item-index l.items)

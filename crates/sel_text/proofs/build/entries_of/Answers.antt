@@ -1,0 +1,18 @@
+use Rattle.std.proofs.Common.{◌++◌, ap, sym, ◌∙◌, take, replicate, arith}
+use Rattle.std.specs.List.{flat_map}
+use Rattle.std.proofs.lemmas.List.Concat.{flat_map-append}
+use Rattle.sel_text.specs.ItemValues.{item_value}
+use Rattle.sel_text.specs.Limits.{block_in}
+use Rattle.sel_text.specs.RowRuns.{rows_repeated}
+use Rattle.sel_text.proofs.RowRuns.{rows_more}
+use Rattle.sel_text.proofs.build.entries_of.Goals as goal
+
+pub loop-run-preserved : goal.loop-run-preserved
+loop-run-preserved c = λ none.
+    let runs = c.args.items.now in
+    let run = c.run-item.result in
+    let below = block_in c.args.size in
+    let before = rows_repeated (take c.loop-run.run-index runs) in
+    let more = rows_more runs c.loop-run.run-index run (omega arith) c.run-item.is in
+    c.in_default.ensures.entries none ∙ ap (λ l. l ++ flat_map below (replicate run.times (item_value run.item.now))) (c.loop-run.invariant none)
+    ∙ sym (flat_map-append below before (replicate run.times (item_value run.item.now))) ∙ ap (flat_map below) (sym more)
