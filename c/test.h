@@ -13,6 +13,13 @@ void refuse(long number);
 /* Returns the number of blocks that are not freed. */
 long blocks_in_use(void);
 
+/* Returns the number of bytes in the blocks that are not freed. */
+size_t bytes_in_use(void);
+
+/* Begins to record the largest number of bytes in use; bytes_above returns by how much it was above `before`. */
+void watch_bytes(void);
+size_t bytes_above(size_t before);
+
 /* Tests whether an allocation was refused since the last check. */
 bool was_refused(void);
 
@@ -51,6 +58,7 @@ void test_prints(void);
 void test_prints_types(void);
 void test_parses(void);
 void test_misread_texts(void);
+void test_parse_memory(void);
 void test_flatten_limits(void);
 void test_list_limits(void);
 

@@ -3,6 +3,7 @@
 
 #include "test.h"
 
+#include <malloc.h>
 #include <stdio.h>
 #include <stdlib.h>
 #include <string.h>
@@ -40,8 +41,12 @@ static bool refuses(void) {
     return false;
 }
 
+static size_t bytes = 0, most_bytes = 0;
+
 static void *counted(void *block) {
     blocks += block != NULL;
+    bytes += malloc_usable_size(block);
+    most_bytes = bytes > most_bytes ? bytes : most_bytes;
     return block;
 }
 
@@ -53,13 +58,21 @@ void *__wrap_realloc(void *block, size_t size) {
     if (refuses()) {
         return NULL;
     }
+    /* while the block is moved, both are in use */
+    size_t before = malloc_usable_size(block);
     void *moved = __real_realloc(block, size);
-    blocks += block == NULL && moved != NULL;
+    if (moved == NULL) {
+        return NULL;
+    }
+    blocks -= block != NULL;
+    (void)counted(moved);
+    bytes -= before;
     return moved;
 }
 
 void __wrap_free(void *block) {
     blocks -= block != NULL;
+    bytes -= malloc_usable_size(block);
     __real_free(block);
 }
 
@@ -69,6 +82,12 @@ void refuse(long number) {
 }
 
 long blocks_in_use(void) { return blocks; }
+
+void watch_bytes(void) { most_bytes = bytes; }
+
+size_t bytes_above(size_t before) { return most_bytes - before; }
+
+size_t bytes_in_use(void) { return bytes; }
 
 /* ---- what a test says ---- */
 

@@ -350,6 +350,20 @@ void test_parses(void) {
     free_all(below, 2);
 }
 
+/* The rows below a null fixed-size list take less than four bytes each while they are parsed, if they take less than one in the column. */
+void test_parse_memory(void) {
+    const char *const types[3] = {"fixed<1000000,bool>", "fixed<1000000,struct<bool>>", "fixed<500000,fixed<2,bool>>"};
+    for (size_t i = 0; i < 3; i++) {
+        sel_column out = {0};
+        size_t place = 0, before = bytes_in_use();
+        watch_bytes();
+        DONE(sel_parse((const uint8_t *)types[i], strlen(types[i]), (const uint8_t *)"[null]", 6, &place, &out));
+        IS(bytes_above(before) < 4000000);
+        IS(out.at == NULL || (sel_len(&out) == 1 && sel_null_count(&out) == 1));
+        sel_free(&out);
+    }
+}
+
 /* Checks that sel_parse returns the status, writes the place of a fault, and leaves the column of `out`. */
 static void misreads(sel_status status, const char *dtype, const char *text, size_t place, sel_column *out, int line) {
     size_t at = 77;
