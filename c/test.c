@@ -207,6 +207,22 @@ static void test_takes(void) {
     sel_free(&out);
 }
 
+static void test_reverse(void) {
+    sel_column column = tens(), empty = {0}, out = {0};
+    IS(sel_reverse(&empty, &out) == SEL_ERROR_NO_COLUMN && out.at == NULL);
+    if (column.at != NULL) {
+        int64_t read[4];
+        sel_status status = sel_reverse(&column, &out);
+        IS(done(status));
+        if (status == SEL_OK) {
+            IS(sel_int64_values(&out, read, 4) == SEL_OK && read[0] == 40 && read[1] == 30 && read[2] == 20 && read[3] == 10);
+            IS(sel_reverse(&empty, &out) == SEL_ERROR_NO_COLUMN && sel_len(&out) == 4);
+        }
+    }
+    sel_free(&column);
+    sel_free(&out);
+}
+
 /* ---- nested ---- */
 
 static void test_bytes(void) {
@@ -431,7 +447,7 @@ static void test_short_validities(void) {
 
 static void (*const tests[])(void) = {
     test_nulls, test_booleans, test_int8, test_int16, test_int32, test_int64, test_uint8, test_uint16, test_uint32,
-    test_uint64, test_int128, test_uint128, test_whole, test_filters, test_takes, test_bytes, test_lists, test_structs, test_views,
+    test_uint64, test_int128, test_uint128, test_whole, test_filters, test_takes, test_reverse, test_bytes, test_lists, test_structs, test_views,
     test_choices, test_broadcasts, test_chosen_kinds, test_flattens, test_collected_rows, test_dictionaries, test_equal_rows, test_prints, test_prints_types,
     test_parses, test_misread_texts, test_parse_memory, test_flatten_limits, test_list_limits, test_empty_inputs, test_empty_outputs, test_strings,
     test_short_validities,

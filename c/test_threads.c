@@ -229,6 +229,7 @@ static void select_rows(worker *w, const sel_column *of) {
     MADE(sel_filter_bits(of, flags, sizeof flags, LEN, &out));
     MADE(sel_take(of, &indices, &out));
     MADE(sel_take_rows(of, rows, 4, SEL_ALL_VALID, &out));
+    MADE(sel_reverse(of, &out));
     MADE(sel_filter(of, of, &out));
     MADE(sel_take(of, of, &out));
 }

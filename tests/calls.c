@@ -125,6 +125,11 @@ RUN(unit_list) {
     return sel_unit_list(&columns[0], &out->columns[0]);
 }
 
+RUN(reverse) {
+    (void)given;
+    return sel_reverse(&columns[0], &out->columns[0]);
+}
+
 RUN(slice) {
     return sel_slice(&columns[0], given->numbers[0], given->numbers[1], &out->columns[0]);
 }
@@ -228,6 +233,7 @@ const struct call calls[] = {
     {"fixed_size_list_get", "trif", RESULT_ROWS, "sel_fixed_size_list_get", of_item, run_fixed_size_list_get, NULL, false, false},
     {"fixed_size_list_get_each", "trIf", RESULT_ROWS, "sel_fixed_size_list_get_each", of_item, run_fixed_size_list_get_each, NULL, false, false},
     {"unit_list", "tr", RESULT_ROWS, "sel_unit_list", of_lists, run_unit_list, NULL, false, false},
+    {"reverse", "tr", RESULT_ROWS, "sel_reverse", of_line, run_reverse, NULL, false, false},
     {"slice", "trnn", RESULT_ROWS, "sel_slice", of_line, run_slice, NULL, false, false},
     {"child", "tr", RESULT_ITEMS, "sel_child", of_item, run_child, NULL, false, false},
     {"field", "trn", RESULT_FIELD, "sel_field", of_field, run_field, NULL, false, false},

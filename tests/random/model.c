@@ -71,6 +71,14 @@ struct rows model_take(struct arena *arena, const struct rows *rows, const struc
     return listed_rows(&out, rows->type);
 }
 
+struct rows model_reverse(struct arena *arena, const struct rows *rows) {
+    struct listing out = {.arena = arena};
+    for (size_t i = rows->len; i > 0; i -= 1) {
+        list_value(&out, &rows->values[i - 1]);
+    }
+    return listed_rows(&out, rows->type);
+}
+
 struct rows model_choose(struct arena *arena, const struct rows *mask, const struct rows *yes, const struct rows *no, bool yes_is_broadcast, bool no_is_broadcast) {
     struct listing out = {.arena = arena};
     for (size_t i = 0; i < mask->len; i += 1) {

@@ -40,6 +40,7 @@ bool model_is_out_of_bounds(const struct value *list, int64_t index);
 
 /* Returns each row in a list of its own. */
 struct rows model_unit_lists(struct arena *arena, const struct rows *rows);
+struct rows model_reverse(struct arena *arena, const struct rows *rows);
 
 /* Returns the lists between the offsets, or of `list_size` items each; where `valid` is given and false, null. */
 struct rows model_lists(struct arena *arena, const struct type *type, const struct rows *items, const int64_t *offsets, const bool *valid, size_t len);

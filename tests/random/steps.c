@@ -136,6 +136,13 @@ static bool step_share(const struct step *step) {
     return ends(step, "sel_share", status, SEL_OK, &out, &wanted);
 }
 
+static bool step_reverse(const struct step *step) {
+    const struct entry *entry = any_entry(step);
+    sel_column out = {0};
+    struct rows wanted = model_reverse(step->arena, &entry->rows);
+    return ends(step, "sel_reverse", sel_reverse(&entry->column, &out), SEL_OK, &out, &wanted);
+}
+
 static bool step_unit_list(const struct step *step) {
     const struct entry *entry = any_entry(step);
     sel_column out = {0};
@@ -431,6 +438,7 @@ bool pool_step(const struct pool *pool, struct arena *arena, struct draws *draws
     static bool (*const steps[])(const struct step *) = {
         step_filter, step_take, step_choose, step_collect_rows, step_flatten, step_get, step_filter, step_take, step_choose,
         step_slice, step_list_new, step_struct_new, step_unit_list, step_dictionary, step_equal, step_parse, step_arrow, step_share,
+        step_reverse,
     };
     struct step step = {pool, arena, draws, made};
     return steps[draw(draws, sizeof steps / sizeof steps[0])](&step);

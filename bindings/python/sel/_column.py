@@ -416,6 +416,14 @@ class Column(Owner):
         call("sel_boolean_new", bits, bits.size(), len(self), *NO_VALIDITY, byref(mask._handle))
         return Column._owning(derived(mask, "sel_if_then_else_broadcast_false", self, one), self._logical)
 
+    def reverse(self) -> Column:
+        """Returns the rows in reverse order, as `column[::-1]` does.
+
+        >>> sel.Column([1, None, 3]).reverse()
+        Column(i64, [3,null,1])
+        """
+        return self._like("sel_reverse")
+
     def unit_list(self) -> Column:
         """Returns a column of lists with one row each. Raises LimitPassed, an OverflowError, for a column of 128 levels.
 

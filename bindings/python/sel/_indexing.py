@@ -54,6 +54,8 @@ def _sliced(column: Owner, place: slice) -> Owner:
     """Returns a slice, which shares memory with the column if the step is 1. Bounds beyond the rows are cut off, as Python does."""
     parts = (("start", place.start), ("stop", place.stop), ("step", place.step))
     start, stop, step = slice(*[None if part is None else integer(part, f"slice {name}") for name, part in parts]).indices(len(column))
+    if step == -1 and start - stop == len(column):
+        return derived(column, "sel_reverse")
     if step != 1:
         return _rows_at(column, range(start, stop, step))
     return derived(column, "sel_slice", start, max(0, stop - start))

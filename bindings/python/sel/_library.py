@@ -140,6 +140,7 @@ _CALLS: dict[str, list[Any]] = {
     "sel_filter_bits": [_COLUMN, _BYTES, _SIZE, _SIZE, _COLUMN],
     "sel_take": [_COLUMN, _COLUMN, _COLUMN],
     "sel_take_rows": [_COLUMN, _BYTES, _SIZE, *_BITS, _COLUMN],
+    "sel_reverse": [_COLUMN, _COLUMN],
     "sel_if_then_else": [_COLUMN, _COLUMN, _COLUMN, _COLUMN],
     "sel_if_then_else_broadcast_true": [_COLUMN, _COLUMN, _COLUMN, _COLUMN],
     "sel_if_then_else_broadcast_false": [_COLUMN, _COLUMN, _COLUMN, _COLUMN],

@@ -61,7 +61,7 @@ def uses_of(kind: str, rows: list[Any]) -> list[Callable[[], Any]]:
     uses: list[Callable[[], Any]] = [
         lambda: Column(rows, wanted), column.to_pylist, lambda: list(column), lambda: str(column), lambda: repr(column), lambda: column.type, column.valid,
         lambda: column[0], lambda: column[::-1], lambda: column[[0, -1]], lambda: column[[True] * count], column.share, lambda: Column(column),
-        lambda: pickle.loads(pickle.dumps(column)), column.drop_null, column.unit_list, lambda: column.equals(column), lambda: column == column,
+        lambda: pickle.loads(pickle.dumps(column)), column.drop_null, column.reverse, column.unit_list, lambda: column.equals(column), lambda: column == column,
         lambda: column.fill_null(rows[0]), lambda: sel.choose([True] * count, rows[0], column), lambda: sel.choose([False] * count, column, rows[0]),
         lambda: sel.concat([column, column]), lambda: sel.flatten([column, column], [1, count], count), lambda: sel.collect_rows([column, column], [(0, 1), None, (1, 0)]),
     ]

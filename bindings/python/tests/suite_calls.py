@@ -263,6 +263,9 @@ CALLS = {
     "fixed_size_list_get": Call("trif", [Use(lambda given, lists: lists.fixed_get(*given.others))], _type_of_item),
     "fixed_size_list_get_each": Call("trIf", [Use(lambda given, lists, indices: lists.fixed_get(indices, *given.others))], _type_of_item),
     "unit_list": Call("tr", [Use(lambda given, column: column.unit_list())], lambda given: Type("list", (given.type,))),
+    "reverse": Call("tr", [
+        Use(lambda given, column: column.reverse()),
+        Use(lambda given, column: column[::-1])]),
     "slice": Call("trnn", [
         Use(lambda given, column: column.sliced(*given.others)),
         Use(lambda given, column: column[given.others[0] : sum(given.others)], _has_rows)]),

@@ -224,6 +224,23 @@ impl Column {
         self.fixed_size_list_get_each(indices, null_on_oob)
     }
 
+    /// Returns the rows in reverse order.
+    ///
+    /// # Errors
+    /// [`Error::OutOfMemory`].
+    ///
+    /// ```
+    /// # use sel::{Column, Error};
+    /// # fn main() -> Result<(), Error> {
+    /// assert_eq!(Column::from_options(&[Some(1i64), None, Some(3)])?.reverse()?.to_text()?, "[3,null,1]");
+    /// # Ok(())
+    /// # }
+    /// ```
+    pub fn reverse(&self) -> Result<Column, Error> {
+        // SAFETY: two distinct handles.
+        Column::made(|out| unsafe { raw::sel_reverse(self.at(), out) })
+    }
+
     /// Returns a column of lists, each of which has the row as its only element.
     ///
     /// # Errors

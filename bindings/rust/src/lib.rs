@@ -78,6 +78,7 @@
 //! | `sel_filter_bits` | [`Column::filter_bits`] |
 //! | `sel_take` | [`Column::take`] |
 //! | `sel_take_rows` | [`Column::take_rows`] |
+//! | `sel_reverse` | [`Column::reverse`] |
 //! | `sel_if_then_else` | [`if_then_else`], [`choose`] |
 //! | `sel_if_then_else_broadcast_true` | [`if_then_else_broadcast_true`], [`choose_one`] |
 //! | `sel_if_then_else_broadcast_false` | [`if_then_else_broadcast_false`], [`choose_or_one`] |

@@ -279,6 +279,7 @@ extern "C" {
     ) -> u32;
     pub fn sel_list_get(of: *const Handle, index: i64, out: *mut Handle) -> u32;
     pub fn sel_list_index_is_oob(of: *const Handle, index: i64, out: *mut bool) -> u32;
+    pub fn sel_reverse(of: *const Handle, out: *mut Handle) -> u32;
     pub fn sel_unit_list(of: *const Handle, out: *mut Handle) -> u32;
     pub fn sel_fixed_size_list_get(of: *const Handle, index: i64, null_on_oob: bool, out: *mut Handle) -> u32;
     pub fn sel_fixed_size_list_get_each(

@@ -30,6 +30,7 @@ fn read(column: &Column, mask: &Column) -> Result<String, Error> {
         if_then_else(mask, column, column)?,
         flatten(&[column, column], &[1, 1], column.len())?,
         collect_rows(&[column, column], &[Some((1, 0)), None, Some((0, 1))])?,
+        column.reverse()?,
         column.unit_list()?,
     ];
     let texts: Result<Vec<String>, Error> = all.iter().map(Column::to_text).collect();

@@ -10,6 +10,7 @@ pub mod LawProofs
 pub mod Meanings
 pub mod Needs
 pub mod Places
+pub mod Reversed
 pub mod SelectedRows
 pub mod Selects
 pub mod TakenBits

@@ -7,6 +7,7 @@ pub mod Laws
 pub mod Meaning
 pub mod Need
 pub mod Pick
+pub mod Reverse
 pub mod Scalar
 pub mod Select
 pub mod SelectRows

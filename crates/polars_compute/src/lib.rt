@@ -5,6 +5,7 @@ pub mod filter;
 pub mod gather;
 pub mod laws;
 pub mod propagate_dictionary;
+pub mod reverse;
 mod runs;
 pub mod select;
 

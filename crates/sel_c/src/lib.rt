@@ -14,6 +14,7 @@ mod makers;
 mod nested_makers;
 mod nested_readers;
 mod readers;
+mod reverse;
 mod several;
 mod takes;
 mod texts;

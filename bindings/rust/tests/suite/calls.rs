@@ -266,6 +266,13 @@ pub const CALLS: [Call; 22] = [
         ways: &[("unit_list", |_, columns| one(columns[0].unit_list()))],
     },
     Call {
+        name: "reverse",
+        fields: &[Type, Rows],
+        comparison: AllRows,
+        result_types: of_line,
+        ways: &[("reverse", |_, columns| one(columns[0].reverse()))],
+    },
+    Call {
         name: "slice",
         fields: &[Type, Rows, Number, Number],
         comparison: AllRows,

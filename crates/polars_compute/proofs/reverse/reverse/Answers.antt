@@ -1,0 +1,29 @@
+use Rattle.std.proofs.Common.{ap, subst, ◌∙◌, length, arith}
+use Rattle.std.proofs.lemmas.Result.{err_from_is_err_and}
+use Rattle.sel_arrow.specs.Columns.{primitive_rows}
+use Rattle.sel_arrow.specs.Rows.{rows, type_of}
+use Rattle.sel_runs.proofs.Thinned.{memory_alone}
+use Rattle.polars_compute.specs.Need.{exceeded_limits}
+use Rattle.polars_compute.specs.Pick.{all_within, take_rows}
+use Rattle.polars_compute.proofs.Reversed.{all_inside, reversed_fits, reversed_take}
+use Rattle.polars_compute.proofs.reverse.reverse.Goals as goal
+
+pub take_unchecked-requires : goal.take_unchecked-requires
+take_unchecked-requires c =
+    let count = length (rows c.args.column.now.column) in
+    ap (all_within count) c.in_ok-indices.ensures.rows ∙ all_inside count c.len.result (omega (arith, c.len.ensures.len))
+
+pub returns-clause-rows : goal.returns-clause-rows
+returns-clause-rows c =
+    let vs = rows c.args.column.now.column in
+    c.in_ok-reversed.ensures.rows ∙ ap (take_rows vs) c.in_ok-indices.ensures.rows ∙ reversed_take vs c.len.result c.len.ensures.len
+
+pub returns-in_err-reversed-clause-refusal : goal.returns-in_err-reversed-clause-refusal
+returns-in_err-reversed-clause-refusal c =
+    let p = err_from_is_err_and c.from_residual-in_err-reversed.result c.from_residual-in_err-reversed.ensures.1 in
+    let column = c.args.column.now.column in
+    let vs = rows column in
+    let are = ap (take_rows vs) c.in_ok-indices.ensures.rows ∙ reversed_take vs c.len.result c.len.ensures.len in
+    rw (p.1, p.2)
+    (memory_alone (exceeded_limits (type_of column) (take_rows vs (primitive_rows c.in_ok-indices.indices))) c.in_err-reversed.field-0.0
+    (λ limit h. reversed_fits column c.args.column.now.formed limit (subst (λ l. exceeded_limits (type_of column) l limit) are h)) c.in_err-reversed.ensures.refusal)
