@@ -14,5 +14,6 @@ pub mod Reversed
 pub mod SelectedRows
 pub mod Selects
 pub mod TakenBits
+pub mod TakenStructs
 pub mod Takes
 pub mod Withins

@@ -11,5 +11,6 @@ pub mod Reverse
 pub mod Scalar
 pub mod Select
 pub mod SelectRows
+pub mod TakenFields
 pub mod Trim
 pub mod ValidPicks

@@ -1,9 +1,15 @@
 -- Row references to valid rows, for the internal steps of a take.
-use Rattle.std.specs.Prelude.{ℕ, Bool, false, Option, Some, None}
+use Rattle.std.specs.Prelude.{ℕ, Bool, false, Option, Some, None, if◌then◌else◌}
 use Rattle.sel_bits.specs.Bits.{Bits}
 use Rattle.sel_arrow.specs.Masked.{valid_at}
+use Rattle.sel_arrow.specs.Value.{Value, Null}
+use Rattle.polars_compute.specs.Pick.{pick_of}
 
 -- Whether a row reference into a single column is not none and refers to a valid row.
 abbrev pub valid_pick : Option Bits → Option (ℕ × ℕ) → Bool
 valid_pick validity None = false
 valid_pick validity (Some p) = valid_at validity p.1
+
+-- The index, or null if it does not refer to a valid row.
+abbrev pub live_index : Option Bits → Value → Value
+live_index validity index = if valid_pick validity (pick_of index) then index else Null

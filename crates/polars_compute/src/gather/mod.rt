@@ -1,13 +1,15 @@
 //! Gather for columns of any type.
 
-ghost use Rattle.std.specs.Prelude.{◌≡◌, ◌≤◌, ◌<◌, length, slice_index_or, IsTrue, IfOk, IfErr};
+ghost use Rattle.std.specs.Prelude.{◌≡◌, ◌≤◌, ◌<◌, All, length, map, slice_index_or, IsTrue, IfOk, IfErr};
 ghost use Rattle.sel_arrow.specs.Columns.{null_rows, primitive_rows};
-ghost use Rattle.sel_arrow.specs.Rows.{rows, type_of, IsWellFormed};
+ghost use Rattle.sel_arrow.specs.Rows.{rows, type_of, IsField, IsWellFormed};
+ghost use Rattle.sel_arrow.specs.declared.column.Column.{Struct};
 ghost use Rattle.polars_compute.specs.Blocks.{blocks_within};
 ghost use Rattle.polars_compute.specs.Need.{IsLimitOrMemory, ExceedsNone, exceeded_limits};
 ghost use Rattle.sel_arrow.specs.Masked.{number_value};
 ghost use Rattle.sel_arrow.specs.Value.{Null};
 ghost use Rattle.polars_compute.specs.Pick.{is_within, all_within, all_below, take_rows};
+ghost use Rattle.polars_compute.specs.TakenFields.{exceeded_in_taken};
 
 pub mod binary;
 mod binview;
@@ -27,6 +29,7 @@ use sel_arrow::array_ref::ArrayRef;
 use sel_arrow::column::Column;
 use sel_arrow::null::NullArray;
 use sel_arrow::primitive::{ArrowPrimitive, IdxArr, PrimitiveArray};
+use sel_bits::bitmap::Bitmap;
 use sel_bits::faults::PolarsResult;
 use sel_bits::native::{Index, NativeType};
 pub use sel_runs::collect::collect_rows;
@@ -35,6 +38,7 @@ use sel_runs::single::collect_one_plan;
 pub use sel_runs::sources::picks_in_bounds;
 pub use sel_sublists::sublist;
 use std::alloc::Global;
+use validity::live_indices;
 
 /// Returns the rows of `values` at `indices`; a null index gives a null row.
 ///
@@ -57,20 +61,22 @@ pub fn take_unchecked(alloc: Global, values: &ArrayRef, indices: &IdxArr) -> Pol
     ensures refusal { IfErr result (IsLimitOrMemory (exceeded_limits (type_of values.now.column)
         (take_rows (rows values.now.column) (primitive_rows indices.now)))) }
 {
-    let taken = take_any(alloc, values, indices)?;
+    let taken = take_any(alloc, values.as_column(), indices)?;
     Ok(taken)
 }
 
 /// Returns the rows at `indices`, dispatching on the column type.
-fn take_any(alloc: Global, values: &ArrayRef, indices: &IdxArr) -> PolarsResult<ArrayRef>
-    requires { IsTrue (all_within (length (rows values.now.column)) (primitive_rows indices.now)) }
+#[cycle(taking)]
+fn take_any(alloc: Global, values: &Column, indices: &IdxArr) -> PolarsResult<ArrayRef>
+    requires formed { IsWellFormed values.now }
+    requires inside { IsTrue (all_within (length (rows values.now)) (primitive_rows indices.now)) }
     ensures rows { IfOk result (λ taken. rows taken.column ≡
-        take_rows (rows values.now.column) (primitive_rows indices.now)) }
-    ensures dtype { IfOk result (λ taken. type_of taken.column ≡ type_of values.now.column) }
-    ensures refusal { IfErr result (IsLimitOrMemory (exceeded_limits (type_of values.now.column)
-        (take_rows (rows values.now.column) (primitive_rows indices.now)))) }
+        take_rows (rows values.now) (primitive_rows indices.now)) }
+    ensures dtype { IfOk result (λ taken. type_of taken.column ≡ type_of values.now) }
+    ensures refusal { IfErr result (IsLimitOrMemory (exceeded_limits (type_of values.now)
+        (take_rows (rows values.now) (primitive_rows indices.now)))) }
 {
-    match values.as_column() {
+    match values {
         Column::Null(column) => Ok(take_nulls(column, indices).into_ref()),
         Column::Boolean(column) => Ok(boolean::take_unchecked(alloc, column, indices)?.into_ref()),
         Column::Int8(column) => take_numbers(alloc, column, indices),
@@ -88,14 +94,77 @@ fn take_any(alloc: Global, values: &ArrayRef, indices: &IdxArr) -> PolarsResult<
         }
         Column::BinaryView(column) => Ok(take_views(alloc, column, indices)?.into_ref()),
         Column::Utf8View(column) => Ok(take_texts(alloc, column, indices)?.into_ref()),
-        Column::LargeList { .. } | Column::FixedSizeList { .. } | Column::Struct { .. } => {
-            Ok(take_nested(alloc, values.as_column(), indices)?)
+        Column::LargeList { .. } | Column::FixedSizeList { .. } => {
+            Ok(take_lists(alloc, values, indices)?)
         }
+        Column::Struct {
+            len,
+            fields,
+            validity,
+        } => take_struct(alloc, *len, fields, validity, indices),
     }
 }
 
-/// Returns the rows of a list or struct column at `indices`.
-fn take_nested(alloc: Global, values: &Column, indices: &IdxArr) -> PolarsResult<ArrayRef>
+/// Returns the struct values at `indices`, gathered field by field, from `count` rows.
+///
+/// The fields have a null for each null row, so no value under one is copied.
+#[cycle(taking)]
+fn take_struct(
+    alloc: Global,
+    count: usize,
+    fields: &Vec<Column>,
+    validity: &Option<Bitmap>,
+    indices: &IdxArr,
+) -> PolarsResult<ArrayRef>
+    requires formed { IsWellFormed (Struct count fields.now validity.now) }
+    requires inside { IsTrue (all_within count (primitive_rows indices.now)) }
+    ensures rows { IfOk result (λ taken. rows taken.column ≡
+        take_rows (rows (Struct count fields.now validity.now)) (primitive_rows indices.now)) }
+    ensures dtype { IfOk result (λ taken. type_of taken.column ≡
+        type_of (Struct count fields.now validity.now)) }
+    ensures refusal { IfErr result (IsLimitOrMemory
+        (exceeded_limits (type_of (Struct count fields.now validity.now))
+        (take_rows (rows (Struct count fields.now validity.now)) (primitive_rows indices.now)))) }
+{
+    let live = live_indices(alloc, validity, indices)?;
+    let fields = take_fields(alloc, fields, count, &live)?;
+    let PrimitiveArray { validity, .. } = live;
+    let column = Column::Struct {
+        len: indices.len(),
+        fields,
+        validity,
+    };
+    Ok(ArrayRef { column })
+}
+
+/// Returns the rows of each column at `indices`; each column has `_count` rows.
+#[cycle(taking)]
+fn take_fields(
+    alloc: Global,
+    columns: &[Column],
+    _count: usize,
+    indices: &IdxArr,
+) -> PolarsResult<Vec<Column>>
+    requires fields { All (IsField _count) columns.now }
+    requires inside { IsTrue (all_within _count (primitive_rows indices.now)) }
+    ensures rows { IfOk result (λ taken. map rows taken.items ≡
+        map (λ column. take_rows (rows column) (primitive_rows indices.now)) columns.now) }
+    ensures dtypes { IfOk result (λ taken. map type_of taken.items ≡ map type_of columns.now) }
+    ensures fields { IfOk result
+        (λ taken. All (IsField (length (primitive_rows indices.now))) taken.items) }
+    ensures refusal { IfErr result
+        (IsLimitOrMemory (exceeded_in_taken columns.now (primitive_rows indices.now))) }
+{
+    let mut taken = Vec::with_capacity(alloc, columns.len())?;
+    for column in columns {
+        let ArrayRef { column } = take_any(alloc, column, indices)?;
+        taken.push(column)?;
+    }
+    Ok(taken)
+}
+
+/// Returns the rows of a list column at `indices`.
+fn take_lists(alloc: Global, values: &Column, indices: &IdxArr) -> PolarsResult<ArrayRef>
     requires formed { IsWellFormed values.now }
     requires inside { IsTrue (all_within (length (rows values.now)) (primitive_rows indices.now)) }
     ensures rows { IfOk result (λ taken. rows taken.column ≡

@@ -5,12 +5,12 @@ ghost use Rattle.std.specs.Option.{ForSome};
 ghost use Rattle.sel_arrow.specs.Columns.{primitive_rows};
 ghost use Rattle.sel_runs.specs.Validity.{bits_for};
 ghost use Rattle.polars_compute.specs.Pick.{all_within, pick_of};
-ghost use Rattle.polars_compute.specs.ValidPicks.{valid_pick};
+ghost use Rattle.polars_compute.specs.ValidPicks.{live_index, valid_pick};
 
 use crate::gather::bitmap::take_bitmap_unchecked;
 use crate::runs::Taken;
 use sel_arrow::array::Array;
-use sel_arrow::primitive::IdxArr;
+use sel_arrow::primitive::{IdxArr, PrimitiveArray};
 use sel_bits::bitmap::Bitmap;
 use sel_bits::faults::{PolarsError, PolarsResult};
 use sel_runs::gather::gather_bits;
@@ -65,4 +65,26 @@ pub(crate) fn take_bits(
     let maps = [validity.as_ref()];
     let bits = gather_bits(alloc, &plan, &maps)?;
     bits.into_bitmap(count)
+}
+
+/// Returns the indices with a null in place of each index of a null row.
+///
+/// The values of the indices are shared, and their validity is that of the rows at `indices`.
+pub(crate) fn live_indices(
+    alloc: Global,
+    validity: &Option<Bitmap>,
+    indices: &IdxArr,
+) -> PolarsResult<IdxArr>
+    requires { ForSome validity.now
+        (λ v. IsTrue (all_within (length v.bits) (primitive_rows indices.now))) }
+    ensures rows { IfOk result (λ live. primitive_rows live ≡
+        map (live_index validity.now) (primitive_rows indices.now)) }
+    ensures bits { IfOk result (λ live.
+        bits_for (length (primitive_rows indices.now)) live.validity ≡
+        map (valid_pick validity.now) (map pick_of (primitive_rows indices.now))) }
+    ensures refusal { IfErr result (λ fault. fault ≡ PolarsError.OutOfMemory) }
+{
+    let validity = take_validity(alloc, validity, indices)?;
+    let values = indices.values.try_clone()?;
+    Ok(PrimitiveArray { values, validity })
 }

@@ -1,8 +1,19 @@
-use Rattle.sel_arrow.specs.Rows.{type_of}
+use Rattle.std.proofs.Common.{◌∙◌, ap}
+use Rattle.std.proofs.lemmas.Result.{err_from_is_err_and}
+use Rattle.sel_arrow.specs.Columns.{primitive_rows}
+use Rattle.sel_arrow.specs.Rows.{rows, type_of}
 use Rattle.sel_runs.proofs.Within.{rows_pass}
+use Rattle.polars_compute.specs.Pick.{take_rows}
 use Rattle.polars_compute.proofs.gather.take_unchecked.Goals as goal
 
 pub returns-clause-within : goal.returns-clause-within
 returns-clause-within c =
     let taken = c.in_ok-taken.taken in
-    rows_pass taken.column (type_of c.args.values.now.column) _ taken.formed c.in_ok-taken.ensures.dtype c.in_ok-taken.ensures.rows
+    let column = c.as_column.ensures.column in
+    rows_pass taken.column (type_of c.args.values.now.column) _ taken.formed (c.in_ok-taken.ensures.dtype ∙ ap type_of column)
+    (c.in_ok-taken.ensures.rows ∙ ap (λ x. take_rows (rows x) (primitive_rows c.args.indices.now)) column)
+
+pub returns-in_err-taken-clause-refusal : goal.returns-in_err-taken-clause-refusal
+returns-in_err-taken-clause-refusal c =
+    let p = err_from_is_err_and c.from_residual.result c.from_residual.ensures.1 in
+    rw (p.1, p.2, ← c.as_column.ensures.column) c.in_err-taken.ensures.refusal

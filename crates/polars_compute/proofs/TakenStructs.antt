@@ -1,0 +1,238 @@
+-- Struct rows at indices, field by field.
+use Rattle.std.proofs.Common.{◌≡◌, All, ℕ, zero, suc, ◌+◌, ◌≤◌, ◌<◌, pos, Bool, true, false, ◌&&◌, List, [], ◌∷◌, length, map, get_or, Option, Some, None, Vec, Global, inl, inr, refl, ap, sym, ◌∙◌, subst, arith}
+use Rattle.std.specs.Prelude.{if◌then◌else◌}
+use Rattle.std.specs.List.{range_with_len}
+use Rattle.std.proofs.lemmas.Bool.{ltb-true}
+use Rattle.std.proofs.lemmas.List.{length-map, get_or-map, ext_get_or}
+use Rattle.std.proofs.lemmas.List.FromFn.{length-map-range_with_len, get_or-map-range_with_len}
+use Rattle.sel_bits.specs.Bits.{Bits}
+use Rattle.sel_bits.specs.declared.faults.Limit.{Limit}
+use Rattle.sel_arrow.specs.Masked.{hidden, masked, number_rows, Covers, valid_at}
+use Rattle.sel_arrow.specs.Nested.{struct_at}
+use Rattle.sel_arrow.specs.Rows.{rows, type_of, well_formed, IsField}
+use Rattle.sel_arrow.specs.Shape.{Shapes, of_struct, shapes_of, shape_list}
+use Rattle.sel_arrow.specs.Value.{Value, Null, Number, is_valid, validities}
+use Rattle.sel_arrow.specs.declared.column.Column.{Column, Struct}
+use Rattle.sel_arrow.proofs.NestedRows.{length-rows, length-tuple_rows}
+use Rattle.sel_arrow.proofs.Rows.{masked_null, masked_valid}
+use Rattle.sel_arrow.proofs.Trees.{rows-Struct, has_fields, fields_make}
+use Rattle.sel_arrow.proofs.Types.{type_of-Struct}
+use Rattle.sel_runs.specs.Children.{field, part_at, parts_of}
+use Rattle.sel_runs.specs.Validity.{bits_for}
+use Rattle.sel_runs.proofs.Below.{listed_shapes}
+use Rattle.sel_runs.proofs.FieldsOf.{any_default, field_found}
+use Rattle.sel_runs.proofs.Grown.{finished}
+use Rattle.sel_runs.proofs.Layouts.{rows_tuples}
+use Rattle.sel_runs.proofs.Rebuilt.{IsTuple, picked_all, tuples_rebuilt}
+use Rattle.sel_runs.proofs.TupleRows.{field_row}
+use Rattle.polars_compute.specs.Need.{exceeded_limits, exceeded_in_parts}
+use Rattle.polars_compute.specs.Pick.{found, pick_of, take_rows, is_within, all_within}
+use Rattle.polars_compute.specs.TakenFields.{exceeded_in_taken}
+use Rattle.polars_compute.specs.ValidPicks.{live_index, valid_pick}
+use Rattle.polars_compute.proofs.Takes.{both, covers_for, length-pick}
+
+both_true : (a b : Bool) → a ≡ true → b ≡ true → (a && b) ≡ true
+both_true a b e f = rw (e, f) refl
+
+-- ---- indices with a null for each null row
+
+shown : (validity : Option Bits) (places : List ℕ) →
+    hidden (map (valid_pick validity) (map pick_of (map (λ x. Number (pos x)) places))) (map (λ x. Number (pos x)) places) ≡ map (live_index validity) (map (λ x. Number (pos x)) places)
+shown validity [] = refl
+shown validity (place ∷ places) = ap (λ l. live_index validity (Number (pos place)) ∷ l) (shown validity places)
+
+shown_hidden : (validity : Option Bits) (bits : List Bool) (places : List ℕ) → length bits ≡ length places →
+    hidden (map (valid_pick validity) (map pick_of (hidden bits (map (λ x. Number (pos x)) places)))) (map (λ x. Number (pos x)) places) ≡ map (live_index validity) (hidden bits (map (λ x. Number (pos x)) places))
+shown_hidden validity [] places same = shown validity places
+shown_hidden validity (b ∷ bits) [] same = absurd (omega (arith, same))
+shown_hidden validity (true ∷ bits) (place ∷ places) same = ap (λ l. live_index validity (Number (pos place)) ∷ l) (shown_hidden validity bits places (omega (arith, same)))
+shown_hidden validity (false ∷ bits) (place ∷ places) same = ap (λ l. Null ∷ l) (shown_hidden validity bits places (omega (arith, same)))
+
+-- Under the validity of the rows at the indices, the places are the indices of valid rows.
+pub live_rows : (validity named live : Option Bits) (places : List ℕ) → Covers named (length places) →
+    bits_for (length (number_rows pos places named)) live ≡ map (valid_pick validity) (map pick_of (number_rows pos places named)) → length (number_rows pos places named) ≡ length places →
+    number_rows pos places live ≡ map (live_index validity) (number_rows pos places named)
+live_rows validity None live places covers valid long =
+    finished (λ (x : ℕ). Number (pos x)) places live _ (length (number_rows pos places None)) valid (sym long) ∙ shown validity places
+live_rows validity (Some named) live places covers valid long =
+    finished (λ (x : ℕ). Number (pos x)) places live _ (length (number_rows pos places (Some named))) valid (sym long) ∙ shown_hidden validity named.bits places (covers named refl)
+
+one_within : (n : ℕ) (validity : Option Bits) (index : Value) → is_within n index ≡ true → is_within n (live_index validity index) ≡ true
+one_within n validity index within = by (valid_pick validity (pick_of index))
+  where
+    by : (b : Bool) → is_within n (if b then index else Null) ≡ true
+    by true = within
+    by false = refl
+
+pub live_within : (n : ℕ) (validity : Option Bits) (indices : List Value) → all_within n indices ≡ true → all_within n (map (live_index validity) indices) ≡ true
+live_within n validity [] within = refl
+live_within n validity (index ∷ indices) within =
+    let parts = both (is_within n index) (all_within n indices) within in
+    both_true (is_within n (live_index validity index)) (all_within n (map (live_index validity) indices)) (one_within n validity index parts.0) (live_within n validity indices parts.1)
+
+-- ---- the rows of the fields
+
+module _ (n : ℕ) (fields : Vec Column Global) (validity : Option Bits) (formed : well_formed (Struct n fields validity) ≡ true) where
+  abbrev whole : Column
+  whole = Struct n fields validity
+
+  abbrev types : Shapes
+  types = shapes_of (map type_of fields.items)
+
+  abbrev plain : List Value
+  plain = map (struct_at (map rows fields.items)) (range_with_len 0 n)
+
+  pub length-whole : length (rows whole) ≡ n
+  length-whole = ap length (rows-Struct n fields validity) ∙ length-tuple_rows n (map rows fields.items) validity
+
+  covered : Covers validity (length plain)
+  covered = λ v there. (has_fields n fields validity formed).covered v there ∙ sym (length-map-range_with_len (struct_at (map rows fields.items)) 0 n)
+
+  -- The row at an index is valid by the validity.
+  valid_here : (i : ℕ) → i < n → is_valid (get_or (rows whole) i Null) ≡ valid_at validity i
+  valid_here i inside = by (valid_at validity i) refl
+    where
+      fs : List (List Value)
+      fs = map rows fields.items
+
+      below : i < length plain
+      below = omega (arith, inside, length-map-range_with_len (struct_at fs) 0 n)
+
+      row : get_or (rows whole) i Null ≡ get_or (masked validity plain) i Null
+      row = ap (λ l. get_or l i Null) (rows-Struct n fields validity)
+
+      by : (b : Bool) → valid_at validity i ≡ b → is_valid (get_or (rows whole) i Null) ≡ valid_at validity i
+      by true e =
+          ap is_valid (row ∙ masked_valid validity plain i e below covered ∙ get_or-map-range_with_len (struct_at fs) 0 n i i Null inside (omega arith)) ∙ sym e
+      by false e = ap is_valid (row ∙ masked_null validity plain i e below covered) ∙ sym e
+
+  null_here : (i : ℕ) → i < n → valid_at validity i ≡ false → get_or (rows whole) i Null ≡ Null
+  null_here i inside e =
+      ap (λ l. get_or l i Null) (rows-Struct n fields validity)
+      ∙ masked_null validity plain i e (omega (arith, inside, length-map-range_with_len (struct_at (map rows fields.items)) 0 n)) covered
+
+  kind : type_of whole ≡ of_struct types
+  kind = type_of-Struct n fields validity
+
+  many : length (shape_list types) ≡ length fields.items
+  many = ap length (listed_shapes (map type_of fields.items)) ∙ length-map fields.items type_of
+
+  field_one : (k : ℕ) → k < length fields.items → (index : Value) → is_within n index ≡ true →
+      found Null (rows (field k whole) ∷ []) (pick_of (live_index validity index)) ≡ part_at k (found Null (rows whole ∷ []) (pick_of index))
+  field_one k h (Number (pos i)) within = by (valid_at validity i) refl
+    where
+      inside : i < n
+      inside = ltb-true i n within
+
+      by : (b : Bool) → valid_at validity i ≡ b → found Null (rows (field k whole) ∷ []) (pick_of (if b then Number (pos i) else Null)) ≡ part_at k (get_or (rows whole) i Null)
+      by true e = field_row whole types k i kind (omega (arith, h, many)) (valid_here i inside ∙ e)
+      by false e = sym (ap (part_at k) (null_here i inside e))
+  field_one k h index within = refl
+
+  -- The rows of a field at the indices of valid rows are the values of the struct rows.
+  pub field_taken : (k : ℕ) → k < length fields.items → (indices : List Value) → all_within n indices ≡ true →
+      take_rows (rows (field k whole)) (map (live_index validity) indices) ≡ map (part_at k) (take_rows (rows whole) indices)
+  field_taken k h [] within = refl
+  field_taken k h (index ∷ indices) within =
+      let parts = both (is_within n index) (all_within n indices) within in
+      (λ i. field_one k h index parts.0 i ∷ field_taken k h indices parts.1 i)
+
+  valid_one : (index : Value) → is_within n index ≡ true → is_valid (found Null (rows whole ∷ []) (pick_of index)) ≡ valid_pick validity (pick_of index)
+  valid_one (Number (pos i)) within = valid_here i (ltb-true i n within)
+  valid_one index within = refl
+
+  taken_valid : (indices : List Value) → all_within n indices ≡ true → validities (take_rows (rows whole) indices) ≡ map (valid_pick validity) (map pick_of indices)
+  taken_valid [] within = refl
+  taken_valid (index ∷ indices) within =
+      let parts = both (is_within n index) (all_within n indices) within in
+      (λ i. valid_one index parts.0 i ∷ taken_valid indices parts.1 i)
+
+  -- The rows of each field at the indices of valid rows, by position.
+  fields_taken : (taken : List (List Value)) (indices : List Value) → all_within n indices ≡ true →
+      taken ≡ map (λ c. take_rows (rows c) (map (live_index validity) indices)) fields.items → taken ≡ parts_of (length fields.items) (take_rows (rows whole) indices)
+  fields_taken taken indices within is =
+      let live = map (live_index validity) indices in
+      let of = λ (c : Column). take_rows (rows c) live in
+      let vs = take_rows (rows whole) indices in
+      let part = λ (j : ℕ). map (part_at j) vs in
+      let count = length fields.items in
+      let size = length-map-range_with_len part 0 count in
+      is
+      ∙ ext_get_or [] (map of fields.items) (parts_of count vs) (length-map fields.items of ∙ sym size)
+      (λ k h.
+      let below : k < count = omega (arith, h, length-map fields.items of) in
+      get_or-map of fields.items k whole [] below
+      ∙ ap of (field_found whole k n fields validity (get_or fields.items k whole) refl below (any k below))
+      ∙ field_taken k below indices within
+      ∙ sym (get_or-map-range_with_len part 0 count k k [] below (omega arith)))
+    where
+      any : (k : ℕ) → k < length fields.items → get_or fields.items k whole ≡ get_or fields.items k (get_or fields.items k whole)
+      any k below = any_default fields.items k whole (get_or fields.items k whole) below
+
+  pub struct_taken : (count : ℕ) (parts : Vec Column Global) (seen : Option Bits) (indices : List Value) → all_within n indices ≡ true → count ≡ length indices →
+      map rows parts.items ≡ map (λ c. take_rows (rows c) (map (live_index validity) indices)) fields.items →
+      bits_for (length indices) seen ≡ map (valid_pick validity) (map pick_of indices) → rows (Struct count parts seen) ≡ take_rows (rows whole) indices
+  struct_taken count parts seen indices within long made valid =
+      let vs = take_rows (rows whole) indices in
+      rows-Struct count parts seen
+      ∙ tuples_rebuilt (length fields.items) vs (map rows parts.items) seen count
+      (λ k. subst (λ m. IsTuple m (get_or vs k Null)) many (picked_all (IsTuple (length (shape_list types))) tt (rows whole ∷ []) each (map pick_of indices) k))
+      (length-pick Null (rows whole ∷ []) indices ∙ sym long)
+      (fields_taken (map rows parts.items) indices within made)
+      (ap (λ m. bits_for m seen) long ∙ valid ∙ sym (taken_valid indices within))
+    where
+      each : (i k : ℕ) → IsTuple (length (shape_list types)) (get_or (get_or (rows whole ∷ []) i []) k Null)
+      each zero k = rows_tuples whole types kind k
+      each (suc i) k = tt
+
+  pub struct_fits : (count : ℕ) (parts : Vec Column Global) (seen : Option Bits) (indices : List Value) → count ≤ 4294967295 → count ≡ length indices →
+      All (IsField (length indices)) parts.items → bits_for (length indices) seen ≡ map (valid_pick validity) (map pick_of indices) → well_formed (Struct count parts seen) ≡ true
+  struct_fits count parts seen indices few long all valid =
+      fields_make count parts seen
+      (record {
+        few = few;
+        covered = λ v there. covers_for seen indices indices validity valid refl v there ∙ sym long;
+        fields = subst (λ k. All (IsField k) parts.items) (sym long) all;
+      })
+
+  -- A limit that a field exceeds is exceeded by the struct rows.
+  pub struct_exceeded : (indices : List Value) (limit : Limit) → all_within n indices ≡ true → exceeded_in_taken fields.items (map (live_index validity) indices) limit →
+      exceeded_limits (type_of whole) (take_rows (rows whole) indices) limit
+  struct_exceeded indices limit within h =
+      subst (λ s. exceeded_limits s vs limit) (sym kind) (from fields.items 0 (λ k below. at k below) h)
+    where
+      live : List Value
+      live = map (live_index validity) indices
+
+      vs : List Value
+      vs = take_rows (rows whole) indices
+
+      at : (k : ℕ) → k < length fields.items → take_rows (rows (get_or fields.items k whole)) live ≡ map (part_at (0 + k)) vs
+      at k below =
+          let place : k ≡ 0 + k = omega arith in
+          ap (λ c. take_rows (rows c) live) (field_found whole k n fields validity (get_or fields.items k whole) refl below (any_default fields.items k whole (get_or fields.items k whole) below))
+          ∙ field_taken k below indices within
+          ∙ ap (λ m. map (part_at m) vs) place
+
+      from : (cs : List Column) (j : ℕ) → ((k : ℕ) → k < length cs → take_rows (rows (get_or cs k whole)) live ≡ map (part_at (j + k)) vs) → exceeded_in_taken cs live limit → exceeded_in_parts (shapes_of (map type_of cs)) j vs limit
+      from [] j is h = h
+      from (c ∷ cs) j is (inl h) =
+          let place : j + 0 ≡ j = omega arith in
+          inl (subst (λ l. exceeded_limits (type_of c) l limit) (is 0 (omega arith) ∙ ap (λ m. map (part_at m) vs) place) h)
+      from (c ∷ cs) j is (inr h) =
+          inr (from cs (j + 1) (λ k below. let place : j + suc k ≡ (j + 1) + k = omega arith in is (suc k) (omega (arith, below)) ∙ ap (λ m. map (part_at m) vs) place) h)
+
+-- The rows of a column at indices.
+abbrev pub taken_of : List Value → Column → List Value
+taken_of indices column = take_rows (rows column) indices
+
+-- A limit that one field exceeds.
+pub past_field : (cs : List Column) (indices : List Value) (i : ℕ) (c : Column) (limit : Limit) → i < length cs → c ≡ get_or cs i c →
+    exceeded_limits (type_of c) (take_rows (rows c) indices) limit → exceeded_in_taken cs indices limit
+past_field [] indices i c limit lt is h = absurd (omega (arith, lt))
+past_field (x ∷ cs) indices zero c limit lt is h = inl (subst (λ y. exceeded_limits (type_of y) (take_rows (rows y) indices) limit) is h)
+past_field (x ∷ cs) indices (suc i) c limit lt is h = inr (past_field cs indices i c limit (omega arith) is h)
+
+-- A taken field is a field.
+pub taken_is_field : (column part : Column) (indices : List Value) → rows part ≡ take_rows (rows column) indices → well_formed part ≡ true → IsField (length indices) part
+taken_is_field column part indices is formed = (sym (length-rows part) ∙ ap length is ∙ length-pick Null (rows column ∷ []) indices, formed)

@@ -1,0 +1,24 @@
+-- Termination: each recursive call is on a field or at a smaller measure.
+use Rattle.std.proofs.Common.{◌≡◌, ◌+◌, ◌*◌, All, length, map, take}
+use Rattle.sel_arrow.specs.Columns.{primitive_rows}
+use Rattle.sel_arrow.specs.Rows.{rows, type_of, IsField}
+use Rattle.sel_arrow.specs.Shape.{shapes_of}
+use Rattle.sel_runs.proofs.Depths.{size_of, sizes_of}
+use Rattle.polars_compute.proofs.TakenStructs.{taken_of}
+use Rattle.polars_compute.proofs.gather.+taking.Given as goal
+
+abbrev pub decreases-take_any : goal.decreases-take_any
+decreases-take_any l = 3 * size_of (type_of l.values.now) + 1
+
+abbrev pub decreases-take_struct : goal.decreases-take_struct
+decreases-take_struct l = 3 * sizes_of (shapes_of (map type_of l.fields.now.items)) + 3
+
+abbrev pub decreases-take_fields : goal.decreases-take_fields
+decreases-take_fields l = 3 * sizes_of (shapes_of (map type_of l.columns.now)) + 2
+
+abbrev pub invariant-take_fields-loop-column : goal.invariant-take_fields-loop-column
+invariant-take_fields-loop-column l = record {
+  rows : map rows l.taken.items ≡ map (taken_of (primitive_rows l.indices)) (take l.column-index l.columns);
+  dtypes : map type_of l.taken.items ≡ map type_of (take l.column-index l.columns);
+  fields : All (IsField (length (primitive_rows l.indices))) l.taken.items;
+}

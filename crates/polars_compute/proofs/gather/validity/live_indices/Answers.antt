@@ -1,0 +1,24 @@
+use Rattle.std.proofs.Common.{◌∙◌, ℕ, List, pos, length, ap, sym}
+use Rattle.sel_arrow.specs.Columns.{primitive_rows}
+use Rattle.sel_arrow.specs.Masked.{number_rows}
+use Rattle.sel_arrow.proofs.Rows.{length-number_rows}
+use Rattle.polars_compute.proofs.Takes.{covers_for}
+use Rattle.polars_compute.proofs.TakenStructs.{live_rows}
+use Rattle.polars_compute.proofs.gather.validity.live_indices.Goals as goal
+
+pub invariant_of-result : goal.invariant_of-result
+invariant_of-result c =
+    let indices = c.args.indices.now in
+    let items = c.in_ok-values.ensures.items in
+    record {
+      rows_fit = rw items indices.rows_fit;
+      validity_fits =
+          covers_for c.in_ok-validity.validity c.in_ok-values.values (primitive_rows indices) c.args.validity.now c.in_ok-validity.ensures.bits
+          (ap (λ (l : List ℕ). length l) items ∙ sym (length-number_rows pos indices.values indices.validity));
+    }
+
+pub returns-clause-rows : goal.returns-clause-rows
+returns-clause-rows c =
+    let indices = c.args.indices.now in
+    ap (λ (l : List ℕ). number_rows pos l c.in_ok-validity.validity) c.in_ok-values.ensures.items
+    ∙ live_rows c.args.validity.now indices.validity c.in_ok-validity.validity indices.values indices.validity_fits c.in_ok-validity.ensures.bits (length-number_rows pos indices.values indices.validity)
