@@ -1,7 +1,8 @@
 //! Binary columns built from a source of byte rows.
 
-ghost use Rattle.std.specs.Prelude.{◌≡◌, ◌≤◌, ◌<◌, ◌≤ℤ◌, ◌∷◌, List, pos, map, length, slice_index_or, IfOk, IfErr};
+ghost use Rattle.std.specs.Prelude.{◌≡◌, ℕ, ◌+◌, ◌≤◌, ◌<◌, ◌≤ℤ◌, ◌∷◌, List, pos, map, take, drop, length, slice_index_or, IfOk, IfErr};
 ghost use Rattle.std.specs.Option.{option_copied};
+ghost use Rattle.sel_bits.specs.Words.{word_of};
 ghost use Rattle.sel_arrow.specs.Columns.{binary_rows};
 ghost use Rattle.sel_arrow.specs.Masked.{bytes_value};
 ghost use Rattle.sel_arrow.specs.Value.{Value, Null, is_valid, validities};
@@ -14,7 +15,7 @@ use sel_bits::buffer::Buffer;
 use sel_bits::faults::{Limit, PolarsError, PolarsResult};
 use sel_bits::native::{NativeType, Offset};
 use sel_bits::offsets::OffsetsBuffer;
-use sel_bits::packer::BitPacker;
+use sel_bits::packer::{BitPacker, MOST_BITS};
 use std::alloc::Global;
 
 /// A source of byte rows with access by position.
@@ -64,6 +65,62 @@ pub fn collect_bytes<O: Offset, S: ByteRows>(
     alloc: Global,
     source: &S,
 ) -> PolarsResult<BinaryArray<O>>
+    ensures rows { IfOk result (λ column. binary_rows column ≡ S.rows source.now) }
+    ensures offsets { IfOk result (λ column. column.offsets ≡ 0 ∷
+        ends_from 0 (S.rows source.now)) }
+    ensures fits { IfOk result (λ _. pos
+        (bytes_needed (S.rows source.now)) ≤ℤ O.number O.GREATEST) }
+    ensures refusal { IfErr result (IsLimitOrMemory
+        (ExceedsBytes (O.number O.GREATEST) (S.rows source.now))) }
+{
+    let rows = read_rows(alloc, source)?;
+    let column = collect_listed(
+        alloc,
+        &ReadRows {
+            rows: rows.as_slice(),
+        },
+    )?;
+    Ok(column)
+}
+
+/// The bytes of binary rows, in a slice.
+#[derive(Drop)]
+struct ReadRows<'a> {
+    rows: &'a [Option<&'a [u8]>],
+    ghost few: { length rows.now ≤ 4294967295 },
+}
+
+impl ByteRows for ReadRows<'_> {
+    ghost rows = { λ s. map (λ row. bytes_value (option_copied row)) s.rows.now };
+
+    fn count(&self) -> usize {
+        self.rows.len()
+    }
+
+    fn row(&self, k: usize) -> Option<&[u8]> {
+        self.rows[k]
+    }
+}
+
+/// Returns references to the bytes of all rows, so that each row is found once.
+fn read_rows<'a, S: ByteRows>(alloc: Global, source: &'a S) -> PolarsResult<Vec<Option<&'a [u8]>>>
+    ensures rows { IfOk result (λ read.
+        map (λ row. bytes_value (option_copied row)) read.items ≡ S.rows source.now) }
+    ensures few { IfOk result (λ read. length read.items ≤ 4294967295) }
+    ensures refusal { IfErr result (λ fault. fault ≡ PolarsError.OutOfMemory) }
+{
+    let mut read = Vec::with_capacity(alloc, source.count())?;
+    for k in 0..source.count() {
+        read.push(source.row(k))?;
+    }
+    Ok(read)
+}
+
+/// Returns the binary column of all rows of a source, which finds them at no cost.
+///
+/// # Errors
+/// Those of `collect_bytes`.
+fn collect_listed<O: Offset, S: ByteRows>(alloc: Global, source: &S) -> PolarsResult<BinaryArray<O>>
     ensures rows { IfOk result (λ column. binary_rows column ≡ S.rows source.now) }
     ensures offsets { IfOk result (λ column. column.offsets ≡ 0 ∷
         ends_from 0 (S.rows source.now)) }
@@ -158,9 +215,31 @@ fn collect_validity<S: ByteRows>(alloc: Global, source: &S) -> PolarsResult<Bitm
     ensures few { IfOk result (λ _. length (S.rows source.now) ≤ 4294967295) }
     ensures refusal { IfErr result (λ fault. fault ≡ PolarsError.OutOfMemory) }
 {
-    let mut validity = BitPacker::with_capacity(alloc, source.count())?;
-    for k in 0..source.count() {
-        validity.push(source.is_valid_row(k))?;
+    let count = source.count();
+    let mut validity = BitPacker::with_capacity(alloc, count)?;
+    let mut at = 0;
+    while at < count {
+        let len = (count - at).min(MOST_BITS);
+        validity.append(word_of_valid_rows(source, at, len), len as u32)?;
+        at += len;
     }
-    validity.into_bitmap(source.count())
+    validity.into_bitmap(count)
+}
+
+/// Packs the validity of `len` rows from row `at` on into a word.
+#[inline]
+fn word_of_valid_rows<S: ByteRows>(source: &S, at: usize, len: usize) -> u64
+    requires few { len ≤ 64 }
+    requires within { at + len ≤ length (S.rows source.now) }
+    ensures word { result ≡ word_of (take len (drop at (validities (S.rows source.now)))) }
+    ensures bytes { (j : ℕ) → at ≤ j → j < at + len →
+        IsBytesRow (slice_index_or (S.rows source.now) j Null) }
+{
+    // The number of rows fits in `usize`.
+    let _whole = source.count();
+    let mut word = 0;
+    for k in 0..len {
+        word += u64::from(source.is_valid_row(at + k)) << k;
+    }
+    word
 }

@@ -5,7 +5,7 @@ use Rattle.sel_arrow.specs.Pieces.{rows_between, last_offset}
 use Rattle.polars_compute.specs.JoinedBytes.{ends_from, joined_bytes}
 use Rattle.sel_runs.proofs.JoinedRows.{offsets_of, rising-ends, ends_shown, built_rows, built_ends}
 use Rattle.polars_compute.proofs.Collects.{built_covers, rebuilt}
-use Rattle.polars_compute.proofs.gather.generic_binary.collect_bytes.Goals as goal
+use Rattle.polars_compute.proofs.gather.generic_binary.collect_listed.Goals as goal
 
 pub of_rising-requires : goal.of_rising-requires
 of_rising-requires g c =
