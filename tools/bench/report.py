@@ -13,11 +13,11 @@ import numpy
 
 # why a row is slower than a peer, by a prefix of its kernel's name; the first match counts
 CAUSES = (
-    ("filter, bits", "the library is built for any processor of x86-64-v2, the loops for this one; the library counts the set bits and trims the ends of the mask first"),
+    ("filter, bits", "the library is built for any processor of x86-64-v2, the loops for this one; the library counts the set bits of the mask first"),
     ("filter, lists", "the kept rows are listed as runs, from which one pass makes the offsets and the runs of child rows; a run of up to eight child rows is copied as eight, a longer one by a call"),
     ("filter, two fields", "the mask is read once for each field, as for a column of the field's type"),
-    ("filter, views", "the library trims the ends of the mask and counts its set bits first, and shares each data buffer by a reference count"),
-    ("filter", "the library is built for any processor of x86-64-v2, the loops and numpy use this one's instructions; the library trims the ends of the mask and counts its set bits first"),
+    ("filter, views", "the library counts the set bits of the mask first, and shares each data buffer by a reference count"),
+    ("filter", "the library is built for any processor of x86-64-v2, the loops and numpy use this one's instructions; the library counts the set bits of the mask first"),
     ("take, views", "each index is bounds-checked first, and each data buffer is shared by a reference count"),
     ("take, bits", "each index is bounds-checked first, and each read computes the byte and the bit in it"),
     ("take, lists", "the child rows of each index are listed as a run; a run of up to eight is copied as eight, a longer one by a call"),

@@ -1,5 +1,5 @@
 -- The values of a block that the bits of a word keep.
-use Rattle.std.proofs.Common.{◌≡◌, ℕ, zero, suc, ◌+◌, ◌-◌, ◌/◌, ◌%◌, ◌^◌, ◌<◌, ◌≤◌, ◌∙◌, sym, refl, ap, arith, List, [], ◌∷◌, ◌++◌, length, take, drop, get_or, set, Bool, true, false, cond, add-zero, zero-add, append-nil, ⊎_elim, append_assoc, subst}
+use Rattle.std.proofs.Common.{◌≡◌, ℕ, zero, suc, ◌+◌, ◌-◌, ◌*◌, ◌/◌, ◌%◌, ◌^◌, ◌<◌, ◌≤◌, ◌∙◌, sym, refl, ap, arith, List, [], ◌∷◌, ◌++◌, length, take, drop, get_or, set, Bool, true, false, cond, add-zero, zero-add, append-nil, ⊎_elim, append_assoc, subst}
 use Rattle.std.specs.Prelude.{bit_and, count_ones, ◌==◌}
 use Rattle.std.specs.Int.{bit_at, trailing_zeros, w64}
 use Rattle.std.specs.Int.Bits.{and_step, and_self}
@@ -10,10 +10,11 @@ use Rattle.std.proofs.lemmas.Nat.{pow_pos}
 use Rattle.std.proofs.Math.Seq.{take-add, take-append-add, take-append_seam}
 use Rattle.std.proofs.lemmas.Nat.Bits.{bit_at-lt, bit_at_lowest, shr_and_one}
 use Rattle.std.proofs.lemmas.List.{same_lists, length-take, length-drop, take-set, take_more, take_more_set, length-set, take-take, take-append-le, take_all, nil_from_length, get_or_default}
-use Rattle.sel_bits.specs.Bits.{Bits}
+use Rattle.sel_bits.specs.Bits.{Bits, bits_from}
 use Rattle.sel_bits.specs.Reading.{WordReading, reached, next_bits, next_count}
 use Rattle.sel_bits.specs.Words.{is_set, bits, word_of}
 use Rattle.sel_bits.proofs.Lists.{bits_suc, bits_zero}
+use Rattle.sel_bits.proofs.Loads.{block_word}
 use Rattle.sel_bits.proofs.Packs.{length_bits, get_bits, bits_split}
 use Rattle.sel_bits.proofs.Padded.{bit_at_word_of, word_of_lt}
 use Rattle.sel_bits.proofs.Shifts.{bit_at_shr}
@@ -175,6 +176,17 @@ module _ {A : Type 0} (xs : List A) (ms : List Bool) (at count word : ℕ) (same
 -- The word of a reader has the bits after those already returned.
 pub read_word : (mask : Bits) (r : WordReading) (at count word : ℕ) → r.source ≡ mask → at ≡ reached r → word ≡ word_of (next_bits r) → count ≡ next_count r → word ≡ word_of (take count (drop at mask.bits))
 read_word mask r at count word source place is_word is_count = is_word ∙ (λ i. word_of (take (sym is_count i) (drop (sym place i) (source i).bits)))
+
+-- The word of the values after the last whole block.
+pub last_word : (bytes : List ℕ) (s n word : ℕ) → word ≡ word_of (bits_from (drop (n / 64 * 8) bytes) s (n - n / 64 * 64)) → word ≡ word_of (take (n - n / 64 * 64) (drop (n / 64 * 64) (bits_from bytes s n)))
+last_word bytes s n word is =
+    let rest = n - n / 64 * 64 in
+    let from : n / 64 * 8 ≡ 8 * (n / 64) = omega arith in
+    let at : 64 * (n / 64) ≡ n / 64 * 64 = omega arith in
+    is
+    ∙ ap (λ k. word_of (bits_from (drop k bytes) s rest)) from
+    ∙ block_word bytes s n (n / 64) rest (omega arith)
+    ∙ ap (λ k. word_of (take rest (drop k (bits_from bytes s n)))) at
 
 pub ruleset kept_steps = (few_within, none_more, all_set)
 

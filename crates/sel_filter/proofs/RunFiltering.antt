@@ -30,6 +30,11 @@ begins_through xs more ys zs is begun =
     let le : length xs ≤ length ys = omega (arith, ap length is, length-append xs more) in
     sym (ap (take (length xs)) is ∙ take-append_seam xs more) ∙ ap (take (length xs)) begun ∙ take-take (length xs) (length ys) zs le
 
+-- The front of a prefix is a prefix.
+pub begins_front : {A : Type 0} (xs more ys zs : List A) (n : ℕ) → take n ys ≡ xs ++ more → IsBeginning ys zs → IsBeginning xs zs
+begins_front xs more ys zs n is begun =
+    begins_through xs (more ++ drop n ys) ys zs (sym (take-append-drop n ys) ∙ ap (λ l. l ++ drop n ys) is ∙ append_assoc xs more (drop n ys)) begun
+
 pub record IsRunFiltered {A : Type 0} (source before : List A) (ms : Bits) (start : ℕ) (values : Copying A) (mask : WordReading) : Type 0 where
   pub values_source : values.source ≡ source
   pub mask_source : mask.source ≡ ms

@@ -27,6 +27,7 @@ use sel_arrow::utf8view::Utf8ViewArray;
 use sel_bits::bitmap::Bitmap;
 use sel_bits::buffer::Buffer;
 use sel_bits::faults::{PolarsError, PolarsResult};
+use sel_bits::words::{first_word, whole_word};
 use sel_runs::single::collect_one;
 use std::alloc::Global;
 
@@ -57,8 +58,7 @@ pub fn filter(alloc: Global, array: &ArrayRef, mask: &BooleanArray) -> PolarsRes
 
 /// Returns the rows of `array` whose bit in `mask` is set, in order.
 ///
-/// The result has the type of `array`. Trims false bits at both ends; returns the remaining slice
-/// unchanged if all its bits are set.
+/// The result has the type of `array`. If the set bits are consecutive, it is a slice of `array`.
 ///
 /// # Requires
 /// `array` and `mask` have the same length.
@@ -72,9 +72,31 @@ pub fn filter_with_bitmap(alloc: Global, array: &ArrayRef, mask: &Bitmap) -> Pol
     ensures dtype { IfOk result (λ kept. type_of kept.column ≡ type_of array.now.column) }
     ensures refusal { IfErr result (λ fault. fault ≡ PolarsError.OutOfMemory) }
 {
+    if is_scattered(mask) {
+        return filter_column(alloc, array.as_column(), mask);
+    }
     let (leading, rest) = trimmed(mask)?;
     let array = array.sliced(alloc, leading, rest.len())?;
     filter_trimmed(alloc, array, &rest)
+}
+
+/// Returns whether there is a false bit between true bits; reads no more words than that needs.
+///
+/// Only speed depends on the result, and whether rows are shared or copied.
+fn is_scattered(mask: &Bitmap) -> bool {
+    let (bytes, shift, len) = mask.as_slice();
+    let mut runs: u32 = 0;
+    let mut before = 0;
+    for block in 0..len / 64 {
+        let word = whole_word(bytes, 8 * block, shift);
+        runs = runs.wrapping_add((word & !((word << 1) | before)).count_ones());
+        if runs > 1 {
+            return true;
+        }
+        before = word >> 63;
+    }
+    let word = first_word(&bytes[len / 64 * 8..], shift, len % 64);
+    runs.wrapping_add((word & !((word << 1) | before)).count_ones()) > 1
 }
 
 /// Returns the number of leading false bits and the mask without the false bits at both ends.
