@@ -3,6 +3,7 @@ pub mod BlockTakes
 pub mod BlockTests
 pub mod Collects
 pub mod Dictionaries
+pub mod FilteredBlocks
 pub mod IndexTests
 pub mod KeptRuns
 pub mod KeptTuples

@@ -2,6 +2,7 @@ pub mod BareBlocks
 pub mod Blocks
 pub mod Compress
 pub mod Dictionary
+pub mod FixedSizeLists
 pub mod JoinedBytes
 pub mod Laws
 pub mod Meaning

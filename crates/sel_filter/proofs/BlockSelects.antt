@@ -1,5 +1,5 @@
 -- The bits that a mask selects of blocks of 56 bits.
-use Rattle.std.proofs.Common.{◌≡◌, ℕ, zero, suc, ◌+◌, ◌-◌, ◌*◌, ◌^◌, ◌<◌, ◌≤◌, ◌∙◌, sym, refl, ap, subst, arith, List, [], ◌∷◌, ◌++◌, length, take, drop, replicate, Bool, true, false, append-nil}
+use Rattle.std.proofs.Common.{◌≡◌, ℕ, ◌+◌, ◌-◌, ◌*◌, ◌^◌, ◌<◌, ◌≤◌, ◌∙◌, sym, ap, arith, List, ◌++◌, length, take, drop, replicate, Bool, false}
 use Rattle.std.specs.Prelude.{count_ones}
 use Rattle.std.proofs.Math.Nat.{div-eq_of_lt}
 use Rattle.std.proofs.lemmas.List.{take_all, length-take, length-drop}
@@ -7,7 +7,6 @@ use Rattle.std.proofs.lemmas.List.Sums.{count_by-le-length}
 use Rattle.std.proofs.Math.Seq.{take-add}
 use lib.Pow.{pow_mono}
 use Rattle.sel_bits.specs.Words.{bits, word_of}
-use Rattle.sel_filter.specs.Compress.{compress}
 use Rattle.sel_filter.specs.Select.{select}
 use Rattle.sel_bits.specs.Bits.{Bits, count_true}
 use Rattle.sel_bits.specs.Reading.{BlockReading, after_block, block_bits}
@@ -15,7 +14,7 @@ use Rattle.sel_bits.proofs.Padded.{word_of_lt}
 use Rattle.sel_bits.proofs.Packs.{length_bits, bits_split}
 use Rattle.sel_filter.proofs.WordLists.{bits_of_zero, bits_word_of, ones_is}
 use Rattle.sel_filter.proofs.WordSelects.{select_padded}
-use Rattle.sel_filter.proofs.Selects.{select-append, select_none, length-select, count_true-append, count_true_none}
+use Rattle.sel_filter.proofs.Selects.{select-append, length-select, count_true-append, count_true_none}
 
 wide : (v : ℕ) → v < 2 ^ 56 → bits 64 v ≡ bits 56 v ++ replicate 8 false
 wide v fits = bits_split 56 8 v ∙ ap (λ x. bits 56 v ++ bits 8 x) (div-eq_of_lt fits) ∙ ap (λ l. bits 56 v ++ l) (bits_of_zero 8)

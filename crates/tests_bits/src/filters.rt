@@ -7,6 +7,7 @@ use crate::fixtures::begins_with;
 use sel_bits::bitmap::Bitmap;
 use sel_bits::block_copy::BlockCopy;
 use sel_bits::faults::PolarsResult;
+use sel_filter::arrays::filter_arrays;
 use sel_filter::boolean::{filter_boolean_kernel, pext64_polyfill};
 use sel_filter::primitive::filter_values;
 use sel_filter::scalar::{scalar_filter, scalar_filter_offset};
@@ -233,6 +234,18 @@ fn filter_few_values(rt: HostRuntime) -> Result<(), Fail> {
     }
     let kept = filter_values(rt.alloc(), &values, &mask)?;
     assert!(rt; kept.as_slice() == [0, 2, 5, 64].as_slice());
+    Ok(())
+}
+
+#[test]
+fn filter_arrays_keeps_whole_arrays(rt: HostRuntime) -> Result<(), Fail> {
+    let arrays = [[1u8, 2, 3], [4, 5, 6], [7, 8, 9]];
+    let mask = Bitmap::from_bools(rt.alloc(), &[true, false, true])?;
+    if arrays.len() != mask.len() {
+        return Err(Fail::from("lengths do not match"));
+    }
+    let kept = filter_arrays(rt.alloc(), &arrays, &mask)?;
+    assert!(rt; kept.as_slice() == [1u8, 2, 3, 7, 8, 9].as_slice());
     Ok(())
 }
 

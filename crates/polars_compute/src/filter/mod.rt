@@ -5,16 +5,19 @@ ghost use Rattle.sel_bits.specs.Bits.{count_true};
 ghost use Rattle.sel_arrow.specs.Columns.{null_rows, boolean_rows, primitive_rows, binview_rows, utf8view_rows};
 ghost use Rattle.sel_arrow.specs.Rows.{rows, type_of, IsField, IsWellFormed};
 ghost use Rattle.sel_arrow.specs.declared.column.Column.{Struct};
+ghost use Rattle.polars_compute.specs.FixedSizeLists.{IsFixedSizeList};
 ghost use Rattle.polars_compute.specs.Select.{select, effective_mask};
 ghost use Rattle.polars_compute.specs.Trim.{KeepsAll};
 
 pub mod boolean;
+mod fixed_size_list;
 pub mod primitive;
 pub mod scalar;
 
 use crate::runs::runs_of_mask;
 pub use boolean::filter_boolean_kernel;
 use boolean::{filter_bitmap_and_validity, filter_validity};
+use fixed_size_list::filter_child;
 use primitive::filter_values_and_validity;
 use sel_arrow::array::Array;
 use sel_arrow::array_ref::ArrayRef;
@@ -130,7 +133,8 @@ fn filter_trimmed(alloc: Global, array: ArrayRef, mask: &Bitmap) -> PolarsResult
 /// Returns the rows of a column whose bit is set.
 ///
 /// Primitive, boolean and view columns are filtered by words of the mask, struct columns field by
-/// field, and binary and list columns by runs of set bits.
+/// field, fixed-size lists of primitive values list by list, and binary and other list columns by
+/// runs of set bits.
 #[cycle(filtering)]
 fn filter_column(alloc: Global, column: &Column, mask: &Bitmap) -> PolarsResult<ArrayRef>
     requires formed { IsWellFormed column.now }
@@ -160,7 +164,13 @@ fn filter_column(alloc: Global, column: &Column, mask: &Bitmap) -> PolarsResult<
             fields,
             validity,
         } => filter_struct(alloc, *len, fields, validity, mask),
-        Column::LargeBinary(_) | Column::LargeList { .. } | Column::FixedSizeList { .. } => {
+        Column::FixedSizeList {
+            size,
+            values,
+            validity,
+            ..
+        } => filter_lists(alloc, column, *size, values, validity, mask),
+        Column::LargeBinary(_) | Column::LargeList { .. } => {
             Ok(filter_runs(alloc, column, mask)?)
         }
     }
@@ -225,6 +235,41 @@ fn filter_numbers<T: ArrowPrimitive>(
     ensures refusal { IfErr result (λ fault. fault ≡ PolarsError.OutOfMemory) }
 {
     Ok(filter_primitive(alloc, column, mask)?.into_ref())
+}
+
+/// Returns the fixed-size lists whose bit is set; `column` has these parts.
+fn filter_lists(
+    alloc: Global,
+    column: &Column,
+    size: usize,
+    values: &Column,
+    validity: &Option<Bitmap>,
+    mask: &Bitmap,
+) -> PolarsResult<ArrayRef>
+    requires formed { IsWellFormed column.now }
+    requires parts { IsFixedSizeList column.now size values.now validity.now }
+    requires long { length (rows column.now) ≡ length mask.now.bits }
+    ensures rows { IfOk result (λ kept. rows kept.column ≡ select (rows column.now)
+        mask.now.bits) }
+    ensures dtype { IfOk result (λ kept. type_of kept.column ≡ type_of column.now) }
+    ensures refusal { IfErr result (λ fault. fault ≡ PolarsError.OutOfMemory) }
+{
+    let Some(child) = filter_child(alloc, values, size, mask)? else {
+        return filter_runs(alloc, column, mask);
+    };
+    let Ok(validity) = filter_validity(alloc, validity.as_ref(), mask) else {
+        drop(child);
+        return Err(PolarsError::OutOfMemory);
+    };
+    let values = Box::new(alloc, child)?;
+    let len = mask.set_bits();
+    let column = Column::FixedSizeList {
+        size,
+        len,
+        values,
+        validity,
+    };
+    Ok(ArrayRef { column })
 }
 
 /// Returns the rows of a column whose bit is set, copied by runs.

@@ -9,7 +9,8 @@ ghost use Rattle.polars_compute.specs.BareBlocks.{holds_bare, is_bare, exceeded_
 ghost use Rattle.polars_compute.specs.Need.{ExceedsRows, IsLimitOrMemory, exceeded_limits};
 ghost use Rattle.polars_compute.specs.Pick.{all_within, take_rows};
 
-use crate::gather::validity::take_bits;
+use crate::gather::blocks::take_block_values;
+use crate::gather::validity::take_validity;
 use sel_arrow::array::Array;
 use sel_arrow::array_ref::ArrayRef;
 use sel_arrow::column::Column;
@@ -160,7 +161,7 @@ pub(crate) fn take_unchecked(
         return Ok(ArrayRef { column });
     }
     let count = rows_below(indices.len(), *size)?;
-    let validity = take_bits(alloc, validity, indices)?;
+    let validity = take_validity(alloc, validity, indices)?;
     let below = take_level(alloc, child, *size, count, indices)?;
     let values = Box::new(alloc, below)?;
     Ok(ArrayRef {
@@ -168,7 +169,7 @@ pub(crate) fn take_unchecked(
             size: *size,
             len: indices.len(),
             values,
-            validity: Some(validity),
+            validity,
         },
     })
 }
@@ -268,8 +269,7 @@ fn take_leaf<T: ArrowPrimitive>(
     ensures refusal { IfErr result (λ fault. fault ≡ PolarsError.OutOfMemory) }
 {
     let zero = T::from_usize(0).unwrap_or(T::LEAST);
-    let mut out = BlockCopy::new(alloc, numbers.values.as_slice());
-    take_blocks(&mut out, size, indices, zero)?;
-    let values = Buffer::from_vec(out.into_vec())?;
+    let values = take_block_values(alloc, numbers.values.as_slice(), size, indices, zero)?;
+    let values = Buffer::from_vec(values)?;
     Ok(T::into_column(values, None))
 }

@@ -14,6 +14,7 @@ ghost use Rattle.polars_compute.specs.TakenFields.{exceeded_in_taken};
 pub mod binary;
 mod binview;
 pub mod bitmap;
+mod blocks;
 pub mod boolean;
 pub mod fixed_size_list;
 pub(crate) mod generic_binary;

@@ -1,10 +1,15 @@
-use Rattle.std.proofs.Common.{◌≡◌, ◌*◌, ◌∙◌, inl, inr, sym, ap, subst, length, map, true}
+use Rattle.std.proofs.Common.{◌≡◌, ◌*◌, ◌∙◌, inl, inr, refl, sym, ap, subst, length, map, true}
 use Rattle.std.proofs.lemmas.Result.{err_from_is_err_and}
 use Rattle.sel_arrow.specs.Columns.{primitive_rows}
-use Rattle.sel_arrow.specs.Masked.{hidden}
+use Rattle.sel_bits.specs.Bits.{Bits}
+use Rattle.sel_arrow.specs.Masked.{masked}
 use Rattle.sel_arrow.specs.Nested.{blocks, list_of}
 use Rattle.sel_arrow.specs.Rows.{rows, row_count, type_of, well_formed}
+use Rattle.sel_arrow.proofs.NestedRows.{length-blocks}
 use Rattle.sel_runs.proofs.Below.{refused_more}
+use Rattle.sel_runs.proofs.Grown.{finished}
+use Rattle.polars_compute.specs.Pick.{pick_of}
+use Rattle.polars_compute.specs.ValidPicks.{valid_pick}
 use Rattle.polars_compute.specs.Blocks.{blocks_within}
 use Rattle.polars_compute.specs.BareBlocks.{exceeded_blocks, HoldsBlocks}
 use Rattle.polars_compute.specs.Need.{ExceedsRows}
@@ -25,8 +30,8 @@ take_level-requires-clause-inside c =
     subst (λ (d : _). blocks_within list.size (row_count d) indices ≡ true) (sym c.deref.ensures)
     (whole_within c.args.values.now list.size list.len list.child list.validity indices list.is c.requires.formed c.requires.inside)
 
-pub take_bits-requires : goal.take_bits-requires
-take_bits-requires c =
+pub take_validity-requires : goal.take_validity-requires
+take_validity-requires c =
     let list = c.in-FixedSizeList in
     whole_validity c.args.values.now list.size list.len list.child list.validity (primitive_rows c.args.indices.now) list.is c.requires.formed c.requires.inside
 
@@ -61,9 +66,12 @@ pub returns-clause-rows : goal.returns-clause-rows
 returns-clause-rows c =
     let list = c.in-FixedSizeList in
     let indices = primitive_rows c.args.indices.now in
-    let bits = c.in_ok-validity.validity in
+    let seen = c.in_ok-validity.validity in
     let taken = rows c.in_ok-values.values.value in
     let boxed = subst (λ (v : _). HoldsBlocks list.size (rows c.deref.result.now) indices (rows v)) (sym c.in_ok-values.ensures.ok) c.in_ok-below.ensures.blocks in
     let holds = subst (λ (v : _). HoldsBlocks list.size (rows v) indices taken) c.deref.ensures boxed in
-    ap (λ n. hidden bits.bits (map list_of (blocks list.size n taken))) c.len-2.ensures.len
-    ∙ blocks_taken c.args.values.now list.size list.len list.child list.validity list.is c.requires.formed indices c.requires.inside bits c.in_ok-validity.ensures.bits taken holds
+    let valid = map (valid_pick list.validity) (map pick_of indices) in
+    let bits : Bits = record { bits = valid; offset = 0 } in
+    ap (λ n. masked seen (map list_of (blocks list.size n taken))) c.len-2.ensures.len
+    ∙ finished list_of (blocks list.size (length indices) taken) seen valid (length indices) c.in_ok-validity.ensures.bits (length-blocks list.size (length indices) taken)
+    ∙ blocks_taken c.args.values.now list.size list.len list.child list.validity list.is c.requires.formed indices c.requires.inside bits refl taken holds

@@ -1,0 +1,173 @@
+-- The blocks that a mask selects, and the values in them.
+use Rattle.std.proofs.Common.{◌≡◌, ℕ, zero, suc, ◌+◌, ◌-◌, ◌*◌, ◌≤◌, ◌<◌, Bool, true, false, List, [], ◌∷◌, ◌++◌, length, take, drop, map, get_or, Option, Box, Global, refl, ap, sym, ◌∙◌, subst, arith, length-append}
+use Rattle.std.specs.List.{flat_map, slice_range}
+use Rattle.std.specs.Simd.{first_chunks}
+use Rattle.std.specs.Option.{option_map}
+use Rattle.std.proofs.Math.Nat.{suc-mul}
+use Rattle.std.proofs.Math.Seq.{take-append_seam, drop-append-add}
+use Rattle.std.proofs.lemmas.List.{drop-drop, drop-map, ext_get_or, length-drop, length-map, length-take, map-append, take-map}
+use Rattle.std.proofs.lemmas.List.FromFn.{get_or-map-range_with_len}
+use Rattle.std.proofs.lemmas.Nat.{mul-le}
+use Rattle.sel_bits.specs.Bits.{Bits, count_true}
+use Rattle.sel_arrow.specs.Masked.{Covers}
+use Rattle.sel_arrow.specs.Nested.{blocks, block_rows, list_of}
+use Rattle.sel_arrow.specs.Rows.{rows, row_count, type_of, well_formed}
+use Rattle.sel_arrow.specs.Shape.{of_fixed_size_list}
+use Rattle.sel_arrow.specs.Value.{Value}
+use Rattle.sel_arrow.specs.declared.column.Column.{Column, FixedSizeList}
+use Rattle.sel_arrow.specs.declared.column.Column.TheVariants.{FixedSizeList'}
+use Rattle.sel_arrow.proofs.NestedRows.{HasBlocks, has_blocks, blocks_formed, length-blocks, length-rows}
+use Rattle.sel_filter.proofs.Selects.{few_kept, length-select}
+use Rattle.polars_compute.specs.FixedSizeLists.{IsFixedSizeList}
+use Rattle.polars_compute.specs.Select.{select}
+use Rattle.polars_compute.proofs.Selects.{kept_covers, kept_rows, select-map}
+
+-- ---- blocks as consecutive chunks
+
+abbrev pub joined : {A : Type 0} → List (List A) → List A
+joined xss = flat_map (λ array. array) xss
+
+length-chunks : {A : Type 0} (w n : ℕ) (xs : List A) → length (first_chunks w n xs) ≡ n
+length-chunks w zero xs = refl
+length-chunks w (suc n) xs = ap suc (length-chunks w n (drop w xs))
+
+get_chunk : {A : Type 0} (w n : ℕ) (xs : List A) (k : ℕ) → k < n → get_or (first_chunks w n xs) k [] ≡ take w (drop (k * w) xs)
+get_chunk w zero xs k h = absurd (omega (arith, h))
+get_chunk w (suc n) xs zero h =
+    let none : zero * w ≡ 0 = omega arith in
+    ap (λ p. take w (drop p xs)) (sym none)
+get_chunk w (suc n) xs (suc k) h =
+    let place : w + k * w ≡ suc k * w = omega (arith, suc-mul k w) in
+    get_chunk w n (drop w xs) k (omega (arith, h)) ∙ ap (take w) (drop-drop (k * w) w xs ∙ ap (λ p. drop p xs) place)
+
+pub chunks_are : {A : Type 0} (w n : ℕ) (xs : List A) → first_chunks w n xs ≡ blocks w n xs
+chunks_are w n xs =
+    ext_get_or [] (first_chunks w n xs) (blocks w n xs) (length-chunks w n xs ∙ sym (length-blocks w n xs))
+    (λ k h.
+    let below : k < n = omega (arith, h, length-chunks w n xs) in
+    let width : (k * w + w) - k * w ≡ w = omega arith in
+    get_chunk w n xs k below
+    ∙ sym (get_or-map-range_with_len (λ i. slice_range xs (i * w) (i * w + w)) 0 n k k [] below (omega arith) ∙ ap (λ m. take m (drop (k * w) xs)) width))
+
+mapped_chunks : {A B : Type 0} (f : A → B) (w n : ℕ) (xs : List A) → first_chunks w n (map f xs) ≡ map (map f) (first_chunks w n xs)
+mapped_chunks f w zero xs = refl
+mapped_chunks f w (suc n) xs =
+    ap (λ l. l ∷ first_chunks w n (drop w (map f xs))) (take-map f w xs)
+    ∙ ap (λ l. map f (take w xs) ∷ l) (ap (first_chunks w n) (drop-map f w xs) ∙ mapped_chunks f w n (drop w xs))
+
+mapped_joined : {A B : Type 0} (f : A → B) (xss : List (List A)) → map f (joined xss) ≡ joined (map (map f) xss)
+mapped_joined f [] = refl
+mapped_joined f (xs ∷ xss) = map-append f xs (joined xss) ∙ ap (λ l. map f xs ++ l) (mapped_joined f xss)
+
+-- Each chunk has the width.
+abbrev AllWide : {A : Type 0} → ℕ → List (List A) → Type 0
+AllWide w [] = Unit {0}
+AllWide w (xs ∷ xss) = (length xs ≡ w) × AllWide w xss
+
+chunks_wide : {A : Type 0} (w n : ℕ) (xs : List A) → length xs ≡ n * w → AllWide w (first_chunks w n xs)
+chunks_wide w zero xs long = tt
+chunks_wide w (suc n) xs long =
+    (omega (arith, length-take w xs, long, suc-mul n w), chunks_wide w n (drop w xs) (omega (arith, length-drop w xs, long, suc-mul n w)))
+
+select_wide : {A : Type 0} (w : ℕ) (xss : List (List A)) (ms : List Bool) → AllWide w xss → AllWide w (select xss ms)
+select_wide w [] ms wide = tt
+select_wide w (xs ∷ xss) [] wide = tt
+select_wide w (xs ∷ xss) (true ∷ ms) wide = (wide.0, select_wide w xss ms wide.1)
+select_wide w (xs ∷ xss) (false ∷ ms) wide = select_wide w xss ms wide.1
+
+mapped_wide : {A B : Type 0} (f : A → B) (w : ℕ) (xss : List (List A)) → AllWide w xss → AllWide w (map (map f) xss)
+mapped_wide f w [] wide = tt
+mapped_wide f w (xs ∷ xss) wide = (length-map xs f ∙ wide.0, mapped_wide f w xss wide.1)
+
+length-joined : {A : Type 0} (w : ℕ) (xss : List (List A)) → AllWide w xss → length (joined xss) ≡ length xss * w
+length-joined w [] wide = omega arith
+length-joined w (xs ∷ xss) wide = omega (arith, length-append xs (joined xss), wide.0, length-joined w xss wide.1, suc-mul (length xss) w)
+
+chunks_joined : {A : Type 0} (w : ℕ) (xss : List (List A)) → AllWide w xss → first_chunks w (length xss) (joined xss) ≡ xss
+chunks_joined w [] wide = refl
+chunks_joined w (xs ∷ xss) wide =
+    let rest = joined xss in
+    let front : take w (xs ++ rest) ≡ xs = ap (λ n. take n (xs ++ rest)) (sym wide.0) ∙ take-append_seam xs rest in
+    let plus : w ≡ length xs + 0 = omega (arith, wide.0) in
+    let back : drop w (xs ++ rest) ≡ rest = ap (λ n. drop n (xs ++ rest)) plus ∙ drop-append-add xs rest 0 in
+    ap (λ l. l ∷ first_chunks w (length xss) (drop w (xs ++ rest))) front
+    ∙ ap (λ l. xs ∷ l) (ap (first_chunks w (length xss)) back ∙ chunks_joined w xss wide.1)
+
+-- ---- the values of selected blocks
+
+module _ {A : Type 0} (f : A → Value) (w n : ℕ) (xs ys : List A) (ms : List Bool) (long : length xs ≡ n * w) (count : n ≡ length ms) (is : ys ≡ joined (select (first_chunks w n xs) ms)) where
+  abbrev chosen : List (List A)
+  chosen = select (first_chunks w n xs) ms
+
+  wide : AllWide w chosen
+  wide = select_wide w (first_chunks w n xs) ms (chunks_wide w n xs long)
+
+  as_many : length chosen ≡ count_true ms
+  as_many = length-select (first_chunks w n xs) ms (length-chunks w n xs ∙ count)
+
+  pub length-kept : length ys ≡ count_true ms * w
+  length-kept = ap length is ∙ length-joined w chosen wide ∙ ap (λ m. m * w) as_many
+
+  pub few_kept_values : length ys ≤ length xs
+  few_kept_values =
+      omega (arith, length-kept, long, mul-le (count_true ms) w n w (omega (arith, sym as_many, few_kept (first_chunks w n xs) ms, length-chunks w n xs)) (omega arith))
+
+  pub kept_blocks : blocks w (count_true ms) (map f ys) ≡ select (blocks w n (map f xs)) ms
+  kept_blocks =
+      sym (chunks_are w (count_true ms) (map f ys))
+      ∙ ap (λ l. first_chunks w (count_true ms) l) (ap (map f) is ∙ mapped_joined f chosen)
+      ∙ ap (λ m. first_chunks w m (joined (map (map f) chosen))) (sym as_many ∙ sym (length-map chosen (map f)))
+      ∙ chunks_joined w (map (map f) chosen) (mapped_wide f w chosen wide)
+      ∙ sym (select-map (map f) (first_chunks w n xs) ms)
+      ∙ ap (λ l. select l ms) (sym (mapped_chunks f w n xs) ∙ chunks_are w n (map f xs))
+
+-- ---- columns
+
+-- The parts of a well-formed column of fixed-size lists.
+pub list_facts : (c : Column) (size : ℕ) (child : Column) (validity : Option Bits) → IsFixedSizeList c size child validity → well_formed c ≡ true → HasBlocks size (row_count c) child validity
+list_facts (FixedSizeList' width len p values valid) size child validity is formed =
+    let has = has_blocks width len values valid formed in
+    subst (λ n. HasBlocks n len child validity) is.0 (subst (λ v. HasBlocks width len v validity) is.1 (subst (HasBlocks width len values) is.2 has))
+list_facts c size child validity is formed = absurd is
+
+list_rows_are : (c : Column) (size : ℕ) (child : Column) (validity : Option Bits) → IsFixedSizeList c size child validity → rows c ≡ block_rows size (row_count c) (rows child) validity
+list_rows_are (FixedSizeList' width len p values valid) size child validity is =
+    (λ i. block_rows (is.0 i) len (rows (is.1 i)) (is.2 i))
+list_rows_are c size child validity is = absurd is
+
+pub list_type : (c : Column) (size count : ℕ) (child : Column) (validity seen : Option Bits) (kept : Box Column Global) → IsFixedSizeList c size child validity → type_of kept.value ≡ type_of child →
+    type_of (FixedSizeList size count kept seen) ≡ type_of c
+list_type (FixedSizeList' width len p values valid) size count child validity seen kept is same =
+    (λ i. of_fixed_size_list (same i) size) ∙ (λ i. of_fixed_size_list (type_of (sym is.1 i)) (sym is.0 i))
+list_type c size count child validity seen kept is same = absurd is
+
+module _ (c : Column) (size count : ℕ) (child : Column) (validity seen : Option Bits) (kept : Box Column Global) (ms : List Bool) (is : IsFixedSizeList c size child validity) (formed : well_formed c ≡ true)
+    (long : length (rows c) ≡ length ms) (counts : count ≡ count_true ms) (valid : option_map (λ v. v.bits) seen ≡ option_map (λ v. select v.bits ms) validity) where
+  has : HasBlocks size (row_count c) child validity
+  has = list_facts c size child validity is formed
+
+  same_count : row_count c ≡ length ms
+  same_count = sym (length-rows c) ∙ long
+
+  abbrev pub source : List (List Value)
+  source = blocks size (length ms) (rows child)
+
+  covers_source : Covers validity (length source)
+  covers_source = λ v there. has.covered v there ∙ same_count ∙ sym (length-blocks size (length ms) (rows child))
+
+  pub list_rows_kept : blocks size (count_true ms) (rows kept.value) ≡ select source ms → rows (FixedSizeList size count kept seen) ≡ select (rows c) ms
+  list_rows_kept made =
+      kept_rows list_of validity seen source (blocks size count (rows kept.value)) ms covers_source valid (ap (λ n. blocks size n (rows kept.value)) counts ∙ made)
+      ∙ ap (λ l. select l ms) (sym (list_rows_are c size child validity is ∙ ap (λ n. block_rows size n (rows child) validity) same_count))
+
+  pub list_formed_kept : row_count kept.value ≡ count_true ms * size → well_formed kept.value ≡ true → well_formed (FixedSizeList size count kept seen) ≡ true
+  list_formed_kept fills child_formed =
+      let counted : count ≡ length (select ms ms) = counts ∙ sym (length-select ms ms refl) in
+      blocks_formed size count kept.value seen
+      (record {
+        few = omega (arith, counted, few_kept ms ms, sym same_count, has.few);
+        narrow = has.narrow;
+        fills = fills ∙ ap (λ n. n * size) (sym counts);
+        covered = kept_covers validity seen ms ms count (λ v there. has.covered v there ∙ same_count) valid counted;
+        child = child_formed;
+      })

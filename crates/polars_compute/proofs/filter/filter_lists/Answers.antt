@@ -1,0 +1,52 @@
+use Rattle.std.proofs.Common.{◌∙◌, ◌*◌, ap, sym, arith}
+use Rattle.sel_bits.specs.Bits.{count_true}
+use Rattle.sel_arrow.specs.Nested.{blocks}
+use Rattle.sel_arrow.specs.Rows.{rows, row_count, type_of, well_formed}
+use Rattle.sel_arrow.proofs.NestedRows.{length-rows}
+use Rattle.sel_runs.proofs.ListParts.{few_rows}
+use Rattle.polars_compute.proofs.FilteredBlocks.{list_facts, list_formed_kept, list_rows_kept, list_type}
+use Rattle.polars_compute.proofs.filter.filter_lists.Goals as goal
+
+pub filter_child-requires-clause-fills : goal.filter_child-requires-clause-fills
+filter_child-requires-clause-fills c =
+    let has = list_facts c.args.column.now c.args.size c.args.values.now c.args.validity.now c.requires.parts c.requires.formed in
+    length-rows c.args.values.now ∙ has.fills ∙ ap (λ n. n * c.args.size) (sym (length-rows c.args.column.now) ∙ c.requires.long)
+
+pub filter_child-requires-clause-few : goal.filter_child-requires-clause-few
+filter_child-requires-clause-few c =
+    let has = list_facts c.args.column.now c.args.size c.args.values.now c.args.validity.now c.requires.parts c.requires.formed in
+    omega (arith, length-rows c.args.values.now, few_rows c.args.values.now has.child)
+
+pub filter_runs-requires-clause-few : goal.filter_runs-requires-clause-few
+filter_runs-requires-clause-few c = omega (arith, few_rows c.args.column.now c.requires.formed, length-rows c.args.column.now, c.requires.long)
+
+pub filter_validity-requires : goal.filter_validity-requires
+filter_validity-requires c =
+    let has = list_facts c.args.column.now c.args.size c.args.values.now c.args.validity.now c.requires.parts c.requires.formed in
+    rw c.as_ref.ensures.value (λ v there. has.covered v there ∙ sym (length-rows c.args.column.now) ∙ c.requires.long)
+
+pub invariant_of-result : goal.invariant_of-result
+invariant_of-result c =
+    let valid = rw c.as_ref.ensures.value at c.in-Ok.ensures.validity in
+    let child = c.in-Some.child in
+    let made = c.in_ok-child.ensures in
+    let boxed = c.in_ok-values.ensures.ok in
+    record {
+      formed = list_formed_kept c.args.column.now c.args.size c.set_bits-len.result c.args.values.now c.args.validity.now c.in-Ok.validity c.in_ok-values.values c.args.mask.now.bits c.requires.parts c.requires.formed c.requires.long c.set_bits-len.ensures valid
+          (ap row_count boxed ∙ made.count child c.in-Some.is) (ap well_formed boxed ∙ made.formed child c.in-Some.is);
+    }
+
+pub returns-clause-rows : goal.returns-clause-rows
+returns-clause-rows c =
+    let valid = rw c.as_ref.ensures.value at c.in-Ok.ensures.validity in
+    let child = c.in-Some.child in
+    let made = c.in_ok-child.ensures in
+    let boxed = c.in_ok-values.ensures.ok in
+    list_rows_kept c.args.column.now c.args.size c.set_bits-len.result c.args.values.now c.args.validity.now c.in-Ok.validity c.in_ok-values.values c.args.mask.now.bits c.requires.parts c.requires.formed c.requires.long c.set_bits-len.ensures valid
+    (ap (λ x. blocks c.args.size (count_true c.args.mask.now.bits) (rows x)) boxed ∙ made.blocks child c.in-Some.is)
+
+pub returns-clause-dtype : goal.returns-clause-dtype
+returns-clause-dtype c =
+    let child = c.in-Some.child in
+    let made = c.in_ok-child.ensures in
+    list_type c.args.column.now c.args.size c.set_bits-len.result c.args.values.now c.args.validity.now c.in-Ok.validity c.in_ok-values.values c.requires.parts (ap type_of c.in_ok-values.ensures.ok ∙ made.dtype child c.in-Some.is)

@@ -1,0 +1,51 @@
+use Rattle.std.proofs.Common.{◌≡◌, ℕ, List, Bool, ◌∙◌, ◌*◌, ◌/◌, ◌<◌, length, refl, ap, sym, arith}
+use Rattle.std.specs.Mem.{type_size}
+use Rattle.std.proofs.Math.Nat.{mul-div_cancel}
+use Rattle.std.proofs.lemmas.List.{length-map}
+use Rattle.std.proofs.lemmas.Nat.{mul-le}
+use Rattle.std.specs.Simd.{first_chunks}
+use Rattle.sel_bits.specs.Bits.{count_true}
+use Rattle.sel_arrow.specs.Nested.{blocks}
+use Rattle.sel_arrow.specs.Rows.{rows, row_count}
+use Rattle.sel_arrow.specs.Value.{Value, Number}
+use Rattle.sel_arrow.proofs.NestedRows.{length-rows}
+use Rattle.polars_compute.specs.Select.{select}
+use Rattle.polars_compute.proofs.FilteredBlocks.{joined, few_kept_values, kept_blocks, length-kept}
+use Rattle.polars_compute.proofs.filter.fixed_size_list.filter_sized.Goals as goal
+
+pub as_chunks-requires : goal.as_chunks-requires
+as_chunks-requires g c =
+    let small = mul-le g.row.N (type_size g.row.T) 64 16 c.requires.small c.requires.sized in
+    (omega (arith, small), c.requires.some)
+
+pub filter_arrays-requires : goal.filter_arrays-requires
+filter_arrays-requires g c =
+    let small = mul-le g.row.N (type_size g.row.T) 64 16 c.requires.small c.requires.sized in
+    (omega (arith, small), (c.as_chunks.ensures.front_len ∙ ap (λ n. n / g.row.N) c.requires.fills ∙ mul-div_cancel (length c.args.mask.now.bits) c.requires.some, c.requires.small))
+
+kept_is : {A : Type 0} (w : ℕ) (xs kept values : List A) (chunks : List (List A)) (ms : List Bool) → 0 < w → length xs ≡ length ms * w → chunks ≡ first_chunks w (length xs / w) xs →
+    kept ≡ joined (select chunks ms) → values ≡ kept → values ≡ joined (select (first_chunks w (length ms) xs) ms)
+kept_is w xs kept values chunks ms some fills front is same =
+    let count = ap (λ n. n / w) fills ∙ mul-div_cancel (length ms) some in
+    same ∙ is ∙ ap (λ l. joined (select l ms)) (front ∙ ap (λ n. first_chunks w n xs) count)
+
+pub into_column-requires-clause-few : goal.into_column-requires-clause-few
+into_column-requires-clause-few g c =
+    omega (arith, few_kept_values (λ x. Number (g.T.NativeType.number x)) g.row.N (length c.args.mask.now.bits) c.args.values.now c.in_ok-values.values c.args.mask.now.bits c.requires.fills refl (kept_is g.row.N c.args.values.now c.in_ok-kept.kept.items c.in_ok-values.values c.as_chunks.result.0.now c.args.mask.now.bits c.requires.some c.requires.fills c.as_chunks.ensures.front c.in_ok-kept.ensures.items c.in_ok-values.ensures.items), c.requires.few)
+
+pub returns-clause-blocks : goal.returns-clause-blocks
+returns-clause-blocks g c x there =
+    let f : g.row.T.Denot → Value = λ x. Number (g.T.NativeType.number x) in
+    let ms = c.args.mask.now.bits in
+    let same : c.into_column.result ≡ x = cc there in
+    ap (λ column. blocks g.row.N (count_true ms) (rows column)) (sym same)
+    ∙ ap (blocks g.row.N (count_true ms)) c.into_column.ensures.rows
+    ∙ kept_blocks f g.row.N (length ms) c.args.values.now c.in_ok-values.values ms c.requires.fills refl (kept_is g.row.N c.args.values.now c.in_ok-kept.kept.items c.in_ok-values.values c.as_chunks.result.0.now c.args.mask.now.bits c.requires.some c.requires.fills c.as_chunks.ensures.front c.in_ok-kept.ensures.items c.in_ok-values.ensures.items)
+
+pub returns-clause-count : goal.returns-clause-count
+returns-clause-count g c x there =
+    let f : g.row.T.Denot → Value = λ x. Number (g.T.NativeType.number x) in
+    let ms = c.args.mask.now.bits in
+    let same : c.into_column.result ≡ x = cc there in
+    ap row_count (sym same) ∙ sym (length-rows c.into_column.result) ∙ ap length c.into_column.ensures.rows ∙ length-map c.in_ok-values.values f
+    ∙ length-kept f g.row.N (length ms) c.args.values.now c.in_ok-values.values ms c.requires.fills refl (kept_is g.row.N c.args.values.now c.in_ok-kept.kept.items c.in_ok-values.values c.as_chunks.result.0.now c.args.mask.now.bits c.requires.some c.requires.fills c.as_chunks.ensures.front c.in_ok-kept.ensures.items c.in_ok-values.ensures.items)

@@ -1,0 +1,118 @@
+//! Filters for the values of fixed-size list columns.
+
+ghost use Rattle.std.specs.Prelude.{◌≡◌, ◌≤◌, ◌<◌, ◌*◌, None, length, IfOk, IfErr};
+ghost use Rattle.std.specs.Mem.{type_size};
+ghost use Rattle.std.specs.Option.{ForSome};
+ghost use Rattle.sel_bits.specs.Bits.{count_true};
+ghost use Rattle.sel_arrow.specs.Columns.{primitive_rows};
+ghost use Rattle.sel_arrow.specs.Masked.{number_rows};
+ghost use Rattle.sel_arrow.specs.Nested.{blocks};
+ghost use Rattle.sel_arrow.specs.Rows.{rows, row_count, type_of, IsWellFormed};
+ghost use Rattle.polars_compute.specs.Select.{select};
+
+use sel_arrow::column::Column;
+use sel_arrow::primitive::{ArrowPrimitive, PrimitiveArray};
+use sel_bits::bitmap::Bitmap;
+use sel_bits::buffer::Buffer;
+use sel_bits::faults::{PolarsError, PolarsResult};
+use sel_filter::arrays::filter_arrays;
+use std::alloc::Global;
+
+/// Returns the values of the lists of `size` values whose bit is set.
+///
+/// Returns `None` if they are not copied in whole lists: if they are not primitive, if they have a
+/// validity, or if the list size is not one of the common sizes.
+pub(crate) fn filter_child(
+    alloc: Global,
+    values: &Column,
+    size: usize,
+    mask: &Bitmap,
+) -> PolarsResult<Option<Column>>
+    requires fills { length (rows values.now) ≡ length mask.now.bits * size }
+    requires few { length (rows values.now) ≤ 4294967295 }
+    ensures blocks { IfOk result (λ kept. ForSome kept (λ column.
+        blocks size (count_true mask.now.bits) (rows column) ≡
+        select (blocks size (length mask.now.bits) (rows values.now)) mask.now.bits)) }
+    ensures count { IfOk result (λ kept. ForSome kept (λ column.
+        row_count column ≡ count_true mask.now.bits * size)) }
+    ensures dtype { IfOk result (λ kept. ForSome kept (λ column.
+        type_of column ≡ type_of values.now)) }
+    ensures formed { IfOk result (λ kept. ForSome kept (λ column. IsWellFormed column)) }
+    ensures refusal { IfErr result (λ fault. fault ≡ PolarsError.OutOfMemory) }
+{
+    match values {
+        Column::Int8(numbers) => filter_numbers(alloc, numbers, size, mask),
+        Column::Int16(numbers) => filter_numbers(alloc, numbers, size, mask),
+        Column::Int32(numbers) => filter_numbers(alloc, numbers, size, mask),
+        Column::Int64(numbers) => filter_numbers(alloc, numbers, size, mask),
+        Column::Int128(numbers) => filter_numbers(alloc, numbers, size, mask),
+        Column::UInt8(numbers) => filter_numbers(alloc, numbers, size, mask),
+        Column::UInt16(numbers) => filter_numbers(alloc, numbers, size, mask),
+        Column::UInt32(numbers) => filter_numbers(alloc, numbers, size, mask),
+        Column::UInt64(numbers) => filter_numbers(alloc, numbers, size, mask),
+        Column::UInt128(numbers) => filter_numbers(alloc, numbers, size, mask),
+        _ => Ok(None),
+    }
+}
+
+/// Returns the primitive values of the lists whose bit is set, or `None` as `filter_child` does.
+fn filter_numbers<T: ArrowPrimitive>(
+    alloc: Global,
+    numbers: &PrimitiveArray<T>,
+    size: usize,
+    mask: &Bitmap,
+) -> PolarsResult<Option<Column>>
+    requires sized { type_size T.row ≤ 16 }
+    requires fills { length (primitive_rows numbers.now) ≡ length mask.now.bits * size }
+    requires few { length (primitive_rows numbers.now) ≤ 4294967295 }
+    ensures blocks { IfOk result (λ kept. ForSome kept (λ column.
+        blocks size (count_true mask.now.bits) (rows column) ≡
+        select (blocks size (length mask.now.bits) (primitive_rows numbers.now)) mask.now.bits)) }
+    ensures count { IfOk result (λ kept. ForSome kept (λ column.
+        row_count column ≡ count_true mask.now.bits * size)) }
+    ensures dtype { IfOk result (λ kept. ForSome kept (λ column. type_of column ≡ T.shape)) }
+    ensures formed { IfOk result (λ kept. ForSome kept (λ column. IsWellFormed column)) }
+    ensures refusal { IfErr result (λ fault. fault ≡ PolarsError.OutOfMemory) }
+{
+    if numbers.validity.is_some() {
+        return Ok(None);
+    }
+    let values = numbers.values.as_slice();
+    match size {
+        1 => filter_sized::<T, 1>(alloc, values, mask),
+        2 => filter_sized::<T, 2>(alloc, values, mask),
+        3 => filter_sized::<T, 3>(alloc, values, mask),
+        4 => filter_sized::<T, 4>(alloc, values, mask),
+        8 => filter_sized::<T, 8>(alloc, values, mask),
+        16 => filter_sized::<T, 16>(alloc, values, mask),
+        32 => filter_sized::<T, 32>(alloc, values, mask),
+        _ => Ok(None),
+    }
+}
+
+/// Returns the column of the values of the lists of `N` values whose bit is set.
+fn filter_sized<T: ArrowPrimitive, const N: usize>(
+    alloc: Global,
+    values: &[T],
+    mask: &Bitmap,
+) -> PolarsResult<Option<Column>>
+    requires some { 0 < N }
+    requires small { N ≤ 64 }
+    requires sized { type_size T.row ≤ 16 }
+    requires fills { length values.now ≡ length mask.now.bits * N }
+    requires few { length values.now ≤ 4294967295 }
+    ensures blocks { IfOk result (λ kept. ForSome kept (λ column.
+        blocks N (count_true mask.now.bits) (rows column) ≡
+        select (blocks N (length mask.now.bits) (number_rows T.number values.now None))
+        mask.now.bits)) }
+    ensures count { IfOk result (λ kept. ForSome kept (λ column.
+        row_count column ≡ count_true mask.now.bits * N)) }
+    ensures dtype { IfOk result (λ kept. ForSome kept (λ column. type_of column ≡ T.shape)) }
+    ensures formed { IfOk result (λ kept. ForSome kept (λ column. IsWellFormed column)) }
+    ensures refusal { IfErr result (λ fault. fault ≡ PolarsError.OutOfMemory) }
+{
+    let (lists, _) = values.as_chunks::<N>();
+    let kept = filter_arrays(alloc, lists, mask)?;
+    let values = Buffer::from_vec(kept)?;
+    Ok(Some(T::into_column(values, None)))
+}

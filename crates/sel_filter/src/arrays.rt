@@ -1,0 +1,73 @@
+//! Filters for slices of arrays.
+
+ghost use Rattle.std.specs.Prelude.{◌≡◌, ◌≤◌, ◌<◌, ◌^◌, ◌++◌, length, IfOk, IfErr, OnOk};
+ghost use Rattle.std.specs.List.{flat_map};
+ghost use Rattle.sel_bits.specs.Words.{bits};
+ghost use Rattle.sel_filter.specs.Select.{select};
+
+use sel_bits::bitmap::Bitmap;
+use sel_bits::faults::{PolarsError, PolarsResult};
+use sel_bits::words::{first_word, whole_word};
+use std::alloc::Global;
+
+/// Returns the items of the arrays where `mask` is true, in order.
+///
+/// # Requires
+/// `arrays` and `mask` have the same length, and an array has at most 64 items.
+///
+/// # Errors
+/// `OutOfMemory` if an allocation fails.
+pub fn filter_arrays<T: Copy, const N: usize>(
+    alloc: Global,
+    arrays: &[[T; N]],
+    mask: &Bitmap,
+) -> PolarsResult<Vec<T>>
+    requires lengths { length arrays.now ≡ length mask.now.bits }
+    requires small { N ≤ 64 }
+    ensures items { IfOk result (λ kept. kept.items ≡
+        flat_map (λ array. array) (select arrays.now mask.now.bits)) }
+    ensures refusal { IfErr result (λ fault. fault ≡ PolarsError.OutOfMemory) }
+{
+    let (bytes, shift, len) = mask.as_slice();
+    let mut kept = Vec::with_capacity(alloc, mask.set_bits().saturating_mul(N))?;
+    for block in 0..len / 64 {
+        let word = whole_word(bytes, 8 * block, shift);
+        append_arrays(&arrays[64 * block..64 * block + 64], word, &mut kept)?;
+    }
+    let at = len / 64 * 64;
+    let rest = len - at;
+    let word = first_word(&bytes[len / 64 * 8..], shift, rest);
+    append_arrays(&arrays[at..at + rest], word, &mut kept)?;
+    Ok(kept)
+}
+
+/// Appends the items of the arrays whose bit is set.
+///
+/// Copies the whole block if all bits are set, and otherwise array by array.
+///
+/// # Errors
+/// `OutOfMemory` if an allocation fails.
+#[inline(always)]
+fn append_arrays<T: Copy, const N: usize>(
+    block: &[[T; N]],
+    mask: u64,
+    out: &mut Vec<T>,
+) -> PolarsResult<()>
+    requires block { length block.now ≤ 64 }
+    requires fits { mask < 2 ^ length block.now }
+    requires small { N ≤ 64 }
+    ensures appended { OnOk result (out.new.items ≡ out.old.items
+        ++ flat_map (λ array. array) (select block.now (bits (length block.now) mask))) }
+    ensures refusal { IfErr result (λ fault. fault ≡ PolarsError.OutOfMemory) }
+{
+    if mask.count_ones() as usize == block.len() {
+        out.extend_from_slice(block.as_flattened())?;
+        return Ok(());
+    }
+    let mut rest = mask;
+    while rest != 0 {
+        out.extend_from_slice(&block[rest.trailing_zeros() as usize])?;
+        rest &= rest - 1;
+    }
+    Ok(())
+}
