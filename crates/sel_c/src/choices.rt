@@ -3,10 +3,10 @@
 ghost use Rattle.std.specs.Prelude.{◌≡◌, ◌++◌, ◌∷◌, length, true, false};
 ghost use Rattle.sel_arrow.specs.Rows.{rows, type_of};
 ghost use Rattle.sel_arrow.specs.Shape.{of_boolean};
-ghost use Rattle.sel_calls.specs.Chosen.{first_row};
 ghost use Rattle.sel_choices.specs.Choose.{choose, broadcast_true, broadcast_false, broadcast_both};
+ghost use Rattle.sel_choices.specs.Chosen.{first_row};
 ghost use Rattle.sel_handle.specs.Status.{ok, out_of_memory, no_column, unsupported_type, type_mismatch, length_mismatch, limit_statuses, held_columns, held_rows, held_type, DemandsBefore, DemandsFirst, HasColumn, IsOneOf, Makes, ReportsLimits};
-ghost use Rattle.sel_runs.specs.Need.{exceeded_taken};
+ghost use Rattle.sel_runs.specs.Need.{exceeded_taken, ExceedsNone};
 ghost use Rattle.polars_compute.specs.Select.{effective_mask};
 
 use sel_calls::choices::choose_handles;
@@ -50,6 +50,10 @@ pub extern "C" fn sel_if_then_else(
         (held_columns if_true.now.tree ++ held_columns if_false.now.tree)
         (choose (effective_mask (held_rows mask.now.tree))
         (held_rows if_true.now.tree) (held_rows if_false.now.tree))) }
+    ensures within { result ≡ ok → ExceedsNone (exceeded_taken (held_type if_true.now.tree)
+        (held_columns if_true.now.tree ++ held_columns if_false.now.tree)
+        (choose (effective_mask (held_rows mask.now.tree))
+        (held_rows if_true.now.tree) (held_rows if_false.now.tree))) }
 {
     choose_handles(alloc, mask, if_true, if_false, true, true, out)
 }
@@ -86,6 +90,10 @@ pub extern "C" fn sel_if_then_else_broadcast_true(
         ((length (held_rows if_true.now.tree) ≡ 1) ×
         (length (held_rows if_false.now.tree) ≡ length (held_rows mask.now.tree))) }
     ensures limits { ReportsLimits result (exceeded_taken (held_type if_true.now.tree)
+        (held_columns if_true.now.tree ++ held_columns if_false.now.tree)
+        (broadcast_true (effective_mask (held_rows mask.now.tree))
+        (first_row (held_rows if_true.now.tree)) (held_rows if_false.now.tree))) }
+    ensures within { result ≡ ok → ExceedsNone (exceeded_taken (held_type if_true.now.tree)
         (held_columns if_true.now.tree ++ held_columns if_false.now.tree)
         (broadcast_true (effective_mask (held_rows mask.now.tree))
         (first_row (held_rows if_true.now.tree)) (held_rows if_false.now.tree))) }
@@ -129,6 +137,10 @@ pub extern "C" fn sel_if_then_else_broadcast_false(
         (held_columns if_true.now.tree ++ held_columns if_false.now.tree)
         (broadcast_false (effective_mask (held_rows mask.now.tree))
         (held_rows if_true.now.tree) (first_row (held_rows if_false.now.tree)))) }
+    ensures within { result ≡ ok → ExceedsNone (exceeded_taken (held_type if_true.now.tree)
+        (held_columns if_true.now.tree ++ held_columns if_false.now.tree)
+        (broadcast_false (effective_mask (held_rows mask.now.tree))
+        (held_rows if_true.now.tree) (first_row (held_rows if_false.now.tree)))) }
 {
     choose_handles(alloc, mask, if_true, if_false, true, false, out)
 }
@@ -166,6 +178,10 @@ pub extern "C" fn sel_if_then_else_broadcast_both(
         ((length (held_rows if_true.now.tree) ≡ 1) ×
         (length (held_rows if_false.now.tree) ≡ 1)) }
     ensures limits { ReportsLimits result (exceeded_taken (held_type if_true.now.tree)
+        (held_columns if_true.now.tree ++ held_columns if_false.now.tree)
+        (broadcast_both (effective_mask (held_rows mask.now.tree))
+        (first_row (held_rows if_true.now.tree)) (first_row (held_rows if_false.now.tree)))) }
+    ensures within { result ≡ ok → ExceedsNone (exceeded_taken (held_type if_true.now.tree)
         (held_columns if_true.now.tree ++ held_columns if_false.now.tree)
         (broadcast_both (effective_mask (held_rows mask.now.tree))
         (first_row (held_rows if_true.now.tree)) (first_row (held_rows if_false.now.tree)))) }

@@ -1,6 +1,5 @@
 pub mod Alike
 pub mod Below
-pub mod ChosenPicks
 pub mod Counts
 pub mod Depths
 pub mod Entries

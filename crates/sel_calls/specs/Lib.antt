@@ -1,6 +1,4 @@
 pub mod Below
-pub mod Chosen
-pub mod ChosenPicks
 pub mod Entries
 pub mod Parsed
 pub mod PickLengths

@@ -5,19 +5,21 @@ ghost use Rattle.sel_arrow.specs.Columns.{boolean_rows};
 ghost use Rattle.sel_arrow.specs.Depth.{depth};
 ghost use Rattle.sel_arrow.specs.Rows.{rows, type_of};
 ghost use Rattle.sel_arrow.specs.Shape.{of_boolean};
-ghost use Rattle.sel_calls.specs.Chosen.{chosen_rows};
-ghost use Rattle.sel_calls.specs.ChosenPicks.{SideFits};
+ghost use Rattle.sel_choices.specs.Chosen.{chosen_rows, SideFits};
 ghost use Rattle.sel_handle.specs.Status.{ok, out_of_memory, no_column, unsupported_type, type_mismatch, length_mismatch, limit_statuses, held_columns, held_rows, held_type, DemandsBefore, DemandsFirst, HasColumn, IsOneOf, Makes, ReportsLimits};
-ghost use Rattle.sel_runs.specs.Need.{exceeded_taken};
+ghost use Rattle.sel_runs.specs.Need.{exceeded_taken, ExceedsNone, IsLimitOrMemory};
 ghost use Rattle.polars_compute.specs.Select.{effective_mask};
 
-use crate::sides::choice;
 use sel_arrow::array::Array;
 use sel_arrow::array_ref::ArrayRef;
 use sel_arrow::boolean::BooleanArray;
 use sel_arrow::column::Column;
 use sel_bits::bitmap::Bitmap;
 use sel_bits::faults::PolarsResult;
+use sel_choices::if_then_else::any::{
+    if_then_else_any, if_then_else_any_broadcast_both, if_then_else_any_broadcast_false,
+    if_then_else_any_broadcast_true,
+};
 use sel_handle::column_ref::ColumnRef;
 use sel_handle::handle::Handle;
 use sel_handle::status::{
@@ -66,6 +68,10 @@ pub fn choose_handles(
         (held_columns if_true.now.tree ++ held_columns if_false.now.tree)
         (chosen_rows true_column false_column (effective_mask (held_rows mask.now.tree))
         (held_rows if_true.now.tree) (held_rows if_false.now.tree))) }
+    ensures within { result ≡ ok → ExceedsNone (exceeded_taken (held_type if_true.now.tree)
+        (held_columns if_true.now.tree ++ held_columns if_false.now.tree)
+        (chosen_rows true_column false_column (effective_mask (held_rows mask.now.tree))
+        (held_rows if_true.now.tree) (held_rows if_false.now.tree))) }
 {
     let Some(by) = mask.column() else {
         return NO_COLUMN;
@@ -109,6 +115,10 @@ fn choose_into(
         (if_true.now.column ∷ if_false.now.column ∷ [])
         (chosen_rows true_column false_column (effective_mask (rows mask.now.column))
         (rows if_true.now.column) (rows if_false.now.column))) }
+    ensures within { result ≡ ok → ExceedsNone (exceeded_taken (type_of if_true.now.column)
+        (if_true.now.column ∷ if_false.now.column ∷ [])
+        (chosen_rows true_column false_column (effective_mask (rows mask.now.column))
+        (rows if_true.now.column) (rows if_false.now.column))) }
 {
     let bits = match bits_of_mask(alloc, mask) {
         Ok(bits) => bits,
@@ -127,6 +137,44 @@ fn choose_into(
         Ok(chosen) => put(alloc, chosen, out),
         Err(fault) => status_of(fault),
     }
+}
+
+// Returns the if-then-else. If its flag is false, a column has one row, which is broadcast.
+fn choice(
+    alloc: Global,
+    mask: &Bitmap,
+    if_true: &ArrayRef,
+    if_false: &ArrayRef,
+    true_column: bool,
+    false_column: bool,
+) -> PolarsResult<ArrayRef>
+    requires alike { type_of if_true.now.column ≡ type_of if_false.now.column }
+    requires true_side { SideFits true_column (length (rows if_true.now.column))
+        (length mask.now.bits) }
+    requires false_side { SideFits false_column (length (rows if_false.now.column))
+        (length mask.now.bits) }
+    requires few { length mask.now.bits ≤ 4294967295 }
+    ensures rows { IfOk result (λ chosen. rows chosen.column ≡
+        chosen_rows true_column false_column mask.now.bits (rows if_true.now.column)
+        (rows if_false.now.column)) }
+    ensures dtype { IfOk result (λ chosen. type_of chosen.column ≡ type_of if_true.now.column) }
+    ensures within { IfOk result (λ _. ExceedsNone (exceeded_taken (type_of if_true.now.column)
+        (if_true.now.column ∷ if_false.now.column ∷ []) (chosen_rows true_column false_column
+        mask.now.bits (rows if_true.now.column) (rows if_false.now.column)))) }
+    ensures refusal { IfErr result (IsLimitOrMemory (exceeded_taken (type_of if_true.now.column)
+        (if_true.now.column ∷ if_false.now.column ∷ []) (chosen_rows true_column false_column
+        mask.now.bits (rows if_true.now.column) (rows if_false.now.column)))) }
+{
+    if true_column {
+        if false_column {
+            return if_then_else_any(alloc, mask, if_true, if_false);
+        }
+        return if_then_else_any_broadcast_false(alloc, mask, if_true, if_false);
+    }
+    if false_column {
+        return if_then_else_any_broadcast_true(alloc, mask, if_true, if_false);
+    }
+    if_then_else_any_broadcast_both(alloc, mask, if_true, if_false)
 }
 
 // Returns whether a column has as many rows as the mask, or a scalar has one row.

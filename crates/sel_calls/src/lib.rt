@@ -10,7 +10,6 @@ pub mod fixed_each;
 pub mod lists;
 mod picks;
 pub mod several;
-mod sides;
 pub mod takes;
 pub mod texts;
 pub mod wides;

@@ -2,9 +2,11 @@ pub mod Answered
 pub mod BitChoices
 pub mod Blocks
 pub mod Chosen
+pub mod ChosenPicks
 pub mod JoinedViews
 pub mod ListChoices
 pub mod ListRuns
 pub mod Parts
 pub mod Placed
 pub mod Validities
+pub mod WordKernels

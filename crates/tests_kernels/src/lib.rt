@@ -11,6 +11,8 @@ mod alloc_takes;
 #[cfg(test)]
 mod alloc_words;
 #[cfg(test)]
+mod any_choices;
+#[cfg(test)]
 mod broadcasts;
 #[cfg(test)]
 mod elements;

@@ -13,9 +13,11 @@ use sel_bits::bitmap::Bitmap;
 use sel_bits::faults::PolarsResult;
 use std::alloc::Global;
 
+pub mod any;
 mod array;
 mod binview;
 mod boolean;
+mod by_words;
 mod list;
 mod list_parts;
 mod list_sides;
@@ -26,6 +28,7 @@ mod utf8view;
 mod validity;
 pub mod view;
 mod view_columns;
+mod word_kernels;
 
 pub use validity::if_then_else_validity;
 
