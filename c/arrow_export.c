@@ -1,4 +1,4 @@
-/* Exports columns through the Arrow C Data Interface. Columns are copied: no pointer into the library's memory is kept. */
+/* Exports columns through the Arrow C Data Interface. An exported array keeps owners of the buffers that it shares with its column. */
 #include "arrow_internal.h"
 
 #include <stdlib.h>

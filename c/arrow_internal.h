@@ -5,7 +5,8 @@
  * arrow_text.c: as text. arrow_import.c: the tree of an array and its checks; arrow_lend.c: a column over the buffers of one level, which
  * are lent (arrow_lease.c); arrow_import_level.c: a column of buffers that cannot be lent;
  * arrow_convert.c: list views and runs, which become lists and values by a take. arrow_export.c: the tree of a column;
- * arrow_export_level.c: the buffers of one level of a column; arrow_share.c: those that are shared. arrow_dictionary.c: dictionaries. arrow_stream.c: streams. */
+ * arrow_export_level.c: the buffers of one level of a column; arrow_share.c: those that are shared, and values that callers borrow.
+ * arrow_dictionary.c: dictionaries. arrow_stream.c: streams. */
 #ifndef SEL_ARROW_INTERNAL_H
 #define SEL_ARROW_INTERNAL_H
 

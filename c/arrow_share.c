@@ -1,5 +1,6 @@
 /* Fills the buffers of one level of an Arrow array with those of a column, which are shared until the array is released. Copied are
- * bits that do not begin at a byte, offsets that the type has in 32 bits, and views that have to be cleaned. */
+ * bits that do not begin at a byte, offsets that the type has in 32 bits, and views that have to be cleaned. Borrows the values of
+ * columns. */
 #include "arrow_internal.h"
 
 #include <stdlib.h>
@@ -92,4 +93,29 @@ sel_status sel_arrow_share_data(target *t, size_t i, size_t *len) {
     if (status == SEL_OK) keep(t, (int64_t)i + 2, at, &owner);
     sel_buffer_free(&owner);
     return status;
+}
+
+static bool is_integer(sel_type_id type) {
+    switch (type) {
+    case SEL_TYPE_INT8: case SEL_TYPE_INT16: case SEL_TYPE_INT32: case SEL_TYPE_INT64:
+    case SEL_TYPE_UINT8: case SEL_TYPE_UINT16: case SEL_TYPE_UINT32: case SEL_TYPE_UINT64: return true;
+    default: return false;
+    }
+}
+
+sel_status sel_borrow_values(const sel_column *of, const void **values, size_t *len) {
+    lent_buffer owner = {NULL};
+    const void *at = NULL;
+    size_t count = 0, first = 0;
+    sel_type_id type = sel_type_of(of);
+    if (type == SEL_TYPE_NONE) return SEL_ERROR_NO_COLUMN;
+    if (!is_integer(type)) return SEL_ERROR_UNSUPPORTED_TYPE;
+    sel_status status = sel_values_of(of, &owner);
+    if (status == SEL_OK) status = sel_buffer_show(&owner, &at, &count, &first);
+    /* the column owns the buffer, too */
+    sel_buffer_free(&owner);
+    if (status != SEL_OK) return status;
+    *values = count > 0 ? at : sel_arrow_nothing;
+    *len = count;
+    return SEL_OK;
 }

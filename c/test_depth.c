@@ -202,6 +202,9 @@ static void test_values(void) {
     UNSUPPORTED(sel_buffer(deep, 0, none.u8, LEN));
     UNSUPPORTED(sel_bytes_len(deep, &len));
     UNSUPPORTED(sel_bytes(deep, none.u8, LEN));
+    const void *values = NULL;
+    UNSUPPORTED(sel_borrow_values(deep, &values, &len));
+    IS(values == NULL);
     const uint8_t zeros[sizeof none] = {0};
     IS(len == 77 && memcmp(&none, zeros, sizeof none) == 0);
 }

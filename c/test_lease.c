@@ -387,6 +387,59 @@ static void arrays_are_released_apart(void) {
     }
 }
 
+/* Checks the borrowed values of a column, whose number and address are given. */
+static void borrows(const sel_column *column, size_t count, const void *at) {
+    const void *values = &count;
+    size_t len = 77;
+    sel_status status = sel_borrow_values(column, &values, &len);
+    if (!works(status)) IS(values == &count && len == 77);
+    else IS(len == count && (count > 0 ? values == at : values != NULL));
+}
+
+/* Borrowed values are the producer's: those of imports with an offset, of shares and of slices; of a filter they are new. */
+static void values_are_borrowed(void) {
+    static const uint8_t all_but_4[2] = {0xef, 0xff};
+    for (size_t kind = 0; kind < KINDS; kind++) {
+        producer p;
+        sel_column column = {0}, part = {0};
+        const size_t size = all_integers[kind].size;
+        make_integers(&p, kind, 3);
+        const char *at = (const char *)p.buffers[0][1] + 3 * size;
+        if (!import(&p, &column)) continue;
+        borrows(&column, 16, at);
+        for (size_t first = 0; first <= 16; first++)
+            if (works(sel_slice(&column, first, 16 - first, &part))) borrows(&part, 16 - first, at + first * size);
+        if (works(sel_filter_bits(&column, all_but_4, 2, 16, &part))) {
+            const void *values = NULL;
+            size_t len = 0;
+            if (works(sel_borrow_values(&part, &values, &len)))
+                IS(len == 15 && values != at && memcmp(values, at, 4 * size) == 0 && memcmp((const char *)values + 4 * size, at + 5 * size, 11 * size) == 0);
+        }
+        if (works(sel_share(&column, &part))) {
+            sel_free(&column);
+            IS(p.releases == 0);
+            borrows(&part, 16, at);
+        }
+        sel_free(&column);
+        sel_free(&part);
+        IS(p.releases == 1);
+    }
+}
+
+/* Columns of other types have no values to borrow, and errors change nothing. */
+static void other_types_are_not_borrowed(void) {
+    static const char *const types[] = {"null", "bool", "i128", "u128", "binary", "binview", "utf8", "list<i64>", "fixed<1,i64>", "struct<i64>"};
+    sel_column column = {0};
+    const void *values = NULL;
+    size_t at = 0, len = 77;
+    IS(sel_borrow_values(&column, &values, &len) == SEL_ERROR_NO_COLUMN);
+    for (size_t i = 0; i < sizeof types / sizeof *types; i++)
+        if (works(sel_parse((const uint8_t *)types[i], strlen(types[i]), (const uint8_t *)"[null]", 6, &at, &column)))
+            IS(sel_borrow_values(&column, &values, &len) == SEL_ERROR_UNSUPPORTED_TYPE);
+    IS(values == NULL && len == 77);
+    sel_free(&column);
+}
+
 /* An exported array that is imported again is released by the last owner, and the producer's array then too. */
 static void round_trips_end(void) {
     producer p;
@@ -413,7 +466,7 @@ int main(void) {
     static void (*const tests[])(void) = {integers_keep_their_addresses, booleans_keep_their_addresses, bytes_keep_their_addresses,
                                           views_keep_their_addresses, empty_arrays_are_released, failed_imports_lend_nothing,
                                           arrays_are_released_apart, round_trips_end, strings_share_their_bytes,
-                                          nested_arrays_keep_their_addresses};
+                                          nested_arrays_keep_their_addresses, values_are_borrowed, other_types_are_not_borrowed};
     static void (*const orders[])(void) = {owners_are_freed_in_each_order};
     run_tests(tests, sizeof tests / sizeof *tests, 1);
     run_tests(orders, 1, 97);

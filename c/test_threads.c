@@ -217,6 +217,14 @@ static void read_properties(worker *w, const sel_column *of) {
     mix_text(w, of);
 }
 
+static void read_borrowed(worker *w, const sel_column *of) {
+    const void *values = NULL;
+    size_t count = 0;
+    mix(w, sel_borrow_values(of, &values, &count));
+    mix(w, count);
+    for (size_t i = 0; i < count; i++) mix(w, ((const uint8_t *)values)[i]);
+}
+
 /* ---- the kernels ---- */
 
 static void select_rows(worker *w, const sel_column *of) {
@@ -386,6 +394,7 @@ static void go_through_arrow(worker *w, const sel_column *of, const sel_type *ty
 static uint64_t read_all(worker *w, const sel_column *of, const sel_type *type) {
     w->hash = UINT64_C(0xcbf29ce484222325);
     read_properties(w, of);
+    read_borrowed(w, of);
     read_values(w, of);
     read_buffers(w, of);
     select_rows(w, of);

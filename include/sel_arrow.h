@@ -136,6 +136,14 @@ sel_status sel_export(const sel_column *of, const sel_type *type, struct ArrowAr
  * schema; or a null pointer if there is none, or none in the first 128 levels. */
 const char *sel_unsupported_format(const struct ArrowSchema *schema);
 
+/* Returns in `values` the address of the values of a column of integers of 8 to 64 bits, and in `len` their number,
+ * which is that of the rows: those in null slots are among them. They are the memory that the column reads, aligned
+ * for the type, and must not be written. They stay there, unchanged, as long as `of` has this column. In a slice the
+ * first value is that of the slice's first row. The address is not null. On error the outputs are unchanged.
+ * Errors: SEL_ERROR_NO_COLUMN: `of` is empty. SEL_ERROR_UNSUPPORTED_TYPE: its type is another one, such as 128-bit
+ * integers, whose values sel_int128_values copies. SEL_ERROR_OUT_OF_MEMORY. */
+sel_status sel_borrow_values(const sel_column *of, const void **values, size_t *len);
+
 /* ---- Logical types. ---- */
 
 /* Returns in `out` the type of a schema, without the values of its dictionaries: a column cannot be exported with a

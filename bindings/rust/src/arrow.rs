@@ -184,10 +184,12 @@ pub unsafe fn unsupported_format(schema: &ArrowSchema) -> Option<String> {
 }
 
 impl Column {
-    /// Copies an array of the Arrow C data interface into a column. The array is dropped, also on an error.
+    /// Makes a column of an array of the Arrow C data interface, which is dropped on an error.
     ///
-    /// The column has the storage of the array's type: floats and times are integers, strings views. Its type is lost;
-    /// [`from_arrow_with_type`](Column::from_arrow_with_type) returns it too. Unions are errors, and keys of a dictionary.
+    /// The column reads the array's buffers, without a copy of most of them: `include/sel_arrow.h` has a table. The array is
+    /// released after the last column over them is dropped. The column has the storage of the array's type: floats and times
+    /// are integers, strings views. Its type is lost; [`from_arrow_with_type`](Column::from_arrow_with_type) returns it too.
+    /// Unions are errors, and keys of a dictionary.
     ///
     /// # Errors
     /// [`Error::Arrow`] if the array or the schema is released, has an unsupported format, other buffers or children than
@@ -197,7 +199,7 @@ impl Column {
     ///
     /// # Safety
     /// The array is of the type that the schema describes, and its buffers are as long as this type and its length
-    /// require.
+    /// require. Nobody writes to them until the array is released, which may be done on any thread.
     ///
     /// ```
     /// # use sel::{Column, Error};
@@ -215,8 +217,8 @@ impl Column {
         Column::made(|out| unsafe { raw::sel_import(&mut array, schema, out, ptr::null_mut()) })
     }
 
-    /// Copies an array of the Arrow C data interface into a column, and returns its logical type too. The array is dropped,
-    /// also on an error.
+    /// Makes a column of an array of the Arrow C data interface, as [`from_arrow`](Column::from_arrow) does, and returns its
+    /// logical type too.
     ///
     /// # Errors
     /// As [`from_arrow`](Column::from_arrow); [`Error::OutOfBounds`] if a key has no row in its dictionary.
@@ -233,7 +235,7 @@ impl Column {
         Ok((column, of_type))
     }
 
-    /// Copies the column into an array of the Arrow C data interface and its schema.
+    /// Returns an array of the Arrow C data interface, which shares the buffers of the column, and its schema.
     ///
     /// Binary values have the format `Z`, views `vz` and `vu`, lists `+L`, signed 128-bit integers `d:38,0,128`, unsigned
     /// ones `w:16` with the extension name `sel.uint128`. The fields of struct values have their numbers as names.
@@ -255,7 +257,7 @@ impl Column {
         self.exported(ptr::null())
     }
 
-    /// Copies the column into an array of the Arrow C data interface with exactly the schema of a type.
+    /// Returns an array of the Arrow C data interface, as [`to_arrow`](Column::to_arrow) does, with exactly the schema of a type.
     ///
     /// # Errors
     /// [`Error::WrongArgument`] if the column does not have the storage of the type; [`Error::OutOfBounds`] if a key has no

@@ -102,6 +102,7 @@
 //! | `sel_import` | [`Column::from_arrow`], [`Column::from_arrow_with_type`] |
 //! | `sel_export` | [`Column::to_arrow`], [`Column::to_arrow_as`] |
 //! | `sel_unsupported_format` | [`unsupported_format`] |
+//! | `sel_borrow_values` | [`Column::as_slice`], [`TypedColumn::as_slice`] |
 //! | `sel_type_import`, `sel_type_export` | [`ArrowType::from_schema`], [`ArrowType::to_schema`] |
 //! | `sel_type_of_storage` | [`ArrowType::of_storage`] |
 //! | `sel_type_new`, `sel_type_as_field` | [`ArrowType::new`], [`ArrowType::as_field`] |
@@ -145,6 +146,7 @@ mod memory;
 mod nested;
 mod number;
 mod raw;
+mod slices;
 mod stream;
 mod typed;
 mod value;
@@ -161,6 +163,7 @@ pub use kernels::{
 };
 pub use kind::Kind;
 pub use number::Number;
+pub use slices::{Element, Native};
 pub use stream::{export_stream, Batch, StreamReader};
 pub use typed::TypedColumn;
 pub use value::{Iter, OwnedValue, Value};

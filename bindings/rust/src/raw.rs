@@ -340,6 +340,7 @@ extern "C" {
         schema: *mut ArrowSchema,
     ) -> u32;
     pub fn sel_unsupported_format(schema: *const ArrowSchema) -> *const c_char;
+    pub fn sel_borrow_values(of: *const Handle, values: *mut *const c_void, len: *mut usize) -> u32;
     pub fn sel_type_import(schema: *const ArrowSchema, out: *mut TypeHandle) -> u32;
     pub fn sel_type_export(of: *const TypeHandle, schema: *mut ArrowSchema) -> u32;
     pub fn sel_type_of_storage(of: *const Handle, out: *mut TypeHandle) -> u32;

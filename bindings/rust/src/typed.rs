@@ -53,7 +53,7 @@ impl TypedColumn {
         Ok(TypedColumn { column, arrow_type })
     }
 
-    /// Copies an array of the Arrow C data interface into a column, as [`Column::from_arrow_with_type`] does.
+    /// Makes a column of an array of the Arrow C data interface, as [`Column::from_arrow_with_type`] does.
     ///
     /// # Safety
     /// As for [`Column::from_arrow`].
@@ -63,7 +63,7 @@ impl TypedColumn {
         Ok(TypedColumn { column, arrow_type })
     }
 
-    /// Copies the column into an array of the Arrow C data interface, as [`Column::to_arrow_as`] does.
+    /// Returns an array of the Arrow C data interface, which shares the buffers of the column, as [`Column::to_arrow_as`] does.
     pub fn to_arrow(&self) -> Result<(ArrowArray, ArrowSchema), Error> {
         self.column.to_arrow_as(&self.arrow_type)
     }

@@ -243,7 +243,8 @@ impl Column {
         Ok(Iter { rows: T::read(self)?.into_iter() })
     }
 
-    /// Returns the integers of a column; those in null slots are whatever the column holds there.
+    /// Returns a copy of the integers of a column; those in null slots are whatever the column holds there.
+    /// [`as_slice`](Column::as_slice) returns them without a copy.
     ///
     /// # Errors
     /// As [`to_options`](Column::to_options).

@@ -51,15 +51,15 @@ fn rust_type(c_type: &str) -> String {
     name.to_string() + if is_constant { " const" } else { "" }
 }
 
-/// Returns the type in Rust of a C declarator such as `const uint8_t *bits` or `const char *`.
+/// Returns the type in Rust of a C declarator such as `const uint8_t *bits`, `const void **values` or `const char *`.
 fn declared_type(declarator: &str) -> String {
-    let Some((pointee, _)) = declarator.split_once('*') else {
+    let Some((pointee, rest)) = declarator.split_once('*') else {
         return rust_type(declarator);
     };
-    let pointee = rust_type(pointee);
+    let (pointee, outer) = (rust_type(pointee), "*mut ".repeat(rest.matches('*').count()));
     match pointee.strip_suffix(" const") {
-        Some(constant) => format!("*const {constant}"),
-        None => format!("*mut {pointee}"),
+        Some(constant) => format!("{outer}*const {constant}"),
+        None => format!("{outer}*mut {pointee}"),
     }
 }
 

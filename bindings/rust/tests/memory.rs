@@ -103,6 +103,7 @@ fn columns_are_read_or_out_of_memory() {
     assert!(fail_each(|| of("binary", r#"[h"61",null]"#).to_bytes()) >= 5);
     assert!(fail_each(|| of("list<i8>", "[[1],null]").offsets()) >= 1);
     assert!(fail_each(|| numbers.to_text()) >= 1);
+    assert_eq!(fail_each(|| numbers.as_slice::<i64>().map(<[i64]>::len)), 0);
 }
 
 #[test]
