@@ -7,7 +7,8 @@ from ctypes import byref
 from typing import Any
 
 from ._checks import ROW_INDEX, Limits, booleans, error_out_of_bounds, error_outside
-from ._library import call
+from ._lending import Piece, lent, values_of
+from ._library import call, lib
 from ._logical import ArrowType, decoded, of_format
 from ._makers import CODES
 from ._memory import NO_VALIDITY, Memory, room_for_bits
@@ -15,7 +16,7 @@ from ._owner import Owner
 from ._readers import validity_bits
 from ._types import NUMBERS
 
-__all__ = ["array_of", "checked", "is_array", "is_of_objects", "made_of_array", "made_with_type", "opened", "picks_of_array", "plain_array_of", "positions_of_array"]
+__all__ = ["array_of", "buffer_of", "checked", "is_array", "is_of_objects", "made_of_array", "made_with_type", "opened", "picks_of_array", "plain_array_of", "positions_of_array"]
 
 
 def _numpy() -> Any:
@@ -45,7 +46,7 @@ def is_array(values: object) -> bool:
 
 def opened(values: Any, name: str, dimensions: int = 1) -> Any:
     """Returns an array as a masked array. Raises ValueError if it has another number of dimensions."""
-    array = _numpy().ma.asarray(values)
+    array = _numpy().ma.array(values, copy=False, subok=False)
     if array.ndim != dimensions:
         raise ValueError(f"{name}: an array of {array.ndim} dimensions, where {dimensions} is needed")
     return array
@@ -163,12 +164,14 @@ def _format_of(kind: Any) -> str | None:
     return f"ts{letter}:" if kind.kind == "M" else f"tD{letter}"
 
 
-def made_with_type(array: Any, name: str, valid: Any = None) -> tuple[Owner, ArrowType | None]:
-    """Returns the column of a masked array and its logical type. A datetime or timedelta that is NaT is null."""
-    numpy, format = _numpy(), _format_of(array.dtype)
+_INTEGER_FORMATS = {"int8": "c", "int16": "s", "int32": "i", "int64": "l", "uint8": "C", "uint16": "S", "uint32": "I", "uint64": "L"}
+
+
+def _copied_with_type(array: Any, name: str, format: str | None, valid: Any) -> Owner:
+    """Returns the column of a copy of a masked array. A datetime or timedelta that is NaT is null."""
     if format is None:
-        return made_of_array(array, name, valid), None
-    logical = of_format(format)
+        return made_of_array(array, name, valid)
+    numpy = _numpy()
     plain = numpy.ma.getdata(array).astype(array.dtype.newbyteorder("="), copy=False)
     mask = numpy.ma.getmaskarray(array)
     if format[0] == "t":
@@ -180,7 +183,48 @@ def made_with_type(array: Any, name: str, valid: Any = None) -> tuple[Owner, Arr
         bits = numbers.astype("int32" if format == "tdD" else "int64")
     else:
         bits = numpy.ascontiguousarray(plain).view(f"uint{8 * plain.dtype.itemsize}")
-    return made_of_array(numpy.ma.array(bits, mask=mask), name, valid), logical
+    return made_of_array(numpy.ma.array(bits, mask=mask), name, valid)
+
+
+def _lent_with_type(array: Any, format: str, valid: Any) -> Owner:
+    """Returns the column that reads the memory of a masked array, which it keeps. A datetime or timedelta that is NaT is null."""
+    numpy, plain, mask = _numpy(), _numpy().ma.getdata(array), _numpy().ma.getmask(array)
+    if format[0] == "t":
+        mask = mask | numpy.isnat(plain)
+    if valid is not None:
+        mask = mask | ~_valid_flags(valid, "valid", len(plain))
+    bits = numpy.packbits(~mask, bitorder="little") if numpy.any(mask) else None
+    addresses = 0 if bits is None else int(bits.ctypes.data), int(plain.ctypes.data)
+    return lent(Piece(format.encode(), len(plain), addresses, 0 if bits is None else -1), (plain, bits))
+
+
+def _reason_to_copy(plain: Any, format: str | None) -> str | None:
+    """Returns why the memory of an array cannot be that of a column; none if it can."""
+    if format is None:
+        return "booleans are bits in a column"
+    if format == "tdD":
+        return "days have 32 bits in a column"
+    if not plain.dtype.isnative:
+        return "the bytes of its values have another order"
+    if not plain.flags.c_contiguous:
+        return "its values are not next to each other"
+    return None if plain.flags.aligned else "its values are not aligned"
+
+
+def made_with_type(array: Any, name: str, valid: Any = None, copy: bool | None = None) -> tuple[Owner, ArrowType | None]:
+    """Returns the column of a masked array and its logical type. A datetime or timedelta that is NaT is null.
+
+    The column reads the memory of the array, unless it has to be copied or `copy` is true. Raises ValueError if it has to be and `copy` is false.
+    """
+    format, kind = _format_of(array.dtype), array.dtype
+    layout = format or (_INTEGER_FORMATS.get(kind.name) if kind.kind in "iu" else None)
+    if layout is None and kind.kind != "b":
+        return made_of_array(array, name, valid), None
+    reason = _reason_to_copy(_numpy().ma.getdata(array), layout)
+    if copy is False and reason is not None:
+        raise ValueError(f"{name}: the array has to be copied: {reason}")
+    made = _copied_with_type(array, name, format, valid) if copy or reason is not None or layout is None else _lent_with_type(array, layout, valid)
+    return made, None if format is None else of_format(format)
 
 
 def _as_logical(values: Any, logical: ArrowType) -> Any:
@@ -206,20 +250,72 @@ def _unpacked(bits: Memory, count: int) -> Any:
     return numpy.unpackbits(numpy.frombuffer(bits.items, dtype=numpy.uint8), count=count, bitorder="little").astype(numpy.bool_)
 
 
-def array_of(owner: Owner, logical: ArrowType | None = None) -> Any:
-    """Returns the integers of 8 to 64 bits, booleans, floats, dates, timestamps or durations as an array, masked if some row is null."""
+_VIEW_CODES = {"e": "H", "f": "f", "g": "d"}
+
+
+def buffer_of(owner: Owner, logical: ArrowType | None) -> memoryview:
+    """Returns a read-only view of the values of integers of 8 to 64 bits or floats, those of null slots too. Raises TypeError for another type."""
+    kind = owner._kind()
+    if kind not in NUMBERS or NUMBERS[kind][0] not in CODES:
+        raise TypeError(f"a column of type {kind if logical is None else logical} has no values of one size in its memory")
+    code = CODES[NUMBERS[kind][0]]
+    return values_of(owner, code if logical is None else _VIEW_CODES.get(logical.format, code))
+
+
+def _reason_of_copy(owner: Owner, logical: ArrowType | None) -> str | None:
+    """Returns why the array of a column is a copy; none if it can be a view of the column's memory."""
     if logical is not None and logical.is_dictionary:
+        return "its rows are keys of a dictionary"
+    if owner._kind() == "bool":
+        return "booleans are bits in a column"
+    if logical is not None and logical.format == "tdD":
+        return "days have 32 bits in a column"
+    return "it has nulls" if lib.sel_null_count(owner) > 0 else None
+
+
+def _viewed(owner: Owner, logical: ArrowType | None) -> Any:
+    """Returns the values of a column without nulls as a read-only array over the column's memory, which keeps the column."""
+    name = NUMBERS[owner._kind()][0]
+    values = _numpy().frombuffer(values_of(owner, CODES[name]), dtype=name)
+    return values if logical is None else _as_logical(values, logical)
+
+
+def _check_type(owner: Owner, logical: ArrowType | None) -> None:
+    """Raises TypeError if no array has the values of a column."""
+    kind = owner._kind()
+    if kind != "bool" and (kind not in NUMBERS or NUMBERS[kind][0] not in CODES):
+        raise TypeError(f"no array has values of type {kind if logical is None else logical}")
+    if logical is not None:
+        _as_logical(_numpy().empty(0, dtype="bool" if kind == "bool" else NUMBERS[kind][0]), logical)
+
+
+def array_of(owner: Owner, logical: ArrowType | None = None, zero_copy_only: bool = False, writable: bool = True) -> Any:
+    """Returns the integers of 8 to 64 bits, booleans, floats, dates, timestamps or durations as an array, masked if some row is null.
+
+    If it need not be writable, it is a read-only view of the column's memory where that is possible. Raises ValueError if a copy is needed and
+    not allowed.
+    """
+    is_dictionary = logical is not None and logical.is_dictionary
+    if not is_dictionary:
+        _check_type(owner, logical)
+    reason = _reason_of_copy(owner, logical)
+    if zero_copy_only and reason is not None:
+        raise ValueError(f"an array of this column is a copy: {reason}")
+    if logical is not None and is_dictionary:
         return array_of(*decoded(owner, logical))
+    return _copied(owner, logical) if writable or reason is not None else _viewed(owner, logical)
+
+
+def _copied(owner: Owner, logical: ArrowType | None) -> Any:
+    """Returns the rows of a column of a type that `_check_type` accepts, as a new array."""
     numpy, kind, count = _numpy(), owner._kind(), len(owner)
     if kind == "bool":
         bits = room_for_bits(count)
         call("sel_boolean_values", owner, bits, bits.size())
         values = _unpacked(bits, count)
-    elif kind in NUMBERS and NUMBERS[kind][0] in CODES:
+    else:
         values = numpy.empty(count, dtype=NUMBERS[kind][0])
         call(f"sel_{NUMBERS[kind][0]}_values", owner, _memory_of(values), count)
-    else:
-        raise TypeError(f"no array has values of type {kind if logical is None else logical}")
     if logical is not None:
         values = _as_logical(values, logical)
     validity = validity_bits(owner)
@@ -230,10 +326,19 @@ def array_of(owner: Owner, logical: ArrowType | None = None) -> Any:
 
 
 def plain_array_of(owner: Owner, dtype: Any, copy: bool | None, logical: ArrowType | None = None) -> Any:
-    """Returns the array of a column without nulls, of the type that numpy needs. Raises ValueError for a null, or if a copy is not allowed."""
-    if copy is False:
-        raise ValueError("an array of a column is always a copy")
-    array = array_of(owner, logical)
-    if _numpy().ma.isMaskedArray(array):
+    """Returns the array of a column without nulls, of the type that numpy needs: a view if `copy` is not true and it can be one.
+
+    Raises ValueError for a null, or if a copy is needed and `copy` is false.
+    """
+    if logical is None or not logical.is_dictionary:
+        _check_type(owner, logical)
+    if lib.sel_null_count(owner) > 0:
         raise ValueError("a column with nulls is no plain array: to_numpy() masks them, fill_null(value) replaces them")
-    return array if dtype is None else array.astype(dtype, copy=False)
+    array = array_of(owner, logical, zero_copy_only=copy is False, writable=copy is True)
+    if _numpy().ma.isMaskedArray(array):
+        raise ValueError("a column with nulls in its dictionary is no plain array: to_numpy() masks them")
+    if dtype is None or array.dtype == dtype:
+        return array
+    if copy is False:
+        raise ValueError(f"an array of type {dtype} is a copy: the values of the column have type {array.dtype}")
+    return array.astype(dtype)

@@ -98,7 +98,7 @@ def _requested(column: Owner, logical: ArrowType | None, schema: object) -> Type
 
 
 def export(column: Owner, logical: ArrowType | None, requested: object = None) -> tuple[object, object]:
-    """Returns two capsules, of the type and of a copy of the rows."""
+    """Returns two capsules, of the type and of the rows, which share the buffers of the column."""
     wanted = _requested(column, logical, requested)
     schema, first = _new_capsule(ArrowSchema, _SCHEMA, _DESTROY_SCHEMA)
     array, second = _new_capsule(ArrowArray, _ARRAY, _DESTROY_ARRAY)
@@ -119,7 +119,7 @@ def export_type(column: Owner, logical: ArrowType | None) -> object:
 
 
 def imported(source: Any) -> tuple[Owner, ArrowType | None]:
-    """Returns a copy of the array of a source, or else of the arrays of its stream, and the logical type."""
+    """Returns the column of the array of a source, or else of the arrays of its stream, and the logical type."""
     if hasattr(source, "__arrow_c_array__"):
         return _import_array(*source.__arrow_c_array__())
     if hasattr(source, "__arrow_c_stream__"):
@@ -130,8 +130,8 @@ def imported(source: Any) -> tuple[Owner, ArrowType | None]:
 Typed = Tuple[Owner, Optional[ArrowType]]
 
 
-def _copied(array: ArrowArray, schema: ArrowSchema) -> Typed:
-    """Returns a copy of an array and its logical type, and releases the array in any case."""
+def _imported(array: ArrowArray, schema: ArrowSchema) -> Typed:
+    """Returns the column of an array, which reads its buffers, and its logical type. Releases the array on an error."""
     made, found = Owner(), TypeOwner()
     try:
         status = attempt("sel_import", byref(array), byref(schema), byref(made._handle), byref(found._handle))
@@ -146,13 +146,13 @@ def _copied(array: ArrowArray, schema: ArrowSchema) -> Typed:
 
 
 def _import_array(schema: object, array: object) -> Typed:
-    """Returns a copy of the array in a capsule."""
+    """Returns the column of the array in a capsule."""
     there = ArrowSchema.from_address(_api.PyCapsule_GetPointer(schema, _SCHEMA))
-    return _copied(_moved(ArrowArray.from_address(_api.PyCapsule_GetPointer(array, _ARRAY))), there)
+    return _imported(_moved(ArrowArray.from_address(_api.PyCapsule_GetPointer(array, _ARRAY))), there)
 
 
 def batches(capsule: object) -> Iterator[Typed]:
-    """Returns an iterator over copies of the arrays of the stream in a capsule; without an array, over one without rows.
+    """Returns an iterator over the columns of the arrays of the stream in a capsule; without an array, over one without rows.
 
     The stream is released at the end, after an error, and when the iterator is closed.
     """
@@ -166,14 +166,14 @@ def batches(capsule: object) -> Iterator[Typed]:
             count += 1
             yield batch
         if count == 0:
-            yield _copied(_empty_array(schema), schema)
+            yield _imported(_empty_array(schema), schema)
     finally:
         _release(schema)
         _release(stream)
 
 
 def _import_stream(capsule: object) -> Typed:
-    """Returns a copy of the arrays of the stream in a capsule, one after the other."""
+    """Returns the arrays of the stream in a capsule as one column, one after the other."""
     chunks = list(batches(capsule))
     owners, logical = common_type([owner for owner, _ in chunks], [logical for _, logical in chunks])
     return concatenated(owners), logical
@@ -191,13 +191,13 @@ def _get(stream: ArrowArrayStream, function: int, out: ArrowArray | ArrowSchema)
 
 
 def _chunks(stream: ArrowArrayStream, schema: ArrowSchema) -> Iterator[Typed]:
-    """Returns an iterator over copies of the arrays of a stream, up to the released array at its end."""
+    """Returns an iterator over the columns of the arrays of a stream, up to the released array at its end."""
     while True:
         array = ArrowArray()
         _get(stream, stream.get_next, array)
         if not array.release:
             return
-        yield _copied(array, schema)
+        yield _imported(array, schema)
 
 
 # The library does not look at what is below this level.

@@ -30,6 +30,9 @@ if TYPE_CHECKING:
     Boolean = Union[bool, numpy.bool_]
     Array = numpy.ndarray[Any, Any]
 
+# The types whose values are plain numbers in memory.
+_BUFFER_TYPES = frozenset(("i8", "i16", "i32", "i64", "u8", "u16", "u32", "u64", "float", "double"))
+
 # tools/bench imports _NOTHING from here.
 __all__ = ["_NOTHING", "Column", "choose", "collect_rows", "concat", "flatten", "if_else", "propagate_dictionary"]
 
@@ -116,11 +119,15 @@ class Column(Owner):
         return Column._owning(made)
 
     @staticmethod
-    def from_numpy(values: Array, valid: Iterable[Boolean] | Array | None = None) -> Column:
+    def from_numpy(values: Array, valid: Iterable[Boolean] | Array | None = None, copy: bool | None = None) -> Column:
         """Returns the column of an array of one dimension, of integers of 8 to 64 bits, floats, booleans, datetime64 or timedelta64.
 
-        A row is null if it is masked, or if `valid`, a boolean for each row, is false. The array is copied; no other thread may write
-        to it meanwhile. Raises TypeError for an array of another type.
+        A row is null if it is masked or NaT, or if `valid`, a boolean for each row, is false. Raises TypeError for an array of another type.
+
+        The column reads the memory of the array, without a copy, and keeps the array until the last column, slice or result that reads it is
+        gone. **Nobody may write to the array meanwhile.** Arrays that are not contiguous, not aligned or in another byte order, booleans and
+        days (`datetime64[D]`) are copied. With `copy=True` any array is copied; `copy=False` raises ValueError for one that has to be. A mask
+        is always copied.
 
         >>> import numpy
         >>> sel.Column.from_numpy(numpy.array([1, 2, 3], dtype="int16"), valid=[True, False, True])
@@ -128,7 +135,8 @@ class Column(Owner):
         """
         if not _arrays.is_array(values):
             raise TypeError(f"values: {shown(values)} is not an array")
-        return Column._owning(*_arrays.made_with_type(_arrays.opened(values, "values"), "values", valid))
+        wanted = None if copy is None else boolean(copy, "copy")
+        return Column._owning(*_arrays.made_with_type(_arrays.opened(values, "values"), "values", valid, wanted))
 
     # ---- reading
 
@@ -189,26 +197,35 @@ class Column(Owner):
         """
         return rows_of(self, self._logical)
 
-    def to_numpy(self) -> Array:
+    def to_numpy(self, zero_copy_only: bool = False, writable: bool | None = None) -> Array:
         """Returns integers of 8 to 64 bits, floats, booleans, dates, timestamps and durations as an array, masked if some row is null.
 
-        It is always a copy. Dates and timestamps are of type datetime64, durations of type timedelta64.
+        By default it is a copy, which may be written. With `writable=False` it is a read-only view of the column's memory where that is
+        possible: integers, floats, timestamps and durations without nulls. The view keeps the column's memory. With `zero_copy_only=True` it
+        is such a view, or ValueError is raised.
 
-        Raises TypeError for a column of another type.
+        Dates and timestamps are of type datetime64, durations of type timedelta64. Raises TypeError for a column of another type.
 
         >>> sel.Column([1, 2]).to_numpy()
         array([1, 2])
         >>> sel.Column([1, None]).to_numpy().mask
         array([False,  True])
+        >>> sel.Column([1, 2]).to_numpy(zero_copy_only=True).flags.writeable
+        False
         """
-        array: Array = _arrays.array_of(self, self._logical)
+        only = boolean(zero_copy_only, "zero_copy_only")
+        changes = not only if writable is None else boolean(writable, "writable")
+        if only and changes:
+            raise ValueError("an array without a copy cannot be writable: columns never change")
+        array: Array = _arrays.array_of(self, self._logical, only, changes)
         return array
 
     def __array__(self, dtype: Any = None, copy: bool | None = None) -> Array:
-        """Returns the rows for `numpy.asarray` and the like, as `to_numpy` does: always a copy, and only of a column without nulls.
+        """Returns the rows for `numpy.asarray` and the like, of a column without nulls: a read-only view of its memory where that is
+        possible, as `to_numpy(writable=False)` does. `numpy.array(column)` is always a copy.
 
         An array that numpy makes has no mask. So nulls raise ValueError; `to_numpy` masks them, and `fill_null` replaces them. Columns of
-        other types than integers of 8 to 64 bits and booleans raise TypeError, and `copy=False` raises ValueError.
+        other types than `to_numpy` takes raise TypeError. `copy=True` gives a copy, and `copy=False` raises ValueError if one is needed.
 
         >>> import numpy
         >>> numpy.asarray(sel.Column([1, None, 3]).fill_null(0))
@@ -216,6 +233,28 @@ class Column(Owner):
         """
         array: Array = _arrays.plain_array_of(self, dtype, copy, self._logical)
         return array
+
+    def values_buffer(self) -> memoryview:
+        """Returns a read-only memoryview of the values of integers of 8 to 64 bits or floats, those in null slots too: `valid` says which
+        rows are null. It keeps the column's memory, and copies nothing.
+
+        Dates, timestamps and durations are the integers of their storage, half floats their bits, rows of a dictionary their keys. Raises
+        TypeError for another type.
+
+        >>> view = sel.Column([1.5, -2.0]).values_buffer()
+        >>> view.format, view.tolist(), view.readonly
+        ('d', [1.5, -2.0], True)
+        """
+        return _arrays.buffer_of(self, self._logical)
+
+    def __buffer__(self, flags: int) -> memoryview:
+        """Returns `values_buffer()` for `memoryview(column)`, from Python 3.12 on: of integers and floats without nulls.
+
+        Other columns raise BufferError, those whose values are no plain numbers (dates, times, half floats, keys of dictionaries) among them.
+        """
+        if self.null_count > 0 or str(self.type) not in _BUFFER_TYPES:
+            raise BufferError(f"a column of type {self.type}{' with nulls' if self.null_count else ''} has no buffer; see values_buffer and to_numpy")
+        return self.values_buffer()
 
     def __iter__(self) -> Iterator[Any]:
         """Returns an iterator over the rows as Python values.

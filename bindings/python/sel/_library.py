@@ -103,7 +103,7 @@ lib, _keeping_lock = _load()
 # Calls that take little time whatever the column is. They keep the lock: while another thread runs Python code, it would take
 # milliseconds to get the lock back.
 _SHORT = ("sel_len", "sel_type_of", "sel_status_string", "sel_share", "sel_child", "sel_field", "sel_field_count", "sel_fixed_size_list_size", "sel_bytes_len",
-          "sel_buffer_count", "sel_buffer_len")
+          "sel_buffer_count", "sel_buffer_len", "sel_borrow_values")
 for _name in _SHORT:
     setattr(lib, _name, getattr(_keeping_lock, _name))
 
@@ -161,6 +161,7 @@ _CALLS: dict[str, list[Any]] = {
     "sel_parse": [_BYTES, _SIZE, _BYTES, _SIZE, POINTER(_SIZE), _COLUMN],
     "sel_import": [_ARRAY, _SCHEMA, _COLUMN, _TYPE],
     "sel_export": [_COLUMN, _TYPE, _ARRAY, _SCHEMA],
+    "sel_borrow_values": [_COLUMN, POINTER(c_void_p), POINTER(_SIZE)],
     "sel_type_import": [_SCHEMA, _TYPE],
     "sel_type_export": [_TYPE, _SCHEMA],
     "sel_type_of_storage": [_COLUMN, _TYPE],

@@ -39,7 +39,10 @@ class Table:
     __slots__ = ("_columns", "_length", "_names")
 
     def __init__(self, columns: Mapping[str, Any]) -> None:
-        """Makes a table of columns, arrays of numpy or lists of Python values. Raises ValueError for columns of several lengths."""
+        """Makes a table of columns, arrays of numpy or lists of Python values. Raises ValueError for columns of several lengths.
+
+        The columns of arrays read their memory, as those of `Column.from_numpy` do: nobody may write to the arrays meanwhile.
+        """
         made = [_column_of(values) for values in columns.values()]
         self._set(list(columns), made, len(made[0]) if made else 0)
 
@@ -51,7 +54,7 @@ class Table:
 
     @staticmethod
     def from_arrow(source: Any) -> Table:
-        """Returns a copy of a table, a record batch or a stream of another library, by the Arrow PyCapsule interface.
+        """Returns a table, a record batch or a stream of another library, by the Arrow PyCapsule interface. It shares the buffers.
 
         The batches of a stream are concatenated; `Stream.from_arrow` gives one after the other. Raises ValueError if the source is no
         table: its type is not a struct, or a row is null.
@@ -183,7 +186,7 @@ class Table:
         return export_type(*self._struct())
 
     def __arrow_c_array__(self, requested_schema: object = None) -> tuple[object, object]:
-        """Returns capsules with the schema and a copy of the rows, as a record batch."""
+        """Returns capsules with the schema and the rows, as a record batch. Buffers are shared."""
         return export(*self._struct(), requested_schema)
 
     def __arrow_c_stream__(self, requested_schema: object = None) -> object:

@@ -207,9 +207,14 @@ class Refused(unittest.TestCase):
     @unittest.skipIf(numpy is None, "numpy is not installed: arrays are not tested")
     def test_arrays(self) -> None:
         column, flags, places = Column([1, None, 3]), numpy.array([True, False, True]), numpy.array([2, 0])
+        times, plain = numpy.array([0, "NaT", 2], dtype="datetime64[ms]"), Column([1, 2, 3])
         uses: list[Callable[[], Any]] = [
             lambda: Column.from_numpy(places), lambda: Column.from_numpy(flags, valid=flags), column.to_numpy, lambda: column.filter(flags), lambda: column.take(places),
-            lambda: column[flags], lambda: column[places], lambda: sel.collect_rows([column], numpy.array([[0, 1]])),
+            lambda: column[flags], lambda: column[places], lambda: sel.collect_rows([column], numpy.array([[0, 1]])), lambda: Column.from_numpy(places, copy=True),
+            lambda: Column.from_numpy(places[::-1]), lambda: Column.from_numpy(times), lambda: Column.from_numpy(times / numpy.timedelta64(1, "ms")),
+            lambda: Column.from_numpy(places, valid=[True, False], copy=False)[1:].filter([True]), lambda: Table({"a": places, "b": times[:2]}),
+            lambda: plain.to_numpy(zero_copy_only=True), lambda: numpy.asarray(plain), lambda: numpy.array(plain), plain.values_buffer, lambda: plain.__buffer__(0),
+            lambda: Column.from_numpy(places).to_numpy(writable=False),
         ]
         for number, use in enumerate(uses):
             self.check(use, number)

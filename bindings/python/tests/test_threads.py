@@ -152,7 +152,7 @@ class Lock(unittest.TestCase):
 
     def test_calls_release_the_lock(self) -> None:
         column = Column([True, None] * 500_000)
-        calls: list[Callable[[], Any]] = [lambda: column.equals(column), lambda: column.filter(column), column.to_numpy if numpy else column.valid]
+        calls: list[Callable[[], Any]] = [lambda: column.equals(column), lambda: column.filter(column), lambda: column.to_numpy() if numpy else column.valid()]
         for number, use in enumerate(calls):
             self.assertTrue(self.is_released_by(use, 1_000), number)
 

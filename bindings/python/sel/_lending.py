@@ -1,0 +1,99 @@
+"""Memory without a copy: columns that read the memory of Python objects, and views of the memory of columns.
+
+An object whose memory is lent is kept until the library releases it, which is when the last column, slice, result or exported array that
+reads it is gone.
+"""
+
+from __future__ import annotations
+
+import ctypes
+from array import array
+from collections.abc import Sequence
+from ctypes import CFUNCTYPE, POINTER, byref, c_char_p, c_size_t, c_ubyte, c_void_p, cast, py_object
+from itertools import count as numbers
+from typing import Any, NamedTuple, Optional, Tuple
+
+from ._library import ArrowArray, ArrowSchema, call
+from ._owner import Owner
+
+__all__ = ["Piece", "bytes_at", "lent", "values_of"]
+
+_Release = CFUNCTYPE(None, c_void_p)
+
+# What the arrays that are not released refer to, by the number in their private data.
+_KEPT: dict[int, tuple[Any, list[Any]]] = {}
+_NUMBERS = numbers(1)
+
+_NULLABLE = 2
+
+
+class Piece(NamedTuple):
+    """A level of an array: its Arrow format, the number of its rows, the addresses of its buffers (0 for a missing one), and its children."""
+
+    format: bytes
+    length: int
+    buffers: Tuple[int, ...]
+    null_count: int = -1
+    children: Tuple[Any, ...] = ()
+    metadata: Optional[bytes] = None
+
+
+# The defaults are what the function uses: a column may be freed after the names of this module are gone.
+def _released(address: int, structure: Any = ArrowArray, kept: dict[int, tuple[Any, list[Any]]] = _KEPT) -> None:
+    there = structure.from_address(address)
+    there.release = None
+    kept.pop(there.private_data, None)
+
+
+_RELEASE, _NO_RELEASE = _Release(_released), _Release(lambda address: None)
+# Nor may the code be freed that the library calls.
+for _code in (_RELEASE, _NO_RELEASE):
+    ctypes.pythonapi.Py_IncRef(py_object(_code))
+
+
+def _structures(piece: Piece, parts: list[Any]) -> tuple[ArrowSchema, ArrowArray]:
+    """Returns the schema and the array of a piece. The parts keep what these refer to."""
+    below = [_structures(child, parts) for child in piece.children]
+    buffers = (c_void_p * max(1, len(piece.buffers)))(*[address or None for address in piece.buffers])
+    schema = ArrowSchema(format=piece.format, metadata=piece.metadata, flags=_NULLABLE, n_children=len(below), release=cast(_NO_RELEASE, c_void_p))
+    there = ArrowArray(length=piece.length, null_count=piece.null_count, n_buffers=len(piece.buffers), buffers=buffers, n_children=len(below),
+                       release=cast(_NO_RELEASE, c_void_p))
+    if below:
+        schema.children = (POINTER(ArrowSchema) * len(below))(*[ctypes.pointer(one) for one, _ in below])
+        there.children = (POINTER(ArrowArray) * len(below))(*[ctypes.pointer(one) for _, one in below])
+    parts.append((below, buffers, schema, there, c_char_p(piece.metadata)))
+    return schema, there
+
+
+def lent(piece: Piece, keeps: object) -> Owner:
+    """Returns the column of a piece, in the storage of its format. The object keeps the memory of the piece."""
+    made, number = Owner(), next(_NUMBERS)
+    parts: list[Any] = []
+    schema, there = _structures(piece, parts)
+    there.private_data, there.release = number, cast(_RELEASE, c_void_p)
+    _KEPT[number] = keeps, parts
+    try:
+        call("sel_import", byref(there), byref(schema), byref(made._handle), None)
+    finally:
+        if there.release:
+            _KEPT.pop(number)
+    return made
+
+
+def bytes_at(address: int, size: int, keeps: object) -> memoryview:
+    """Returns a read-only view of bytes of memory. It keeps the object."""
+    if size == 0:
+        return memoryview(b"")
+    items: Any = (c_ubyte * size).from_address(address)
+    items.keeps = keeps
+    return memoryview(items).cast("B").toreadonly()
+
+
+def values_of(owner: Owner, code: str) -> memoryview:
+    """Returns a read-only view of the values of a column of integers, with a type code of their size. It keeps the column."""
+    address, count = c_void_p(), c_size_t()
+    call("sel_borrow_values", owner, byref(address), byref(count))
+    empty: array[Any] = array(code)
+    if count.value == 0:
+        return memoryview(empty).toreadonly()
+    return bytes_at(int(address.value or 0), count.value * empty.itemsize, owner).cast(code)
