@@ -2,6 +2,7 @@
 
 from __future__ import annotations
 
+import operator
 from collections.abc import Iterable, Iterator, Sequence
 from ctypes import byref, c_bool, c_size_t
 from typing import TYPE_CHECKING, Any, overload
@@ -47,8 +48,10 @@ class Column(Owner):
     An index that no row has raises IndexError, as does an index of a list outside the 64-bit integers; a size outside its
     range raises OverflowError. No integer is wrapped.
 
-    Columns can be copied by `copy` and pickled. A copy shares memory with its column; a pickle has the type and the rows as
-    Python values, and its cost is in proportion to the rows.
+    Columns can be copied by `copy` and pickled. A copy shares memory with its column. A pickle of protocol 5 has the column's buffers,
+    which are not copied if they are passed out of band (`pickle.dumps(column, 5, buffer_callback=..)`), as Dask does; the column that is
+    read from it reads the buffers that it gets. Earlier protocols have the rows as Python values. A pickle of a slice has the slice's
+    rows alone, and its cost is in proportion to them.
 
     Each method that takes a mask or indices takes a column, a numpy array or an iterable of Python values. `None` and what is
     masked are null.
@@ -501,6 +504,15 @@ class Column(Owner):
         """Returns what `pickle` stores: the rows as Python values of the storage, the text of its type, and the logical type."""
         rows = rows_of(self), str(self.storage)
         return (Column, rows) if self._logical is None else (_with_type, (*rows, self._logical))
+
+    def __reduce_ex__(self, protocol: SupportsIndex) -> tuple[Any, ...]:
+        """Returns what `pickle` stores: from protocol 5 on the column's buffers, which may be passed out of band, else the rows."""
+        if operator.index(protocol) < 5:
+            return self.__reduce__()
+        from ._buffers import column_again, reduced
+
+        parts = reduced(self)
+        return self.__reduce__() if parts is None else (column_again, (self._logical, *parts))
 
     # ---- Arrow
 

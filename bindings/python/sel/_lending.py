@@ -9,14 +9,15 @@ from __future__ import annotations
 import ctypes
 from array import array
 from collections.abc import Sequence
-from ctypes import CFUNCTYPE, POINTER, byref, c_char_p, c_size_t, c_ubyte, c_void_p, cast, py_object
+from ctypes import CFUNCTYPE, POINTER, byref, c_char_p, c_int, c_size_t, c_ssize_t, c_ubyte, c_void_p, cast, py_object
 from itertools import count as numbers
 from typing import Any, NamedTuple, Optional, Tuple
 
 from ._library import ArrowArray, ArrowSchema, call
+from ._logical import TypeOwner
 from ._owner import Owner
 
-__all__ = ["Piece", "bytes_at", "lent", "values_of"]
+__all__ = ["Exported", "Piece", "Pinned", "bytes_at", "lent", "values_of"]
 
 _Release = CFUNCTYPE(None, c_void_p)
 
@@ -78,6 +79,47 @@ def lent(piece: Piece, keeps: object) -> Owner:
         if there.release:
             _KEPT.pop(number)
     return made
+
+
+class _PyBuffer(ctypes.Structure):
+    """`Py_buffer`: a buffer that an object exports."""
+
+    _fields_ = [("buf", c_void_p), ("obj", c_void_p), ("len", c_ssize_t), ("itemsize", c_ssize_t), ("readonly", c_int), ("ndim", c_int), ("format", c_void_p),
+                ("shape", c_void_p), ("strides", c_void_p), ("suboffsets", c_void_p), ("internal", c_void_p)]
+
+
+_get_buffer, _release_buffer = ctypes.pythonapi.PyObject_GetBuffer, ctypes.pythonapi.PyBuffer_Release
+_get_buffer.restype, _get_buffer.argtypes = c_int, [py_object, POINTER(_PyBuffer), c_int]
+_release_buffer.restype, _release_buffer.argtypes = None, [POINTER(_PyBuffer)]
+
+
+class Pinned:
+    """The contiguous bytes of an object with the buffer protocol, which stay where they are as long as this lives."""
+
+    __slots__ = ("_buffer", "address", "size")
+
+    def __init__(self, source: object) -> None:
+        self._buffer = _PyBuffer()
+        _get_buffer(source, byref(self._buffer), 0)
+        self.address, self.size = int(self._buffer.buf or 0), int(self._buffer.len)
+
+    def __del__(self, release: Any = _release_buffer, pointer: Any = byref) -> None:
+        release(pointer(self._buffer))
+
+
+class Exported:
+    """An array of the buffers of a column in the storage of a type, or in that of its own, and its schema; both are released with it."""
+
+    __slots__ = ("array", "schema")
+
+    def __init__(self, column: Owner, type: TypeOwner) -> None:
+        self.array, self.schema = ArrowArray(), ArrowSchema()
+        call("sel_export", column, type, byref(self.array), byref(self.schema))
+
+    def __del__(self, function: Any = _Release, address: Any = ctypes.addressof) -> None:
+        for there in (self.array, self.schema):
+            if there.release:
+                function(there.release)(address(there))
 
 
 def bytes_at(address: int, size: int, keeps: object) -> memoryview:

@@ -15,7 +15,7 @@ from ._types import KINDS, Type
 if TYPE_CHECKING:
     from typing_extensions import Self
 
-__all__ = ["ArrowType", "coded_type", "TypeOwner", "as_logical_of", "common_type", "decoded", "dictionary_of", "logical_type", "nullable", "of_format", "storage_type", "type_parameter"]
+__all__ = ["ArrowType", "coded_type", "TypeOwner", "as_logical_of", "common_type", "decoded", "dictionary_of", "logical_type", "metadata_of", "nullable", "of_format", "storage_type", "type_parameter"]
 
 # ARROW_FLAG_NULLABLE in include/sel_arrow.h.
 _NULLABLE = 2
@@ -149,6 +149,17 @@ def _schema_of(owner: TypeOwner) -> ArrowSchema:
 def _release(schema: ArrowSchema) -> None:
     if schema.release:
         ctypes.CFUNCTYPE(None, ctypes.c_void_p)(schema.release)(ctypes.addressof(schema))
+
+
+def metadata_of(schema: ArrowSchema) -> bytes | None:
+    """Returns the bytes of a schema's metadata: the number of pairs, then the length and the bytes of each key and value."""
+    address = ctypes.c_void_p.from_address(ctypes.addressof(schema) + ArrowSchema.metadata.offset).value
+    if not address:
+        return None
+    size = 4
+    for _ in range(2 * ctypes.c_int32.from_address(address).value):
+        size += 4 + ctypes.c_int32.from_address(address + size).value
+    return ctypes.string_at(address, size)
 
 
 def _flags(owner: TypeOwner) -> int:

@@ -8,7 +8,7 @@ from ctypes import POINTER, byref, c_char_p, c_void_p, cast
 from typing import Any, Optional, Tuple
 
 from ._library import ArrowArray, ArrowSchema, call
-from ._logical import ArrowType, TypeOwner, dictionary_of
+from ._logical import ArrowType, TypeOwner, dictionary_of, metadata_of
 from ._owner import Owner
 
 __all__ = ["described", "type_again"]
@@ -36,26 +36,15 @@ def _release_kept(address: int) -> None:
 _RELEASE_KEPT = _Release(_release_kept)
 
 
-def _metadata(address: int | None) -> bytes | None:
-    """Returns the bytes of the metadata at an address: the number of pairs, then the length and the bytes of each key and value."""
-    if not address:
-        return None
-    size = 4
-    for _ in range(2 * ctypes.c_int32.from_address(address).value):
-        size += 4 + ctypes.c_int32.from_address(address + size).value
-    return ctypes.string_at(address, size)
-
-
 def _described(type: ArrowType, schema: ArrowSchema) -> Level:
     children = tuple(_described(field, schema.children[number].contents) for number, field in enumerate(type.fields))
-    metadata = _metadata(c_void_p.from_address(ctypes.addressof(schema) + ArrowSchema.metadata.offset).value)
     dictionary = None
     if schema.dictionary:
         from ._column import Column
 
         values, value_type = dictionary_of(type)
         dictionary = (Column._owning(values, value_type),)
-    return schema.format, schema.name, metadata, schema.flags, children, dictionary
+    return schema.format, schema.name, metadata_of(schema), schema.flags, children, dictionary
 
 
 def described(owner: TypeOwner) -> Level:

@@ -20,7 +20,7 @@ from ._owner import Owner, derived
 from ._types import NUMBERS
 from ._values import python_value
 
-__all__ = ["printed", "rows_of", "text_of", "validity_bits"]
+__all__ = ["compacted", "is_mostly", "printed", "rows_of", "text_of", "validity_bits"]
 
 # A buffer is read as a whole if it has at most so many times the bytes of the rows, or few bytes at all.
 _SPARE_FACTOR = 2
@@ -120,12 +120,12 @@ def _offsets(owner: Owner) -> list[int]:
     return values
 
 
-def _is_mostly(part: int, whole: int) -> bool:
+def is_mostly(part: int, whole: int) -> bool:
     """Returns whether the bytes of the rows are most of a buffer, or the buffer is small."""
     return whole <= _SPARE_FACTOR * part + _SPARE_BYTES
 
 
-def _compacted(owner: Owner) -> Owner:
+def compacted(owner: Owner) -> Owner:
     """Returns the same rows in buffers of their own."""
     count = len(owner)
     return derived(owner, "sel_take_rows", words("I", range(count)), count, *NO_VALIDITY)
@@ -133,8 +133,8 @@ def _compacted(owner: Owner) -> Owner:
 
 def _read_bytes(owner: Owner) -> list[Any]:
     offsets = _offsets(owner)
-    if not _is_mostly(offsets[-1] - offsets[0], owner._size("sel_bytes_len")):
-        owner = _compacted(owner)
+    if not is_mostly(offsets[-1] - offsets[0], owner._size("sel_bytes_len")):
+        owner = compacted(owner)
         offsets = _offsets(owner)
     joined = room("B", owner._size("sel_bytes_len"))
     call("sel_bytes", owner, joined, joined.size())
@@ -150,7 +150,7 @@ def _read_views(owner: Owner) -> list[Any]:
     lengths, numbers = views.items[0::4], views.items[2::4]
     used = {number for length, number in zip(lengths, numbers) if length > _INLINE_BYTES}
     sizes = {number: owner._size("sel_buffer_len", number) for number in used}
-    if not _is_mostly(sum(length for length in lengths if length > _INLINE_BYTES), sum(sizes.values())):
+    if not is_mostly(sum(length for length in lengths if length > _INLINE_BYTES), sum(sizes.values())):
         return _printed_texts(owner, sum(lengths)) if is_text else _printed_bytes(owner, sum(lengths))
     pieces = _pieces(views, {number: _buffer(owner, number, size) for number, size in sizes.items()})
     return [piece.decode() for piece in pieces] if is_text else pieces

@@ -31,6 +31,8 @@ __all__ = ["Stream", "Table"]
 class Table:
     """Columns of one length with names. It never changes.
 
+    Tables can be pickled; from protocol 5 on their buffers need not be copied, as for columns.
+
     >>> table = sel.Table({"id": [1, 2, 3], "price": [0.5, None, 2.0]})
     >>> table.filter([True, False, True]).to_pydict()
     {'id': [1, 3], 'price': [0.5, 2.0]}
@@ -142,6 +144,10 @@ class Table:
                  for name, column in zip(self._names, self._columns)]
         return "\n".join([f"Table of {self._length} rows", *lines])
 
+    def __reduce__(self) -> tuple[Any, ...]:
+        """Returns what `pickle` stores: the names and the columns, which are pickled as columns are."""
+        return _table_again, (self._names, self._columns, self._length)
+
     # ---- kernels
 
     def filter(self, mask: Column | Iterable[Boolean | None] | Array) -> Table:
@@ -200,6 +206,13 @@ class Table:
         made = object.__new__(Table)
         made._set(self._names, columns, len(columns[0]) if columns else length() if length else 0)
         return made
+
+
+def _table_again(names: list[str], columns: list[Column], length: int) -> Table:
+    """Returns a table that was pickled."""
+    made = object.__new__(Table)
+    made._set(names, columns, length)
+    return made
 
 
 def _column_of(values: Any) -> Column:

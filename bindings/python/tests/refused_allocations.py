@@ -54,6 +54,12 @@ ROWS: dict[str, list[Any]] = {
 }
 
 
+def out_of_band(value: object) -> Any:
+    """Returns a copy by a pickle whose buffers are passed beside it."""
+    buffers: list[Any] = []
+    return pickle.loads(pickle.dumps(value, 5, buffer_callback=buffers.append), buffers=buffers)
+
+
 def uses_of(kind: str, rows: list[Any]) -> list[Callable[[], Any]]:
     """Returns uses of a column, which lives as long as they do."""
     wanted, count = parse_type(kind), len(rows)
@@ -61,7 +67,7 @@ def uses_of(kind: str, rows: list[Any]) -> list[Callable[[], Any]]:
     uses: list[Callable[[], Any]] = [
         lambda: Column(rows, wanted), column.to_pylist, lambda: list(column), lambda: str(column), lambda: repr(column), lambda: column.type, column.valid,
         lambda: column[0], lambda: column[::-1], lambda: column[[0, -1]], lambda: column[[True] * count], column.share, lambda: Column(column),
-        lambda: pickle.loads(pickle.dumps(column)), column.drop_null, column.reverse, column.unit_list, lambda: column.equals(column), lambda: column == column,
+        lambda: pickle.loads(pickle.dumps(column)), lambda: pickle.loads(pickle.dumps(column, 5)), lambda: out_of_band(column), lambda: out_of_band(column[1:]), column.drop_null, column.reverse, column.unit_list, lambda: column.equals(column), lambda: column == column,
         lambda: column.fill_null(rows[0]), lambda: sel.choose([True] * count, rows[0], column), lambda: sel.choose([False] * count, column, rows[0]),
         lambda: sel.concat([column, column]), lambda: sel.flatten([column, column], [1, count], count), lambda: sel.collect_rows([column, column], [(0, 1), None, (1, 0)]),
     ]
@@ -148,6 +154,7 @@ class Refused(unittest.TestCase):
             uses: list[Callable[[], Any]] = [
                 column.to_pylist, lambda: str(column), lambda: repr(column), lambda: column.type, lambda: column[0], lambda: column[::-1], lambda: column.take([0, None]),
                 lambda: column.filter([True, False, True]), column.unit_list, column.decoded, lambda: column.fill_null(value), lambda: pickle.loads(pickle.dumps(column)),
+                lambda: out_of_band(column), lambda: out_of_band(Table({"a": column, "b": column[1:]})),
                 lambda: sel.if_else([True, False, None], column, value), lambda: sel.if_else([True, False, None], column, column), lambda: sel.concat([column, column]),
                 lambda: column.equals(column), column.__arrow_c_schema__, column.__arrow_c_array__, lambda: Column.from_arrow(column),
                 lambda: column.__arrow_c_array__(column.__arrow_c_schema__()), lambda: Column.from_arrow(Only(column)),
@@ -214,7 +221,7 @@ class Refused(unittest.TestCase):
             lambda: Column.from_numpy(places[::-1]), lambda: Column.from_numpy(times), lambda: Column.from_numpy(times / numpy.timedelta64(1, "ms")),
             lambda: Column.from_numpy(places, valid=[True, False], copy=False)[1:].filter([True]), lambda: Table({"a": places, "b": times[:2]}),
             lambda: plain.to_numpy(zero_copy_only=True), lambda: numpy.asarray(plain), lambda: numpy.array(plain), plain.values_buffer, lambda: plain.__buffer__(0),
-            lambda: Column.from_numpy(places).to_numpy(writable=False),
+            lambda: out_of_band(Column.from_numpy(places)), lambda: Column.from_numpy(places).to_numpy(writable=False),
         ]
         for number, use in enumerate(uses):
             self.check(use, number)

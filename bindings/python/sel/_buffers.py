@@ -1,0 +1,191 @@
+"""Columns in pickles of protocol 5: the layout of the storage, and the buffers as they are in memory.
+
+A slice shares whole buffers with its column. If most of what they hold belongs to no row, the rows are copied to buffers of their own first.
+"""
+
+from __future__ import annotations
+
+import importlib
+import pickle
+from array import array
+from collections.abc import Iterator, Sequence
+from ctypes import addressof, byref, c_int64
+from typing import Any, List, NamedTuple, Optional, Tuple
+
+from ._errors import BrokenRule
+from ._lending import Exported, Piece, Pinned, bytes_at, lent
+from ._library import ArrowArray, ArrowSchema, call
+from ._logical import ArrowType, TypeOwner, metadata_of, of_format, storage_type, type_parameter
+from ._memory import _NOTHING, SIZE_CODE, words
+from ._owner import Owner, from_several
+from ._readers import compacted, is_mostly
+from ._types import Type
+
+__all__ = ["column_again", "reduced"]
+
+# The bytes of a value in the formats that have values of one size.
+_WIDTHS = {b"c": 1, b"C": 1, b"s": 2, b"S": 2, b"i": 4, b"I": 4, b"l": 8, b"L": 8, b"d:38,0,128": 16, b"w:16": 16}
+_VIEWS = (b"vz", b"vu")
+_VIEW_BYTES, _INLINE_BYTES = 16, 12
+
+# A level in a pickle: its format and metadata, its rows and nulls, the bytes of each of its buffers, and its children.
+Level = Tuple[bytes, Optional[bytes], int, int, Tuple[Optional[int], ...], Tuple[Any, ...]]
+
+
+class _Level(NamedTuple):
+    """A level of an exported array: the addresses and the bytes of its buffers; a missing one has none."""
+
+    format: bytes
+    metadata: bytes | None
+    length: int
+    null_count: int
+    addresses: Sequence[int]
+    sizes: Sequence[Optional[int]]
+    children: Sequence[Any]
+
+    def described(self) -> Level:
+        """Returns the level for a pickle."""
+        return self.format, self.metadata, self.length, self.null_count, tuple(self.sizes), tuple(child.described() for child in self.children)
+
+    def buffers(self, keeps: object) -> Iterator[Any]:
+        """Returns the buffers that are there, those of the children behind those of the level."""
+        for address, size in zip(self.addresses, self.sizes):
+            if size is not None:
+                yield pickle.PickleBuffer(bytes_at(address, size, keeps))
+        for child in self.children:
+            yield from child.buffers(keeps)
+
+
+def _offset(address: int, place: int) -> int:
+    """Returns an offset of a buffer, or 0 if the buffer is missing."""
+    return c_int64.from_address(address + 8 * place).value if address else 0
+
+
+def _sizes(format: bytes, there: ArrowArray, addresses: list[int]) -> list[int]:
+    """Returns the bytes of the buffers behind the validity; those of views are without the last one, which has the others' lengths."""
+    count = there.length
+    if format in _WIDTHS:
+        return [count * _WIDTHS[format]]
+    if format == b"b":
+        return [(count + 7) // 8]
+    if format in _VIEWS:
+        return [count * _VIEW_BYTES, *[_offset(addresses[-1], number) for number in range(len(addresses) - 3)]]
+    if format in (b"Z", b"U"):
+        return [8 * (count + 1), _offset(addresses[1], count)]
+    return [8 * (count + 1)] if format == b"+L" else []
+
+
+def _level(there: ArrowArray, schema: ArrowSchema) -> _Level:
+    """Returns a level of an exported array, which has no offset."""
+    format = bytes(schema.format)
+    addresses = [int(there.buffers[number] or 0) for number in range(there.n_buffers)]
+    children = [_level(there.children[number].contents, schema.children[number].contents) for number in range(there.n_children)]
+    sizes: list[int | None] = []
+    if addresses:
+        sizes = [(there.length + 7) // 8 if addresses[0] and there.null_count > 0 else None, *_sizes(format, there, addresses)]
+    return _Level(format, metadata_of(schema), there.length, there.null_count, addresses[: len(sizes)], sizes, children)
+
+
+def _bytes_of_views(level: _Level) -> int:
+    """Returns how many bytes of data buffers the views refer to."""
+    lengths: Any = bytes_at(level.addresses[1], level.length * _VIEW_BYTES, None).cast("I")[::4] if level.length else ()
+    try:
+        numpy = importlib.import_module("numpy")
+    except ImportError:
+        return sum(length for length in lengths if length > _INLINE_BYTES)
+    all_lengths = numpy.asarray(lengths, dtype="uint32")
+    return int(all_lengths[all_lengths > _INLINE_BYTES].sum(dtype="uint64"))
+
+
+def _use(level: _Level) -> tuple[int, int, set[bytes]]:
+    """Returns the bytes of all buffers, how many of them belong to no row, and the formats of views whose data buffers have such bytes."""
+    whole, spare, formats = sum(size or 0 for size in level.sizes), 0, set()
+    if level.format in _VIEWS:
+        data = sum(size or 0 for size in level.sizes[2:])
+        if not is_mostly(level.length * _VIEW_BYTES, data):
+            used = _bytes_of_views(level)
+            if not is_mostly(used, data):
+                spare, formats = data - used, {level.format}
+    elif level.format in (b"Z", b"U"):
+        spare = _offset(level.addresses[1], 0)
+    for child in level.children:
+        below, spare_below, formats_below = _use(child)
+        if level.format == b"+L" and child.length > 0:
+            outside = _offset(level.addresses[1], 0)
+            spare_below = max(spare_below, below * outside // child.length)
+        whole, spare, formats = whole + below, spare + spare_below, formats | formats_below
+    return whole, spare, formats
+
+
+def _with_offsets(wanted: Type) -> Type:
+    """Returns the type with strings that have offsets."""
+    if wanted.kind == "utf8":
+        return of_format("U")
+    if not wanted.children:
+        return wanted
+    format = {"list": "+L", "struct": "+s"}.get(wanted.kind, f"+w:{wanted.width}")
+    return of_format(format, [_with_offsets(child) for child in wanted.children])
+
+
+def _copied(column: Owner) -> Owner:
+    """Returns the rows in buffers of their own, but for the data buffers of views."""
+    count = len(column)
+    if count == 0:
+        return compacted(column)
+    return from_several([column], lambda handles, made: call("sel_flatten", handles, 1, words(SIZE_CODE, [count]), 1, 1, byref(made._handle)))
+
+
+def _exported(column: Owner) -> tuple[Exported, _Level] | None:
+    """Returns the buffers of a column, or of a copy of its rows; none if only Python can copy them."""
+    exported = Exported(column, TypeOwner())
+    level = _level(exported.array, exported.schema)
+    whole, spare, formats = _use(level)
+    if is_mostly(whole - spare, whole):
+        return exported, level
+    if b"vz" in formats:
+        return None
+    wanted = _with_offsets(storage_type(column)) if b"vu" in formats else None
+    exported = Exported(_copied(column), type_parameter(wanted if isinstance(wanted, ArrowType) else None))
+    return exported, _level(exported.array, exported.schema)
+
+
+def reduced(column: Owner) -> tuple[Any, ...] | None:
+    """Returns the layout of a column and its buffers; none if it has to be pickled by its rows, such as a 128-bit integer of 39 digits."""
+    try:
+        found = _exported(column)
+    except BrokenRule:
+        return None
+    if found is None:
+        return None
+    exported, level = found
+    return level.described(), *level.buffers(exported)
+
+
+def _piece(level: Level, buffers: Iterator[Any], keeps: List[Any]) -> Piece:
+    """Returns a level over the buffers that come next. Raises ValueError if one has another size than its level says."""
+    format, metadata, length, null_count, sizes, children = level
+    addresses = []
+    for size in sizes:
+        if size is None:
+            addresses.append(0)
+            continue
+        pinned = Pinned(next(buffers))
+        if pinned.size != size:
+            raise ValueError(f"a buffer of the pickled column has {pinned.size} bytes, not {size}")
+        keeps.append(pinned)
+        addresses.append(pinned.address if size > 0 else addressof(_NOTHING))
+    if format in _VIEWS:
+        lengths = array("q", [size or 0 for size in sizes[2:]] or [0])
+        keeps.append(lengths)
+        addresses.append(lengths.buffer_info()[0])
+    below = tuple(_piece(child, buffers, keeps) for child in children)
+    return Piece(format, length, tuple(addresses), null_count, below, metadata)
+
+
+def column_again(logical: ArrowType | None, level: Level, *buffers: Any) -> Any:
+    """Returns a column that was pickled, which reads the buffers where they are aligned for their type."""
+    from ._column import Column
+
+    keeps: list[Any] = []
+    piece = _piece(level, iter(buffers), keeps)
+    return Column._owning(lent(piece, keeps), logical)
