@@ -586,6 +586,12 @@ sel_status sel_take_rows(
     bool has_bits,
     sel_column *out);
 
+/* ---- Reversal. ---- */
+
+/* Returns in `out` the rows of `of` in reverse order.
+ * Errors: SEL_ERROR_NO_COLUMN: `of` is empty. */
+sel_status sel_reverse(const sel_column *of, sel_column *out);
+
 /* ---- If-then-else. ---- */
 
 /* Returns in `out` the column whose row k is row k of `if_true` where the boolean column `mask` is true, else row k
