@@ -103,7 +103,12 @@ FLAGS = [
     Flag("Column.from_pylist", "values", lambda value: Column.from_pylist([value], "bool"), [True], [False], True),
 ]
 if numpy is not None:
-    FLAGS.append(Flag("Column.from_numpy", "valid", lambda value: Column.from_numpy(numpy.array([5]), [value]), [5], [None]))
+    FLAGS.extend([
+        Flag("Column.from_numpy", "valid", lambda value: Column.from_numpy(numpy.array([5]), [value]), [5], [None]),
+        Flag("Column.from_numpy", "copy", lambda value: Column.from_numpy(numpy.array([True, False]), copy=value), [True, False], ValueError, True),
+        Flag("Column.to_numpy", "zero_copy_only", lambda value: Column([True, False]).to_numpy(zero_copy_only=value).tolist(), ValueError, [True, False]),
+        Flag("Column.to_numpy", "writable", lambda value: NUMBERS.to_numpy(writable=value).flags.writeable, True, False, True),
+    ])
 
 
 class Index:
@@ -259,7 +264,7 @@ class Integers(unittest.TestCase):
         found |= {("Type", name) for name, parameter in inspect.signature(Type).parameters.items() if "int" in str(parameter.annotation)}
         self.assertGreater(len(found), 10)
         if numpy is None:
-            found.discard(("Column.from_numpy", "valid"))
+            found -= {("Column.from_numpy", "valid"), ("Column.from_numpy", "copy"), ("Column.to_numpy", "zero_copy_only"), ("Column.to_numpy", "writable")}
         self.assertEqual(found - listed, set())
 
 
