@@ -267,7 +267,7 @@ static void test_selections(void) {
     MAKES(sel_filter_bits(deep, flags, 1, LEN, &out), MOST, 1, NONE);
     MAKES(sel_take(deep, &places, &out), MOST, NONE, 0, NONE);
     MAKES(sel_take_rows(deep, rows, LEN, SEL_ALL_VALID, &out), MOST, 1, 1, 0);
-    MAKES(sel_reverse(deep, &out), MOST, 1, 1, 0);
+    MAKES(sel_reverse(deep, &out), MOST, NONE, 1, 0);
     UNSUPPORTED(sel_filter(deep, deep, &out));
     UNSUPPORTED(sel_take(deep, deep, &out));
     FAILS(sel_take_rows(deep, far, 1, SEL_ALL_VALID, &out), SEL_ERROR_INDEX_OUT_OF_BOUNDS);
