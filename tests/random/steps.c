@@ -12,6 +12,9 @@
 /* Rows whose text is longer are not put into the pool, so that calls do not make them longer and longer. */
 enum { LONGEST_TEXT = 4000, MOST_LEVELS = 4 };
 
+/* More buffers than the steps of a round have lent at once. */
+enum { MOST_LENT = 262144 };
+
 /* A call that is being made. */
 struct step {
     const struct pool *pool;
@@ -470,6 +473,11 @@ bool pool_check(struct pool *pool) {
 void pool_end(struct pool *pool) {
     for (size_t i = 0; i < pool->count; i += 1) {
         sel_free(&pool->entries[i].column);
+    }
+    /* while many buffers are lent, the library looks for those that nothing uses at one call of sel_free for each 64 of them */
+    sel_column empty = {0};
+    for (size_t i = 0; i < MOST_LENT / 64; i += 1) {
+        sel_free(&empty);
     }
     arena_free(&pool->arena);
     *pool = (struct pool){0};
