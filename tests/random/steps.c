@@ -1,5 +1,6 @@
 #include "steps.h"
 
+#include "../../c/arrow_lease.h"
 #include "../check.h"
 #include "../report.h"
 #include "generate.h"
@@ -11,9 +12,6 @@
 
 /* Rows whose text is longer are not put into the pool, so that calls do not make them longer and longer. */
 enum { LONGEST_TEXT = 4000, MOST_LEVELS = 4 };
-
-/* More buffers than the steps of a round have lent at once. */
-enum { MOST_LENT = 262144 };
 
 /* A call that is being made. */
 struct step {
@@ -474,11 +472,8 @@ void pool_end(struct pool *pool) {
     for (size_t i = 0; i < pool->count; i += 1) {
         sel_free(&pool->entries[i].column);
     }
-    /* while many buffers are lent, the library looks for those that nothing uses at one call of sel_free for each 64 of them */
-    sel_column empty = {0};
-    for (size_t i = 0; i < MOST_LENT / 64; i += 1) {
-        sel_free(&empty);
-    }
+    /* while many buffers are lent, not each call of sel_free looks for those that nothing uses any more */
+    sel_sweep();
     arena_free(&pool->arena);
     *pool = (struct pool){0};
 }
