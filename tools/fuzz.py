@@ -90,7 +90,12 @@ def pack(target: str, stored: pathlib.Path, places: List[pathlib.Path]) -> int:
     return len(files)
 
 
-def start(target: str, folder: pathlib.Path, seconds: int, seed: int) -> "subprocess.Popen[str]":
+def log_of(target: str, folder: pathlib.Path) -> pathlib.Path:
+    """Returns the file that the output of a target is written to."""
+    return folder / f"{target}.log"
+
+
+def start(target: str, folder: pathlib.Path, seconds: int, seed: int) -> "subprocess.Popen[bytes]":
     """Starts a target on the stored inputs and those of earlier runs."""
     found = folder / f"{target}-found"
     for place in (found, folder / f"{target}-failed"):
@@ -98,10 +103,12 @@ def start(target: str, folder: pathlib.Path, seconds: int, seed: int) -> "subpro
     stored = unpacked(target, folder)
     command = [str(built(target, folder)), f"-max_total_time={seconds}", f"-seed={seed}", *options(target, folder), str(found), str(stored)]
     env = {**os.environ, "ASAN_OPTIONS": "allocator_may_return_null=1:malloc_context_size=8"}
-    return subprocess.Popen(command, env=env, text=True, errors="replace", stdout=subprocess.PIPE, stderr=subprocess.STDOUT)
+    # a file: a target would wait for a reader of a full pipe, while another one is read
+    with log_of(target, folder).open("w") as log:
+        return subprocess.Popen(command, env=env, stdout=log, stderr=subprocess.STDOUT)
 
 
-def report(target: str, output: str, status: int) -> bool:
+def report(target: str, status: int, output: str) -> bool:
     """Prints what a target has done. Returns whether it found nothing."""
     runs = re.findall(r"stat::number_of_executed_units:\s*(\d+)", output)
     covered = re.findall(r"cov: (\d+) ft: (\d+) corp: (\d+)", output)
@@ -120,7 +127,7 @@ def run_all(targets: List[str], seconds: int) -> int:
     folder.mkdir(parents=True, exist_ok=True)
     print(f"fuzz: {seconds} seconds each, seed {seed}", flush=True)
     running = {target: start(target, folder, seconds, seed) for target in targets}
-    results = [report(target, process.communicate()[0], process.returncode) for target, process in running.items()]
+    results = [report(target, process.wait(), log_of(target, folder).read_text(errors="replace")) for target, process in running.items()]
     return 0 if all(results) else 1
 
 
