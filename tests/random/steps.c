@@ -13,6 +13,9 @@
 /* Rows whose text is longer are not put into the pool, so that calls do not make them longer and longer. */
 enum { LONGEST_TEXT = 4000, MOST_LEVELS = 4 };
 
+/* The same for columns with more data buffers. */
+enum { MOST_BUFFERS = 64 };
+
 /* A call that is being made. */
 struct step {
     const struct pool *pool;
@@ -445,8 +448,29 @@ bool pool_step(const struct pool *pool, struct arena *arena, struct draws *draws
     return steps[draw(draws, sizeof steps / sizeof steps[0])](&step);
 }
 
+/* Tests whether a column has many data buffers at some level: kernels that combine columns add up those of all arguments. */
+static bool has_many_buffers(const sel_column *column) {
+    sel_type_id type = sel_type_of(column);
+    bool is_struct = type == SEL_TYPE_STRUCT;
+    size_t count = 0;
+    if (type == SEL_TYPE_BINARY_VIEW || type == SEL_TYPE_STRING_VIEW) {
+        return sel_buffer_count(column, &count) == SEL_OK && count > MOST_BUFFERS;
+    }
+    if (is_struct && sel_field_count(column, &count) != SEL_OK) {
+        return true;
+    }
+    bool has_many = false;
+    for (size_t i = 0; i < (is_struct ? count : type == SEL_TYPE_LIST || type == SEL_TYPE_FIXED_SIZE_LIST); i += 1) {
+        sel_column child = {0};
+        sel_status status = is_struct ? sel_field(column, i, &child) : sel_child(column, &child);
+        has_many = has_many || status != SEL_OK || has_many_buffers(&child);
+        sel_free(&child);
+    }
+    return has_many;
+}
+
 void pool_put(struct pool *pool, struct draws *draws, const struct entry *made) {
-    if (levels_of(made->rows.type) > MOST_LEVELS) {
+    if (levels_of(made->rows.type) > MOST_LEVELS || has_many_buffers(&made->column)) {
         sel_column column = made->column;
         sel_free(&column);
         return;
