@@ -169,7 +169,7 @@ use Field::{
     Columns, Flag, Index, Indices, Mask, Number, Offsets, Picks, Positions, Rows, Strings, Text, Type, Validity, Widths,
 };
 
-pub const CALLS: [Call; 22] = [
+pub const CALLS: [Call; 23] = [
     Call {
         name: "rows",
         fields: &[Type, Rows],
