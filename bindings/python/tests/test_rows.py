@@ -227,6 +227,7 @@ RIGHT_LINES = (
     "fixed_size_list_get | fixed<2,i64> | [[1,2],null] | 1 | false | [2,null]",
     "fixed_size_list_get_each | fixed<2,i64> | [[1,2],[3,4]] | [1,0] | false | [2,3]",
     "unit_list | bool | [true,null] | [[true],[null]]",
+    "reverse | i64 | [1,null,3] | [3,null,1]",
     "slice | i64 | [1,2,3] | 1 | 2 | [2,3]",
     "child | list<i64> | [[1,null],null,[2]] | [1,null,2]",
     "field | struct<i64,bool> | [(1,true),null] | 1 | [true,null]",
