@@ -5,8 +5,9 @@ pub mod Chosen
 pub mod ChosenPicks
 pub mod JoinedViews
 pub mod ListChoices
-pub mod ListRuns
+pub mod OneList
 pub mod Parts
 pub mod Placed
+pub mod SameNeeds
 pub mod Validities
 pub mod WordKernels

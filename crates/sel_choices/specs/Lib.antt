@@ -1,7 +1,6 @@
 pub mod Choose
 pub mod Chosen
 pub mod ChosenPicks
-pub mod ListParts
 pub mod ListSides
 pub mod Sides
 pub mod Validity

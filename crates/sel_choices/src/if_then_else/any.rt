@@ -53,7 +53,8 @@ pub fn if_then_else_any(
     choice(alloc, mask, if_true, if_false, true, true)
 }
 
-/// Returns a column with the row of `if_true` where bit k of `mask` is set, else row k of `if_false`.
+/// Returns a column with the row of `if_true` where bit k of `mask` is set, else row k of
+/// `if_false`.
 ///
 /// # Requires
 /// Both columns have the same type (check with `same_dtype`). `if_true` has one row, which may be
@@ -86,7 +87,8 @@ pub fn if_then_else_any_broadcast_true(
     choice(alloc, mask, if_true, if_false, false, true)
 }
 
-/// Returns a column with row k of `if_true` where bit k of `mask` is set, else the row of `if_false`.
+/// Returns a column with row k of `if_true` where bit k of `mask` is set, else the row of
+/// `if_false`.
 ///
 /// # Requires
 /// Both columns have the same type (check with `same_dtype`). `if_true` has a row for each bit of
@@ -119,7 +121,8 @@ pub fn if_then_else_any_broadcast_false(
     choice(alloc, mask, if_true, if_false, true, false)
 }
 
-/// Returns a column with the row of `if_true` where bit k of `mask` is set, else that of `if_false`.
+/// Returns a column with the row of `if_true` where bit k of `mask` is set, else that of
+/// `if_false`.
 ///
 /// # Requires
 /// Both columns have the same type (check with `same_dtype`) and one row, which may be null. `mask`
@@ -308,8 +311,9 @@ fn buffers_in(column: &Column) -> usize
     }
 }
 
-// Computes the if-then-else of columns of any type, by row references.
-fn picked_choice(
+/// Returns the if-then-else of columns of any type, by row references. If its flag is false, a
+/// column has one row, which is broadcast.
+pub(crate) fn picked_choice(
     alloc: Global,
     mask: &Bitmap,
     if_true: &ArrayRef,

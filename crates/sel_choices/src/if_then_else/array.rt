@@ -1,23 +1,14 @@
 //! If-then-else for fixed-size list columns.
 
-ghost use Rattle.std.specs.Prelude.{◌≡◌, ◌≤◌, ◌<◌, ◌∷◌, [], ℕ, length, IfOk, IfErr};
-ghost use Rattle.sel_arrow.specs.NestedArrays.{block_column};
-ghost use Rattle.sel_arrow.specs.Rows.{rows, type_of};
-ghost use Rattle.sel_arrow.specs.Shape.{of_fixed_size_list};
-ghost use Rattle.sel_runs.specs.Children.{items_in};
-ghost use Rattle.sel_choices.specs.ListSides.{exceeded_below};
-ghost use Rattle.sel_choices.specs.ListParts.{chosen_from};
-ghost use Rattle.sel_choices.specs.Sides.{IsLimitOrMemory, ExceedsNone};
-
 use crate::if_then_else::IfThenElseKernel;
-use crate::if_then_else::list_parts::{HeldRows, held_by_blocks, held_column};
-use crate::if_then_else::list_sides::ListSide;
+use crate::if_then_else::lists::{
+    choose_lists, choose_lists_or_one, choose_one_or_lists, choose_ones,
+};
 use sel_arrow::array_ref::ArrayRef;
 use sel_arrow::datatype::ArrowDataType;
 use sel_arrow::fixed_size_list::FixedSizeListArray;
-use sel_arrow::validity::MOST_ROWS;
 use sel_bits::bitmap::Bitmap;
-use sel_bits::faults::{Limit, PolarsError, PolarsResult};
+use sel_bits::faults::PolarsResult;
 use std::alloc::Global;
 
 /// If-then-else for fixed-size lists; a scalar is an array with the elements of one list.
@@ -46,7 +37,7 @@ impl IfThenElseKernel for FixedSizeListArray {
         if_true: &FixedSizeListArray,
         if_false: &FixedSizeListArray,
     ) -> PolarsResult<FixedSizeListArray> {
-        choose_sized_lists(alloc, mask, if_true, if_false, if_true.size())
+        choose_lists(alloc, mask, if_true, if_false)
     }
 
     fn if_then_else_broadcast_true(
@@ -55,7 +46,7 @@ impl IfThenElseKernel for FixedSizeListArray {
         if_true: &ArrayRef,
         if_false: &FixedSizeListArray,
     ) -> PolarsResult<FixedSizeListArray> {
-        choose_sized_lists(alloc, mask, if_true, if_false, if_false.size())
+        choose_one_or_lists(alloc, mask, if_true, if_false)
     }
 
     fn if_then_else_broadcast_false(
@@ -64,7 +55,7 @@ impl IfThenElseKernel for FixedSizeListArray {
         if_true: &FixedSizeListArray,
         if_false: &ArrayRef,
     ) -> PolarsResult<FixedSizeListArray> {
-        choose_sized_lists(alloc, mask, if_true, if_false, if_true.size())
+        choose_lists_or_one(alloc, mask, if_true, if_false)
     }
 
     fn if_then_else_broadcast_both(
@@ -74,57 +65,6 @@ impl IfThenElseKernel for FixedSizeListArray {
         if_true: &ArrayRef,
         if_false: &ArrayRef,
     ) -> PolarsResult<FixedSizeListArray> {
-        if mask.len() > MOST_ROWS {
-            return Err(PolarsError::SizeLimit(Limit::Rows));
-        }
-        let size = if_true.as_column().len();
-        choose_sized_lists(alloc, mask, if_true, if_false, size)
+        choose_ones(alloc, mask, if_true, if_false)
     }
-}
-
-// Returns if-then-else of two inputs of lists of `size` elements, with children of the same type.
-// Errors: `OutOfMemory`; `SizeLimit` if the elements of the selected lists exceed a limit.
-fn choose_sized_lists<T: ListSide, F: ListSide>(
-    alloc: Global,
-    mask: &Bitmap,
-    if_true: &T,
-    if_false: &F,
-    size: usize,
-) -> PolarsResult<FixedSizeListArray>
-    requires true_side { (i : ℕ) → i < length mask.now.bits → T.is_row if_true.now i }
-    requires false_side { (i : ℕ) → i < length mask.now.bits → F.is_row if_false.now i }
-    requires true_sizes { (i : ℕ) → i < length mask.now.bits →
-        length (items_in size (T.row_at if_true.now i)) ≡ size }
-    requires false_sizes { (i : ℕ) → i < length mask.now.bits →
-        length (items_in size (F.row_at if_false.now i)) ≡ size }
-    requires alike { type_of (F.held if_false.now) ≡ type_of (T.held if_true.now) }
-    requires narrow { size ≤ 4294967295 }
-    requires few { length mask.now.bits ≤ 4294967295 }
-    ensures rows { IfOk result (λ lists. rows (block_column lists) ≡
-        chosen_from 0 mask.now.bits (T.row_at if_true.now) (F.row_at if_false.now)) }
-    ensures dtype { IfOk result (λ lists. type_of (block_column lists) ≡
-        of_fixed_size_list (type_of (T.held if_true.now)) size) }
-    ensures within { IfOk result (λ _. ExceedsNone
-        (exceeded_below (of_fixed_size_list (type_of (T.held if_true.now)) size)
-        (T.held if_true.now ∷ F.held if_false.now ∷ [])
-        (chosen_from 0 mask.now.bits (T.row_at if_true.now) (F.row_at if_false.now)))) }
-    ensures refusal { IfErr result (IsLimitOrMemory
-        (exceeded_below (of_fixed_size_list (type_of (T.held if_true.now)) size)
-        (T.held if_true.now ∷ F.held if_false.now ∷ [])
-        (chosen_from 0 mask.now.bits (T.row_at if_true.now) (F.row_at if_false.now)))) }
-{
-    let held = held_by_blocks(alloc, mask, if_true, if_false, size as u32)?;
-    let HeldRows {
-        runs,
-        count,
-        validity,
-    } = held;
-    let values = held_column(alloc, if_true.child(), if_false.child(), &runs, count)?;
-    let values = Box::new(alloc, values)?;
-    Ok(FixedSizeListArray {
-        size,
-        len: mask.len(),
-        values,
-        validity,
-    })
 }

@@ -41,8 +41,8 @@ pub(crate) trait WordKernel: Array + Drop {
         requires true_side { length (Self.rows if_true.now) ≡ length mask.now.bits }
         requires false_side { length (Self.rows if_false.now) ≡ length mask.now.bits }
         requires alike { Self.shape if_true.now ≡ Self.shape if_false.now }
-        requires room { first_count (Self.held if_true.now) + first_count (Self.held if_false.now) ≤
-            4294967295 }
+        requires room { first_count (Self.held if_true.now)
+            + first_count (Self.held if_false.now) ≤ 4294967295 }
         ensures rows { IfOk result (λ chosen. Self.rows chosen ≡
             choose mask.now.bits (Self.rows if_true.now) (Self.rows if_false.now)) }
         ensures dtype { IfOk result (λ chosen. Self.shape chosen ≡ Self.shape if_true.now) }
@@ -59,8 +59,8 @@ pub(crate) trait WordKernel: Array + Drop {
         requires valid { first_row (Self.rows if_true.now) ≢ Null }
         requires false_side { length (Self.rows if_false.now) ≡ length mask.now.bits }
         requires alike { Self.shape if_true.now ≡ Self.shape if_false.now }
-        requires room { first_count (Self.held if_true.now) + first_count (Self.held if_false.now) ≤
-            4294967295 }
+        requires room { first_count (Self.held if_true.now)
+            + first_count (Self.held if_false.now) ≤ 4294967295 }
         ensures rows { IfOk result (λ chosen. Self.rows chosen ≡ broadcast_true mask.now.bits
             (first_row (Self.rows if_true.now)) (Self.rows if_false.now)) }
         ensures dtype { IfOk result (λ chosen. Self.shape chosen ≡ Self.shape if_true.now) }
@@ -77,8 +77,8 @@ pub(crate) trait WordKernel: Array + Drop {
         requires one { length (Self.rows if_false.now) ≡ 1 }
         requires valid { first_row (Self.rows if_false.now) ≢ Null }
         requires alike { Self.shape if_true.now ≡ Self.shape if_false.now }
-        requires room { first_count (Self.held if_true.now) + first_count (Self.held if_false.now) ≤
-            4294967295 }
+        requires room { first_count (Self.held if_true.now)
+            + first_count (Self.held if_false.now) ≤ 4294967295 }
         ensures rows { IfOk result (λ chosen. Self.rows chosen ≡ broadcast_false mask.now.bits
             (Self.rows if_true.now) (first_row (Self.rows if_false.now))) }
         ensures dtype { IfOk result (λ chosen. Self.shape chosen ≡ Self.shape if_true.now) }
