@@ -52,7 +52,8 @@ pub extern "C" fn sel_int8_lend(alloc: Global, from: &mut Int8Memory, out: &mut 
 /// empty afterwards. On error `of` is unchanged.
 #[unsafe(no_mangle)]
 pub extern "C" fn sel_int8_back(alloc: Global, of: &mut BufferHandle, out: &mut Int8Memory) -> u32
-    ensures given { result ≡ ok → IsPartOf (λ values. Int8 values) of.old.buffer out.new.items }
+    ensures given { result ≡ ok →
+        IsPartOf (λ values. Int8 values) of.old.buffer out.new.items }
     ensures taken { result ≡ ok → of.new.buffer ≡ None }
     ensures unchanged { result ≢ ok → of.new.buffer ≡ of.old.buffer }
 {
@@ -91,7 +92,8 @@ pub extern "C" fn sel_int16_lend(
 /// empty afterwards. On error `of` is unchanged.
 #[unsafe(no_mangle)]
 pub extern "C" fn sel_int16_back(alloc: Global, of: &mut BufferHandle, out: &mut Int16Memory) -> u32
-    ensures given { result ≡ ok → IsPartOf (λ values. Int16 values) of.old.buffer out.new.items }
+    ensures given { result ≡ ok →
+        IsPartOf (λ values. Int16 values) of.old.buffer out.new.items }
     ensures taken { result ≡ ok → of.new.buffer ≡ None }
     ensures unchanged { result ≢ ok → of.new.buffer ≡ of.old.buffer }
 {
@@ -130,7 +132,8 @@ pub extern "C" fn sel_int32_lend(
 /// empty afterwards. On error `of` is unchanged.
 #[unsafe(no_mangle)]
 pub extern "C" fn sel_int32_back(alloc: Global, of: &mut BufferHandle, out: &mut Int32Memory) -> u32
-    ensures given { result ≡ ok → IsPartOf (λ values. Int32 values) of.old.buffer out.new.items }
+    ensures given { result ≡ ok →
+        IsPartOf (λ values. Int32 values) of.old.buffer out.new.items }
     ensures taken { result ≡ ok → of.new.buffer ≡ None }
     ensures unchanged { result ≢ ok → of.new.buffer ≡ of.old.buffer }
 {
@@ -169,7 +172,8 @@ pub extern "C" fn sel_int64_lend(
 /// empty afterwards. On error `of` is unchanged.
 #[unsafe(no_mangle)]
 pub extern "C" fn sel_int64_back(alloc: Global, of: &mut BufferHandle, out: &mut Int64Memory) -> u32
-    ensures given { result ≡ ok → IsPartOf (λ values. Int64 values) of.old.buffer out.new.items }
+    ensures given { result ≡ ok →
+        IsPartOf (λ values. Int64 values) of.old.buffer out.new.items }
     ensures taken { result ≡ ok → of.new.buffer ≡ None }
     ensures unchanged { result ≢ ok → of.new.buffer ≡ of.old.buffer }
 {
@@ -208,7 +212,8 @@ pub extern "C" fn sel_uint8_lend(
 /// empty afterwards. On error `of` is unchanged.
 #[unsafe(no_mangle)]
 pub extern "C" fn sel_uint8_back(alloc: Global, of: &mut BufferHandle, out: &mut UInt8Memory) -> u32
-    ensures given { result ≡ ok → IsPartOf (λ values. UInt8 values) of.old.buffer out.new.items }
+    ensures given { result ≡ ok →
+        IsPartOf (λ values. UInt8 values) of.old.buffer out.new.items }
     ensures taken { result ≡ ok → of.new.buffer ≡ None }
     ensures unchanged { result ≢ ok → of.new.buffer ≡ of.old.buffer }
 {
@@ -251,7 +256,8 @@ pub extern "C" fn sel_uint16_back(
     of: &mut BufferHandle,
     out: &mut UInt16Memory,
 ) -> u32
-    ensures given { result ≡ ok → IsPartOf (λ values. UInt16 values) of.old.buffer out.new.items }
+    ensures given { result ≡ ok →
+        IsPartOf (λ values. UInt16 values) of.old.buffer out.new.items }
     ensures taken { result ≡ ok → of.new.buffer ≡ None }
     ensures unchanged { result ≢ ok → of.new.buffer ≡ of.old.buffer }
 {
@@ -294,7 +300,8 @@ pub extern "C" fn sel_uint32_back(
     of: &mut BufferHandle,
     out: &mut UInt32Memory,
 ) -> u32
-    ensures given { result ≡ ok → IsPartOf (λ values. UInt32 values) of.old.buffer out.new.items }
+    ensures given { result ≡ ok →
+        IsPartOf (λ values. UInt32 values) of.old.buffer out.new.items }
     ensures taken { result ≡ ok → of.new.buffer ≡ None }
     ensures unchanged { result ≢ ok → of.new.buffer ≡ of.old.buffer }
 {
@@ -337,7 +344,8 @@ pub extern "C" fn sel_uint64_back(
     of: &mut BufferHandle,
     out: &mut UInt64Memory,
 ) -> u32
-    ensures given { result ≡ ok → IsPartOf (λ values. UInt64 values) of.old.buffer out.new.items }
+    ensures given { result ≡ ok →
+        IsPartOf (λ values. UInt64 values) of.old.buffer out.new.items }
     ensures taken { result ≡ ok → of.new.buffer ≡ None }
     ensures unchanged { result ≢ ok → of.new.buffer ≡ of.old.buffer }
 {
@@ -376,7 +384,8 @@ pub extern "C" fn sel_views_lend(
 /// empty afterwards. On error `of` is unchanged.
 #[unsafe(no_mangle)]
 pub extern "C" fn sel_views_back(alloc: Global, of: &mut BufferHandle, out: &mut ViewMemory) -> u32
-    ensures given { result ≡ ok → IsPartOf (λ values. Views values) of.old.buffer out.new.items }
+    ensures given { result ≡ ok →
+        IsPartOf (λ values. Views values) of.old.buffer out.new.items }
     ensures taken { result ≡ ok → of.new.buffer ≡ None }
     ensures unchanged { result ≢ ok → of.new.buffer ≡ of.old.buffer }
 {

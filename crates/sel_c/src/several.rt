@@ -9,7 +9,7 @@ ghost use Rattle.sel_calls.specs.Several.{first_shape, picks_in, AreAlike};
 ghost use Rattle.sel_flatten.specs.Flatten.{flatten, parts_fit, exceeded_flattened};
 ghost use Rattle.sel_handle.specs.Inputs.{lacks_bits};
 ghost use Rattle.sel_handle.specs.Status.{ok, out_of_memory, no_column, type_mismatch, length_mismatch, index_out_of_bounds, rule_status, limit_statuses, held_columns, held_rows, held_type, DemandsBefore, DemandsFirst, HasColumn, IsOneOf, Makes, ReportsLimits};
-ghost use Rattle.sel_runs.specs.Need.{exceeded_taken};
+ghost use Rattle.sel_runs.specs.Need.{exceeded_taken, ExceedsNone};
 ghost use Rattle.sel_runs.specs.Picks.{pick, PickFits};
 
 use sel_calls::several::{PickWords, collect_into, flatten_into};
@@ -49,6 +49,10 @@ pub extern "C" fn sel_flatten(
         ((0 < length columns.now) × IsTrue
         (parts_fit height (map (λ column. held_rows column.tree) columns.now) widths.now)) }
     ensures limits { ReportsLimits result
+        (exceeded_flattened height (first_shape (map (λ column. held_type column.tree) columns.now))
+        (flat_map (λ column. held_columns column.tree) columns.now)
+        (flatten (map (λ column. held_rows column.tree) columns.now) widths.now height)) }
+    ensures within { result ≡ ok → ExceedsNone
         (exceeded_flattened height (first_shape (map (λ column. held_type column.tree) columns.now))
         (flat_map (λ column. held_columns column.tree) columns.now)
         (flatten (map (λ column. held_rows column.tree) columns.now) widths.now height)) }
@@ -105,6 +109,11 @@ pub extern "C" fn sel_collect_rows(
         (All (PickFits (map (λ source. held_rows source.tree) sources.now))
         (picks_in picks.now bits.now has_bits)) }
     ensures limits { ReportsLimits result
+        (exceeded_taken (first_shape (map (λ source. held_type source.tree) sources.now))
+        (flat_map (λ source. held_columns source.tree) sources.now)
+        (pick Null (map (λ source. held_rows source.tree) sources.now)
+        (picks_in picks.now bits.now has_bits))) }
+    ensures within { result ≡ ok → ExceedsNone
         (exceeded_taken (first_shape (map (λ source. held_type source.tree) sources.now))
         (flat_map (λ source. held_columns source.tree) sources.now)
         (pick Null (map (λ source. held_rows source.tree) sources.now)

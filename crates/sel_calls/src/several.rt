@@ -10,7 +10,7 @@ ghost use Rattle.sel_calls.specs.Several.{first_shape, picks_from, picks_in, Are
 ghost use Rattle.sel_flatten.specs.Flatten.{array_columns, flatten, parts_fit, exceeded_flattened};
 ghost use Rattle.sel_handle.specs.Inputs.{lacks_bits};
 ghost use Rattle.sel_handle.specs.Status.{ok, out_of_memory, no_column, type_mismatch, length_mismatch, index_out_of_bounds, rule_status, limit_statuses, DemandsBefore, IsOneOf, Makes, ReportsLimits};
-ghost use Rattle.sel_runs.specs.Need.{exceeded_taken};
+ghost use Rattle.sel_runs.specs.Need.{exceeded_taken, ExceedsNone};
 ghost use Rattle.sel_runs.specs.Picks.{pick, PickFits};
 
 use crate::picks::{WordPlaces, are_in_bounds, lengths_of};
@@ -73,6 +73,10 @@ pub fn flatten_into(
     ensures one_type { ReportsLimits result
         (λ _. AreAlike (map (λ array. type_of array.column) arrays.now)) }
     ensures limits { ReportsLimits result
+        (exceeded_flattened height (first_shape (map (λ array. type_of array.column) arrays.now))
+        (array_columns arrays.now)
+        (flatten (map (λ array. rows array.column) arrays.now) widths.now height)) }
+    ensures within { result ≡ ok → ExceedsNone
         (exceeded_flattened height (first_shape (map (λ array. type_of array.column) arrays.now))
         (array_columns arrays.now)
         (flatten (map (λ array. rows array.column) arrays.now) widths.now height)) }
@@ -148,6 +152,10 @@ pub fn collect_into(
         (exceeded_taken (first_shape (map (λ array. type_of array.column) arrays.now))
         (array_columns arrays.now) (pick Null (map (λ array. rows array.column) arrays.now)
         (picks_in words.now bits.now has_bits))) }
+    ensures within { result ≡ ok → ExceedsNone
+        (exceeded_taken (first_shape (map (λ array. type_of array.column) arrays.now))
+        (array_columns arrays.now) (pick Null (map (λ array. rows array.column) arrays.now)
+        (picks_in words.now bits.now has_bits))) }
 {
     if words.len() > MOST_ROWS {
         return TOO_MANY_ROWS;
@@ -191,6 +199,11 @@ fn collect_picks_into(
     ensures one_type { ReportsLimits result
         (λ _. AreAlike (map (λ array. type_of array.column) arrays.now)) }
     ensures limits { ReportsLimits result
+        (exceeded_taken (first_shape (map (λ array. type_of array.column) arrays.now))
+        (array_columns arrays.now)
+        (pick Null (map (λ array. rows array.column) arrays.now)
+        (picks_from 0 validity.now words.now))) }
+    ensures within { result ≡ ok → ExceedsNone
         (exceeded_taken (first_shape (map (λ array. type_of array.column) arrays.now))
         (array_columns arrays.now)
         (pick Null (map (λ array. rows array.column) arrays.now)

@@ -1,10 +1,10 @@
-use Rattle.std.proofs.Common.{List, ◌∷◌, ap, map, subst, ◌∙◌}
+use Rattle.std.proofs.Common.{List, ◌∷◌, ℕ, ap, map, refl, subst, sym, ◌∙◌}
 use Rattle.sel_arrow.specs.Rows.{rows, type_of, buffers_held}
 use Rattle.sel_arrow.specs.Shape.{Shape}
 use Rattle.sel_arrow.specs.declared.array_ref.ArrayRef.{ArrayRef}
-use Rattle.sel_handle.specs.Status.{limit_statuses, type_mismatch, length_mismatch, DemandsBefore}
+use Rattle.sel_handle.specs.Status.{limit_statuses, ok, type_mismatch, length_mismatch, DemandsBefore, IsOneOf}
 use Rattle.sel_calls.specs.Several.{AreAlike}
-use Rattle.sel_calls.proofs.SameNeeds.{flat_limits}
+use Rattle.sel_calls.proofs.SameNeeds.{flat_limits, flat_within}
 use Rattle.sel_c.proofs.several.sel_flatten.Goals as goal
 
 pub returns-in-Ok-clause-alike : goal.returns-in-Ok-clause-alike
@@ -18,3 +18,12 @@ returns-in-Ok-clause-limits c =
     (ap (map (λ (x : ArrayRef). type_of x.column)) c.deref.ensures.value ∙ c.in-Ok.ensures.dtypes)
     (ap (map (λ (x : ArrayRef). buffers_held x.column)) c.deref.ensures.value ∙ c.in-Ok.ensures.buffers)
     c.flatten_into-status.ensures.one_type c.flatten_into-status.ensures.limits
+
+pub returns-in-Ok-clause-within : goal.returns-in-Ok-clause-within
+returns-in-Ok-clause-within c = λ is.
+    let one = subst (λ (n : ℕ). IsOneOf n (ok ∷ length_mismatch ∷ limit_statuses)) (sym is) refl in
+    flat_within c.args.height c.deref.result.now c.args.columns.now c.args.widths.now c.in-Ok.ensures.full
+    (ap (map (λ (x : ArrayRef). rows x.column)) c.deref.ensures.value ∙ c.in-Ok.ensures.rows)
+    (ap (map (λ (x : ArrayRef). type_of x.column)) c.deref.ensures.value ∙ c.in-Ok.ensures.dtypes)
+    (ap (map (λ (x : ArrayRef). buffers_held x.column)) c.deref.ensures.value ∙ c.in-Ok.ensures.buffers)
+    (c.flatten_into-status.ensures.alike.0 one) (c.flatten_into-status.ensures.within is)

@@ -8,7 +8,7 @@ use Rattle.sel_runs.specs.Picks.{pick, PickFits}
 use Rattle.sel_runs.specs.Sources.{first_type}
 use Rattle.sel_arrow.specs.Shape.{Shape}
 use Rattle.sel_handle.specs.Status.{ReportsLimits}
-use Rattle.sel_runs.specs.Need.{exceeded_taken}
+use Rattle.sel_runs.specs.Need.{exceeded_taken, ExceedsNone}
 use Rattle.sel_calls.specs.PickLengths.{HasRow}
 use Rattle.sel_calls.specs.Several.{first_shape, picks_from}
 use Rattle.sel_calls.proofs.Alike.{alike_columns, first_same}
@@ -101,3 +101,16 @@ pub put-requires : goal.put-requires
 put-requires c =
     let same = c.in-Ok-collect_plan.ensures.dtype ∙ ap first_type (ap (map (λ (x : Bor Column). x.now)) c.deref-2.ensures.value ∙ c.in-Ok-columns_of.ensures.columns) ∙ sym (first_same c.args.arrays.now) in
     subst (λ (s : Shape). depth s ≤ 128) (sym same) (first_depth (λ (a : ArrayRef). type_of a.column) c.args.arrays.now 128 c.requires.depth)
+
+pub returns-in-Ok-collect_plan-clause-within : goal.returns-in-Ok-collect_plan-clause-within
+returns-in-Ok-collect_plan-clause-within c =
+    let some : 0 < length c.args.arrays.now = search rules in
+    let alike = alike_columns c.args.arrays.now (c.are_alike.ensures.0 c.if-not-are_alike.false) in
+    let lent = ap (map (λ (x : Bor Column). x.now)) c.deref-2.ensures.value ∙ c.in-Ok-columns_of.ensures.columns in
+    let sources = as_sources c.deref-2.result.now c.args.arrays.now lent some alike in
+    let columns = map (λ (a : ArrayRef). a.column) c.args.arrays.now in
+    let picks = picks_from 0 c.args.validity.now c.args.words.now in
+    let vs = pick Null (map (λ (a : ArrayRef). rows a.column) c.args.arrays.now) picks in
+    λ _. subst (λ (s : Shape). ExceedsNone (exceeded_taken s columns vs)) (sym (first_same c.args.arrays.now))
+    (subst (λ (cs : List Column). ExceedsNone (exceeded_taken (first_type cs) cs vs)) lent
+    (subst (λ (xss : List (List Value)). ExceedsNone (exceeded_taken (first_type (map (λ (x : Bor Column). x.now) c.deref-2.result.now)) (map (λ (x : Bor Column). x.now) c.deref-2.result.now) (pick Null xss picks))) sources.rows c.in-Ok-collect_plan.ensures.within))

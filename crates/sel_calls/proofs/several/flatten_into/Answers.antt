@@ -4,6 +4,7 @@ use Rattle.sel_arrow.specs.Shape.{Shape}
 use Rattle.sel_arrow.specs.declared.array_ref.ArrayRef.{ArrayRef}
 use Rattle.sel_flatten.specs.Flatten.{flatten, exceeded_flattened}
 use Rattle.sel_handle.specs.Status.{ReportsLimits}
+use Rattle.sel_runs.specs.Need.{ExceedsNone}
 use Rattle.sel_runs.specs.Sources.{first_type}
 use Rattle.sel_calls.proofs.Alike.{alike_columns, first_same}
 use Rattle.sel_calls.proofs.Limits.{tells-passed}
@@ -24,3 +25,9 @@ returns-in-Err-clause-limits c =
     let vs = flatten (map (λ (a : ArrayRef). rows a.column) c.args.arrays.now) c.args.widths.now c.args.height in
     subst (λ (s : Shape). ReportsLimits c.status_of.result (exceeded_flattened c.args.height s columns vs)) (sym (first_same c.args.arrays.now))
     (tells-passed c.status_of.result (exceeded_flattened c.args.height (first_type columns) columns vs) c.in-Err.fault c.status_of.ensures.number c.in-Err.ensures.refusal)
+
+pub returns-in-Ok-clause-within : goal.returns-in-Ok-clause-within
+returns-in-Ok-clause-within c =
+    let columns = map (λ (a : ArrayRef). a.column) c.args.arrays.now in
+    let vs = flatten (map (λ (a : ArrayRef). rows a.column) c.args.arrays.now) c.args.widths.now c.args.height in
+    λ _. subst (λ (s : Shape). ExceedsNone (exceeded_flattened c.args.height s columns vs)) (sym (first_same c.args.arrays.now)) c.in-Ok.ensures.within
