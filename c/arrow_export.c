@@ -173,7 +173,10 @@ static sel_status export_level(target *t) {
     sel_status status = sel_arrow_buffer_count(t->of, t->type, &buffers);
     if (status != SEL_OK) return status;
     if (!sel_arrow_with_buffers(t, buffers)) return SEL_ERROR_OUT_OF_MEMORY;
-    if (t->type->format.layout == NULLS) return SEL_OK;
+    if (t->type->format.layout == NULLS) {
+        t->array->null_count = t->array->length;
+        return SEL_OK;
+    }
     if ((status = sel_arrow_export_validity(t)) != SEL_OK) return status;
     switch (t->type->format.layout) {
     case LISTS: return export_list(t);
@@ -192,7 +195,6 @@ static sel_status export_node(const sel_column *of, const node *type, const uint
     target t = {of, type, array, sel_len(of), shown};
     memset(array, 0, sizeof *array);
     array->length = (int64_t)t.len;
-    array->null_count = (int64_t)sel_null_count(of);
     array->release = release_array;
     sel_status status = export_level(&t);
     return status == SEL_OK && type->value_type ? export_dictionary(&t) : status;

@@ -26,9 +26,11 @@ bool sel_arrow_is_seen(const target *t, size_t row) {
     return (!valid || bit_at(valid, row)) && (!t->shown || bit_at(t->shown, row));
 }
 
-static void without_validity(target *t) {
-    sel_arrow_drop_buffer(t, 0);
-    t->array->null_count = 0;
+/* With more rows the nulls are not counted: that would take longer than the rest of an export, which copies nothing. */
+#define COUNTED_ROWS 65536
+
+static int64_t count_nulls(const target *t) {
+    return t->len <= COUNTED_ROWS ? (int64_t)sel_null_count(t->of) : -1;
 }
 
 /* Tests whether a null is not hidden by a null list or struct above it. */
@@ -52,7 +54,9 @@ sel_status sel_arrow_export_validity(target *t) {
     if (status == SEL_OK && has && !t->array->buffers[0]) status = copy_validity(t);
     if (status != SEL_OK) return status;
     if (has && !is_nullable && shows_null(t, t->array->buffers[0])) return SEL_ERROR_ARROW_NULL;
-    if (!has || !is_nullable) without_validity(t);
+    bool keeps = has && is_nullable;
+    if (!keeps) sel_arrow_drop_buffer(t, 0);
+    t->array->null_count = keeps ? count_nulls(t) : 0;
     return SEL_OK;
 }
 

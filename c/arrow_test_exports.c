@@ -183,8 +183,31 @@ static void each_allocation_is_refused(void) {
     sel_free(&tree);
 }
 
+/* In more than 65,536 rows that may have nulls, these are not counted. */
+static void nulls_of_few_rows_are_counted(void) {
+    static int8_t values[65537];
+    static uint8_t valid[8193];
+    memset(valid, 0xff, sizeof valid);
+    valid[0] = 0xf6;
+    for (size_t len = 65535; len <= 65537; len++) {
+        sel_column column = {0}, again = {0};
+        struct ArrowArray array;
+        struct ArrowSchema schema;
+        for (int has_nulls = 0; has_nulls < 2; has_nulls++) {
+            CHECK(sel_int8_new(values, len, valid, sizeof valid, has_nulls, &column) == SEL_OK);
+            CHECK(sel_export(&column, NULL, &array, &schema) == SEL_OK && !array.buffers[0] == !has_nulls);
+            CHECK(array.null_count == (!has_nulls ? 0 : len <= 65536 ? 2 : -1));
+            CHECK(sel_import(&array, &schema, &again, NULL) == SEL_OK && sel_null_count(&again) == (has_nulls ? 2 : 0));
+            schema.release(&schema);
+            sel_free(&again);
+        }
+        sel_free(&column);
+    }
+}
+
 void test_exports(void) {
     exports_are_released();
+    nulls_of_few_rows_are_counted();
     storage_is_checked_before_values();
     values_in_null_slots_are_not_exported();
     views_in_null_slots_are_cleared();

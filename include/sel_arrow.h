@@ -115,7 +115,8 @@ sel_status sel_import(struct ArrowArray *array, const struct ArrowSchema *schema
 
 /* Writes the column to two structures, which the caller releases, in any order, on any thread, before or after the column
  * is freed. The column is unchanged; its buffers are shared, and must not be written. What was imported and is exported
- * again has the producer's buffers.
+ * again has the producer's buffers. The nulls of more than 65,536 rows are not counted: the null count is -1 if there
+ * is a validity.
  *
  * With a type the schema is exactly that of the type: formats, names, metadata and flags. The column has to have the
  * storage of the type at every depth, and its keys a row of their dictionary. If `type` is a null pointer or empty,
