@@ -27,6 +27,9 @@ __all__ = ["column_again", "reduced"]
 _WIDTHS = {b"c": 1, b"C": 1, b"s": 2, b"S": 2, b"i": 4, b"I": 4, b"l": 8, b"L": 8, b"d:38,0,128": 16, b"w:16": 16}
 _VIEWS = (b"vz", b"vu")
 _VIEW_BYTES, _INLINE_BYTES = 16, 12
+_STRINGS = (b"Z", b"U")
+_OFFSETS = (*_STRINGS, b"+L")
+_NO_BUFFERS = b"n"
 
 # A level in a pickle: its format and metadata, its rows and nulls, the bytes of each of its buffers, and its children.
 Level = Tuple[bytes, Optional[bytes], int, int, Tuple[Optional[int], ...], Tuple[Any, ...]]
@@ -61,18 +64,29 @@ def _offset(address: int, place: int) -> int:
     return c_int64.from_address(address + 8 * place).value if address else 0
 
 
-def _sizes(format: bytes, there: ArrowArray, addresses: list[int]) -> list[int]:
-    """Returns the bytes of the buffers behind the validity; those of views are without the last one, which has the others' lengths."""
-    count = there.length
+def _validity_size(count: int) -> int:
+    return (count + 7) // 8
+
+
+def _first_size(format: bytes, count: int) -> int | None:
+    """Returns the bytes of the buffer behind the validity, of which the format has at most one more; none if there is none."""
     if format in _WIDTHS:
-        return [count * _WIDTHS[format]]
+        return count * _WIDTHS[format]
     if format == b"b":
-        return [(count + 7) // 8]
+        return _validity_size(count)
     if format in _VIEWS:
-        return [count * _VIEW_BYTES, *[_offset(addresses[-1], number) for number in range(len(addresses) - 3)]]
-    if format in (b"Z", b"U"):
-        return [8 * (count + 1), _offset(addresses[1], count)]
-    return [8 * (count + 1)] if format == b"+L" else []
+        return count * _VIEW_BYTES
+    return 8 * (count + 1) if format in _OFFSETS else None
+
+
+def _sizes(format: bytes, count: int, addresses: Sequence[int], data: Sequence[int]) -> list[int]:
+    """Returns the bytes of the buffers behind the validity, where the data buffers of views have these; offsets are read if there are any."""
+    first = _first_size(format, count)
+    if first is None:
+        return []
+    if format in _VIEWS:
+        return [first, *data]
+    return [first, _offset(addresses[1], count)] if format in _STRINGS else [first]
 
 
 def _level(there: ArrowArray, schema: ArrowSchema) -> _Level:
@@ -82,7 +96,8 @@ def _level(there: ArrowArray, schema: ArrowSchema) -> _Level:
     children = [_level(there.children[number].contents, schema.children[number].contents) for number in range(there.n_children)]
     sizes: list[int | None] = []
     if addresses:
-        sizes = [(there.length + 7) // 8 if addresses[0] and there.null_count > 0 else None, *_sizes(format, there, addresses)]
+        data = [_offset(addresses[-1], number) for number in range(len(addresses) - 3)] if format in _VIEWS else []
+        sizes = [_validity_size(there.length) if addresses[0] and there.null_count != 0 else None, *_sizes(format, there.length, addresses, data)]
     return _Level(format, metadata_of(schema), there.length, there.null_count, addresses[: len(sizes)], sizes, children)
 
 
@@ -106,7 +121,7 @@ def _use(level: _Level) -> tuple[int, int, set[bytes]]:
             used = _bytes_of_views(level)
             if not is_mostly(used, data):
                 spare, formats = data - used, {level.format}
-    elif level.format in (b"Z", b"U"):
+    elif level.format in _STRINGS:
         spare = _offset(level.addresses[1], 0)
     for child in level.children:
         below, spare_below, formats_below = _use(child)
@@ -161,19 +176,36 @@ def reduced(column: Owner) -> tuple[Any, ...] | None:
     return level.described(), *level.buffers(exported)
 
 
+def _pinned(size: int, buffers: Iterator[Any], keeps: List[Any]) -> int:
+    """Returns the address of the buffer that comes next. Raises ValueError if it has another size, or if there is none."""
+    buffer = next(buffers, None)
+    if buffer is None:
+        raise ValueError("the pickled column has too few buffers")
+    pinned = Pinned(buffer)
+    if pinned.size != size:
+        raise ValueError(f"a buffer of the pickled column has {pinned.size} bytes, not {size}")
+    keeps.append(pinned)
+    return pinned.address if size > 0 else addressof(_NOTHING)
+
+
+def _check_sizes(level: Level, addresses: Sequence[int]) -> None:
+    """Raises ValueError if the buffers, which have the sizes of the level, are not those of its format and rows: the import reads as many bytes."""
+    format, _, length, _, sizes, _ = level
+    wanted: list[Optional[int]] = []
+    if format != _NO_BUFFERS:
+        validity, first = sizes[:1], _first_size(format, length)
+        if validity not in ((None,), (_validity_size(length),)) or sizes[1:2] != (() if first is None else (first,)):
+            raise ValueError(f"the buffers of the pickled column are not those of {length} rows")
+        wanted = [*validity, *_sizes(format, length, addresses, [size or 0 for size in sizes[2:]])]
+    if list(sizes) != wanted:
+        raise ValueError(f"the buffers of the pickled column have {sizes} bytes, not {wanted}")
+
+
 def _piece(level: Level, buffers: Iterator[Any], keeps: List[Any]) -> Piece:
-    """Returns a level over the buffers that come next. Raises ValueError if one has another size than its level says."""
+    """Returns a level over the buffers that come next. Raises ValueError if they are not those of its format and rows."""
     format, metadata, length, null_count, sizes, children = level
-    addresses = []
-    for size in sizes:
-        if size is None:
-            addresses.append(0)
-            continue
-        pinned = Pinned(next(buffers))
-        if pinned.size != size:
-            raise ValueError(f"a buffer of the pickled column has {pinned.size} bytes, not {size}")
-        keeps.append(pinned)
-        addresses.append(pinned.address if size > 0 else addressof(_NOTHING))
+    addresses = [0 if size is None else _pinned(size, buffers, keeps) for size in sizes]
+    _check_sizes(level, addresses)
     if format in _VIEWS:
         lengths = array("q", [size or 0 for size in sizes[2:]] or [0])
         keeps.append(lengths)
@@ -187,5 +219,8 @@ def column_again(logical: ArrowType | None, level: Level, *buffers: Any) -> Any:
     from ._column import Column
 
     keeps: list[Any] = []
-    piece = _piece(level, iter(buffers), keeps)
+    left = iter(buffers)
+    piece = _piece(level, left, keeps)
+    if next(left, None) is not None:
+        raise ValueError("the pickled column has too many buffers")
     return Column._owning(lent(piece, keeps), logical)

@@ -43,6 +43,16 @@ def sizes(column: Column) -> list[int]:
     return [Pinned(buffer).size for buffer in out_of_band(column)[1]]
 
 
+def wrong_layouts(level: Any) -> list[Any]:
+    """Returns the layout with other rows or other buffers, at each level."""
+    format, metadata, length, null_count, sizes, children = level
+    found: list[Any] = [(format, metadata, count, null_count, sizes, children) for count in (length + 8, 1 << 20, 1 << 62, -1)]
+    found += [(format, metadata, length, null_count, wrong, children) for wrong in (sizes[:-1], (*sizes, None), (*sizes, 0), (None, *sizes)) if wrong != sizes]
+    for number, child in enumerate(children):
+        found += [(*level[:5], (*children[:number], wrong, *children[number + 1 :])) for wrong in wrong_layouts(child)]
+    return found
+
+
 class Protocols(unittest.TestCase):
     def check(self, column: Column) -> None:
         """Checks the column of a pickle of each protocol, in band and out of band, over read-only and over writable buffers."""
@@ -206,6 +216,28 @@ class Buffers(unittest.TestCase):
         with self.assertRaises(sel.BrokenRule):
             pickle.loads(strings, buffers=[parts[0], b"\xff" * Pinned(parts[1]).size])
         del parts, buffers, column
+        gc.collect()
+        self.assertEqual(len(_KEPT), before)
+
+
+    def test_wrong_layouts(self) -> None:
+        """A layout is refused if it needs more bytes than its buffers have, or other buffers: the library would read behind them."""
+        before = len(_KEPT)
+        for wanted, rows in table(("i64", [1, 2, 3]), ("i8", [1, None]), ("bool", [True, None] * 9), ("u128", [1]), ("utf8", ["a", LONG.format(0)]), ("binview", [b"a", None]), ("binary", [b"abc", b""]),
+                                  ("list<i8>", [[1], []]), ("fixed<2,i32>", [[1, 2], None]), ("struct<i64,bool>", [(1, True), None]), ("list<struct<binary>>", [[(b"a",)], None])):
+            again, (logical, level, *buffers) = Column(rows, wanted).__reduce_ex__(5)
+            self.assertEqual(again(logical, level, *buffers).to_pylist(), rows)
+            for wrong in wrong_layouts(level):
+                with self.assertRaises(ValueError, msg=(level, wrong)):
+                    again(logical, wrong, *buffers)
+            with self.assertRaisesRegex(ValueError, "too few buffers"):
+                again(logical, level, *buffers[:-1])
+            with self.assertRaisesRegex(ValueError, "too many buffers"):
+                again(logical, level, *buffers, b"")
+        again, (logical, level, offsets, data) = Column([b"abc", b""], "binary").__reduce_ex__(5)
+        for end in (4, 1 << 40, -1):
+            with self.assertRaises(ValueError):
+                again(logical, level, bytes(offsets)[:16] + end.to_bytes(8, "little", signed=True), data)
         gc.collect()
         self.assertEqual(len(_KEPT), before)
 
