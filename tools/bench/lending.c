@@ -226,7 +226,9 @@ static double now(void) {
     return (double)at.tv_sec * 1e9 + (double)at.tv_nsec;
 }
 
+/* Times an operation after one that is not timed, so that the caches do not depend on the operation before it. */
 static double timed(const operation *o, producer *p) {
+    o->run(p);
     double start = now();
     for (size_t i = 0; i < o->repeats; i++) o->run(p);
     return (now() - start) / (double)o->repeats;

@@ -26,7 +26,7 @@ COLUMNS = (
     ("short", "{short:,} 64-bit integers"), ("integers", "{rows:,} 64-bit integers"), ("nulls", "the same, a tenth of them null"),
     ("views", "{tenth:,} strings of 100 bytes, views (`vu`)"), ("strings", "the same with 32-bit offsets (`u`)"), ("lists", "{tenth:,} lists of four 64-bit integers (`+L`)"),
 )
-# what the page aims at: microseconds for an import and an export of integers without nulls, and the ratio of the filters
+# what the page aims at: microseconds for an import and an export of integers, and the ratio of the filters
 MOST_MICROSECONDS, MOST_RATIO = 20.0, 1.02
 
 # the best and the median time of each operation of a column, in ns
@@ -66,10 +66,10 @@ def ratio(times: Dict[str, Tuple[float, float]]) -> float:
 
 def aims(found: Times) -> str:
     """Returns which aims are met."""
-    flat = max(found[name]["both"][0] for name in ("short", "integers")) / 1000
+    flat = max(found[name]["both"][0] for name in ("short", "integers", "nulls")) / 1000
     ratios = [ratio(times) for times in found.values() if "filter owned" in times]
-    return (f"- An import and an export of integers without nulls take at most {MOST_MICROSECONDS:.0f} µs, whatever their number: {flat:.2f} µs, "
-            f"{'met' if flat <= MOST_MICROSECONDS else 'not met'}. Nulls are counted, strings are validated as UTF-8, and offsets are checked, which takes time in proportion to the rows.\n"
+    return (f"- An import and an export of integers take at most {MOST_MICROSECONDS:.0f} µs, whatever their number: {flat:.2f} µs, "
+            f"{'met' if flat <= MOST_MICROSECONDS else 'not met'}. Strings are validated as UTF-8, and offsets are checked, which takes time in proportion to the rows.\n"
             f"- A filter over lent memory takes at most {MOST_RATIO - 1:.0%} more than over memory of the library: {min(ratios):.2f} to {max(ratios):.2f} times as long, "
             f"met by {sum(each <= MOST_RATIO for each in ratios)} of {len(ratios)} columns.")
 

@@ -184,13 +184,14 @@ def charts(docs: pathlib.Path, results: list, scale: list) -> None:
         chart(docs / f"bench-{name}-size.svg", f"{kernel.capitalize()} of 8-byte values: ns per row, by the number of rows", labels, lines_of(found))
 
 
-def write(docs: pathlib.Path, results: list, scale: list, sections: list[str], load: list[float], compiler: str, flags: list[str]) -> None:
+def write(docs: pathlib.Path, results: list, scale: list, beside: list[str], sections: list[str], load: list[float], compiler: str, flags: list[str]) -> None:
     rows = sorted((row_of(each) for each in results), key=lambda row: -row[0])
     worse, others = [row for row in rows if row[0] > 1], [row for row in rows if row[0] <= 1]
     repeats = sum(spread(each[3]) <= .1 for each in results)
     text = ["# Benchmarks", "", "`make bench` writes this page. Times are ns per row of the first column: the best of many rounds, and the median in parentheses. "
             "Each result was compared with numpy's before it was timed, and each contender makes the whole result, with its memory. "
             "`loop` is a plain C loop, compiled for this processor; `numpy` is the numpy operation, called from Python, if there is one; `copy` moves as many bytes as any implementation must read and write.", ""]
+    text += beside
     text += ["## Summary", "", f"Best times in ns per row at {SUMMARY_ROWS:,} rows; the kernel `choose` is if-then-else.", "", *summary(rows), ""]
     text += ["![Time of a filter by the share of rows kept](bench-density.svg)", "", "![Time of a filter by the number of rows](bench-filter-size.svg)", "",
              "![Time of a take by the number of rows](bench-take-size.svg)", ""]

@@ -1,0 +1,134 @@
+#!/usr/bin/env python3
+"""Times the kernels beside upstream's own, by a program that is not part of this repository.
+
+    tools/bench/upstream.py FOLDER          prints the section of docs/BENCHMARKS.md
+    tools/bench/upstream.py FOLDER --write  writes it into the page, in place of the earlier one; the rest of the page stays as it is
+
+The program is FOLDER/sides or FOLDER/target/release/sides. It makes each result with the C library and with upstream's kernels, both built for the
+same processors, compares them, and prints a line for each contender of a case, with tabs between: the case, the rows, the contender (`port`, which
+is this library, `upstream`, `plain` and `tuned` loops, `memcpy` of the same bytes), the best and the median time in ns per row.
+"""
+
+from __future__ import annotations
+
+import datetime
+import os
+import pathlib
+import re
+import statistics
+import subprocess
+import sys
+from typing import Dict, List, NamedTuple
+
+ROOT = pathlib.Path(__file__).resolve().parent.parent.parent
+PAGE = ROOT / "docs" / "BENCHMARKS.md"
+HEADING, NEXT_HEADING = "## Beside upstream's kernels", "## Summary"
+ROUNDS = "9"
+# what the page aims at, and how many rows it lists above it
+MOST_RATIO, MOST_LISTED = 1.1, 40
+
+# the best time of each contender of a case, in ns per row
+Times = Dict[str, Dict[str, float]]
+
+
+class Kernel(NamedTuple):
+    """The cases of a kernel: those of all densities, offsets and numbers of rows."""
+
+    name: str
+    times: List[Dict[str, float]]
+
+
+def program(folder: pathlib.Path) -> pathlib.Path:
+    for path in (folder / "sides", folder / "target" / "release" / "sides"):
+        if path.exists():
+            return path
+    sys.exit(f"{folder} has no program `sides`")
+
+
+def read(output: str) -> Times:
+    """Returns the times of the cases that both this library and upstream have."""
+    found: Times = {}
+    for line in output.splitlines():
+        parts = line.split("\t")
+        if len(parts) == 5:
+            found.setdefault(parts[0], {})[parts[2]] = float(parts[3])
+    return {case: times for case, times in found.items() if times.get("port", 0) > 0 and times.get("upstream", 0) > 0}
+
+
+def kernels(found: Times) -> List[Kernel]:
+    """Returns the cases by kernel, in the order of the program."""
+    by_name: Dict[str, List[Dict[str, float]]] = {}
+    for case, times in found.items():
+        name = re.sub(r" (random|runs)? ?d=[0-9.]+| o=[0-9,]+| n=\d+| \(\d\)", "", case)
+        by_name.setdefault(name, []).append(times)
+    return [Kernel(name, times) for name, times in by_name.items()]
+
+
+def loop(times: Dict[str, float]) -> float:
+    """Returns the best time of a loop, or infinity."""
+    return min(times.get("plain", float("inf")), times.get("tuned", float("inf")))
+
+
+def ratios(kernel: Kernel, peer: str) -> str:
+    """Returns the least, the median and the greatest ratio of this library's time to the peer's."""
+    peers = [loop(times) if peer == "loop" else times.get(peer, float("inf")) for times in kernel.times]
+    found = sorted(times["port"] / each for times, each in zip(kernel.times, peers) if 0 < each < float("inf"))
+    return f"{found[0]:.2f} to {found[-1]:.2f} ({statistics.median(found):.2f})" if found else "-"
+
+
+def row(kernel: Kernel) -> str:
+    cells = [kernel.name, str(len(kernel.times)), *(ratios(kernel, peer) for peer in ("upstream", "loop", "memcpy"))]
+    return f"| {' | '.join(cells)} |"
+
+
+def slower(found: Times) -> List[str]:
+    """Returns the table of the cases that take longer than aimed at, the worst first."""
+    worst = sorted(((times["port"] / times["upstream"], case) for case, times in found.items() if times["port"] > MOST_RATIO * times["upstream"]), reverse=True)
+    lines = [f"{len(worst)} of {len(found)} cases take more than {MOST_RATIO} times as long as upstream's kernel{f'; the first {MOST_LISTED}' if len(worst) > MOST_LISTED else ''}:", "",
+             "| case | this library | upstream | best loop | copy | library to upstream |", "|---|---|---|---|---|---|"]
+    for ratio, case in worst[:MOST_LISTED]:
+        times = found[case]
+        cells = [f"{each:.3f}" if 0 < each < float("inf") else "-" for each in (times["port"], times["upstream"], loop(times), times.get("memcpy", 0.0))]
+        lines.append(f"| {case} | {' | '.join(cells)} | {ratio:.2f} |")
+    return lines
+
+
+def section(folder: pathlib.Path) -> List[str]:
+    """Runs the program, and returns the lines of the page."""
+    before = os.getloadavg()[0]
+    ran = subprocess.run([program(folder), ROUNDS], stdout=subprocess.PIPE, text=True, check=True)
+    found = read(ran.stdout)
+    return [HEADING, "", "The time of this library by that of upstream's kernel, of the best loop in safe Rust (plain or tuned by hand) and of a copy of the same bytes: the least and the greatest ratio of a "
+            "kernel's cases, and the median in parentheses. All are built for the same processors and run in one process, in turn in each round; the best of "
+            f"{ROUNDS} rounds counts. `d` is the share of rows that a mask keeps, `o` the offsets of the slices, `n` the rows.", "",
+            f"{datetime.date.today().isoformat()}; reported load of the machine (1 is this process): {before:.1f} before, {os.getloadavg()[0]:.1f} after, on {os.cpu_count()} cores.", "",
+            "| kernel | cases | to upstream | to the best loop | to the copy |", "|---|---|---|---|---|", *(row(each) for each in kernels(found)), "", *slower(found), ""]
+
+
+def earlier(page: str) -> List[str]:
+    """Returns the section that the page has, if any."""
+    _, found, rest = page.partition(f"{HEADING}\n")
+    return [HEADING, *rest[: rest.index("\n## ")].split("\n")] if found else []
+
+
+def with_section(page: str, lines: List[str]) -> str:
+    """Returns the page with the section before the summary, in place of the earlier one."""
+    old = "\n".join(earlier(page))
+    return page.replace(old, "\n".join(lines)) if old else page.replace(f"{NEXT_HEADING}\n", "\n".join(lines) + f"\n{NEXT_HEADING}\n", 1)
+
+
+def main() -> None:
+    asked = sys.argv[1:]
+    if len(asked) not in (1, 2) or asked[1:] not in ([], ["--write"]):
+        sys.exit(__doc__)
+    if hasattr(os, "sched_setaffinity"):
+        os.sched_setaffinity(0, {max(os.sched_getaffinity(0))})
+    lines = section(pathlib.Path(asked[0]))
+    if asked[1:]:
+        PAGE.write_text(with_section(PAGE.read_text(), lines))
+    else:
+        print("\n".join(lines))
+
+
+if __name__ == "__main__":
+    main()
