@@ -3,10 +3,10 @@
 # make setup     installs what the checks use besides the toolchain, and says what for
 # make tour      prints columns of each kind, each kernel once and each error once
 # make run       runs the program on its stored input, or on a file: make run INPUT=file; make build proves and builds it
-# make lib       builds the C library into build/; for newer processors into build/x86-64-v3/: make lib CPU=x86-64-v3
+# make lib       builds the C library into build/, and prints how far it is; for newer processors into build/x86-64-v3/: make lib CPU=x86-64-v3
 # make install   copies the C libraries that make lib built: make install PREFIX=folder DESTDIR=folder; make uninstall removes them
-# make dist      packs them with the headers into build/sel-VERSION-linux-x86_64.tar.gz
-# make bench     times the kernels and writes docs/BENCHMARKS.md; make bench QUICK=1 only compares their answers
+# make dist      packs them with the headers and the verdicts into build/sel-VERSION-linux-x86_64.tar.gz, and writes the Python wheel
+# make bench     times the kernels and writes docs/BENCHMARKS.md; make bench QUICK=1 only compares their answers; make bench UPSTREAM=folder adds upstream's kernels
 # make fuzz      runs the fuzz targets: make fuzz MINUTES=n
 # make soak      compares calls on random columns with a model: make soak MINUTES=n SEED=n
 # make mutants   tries every mutant, not only those of make test
@@ -39,7 +39,7 @@ dist:
 	@tools/dist
 
 bench:
-	tools/bench/run $(if $(QUICK),quick)
+	UPSTREAM='$(UPSTREAM)' tools/bench/run $(if $(QUICK),quick)
 
 test:
 	tools/gate.py $(if $(ANEW),anew)

@@ -27,6 +27,7 @@ ROOT = pathlib.Path(__file__).resolve().parent.parent
 sys.dont_write_bytecode = True
 sys.path.insert(0, str(ROOT / "tools"))
 
+import verdicts  # noqa: E402
 from prover import crates_below, lines  # noqa: E402
 
 BEGUN = time.monotonic()
@@ -115,13 +116,16 @@ class Proofs:
         # otherwise libraries that other commands built would replace those that `rt ci` builds
         for kept in (ROOT / "crates").glob("*/out/rlib"):
             shutil.rmtree(kept)
-        status = 1
+        status, verdict = 1, ""
         try:
             with subprocess.Popen(self.command, cwd=ROOT, text=True, errors="replace", stdin=subprocess.DEVNULL,
                                   stdout=subprocess.PIPE, stderr=subprocess.STDOUT) as ran:
                 for line in ran.stdout or ():
                     print(line, end="", flush=True)
-                    found = re.fullmatch(r"rt: (\w+) (?:proved|is kept: .*)\n", line)
+                    verdict = line.strip() if line.startswith("logic=proved ") else verdict
+                    found = re.fullmatch(r"rt: (\w+) (?:(proved)|is kept: .*)\n", line)
+                    if found and found[2] and found[1] in verdicts.crates()[:-1]:
+                        verdicts.keep(found[1], verdict)
                     if found:
                         self.note(found[1], total)
             status = ran.returncode
@@ -172,6 +176,7 @@ DOCUMENTS = [
     ("terms", ["tools/terms"]),
     ("mutant texts", ["tools/mutants", "--texts"]),
     ("toolchain", ["tools/toolchain.py", "--check"]),
+    ("report of make lib", ["tools/libraries.py", "--check"]),
 ]
 AFTER_LIBRARY = [
     ("conformance suite", ["tools/rows.py"]),

@@ -10,6 +10,7 @@ from __future__ import annotations
 
 import base64
 import hashlib
+import os
 import platform
 import re
 import subprocess
@@ -19,7 +20,8 @@ from pathlib import Path
 
 HERE = Path(__file__).resolve().parents[1]
 ROOT = HERE.parents[1]
-BUILD = ROOT / "build"
+# `make dist` may name another one
+BUILD = Path(os.environ.get("SEL_BUILD") or ROOT / "build")
 # For every processor with x86-64-v2; `make lib CPU=NAME` builds those for newer ones into other folders.
 LIBRARY = BUILD / "libsel.so"
 # Newer processors, whose library `make lib CPU=NAME` builds into build/NAME; the package loads it where glibc would.
