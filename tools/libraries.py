@@ -13,6 +13,7 @@ import io
 import os
 import pathlib
 import re
+import shutil
 import subprocess
 import sys
 import tempfile
@@ -114,6 +115,8 @@ class Build:
 
     def run(self) -> bool:
         """Builds all; returns whether that succeeded, and prints what the toolchain says of a crate that failed."""
+        if not shutil.which(self.rt):
+            sys.exit("the toolchain's command `rt` is not on the path: README.md says which toolchain is needed")
         for name in self.names:
             crate = Crate(name)
             if not self.prove(crate):
