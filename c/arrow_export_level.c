@@ -48,13 +48,20 @@ static sel_status copy_validity(target *t) {
     return bits ? sel_validity(t->of, bits, bytes, &has) : SEL_ERROR_OUT_OF_MEMORY;
 }
 
+/* The nulls of a field that is not nullable are all below null lists or structs, so that it needs no validity. Keys keep it: the key of a
+ * null may have no row in its dictionary. */
+static bool keeps_validity(const target *t) {
+    bool is_nullable = t->type->flags & ARROW_FLAG_NULLABLE;
+    return is_nullable || (t->type->value_type && sel_null_count(t->of) > 0);
+}
+
 sel_status sel_arrow_export_validity(target *t) {
     bool has = false, is_nullable = t->type->flags & ARROW_FLAG_NULLABLE;
     sel_status status = sel_arrow_share_validity(t, &has);
     if (status == SEL_OK && has && !t->array->buffers[0]) status = copy_validity(t);
     if (status != SEL_OK) return status;
     if (has && !is_nullable && shows_null(t, t->array->buffers[0])) return SEL_ERROR_ARROW_NULL;
-    bool keeps = has && is_nullable;
+    bool keeps = has && keeps_validity(t);
     if (!keeps) sel_arrow_drop_buffer(t, 0);
     t->array->null_count = keeps ? count_nulls(t) : 0;
     return SEL_OK;

@@ -299,8 +299,35 @@ static sel_status join_and_decode(void *of) {
     return status;
 }
 
+/* A key that is not nullable, below a null struct or list, is null and has no row in its dictionary: it goes around as a null. */
+static void hidden_keys_go_around(void) {
+    static const int32_t lists[3] = {0, 2, 4};
+    static const char *const names[] = {"x"}, *const rows[] = {"[(2),(0),null,(2)]", "[[2,0],null]"};
+    static const uint8_t second_list_null[1] = {0x01};
+    for (int kind = 0; kind < 2; kind++) {
+        sel_column column = {0}, again = {0};
+        sel_type type = {0}, same = {0};
+        struct ArrowArray array;
+        struct ArrowSchema schema;
+        forget_pieces();
+        piece keys = coded(4, text);
+        keys.schema->flags = 0;
+        piece outer = kind == 0 ? piece_of("+s", ROWS, 0, 1, third_null, NULL, NULL) : piece_of("+l", 2, 0, 2, second_list_null, lists, NULL);
+        CHECK(import_piece(piece_over(outer, 1, &keys, names), &column, &type) == SEL_OK && shows(&column, rows[kind]));
+        CHECK(sel_export(&column, &type, &array, &schema) == SEL_OK && schema.children[0]->flags == 0);
+        CHECK(array.children[0]->null_count == 1 && array.children[0]->buffers[0]);
+        CHECK(sel_import(&array, &schema, &again, &same) == SEL_OK && shows(&again, rows[kind]) && sel_type_equal(&type, &same));
+        schema.release(&schema);
+        sel_free(&column);
+        sel_free(&again);
+        sel_type_free(&type);
+        sel_type_free(&same);
+    }
+}
+
 void test_dictionaries(void) {
     keys_go_around();
+    hidden_keys_go_around();
     keys_are_checked();
     nested_keys_are_decoded();
     columns_are_joined();
