@@ -123,7 +123,8 @@ sel_status sel_import(struct ArrowArray *array, const struct ArrowSchema *schema
  * the schema is that of the storage: binary columns are Z, views vz and vu, lists +L, signed 128-bit integers
  * d:38,0,128, unsigned ones w:16 with the extension name sel.uint128; fields are named by their numbers, "0", "1",
  * ... A decimal of 128 bits or a view in a null slot, also in that of a list or struct above it, is exported as 0 or
- * as an empty view.
+ * as an empty view. Keys that are null below a null list or struct keep their validity, even if the field is not
+ * nullable.
  *
  * Errors: SEL_ERROR_NO_COLUMN; SEL_ERROR_TYPE_MISMATCH: the column does not have the storage of the type;
  * SEL_ERROR_ARROW_DICTIONARY: the type has a dictionary without values; SEL_ERROR_INDEX_OUT_OF_BOUNDS: a key has no
