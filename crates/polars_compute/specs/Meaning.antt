@@ -1,5 +1,6 @@
 -- Results that depend only on the type and the rows of a column, not on its layout.
 use Rattle.std.specs.Prelude.{◌≡◌, ◌≤◌, ℕ, ℤ, Bool, List, ◌∷◌, ◌++◌, length, Option}
+use Rattle.sel_bits.specs.Limits.{max_rows}
 use Rattle.sel_arrow.specs.Nested.{list_of}
 use Rattle.sel_arrow.specs.Rows.{rows, type_of, IsWellFormed}
 use Rattle.sel_arrow.specs.Shape.{Shape}
@@ -72,6 +73,6 @@ NeedsWithinLimits = (c : Column) → IsWellFormed c → NoneAbove (need (type_of
 -- As many rows as a column may have exceed a limit exactly if a number that they need is above its
 -- limit.
 abbrev pub NeedsDecideLimits : Type 0
-NeedsDecideLimits = (s : Shape) (xs : List Value) → length xs ≤ 4294967295 →
+NeedsDecideLimits = (s : Shape) (xs : List Value) → length xs ≤ max_rows →
     (NoneAbove (need s xs) → ExceedsNone (exceeded_limits s xs))
     × (ExceedsNone (exceeded_limits s xs) → NoneAbove (need s xs))

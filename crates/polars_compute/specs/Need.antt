@@ -1,5 +1,6 @@
 -- What rows need in each column of their type's tree, and the limits of it.
 use Rattle.std.specs.Prelude.{ℕ, ◌+◌, ◌≤◌, ⊤, List, [], ◌∷◌, ◌++◌, length, map}
+use Rattle.sel_bits.specs.Limits.{max_rows}
 use Rattle.sel_arrow.specs.Shape.{Shape, Shapes, no_shapes, next_shape, of_large_binary}
 use Rattle.sel_arrow.specs.Shape.{of_large_list, of_fixed_size_list, of_struct}
 use Rattle.sel_arrow.specs.Value.{Value}
@@ -42,5 +43,5 @@ NoneGreater _ _ = ⊥
 -- No number exceeds its limit: 2^32 - 1 rows, or 2^63 - 1 bytes, the greatest offset.
 abbrev pub NoneAbove : List Needed → Type 0
 NoneAbove [] = ⊤
-NoneAbove (so_many_rows n ∷ ns) = (n ≤ 4294967295) × NoneAbove ns
+NoneAbove (so_many_rows n ∷ ns) = (n ≤ max_rows) × NoneAbove ns
 NoneAbove (so_many_bytes n ∷ ns) = (n ≤ 9223372036854775807) × NoneAbove ns

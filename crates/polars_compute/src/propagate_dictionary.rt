@@ -2,6 +2,8 @@
 
 ghost use Rattle.std.specs.Prelude.{◌≡◌, ◌≤◌, ◌<◌, ◌+◌, if◌then◌else◌, Some, None, length, map, take, count_by, IsTrue, IfSome, IfNone, IfOk, IfErr};
 ghost use Rattle.std.specs.List.{range_with_len};
+ghost use Rattle.sel_bits.specs.Faults.{IsOutOfMemory};
+ghost use Rattle.sel_bits.specs.Limits.{max_rows};
 ghost use Rattle.sel_bits.specs.Bits.{count_true};
 ghost use Rattle.sel_arrow.specs.Columns.{primitive_rows, utf8view_rows};
 ghost use Rattle.sel_arrow.specs.Value.{is_null};
@@ -17,7 +19,7 @@ use sel_arrow::primitive::PrimitiveArray;
 use sel_arrow::utf8view::Utf8ViewArray;
 use sel_bits::bitmap::Bitmap;
 use sel_bits::buffer::Buffer;
-use sel_bits::faults::{PolarsError, PolarsResult};
+use sel_bits::faults::PolarsResult;
 use std::alloc::Global;
 
 /// Returns the keys and values of a dictionary without its null values.
@@ -45,7 +47,7 @@ pub fn propagate_dictionary_value_nulls(
     ensures bare { IfOk result (λ both. both.1.bytes.validity ≡ None) }
     ensures same { IfOk result (λ both. count_by is_null (utf8view_rows values.now) ≡ 0 →
         primitive_rows both.0 ≡ primitive_rows keys.now) }
-    ensures refusal { IfErr result (λ fault. fault ≡ PolarsError.OutOfMemory) }
+    ensures refusal { IfErr result IsOutOfMemory }
 {
     match validity_of_nulls(values) {
         None => {
@@ -103,11 +105,11 @@ fn without_validity(values: Utf8ViewArray) -> Utf8ViewArray
 
 // Returns the number of true bits before each bit, null where the bit is false.
 fn ranks_of(alloc: Global, validity: &Bitmap) -> PolarsResult<PrimitiveArray<u32>>
-    requires { length validity.now.bits ≤ 4294967295 }
+    requires { length validity.now.bits ≤ max_rows }
     ensures values { IfOk result (λ ranks. ranks.values ≡ map (λ i. count_true
         (take i validity.now.bits)) (range_with_len 0 (length validity.now.bits))) }
     ensures validity { IfOk result (λ ranks. ranks.validity ≡ Some validity.now) }
-    ensures refusal { IfErr result (λ fault. fault ≡ PolarsError.OutOfMemory) }
+    ensures refusal { IfErr result IsOutOfMemory }
 {
     let ranks = counts_before(alloc, validity)?;
     let values = Buffer::from_vec(ranks)?;
@@ -120,10 +122,10 @@ fn ranks_of(alloc: Global, validity: &Bitmap) -> PolarsResult<PrimitiveArray<u32
 
 // Returns the number of true bits before each bit.
 fn counts_before(alloc: Global, bits: &Bitmap) -> PolarsResult<Vec<u32>>
-    requires { length bits.now.bits ≤ 4294967295 }
+    requires { length bits.now.bits ≤ max_rows }
     ensures counts { IfOk result (λ counts. counts.items ≡
         map (λ i. count_true (take i bits.now.bits)) (range_with_len 0 (length bits.now.bits))) }
-    ensures refusal { IfErr result (λ fault. fault ≡ PolarsError.OutOfMemory) }
+    ensures refusal { IfErr result IsOutOfMemory }
 {
     let mut counts = Vec::with_capacity(alloc, bits.len())?;
     let mut count = 0;
@@ -136,7 +138,7 @@ fn counts_before(alloc: Global, bits: &Bitmap) -> PolarsResult<Vec<u32>>
 
 // Returns `count` plus one if `bit` is true.
 fn counted(count: u32, bit: bool) -> u32
-    requires { count < 4294967295 }
+    requires { count < max_rows }
     ensures { result ≡ count + (if bit then 1 else 0) }
 {
     if bit { count + 1 } else { count }

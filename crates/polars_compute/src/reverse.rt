@@ -1,6 +1,8 @@
 //! The rows of a column, last to first.
 
 ghost use Rattle.std.specs.Prelude.{◌≡◌, ◌≤◌, length, map, pos, reverse, IfOk, IfErr};
+ghost use Rattle.sel_bits.specs.Faults.{IsOutOfMemory};
+ghost use Rattle.sel_bits.specs.Limits.{max_rows};
 ghost use Rattle.sel_arrow.specs.Columns.{primitive_rows};
 ghost use Rattle.sel_arrow.specs.Rows.{rows, type_of};
 ghost use Rattle.sel_arrow.specs.Value.{Number};
@@ -11,7 +13,7 @@ use sel_arrow::array::Array;
 use sel_arrow::array_ref::ArrayRef;
 use sel_arrow::primitive::{IdxArr, PrimitiveArray};
 use sel_bits::buffer::Buffer;
-use sel_bits::faults::{PolarsError, PolarsResult};
+use sel_bits::faults::PolarsResult;
 use std::alloc::Global;
 
 /// Returns the rows of `column` in reverse order, in its type.
@@ -23,7 +25,7 @@ pub fn reverse(alloc: Global, column: &ArrayRef) -> PolarsResult<ArrayRef>
         reverse (rows column.now.column)) }
     ensures dtype { IfOk result (λ reversed. type_of reversed.column ≡
         type_of column.now.column) }
-    ensures refusal { IfErr result (λ fault. fault ≡ PolarsError.OutOfMemory) }
+    ensures refusal { IfErr result IsOutOfMemory }
 {
     let indices = reversed_indices(alloc, column.len())?;
     let reversed = take_unchecked(alloc, column, &indices)?;
@@ -32,10 +34,10 @@ pub fn reverse(alloc: Global, column: &ArrayRef) -> PolarsResult<ArrayRef>
 
 /// Returns the row numbers of a column of `len` rows, last to first.
 fn reversed_indices(alloc: Global, len: usize) -> PolarsResult<IdxArr>
-    requires { len ≤ 4294967295 }
+    requires { len ≤ max_rows }
     ensures rows { IfOk result (λ indices. primitive_rows indices ≡
         map (λ place. Number (pos place)) (last_to_first len)) }
-    ensures refusal { IfErr result (λ fault. fault ≡ PolarsError.OutOfMemory) }
+    ensures refusal { IfErr result IsOutOfMemory }
 {
     let mut places = Vec::with_capacity(alloc, len)?;
     let mut left = len;

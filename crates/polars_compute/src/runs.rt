@@ -1,6 +1,8 @@
 //! Row references of one column, built from a mask or from indices.
 
 ghost use Rattle.std.specs.Prelude.{◌≡◌, ◌≤◌, ◌<◌, slice_index_or, length, map, IfOk, IfErr};
+ghost use Rattle.sel_bits.specs.Faults.{IsOutOfMemory};
+ghost use Rattle.sel_bits.specs.Limits.{max_rows};
 ghost use Rattle.sel_arrow.specs.Columns.{primitive_rows};
 ghost use Rattle.sel_arrow.specs.Value.{Null};
 ghost use Rattle.sel_runs.specs.Runs.{expand};
@@ -10,17 +12,17 @@ ghost use Rattle.polars_compute.specs.Select.{kept};
 use sel_arrow::array::Array;
 use sel_arrow::primitive::IdxArr;
 use sel_bits::bitmap::Bitmap;
-use sel_bits::faults::{PolarsError, PolarsResult};
+use sel_bits::faults::PolarsResult;
 use sel_runs::plan::Places;
 use sel_runs::run::{Run, push_run};
 use std::alloc::Global;
 
 /// Returns the maximal runs of true bits in `mask`, in order.
 pub(crate) fn runs_of_mask(alloc: Global, mask: &Bitmap) -> PolarsResult<Vec<Run>>
-    requires { length mask.now.bits ≤ 4294967295 }
+    requires { length mask.now.bits ≤ max_rows }
     ensures picks { IfOk result (λ runs. expand runs.items ≡
         map place_pick (kept mask.now.bits)) }
-    ensures refusal { IfErr result (λ fault. fault ≡ PolarsError.OutOfMemory) }
+    ensures refusal { IfErr result IsOutOfMemory }
 {
     let mut runs = Vec::new(alloc);
     let mut rest = mask.try_clone()?;

@@ -3,6 +3,7 @@ use Rattle.std.specs.Prelude.{◌≡◌, ℕ, ℤ, ◌+◌, Bool, true, false, L
 use Rattle.std.specs.Prelude.{drop, slice_index_or, Option, Some, None, if◌then◌else◌, ◌==◌, not}
 use Rattle.std.specs.Prelude.{nat_lt, nat_le}
 use Rattle.std.specs.Option.{ForSome}
+use Rattle.sel_bits.specs.Limits.{max_rows}
 use Rattle.sel_bits.specs.Bits.{Bits}
 use Rattle.sel_arrow.specs.Value.{Value, Null, Truth, Number, Bytes}
 
@@ -66,8 +67,8 @@ part_of off len b = record { bits = take len (drop off b.bits); offset = b.offse
 
 -- Whether this is more than the maximum number of rows of a column.
 abbrev pub too_many : ℕ → Bool
-too_many n = nat_lt 4294967295 n
+too_many n = nat_lt max_rows n
 
 -- Whether a column can have this number of rows.
 abbrev pub is_few : ℕ → Bool
-is_few n = nat_le n 4294967295
+is_few n = nat_le n max_rows

@@ -2,6 +2,8 @@
 
 ghost use Rattle.std.specs.Prelude.{◌≡◌, ◌≤◌, ◌+◌, ◌<◌, ◌↔◌, ℕ, List, length, take, drop, count_by, IfOk, IfErr, IsTrue};
 ghost use Rattle.std.specs.Option.{option_copied};
+ghost use Rattle.sel_bits.specs.Faults.{IsOutOfMemory};
+ghost use Rattle.sel_bits.specs.Limits.{max_rows};
 ghost use Rattle.sel_arrow.specs.Value.{Value, is_null};
 ghost use Rattle.sel_arrow.specs.Shape.{Shape};
 ghost use Rattle.sel_arrow.specs.Nulls.{IsValidityOf};
@@ -9,7 +11,7 @@ ghost use Rattle.sel_arrow.specs.Nulls.{IsValidityOf};
 use crate::array_ref::ArrayRef;
 use crate::datatype::ArrowDataType;
 use sel_bits::bitmap::Bitmap;
-use sel_bits::faults::{PolarsError, PolarsResult};
+use sel_bits::faults::PolarsResult;
 use std::alloc::Global;
 
 /// A column. Contracts describe it by the list of its rows and its type.
@@ -31,7 +33,7 @@ pub trait Array: Sized {
     /// Returns the number of rows, at most 4,294,967,295.
     fn len(&self) -> usize
         ensures len { result ≡ length (rows self.now) }
-        ensures few { result ≤ 4294967295 };
+        ensures few { result ≤ max_rows };
 
     /// Returns whether the column has no rows.
     fn is_empty(&self) -> bool
@@ -87,7 +89,7 @@ pub trait Array: Sized {
     /// `OutOfMemory` if an allocation fails.
     fn dtype(&self, alloc: Global) -> PolarsResult<ArrowDataType>
         ensures dtype { IfOk result (λ dtype. shape_of dtype ≡ shape self.now) }
-        ensures refusal { IfErr result (λ fault. fault ≡ PolarsError.OutOfMemory) };
+        ensures refusal { IfErr result IsOutOfMemory };
 
     /// Returns the `len` rows from row `off` on. Keeps all data buffers, including those that no
     /// row of the result uses.
@@ -102,7 +104,7 @@ pub trait Array: Sized {
         ensures rows { IfOk result (λ part. rows part ≡ take len (drop off (rows self.now))) }
         ensures dtype { IfOk result (λ part. shape part ≡ shape self.now) }
         ensures buffers { IfOk result (λ part. held part ≡ held self.now) }
-        ensures refusal { IfErr result (λ fault. fault ≡ PolarsError.OutOfMemory) };
+        ensures refusal { IfErr result IsOutOfMemory };
 
     /// Returns a column with the same rows, type and data buffers.
     ///
@@ -112,5 +114,5 @@ pub trait Array: Sized {
         ensures rows { IfOk result (λ copy. rows copy ≡ rows self.now) }
         ensures dtype { IfOk result (λ copy. shape copy ≡ shape self.now) }
         ensures buffers { IfOk result (λ copy. held copy ≡ held self.now) }
-        ensures refusal { IfErr result (λ fault. fault ≡ PolarsError.OutOfMemory) };
+        ensures refusal { IfErr result IsOutOfMemory };
 }

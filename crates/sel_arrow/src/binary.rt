@@ -2,6 +2,7 @@
 
 ghost use Rattle.std.specs.Prelude.{◌≡◌, ◌≤◌, ◌<◌, ◌+◌, ◌↔◌, length, count_by, slice_index_or, None, IfOk, IfErr, IsTrue, []};
 ghost use Rattle.std.specs.Option.{option_copied};
+ghost use Rattle.sel_bits.specs.Limits.{max_rows};
 ghost use Rattle.sel_bits.specs.Faults.{IsFault};
 ghost use Rattle.sel_bits.specs.Offsets.{IsRising};
 ghost use Rattle.sel_arrow.specs.Makers.{binary_fault};
@@ -31,7 +32,7 @@ pub struct BinaryArray<O: Offset> {
     pub values: Buffer<u8>,
     pub validity: Option<Bitmap>,
     pub ghost rising: { IsRising offsets },
-    pub ghost rows_fit: { rows_between offsets ≤ 4294967295 },
+    pub ghost rows_fit: { rows_between offsets ≤ max_rows },
     pub ghost values_fit: { last_offset offsets ≤ length values },
     pub ghost bytes_fit: { length values ≤ 9223372036854775807 },
     pub ghost validity_fits: { Covers validity (rows_between offsets) },
@@ -108,7 +109,7 @@ impl<O: Offset> BinaryArray<O> {
     /// Returns the number of rows, at most 4,294,967,295.
     pub fn len(&self) -> usize
         ensures len { result ≡ length (binary_rows self.now) }
-        ensures few { result ≤ 4294967295 }
+        ensures few { result ≤ max_rows }
     {
         self.offsets.len_proxy()
     }

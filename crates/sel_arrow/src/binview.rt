@@ -3,7 +3,8 @@
 ghost use Rattle.std.specs.Prelude.{◌≡◌, ◌≤◌, ◌<◌, ◌+◌, length, slice_index_or, None, IfOk, IfErr, IsTrue, [], ◌∷◌};
 ghost use Rattle.std.specs.Option.{option_copied, option_map};
 ghost use Rattle.std.specs.Str.{is_utf8};
-ghost use Rattle.sel_bits.specs.Faults.{IsFault};
+ghost use Rattle.sel_bits.specs.Limits.{max_buffers, max_rows};
+ghost use Rattle.sel_bits.specs.Faults.{IsFault, IsOutOfMemory};
 ghost use Rattle.sel_arrow.specs.Makers.{binview_fault, view_fault, views_fault};
 ghost use Rattle.sel_arrow.specs.Masked.{Covers, bytes_value};
 ghost use Rattle.sel_arrow.specs.Texts.{all_text, is_text};
@@ -19,7 +20,7 @@ use crate::validity::{MOST_ROWS, clone_validity, has_other_length, is_valid_at, 
 use crate::view::{INLINE_BYTES, View, read_word};
 use sel_bits::bitmap::Bitmap;
 use sel_bits::buffer::Buffer;
-use sel_bits::faults::{MakeError, Malformed, PolarsError, PolarsResult};
+use sel_bits::faults::{MakeError, Malformed, PolarsResult};
 use std::alloc::Global;
 use std::str;
 
@@ -32,8 +33,8 @@ pub struct BinaryViewArray {
     pub views: Buffer<View>,
     pub buffers: Buffer<Buffer<u8>>,
     pub validity: Option<Bitmap>,
-    pub ghost rows_fit: { length views ≤ 4294967295 },
-    pub ghost buffers_fit: { length buffers ≤ 4294967295 },
+    pub ghost rows_fit: { length views ≤ max_rows },
+    pub ghost buffers_fit: { length buffers ≤ max_buffers },
     pub ghost validity_fits: { Covers validity (length views) },
     pub ghost placed: { IsTrue (all_placed buffers views) },
 }
@@ -105,7 +106,7 @@ impl BinaryViewArray {
         requires { i < length (binview_rows self.now) }
         ensures row { IfOk result (λ row. bytes_value (option_map (λ bytes. bytes.items) row) ≡
             slice_index_or (binview_rows self.now) i Null) }
-        ensures refusal { IfErr result (λ fault. fault ≡ PolarsError.OutOfMemory) }
+        ensures refusal { IfErr result IsOutOfMemory }
     {
         if is_valid_at(&self.validity, i) {
             let view = self.views.as_slice()[i];
@@ -154,7 +155,7 @@ impl BinaryViewArray {
         requires { IsTrue (all_text (binview_rows self.now)) }
         ensures rows { IfOk result (λ column. utf8view_rows column ≡ binview_rows self.now) }
         ensures buffers { IfOk result (λ column. column.bytes.buffers ≡ self.now.buffers) }
-        ensures refusal { IfErr result (λ fault. fault ≡ PolarsError.OutOfMemory) }
+        ensures refusal { IfErr result IsOutOfMemory }
     {
         let bytes = self.try_clone(alloc)?;
         Ok(Utf8ViewArray { bytes })

@@ -2,6 +2,7 @@
 
 ghost use Rattle.std.specs.Prelude.{◌≡◌, ◌≤◌, ◌<◌, length, map, slice_index_or, None, IfOk, IfErr, []};
 ghost use Rattle.std.specs.Option.{option_copied};
+ghost use Rattle.sel_bits.specs.Limits.{max_rows};
 ghost use Rattle.sel_bits.specs.Faults.{IsFault, IsFaultOrMemory};
 ghost use Rattle.sel_arrow.specs.Makers.{flat_fault, null_fault};
 ghost use Rattle.sel_arrow.specs.Masked.{Covers, bool_rows, bool_value};
@@ -22,7 +23,7 @@ use std::alloc::Global;
 pub struct BooleanArray {
     pub values: Bitmap,
     pub validity: Option<Bitmap>,
-    pub ghost rows_fit: { length values.bits ≤ 4294967295 },
+    pub ghost rows_fit: { length values.bits ≤ max_rows },
     pub ghost validity_fits: { Covers validity (length values.bits) },
 }
 

@@ -2,6 +2,8 @@
 
 ghost use Rattle.std.specs.Prelude.{◌≡◌, ◌≤◌, ◌+◌, ◌↔◌, length, take, drop, map, All, IfOk, IfErr, IsTrue};
 ghost use Rattle.std.specs.Option.{option_copied};
+ghost use Rattle.sel_bits.specs.Faults.{IsOutOfMemory};
+ghost use Rattle.sel_bits.specs.Limits.{max_rows};
 ghost use Rattle.sel_arrow.specs.DataType.{shape_of};
 ghost use Rattle.sel_arrow.specs.Nulls.{IsValidityOf};
 ghost use Rattle.sel_arrow.specs.Rows.{rows, type_of, well_formed, IsField, IsWellFormed, buffers_held};
@@ -20,7 +22,7 @@ use crate::rules::{fault_of_blocks, fault_of_lists, fault_of_struct};
 use crate::structure::StructArray;
 use crate::utf8view::Utf8ViewArray;
 use sel_bits::bitmap::Bitmap;
-use sel_bits::faults::{PolarsError, PolarsResult};
+use sel_bits::faults::PolarsResult;
 use sel_bits::offsets::OffsetsBuffer;
 use std::alloc::Global;
 
@@ -64,7 +66,7 @@ impl Column {
     /// Returns the number of rows, at most 4,294,967,295 if the column is well-formed.
     pub fn len(&self) -> usize
         ensures len { result ≡ length (rows self.now) }
-        ensures few { IsWellFormed self.now → result ≤ 4294967295 }
+        ensures few { IsWellFormed self.now → result ≤ max_rows }
     {
         match self {
             Column::Null(column) => column.len(),
@@ -237,7 +239,7 @@ impl Column {
     #[cycle(dtype)]
     pub fn dtype(&self, alloc: Global) -> PolarsResult<ArrowDataType>
         ensures dtype { IfOk result (λ dtype. shape_of dtype ≡ type_of self.now) }
-        ensures refusal { IfErr result (λ fault. fault ≡ PolarsError.OutOfMemory) }
+        ensures refusal { IfErr result IsOutOfMemory }
     {
         match self {
             Column::Null(_) => Ok(ArrowDataType::Null),
@@ -286,7 +288,7 @@ impl Column {
         ensures dtype { IfOk result (λ part. type_of part ≡ type_of self.now) }
         ensures buffers { IfOk result (λ part. buffers_held part ≡ buffers_held self.now) }
         ensures formed { IfOk result (λ part. IsWellFormed part) }
-        ensures refusal { IfErr result (λ fault. fault ≡ PolarsError.OutOfMemory) }
+        ensures refusal { IfErr result IsOutOfMemory }
     {
         match self {
             Column::Null(column) => part_of(column, alloc, off, len),
@@ -348,7 +350,7 @@ impl Column {
         ensures dtype { IfOk result (λ copy. type_of copy ≡ type_of self.now) }
         ensures buffers { IfOk result (λ copy. buffers_held copy ≡ buffers_held self.now) }
         ensures formed { IfOk result (λ copy. IsWellFormed copy) }
-        ensures refusal { IfErr result (λ fault. fault ≡ PolarsError.OutOfMemory) }
+        ensures refusal { IfErr result IsOutOfMemory }
     {
         match self {
             Column::Null(column) => copy_of(column, alloc),
@@ -428,7 +430,7 @@ pub(crate) fn same_dtypes(columns: &[Column], others: &[Column]) -> bool
 pub(crate) fn dtypes_of(alloc: Global, columns: &[Column]) -> PolarsResult<Vec<ArrowDataType>>
     ensures dtypes { IfOk result (λ dtypes. map shape_of dtypes.items ≡
         map type_of columns.now) }
-    ensures refusal { IfErr result (λ fault. fault ≡ PolarsError.OutOfMemory) }
+    ensures refusal { IfErr result IsOutOfMemory }
 {
     let mut dtypes = Vec::with_capacity(alloc, columns.len())?;
     for column in columns {
@@ -449,7 +451,7 @@ fn part_of<A: Array + Drop>(
     ensures dtype { IfOk result (λ part. type_of part ≡ A.shape column.now) }
     ensures buffers { IfOk result (λ part. buffers_held part ≡ A.held column.now) }
     ensures formed { IfOk result (λ part. IsWellFormed part) }
-    ensures refusal { IfErr result (λ fault. fault ≡ PolarsError.OutOfMemory) }
+    ensures refusal { IfErr result IsOutOfMemory }
 {
     let ArrayRef { column } = column.sliced(alloc, off, len)?.into_ref();
     Ok(column)
@@ -461,7 +463,7 @@ fn copy_of<A: Array + Drop>(column: &A, alloc: Global) -> PolarsResult<Column>
     ensures dtype { IfOk result (λ copy. type_of copy ≡ A.shape column.now) }
     ensures buffers { IfOk result (λ copy. buffers_held copy ≡ A.held column.now) }
     ensures formed { IfOk result (λ copy. IsWellFormed copy) }
-    ensures refusal { IfErr result (λ fault. fault ≡ PolarsError.OutOfMemory) }
+    ensures refusal { IfErr result IsOutOfMemory }
 {
     let ArrayRef { column } = column.try_clone(alloc)?.into_ref();
     Ok(column)

@@ -2,6 +2,8 @@
 
 ghost use Rattle.std.specs.Prelude.{◌≡◌, ◌≤◌, [], ◌∷◌, map, IfOk, IfErr, IsTrue};
 ghost use Rattle.std.specs.List.{All, list_all};
+ghost use Rattle.sel_bits.specs.Faults.{IsOutOfMemory};
+ghost use Rattle.sel_bits.specs.Limits.{max_rows};
 ghost use Rattle.sel_arrow.specs.Columns.{binview_rows};
 ghost use Rattle.sel_arrow.specs.DataType.{shape_of, widths_fit};
 ghost use Rattle.sel_arrow.specs.Rows.{rows, type_of, IsField, IsWellFormed};
@@ -18,7 +20,7 @@ use crate::primitive::ArrowPrimitive;
 use crate::utf8view::Utf8ViewArray;
 use sel_bits::bitmap::Bitmap;
 use sel_bits::buffer::Buffer;
-use sel_bits::faults::{PolarsError, PolarsResult};
+use sel_bits::faults::PolarsResult;
 use sel_bits::offsets::OffsetsBuffer;
 use std::alloc::Global;
 
@@ -33,7 +35,7 @@ pub fn new_empty_array(alloc: Global, dtype: &ArrowDataType) -> PolarsResult<Arr
     requires { IsTrue (widths_fit dtype.now) }
     ensures rows { IfOk result (λ array. rows array.column ≡ []) }
     ensures dtype { IfOk result (λ array. type_of array.column ≡ shape_of dtype.now) }
-    ensures refusal { IfErr result (λ fault. fault ≡ PolarsError.OutOfMemory) }
+    ensures refusal { IfErr result IsOutOfMemory }
 {
     let column = empty_column(alloc, dtype)?;
     Ok(ArrayRef { column })
@@ -46,7 +48,7 @@ fn empty_column(alloc: Global, dtype: &ArrowDataType) -> PolarsResult<Column>
     ensures rows { IfOk result (λ column. rows column ≡ []) }
     ensures dtype { IfOk result (λ column. type_of column ≡ shape_of dtype.now) }
     ensures formed { IfOk result (λ column. IsWellFormed column) }
-    ensures refusal { IfErr result (λ fault. fault ≡ PolarsError.OutOfMemory) }
+    ensures refusal { IfErr result IsOutOfMemory }
 {
     match dtype {
         ArrowDataType::Null => Ok(Column::Null(NullArray { length: 0 })),
@@ -83,7 +85,7 @@ fn empty_columns(alloc: Global, dtypes: &[ArrowDataType]) -> PolarsResult<Vec<Co
     ensures dtypes { IfOk result (λ columns. map type_of columns.items ≡
         map shape_of dtypes.now) }
     ensures fields { IfOk result (λ columns. All (IsField 0) columns.items) }
-    ensures refusal { IfErr result (λ fault. fault ≡ PolarsError.OutOfMemory) }
+    ensures refusal { IfErr result IsOutOfMemory }
 {
     let mut columns = Vec::with_capacity(alloc, dtypes.len())?;
     for dtype in dtypes {
@@ -99,7 +101,7 @@ fn no_lists(alloc: Global, offsets: OffsetsBuffer<i64>, child: Column) -> Polars
     ensures rows { IfOk result (λ column. rows column ≡ []) }
     ensures dtype { IfOk result (λ column. type_of column ≡ of_large_list (type_of child)) }
     ensures formed { IfOk result (λ column. IsWellFormed column) }
-    ensures refusal { IfErr result (λ fault. fault ≡ PolarsError.OutOfMemory) }
+    ensures refusal { IfErr result IsOutOfMemory }
 {
     let values = Box::new(alloc, child)?;
     Ok(Column::LargeList {
@@ -112,14 +114,14 @@ fn no_lists(alloc: Global, offsets: OffsetsBuffer<i64>, child: Column) -> Polars
 /// Returns a fixed-size list column without rows, of list size `size`, over an empty child. Fails
 /// only with `OutOfMemory`.
 fn no_blocks(alloc: Global, size: usize, child: Column) -> PolarsResult<Column>
-    requires narrow { size ≤ 4294967295 }
+    requires narrow { size ≤ max_rows }
     requires formed { IsWellFormed child }
     requires empty { rows child ≡ [] }
     ensures rows { IfOk result (λ column. rows column ≡ []) }
     ensures dtype { IfOk result (λ column. type_of column ≡
         of_fixed_size_list (type_of child) size) }
     ensures formed { IfOk result (λ column. IsWellFormed column) }
-    ensures refusal { IfErr result (λ fault. fault ≡ PolarsError.OutOfMemory) }
+    ensures refusal { IfErr result IsOutOfMemory }
 {
     let values = Box::new(alloc, child)?;
     Ok(Column::FixedSizeList {
@@ -149,7 +151,7 @@ fn empty_numbers<T: ArrowPrimitive>(alloc: Global) -> PolarsResult<Column>
     ensures rows { IfOk result (λ column. rows column ≡ []) }
     ensures dtype { IfOk result (λ column. type_of column ≡ T.shape) }
     ensures formed { IfOk result (λ column. IsWellFormed column) }
-    ensures refusal { IfErr result (λ fault. fault ≡ PolarsError.OutOfMemory) }
+    ensures refusal { IfErr result IsOutOfMemory }
 {
     let values = Buffer::from_vec(Vec::new(alloc))?;
     Ok(T::into_column(values, None))
@@ -160,7 +162,7 @@ fn empty_booleans(alloc: Global) -> PolarsResult<Column>
     ensures rows { IfOk result (λ column. rows column ≡ []) }
     ensures dtype { IfOk result (λ column. type_of column ≡ of_boolean) }
     ensures formed { IfOk result (λ column. IsWellFormed column) }
-    ensures refusal { IfErr result (λ fault. fault ≡ PolarsError.OutOfMemory) }
+    ensures refusal { IfErr result IsOutOfMemory }
 {
     let values = Bitmap::new(alloc)?;
     Ok(Column::Boolean(BooleanArray {
@@ -174,7 +176,7 @@ fn empty_booleans(alloc: Global) -> PolarsResult<Column>
 #[tactic(auto, using(crate::proofs::NoRows::no_bytes))]
 fn first_offset(alloc: Global) -> PolarsResult<OffsetsBuffer<i64>>
     ensures offsets { IfOk result (λ offsets. offsets ≡ 0 ∷ []) }
-    ensures refusal { IfErr result (λ fault. fault ≡ PolarsError.OutOfMemory) }
+    ensures refusal { IfErr result IsOutOfMemory }
 {
     Ok(OffsetsBuffer::of_rising(vec![in alloc; 0]?)?)
 }
@@ -185,7 +187,7 @@ fn empty_bytes(alloc: Global) -> PolarsResult<Column>
     ensures rows { IfOk result (λ column. rows column ≡ []) }
     ensures dtype { IfOk result (λ column. type_of column ≡ of_large_binary) }
     ensures formed { IfOk result (λ column. IsWellFormed column) }
-    ensures refusal { IfErr result (λ fault. fault ≡ PolarsError.OutOfMemory) }
+    ensures refusal { IfErr result IsOutOfMemory }
 {
     let offsets = first_offset(alloc)?;
     let values = Buffer::from_vec(Vec::new(alloc))?;
@@ -199,7 +201,7 @@ fn empty_bytes(alloc: Global) -> PolarsResult<Column>
 /// Returns a binary view array without rows. Fails only with `OutOfMemory`.
 fn empty_views(alloc: Global) -> PolarsResult<BinaryViewArray>
     ensures rows { IfOk result (λ column. binview_rows column ≡ []) }
-    ensures refusal { IfErr result (λ fault. fault ≡ PolarsError.OutOfMemory) }
+    ensures refusal { IfErr result IsOutOfMemory }
 {
     let views = Buffer::from_vec(Vec::new(alloc))?;
     let buffers = Buffer::from_vec(Vec::new(alloc))?;
@@ -215,7 +217,7 @@ fn empty_binary_views(alloc: Global) -> PolarsResult<Column>
     ensures rows { IfOk result (λ column. rows column ≡ []) }
     ensures dtype { IfOk result (λ column. type_of column ≡ of_binary_view) }
     ensures formed { IfOk result (λ column. IsWellFormed column) }
-    ensures refusal { IfErr result (λ fault. fault ≡ PolarsError.OutOfMemory) }
+    ensures refusal { IfErr result IsOutOfMemory }
 {
     Ok(Column::BinaryView(empty_views(alloc)?))
 }
@@ -225,7 +227,7 @@ fn empty_texts(alloc: Global) -> PolarsResult<Column>
     ensures rows { IfOk result (λ column. rows column ≡ []) }
     ensures dtype { IfOk result (λ column. type_of column ≡ of_utf8_view) }
     ensures formed { IfOk result (λ column. IsWellFormed column) }
-    ensures refusal { IfErr result (λ fault. fault ≡ PolarsError.OutOfMemory) }
+    ensures refusal { IfErr result IsOutOfMemory }
 {
     let bytes = empty_views(alloc)?;
     Ok(Column::Utf8View(Utf8ViewArray { bytes }))

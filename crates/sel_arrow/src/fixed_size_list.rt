@@ -1,7 +1,8 @@
 //! Fixed-size list columns.
 
 ghost use Rattle.std.specs.Prelude.{◌≡◌, ◌*◌, ◌+◌, ◌≤◌, ◌↔◌, length, take, drop, None, IfOk, IfErr, IsTrue};
-ghost use Rattle.sel_bits.specs.Faults.{IsFaultOrMemory};
+ghost use Rattle.sel_bits.specs.Limits.{max_rows};
+ghost use Rattle.sel_bits.specs.Faults.{IsFaultOrMemory, IsOutOfMemory};
 ghost use Rattle.sel_arrow.specs.Makers.{block_fault};
 ghost use Rattle.sel_arrow.specs.Masked.{Covers};
 ghost use Rattle.sel_arrow.specs.Nested.{block_rows};
@@ -15,7 +16,7 @@ use crate::datatype::ArrowDataType;
 use crate::rules::fault_of_blocks;
 use crate::validity::{clone_validity, sliced_validity};
 use sel_bits::bitmap::Bitmap;
-use sel_bits::faults::{MakeError, PolarsError, PolarsResult};
+use sel_bits::faults::{MakeError, PolarsResult};
 use std::alloc::Global;
 
 /// A column of `len` lists of list size `size`. List i is the rows of the child from i * size up to
@@ -78,7 +79,7 @@ impl FixedSizeListArray {
     /// Returns the list size, at most 4,294,967,295.
     pub fn size(&self) -> usize
         ensures size { result ≡ self.now.size }
-        ensures few { result ≤ 4294967295 }
+        ensures few { result ≤ max_rows }
     {
         self.size
     }
@@ -169,7 +170,7 @@ impl FixedSizeListArray {
             buffers_held (FixedSizeList size _count values.now validity.now)) }
         ensures child { IfOk result (λ part. rows part.values.value ≡
             take (len * size) (drop (off * size) (rows values.now.value))) }
-        ensures refusal { IfErr result (λ fault. fault ≡ PolarsError.OutOfMemory) }
+        ensures refusal { IfErr result IsOutOfMemory }
     {
         let validity = sliced_validity(validity, off, len)?;
         let values = values.sliced(alloc, off * size, len * size)?;
@@ -198,7 +199,7 @@ impl FixedSizeListArray {
             type_of (FixedSizeList size len values.now validity.now)) }
         ensures buffers { IfOk result (λ copy. buffers_held (block_column copy) ≡
             buffers_held (FixedSizeList size len values.now validity.now)) }
-        ensures refusal { IfErr result (λ fault. fault ≡ PolarsError.OutOfMemory) }
+        ensures refusal { IfErr result IsOutOfMemory }
     {
         let validity = clone_validity(validity)?;
         let values = Box::new(alloc, values.try_clone(alloc)?)?;
@@ -265,7 +266,7 @@ impl Array for FixedSizeListArray {
             buffers_held (block_column self.now)) }
         ensures child { IfOk result (λ part. rows part.values.value ≡
             take (len * self.now.size) (drop (off * self.now.size) (rows self.now.values.value))) }
-        ensures refusal { IfErr result (λ fault. fault ≡ PolarsError.OutOfMemory) }
+        ensures refusal { IfErr result IsOutOfMemory }
     {
         FixedSizeListArray::part_of(
             self.size,

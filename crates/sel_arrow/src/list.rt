@@ -1,7 +1,7 @@
 //! List columns with offsets.
 
 ghost use Rattle.std.specs.Prelude.{◌≡◌, ◌+◌, ◌≤◌, ◌↔◌, length, take, drop, None, IfOk, IfErr, IsTrue};
-ghost use Rattle.sel_bits.specs.Faults.{IsFaultOrMemory};
+ghost use Rattle.sel_bits.specs.Faults.{IsFaultOrMemory, IsOutOfMemory};
 ghost use Rattle.sel_arrow.specs.Makers.{list_fault};
 ghost use Rattle.sel_arrow.specs.Masked.{Covers};
 ghost use Rattle.sel_arrow.specs.Nested.{list_rows};
@@ -15,7 +15,7 @@ use crate::datatype::ArrowDataType;
 use crate::rules::fault_of_lists;
 use crate::validity::{clone_validity, sliced_validity};
 use sel_bits::bitmap::Bitmap;
-use sel_bits::faults::{MakeError, PolarsError, PolarsResult};
+use sel_bits::faults::{MakeError, PolarsResult};
 use sel_bits::native::Offset;
 use sel_bits::offsets::OffsetsBuffer;
 use std::alloc::Global;
@@ -161,7 +161,7 @@ impl ListArray<i64> {
             type_of (LargeList offsets.now values.now validity.now)) }
         ensures buffers { IfOk result (λ part. buffers_held (list_column part) ≡
             buffers_held (LargeList offsets.now values.now validity.now)) }
-        ensures refusal { IfErr result (λ fault. fault ≡ PolarsError.OutOfMemory) }
+        ensures refusal { IfErr result IsOutOfMemory }
     {
         let offsets = offsets.try_clone()?.sliced(off, len);
         let validity = sliced_validity(validity, off, len)?;
@@ -188,7 +188,7 @@ impl ListArray<i64> {
             type_of (LargeList offsets.now values.now validity.now)) }
         ensures buffers { IfOk result (λ copy. buffers_held (list_column copy) ≡
             buffers_held (LargeList offsets.now values.now validity.now)) }
-        ensures refusal { IfErr result (λ fault. fault ≡ PolarsError.OutOfMemory) }
+        ensures refusal { IfErr result IsOutOfMemory }
     {
         let offsets = offsets.try_clone()?;
         let validity = clone_validity(validity)?;

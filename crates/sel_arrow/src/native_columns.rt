@@ -1,6 +1,7 @@
 //! The primitive types that have a `Column` variant.
 
 ghost use Rattle.std.specs.Prelude.{◌≡◌, ◌≤◌, [], length, pos};
+ghost use Rattle.sel_bits.specs.Limits.{max_rows};
 ghost use Rattle.sel_arrow.specs.Masked.{Covers, number_rows};
 
 use crate::column::Column;
@@ -26,7 +27,7 @@ impl ArrowPrimitive for i8 {
     }
 
     fn into_column(values: Buffer<i8>, validity: Option<Bitmap>) -> Column
-        requires few { length values ≤ 4294967295 }
+        requires few { length values ≤ max_rows }
         requires covers { Covers validity (length values) }
         ensures rows { rows result ≡ number_rows (λ x. x) values validity }
         ensures dtype { type_of result ≡ of_int8 }
@@ -71,7 +72,7 @@ impl ArrowPrimitive for i16 {
     }
 
     fn into_column(values: Buffer<i16>, validity: Option<Bitmap>) -> Column
-        requires few { length values ≤ 4294967295 }
+        requires few { length values ≤ max_rows }
         requires covers { Covers validity (length values) }
         ensures rows { rows result ≡ number_rows (λ x. x) values validity }
         ensures dtype { type_of result ≡ of_int16 }
@@ -116,7 +117,7 @@ impl ArrowPrimitive for i32 {
     }
 
     fn into_column(values: Buffer<i32>, validity: Option<Bitmap>) -> Column
-        requires few { length values ≤ 4294967295 }
+        requires few { length values ≤ max_rows }
         requires covers { Covers validity (length values) }
         ensures rows { rows result ≡ number_rows (λ x. x) values validity }
         ensures dtype { type_of result ≡ of_int32 }
@@ -161,7 +162,7 @@ impl ArrowPrimitive for i64 {
     }
 
     fn into_column(values: Buffer<i64>, validity: Option<Bitmap>) -> Column
-        requires few { length values ≤ 4294967295 }
+        requires few { length values ≤ max_rows }
         requires covers { Covers validity (length values) }
         ensures rows { rows result ≡ number_rows (λ x. x) values validity }
         ensures dtype { type_of result ≡ of_int64 }
@@ -206,7 +207,7 @@ impl ArrowPrimitive for i128 {
     }
 
     fn into_column(values: Buffer<i128>, validity: Option<Bitmap>) -> Column
-        requires few { length values ≤ 4294967295 }
+        requires few { length values ≤ max_rows }
         requires covers { Covers validity (length values) }
         ensures rows { rows result ≡ number_rows (λ x. x) values validity }
         ensures dtype { type_of result ≡ of_int128 }
@@ -251,7 +252,7 @@ impl ArrowPrimitive for u8 {
     }
 
     fn into_column(values: Buffer<u8>, validity: Option<Bitmap>) -> Column
-        requires few { length values ≤ 4294967295 }
+        requires few { length values ≤ max_rows }
         requires covers { Covers validity (length values) }
         ensures rows { rows result ≡ number_rows pos values validity }
         ensures dtype { type_of result ≡ of_uint8 }
@@ -296,7 +297,7 @@ impl ArrowPrimitive for u16 {
     }
 
     fn into_column(values: Buffer<u16>, validity: Option<Bitmap>) -> Column
-        requires few { length values ≤ 4294967295 }
+        requires few { length values ≤ max_rows }
         requires covers { Covers validity (length values) }
         ensures rows { rows result ≡ number_rows pos values validity }
         ensures dtype { type_of result ≡ of_uint16 }
@@ -341,7 +342,7 @@ impl ArrowPrimitive for u32 {
     }
 
     fn into_column(values: Buffer<u32>, validity: Option<Bitmap>) -> Column
-        requires few { length values ≤ 4294967295 }
+        requires few { length values ≤ max_rows }
         requires covers { Covers validity (length values) }
         ensures rows { rows result ≡ number_rows pos values validity }
         ensures dtype { type_of result ≡ of_uint32 }
@@ -386,7 +387,7 @@ impl ArrowPrimitive for u64 {
     }
 
     fn into_column(values: Buffer<u64>, validity: Option<Bitmap>) -> Column
-        requires few { length values ≤ 4294967295 }
+        requires few { length values ≤ max_rows }
         requires covers { Covers validity (length values) }
         ensures rows { rows result ≡ number_rows pos values validity }
         ensures dtype { type_of result ≡ of_uint64 }
@@ -431,7 +432,7 @@ impl ArrowPrimitive for u128 {
     }
 
     fn into_column(values: Buffer<u128>, validity: Option<Bitmap>) -> Column
-        requires few { length values ≤ 4294967295 }
+        requires few { length values ≤ max_rows }
         requires covers { Covers validity (length values) }
         ensures rows { rows result ≡ number_rows pos values validity }
         ensures dtype { type_of result ≡ of_uint128 }

@@ -1,6 +1,7 @@
 //! Null columns.
 
 ghost use Rattle.std.specs.Prelude.{◌≡◌, ◌≤◌, None, IfOk, IfErr, []};
+ghost use Rattle.sel_bits.specs.Limits.{max_rows};
 ghost use Rattle.sel_bits.specs.Faults.{IsFault};
 ghost use Rattle.sel_arrow.specs.Makers.{null_fault};
 
@@ -17,7 +18,7 @@ use std::alloc::Global;
 #[derive(Drop)]
 pub struct NullArray {
     pub length: usize,
-    pub ghost rows_fit: { length ≤ 4294967295 },
+    pub ghost rows_fit: { length ≤ max_rows },
 }
 
 impl NullArray {

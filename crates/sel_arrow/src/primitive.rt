@@ -2,6 +2,7 @@
 
 ghost use Rattle.std.specs.Prelude.{◌≡◌, ◌≢◌, ◌≤◌, ◌<◌, ◌↔◌, length, map, slice_index_or, None, IfOk, IfErr, IfSome, IfNone, IsTrue, []};
 ghost use Rattle.std.specs.Option.{option_copied};
+ghost use Rattle.sel_bits.specs.Limits.{max_rows};
 ghost use Rattle.sel_bits.specs.Faults.{IsFault, IsFaultOrMemory};
 ghost use Rattle.sel_arrow.specs.Makers.{flat_fault, null_fault};
 ghost use Rattle.sel_arrow.specs.Masked.{Covers, number_rows, number_value};
@@ -25,7 +26,7 @@ use std::alloc::Global;
 pub struct PrimitiveArray<T: NativeType> {
     pub values: Buffer<T>,
     pub validity: Option<Bitmap>,
-    pub ghost rows_fit: { length values ≤ 4294967295 },
+    pub ghost rows_fit: { length values ≤ max_rows },
     pub ghost validity_fits: { Covers validity (length values) },
 }
 
@@ -147,7 +148,7 @@ pub trait ArrowPrimitive: NativeType {
     /// # Requires
     /// There are at most 4,294,967,295 values, and the length of `validity` is their count.
     fn into_column(values: Buffer<Self>, validity: Option<Bitmap>) -> Column
-        requires few { length values ≤ 4294967295 }
+        requires few { length values ≤ max_rows }
         requires covers { Covers validity (length values) }
         ensures rows { rows result ≡ number_rows Self.number values validity }
         ensures dtype { type_of result ≡ shape }
@@ -170,7 +171,7 @@ pub trait ArrowPrimitive: NativeType {
     fn from_column(column: Column) -> Result<(Buffer<Self>, Option<Bitmap>), Column>
         ensures rows { IfOk result (λ parts. number_rows Self.number parts.0 parts.1 ≡
             rows column) }
-        ensures few { IfOk result (λ parts. length parts.0 ≤ 4294967295) }
+        ensures few { IfOk result (λ parts. length parts.0 ≤ max_rows) }
         ensures covers { IfOk result (λ parts. Covers parts.1 (length parts.0)) }
         ensures dtype { IfOk result (λ _. type_of column ≡ shape) }
         ensures back { IfErr result (λ back. back ≡ column) }

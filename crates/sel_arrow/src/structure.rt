@@ -2,7 +2,7 @@
 
 ghost use Rattle.std.specs.Prelude.{◌≡◌, ◌+◌, ◌≤◌, ◌==◌, length, take, drop, map, All, None, IfOk, IfErr};
 ghost use Rattle.std.specs.List.{list_all};
-ghost use Rattle.sel_bits.specs.Faults.{IsFaultOrMemory};
+ghost use Rattle.sel_bits.specs.Faults.{IsFaultOrMemory, IsOutOfMemory};
 ghost use Rattle.sel_arrow.specs.Makers.{struct_fault};
 ghost use Rattle.sel_arrow.specs.Masked.{Covers};
 ghost use Rattle.sel_arrow.specs.Nested.{struct_rows};
@@ -16,7 +16,7 @@ use crate::datatype::ArrowDataType;
 use crate::rules::fault_of_struct;
 use crate::validity::{clone_validity, sliced_validity};
 use sel_bits::bitmap::Bitmap;
-use sel_bits::faults::{MakeError, PolarsError, PolarsResult};
+use sel_bits::faults::{MakeError, PolarsResult};
 use std::alloc::Global;
 
 /// A struct column of `len` rows. Row i holds row i of each field, unless the validity marks it
@@ -138,7 +138,7 @@ impl StructArray {
             type_of (Struct _count fields.now validity.now)) }
         ensures buffers { IfOk result (λ part. buffers_held (struct_column part) ≡
             buffers_held (Struct _count fields.now validity.now)) }
-        ensures refusal { IfErr result (λ fault. fault ≡ PolarsError.OutOfMemory) }
+        ensures refusal { IfErr result IsOutOfMemory }
     {
         let validity = sliced_validity(validity, off, len)?;
         let fields = parts_of(fields, alloc, off, len)?;
@@ -164,7 +164,7 @@ impl StructArray {
             type_of (Struct len fields.now validity.now)) }
         ensures buffers { IfOk result (λ copy. buffers_held (struct_column copy) ≡
             buffers_held (Struct len fields.now validity.now)) }
-        ensures refusal { IfErr result (λ fault. fault ≡ PolarsError.OutOfMemory) }
+        ensures refusal { IfErr result IsOutOfMemory }
     {
         let validity = clone_validity(validity)?;
         let fields = copies_of(fields, alloc)?;
@@ -243,7 +243,7 @@ fn columns_of(alloc: Global, arrays: Vec<ArrayRef>) -> PolarsResult<Vec<Column>>
     ensures columns { IfOk result (λ columns. columns.items ≡
         map (λ array. array.column) arrays.items) }
     ensures formed { IfOk result (λ columns. All IsWellFormed columns.items) }
-    ensures refusal { IfErr result (λ fault. fault ≡ PolarsError.OutOfMemory) }
+    ensures refusal { IfErr result IsOutOfMemory }
 {
     let mut columns = Vec::with_capacity(alloc, arrays.len())?;
     for array in arrays {
@@ -264,7 +264,7 @@ fn parts_of(columns: &[Column], alloc: Global, off: usize, len: usize) -> Polars
     ensures buffers { IfOk result (λ parts. map buffers_held parts.items ≡
         map buffers_held columns.now) }
     ensures formed { IfOk result (λ parts. All (IsField len) parts.items) }
-    ensures refusal { IfErr result (λ fault. fault ≡ PolarsError.OutOfMemory) }
+    ensures refusal { IfErr result IsOutOfMemory }
 {
     let mut parts = Vec::new(alloc);
     for column in columns {
@@ -282,7 +282,7 @@ fn copies_of(columns: &[Column], alloc: Global) -> PolarsResult<Vec<Column>>
     ensures buffers { IfOk result (λ copies. map buffers_held copies.items ≡
         map buffers_held columns.now) }
     ensures formed { IfOk result (λ copies. All IsWellFormed copies.items) }
-    ensures refusal { IfErr result (λ fault. fault ≡ PolarsError.OutOfMemory) }
+    ensures refusal { IfErr result IsOutOfMemory }
 {
     let mut copies = Vec::new(alloc);
     for column in columns {

@@ -2,7 +2,7 @@
 
 ghost use Rattle.std.specs.Prelude.{◌≡◌, ◌≤◌, ◌<◌, ◌+◌, length, slice_index_or, None, IfOk, IfErr, IsTrue, string_bytes, [], ◌∷◌};
 ghost use Rattle.std.specs.Option.{option_copied, option_map};
-ghost use Rattle.sel_bits.specs.Faults.{IsFault};
+ghost use Rattle.sel_bits.specs.Faults.{IsFault, IsOutOfMemory};
 ghost use Rattle.sel_arrow.specs.Makers.{utf8view_fault};
 ghost use Rattle.sel_arrow.specs.Masked.{bytes_value};
 ghost use Rattle.sel_arrow.specs.Texts.{all_text};
@@ -17,7 +17,7 @@ use crate::datatype::ArrowDataType;
 use crate::view::View;
 use sel_bits::bitmap::Bitmap;
 use sel_bits::buffer::Buffer;
-use sel_bits::faults::{MakeError, Malformed, PolarsError, PolarsResult};
+use sel_bits::faults::{MakeError, Malformed, PolarsResult};
 use std::alloc::Global;
 
 /// A string view column: a binary view column whose valid rows are UTF-8.
@@ -84,7 +84,7 @@ impl Utf8ViewArray {
         requires { i < length (utf8view_rows self.now) }
         ensures row { IfOk result (λ row. bytes_value (option_map string_bytes row) ≡
             slice_index_or (utf8view_rows self.now) i Null) }
-        ensures refusal { IfErr result (λ fault. fault ≡ PolarsError.OutOfMemory) }
+        ensures refusal { IfErr result IsOutOfMemory }
     {
         match self.bytes.get(alloc, i)? {
             None => Ok(None),
@@ -99,7 +99,7 @@ impl Utf8ViewArray {
     pub fn to_binview(&self, alloc: Global) -> PolarsResult<BinaryViewArray>
         ensures rows { IfOk result (λ column. binview_rows column ≡ utf8view_rows self.now) }
         ensures buffers { IfOk result (λ column. column.buffers ≡ self.now.bytes.buffers) }
-        ensures refusal { IfErr result (λ fault. fault ≡ PolarsError.OutOfMemory) }
+        ensures refusal { IfErr result IsOutOfMemory }
     {
         Ok(self.bytes.try_clone(alloc)?)
     }

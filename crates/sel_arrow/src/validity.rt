@@ -3,10 +3,11 @@
 
 ghost use Rattle.std.specs.Prelude.{◌≡◌, ◌≤◌, ◌<◌, ◌+◌, length, IfOk, IfErr};
 ghost use Rattle.std.specs.Option.{ForSome, option_map};
+ghost use Rattle.sel_bits.specs.Faults.{IsOutOfMemory};
 ghost use Rattle.sel_arrow.specs.Masked.{Covers, valid_at, validity_differs, part_of};
 
 use sel_bits::bitmap::Bitmap;
-use sel_bits::faults::{PolarsError, PolarsResult};
+use sel_bits::faults::PolarsResult;
 
 /// The maximum number of rows of a column.
 pub const MOST_ROWS: usize = 4_294_967_295;
@@ -49,7 +50,7 @@ pub fn sliced_validity(
 ) -> PolarsResult<Option<Bitmap>>
     requires { ForSome validity.now (λ v. off + len ≤ length v.bits) }
     ensures value { IfOk result (λ part. part ≡ option_map (part_of off len) validity.now) }
-    ensures refusal { IfErr result (λ fault. fault ≡ PolarsError.OutOfMemory) }
+    ensures refusal { IfErr result IsOutOfMemory }
 {
     match validity {
         None => Ok(None),
@@ -63,7 +64,7 @@ pub fn sliced_validity(
 /// `OutOfMemory` if an allocation fails.
 pub fn clone_validity(validity: &Option<Bitmap>) -> PolarsResult<Option<Bitmap>>
     ensures value { IfOk result (λ copy. copy ≡ validity.now) }
-    ensures refusal { IfErr result (λ fault. fault ≡ PolarsError.OutOfMemory) }
+    ensures refusal { IfErr result IsOutOfMemory }
 {
     match validity {
         None => Ok(None),

@@ -1,6 +1,7 @@
 //! Views of byte strings, inline or in a data buffer.
 
 ghost use Rattle.std.specs.Prelude.{◌≡◌, ◌≤◌, ◌<◌, ◌+◌, length, slice_index};
+ghost use Rattle.sel_bits.specs.Limits.{max_buffer_bytes};
 ghost use Rattle.sel_arrow.specs.Views.{inline_bytes, inline_space, view_of, word_at};
 
 /// The maximum length of an inline view.
@@ -29,7 +30,7 @@ impl View {
     /// # Requires
     /// There are at most 4,294,967,295 bytes.
     pub fn new_from_bytes(bytes: &[u8], buffer_idx: u32, offset: u32) -> View
-        requires { length bytes.now ≤ 4294967295 }
+        requires { length bytes.now ≤ max_buffer_bytes }
         ensures view { result ≡ view_of bytes.now buffer_idx offset }
         ensures inline { length bytes.now ≤ 12 → inline_bytes result ≡ bytes.now }
     {

@@ -24,6 +24,10 @@ error_text OutOfMemory = codes "out of memory"
 error_text (SizeLimit limit) = codes "size limit " ++ limit_text limit
 error_text ComputeError = codes "get index is out of bounds"
 
+-- The error is out of memory.
+abbrev pub IsOutOfMemory : PolarsError → Type 0
+IsOutOfMemory fault = fault ≡ OutOfMemory
+
 -- The first broken rule; each rule is given with whether it is broken.
 abbrev pub first_broken : List (Malformed × Bool) → Option Malformed
 first_broken [] = None

@@ -2,6 +2,7 @@ pub mod Bits
 pub mod Choose
 pub mod Copying
 pub mod Faults
+pub mod Limits
 pub mod Moving
 pub mod Offsets
 pub mod Packing

@@ -2,12 +2,13 @@
 #![tactic(auto, using(crate::proofs::BitLists::length_bits_from))]
 
 ghost use Rattle.std.specs.Prelude.{◌≡◌, ◌≢◌, ℕ, ◌+◌, ◌-◌, ◌*◌, ◌/◌, ◌%◌, ◌^◌, ◌<◌, ◌≤◌, [], ◌∷◌, ◌++◌, Bool, false, length, take, drop, slice_index_or, replicate, IfOk, IfErr, IfSome, IfNone, IsTrue, ◌↔◌, vec_len, if◌then◌else◌};
+ghost use Rattle.sel_bits.specs.Faults.{IsOutOfMemory};
 ghost use Rattle.sel_bits.specs.Bits.{bits_from, count_true, count_false, leading_ones, leading_zeros, trailing_zeros, unsliced};
 ghost use Rattle.sel_bits.specs.Storage.{BitsOf};
 ghost use Rattle.sel_bits.specs.Words.{word_of};
 
 use crate::buffer::Buffer;
-use crate::faults::{PolarsError, PolarsResult};
+use crate::faults::PolarsResult;
 use crate::lent::Lent;
 use crate::operations::{Not, word_by};
 use crate::packer::{BitPacker, MOST_BITS};
@@ -49,7 +50,7 @@ impl Bitmap {
     /// `OutOfMemory` if an allocation fails.
     pub fn new(alloc: Global) -> PolarsResult<Bitmap>
         ensures value { IfOk result (λ bitmap. bitmap ≡ unsliced []) }
-        ensures refusal { IfErr result (λ fault. fault ≡ PolarsError.OutOfMemory) }
+        ensures refusal { IfErr result IsOutOfMemory }
     {
         Bitmap::from_u8_vec(Vec::new(alloc), 0)
     }
@@ -60,7 +61,7 @@ impl Bitmap {
     /// `OutOfMemory` if an allocation fails.
     pub fn new_with_value(alloc: Global, value: bool, len: usize) -> PolarsResult<Bitmap>
         ensures value { IfOk result (λ bitmap. bitmap ≡ unsliced (replicate len value)) }
-        ensures refusal { IfErr result (λ fault. fault ≡ PolarsError.OutOfMemory) }
+        ensures refusal { IfErr result IsOutOfMemory }
     {
         let bytes = vec![in alloc; byte_of(value); len.div_ceil(8)]?;
         Bitmap::from_u8_vec(bytes, len)
@@ -72,7 +73,7 @@ impl Bitmap {
     /// `OutOfMemory` if an allocation fails.
     pub fn new_zeroed(alloc: Global, len: usize) -> PolarsResult<Bitmap>
         ensures value { IfOk result (λ bitmap. bitmap ≡ unsliced (replicate len false)) }
-        ensures refusal { IfErr result (λ fault. fault ≡ PolarsError.OutOfMemory) }
+        ensures refusal { IfErr result IsOutOfMemory }
     {
         Bitmap::new_with_value(alloc, false, len)
     }
@@ -88,7 +89,7 @@ impl Bitmap {
         requires { len ≤ 8 * vec_len bytes }
         ensures value { IfOk result (λ bitmap. bitmap ≡ unsliced (bits_from bytes.items 0 len)) }
         ensures len { IfOk result (λ bitmap. length bitmap.bits ≡ len) }
-        ensures refusal { IfErr result (λ fault. fault ≡ PolarsError.OutOfMemory) }
+        ensures refusal { IfErr result IsOutOfMemory }
     {
         let bytes = Storage::from_vec(bytes)?;
         Ok(Bitmap {
@@ -145,7 +146,7 @@ impl Bitmap {
     /// `OutOfMemory` if an allocation fails.
     pub fn from_bools(alloc: Global, values: &[bool]) -> PolarsResult<Bitmap>
         ensures value { IfOk result (λ bitmap. bitmap ≡ unsliced values.now) }
-        ensures refusal { IfErr result (λ fault. fault ≡ PolarsError.OutOfMemory) }
+        ensures refusal { IfErr result IsOutOfMemory }
     {
         let mut packer = BitPacker::with_capacity(alloc, values.len())?;
         let mut rest = values;
@@ -409,7 +410,7 @@ impl Bitmap {
             bits_from bytes (self.now.offset % 8) (length self.now.bits)) }
         ensures bytes { IfOk result (λ bytes. length bytes ≡
             (self.now.offset % 8 + length self.now.bits + 7) / 8) }
-        ensures refusal { IfErr result (λ fault. fault ≡ PolarsError.OutOfMemory) }
+        ensures refusal { IfErr result IsOutOfMemory }
     {
         let count = (self.offset % 8 + self.len).div_ceil(8);
         let bytes = self.bytes.try_clone()?;
@@ -422,7 +423,7 @@ impl Bitmap {
     /// `OutOfMemory` if the bytes cannot be shared once more.
     pub fn try_clone(&self) -> PolarsResult<Bitmap>
         ensures value { IfOk result (λ bitmap. bitmap ≡ self.now) }
-        ensures refusal { IfErr result (λ fault. fault ≡ PolarsError.OutOfMemory) }
+        ensures refusal { IfErr result IsOutOfMemory }
     {
         let bytes = self.bytes.try_clone()?;
         Ok(Bitmap {

@@ -1,6 +1,7 @@
 //! A vector builder that copies slices of one source and counts the copies.
 
 ghost use Rattle.std.specs.Prelude.{◌≡◌, ◌+◌, ◌^◌, ◌<◌, ◌≤◌, [], length, IfErr, OnOk};
+ghost use Rattle.sel_bits.specs.Faults.{IsOutOfMemory};
 ghost use Rattle.sel_bits.specs.Copying.{after_copy, after_fill};
 
 use crate::faults::{PolarsError, PolarsResult};
@@ -61,7 +62,7 @@ impl<'a, T: Copy> BlockCopy<'a, T> {
     /// `OutOfMemory` if an allocation fails.
     pub fn reserve(&mut self, count: usize) -> PolarsResult<()>
         ensures unchanged { self.new ≡ self.old }
-        ensures refusal { IfErr result (λ fault. fault ≡ PolarsError.OutOfMemory) }
+        ensures refusal { IfErr result IsOutOfMemory }
     {
         self.items.reserve(count)?;
         Ok(())
@@ -79,7 +80,7 @@ impl<'a, T: Copy> BlockCopy<'a, T> {
         requires countable { self.old.copies + 1 < 2 ^ 64 }
         ensures copied { OnOk result (self.new ≡ after_copy self.old at len) }
         ensures unchanged { IfErr result (λ _. self.new ≡ self.old) }
-        ensures refusal { IfErr result (λ fault. fault ≡ PolarsError.OutOfMemory) }
+        ensures refusal { IfErr result IsOutOfMemory }
     {
         let values = self.values;
         self.items.extend_from_slice(&values[at..at + len])?;
@@ -98,7 +99,7 @@ impl<'a, T: Copy> BlockCopy<'a, T> {
         requires countable { self.old.copies + 1 < 2 ^ 64 }
         ensures filled { OnOk result (self.new ≡ after_fill self.old value len) }
         ensures unchanged { IfErr result (λ _. self.new ≡ self.old) }
-        ensures refusal { IfErr result (λ fault. fault ≡ PolarsError.OutOfMemory) }
+        ensures refusal { IfErr result IsOutOfMemory }
     {
         let Some(end) = self.items.len().checked_add(len) else {
             return Err(PolarsError::OutOfMemory);

@@ -1,9 +1,10 @@
 //! A slice of shared values.
 
 ghost use Rattle.std.specs.Prelude.{◌≡◌, ◌+◌, ◌≤◌, length, take, drop, IfOk, IfErr};
+ghost use Rattle.sel_bits.specs.Faults.{IsOutOfMemory};
 ghost use Rattle.sel_bits.specs.Storage.{IsPart, storage_items};
 
-use crate::faults::{PolarsError, PolarsResult};
+use crate::faults::PolarsResult;
 use crate::lent::Lent;
 use crate::storage::Storage;
 use std::alloc::Global;
@@ -35,7 +36,7 @@ impl<T: Drop> Buffer<T> {
     /// `OutOfMemory` if an allocation fails.
     pub fn from_vec(values: Vec<T>) -> PolarsResult<Buffer<T>>
         ensures items { IfOk result (λ buffer. buffer ≡ values.items) }
-        ensures refusal { IfErr result (λ fault. fault ≡ PolarsError.OutOfMemory) }
+        ensures refusal { IfErr result IsOutOfMemory }
     {
         let count = values.len();
         let shared = Storage::from_vec(values)?;
@@ -127,7 +128,7 @@ impl<T: Drop> Buffer<T> {
     /// `OutOfMemory` if the slice cannot be shared once more.
     pub fn try_clone(&self) -> PolarsResult<Buffer<T>>
         ensures items { IfOk result (λ buffer. buffer ≡ self.now) }
-        ensures refusal { IfErr result (λ fault. fault ≡ PolarsError.OutOfMemory) }
+        ensures refusal { IfErr result IsOutOfMemory }
     {
         let shared = self.shared.try_clone()?;
         Ok(Buffer {

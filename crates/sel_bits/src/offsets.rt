@@ -1,11 +1,11 @@
 //! Offsets buffers of variable-size columns.
 
 ghost use Rattle.std.specs.Prelude.{◌≡◌, ◌≤ℤ◌, ◌+◌, ◌-◌, ◌≤◌, ◌<◌, slice_index, ℤ, pos, length, take, drop, map, Some, None, IfOk, IfErr};
-ghost use Rattle.sel_bits.specs.Faults.{IsFault, IsFaultOrMemory};
+ghost use Rattle.sel_bits.specs.Faults.{IsFault, IsFaultOrMemory, IsOutOfMemory};
 ghost use Rattle.sel_bits.specs.Offsets.{IsOffsets, IsRising, has_negative, has_fall, falls_after, offsets_fault};
 
 use crate::buffer::Buffer;
-use crate::faults::{MakeError, Malformed, PolarsError, PolarsResult};
+use crate::faults::{MakeError, Malformed, PolarsResult};
 use crate::native::{NativeType, Offset};
 use std::marker::Model;
 
@@ -73,7 +73,7 @@ impl<O: Offset> OffsetsBuffer<O> {
     /// `OutOfMemory` if the slice cannot be shared once more.
     pub fn to_buffer(&self) -> PolarsResult<Buffer<O>>
         ensures numbers { IfOk result (λ buffer. map O.number buffer ≡ map pos self.now) }
-        ensures refusal { IfErr result (λ fault. fault ≡ PolarsError.OutOfMemory) }
+        ensures refusal { IfErr result IsOutOfMemory }
     {
         match self.offsets.try_clone() {
             Ok(buffer) => Ok(buffer),
@@ -91,7 +91,7 @@ impl<O: Offset> OffsetsBuffer<O> {
     pub fn of_rising(offsets: Vec<O>) -> PolarsResult<OffsetsBuffer<O>>
         requires { IsOffsets O.number offsets.items }
         ensures value { IfOk result (λ buffer. map O.number offsets.items ≡ map pos buffer) }
-        ensures refusal { IfErr result (λ fault. fault ≡ PolarsError.OutOfMemory) }
+        ensures refusal { IfErr result IsOutOfMemory }
     {
         let offsets = Buffer::from_vec(offsets)?;
         Ok(OffsetsBuffer { offsets })
@@ -159,7 +159,7 @@ impl<O: Offset> OffsetsBuffer<O> {
     /// `OutOfMemory` if the slice cannot be shared once more.
     pub fn try_clone(&self) -> PolarsResult<OffsetsBuffer<O>>
         ensures value { IfOk result (λ buffer. buffer ≡ self.now) }
-        ensures refusal { IfErr result (λ fault. fault ≡ PolarsError.OutOfMemory) }
+        ensures refusal { IfErr result IsOutOfMemory }
     {
         let offsets = self.offsets.try_clone()?;
         Ok(OffsetsBuffer { offsets })

@@ -2,12 +2,13 @@
 #![tactic(auto, using(crate::proofs::Combining::combining))]
 
 ghost use Rattle.std.specs.Prelude.{◌≡◌, ℕ, ◌+◌, ◌*◌, ◌/◌, ◌<◌, ◌≤◌, ◌&&◌, ◌||◌, Bool, not, map, length, take, drop, IfOk, IfErr, if◌then◌else◌};
+ghost use Rattle.sel_bits.specs.Faults.{IsOutOfMemory};
 ghost use Rattle.sel_bits.specs.Bits.{unsliced, zip_with, zip_three};
 ghost use Rattle.sel_bits.specs.Choose.{choose};
 ghost use Rattle.sel_bits.specs.Words.{is_set, word_of};
 
 use crate::bitmap::Bitmap;
-use crate::faults::{PolarsError, PolarsResult};
+use crate::faults::PolarsResult;
 use crate::packer::BitPacker;
 use crate::words::low_bits;
 use std::alloc::Global;
@@ -24,7 +25,7 @@ impl Bitmap {
         requires { length self.now.bits ≡ length other.now.bits }
         ensures value { IfOk result (λ bitmap. bitmap ≡
             unsliced (zip_with (λ x y. x && y) self.now.bits other.now.bits)) }
-        ensures refusal { IfErr result (λ fault. fault ≡ PolarsError.OutOfMemory) }
+        ensures refusal { IfErr result IsOutOfMemory }
     {
         combine::<And>(alloc, self, other, other)
     }
@@ -40,7 +41,7 @@ impl Bitmap {
         requires { length self.now.bits ≡ length other.now.bits }
         ensures value { IfOk result (λ bitmap. bitmap ≡
             unsliced (zip_with (λ x y. x || y) self.now.bits other.now.bits)) }
-        ensures refusal { IfErr result (λ fault. fault ≡ PolarsError.OutOfMemory) }
+        ensures refusal { IfErr result IsOutOfMemory }
     {
         combine::<Or>(alloc, self, other, other)
     }
@@ -56,7 +57,7 @@ impl Bitmap {
         requires { length self.now.bits ≡ length other.now.bits }
         ensures value { IfOk result (λ bitmap. bitmap ≡
             unsliced (zip_with (λ x y. x && not y) self.now.bits other.now.bits)) }
-        ensures refusal { IfErr result (λ fault. fault ≡ PolarsError.OutOfMemory) }
+        ensures refusal { IfErr result IsOutOfMemory }
     {
         combine::<AndNot>(alloc, self, other, other)
     }
@@ -72,7 +73,7 @@ impl Bitmap {
         requires { length self.now.bits ≡ length other.now.bits }
         ensures value { IfOk result (λ bitmap. bitmap ≡
             unsliced (zip_with (λ x y. x || not y) self.now.bits other.now.bits)) }
-        ensures refusal { IfErr result (λ fault. fault ≡ PolarsError.OutOfMemory) }
+        ensures refusal { IfErr result IsOutOfMemory }
     {
         combine::<OrNot>(alloc, self, other, other)
     }
@@ -83,7 +84,7 @@ impl Bitmap {
     /// `OutOfMemory` if an allocation fails.
     pub fn not(&self, alloc: Global) -> PolarsResult<Bitmap>
         ensures value { IfOk result (λ bitmap. bitmap ≡ unsliced (map not self.now.bits)) }
-        ensures refusal { IfErr result (λ fault. fault ≡ PolarsError.OutOfMemory) }
+        ensures refusal { IfErr result IsOutOfMemory }
     {
         combine::<Not>(alloc, self, self, self)
     }
@@ -105,7 +106,7 @@ impl Bitmap {
         requires false_side { length mask.now.bits ≡ length if_false.now.bits }
         ensures value { IfOk result (λ bitmap. bitmap ≡
             unsliced (choose mask.now.bits if_true.now.bits if_false.now.bits)) }
-        ensures refusal { IfErr result (λ fault. fault ≡ PolarsError.OutOfMemory) }
+        ensures refusal { IfErr result IsOutOfMemory }
     {
         combine::<Choose>(alloc, mask, if_true, if_false)
     }
@@ -198,7 +199,7 @@ fn combine<R: BitRule>(alloc: Global, x: &Bitmap, y: &Bitmap, z: &Bitmap) -> Pol
     requires third { length x.now.bits ≡ length z.now.bits }
     ensures value { IfOk result (λ bitmap. bitmap ≡
         unsliced (zip_three R.on_bits x.now.bits y.now.bits z.now.bits)) }
-    ensures refusal { IfErr result (λ fault. fault ≡ PolarsError.OutOfMemory) }
+    ensures refusal { IfErr result IsOutOfMemory }
 {
     let mut packer = whole_words_by::<R>(alloc, x, y, z)?;
     let count = x.len();
@@ -218,7 +219,7 @@ fn whole_words_by<R: BitRule>(
     requires third { length x.now.bits ≡ length z.now.bits }
     ensures packed { IfOk result (λ packer. packer ≡ take (64 * (length x.now.bits / 64))
         (zip_three R.on_bits x.now.bits y.now.bits z.now.bits)) }
-    ensures refusal { IfErr result (λ fault. fault ≡ PolarsError.OutOfMemory) }
+    ensures refusal { IfErr result IsOutOfMemory }
 {
     let count = x.len();
     let mut packer = BitPacker::with_capacity(alloc, count)?;

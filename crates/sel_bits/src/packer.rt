@@ -2,11 +2,12 @@
 #![tactic(auto, using(crate::proofs::BitLists::length_bits_from))]
 
 ghost use Rattle.std.specs.Prelude.{◌≡◌, ℕ, ◌+◌, ◌-◌, ◌*◌, ◌^◌, ◌<◌, ◌≤◌, [], ◌∷◌, ◌++◌, length, take, drop, replicate, IfOk, IfErr, IfSome, IfNone, OnOk};
+ghost use Rattle.sel_bits.specs.Faults.{IsOutOfMemory};
 ghost use Rattle.sel_bits.specs.Bits.{unsliced};
 ghost use Rattle.sel_bits.specs.Words.{bits, word_of};
 
 use crate::bitmap::Bitmap;
-use crate::faults::{PolarsError, PolarsResult};
+use crate::faults::PolarsResult;
 use crate::words::low_bits;
 use std::alloc::Global;
 use std::marker::Model;
@@ -42,7 +43,7 @@ impl BitPacker {
     /// `OutOfMemory` if an allocation fails.
     pub fn with_capacity(alloc: Global, count: usize) -> PolarsResult<BitPacker>
         ensures value { IfOk result (λ packer. packer ≡ []) }
-        ensures refusal { IfErr result (λ fault. fault ≡ PolarsError.OutOfMemory) }
+        ensures refusal { IfErr result IsOutOfMemory }
     {
         // (the pending bits at the end are written as a whole word)
         let bytes = Vec::with_capacity(alloc, count.div_ceil(8) + 8)?;
@@ -78,7 +79,7 @@ impl BitPacker {
         requires fits { word < 2 ^ count }
         ensures appended { OnOk result (self.new ≡ self.old ++ bits count word) }
         ensures unchanged { IfErr result (λ _. self.new ≡ self.old) }
-        ensures refusal { IfErr result (λ fault. fault ≡ PolarsError.OutOfMemory) }
+        ensures refusal { IfErr result IsOutOfMemory }
     {
         let full = self.pending | (word << self.held);
         let held = self.held + count;
@@ -102,7 +103,7 @@ impl BitPacker {
     pub fn push(&mut self, bit: bool) -> PolarsResult<()>
         ensures pushed { OnOk result (self.new ≡ self.old ++ bit ∷ []) }
         ensures unchanged { IfErr result (λ _. self.new ≡ self.old) }
-        ensures refusal { IfErr result (λ fault. fault ≡ PolarsError.OutOfMemory) }
+        ensures refusal { IfErr result IsOutOfMemory }
     {
         self.append(u64::from(bit), 1)
     }
@@ -126,7 +127,7 @@ impl BitPacker {
             self.old ++ take len (drop start bits.now.bits)) }
         ensures len { OnOk result (length self.new ≡ length self.old + len) }
         ensures kept { IfErr result (λ _. take (length self.old) self.new ≡ self.old) }
-        ensures refusal { IfErr result (λ fault. fault ≡ PolarsError.OutOfMemory) }
+        ensures refusal { IfErr result IsOutOfMemory }
     {
         // (the length of a bitmap fits in `usize`)
         let _whole = bits.len();
@@ -148,7 +149,7 @@ impl BitPacker {
         ensures extended { OnOk result (self.new ≡ self.old ++ replicate len value) }
         ensures len { OnOk result (length self.new ≡ length self.old + len) }
         ensures kept { IfErr result (λ _. take (length self.old) self.new ≡ self.old) }
-        ensures refusal { IfErr result (λ fault. fault ≡ PolarsError.OutOfMemory) }
+        ensures refusal { IfErr result IsOutOfMemory }
     {
         let mut at = 0;
         while at < len {
@@ -169,7 +170,7 @@ impl BitPacker {
     pub fn into_bitmap(mut self, len: usize) -> PolarsResult<Bitmap>
         requires { length self ≡ len }
         ensures value { IfOk result (λ bitmap. bitmap ≡ unsliced self) }
-        ensures refusal { IfErr result (λ fault. fault ≡ PolarsError.OutOfMemory) }
+        ensures refusal { IfErr result IsOutOfMemory }
     {
         self.bytes.extend_from_slice(&self.pending.to_le_bytes())?;
         Bitmap::from_u8_vec(self.bytes, len)

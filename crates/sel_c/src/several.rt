@@ -2,6 +2,7 @@
 
 ghost use Rattle.std.specs.Prelude.{◌≡◌, ◌≤◌, ◌<◌, ◌∷◌, All, false, length, map, IsTrue};
 ghost use Rattle.std.specs.List.{flat_map};
+ghost use Rattle.sel_bits.specs.Limits.{max_rows};
 ghost use Rattle.sel_bits.specs.declared.faults.Malformed.TheVariants.{TooManyRows, ValidityLength};
 ghost use Rattle.sel_arrow.specs.Rows.{rows, type_of};
 ghost use Rattle.sel_arrow.specs.Value.{Null};
@@ -97,7 +98,7 @@ pub extern "C" fn sel_collect_rows(
         (All (λ source. HasColumn source.tree) sources.now) }
     ensures few { DemandsBefore result (rule_status TooManyRows) (rule_status ValidityLength ∷
         length_mismatch ∷ type_mismatch ∷ index_out_of_bounds ∷ limit_statuses)
-        (length picks.now ≤ 4294967295) }
+        (length picks.now ≤ max_rows) }
     ensures validity { DemandsBefore result (rule_status ValidityLength)
         (length_mismatch ∷ type_mismatch ∷ index_out_of_bounds ∷ limit_statuses)
         (lacks_bits bits.now has_bits (length picks.now) ≡ false) }

@@ -1,6 +1,7 @@
 //! Take (gather).
 
 ghost use Rattle.std.specs.Prelude.{◌≡◌, ◌≤◌, ◌∷◌, false, length, pos, IsTrue};
+ghost use Rattle.sel_bits.specs.Limits.{max_rows};
 ghost use Rattle.sel_bits.specs.declared.faults.Malformed.TheVariants.{TooManyRows, ValidityLength};
 ghost use Rattle.sel_arrow.specs.Masked.{number_rows};
 ghost use Rattle.sel_arrow.specs.Rows.{rows, type_of};
@@ -79,7 +80,7 @@ pub extern "C" fn sel_take_rows(
     ensures column { DemandsFirst result no_column (HasColumn of.now.tree) }
     ensures few { DemandsBefore result (rule_status TooManyRows)
         (rule_status ValidityLength ∷ index_out_of_bounds ∷ limit_statuses)
-        (length indices.now ≤ 4294967295) }
+        (length indices.now ≤ max_rows) }
     ensures validity { DemandsBefore result (rule_status ValidityLength)
         (index_out_of_bounds ∷ limit_statuses)
         (lacks_bits bits.now has_bits (length indices.now) ≡ false) }

@@ -1,6 +1,7 @@
 //! If-then-else between two columns or scalars by a boolean mask.
 
 ghost use Rattle.std.specs.Prelude.{◌≡◌, ◌≢◌, ◌≤◌, ◌++◌, ◌∷◌, [], length, true, false, IfOk, IfErr};
+ghost use Rattle.sel_bits.specs.Limits.{max_rows};
 ghost use Rattle.sel_arrow.specs.Columns.{boolean_rows};
 ghost use Rattle.sel_arrow.specs.Depth.{depth};
 ghost use Rattle.sel_arrow.specs.Rows.{rows, type_of};
@@ -153,7 +154,7 @@ fn choice(
         (length mask.now.bits) }
     requires false_side { SideFits false_column (length (rows if_false.now.column))
         (length mask.now.bits) }
-    requires few { length mask.now.bits ≤ 4294967295 }
+    requires few { length mask.now.bits ≤ max_rows }
     ensures rows { IfOk result (λ chosen. rows chosen.column ≡
         chosen_rows true_column false_column mask.now.bits (rows if_true.now.column)
         (rows if_false.now.column)) }
@@ -196,7 +197,7 @@ fn side_fits(side: &ArrayRef, is_column: bool, len: usize) -> bool
 fn bits_of_mask(alloc: Global, mask: &ArrayRef) -> Result<Bitmap, u32>
     ensures bits { IfOk result (λ bits. bits.bits ≡ effective_mask (rows mask.now.column)) }
     ensures len { IfOk result (λ bits. length bits.bits ≡ length (rows mask.now.column)) }
-    ensures few { IfOk result (λ bits. length bits.bits ≤ 4294967295) }
+    ensures few { IfOk result (λ bits. length bits.bits ≤ max_rows) }
     ensures kind { IfOk result (λ _. type_of mask.now.column ≡ of_boolean) }
     ensures other { IfErr result (λ status. status ≡ unsupported_type →
         type_of mask.now.column ≢ of_boolean) }
@@ -216,7 +217,7 @@ fn bits_of_mask(alloc: Global, mask: &ArrayRef) -> Result<Bitmap, u32>
 fn effective_bits(alloc: Global, mask: &BooleanArray) -> PolarsResult<Bitmap>
     ensures bits { IfOk result (λ bits. bits.bits ≡ effective_mask (boolean_rows mask.now)) }
     ensures len { IfOk result (λ bits. length bits.bits ≡ length (boolean_rows mask.now)) }
-    ensures few { IfOk result (λ bits. length bits.bits ≤ 4294967295) }
+    ensures few { IfOk result (λ bits. length bits.bits ≤ max_rows) }
 {
     match &mask.validity {
         None => mask.values.try_clone(),

@@ -1,6 +1,8 @@
 //! Row references that callers pass.
 
 ghost use Rattle.std.specs.Prelude.{◌≡◌, ◌≤◌, ◌<◌, ◌↔◌, All, length, map, slice_index_or, IsTrue, IfOk, IfErr};
+ghost use Rattle.sel_bits.specs.Faults.{IsOutOfMemory};
+ghost use Rattle.sel_bits.specs.Limits.{max_rows};
 ghost use Rattle.sel_arrow.specs.Masked.{Covers};
 ghost use Rattle.sel_arrow.specs.Rows.{rows};
 ghost use Rattle.sel_calls.specs.Several.{pick_in, picks_from};
@@ -11,7 +13,7 @@ use sel_arrow::array::Array;
 use sel_arrow::array_ref::ArrayRef;
 use sel_arrow::validity::is_valid_at;
 use sel_bits::bitmap::Bitmap;
-use sel_bits::faults::{PolarsError, PolarsResult};
+use sel_bits::faults::PolarsResult;
 use sel_runs::plan::Places;
 use std::alloc::Global;
 
@@ -20,7 +22,7 @@ use std::alloc::Global;
 pub(crate) struct WordPlaces<'a> {
     pub words: &'a [PickWords],
     pub validity: &'a Option<Bitmap>,
-    pub ghost few: { length words.now ≤ 4294967295 },
+    pub ghost few: { length words.now ≤ max_rows },
     pub ghost covers: { Covers validity.now (length words.now) },
 }
 
@@ -106,7 +108,7 @@ fn has_row(lengths: &[usize], pick: Option<(u32, u32)>) -> bool
 pub(crate) fn lengths_of(alloc: Global, arrays: &[ArrayRef]) -> PolarsResult<Vec<usize>>
     ensures lengths { IfOk result (λ found. found.items ≡
         map (λ array. length (rows array.column)) arrays.now) }
-    ensures refusal { IfErr result (λ fault. fault ≡ PolarsError.OutOfMemory) }
+    ensures refusal { IfErr result IsOutOfMemory }
 {
     let mut found = Vec::with_capacity(alloc, arrays.len())?;
     for array in arrays {

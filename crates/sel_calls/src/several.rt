@@ -1,6 +1,8 @@
 //! Several columns: horizontal flatten, and gathered rows.
 
 ghost use Rattle.std.specs.Prelude.{◌≡◌, ◌≢◌, ◌≤◌, ◌<◌, ◌∷◌, ◌↔◌, All, false, length, map, IsTrue, IfOk, IfErr};
+ghost use Rattle.sel_bits.specs.Faults.{IsOutOfMemory};
+ghost use Rattle.sel_bits.specs.Limits.{max_rows};
 ghost use Rattle.sel_bits.specs.declared.faults.Malformed.TheVariants.{TooManyRows, ValidityLength};
 ghost use Rattle.sel_arrow.specs.Masked.{Covers};
 ghost use Rattle.sel_arrow.specs.Depth.{depth};
@@ -19,7 +21,7 @@ use sel_arrow::array_ref::ArrayRef;
 use sel_arrow::column::Column;
 use sel_arrow::validity::MOST_ROWS;
 use sel_bits::bitmap::Bitmap;
-use sel_bits::faults::{PolarsError, PolarsResult};
+use sel_bits::faults::PolarsResult;
 use sel_flatten::horizontal_flatten::{flatten_is_safe, horizontal_flatten_unchecked};
 use sel_handle::handle::Handle;
 use sel_handle::inputs::validity_of;
@@ -135,7 +137,7 @@ pub fn collect_into(
         limit_statuses) }
     ensures few { DemandsBefore result (rule_status TooManyRows) (rule_status ValidityLength ∷
         length_mismatch ∷ type_mismatch ∷ index_out_of_bounds ∷ limit_statuses)
-        (length words.now ≤ 4294967295) }
+        (length words.now ≤ max_rows) }
     ensures validity { DemandsBefore result (rule_status ValidityLength)
         (length_mismatch ∷ type_mismatch ∷ index_out_of_bounds ∷ limit_statuses)
         (lacks_bits bits.now has_bits (length words.now) ≡ false) }
@@ -177,7 +179,7 @@ fn collect_picks_into(
     out: &mut Handle,
 ) -> u32
     requires depth { All (λ array. depth (type_of array.column) ≤ 128) arrays.now }
-    requires few { length words.now ≤ 4294967295 }
+    requires few { length words.now ≤ max_rows }
     requires covers { Covers validity.now (length words.now) }
     ensures rows { Makes result out.old.tree out.new.tree (λ made. rows made.column ≡
         pick Null (map (λ array. rows array.column) arrays.now)
@@ -235,7 +237,7 @@ fn collect_picks_into(
 fn columns_of<'a>(alloc: Global, arrays: &'a [ArrayRef]) -> PolarsResult<Vec<&'a Column>>
     ensures columns { IfOk result (λ found. map (λ c. c.now) found.items ≡
         array_columns arrays.now) }
-    ensures refusal { IfErr result (λ fault. fault ≡ PolarsError.OutOfMemory) }
+    ensures refusal { IfErr result IsOutOfMemory }
 {
     let mut found = Vec::with_capacity(alloc, arrays.len())?;
     for array in arrays {

@@ -1,6 +1,7 @@
 //! Gather: the rows at indices.
 
 ghost use Rattle.std.specs.Prelude.{◌≡◌, ◌≢◌, ◌≤◌, ◌∷◌, false, length, pos, IsTrue};
+ghost use Rattle.sel_bits.specs.Limits.{max_rows};
 ghost use Rattle.sel_bits.specs.declared.faults.Malformed.TheVariants.{TooManyRows, ValidityLength};
 ghost use Rattle.sel_arrow.specs.Columns.{primitive_rows};
 ghost use Rattle.sel_arrow.specs.Masked.{number_rows};
@@ -99,7 +100,7 @@ pub fn take_rows_into(
         rule_status ValidityLength ∷ index_out_of_bounds ∷ limit_statuses) }
     ensures few { DemandsBefore result (rule_status TooManyRows)
         (rule_status ValidityLength ∷ index_out_of_bounds ∷ limit_statuses)
-        (length indices.now ≤ 4294967295) }
+        (length indices.now ≤ max_rows) }
     ensures validity { DemandsBefore result (rule_status ValidityLength)
         (index_out_of_bounds ∷ limit_statuses)
         (lacks_bits bits.now has_bits (length indices.now) ≡ false) }

@@ -5,6 +5,7 @@ use Rattle.std.specs.Prelude.{[], ◌∷◌, length, nat_le, if◌then◌else◌
 use Rattle.std.specs.Global.{Global}
 use Rattle.std.specs.List.{list_all}
 use Rattle.std.specs.Vec.{vec_items}
+use Rattle.sel_bits.specs.Limits.{max_buffer_bytes, max_buffers}
 use Rattle.sel_bits.specs.declared.faults.Limit.{Limit}
 use Rattle.sel_bits.specs.declared.faults.Limit.TheVariants.{Buffers as BufferLimit}
 use Rattle.sel_bits.specs.declared.faults.Limit.TheVariants.{ViewBytes as ViewByteLimit}
@@ -19,7 +20,7 @@ pub use Rattle.sel_runs.specs.Raised.{raised}
 -- Whether k can be added to the buffer index of a view within 32 bits; an inline view has no buffer
 -- index.
 abbrev pub can_rise : ℕ → View → Bool
-can_rise k view = is_inline view || nat_le (view.buffer_idx + k) 4294967295
+can_rise k view = is_inline view || nat_le (view.buffer_idx + k) max_buffers
 
 -- Whether k can be added to the buffer index of each view.
 abbrev pub all_rise : ℕ → List View → Bool
@@ -53,8 +54,8 @@ scalar_size of_scalar (scalar s) = length (of_scalar s)
 
 -- The limits that a number of data buffers, or the number of bytes of a scalar, exceeds.
 abbrev pub ExceedsViews : ℕ → ℕ → Limit → Type 0
-ExceedsViews buffers bytes BufferLimit = 4294967295 < buffers
-ExceedsViews buffers bytes ViewByteLimit = 4294967295 < bytes
+ExceedsViews buffers bytes BufferLimit = max_buffers < buffers
+ExceedsViews buffers bytes ViewByteLimit = max_buffer_bytes < bytes
 ExceedsViews buffers bytes _ = ⊥
 
 -- The limits that the result exceeds: that of rows, that of the data buffers of the true and false

@@ -2,11 +2,12 @@
 
 ghost use Rattle.std.specs.Prelude.{◌≡◌, ◌≤◌, ◌<◌, ◌^◌, ◌++◌, length, IfOk, IfErr, OnOk};
 ghost use Rattle.std.specs.List.{flat_map};
+ghost use Rattle.sel_bits.specs.Faults.{IsOutOfMemory};
 ghost use Rattle.sel_bits.specs.Words.{bits};
 ghost use Rattle.sel_filter.specs.Select.{select};
 
 use sel_bits::bitmap::Bitmap;
-use sel_bits::faults::{PolarsError, PolarsResult};
+use sel_bits::faults::PolarsResult;
 use sel_bits::words::{first_word, whole_word};
 use std::alloc::Global;
 
@@ -26,7 +27,7 @@ pub fn filter_arrays<T: Copy, const N: usize>(
     requires small { N ≤ 64 }
     ensures items { IfOk result (λ kept. kept.items ≡
         flat_map (λ array. array) (select arrays.now mask.now.bits)) }
-    ensures refusal { IfErr result (λ fault. fault ≡ PolarsError.OutOfMemory) }
+    ensures refusal { IfErr result IsOutOfMemory }
 {
     let (bytes, shift, len) = mask.as_slice();
     let mut kept = Vec::with_capacity(alloc, mask.set_bits().saturating_mul(N))?;
@@ -58,7 +59,7 @@ fn append_arrays<T: Copy, const N: usize>(
     requires small { N ≤ 64 }
     ensures appended { OnOk result (out.new.items ≡ out.old.items
         ++ flat_map (λ array. array) (select block.now (bits (length block.now) mask))) }
-    ensures refusal { IfErr result (λ fault. fault ≡ PolarsError.OutOfMemory) }
+    ensures refusal { IfErr result IsOutOfMemory }
 {
     if mask.count_ones() as usize == block.len() {
         out.extend_from_slice(block.as_flattened())?;

@@ -2,6 +2,7 @@
 #![tactic(auto, using(crate::proofs::Dense::kept_steps))]
 
 ghost use Rattle.std.specs.Prelude.{◌≡◌, ◌≤◌, ◌<◌, ◌^◌, ◌++◌, ◌+◌, ◌*◌, count_ones, length, take, IfOk, OnOk, OnErr, IfErr};
+ghost use Rattle.sel_bits.specs.Faults.{IsOutOfMemory};
 ghost use Rattle.sel_bits.specs.Bits.{bits_from};
 ghost use Rattle.sel_bits.specs.Copying.{IsBeginning};
 ghost use Rattle.sel_bits.specs.Words.{bits};
@@ -34,7 +35,7 @@ pub(crate) fn append_blocks<T: Copy>(
     ensures appended { OnOk result (out.new.items ≡
         out.old.items ++ select values.now (bits_from bytes.now shift (length values.now))) }
     ensures begun { OnErr result (IsBeginning out.old.items out.new.items) }
-    ensures refusal { IfErr result (λ fault. fault ≡ PolarsError.OutOfMemory) }
+    ensures refusal { IfErr result IsOutOfMemory }
 {
     let len = values.len();
     // A block has room for 64 values, however many of them are kept.
@@ -64,7 +65,7 @@ fn push_block<T: Copy>(block: &[T], mask: u64, end: usize, out: &mut Vec<T>) -> 
         take end out.old.items ++ select block.now (bits 64 mask)) }
     ensures within { IfOk result (λ next. next ≤ length out.new.items) }
     ensures begun { IfErr result (λ _. IsBeginning out.old.items out.new.items) }
-    ensures refusal { IfErr result (λ fault. fault ≡ PolarsError.OutOfMemory) }
+    ensures refusal { IfErr result IsOutOfMemory }
 {
     if mask == 0 {
         return Ok(end);
@@ -83,7 +84,7 @@ fn make_room<T: Copy>(out: &mut Vec<T>, end: usize, filler: T) -> PolarsResult<(
     requires within { end ≤ length out.old.items }
     ensures room { OnOk result (end + 64 ≤ length out.new.items) }
     ensures begun { IsBeginning out.old.items out.new.items }
-    ensures refusal { IfErr result (λ fault. fault ≡ PolarsError.OutOfMemory) }
+    ensures refusal { IfErr result IsOutOfMemory }
 {
     let len = out.len();
     if len - end < 64 {
@@ -178,7 +179,7 @@ fn append_few<T: Copy>(block: &[T], mask: u64, out: &mut Vec<T>) -> PolarsResult
     ensures appended { OnOk result
         (out.new.items ≡ out.old.items ++ select block.now (bits (length block.now) mask)) }
     ensures begun { OnErr result (IsBeginning out.old.items out.new.items) }
-    ensures refusal { IfErr result (λ fault. fault ≡ PolarsError.OutOfMemory) }
+    ensures refusal { IfErr result IsOutOfMemory }
 {
     out.reserve(64)?;
     let mut rest = mask;

@@ -1,6 +1,7 @@
 //! Filters for bitmaps.
 
 ghost use Rattle.std.specs.Prelude.{◌≡◌, ◌+◌, ◌-◌, ◌/◌, ◌^◌, ◌<◌, ◌≤◌, ◌++◌, length, drop, IfOk, IfErr, OnOk};
+ghost use Rattle.sel_bits.specs.Faults.{IsOutOfMemory};
 ghost use Rattle.sel_bits.specs.Bits.{count_true};
 ghost use Rattle.sel_bits.specs.Words.{bits};
 ghost use Rattle.sel_filter.specs.Select.{select};
@@ -11,7 +12,7 @@ use sel_bits::aligned_words::AlignedWords;
 use sel_bits::bitmap::Bitmap;
 use sel_bits::blocks::U56Blocks;
 use sel_bits::counted_bits::CountedBits;
-use sel_bits::faults::{PolarsError, PolarsResult};
+use sel_bits::faults::PolarsResult;
 use sel_bits::packer::BitPacker;
 use sel_bits::words::{first_word, whole_word};
 use std::alloc::Global;
@@ -26,7 +27,7 @@ use std::alloc::Global;
 pub fn filter_boolean_kernel(alloc: Global, values: &Bitmap, mask: &Bitmap) -> PolarsResult<Bitmap>
     requires { length values.now.bits ≡ length mask.now.bits }
     ensures bits { IfOk result (λ kept. kept.bits ≡ select values.now.bits mask.now.bits) }
-    ensures refusal { IfErr result (λ fault. fault ≡ PolarsError.OutOfMemory) }
+    ensures refusal { IfErr result IsOutOfMemory }
 {
     let count = mask.set_bits();
     if count == 0 {
@@ -43,7 +44,7 @@ fn keep_words(alloc: Global, count: usize, values: &Bitmap, mask: &Bitmap) -> Po
     requires long { length values.now.bits ≡ length mask.now.bits }
     requires count { count ≡ count_true mask.now.bits }
     ensures bits { IfOk result (λ kept. kept.bits ≡ select values.now.bits mask.now.bits) }
-    ensures refusal { IfErr result (λ fault. fault ≡ PolarsError.OutOfMemory) }
+    ensures refusal { IfErr result IsOutOfMemory }
 {
     let (mask_bytes, mask_shift, len) = mask.as_slice();
     let (value_bytes, value_shift, _) = values.as_slice();
@@ -89,7 +90,7 @@ pub fn filter_boolean_kernel_sparse(
     ensures words { mask.new.words_read ≤ length mask.old.source.bits / 64 + 2 }
     ensures values_source { values.new.source ≡ values.old.source }
     ensures mask_source { mask.new.source ≡ mask.old.source }
-    ensures refusal { IfErr result (λ fault. fault ≡ PolarsError.OutOfMemory) }
+    ensures refusal { IfErr result IsOutOfMemory }
 {
     // The number of bits fits in `usize`.
     let whole = mask.len();
@@ -119,7 +120,7 @@ fn append_marked(
     ensures reads { OnOk result (values.new.bits_read ≡
         values.old.bits_read + count_true (bits (length values.old.source.bits - start) word)) }
     ensures source { values.new.source ≡ values.old.source }
-    ensures refusal { IfErr result (λ fault. fault ≡ PolarsError.OutOfMemory) }
+    ensures refusal { IfErr result IsOutOfMemory }
 {
     let mut marks = word;
     while marks != 0 {
@@ -151,7 +152,7 @@ pub fn filter_boolean_kernel_pext(
     ensures mask_blocks { mask.new.blocks_read ≤ (length mask.old.source.bits + 55) / 56 }
     ensures values_source { values.new.source ≡ values.old.source }
     ensures mask_source { mask.new.source ≡ mask.old.source }
-    ensures refusal { IfErr result (λ fault. fault ≡ PolarsError.OutOfMemory) }
+    ensures refusal { IfErr result IsOutOfMemory }
 {
     // The number of bits fits in `usize`.
     let whole = mask.len();
@@ -170,7 +171,7 @@ pub fn filter_boolean_kernel_pext(
 fn append_kept(kept: &mut BitPacker, word: u64, marks: u64) -> PolarsResult<()>
     ensures appended { OnOk result (kept.new ≡ kept.old ++ select (bits 64 word)
         (bits 64 marks)) }
-    ensures refusal { IfErr result (λ fault. fault ≡ PolarsError.OutOfMemory) }
+    ensures refusal { IfErr result IsOutOfMemory }
 {
     if marks == 0 {
         return Ok(());

@@ -1,6 +1,7 @@
 //! Filters for slices of values.
 
 ghost use Rattle.std.specs.Prelude.{◌≡◌, ◌+◌, ◌-◌, ◌/◌, ◌^◌, ◌<◌, ◌≤◌, ◌++◌, length, drop, false, IfOk, IfErr, OnOk};
+ghost use Rattle.sel_bits.specs.Faults.{IsOutOfMemory};
 ghost use Rattle.sel_bits.specs.Copying.{IsBeginning};
 ghost use Rattle.sel_bits.specs.Words.{bits};
 ghost use Rattle.sel_filter.specs.Runs.{run_starts, starts_after};
@@ -10,7 +11,7 @@ use crate::block::{append_blocks, count_runs};
 use sel_bits::aligned_words::AlignedWords;
 use sel_bits::bitmap::Bitmap;
 use sel_bits::block_copy::BlockCopy;
-use sel_bits::faults::{PolarsError, PolarsResult};
+use sel_bits::faults::PolarsResult;
 use std::alloc::Global;
 
 /// The average length of runs, split at word boundaries, from which each run is one copy.
@@ -26,7 +27,7 @@ const LONG_RUN: usize = 32;
 pub fn filter_values<T: Copy>(alloc: Global, values: &[T], mask: &Bitmap) -> PolarsResult<Vec<T>>
     requires { length values.now ≡ length mask.now.bits }
     ensures items { IfOk result (λ kept. kept.items ≡ select values.now mask.now.bits) }
-    ensures refusal { IfErr result (λ fault. fault ≡ PolarsError.OutOfMemory) }
+    ensures refusal { IfErr result IsOutOfMemory }
 {
     let (bytes, shift, len) = mask.as_slice();
     let (count, runs) = count_runs(bytes, shift, len);
@@ -47,7 +48,7 @@ fn filter_by_runs<T: Copy>(
 ) -> PolarsResult<Vec<T>>
     requires { length values.now ≡ length mask.now.bits }
     ensures items { IfOk result (λ kept. kept.items ≡ select values.now mask.now.bits) }
-    ensures refusal { IfErr result (λ fault. fault ≡ PolarsError.OutOfMemory) }
+    ensures refusal { IfErr result IsOutOfMemory }
 {
     let mut out = BlockCopy::new(alloc, values);
     out.reserve(count)?;
@@ -82,7 +83,7 @@ pub fn filter_runs<T: Copy>(
     ensures mask_source { mask.new.source ≡ mask.old.source }
     ensures beginning { IsBeginning out.new.items
         (out.old.items ++ select out.old.source mask.old.source.bits) }
-    ensures refusal { IfErr result (λ fault. fault ≡ PolarsError.OutOfMemory) }
+    ensures refusal { IfErr result IsOutOfMemory }
 {
     // The number of bits fits in `usize`.
     let _whole = mask.len();
@@ -112,7 +113,7 @@ fn copy_runs<T: Copy>(out: &mut BlockCopy<'_, T>, start: usize, word: u64) -> Po
     ensures beginning { IsBeginning out.new.items
         (out.old.items ++ select (drop start out.old.source)
         (bits (length out.old.source - start) word)) }
-    ensures refusal { IfErr result (λ fault. fault ≡ PolarsError.OutOfMemory) }
+    ensures refusal { IfErr result IsOutOfMemory }
 {
     let mut at = start;
     let mut rest = word;

@@ -1,13 +1,14 @@
 //! Filters that append the kept values to a vector.
 
 ghost use Rattle.std.specs.Prelude.{◌≡◌, ℕ, ◌+◌, ◌-◌, ◌*◌, ◌/◌, ◌%◌, ◌<◌, ◌≤◌, ◌++◌, length, take, drop, OnOk, IfOk, IfErr, OnErr};
+ghost use Rattle.sel_bits.specs.Faults.{IsOutOfMemory};
 ghost use Rattle.sel_bits.specs.Bits.{bits_from};
 ghost use Rattle.sel_filter.specs.Select.{select};
 ghost use Rattle.sel_filter.specs.Scalar.{rows_to_boundary};
 
 use crate::block::{append_blocks, count_runs};
 use sel_bits::bitmap::Bitmap;
-use sel_bits::faults::{PolarsError, PolarsResult};
+use sel_bits::faults::PolarsResult;
 
 /// Appends the kept values before the next byte boundary of the mask; none if it is byte-aligned.
 ///
@@ -32,7 +33,7 @@ pub fn scalar_filter_offset<'a, T: Copy>(
         drop (rows_to_boundary mask.entry.now) mask.entry.now.bits) }
     ensures bytes { IfOk result (λ rest. length rest.1.now ≡ (length rest.0.now + 7) / 8) }
     ensures unchanged { OnErr result (out.new.items ≡ out.old.items) }
-    ensures refusal { IfErr result (λ fault. fault ≡ PolarsError.OutOfMemory) }
+    ensures refusal { IfErr result IsOutOfMemory }
 {
     let (bytes, offset, len) = mask.as_slice();
     if offset == 0 {
@@ -58,7 +59,7 @@ pub fn scalar_filter<T: Copy>(values: &[T], mask_bytes: &[u8], out: &mut Vec<T>)
     ensures appended { OnOk result (out.new.items ≡
         out.old.items ++ select values.now (bits_from mask_bytes.now 0 (length values.now))) }
     ensures unchanged { OnErr result (out.new.items ≡ out.old.items) }
-    ensures refusal { IfErr result (λ fault. fault ≡ PolarsError.OutOfMemory) }
+    ensures refusal { IfErr result IsOutOfMemory }
 {
     let start = out.len();
     let (count, _) = count_runs(mask_bytes, 0, values.len());

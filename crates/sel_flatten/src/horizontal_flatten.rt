@@ -1,6 +1,8 @@
 //! Horizontal flatten: row-wise concatenation of columns.
 
 ghost use Rattle.std.specs.Prelude.{◌≡◌, ◌≤◌, ◌<◌, ◌+◌, ◌*◌, ◌++◌, ◌↔◌, Some, All, length, map, take, drop, IsTrue, IfSome, IfNone, IfOk, IfErr, OnOk};
+ghost use Rattle.sel_bits.specs.Faults.{IsOutOfMemory};
+ghost use Rattle.sel_bits.specs.Limits.{max_rows};
 ghost use Rattle.sel_arrow.specs.Rows.{rows, type_of};
 ghost use Rattle.sel_runs.specs.Need.{IsLimitOrMemory, ExceedsNone};
 ghost use Rattle.sel_runs.specs.Sources.{first_type};
@@ -121,8 +123,8 @@ fn does_part_fit(len: usize, width: usize, height: usize) -> bool
 fn flat_rows(widths: &[usize], height: usize) -> Option<usize>
     requires { 0 < height }
     ensures len { IfSome result (λ len. len ≡ height * row_width widths.now) }
-    ensures few { IfSome result (λ len. len ≤ 4294967295) }
-    ensures many { IfNone result (4294967295 < height * row_width widths.now) }
+    ensures few { IfSome result (λ len. len ≤ max_rows) }
+    ensures many { IfNone result (max_rows < height * row_width widths.now) }
 {
     let row = width_of_row(widths);
     if row > u32::MAX as u128 {
@@ -162,7 +164,7 @@ fn collect_flat(
     requires fit { IsTrue (parts_fit height (array_rows arrays.now) widths.now) }
     requires high { 0 < height }
     requires len { len ≡ height * row_width widths.now }
-    requires few { len ≤ 4294967295 }
+    requires few { len ≤ max_rows }
     ensures rows { IfOk result (λ flat. rows flat.column ≡
         flatten (array_rows arrays.now) widths.now height) }
     ensures dtype { IfOk result (λ flat. type_of flat.column ≡
@@ -195,7 +197,7 @@ fn collect_flat(
 fn columns_of<'a>(alloc: Global, arrays: &'a [ArrayRef]) -> PolarsResult<Vec<&'a Column>>
     ensures columns { IfOk result (λ found. map (λ c. c.now) found.items ≡
         array_columns arrays.now) }
-    ensures refusal { IfErr result (λ fault. fault ≡ PolarsError.OutOfMemory) }
+    ensures refusal { IfErr result IsOutOfMemory }
 {
     let mut found = Vec::with_capacity(alloc, arrays.len())?;
     for array in arrays {
@@ -207,10 +209,10 @@ fn columns_of<'a>(alloc: Global, arrays: &'a [ArrayRef]) -> PolarsResult<Vec<&'a
 // Returns the lane of each array, or `OutOfMemory`.
 fn lanes_of_parts(alloc: Global, arrays: &[ArrayRef], widths: &[usize]) -> PolarsResult<Vec<Lane>>
     requires paired { length arrays.now ≡ length widths.now }
-    requires few { row_width widths.now ≤ 4294967295 }
+    requires few { row_width widths.now ≤ max_rows }
     ensures lanes { IfOk result (λ lanes. lanes.items ≡
         lanes_of (array_rows arrays.now) widths.now) }
-    ensures refusal { IfErr result (λ fault. fault ≡ PolarsError.OutOfMemory) }
+    ensures refusal { IfErr result IsOutOfMemory }
 {
     let mut lanes = Vec::with_capacity(alloc, arrays.len())?;
     for (s, array) in arrays.iter().enumerate() {
@@ -221,7 +223,7 @@ fn lanes_of_parts(alloc: Global, arrays: &[ArrayRef], widths: &[usize]) -> Polar
 
 // Returns the lane of an array.
 fn lane_of(array: &ArrayRef, width: usize) -> Lane
-    requires { width ≤ 4294967295 }
+    requires { width ≤ max_rows }
     ensures { result ≡ lane_for (length (rows array.now.column)) width }
 {
     let width = width as u32;

@@ -1,6 +1,7 @@
 //! Row references of a horizontal flatten.
 
 ghost use Rattle.std.specs.Prelude.{◌≡◌, ◌≤◌, ◌<◌, ◌+◌, ◌*◌, All, length};
+ghost use Rattle.sel_bits.specs.Limits.{max_rows};
 ghost use Rattle.sel_flatten.specs.Lanes.{left_picks};
 
 use sel_runs::plan::Plan;
@@ -28,11 +29,11 @@ pub struct Woven<'a> {
     pub below: u32,
     pub left: u32,
     pub ghost some: { 0 < length lanes.now },
-    pub ghost few: { length lanes.now ≤ 4294967295 },
-    pub ghost high: { row + below ≤ 4294967295 },
+    pub ghost few: { length lanes.now ≤ max_rows },
+    pub ghost high: { row + below ≤ max_rows },
     pub ghost wide: { All (λ l. 0 < l.width) lanes.now },
-    pub ghost low: { All (λ l. (row + below) * l.step + l.width ≤ 4294967295) lanes.now },
-    pub ghost near: { at + part ≤ 4294967295 },
+    pub ghost low: { All (λ l. (row + below) * l.step + l.width ≤ max_rows) lanes.now },
+    pub ghost near: { at + part ≤ max_rows },
     pub ghost inside: { lane ≤ length lanes.now },
     pub ghost counted: { left ≡ length (left_picks source at part lane row below lanes.now) },
 }

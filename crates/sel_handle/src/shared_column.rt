@@ -1,6 +1,7 @@
 //! The column of a handle.
 
 ghost use Rattle.std.specs.Prelude.{◌≡◌, ◌≤◌, IfOk, IfErr};
+ghost use Rattle.sel_bits.specs.Faults.{IsOutOfMemory};
 ghost use Rattle.sel_arrow.specs.Depth.{depth};
 ghost use Rattle.sel_arrow.specs.Rows.{type_of};
 
@@ -46,7 +47,7 @@ impl SharedColumn {
     pub fn new(alloc: Global, column: ArrayRef) -> PolarsResult<SharedColumn>
         requires { depth (type_of column.column) ≤ 128 }
         ensures value { IfOk result (λ shared. shared ≡ column) }
-        ensures refusal { IfErr result (λ fault. fault ≡ PolarsError.OutOfMemory) }
+        ensures refusal { IfErr result IsOutOfMemory }
     {
         match Arc::new(alloc, column) {
             Ok(shared) => Ok(SharedColumn { shared }),
@@ -71,7 +72,7 @@ impl SharedColumn {
     /// `OutOfMemory` if the count of owners is full.
     pub fn try_clone(&self) -> PolarsResult<SharedColumn>
         ensures value { IfOk result (λ shared. shared ≡ self.now) }
-        ensures refusal { IfErr result (λ fault. fault ≡ PolarsError.OutOfMemory) }
+        ensures refusal { IfErr result IsOutOfMemory }
     {
         match Arc::try_clone(&self.shared) {
             Ok(shared) => Ok(SharedColumn { shared }),

@@ -2,15 +2,12 @@
 use Rattle.std.specs.Prelude.{ℕ, ◌==◌, ◌&&◌, nat_lt, List, [], ◌∷◌, map, length, Option, None, Some}
 use Rattle.std.specs.Prelude.{option_map, if◌then◌else◌, codes}
 use Rattle.std.specs.List.{slice_split}
+use Rattle.sel_bits.specs.Limits.{max_rows}
 use Rattle.sel_arrow.specs.Value.{Value}
 use Rattle.sel_flatten.specs.Flatten.{flatten, parts_fit}
 use Rattle.sel_lines.specs.Columns.{all_some, column_of, column_text}
 use Rattle.sel_lines.specs.Numbers.{number_of, size_of}
 use Rattle.sel_lines.specs.Words.{if_both}
-
--- The maximum number of rows of a column.
-abbrev pub most_rows : ℕ
-most_rows = 4294967295
 
 -- A width and the rows of a column, from the two words around a colon.
 abbrev pub part_of_halves : List (List ℕ) → Option (ℕ × List Value)
@@ -30,7 +27,7 @@ side_by_side h xss ws =
 -- The rows, printed, or the size limit if there are more than a column can have.
 abbrev pub flat_text : List Value → List ℕ
 flat_text rows =
-    if nat_lt most_rows (length rows) then codes "size limit rows" else column_text rows
+    if nat_lt max_rows (length rows) then codes "size limit rows" else column_text rows
 
 -- The horizontal flatten of the parts, printed; none if they do not fit.
 abbrev pub flatten_answer : ℕ → List (ℕ × List Value) → Option (List ℕ)

@@ -9,7 +9,7 @@ use Rattle.sel_runs.specs.Children.{joined_items}
 use Rattle.sel_runs.specs.Ends.{item_ends}
 use Rattle.sel_lines.specs.declared.lists.Lists.{Lists}
 use Rattle.sel_lines.specs.declared.rows.Rows.{Rows}
-use Rattle.sel_lines.specs.Flatten.{most_rows}
+use Rattle.sel_bits.specs.Limits.{max_rows}
 use Rattle.sel_lines.specs.Rows.{parsed_rows}
 
 -- Optional items as a row: a list, or null.
@@ -39,8 +39,8 @@ IsReading rows (Some lists) = (read : List Value) × (rows ≡ Some read) × Has
 
 -- The numbers of rows and of child rows do not exceed the limit of a column.
 pub record AreFew (read below : List Value) : Type 0 where
-  pub rows : length read ≤ most_rows
-  pub items : length below ≤ most_rows
+  pub rows : length read ≤ max_rows
+  pub items : length below ≤ max_rows
 
 -- The parts store rows that a list column can have.
 abbrev pub AreKept : Lists → Type 0

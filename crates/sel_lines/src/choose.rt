@@ -1,5 +1,6 @@
 //! The command `choose MASK T F`.
 ghost use Rattle.std.specs.Prelude.{◌≡◌, ◌≤◌, IfOk, IfErr, All, length, map, option_map, string_bytes};
+ghost use Rattle.sel_bits.specs.Faults.{IsOutOfMemory};
 ghost use Rattle.sel_arrow.specs.Columns.{boolean_rows, primitive_rows};
 ghost use Rattle.sel_arrow.specs.Value.{Number, Truth};
 ghost use Rattle.sel_lines.specs.Choose.{choose_answer, choose_words, choose_result};
@@ -13,7 +14,7 @@ use polars_compute::if_then_else::IfThenElseKernel;
 use sel_arrow::array::Array;
 use sel_arrow::boolean::BooleanArray;
 use sel_arrow::primitive::PrimitiveArray;
-use sel_bits::faults::{PolarsError, PolarsResult};
+use sel_bits::faults::PolarsResult;
 use std::alloc::{AllocError, Global};
 
 /// Returns the output of `choose` for `words`, or `None` if they are invalid.
@@ -66,7 +67,7 @@ fn choose_rows(
     ensures rows { IfOk result (λ chosen. option_map (λ column. primitive_rows column) chosen ≡
         choose_result (parsed_rows Truth mask) (parsed_rows Number if_true)
         (parsed_rows Number if_false)) }
-    ensures refusal { IfErr result (λ fault. fault ≡ PolarsError.OutOfMemory) }
+    ensures refusal { IfErr result IsOutOfMemory }
 {
     let mask = mask.into_boolean(alloc)?;
     let if_true = if_true.into_primitive(alloc)?;
@@ -84,7 +85,7 @@ fn choose_columns(
     ensures rows { IfOk result (λ chosen. option_map (λ column. primitive_rows column) chosen
         ≡ choose_result (boolean_rows mask.now)
         (primitive_rows if_true.now) (primitive_rows if_false.now)) }
-    ensures refusal { IfErr result (λ fault. fault ≡ PolarsError.OutOfMemory) }
+    ensures refusal { IfErr result IsOutOfMemory }
 {
     if mask.has_nulls() {
         return Ok(None);

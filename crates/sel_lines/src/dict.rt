@@ -1,5 +1,6 @@
 //! The command `dict KEYS VALUES`.
 ghost use Rattle.std.specs.Prelude.{◌≡◌, ◌≤◌, IfOk, IfErr, All, length, map, option_map, string_bytes, pos};
+ghost use Rattle.sel_bits.specs.Faults.{IsOutOfMemory};
 ghost use Rattle.sel_arrow.specs.Columns.{primitive_rows, utf8view_rows};
 ghost use Rattle.sel_arrow.specs.Value.{Number};
 ghost use Rattle.sel_lines.specs.Dict.{both_text, dict_answer, dict_words, without_nulls};
@@ -14,7 +15,7 @@ use polars_compute::propagate_dictionary::{keys_in_bounds, propagate_dictionary_
 use sel_arrow::array::Array;
 use sel_arrow::primitive::PrimitiveArray;
 use sel_arrow::utf8view::Utf8ViewArray;
-use sel_bits::faults::{PolarsError, PolarsResult};
+use sel_bits::faults::PolarsResult;
 use std::alloc::{AllocError, Global};
 
 /// Returns the output of `dict` for `words`, or `None` if they are invalid.
@@ -78,7 +79,7 @@ fn propagate_rows(
     ensures rows { IfOk result (λ both. option_map
         (λ both. (primitive_rows both.0, utf8view_rows both.1)) both
         ≡ without_nulls (parsed_rows (λ n. Number (pos n)) keys) (utf8view_rows values.now)) }
-    ensures refusal { IfErr result (λ fault. fault ≡ PolarsError.OutOfMemory) }
+    ensures refusal { IfErr result IsOutOfMemory }
 {
     let keys = keys.into_primitive(alloc)?;
     let propagated = propagate_column(alloc, &keys, values);
@@ -95,7 +96,7 @@ fn propagate_column(
     ensures rows { IfOk result (λ both. option_map
         (λ both. (primitive_rows both.0, utf8view_rows both.1)) both
         ≡ without_nulls (primitive_rows keys.now) (utf8view_rows values.now)) }
-    ensures refusal { IfErr result (λ fault. fault ≡ PolarsError.OutOfMemory) }
+    ensures refusal { IfErr result IsOutOfMemory }
 {
     if !keys_in_bounds(keys, values.len()) {
         return Ok(None);

@@ -1,5 +1,6 @@
 //! The command `filter COL MASK`.
 ghost use Rattle.std.specs.Prelude.{◌≡◌, ◌≤◌, IfOk, IfErr, All, length, map, option_map, string_bytes};
+ghost use Rattle.sel_bits.specs.Faults.{IsOutOfMemory};
 ghost use Rattle.polars_compute.specs.Select.{select, effective_mask};
 ghost use Rattle.sel_arrow.specs.Columns.{boolean_rows, primitive_rows};
 ghost use Rattle.sel_arrow.specs.Rows.{rows, type_of};
@@ -18,7 +19,7 @@ use sel_arrow::array::Array;
 use sel_arrow::array_ref::ArrayRef;
 use sel_arrow::boolean::BooleanArray;
 use sel_arrow::primitive::PrimitiveArray;
-use sel_bits::faults::{PolarsError, PolarsResult};
+use sel_bits::faults::PolarsResult;
 use std::alloc::{AllocError, Global};
 
 /// Returns the output of `filter` for `words`, or `None` if they are invalid.
@@ -66,7 +67,7 @@ fn filter_rows(
     ensures rows { IfOk result (λ kept. option_map
         (λ column. column_text (primitive_rows column)) kept
         ≡ filter_answer (parsed_rows Number column) (parsed_rows Truth mask)) }
-    ensures refusal { IfErr result (λ fault. fault ≡ PolarsError.OutOfMemory) }
+    ensures refusal { IfErr result IsOutOfMemory }
 {
     let column = column.into_primitive(alloc)?;
     let mask = mask.into_boolean(alloc)?;
@@ -85,7 +86,7 @@ fn filter_column(
     requires { length (primitive_rows column) ≡ length (boolean_rows mask.now) }
     ensures rows { IfOk result (λ kept. primitive_rows kept ≡
         select (primitive_rows column) (effective_mask (boolean_rows mask.now))) }
-    ensures refusal { IfErr result (λ fault. fault ≡ PolarsError.OutOfMemory) }
+    ensures refusal { IfErr result IsOutOfMemory }
 {
     let array = column.into_ref();
     let kept = filter(alloc, &array, mask);

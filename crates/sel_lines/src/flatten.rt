@@ -1,5 +1,6 @@
 //! The command `flatten H W:COL ...`.
 ghost use Rattle.std.specs.Prelude.{◌≡◌, ◌≤◌, IfOk, IfErr, All, Some, length, map, option_map, string_bytes, codes, ◌++◌, ◌∷◌, []};
+ghost use Rattle.sel_bits.specs.Faults.{IsOutOfMemory};
 ghost use Rattle.sel_arrow.specs.Columns.{primitive_rows};
 ghost use Rattle.sel_arrow.specs.Rows.{rows, type_of};
 ghost use Rattle.sel_arrow.specs.Shape.{of_int64};
@@ -132,7 +133,7 @@ fn flatten_parts(
 
 fn widths_of(alloc: Global, parts: &[Part]) -> PolarsResult<Vec<usize>>
     ensures widths { IfOk result (λ widths. widths.items ≡ map (λ part. part.width) parts.now) }
-    ensures refusal { IfErr result (λ fault. fault ≡ PolarsError.OutOfMemory) }
+    ensures refusal { IfErr result IsOutOfMemory }
 {
     let mut widths = Vec::with_capacity(alloc, parts.len())?;
     for part in parts {
@@ -146,7 +147,7 @@ fn arrays_of(alloc: Global, parts: Vec<Part>) -> PolarsResult<Vec<ArrayRef>>
         map (λ part. primitive_rows part.column) parts.items) }
     ensures dtype { IfOk result (λ arrays. All (λ a. type_of a.column ≡ of_int64)
         arrays.items) }
-    ensures refusal { IfErr result (λ fault. fault ≡ PolarsError.OutOfMemory) }
+    ensures refusal { IfErr result IsOutOfMemory }
 {
     let mut arrays = Vec::with_capacity(alloc, parts.len())?;
     for part in parts {
@@ -162,7 +163,7 @@ fn arrays_of(alloc: Global, parts: Vec<Part>) -> PolarsResult<Vec<ArrayRef>>
 // Appends an array. Errors: `OutOfMemory`, and the arrays are unchanged.
 fn push_array(arrays: &mut Vec<ArrayRef>, array: ArrayRef) -> PolarsResult<()>
     ensures items { IfOk result (λ _. arrays.new.items ≡ arrays.old.items ++ array ∷ []) }
-    ensures refusal { IfErr result (λ fault. fault ≡ PolarsError.OutOfMemory) }
+    ensures refusal { IfErr result IsOutOfMemory }
 {
     match arrays.push(array) {
         Ok(()) => Ok(()),

@@ -7,7 +7,7 @@ ghost use Rattle.sel_arrow.specs.Rows.{rows, type_of};
 ghost use Rattle.sel_arrow.specs.Shape.{of_int64};
 ghost use Rattle.sel_arrow.specs.Value.{Value, Number};
 ghost use Rattle.sel_lines.specs.Columns.{all_some};
-ghost use Rattle.sel_lines.specs.Flatten.{most_rows};
+ghost use Rattle.sel_bits.specs.Limits.{max_rows};
 ghost use Rattle.sel_lines.specs.Lines.{longest_line};
 ghost use Rattle.sel_lines.specs.ListParts.{shown_list, AreKept, HasRead, IsReading};
 ghost use Rattle.sel_lines.specs.Lists.{list_of_word, lists_of};
@@ -168,7 +168,7 @@ pub fn bits_of(alloc: Global, values: &[bool]) -> Result<Bitmap, AllocError>
 /// Returns the int64 column of `values` with validity `flags`.
 pub fn items_of(alloc: Global, values: Vec<i64>, flags: &[bool]) -> Result<ArrayRef, AllocError>
     requires paired { length flags.now ≡ length values.items }
-    requires few { length values.items ≤ most_rows }
+    requires few { length values.items ≤ max_rows }
     ensures rows { IfOk result (λ items. rows items.column ≡
         hidden flags.now (map Number values.items)) }
     ensures dtype { IfOk result (λ items. type_of items.column ≡ of_int64) }

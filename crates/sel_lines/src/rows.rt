@@ -1,5 +1,6 @@
 //! Parsed rows of a column, and the columns built from them.
 ghost use Rattle.std.specs.Prelude.{◌≡◌, ◌+◌, ◌≤◌, length, IfOk, IfErr};
+ghost use Rattle.sel_bits.specs.Faults.{IsOutOfMemory};
 ghost use Rattle.sel_arrow.specs.Columns.{boolean_rows, primitive_rows};
 ghost use Rattle.sel_arrow.specs.Value.{Number, Truth};
 ghost use Rattle.sel_lines.specs.Lines.{longest_line};
@@ -8,7 +9,7 @@ use sel_arrow::boolean::BooleanArray;
 use sel_arrow::primitive::PrimitiveArray;
 use sel_bits::bitmap::Bitmap;
 use sel_bits::buffer::Buffer;
-use sel_bits::faults::{PolarsError, PolarsResult};
+use sel_bits::faults::PolarsResult;
 use sel_bits::native::NativeType;
 use std::alloc::Global;
 
@@ -31,7 +32,7 @@ impl<T: NativeType> Rows<T> {
     pub fn into_primitive(self, alloc: Global) -> PolarsResult<PrimitiveArray<T>>
         ensures rows { IfOk result (λ column. primitive_rows column ≡
             parsed_rows (λ x. Number (T.number x)) self) }
-        ensures refusal { IfErr result (λ fault. fault ≡ PolarsError.OutOfMemory) }
+        ensures refusal { IfErr result IsOutOfMemory }
     {
         let Rows { values, validity } = self;
         let validity = Bitmap::from_bools(alloc, &validity)?;
@@ -52,7 +53,7 @@ impl Rows<bool> {
     /// `OutOfMemory` if an allocation fails.
     pub fn into_boolean(self, alloc: Global) -> PolarsResult<BooleanArray>
         ensures rows { IfOk result (λ column. boolean_rows column ≡ parsed_rows Truth self) }
-        ensures refusal { IfErr result (λ fault. fault ≡ PolarsError.OutOfMemory) }
+        ensures refusal { IfErr result IsOutOfMemory }
     {
         let Rows { values, validity } = self;
         let validity = Bitmap::from_bools(alloc, &validity)?;

@@ -1,5 +1,6 @@
 //! The command `table MASK IDX COL ...`.
 ghost use Rattle.std.specs.Prelude.{◌≡◌, ◌≤◌, IfOk, IfErr, IfSome, All, length, map, option_map, string_bytes, pos};
+ghost use Rattle.sel_bits.specs.Faults.{IsOutOfMemory};
 ghost use Rattle.sel_arrow.specs.Columns.{boolean_rows, primitive_rows};
 ghost use Rattle.sel_arrow.specs.Rows.{rows, type_of};
 ghost use Rattle.sel_arrow.specs.Shape.{of_int64};
@@ -21,7 +22,7 @@ use sel_arrow::array_ref::ArrayRef;
 use sel_arrow::boolean::BooleanArray;
 use sel_arrow::column::Column;
 use sel_arrow::primitive::IdxArr;
-use sel_bits::faults::{PolarsError, PolarsResult};
+use sel_bits::faults::PolarsResult;
 use std::alloc::{AllocError, Global};
 
 /// Returns the output of `table` for `words`, or `None` if they are invalid.
@@ -127,7 +128,7 @@ fn select_read(
         (rows_of_arrays columns.now)) }
     ensures dtype { IfOk result (λ selected. IfSome selected
         (λ selected. AreNumbers selected.items)) }
-    ensures refusal { IfErr result (λ fault. fault ≡ PolarsError.OutOfMemory) }
+    ensures refusal { IfErr result IsOutOfMemory }
 {
     let mask = mask.into_boolean(alloc)?;
     let indices = indices.into_primitive(alloc)?;
@@ -149,7 +150,7 @@ fn select_columns(
         (rows_of_arrays columns.now)) }
     ensures dtype { IfOk result (λ selected. IfSome selected
         (λ selected. AreNumbers selected.items)) }
-    ensures refusal { IfErr result (λ fault. fault ≡ PolarsError.OutOfMemory) }
+    ensures refusal { IfErr result IsOutOfMemory }
 {
     if !select_is_safe(columns, mask, indices) {
         return Ok(None);

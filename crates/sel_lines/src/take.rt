@@ -1,5 +1,6 @@
 //! The command `take COL IDX`.
 ghost use Rattle.std.specs.Prelude.{◌≡◌, ◌≤◌, IfOk, IfErr, All, length, map, option_map, string_bytes, pos};
+ghost use Rattle.sel_bits.specs.Faults.{IsOutOfMemory};
 ghost use Rattle.sel_arrow.specs.Columns.{primitive_rows};
 ghost use Rattle.sel_arrow.specs.Value.{Number};
 ghost use Rattle.sel_lines.specs.Columns.{column_text};
@@ -14,7 +15,7 @@ use polars_compute::gather::indices_in_bounds;
 use polars_compute::gather::primitive::take_primitive_unchecked;
 use sel_arrow::array::Array;
 use sel_arrow::primitive::{IdxArr, PrimitiveArray};
-use sel_bits::faults::{PolarsError, PolarsResult};
+use sel_bits::faults::PolarsResult;
 use std::alloc::{AllocError, Global};
 
 /// Returns the output of `take` for `words`, or `None` if they are invalid.
@@ -62,7 +63,7 @@ fn take_rows(
     ensures rows { IfOk result (λ taken. option_map
         (λ column. column_text (primitive_rows column)) taken
         ≡ take_answer (parsed_rows Number column) (parsed_rows (λ n. Number (pos n)) indices)) }
-    ensures refusal { IfErr result (λ fault. fault ≡ PolarsError.OutOfMemory) }
+    ensures refusal { IfErr result IsOutOfMemory }
 {
     let column = column.into_primitive(alloc)?;
     let indices = indices.into_primitive(alloc)?;
@@ -81,7 +82,7 @@ fn take_column(
     ensures rows { IfOk result (λ taken. option_map
         (λ rows. column_text (primitive_rows rows)) taken
         ≡ take_answer (primitive_rows column.now) (primitive_rows indices.now)) }
-    ensures refusal { IfErr result (λ fault. fault ≡ PolarsError.OutOfMemory) }
+    ensures refusal { IfErr result IsOutOfMemory }
 {
     if !indices_in_bounds(indices, column.len()) {
         return Ok(None);

@@ -1,5 +1,7 @@
 //! Parsing of string columns.
 ghost use Rattle.std.specs.Prelude.{◌≡◌, ◌≤◌, ◌∷◌, [], IsTrue, IfOk, IfErr, length, map, option_map};
+ghost use Rattle.sel_bits.specs.Faults.{IsOutOfMemory};
+ghost use Rattle.sel_bits.specs.Limits.{max_buffer_bytes, max_rows};
 ghost use Rattle.sel_arrow.specs.Columns.{utf8view_rows};
 ghost use Rattle.sel_arrow.specs.Masked.{hidden};
 ghost use Rattle.sel_arrow.specs.Texts.{all_text};
@@ -16,7 +18,7 @@ use sel_arrow::utf8view::Utf8ViewArray;
 use sel_arrow::view::View;
 use sel_bits::bitmap::Bitmap;
 use sel_bits::buffer::Buffer;
-use sel_bits::faults::{PolarsError, PolarsResult};
+use sel_bits::faults::PolarsResult;
 use std::alloc::{AllocError, Global};
 
 /// Parses a string column, or returns `None` if `word` is invalid.
@@ -90,7 +92,7 @@ pub struct Texts {
     pub bytes: Vec<u8>,
     pub validity: Vec<bool>,
     ghost paired: { length validity.items ≡ length views.items },
-    ghost few: { length views.items ≤ 4294967295 },
+    ghost few: { length views.items ≤ max_rows },
     ghost placed: { IsTrue (all_placed (bytes.items ∷ []) views.items) },
     ghost texts: { IsTrue (all_text
         (hidden validity.items (map (view_value (bytes.items ∷ [])) views.items))) },
@@ -101,8 +103,8 @@ impl Texts {
 
     // Builds the views of the rows, with an empty string in null slots.
     fn of_rows(alloc: Global, rows: &[Option<&str>]) -> Result<Texts, AllocError>
-        requires few { length rows.now ≤ 4294967295 }
-        requires bytes { bytes_needed (map text_row rows.now) ≤ 4294967295 }
+        requires few { length rows.now ≤ max_rows }
+        requires bytes { bytes_needed (map text_row rows.now) ≤ max_buffer_bytes }
         ensures { IfOk result (λ texts. rows_of_texts texts ≡ map text_row rows.now) }
     {
         let mut views = Vec::with_capacity(alloc, rows.len())?;
@@ -124,7 +126,7 @@ impl Texts {
     // Returns the string column of these views.
     fn into_column(self, alloc: Global) -> PolarsResult<Utf8ViewArray>
         ensures rows { IfOk result (λ column. utf8view_rows column ≡ rows_of_texts self) }
-        ensures refusal { IfErr result (λ fault. fault ≡ PolarsError.OutOfMemory) }
+        ensures refusal { IfErr result IsOutOfMemory }
     {
         let Texts {
             views,

@@ -1,5 +1,6 @@
 -- The limits that rows can exceed, and the errors for them.
 use Rattle.std.specs.Prelude.{ℕ, ◌+◌, ◌<◌, ℤ, pos, ◌<ℤ◌, ⊤, ◌⊎◌, List, [], ◌∷◌, length, map}
+use Rattle.sel_bits.specs.Limits.{max_buffers, max_rows}
 use Rattle.sel_bits.specs.declared.faults.Limit.{Limit}
 use Rattle.sel_bits.specs.declared.faults.Limit.TheVariants.{Rows as RowLimit, Bytes as ByteLimit}
 use Rattle.sel_bits.specs.declared.faults.Limit.TheVariants.{Buffers as BufferLimit}
@@ -53,13 +54,13 @@ buffers_joined (column ∷ columns) = buffer_count column + buffers_joined colum
 
 -- The only limit that data buffers can exceed: there are more of them than a column can have.
 abbrev pub ExceedsBuffers : ℕ → Limit → Type 0
-ExceedsBuffers count BufferLimit = 4294967295 < count
+ExceedsBuffers count BufferLimit = max_buffers < count
 ExceedsBuffers count _ = ⊥
 
 -- The only limit that rows can exceed by their number: there are more of them than a column can
 -- have.
 abbrev pub ExceedsRows : ℕ → Limit → Type 0
-ExceedsRows count RowLimit = 4294967295 < count
+ExceedsRows count RowLimit = max_rows < count
 ExceedsRows count _ = ⊥
 
 abbrev mutual

@@ -1,6 +1,7 @@
 -- Views into the data buffers of several columns.
 use Rattle.std.specs.Prelude.{ℕ, ◌+◌, ◌<◌, ◌≤◌, List, map, length, take, if◌then◌else◌}
 use Rattle.std.specs.List.{flat_map, range_with_len}
+use Rattle.sel_bits.specs.Limits.{max_buffers}
 use Rattle.sel_bits.specs.declared.faults.Limit.TheVariants.{Buffers as BufferLimit}
 use Rattle.sel_bits.specs.declared.faults.PolarsError.{PolarsError}
 use Rattle.sel_bits.specs.declared.faults.PolarsError.TheVariants.{OutOfMemory, SizeLimit}
@@ -24,6 +25,6 @@ starts_of part xs = map (λ i. length (flat_map part (take i xs))) (range_with_l
 
 -- The error is the limit of data buffers if this number exceeds it, else out of memory.
 abbrev pub IsBufferLimitOrMemory : ℕ → PolarsError → Type 0
-IsBufferLimitOrMemory count OutOfMemory = count ≤ 4294967295
-IsBufferLimitOrMemory count (SizeLimit BufferLimit) = 4294967295 < count
+IsBufferLimitOrMemory count OutOfMemory = count ≤ max_buffers
+IsBufferLimitOrMemory count (SizeLimit BufferLimit) = max_buffers < count
 IsBufferLimitOrMemory count _ = ⊥

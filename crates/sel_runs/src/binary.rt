@@ -1,6 +1,8 @@
 //! Binary columns, collected by runs of rows.
 
 ghost use Rattle.std.specs.Prelude.{◌≡◌, ◌≤◌, ◌+◌, ◌*◌, ◌∷◌, ◌++◌, [], true, pos, All, length, map, take, drop, replicate, IfOk, IfErr, OnOk};
+ghost use Rattle.sel_bits.specs.Faults.{IsOutOfMemory};
+ghost use Rattle.sel_bits.specs.Limits.{max_rows};
 ghost use Rattle.sel_arrow.specs.Columns.{binary_rows};
 ghost use Rattle.sel_arrow.specs.Value.{Null, validities};
 ghost use Rattle.sel_runs.specs.Cleared.{IsLive};
@@ -51,7 +53,7 @@ pub fn collect_binary<'a>(
     requires fits { All (PickFits (binaries sources.now)) (expand runs.now) }
     requires live { All (IsLive (binaries sources.now)) (expand runs.now) }
     requires len { length (expand runs.now) ≡ len }
-    requires few { len ≤ 4294967295 }
+    requires few { len ≤ max_rows }
     ensures rows { IfOk result (λ array. binary_rows array ≡ picked_bytes sources.now runs.now) }
     ensures within { IfOk result (λ _. ExceedsNone
         (ExceedsBytes (pos 9223372036854775807) (picked_bytes sources.now runs.now))) }
@@ -83,7 +85,7 @@ pub fn collect_binary<'a>(
 fn count_bytes(sources: &[&BinaryArray<i64>], runs: &[Run]) -> u128
     requires fits { All (PickFits (binaries sources.now)) (expand runs.now) }
     requires live { All (IsLive (binaries sources.now)) (expand runs.now) }
-    requires few { length (expand runs.now) ≤ 4294967295 }
+    requires few { length (expand runs.now) ≤ max_rows }
     ensures { result ≡ bytes_needed (picked_bytes sources.now runs.now) }
 {
     let mut total: u128 = 0;
@@ -138,11 +140,11 @@ fn part_of(array: &BinaryArray<i64>, start: usize, len: usize) -> &[u8]
 
 // Returns no rows, with capacity for `len` rows and `need` bytes. Errors: `OutOfMemory`.
 fn with_room(alloc: Global, len: usize, need: usize) -> PolarsResult<Joined>
-    requires { len ≤ 4294967295 }
+    requires { len ≤ max_rows }
     ensures ends { IfOk result (λ joined. joined.ends.items ≡ pos 0 ∷ []) }
     ensures bytes { IfOk result (λ joined. joined.bytes.items ≡ []) }
     ensures bits { IfOk result (λ joined. joined.validity ≡ []) }
-    ensures refusal { IfErr result (λ fault. fault ≡ PolarsError.OutOfMemory) }
+    ensures refusal { IfErr result IsOutOfMemory }
 {
     let mut ends = Vec::with_capacity(alloc, len + 1)?;
     ends.push(0)?;
@@ -160,7 +162,7 @@ fn push_runs(joined: &mut Joined, sources: &[&BinaryArray<i64>], runs: &[Run]) -
     requires room { length joined.old.bytes.items + bytes_needed
         (picked_bytes sources.now runs.now) ≤ 9223372036854775807 }
     ensures rows { OnOk result (GrewBy (picked_bytes sources.now runs.now) joined.old joined.new) }
-    ensures refusal { IfErr result (λ fault. fault ≡ PolarsError.OutOfMemory) }
+    ensures refusal { IfErr result IsOutOfMemory }
 {
     for run in runs {
         push_run(joined, sources, *run)?;
@@ -175,7 +177,7 @@ fn push_run(joined: &mut Joined, sources: &[&BinaryArray<i64>], run: Run) -> Pol
     requires room { length joined.old.bytes.items + bytes_needed
         (run_bytes sources.now run) ≤ 9223372036854775807 }
     ensures rows { OnOk result (GrewBy (run_bytes sources.now run) joined.old joined.new) }
-    ensures refusal { IfErr result (λ fault. fault ≡ PolarsError.OutOfMemory) }
+    ensures refusal { IfErr result IsOutOfMemory }
 {
     let before = joined.bytes.len();
     joined.bytes.extend_from_slice(bytes_of(sources, run))?;
@@ -199,7 +201,7 @@ fn push_ends(
     requires room { before + bytes_needed (run_bytes sources.now run) ≤ 9223372036854775807 }
     ensures ends { OnOk result (ends.new.items ≡
         ends.old.items ++ map pos (ends_from before (run_bytes sources.now run))) }
-    ensures refusal { IfErr result (λ fault. fault ≡ PolarsError.OutOfMemory) }
+    ensures refusal { IfErr result IsOutOfMemory }
 {
     if run.len == 0 {
         return Ok(());
@@ -220,7 +222,7 @@ fn push_ends(
 fn push_same_ends(ends: &mut Vec<i64>, before: usize, len: usize) -> PolarsResult<()>
     requires { before ≤ 9223372036854775807 }
     ensures ends { OnOk result (ends.new.items ≡ ends.old.items ++ replicate len (pos before)) }
-    ensures refusal { IfErr result (λ fault. fault ≡ PolarsError.OutOfMemory) }
+    ensures refusal { IfErr result IsOutOfMemory }
 {
     for _ in 0..len {
         ends.push(before as i64)?;
@@ -244,7 +246,7 @@ fn push_row_ends(
         (take len (drop start (binary_rows array.now))) ≤ 9223372036854775807 }
     ensures ends { OnOk result (ends.new.items ≡ ends.old.items ++ map pos
         (ends_from before (take len (drop start (binary_rows array.now))))) }
-    ensures refusal { IfErr result (λ fault. fault ≡ PolarsError.OutOfMemory) }
+    ensures refusal { IfErr result IsOutOfMemory }
 {
     let first = array.offsets.at(start);
     for i in 0..len {

@@ -2,11 +2,12 @@
 
 ghost use Rattle.std.specs.Prelude.{◌≡◌, ◌≤◌, ◌+◌, ◌++◌, length, IfOk, IfErr, OnOk};
 ghost use Rattle.std.specs.Option.{ForSome, option_copied};
+ghost use Rattle.sel_bits.specs.Faults.{IsOutOfMemory};
 ghost use Rattle.sel_arrow.specs.Masked.{Covers};
 ghost use Rattle.sel_runs.specs.Validity.{part_bits, bits_for};
 
 use sel_bits::bitmap::Bitmap;
-use sel_bits::faults::{PolarsError, PolarsResult};
+use sel_bits::faults::PolarsResult;
 use sel_bits::packer::BitPacker;
 
 /// Appends the `len` validity bits from `start` on; without a bitmap, appends `len` true bits.
@@ -25,7 +26,7 @@ pub fn push_validity(
     requires { ForSome (option_copied validity) (λ v. start + len ≤ length v.bits) }
     ensures bits { OnOk result (packer.new ≡
         packer.old ++ part_bits start len (option_copied validity.entry)) }
-    ensures refusal { IfErr result (λ fault. fault ≡ PolarsError.OutOfMemory) }
+    ensures refusal { IfErr result IsOutOfMemory }
 {
     match validity {
         None => packer.extend_constant(len, true),
@@ -44,7 +45,7 @@ pub fn validity_from(packer: BitPacker, len: usize) -> PolarsResult<Option<Bitma
     requires { length packer ≡ len }
     ensures bits { IfOk result (λ validity. bits_for len validity ≡ packer) }
     ensures covers { IfOk result (λ validity. Covers validity len) }
-    ensures refusal { IfErr result (λ fault. fault ≡ PolarsError.OutOfMemory) }
+    ensures refusal { IfErr result IsOutOfMemory }
 {
     let bits = packer.into_bitmap(len)?;
     if bits.unset_bits() == 0 {

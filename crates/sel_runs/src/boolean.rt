@@ -2,6 +2,8 @@
 
 ghost use Rattle.std.specs.Prelude.{◌≡◌, ◌≤◌, ◌+◌, ◌++◌, Some, All, length, map, take, drop, IfOk, IfErr, OnOk};
 ghost use Rattle.std.specs.Option.{option_copied};
+ghost use Rattle.sel_bits.specs.Faults.{IsOutOfMemory};
+ghost use Rattle.sel_bits.specs.Limits.{max_rows};
 ghost use Rattle.sel_arrow.specs.Columns.{boolean_rows};
 ghost use Rattle.sel_arrow.specs.Masked.{hidden};
 ghost use Rattle.sel_arrow.specs.Rows.{rows, type_of, IsWellFormed};
@@ -20,7 +22,7 @@ use crate::run::Run;
 use sel_arrow::boolean::BooleanArray;
 use sel_arrow::column::Column;
 use sel_bits::bitmap::Bitmap;
-use sel_bits::faults::{PolarsError, PolarsResult};
+use sel_bits::faults::PolarsResult;
 use sel_bits::packer::BitPacker;
 use std::alloc::Global;
 
@@ -83,7 +85,7 @@ fn push_part(
         values.old ++ take len (drop start from.now.values.bits)) }
     ensures bits { OnOk result (validity.new ≡
         validity.old ++ part_bits start len from.now.validity) }
-    ensures refusal { IfErr result (λ fault. fault ≡ PolarsError.OutOfMemory) }
+    ensures refusal { IfErr result IsOutOfMemory }
 {
     values.extend_from_bitmap(&from.values, start, len)?;
     push_validity(validity, from.validity.as_ref(), start, len)
@@ -94,7 +96,7 @@ fn booleans_of<'a>(alloc: Global, sources: &'a [&'a Column]) -> PolarsResult<Vec
     requires { All (λ c. type_of c.now ≡ of_boolean) sources.now }
     ensures rows { IfOk result (λ found. map (λ s. boolean_rows s.now) found.items ≡
         rows_of sources.now) }
-    ensures refusal { IfErr result (λ fault. fault ≡ PolarsError.OutOfMemory) }
+    ensures refusal { IfErr result IsOutOfMemory }
 {
     let mut found = Vec::with_capacity(alloc, sources.len())?;
     for source in sources {
@@ -124,11 +126,11 @@ pub fn collect_boolean<'a>(
     requires alike { All (λ c. type_of c.now ≡ of_boolean) sources.now }
     requires fits { All (PickFits (rows_of sources.now)) (expand runs.now) }
     requires len { length (expand runs.now) ≡ len }
-    requires few { len ≤ 4294967295 }
+    requires few { len ≤ max_rows }
     ensures rows { IfOk result (λ column. rows column ≡ picked sources.now runs.now) }
     ensures dtype { IfOk result (λ column. type_of column ≡ of_boolean) }
     ensures formed { IfOk result (λ column. IsWellFormed column) }
-    ensures refusal { IfErr result (λ fault. fault ≡ PolarsError.OutOfMemory) }
+    ensures refusal { IfErr result IsOutOfMemory }
 {
     let found = booleans_of(alloc, sources)?;
     let empty = GrowableBoolean {
@@ -165,7 +167,7 @@ pub fn gather_boolean<'a, P: Plan>(
         pick Null (rows_of sources.now) (P.picks plan.now)) }
     ensures dtype { IfOk result (λ column. type_of column ≡ of_boolean) }
     ensures formed { IfOk result (λ column. IsWellFormed column) }
-    ensures refusal { IfErr result (λ fault. fault ≡ PolarsError.OutOfMemory) }
+    ensures refusal { IfErr result IsOutOfMemory }
 {
     let len = plan.len();
     let found = booleans_of(alloc, sources)?;
@@ -187,7 +189,7 @@ fn values_of<'a>(
 ) -> PolarsResult<Vec<Option<&'a Bitmap>>>
     ensures maps { IfOk result (λ maps. map option_copied maps.items ≡
         map (λ s. Some s.now.values) arrays.now) }
-    ensures refusal { IfErr result (λ fault. fault ≡ PolarsError.OutOfMemory) }
+    ensures refusal { IfErr result IsOutOfMemory }
 {
     let mut maps = Vec::with_capacity(alloc, arrays.len())?;
     for array in arrays {
@@ -203,7 +205,7 @@ fn validities_of<'a>(
 ) -> PolarsResult<Vec<Option<&'a Bitmap>>>
     ensures maps { IfOk result (λ maps. map option_copied maps.items ≡
         map (λ s. s.now.validity) arrays.now) }
-    ensures refusal { IfErr result (λ fault. fault ≡ PolarsError.OutOfMemory) }
+    ensures refusal { IfErr result IsOutOfMemory }
 {
     let mut maps = Vec::with_capacity(alloc, arrays.len())?;
     for array in arrays {

@@ -1,6 +1,7 @@
 //! Gathers rows from several columns of one type.
 
 ghost use Rattle.std.specs.Prelude.{◌≡◌, ◌≤◌, ◌<◌, All, length, map, pos, true, IfOk, IfErr};
+ghost use Rattle.sel_bits.specs.Limits.{max_rows};
 ghost use Rattle.sel_arrow.specs.Rows.{rows, type_of, IsField, IsWellFormed};
 ghost use Rattle.sel_arrow.specs.Shape.{of_large_binary, of_binary_view, of_utf8_view, of_large_list, of_fixed_size_list, of_struct, shapes_of};
 ghost use Rattle.sel_arrow.specs.Value.{Null};
@@ -52,7 +53,7 @@ pub fn collect_rows<'a>(
     requires alike { All (λ c. type_of c.now ≡ first_type (columns_of sources.now)) sources.now }
     requires formed { All (λ c. IsWellFormed c.now) sources.now }
     requires fits { All (PickFits (rows_of sources.now)) picks.now }
-    requires few { length picks.now ≤ 4294967295 }
+    requires few { length picks.now ≤ max_rows }
     ensures rows { IfOk result (λ array. rows array.column ≡
         pick Null (rows_of sources.now) picks.now) }
     ensures dtype { IfOk result (λ array. type_of array.column ≡
@@ -90,7 +91,7 @@ pub fn collect_runs<'a>(
     requires formed { All (λ c. IsWellFormed c.now) sources.now }
     requires fits { All (PickFits (rows_of sources.now)) (expand runs.now) }
     requires len { length (expand runs.now) ≡ len }
-    requires few { len ≤ 4294967295 }
+    requires few { len ≤ max_rows }
     ensures rows { IfOk result (λ column. rows column ≡ picked sources.now runs.now) }
     ensures dtype { IfOk result (λ column. type_of column ≡
         first_type (columns_of sources.now)) }
@@ -120,7 +121,7 @@ fn collect_like<'a>(
     requires formed { All (λ c. IsWellFormed c.now) sources.now }
     requires fits { All (PickFits (rows_of sources.now)) (expand runs.now) }
     requires len { length (expand runs.now) ≡ len }
-    requires few { len ≤ 4294967295 }
+    requires few { len ≤ max_rows }
     ensures rows { IfOk result (λ column. rows column ≡ picked sources.now runs.now) }
     ensures dtype { IfOk result (λ column. type_of column ≡ type_of first.now) }
     ensures formed { IfOk result (λ column. IsWellFormed column) }
@@ -169,7 +170,7 @@ fn collect_lists<'a>(
     requires formed { All (λ c. IsWellFormed c.now) sources.now }
     requires fits { All (PickFits (rows_of sources.now)) (expand runs.now) }
     requires len { length (expand runs.now) ≡ len }
-    requires few { len ≤ 4294967295 }
+    requires few { len ≤ max_rows }
     ensures rows { IfOk result (λ column. rows column ≡ picked sources.now runs.now) }
     ensures dtype { IfOk result (λ column. type_of column ≡ of_large_list (type_of child.now)) }
     ensures formed { IfOk result (λ column. IsWellFormed column) }
@@ -199,14 +200,14 @@ fn collect_blocks<'a>(
     runs: &[Run],
     len: usize,
 ) -> PolarsResult<Column>
-    requires narrow { size ≤ 4294967295 }
+    requires narrow { size ≤ max_rows }
     requires child { IsWellFormed child.now }
     requires alike { All (λ c. type_of c.now ≡
         of_fixed_size_list (type_of child.now) size) sources.now }
     requires formed { All (λ c. IsWellFormed c.now) sources.now }
     requires fits { All (PickFits (rows_of sources.now)) (expand runs.now) }
     requires len { length (expand runs.now) ≡ len }
-    requires few { len ≤ 4294967295 }
+    requires few { len ≤ max_rows }
     ensures rows { IfOk result (λ column. rows column ≡ picked sources.now runs.now) }
     ensures dtype { IfOk result (λ column. type_of column ≡
         of_fixed_size_list (type_of child.now) size) }
@@ -244,7 +245,7 @@ fn collect_items<'a>(
     requires formed { All (λ c. IsWellFormed c.now) sources.now }
     requires fits { All (PickFits (rows_of sources.now)) (expand runs.now) }
     requires need { need ≡ length (joined_items width (picked sources.now runs.now)) }
-    requires few { need ≤ 4294967295 }
+    requires few { need ≤ max_rows }
     ensures rows { IfOk result (λ column. rows column ≡
         joined_items width (picked sources.now runs.now)) }
     ensures dtype { IfOk result (λ column. type_of column ≡ type_of first.now) }
@@ -278,7 +279,7 @@ fn collect_structs<'a>(
     requires formed { All (λ c. IsWellFormed c.now) sources.now }
     requires fits { All (PickFits (rows_of sources.now)) (expand runs.now) }
     requires len { length (expand runs.now) ≡ len }
-    requires few { len ≤ 4294967295 }
+    requires few { len ≤ max_rows }
     ensures rows { IfOk result (λ column. rows column ≡ picked sources.now runs.now) }
     ensures dtype { IfOk result (λ column. type_of column ≡
         of_struct (shapes_of (map type_of firsts.now))) }
@@ -308,7 +309,7 @@ fn collect_fields<'a>(
     requires formed { All (λ c. IsWellFormed c.now) sources.now }
     requires fits { All (PickFits (rows_of sources.now)) (expand runs.now) }
     requires len { length (expand runs.now) ≡ len }
-    requires few { len ≤ 4294967295 }
+    requires few { len ≤ max_rows }
     ensures parts { IfOk result (λ fields. map rows fields.items ≡
         parts_of (length firsts.now) (picked sources.now runs.now)) }
     ensures dtypes { IfOk result (λ fields. map type_of fields.items ≡ map type_of firsts.now) }
@@ -344,7 +345,7 @@ fn collect_large_binary<'a>(
     requires formed { All (λ c. IsWellFormed c.now) sources.now }
     requires fits { All (PickFits (rows_of sources.now)) (expand runs.now) }
     requires len { length (expand runs.now) ≡ len }
-    requires few { len ≤ 4294967295 }
+    requires few { len ≤ max_rows }
     ensures rows { IfOk result (λ column. rows column ≡ picked sources.now runs.now) }
     ensures dtype { IfOk result (λ column. type_of column ≡ of_large_binary) }
     ensures formed { IfOk result (λ column. IsWellFormed column) }
@@ -369,7 +370,7 @@ fn collect_binview<'a>(
     requires alike { All (λ c. type_of c.now ≡ of_binary_view) sources.now }
     requires fits { All (PickFits (rows_of sources.now)) (expand runs.now) }
     requires len { length (expand runs.now) ≡ len }
-    requires few { len ≤ 4294967295 }
+    requires few { len ≤ max_rows }
     ensures rows { IfOk result (λ column. rows column ≡ picked sources.now runs.now) }
     ensures dtype { IfOk result (λ column. type_of column ≡ of_binary_view) }
     ensures formed { IfOk result (λ column. IsWellFormed column) }
@@ -393,7 +394,7 @@ fn collect_utf8view<'a>(
     requires alike { All (λ c. type_of c.now ≡ of_utf8_view) sources.now }
     requires fits { All (PickFits (rows_of sources.now)) (expand runs.now) }
     requires len { length (expand runs.now) ≡ len }
-    requires few { len ≤ 4294967295 }
+    requires few { len ≤ max_rows }
     ensures rows { IfOk result (λ column. rows column ≡ picked sources.now runs.now) }
     ensures dtype { IfOk result (λ column. type_of column ≡ of_utf8_view) }
     ensures formed { IfOk result (λ column. IsWellFormed column) }

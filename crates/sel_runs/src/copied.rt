@@ -1,6 +1,8 @@
 //! Values without validity, copied run by run.
 
 ghost use Rattle.std.specs.Prelude.{◌≡◌, ◌↔◌, ◌≤◌, ◌+◌, ◌++◌, All, false, is_none, length, map, take, drop, IfOk, IfErr, OnOk};
+ghost use Rattle.sel_bits.specs.Faults.{IsOutOfMemory};
+ghost use Rattle.sel_bits.specs.Limits.{max_rows};
 ghost use Rattle.sel_runs.specs.Picks.{pick, PickFits};
 ghost use Rattle.sel_runs.specs.Runs.{expand, unrolled};
 
@@ -8,7 +10,7 @@ use crate::fill::push_values;
 use crate::gather::Part;
 use crate::plan::Plan;
 use crate::run::Run;
-use sel_bits::faults::{PolarsError, PolarsResult};
+use sel_bits::faults::PolarsResult;
 use std::alloc::Global;
 
 // The run length up to which a copy moves this many values, a constant size, and truncates the
@@ -32,10 +34,10 @@ pub(crate) fn copy_runs<T: Copy + Drop>(
     len: usize,
 ) -> PolarsResult<Vec<T>>
     requires fits { All (PickFits (map (λ s. s.values.now) parts.now)) (expand runs.now) }
-    requires few { length (expand runs.now) ≤ 4294967295 }
+    requires few { length (expand runs.now) ≤ max_rows }
     ensures values { IfOk result (λ values. values.items ≡
         pick zero (map (λ s. s.values.now) parts.now) (expand runs.now)) }
-    ensures refusal { IfErr result (λ fault. fault ≡ PolarsError.OutOfMemory) }
+    ensures refusal { IfErr result IsOutOfMemory }
 {
     // (includes room for the values that are truncated after the last run)
     let mut values = Vec::with_capacity(alloc, len.saturating_add(SHORT_RUN))?;
@@ -56,7 +58,7 @@ pub(crate) fn copy_plan<P: Plan, T: Copy + Drop>(
     requires { All (PickFits (map (λ s. s.values.now) parts.now)) (P.picks plan.now) }
     ensures values { IfOk result (λ values. values.items ≡
         pick zero (map (λ s. s.values.now) parts.now) (P.picks plan.now)) }
-    ensures refusal { IfErr result (λ fault. fault ≡ PolarsError.OutOfMemory) }
+    ensures refusal { IfErr result IsOutOfMemory }
 {
     let len = plan.len();
     let mut values = Vec::with_capacity(alloc, len + SHORT_RUN)?;
@@ -79,10 +81,10 @@ fn copy_run<T: Copy + Drop>(
     zero: T,
 ) -> PolarsResult<()>
     requires fits { All (PickFits (map (λ s. s.values.now) parts.now)) (unrolled run) }
-    requires room { length values.old.items + run.len ≤ 4294967295 }
+    requires room { length values.old.items + run.len ≤ max_rows }
     ensures values { OnOk result (values.new.items ≡ values.old.items ++
         pick zero (map (λ s. s.values.now) parts.now) (unrolled run)) }
-    ensures refusal { IfErr result (λ fault. fault ≡ PolarsError.OutOfMemory) }
+    ensures refusal { IfErr result IsOutOfMemory }
 {
     if run.len == 0 {
         return Ok(());
@@ -108,7 +110,7 @@ fn copy_part<T: Copy + Drop>(
     requires { start + len ≤ length from.now }
     ensures values { OnOk result (values.new.items ≡
         values.old.items ++ take len (drop start from.now)) }
-    ensures refusal { IfErr result (λ fault. fault ≡ PolarsError.OutOfMemory) }
+    ensures refusal { IfErr result IsOutOfMemory }
 {
     if len <= SHORT_RUN && from.len() - start >= SHORT_RUN {
         let before = values.len();

@@ -1,8 +1,9 @@
 //! Appends repeated values.
 
 ghost use Rattle.std.specs.Prelude.{◌≡◌, ◌<◌, ◌+◌, ◌++◌, ◌^◌, length, replicate, IfErr, OnOk};
+ghost use Rattle.sel_bits.specs.Faults.{IsOutOfMemory};
 
-use sel_bits::faults::{PolarsError, PolarsResult};
+use sel_bits::faults::PolarsResult;
 
 /// Appends `value` `count` times.
 ///
@@ -15,7 +16,7 @@ use sel_bits::faults::{PolarsError, PolarsResult};
 pub fn push_values<T: Copy>(items: &mut Vec<T>, value: T, count: usize) -> PolarsResult<()>
     requires { length items.old.items + count < 2 ^ 64 }
     ensures items { OnOk result (items.new.items ≡ items.old.items ++ replicate count value) }
-    ensures refusal { IfErr result (λ fault. fault ≡ PolarsError.OutOfMemory) }
+    ensures refusal { IfErr result IsOutOfMemory }
 {
     items.resize(items.len() + count, value)?;
     Ok(())

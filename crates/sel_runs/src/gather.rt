@@ -2,6 +2,7 @@
 
 ghost use Rattle.std.specs.Prelude.{◌≡◌, ◌≤◌, ◌<◌, ◌+◌, ◌∷◌, ◌++◌, [], ◌↔◌, All, None, false, length, slice_index_or, map, take, drop, vec_len, vec_capacity, IfOk, IfErr, IsTrue};
 ghost use Rattle.std.specs.Option.{ForSome, option_copied};
+ghost use Rattle.sel_bits.specs.Faults.{IsOutOfMemory};
 ghost use Rattle.sel_bits.specs.Words.{word_of};
 ghost use Rattle.sel_arrow.specs.Masked.{Covers, valid_at};
 ghost use Rattle.sel_runs.specs.Picks.{found, pick, PickFits};
@@ -12,7 +13,7 @@ use crate::bits::validity_from;
 use crate::copied::copy_plan;
 use crate::plan::Plan;
 use sel_bits::bitmap::Bitmap;
-use sel_bits::faults::{PolarsError, PolarsResult};
+use sel_bits::faults::PolarsResult;
 use sel_bits::packer::{BitPacker, MOST_BITS};
 use std::alloc::Global;
 
@@ -34,7 +35,7 @@ pub(crate) fn gather_values<P: Plan, T: Copy + Drop>(
     requires { All (PickFits (map (λ s. s.values.now) parts.now)) (P.picks plan.now) }
     ensures values { IfOk result (λ values. values.items ≡
         pick zero (map (λ s. s.values.now) parts.now) (P.picks plan.now)) }
-    ensures refusal { IfErr result (λ fault. fault ≡ PolarsError.OutOfMemory) }
+    ensures refusal { IfErr result IsOutOfMemory }
 {
     if plan.is_wide() {
         return copy_plan(alloc, plan, parts, zero);
@@ -63,7 +64,7 @@ fn gather_one<P: Plan, T: Copy + Drop>(
     requires { All (PickFits (from.now ∷ [])) (P.picks plan.now) }
     ensures values { IfOk result (λ values. values.items ≡
         pick zero (from.now ∷ []) (P.picks plan.now)) }
-    ensures refusal { IfErr result (λ fault. fault ≡ PolarsError.OutOfMemory) }
+    ensures refusal { IfErr result IsOutOfMemory }
 {
     let len = plan.len();
     let mut values = Vec::with_capacity(alloc, len)?;
@@ -126,7 +127,7 @@ pub(crate) fn gather_parts<P: Plan, T: Copy + Drop>(
     ensures bits { IfOk result (λ rows. bits_for (length (P.picks plan.now)) rows.1 ≡
         bits_found (map (λ s. option_copied s.validity) parts.now) (P.picks plan.now)) }
     ensures covers { IfOk result (λ rows. Covers rows.1 (length (P.picks plan.now))) }
-    ensures refusal { IfErr result (λ fault. fault ≡ PolarsError.OutOfMemory) }
+    ensures refusal { IfErr result IsOutOfMemory }
 {
     if !plan.has_nulls() && !is_any_hidden(parts) {
         let values = gather_values(alloc, plan, parts, zero)?;
@@ -158,7 +159,7 @@ fn gather_hidden<P: Plan, T: Copy + Drop>(
         pick zero (map (λ s. s.values.now) parts.now) (P.picks plan.now)) }
     ensures bits { IfOk result (λ rows. rows.1 ≡
         bits_found (map (λ s. option_copied s.validity) parts.now) (P.picks plan.now)) }
-    ensures refusal { IfErr result (λ fault. fault ≡ PolarsError.OutOfMemory) }
+    ensures refusal { IfErr result IsOutOfMemory }
 {
     let len = plan.len();
     let mut values = Vec::with_capacity(alloc, len)?;
@@ -234,7 +235,7 @@ pub(crate) fn gather_validity<P: Plan>(
     ensures bits { IfOk result (λ validity. bits_for (length (P.picks plan.now)) validity ≡
         bits_found (map option_copied maps.now) (P.picks plan.now)) }
     ensures covers { IfOk result (λ validity. Covers validity (length (P.picks plan.now))) }
-    ensures refusal { IfErr result (λ fault. fault ≡ PolarsError.OutOfMemory) }
+    ensures refusal { IfErr result IsOutOfMemory }
 {
     if !plan.has_nulls() && !is_any_there(maps) {
         return Ok(None);
@@ -269,7 +270,7 @@ pub fn gather_bits<P: Plan>(
     requires { All (HasBit (map option_copied maps.now)) (P.picks plan.now) }
     ensures bits { IfOk result (λ bits. bits ≡
         bits_found (map option_copied maps.now) (P.picks plan.now)) }
-    ensures refusal { IfErr result (λ fault. fault ≡ PolarsError.OutOfMemory) }
+    ensures refusal { IfErr result IsOutOfMemory }
 {
     let len = plan.len();
     let mut bits = BitPacker::with_capacity(alloc, len)?;

@@ -1,12 +1,14 @@
 //! Columns under construction, to which rows of other columns are appended.
 
 ghost use Rattle.std.specs.Prelude.{◌≡◌, ◌≤◌, ◌<◌, ◌+◌, ◌++◌, All, List, length, take, drop, replicate, slice_index_or, [], IfOk, IfErr};
+ghost use Rattle.sel_bits.specs.Faults.{IsOutOfMemory};
+ghost use Rattle.sel_bits.specs.Limits.{max_rows};
 ghost use Rattle.sel_arrow.specs.Value.{Value, Null};
 ghost use Rattle.sel_runs.specs.Picks.{pick, PickFits};
 ghost use Rattle.sel_runs.specs.Runs.{expand, unrolled};
 
 use crate::run::Run;
-use sel_bits::faults::{PolarsError, PolarsResult};
+use sel_bits::faults::PolarsResult;
 
 /// A column to which rows of given sources and nulls can be appended.
 pub trait Growable: Sized {
@@ -26,11 +28,11 @@ pub trait Growable: Sized {
     fn extend(self, source: u32, start: u32, len: u32) -> PolarsResult<Self>
         requires source { source < length (sources self) }
         requires inside { start + len ≤ length (slice_index_or (sources self) source []) }
-        requires room { length (grown self) + len ≤ 4294967295 }
+        requires room { length (grown self) + len ≤ max_rows }
         ensures rows { IfOk result (λ longer. grown longer ≡
             grown self ++ take len (drop start (slice_index_or (sources self) source []))) }
         ensures sources { IfOk result (λ longer. sources longer ≡ sources self) }
-        ensures refusal { IfErr result (λ fault. fault ≡ PolarsError.OutOfMemory) };
+        ensures refusal { IfErr result IsOutOfMemory };
 
     /// Appends `len` nulls.
     ///
@@ -40,10 +42,10 @@ pub trait Growable: Sized {
     /// # Errors
     /// `OutOfMemory` if an allocation fails.
     fn extend_nulls(self, len: u32) -> PolarsResult<Self>
-        requires room { length (grown self) + len ≤ 4294967295 }
+        requires room { length (grown self) + len ≤ max_rows }
         ensures rows { IfOk result (λ longer. grown longer ≡ grown self ++ replicate len Null) }
         ensures sources { IfOk result (λ longer. sources longer ≡ sources self) }
-        ensures refusal { IfErr result (λ fault. fault ≡ PolarsError.OutOfMemory) };
+        ensures refusal { IfErr result IsOutOfMemory };
 }
 
 /// Appends the rows that runs refer to, in order.
@@ -55,11 +57,11 @@ pub trait Growable: Sized {
 /// `OutOfMemory` if an allocation fails.
 pub fn extend_runs<G: Growable>(mut growable: G, runs: &[Run]) -> PolarsResult<G>
     requires fits { All (PickFits (G.sources growable)) (expand runs.now) }
-    requires room { length (G.grown growable) + length (expand runs.now) ≤ 4294967295 }
+    requires room { length (G.grown growable) + length (expand runs.now) ≤ max_rows }
     ensures rows { IfOk result (λ longer. G.grown longer ≡
         G.grown growable ++ pick Null (G.sources growable) (expand runs.now)) }
     ensures sources { IfOk result (λ longer. G.sources longer ≡ G.sources growable) }
-    ensures refusal { IfErr result (λ fault. fault ≡ PolarsError.OutOfMemory) }
+    ensures refusal { IfErr result IsOutOfMemory }
 {
     for run in runs {
         growable = extend_run(growable, *run)?;
@@ -69,11 +71,11 @@ pub fn extend_runs<G: Growable>(mut growable: G, runs: &[Run]) -> PolarsResult<G
 
 fn extend_run<G: Growable>(growable: G, run: Run) -> PolarsResult<G>
     requires fits { All (PickFits (G.sources growable)) (unrolled run) }
-    requires room { length (G.grown growable) + run.len ≤ 4294967295 }
+    requires room { length (G.grown growable) + run.len ≤ max_rows }
     ensures rows { IfOk result (λ longer. G.grown longer ≡
         G.grown growable ++ pick Null (G.sources growable) (unrolled run)) }
     ensures sources { IfOk result (λ longer. G.sources longer ≡ G.sources growable) }
-    ensures refusal { IfErr result (λ fault. fault ≡ PolarsError.OutOfMemory) }
+    ensures refusal { IfErr result IsOutOfMemory }
 {
     if run.len == 0 {
         return Ok(growable);

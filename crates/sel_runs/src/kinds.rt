@@ -1,6 +1,7 @@
 //! Columns as arrays of their physical layout.
 
 ghost use Rattle.std.specs.Prelude.{◌≡◌, All, length, map, IfOk, IfErr, IsTrue};
+ghost use Rattle.sel_bits.specs.Faults.{IsOutOfMemory};
 ghost use Rattle.sel_arrow.specs.Columns.{binary_rows, binview_rows};
 ghost use Rattle.sel_arrow.specs.Rows.{rows, type_of};
 ghost use Rattle.sel_arrow.specs.Shape.{of_large_binary, of_binary_view, of_utf8_view};
@@ -11,7 +12,7 @@ ghost use Rattle.sel_runs.specs.Sources.{rows_of};
 use sel_arrow::binary::BinaryArray;
 use sel_arrow::binview::BinaryViewArray;
 use sel_arrow::column::Column;
-use sel_bits::faults::{PolarsError, PolarsResult};
+use sel_bits::faults::PolarsResult;
 use std::alloc::Global;
 
 /// Returns the binary array of each column.
@@ -28,7 +29,7 @@ pub fn binaries_of<'a>(
     requires { All (λ c. type_of c.now ≡ of_large_binary) sources.now }
     ensures rows { IfOk result (λ found. map (λ s. binary_rows s.now) found.items ≡
         rows_of sources.now) }
-    ensures refusal { IfErr result (λ fault. fault ≡ PolarsError.OutOfMemory) }
+    ensures refusal { IfErr result IsOutOfMemory }
 {
     let mut found = Vec::with_capacity(alloc, sources.len())?;
     for source in sources {
@@ -56,7 +57,7 @@ pub fn views_of<'a>(
         rows_of sources.now) }
     ensures buffers { IfOk result (λ found. map (λ s. length s.now.buffers) found.items ≡
         map (λ c. buffer_count c.now) sources.now) }
-    ensures refusal { IfErr result (λ fault. fault ≡ PolarsError.OutOfMemory) }
+    ensures refusal { IfErr result IsOutOfMemory }
 {
     let mut found = Vec::with_capacity(alloc, sources.len())?;
     for source in sources {
@@ -86,7 +87,7 @@ pub fn texts_of<'a>(
         (λ s. IsTrue (all_text (binview_rows s.now))) found.items) }
     ensures buffers { IfOk result (λ found. map (λ s. length s.now.buffers) found.items ≡
         map (λ c. buffer_count c.now) sources.now) }
-    ensures refusal { IfErr result (λ fault. fault ≡ PolarsError.OutOfMemory) }
+    ensures refusal { IfErr result IsOutOfMemory }
 {
     let mut found = Vec::with_capacity(alloc, sources.len())?;
     for source in sources {

@@ -1,6 +1,8 @@
 //! Offsets and child rows of gathered lists.
 
 ghost use Rattle.std.specs.Prelude.{◌≡◌, ◌≤◌, ◌<◌, ◌+◌, ◌*◌, ◌∷◌, ◌++◌, true, pos, All, length, map, take, drop, slice_index_or, IfSome, IfNone, IfOk, IfErr, OnOk};
+ghost use Rattle.sel_bits.specs.Faults.{IsOutOfMemory};
+ghost use Rattle.sel_bits.specs.Limits.{max_rows};
 ghost use Rattle.sel_arrow.specs.Nested.{list_of};
 ghost use Rattle.sel_arrow.specs.Rows.{rows, type_of, IsWellFormed};
 ghost use Rattle.sel_arrow.specs.Value.{Null};
@@ -14,7 +16,7 @@ ghost use Rattle.sel_runs.specs.RunRows.{run_rows};
 use crate::run::{Run, nulls_of, push_run};
 use sel_arrow::column::Column;
 use sel_arrow::validity::is_valid_at;
-use sel_bits::faults::{PolarsError, PolarsResult};
+use sel_bits::faults::PolarsResult;
 use std::alloc::Global;
 
 /// Returns the child of each list column.
@@ -28,7 +30,7 @@ pub fn children_of<'a>(alloc: Global, sources: &[&'a Column]) -> PolarsResult<Ve
     requires lists { All (λ c. is_listing (type_of c.now) ≡ true) sources.now }
     ensures children { IfOk result (λ found. map (λ c. c.now) found.items ≡
         map (λ c. child c.now) sources.now) }
-    ensures refusal { IfErr result (λ fault. fault ≡ PolarsError.OutOfMemory) }
+    ensures refusal { IfErr result IsOutOfMemory }
 {
     let mut found = Vec::with_capacity(alloc, sources.len())?;
     for source in sources {
@@ -95,7 +97,7 @@ pub fn run_of_row(sources: &[&Column], run: Run, i: u32, width: u32) -> Run
     ensures items { pick Null (child_rows sources.now) (unrolled result) ≡
         items_in width (slice_index_or (run_rows sources.now run) i Null) }
     ensures fits { All (PickFits (child_rows sources.now)) (unrolled result) }
-    ensures small { result.len ≤ 4294967295 }
+    ensures small { result.len ≤ max_rows }
 {
     let Some(source) = run.source else {
         return nulls_of(width);
@@ -121,7 +123,7 @@ pub fn count_items(sources: &[&Column], runs: &[Run], width: u32) -> u128
     requires lists { All (λ c. is_listing (type_of c.now) ≡ true) sources.now }
     requires formed { All (λ c. IsWellFormed c.now) sources.now }
     requires fits { All (PickFits (rows_of sources.now)) (expand runs.now) }
-    requires few { length (expand runs.now) ≤ 4294967295 }
+    requires few { length (expand runs.now) ≤ max_rows }
     ensures { result ≡ length (joined_items width (picked sources.now runs.now)) }
 {
     let mut total: u128 = 0;
@@ -137,7 +139,7 @@ fn count_run(sources: &[&Column], run: Run, width: u32) -> u128
     requires formed { All (λ c. IsWellFormed c.now) sources.now }
     requires fits { All (PickFits (rows_of sources.now)) (unrolled run) }
     ensures count { result ≡ length (joined_items width (run_rows sources.now run)) }
-    ensures small { result ≤ 4294967295 * run.len }
+    ensures small { result ≤ max_rows * run.len }
 {
     let mut total: u128 = 0;
     for i in 0..run.len {
@@ -166,12 +168,12 @@ pub fn child_runs(
     requires lists { All (λ c. is_listing (type_of c.now) ≡ true) sources.now }
     requires formed { All (λ c. IsWellFormed c.now) sources.now }
     requires fits { All (PickFits (rows_of sources.now)) (expand runs.now) }
-    requires room { length (joined_items width (picked sources.now runs.now)) ≤ 4294967295 }
+    requires room { length (joined_items width (picked sources.now runs.now)) ≤ max_rows }
     ensures items { IfOk result (λ below. pick Null (child_rows sources.now)
         (expand below.items) ≡ joined_items width (picked sources.now runs.now)) }
     ensures fits { IfOk result (λ below. All
         (PickFits (child_rows sources.now)) (expand below.items)) }
-    ensures refusal { IfErr result (λ fault. fault ≡ PolarsError.OutOfMemory) }
+    ensures refusal { IfErr result IsOutOfMemory }
 {
     let mut below = Vec::with_capacity(alloc, runs.len())?;
     for run in runs {
@@ -187,12 +189,12 @@ fn push_items(below: &mut Vec<Run>, sources: &[&Column], run: Run, width: u32) -
     requires fits { All (PickFits (rows_of sources.now)) (unrolled run) }
     requires sound { All (PickFits (child_rows sources.now)) (expand below.old.items) }
     requires room { length (expand below.old.items) + length
-        (joined_items width (run_rows sources.now run)) ≤ 4294967295 }
+        (joined_items width (run_rows sources.now run)) ≤ max_rows }
     ensures items { OnOk result (pick Null (child_rows sources.now) (expand below.new.items) ≡
         pick Null (child_rows sources.now) (expand below.old.items) ++ joined_items width
         (run_rows sources.now run)) }
     ensures sound { OnOk result (All (PickFits (child_rows sources.now)) (expand below.new.items)) }
-    ensures refusal { IfErr result (λ fault. fault ≡ PolarsError.OutOfMemory) }
+    ensures refusal { IfErr result IsOutOfMemory }
 {
     for i in 0..run.len {
         push_run(below, run_of_row(sources, run, i, width))?;
@@ -219,11 +221,11 @@ pub fn ends_of(
     requires formed { All (λ c. IsWellFormed c.now) sources.now }
     requires fits { All (PickFits (rows_of sources.now)) (expand runs.now) }
     requires len { length (expand runs.now) ≡ len }
-    requires few { len ≤ 4294967295 }
-    requires room { length (joined_items 0 (picked sources.now runs.now)) ≤ 4294967295 }
+    requires few { len ≤ max_rows }
+    requires room { length (joined_items 0 (picked sources.now runs.now)) ≤ max_rows }
     ensures ends { IfOk result (λ ends. ends.items ≡
         map pos (0 ∷ item_ends 0 (picked sources.now runs.now))) }
-    ensures refusal { IfErr result (λ fault. fault ≡ PolarsError.OutOfMemory) }
+    ensures refusal { IfErr result IsOutOfMemory }
 {
     let mut ends = Vec::with_capacity(alloc, len + 1)?;
     ends.push(0)?;
@@ -239,12 +241,12 @@ fn push_ends(ends: &mut Vec<i64>, sources: &[&Column], run: Run, start: u32) -> 
     requires lists { All (λ c. is_listing (type_of c.now) ≡ true) sources.now }
     requires formed { All (λ c. IsWellFormed c.now) sources.now }
     requires fits { All (PickFits (rows_of sources.now)) (unrolled run) }
-    requires room { start + length (joined_items 0 (run_rows sources.now run)) ≤ 4294967295 }
+    requires room { start + length (joined_items 0 (run_rows sources.now run)) ≤ max_rows }
     ensures ends { OnOk result (ends.new.items ≡
         ends.old.items ++ map pos (item_ends start (run_rows sources.now run))) }
     ensures last { IfOk result (λ end. end ≡
         start + length (joined_items 0 (run_rows sources.now run))) }
-    ensures refusal { IfErr result (λ fault. fault ≡ PolarsError.OutOfMemory) }
+    ensures refusal { IfErr result IsOutOfMemory }
 {
     let mut end = start;
     for i in 0..run.len {

@@ -1,6 +1,8 @@
 //! Nested columns over children that are already collected.
 
 ghost use Rattle.std.specs.Prelude.{◌≡◌, ◌≤◌, ◌∷◌, All, pos, length, map, IfOk, IfErr};
+ghost use Rattle.sel_bits.specs.Faults.{IsOutOfMemory};
+ghost use Rattle.sel_bits.specs.Limits.{max_rows};
 ghost use Rattle.sel_arrow.specs.Rows.{rows, type_of, IsField, IsWellFormed};
 ghost use Rattle.sel_arrow.specs.Shape.{of_large_list, of_fixed_size_list, of_struct, shapes_of};
 ghost use Rattle.sel_arrow.specs.Value.{Null};
@@ -38,13 +40,13 @@ pub fn lists_over(
     requires formed { All (λ c. IsWellFormed c.now) sources.now }
     requires fits { All (PickFits (rows_of sources.now)) (expand runs.now) }
     requires len { length (expand runs.now) ≡ len }
-    requires few { len ≤ 4294967295 }
+    requires few { len ≤ max_rows }
     requires below { rows values ≡ joined_items 0 (picked sources.now runs.now) }
     requires child { IsWellFormed values }
     ensures rows { IfOk result (λ column. rows column ≡ picked sources.now runs.now) }
     ensures dtype { IfOk result (λ column. type_of column ≡ of_large_list (type_of values)) }
     ensures formed { IfOk result (λ column. IsWellFormed column) }
-    ensures refusal { IfErr result (λ fault. fault ≡ PolarsError.OutOfMemory) }
+    ensures refusal { IfErr result IsOutOfMemory }
 {
     let Ok(ends) = ends_of(alloc, sources, runs, len) else {
         drop(values);
@@ -66,14 +68,14 @@ pub(crate) fn lists_with(
     requires formed { All (λ c. IsWellFormed c.now) sources.now }
     requires fits { All (PickFits (rows_of sources.now)) (expand runs.now) }
     requires len { length (expand runs.now) ≡ len }
-    requires few { len ≤ 4294967295 }
+    requires few { len ≤ max_rows }
     requires ends { ends.items ≡ map pos (0 ∷ item_ends 0 (picked sources.now runs.now)) }
     requires below { rows values ≡ joined_items 0 (picked sources.now runs.now) }
     requires child { IsWellFormed values }
     ensures rows { IfOk result (λ column. rows column ≡ picked sources.now runs.now) }
     ensures dtype { IfOk result (λ column. type_of column ≡ of_large_list (type_of values)) }
     ensures formed { IfOk result (λ column. IsWellFormed column) }
-    ensures refusal { IfErr result (λ fault. fault ≡ PolarsError.OutOfMemory) }
+    ensures refusal { IfErr result IsOutOfMemory }
 {
     let values = Box::new(alloc, values)?;
     let Ok(offsets) = OffsetsBuffer::of_rising(ends) else {
@@ -114,15 +116,15 @@ pub fn blocks_over(
     requires formed { All (λ c. IsWellFormed c.now) sources.now }
     requires fits { All (PickFits (rows_of sources.now)) (expand runs.now) }
     requires len { length (expand runs.now) ≡ len }
-    requires few { len ≤ 4294967295 }
-    requires narrow { size ≤ 4294967295 }
+    requires few { len ≤ max_rows }
+    requires narrow { size ≤ max_rows }
     requires below { rows values ≡ joined_items size (picked sources.now runs.now) }
     requires child { IsWellFormed values }
     ensures rows { IfOk result (λ column. rows column ≡ picked sources.now runs.now) }
     ensures dtype { IfOk result (λ column. type_of column ≡
         of_fixed_size_list (type_of values) size) }
     ensures formed { IfOk result (λ column. IsWellFormed column) }
-    ensures refusal { IfErr result (λ fault. fault ≡ PolarsError.OutOfMemory) }
+    ensures refusal { IfErr result IsOutOfMemory }
 {
     let values = Box::new(alloc, values)?;
     let Ok(validity) = collect_validity(alloc, sources, runs, len) else {
@@ -159,7 +161,7 @@ pub fn struct_over(
     requires formed { All (λ c. IsWellFormed c.now) sources.now }
     requires fits { All (PickFits (rows_of sources.now)) (expand runs.now) }
     requires len { length (expand runs.now) ≡ len }
-    requires few { len ≤ 4294967295 }
+    requires few { len ≤ max_rows }
     requires parts { map rows fields.items ≡
         parts_of (length fields.items) (picked sources.now runs.now) }
     requires fields { All (IsField len) fields.items }
@@ -167,7 +169,7 @@ pub fn struct_over(
     ensures dtype { IfOk result (λ column. type_of column ≡
         of_struct (shapes_of (map type_of fields.items))) }
     ensures formed { IfOk result (λ column. IsWellFormed column) }
-    ensures refusal { IfErr result (λ fault. fault ≡ PolarsError.OutOfMemory) }
+    ensures refusal { IfErr result IsOutOfMemory }
 {
     let Ok(validity) = collect_validity(alloc, sources, runs, len) else {
         drop(fields);

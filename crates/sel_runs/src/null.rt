@@ -1,6 +1,7 @@
 //! Null columns, collected by runs of rows.
 
 ghost use Rattle.std.specs.Prelude.{◌≡◌, ◌≤◌, All, length, map};
+ghost use Rattle.sel_bits.specs.Limits.{max_rows};
 ghost use Rattle.sel_arrow.specs.Rows.{rows, type_of, IsWellFormed};
 ghost use Rattle.sel_arrow.specs.Shape.{of_null};
 ghost use Rattle.sel_arrow.specs.Value.{Null};
@@ -19,7 +20,7 @@ use sel_arrow::null::NullArray;
 pub fn collect_null(sources: &[&Column], runs: &[Run], len: usize) -> Column
     requires alike { All (λ c. type_of c.now ≡ of_null) sources.now }
     requires len { length (expand runs.now) ≡ len }
-    requires few { len ≤ 4294967295 }
+    requires few { len ≤ max_rows }
     ensures rows { rows result ≡ picked sources.now runs.now }
     ensures dtype { type_of result ≡ of_null }
     ensures formed { IsWellFormed result }

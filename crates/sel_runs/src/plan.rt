@@ -1,11 +1,13 @@
 //! Iterators over row references, which compute each reference on demand.
 
 ghost use Rattle.std.specs.Prelude.{◌≡◌, ℕ, ◌<◌, ◌≤◌, ◌∷◌, ◌+◌, ◌++◌, All, List, Option, None, length, drop, slice_index_or, false, IfOk, IfErr};
+ghost use Rattle.sel_bits.specs.Faults.{IsOutOfMemory};
+ghost use Rattle.sel_bits.specs.Limits.{max_rows};
 ghost use Rattle.sel_runs.specs.Plans.{IsPicked};
 ghost use Rattle.sel_runs.specs.Runs.{expand, unrolled};
 
 use crate::run::{Run, push_run, run_of_pick};
-use sel_bits::faults::{PolarsError, PolarsResult};
+use sel_bits::faults::PolarsResult;
 use std::alloc::Global;
 
 /// An iterator over row references. It is small, so that it can be copied before each pass.
@@ -16,7 +18,7 @@ pub trait Plan: Sized + Drop {
     /// Returns the number of row references that are left, at most 2^32 - 1.
     fn len(&self) -> usize
         ensures len { result ≡ length (picks self.now) }
-        ensures few { result ≤ 4294967295 };
+        ensures few { result ≤ max_rows };
 
     /// Returns the next row reference and consumes it.
     ///
@@ -55,7 +57,7 @@ pub trait Plan: Sized + Drop {
 #[derive(Drop)]
 pub struct Listed<'a> {
     pub picks: &'a [Option<(u32, u32)>],
-    pub ghost few: { length picks.now ≤ 4294967295 },
+    pub ghost few: { length picks.now ≤ max_rows },
 }
 
 impl Plan for Listed<'_> {
@@ -101,7 +103,7 @@ pub trait Places: Sized + Drop {
     /// Returns the number of row references, at most 2^32 - 1.
     fn len(&self) -> usize
         ensures len { result ≡ length (picks self.now) }
-        ensures few { result ≤ 4294967295 };
+        ensures few { result ≤ max_rows };
 
     /// Returns row reference `k`.
     ///
@@ -177,7 +179,7 @@ impl<G: Places> Plan for Walk<G> {
 /// `OutOfMemory` if an allocation fails.
 pub fn runs_of_plan<P: Plan>(alloc: Global, plan: &P) -> PolarsResult<Vec<Run>>
     ensures picks { IfOk result (λ runs. expand runs.items ≡ P.picks plan.now) }
-    ensures refusal { IfErr result (λ fault. fault ≡ PolarsError.OutOfMemory) }
+    ensures refusal { IfErr result IsOutOfMemory }
 {
     let mut runs = Vec::new(alloc);
     let mut rest = plan.again();

@@ -2,6 +2,8 @@
 
 ghost use Rattle.std.specs.Prelude.{◌≡◌, ◌≤◌, ◌+◌, ◌++◌, All, length, map, take, drop, IfOk, IfErr, OnOk};
 ghost use Rattle.std.specs.Option.{option_copied};
+ghost use Rattle.sel_bits.specs.Faults.{IsOutOfMemory};
+ghost use Rattle.sel_bits.specs.Limits.{max_rows};
 ghost use Rattle.sel_arrow.specs.Masked.{hidden, number_rows};
 ghost use Rattle.sel_arrow.specs.Rows.{rows, type_of, IsWellFormed};
 ghost use Rattle.sel_arrow.specs.Value.{Null, Number};
@@ -20,7 +22,7 @@ use crate::run::Run;
 use sel_arrow::column::Column;
 use sel_arrow::primitive::ArrowPrimitive;
 use sel_bits::buffer::Buffer;
-use sel_bits::faults::{PolarsError, PolarsResult};
+use sel_bits::faults::PolarsResult;
 use sel_bits::packer::BitPacker;
 use std::alloc::Global;
 
@@ -84,7 +86,7 @@ fn push_part<T: ArrowPrimitive>(
         values.old.items ++ take len (drop start from.now.values.now)) }
     ensures bits { OnOk result (validity.new ≡
         validity.old ++ part_bits start len (option_copied from.now.validity)) }
-    ensures refusal { IfErr result (λ fault. fault ≡ PolarsError.OutOfMemory) }
+    ensures refusal { IfErr result IsOutOfMemory }
 {
     values.extend_from_slice(&from.values[start..start + len])?;
     push_validity(validity, from.validity, start, len)
@@ -98,7 +100,7 @@ fn numbers_of<'a, T: ArrowPrimitive>(
     requires { All (λ c. type_of c.now ≡ T.shape) sources.now }
     ensures rows { IfOk result (λ found. map (λ s. number_rows T.number s.values.now
         (option_copied s.validity)) found.items ≡ rows_of sources.now) }
-    ensures refusal { IfErr result (λ fault. fault ≡ PolarsError.OutOfMemory) }
+    ensures refusal { IfErr result IsOutOfMemory }
 {
     let mut found = Vec::with_capacity(alloc, sources.len())?;
     for source in sources {
@@ -128,11 +130,11 @@ pub fn collect_primitive<'a, T: ArrowPrimitive + Drop>(
     requires alike { All (λ c. type_of c.now ≡ T.shape) sources.now }
     requires fits { All (PickFits (rows_of sources.now)) (expand runs.now) }
     requires len { length (expand runs.now) ≡ len }
-    requires few { len ≤ 4294967295 }
+    requires few { len ≤ max_rows }
     ensures rows { IfOk result (λ column. rows column ≡ picked sources.now runs.now) }
     ensures dtype { IfOk result (λ column. type_of column ≡ T.shape) }
     ensures formed { IfOk result (λ column. IsWellFormed column) }
-    ensures refusal { IfErr result (λ fault. fault ≡ PolarsError.OutOfMemory) }
+    ensures refusal { IfErr result IsOutOfMemory }
 {
     let found = numbers_of::<T>(alloc, sources)?;
     let parts = found.as_slice();
@@ -175,7 +177,7 @@ pub fn gather_primitive<'a, P: Plan, T: ArrowPrimitive + Drop>(
         pick Null (rows_of sources.now) (P.picks plan.now)) }
     ensures dtype { IfOk result (λ column. type_of column ≡ T.shape) }
     ensures formed { IfOk result (λ column. IsWellFormed column) }
-    ensures refusal { IfErr result (λ fault. fault ≡ PolarsError.OutOfMemory) }
+    ensures refusal { IfErr result IsOutOfMemory }
 {
     // (there are no more row references than a column may have rows)
     let _len = plan.len();

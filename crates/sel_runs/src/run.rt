@@ -1,10 +1,12 @@
 //! Runs of consecutive rows.
 
 ghost use Rattle.std.specs.Prelude.{◌≡◌, ◌≤◌, ◌+◌, ◌++◌, ◌∷◌, [], None, length, IfSome, IfOk, IfErr, OnOk};
+ghost use Rattle.sel_bits.specs.Faults.{IsOutOfMemory};
+ghost use Rattle.sel_bits.specs.Limits.{max_rows};
 ghost use Rattle.sel_runs.specs.Runs.{expand, unrolled};
 
 use crate::plan::{Listed, runs_of_plan};
-use sel_bits::faults::{PolarsError, PolarsResult};
+use sel_bits::faults::PolarsResult;
 use std::alloc::Global;
 
 /// `len` rows of one source from row `start` on; without a source, `len` nulls.
@@ -23,10 +25,10 @@ pub struct Run {
 /// # Errors
 /// `OutOfMemory` if an allocation fails; the runs are unchanged.
 pub fn push_run(runs: &mut Vec<Run>, run: Run) -> PolarsResult<()>
-    requires { length (expand runs.old.items) + run.len ≤ 4294967295 }
+    requires { length (expand runs.old.items) + run.len ≤ max_rows }
     ensures picks { OnOk result (expand runs.new.items ≡ expand runs.old.items ++ unrolled run) }
     ensures unchanged { IfErr result (λ _. runs.new.items ≡ runs.old.items) }
-    ensures refusal { IfErr result (λ fault. fault ≡ PolarsError.OutOfMemory) }
+    ensures refusal { IfErr result IsOutOfMemory }
 {
     if run.len == 0 {
         return Ok(());
@@ -46,12 +48,12 @@ pub fn push_run(runs: &mut Vec<Run>, run: Run) -> PolarsResult<()>
 /// none. Errors: `OutOfMemory`; the runs and `last` are unchanged.
 #[inline(always)]
 pub(crate) fn put_run(runs: &mut Vec<Run>, last: &mut Run, run: Run) -> PolarsResult<()>
-    requires { length (expand (runs.old.items ++ last.old ∷ [])) + run.len ≤ 4294967295 }
+    requires { length (expand (runs.old.items ++ last.old ∷ [])) + run.len ≤ max_rows }
     ensures picks { OnOk result (expand (runs.new.items ++ last.new ∷ []) ≡
         expand (runs.old.items ++ last.old ∷ []) ++ unrolled run) }
     ensures unchanged { IfErr result (λ _. runs.new.items ≡ runs.old.items) }
     ensures last_unchanged { IfErr result (λ _. last.new ≡ last.old) }
-    ensures refusal { IfErr result (λ fault. fault ≡ PolarsError.OutOfMemory) }
+    ensures refusal { IfErr result IsOutOfMemory }
 {
     if run.len == 0 {
         return Ok(());
@@ -84,7 +86,7 @@ pub fn nulls_of(len: u32) -> Run
 #[inline(always)]
 #[tactic(auto, using(crate::proofs::RunLists::run_rules))]
 fn joined(first: Run, second: Run) -> Option<Run>
-    requires { first.len + second.len ≤ 4294967295 }
+    requires { first.len + second.len ≤ max_rows }
     ensures { IfSome result (λ both. unrolled both ≡ unrolled first ++ unrolled second) }
 {
     let len = first.len + second.len;
@@ -110,9 +112,9 @@ fn joined(first: Run, second: Run) -> Option<Run>
 /// # Errors
 /// `OutOfMemory` if an allocation fails.
 pub fn runs_of_picks(alloc: Global, picks: &[Option<(u32, u32)>]) -> PolarsResult<Vec<Run>>
-    requires { length picks.now ≤ 4294967295 }
+    requires { length picks.now ≤ max_rows }
     ensures picks { IfOk result (λ runs. expand runs.items ≡ picks.now) }
-    ensures refusal { IfErr result (λ fault. fault ≡ PolarsError.OutOfMemory) }
+    ensures refusal { IfErr result IsOutOfMemory }
 {
     runs_of_plan(alloc, &Listed { picks })
 }

@@ -1,6 +1,7 @@
 //! Gathers rows from one column, copied by runs of consecutive rows.
 
 ghost use Rattle.std.specs.Prelude.{◌≡◌, ◌≤◌, ◌∷◌, [], All, length, IfOk, IfErr};
+ghost use Rattle.sel_bits.specs.Limits.{max_rows};
 ghost use Rattle.sel_arrow.specs.Rows.{rows, type_of, IsWellFormed};
 ghost use Rattle.sel_arrow.specs.Value.{Null};
 ghost use Rattle.sel_runs.specs.Need.{IsLimitOrMemory, ExceedsNone, exceeded_limits};
@@ -37,7 +38,7 @@ pub fn collect_one(
     requires formed { IsWellFormed column.now }
     requires fits { All (PickFits (rows column.now ∷ [])) (expand runs.now) }
     requires len { length (expand runs.now) ≡ len }
-    requires few { len ≤ 4294967295 }
+    requires few { len ≤ max_rows }
     ensures rows { IfOk result (λ array. rows array.column ≡
         pick Null (rows column.now ∷ []) (expand runs.now)) }
     ensures dtype { IfOk result (λ array. type_of array.column ≡ type_of column.now) }

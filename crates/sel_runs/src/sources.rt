@@ -1,6 +1,7 @@
 //! Runtime checks for the preconditions on runs, row references and their sources.
 
 ghost use Rattle.std.specs.Prelude.{◌≡◌, ◌≤◌, ◌↔◌, All, length, map, IsTrue};
+ghost use Rattle.sel_bits.specs.Limits.{max_rows};
 ghost use Rattle.sel_arrow.specs.Rows.{rows, type_of, IsWellFormed};
 ghost use Rattle.sel_runs.specs.Picks.{PickFits};
 ghost use Rattle.sel_runs.specs.Runs.{expand, unrolled};
@@ -83,7 +84,7 @@ pub fn picked_rows(runs: &[Run]) -> u128
 /// 2^32 - 1 references. The sources need not be well-formed.
 pub fn picks_in_bounds(sources: &[&Column], picks: &[Option<(u32, u32)>]) -> bool
     ensures { IsTrue result ↔
-        (All (PickFits (rows_of sources.now)) picks.now × (length picks.now ≤ 4294967295)) }
+        (All (PickFits (rows_of sources.now)) picks.now × (length picks.now ≤ max_rows)) }
 {
     if picks.len() > u32::MAX as usize {
         return false;

@@ -1,6 +1,8 @@
 //! Field rows of gathered struct rows.
 
 ghost use Rattle.std.specs.Prelude.{◌≡◌, ◌≢◌, ◌≤◌, ◌<◌, ◌+◌, ◌++◌, ◌∷◌, [], All, length, map, IfOk, IfErr, OnOk};
+ghost use Rattle.sel_bits.specs.Faults.{IsOutOfMemory};
+ghost use Rattle.sel_bits.specs.Limits.{max_rows};
 ghost use Rattle.sel_arrow.specs.Rows.{rows, type_of, IsWellFormed};
 ghost use Rattle.sel_arrow.specs.Shape.{of_null};
 ghost use Rattle.sel_runs.specs.Children.{field};
@@ -13,7 +15,7 @@ ghost use Rattle.sel_runs.specs.Sources.{rows_of};
 use crate::run::{Run, nulls_of, push_run};
 use sel_arrow::column::Column;
 use sel_bits::bitmap::Bitmap;
-use sel_bits::faults::{PolarsError, PolarsResult};
+use sel_bits::faults::PolarsResult;
 use std::alloc::Global;
 
 /// Returns field `j` of each column; for a column without it, the column itself.
@@ -27,7 +29,7 @@ pub fn fields_at<'a>(
 ) -> PolarsResult<Vec<&'a Column>>
     ensures fields { IfOk result (λ found. map (λ c. c.now) found.items ≡
         map (λ c. field j c.now) sources.now) }
-    ensures refusal { IfErr result (λ fault. fault ≡ PolarsError.OutOfMemory) }
+    ensures refusal { IfErr result IsOutOfMemory }
 {
     let mut found = Vec::with_capacity(alloc, sources.len())?;
     for source in sources {
@@ -60,10 +62,10 @@ pub fn split_runs(alloc: Global, sources: &[&Column], runs: &[Run]) -> PolarsRes
     requires known { All (λ c. type_of c.now ≢ of_null) sources.now }
     requires formed { All (λ c. IsWellFormed c.now) sources.now }
     requires fits { All (PickFits (rows_of sources.now)) (expand runs.now) }
-    requires few { length (expand runs.now) ≤ 4294967295 }
+    requires few { length (expand runs.now) ≤ max_rows }
     ensures picks { IfOk result (λ split. expand split.items ≡
         map (cleared (rows_of sources.now)) (expand runs.now)) }
-    ensures refusal { IfErr result (λ fault. fault ≡ PolarsError.OutOfMemory) }
+    ensures refusal { IfErr result IsOutOfMemory }
 {
     let mut split = Vec::new(alloc);
     for run in runs {
@@ -77,10 +79,10 @@ fn push_split(split: &mut Vec<Run>, sources: &[&Column], run: Run) -> PolarsResu
     requires known { All (λ c. type_of c.now ≢ of_null) sources.now }
     requires formed { All (λ c. IsWellFormed c.now) sources.now }
     requires fits { All (PickFits (rows_of sources.now)) (unrolled run) }
-    requires room { length (expand split.old.items) + run.len ≤ 4294967295 }
+    requires room { length (expand split.old.items) + run.len ≤ max_rows }
     ensures picks { OnOk result (expand split.new.items ≡
         expand split.old.items ++ map (cleared (rows_of sources.now)) (unrolled run)) }
-    ensures refusal { IfErr result (λ fault. fault ≡ PolarsError.OutOfMemory) }
+    ensures refusal { IfErr result IsOutOfMemory }
 {
     if run.len == 0 {
         return Ok(());
@@ -105,11 +107,11 @@ fn push_split(split: &mut Vec<Run>, sources: &[&Column], run: Run) -> PolarsResu
 // `OutOfMemory`.
 fn push_kept(split: &mut Vec<Run>, bits: &Bitmap, run: Run) -> PolarsResult<()>
     requires inside { run.start + run.len ≤ length bits.now.bits }
-    requires few { length bits.now.bits ≤ 4294967295 }
-    requires room { length (expand split.old.items) + run.len ≤ 4294967295 }
+    requires few { length bits.now.bits ≤ max_rows }
+    requires room { length (expand split.old.items) + run.len ≤ max_rows }
     ensures picks { OnOk result (expand split.new.items ≡
         expand split.old.items ++ map (kept_by bits.now.bits) (unrolled run)) }
-    ensures refusal { IfErr result (λ fault. fault ≡ PolarsError.OutOfMemory) }
+    ensures refusal { IfErr result IsOutOfMemory }
 {
     let mut rest = bits
         .try_clone()?

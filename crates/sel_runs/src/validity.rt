@@ -2,6 +2,7 @@
 
 ghost use Rattle.std.specs.Prelude.{◌≡◌, ◌≢◌, ◌++◌, All, length, map, IfOk, IfErr, OnOk};
 ghost use Rattle.std.specs.Option.{option_copied};
+ghost use Rattle.sel_bits.specs.Faults.{IsOutOfMemory};
 ghost use Rattle.sel_arrow.specs.Masked.{Covers};
 ghost use Rattle.sel_arrow.specs.Rows.{rows, type_of, IsWellFormed};
 ghost use Rattle.sel_arrow.specs.Shape.{of_null};
@@ -19,7 +20,7 @@ use crate::gather::is_any_there;
 use crate::run::Run;
 use sel_arrow::column::Column;
 use sel_bits::bitmap::Bitmap;
-use sel_bits::faults::{PolarsError, PolarsResult};
+use sel_bits::faults::PolarsResult;
 use sel_bits::packer::BitPacker;
 use std::alloc::Global;
 
@@ -44,7 +45,7 @@ pub fn collect_validity(
     ensures bits { IfOk result (λ validity. bits_for len validity ≡
         validities (picked sources.now runs.now)) }
     ensures covers { IfOk result (λ validity. Covers validity len) }
-    ensures refusal { IfErr result (λ fault. fault ≡ PolarsError.OutOfMemory) }
+    ensures refusal { IfErr result IsOutOfMemory }
 {
     let maps = validities_of(alloc, sources)?;
     let maps = maps.as_slice();
@@ -67,7 +68,7 @@ pub(crate) fn validities_of<'a>(
     requires formed { All (λ c. IsWellFormed c.now) sources.now }
     ensures told { IfOk result (λ maps.
         AreValidities (map option_copied maps.items) (columns_of sources.now)) }
-    ensures refusal { IfErr result (λ fault. fault ≡ PolarsError.OutOfMemory) }
+    ensures refusal { IfErr result IsOutOfMemory }
 {
     let mut maps = Vec::with_capacity(alloc, sources.len())?;
     for source in sources {
@@ -83,7 +84,7 @@ fn push_valid_rows(bits: &mut BitPacker, sources: &[&Column], run: Run) -> Polar
     requires formed { All (λ c. IsWellFormed c.now) sources.now }
     requires fits { All (PickFits (rows_of sources.now)) (unrolled run) }
     ensures bits { OnOk result (bits.new ≡ bits.old ++ validities (run_rows sources.now run)) }
-    ensures refusal { IfErr result (λ fault. fault ≡ PolarsError.OutOfMemory) }
+    ensures refusal { IfErr result IsOutOfMemory }
 {
     if run.len == 0 {
         return Ok(());

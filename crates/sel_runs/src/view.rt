@@ -2,6 +2,8 @@
 
 ghost use Rattle.std.specs.Prelude.{◌≡◌, ◌≤◌, ◌<◌, ◌+◌, ◌++◌, ◌∷◌, [], All, length, map, take, drop, IfOk, IfErr, IsTrue, OnOk};
 ghost use Rattle.std.specs.List.{flat_map};
+ghost use Rattle.sel_bits.specs.Faults.{IsOutOfMemory};
+ghost use Rattle.sel_bits.specs.Limits.{max_buffers, max_rows};
 ghost use Rattle.sel_bits.specs.declared.faults.Limit.TheVariants.{Buffers as BufferLimit};
 ghost use Rattle.sel_arrow.specs.Columns.{binview_rows};
 ghost use Rattle.sel_arrow.specs.Masked.{hidden};
@@ -55,7 +57,7 @@ struct GrowableViews<'a, B: NullSlots> {
     validity: BitPacker,
     beneath: PhantomData<B>,
     ghost joined: { flat_map (λ s. s.now.buffers) sources.now ≡ B.buffers },
-    ghost few: { length B.buffers ≤ 4294967295 },
+    ghost few: { length B.buffers ≤ max_buffers },
     ghost started: { starts.now ≡ starts_of (λ s. s.now.buffers) sources.now },
     ghost lengths: { length validity ≡ length views.items },
     ghost placed: { IsTrue (all_placed B.buffers views.items) },
@@ -118,12 +120,12 @@ fn push_part(
     before: u32,
 ) -> PolarsResult<()>
     requires inside { start + len ≤ length from.now.views }
-    requires room { before + length from.now.buffers ≤ 4294967295 }
+    requires room { before + length from.now.buffers ≤ max_buffers }
     ensures views { OnOk result (views.new.items ≡
         views.old.items ++ map (λ v. raised v before) (take len (drop start from.now.views))) }
     ensures bits { OnOk result (validity.new ≡
         validity.old ++ part_bits start len from.now.validity) }
-    ensures refusal { IfErr result (λ fault. fault ≡ PolarsError.OutOfMemory) }
+    ensures refusal { IfErr result IsOutOfMemory }
 {
     push_raised(views, from, start, len, before)?;
     push_validity(validity, from.validity.as_ref(), start, len)
@@ -141,10 +143,10 @@ fn push_raised(
     before: u32,
 ) -> PolarsResult<()>
     requires inside { start + len ≤ length from.now.views }
-    requires room { before + length from.now.buffers ≤ 4294967295 }
+    requires room { before + length from.now.buffers ≤ max_buffers }
     ensures views { OnOk result (views.new.items ≡
         views.old.items ++ map (λ v. raised v before) (take len (drop start from.now.views))) }
-    ensures refusal { IfErr result (λ fault. fault ≡ PolarsError.OutOfMemory) }
+    ensures refusal { IfErr result IsOutOfMemory }
 {
     let all = from.views.as_slice();
     if before == 0 {
@@ -162,7 +164,7 @@ fn push_raised(
 /// # Requires
 /// Unless the view is inline, its buffer index plus `before` is at most 2^32 - 1.
 pub fn raised_view(view: View, before: u32) -> View
-    requires { 12 < view.length → view.buffer_idx + before ≤ 4294967295 }
+    requires { 12 < view.length → view.buffer_idx + before ≤ max_buffers }
     ensures { result ≡ raised view before }
 {
     if view.length <= INLINE_BYTES {
@@ -178,9 +180,9 @@ pub fn raised_view(view: View, before: u32) -> View
 // than 2^32 - 1 in total.
 fn check_buffers(sources: &[&BinaryViewArray]) -> PolarsResult<()>
     ensures few { IfOk result (λ _. length
-        (flat_map (λ s. s.now.buffers) sources.now) ≤ 4294967295) }
+        (flat_map (λ s. s.now.buffers) sources.now) ≤ max_buffers) }
     ensures refusal { IfErr result (λ fault. (fault ≡ PolarsError.SizeLimit BufferLimit) ×
-        (4294967295 < length (flat_map (λ s. s.now.buffers) sources.now))) }
+        (max_buffers < length (flat_map (λ s. s.now.buffers) sources.now))) }
 {
     let mut count = 0;
     for source in sources {
@@ -195,10 +197,10 @@ fn check_buffers(sources: &[&BinaryViewArray]) -> PolarsResult<()>
 // Returns, for each source, the number of data buffers of the sources before it. Errors:
 // `OutOfMemory`.
 fn starts_of_buffers(alloc: Global, sources: &[&BinaryViewArray]) -> PolarsResult<Vec<u32>>
-    requires { length (flat_map (λ s. s.now.buffers) sources.now) ≤ 4294967295 }
+    requires { length (flat_map (λ s. s.now.buffers) sources.now) ≤ max_buffers }
     ensures starts { IfOk result (λ starts. starts.items ≡
         starts_of (λ s. s.now.buffers) sources.now) }
-    ensures refusal { IfErr result (λ fault. fault ≡ PolarsError.OutOfMemory) }
+    ensures refusal { IfErr result IsOutOfMemory }
 {
     let mut starts = Vec::with_capacity(alloc, sources.len())?;
     let mut before = 0;
@@ -213,7 +215,7 @@ fn starts_of_buffers(alloc: Global, sources: &[&BinaryViewArray]) -> PolarsResul
 fn joined_buffers(alloc: Global, sources: &[&BinaryViewArray]) -> PolarsResult<Buffer<Buffer<u8>>>
     ensures buffers { IfOk result (λ joined. joined ≡ flat_map (λ s. s.now.buffers)
         sources.now) }
-    ensures refusal { IfErr result (λ fault. fault ≡ PolarsError.OutOfMemory) }
+    ensures refusal { IfErr result IsOutOfMemory }
 {
     let mut joined = Vec::new(alloc);
     for source in sources {
@@ -229,7 +231,7 @@ fn joined_buffers(alloc: Global, sources: &[&BinaryViewArray]) -> PolarsResult<B
 pub fn push_buffers(joined: &mut Vec<Buffer<u8>>, buffers: &[Buffer<u8>]) -> PolarsResult<()>
     ensures buffers { OnOk result (joined.new.items ≡ joined.old.items ++ buffers.now) }
     ensures unchanged { IfErr result (λ _. joined.new.items ≡ joined.old.items) }
-    ensures refusal { IfErr result (λ fault. fault ≡ PolarsError.OutOfMemory) }
+    ensures refusal { IfErr result IsOutOfMemory }
 {
     let before = joined.len();
     joined.reserve(buffers.len())?;
@@ -247,7 +249,7 @@ pub fn push_buffers(joined: &mut Vec<Buffer<u8>>, buffers: &[Buffer<u8>]) -> Pol
 fn push_buffer(joined: &mut Vec<Buffer<u8>>, buffer: &Buffer<u8>) -> PolarsResult<()>
     ensures buffers { OnOk result (joined.new.items ≡ joined.old.items ++ buffer.now ∷ []) }
     ensures unchanged { IfErr result (λ _. joined.new.items ≡ joined.old.items) }
-    ensures refusal { IfErr result (λ fault. fault ≡ PolarsError.OutOfMemory) }
+    ensures refusal { IfErr result IsOutOfMemory }
 {
     joined.push(buffer.try_clone()?)?;
     Ok(())
@@ -272,7 +274,7 @@ pub fn collect_views<'a>(
 ) -> PolarsResult<BinaryViewArray>
     requires fits { All (PickFits (binviews sources.now)) (expand runs.now) }
     requires len { length (expand runs.now) ≡ len }
-    requires few { len ≤ 4294967295 }
+    requires few { len ≤ max_rows }
     ensures rows { IfOk result (λ array. binview_rows array ≡
         pick Null (binviews sources.now) (expand runs.now)) }
     ensures buffers { IfOk result (λ array. array.buffers ≡
@@ -292,15 +294,15 @@ fn collect_few<'a, B: NullSlots>(
     len: usize,
 ) -> PolarsResult<BinaryViewArray>
     requires joined { flat_map (λ s. s.now.buffers) sources.now ≡ B.buffers }
-    requires few { length B.buffers ≤ 4294967295 }
+    requires few { length B.buffers ≤ max_buffers }
     requires fits { All (PickFits (binviews sources.now)) (expand runs.now) }
     requires len { length (expand runs.now) ≡ len }
-    requires room { len ≤ 4294967295 }
+    requires room { len ≤ max_rows }
     ensures rows { IfOk result (λ array. binview_rows array ≡
         pick Null (binviews sources.now) (expand runs.now)) }
     ensures buffers { IfOk result (λ array. array.buffers ≡
         flat_map (λ s. s.now.buffers) sources.now) }
-    ensures refusal { IfErr result (λ fault. fault ≡ PolarsError.OutOfMemory) }
+    ensures refusal { IfErr result IsOutOfMemory }
 {
     let starts = starts_of_buffers(alloc, sources)?;
     let empty = GrowableViews {

@@ -1,6 +1,8 @@
 //! Gathers lists in one pass, without building runs of the list rows.
 
 ghost use Rattle.std.specs.Prelude.{◌≡◌, ◌≢◌, ◌≤◌, ◌<◌, ◌+◌, ◌++◌, ◌∷◌, [], true, pos, All, length, map, IfOk, IfErr, OnOk};
+ghost use Rattle.sel_bits.specs.Faults.{IsOutOfMemory};
+ghost use Rattle.sel_bits.specs.Limits.{max_rows};
 ghost use Rattle.sel_arrow.specs.Rows.{rows, type_of, IsWellFormed};
 ghost use Rattle.sel_arrow.specs.Shape.{of_large_list, of_null};
 ghost use Rattle.sel_arrow.specs.Value.{Null};
@@ -82,7 +84,7 @@ fn lists_of_plan<P: Plan>(
         pick Null (rows_of sources.now) (P.picks plan.now)) }
     ensures dtype { IfOk result (λ column. type_of column ≡ of_large_list (type_of values)) }
     ensures formed { IfOk result (λ column. IsWellFormed column) }
-    ensures refusal { IfErr result (λ fault. fault ≡ PolarsError.OutOfMemory) }
+    ensures refusal { IfErr result IsOutOfMemory }
 {
     // (there are no more row references than a column may have rows)
     let _len = plan.len();
@@ -127,7 +129,7 @@ fn walk_lists<P: Plan>(
     ensures fits { IfOk result (λ walk. All
         (PickFits (child_rows sources.now)) (expand walk.1.items)) }
     ensures count { IfOk result (λ walk. length (expand walk.1.items) ≡ walk.2) }
-    ensures few { IfOk result (λ walk. walk.2 ≤ 4294967295) }
+    ensures few { IfOk result (λ walk. walk.2 ≤ max_rows) }
     ensures refusal { IfErr result (IsLimitOrMemory (ExceedsRows
         (length (joined_items 0 (pick Null (rows_of sources.now) (P.picks plan.now)))))) }
 {
@@ -171,7 +173,7 @@ pub fn collect_list_runs<'a>(
     requires formed { All (λ c. IsWellFormed c.now) sources.now }
     requires fits { All (PickFits (rows_of sources.now)) (expand runs.now) }
     requires len { length (expand runs.now) ≡ len }
-    requires few { len ≤ 4294967295 }
+    requires few { len ≤ max_rows }
     ensures rows { IfOk result (λ column. rows column ≡ picked sources.now runs.now) }
     ensures dtype { IfOk result (λ column. type_of column ≡ of_large_list (type_of child.now)) }
     ensures formed { IfOk result (λ column. IsWellFormed column) }
@@ -202,7 +204,7 @@ fn walk_runs(
     requires lists { All (λ c. is_listing (type_of c.now) ≡ true) sources.now }
     requires formed { All (λ c. IsWellFormed c.now) sources.now }
     requires fits { All (PickFits (rows_of sources.now)) (expand runs.now) }
-    requires few { len ≤ 4294967295 }
+    requires few { len ≤ max_rows }
     ensures ends { IfOk result (λ walk. walk.0.items ≡
         map pos (0 ∷ item_ends 0 (picked sources.now runs.now))) }
     ensures items { IfOk result (λ walk. pick Null (child_rows sources.now)
@@ -210,7 +212,7 @@ fn walk_runs(
     ensures fits { IfOk result (λ walk. All
         (PickFits (child_rows sources.now)) (expand walk.1.items)) }
     ensures count { IfOk result (λ walk. length (expand walk.1.items) ≡ walk.2) }
-    ensures few { IfOk result (λ walk. walk.2 ≤ 4294967295) }
+    ensures few { IfOk result (λ walk. walk.2 ≤ max_rows) }
     ensures refusal { IfErr result (IsLimitOrMemory (ExceedsRows
         (length (joined_items 0 (picked sources.now runs.now))))) }
 {

@@ -3,6 +3,7 @@ use Rattle.std.specs.Prelude.{◌≡◌, ⊤, ℕ, ◌+◌, Bool, true, false, �
 use Rattle.std.specs.Prelude.{replicate, slice_index_or, if◌then◌else◌, nat_le, nat_lt, Result, Ok}
 use Rattle.std.specs.Prelude.{Err}
 use Rattle.std.specs.List.{flat_map}
+use Rattle.sel_bits.specs.Limits.{max_rows}
 use Rattle.sel_arrow.specs.Rows.{rows, type_of}
 use Rattle.sel_arrow.specs.Shape.{Shape, Shapes, no_shapes, next_shape, of_binary_view}
 use Rattle.sel_arrow.specs.Shape.{of_utf8_view, of_large_list, of_fixed_size_list, of_struct}
@@ -16,7 +17,7 @@ use Rattle.sel_text.specs.declared.text_error.Fault.TheVariants.{Limit, OutOfMem
 -- Whether a number exceeds 4,294,967,295, the limit of the rows of a column, of a list size and of
 -- the bytes of a data buffer.
 abbrev pub exceeds_max : ℕ → Bool
-exceeds_max n = nat_lt 4294967295 n
+exceeds_max n = nat_lt max_rows n
 
 -- The child rows of a list row: its entries. A null row has none, or a single null if null slots
 -- hold other values than zeros.

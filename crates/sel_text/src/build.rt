@@ -2,6 +2,7 @@
 
 ghost use Rattle.std.specs.Prelude.{◌≡◌, ◌<◌, ◌≤◌, ◌+◌, ◌∷◌, ◌++◌, [], pos, true, false, ℕ, List, IfOk, IfErr, IfSome, IfNone, OnOk, length, map, replicate};
 ghost use Rattle.std.specs.List.{flat_map, list_all};
+ghost use Rattle.sel_bits.specs.Limits.{max_buffer_bytes};
 ghost use Rattle.sel_arrow.specs.Columns.{binview_rows};
 ghost use Rattle.sel_arrow.specs.DataType.{shape_of};
 ghost use Rattle.sel_arrow.specs.Masked.{Covers, masked};
@@ -265,8 +266,8 @@ fn view_behind(placed: &mut Vec<u8>, bytes: &[u8]) -> Result<View, Fault>
         bytes.now) }
     ensures placed { IfOk result (λ _.
         placed.new.items ≡ placed.old.items ++ bytes_behind bytes.now) }
-    ensures within { length placed.old.items ≤ 4294967295 →
-        OnOk result (length placed.new.items ≤ 4294967295) }
+    ensures within { length placed.old.items ≤ max_buffer_bytes →
+        OnOk result (length placed.new.items ≤ max_buffer_bytes) }
     ensures limit { IfErr result
         (λ fault. ReportsLimit
         (exceeds_max (length placed.old.items + length (bytes_behind bytes.now))) fault) }

@@ -4,6 +4,7 @@ ghost use Rattle.std.specs.Prelude.{◌≡◌, ◌+◌, ◌≤◌, ◌<◌, ◌+
 ghost use Rattle.std.specs.Char.{digit_char};
 ghost use Rattle.std.specs.Str.{is_utf8};
 ghost use Rattle.std.specs.List.{flat_map, join_with_byte, slice_range};
+ghost use Rattle.sel_bits.specs.Faults.{IsOutOfMemory};
 ghost use Rattle.sel_arrow.specs.Rows.{rows, type_of, IsWellFormed};
 ghost use Rattle.sel_arrow.specs.Shape.{Shape};
 ghost use Rattle.sel_arrow.specs.Value.{Null};
@@ -13,7 +14,7 @@ ghost use Rattle.sel_text.specs.Texts.{escaped, field_text, parenthesized, hex_b
 use crate::cell::{Cell, Whole, cell_at};
 use sel_arrow::binview::bytes_at;
 use sel_arrow::column::Column;
-use sel_bits::faults::{PolarsError, PolarsResult};
+use sel_bits::faults::PolarsResult;
 use std::alloc::{AllocError, Global};
 use std::str;
 
@@ -28,7 +29,7 @@ pub fn print_rows(alloc: Global, column: &Column) -> PolarsResult<String>
     requires { IsWellFormed column.now }
     ensures text { IfOk result (λ text. string_bytes text ≡
         text_of (type_of column.now) (rows column.now)) }
-    ensures refusal { IfErr result (λ fault. fault ≡ PolarsError.OutOfMemory) }
+    ensures refusal { IfErr result IsOutOfMemory }
 {
     let mut text = String::new(alloc);
     push_items(column, 0, column.len(), &mut text)?;
@@ -48,7 +49,7 @@ pub fn row_at(alloc: Global, column: &Column, i: usize) -> PolarsResult<String>
     requires inside { i < length (rows column.now) }
     ensures text { IfOk result (λ text. string_bytes text ≡
         value_text (type_of column.now) (slice_index_or (rows column.now) i Null)) }
-    ensures refusal { IfErr result (λ fault. fault ≡ PolarsError.OutOfMemory) }
+    ensures refusal { IfErr result IsOutOfMemory }
 {
     let mut text = String::new(alloc);
     push_row(column, i, &mut text)?;

@@ -1,11 +1,12 @@
 //! Printing of data types.
 
 ghost use Rattle.std.specs.Prelude.{◌≡◌, ◌++◌, map, string_bytes, IfOk, IfErr, OnOk};
+ghost use Rattle.sel_bits.specs.Faults.{IsOutOfMemory};
 ghost use Rattle.sel_arrow.specs.DataType.{shape_of};
 ghost use Rattle.sel_text.specs.Types.{angled, type_text};
 
 use sel_arrow::datatype::ArrowDataType;
-use sel_bits::faults::{PolarsError, PolarsResult};
+use sel_bits::faults::PolarsResult;
 use std::alloc::{AllocError, Global};
 
 /// Returns the notation of a data type, as in `struct<list<i8>,fixed<2,utf8>>`, without spaces.
@@ -14,7 +15,7 @@ use std::alloc::{AllocError, Global};
 /// `OutOfMemory` if an allocation fails.
 pub fn print_dtype(alloc: Global, dtype: &ArrowDataType) -> PolarsResult<String>
     ensures text { IfOk result (λ text. string_bytes text ≡ type_text (shape_of dtype.now)) }
-    ensures refusal { IfErr result (λ fault. fault ≡ PolarsError.OutOfMemory) }
+    ensures refusal { IfErr result IsOutOfMemory }
 {
     let mut text = String::new(alloc);
     push_dtype(dtype, &mut text)?;

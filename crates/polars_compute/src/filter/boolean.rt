@@ -2,11 +2,12 @@
 
 ghost use Rattle.std.specs.Prelude.{◌≡◌, length, IfOk, IfErr};
 ghost use Rattle.std.specs.Option.{option_copied, option_map};
+ghost use Rattle.sel_bits.specs.Faults.{IsOutOfMemory};
 ghost use Rattle.sel_arrow.specs.Masked.{Covers};
 ghost use Rattle.polars_compute.specs.Select.{select};
 
 use sel_bits::bitmap::Bitmap;
-use sel_bits::faults::{PolarsError, PolarsResult};
+use sel_bits::faults::PolarsResult;
 pub use sel_filter::boolean::{
     filter_boolean_kernel, filter_boolean_kernel_pext, filter_boolean_kernel_sparse,
     pext64_polyfill, pext64_rounds,
@@ -31,7 +32,7 @@ pub fn filter_bitmap_and_validity(
     ensures values { IfOk result (λ kept. kept.0.bits ≡ select values.now.bits mask.now.bits) }
     ensures validity { IfOk result (λ kept. option_map (λ v. v.bits) kept.1 ≡
         option_map (λ v. select v.bits mask.now.bits) (option_copied validity.entry)) }
-    ensures refusal { IfErr result (λ fault. fault ≡ PolarsError.OutOfMemory) }
+    ensures refusal { IfErr result IsOutOfMemory }
 {
     let kept = filter_boolean_kernel(alloc, values, mask)?;
     let kept_validity = filter_validity(alloc, validity, mask)?;
@@ -47,7 +48,7 @@ pub(crate) fn filter_validity(
     requires { Covers (option_copied validity) (length mask.now.bits) }
     ensures validity { IfOk result (λ kept. option_map (λ v. v.bits) kept ≡
         option_map (λ v. select v.bits mask.now.bits) (option_copied validity.entry)) }
-    ensures refusal { IfErr result (λ fault. fault ≡ PolarsError.OutOfMemory) }
+    ensures refusal { IfErr result IsOutOfMemory }
 {
     match validity {
         None => Ok(None),

@@ -3,6 +3,8 @@
 ghost use Rattle.std.specs.Prelude.{◌≡◌, ◌≤◌, ◌<◌, ◌*◌, None, length, IfOk, IfErr};
 ghost use Rattle.std.specs.Mem.{type_size};
 ghost use Rattle.std.specs.Option.{ForSome};
+ghost use Rattle.sel_bits.specs.Faults.{IsOutOfMemory};
+ghost use Rattle.sel_bits.specs.Limits.{max_rows};
 ghost use Rattle.sel_bits.specs.Bits.{count_true};
 ghost use Rattle.sel_arrow.specs.Columns.{primitive_rows};
 ghost use Rattle.sel_arrow.specs.Masked.{number_rows};
@@ -14,7 +16,7 @@ use sel_arrow::column::Column;
 use sel_arrow::primitive::{ArrowPrimitive, PrimitiveArray};
 use sel_bits::bitmap::Bitmap;
 use sel_bits::buffer::Buffer;
-use sel_bits::faults::{PolarsError, PolarsResult};
+use sel_bits::faults::PolarsResult;
 use sel_filter::arrays::filter_arrays;
 use std::alloc::Global;
 
@@ -29,7 +31,7 @@ pub(crate) fn filter_child(
     mask: &Bitmap,
 ) -> PolarsResult<Option<Column>>
     requires fills { length (rows values.now) ≡ length mask.now.bits * size }
-    requires few { length (rows values.now) ≤ 4294967295 }
+    requires few { length (rows values.now) ≤ max_rows }
     ensures blocks { IfOk result (λ kept. ForSome kept (λ column.
         blocks size (count_true mask.now.bits) (rows column) ≡
         select (blocks size (length mask.now.bits) (rows values.now)) mask.now.bits)) }
@@ -38,7 +40,7 @@ pub(crate) fn filter_child(
     ensures dtype { IfOk result (λ kept. ForSome kept (λ column.
         type_of column ≡ type_of values.now)) }
     ensures formed { IfOk result (λ kept. ForSome kept (λ column. IsWellFormed column)) }
-    ensures refusal { IfErr result (λ fault. fault ≡ PolarsError.OutOfMemory) }
+    ensures refusal { IfErr result IsOutOfMemory }
 {
     match values {
         Column::Int8(numbers) => filter_numbers(alloc, numbers, size, mask),
@@ -64,7 +66,7 @@ fn filter_numbers<T: ArrowPrimitive>(
 ) -> PolarsResult<Option<Column>>
     requires sized { type_size T.row ≤ 16 }
     requires fills { length (primitive_rows numbers.now) ≡ length mask.now.bits * size }
-    requires few { length (primitive_rows numbers.now) ≤ 4294967295 }
+    requires few { length (primitive_rows numbers.now) ≤ max_rows }
     ensures blocks { IfOk result (λ kept. ForSome kept (λ column.
         blocks size (count_true mask.now.bits) (rows column) ≡
         select (blocks size (length mask.now.bits) (primitive_rows numbers.now)) mask.now.bits)) }
@@ -72,7 +74,7 @@ fn filter_numbers<T: ArrowPrimitive>(
         row_count column ≡ count_true mask.now.bits * size)) }
     ensures dtype { IfOk result (λ kept. ForSome kept (λ column. type_of column ≡ T.shape)) }
     ensures formed { IfOk result (λ kept. ForSome kept (λ column. IsWellFormed column)) }
-    ensures refusal { IfErr result (λ fault. fault ≡ PolarsError.OutOfMemory) }
+    ensures refusal { IfErr result IsOutOfMemory }
 {
     if numbers.validity.is_some() {
         return Ok(None);
@@ -100,7 +102,7 @@ fn filter_sized<T: ArrowPrimitive, const N: usize>(
     requires small { N ≤ 64 }
     requires sized { type_size T.row ≤ 16 }
     requires fills { length values.now ≡ length mask.now.bits * N }
-    requires few { length values.now ≤ 4294967295 }
+    requires few { length values.now ≤ max_rows }
     ensures blocks { IfOk result (λ kept. ForSome kept (λ column.
         blocks N (count_true mask.now.bits) (rows column) ≡
         select (blocks N (length mask.now.bits) (number_rows T.number values.now None))
@@ -109,7 +111,7 @@ fn filter_sized<T: ArrowPrimitive, const N: usize>(
         row_count column ≡ count_true mask.now.bits * N)) }
     ensures dtype { IfOk result (λ kept. ForSome kept (λ column. type_of column ≡ T.shape)) }
     ensures formed { IfOk result (λ kept. ForSome kept (λ column. IsWellFormed column)) }
-    ensures refusal { IfErr result (λ fault. fault ≡ PolarsError.OutOfMemory) }
+    ensures refusal { IfErr result IsOutOfMemory }
 {
     let (lists, _) = values.as_chunks::<N>();
     let kept = filter_arrays(alloc, lists, mask)?;

@@ -1,6 +1,8 @@
 //! Filters for columns of any type.
 
 ghost use Rattle.std.specs.Prelude.{◌≡◌, ◌≤◌, ◌+◌, All, length, map, IfOk, IfErr};
+ghost use Rattle.sel_bits.specs.Faults.{IsOutOfMemory};
+ghost use Rattle.sel_bits.specs.Limits.{max_rows};
 ghost use Rattle.sel_bits.specs.Bits.{count_true};
 ghost use Rattle.sel_arrow.specs.Columns.{null_rows, boolean_rows, primitive_rows, binview_rows, utf8view_rows};
 ghost use Rattle.sel_arrow.specs.Rows.{rows, type_of, IsField, IsWellFormed};
@@ -48,7 +50,7 @@ pub fn filter(alloc: Global, array: &ArrayRef, mask: &BooleanArray) -> PolarsRes
     ensures rows { IfOk result (λ kept. rows kept.column ≡
         select (rows array.now.column) (effective_mask (boolean_rows mask.now))) }
     ensures dtype { IfOk result (λ kept. type_of kept.column ≡ type_of array.now.column) }
-    ensures refusal { IfErr result (λ fault. fault ≡ PolarsError.OutOfMemory) }
+    ensures refusal { IfErr result IsOutOfMemory }
 {
     match &mask.validity {
         None => filter_with_bitmap(alloc, array, &mask.values),
@@ -73,7 +75,7 @@ pub fn filter_with_bitmap(alloc: Global, array: &ArrayRef, mask: &Bitmap) -> Pol
     ensures rows { IfOk result (λ kept. rows kept.column ≡
         select (rows array.now.column) mask.now.bits) }
     ensures dtype { IfOk result (λ kept. type_of kept.column ≡ type_of array.now.column) }
-    ensures refusal { IfErr result (λ fault. fault ≡ PolarsError.OutOfMemory) }
+    ensures refusal { IfErr result IsOutOfMemory }
 {
     if is_scattered(mask) {
         return filter_column(alloc, array.as_column(), mask);
@@ -106,7 +108,7 @@ fn is_scattered(mask: &Bitmap) -> bool {
 fn trimmed(mask: &Bitmap) -> PolarsResult<(usize, Bitmap)>
     ensures within { IfOk result (λ part. part.0 + length part.1.bits ≤ length mask.now.bits) }
     ensures kept { IfOk result (λ part. KeepsAll mask.now.bits part.0 part.1.bits) }
-    ensures refusal { IfErr result (λ fault. fault ≡ PolarsError.OutOfMemory) }
+    ensures refusal { IfErr result IsOutOfMemory }
 {
     let mut rest = mask.try_clone()?;
     let leading = rest.take_leading_zeros();
@@ -120,7 +122,7 @@ fn filter_trimmed(alloc: Global, array: ArrayRef, mask: &Bitmap) -> PolarsResult
     ensures rows { IfOk result (λ kept. rows kept.column ≡
         select (rows array.column) mask.now.bits) }
     ensures dtype { IfOk result (λ kept. type_of kept.column ≡ type_of array.column) }
-    ensures refusal { IfErr result (λ fault. fault ≡ PolarsError.OutOfMemory) }
+    ensures refusal { IfErr result IsOutOfMemory }
 {
     if mask.is_all_true() {
         return Ok(array);
@@ -142,7 +144,7 @@ fn filter_column(alloc: Global, column: &Column, mask: &Bitmap) -> PolarsResult<
     ensures rows { IfOk result (λ kept. rows kept.column ≡ select (rows column.now)
         mask.now.bits) }
     ensures dtype { IfOk result (λ kept. type_of kept.column ≡ type_of column.now) }
-    ensures refusal { IfErr result (λ fault. fault ≡ PolarsError.OutOfMemory) }
+    ensures refusal { IfErr result IsOutOfMemory }
 {
     match column {
         Column::Null(column) => Ok(filter_null(column, mask).into_ref()),
@@ -191,7 +193,7 @@ fn filter_struct(
         select (rows (Struct _count fields.now validity.now)) mask.now.bits) }
     ensures dtype { IfOk result (λ kept. type_of kept.column ≡
         type_of (Struct _count fields.now validity.now)) }
-    ensures refusal { IfErr result (λ fault. fault ≡ PolarsError.OutOfMemory) }
+    ensures refusal { IfErr result IsOutOfMemory }
 {
     let validity = filter_validity(alloc, validity.as_ref(), mask)?;
     let fields = filter_fields(alloc, fields, mask)?;
@@ -212,7 +214,7 @@ fn filter_fields(alloc: Global, columns: &[Column], mask: &Bitmap) -> PolarsResu
         map (λ column. select (rows column) mask.now.bits) columns.now) }
     ensures dtypes { IfOk result (λ kept. map type_of kept.items ≡ map type_of columns.now) }
     ensures fields { IfOk result (λ kept. All (IsField (count_true mask.now.bits)) kept.items) }
-    ensures refusal { IfErr result (λ fault. fault ≡ PolarsError.OutOfMemory) }
+    ensures refusal { IfErr result IsOutOfMemory }
 {
     let mut kept = Vec::with_capacity(alloc, columns.len())?;
     for column in columns {
@@ -232,7 +234,7 @@ fn filter_numbers<T: ArrowPrimitive>(
     ensures rows { IfOk result (λ kept. rows kept.column ≡
         select (primitive_rows column.now) mask.now.bits) }
     ensures dtype { IfOk result (λ kept. type_of kept.column ≡ T.shape) }
-    ensures refusal { IfErr result (λ fault. fault ≡ PolarsError.OutOfMemory) }
+    ensures refusal { IfErr result IsOutOfMemory }
 {
     Ok(filter_primitive(alloc, column, mask)?.into_ref())
 }
@@ -252,7 +254,7 @@ fn filter_lists(
     ensures rows { IfOk result (λ kept. rows kept.column ≡ select (rows column.now)
         mask.now.bits) }
     ensures dtype { IfOk result (λ kept. type_of kept.column ≡ type_of column.now) }
-    ensures refusal { IfErr result (λ fault. fault ≡ PolarsError.OutOfMemory) }
+    ensures refusal { IfErr result IsOutOfMemory }
 {
     let Some(child) = filter_child(alloc, values, size, mask)? else {
         return filter_runs(alloc, column, mask);
@@ -278,11 +280,11 @@ fn filter_lists(
 fn filter_runs(alloc: Global, column: &Column, mask: &Bitmap) -> PolarsResult<ArrayRef>
     requires formed { IsWellFormed column.now }
     requires long { length (rows column.now) ≡ length mask.now.bits }
-    requires few { length mask.now.bits ≤ 4294967295 }
+    requires few { length mask.now.bits ≤ max_rows }
     ensures rows { IfOk result (λ kept. rows kept.column ≡ select (rows column.now)
         mask.now.bits) }
     ensures dtype { IfOk result (λ kept. type_of kept.column ≡ type_of column.now) }
-    ensures refusal { IfErr result (λ fault. fault ≡ PolarsError.OutOfMemory) }
+    ensures refusal { IfErr result IsOutOfMemory }
 {
     let runs = runs_of_mask(alloc, mask)?;
     let kept = collect_one(alloc, column, &runs, mask.set_bits())?;
@@ -306,7 +308,7 @@ fn filter_boolean(alloc: Global, array: &BooleanArray, mask: &Bitmap) -> PolarsR
     requires { length (boolean_rows array.now) ≡ length mask.now.bits }
     ensures rows { IfOk result (λ kept. boolean_rows kept ≡
         select (boolean_rows array.now) mask.now.bits) }
-    ensures refusal { IfErr result (λ fault. fault ≡ PolarsError.OutOfMemory) }
+    ensures refusal { IfErr result IsOutOfMemory }
 {
     let (values, validity) = filter_bitmap_and_validity(
         alloc,
@@ -327,7 +329,7 @@ fn filter_primitive<T: ArrowPrimitive>(
     requires { length (primitive_rows array.now) ≡ length mask.now.bits }
     ensures rows { IfOk result (λ kept. primitive_rows kept ≡
         select (primitive_rows array.now) mask.now.bits) }
-    ensures refusal { IfErr result (λ fault. fault ≡ PolarsError.OutOfMemory) }
+    ensures refusal { IfErr result IsOutOfMemory }
 {
     let (values, validity) = filter_values_and_validity(
         alloc,
@@ -349,7 +351,7 @@ fn filter_views(
     requires { length (binview_rows array.now) ≡ length mask.now.bits }
     ensures rows { IfOk result (λ kept. binview_rows kept ≡
         select (binview_rows array.now) mask.now.bits) }
-    ensures refusal { IfErr result (λ fault. fault ≡ PolarsError.OutOfMemory) }
+    ensures refusal { IfErr result IsOutOfMemory }
 {
     let (views, validity) = filter_values_and_validity(
         alloc,
@@ -376,7 +378,7 @@ pub(crate) fn filter_texts(
     requires { length (utf8view_rows array.now) ≡ length mask.now.bits }
     ensures rows { IfOk result (λ kept. utf8view_rows kept ≡
         select (utf8view_rows array.now) mask.now.bits) }
-    ensures refusal { IfErr result (λ fault. fault ≡ PolarsError.OutOfMemory) }
+    ensures refusal { IfErr result IsOutOfMemory }
 {
     let bytes = filter_views(alloc, &array.bytes, mask)?;
     Ok(Utf8ViewArray { bytes })

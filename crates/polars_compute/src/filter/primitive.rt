@@ -2,12 +2,13 @@
 
 ghost use Rattle.std.specs.Prelude.{◌≡◌, length, IfOk, IfErr};
 ghost use Rattle.std.specs.Option.{option_copied, option_map};
+ghost use Rattle.sel_bits.specs.Faults.{IsOutOfMemory};
 ghost use Rattle.sel_arrow.specs.Masked.{Covers};
 ghost use Rattle.polars_compute.specs.Select.{select};
 
 use crate::filter::boolean::filter_validity;
 use sel_bits::bitmap::Bitmap;
-use sel_bits::faults::{PolarsError, PolarsResult};
+use sel_bits::faults::PolarsResult;
 pub use sel_filter::primitive::filter_values;
 use std::alloc::Global;
 
@@ -29,7 +30,7 @@ pub fn filter_values_and_validity<T: Copy>(
     ensures values { IfOk result (λ kept. kept.0.items ≡ select values.now mask.now.bits) }
     ensures validity { IfOk result (λ kept. option_map (λ v. v.bits) kept.1 ≡
         option_map (λ v. select v.bits mask.now.bits) (option_copied validity.entry)) }
-    ensures refusal { IfErr result (λ fault. fault ≡ PolarsError.OutOfMemory) }
+    ensures refusal { IfErr result IsOutOfMemory }
 {
     let kept = filter_values(alloc, values, mask)?;
     let kept_validity = filter_validity(alloc, validity, mask)?;

@@ -1,6 +1,7 @@
 //! Gather for binary view and string view columns.
 
 ghost use Rattle.std.specs.Prelude.{◌≡◌, IsTrue, length, IfOk, IfErr};
+ghost use Rattle.sel_bits.specs.Faults.{IsOutOfMemory};
 ghost use Rattle.sel_arrow.specs.Columns.{binview_rows, primitive_rows, utf8view_rows};
 ghost use Rattle.polars_compute.specs.Pick.{all_within, take_rows};
 
@@ -11,7 +12,7 @@ use sel_arrow::primitive::IdxArr;
 use sel_arrow::utf8view::Utf8ViewArray;
 use sel_arrow::view::View;
 use sel_bits::buffer::Buffer;
-use sel_bits::faults::{PolarsError, PolarsResult};
+use sel_bits::faults::PolarsResult;
 use std::alloc::Global;
 
 // The view for null slots: no bytes.
@@ -31,7 +32,7 @@ pub(crate) fn take_views(
     requires { IsTrue (all_within (length (binview_rows values.now)) (primitive_rows indices.now)) }
     ensures rows { IfOk result (λ taken. binview_rows taken ≡
         take_rows (binview_rows values.now) (primitive_rows indices.now)) }
-    ensures refusal { IfErr result (λ fault. fault ≡ PolarsError.OutOfMemory) }
+    ensures refusal { IfErr result IsOutOfMemory }
 {
     let views = take_values(alloc, values.views.as_slice(), indices, NO_BYTES)?;
     let validity = take_validity(alloc, &values.validity, indices)?;
@@ -54,7 +55,7 @@ pub(crate) fn take_texts(
         (primitive_rows indices.now)) }
     ensures rows { IfOk result (λ taken. utf8view_rows taken ≡
         take_rows (utf8view_rows values.now) (primitive_rows indices.now)) }
-    ensures refusal { IfErr result (λ fault. fault ≡ PolarsError.OutOfMemory) }
+    ensures refusal { IfErr result IsOutOfMemory }
 {
     let bytes = take_views(alloc, &values.bytes, indices)?;
     Ok(Utf8ViewArray { bytes })

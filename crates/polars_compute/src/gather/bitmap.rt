@@ -1,6 +1,7 @@
 //! Gather for bitmaps.
 
 ghost use Rattle.std.specs.Prelude.{◌≡◌, ◌+◌, ◌*◌, ◌<◌, ◌≤◌, IsTrue, length, take, drop, pos, [], ◌∷◌, map, false, slice_index_or, IfOk, IfErr};
+ghost use Rattle.sel_bits.specs.Faults.{IsOutOfMemory};
 ghost use Rattle.sel_bits.specs.Bits.{bits_from};
 ghost use Rattle.sel_bits.specs.Words.{word_of};
 ghost use Rattle.sel_arrow.specs.Columns.{primitive_rows};
@@ -10,7 +11,7 @@ ghost use Rattle.polars_compute.specs.Pick.{all_within, all_below, is_within, pi
 use sel_arrow::array::Array;
 use sel_arrow::primitive::IdxArr;
 use sel_bits::bitmap::Bitmap;
-use sel_bits::faults::{PolarsError, PolarsResult};
+use sel_bits::faults::PolarsResult;
 use sel_bits::packer::{BitPacker, MOST_BITS};
 use std::alloc::Global;
 
@@ -29,7 +30,7 @@ pub fn take_bitmap_unchecked(
     requires { IsTrue (all_below (length values.now.bits) indices.now) }
     ensures bits { IfOk result (λ taken. taken.bits ≡
         pick false (values.now.bits ∷ []) (map place_pick indices.now)) }
-    ensures refusal { IfErr result (λ fault. fault ≡ PolarsError.OutOfMemory) }
+    ensures refusal { IfErr result IsOutOfMemory }
 {
     let (bytes, shift, len) = values.as_slice();
     let mut taken = BitPacker::with_capacity(alloc, indices.len())?;
@@ -93,7 +94,7 @@ pub fn take_bitmap_nulls_unchecked(
     ensures bits { IfOk result (λ taken. taken.bits ≡
         pick (slice_index_or values.now.bits 0 false) (values.now.bits ∷ [])
         (map pick_of (primitive_rows indices.now))) }
-    ensures refusal { IfErr result (λ fault. fault ≡ PolarsError.OutOfMemory) }
+    ensures refusal { IfErr result IsOutOfMemory }
 {
     if indices.validity.is_none() {
         return take_bitmap_unchecked(alloc, values, indices.values.as_slice());

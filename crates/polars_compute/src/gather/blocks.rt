@@ -1,6 +1,7 @@
 //! Copies of blocks of values at indices.
 
 ghost use Rattle.std.specs.Prelude.{◌≡◌, ◌≤◌, ◌++◌, All, IsTrue, length, pos, IfOk, IfErr, OnOk};
+ghost use Rattle.sel_bits.specs.Faults.{IsOutOfMemory};
 ghost use Rattle.sel_arrow.specs.Columns.{primitive_rows};
 ghost use Rattle.sel_arrow.specs.Masked.{number_value};
 ghost use Rattle.polars_compute.specs.Blocks.{block_at, block_items, blocks_within, is_block_within};
@@ -27,7 +28,7 @@ pub(crate) fn take_block_values<T: Copy>(
         (blocks_within size (length values.now) (primitive_rows indices.now)) }
     ensures items { IfOk result (λ taken. taken.items ≡
         block_items size zero values.now (primitive_rows indices.now)) }
-    ensures refusal { IfErr result (λ fault. fault ≡ PolarsError.OutOfMemory) }
+    ensures refusal { IfErr result IsOutOfMemory }
 {
     match size {
         1 => take_sized::<T, 1>(alloc, values, indices, zero),
@@ -56,7 +57,7 @@ fn take_sized<T: Copy, const N: usize>(
     requires inside { IsTrue (blocks_within N (length values.now) (primitive_rows indices.now)) }
     ensures items { IfOk result (λ taken. taken.items ≡
         block_items N zero values.now (primitive_rows indices.now)) }
-    ensures refusal { IfErr result (λ fault. fault ≡ PolarsError.OutOfMemory) }
+    ensures refusal { IfErr result IsOutOfMemory }
 {
     let count = indices.len();
     let mut taken = Vec::with_capacity(alloc, count * N)?;
@@ -78,7 +79,7 @@ fn append_sized<T: Copy, const N: usize>(
     requires inside { IsTrue (is_block_within N (length values.now) (number_value pos index)) }
     ensures appended { OnOk result (taken.new.items ≡
         taken.old.items ++ block_at N zero values.now (number_value pos index)) }
-    ensures refusal { IfErr result (λ fault. fault ≡ PolarsError.OutOfMemory) }
+    ensures refusal { IfErr result IsOutOfMemory }
 {
     match index {
         None => {

@@ -1,6 +1,7 @@
 //! Gather for boolean columns.
 
 ghost use Rattle.std.specs.Prelude.{◌≡◌, IsTrue, length, IfOk, IfErr};
+ghost use Rattle.sel_bits.specs.Faults.{IsOutOfMemory};
 ghost use Rattle.sel_arrow.specs.Columns.{boolean_rows, primitive_rows};
 ghost use Rattle.polars_compute.specs.Pick.{all_within, take_rows};
 
@@ -8,7 +9,7 @@ use crate::gather::bitmap::take_bitmap_nulls_unchecked;
 use crate::gather::validity::take_validity;
 use sel_arrow::boolean::BooleanArray;
 use sel_arrow::primitive::IdxArr;
-use sel_bits::faults::{PolarsError, PolarsResult};
+use sel_bits::faults::PolarsResult;
 use std::alloc::Global;
 
 /// Returns the rows of `values` at `indices`; a null index gives a null row.
@@ -28,7 +29,7 @@ pub fn take_unchecked(
     requires { IsTrue (all_within (length (boolean_rows values.now)) (primitive_rows indices.now)) }
     ensures rows { IfOk result (λ taken. boolean_rows taken ≡
         take_rows (boolean_rows values.now) (primitive_rows indices.now)) }
-    ensures refusal { IfErr result (λ fault. fault ≡ PolarsError.OutOfMemory) }
+    ensures refusal { IfErr result IsOutOfMemory }
 {
     let bits = take_bitmap_nulls_unchecked(alloc, &values.values, indices)?;
     let validity = take_validity(alloc, &values.validity, indices)?;

@@ -1,6 +1,8 @@
 //! Gather for fixed-size list columns.
 
 ghost use Rattle.std.specs.Prelude.{◌≡◌, ◌+◌, ◌*◌, ◌^◌, ◌<◌, ◌≤◌, ◌++◌, None, length, pos, IsTrue, IfOk, IfErr, OnOk};
+ghost use Rattle.sel_bits.specs.Faults.{IsOutOfMemory};
+ghost use Rattle.sel_bits.specs.Limits.{max_rows};
 ghost use Rattle.sel_arrow.specs.Columns.{primitive_rows};
 ghost use Rattle.sel_arrow.specs.Masked.{number_value};
 ghost use Rattle.sel_arrow.specs.Rows.{rows, row_count, type_of, IsWellFormed};
@@ -50,7 +52,7 @@ pub fn take_blocks<T: Copy>(
     ensures source { out.new.source ≡ out.old.source }
     ensures beginning { IsBeginning out.new.items
         (out.old.items ++ block_items size zero out.old.source (primitive_rows indices.now)) }
-    ensures refusal { IfErr result (λ fault. fault ≡ PolarsError.OutOfMemory) }
+    ensures refusal { IfErr result IsOutOfMemory }
 {
     let count = indices.len();
     let source_len = out.source_len();
@@ -75,11 +77,11 @@ fn take_block<T: Copy>(
     requires inside { IsTrue
         (is_block_within size (length out.old.source) (number_value pos index)) }
     requires short { length out.old.source < 2 ^ 64 }
-    requires countable { out.old.copies ≤ 4294967295 }
+    requires countable { out.old.copies ≤ max_rows }
     ensures block { OnOk result (out.new ≡ after_block_copy size zero out.old
         (number_value pos index)) }
     ensures unchanged { IfErr result (λ _. out.new ≡ out.old) }
-    ensures refusal { IfErr result (λ fault. fault ≡ PolarsError.OutOfMemory) }
+    ensures refusal { IfErr result IsOutOfMemory }
 {
     match index {
         None => out.fill(zero, size),
@@ -176,10 +178,10 @@ pub(crate) fn take_unchecked(
 
 /// Returns `count * size`; `SizeLimit(Limit::Rows)` if that exceeds the row limit.
 fn rows_below(count: usize, size: usize) -> PolarsResult<usize>
-    requires few { count ≤ 4294967295 }
-    requires narrow { size ≤ 4294967295 }
+    requires few { count ≤ max_rows }
+    requires narrow { size ≤ max_rows }
     ensures below { IfOk result (λ below. below ≡ count * size) }
-    ensures few { IfOk result (λ below. below ≤ 4294967295) }
+    ensures few { IfOk result (λ below. below ≤ max_rows) }
     ensures refusal { IfErr result (IsLimitOrMemory (ExceedsRows (count * size))) }
 {
     let below = count * size;
@@ -209,7 +211,7 @@ fn take_level(
         (blocks_within size (row_count column.now) (primitive_rows indices.now)) }
     requires some { 0 < length (primitive_rows indices.now) }
     requires count { count ≡ length (primitive_rows indices.now) * size }
-    requires few { count ≤ 4294967295 }
+    requires few { count ≤ max_rows }
     ensures blocks { IfOk result
         (λ taken. HoldsBlocks size (rows column.now) (primitive_rows indices.now) (rows taken)) }
     ensures count { IfOk result (λ taken. row_count taken ≡ count) }
@@ -257,7 +259,7 @@ fn take_leaf<T: ArrowPrimitive>(
     requires bare { numbers.now.validity ≡ None }
     requires inside { IsTrue
         (blocks_within size (length (primitive_rows numbers.now)) (primitive_rows indices.now)) }
-    requires few { length (primitive_rows indices.now) * size ≤ 4294967295 }
+    requires few { length (primitive_rows indices.now) * size ≤ max_rows }
     ensures blocks { IfOk result
         (λ taken.
         HoldsBlocks size (primitive_rows numbers.now) (primitive_rows indices.now)
@@ -266,7 +268,7 @@ fn take_leaf<T: ArrowPrimitive>(
         (λ taken. row_count taken ≡ length (primitive_rows indices.now) * size) }
     ensures dtype { IfOk result (λ taken. type_of taken ≡ T.shape) }
     ensures formed { IfOk result (λ taken. IsWellFormed taken) }
-    ensures refusal { IfErr result (λ fault. fault ≡ PolarsError.OutOfMemory) }
+    ensures refusal { IfErr result IsOutOfMemory }
 {
     let zero = T::from_usize(0).unwrap_or(T::LEAST);
     let values = take_block_values(alloc, numbers.values.as_slice(), size, indices, zero)?;

@@ -2,6 +2,8 @@
 
 ghost use Rattle.std.specs.Prelude.{◌≡◌, ℕ, ◌+◌, ◌≤◌, ◌<◌, ◌≤ℤ◌, ◌∷◌, List, pos, map, take, drop, length, slice_index_or, IfOk, IfErr};
 ghost use Rattle.std.specs.Option.{option_copied};
+ghost use Rattle.sel_bits.specs.Faults.{IsOutOfMemory};
+ghost use Rattle.sel_bits.specs.Limits.{max_rows};
 ghost use Rattle.sel_bits.specs.Words.{word_of};
 ghost use Rattle.sel_arrow.specs.Columns.{binary_rows};
 ghost use Rattle.sel_arrow.specs.Masked.{bytes_value};
@@ -25,7 +27,7 @@ pub trait ByteRows {
     /// Returns the number of rows, at most 4,294,967,295.
     fn count(&self) -> usize
         ensures count { result ≡ length (rows self.now) }
-        ensures few { result ≤ 4294967295 };
+        ensures few { result ≤ max_rows };
 
     /// Returns the bytes of row `k`, or `None` if it is null.
     fn row(&self, k: usize) -> Option<&[u8]>
@@ -87,7 +89,7 @@ pub fn collect_bytes<O: Offset, S: ByteRows>(
 #[derive(Drop)]
 struct ReadRows<'a> {
     rows: &'a [Option<&'a [u8]>],
-    ghost few: { length rows.now ≤ 4294967295 },
+    ghost few: { length rows.now ≤ max_rows },
 }
 
 impl ByteRows for ReadRows<'_> {
@@ -106,8 +108,8 @@ impl ByteRows for ReadRows<'_> {
 fn read_rows<'a, S: ByteRows>(alloc: Global, source: &'a S) -> PolarsResult<Vec<Option<&'a [u8]>>>
     ensures rows { IfOk result (λ read.
         map (λ row. bytes_value (option_copied row)) read.items ≡ S.rows source.now) }
-    ensures few { IfOk result (λ read. length read.items ≤ 4294967295) }
-    ensures refusal { IfErr result (λ fault. fault ≡ PolarsError.OutOfMemory) }
+    ensures few { IfOk result (λ read. length read.items ≤ max_rows) }
+    ensures refusal { IfErr result IsOutOfMemory }
 {
     let mut read = Vec::with_capacity(alloc, source.count())?;
     for k in 0..source.count() {
@@ -170,7 +172,7 @@ fn collect_offsets<O: Offset, S: ByteRows>(alloc: Global, source: &S) -> PolarsR
     requires { pos (bytes_needed (S.rows source.now)) ≤ℤ O.number O.GREATEST }
     ensures offsets { IfOk result (λ offsets. map O.number offsets.items ≡
         map pos (0 ∷ ends_from 0 (S.rows source.now))) }
-    ensures refusal { IfErr result (λ fault. fault ≡ PolarsError.OutOfMemory) }
+    ensures refusal { IfErr result IsOutOfMemory }
 {
     let mut end: usize = 0;
     let mut offsets = Vec::with_capacity(alloc, source.count() + 1)?;
@@ -197,7 +199,7 @@ fn offset_of<O: Offset>(n: usize) -> O
 fn collect_joined<S: ByteRows>(alloc: Global, source: &S, count: usize) -> PolarsResult<Vec<u8>>
     ensures bytes { IfOk result (λ bytes. bytes.items ≡ joined_bytes (S.rows source.now)) }
     ensures few { IfOk result (λ bytes. length bytes.items ≤ 9223372036854775807) }
-    ensures refusal { IfErr result (λ fault. fault ≡ PolarsError.OutOfMemory) }
+    ensures refusal { IfErr result IsOutOfMemory }
 {
     let mut bytes = Vec::with_capacity(alloc, count)?;
     for k in 0..source.count() {
@@ -212,8 +214,8 @@ fn collect_joined<S: ByteRows>(alloc: Global, source: &S, count: usize) -> Polar
 fn collect_validity<S: ByteRows>(alloc: Global, source: &S) -> PolarsResult<Bitmap>
     ensures bits { IfOk result (λ validity. validity.bits ≡ validities (S.rows source.now)) }
     ensures rows { IfOk result (λ _. AllBytesRows (S.rows source.now)) }
-    ensures few { IfOk result (λ _. length (S.rows source.now) ≤ 4294967295) }
-    ensures refusal { IfErr result (λ fault. fault ≡ PolarsError.OutOfMemory) }
+    ensures few { IfOk result (λ _. length (S.rows source.now) ≤ max_rows) }
+    ensures refusal { IfErr result IsOutOfMemory }
 {
     let count = source.count();
     let mut validity = BitPacker::with_capacity(alloc, count)?;

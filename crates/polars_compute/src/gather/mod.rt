@@ -1,6 +1,7 @@
 //! Gather for columns of any type.
 
 ghost use Rattle.std.specs.Prelude.{◌≡◌, ◌≤◌, ◌<◌, All, length, map, slice_index_or, IsTrue, IfOk, IfErr};
+ghost use Rattle.sel_bits.specs.Limits.{max_rows};
 ghost use Rattle.sel_arrow.specs.Columns.{null_rows, primitive_rows};
 ghost use Rattle.sel_arrow.specs.Rows.{rows, type_of, IsField, IsWellFormed};
 ghost use Rattle.sel_arrow.specs.declared.column.Column.{Struct};
@@ -267,7 +268,7 @@ pub fn blocks_in_bounds(indices: &IdxArr, size: usize, len: usize) -> bool
 #[tactic(auto, using(crate::proofs::Selects::kept_columns))]
 fn row_count<T: NativeType>(column: &PrimitiveArray<T>) -> usize
     ensures count { result ≡ length (primitive_rows column.now) }
-    ensures few { result ≤ 4294967295 }
+    ensures few { result ≤ max_rows }
 {
     column.values().len()
 }

@@ -1,6 +1,7 @@
 //! Gather for primitive columns.
 
 ghost use Rattle.std.specs.Prelude.{◌≡◌, ◌<◌, All, IsTrue, length, pos, [], ◌∷◌, map, slice_index_or, IfOk, IfErr};
+ghost use Rattle.sel_bits.specs.Faults.{IsOutOfMemory};
 ghost use Rattle.sel_arrow.specs.Columns.{primitive_rows};
 ghost use Rattle.sel_arrow.specs.Masked.{number_value};
 ghost use Rattle.polars_compute.specs.Pick.{all_within, is_within, take_rows, pick, found, pick_of};
@@ -9,7 +10,7 @@ use crate::gather::validity::take_validity;
 use sel_arrow::array::Array;
 use sel_arrow::primitive::{IdxArr, PrimitiveArray};
 use sel_bits::buffer::Buffer;
-use sel_bits::faults::{PolarsError, PolarsResult};
+use sel_bits::faults::PolarsResult;
 use sel_bits::native::NativeType;
 use std::alloc::Global;
 
@@ -30,7 +31,7 @@ pub fn take_primitive_unchecked<T: NativeType>(
     requires { IsTrue (all_within (length (primitive_rows arr.now)) (primitive_rows indices.now)) }
     ensures rows { IfOk result (λ taken. primitive_rows taken ≡
         take_rows (primitive_rows arr.now) (primitive_rows indices.now)) }
-    ensures refusal { IfErr result (λ fault. fault ≡ PolarsError.OutOfMemory) }
+    ensures refusal { IfErr result IsOutOfMemory }
 {
     let values = take_values(alloc, arr.values.as_slice(), indices, T::LEAST)?;
     let validity = take_validity(alloc, &arr.validity, indices)?;
@@ -48,7 +49,7 @@ pub(crate) fn take_values<T: Copy>(
     requires { IsTrue (all_within (length values.now) (primitive_rows indices.now)) }
     ensures items { IfOk result (λ taken. taken.items ≡
         pick filler (values.now ∷ []) (map pick_of (primitive_rows indices.now))) }
-    ensures refusal { IfErr result (λ fault. fault ≡ PolarsError.OutOfMemory) }
+    ensures refusal { IfErr result IsOutOfMemory }
 {
     if indices.validity.is_none() {
         return take_places(alloc, values, indices.values.as_slice(), filler);
@@ -70,7 +71,7 @@ fn take_places<T: Copy>(
     requires { All (λ place. place < length values.now) places.now }
     ensures items { IfOk result (λ taken. taken.items ≡
         map (λ place. slice_index_or values.now place filler) places.now) }
-    ensures refusal { IfErr result (λ fault. fault ≡ PolarsError.OutOfMemory) }
+    ensures refusal { IfErr result IsOutOfMemory }
 {
     let mut taken = Vec::with_capacity(alloc, places.len())?;
     for place in places {

@@ -2,6 +2,7 @@
 
 ghost use Rattle.std.specs.Prelude.{◌≡◌, IsTrue, length, map, IfOk, IfErr};
 ghost use Rattle.std.specs.Option.{ForSome};
+ghost use Rattle.sel_bits.specs.Faults.{IsOutOfMemory};
 ghost use Rattle.sel_arrow.specs.Columns.{primitive_rows};
 ghost use Rattle.sel_runs.specs.Validity.{bits_for};
 ghost use Rattle.polars_compute.specs.Pick.{all_within, pick_of};
@@ -12,7 +13,7 @@ use crate::runs::Taken;
 use sel_arrow::array::Array;
 use sel_arrow::primitive::{IdxArr, PrimitiveArray};
 use sel_bits::bitmap::Bitmap;
-use sel_bits::faults::{PolarsError, PolarsResult};
+use sel_bits::faults::PolarsResult;
 use sel_runs::gather::gather_bits;
 use sel_runs::plan::Walk;
 use std::alloc::Global;
@@ -30,7 +31,7 @@ pub(crate) fn take_validity(
         (λ v. IsTrue (all_within (length v.bits) (primitive_rows indices.now))) }
     ensures bits { IfOk result (λ taken. bits_for (length (primitive_rows indices.now)) taken ≡
         map (valid_pick validity.now) (map pick_of (primitive_rows indices.now))) }
-    ensures refusal { IfErr result (λ fault. fault ≡ PolarsError.OutOfMemory) }
+    ensures refusal { IfErr result IsOutOfMemory }
 {
     if validity.is_none() {
         return match &indices.validity {
@@ -52,7 +53,7 @@ pub(crate) fn take_bits(
         (λ v. IsTrue (all_within (length v.bits) (primitive_rows indices.now))) }
     ensures bits { IfOk result (λ taken. taken.bits ≡
         map (valid_pick validity.now) (map pick_of (primitive_rows indices.now))) }
-    ensures refusal { IfErr result (λ fault. fault ≡ PolarsError.OutOfMemory) }
+    ensures refusal { IfErr result IsOutOfMemory }
 {
     if let Some(bits) = validity {
         if indices.validity.is_none() {
@@ -82,7 +83,7 @@ pub(crate) fn live_indices(
     ensures bits { IfOk result (λ live.
         bits_for (length (primitive_rows indices.now)) live.validity ≡
         map (valid_pick validity.now) (map pick_of (primitive_rows indices.now))) }
-    ensures refusal { IfErr result (λ fault. fault ≡ PolarsError.OutOfMemory) }
+    ensures refusal { IfErr result IsOutOfMemory }
 {
     let validity = take_validity(alloc, validity, indices)?;
     let values = indices.values.try_clone()?;

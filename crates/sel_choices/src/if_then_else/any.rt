@@ -1,6 +1,7 @@
 //! If-then-else for columns of any type.
 
 ghost use Rattle.std.specs.Prelude.{◌≡◌, ◌≤◌, ◌∷◌, [], length, IfOk, IfErr, IfSome};
+ghost use Rattle.sel_bits.specs.Limits.{max_rows};
 ghost use Rattle.sel_arrow.specs.Rows.{rows, type_of};
 ghost use Rattle.sel_arrow.specs.Value.{Null};
 ghost use Rattle.sel_choices.specs.Choose.{choose, broadcast_true, broadcast_false, broadcast_both};
@@ -139,7 +140,7 @@ pub fn if_then_else_any_broadcast_both(
     requires alike { type_of if_true.now.column ≡ type_of if_false.now.column }
     requires true_side { length (rows if_true.now.column) ≡ 1 }
     requires false_side { length (rows if_false.now.column) ≡ 1 }
-    requires few { length mask.now.bits ≤ 4294967295 }
+    requires few { length mask.now.bits ≤ max_rows }
     ensures rows { IfOk result (λ chosen. rows chosen.column ≡
         broadcast_both mask.now.bits (first_row (rows if_true.now.column))
         (first_row (rows if_false.now.column))) }
@@ -171,7 +172,7 @@ fn choice(
         (length mask.now.bits) }
     requires false_side { SideFits false_column (length (rows if_false.now.column))
         (length mask.now.bits) }
-    requires few { length mask.now.bits ≤ 4294967295 }
+    requires few { length mask.now.bits ≤ max_rows }
     ensures rows { IfOk result (λ chosen. rows chosen.column ≡
         chosen_rows true_column false_column mask.now.bits (rows if_true.now.column)
         (rows if_false.now.column)) }
@@ -201,7 +202,7 @@ fn null_choice(
     if_false: &ArrayRef,
 ) -> PolarsResult<ArrayRef>
     requires alike { type_of if_true.now.column ≡ type_of if_false.now.column }
-    requires few { length mask.now.bits ≤ 4294967295 }
+    requires few { length mask.now.bits ≤ max_rows }
     ensures rows { IfOk result (λ chosen. rows chosen.column ≡
         broadcast_both mask.now.bits Null Null) }
     ensures dtype { IfOk result (λ chosen. type_of chosen.column ≡ type_of if_true.now.column) }
@@ -236,7 +237,7 @@ fn word_choice(
         (length mask.now.bits) }
     requires false_side { SideFits false_column (length (rows if_false.now.column))
         (length mask.now.bits) }
-    requires few { length mask.now.bits ≤ 4294967295 }
+    requires few { length mask.now.bits ≤ max_rows }
     ensures rows { IfOk result (λ made. IfSome made (λ chosen. rows chosen.column ≡
         chosen_rows true_column false_column mask.now.bits (rows if_true.now.column)
         (rows if_false.now.column))) }
@@ -302,7 +303,7 @@ fn word_choice(
 // Returns the number of data buffers of a view column; 0 for any other column.
 fn buffers_in(column: &Column) -> usize
     ensures count { result ≡ buffer_count column.now }
-    ensures few { result ≤ 4294967295 }
+    ensures few { result ≤ max_rows }
 {
     match column {
         Column::BinaryView(array) => array.buffers.len(),
@@ -326,7 +327,7 @@ pub(crate) fn picked_choice(
         (length mask.now.bits) }
     requires false_side { SideFits false_column (length (rows if_false.now.column))
         (length mask.now.bits) }
-    requires few { length mask.now.bits ≤ 4294967295 }
+    requires few { length mask.now.bits ≤ max_rows }
     ensures rows { IfOk result (λ chosen. rows chosen.column ≡
         chosen_rows true_column false_column mask.now.bits (rows if_true.now.column)
         (rows if_false.now.column)) }
@@ -354,7 +355,7 @@ struct MaskPlaces<'a> {
     mask: &'a Bitmap,
     true_column: bool,
     false_column: bool,
-    ghost few: { length mask.now.bits ≤ 4294967295 },
+    ghost few: { length mask.now.bits ≤ max_rows },
 }
 
 impl Places for MaskPlaces<'_> {
@@ -389,7 +390,7 @@ impl Places for MaskPlaces<'_> {
 // Returns the row reference that bit `i` of the mask gives.
 #[inline(always)]
 fn pick_by(bit: bool, true_column: bool, false_column: bool, i: usize) -> Option<(u32, u32)>
-    requires { i ≤ 4294967295 }
+    requires { i ≤ max_rows }
     ensures { result ≡ bit_pick true_column false_column bit i }
 {
     if bit {
@@ -402,7 +403,7 @@ fn pick_by(bit: bool, true_column: bool, false_column: bool, i: usize) -> Option
 // Returns the row that position `i` takes: `i` of a column, 0 of a scalar.
 #[inline(always)]
 fn place_of(is_column: bool, i: usize) -> u32
-    requires { i ≤ 4294967295 }
+    requires { i ≤ max_rows }
     ensures { result ≡ place_on is_column i }
 {
     if is_column { i as u32 } else { 0 }

@@ -2,6 +2,7 @@
 
 ghost use Rattle.std.specs.Prelude.{◌≡◌, ◌≤◌, ◌++◌, length, max, IfOk, IfErr};
 ghost use Rattle.std.specs.Vec.{vec_items};
+ghost use Rattle.sel_bits.specs.Limits.{max_buffer_bytes};
 ghost use Rattle.sel_arrow.specs.Columns.{binview_rows};
 ghost use Rattle.sel_arrow.specs.DataType.{shape_of};
 ghost use Rattle.sel_arrow.specs.Shape.{of_binary_view};
@@ -77,7 +78,7 @@ impl IfThenElseKernel for BinaryViewArray {
             (Bytes (vec_items if_true.now)) (binview_rows if_false.now)) }
         ensures buffers { IfOk result (λ chosen. binview_buffers chosen ≡
             binview_buffers if_false.now ++ scalar_buffers (vec_items if_true.now)) }
-        ensures bytes { IfOk result (λ _. length (vec_items if_true.now) ≤ 4294967295) }
+        ensures bytes { IfOk result (λ _. length (vec_items if_true.now) ≤ max_buffer_bytes) }
         ensures within { IfOk result
             (λ _. ExceedsNone (exceeded_binview (scalar if_true.now) (column if_false.now)
             (broadcast_true mask.now.bits (Bytes (vec_items if_true.now))
@@ -101,7 +102,7 @@ impl IfThenElseKernel for BinaryViewArray {
             (binview_rows if_true.now) (Bytes (vec_items if_false.now))) }
         ensures buffers { IfOk result (λ chosen. binview_buffers chosen ≡
             binview_buffers if_true.now ++ scalar_buffers (vec_items if_false.now)) }
-        ensures bytes { IfOk result (λ _. length (vec_items if_false.now) ≤ 4294967295) }
+        ensures bytes { IfOk result (λ _. length (vec_items if_false.now) ≤ max_buffer_bytes) }
         ensures within { IfOk result
             (λ _. ExceedsNone (exceeded_binview (column if_true.now) (scalar if_false.now)
             (broadcast_false mask.now.bits (binview_rows if_true.now)
@@ -128,7 +129,7 @@ impl IfThenElseKernel for BinaryViewArray {
         ensures buffers { IfOk result (λ chosen. binview_buffers chosen ≡
             scalar_buffers (vec_items if_true.now) ++ scalar_buffers (vec_items if_false.now)) }
         ensures bytes { IfOk result (λ _. max (length (vec_items if_true.now))
-            (length (vec_items if_false.now)) ≤ 4294967295) }
+            (length (vec_items if_false.now)) ≤ max_buffer_bytes) }
         ensures within { IfOk result
             (λ _. ExceedsNone (exceeded_binview (scalar if_true.now) (scalar if_false.now)
             (broadcast_both mask.now.bits (Bytes (vec_items if_true.now))

@@ -1,6 +1,7 @@
 //! If-then-else for boolean columns, by the words of their bitmaps.
 
 ghost use Rattle.std.specs.Prelude.{◌≡◌, length, IfOk, IfErr};
+ghost use Rattle.sel_bits.specs.Faults.{IsOutOfMemory};
 ghost use Rattle.sel_choices.specs.Choose.{broadcast_both, broadcast_true, broadcast_false};
 
 use crate::if_then_else::IfThenElseKernel;
@@ -95,7 +96,7 @@ fn value_or_bits(
     requires { length if_false.now.bits ≡ length mask.now.bits }
     ensures bits { IfOk result (λ chosen. chosen.bits ≡
         broadcast_true mask.now.bits if_true if_false.now.bits) }
-    ensures refusal { IfErr result (λ fault. fault ≡ PolarsError.OutOfMemory) }
+    ensures refusal { IfErr result IsOutOfMemory }
 {
     if if_true {
         if_false.or(alloc, mask)
@@ -115,7 +116,7 @@ fn bits_or_value(
     requires { length if_true.now.bits ≡ length mask.now.bits }
     ensures bits { IfOk result (λ chosen. chosen.bits ≡
         broadcast_false mask.now.bits if_true.now.bits if_false) }
-    ensures refusal { IfErr result (λ fault. fault ≡ PolarsError.OutOfMemory) }
+    ensures refusal { IfErr result IsOutOfMemory }
 {
     if if_false {
         if_true.or_not(alloc, mask)
@@ -134,7 +135,7 @@ fn one_of_values(
 ) -> PolarsResult<Bitmap>
     ensures bits { IfOk result (λ chosen. chosen.bits ≡
         broadcast_both mask.now.bits if_true if_false) }
-    ensures refusal { IfErr result (λ fault. fault ≡ PolarsError.OutOfMemory) }
+    ensures refusal { IfErr result IsOutOfMemory }
 {
     match (if_true, if_false) {
         (false, false) => Bitmap::new_zeroed(alloc, mask.len()),

@@ -1,6 +1,8 @@
 //! If-then-else by the words of the mask, for columns of any type that has such a kernel.
 
 ghost use Rattle.std.specs.Prelude.{◌≡◌, ◌≢◌, ◌≤◌, ◌+◌, ◌∷◌, [], length, true, IfOk, IfErr, IfSome};
+ghost use Rattle.sel_bits.specs.Faults.{IsOutOfMemory};
+ghost use Rattle.sel_bits.specs.Limits.{max_buffers, max_rows};
 ghost use Rattle.sel_arrow.specs.Masked.{hidden};
 ghost use Rattle.sel_arrow.specs.Rows.{rows as column_rows, type_of};
 ghost use Rattle.sel_arrow.specs.Value.{Null};
@@ -12,7 +14,7 @@ ghost use Rattle.sel_runs.specs.Need.{buffer_count, exceeded_taken, ExceedsNone}
 use sel_arrow::array::Array;
 use sel_arrow::array_ref::ArrayRef;
 use sel_bits::bitmap::Bitmap;
-use sel_bits::faults::{PolarsError, PolarsResult};
+use sel_bits::faults::PolarsResult;
 use std::alloc::Global;
 
 /// Columns with if-then-else kernels by the words of the mask. The row of a column of one row can
@@ -29,7 +31,7 @@ pub(crate) trait WordKernel: Array + Drop {
             (λ array. Self.shape array ≡ type_of column.now.column)) }
         ensures buffers { IfOk result (λ found. IfSome found
             (λ array. first_count (Self.held array) ≤ buffer_count column.now.column)) }
-        ensures refusal { IfErr result (λ fault. fault ≡ PolarsError.OutOfMemory) };
+        ensures refusal { IfErr result IsOutOfMemory };
 
     /// Returns the if-then-else of two columns.
     fn choose_columns(
@@ -42,11 +44,11 @@ pub(crate) trait WordKernel: Array + Drop {
         requires false_side { length (Self.rows if_false.now) ≡ length mask.now.bits }
         requires alike { Self.shape if_true.now ≡ Self.shape if_false.now }
         requires room { first_count (Self.held if_true.now)
-            + first_count (Self.held if_false.now) ≤ 4294967295 }
+            + first_count (Self.held if_false.now) ≤ max_buffers }
         ensures rows { IfOk result (λ chosen. Self.rows chosen ≡
             choose mask.now.bits (Self.rows if_true.now) (Self.rows if_false.now)) }
         ensures dtype { IfOk result (λ chosen. Self.shape chosen ≡ Self.shape if_true.now) }
-        ensures refusal { IfErr result (λ fault. fault ≡ PolarsError.OutOfMemory) };
+        ensures refusal { IfErr result IsOutOfMemory };
 
     /// Returns the if-then-else of a row that is not null and a column.
     fn choose_row_or_column(
@@ -60,11 +62,11 @@ pub(crate) trait WordKernel: Array + Drop {
         requires false_side { length (Self.rows if_false.now) ≡ length mask.now.bits }
         requires alike { Self.shape if_true.now ≡ Self.shape if_false.now }
         requires room { first_count (Self.held if_true.now)
-            + first_count (Self.held if_false.now) ≤ 4294967295 }
+            + first_count (Self.held if_false.now) ≤ max_buffers }
         ensures rows { IfOk result (λ chosen. Self.rows chosen ≡ broadcast_true mask.now.bits
             (first_row (Self.rows if_true.now)) (Self.rows if_false.now)) }
         ensures dtype { IfOk result (λ chosen. Self.shape chosen ≡ Self.shape if_true.now) }
-        ensures refusal { IfErr result (λ fault. fault ≡ PolarsError.OutOfMemory) };
+        ensures refusal { IfErr result IsOutOfMemory };
 
     /// Returns the if-then-else of a column and a row that is not null.
     fn choose_column_or_row(
@@ -78,11 +80,11 @@ pub(crate) trait WordKernel: Array + Drop {
         requires valid { first_row (Self.rows if_false.now) ≢ Null }
         requires alike { Self.shape if_true.now ≡ Self.shape if_false.now }
         requires room { first_count (Self.held if_true.now)
-            + first_count (Self.held if_false.now) ≤ 4294967295 }
+            + first_count (Self.held if_false.now) ≤ max_buffers }
         ensures rows { IfOk result (λ chosen. Self.rows chosen ≡ broadcast_false mask.now.bits
             (Self.rows if_true.now) (first_row (Self.rows if_false.now))) }
         ensures dtype { IfOk result (λ chosen. Self.shape chosen ≡ Self.shape if_true.now) }
-        ensures refusal { IfErr result (λ fault. fault ≡ PolarsError.OutOfMemory) };
+        ensures refusal { IfErr result IsOutOfMemory };
 
     /// Returns the if-then-else of two rows that are not null.
     fn choose_rows(
@@ -96,11 +98,11 @@ pub(crate) trait WordKernel: Array + Drop {
         requires false_one { length (Self.rows if_false.now) ≡ 1 }
         requires false_valid { first_row (Self.rows if_false.now) ≢ Null }
         requires alike { Self.shape if_true.now ≡ Self.shape if_false.now }
-        requires few { length mask.now.bits ≤ 4294967295 }
+        requires few { length mask.now.bits ≤ max_rows }
         ensures rows { IfOk result (λ chosen. Self.rows chosen ≡ broadcast_both mask.now.bits
             (first_row (Self.rows if_true.now)) (first_row (Self.rows if_false.now))) }
         ensures dtype { IfOk result (λ chosen. Self.shape chosen ≡ Self.shape if_true.now) }
-        ensures refusal { IfErr result (λ fault. fault ≡ PolarsError.OutOfMemory) };
+        ensures refusal { IfErr result IsOutOfMemory };
 
     /// Returns the column with null rows where the bit of `keep` is not set.
     fn nulled(self, alloc: Global, keep: &Bitmap) -> PolarsResult<Self>
@@ -108,7 +110,7 @@ pub(crate) trait WordKernel: Array + Drop {
         ensures rows { IfOk result (λ shown. Self.rows shown ≡
             hidden keep.now.bits (Self.rows self)) }
         ensures dtype { IfOk result (λ shown. Self.shape shown ≡ Self.shape self) }
-        ensures refusal { IfErr result (λ fault. fault ≡ PolarsError.OutOfMemory) };
+        ensures refusal { IfErr result IsOutOfMemory };
 }
 
 /// Returns the if-then-else of columns that are arrays of type `A`. Returns none for another type,
@@ -127,9 +129,9 @@ pub(crate) fn choose_by_words<A: WordKernel>(
         (length mask.now.bits) }
     requires false_side { SideFits false_column (length (column_rows if_false.now.column))
         (length mask.now.bits) }
-    requires few { length mask.now.bits ≤ 4294967295 }
+    requires few { length mask.now.bits ≤ max_rows }
     requires room { buffer_count if_true.now.column + buffer_count if_false.now.column ≤
-        4294967295 }
+        max_buffers }
     ensures rows { IfOk result (λ made. IfSome made (λ chosen. column_rows chosen.column ≡
         chosen_rows true_column false_column mask.now.bits (column_rows if_true.now.column)
         (column_rows if_false.now.column))) }
@@ -138,7 +140,7 @@ pub(crate) fn choose_by_words<A: WordKernel>(
     ensures within { IfOk result (λ _. ExceedsNone (exceeded_taken (type_of if_true.now.column)
         (if_true.now.column ∷ if_false.now.column ∷ []) (chosen_rows true_column false_column
         mask.now.bits (column_rows if_true.now.column) (column_rows if_false.now.column)))) }
-    ensures refusal { IfErr result (λ fault. fault ≡ PolarsError.OutOfMemory) }
+    ensures refusal { IfErr result IsOutOfMemory }
 {
     let Some(first) = A::from_any(alloc, if_true)? else {
         return Ok(None);
@@ -166,14 +168,14 @@ fn choose_arrays<A: WordKernel>(
         (length mask.now.bits) }
     requires false_side { SideFits false_column (length (A.rows if_false.now))
         (length mask.now.bits) }
-    requires few { length mask.now.bits ≤ 4294967295 }
+    requires few { length mask.now.bits ≤ max_rows }
     requires room { first_count (A.held if_true.now) + first_count (A.held if_false.now) ≤
-        4294967295 }
+        max_buffers }
     ensures rows { IfOk result (λ made. IfSome made (λ chosen. A.rows chosen ≡ chosen_rows
         true_column false_column mask.now.bits (A.rows if_true.now) (A.rows if_false.now))) }
     ensures dtype { IfOk result (λ made. IfSome made (λ chosen.
         A.shape chosen ≡ A.shape if_true.now)) }
-    ensures refusal { IfErr result (λ fault. fault ≡ PolarsError.OutOfMemory) }
+    ensures refusal { IfErr result IsOutOfMemory }
 {
     if true_column {
         if false_column {
@@ -198,11 +200,11 @@ fn row_or_column<A: WordKernel>(
     requires false_side { length (A.rows if_false.now) ≡ length mask.now.bits }
     requires alike { A.shape if_true.now ≡ A.shape if_false.now }
     requires room { first_count (A.held if_true.now) + first_count (A.held if_false.now) ≤
-        4294967295 }
+        max_buffers }
     ensures rows { IfOk result (λ chosen. A.rows chosen ≡ broadcast_true mask.now.bits
         (first_row (A.rows if_true.now)) (A.rows if_false.now)) }
     ensures dtype { IfOk result (λ chosen. A.shape chosen ≡ A.shape if_true.now) }
-    ensures refusal { IfErr result (λ fault. fault ≡ PolarsError.OutOfMemory) }
+    ensures refusal { IfErr result IsOutOfMemory }
 {
     if if_true.has_nulls() {
         let others = mask.not(alloc)?;
@@ -222,11 +224,11 @@ fn column_or_row<A: WordKernel>(
     requires one { length (A.rows if_false.now) ≡ 1 }
     requires alike { A.shape if_true.now ≡ A.shape if_false.now }
     requires room { first_count (A.held if_true.now) + first_count (A.held if_false.now) ≤
-        4294967295 }
+        max_buffers }
     ensures rows { IfOk result (λ chosen. A.rows chosen ≡ broadcast_false mask.now.bits
         (A.rows if_true.now) (first_row (A.rows if_false.now))) }
     ensures dtype { IfOk result (λ chosen. A.shape chosen ≡ A.shape if_true.now) }
-    ensures refusal { IfErr result (λ fault. fault ≡ PolarsError.OutOfMemory) }
+    ensures refusal { IfErr result IsOutOfMemory }
 {
     if if_false.has_nulls() {
         return if_true.try_clone(alloc)?.nulled(alloc, mask);
@@ -245,12 +247,12 @@ fn row_or_row<A: WordKernel>(
     requires true_one { length (A.rows if_true.now) ≡ 1 }
     requires false_one { length (A.rows if_false.now) ≡ 1 }
     requires alike { A.shape if_true.now ≡ A.shape if_false.now }
-    requires few { length mask.now.bits ≤ 4294967295 }
+    requires few { length mask.now.bits ≤ max_rows }
     ensures rows { IfOk result (λ made. IfSome made (λ chosen. A.rows chosen ≡ broadcast_both
         mask.now.bits (first_row (A.rows if_true.now)) (first_row (A.rows if_false.now)))) }
     ensures dtype { IfOk result (λ made. IfSome made (λ chosen.
         A.shape chosen ≡ A.shape if_true.now)) }
-    ensures refusal { IfErr result (λ fault. fault ≡ PolarsError.OutOfMemory) }
+    ensures refusal { IfErr result IsOutOfMemory }
 {
     if !if_true.has_nulls() {
         if !if_false.has_nulls() {

@@ -1,6 +1,8 @@
 //! If-then-else of columns of lists, by row references.
 
 ghost use Rattle.std.specs.Prelude.{◌≡◌, ◌≤◌, ◌∷◌, [], Bool, true, length, IfOk, IfErr};
+ghost use Rattle.sel_bits.specs.Faults.{IsOutOfMemory};
+ghost use Rattle.sel_bits.specs.Limits.{max_rows};
 ghost use Rattle.sel_arrow.specs.Nested.{list_of};
 ghost use Rattle.sel_arrow.specs.Rows.{rows as column_rows, type_of};
 ghost use Rattle.sel_arrow.specs.Shape.{Shape, is_list_shape, is_block_shape, of_large_list, of_fixed_size_list};
@@ -46,7 +48,7 @@ pub(crate) trait Lists: Array + Drop {
         ensures kind { IfOk result (λ lists. is_kind (type_of lists.column) ≡ true) }
         ensures below { IfOk result (λ lists.
             IsBelow (type_of lists.column) lists.column (child self.now)) }
-        ensures refusal { IfErr result (λ fault. fault ≡ PolarsError.OutOfMemory) };
+        ensures refusal { IfErr result IsOutOfMemory };
 
     /// Returns a column with one list, which has these entries and shares their buffers.
     fn of_one(alloc: Global, entries: &ArrayRef) -> PolarsResult<ArrayRef>
@@ -57,7 +59,7 @@ pub(crate) trait Lists: Array + Drop {
         ensures kind { IfOk result (λ lists. is_kind (type_of lists.column) ≡ true) }
         ensures below { IfOk result (λ lists.
             IsBelow (type_of lists.column) lists.column entries.now.column) }
-        ensures refusal { IfErr result (λ fault. fault ≡ PolarsError.OutOfMemory) };
+        ensures refusal { IfErr result IsOutOfMemory };
 }
 
 impl Lists for ListArray<i64> {
@@ -247,7 +249,7 @@ fn choose_shared<L: Lists>(
         (length mask.now.bits) }
     requires false_side { SideFits false_column (length (column_rows if_false.column))
         (length mask.now.bits) }
-    requires few { length mask.now.bits ≤ 4294967295 }
+    requires few { length mask.now.bits ≤ max_rows }
     ensures rows { IfOk result (λ chosen. L.rows chosen ≡ chosen_rows true_column false_column
         mask.now.bits (column_rows if_true.column) (column_rows if_false.column)) }
     ensures dtype { IfOk result (λ chosen. L.shape chosen ≡ type_of if_true.column) }

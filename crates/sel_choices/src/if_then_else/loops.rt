@@ -1,6 +1,7 @@
 //! If-then-else over slices of any length, block by block over the words of a mask.
 
 ghost use Rattle.std.specs.Prelude.{◌≡◌, ◌≤◌, ◌<◌, ◌+◌, ◌/◌, List, length, take, drop, replicate, IfOk, IfErr, OnOk};
+ghost use Rattle.sel_bits.specs.Faults.{IsOutOfMemory};
 ghost use Rattle.sel_bits.specs.Words.{bits};
 ghost use Rattle.sel_choices.specs.Choose.{choose, broadcast_both, broadcast_false, broadcast_true};
 
@@ -10,7 +11,7 @@ use crate::if_then_else::scalar::{
 };
 use sel_bits::aligned_words::AlignedWords;
 use sel_bits::bitmap::Bitmap;
-use sel_bits::faults::{PolarsError, PolarsResult};
+use sel_bits::faults::PolarsResult;
 use std::alloc::Global;
 
 /// If-then-else for up to 64 rows at a time.
@@ -163,7 +164,7 @@ pub fn if_then_else_words<T: Copy>(
         choose mask.old.source.bits if_true.now if_false.now) }
     ensures words { OnOk result (mask.new.words_read ≤ length mask.old.source.bits / 64 + 2) }
     ensures source { mask.new.source ≡ mask.old.source }
-    ensures refusal { IfErr result (λ fault. fault ≡ PolarsError.OutOfMemory) }
+    ensures refusal { IfErr result IsOutOfMemory }
 {
     let mut out = Vec::from_slice(alloc, if_false)?;
     let choice = Between { if_true, if_false };
@@ -181,7 +182,7 @@ pub(crate) fn choose_one_true<T: Copy>(
     requires { length if_false.now ≡ length mask.now.bits }
     ensures items { IfOk result (λ out. out.items ≡ broadcast_true mask.now.bits if_true
         if_false.now) }
-    ensures refusal { IfErr result (λ fault. fault ≡ PolarsError.OutOfMemory) }
+    ensures refusal { IfErr result IsOutOfMemory }
 {
     let mut out = Vec::from_slice(alloc, if_false)?;
     let choice = OneTrue { if_true, if_false };
@@ -199,7 +200,7 @@ pub(crate) fn choose_one_false<T: Copy>(
     requires { length if_true.now ≡ length mask.now.bits }
     ensures items { IfOk result (λ out. out.items ≡
         broadcast_false mask.now.bits if_true.now if_false) }
-    ensures refusal { IfErr result (λ fault. fault ≡ PolarsError.OutOfMemory) }
+    ensures refusal { IfErr result IsOutOfMemory }
 {
     let mut out = Vec::from_slice(alloc, if_true)?;
     let choice = OneFalse { if_true, if_false };
@@ -216,7 +217,7 @@ pub(crate) fn choose_two<T: Copy>(
 ) -> PolarsResult<Vec<T>>
     ensures items { IfOk result (λ out. out.items ≡ broadcast_both mask.now.bits if_true
         if_false) }
-    ensures refusal { IfErr result (λ fault. fault ≡ PolarsError.OutOfMemory) }
+    ensures refusal { IfErr result IsOutOfMemory }
 {
     let len = mask.len();
     let mut out = vec![in alloc; if_false; len]?;

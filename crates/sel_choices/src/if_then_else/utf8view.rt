@@ -1,6 +1,7 @@
 //! If-then-else for string view columns.
 
 ghost use Rattle.std.specs.Prelude.{◌≡◌, ◌≤◌, ◌++◌, length, max, IfOk, IfErr, string_bytes};
+ghost use Rattle.sel_bits.specs.Limits.{max_buffer_bytes};
 ghost use Rattle.sel_arrow.specs.Columns.{utf8view_rows};
 ghost use Rattle.sel_arrow.specs.DataType.{shape_of};
 ghost use Rattle.sel_arrow.specs.Shape.{of_utf8_view};
@@ -77,7 +78,7 @@ impl IfThenElseKernel for Utf8ViewArray {
             (Bytes (string_bytes if_true.now)) (utf8view_rows if_false.now)) }
         ensures buffers { IfOk result (λ chosen. utf8view_buffers chosen ≡
             utf8view_buffers if_false.now ++ scalar_buffers (string_bytes if_true.now)) }
-        ensures bytes { IfOk result (λ _. length (string_bytes if_true.now) ≤ 4294967295) }
+        ensures bytes { IfOk result (λ _. length (string_bytes if_true.now) ≤ max_buffer_bytes) }
         ensures within { IfOk result
             (λ _. ExceedsNone (exceeded_utf8view (scalar if_true.now) (column if_false.now)
             (broadcast_true mask.now.bits (Bytes (string_bytes if_true.now))
@@ -104,7 +105,7 @@ impl IfThenElseKernel for Utf8ViewArray {
             (Bytes (string_bytes if_false.now))) }
         ensures buffers { IfOk result (λ chosen. utf8view_buffers chosen ≡
             utf8view_buffers if_true.now ++ scalar_buffers (string_bytes if_false.now)) }
-        ensures bytes { IfOk result (λ _. length (string_bytes if_false.now) ≤ 4294967295) }
+        ensures bytes { IfOk result (λ _. length (string_bytes if_false.now) ≤ max_buffer_bytes) }
         ensures within { IfOk result
             (λ _. ExceedsNone (exceeded_utf8view (column if_true.now) (scalar if_false.now)
             (broadcast_false mask.now.bits (utf8view_rows if_true.now)
@@ -133,7 +134,7 @@ impl IfThenElseKernel for Utf8ViewArray {
         ensures buffers { IfOk result (λ chosen. utf8view_buffers chosen ≡ scalar_buffers
             (string_bytes if_true.now) ++ scalar_buffers (string_bytes if_false.now)) }
         ensures bytes { IfOk result (λ _. max (length (string_bytes if_true.now))
-            (length (string_bytes if_false.now)) ≤ 4294967295) }
+            (length (string_bytes if_false.now)) ≤ max_buffer_bytes) }
         ensures within { IfOk result
             (λ _. ExceedsNone (exceeded_utf8view (scalar if_true.now) (scalar if_false.now)
             (broadcast_both mask.now.bits (Bytes (string_bytes if_true.now))

@@ -3,11 +3,12 @@
 
 ghost use Rattle.std.specs.Prelude.{◌≡◌, length, IfOk, IfErr};
 ghost use Rattle.std.specs.Option.{option_copied, option_map};
+ghost use Rattle.sel_bits.specs.Faults.{IsOutOfMemory};
 ghost use Rattle.sel_arrow.specs.Masked.{Covers};
 ghost use Rattle.sel_choices.specs.Validity.{chosen_validity};
 
 use sel_bits::bitmap::Bitmap;
-use sel_bits::faults::{PolarsError, PolarsResult};
+use sel_bits::faults::PolarsResult;
 use std::alloc::Global;
 
 /// Returns the validity of an if-then-else result, or `None` if both validities are `None`.
@@ -29,7 +30,7 @@ pub fn if_then_else_validity(
     requires false_side { Covers (option_copied if_false) (length mask.now.bits) }
     ensures value { IfOk result (λ chosen. option_map (λ b. b.bits) chosen ≡ chosen_validity
         mask.now.bits (option_copied if_true.entry) (option_copied if_false.entry)) }
-    ensures refusal { IfErr result (λ fault. fault ≡ PolarsError.OutOfMemory) }
+    ensures refusal { IfErr result IsOutOfMemory }
 {
     match (if_true, if_false) {
         (None, None) => Ok(None),

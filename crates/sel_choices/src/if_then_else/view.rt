@@ -1,6 +1,7 @@
 //! If-then-else for views: blocks of up to 64 by the bits of a word, and slices of any length.
 
 ghost use Rattle.std.specs.Prelude.{◌≡◌, ◌≤◌, length, map, IfOk, IfErr, IsTrue};
+ghost use Rattle.sel_bits.specs.Faults.{IsOutOfMemory};
 ghost use Rattle.sel_bits.specs.Words.{bits};
 ghost use Rattle.sel_choices.specs.Choose.{choose, broadcast_false};
 ghost use Rattle.sel_choices.specs.ViewSides.{all_rise, can_rise, raised};
@@ -10,7 +11,7 @@ use crate::if_then_else::scalar::if_then_else_broadcast_false_scalar_64;
 use sel_arrow::view::{INLINE_BYTES, View};
 use sel_bits::aligned_words::AlignedWords;
 use sel_bits::bitmap::Bitmap;
-use sel_bits::faults::{PolarsError, PolarsResult};
+use sel_bits::faults::PolarsResult;
 use std::alloc::Global;
 
 /// Writes to each `out[i]` the view `if_true[i]` if bit `i` of `mask` is set, else `if_false[i]`.
@@ -143,7 +144,7 @@ pub(crate) fn choose_views(
     requires rises { IsTrue (all_rise offset if_false.now) }
     ensures items { IfOk result (λ out. out.items ≡
         choose mask.now.bits if_true.now (map (λ view. raised view offset) if_false.now)) }
-    ensures refusal { IfErr result (λ fault. fault ≡ PolarsError.OutOfMemory) }
+    ensures refusal { IfErr result IsOutOfMemory }
 {
     let mut out = Vec::from_slice(alloc, if_false)?;
     let choice = BetweenViews {

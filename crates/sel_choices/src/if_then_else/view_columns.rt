@@ -1,6 +1,8 @@
 //! If-then-else for view columns and byte scalars, with the data buffers of both inputs.
 
 ghost use Rattle.std.specs.Prelude.{◌≡◌, ◌≤◌, ◌+◌, ◌++◌, length, map, max, IfOk, IfErr, IsTrue};
+ghost use Rattle.sel_bits.specs.Faults.{IsOutOfMemory};
+ghost use Rattle.sel_bits.specs.Limits.{max_buffer_bytes, max_buffers, max_rows};
 ghost use Rattle.sel_arrow.specs.Columns.{binview_rows};
 ghost use Rattle.sel_arrow.specs.Value.{Bytes};
 ghost use Rattle.sel_choices.specs.Choose.{choose, broadcast_both, broadcast_true, broadcast_false};
@@ -74,7 +76,7 @@ pub(crate) fn choose_bytes_true(
         broadcast_true mask.now.bits (Bytes if_true.now) (binview_rows if_false.now)) }
     ensures buffers { IfOk result (λ chosen. chosen.buffers ≡
         if_false.now.buffers ++ scalar_buffers if_true.now) }
-    ensures bytes { IfOk result (λ _. length if_true.now ≤ 4294967295) }
+    ensures bytes { IfOk result (λ _. length if_true.now ≤ max_buffer_bytes) }
     ensures within { IfOk result (λ _. ExceedsNone (ExceedsViews
         (length (scalar_buffers if_true.now) + length if_false.now.buffers) (length if_true.now))) }
     ensures refusal { IfErr result (IsLimitOrMemory (ExceedsViews
@@ -107,7 +109,7 @@ pub(crate) fn choose_bytes_false(
         broadcast_false mask.now.bits (binview_rows if_true.now) (Bytes if_false.now)) }
     ensures buffers { IfOk result (λ chosen. chosen.buffers ≡
         if_true.now.buffers ++ scalar_buffers if_false.now) }
-    ensures bytes { IfOk result (λ _. length if_false.now ≤ 4294967295) }
+    ensures bytes { IfOk result (λ _. length if_false.now ≤ max_buffer_bytes) }
     ensures within { IfOk result
         (λ _. ExceedsNone
         (ExceedsViews (length if_true.now.buffers + length (scalar_buffers if_false.now))
@@ -138,13 +140,13 @@ pub(crate) fn choose_bytes(
     if_true: &[u8],
     if_false: &[u8],
 ) -> PolarsResult<BinaryViewArray>
-    requires { length mask.now.bits ≤ 4294967295 }
+    requires { length mask.now.bits ≤ max_rows }
     ensures rows { IfOk result (λ chosen. binview_rows chosen ≡
         broadcast_both mask.now.bits (Bytes if_true.now) (Bytes if_false.now)) }
     ensures buffers { IfOk result (λ chosen. chosen.buffers ≡
         scalar_buffers if_true.now ++ scalar_buffers if_false.now) }
     ensures bytes { IfOk result (λ _. max (length if_true.now) (length if_false.now) ≤
-        4294967295) }
+        max_buffer_bytes) }
     ensures within { IfOk result (λ _. ExceedsNone
         (ExceedsViews (length (scalar_buffers if_true.now) + length (scalar_buffers if_false.now))
         (max (length if_true.now) (length if_false.now)))) }
@@ -172,8 +174,8 @@ pub(crate) fn choose_bytes(
 
 /// Returns `SizeLimit` if there are too many data buffers, or the scalar has too many bytes.
 fn check_limits(buffers: usize, bytes: usize) -> PolarsResult<()>
-    ensures buffers { IfOk result (λ _. buffers ≤ 4294967295) }
-    ensures bytes { IfOk result (λ _. bytes ≤ 4294967295) }
+    ensures buffers { IfOk result (λ _. buffers ≤ max_buffers) }
+    ensures bytes { IfOk result (λ _. bytes ≤ max_buffer_bytes) }
     ensures within { IfOk result (λ _. ExceedsNone (ExceedsViews buffers bytes)) }
     ensures refusal { IfErr result (IsLimitOrMemory (ExceedsViews buffers bytes)) }
 {
@@ -201,7 +203,7 @@ fn count_of_scalar(bytes: &[u8]) -> usize
 /// Returns the data buffers of a scalar, or `OutOfMemory`.
 fn buffers_of_scalar(alloc: Global, bytes: &[u8]) -> PolarsResult<Vec<Buffer<u8>>>
     ensures buffers { IfOk result (λ buffers. buffers.items ≡ scalar_buffers bytes.now) }
-    ensures refusal { IfErr result (λ fault. fault ≡ PolarsError.OutOfMemory) }
+    ensures refusal { IfErr result IsOutOfMemory }
 {
     let mut buffers = Vec::new(alloc);
     if bytes.len() <= INLINE_BYTES as usize {
@@ -217,9 +219,9 @@ fn joined_buffers(
     first: &[Buffer<u8>],
     second: &[Buffer<u8>],
 ) -> PolarsResult<Buffer<Buffer<u8>>>
-    requires { length first.now + length second.now ≤ 4294967295 }
+    requires { length first.now + length second.now ≤ max_buffers }
     ensures buffers { IfOk result (λ joined. joined ≡ first.now ++ second.now) }
-    ensures refusal { IfErr result (λ fault. fault ≡ PolarsError.OutOfMemory) }
+    ensures refusal { IfErr result IsOutOfMemory }
 {
     let mut joined = Vec::with_capacity(alloc, first.len() + second.len())?;
     push_buffers(&mut joined, first)?;

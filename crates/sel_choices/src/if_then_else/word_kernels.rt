@@ -2,6 +2,7 @@
 
 ghost use Rattle.std.specs.Prelude.{◌≡◌, ◌≢◌, ◌≤◌, ◌&&◌, List, length, IfOk, IfErr, IsTrue};
 ghost use Rattle.std.specs.Option.{option_copied};
+ghost use Rattle.sel_bits.specs.Faults.{IsOutOfMemory};
 ghost use Rattle.sel_arrow.specs.Columns.{binview_rows};
 ghost use Rattle.sel_arrow.specs.Masked.{hidden, masked, Covers};
 ghost use Rattle.sel_arrow.specs.Value.{Value, Null, Bytes};
@@ -20,7 +21,7 @@ use sel_arrow::primitive::{ArrowPrimitive, PrimitiveArray};
 use sel_arrow::utf8view::Utf8ViewArray;
 use sel_arrow::view::View;
 use sel_bits::bitmap::Bitmap;
-use sel_bits::faults::{PolarsError, PolarsResult};
+use sel_bits::faults::PolarsResult;
 use std::alloc::Global;
 
 impl<T: ArrowPrimitive> WordKernel for PrimitiveArray<T> {
@@ -299,7 +300,7 @@ fn narrowed_validity(
     ensures rows { IfOk result (λ narrowed. (rows : List Value) → hidden narrowed.bits rows ≡
         hidden keep.now.bits (masked (option_copied validity.entry) rows)) }
     ensures len { IfOk result (λ narrowed. length narrowed.bits ≡ length keep.now.bits) }
-    ensures refusal { IfErr result (λ fault. fault ≡ PolarsError.OutOfMemory) }
+    ensures refusal { IfErr result IsOutOfMemory }
 {
     match validity {
         None => keep.try_clone(),

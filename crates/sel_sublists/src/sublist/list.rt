@@ -3,6 +3,8 @@
 ghost use Rattle.std.specs.Prelude.{◌≡◌, ◌<◌, ◌≤◌, ◌+◌, pos, [], ◌∷◌, map, length, slice_index_or, IfOk, IfErr, IfSome};
 ghost use Rattle.std.specs.List.{range_with_len};
 ghost use Rattle.std.specs.Option.{is_some};
+ghost use Rattle.sel_bits.specs.Faults.{IsOutOfMemory};
+ghost use Rattle.sel_bits.specs.Limits.{max_rows};
 ghost use Rattle.sel_arrow.specs.Columns.{primitive_rows};
 ghost use Rattle.sel_arrow.specs.Masked.{number_value};
 ghost use Rattle.sel_arrow.specs.NestedArrays.{list_column};
@@ -65,7 +67,7 @@ pub fn sublist_get(alloc: Global, arr: &ListArray<i64>, index: i64) -> PolarsRes
 pub fn sublist_get_indexes(alloc: Global, arr: &ListArray<i64>, index: i64) -> PolarsResult<IdxArr>
     ensures rows { IfOk result (λ indices. primitive_rows indices ≡
         map (number_value pos) (places_in arr.now.offsets arr.now.validity index)) }
-    ensures refusal { IfErr result (λ fault. fault ≡ PolarsError.OutOfMemory) }
+    ensures refusal { IfErr result IsOutOfMemory }
 {
     let len = arr.offsets.len_proxy();
     let mut values = Vec::with_capacity(alloc, len)?;
@@ -177,9 +179,9 @@ fn unit_column(
 
 // Returns the offsets `0, 1, .., len`, or `OutOfMemory`.
 fn unit_offsets(alloc: Global, len: usize) -> PolarsResult<OffsetsBuffer<i64>>
-    requires { len ≤ 4294967295 }
+    requires { len ≤ max_rows }
     ensures value { IfOk result (λ offsets. offsets ≡ range_with_len 0 (len + 1)) }
-    ensures refusal { IfErr result (λ fault. fault ≡ PolarsError.OutOfMemory) }
+    ensures refusal { IfErr result IsOutOfMemory }
 {
     let mut offsets = Vec::with_capacity(alloc, len + 1)?;
     for offset in 0..len + 1 {
