@@ -1,10 +1,10 @@
 -- Functions applied bit by bit to lists and to words.
-use Rattle.std.proofs.Common.{◌≡◌, ℕ, zero, suc, ◌+◌, ◌-◌, ◌*◌, ◌%◌, ◌^◌, ◌<◌, ◌≤◌, ◌∙◌, sym, refl, ap, subst, ⊎_elim, arith, min, max, List, [], ◌∷◌, ◌++◌, length, get_or, take, drop, map, Bool, true, false, cond, not, ◌&&◌, ◌||◌}
+use Rattle.std.proofs.Common.{◌≡◌, ℕ, zero, suc, ◌+◌, ◌-◌, ◌%◌, ◌^◌, ◌<◌, ◌≤◌, ◌∙◌, sym, refl, ap, subst, ⊎_elim, arith, min, max, List, [], ◌∷◌, ◌++◌, length, get_or, take, drop, map, Bool, true, false, cond, not, ◌&&◌, ◌||◌}
 use Rattle.std.specs.Prelude.{bit_and, bit_or, ◌==◌, if◌then◌else◌}
 use Rattle.std.specs.Int.{bit_at, bit_not, w64}
 use Rattle.std.proofs.Math.Seq.{take-add}
 use Rattle.std.proofs.lemmas.Bool.{cases_lt}
-use Rattle.std.proofs.lemmas.Nat.{one_shl, and_mask, mod_below, pow_pos}
+use Rattle.std.proofs.lemmas.Nat.{mod_below, pow_pos}
 use Rattle.std.proofs.lemmas.Nat.Bits.{bit_at-lt, bit_at_and, bit_at_or, bit_at_not}
 use Rattle.std.proofs.lemmas.List.{get_or-take, get_or-drop}
 use Rattle.sel_bits.specs.Bits.{zip_with, zip_three}
