@@ -4,7 +4,7 @@
 tools/statuses.py          writes them
 tools/statuses.py --check  fails if a file differs from the table
 
-They are the constants of crates/sel_handle (src/status.rt and src/kinds.rt), the numbers in its specifications, the strings of c/status.c,
+They are the constants of crates/sel_ffi (src/status.rt and src/kinds.rt), the numbers in its specifications, the strings of c/status.c,
 bindings/python/sel/_statuses.py and a part of bindings/rust/src/error.rs. tools/header writes the enumerations of include/sel.h.
 """
 
@@ -18,7 +18,7 @@ from typing import Callable, Dict, List, NamedTuple
 
 ROOT = pathlib.Path(__file__).resolve().parent.parent
 TABLE = ROOT / "tools" / "statuses.txt"
-HANDLE = ROOT / "crates" / "sel_handle"
+HANDLE = ROOT / "crates" / "sel_ffi"
 BEGIN, END = "begin: written by tools/statuses.py", "end: written by tools/statuses.py"
 
 # the variant of the Rust crate's Error for each exception class of the Python package

@@ -1,4 +1,4 @@
-/* The loops that a user would write instead of the operations of crates/bench_words: they read the same lines of stdin, use the
+/* The loops that a user would write instead of the operations of crates/bench_internals: they read the same lines of stdin, use the
  * same data and print the same checksums. A line is `NAME ROWS LEFT RIGHT REPEATS`.
  * `pext_bits` and `pext_four_bits` go bit by bit; `pext` and `pext_four` use the processor's instruction. */
 #include <inttypes.h>

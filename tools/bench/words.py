@@ -1,5 +1,5 @@
 #!/usr/bin/env python3
-"""Times the operations that the C library does not export: the Rattle program crates/bench_words against the loops of words.c.
+"""Times the operations that the C library does not export: the Rattle program crates/bench_internals against the loops of words.c.
 
 tools/bench/words.py        prints the table
 tools/bench/words.py quick  compares the checksums that both print, and times nothing
@@ -20,7 +20,7 @@ import tempfile
 
 HERE = pathlib.Path(__file__).resolve().parent
 ROOT = HERE.parent.parent
-CRATE = ROOT / "crates" / "bench_words"
+CRATE = ROOT / "crates" / "bench_internals"
 CC = os.environ.get("CC", "cc")
 FLAGS = ["-O3", "-march=native", "-std=gnu11", "-Wall", "-Wextra"]
 SIZES = 2 ** 14, 2 ** 20
@@ -59,7 +59,7 @@ def program() -> pathlib.Path | None:
 def built() -> pathlib.Path | None:
     """Returns the program, proved and built first if necessary, or None if that fails."""
     if program() is None:
-        print("proving and building crates/bench_words first", file=sys.stderr)
+        print("proving and building crates/bench_internals first", file=sys.stderr)
         try:
             done = subprocess.run(["rt", "run"], cwd=CRATE, stdin=subprocess.DEVNULL, stdout=subprocess.DEVNULL, check=False)
         except OSError as error:
@@ -161,7 +161,7 @@ def compare() -> None:
     """Compares the checksums, if the program is built."""
     ours = program()
     if ours is None:
-        print("not run: crates/bench_words, which is not built", file=sys.stderr)
+        print("not run: crates/bench_internals, which is not built", file=sys.stderr)
         return
     folder = pathlib.Path(tempfile.mkdtemp())
     try:
@@ -178,8 +178,8 @@ def section(found: list[tuple] | None) -> list[str]:
     """Returns the lines of the page."""
     text = ["## Words and bits", ""]
     if found is None:
-        return [*text, "Not measured: the program `crates/bench_words` was not built.", ""]
-    text += ["The operations that the C library does not export are called by a program of their own, `crates/bench_words`, proved and built for x86-64-v2; the loops are `tools/bench/words.c`, "
+        return [*text, "Not measured: the program `crates/bench_internals` was not built.", ""]
+    text += ["The operations that the C library does not export are called by a program of their own, `crates/bench_internals`, proved and built for x86-64-v2; the loops are `tools/bench/words.c`, "
              f"compiled for this processor. Neither has a clock: a time is the processor time of the whole process at enough repeats to take about {SECONDS} seconds, minus that at one repeat, "
              f"divided by the difference in repeats, in ns per row: the best of {ROUNDS} rounds, and the median in parentheses. A row is a bit, a 64-bit word or an index. "
              "Offsets are the positions of the first bits. Both programs printed the same checksums.", "",

@@ -19,9 +19,9 @@ use Rattle.sel_arrow.specs.declared.column.Column.{Column, FixedSizeList}
 use Rattle.sel_arrow.specs.declared.column.Column.TheVariants.{FixedSizeList'}
 use Rattle.sel_arrow.proofs.NestedRows.{has_blocks, length-blocks, length-rows}
 use Rattle.sel_arrow.proofs.Rows.{length-part}
-use Rattle.sel_runs.specs.Children.{items_in, joined_items}
-use Rattle.sel_runs.specs.Need.{ExceedsRows, exceeded_limits}
-use Rattle.sel_runs.proofs.ItemRuns.{listed_values}
+use Rattle.sel_gather.specs.Children.{items_in, joined_items}
+use Rattle.sel_gather.specs.Need.{ExceedsRows, exceeded_limits}
+use Rattle.sel_gather.proofs.ItemRuns.{listed_values}
 use Rattle.polars_compute.specs.BareBlocks.{exceeded_blocks}
 use Rattle.polars_compute.specs.Pick.{found, pick_of, take_rows}
 use Rattle.polars_compute.proofs.Takes.{length-pick}

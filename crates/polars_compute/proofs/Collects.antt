@@ -7,7 +7,7 @@ use Rattle.sel_arrow.specs.Masked.{Covers}
 use Rattle.sel_arrow.specs.Pieces.{byte_rows, rows_between}
 use Rattle.polars_compute.specs.Need.{byte_count, bytes_needed}
 use Rattle.polars_compute.specs.JoinedBytes.{ends_from, joined_bytes, AllBytesRows}
-use Rattle.sel_runs.proofs.JoinedRows.{built_rows, rebuilt as rebuilt_rows}
+use Rattle.sel_gather.proofs.JoinedRows.{built_rows, rebuilt as rebuilt_rows}
 
 -- ---- one more row
 

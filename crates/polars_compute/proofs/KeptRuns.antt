@@ -6,8 +6,8 @@ use Rattle.sel_bits.specs.Bits.{count_true}
 use Rattle.sel_arrow.specs.Masked.{number_rows}
 use Rattle.sel_arrow.specs.Value.{Value, Null, Number}
 use Rattle.sel_arrow.proofs.Lists.{and_first, and_second}
-use Rattle.sel_runs.specs.Picks.{pick, PickFits}
-use Rattle.sel_runs.specs.Plans.{IsPicked}
+use Rattle.sel_gather.specs.Picks.{pick, PickFits}
+use Rattle.sel_gather.specs.Plans.{IsPicked}
 use Rattle.polars_compute.specs.Pick.{pick_of, place_pick, is_within, all_within}
 use Rattle.polars_compute.specs.Select.{select, kept, kept_from}
 use Rattle.polars_compute.proofs.Places.{selected, kept_below}

@@ -1,15 +1,19 @@
 pub mod BlockNeeds
 pub mod BlockTakes
 pub mod BlockTests
+pub mod Blocks
 pub mod Collects
 pub mod Dictionaries
+pub mod EntryPlaces
 pub mod FilteredBlocks
+pub mod Flattening
 pub mod IndexTests
 pub mod KeptRuns
 pub mod KeptTuples
 pub mod LawProofs
 pub mod Meanings
 pub mod Needs
+pub mod Offsets
 pub mod Places
 pub mod Reversed
 pub mod SelectedRows
@@ -17,4 +21,6 @@ pub mod Selects
 pub mod TakenBits
 pub mod TakenStructs
 pub mod Takes
+pub mod Units
+pub mod Weaving
 pub mod Withins

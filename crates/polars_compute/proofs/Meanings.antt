@@ -13,13 +13,13 @@ use Rattle.sel_arrow.specs.Shape.{Shape, Shapes, no_shapes, next_shape, of_large
 use Rattle.sel_arrow.specs.Value.{Value, Null}
 use Rattle.sel_arrow.specs.declared.column.Column.{Column}
 use Rattle.sel_arrow.proofs.NestedRows.{length-rows}
-use Rattle.sel_choices.specs.Choose.{choose, broadcast_true, broadcast_false, broadcast_both}
-use Rattle.sel_flatten.specs.Flatten.{flatten}
-use Rattle.sel_runs.specs.Children.{items_in, joined_items, part_at}
-use Rattle.sel_runs.proofs.ListParts.{few_rows}
-use Rattle.sel_runs.proofs.Thinned.{whole_fits}
-use Rattle.sel_sublists.specs.Entries.{fixed_get, any_out_of_bounds}
-use Rattle.sel_sublists.specs.Lists.{list_get, oob}
+use Rattle.sel_ternary.specs.Choose.{choose, broadcast_true, broadcast_false, broadcast_both}
+use Rattle.polars_compute.specs.Flatten.{flatten}
+use Rattle.sel_gather.specs.Children.{items_in, joined_items, part_at}
+use Rattle.sel_gather.proofs.ListParts.{few_rows}
+use Rattle.sel_gather.proofs.Thinned.{whole_fits}
+use Rattle.polars_compute.specs.Entries.{fixed_get, any_out_of_bounds}
+use Rattle.polars_compute.specs.Lists.{list_get, oob}
 use Rattle.polars_compute.specs.Dictionary.{decode, propagated_keys, rank, valid_values}
 use Rattle.polars_compute.specs.Meaning.{MeansTheSame, Alike, NeedsDecideLimits}
 use Rattle.polars_compute.specs.Need.{bytes_needed, ExceedsBytes, ExceedsRows, exceeded_limits, exceeded_in_parts, Needed, so_many_rows, so_many_bytes, need, need_of_parts, NoneGreater, NoneAbove}

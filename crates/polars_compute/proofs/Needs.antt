@@ -4,7 +4,7 @@ use Rattle.sel_bits.specs.declared.faults.Limit.{Limit}
 use Rattle.sel_arrow.specs.Rows.{rows, type_of, well_formed}
 use Rattle.sel_arrow.specs.Value.{Value}
 use Rattle.sel_arrow.specs.declared.column.Column.{Column}
-use Rattle.sel_runs.proofs.Thinned.{Mark, skip, keep, draw, draw_none, drawn_fits}
+use Rattle.sel_gather.proofs.Thinned.{Mark, skip, keep, draw, draw_none, drawn_fits}
 use Rattle.polars_compute.specs.Need.{exceeded_limits}
 use Rattle.polars_compute.specs.Select.{select}
 

@@ -3,8 +3,8 @@ use Rattle.std.proofs.Common.{◌≡◌, ℕ, zero, suc, ◌+◌, ◌<◌, Bool,
 use Rattle.std.specs.List.{range_with_len}
 use Rattle.std.proofs.lemmas.List.{map-append}
 use Rattle.sel_bits.specs.Bits.{leading_ones, leading_zeros}
-use Rattle.sel_runs.specs.Runs.{picks_of}
-use Rattle.sel_runs.proofs.KeptBlocks.{Passes}
+use Rattle.sel_gather.specs.Runs.{picks_of}
+use Rattle.sel_gather.proofs.KeptBlocks.{Passes}
 use Rattle.polars_compute.specs.Pick.{place_pick}
 use Rattle.polars_compute.specs.Select.{select, kept, kept_from}
 

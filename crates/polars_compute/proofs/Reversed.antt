@@ -7,9 +7,9 @@ use Rattle.sel_arrow.specs.Shape.{Shape, Shapes, no_shapes, next_shape, of_large
 use Rattle.sel_arrow.specs.Value.{Value, Null, Number}
 use Rattle.sel_arrow.specs.declared.column.Column.{Column}
 use Rattle.sel_arrow.proofs.NestedRows.{length-rows}
-use Rattle.sel_runs.specs.Children.{items_in, joined_items, part_at}
-use Rattle.sel_runs.proofs.ItemRuns.{joined-append}
-use Rattle.sel_runs.proofs.ListParts.{few_rows}
+use Rattle.sel_gather.specs.Children.{items_in, joined_items, part_at}
+use Rattle.sel_gather.proofs.ItemRuns.{joined-append}
+use Rattle.sel_gather.proofs.ListParts.{few_rows}
 use Rattle.polars_compute.specs.Need.{byte_count, bytes_needed, ExceedsNone, exceeded_limits, so_many_rows, so_many_bytes, need, need_of_parts, NoneAbove}
 use Rattle.polars_compute.specs.Pick.{pick, pick_of, take_rows, is_within, all_within}
 use Rattle.polars_compute.specs.Reverse.{last_to_first}

@@ -14,7 +14,7 @@ use Rattle.sel_arrow.specs.Shape.{of_int64}
 use Rattle.sel_arrow.specs.Value.{Value}
 use Rattle.sel_arrow.specs.declared.array_ref.ArrayRef.{ArrayRef}
 use Rattle.sel_arrow.proofs.Lists.{all_at, and_first}
-use Rattle.sel_runs.proofs.Within.{rows_pass}
+use Rattle.sel_gather.proofs.Within.{rows_pass}
 use Rattle.polars_compute.specs.Need.{IsLimitOrMemory, ExceedsNone, exceeded_limits}
 use Rattle.polars_compute.specs.Pick.{take_rows, all_within}
 use Rattle.polars_compute.specs.Select.{select, effective_mask, is_true}

@@ -17,14 +17,14 @@ use Rattle.sel_arrow.proofs.NestedRows.{length-rows, length-tuple_rows}
 use Rattle.sel_arrow.proofs.Rows.{masked_null, masked_valid}
 use Rattle.sel_arrow.proofs.Trees.{rows-Struct, has_fields, fields_make}
 use Rattle.sel_arrow.proofs.Types.{type_of-Struct}
-use Rattle.sel_runs.specs.Children.{field, part_at, parts_of}
-use Rattle.sel_runs.specs.Validity.{bits_for}
-use Rattle.sel_runs.proofs.Below.{listed_shapes}
-use Rattle.sel_runs.proofs.FieldsOf.{any_default, field_found}
-use Rattle.sel_runs.proofs.Grown.{finished}
-use Rattle.sel_runs.proofs.Layouts.{rows_tuples}
-use Rattle.sel_runs.proofs.Rebuilt.{IsTuple, picked_all, tuples_rebuilt}
-use Rattle.sel_runs.proofs.TupleRows.{field_row}
+use Rattle.sel_gather.specs.Children.{field, part_at, parts_of}
+use Rattle.sel_gather.specs.Validity.{bits_for}
+use Rattle.sel_gather.proofs.Below.{listed_shapes}
+use Rattle.sel_gather.proofs.FieldsOf.{any_default, field_found}
+use Rattle.sel_gather.proofs.Grown.{finished}
+use Rattle.sel_gather.proofs.Layouts.{rows_tuples}
+use Rattle.sel_gather.proofs.Rebuilt.{IsTuple, picked_all, tuples_rebuilt}
+use Rattle.sel_gather.proofs.TupleRows.{field_row}
 use Rattle.polars_compute.specs.Need.{exceeded_limits, exceeded_in_parts}
 use Rattle.polars_compute.specs.Pick.{found, pick_of, take_rows, is_within, all_within}
 use Rattle.polars_compute.specs.TakenFields.{exceeded_in_taken}

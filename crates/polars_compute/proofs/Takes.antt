@@ -10,8 +10,8 @@ use Rattle.sel_arrow.specs.Value.{Value, Null, Number}
 use Rattle.sel_arrow.specs.Masked.{hidden, masked, Covers, valid_at}
 use Rattle.sel_arrow.proofs.Lists.{all_at}
 use Rattle.sel_arrow.proofs.Rows.{masked_null, masked_valid}
-use Rattle.sel_runs.specs.Plans.{HasBit, bits_found}
-use Rattle.sel_runs.specs.Validity.{bits_for}
+use Rattle.sel_gather.specs.Plans.{HasBit, bits_found}
+use Rattle.sel_gather.specs.Validity.{bits_for}
 use Rattle.polars_compute.specs.Pick.{found, pick, pick_of, take_rows, is_within, all_within}
 use Rattle.polars_compute.specs.ValidPicks.{valid_pick}
 

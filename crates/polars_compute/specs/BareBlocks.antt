@@ -8,7 +8,7 @@ use Rattle.sel_arrow.specs.declared.column.Column.{Column}
 use Rattle.sel_arrow.specs.declared.column.Column.TheVariants.{Int8, Int16, Int32, Int64, Int128}
 use Rattle.sel_arrow.specs.declared.column.Column.TheVariants.{UInt8, UInt16, UInt32, UInt64}
 use Rattle.sel_arrow.specs.declared.column.Column.TheVariants.{UInt128, FixedSizeList'}
-use Rattle.sel_runs.specs.Need.{ExceedsRows}
+use Rattle.sel_gather.specs.Need.{ExceedsRows}
 
 -- Whether a column is numeric and has no validity, or is a fixed-size list without a validity over
 -- such a column.

@@ -3,7 +3,7 @@
 use Rattle.std.specs.Prelude.{◌≡◌, ℕ, pos, Bool, true, List, [], ◌∷◌, length, map, replicate}
 use Rattle.std.specs.Prelude.{Option, None, not, count_by, slice_get, option_and_then}
 use Rattle.sel_arrow.specs.Value.{Value, Null, Number, is_null}
-use Rattle.sel_choices.specs.Choose.{choose, broadcast_true, broadcast_false, broadcast_both}
+use Rattle.sel_ternary.specs.Choose.{choose, broadcast_true, broadcast_false, broadcast_both}
 use Rattle.polars_compute.specs.Dictionary.{decode, propagated_keys, valid_values}
 use Rattle.polars_compute.specs.Select.{select, effective_mask, kept}
 use Rattle.polars_compute.specs.Pick.{pick, place_pick, take_rows, all_within}

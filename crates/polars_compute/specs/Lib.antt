@@ -2,9 +2,14 @@ pub mod BareBlocks
 pub mod Blocks
 pub mod Compress
 pub mod Dictionary
+pub mod Elements
+pub mod Entries
 pub mod FixedSizeLists
+pub mod Flatten
 pub mod JoinedBytes
+pub mod Lanes
 pub mod Laws
+pub mod Lists
 pub mod Meaning
 pub mod Need
 pub mod Pick
@@ -15,3 +20,4 @@ pub mod SelectRows
 pub mod TakenFields
 pub mod Trim
 pub mod ValidPicks
+pub mod Widths

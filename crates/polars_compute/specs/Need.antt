@@ -4,9 +4,9 @@ use Rattle.sel_bits.specs.Limits.{max_rows}
 use Rattle.sel_arrow.specs.Shape.{Shape, Shapes, no_shapes, next_shape, of_large_binary}
 use Rattle.sel_arrow.specs.Shape.{of_large_list, of_fixed_size_list, of_struct}
 use Rattle.sel_arrow.specs.Value.{Value}
-use Rattle.sel_runs.specs.Children.{joined_items, part_at}
-pub use Rattle.sel_runs.specs.Need.{byte_count, bytes_needed, IsLimitOrMemory, ExceedsNone}
-pub use Rattle.sel_runs.specs.Need.{ExceedsBytes, ExceedsRows, exceeded_limits, exceeded_in_parts}
+use Rattle.sel_gather.specs.Children.{joined_items, part_at}
+pub use Rattle.sel_gather.specs.Need.{byte_count, bytes_needed, IsLimitOrMemory, ExceedsNone}
+pub use Rattle.sel_gather.specs.Need.{ExceedsBytes, ExceedsRows, exceeded_limits, exceeded_in_parts}
 
 -- The need of one column: a number of rows, or a number of bytes.
 pub data Needed : Type 0 where

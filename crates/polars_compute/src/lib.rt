@@ -3,11 +3,12 @@
 
 pub mod filter;
 pub mod gather;
+pub mod horizontal_flatten;
 pub mod laws;
 pub mod propagate_dictionary;
 pub mod reverse;
 mod runs;
 pub mod select;
+mod woven;
 
-pub use sel_choices::if_then_else;
-pub use sel_flatten::horizontal_flatten;
+pub use sel_ternary::if_then_else;

@@ -5,7 +5,7 @@ ghost use Rattle.sel_bits.specs.Faults.{IsOutOfMemory};
 ghost use Rattle.sel_bits.specs.Limits.{max_rows};
 ghost use Rattle.sel_arrow.specs.Columns.{primitive_rows};
 ghost use Rattle.sel_arrow.specs.Value.{Null};
-ghost use Rattle.sel_runs.specs.Runs.{expand};
+ghost use Rattle.sel_gather.specs.Runs.{expand};
 ghost use Rattle.polars_compute.specs.Pick.{pick_of, place_pick};
 ghost use Rattle.polars_compute.specs.Select.{kept};
 
@@ -13,8 +13,8 @@ use sel_arrow::array::Array;
 use sel_arrow::primitive::IdxArr;
 use sel_bits::bitmap::Bitmap;
 use sel_bits::faults::PolarsResult;
-use sel_runs::plan::Places;
-use sel_runs::run::{Run, push_run};
+use sel_gather::plan::Places;
+use sel_gather::run::{Run, push_run};
 use std::alloc::Global;
 
 /// Returns the maximal runs of true bits in `mask`, in order.

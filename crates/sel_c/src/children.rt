@@ -5,13 +5,13 @@ ghost use Rattle.sel_arrow.specs.Rows.{rows, type_of};
 ghost use Rattle.sel_arrow.specs.Shape.{is_block_shape, is_struct_shape};
 ghost use Rattle.sel_calls.specs.Below.{held_child_rows, held_child_type, held_fields, held_field_rows, held_field_type};
 ghost use Rattle.sel_calls.specs.Types.{width_of};
-ghost use Rattle.sel_handle.specs.Status.{ok, out_of_memory, no_column, unsupported_type, index_out_of_bounds, held_type, Demands, DemandsFirst, HasColumn, IsOneOf, Makes};
-ghost use Rattle.sel_runs.specs.Children.{child, field, is_listing};
+ghost use Rattle.sel_ffi.specs.Status.{ok, out_of_memory, no_column, unsupported_type, index_out_of_bounds, held_type, Demands, DemandsFirst, HasColumn, IsOneOf, Makes};
+ghost use Rattle.sel_gather.specs.Children.{child, field, is_listing};
 
 use sel_calls::children::{child_into, field_count_into, field_into, width_into};
-use sel_handle::column_ref::ColumnRef;
-use sel_handle::handle::Handle;
-use sel_handle::status::NO_COLUMN;
+use sel_ffi::column_ref::ColumnRef;
+use sel_ffi::handle::Handle;
+use sel_ffi::status::NO_COLUMN;
 use std::alloc::Global;
 
 /// Returns in `out` the child of a list column, including rows outside of the lists. The result

@@ -3,15 +3,15 @@
 ghost use Rattle.std.specs.Prelude.{◌≡◌, ◌++◌, ◌∷◌, length, true, false};
 ghost use Rattle.sel_arrow.specs.Rows.{rows, type_of};
 ghost use Rattle.sel_arrow.specs.Shape.{of_boolean};
-ghost use Rattle.sel_choices.specs.Choose.{choose, broadcast_true, broadcast_false, broadcast_both};
-ghost use Rattle.sel_choices.specs.Chosen.{first_row};
-ghost use Rattle.sel_handle.specs.Status.{ok, out_of_memory, no_column, unsupported_type, type_mismatch, length_mismatch, limit_statuses, held_columns, held_rows, held_type, DemandsBefore, DemandsFirst, HasColumn, IsOneOf, Makes, ReportsLimits};
-ghost use Rattle.sel_runs.specs.Need.{exceeded_taken, ExceedsNone};
+ghost use Rattle.sel_ternary.specs.Choose.{choose, broadcast_true, broadcast_false, broadcast_both};
+ghost use Rattle.sel_ternary.specs.Chosen.{first_row};
+ghost use Rattle.sel_ffi.specs.Status.{ok, out_of_memory, no_column, unsupported_type, type_mismatch, length_mismatch, limit_statuses, held_columns, held_rows, held_type, DemandsBefore, DemandsFirst, HasColumn, IsOneOf, Makes, ReportsLimits};
+ghost use Rattle.sel_gather.specs.Need.{exceeded_taken, ExceedsNone};
 ghost use Rattle.polars_compute.specs.Select.{effective_mask};
 
 use sel_calls::choices::choose_handles;
-use sel_handle::column_ref::ColumnRef;
-use sel_handle::handle::Handle;
+use sel_ffi::column_ref::ColumnRef;
+use sel_ffi::handle::Handle;
 use std::alloc::Global;
 
 /// Returns in `out` the column whose row k is row k of `if_true` where the boolean column `mask`

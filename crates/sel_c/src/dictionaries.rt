@@ -3,14 +3,14 @@
 ghost use Rattle.std.specs.Prelude.{◌≡◌, [], ◌∷◌, length, IsTrue};
 ghost use Rattle.sel_arrow.specs.Rows.{rows, type_of};
 ghost use Rattle.sel_arrow.specs.Shape.{of_uint32, of_utf8_view};
-ghost use Rattle.sel_handle.specs.Status.{ok, out_of_memory, no_column, unsupported_type, index_out_of_bounds, held_rows, held_type, Demands, DemandsBefore, DemandsFirst, HasColumn, IsOneOf, Makes};
+ghost use Rattle.sel_ffi.specs.Status.{ok, out_of_memory, no_column, unsupported_type, index_out_of_bounds, held_rows, held_type, Demands, DemandsBefore, DemandsFirst, HasColumn, IsOneOf, Makes};
 ghost use Rattle.polars_compute.specs.Dictionary.{propagated_keys, valid_values};
 ghost use Rattle.polars_compute.specs.Pick.{all_within};
 
 use sel_calls::dictionaries::propagate_columns_into;
-use sel_handle::column_ref::ColumnRef;
-use sel_handle::handle::Handle;
-use sel_handle::status::NO_COLUMN;
+use sel_ffi::column_ref::ColumnRef;
+use sel_ffi::handle::Handle;
+use sel_ffi::status::NO_COLUMN;
 use std::alloc::Global;
 
 /// Removes the null values of a dictionary: returns in `out_values` the values that are not null,

@@ -3,13 +3,13 @@
 
 ghost use Rattle.std.specs.Prelude.{◌≡◌, ◌≢◌, ◌≤◌, ◌*◌, None, Some};
 ghost use Rattle.sel_bits.specs.Bits.{bits_from, unsliced};
-ghost use Rattle.sel_handle.specs.Status.{ok, out_of_memory};
+ghost use Rattle.sel_ffi.specs.Status.{ok, out_of_memory};
 ghost use Rattle.sel_lent.specs.Buffers.{IsBitsOf, IsPartOf};
 ghost use Rattle.sel_lent.specs.declared.shared_buffer.SharedBuffer.TheVariants.{Bits, Int8, Int16, Int32, Int64, UInt8, UInt16, UInt32, UInt64, Views};
 
 use sel_arrow::view::View;
 use sel_bits::lent::Lent;
-use sel_handle::status::{LENGTH_MISMATCH, OK, OUT_OF_MEMORY};
+use sel_ffi::status::{LENGTH_MISMATCH, OK, OUT_OF_MEMORY};
 use sel_lent::buffer_handle::BufferHandle;
 use sel_lent::lending::{give_back, give_back_bits, lend, lend_bits};
 use sel_lent::memory::{

@@ -10,14 +10,14 @@ ghost use Rattle.sel_arrow.specs.Pieces.{byte_rows, rows_between};
 ghost use Rattle.sel_arrow.specs.Rows.{rows, type_of};
 ghost use Rattle.sel_arrow.specs.Shape.{of_boolean, of_large_binary, of_binary_view, of_utf8_view, of_large_list, of_fixed_size_list, of_struct, shapes_of};
 ghost use Rattle.sel_arrow.specs.Views.{view_rows};
-ghost use Rattle.sel_handle.specs.Inputs.{positions};
-ghost use Rattle.sel_handle.specs.Layout.{held_buffers};
-ghost use Rattle.sel_handle.specs.Status.{ok, held_rows, held_type, Makes};
+ghost use Rattle.sel_ffi.specs.Inputs.{positions};
+ghost use Rattle.sel_ffi.specs.Layout.{held_buffers};
+ghost use Rattle.sel_ffi.specs.Status.{ok, held_rows, held_type, Makes};
 ghost use Rattle.sel_lent.specs.Buffers.{bitmap_of, bits_of, bytes_in, bytes_of, count_over, first_of, integers_of, length_of, of_column, offsets_in, rows_over, type_over, validity_over, values_in, views_of};
 ghost use Rattle.sel_lent.specs.declared.shared_buffer.SharedBuffer.TheVariants.{UInt8};
 
-use sel_handle::column_ref::ColumnRef;
-use sel_handle::handle::Handle;
+use sel_ffi::column_ref::ColumnRef;
+use sel_ffi::handle::Handle;
 use sel_lent::buffer_handle::BufferHandle;
 use sel_lent::buffer_ref::BufferRef;
 use sel_lent::columns::{

@@ -5,17 +5,17 @@ ghost use Rattle.sel_arrow.specs.Depth.{depth};
 ghost use Rattle.sel_arrow.specs.Rows.{rows, type_of};
 ghost use Rattle.sel_arrow.specs.Shape.{of_large_list, is_list_shape};
 ghost use Rattle.sel_calls.specs.Types.{entry_type};
-ghost use Rattle.sel_handle.specs.Status.{ok, out_of_memory, no_column, unsupported_type, too_deep, limit_statuses, held_rows, held_type, Demands, DemandsBefore, DemandsFirst, HasColumn, IsOneOf, Makes, ReportsLimits};
-ghost use Rattle.sel_runs.specs.Need.{exceeded_limits};
-ghost use Rattle.sel_sublists.specs.Lists.{list_get, oob, unit_lists};
+ghost use Rattle.sel_ffi.specs.Status.{ok, out_of_memory, no_column, unsupported_type, too_deep, limit_statuses, held_rows, held_type, Demands, DemandsBefore, DemandsFirst, HasColumn, IsOneOf, Makes, ReportsLimits};
+ghost use Rattle.sel_gather.specs.Need.{exceeded_limits};
+ghost use Rattle.polars_compute.specs.Lists.{list_get, oob, unit_lists};
 
+use polars_compute::gather::sublist::list::array_to_unit_list;
 use sel_arrow::array::Array;
 use sel_calls::lists::{index_is_oob_into, sublist_get_into};
-use sel_handle::column_ref::ColumnRef;
-use sel_handle::depth::{MAX_DEPTH, is_within};
-use sel_handle::handle::Handle;
-use sel_handle::status::{NO_COLUMN, OUT_OF_MEMORY, TOO_DEEP, put};
-use sel_sublists::sublist::list::array_to_unit_list;
+use sel_ffi::column_ref::ColumnRef;
+use sel_ffi::depth::{MAX_DEPTH, is_within};
+use sel_ffi::handle::Handle;
+use sel_ffi::status::{NO_COLUMN, OUT_OF_MEMORY, TOO_DEEP, put};
 use std::alloc::Global;
 
 /// Returns in `out` the column whose row k is the element of list k at `index`, or null if the

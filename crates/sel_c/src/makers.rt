@@ -7,15 +7,15 @@ ghost use Rattle.sel_arrow.specs.Masked.{number_rows, bool_rows};
 ghost use Rattle.sel_arrow.specs.Rows.{rows, type_of};
 ghost use Rattle.sel_arrow.specs.Shape.{of_null, of_boolean, of_int8, of_int16, of_int32, of_int64, of_uint8, of_uint16, of_uint32, of_uint64};
 ghost use Rattle.sel_arrow.specs.Value.{Null};
-ghost use Rattle.sel_handle.specs.Inputs.{validity_in, flat_rules};
-ghost use Rattle.sel_handle.specs.Status.{length_mismatch, DemandsFirst, Makes, ReportsOnly};
+ghost use Rattle.sel_ffi.specs.Inputs.{validity_in, flat_rules};
+ghost use Rattle.sel_ffi.specs.Status.{length_mismatch, DemandsFirst, Makes, ReportsOnly};
 
 use sel_arrow::array::Array;
 use sel_arrow::null::NullArray;
-use sel_handle::handle::Handle;
-use sel_handle::inputs::booleans_of;
-use sel_handle::numbers::make_numbers;
-use sel_handle::status::{LENGTH_MISMATCH, put, status_of_maker};
+use sel_ffi::handle::Handle;
+use sel_ffi::inputs::booleans_of;
+use sel_ffi::numbers::make_numbers;
+use sel_ffi::status::{LENGTH_MISMATCH, put, status_of_maker};
 use std::alloc::Global;
 
 /// Returns in `out` a column of `len` nulls.

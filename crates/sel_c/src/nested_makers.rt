@@ -6,14 +6,14 @@ ghost use Rattle.sel_arrow.specs.Nested.{list_rows, block_rows, struct_rows};
 ghost use Rattle.sel_arrow.specs.Pieces.{byte_rows, rows_between};
 ghost use Rattle.sel_arrow.specs.Rows.{rows, type_of};
 ghost use Rattle.sel_arrow.specs.Shape.{of_large_binary, of_large_list, of_fixed_size_list, of_struct, shapes_of};
-ghost use Rattle.sel_handle.specs.Inputs.{positions, validity_in, binary_rules, list_rules, block_rules, struct_rules};
-ghost use Rattle.sel_handle.specs.Status.{ok, out_of_memory, no_column, too_deep, held_count, held_rows, held_type, DemandsFirst, HasColumn, Makes, ReportsExactly};
+ghost use Rattle.sel_ffi.specs.Inputs.{positions, validity_in, binary_rules, list_rules, block_rules, struct_rules};
+ghost use Rattle.sel_ffi.specs.Status.{ok, out_of_memory, no_column, too_deep, held_count, held_rows, held_type, DemandsFirst, HasColumn, Makes, ReportsExactly};
 
-use sel_handle::handle::Handle;
-use sel_handle::nested::binary_of;
-use sel_handle::nested_into::{fixed_size_list_into, list_into, struct_into};
-use sel_handle::several::{clone_all, empty_all};
-use sel_handle::status::{NO_COLUMN, OK, put, status_of_maker};
+use sel_ffi::handle::Handle;
+use sel_ffi::nested::binary_of;
+use sel_ffi::nested_into::{fixed_size_list_into, list_into, struct_into};
+use sel_ffi::several::{clone_all, empty_all};
+use sel_ffi::status::{NO_COLUMN, OK, put, status_of_maker};
 use std::alloc::Global;
 
 /// Returns in `out` the binary column whose row i is the bytes of `values` from `offsets[i]` up to

@@ -2,13 +2,13 @@
 
 ghost use Rattle.std.specs.Prelude.{◌≡◌, ◌≢◌, None, Some, [], ◌∷◌, length};
 ghost use Rattle.std.specs.Option.{option_map};
-ghost use Rattle.sel_handle.specs.Inputs.{positions};
-ghost use Rattle.sel_handle.specs.Layout.{held_offsets, held_bytes};
-ghost use Rattle.sel_handle.specs.Status.{ok, no_column, unsupported_type, length_mismatch, Demands, DemandsBefore, DemandsFirst, HasColumn, IsOneOf};
+ghost use Rattle.sel_ffi.specs.Inputs.{positions};
+ghost use Rattle.sel_ffi.specs.Layout.{held_offsets, held_bytes};
+ghost use Rattle.sel_ffi.specs.Status.{ok, no_column, unsupported_type, length_mismatch, Demands, DemandsBefore, DemandsFirst, HasColumn, IsOneOf};
 
-use sel_handle::column_ref::ColumnRef;
-use sel_handle::parts::{bytes_into, bytes_len_into, offsets_into};
-use sel_handle::status::NO_COLUMN;
+use sel_ffi::column_ref::ColumnRef;
+use sel_ffi::parts::{bytes_into, bytes_len_into, offsets_into};
+use sel_ffi::status::NO_COLUMN;
 
 /// Copies the offsets of a binary or list column to `out`. In a sliced column the first one may be
 /// above 0.

@@ -5,17 +5,17 @@ ghost use Rattle.sel_bits.specs.Bits.{bits_from};
 ghost use Rattle.sel_arrow.specs.Nulls.{IsValidityOf};
 ghost use Rattle.sel_arrow.specs.Shape.{of_boolean, of_int8, of_int16, of_int32, of_int64, of_uint8, of_uint16, of_uint32, of_uint64};
 ghost use Rattle.sel_arrow.specs.Value.{is_null};
-ghost use Rattle.sel_handle.specs.Inputs.{validity_in};
-ghost use Rattle.sel_handle.specs.Kinds.{held_kind};
-ghost use Rattle.sel_handle.specs.Outputs.{Shows, numbers, bools};
-ghost use Rattle.sel_handle.specs.Status.{ok, out_of_memory, no_column, unsupported_type, length_mismatch, held_rows, held_type, Demands, DemandsBefore, DemandsFirst, HasColumn, IsOneOf};
+ghost use Rattle.sel_ffi.specs.Inputs.{validity_in};
+ghost use Rattle.sel_ffi.specs.Kinds.{held_kind};
+ghost use Rattle.sel_ffi.specs.Outputs.{Shows, numbers, bools};
+ghost use Rattle.sel_ffi.specs.Status.{ok, out_of_memory, no_column, unsupported_type, length_mismatch, held_rows, held_type, Demands, DemandsBefore, DemandsFirst, HasColumn, IsOneOf};
 
 use sel_arrow::array::Array;
-use sel_handle::column_ref::ColumnRef;
-use sel_handle::kinds::{NONE, kind_of};
-use sel_handle::numbers::held_numbers_into;
-use sel_handle::outputs::{booleans_into, validity_into};
-use sel_handle::status::NO_COLUMN;
+use sel_ffi::column_ref::ColumnRef;
+use sel_ffi::kinds::{NONE, kind_of};
+use sel_ffi::numbers::held_numbers_into;
+use sel_ffi::outputs::{booleans_into, validity_into};
+use sel_ffi::status::NO_COLUMN;
 use std::alloc::Global;
 
 /// Returns the number of rows, or 0 if `of` is empty.

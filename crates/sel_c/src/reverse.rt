@@ -2,12 +2,12 @@
 
 ghost use Rattle.std.specs.Prelude.{◌≡◌, ◌∷◌, [], reverse};
 ghost use Rattle.sel_arrow.specs.Rows.{rows, type_of};
-ghost use Rattle.sel_handle.specs.Status.{ok, out_of_memory, no_column, held_rows, held_type, DemandsFirst, HasColumn, IsOneOf, Makes};
+ghost use Rattle.sel_ffi.specs.Status.{ok, out_of_memory, no_column, held_rows, held_type, DemandsFirst, HasColumn, IsOneOf, Makes};
 
 use polars_compute::reverse::reverse;
-use sel_handle::column_ref::ColumnRef;
-use sel_handle::handle::Handle;
-use sel_handle::status::{NO_COLUMN, OUT_OF_MEMORY, put};
+use sel_ffi::column_ref::ColumnRef;
+use sel_ffi::handle::Handle;
+use sel_ffi::status::{NO_COLUMN, OUT_OF_MEMORY, put};
 use std::alloc::Global;
 
 /// Returns in `out` the rows of `of` in reverse order.

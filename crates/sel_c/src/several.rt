@@ -7,16 +7,16 @@ ghost use Rattle.sel_bits.specs.declared.faults.Malformed.TheVariants.{TooManyRo
 ghost use Rattle.sel_arrow.specs.Rows.{rows, type_of};
 ghost use Rattle.sel_arrow.specs.Value.{Null};
 ghost use Rattle.sel_calls.specs.Several.{first_shape, picks_in, AreAlike};
-ghost use Rattle.sel_flatten.specs.Flatten.{flatten, parts_fit, exceeded_flattened};
-ghost use Rattle.sel_handle.specs.Inputs.{lacks_bits};
-ghost use Rattle.sel_handle.specs.Status.{ok, out_of_memory, no_column, type_mismatch, length_mismatch, index_out_of_bounds, rule_status, limit_statuses, held_columns, held_rows, held_type, DemandsBefore, DemandsFirst, HasColumn, IsOneOf, Makes, ReportsLimits};
-ghost use Rattle.sel_runs.specs.Need.{exceeded_taken, ExceedsNone};
-ghost use Rattle.sel_runs.specs.Picks.{pick, PickFits};
+ghost use Rattle.polars_compute.specs.Flatten.{flatten, parts_fit, exceeded_flattened};
+ghost use Rattle.sel_ffi.specs.Inputs.{lacks_bits};
+ghost use Rattle.sel_ffi.specs.Status.{ok, out_of_memory, no_column, type_mismatch, length_mismatch, index_out_of_bounds, rule_status, limit_statuses, held_columns, held_rows, held_type, DemandsBefore, DemandsFirst, HasColumn, IsOneOf, Makes, ReportsLimits};
+ghost use Rattle.sel_gather.specs.Need.{exceeded_taken, ExceedsNone};
+ghost use Rattle.sel_gather.specs.Picks.{pick, PickFits};
 
 use sel_calls::several::{PickWords, collect_into, flatten_into};
-use sel_handle::column_ref::ColumnRef;
-use sel_handle::handle::Handle;
-use sel_handle::several::share_all;
+use sel_ffi::column_ref::ColumnRef;
+use sel_ffi::handle::Handle;
+use sel_ffi::several::share_all;
 use std::alloc::Global;
 
 /// Concatenates columns row by row. Returns in `out`, for each r below `height`, in order,

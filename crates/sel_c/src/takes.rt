@@ -6,15 +6,15 @@ ghost use Rattle.sel_bits.specs.declared.faults.Malformed.TheVariants.{TooManyRo
 ghost use Rattle.sel_arrow.specs.Masked.{number_rows};
 ghost use Rattle.sel_arrow.specs.Rows.{rows, type_of};
 ghost use Rattle.sel_arrow.specs.Shape.{of_uint32};
-ghost use Rattle.sel_handle.specs.Inputs.{lacks_bits, validity_in};
-ghost use Rattle.sel_handle.specs.Status.{ok, out_of_memory, no_column, unsupported_type, index_out_of_bounds, rule_status, limit_statuses, held_rows, held_type, DemandsBefore, DemandsFirst, HasColumn, IsOneOf, Makes, ReportsLimits};
-ghost use Rattle.sel_runs.specs.Need.{exceeded_limits};
+ghost use Rattle.sel_ffi.specs.Inputs.{lacks_bits, validity_in};
+ghost use Rattle.sel_ffi.specs.Status.{ok, out_of_memory, no_column, unsupported_type, index_out_of_bounds, rule_status, limit_statuses, held_rows, held_type, DemandsBefore, DemandsFirst, HasColumn, IsOneOf, Makes, ReportsLimits};
+ghost use Rattle.sel_gather.specs.Need.{exceeded_limits};
 ghost use Rattle.polars_compute.specs.Pick.{all_within, take_rows};
 
 use sel_calls::takes::{take_into, take_rows_into};
-use sel_handle::column_ref::ColumnRef;
-use sel_handle::handle::Handle;
-use sel_handle::status::NO_COLUMN;
+use sel_ffi::column_ref::ColumnRef;
+use sel_ffi::handle::Handle;
+use sel_ffi::status::NO_COLUMN;
 use std::alloc::Global;
 
 /// Returns in `out` the rows of `of` at `indices`. A null index gives a null row.

@@ -6,15 +6,15 @@ ghost use Rattle.sel_arrow.specs.Shape.{Shape};
 ghost use Rattle.sel_arrow.specs.Value.{Value};
 ghost use Rattle.sel_calls.specs.Parsed.{exceeds_parse_limit, IsRowsText, IsTypeText};
 ghost use Rattle.sel_calls.specs.Printed.{filled, held_text, held_type_text};
-ghost use Rattle.sel_handle.specs.Status.{ok, out_of_memory, no_column, type_syntax, row_syntax, row_type_mismatch, text_limit, held_rows, DemandsFirst, HasColumn, IsOneOf, Makes};
+ghost use Rattle.sel_ffi.specs.Status.{ok, out_of_memory, no_column, type_syntax, row_syntax, row_type_mismatch, text_limit, held_rows, DemandsFirst, HasColumn, IsOneOf, Makes};
 ghost use Rattle.sel_text.specs.Spelling.{spelled};
 ghost use Rattle.sel_text.specs.Texts.{text_of};
 ghost use Rattle.sel_text.specs.Types.{type_text};
 
 use sel_calls::texts::{parse_into, print_into, print_type_into};
-use sel_handle::column_ref::ColumnRef;
-use sel_handle::handle::Handle;
-use sel_handle::status::{NO_COLUMN, OK};
+use sel_ffi::column_ref::ColumnRef;
+use sel_ffi::handle::Handle;
+use sel_ffi::status::{NO_COLUMN, OK};
 use sel_text::equal::equal_rows;
 use std::alloc::Global;
 

@@ -5,15 +5,15 @@ ghost use Rattle.std.specs.Option.{option_map};
 ghost use Rattle.sel_arrow.specs.Rows.{rows, type_of};
 ghost use Rattle.sel_arrow.specs.Shape.{of_binary_view, of_utf8_view};
 ghost use Rattle.sel_arrow.specs.Views.{view_rows};
-ghost use Rattle.sel_handle.specs.Inputs.{validity_in, views_in, binview_rules, utf8view_rules};
-ghost use Rattle.sel_handle.specs.Layout.{held_buffers, held_views};
-ghost use Rattle.sel_handle.specs.Status.{ok, no_column, unsupported_type, length_mismatch, index_out_of_bounds, Demands, DemandsBefore, DemandsFirst, HasColumn, IsOneOf, Makes, ReportsExactly};
+ghost use Rattle.sel_ffi.specs.Inputs.{validity_in, views_in, binview_rules, utf8view_rules};
+ghost use Rattle.sel_ffi.specs.Layout.{held_buffers, held_views};
+ghost use Rattle.sel_ffi.specs.Status.{ok, no_column, unsupported_type, length_mismatch, index_out_of_bounds, Demands, DemandsBefore, DemandsFirst, HasColumn, IsOneOf, Makes, ReportsExactly};
 
-use sel_handle::column_ref::ColumnRef;
-use sel_handle::handle::Handle;
-use sel_handle::status::{NO_COLUMN, put, status_of_maker};
-use sel_handle::view_parts::{buffer_count_into, buffer_into, buffer_len_into, views_into};
-use sel_handle::views::{ViewWords, binview_of, utf8view_of};
+use sel_ffi::column_ref::ColumnRef;
+use sel_ffi::handle::Handle;
+use sel_ffi::status::{NO_COLUMN, put, status_of_maker};
+use sel_ffi::view_parts::{buffer_count_into, buffer_into, buffer_len_into, views_into};
+use sel_ffi::views::{ViewWords, binview_of, utf8view_of};
 use std::alloc::Global;
 
 /// Returns in `out` the binary column of these views: a value of up to 12 bytes is stored in its

@@ -2,12 +2,12 @@
 
 ghost use Rattle.std.specs.Prelude.{◌≡◌, ◌≤◌, ◌+◌, [], ◌∷◌, length, take, drop, None};
 ghost use Rattle.sel_arrow.specs.Rows.{rows, type_of};
-ghost use Rattle.sel_handle.specs.Status.{ok, out_of_memory, no_column, index_out_of_bounds, held_rows, held_type, Demands, DemandsFirst, HasColumn, IsOneOf, Makes};
+ghost use Rattle.sel_ffi.specs.Status.{ok, out_of_memory, no_column, index_out_of_bounds, held_rows, held_type, Demands, DemandsFirst, HasColumn, IsOneOf, Makes};
 
 use sel_arrow::array::Array;
-use sel_handle::column_ref::ColumnRef;
-use sel_handle::handle::Handle;
-use sel_handle::status::{INDEX_OUT_OF_BOUNDS, NO_COLUMN, OUT_OF_MEMORY, put, put_shared};
+use sel_ffi::column_ref::ColumnRef;
+use sel_ffi::handle::Handle;
+use sel_ffi::status::{INDEX_OUT_OF_BOUNDS, NO_COLUMN, OUT_OF_MEMORY, put, put_shared};
 use std::alloc::Global;
 
 /// Returns in `out` the `len` rows of `of` from row `off` on. The result shares the buffers of

@@ -5,15 +5,15 @@ ghost use Rattle.sel_arrow.specs.Masked.{number_rows};
 ghost use Rattle.sel_arrow.specs.Rows.{rows, type_of};
 ghost use Rattle.sel_arrow.specs.Shape.{of_int128, of_uint128};
 ghost use Rattle.sel_calls.specs.Wides.{signed_wide, unsigned_wide};
-ghost use Rattle.sel_handle.specs.Inputs.{validity_in, flat_rules};
-ghost use Rattle.sel_handle.specs.Outputs.{Shows, numbers};
-ghost use Rattle.sel_handle.specs.Status.{ok, out_of_memory, no_column, unsupported_type, length_mismatch, held_rows, held_type, Demands, DemandsBefore, DemandsFirst, HasColumn, IsOneOf, Makes, ReportsExactly};
+ghost use Rattle.sel_ffi.specs.Inputs.{validity_in, flat_rules};
+ghost use Rattle.sel_ffi.specs.Outputs.{Shows, numbers};
+ghost use Rattle.sel_ffi.specs.Status.{ok, out_of_memory, no_column, unsupported_type, length_mismatch, held_rows, held_type, Demands, DemandsBefore, DemandsFirst, HasColumn, IsOneOf, Makes, ReportsExactly};
 
 use sel_arrow::primitive::ArrowPrimitive;
 use sel_calls::wides::{Wide, wides_into, wides_of};
-use sel_handle::column_ref::ColumnRef;
-use sel_handle::handle::Handle;
-use sel_handle::status::{NO_COLUMN, put, status_of_maker};
+use sel_ffi::column_ref::ColumnRef;
+use sel_ffi::handle::Handle;
+use sel_ffi::status::{NO_COLUMN, put, status_of_maker};
 use std::alloc::Global;
 
 /// Returns in `out` the column of these 128-bit integers in two's complement.

@@ -7,7 +7,7 @@ use Rattle.std.proofs.lemmas.List.Elements.{All-map}
 use Rattle.sel_arrow.specs.Rows.{type_of}
 use Rattle.sel_arrow.specs.Shape.{Shape}
 use Rattle.sel_arrow.specs.declared.array_ref.ArrayRef.{ArrayRef}
-use Rattle.sel_runs.specs.Sources.{first_type}
+use Rattle.sel_gather.specs.Sources.{first_type}
 use Rattle.sel_calls.specs.Several.{first_shape, AreAlike}
 
 pub first_same : (arrays : List ArrayRef) → first_shape (map (λ array. type_of array.column) arrays) ≡ first_type (map (λ array. array.column) arrays)

@@ -5,10 +5,10 @@ use Rattle.sel_bits.specs.Bits.{Bits}
 use Rattle.sel_arrow.specs.declared.column.Column.{Column, Struct}
 use Rattle.sel_arrow.specs.declared.column.Column.TheVariants.{Struct'}
 use Rattle.sel_arrow.proofs.NestedRows.{struct_covered}
-use Rattle.sel_runs.specs.Children.{child, is_listing, field, fields_of}
-use Rattle.sel_runs.proofs.Below.{child_formed}
-use Rattle.sel_runs.proofs.FieldsOf.{fields_of-Struct}
-use Rattle.sel_runs.proofs.TupleRows.{formed_in}
+use Rattle.sel_gather.specs.Children.{child, is_listing, field, fields_of}
+use Rattle.sel_gather.proofs.Below.{child_formed}
+use Rattle.sel_gather.proofs.FieldsOf.{fields_of-Struct}
+use Rattle.sel_gather.proofs.TupleRows.{formed_in}
 
 pub field_is_formed : (c : Column) (j : ℕ) → well_formed c ≡ true → j < length (fields_of c) → well_formed (field j c) ≡ true
 field_is_formed (Struct' len n fields validity) j formed h = (formed_in _ fields len j (Struct' len n fields validity) (struct_covered len validity (all_well_formed len fields) formed).2 h).1

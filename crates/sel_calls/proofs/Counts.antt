@@ -3,9 +3,9 @@ use Rattle.std.proofs.Common.{◌≡◌, ℕ, List, [], ◌∷◌, length, map, 
 use Rattle.sel_arrow.specs.Rows.{rows, row_count}
 use Rattle.sel_arrow.specs.declared.array_ref.ArrayRef.{ArrayRef}
 use Rattle.sel_arrow.proofs.NestedRows.{length-rows}
-use Rattle.sel_handle.specs.Held.{Held}
-use Rattle.sel_handle.specs.Status.{held_count, held_rows}
-use Rattle.sel_handle.specs.declared.handle.Handle.{Handle}
+use Rattle.sel_ffi.specs.Held.{Held}
+use Rattle.sel_ffi.specs.Status.{held_count, held_rows}
+use Rattle.sel_ffi.specs.declared.handle.Handle.{Handle}
 
 count_of : (held : Held) → held_count held ≡ length (held_rows held)
 count_of None = refl

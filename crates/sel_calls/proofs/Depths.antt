@@ -8,7 +8,7 @@ use Rattle.sel_arrow.specs.declared.column.Column.{Column, Row_of-Column, end_of
 use Rattle.sel_arrow.specs.declared.column.Column.TheVariants.{LargeList', FixedSizeList', Struct'}
 use Rattle.sel_calls.specs.Several.{first_shape}
 use Rattle.sel_calls.specs.Types.{entry_type}
-use Rattle.sel_runs.specs.Children.{child, columns_in, field, fields_of}
+use Rattle.sel_gather.specs.Children.{child, columns_in, field, fields_of}
 
 pub entry_depth : (s : Shape) → depth (entry_type s) ≤ depth s
 entry_depth (of_large_list s) = omega arith

@@ -8,8 +8,8 @@ use Rattle.sel_arrow.specs.Rows.{rows}
 use Rattle.sel_arrow.specs.Value.{Value, Number}
 use Rattle.sel_arrow.specs.declared.fixed_size_list.FixedSizeListArray.{FixedSizeListArray}
 use Rattle.sel_arrow.proofs.NestedRows.{length-rows}
-use Rattle.sel_handle.specs.Status.{ok, error_status, list_index_out_of_bounds, limit_statuses, IsOneOf, ReportsLimits}
-use Rattle.sel_sublists.specs.Entries.{at_each, is_get_error, exceeded_entries, IsGetError}
+use Rattle.sel_ffi.specs.Status.{ok, error_status, list_index_out_of_bounds, limit_statuses, IsOneOf, ReportsLimits}
+use Rattle.polars_compute.specs.Entries.{at_each, is_get_error, exceeded_entries, IsGetError}
 use Rattle.sel_calls.proofs.Limits.{limit_high, tells-none, tells-passed}
 
 -- The index that the call passes for each list is the given index for each row.

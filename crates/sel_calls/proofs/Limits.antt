@@ -4,8 +4,8 @@ use Rattle.sel_bits.specs.declared.faults.Limit.{Limit}
 use Rattle.sel_bits.specs.declared.faults.Limit.TheVariants.{Rows, Bytes, Buffers, ViewBytes}
 use Rattle.sel_bits.specs.declared.faults.PolarsError.{PolarsError}
 use Rattle.sel_bits.specs.declared.faults.PolarsError.TheVariants.{OutOfMemory, SizeLimit, ComputeError}
-use Rattle.sel_handle.specs.Status.{error_status, limit_status, ReportsLimits}
-use Rattle.sel_runs.specs.Need.{IsLimitOrMemory}
+use Rattle.sel_ffi.specs.Status.{error_status, limit_status, ReportsLimits}
+use Rattle.sel_gather.specs.Need.{IsLimitOrMemory}
 
 pub limit_high : (limit : Limit) → 8 ≤ limit_status limit
 limit_high Rows = omega arith

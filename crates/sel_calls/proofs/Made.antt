@@ -2,8 +2,8 @@
 use Rattle.std.proofs.Common.{◌≡◌, ℕ, Bool, true, false, ◌==◌, cond, None, Some, subst, sym}
 use Rattle.std.specs.Option.{IsSomeAnd}
 use Rattle.sel_arrow.specs.declared.array_ref.ArrayRef.{ArrayRef}
-use Rattle.sel_handle.specs.Held.{Held}
-use Rattle.sel_handle.specs.Status.{Makes, ok}
+use Rattle.sel_ffi.specs.Held.{Held}
+use Rattle.sel_ffi.specs.Status.{Makes, ok}
 
 either : (b : Bool) (before after : Held) (column : ArrayRef) (Holds : ArrayRef → Type 0) → cond b (IsSomeAnd after (λ made. made ≡ column)) (after ≡ before) → Holds column → cond b (IsSomeAnd after Holds) (after ≡ before)
 either true before None column Holds made holds = made

@@ -6,8 +6,8 @@ use Rattle.sel_bits.specs.Bits.{Bits}
 use Rattle.sel_arrow.specs.Masked.{Covers, valid_at}
 use Rattle.sel_arrow.specs.Rows.{rows}
 use Rattle.sel_arrow.specs.declared.array_ref.ArrayRef.{ArrayRef}
-use Rattle.sel_runs.specs.Picks.{PickFits}
-use Rattle.sel_runs.specs.Plans.{IsPicked}
+use Rattle.sel_gather.specs.Picks.{PickFits}
+use Rattle.sel_gather.specs.Plans.{IsPicked}
 use Rattle.sel_calls.specs.PickLengths.{HasRow}
 use Rattle.sel_calls.specs.Several.{pick_in, picks_from}
 use Rattle.sel_calls.specs.declared.several.PickWords.{PickWords}

@@ -9,13 +9,13 @@ use Rattle.sel_arrow.specs.Shape.{Shape}
 use Rattle.sel_arrow.specs.Value.{Value, Null}
 use Rattle.sel_arrow.specs.declared.array_ref.ArrayRef.{ArrayRef}
 use Rattle.sel_arrow.specs.declared.column.Column.{Column}
-use Rattle.sel_choices.proofs.SameNeeds.{AllLike, likes, same_needs, turned}
-use Rattle.sel_flatten.specs.Flatten.{flatten, exceeded_flattened}
-use Rattle.sel_handle.specs.Held.{Held}
-use Rattle.sel_handle.specs.Status.{held_buffer_lists, held_columns, held_rows, held_type, HasColumn, ReportsLimits}
-use Rattle.sel_handle.specs.declared.column_ref.ColumnRef.{ColumnRef}
-use Rattle.sel_runs.specs.Need.{exceeded_taken, ExceedsNone}
-use Rattle.sel_runs.specs.Picks.{pick}
+use Rattle.sel_ternary.proofs.SameNeeds.{AllLike, likes, same_needs, turned}
+use Rattle.polars_compute.specs.Flatten.{flatten, exceeded_flattened}
+use Rattle.sel_ffi.specs.Held.{Held}
+use Rattle.sel_ffi.specs.Status.{held_buffer_lists, held_columns, held_rows, held_type, HasColumn, ReportsLimits}
+use Rattle.sel_ffi.specs.declared.column_ref.ColumnRef.{ColumnRef}
+use Rattle.sel_gather.specs.Need.{exceeded_taken, ExceedsNone}
+use Rattle.sel_gather.specs.Picks.{pick}
 use Rattle.sel_calls.specs.Several.{first_shape, AreAlike}
 use Rattle.sel_calls.proofs.Alike.{alike_columns, first_same}
 

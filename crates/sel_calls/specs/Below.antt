@@ -4,8 +4,8 @@ use Rattle.sel_arrow.specs.Rows.{rows, type_of}
 use Rattle.sel_arrow.specs.Shape.{Shape, of_null}
 use Rattle.sel_arrow.specs.Value.{Value}
 use Rattle.sel_arrow.specs.declared.column.Column.{Column}
-use Rattle.sel_handle.specs.Held.{Held}
-use Rattle.sel_runs.specs.Children.{child, field, fields_of}
+use Rattle.sel_ffi.specs.Held.{Held}
+use Rattle.sel_gather.specs.Children.{child, field, fields_of}
 
 -- The rows, and the type, of the child of a list column (Arrow columnar format: list layouts).
 abbrev pub held_child_rows : Held → List Value

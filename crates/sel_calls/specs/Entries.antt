@@ -4,8 +4,8 @@ use Rattle.sel_bits.specs.declared.faults.Limit.{Limit}
 use Rattle.sel_arrow.specs.Shape.{Shape}
 use Rattle.sel_arrow.specs.Value.{Value, Number}
 use Rattle.sel_calls.specs.Types.{entry_type, width_of}
-use Rattle.sel_runs.specs.Need.{exceeded_limits}
-use Rattle.sel_sublists.specs.Entries.{fixed_get, any_out_of_bounds}
+use Rattle.sel_gather.specs.Need.{exceeded_limits}
+use Rattle.polars_compute.specs.Entries.{fixed_get, any_out_of_bounds}
 
 -- The element of each list at one index.
 abbrev pub entries_at : List Value → Shape → ℤ → List Value

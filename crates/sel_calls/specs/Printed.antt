@@ -1,7 +1,7 @@
 -- The texts of a handle's column, and the bytes of them that are copied.
 use Rattle.std.specs.Prelude.{ℕ, List, length, take, drop, ◌++◌}
-use Rattle.sel_handle.specs.Held.{Held}
-use Rattle.sel_handle.specs.Status.{held_rows, held_type}
+use Rattle.sel_ffi.specs.Held.{Held}
+use Rattle.sel_ffi.specs.Status.{held_rows, held_type}
 use Rattle.sel_text.specs.Texts.{text_of}
 use Rattle.sel_text.specs.Types.{type_text}
 

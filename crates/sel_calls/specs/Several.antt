@@ -4,7 +4,7 @@ use Rattle.std.specs.Prelude.{if◌then◌else◌}
 use Rattle.sel_bits.specs.Bits.{Bits}
 use Rattle.sel_arrow.specs.Masked.{valid_at}
 use Rattle.sel_arrow.specs.Shape.{Shape, of_null}
-use Rattle.sel_handle.specs.Inputs.{validity_in}
+use Rattle.sel_ffi.specs.Inputs.{validity_in}
 use Rattle.sel_calls.specs.declared.several.PickWords.{PickWords}
 
 -- The first of several types; the null type if there is none.

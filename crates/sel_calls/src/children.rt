@@ -5,13 +5,13 @@ ghost use Rattle.sel_arrow.specs.Depth.{depth};
 ghost use Rattle.sel_arrow.specs.Rows.{rows, type_of, IsWellFormed};
 ghost use Rattle.sel_arrow.specs.Shape.{is_block_shape, is_struct_shape};
 ghost use Rattle.sel_calls.specs.Types.{width_of};
-ghost use Rattle.sel_handle.specs.Status.{ok, out_of_memory, no_column, unsupported_type, index_out_of_bounds, Demands, IsOneOf, Makes};
-ghost use Rattle.sel_runs.specs.Children.{child, field, fields_of, is_listing};
+ghost use Rattle.sel_ffi.specs.Status.{ok, out_of_memory, no_column, unsupported_type, index_out_of_bounds, Demands, IsOneOf, Makes};
+ghost use Rattle.sel_gather.specs.Children.{child, field, fields_of, is_listing};
 
 use sel_arrow::array_ref::ArrayRef;
 use sel_arrow::column::Column;
-use sel_handle::handle::Handle;
-use sel_handle::status::{INDEX_OUT_OF_BOUNDS, OK, OUT_OF_MEMORY, UNSUPPORTED_TYPE, put};
+use sel_ffi::handle::Handle;
+use sel_ffi::status::{INDEX_OUT_OF_BOUNDS, OK, OUT_OF_MEMORY, UNSUPPORTED_TYPE, put};
 use std::alloc::Global;
 
 /// Stores the child of a list or fixed-size list column in `out`.

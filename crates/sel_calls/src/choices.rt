@@ -6,9 +6,9 @@ ghost use Rattle.sel_arrow.specs.Columns.{boolean_rows};
 ghost use Rattle.sel_arrow.specs.Depth.{depth};
 ghost use Rattle.sel_arrow.specs.Rows.{rows, type_of};
 ghost use Rattle.sel_arrow.specs.Shape.{of_boolean};
-ghost use Rattle.sel_choices.specs.Chosen.{chosen_rows, SideFits};
-ghost use Rattle.sel_handle.specs.Status.{ok, out_of_memory, no_column, unsupported_type, type_mismatch, length_mismatch, limit_statuses, held_columns, held_rows, held_type, DemandsBefore, DemandsFirst, HasColumn, IsOneOf, Makes, ReportsLimits};
-ghost use Rattle.sel_runs.specs.Need.{exceeded_taken, ExceedsNone, IsLimitOrMemory};
+ghost use Rattle.sel_ternary.specs.Chosen.{chosen_rows, SideFits};
+ghost use Rattle.sel_ffi.specs.Status.{ok, out_of_memory, no_column, unsupported_type, type_mismatch, length_mismatch, limit_statuses, held_columns, held_rows, held_type, DemandsBefore, DemandsFirst, HasColumn, IsOneOf, Makes, ReportsLimits};
+ghost use Rattle.sel_gather.specs.Need.{exceeded_taken, ExceedsNone, IsLimitOrMemory};
 ghost use Rattle.polars_compute.specs.Select.{effective_mask};
 
 use sel_arrow::array::Array;
@@ -17,14 +17,14 @@ use sel_arrow::boolean::BooleanArray;
 use sel_arrow::column::Column;
 use sel_bits::bitmap::Bitmap;
 use sel_bits::faults::PolarsResult;
-use sel_choices::if_then_else::any::{
+use sel_ffi::column_ref::ColumnRef;
+use sel_ffi::handle::Handle;
+use sel_ffi::status::{
+    LENGTH_MISMATCH, NO_COLUMN, OUT_OF_MEMORY, TYPE_MISMATCH, UNSUPPORTED_TYPE, put, status_of,
+};
+use sel_ternary::if_then_else::any::{
     if_then_else_any, if_then_else_any_broadcast_both, if_then_else_any_broadcast_false,
     if_then_else_any_broadcast_true,
-};
-use sel_handle::column_ref::ColumnRef;
-use sel_handle::handle::Handle;
-use sel_handle::status::{
-    LENGTH_MISMATCH, NO_COLUMN, OUT_OF_MEMORY, TYPE_MISMATCH, UNSUPPORTED_TYPE, put, status_of,
 };
 use std::alloc::Global;
 

@@ -6,7 +6,7 @@ ghost use Rattle.sel_arrow.specs.Columns.{boolean_rows};
 ghost use Rattle.sel_arrow.specs.Depth.{depth};
 ghost use Rattle.sel_arrow.specs.Rows.{rows, type_of};
 ghost use Rattle.sel_arrow.specs.Shape.{of_boolean};
-ghost use Rattle.sel_handle.specs.Status.{ok, out_of_memory, no_column, unsupported_type, length_mismatch, Demands, DemandsBefore, IsOneOf, Makes};
+ghost use Rattle.sel_ffi.specs.Status.{ok, out_of_memory, no_column, unsupported_type, length_mismatch, Demands, DemandsBefore, IsOneOf, Makes};
 ghost use Rattle.polars_compute.specs.Select.{select, effective_mask};
 
 use polars_compute::filter::{filter, filter_with_bitmap};
@@ -15,8 +15,8 @@ use sel_arrow::array_ref::ArrayRef;
 use sel_arrow::boolean::BooleanArray;
 use sel_arrow::column::Column;
 use sel_bits::bitmap::Bitmap;
-use sel_handle::handle::Handle;
-use sel_handle::status::{LENGTH_MISMATCH, OUT_OF_MEMORY, UNSUPPORTED_TYPE, put};
+use sel_ffi::handle::Handle;
+use sel_ffi::status::{LENGTH_MISMATCH, OUT_OF_MEMORY, UNSUPPORTED_TYPE, put};
 use std::alloc::Global;
 
 /// Stores in `out` the rows of `column` where the mask is true and valid.

@@ -7,14 +7,14 @@ ghost use Rattle.sel_arrow.specs.Rows.{rows, type_of};
 ghost use Rattle.sel_arrow.specs.Shape.{is_block_shape};
 ghost use Rattle.sel_calls.specs.Entries.{entries_at, index_is_error, exceeded_entries_at};
 ghost use Rattle.sel_calls.specs.Types.{entry_type};
-ghost use Rattle.sel_handle.specs.Status.{ok, out_of_memory, no_column, unsupported_type, list_index_out_of_bounds, limit_statuses, DemandsBefore, IsOneOf, Makes, ReportsLimits};
+ghost use Rattle.sel_ffi.specs.Status.{ok, out_of_memory, no_column, unsupported_type, list_index_out_of_bounds, limit_statuses, DemandsBefore, IsOneOf, Makes, ReportsLimits};
 
+use polars_compute::gather::sublist::fixed_size_list::sub_fixed_size_list_get_literal;
 use sel_arrow::array::Array;
 use sel_arrow::array_ref::ArrayRef;
 use sel_arrow::fixed_size_list::FixedSizeListArray;
-use sel_handle::handle::Handle;
-use sel_handle::status::{OUT_OF_MEMORY, UNSUPPORTED_TYPE, put, status_of};
-use sel_sublists::sublist::fixed_size_list::sub_fixed_size_list_get_literal;
+use sel_ffi::handle::Handle;
+use sel_ffi::status::{OUT_OF_MEMORY, UNSUPPORTED_TYPE, put, status_of};
 use std::alloc::Global;
 
 /// Stores in `out` the element at `index` of each fixed-size list; a null list gives a null row.

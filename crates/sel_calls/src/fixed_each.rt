@@ -8,15 +8,15 @@ ghost use Rattle.sel_arrow.specs.Rows.{rows, type_of};
 ghost use Rattle.sel_arrow.specs.Shape.{of_int64, is_block_shape};
 ghost use Rattle.sel_calls.specs.Entries.{entries_at_each, any_index_is_error, exceeded_entries_at_each};
 ghost use Rattle.sel_calls.specs.Types.{entry_type};
-ghost use Rattle.sel_handle.specs.Status.{ok, out_of_memory, no_column, unsupported_type, length_mismatch, list_index_out_of_bounds, limit_statuses, DemandsBefore, IsOneOf, Makes, ReportsLimits};
+ghost use Rattle.sel_ffi.specs.Status.{ok, out_of_memory, no_column, unsupported_type, length_mismatch, list_index_out_of_bounds, limit_statuses, DemandsBefore, IsOneOf, Makes, ReportsLimits};
 
+use polars_compute::gather::sublist::fixed_size_list::sub_fixed_size_list_get;
 use sel_arrow::array::Array;
 use sel_arrow::array_ref::ArrayRef;
 use sel_arrow::fixed_size_list::FixedSizeListArray;
 use sel_arrow::primitive::PrimitiveArray;
-use sel_handle::handle::Handle;
-use sel_handle::status::{LENGTH_MISMATCH, OUT_OF_MEMORY, UNSUPPORTED_TYPE, put, status_of};
-use sel_sublists::sublist::fixed_size_list::sub_fixed_size_list_get;
+use sel_ffi::handle::Handle;
+use sel_ffi::status::{LENGTH_MISMATCH, OUT_OF_MEMORY, UNSUPPORTED_TYPE, put, status_of};
 use std::alloc::Global;
 
 /// Stores in `out` the element of each fixed-size list at its own index; a null list gives a null

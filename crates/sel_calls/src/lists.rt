@@ -6,16 +6,16 @@ ghost use Rattle.sel_arrow.specs.Depth.{depth};
 ghost use Rattle.sel_arrow.specs.Rows.{rows, type_of};
 ghost use Rattle.sel_arrow.specs.Shape.{is_list_shape};
 ghost use Rattle.sel_calls.specs.Types.{entry_type};
-ghost use Rattle.sel_handle.specs.Status.{ok, out_of_memory, no_column, unsupported_type, limit_statuses, Demands, DemandsBefore, IsOneOf, Makes, ReportsLimits};
-ghost use Rattle.sel_runs.specs.Need.{exceeded_limits};
-ghost use Rattle.sel_sublists.specs.Lists.{list_get, oob};
+ghost use Rattle.sel_ffi.specs.Status.{ok, out_of_memory, no_column, unsupported_type, limit_statuses, Demands, DemandsBefore, IsOneOf, Makes, ReportsLimits};
+ghost use Rattle.sel_gather.specs.Need.{exceeded_limits};
+ghost use Rattle.polars_compute.specs.Lists.{list_get, oob};
 
+use polars_compute::gather::sublist::list::{column_index_is_oob, sublist_get};
 use sel_arrow::array::Array;
 use sel_arrow::array_ref::ArrayRef;
 use sel_arrow::list::ListArray;
-use sel_handle::handle::Handle;
-use sel_handle::status::{OK, OUT_OF_MEMORY, UNSUPPORTED_TYPE, put, status_of};
-use sel_sublists::sublist::list::{column_index_is_oob, sublist_get};
+use sel_ffi::handle::Handle;
+use sel_ffi::status::{OK, OUT_OF_MEMORY, UNSUPPORTED_TYPE, put, status_of};
 use std::alloc::Global;
 
 /// Stores in `out` the element at `index` of each list; a null list or an index out of bounds gives

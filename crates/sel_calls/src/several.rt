@@ -9,28 +9,28 @@ ghost use Rattle.sel_arrow.specs.Depth.{depth};
 ghost use Rattle.sel_arrow.specs.Rows.{rows, type_of};
 ghost use Rattle.sel_arrow.specs.Value.{Null};
 ghost use Rattle.sel_calls.specs.Several.{first_shape, picks_from, picks_in, AreAlike};
-ghost use Rattle.sel_flatten.specs.Flatten.{array_columns, flatten, parts_fit, exceeded_flattened};
-ghost use Rattle.sel_handle.specs.Inputs.{lacks_bits};
-ghost use Rattle.sel_handle.specs.Status.{ok, out_of_memory, no_column, type_mismatch, length_mismatch, index_out_of_bounds, rule_status, limit_statuses, DemandsBefore, IsOneOf, Makes, ReportsLimits};
-ghost use Rattle.sel_runs.specs.Need.{exceeded_taken, ExceedsNone};
-ghost use Rattle.sel_runs.specs.Picks.{pick, PickFits};
+ghost use Rattle.polars_compute.specs.Flatten.{array_columns, flatten, parts_fit, exceeded_flattened};
+ghost use Rattle.sel_ffi.specs.Inputs.{lacks_bits};
+ghost use Rattle.sel_ffi.specs.Status.{ok, out_of_memory, no_column, type_mismatch, length_mismatch, index_out_of_bounds, rule_status, limit_statuses, DemandsBefore, IsOneOf, Makes, ReportsLimits};
+ghost use Rattle.sel_gather.specs.Need.{exceeded_taken, ExceedsNone};
+ghost use Rattle.sel_gather.specs.Picks.{pick, PickFits};
 
 use crate::picks::{WordPlaces, are_in_bounds, lengths_of};
+use polars_compute::horizontal_flatten::{flatten_is_safe, horizontal_flatten_unchecked};
 use sel_arrow::array::Array;
 use sel_arrow::array_ref::ArrayRef;
 use sel_arrow::column::Column;
 use sel_arrow::validity::MOST_ROWS;
 use sel_bits::bitmap::Bitmap;
 use sel_bits::faults::PolarsResult;
-use sel_flatten::horizontal_flatten::{flatten_is_safe, horizontal_flatten_unchecked};
-use sel_handle::handle::Handle;
-use sel_handle::inputs::validity_of;
-use sel_handle::status::{
+use sel_ffi::handle::Handle;
+use sel_ffi::inputs::validity_of;
+use sel_ffi::status::{
     INDEX_OUT_OF_BOUNDS, LENGTH_MISMATCH, OUT_OF_MEMORY, TOO_MANY_ROWS, TYPE_MISMATCH,
     VALIDITY_LENGTH, put, status_of,
 };
-use sel_runs::plan::Walk;
-use sel_runs::planned::collect_plan;
+use sel_gather::plan::Walk;
+use sel_gather::planned::collect_plan;
 use std::alloc::Global;
 
 /// A row reference: a row of one of several columns, both counted from 0.

@@ -8,9 +8,9 @@ ghost use Rattle.sel_arrow.specs.Masked.{number_rows};
 ghost use Rattle.sel_arrow.specs.Depth.{depth};
 ghost use Rattle.sel_arrow.specs.Rows.{rows, type_of};
 ghost use Rattle.sel_arrow.specs.Shape.{of_uint32};
-ghost use Rattle.sel_handle.specs.Inputs.{lacks_bits, validity_in};
-ghost use Rattle.sel_handle.specs.Status.{ok, out_of_memory, no_column, unsupported_type, index_out_of_bounds, rule_status, limit_statuses, DemandsBefore, IsOneOf, Makes, ReportsLimits};
-ghost use Rattle.sel_runs.specs.Need.{exceeded_limits};
+ghost use Rattle.sel_ffi.specs.Inputs.{lacks_bits, validity_in};
+ghost use Rattle.sel_ffi.specs.Status.{ok, out_of_memory, no_column, unsupported_type, index_out_of_bounds, rule_status, limit_statuses, DemandsBefore, IsOneOf, Makes, ReportsLimits};
+ghost use Rattle.sel_gather.specs.Need.{exceeded_limits};
 ghost use Rattle.polars_compute.specs.Pick.{all_within, take_rows};
 
 use polars_compute::gather::{indices_in_bounds, take_unchecked};
@@ -18,9 +18,9 @@ use sel_arrow::array::Array;
 use sel_arrow::array_ref::ArrayRef;
 use sel_arrow::column::Column;
 use sel_arrow::primitive::IdxArr;
-use sel_handle::handle::Handle;
-use sel_handle::inputs::numbers_of;
-use sel_handle::status::{
+use sel_ffi::handle::Handle;
+use sel_ffi::inputs::numbers_of;
+use sel_ffi::status::{
     INDEX_OUT_OF_BOUNDS, OUT_OF_MEMORY, UNSUPPORTED_TYPE, put, status_of, status_of_maker,
 };
 use std::alloc::Global;

@@ -8,7 +8,7 @@ ghost use Rattle.sel_arrow.specs.Shape.{Shape};
 ghost use Rattle.sel_arrow.specs.Value.{Value};
 ghost use Rattle.sel_calls.specs.Parsed.{exceeds_parse_limit, IsRowsText, IsTypeText};
 ghost use Rattle.sel_calls.specs.Printed.{filled};
-ghost use Rattle.sel_handle.specs.Status.{ok, out_of_memory, type_syntax, row_syntax, row_type_mismatch, text_limit, IsOneOf, Makes};
+ghost use Rattle.sel_ffi.specs.Status.{ok, out_of_memory, type_syntax, row_syntax, row_type_mismatch, text_limit, IsOneOf, Makes};
 ghost use Rattle.sel_text.specs.Limits.{exceeds_limit};
 ghost use Rattle.sel_text.specs.Spelling.{spelled};
 ghost use Rattle.sel_text.specs.TextErrors.{IsLimitOrMemoryError, IsOffsetWithin};
@@ -18,8 +18,8 @@ ghost use Rattle.sel_text.specs.Written.{widths_written};
 
 use sel_arrow::array_ref::ArrayRef;
 use sel_arrow::datatype::ArrowDataType;
-use sel_handle::handle::Handle;
-use sel_handle::status::{
+use sel_ffi::handle::Handle;
+use sel_ffi::status::{
     OK, OUT_OF_MEMORY, ROW_SYNTAX, ROW_TYPE_MISMATCH, TEXT_LIMIT, TYPE_SYNTAX, put,
 };
 use sel_text::build::NullSlots;

@@ -4,17 +4,17 @@ ghost use Rattle.std.specs.Prelude.{◌≡◌, ◌≢◌, [], ◌∷◌, ℤ, le
 ghost use Rattle.sel_arrow.specs.Masked.{number_rows};
 ghost use Rattle.sel_arrow.specs.Rows.{rows, type_of};
 ghost use Rattle.sel_calls.specs.Wides.{joined, signed_wide, unsigned_wide};
-ghost use Rattle.sel_handle.specs.Inputs.{validity_in, flat_rules, IsRuleOrMemory};
-ghost use Rattle.sel_handle.specs.Outputs.{Shows, numbers};
-ghost use Rattle.sel_handle.specs.Status.{ok, out_of_memory, no_column, unsupported_type, length_mismatch, Demands, DemandsBefore, IsOneOf};
+ghost use Rattle.sel_ffi.specs.Inputs.{validity_in, flat_rules, IsRuleOrMemory};
+ghost use Rattle.sel_ffi.specs.Outputs.{Shows, numbers};
+ghost use Rattle.sel_ffi.specs.Status.{ok, out_of_memory, no_column, unsupported_type, length_mismatch, Demands, DemandsBefore, IsOneOf};
 
 use sel_arrow::array::Array;
 use sel_arrow::array_ref::ArrayRef;
 use sel_arrow::primitive::ArrowPrimitive;
 use sel_arrow::validity::MOST_ROWS;
 use sel_bits::faults::{MakeError, Malformed, PolarsResult};
-use sel_handle::inputs::numbers_of;
-use sel_handle::status::{LENGTH_MISMATCH, OK, OUT_OF_MEMORY, UNSUPPORTED_TYPE};
+use sel_ffi::inputs::numbers_of;
+use sel_ffi::status::{LENGTH_MISMATCH, OK, OUT_OF_MEMORY, UNSUPPORTED_TYPE};
 use std::alloc::Global;
 
 /// A 128-bit integer as two 64-bit words, in the memory layout of a little-endian machine.

@@ -29,9 +29,9 @@ use Rattle.std_alloc.specs.Box.Ownership.{box_owns}
 use Rattle.std_alloc.proofs.ResultValues.{and_tt}
 use Rattle.sel_lent.specs.contracts.shared_buffer.SharedBuffer as shared
 use Rattle.sel_lent.specs.Held.{Held, held_owns}
-use Rattle.sel_handle.specs.contracts.loose.Loose as loose
+use Rattle.sel_ffi.specs.contracts.loose.Loose as loose
 use Rattle.sel_lent.specs.contracts.buffer_handle.BufferHandle as handle
-use Rattle.sel_handle.proofs.LooseSteps.{both}
+use Rattle.sel_ffi.proofs.LooseSteps.{both}
 
 abbrev pub R : RattleType
 R = shared.the_row

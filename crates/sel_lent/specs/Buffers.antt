@@ -9,7 +9,7 @@ use Rattle.sel_arrow.specs.Value.{Value}
 use Rattle.sel_arrow.specs.declared.column.Column.{Column}
 use Rattle.sel_arrow.specs.declared.column.Column.TheVariants as column
 use Rattle.sel_arrow.specs.declared.view.View.{View}
-use Rattle.sel_handle.specs.Held as handle
+use Rattle.sel_ffi.specs.Held as handle
 use Rattle.sel_lent.specs.declared.shared_buffer.SharedBuffer.{SharedBuffer}
 use Rattle.sel_lent.specs.declared.shared_buffer.SharedBuffer.TheVariants.{Bits, Int8, Int16, Int32, Int64}
 use Rattle.sel_lent.specs.declared.shared_buffer.SharedBuffer.TheVariants.{UInt8, UInt16, UInt32, UInt64}

@@ -6,7 +6,7 @@ ghost use Rattle.std.specs.declared.option.Option.TheVariants.{None, Some};
 ghost use Rattle.sel_lent.specs.Held.{Held, held_coded, held_owns};
 
 use crate::shared_buffer::SharedBuffer;
-use sel_handle::loose::Loose;
+use sel_ffi::loose::Loose;
 use std::alloc::Global;
 use std::marker::Model;
 use std::mem::replace;

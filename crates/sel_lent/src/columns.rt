@@ -7,8 +7,8 @@ ghost use Rattle.sel_arrow.specs.Nested.{list_rows, block_rows, struct_rows};
 ghost use Rattle.sel_arrow.specs.Pieces.{byte_rows, rows_between};
 ghost use Rattle.sel_arrow.specs.Rows.{rows, type_of};
 ghost use Rattle.sel_arrow.specs.Shape.{of_boolean, of_large_binary, of_large_list, of_fixed_size_list, of_struct, shapes_of};
-ghost use Rattle.sel_handle.specs.Inputs.{positions};
-ghost use Rattle.sel_handle.specs.Status.{ok, held_rows, held_type, Makes};
+ghost use Rattle.sel_ffi.specs.Inputs.{positions};
+ghost use Rattle.sel_ffi.specs.Status.{ok, held_rows, held_type, Makes};
 ghost use Rattle.sel_lent.specs.Buffers.{bits_of, bytes_of, integers_of, validity_over, rows_over, count_over, type_over};
 
 use crate::buffer_ref::BufferRef;
@@ -23,11 +23,11 @@ use sel_arrow::structure::StructArray;
 use sel_bits::bitmap::Bitmap;
 use sel_bits::buffer::Buffer;
 use sel_bits::offsets::OffsetsBuffer;
-use sel_handle::column_ref::ColumnRef;
-use sel_handle::depth::{MAX_DEPTH, arrays_are_within, is_within};
-use sel_handle::handle::Handle;
-use sel_handle::several::share_all;
-use sel_handle::status::{
+use sel_ffi::column_ref::ColumnRef;
+use sel_ffi::depth::{MAX_DEPTH, arrays_are_within, is_within};
+use sel_ffi::handle::Handle;
+use sel_ffi::several::share_all;
+use sel_ffi::status::{
     LENGTH_MISMATCH, NO_COLUMN, OUT_OF_MEMORY, TOO_DEEP, UNSUPPORTED_TYPE, VALIDITY_LENGTH, put,
     status_of_maker,
 };
@@ -170,7 +170,7 @@ pub fn booleans_over(
 ///
 /// Errors: `UNSUPPORTED_TYPE` if the handle has no buffer of 64-bit integers; `NO_OFFSETS`,
 /// `NEGATIVE_OFFSET` or `DECREASING_OFFSET`; `OUT_OF_MEMORY`.
-#[tactic(auto, using(sel_handle::proofs::Positions::shown))]
+#[tactic(auto, using(sel_ffi::proofs::Positions::shown))]
 fn offsets_from(of: &BufferRef) -> Result<OffsetsBuffer<i64>, u32>
     ensures value { IfOk result (λ offsets. offsets ≡ positions (integers_of of.now.buffer)) }
     ensures refusal { IfErr result (λ status. status ≢ ok) }
@@ -319,7 +319,7 @@ pub fn fixed_size_list_over(
 /// Errors: `NO_COLUMN` if a field is empty; `TOO_DEEP` if one has 128 levels; those of
 /// [`validity_from`]; `TOO_MANY_ROWS`, `FIELD_LENGTH`; `OUT_OF_MEMORY`. On error `out` is
 /// unchanged.
-#[tactic(auto, using(sel_handle::proofs::Tuples::tuples))]
+#[tactic(auto, using(sel_ffi::proofs::Tuples::tuples))]
 pub fn struct_over(
     alloc: Global,
     len: usize,

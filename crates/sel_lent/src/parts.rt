@@ -3,8 +3,8 @@
 ghost use Rattle.std.specs.Prelude.{◌≡◌, ◌≢◌, ◌≤◌, Some, slice_index_or, [], map, pos};
 ghost use Rattle.std.specs.Option.{option_map};
 ghost use Rattle.sel_arrow.specs.Nulls.{IsValidityOf};
-ghost use Rattle.sel_handle.specs.Layout.{held_buffers};
-ghost use Rattle.sel_handle.specs.Status.{ok, held_rows, held_type};
+ghost use Rattle.sel_ffi.specs.Layout.{held_buffers};
+ghost use Rattle.sel_ffi.specs.Status.{ok, held_rows, held_type};
 ghost use Rattle.sel_lent.specs.Buffers.{bitmap_of, bytes_in, of_column, offsets_in, values_in};
 ghost use Rattle.sel_lent.specs.declared.shared_buffer.SharedBuffer.TheVariants.{Bits, Int64, UInt8};
 
@@ -15,8 +15,8 @@ use sel_arrow::column::Column;
 use sel_bits::bitmap::Bitmap;
 use sel_bits::buffer::Buffer;
 use sel_bits::offsets::OffsetsBuffer;
-use sel_handle::column_ref::ColumnRef;
-use sel_handle::status::{INDEX_OUT_OF_BOUNDS, NO_COLUMN, OK, OUT_OF_MEMORY, UNSUPPORTED_TYPE};
+use sel_ffi::column_ref::ColumnRef;
+use sel_ffi::status::{INDEX_OUT_OF_BOUNDS, NO_COLUMN, OK, OUT_OF_MEMORY, UNSUPPORTED_TYPE};
 use std::alloc::Global;
 
 /// Stores the buffer in `out`, and frees the one that `out` had.

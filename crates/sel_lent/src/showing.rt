@@ -2,13 +2,13 @@
 
 ghost use Rattle.std.specs.Prelude.{◌≡◌, length};
 ghost use Rattle.std.specs.Ptr.{as_ptr};
-ghost use Rattle.sel_handle.specs.Status.{ok};
+ghost use Rattle.sel_ffi.specs.Status.{ok};
 ghost use Rattle.sel_lent.specs.Buffers.{first_of, length_of};
 
 use crate::buffer_ref::BufferRef;
 use crate::shared_buffer::SharedBuffer;
 use sel_bits::buffer::Buffer;
-use sel_handle::status::{NO_COLUMN, OK, UNSUPPORTED_TYPE};
+use sel_ffi::status::{NO_COLUMN, OK, UNSUPPORTED_TYPE};
 
 /// Returns the address of the first value.
 fn start_of<T>(values: &[T]) -> *const u8

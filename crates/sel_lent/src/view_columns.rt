@@ -4,7 +4,7 @@ ghost use Rattle.std.specs.Prelude.{◌≡◌, ◌≢◌, length, IfOk, IfErr, m
 ghost use Rattle.sel_arrow.specs.Rows.{rows, type_of};
 ghost use Rattle.sel_arrow.specs.Shape.{of_binary_view, of_utf8_view};
 ghost use Rattle.sel_arrow.specs.Views.{view_rows};
-ghost use Rattle.sel_handle.specs.Status.{ok, Makes};
+ghost use Rattle.sel_ffi.specs.Status.{ok, Makes};
 ghost use Rattle.sel_lent.specs.Buffers.{bytes_of, validity_over, views_of};
 
 use crate::buffer_ref::BufferRef;
@@ -15,8 +15,8 @@ use sel_arrow::binview::BinaryViewArray;
 use sel_arrow::utf8view::Utf8ViewArray;
 use sel_arrow::view::View;
 use sel_bits::buffer::Buffer;
-use sel_handle::handle::Handle;
-use sel_handle::status::{OUT_OF_MEMORY, UNSUPPORTED_TYPE, put, status_of_maker};
+use sel_ffi::handle::Handle;
+use sel_ffi::status::{OUT_OF_MEMORY, UNSUPPORTED_TYPE, put, status_of_maker};
 use std::alloc::Global;
 
 /// Returns the views of a buffer.

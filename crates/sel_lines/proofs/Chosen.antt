@@ -5,7 +5,7 @@ use Rattle.std.proofs.lemmas.Bool.Decides.{Decides-and, Decides-eqb}
 use Rattle.sel_bits.specs.Bits.{Bits}
 use Rattle.sel_arrow.specs.Masked.{bool_rows}
 use Rattle.sel_arrow.specs.Value.{Value, Truth, is_null}
-use Rattle.sel_choices.specs.Choose.{choose}
+use Rattle.sel_ternary.specs.Choose.{choose}
 use Rattle.polars_compute.specs.Select.{effective_mask}
 use Rattle.polars_compute.proofs.Dictionaries.{bare_rows}
 use Rattle.sel_lines.specs.Choose.{choose_result}

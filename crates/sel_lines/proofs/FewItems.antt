@@ -8,8 +8,8 @@ use Rattle.std.proofs.lemmas.List.Splits.{length-slice_split}
 use Rattle.std.proofs.lemmas.List.Sums.{count_by-le-length}
 use Rattle.sel_arrow.specs.Nested.{list_of}
 use Rattle.sel_arrow.specs.Value.{Value, Null, Number, Items, Truth, Bytes, Tuple}
-use Rattle.sel_runs.specs.Children.{items_in, joined_items}
-use Rattle.sel_runs.proofs.ItemRuns.{listed_values}
+use Rattle.sel_gather.specs.Children.{items_in, joined_items}
+use Rattle.sel_gather.proofs.ItemRuns.{listed_values}
 use Rattle.sel_lines.specs.Blocks.{blocks_of, block_of, is_block, parsed_width}
 use Rattle.sel_lines.specs.BlockParts.{standing_for}
 use Rattle.sel_lines.specs.Columns.{all_some, column_of, row_of}

@@ -16,9 +16,9 @@ use Rattle.sel_arrow.specs.Shape.{of_int64}
 use Rattle.sel_arrow.specs.Value.{Value}
 use Rattle.sel_arrow.specs.declared.array_ref.ArrayRef.{ArrayRef}
 use Rattle.sel_arrow.specs.declared.column.Column.{Column}
-use Rattle.sel_runs.specs.Need.{IsLimitOrMemory, ExceedsRows}
-use Rattle.sel_runs.specs.Sources.{first_type}
-use Rattle.sel_flatten.specs.Flatten.{flatten, parts_fit, exceeded_flattened}
+use Rattle.sel_gather.specs.Need.{IsLimitOrMemory, ExceedsRows}
+use Rattle.sel_gather.specs.Sources.{first_type}
+use Rattle.polars_compute.specs.Flatten.{flatten, parts_fit, exceeded_flattened}
 use Rattle.sel_lines.specs.Columns.{all_some, column_text}
 use Rattle.sel_lines.specs.Flatten.{flatten_part, side_by_side, flat_text, flatten_answer, flatten_words}
 use Rattle.sel_lines.specs.Parts.{read_part}

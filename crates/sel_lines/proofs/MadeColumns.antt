@@ -17,9 +17,9 @@ use Rattle.sel_arrow.specs.Value.{Value, is_valid, validities}
 use Rattle.sel_arrow.specs.Views.{all_placed, has_prefix, is_in_range, is_placed, view_value}
 use Rattle.sel_arrow.specs.declared.view.View.{View}
 use Rattle.sel_arrow.proofs.Lists.{and_first, and_second}
-use Rattle.sel_runs.specs.Children.{joined_items}
-use Rattle.sel_runs.specs.Ends.{item_ends}
-use Rattle.sel_runs.proofs.Rebuilt.{ends_between, ends_last}
+use Rattle.sel_gather.specs.Children.{joined_items}
+use Rattle.sel_gather.specs.Ends.{item_ends}
+use Rattle.sel_gather.proofs.Rebuilt.{ends_between, ends_last}
 
 -- ---- errors if no rule is broken
 

@@ -15,12 +15,12 @@ use Rattle.sel_arrow.specs.Rows.{rows}
 use Rattle.sel_arrow.specs.Value.{Value, Null, Truth, Number, Bytes, Items, Tuple, is_valid, validities}
 use Rattle.sel_arrow.specs.declared.fixed_size_list.FixedSizeListArray.{FixedSizeListArray}
 use Rattle.sel_arrow.proofs.Lists.{both, and_first, and_second}
-use Rattle.sel_runs.specs.Children.{items_in, joined_items}
-use Rattle.sel_runs.proofs.ItemRuns.{joined-append, listed_values}
-use Rattle.sel_runs.proofs.Rebuilt.{IsBlock, blocks_length, blocks_rebuilt}
+use Rattle.sel_gather.specs.Children.{items_in, joined_items}
+use Rattle.sel_gather.proofs.ItemRuns.{joined-append, listed_values}
+use Rattle.sel_gather.proofs.Rebuilt.{IsBlock, blocks_length, blocks_rebuilt}
 use Rattle.sel_lines.specs.declared.blocks.Blocks.{Blocks}
-use Rattle.sel_sublists.specs.Entries.{fixed_get, at_each, is_get_error}
-use Rattle.sel_sublists.proofs.Blocks.{long_rows}
+use Rattle.polars_compute.specs.Entries.{fixed_get, at_each, is_get_error}
+use Rattle.polars_compute.proofs.Blocks.{long_rows}
 use Rattle.sel_lines.specs.declared.rows.Rows.{Rows}
 use Rattle.sel_lines.specs.Blocks.{blocks_of, is_block, parsed_width}
 use Rattle.sel_lines.specs.BlockParts.{HasBlocks, standing_for}

@@ -7,11 +7,11 @@ use Rattle.sel_bits.specs.Bits.{Bits}
 use Rattle.sel_arrow.specs.Masked.{hidden}
 use Rattle.sel_arrow.specs.Nested.{list_of, list_rows}
 use Rattle.sel_arrow.specs.Value.{Value, Null, Number, Items, is_valid, validities}
-use Rattle.sel_runs.specs.Children.{items_in, joined_items}
-use Rattle.sel_runs.specs.Ends.{item_ends}
-use Rattle.sel_runs.proofs.ItemRuns.{ends-append, joined-append, listed_values}
-use Rattle.sel_runs.proofs.JoinedRows.{same_numbers}
-use Rattle.sel_runs.proofs.Rebuilt.{IsListed, lists_rebuilt}
+use Rattle.sel_gather.specs.Children.{items_in, joined_items}
+use Rattle.sel_gather.specs.Ends.{item_ends}
+use Rattle.sel_gather.proofs.ItemRuns.{ends-append, joined-append, listed_values}
+use Rattle.sel_gather.proofs.JoinedRows.{same_numbers}
+use Rattle.sel_gather.proofs.Rebuilt.{IsListed, lists_rebuilt}
 use Rattle.sel_lines.specs.declared.lists.Lists.{Lists}
 use Rattle.sel_lines.specs.Columns.{all_some}
 use Rattle.sel_lines.specs.Lists.{rows_of_bars}

@@ -14,8 +14,8 @@ use Rattle.sel_arrow.specs.Views.{all_placed, inline_bytes, view_of, view_value}
 use Rattle.sel_arrow.specs.declared.view.View.{View}
 use Rattle.sel_arrow.proofs.GrownViews.{Named, far_new, near_new, placed_more}
 use Rattle.sel_arrow.proofs.Lists.{both}
-use Rattle.sel_runs.specs.Need.{byte_count, bytes_needed}
-use Rattle.sel_runs.proofs.JoinedRows.{needed-append}
+use Rattle.sel_gather.specs.Need.{byte_count, bytes_needed}
+use Rattle.sel_gather.proofs.JoinedRows.{needed-append}
 use Rattle.sel_lines.specs.Columns.{all_some, column_of, row_of}
 use Rattle.sel_lines.specs.Texts.{string_value}
 use Rattle.sel_lines.specs.Parts.{text_row}

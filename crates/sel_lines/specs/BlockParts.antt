@@ -5,7 +5,7 @@ use Rattle.std.specs.List.{list_all}
 use Rattle.sel_arrow.specs.Masked.{hidden}
 use Rattle.sel_arrow.specs.Nested.{list_of}
 use Rattle.sel_arrow.specs.Value.{Value, Null, Number, validities}
-use Rattle.sel_runs.specs.Children.{joined_items}
+use Rattle.sel_gather.specs.Children.{joined_items}
 use Rattle.sel_lines.specs.declared.blocks.Blocks.{Blocks}
 use Rattle.sel_lines.specs.Blocks.{is_block}
 use Rattle.sel_lines.specs.ListParts.{AreFew}

@@ -5,8 +5,8 @@ use Rattle.std.specs.Prelude.{Option, None, Some}
 use Rattle.sel_arrow.specs.Masked.{hidden}
 use Rattle.sel_arrow.specs.Nested.{list_of}
 use Rattle.sel_arrow.specs.Value.{Value, Null, Number, Items, validities}
-use Rattle.sel_runs.specs.Children.{joined_items}
-use Rattle.sel_runs.specs.Ends.{item_ends}
+use Rattle.sel_gather.specs.Children.{joined_items}
+use Rattle.sel_gather.specs.Ends.{item_ends}
 use Rattle.sel_lines.specs.declared.lists.Lists.{Lists}
 use Rattle.sel_lines.specs.declared.rows.Rows.{Rows}
 use Rattle.sel_bits.specs.Limits.{max_rows}

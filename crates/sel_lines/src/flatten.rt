@@ -4,7 +4,7 @@ ghost use Rattle.sel_bits.specs.Faults.{IsOutOfMemory};
 ghost use Rattle.sel_arrow.specs.Columns.{primitive_rows};
 ghost use Rattle.sel_arrow.specs.Rows.{rows, type_of};
 ghost use Rattle.sel_arrow.specs.Shape.{of_int64};
-ghost use Rattle.sel_runs.specs.Need.{IsLimitOrMemory};
+ghost use Rattle.sel_gather.specs.Need.{IsLimitOrMemory};
 ghost use Rattle.sel_lines.specs.Columns.{all_some};
 ghost use Rattle.sel_lines.specs.Flatten.{flatten_part, part_of_halves, side_by_side, flat_text, flatten_answer, flatten_words};
 ghost use Rattle.sel_lines.specs.Parts.{read_part};

@@ -5,7 +5,7 @@ ghost use Rattle.sel_lines.specs.Columns.{column_text};
 ghost use Rattle.sel_lines.specs.Get.{get_words};
 ghost use Rattle.sel_lines.specs.Lines.{longest_line};
 ghost use Rattle.sel_lines.specs.ListParts.{AreKept, HasRead};
-ghost use Rattle.sel_sublists.specs.Lists.{list_get};
+ghost use Rattle.polars_compute.specs.Lists.{list_get};
 
 use crate::columns::print_column;
 use crate::filter::numbers_of;

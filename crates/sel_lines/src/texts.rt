@@ -6,7 +6,7 @@ ghost use Rattle.sel_arrow.specs.Columns.{utf8view_rows};
 ghost use Rattle.sel_arrow.specs.Masked.{hidden};
 ghost use Rattle.sel_arrow.specs.Texts.{all_text};
 ghost use Rattle.sel_arrow.specs.Views.{all_placed, view_value};
-ghost use Rattle.sel_runs.specs.Need.{bytes_needed};
+ghost use Rattle.sel_gather.specs.Need.{bytes_needed};
 ghost use Rattle.sel_lines.specs.Columns.{all_some, column_of, row_of};
 ghost use Rattle.sel_lines.specs.Lines.{longest_line};
 ghost use Rattle.sel_lines.specs.Texts.{string_value};

@@ -13,14 +13,14 @@ use sel_bits::block_copy::BlockCopy;
 use sel_bits::buffer::Buffer;
 use sel_bits::faults::{PolarsError, PolarsResult};
 use sel_bits::packer::BitPacker;
-use sel_runs::bits::{push_validity, validity_from};
-use sel_runs::run::{Run, nulls_of, push_run, runs_of_picks};
-use sel_runs::view::push_buffers;
+use sel_gather::bits::{push_validity, validity_from};
+use sel_gather::run::{Run, nulls_of, push_run, runs_of_picks};
+use sel_gather::view::push_buffers;
 use std::alloc::Global;
 use std::test::Fail;
+use tests_bits::column_fixtures::one_buffer;
 use tests_bits::fixtures::{buffer, has_bits};
 use tests_bits::marks::{begins, ends_by};
-use tests_columns::fixtures::one_buffer;
 
 // The bytes of the only row of a view column.
 const LETTERS: &str = "hhhhhhhhhhhhhh";

@@ -17,9 +17,9 @@ use sel_bits::native::{Index, NativeType, Offset};
 use sel_bits::offsets::OffsetsBuffer;
 use std::alloc::Global;
 use std::test::Fail;
+use tests_bits::column_fixtures::{column, has_bytes, validity};
 use tests_bits::fixtures::{buffer, has_bits};
 use tests_bits::marks::{begins, ends_by};
-use tests_columns::fixtures::{column, has_bytes, validity};
 
 /// Returns the indices of the takes of bits; the null one has the greatest number in its slot.
 fn indices(alloc: Global) -> Result<IdxArr, Fail> {

@@ -15,11 +15,11 @@ use sel_arrow::primitive::{ArrowPrimitive, PrimitiveArray};
 use sel_arrow::utf8view::Utf8ViewArray;
 use sel_bits::bitmap::Bitmap;
 use sel_bits::faults::PolarsResult;
-use sel_choices::if_then_else::IfThenElseKernel;
+use sel_ternary::if_then_else::IfThenElseKernel;
 use sel_text::read_type::parse_dtype;
 use std::alloc::Global;
 use std::test::Fail;
-use tests_columns::fixtures::{column, truths};
+use tests_bits::column_fixtures::{column, truths};
 
 const MASK: [bool; 5] = [true, true, false, true, false];
 

@@ -3,7 +3,7 @@
 
 use sel_bits::aligned_words::AlignedWords;
 use sel_bits::bitmap::Bitmap;
-use sel_choices::if_then_else::scalar::if_then_else_words;
+use sel_ternary::if_then_else::scalar::if_then_else_words;
 use std::alloc::Global;
 use std::test::Fail;
 

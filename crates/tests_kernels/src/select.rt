@@ -11,7 +11,7 @@ use sel_arrow::primitive::IdxArr;
 use sel_bits::faults::{Limit, PolarsError, PolarsResult};
 use std::alloc::Global;
 use std::test::Fail;
-use tests_columns::fixtures::{column, truths};
+use tests_bits::column_fixtures::{column, truths};
 
 // A column as its type, its rows, and the rows that are selected of it.
 type Part = (&'static str, &'static str, &'static str);

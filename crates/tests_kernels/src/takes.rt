@@ -17,8 +17,8 @@ use sel_bits::native::{Index, Offset};
 use sel_bits::offsets::OffsetsBuffer;
 use std::alloc::Global;
 use std::test::Fail;
+use tests_bits::column_fixtures::{column, has_bytes, numbers, validity_of};
 use tests_bits::fixtures::has_bits;
-use tests_columns::fixtures::{column, has_bytes, numbers, validity_of};
 
 // Returns indices; a null one has the greatest number in its slot.
 fn indices(alloc: Global, rows: &[Option<u32>]) -> Result<IdxArr, Fail> {

@@ -6,11 +6,11 @@ use sel_arrow::binview::BinaryViewArray;
 use sel_arrow::view::View;
 use sel_bits::bitmap::Bitmap;
 use sel_bits::buffer::Buffer;
-use sel_choices::if_then_else::IfThenElseKernel;
+use sel_ternary::if_then_else::IfThenElseKernel;
 use std::alloc::Global;
 use std::test::Fail;
+use tests_bits::column_fixtures::{has_bytes_at, one_buffer};
 use tests_bits::fixtures::buffer;
-use tests_columns::fixtures::{has_bytes_at, one_buffer};
 
 const LONG: &[u8; 13] = b"abcdefghijklm";
 

@@ -4,13 +4,13 @@ use crate::masks::{long_bit, long_mask};
 use sel_arrow::view::View;
 use sel_bits::aligned_words::AlignedWords;
 use sel_bits::bitmap::Bitmap;
-use sel_choices::if_then_else::if_then_else_validity;
-use sel_choices::if_then_else::scalar::{
+use sel_ternary::if_then_else::if_then_else_validity;
+use sel_ternary::if_then_else::scalar::{
     if_then_else_broadcast_both_scalar_64, if_then_else_broadcast_both_scalar_rest,
     if_then_else_broadcast_false_scalar_64, if_then_else_broadcast_false_scalar_rest,
     if_then_else_scalar_64, if_then_else_scalar_rest, if_then_else_words,
 };
-use sel_choices::if_then_else::view::{
+use sel_ternary::if_then_else::view::{
     if_then_else_broadcast_false_view_64, if_then_else_view_64, if_then_else_view_rest,
     views_can_rise,
 };

@@ -20,6 +20,7 @@ pub mod boolean;
 pub mod fixed_size_list;
 pub(crate) mod generic_binary;
 pub mod primitive;
+pub mod sublist;
 mod validity;
 
 use crate::runs::Taken;
@@ -34,11 +35,10 @@ use sel_arrow::primitive::{ArrowPrimitive, IdxArr, PrimitiveArray};
 use sel_bits::bitmap::Bitmap;
 use sel_bits::faults::PolarsResult;
 use sel_bits::native::{Index, NativeType};
-pub use sel_runs::collect::collect_rows;
-use sel_runs::plan::Walk;
-use sel_runs::single::collect_one_plan;
-pub use sel_runs::sources::picks_in_bounds;
-pub use sel_sublists::sublist;
+pub use sel_gather::collect::collect_rows;
+use sel_gather::plan::Walk;
+use sel_gather::single::collect_one_plan;
+pub use sel_gather::sources::picks_in_bounds;
 use std::alloc::Global;
 use validity::live_indices;
 

@@ -4,7 +4,7 @@ ghost use Rattle.std.specs.Prelude.{◌≡◌, IsTrue, length, map, IfOk, IfErr}
 ghost use Rattle.std.specs.Option.{ForSome};
 ghost use Rattle.sel_bits.specs.Faults.{IsOutOfMemory};
 ghost use Rattle.sel_arrow.specs.Columns.{primitive_rows};
-ghost use Rattle.sel_runs.specs.Validity.{bits_for};
+ghost use Rattle.sel_gather.specs.Validity.{bits_for};
 ghost use Rattle.polars_compute.specs.Pick.{all_within, pick_of};
 ghost use Rattle.polars_compute.specs.ValidPicks.{live_index, valid_pick};
 
@@ -14,8 +14,8 @@ use sel_arrow::array::Array;
 use sel_arrow::primitive::{IdxArr, PrimitiveArray};
 use sel_bits::bitmap::Bitmap;
 use sel_bits::faults::PolarsResult;
-use sel_runs::gather::gather_bits;
-use sel_runs::plan::Walk;
+use sel_gather::gather::gather_bits;
+use sel_gather::plan::Walk;
 use std::alloc::Global;
 
 /// Returns the validity of the rows at `indices`: true where the index and its row are valid.

@@ -7,8 +7,8 @@ use Rattle.sel_arrow.proofs.NestedParts.{mapped_more, tuples_type}
 use Rattle.sel_arrow.proofs.NestedRows.{length-rows, length-tuple_rows}
 use Rattle.sel_arrow.proofs.Trees.{rows-Struct, has_fields}
 use Rattle.sel_arrow.proofs.Types.{type_of-Struct}
-use Rattle.sel_runs.proofs.Depths.{size_of, sizes_of, one_size}
-use Rattle.sel_runs.proofs.ListParts.{few_rows}
+use Rattle.sel_gather.proofs.Depths.{size_of, sizes_of, one_size}
+use Rattle.sel_gather.proofs.ListParts.{few_rows}
 use Rattle.polars_compute.proofs.KeptTuples.{kept_of, kept_struct_rows, kept_struct_formed, kept_is_field}
 use Rattle.polars_compute.proofs.filter.+filtering.Goals as goal
 

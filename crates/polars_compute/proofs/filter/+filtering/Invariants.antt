@@ -3,7 +3,7 @@ use Rattle.std.proofs.Common.{◌≡◌, ◌+◌, ◌*◌, All, map, take}
 use Rattle.sel_bits.specs.Bits.{count_true}
 use Rattle.sel_arrow.specs.Rows.{rows, type_of, IsField}
 use Rattle.sel_arrow.specs.Shape.{shapes_of}
-use Rattle.sel_runs.proofs.Depths.{size_of, sizes_of}
+use Rattle.sel_gather.proofs.Depths.{size_of, sizes_of}
 use Rattle.polars_compute.proofs.KeptTuples.{kept_of}
 use Rattle.polars_compute.proofs.filter.+filtering.Given as goal
 

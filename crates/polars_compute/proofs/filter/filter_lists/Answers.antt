@@ -3,7 +3,7 @@ use Rattle.sel_bits.specs.Bits.{count_true}
 use Rattle.sel_arrow.specs.Nested.{blocks}
 use Rattle.sel_arrow.specs.Rows.{rows, row_count, type_of, well_formed}
 use Rattle.sel_arrow.proofs.NestedRows.{length-rows}
-use Rattle.sel_runs.proofs.ListParts.{few_rows}
+use Rattle.sel_gather.proofs.ListParts.{few_rows}
 use Rattle.polars_compute.proofs.FilteredBlocks.{list_facts, list_formed_kept, list_rows_kept, list_type}
 use Rattle.polars_compute.proofs.filter.filter_lists.Goals as goal
 

@@ -3,9 +3,9 @@ use Rattle.std.proofs.lemmas.List.{length-map}
 use Rattle.std.proofs.lemmas.Result.{err_from_is_err_and}
 use Rattle.sel_arrow.specs.Rows.{rows, type_of}
 use Rattle.sel_arrow.specs.Value.{Null}
-use Rattle.sel_runs.specs.Picks.{pick, PickFits}
-use Rattle.sel_runs.specs.Runs.{expand}
-use Rattle.sel_runs.proofs.Thinned.{memory_alone}
+use Rattle.sel_gather.specs.Picks.{pick, PickFits}
+use Rattle.sel_gather.specs.Runs.{expand}
+use Rattle.sel_gather.proofs.Thinned.{memory_alone}
 use Rattle.polars_compute.specs.Need.{exceeded_limits}
 use Rattle.polars_compute.specs.Pick.{place_pick}
 use Rattle.polars_compute.specs.Select.{kept}

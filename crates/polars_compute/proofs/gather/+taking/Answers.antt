@@ -10,8 +10,8 @@ use Rattle.sel_arrow.proofs.NestedRows.{length-rows}
 use Rattle.sel_arrow.proofs.Rows.{length-number_rows}
 use Rattle.sel_arrow.proofs.Trees.{has_fields}
 use Rattle.sel_arrow.proofs.Types.{type_of-Struct}
-use Rattle.sel_runs.proofs.Below.{refused_more}
-use Rattle.sel_runs.proofs.Depths.{size_of, sizes_of, one_size}
+use Rattle.sel_gather.proofs.Below.{refused_more}
+use Rattle.sel_gather.proofs.Depths.{size_of, sizes_of, one_size}
 use Rattle.polars_compute.specs.Pick.{all_within}
 use Rattle.polars_compute.specs.TakenFields.{exceeded_in_taken}
 use Rattle.polars_compute.specs.ValidPicks.{live_index}

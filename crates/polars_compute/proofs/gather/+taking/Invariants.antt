@@ -3,7 +3,7 @@ use Rattle.std.proofs.Common.{◌≡◌, ◌+◌, ◌*◌, All, length, map, tak
 use Rattle.sel_arrow.specs.Columns.{primitive_rows}
 use Rattle.sel_arrow.specs.Rows.{rows, type_of, IsField}
 use Rattle.sel_arrow.specs.Shape.{shapes_of}
-use Rattle.sel_runs.proofs.Depths.{size_of, sizes_of}
+use Rattle.sel_gather.proofs.Depths.{size_of, sizes_of}
 use Rattle.polars_compute.proofs.TakenStructs.{taken_of}
 use Rattle.polars_compute.proofs.gather.+taking.Given as goal
 

@@ -1,4 +1,4 @@
-use Rattle.sel_choices.proofs.Chosen.{repeated_then, repeated_otherwise, repeated_both}
+use Rattle.sel_ternary.proofs.Chosen.{repeated_then, repeated_otherwise, repeated_both}
 use Rattle.polars_compute.proofs.laws.law_broadcast_is_repeat.Goals as goal
 
 pub returns : goal.returns

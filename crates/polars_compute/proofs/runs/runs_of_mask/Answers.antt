@@ -2,8 +2,8 @@ use Rattle.std.proofs.Common.{◌≡◌, ℕ, ◌+◌, ◌++◌, ◌∙◌, [], 
 use Rattle.std.proofs.lemmas.List.{append-nil, nil_from_length}
 use Rattle.std.proofs.lemmas.List.FromFn.{length-map-range_with_len}
 use Rattle.sel_bits.specs.Bits.{Bits}
-use Rattle.sel_runs.specs.Runs.{expand, picks_of}
-use Rattle.sel_runs.proofs.KeptBlocks.{Passes, zeros_within, ones_within, passed_left, passed_some}
+use Rattle.sel_gather.specs.Runs.{expand, picks_of}
+use Rattle.sel_gather.proofs.KeptBlocks.{Passes, zeros_within, ones_within, passed_left, passed_some}
 use Rattle.polars_compute.specs.Pick.{place_pick}
 use Rattle.polars_compute.specs.Select.{kept, kept_from}
 use Rattle.polars_compute.proofs.Places.{places_more}

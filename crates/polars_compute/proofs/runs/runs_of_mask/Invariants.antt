@@ -1,6 +1,6 @@
 -- Loop invariant: the positions so far, followed by those of the remaining bits, are all positions.
 use Rattle.std.proofs.Common.{◌≡◌, ◌≤◌, ◌+◌, ◌++◌, length, map}
-use Rattle.sel_runs.specs.Runs.{expand}
+use Rattle.sel_gather.specs.Runs.{expand}
 use Rattle.polars_compute.specs.Pick.{place_pick}
 use Rattle.polars_compute.specs.Select.{kept, kept_from}
 use Rattle.polars_compute.proofs.runs.runs_of_mask.Given as goal

@@ -2,7 +2,7 @@ use Rattle.std.proofs.Common.{List, ◌∷◌, ℕ, ap, map, refl, subst, sym, �
 use Rattle.sel_arrow.specs.Rows.{rows, type_of, buffers_held}
 use Rattle.sel_arrow.specs.Shape.{Shape}
 use Rattle.sel_arrow.specs.declared.array_ref.ArrayRef.{ArrayRef}
-use Rattle.sel_handle.specs.Status.{limit_statuses, ok, type_mismatch, length_mismatch, DemandsBefore, IsOneOf}
+use Rattle.sel_ffi.specs.Status.{limit_statuses, ok, type_mismatch, length_mismatch, DemandsBefore, IsOneOf}
 use Rattle.sel_calls.specs.Several.{AreAlike}
 use Rattle.sel_calls.proofs.SameNeeds.{flat_limits, flat_within}
 use Rattle.sel_c.proofs.several.sel_flatten.Goals as goal

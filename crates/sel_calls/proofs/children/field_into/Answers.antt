@@ -2,7 +2,7 @@ use Rattle.std.proofs.Common.{◌≡◌, ◌≤◌, ◌∙◌, ap, arith, subst,
 use Rattle.sel_arrow.specs.Depth.{depth}
 use Rattle.sel_arrow.specs.Rows.{type_of}
 use Rattle.sel_arrow.specs.Shape.{Shape}
-use Rattle.sel_runs.specs.Children.{field}
+use Rattle.sel_gather.specs.Children.{field}
 use Rattle.sel_calls.proofs.Depths.{field_depth}
 use Rattle.sel_calls.proofs.children.field_into.Goals as goal
 

@@ -2,7 +2,7 @@ use Rattle.std.proofs.Common.{◌≡◌, ◌∙◌, length, IsTrue, List, subst}
 use Rattle.sel_arrow.specs.Columns.{primitive_rows}
 use Rattle.sel_arrow.specs.Rows.{rows}
 use Rattle.sel_arrow.specs.Value.{Value}
-use Rattle.sel_handle.specs.Status.{index_out_of_bounds, Demands, Makes}
+use Rattle.sel_ffi.specs.Status.{index_out_of_bounds, Demands, Makes}
 use Rattle.polars_compute.specs.Dictionary.{propagated_keys}
 use Rattle.polars_compute.specs.Pick.{all_within}
 use Rattle.sel_calls.proofs.dictionaries.propagate_keys_into.Goals as goal

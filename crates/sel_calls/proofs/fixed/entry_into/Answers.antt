@@ -3,8 +3,8 @@ use Rattle.sel_arrow.specs.NestedArrays.{block_column}
 use Rattle.sel_arrow.specs.Rows.{rows, type_of}
 use Rattle.sel_arrow.specs.Value.{Value}
 use Rattle.sel_calls.specs.Entries.{entries_at}
-use Rattle.sel_handle.specs.Status.{ReportsLimits}
-use Rattle.sel_sublists.specs.Entries.{fixed_get, at_each, is_get_error, exceeded_entries}
+use Rattle.sel_ffi.specs.Status.{ReportsLimits}
+use Rattle.polars_compute.specs.Entries.{fixed_get, at_each, is_get_error, exceeded_entries}
 use Rattle.sel_calls.proofs.Entries.{same-indices, get-limits, get-inside, get-bounds}
 use Rattle.sel_calls.proofs.Made.{makes-put}
 use Rattle.sel_calls.proofs.fixed.entry_into.Goals as goal

@@ -2,8 +2,8 @@ use Rattle.std.proofs.Common.{◌≡◌, ◌∙◌, ap, subst, w64, ℤ, to_z, o
 use Rattle.std.proofs.lemmas.Int.{to_z-of_z}
 use Rattle.sel_arrow.specs.NestedArrays.{list_column}
 use Rattle.sel_arrow.specs.Rows.{rows, type_of}
-use Rattle.sel_runs.specs.Need.{exceeded_limits, IsLimitOrMemory}
-use Rattle.sel_sublists.specs.Lists.{list_get}
+use Rattle.sel_gather.specs.Need.{exceeded_limits, IsLimitOrMemory}
+use Rattle.polars_compute.specs.Lists.{list_get}
 use Rattle.sel_calls.proofs.Limits.{tells-passed}
 use Rattle.sel_calls.proofs.Made.{makes-put}
 use Rattle.sel_calls.proofs.lists.element_into.Goals as goal

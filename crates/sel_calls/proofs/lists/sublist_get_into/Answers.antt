@@ -5,9 +5,9 @@ use Rattle.sel_arrow.specs.Rows.{rows, type_of}
 use Rattle.sel_arrow.specs.Shape.{Shape}
 use Rattle.sel_arrow.specs.Value.{Value}
 use Rattle.sel_calls.specs.Types.{entry_type}
-use Rattle.sel_handle.specs.Status.{ReportsLimits}
-use Rattle.sel_runs.specs.Need.{exceeded_limits}
-use Rattle.sel_sublists.specs.Lists.{list_get}
+use Rattle.sel_ffi.specs.Status.{ReportsLimits}
+use Rattle.sel_gather.specs.Need.{exceeded_limits}
+use Rattle.polars_compute.specs.Lists.{list_get}
 use Rattle.sel_calls.proofs.lists.sublist_get_into.Goals as goal
 
 pub returns-clause-limits : goal.returns-clause-limits

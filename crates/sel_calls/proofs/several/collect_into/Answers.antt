@@ -3,9 +3,9 @@ use Rattle.sel_bits.specs.Bits.{Bits}
 use Rattle.sel_arrow.specs.Rows.{rows, type_of}
 use Rattle.sel_arrow.specs.Value.{Null}
 use Rattle.sel_arrow.specs.declared.array_ref.ArrayRef.{ArrayRef}
-use Rattle.sel_handle.specs.Status.{ok}
-use Rattle.sel_runs.specs.Need.{exceeded_taken, ExceedsNone}
-use Rattle.sel_runs.specs.Picks.{pick}
+use Rattle.sel_ffi.specs.Status.{ok}
+use Rattle.sel_gather.specs.Need.{exceeded_taken, ExceedsNone}
+use Rattle.sel_gather.specs.Picks.{pick}
 use Rattle.sel_calls.specs.Several.{first_shape, picks_from}
 use Rattle.sel_calls.proofs.several.collect_into.Goals as goal
 

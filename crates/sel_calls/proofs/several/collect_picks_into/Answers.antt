@@ -3,12 +3,12 @@ use Rattle.sel_arrow.specs.Rows.{rows, type_of}
 use Rattle.sel_arrow.specs.Value.{Value, Null}
 use Rattle.sel_arrow.specs.declared.array_ref.ArrayRef.{ArrayRef}
 use Rattle.sel_arrow.specs.declared.column.Column.{Column}
-use Rattle.sel_flatten.proofs.Flattening.{as_sources}
-use Rattle.sel_runs.specs.Picks.{pick, PickFits}
-use Rattle.sel_runs.specs.Sources.{first_type}
+use Rattle.polars_compute.proofs.Flattening.{as_sources}
+use Rattle.sel_gather.specs.Picks.{pick, PickFits}
+use Rattle.sel_gather.specs.Sources.{first_type}
 use Rattle.sel_arrow.specs.Shape.{Shape}
-use Rattle.sel_handle.specs.Status.{ReportsLimits}
-use Rattle.sel_runs.specs.Need.{exceeded_taken, ExceedsNone}
+use Rattle.sel_ffi.specs.Status.{ReportsLimits}
+use Rattle.sel_gather.specs.Need.{exceeded_taken, ExceedsNone}
 use Rattle.sel_calls.specs.PickLengths.{HasRow}
 use Rattle.sel_calls.specs.Several.{first_shape, picks_from}
 use Rattle.sel_calls.proofs.Alike.{alike_columns, first_same}

@@ -2,10 +2,10 @@ use Rattle.std.proofs.Common.{map, subst, sym}
 use Rattle.sel_arrow.specs.Rows.{rows}
 use Rattle.sel_arrow.specs.Shape.{Shape}
 use Rattle.sel_arrow.specs.declared.array_ref.ArrayRef.{ArrayRef}
-use Rattle.sel_flatten.specs.Flatten.{flatten, exceeded_flattened}
-use Rattle.sel_handle.specs.Status.{ReportsLimits}
-use Rattle.sel_runs.specs.Need.{ExceedsNone}
-use Rattle.sel_runs.specs.Sources.{first_type}
+use Rattle.polars_compute.specs.Flatten.{flatten, exceeded_flattened}
+use Rattle.sel_ffi.specs.Status.{ReportsLimits}
+use Rattle.sel_gather.specs.Need.{ExceedsNone}
+use Rattle.sel_gather.specs.Sources.{first_type}
 use Rattle.sel_calls.proofs.Alike.{alike_columns, first_same}
 use Rattle.sel_calls.proofs.Limits.{tells-passed}
 use Rattle.sel_calls.proofs.several.flatten_into.Goals as goal

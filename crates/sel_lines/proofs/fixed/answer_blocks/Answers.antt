@@ -2,7 +2,7 @@ use Rattle.std.proofs.Common.{◌∙◌, ap, subst, length, replicate, w64, to_z
 use Rattle.std.proofs.lemmas.Int.{to_z-of_z}
 use Rattle.std.proofs.lemmas.Result.{IfOk-weaker}
 use Rattle.sel_arrow.specs.Value.{Number}
-use Rattle.sel_sublists.specs.Entries.{at_each, IsGetError}
+use Rattle.polars_compute.specs.Entries.{at_each, IsGetError}
 use Rattle.sel_lines.specs.Columns.{column_text}
 use Rattle.sel_lines.specs.Fixed.{entries_text}
 use Rattle.sel_lines.proofs.ReadBlocks.{entries_printed, refusal_printed}

@@ -3,7 +3,7 @@ use Rattle.std.proofs.lemmas.Int.{to_z-of_z}
 use Rattle.std.proofs.lemmas.Result.{IfOk-weaker}
 use Rattle.sel_arrow.specs.NestedArrays.{list_column}
 use Rattle.sel_arrow.specs.Rows.{rows}
-use Rattle.sel_sublists.specs.Lists.{list_get}
+use Rattle.polars_compute.specs.Lists.{list_get}
 use Rattle.sel_lines.specs.Columns.{column_text}
 use Rattle.sel_lines.proofs.get.answer_lists.Goals as goal
 

@@ -4,7 +4,7 @@ use Rattle.std.specs.List.{join_with_byte}
 use Rattle.std.proofs.lemmas.List.{take_all}
 use Rattle.sel_arrow.specs.Rows.{rows}
 use Rattle.sel_arrow.specs.declared.array_ref.ArrayRef.{ArrayRef}
-use Rattle.sel_sublists.proofs.Offsets.{map_map}
+use Rattle.polars_compute.proofs.Offsets.{map_map}
 use Rattle.sel_lines.specs.Columns.{column_text}
 use Rattle.sel_lines.proofs.RowLemmas.{join_step, join_first_step}
 use Rattle.sel_lines.proofs.table.print_columns.Goals as goal

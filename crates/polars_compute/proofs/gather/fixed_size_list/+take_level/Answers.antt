@@ -2,7 +2,7 @@ use Rattle.std.proofs.Common.{◌≡◌, ◌*◌, ◌∙◌, sym, ap, subst, ari
 use Rattle.std.proofs.Math.Nat.{mul_assoc}
 use Rattle.sel_arrow.specs.Columns.{primitive_rows}
 use Rattle.sel_arrow.specs.Rows.{rows, row_count, type_of, well_formed}
-use Rattle.sel_runs.proofs.Depths.{size_of}
+use Rattle.sel_gather.proofs.Depths.{size_of}
 use Rattle.polars_compute.specs.Blocks.{blocks_within}
 use Rattle.polars_compute.specs.BareBlocks.{is_bare, HoldsBlocks}
 use Rattle.polars_compute.proofs.BlockTakes.{bare_below, bare_kinds, blocks_are, level_inside, level_taken}

@@ -6,8 +6,8 @@ use Rattle.sel_arrow.specs.Masked.{masked}
 use Rattle.sel_arrow.specs.Nested.{blocks, list_of}
 use Rattle.sel_arrow.specs.Rows.{rows, row_count, type_of, well_formed}
 use Rattle.sel_arrow.proofs.NestedRows.{length-blocks}
-use Rattle.sel_runs.proofs.Below.{refused_more}
-use Rattle.sel_runs.proofs.Grown.{finished}
+use Rattle.sel_gather.proofs.Below.{refused_more}
+use Rattle.sel_gather.proofs.Grown.{finished}
 use Rattle.polars_compute.specs.Pick.{pick_of}
 use Rattle.polars_compute.specs.ValidPicks.{valid_pick}
 use Rattle.polars_compute.specs.Blocks.{blocks_within}

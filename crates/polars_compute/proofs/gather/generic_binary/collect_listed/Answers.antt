@@ -3,7 +3,7 @@ use Rattle.sel_bits.specs.Offsets.{IsRising}
 use Rattle.sel_arrow.specs.Masked.{Covers}
 use Rattle.sel_arrow.specs.Pieces.{rows_between, last_offset}
 use Rattle.polars_compute.specs.JoinedBytes.{ends_from, joined_bytes}
-use Rattle.sel_runs.proofs.JoinedRows.{offsets_of, rising-ends, ends_shown, built_rows, built_ends}
+use Rattle.sel_gather.proofs.JoinedRows.{offsets_of, rising-ends, ends_shown, built_rows, built_ends}
 use Rattle.polars_compute.proofs.Collects.{built_covers, rebuilt}
 use Rattle.polars_compute.proofs.gather.generic_binary.collect_listed.Goals as goal
 

@@ -4,7 +4,7 @@ use Rattle.sel_bits.specs.Bits.{Bits}
 use Rattle.sel_arrow.specs.Columns.{primitive_rows}
 use Rattle.sel_arrow.specs.Masked.{masked}
 use Rattle.sel_arrow.specs.Value.{Number}
-use Rattle.sel_runs.specs.Plans.{bits_found}
+use Rattle.sel_gather.specs.Plans.{bits_found}
 use Rattle.polars_compute.specs.Pick.{all_within, pick_of}
 use Rattle.polars_compute.specs.ValidPicks.{valid_pick}
 use Rattle.polars_compute.proofs.Takes.{found_valid, is_nothing, picks_have_bits}

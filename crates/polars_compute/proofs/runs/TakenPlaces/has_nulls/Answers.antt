@@ -1,6 +1,6 @@
 use Rattle.std.proofs.Common.{All, map, pos, sym, subst}
 use Rattle.sel_arrow.specs.Masked.{number_rows}
-use Rattle.sel_runs.specs.Plans.{IsPicked}
+use Rattle.sel_gather.specs.Plans.{IsPicked}
 use Rattle.polars_compute.specs.Pick.{pick_of}
 use Rattle.polars_compute.proofs.KeptRuns.{all_picked}
 use Rattle.polars_compute.proofs.runs.TakenPlaces.has_nulls.Goals as goal

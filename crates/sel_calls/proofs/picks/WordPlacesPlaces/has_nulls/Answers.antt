@@ -1,5 +1,5 @@
 use Rattle.std.proofs.Common.{◌∙◌, All, sym, subst}
-use Rattle.sel_runs.specs.Plans.{IsPicked}
+use Rattle.sel_gather.specs.Plans.{IsPicked}
 use Rattle.sel_calls.specs.Several.{picks_from}
 use Rattle.sel_calls.proofs.PickWords.{is_gone, words_picked}
 use Rattle.sel_calls.proofs.picks.WordPlacesPlaces.has_nulls.Goals as goal

@@ -18,7 +18,7 @@ use denote.Triple.Walked.{says, Stays, stay_dropped, walk_of, ends_at, Goes-drop
 use Rattle.core.proofs.alloc.Calls.{handle_tells}
 use Rattle.std.proofs.raw_atomic.Walks.{proved_at}
 use Rattle.std.specs.declared.option.Option.TheVariants.{None}
-use Rattle.sel_handle.proofs.LooseSteps.{both}
+use Rattle.sel_ffi.proofs.LooseSteps.{both}
 use Rattle.sel_lent.proofs.BufferHandleSteps.{Z, al, handle_in, ptr_good}
 use Rattle.sel_lent.specs.contracts.buffer_handle.BufferHandle.empty.{ended, clauses}
 use Rattle.sel_lent.specs.contracts.buffer_handle.BufferHandle.empty.Key.{name as #self}

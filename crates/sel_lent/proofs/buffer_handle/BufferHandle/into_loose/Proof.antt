@@ -25,7 +25,7 @@ use Rattle.std.proofs.alloc.Global.TheLaws as heap_laws
 use Rattle.std.specs.contracts.impls.GlobalAllocator.TheImpl.{ghosts}
 use Rattle.std.specs.declared.option.Option.TheVariants.{None, Some}
 use Rattle.std_alloc.proofs.ResultValues.{and_tt}
-use Rattle.sel_handle.proofs.LooseSteps.{both, Loose, loose_in}
+use Rattle.sel_ffi.proofs.LooseSteps.{both, Loose, loose_in}
 use Rattle.sel_lent.proofs.BufferHandleSteps.{R, Z, loose_good, FromBufferHandle, handle_out, either_held, ptr_good}
 use Rattle.sel_lent.specs.contracts.buffer_handle.BufferHandle.into_loose.{ended, clauses}
 use Rattle.sel_lent.specs.contracts.buffer_handle.BufferHandle.into_loose.Key.{name as #self}

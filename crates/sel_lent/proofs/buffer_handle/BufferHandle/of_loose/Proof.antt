@@ -19,7 +19,7 @@ use Rattle.std.proofs.raw_atomic.Walks.{proved_at}
 use Rattle.std.proofs.alloc.Global.TheLaws as heap_laws
 use Rattle.std.specs.contracts.impls.GlobalAllocator.TheImpl.{ghosts}
 use Rattle.std.specs.declared.option.Option.TheVariants.{Some}
-use Rattle.sel_handle.proofs.LooseSteps.{both, loose_out}
+use Rattle.sel_ffi.proofs.LooseSteps.{both, loose_out}
 use Rattle.sel_lent.proofs.BufferHandleSteps.{R, Z, loose_good, FromLoose, handle_in, ptr_good}
 use Rattle.sel_lent.specs.contracts.buffer_handle.BufferHandle.of_loose.{ended, clauses}
 use Rattle.sel_lent.specs.contracts.buffer_handle.BufferHandle.of_loose.Key.{name as #self}

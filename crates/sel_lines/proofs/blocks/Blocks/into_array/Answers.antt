@@ -5,7 +5,7 @@ use Rattle.sel_arrow.specs.Nested.{block_rows}
 use Rattle.sel_arrow.specs.Rows.{rows, row_count}
 use Rattle.sel_arrow.specs.Value.{Number, is_valid}
 use Rattle.sel_arrow.proofs.NestedRows.{length-rows}
-use Rattle.sel_runs.specs.Children.{joined_items}
+use Rattle.sel_gather.specs.Children.{joined_items}
 use Rattle.sel_lines.specs.BlockParts.{standing_for}
 use Rattle.sel_lines.proofs.MadeColumns.{block_sound, memory_alone}
 use Rattle.sel_lines.proofs.ReadBlocks.{blocks_made, standing_length}

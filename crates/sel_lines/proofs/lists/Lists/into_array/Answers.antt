@@ -6,10 +6,10 @@ use Rattle.sel_arrow.specs.Nested.{list_rows}
 use Rattle.sel_arrow.specs.Rows.{rows, row_count}
 use Rattle.sel_arrow.specs.Value.{Number}
 use Rattle.sel_arrow.proofs.NestedRows.{length-rows}
-use Rattle.sel_runs.specs.Children.{joined_items}
-use Rattle.sel_runs.specs.Ends.{item_ends}
-use Rattle.sel_runs.proofs.JoinedRows.{map_same, offsets_of, same_numbers}
-use Rattle.sel_runs.proofs.Rebuilt.{rising_ends}
+use Rattle.sel_gather.specs.Children.{joined_items}
+use Rattle.sel_gather.specs.Ends.{item_ends}
+use Rattle.sel_gather.proofs.JoinedRows.{map_same, offsets_of, same_numbers}
+use Rattle.sel_gather.proofs.Rebuilt.{rising_ends}
 use Rattle.sel_lines.proofs.MadeColumns.{list_sound, memory_alone}
 use Rattle.sel_lines.proofs.ReadLists.{length-hidden, lists_made}
 use Rattle.sel_lines.proofs.lists.Lists.into_array.Goals as goal

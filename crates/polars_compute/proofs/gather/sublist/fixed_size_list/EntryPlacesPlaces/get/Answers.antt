@@ -1,0 +1,29 @@
+use Rattle.std.proofs.Common.{◌∙◌, ℕ, ap, sym, arith, None}
+use Rattle.std.specs.Prelude.{slice_index_or}
+use Rattle.sel_arrow.specs.Columns.{primitive_rows}
+use Rattle.sel_arrow.specs.Masked.{number_value}
+use Rattle.sel_arrow.specs.Value.{Null}
+use Rattle.polars_compute.specs.Elements.{child_pick}
+use Rattle.polars_compute.specs.Entries.{entry_place, place_of}
+use Rattle.polars_compute.proofs.Blocks.{entries_long, long_rows}
+use Rattle.polars_compute.proofs.EntryPlaces.{mapped_at}
+use Rattle.polars_compute.proofs.gather.sublist.fixed_size_list.EntryPlacesPlaces.get.Goals as goal
+
+pub get-requires : goal.get-requires
+get-requires c =
+    let p = c.args.self.now in
+    omega (arith, c.requires, entries_long p.blocks.arr.now (primitive_rows p.index.now), p.paired, long_rows p.blocks.arr.now)
+
+pub entry_at-requires-clause-inside : goal.entry_at-requires-clause-inside
+entry_at-requires-clause-inside c =
+    let p = c.args.self.now in
+    omega (arith, c.requires, entries_long p.blocks.arr.now (primitive_rows p.index.now))
+
+pub returns : goal.returns
+returns c =
+    let p = c.args.self.now in
+    let arr = p.blocks.arr.now in
+    let k = c.args.k in
+    let places = λ (k : ℕ). entry_place arr k (place_of arr.size (slice_index_or (primitive_rows p.index.now) k Null)) in
+    c.pick_of_place.ensures ∙ ap child_pick (c.entry_at.ensures ∙ ap (entry_place arr k) (c.place_among-place.ensures ∙ ap (λ n. place_of n (number_value (λ i. i) c.get.result)) p.blocks.sized ∙ ap (place_of arr.size) c.get.ensures))
+    ∙ sym (mapped_at child_pick places arr.len k None None c.requires)

@@ -1,0 +1,28 @@
+use Rattle.std.proofs.Common.{◌<◌, ◌∙◌, ℕ, ap, sym, subst, arith, None}
+use Rattle.std.specs.Prelude.{slice_index_or}
+use Rattle.sel_arrow.specs.Value.{Null, Number}
+use Rattle.polars_compute.specs.Elements.{child_pick}
+use Rattle.polars_compute.specs.Entries.{at_each, entry_place, place_of}
+use Rattle.polars_compute.proofs.Blocks.{each_place, entries_long, place_of_below}
+use Rattle.polars_compute.proofs.EntryPlaces.{mapped_at, PlaceBelow}
+use Rattle.polars_compute.proofs.gather.sublist.fixed_size_list.LiteralPlacesPlaces.get.Goals as goal
+
+pub entry_at-requires-clause-inside : goal.entry_at-requires-clause-inside
+entry_at-requires-clause-inside c =
+    let arr = c.args.self.now.blocks.arr.now in
+    omega (arith, c.requires, entries_long arr (at_each arr c.args.self.now.index))
+
+pub entry_at-requires-clause-below : goal.entry_at-requires-clause-below
+entry_at-requires-clause-below c =
+    let p = c.args.self.now in
+    subst (PlaceBelow p.blocks.arr.now.size) (sym p.placed) (place_of_below p.blocks.arr.now.size (Number p.index))
+
+pub returns : goal.returns
+returns c =
+    let p = c.args.self.now in
+    let arr = p.blocks.arr.now in
+    let k = c.args.k in
+    let inside : k < arr.len = omega (arith, c.requires, entries_long arr (at_each arr p.index)) in
+    let places = λ (k : ℕ). entry_place arr k (place_of arr.size (slice_index_or (at_each arr p.index) k Null)) in
+    c.pick_of_place.ensures ∙ ap child_pick (c.entry_at.ensures ∙ ap (entry_place arr k) (p.placed ∙ sym (each_place arr p.index k inside)))
+    ∙ sym (mapped_at child_pick places arr.len k None None c.requires)

@@ -1,0 +1,20 @@
+use Rattle.std.proofs.Common.{◌∙◌, ap, sym, arith, None, rules, SFits, w64}
+use Rattle.std.proofs.lemmas.Int.{to_z-of_z}
+use Rattle.sel_arrow.specs.Pieces.{rows_between}
+use Rattle.polars_compute.specs.Elements.{child_pick}
+use Rattle.polars_compute.specs.Lists.{child_place}
+use Rattle.polars_compute.proofs.EntryPlaces.{mapped_at, mapped_count}
+use Rattle.polars_compute.proofs.gather.sublist.list.ListPlacesPlaces.get.Goals as goal
+
+pub place_in_child-requires : goal.place_in_child-requires
+place_in_child-requires c =
+    let arr = c.args.self.now.arr.now in
+    omega (arith, c.requires, mapped_count child_pick (child_place arr.offsets arr.validity c.args.self.now.index) (rows_between arr.offsets))
+
+pub returns : goal.returns
+returns c =
+    let arr = c.args.self.now.arr.now in
+    let fits : SFits w64 c.args.self.now.index = search rules in
+    let shown = to_z-of_z w64 c.args.self.now.index fits in
+    c.pick_of_place.ensures ∙ ap child_pick (c.place_in_child.ensures ∙ ap (λ z. child_place arr.offsets arr.validity z c.args.k) shown)
+    ∙ sym (mapped_at child_pick (child_place arr.offsets arr.validity c.args.self.now.index) (rows_between arr.offsets) c.args.k None None c.requires)

@@ -1,0 +1,23 @@
+use Rattle.std.proofs.Common.{◌∙◌, Bor, ◌++◌, ◌∷◌, [], map, take, ap, sym}
+use Rattle.std.proofs.lemmas.List.{take_all, map_more, map-append}
+use Rattle.sel_arrow.specs.declared.array_ref.ArrayRef.{ArrayRef}
+use Rattle.sel_arrow.specs.declared.column.Column.{Column}
+use Rattle.polars_compute.proofs.horizontal_flatten.columns_of.Goals as goal
+
+pub loop-array-init : goal.loop-array-init
+loop-array-init c = ap (map (λ (x : Bor Column). x.now)) c.in_ok-found.ensures.items
+
+pub loop-array-preserved : goal.loop-array-preserved
+loop-array-preserved c =
+    let now = λ (x : Bor Column). x.now in
+    let column = λ (a : ArrayRef). a.column in
+    let i = c.loop-array.array-index in
+    let old = c.loop-array.found.items in
+    let one = c.as_column.result in
+    ap (map now) c.in_ok-push.ensures.items ∙ map-append now old (one ∷ []) ∙ ap (λ l. l ++ one.now ∷ []) c.loop-array.invariant
+    ∙ ap (λ y. map column (take i c.args.arrays.now) ++ y ∷ []) (c.as_column.ensures.column ∙ ap column c.array-item.is)
+    ∙ sym (map_more column c.args.arrays.now i _ c.loop-array-test.true)
+
+pub returns-clause-columns : goal.returns-clause-columns
+returns-clause-columns c =
+    c.loop-array.invariant ∙ ap (map (λ (a : ArrayRef). a.column)) (take_all c.loop-array.array-index c.args.arrays.now c.loop-array-test.false)

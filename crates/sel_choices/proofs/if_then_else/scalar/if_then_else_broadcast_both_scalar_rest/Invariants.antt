@@ -1,8 +1,0 @@
-use Rattle.std.proofs.Common.{length, replicate}
-use Rattle.sel_bits.specs.Words.{bits}
-use Rattle.sel_choices.proofs.Chosen.{IsChosen}
-use Rattle.sel_choices.proofs.if_then_else.scalar.if_then_else_broadcast_both_scalar_rest.Given as goal
-
-abbrev pub invariant-loop-i : goal.invariant-loop-i
-invariant-loop-i g l =
-    IsChosen (bits (length l.initial.out) l.mask) (replicate (length l.initial.out) l.if_true) (replicate (length l.initial.out) l.if_false) l.initial.out l.i l.out

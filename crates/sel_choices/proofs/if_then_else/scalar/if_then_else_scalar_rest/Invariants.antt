@@ -1,7 +1,0 @@
-use Rattle.std.proofs.Common.{length}
-use Rattle.sel_bits.specs.Words.{bits}
-use Rattle.sel_choices.proofs.Chosen.{IsChosen}
-use Rattle.sel_choices.proofs.if_then_else.scalar.if_then_else_scalar_rest.Given as goal
-
-abbrev pub invariant-loop-i : goal.invariant-loop-i
-invariant-loop-i g l = IsChosen (bits (length l.initial.out) l.mask) l.if_true l.if_false l.initial.out l.i l.out

@@ -1,7 +1,0 @@
-use Rattle.std.proofs.Common.{◌≡◌, true, take}
-use Rattle.std.specs.List.{list_all}
-use Rattle.sel_choices.specs.ViewSides.{can_rise}
-use Rattle.sel_choices.proofs.if_then_else.view.views_can_rise.Given as goal
-
-abbrev pub invariant-loop-view : goal.invariant-loop-view
-invariant-loop-view l = list_all (can_rise l.by) (take l.view-index l.views) ≡ true

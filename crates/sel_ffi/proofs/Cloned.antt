@@ -1,0 +1,47 @@
+-- Invariants of cloning the columns of handles one by one; each handle keeps its column.
+use Rattle.std.proofs.Common.{◌≡◌, ℕ, zero, suc, ◌+◌, ◌<◌, List, [], ◌∷◌, ◌++◌, length, take, get_or, map, refl, ap, sym, ◌∙◌, arith, add-one}
+use Rattle.std.proofs.Common.{All, None, subst}
+use Rattle.std.proofs.lemmas.List.{length-map}
+use Rattle.sel_ffi.specs.Held.{Held}
+use Rattle.sel_ffi.specs.Status.{HasColumn}
+use Rattle.sel_ffi.specs.declared.handle.Handle.{Handle}
+
+-- Handles with the same columns have the same properties.
+pub told : {B : Type 0} → (F : Held → B) (hs xs : List Handle) → map (λ h. h.tree) hs ≡ map (λ h. h.tree) xs → map (λ h. F h.tree) hs ≡ map (λ h. F h.tree) xs
+told F [] [] same = refl
+told F [] (x ∷ xs) same = absurd (cc same)
+told F (h ∷ hs) [] same = absurd (cc same)
+told F (h ∷ hs) (x ∷ xs) same =
+    let first : h.tree ≡ x.tree = cc same in
+    let rest : map (λ h. h.tree) hs ≡ map (λ h. h.tree) xs = cc same in
+    cc (ap F first, told F hs xs rest)
+
+-- The handle at i has the same column.
+pub told_at : (hs xs : List Handle) (i : ℕ) (d : Handle) → map (λ h. h.tree) hs ≡ map (λ h. h.tree) xs → (get_or hs i d).tree ≡ (get_or xs i d).tree
+told_at [] [] i d same = refl
+told_at [] (x ∷ xs) i d same = absurd (cc same)
+told_at (h ∷ hs) [] i d same = absurd (cc same)
+told_at (h ∷ hs) (x ∷ xs) zero d same = cc same
+told_at (h ∷ hs) (x ∷ xs) (suc i) d same = told_at hs xs i d (cc same)
+
+one_more : {B C : Type 0} → (F : Held → B) (g : C → B) (xs : List Handle) (i : ℕ) (ts : List C) (c : C) (d : Handle) → i < length xs → map g ts ≡ take i (map (λ h. F h.tree) xs) → g c ≡ F (get_or xs i d).tree → map g (ts ++ c ∷ []) ≡ take (suc i) (map (λ h. F h.tree) xs)
+one_more F g [] i ts c d low same is = absurd (omega (arith, low))
+one_more F g (x ∷ xs) zero [] c d low same is = ap (λ y. y ∷ []) is
+one_more F g (x ∷ xs) zero (t ∷ ts) c d low same is = absurd (cc same)
+one_more F g (x ∷ xs) (suc i) [] c d low same is = absurd (cc same)
+one_more F g (x ∷ xs) (suc i) (t ∷ ts) c d low same is =
+    let first : g t ≡ F x.tree = cc same in
+    let rest : map g ts ≡ take i (map (λ h. F h.tree) xs) = cc same in
+    cc (first, one_more F g xs i ts c d (omega arith) rest is)
+
+-- Appending the clone of column i extends the clones of the first i to the first i + 1.
+pub shared_more : {B C : Type 0} → (F : Held → B) (g : C → B) (xs hs : List Handle) (i : ℕ) (ts : List C) (c : C) (d : Handle) → i < length xs → map (λ h. h.tree) hs ≡ map (λ h. h.tree) xs → map g ts ≡ take i (map (λ h. F h.tree) xs) → g c ≡ F (get_or hs i d).tree → map g (ts ++ c ∷ []) ≡ take (i + 1) (map (λ h. F h.tree) xs)
+shared_more F g xs hs i ts c d low kept same is = rw (add-one i) (one_more F g xs i ts c d low same (is ∙ ap F (told_at hs xs i d kept)))
+
+-- If handle i has no column, not all have one.
+pub lacks_at : (xs hs : List Handle) (i : ℕ) (d : Handle) → i < length xs → map (λ h. h.tree) hs ≡ map (λ h. h.tree) xs → (get_or hs i d).tree ≡ None → All (λ h. HasColumn h.tree) xs → ⊥
+lacks_at xs hs i d low kept none all = subst HasColumn (sym (told_at hs xs i d kept) ∙ none) (all i d low)
+
+-- Handles with the same columns are equally many.
+pub same_long : (hs xs : List Handle) → map (λ h. h.tree) hs ≡ map (λ h. h.tree) xs → length hs ≡ length xs
+same_long hs xs same = sym (length-map hs (λ (h : Handle). h.tree)) ∙ ap length same ∙ length-map xs (λ (h : Handle). h.tree)

@@ -1,0 +1,11 @@
+-- Emptying handles one by one.
+use Rattle.std.proofs.Common.{◌≡◌, ℕ, ◌+◌, ◌<◌, List, [], ◌∷◌, ◌++◌, length, take, set, sym, All, None, subst}
+use Rattle.std.proofs.lemmas.List.{take_more_set}
+use Rattle.std.proofs.lemmas.List.Elements.{All-nil, All-cons, All-append}
+use Rattle.sel_ffi.specs.declared.handle.Handle.{Handle}
+
+-- If handle i is emptied, the first i + 1 are empty.
+pub emptied_more : (hs : List Handle) (i : ℕ) (h : Handle) → i < length hs → h.tree ≡ None → All (λ (x : Handle). x.tree ≡ None) (take i hs) → All (λ (x : Handle). x.tree ≡ None) (take (i + 1) (set hs i h))
+emptied_more hs i h low none all =
+    let P = λ (x : Handle). x.tree ≡ None in
+    subst (All P) (sym (take_more_set hs i h low)) (All-append P (take i hs) (h ∷ []) all (All-cons P h [] none (All-nil P)))

@@ -1,0 +1,19 @@
+use Rattle.std.proofs.Common.{ℕ, ap}
+use Rattle.sel_arrow.specs.Rows.{row_count}
+use Rattle.sel_ffi.specs.Inputs.{list_rules}
+use Rattle.sel_ffi.proofs.Reported.{same_count, stored, failed}
+use Rattle.sel_ffi.proofs.nested_into.list_into.Goals as goal
+
+pub returns-in-Ok-lists_of-clause-status : goal.returns-in-Ok-lists_of-clause-status
+returns-in-Ok-lists_of-clause-status c = λ shallow.
+    let rule = λ (n : ℕ). list_rules c.args.offsets.now n c.args.bits.now c.args.has_bits in
+    let copy = c.in-Ok.copy.column in
+    let child = c.args.child.now.column in
+    stored (rule (row_count copy)) (rule (row_count child)) c.put.result (ap rule (same_count copy child c.in-Ok.ensures.rows)) c.in-Ok-lists_of.ensures.accepted c.put.ensures.status
+
+pub returns-in-Err-clause-status : goal.returns-in-Err-clause-status
+returns-in-Err-clause-status c = λ shallow.
+    let rule = λ (n : ℕ). list_rules c.args.offsets.now n c.args.bits.now c.args.has_bits in
+    let copy = c.in-Ok.copy.column in
+    let child = c.args.child.now.column in
+    failed (rule (row_count copy)) (rule (row_count child)) c.in-Err.fault c.status_of_maker.result (ap rule (same_count copy child c.in-Ok.ensures.rows)) c.in-Err.ensures.refused c.status_of_maker.ensures.number

@@ -1,2 +1,0 @@
-pub mod Flattening
-pub mod Weaving

@@ -1,3 +1,0 @@
-pub mod Flatten
-pub mod Lanes
-pub mod Widths

@@ -1,0 +1,176 @@
+-- Gathered lists that are read once.
+use Rattle.std.proofs.Common.{◌≡◌, ◌≢◌, All, Bor, ℤ, pos, ℕ, zero, suc, ◌+◌, ◌≤◌, ◌<◌, true, false, List, [], ◌∷◌, ◌++◌, length, take, drop, map, get_or, Option, Some, None, refl, ap, sym, subst, ◌∙◌, arith, length-append}
+use Rattle.std.specs.Option.{ForSome}
+use Rattle.std.proofs.Math.Seq.{take-add}
+use Rattle.std.proofs.lemmas.List.{length-map, get_or-map, map-append, take-append-drop, take-append-le, drop-append-le, take_all, drop_all, length-drop, get_or-replicate}
+use Rattle.sel_bits.specs.Bits.{Bits}
+use Rattle.sel_bits.specs.declared.faults.Limit.{Limit}
+use Rattle.sel_bits.specs.declared.faults.Limit.TheVariants.{Rows as RowLimit, Bytes as ByteLimit, Buffers as BufferLimit, ViewBytes}
+use Rattle.sel_arrow.specs.Masked.{valid_at}
+use Rattle.sel_arrow.specs.Nulls.{IsValidityOf}
+use Rattle.sel_arrow.specs.Rows.{rows, type_of, IsWellFormed}
+use Rattle.sel_arrow.specs.Shape.{Shape, of_null, of_large_list}
+use Rattle.sel_arrow.specs.Value.{Value, Null, is_valid, validities}
+use Rattle.sel_arrow.specs.declared.column.Column.{Column}
+use Rattle.sel_gather.specs.Children.{child, is_listing, joined_items}
+use Rattle.sel_gather.specs.Ends.{item_ends}
+use Rattle.sel_gather.specs.Need.{ExceedsRows}
+use Rattle.sel_gather.specs.Picks.{found, pick, PickFits}
+use Rattle.sel_gather.specs.Plans.{HasBit, AreValidities, bits_found}
+use Rattle.sel_gather.specs.Runs.{expand, unrolled}
+use Rattle.sel_gather.specs.Sources.{columns_of, first_type}
+use Rattle.sel_gather.specs.declared.run.Run.{Run}
+use Rattle.sel_gather.proofs.Below.{Recurses, child_type, items_recurse, mapped_now}
+use Rattle.sel_gather.proofs.Gathers.{left_behind}
+use Rattle.sel_gather.proofs.ItemRuns.{rows_of, below_of, joined-append, ends-append}
+use Rattle.sel_gather.proofs.RunLists.{All-left, length-unrolled}
+use Rattle.sel_gather.proofs.SplitRuns.{told_bits, told_length, told_valid}
+
+-- ---- the row references of the next run
+
+module _ (ps left rest : List (Option (ℕ × ℕ))) (run : Run) (at : ℕ) (behind : left ≡ drop at ps) (next : left ≡ unrolled run ++ rest) where
+  first_picks : take run.len left ≡ unrolled run
+  first_picks =
+      let long = length-unrolled run in
+      ap (take run.len) next ∙ ap (λ n. take n (unrolled run ++ rest)) (sym long)
+      ∙ take-append-le (length (unrolled run)) (unrolled run) rest (omega arith) ∙ take_all (length (unrolled run)) (unrolled run) (omega arith)
+
+  other_picks : rest ≡ drop run.len left
+  other_picks =
+      let long = length-unrolled run in
+      sym (ap (drop run.len) next ∙ ap (λ n. drop n (unrolled run ++ rest)) (sym long)
+      ∙ drop-append-le (length (unrolled run)) (unrolled run) rest (omega arith) ∙ ap (λ l. l ++ rest) (drop_all (length (unrolled run)) (unrolled run) (omega arith)))
+
+  pub run_behind : rest ≡ drop (at + run.len) ps
+  run_behind = left_behind ps left rest at run.len behind other_picks
+
+  pub taken_run : take (at + run.len) ps ≡ take at ps ++ unrolled run
+  taken_run = take-add at run.len ps ∙ ap (λ l. take at ps ++ take run.len l) (sym behind) ∙ ap (λ l. take at ps ++ l) first_picks
+
+  pub picked_run : (xss : List (List Value)) → pick Null xss (take (at + run.len) ps) ≡ pick Null xss (take at ps) ++ pick Null xss (unrolled run)
+  picked_run xss = ap (pick Null xss) taken_run ∙ map-append (found Null xss) (take at ps) (unrolled run)
+
+  pub run_within : at ≤ length ps → at + run.len ≤ length ps
+  run_within inside =
+      let long = ap length (sym behind ∙ next) ∙ length-append (unrolled run) rest in
+      let some = length-unrolled run in
+      omega (arith, long, some, length-drop at ps)
+
+-- A property of all row references is a property of those of the next run.
+pub run_all : (P : Option (ℕ × ℕ) → Type 0) (left rest : List (Option (ℕ × ℕ))) (run : Run) → left ≡ unrolled run ++ rest → All P left → All P (unrolled run)
+run_all P left rest run next all = All-left P (unrolled run) rest (subst (All P) next all)
+
+-- ---- the child rows of its lists
+
+pub items_behind : (w : ℕ) (now before more : List Value) → now ≡ before ++ more → joined_items w now ≡ joined_items w before ++ joined_items w more
+items_behind w now before more is = ap (joined_items w) is ∙ joined-append w before more
+
+pub counts_behind : (w : ℕ) (now before more : List Value) (old new : ℕ) → now ≡ before ++ more → old ≡ length (joined_items w before) → new ≡ old + length (joined_items w more) → new ≡ length (joined_items w now)
+counts_behind w now before more old new is e f =
+    let split = ap length (items_behind w now before more is) ∙ length-append (joined_items w before) (joined_items w more) in
+    omega (arith, split, e, f)
+
+pub ends_behind : (now before more : List Value) (end : ℕ) (old new : List ℤ) → now ≡ before ++ more → end ≡ length (joined_items 0 before) → old ≡ map pos (0 ∷ item_ends 0 before) →
+    new ≡ old ++ map pos (item_ends end more) → new ≡ map pos (0 ∷ item_ends 0 now)
+ends_behind now before more end old new is e f g =
+    let split = ap (item_ends 0) is ∙ ends-append 0 before more in
+    let there : end ≡ 0 + length (joined_items 0 before) = omega (arith, e) in
+    g ∙ ap (λ l. l ++ map pos (item_ends end more)) f ∙ ap (λ n. (pos 0 ∷ map pos (item_ends 0 before)) ++ map pos (item_ends n more)) there
+    ∙ ap (λ l. pos 0 ∷ l) (sym (map-append pos (item_ends 0 before) (item_ends (0 + length (joined_items 0 before)) more)) ∙ ap (map pos) (sym split))
+
+-- A prefix of the lists has at most as many child rows as all lists.
+pub joined_first : (w : ℕ) (xss : List (List Value)) (ps : List (Option (ℕ × ℕ))) (k : ℕ) → length (joined_items w (pick Null xss (take k ps))) ≤ length (joined_items w (pick Null xss ps))
+joined_first w xss ps k =
+    let split = ap (pick Null xss) (sym (take-append-drop k ps)) ∙ map-append (found Null xss) (take k ps) (drop k ps) in
+    let whole = ap length (items_behind w (pick Null xss ps) (pick Null xss (take k ps)) (pick Null xss (drop k ps)) split) ∙ length-append (joined_items w (pick Null xss (take k ps))) (joined_items w (pick Null xss (drop k ps))) in
+    omega (arith, whole)
+
+pub past_more : (m n : ℕ) → m ≤ n → (limit : Limit) → ExceedsRows m limit → ExceedsRows n limit
+past_more m n le RowLimit h = omega (arith, le, h)
+past_more m n le ByteLimit h = h
+past_more m n le BufferLimit h = h
+past_more m n le ViewBytes h = h
+
+-- ---- the validities of the sources
+
+told_row : (s : Shape) (v : Option Bits) (vs : List Value) (i : ℕ) → s ≢ of_null → IsValidityOf s v vs → i < length vs → valid_at v i ≡ is_valid (get_or vs i Null)
+told_row s None vs i other tells h =
+    sym (get_or-replicate (length vs) i true false h) ∙ ap (λ l. get_or l i false) (sym (told_valid s None vs other tells refl)) ∙ get_or-map is_valid vs i Null false h
+told_row s (Some b) vs i other tells h =
+    ap (λ l. get_or l i false) (sym (told_bits s (Some b) vs other tells b refl)) ∙ get_or-map is_valid vs i Null false h
+
+told_found : (vs : List (Option Bits)) (cs : List (Bor Column)) (s i : ℕ) → AreValidities vs (columns_of cs) → All (λ c. type_of c.now ≢ of_null) cs → i < length (get_or (rows_of cs) s []) →
+    valid_at (get_or vs s None) i ≡ is_valid (get_or (get_or (rows_of cs) s []) i Null)
+told_found vs [] s i told known h = absurd (omega (arith, h))
+told_found [] (c ∷ cs) s i told known h = absurd told
+told_found (v ∷ vs) (c ∷ cs) zero i told known h = told_row (type_of c.now) v (rows c.now) i (known 0 c (omega arith)) told.0 h
+told_found (v ∷ vs) (c ∷ cs) (suc s) i told known h = told_found vs cs s i told.1 (λ k d below. known (suc k) d (omega (arith, below))) h
+
+-- The gathered validity bits are the validity of the gathered rows.
+pub told_picked : (vs : List (Option Bits)) (cs : List (Bor Column)) (ps : List (Option (ℕ × ℕ))) → AreValidities vs (columns_of cs) → All (λ c. type_of c.now ≢ of_null) cs → All (PickFits (rows_of cs)) ps →
+    bits_found vs ps ≡ validities (pick Null (rows_of cs) ps)
+told_picked vs cs [] told known fits = refl
+told_picked vs cs (None ∷ ps) told known fits = ap (λ l. false ∷ l) (told_picked vs cs ps told known (λ k d h. fits (suc k) d (omega (arith, h))))
+told_picked vs cs (Some p ∷ ps) told known fits =
+    let here = told_found vs cs p.0 p.1 told known (fits 0 None (omega arith)) in
+    let rest = told_picked vs cs ps told known (λ k d h. fits (suc k) d (omega (arith, h))) in
+    (λ i. here i ∷ rest i)
+
+told_bit : (vs : List (Option Bits)) (cs : List (Bor Column)) (s i : ℕ) → AreValidities vs (columns_of cs) → All (λ c. type_of c.now ≢ of_null) cs → i < length (get_or (rows_of cs) s []) →
+    (s < length vs) × ForSome (get_or vs s None) (λ b. i < length b.bits)
+told_bit vs [] s i told known h = absurd (omega (arith, h))
+told_bit [] (c ∷ cs) s i told known h = absurd told
+told_bit (v ∷ vs) (c ∷ cs) zero i told known h = (omega arith, λ b is. omega (arith, h, told_length (type_of c.now) v (rows c.now) (known 0 c (omega arith)) told.0 b is))
+told_bit (v ∷ vs) (c ∷ cs) (suc s) i told known h =
+    let rest = told_bit vs cs s i told.1 (λ k d below. known (suc k) d (omega (arith, below))) h in
+    (omega (arith, rest.0), rest.1)
+
+-- Row references that fit the rows refer to bits of these validities.
+pub told_fits : (vs : List (Option Bits)) (cs : List (Bor Column)) (ps : List (Option (ℕ × ℕ))) → AreValidities vs (columns_of cs) → All (λ c. type_of c.now ≢ of_null) cs → All (PickFits (rows_of cs)) ps → All (HasBit vs) ps
+told_fits vs cs [] told known fits k d h = absurd (omega (arith, h))
+told_fits vs cs (None ∷ ps) told known fits zero d h = tt
+told_fits vs cs (Some p ∷ ps) told known fits zero d h = told_bit vs cs p.0 p.1 told known (fits 0 d (omega arith))
+told_fits vs cs (p ∷ ps) told known fits (suc k) d h = told_fits vs cs ps told known (λ j e below. fits (suc j) e (omega (arith, below))) k d (omega (arith, h))
+
+-- One more validity.
+pub told_more : (vs new : List (Option Bits)) (cs : List Column) (v : Option Bits) (c : Column) → AreValidities vs cs → IsValidityOf (type_of c) v (rows c) → new ≡ vs ++ v ∷ [] → AreValidities new (cs ++ c ∷ [])
+told_more vs new cs v c told here is = subst (λ l. AreValidities l (cs ++ c ∷ [])) (sym is) (behind vs cs told)
+  where
+    behind : (vs : List (Option Bits)) (cs : List Column) → AreValidities vs cs → AreValidities (vs ++ v ∷ []) (cs ++ c ∷ [])
+    behind [] [] told = (here, tt)
+    behind [] (d ∷ cs) told = absurd told
+    behind (w ∷ vs) [] told = absurd told
+    behind (w ∷ vs) (d ∷ cs) told = (told.0, behind vs cs told.1)
+
+-- ---- the type of the first column
+
+pub first_is : (s : Shape) (xs : List (Bor Column)) → 0 < length xs → All (λ x. type_of x.now ≡ s) xs → first_type (columns_of xs) ≡ s
+first_is s [] some all = absurd (omega (arith, some))
+first_is s (x ∷ xs) some all = all 0 x (omega arith)
+
+-- ---- the children of list columns
+
+pub lists_known : (s : Shape) (cs : List (Bor Column)) → All (λ c. type_of c.now ≡ of_large_list s) cs → All (λ c. type_of c.now ≢ of_null) cs
+lists_known s cs alike k d h none = let bad : of_large_list s ≡ of_null = sym (alike k d h) ∙ none in absurd cc
+
+pub lists_listing : (s : Shape) (cs : List (Bor Column)) → All (λ c. type_of c.now ≡ of_large_list s) cs → All (λ c. is_listing (type_of c.now) ≡ true) cs
+lists_listing s cs alike = λ k d h. ap is_listing (alike k d h)
+
+module _ (s : Shape) (cs xs : List (Bor Column)) (found : map (λ x. x.now) xs ≡ map (λ c. child c.now) cs) (alike : All (λ c. type_of c.now ≡ of_large_list s) cs) (formed : All (λ c. IsWellFormed c.now) cs) where
+  pub children_recurse : Recurses s xs (below_of cs)
+  children_recurse = items_recurse s xs cs found (lists_listing s cs alike) (λ k d h. child_type (get_or cs k d).now s (alike k d h)) formed
+
+  pub children_some : 0 < length cs → 0 < length xs
+  children_some some = omega (arith, some, ap length found, length-map xs (λ x. x.now), length-map cs (λ c. child c.now))
+
+  pub children_first : 0 < length cs → first_type (columns_of xs) ≡ s
+  children_first some = first_is s xs (children_some some) children_recurse.alike
+
+  pub children_columns : columns_of xs ≡ map child (columns_of cs)
+  children_columns = found ∙ mapped_now child cs
+
+  pub children_picked : (runs given : List Run) (items : List Value) → runs ≡ given → pick Null (below_of cs) (expand given) ≡ items → pick Null (rows_of xs) (expand runs) ≡ items
+  children_picked runs given items same is = ap (λ xss. pick Null xss (expand runs)) children_recurse.rows ∙ ap (λ rs. pick Null (below_of cs) (expand rs)) same ∙ is
+
+  pub children_fit : (runs given : List Run) → runs ≡ given → All (PickFits (below_of cs)) (expand given) → All (PickFits (rows_of xs)) (expand runs)
+  children_fit runs given same fits = subst (λ xss. All (PickFits xss) (expand runs)) (sym children_recurse.rows) (subst (λ rs. All (PickFits (below_of cs)) (expand rs)) (sym same) fits)

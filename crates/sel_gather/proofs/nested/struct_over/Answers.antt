@@ -1,0 +1,34 @@
+use Rattle.std.proofs.Common.{◌≡◌, ◌∙◌, ap, subst, length, map, get_or}
+use Rattle.std.proofs.lemmas.List.{length-map}
+use Rattle.sel_arrow.specs.Rows.{rows, type_of}
+use Rattle.sel_arrow.specs.Shape.{shapes_of, shape_list}
+use Rattle.sel_arrow.specs.Value.{Null}
+use Rattle.sel_arrow.proofs.Trees.{rows-Struct, fields_make}
+use Rattle.sel_arrow.proofs.Types.{type_of-Struct}
+use Rattle.sel_gather.specs.Picks.{pick}
+use Rattle.sel_gather.specs.Runs.{expand}
+use Rattle.sel_gather.proofs.Below.{listed_shapes}
+use Rattle.sel_gather.proofs.ItemRuns.{rows_of}
+use Rattle.sel_gather.proofs.Layouts.{picked_tuples}
+use Rattle.sel_gather.proofs.Rebuilt.{IsTuple, tuples_rebuilt}
+use Rattle.sel_gather.proofs.RunLists.{length-pick}
+use Rattle.sel_gather.proofs.nested.struct_over.Goals as goal
+
+pub returns-clause-rows : goal.returns-clause-rows
+returns-clause-rows c =
+    let xss = rows_of c.args.sources.now in
+    let ps = expand c.args.runs.now in
+    let vs = pick Null xss ps in
+    let ss = shapes_of (map type_of c.args.fields.items) in
+    let count : length (shape_list ss) ≡ length c.args.fields.items = ap length (listed_shapes (map type_of c.args.fields.items)) ∙ length-map c.args.fields.items type_of in
+    rows-Struct c.args.len c.args.fields c.in-Ok.validity
+    ∙ tuples_rebuilt (length c.args.fields.items) vs (map rows c.args.fields.items) c.in-Ok.validity c.args.len
+    (λ k. subst (λ n. IsTuple n (get_or vs k Null)) count (picked_tuples c.args.sources.now ss ps c.requires.tuples k))
+    (length-pick Null xss ps ∙ c.requires.len) c.requires.parts c.in-Ok.ensures.bits
+
+pub returns-clause-dtype : goal.returns-clause-dtype
+returns-clause-dtype c = type_of-Struct c.args.len c.args.fields c.in-Ok.validity
+
+pub returns-clause-formed : goal.returns-clause-formed
+returns-clause-formed c =
+    fields_make c.args.len c.args.fields c.in-Ok.validity (record { few = c.requires.few; covered = c.in-Ok.ensures.covers; fields = c.requires.fields })

@@ -1,0 +1,6 @@
+use Rattle.sel_gather.specs.Runs.{expand}
+use Rattle.sel_gather.proofs.NullPicks.{null_picks}
+use Rattle.sel_gather.proofs.null.collect_null.Goals as goal
+
+pub returns-clause-rows : goal.returns-clause-rows
+returns-clause-rows c = null_picks c.args.sources.now (expand c.args.runs.now) c.args.len c.requires.alike c.requires.len

@@ -1,0 +1,8 @@
+use Rattle.std.proofs.Common.{◌≡◌, take, map}
+use Rattle.std.specs.Option.{option_copied}
+use Rattle.sel_arrow.specs.Masked.{number_rows}
+use Rattle.sel_arrow.specs.Rows.{rows}
+use Rattle.sel_gather.proofs.primitive.numbers_of.Given as goal
+
+abbrev pub invariant-loop-source : goal.invariant-loop-source
+invariant-loop-source g l = map (λ s. number_rows g.T.NativeType.number s.values.now (option_copied s.validity)) l.found.items ≡ map (λ c. rows c.now) (take l.source-index l.sources)

@@ -1,0 +1,7 @@
+-- The fields of the sources so far.
+use Rattle.std.proofs.Common.{◌≡◌, map, take}
+use Rattle.sel_gather.specs.Children.{field}
+use Rattle.sel_gather.proofs.structs.fields_at.Given as goal
+
+abbrev pub invariant-loop-source : goal.invariant-loop-source
+invariant-loop-source l = map (λ c. c.now) l.found.items ≡ map (λ c. field l.j c.now) (take l.source-index l.sources)

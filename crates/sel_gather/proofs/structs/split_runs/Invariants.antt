@@ -1,0 +1,9 @@
+-- The cleared row references of the runs so far.
+use Rattle.std.proofs.Common.{◌≡◌, map, take}
+use Rattle.sel_gather.specs.Cleared.{cleared}
+use Rattle.sel_gather.specs.Runs.{expand}
+use Rattle.sel_gather.proofs.ItemRuns.{rows_of}
+use Rattle.sel_gather.proofs.structs.split_runs.Given as goal
+
+abbrev pub invariant-loop-run : goal.invariant-loop-run
+invariant-loop-run l = expand l.split.items ≡ map (cleared (rows_of l.sources)) (expand (take l.run-index l.runs))

@@ -1,0 +1,257 @@
+//! Offsets and child rows of gathered lists.
+
+ghost use Rattle.std.specs.Prelude.{◌≡◌, ◌≤◌, ◌<◌, ◌+◌, ◌*◌, ◌∷◌, ◌++◌, true, pos, All, length, map, take, drop, slice_index_or, IfSome, IfNone, IfOk, IfErr, OnOk};
+ghost use Rattle.sel_bits.specs.Faults.{IsOutOfMemory};
+ghost use Rattle.sel_bits.specs.Limits.{max_rows};
+ghost use Rattle.sel_arrow.specs.Nested.{list_of};
+ghost use Rattle.sel_arrow.specs.Rows.{rows, type_of, IsWellFormed};
+ghost use Rattle.sel_arrow.specs.Value.{Null};
+ghost use Rattle.sel_gather.specs.Children.{child, is_listing, items_in, joined_items};
+ghost use Rattle.sel_gather.specs.Picks.{pick, PickFits};
+ghost use Rattle.sel_gather.specs.Runs.{expand, unrolled};
+ghost use Rattle.sel_gather.specs.Ends.{item_ends};
+ghost use Rattle.sel_gather.specs.Sources.{child_rows, picked, rows_of};
+ghost use Rattle.sel_gather.specs.RunRows.{run_rows};
+
+use crate::run::{Run, nulls_of, push_run};
+use sel_arrow::column::Column;
+use sel_arrow::validity::is_valid_at;
+use sel_bits::faults::PolarsResult;
+use std::alloc::Global;
+
+/// Returns the child of each list column.
+///
+/// # Requires
+/// All sources are list or fixed-size list columns.
+///
+/// # Errors
+/// `OutOfMemory` if an allocation fails.
+pub fn children_of<'a>(alloc: Global, sources: &[&'a Column]) -> PolarsResult<Vec<&'a Column>>
+    requires lists { All (λ c. is_listing (type_of c.now) ≡ true) sources.now }
+    ensures children { IfOk result (λ found. map (λ c. c.now) found.items ≡
+        map (λ c. child c.now) sources.now) }
+    ensures refusal { IfErr result IsOutOfMemory }
+{
+    let mut found = Vec::with_capacity(alloc, sources.len())?;
+    for source in sources {
+        found.push(child_of(*source))?;
+    }
+    Ok(found)
+}
+
+// Returns the child of a list column, or the column itself for another type.
+fn child_of<'a>(column: &'a Column) -> &'a Column
+    ensures { result.now ≡ child column.now }
+{
+    match column {
+        Column::LargeList { values, .. } => values,
+        Column::FixedSizeList { values, .. } => values,
+        _ => column,
+    }
+}
+
+// Returns the start and the number of the child rows of row `i`; none if it is null.
+#[inline(always)]
+fn part_of_row(column: &Column, i: usize) -> Option<(u32, u32)>
+    requires lists { is_listing (type_of column.now) ≡ true }
+    requires formed { IsWellFormed column.now }
+    requires inside { i < length (rows column.now) }
+    ensures null { IfNone result (slice_index_or (rows column.now) i Null ≡ Null) }
+    ensures row { IfSome result (λ part. slice_index_or (rows column.now) i Null ≡
+        list_of (take part.1 (drop part.0 (rows (child column.now))))) }
+    ensures inside { IfSome result (λ part. part.0 + part.1 ≤ length (rows (child column.now))) }
+{
+    match column {
+        Column::LargeList {
+            offsets,
+            validity,
+            ..
+        } => {
+            if !is_valid_at(validity, i) {
+                return None;
+            }
+            let (start, end) = (offsets.at(i), offsets.at(i + 1));
+            Some((start as u32, (end - start) as u32))
+        }
+        Column::FixedSizeList { size, validity, .. } => {
+            if !is_valid_at(validity, i) {
+                return None;
+            }
+            Some(((i * *size) as u32, *size as u32))
+        }
+        _ => unreachable!(),
+    }
+}
+
+/// Returns the run of the child rows of row `i` of a run; `width` nulls if the row is null.
+///
+/// # Requires
+/// All sources are well-formed list or fixed-size list columns, the run is within the rows of its
+/// source, and `i` is less than `run.len`.
+#[inline(always)]
+pub fn run_of_row(sources: &[&Column], run: Run, i: u32, width: u32) -> Run
+    requires lists { All (λ c. is_listing (type_of c.now) ≡ true) sources.now }
+    requires formed { All (λ c. IsWellFormed c.now) sources.now }
+    requires fits { All (PickFits (rows_of sources.now)) (unrolled run) }
+    requires inside { i < run.len }
+    ensures items { pick Null (child_rows sources.now) (unrolled result) ≡
+        items_in width (slice_index_or (run_rows sources.now run) i Null) }
+    ensures fits { All (PickFits (child_rows sources.now)) (unrolled result) }
+    ensures small { result.len ≤ max_rows }
+{
+    let Some(source) = run.source else {
+        return nulls_of(width);
+    };
+    let row = run.start as usize + i as usize;
+    match part_of_row(sources[source as usize], row) {
+        None => nulls_of(width),
+        Some((start, len)) => Run {
+            source: Some(source),
+            start,
+            len,
+        },
+    }
+}
+
+/// Returns the number of child rows of the lists that runs refer to, counting `width` for each null
+/// list.
+///
+/// # Requires
+/// All sources are well-formed list or fixed-size list columns, and every run is within the rows of
+/// its source. The runs have at most 2^32 - 1 rows in total.
+pub fn count_items(sources: &[&Column], runs: &[Run], width: u32) -> u128
+    requires lists { All (λ c. is_listing (type_of c.now) ≡ true) sources.now }
+    requires formed { All (λ c. IsWellFormed c.now) sources.now }
+    requires fits { All (PickFits (rows_of sources.now)) (expand runs.now) }
+    requires few { length (expand runs.now) ≤ max_rows }
+    ensures { result ≡ length (joined_items width (picked sources.now runs.now)) }
+{
+    let mut total: u128 = 0;
+    for run in runs {
+        total += count_run(sources, *run, width);
+    }
+    total
+}
+
+// Returns the number of child rows of the lists of one run.
+fn count_run(sources: &[&Column], run: Run, width: u32) -> u128
+    requires lists { All (λ c. is_listing (type_of c.now) ≡ true) sources.now }
+    requires formed { All (λ c. IsWellFormed c.now) sources.now }
+    requires fits { All (PickFits (rows_of sources.now)) (unrolled run) }
+    ensures count { result ≡ length (joined_items width (run_rows sources.now run)) }
+    ensures small { result ≤ max_rows * run.len }
+{
+    let mut total: u128 = 0;
+    for i in 0..run.len {
+        total += run_of_row(sources, run, i, width).len as u128;
+    }
+    total
+}
+
+/// Returns the runs of the child rows of the lists that runs refer to, with `width` nulls for each
+/// null list.
+///
+/// Adjacent runs are merged if they are contiguous.
+///
+/// # Requires
+/// All sources are well-formed list or fixed-size list columns, and every run is within the rows of
+/// its source. The result has at most 2^32 - 1 rows in total.
+///
+/// # Errors
+/// `OutOfMemory` if an allocation fails.
+pub fn child_runs(
+    alloc: Global,
+    sources: &[&Column],
+    runs: &[Run],
+    width: u32,
+) -> PolarsResult<Vec<Run>>
+    requires lists { All (λ c. is_listing (type_of c.now) ≡ true) sources.now }
+    requires formed { All (λ c. IsWellFormed c.now) sources.now }
+    requires fits { All (PickFits (rows_of sources.now)) (expand runs.now) }
+    requires room { length (joined_items width (picked sources.now runs.now)) ≤ max_rows }
+    ensures items { IfOk result (λ below. pick Null (child_rows sources.now)
+        (expand below.items) ≡ joined_items width (picked sources.now runs.now)) }
+    ensures fits { IfOk result (λ below. All
+        (PickFits (child_rows sources.now)) (expand below.items)) }
+    ensures refusal { IfErr result IsOutOfMemory }
+{
+    let mut below = Vec::with_capacity(alloc, runs.len())?;
+    for run in runs {
+        push_items(&mut below, sources, *run, width)?;
+    }
+    Ok(below)
+}
+
+// Appends the runs of the child rows of the lists of a run. Errors: `OutOfMemory`.
+fn push_items(below: &mut Vec<Run>, sources: &[&Column], run: Run, width: u32) -> PolarsResult<()>
+    requires lists { All (λ c. is_listing (type_of c.now) ≡ true) sources.now }
+    requires formed { All (λ c. IsWellFormed c.now) sources.now }
+    requires fits { All (PickFits (rows_of sources.now)) (unrolled run) }
+    requires sound { All (PickFits (child_rows sources.now)) (expand below.old.items) }
+    requires room { length (expand below.old.items) + length
+        (joined_items width (run_rows sources.now run)) ≤ max_rows }
+    ensures items { OnOk result (pick Null (child_rows sources.now) (expand below.new.items) ≡
+        pick Null (child_rows sources.now) (expand below.old.items) ++ joined_items width
+        (run_rows sources.now run)) }
+    ensures sound { OnOk result (All (PickFits (child_rows sources.now)) (expand below.new.items)) }
+    ensures refusal { IfErr result IsOutOfMemory }
+{
+    for i in 0..run.len {
+        push_run(below, run_of_row(sources, run, i, width))?;
+    }
+    Ok(())
+}
+
+/// Returns a 0 followed by the end offset of each list that runs refer to; a null list is empty.
+///
+/// # Requires
+/// All sources are well-formed list or fixed-size list columns, and every run is within the rows of
+/// its source. The runs have `len` lists in total, and these at most 2^32 - 1 child rows; `len` is
+/// at most 2^32 - 1.
+///
+/// # Errors
+/// `OutOfMemory` if an allocation fails.
+pub fn ends_of(
+    alloc: Global,
+    sources: &[&Column],
+    runs: &[Run],
+    len: usize,
+) -> PolarsResult<Vec<i64>>
+    requires lists { All (λ c. is_listing (type_of c.now) ≡ true) sources.now }
+    requires formed { All (λ c. IsWellFormed c.now) sources.now }
+    requires fits { All (PickFits (rows_of sources.now)) (expand runs.now) }
+    requires len { length (expand runs.now) ≡ len }
+    requires few { len ≤ max_rows }
+    requires room { length (joined_items 0 (picked sources.now runs.now)) ≤ max_rows }
+    ensures ends { IfOk result (λ ends. ends.items ≡
+        map pos (0 ∷ item_ends 0 (picked sources.now runs.now))) }
+    ensures refusal { IfErr result IsOutOfMemory }
+{
+    let mut ends = Vec::with_capacity(alloc, len + 1)?;
+    ends.push(0)?;
+    let mut end = 0;
+    for run in runs {
+        end = push_ends(&mut ends, sources, *run, end)?;
+    }
+    Ok(ends)
+}
+
+// Appends the end offsets of the lists of a run, and returns the last one. Errors: `OutOfMemory`.
+fn push_ends(ends: &mut Vec<i64>, sources: &[&Column], run: Run, start: u32) -> PolarsResult<u32>
+    requires lists { All (λ c. is_listing (type_of c.now) ≡ true) sources.now }
+    requires formed { All (λ c. IsWellFormed c.now) sources.now }
+    requires fits { All (PickFits (rows_of sources.now)) (unrolled run) }
+    requires room { start + length (joined_items 0 (run_rows sources.now run)) ≤ max_rows }
+    ensures ends { OnOk result (ends.new.items ≡
+        ends.old.items ++ map pos (item_ends start (run_rows sources.now run))) }
+    ensures last { IfOk result (λ end. end ≡
+        start + length (joined_items 0 (run_rows sources.now run))) }
+    ensures refusal { IfErr result IsOutOfMemory }
+{
+    let mut end = start;
+    for i in 0..run.len {
+        end += run_of_row(sources, run, i, 0).len;
+        ends.push(end as i64)?;
+    }
+    Ok(end)
+}

@@ -1,0 +1,183 @@
+//! Nested columns over children that are already collected.
+
+ghost use Rattle.std.specs.Prelude.{◌≡◌, ◌≤◌, ◌∷◌, All, pos, length, map, IfOk, IfErr};
+ghost use Rattle.sel_bits.specs.Faults.{IsOutOfMemory};
+ghost use Rattle.sel_bits.specs.Limits.{max_rows};
+ghost use Rattle.sel_arrow.specs.Rows.{rows, type_of, IsField, IsWellFormed};
+ghost use Rattle.sel_arrow.specs.Shape.{of_large_list, of_fixed_size_list, of_struct, shapes_of};
+ghost use Rattle.sel_arrow.specs.Value.{Null};
+ghost use Rattle.sel_gather.specs.Children.{joined_items, parts_of};
+ghost use Rattle.sel_gather.specs.Ends.{item_ends};
+ghost use Rattle.sel_gather.specs.Picks.{pick, PickFits};
+ghost use Rattle.sel_gather.specs.Runs.{expand};
+ghost use Rattle.sel_gather.specs.Sources.{picked, rows_of};
+
+use crate::lists::ends_of;
+use crate::run::Run;
+use crate::validity::collect_validity;
+use sel_arrow::column::Column;
+use sel_bits::faults::{PolarsError, PolarsResult};
+use sel_bits::offsets::OffsetsBuffer;
+use std::alloc::Global;
+
+/// Returns the lists that runs refer to, over their concatenated items `values`.
+///
+/// # Requires
+/// All sources are well-formed list columns whose child has the type of `values`, and every run is
+/// within the rows of its source. The runs have `len` rows in total, at most 2^32 - 1. `values` is
+/// well-formed and has the items of these lists, in order.
+///
+/// # Errors
+/// `OutOfMemory` if an allocation fails.
+pub fn lists_over(
+    alloc: Global,
+    values: Column,
+    sources: &[&Column],
+    runs: &[Run],
+    len: usize,
+) -> PolarsResult<Column>
+    requires lists { All (λ c. type_of c.now ≡ of_large_list (type_of values)) sources.now }
+    requires formed { All (λ c. IsWellFormed c.now) sources.now }
+    requires fits { All (PickFits (rows_of sources.now)) (expand runs.now) }
+    requires len { length (expand runs.now) ≡ len }
+    requires few { len ≤ max_rows }
+    requires below { rows values ≡ joined_items 0 (picked sources.now runs.now) }
+    requires child { IsWellFormed values }
+    ensures rows { IfOk result (λ column. rows column ≡ picked sources.now runs.now) }
+    ensures dtype { IfOk result (λ column. type_of column ≡ of_large_list (type_of values)) }
+    ensures formed { IfOk result (λ column. IsWellFormed column) }
+    ensures refusal { IfErr result IsOutOfMemory }
+{
+    let Ok(ends) = ends_of(alloc, sources, runs, len) else {
+        drop(values);
+        return Err(PolarsError::OutOfMemory);
+    };
+    lists_with(alloc, values, ends, sources, runs, len)
+}
+
+/// Returns the lists of [`lists_over`], given their offsets `ends`. Errors: `OutOfMemory`.
+pub(crate) fn lists_with(
+    alloc: Global,
+    values: Column,
+    ends: Vec<i64>,
+    sources: &[&Column],
+    runs: &[Run],
+    len: usize,
+) -> PolarsResult<Column>
+    requires lists { All (λ c. type_of c.now ≡ of_large_list (type_of values)) sources.now }
+    requires formed { All (λ c. IsWellFormed c.now) sources.now }
+    requires fits { All (PickFits (rows_of sources.now)) (expand runs.now) }
+    requires len { length (expand runs.now) ≡ len }
+    requires few { len ≤ max_rows }
+    requires ends { ends.items ≡ map pos (0 ∷ item_ends 0 (picked sources.now runs.now)) }
+    requires below { rows values ≡ joined_items 0 (picked sources.now runs.now) }
+    requires child { IsWellFormed values }
+    ensures rows { IfOk result (λ column. rows column ≡ picked sources.now runs.now) }
+    ensures dtype { IfOk result (λ column. type_of column ≡ of_large_list (type_of values)) }
+    ensures formed { IfOk result (λ column. IsWellFormed column) }
+    ensures refusal { IfErr result IsOutOfMemory }
+{
+    let values = Box::new(alloc, values)?;
+    let Ok(offsets) = OffsetsBuffer::of_rising(ends) else {
+        drop(values);
+        return Err(PolarsError::OutOfMemory);
+    };
+    let Ok(validity) = collect_validity(alloc, sources, runs, len) else {
+        drop(values);
+        return Err(PolarsError::OutOfMemory);
+    };
+    Ok(Column::LargeList {
+        offsets,
+        values,
+        validity,
+    })
+}
+
+/// Returns the fixed-size lists that runs refer to, over their concatenated items `values`.
+///
+/// # Requires
+/// All sources are well-formed fixed-size list columns with list size `size`, at most 2^32 - 1,
+/// whose child has the type of `values`, and every run is within the rows of its source. The runs
+/// have `len` rows in total, at most 2^32 - 1. `values` is well-formed and has the items of these
+/// lists, in order, with `size` nulls for each null list.
+///
+/// # Errors
+/// `OutOfMemory` if an allocation fails.
+pub fn blocks_over(
+    alloc: Global,
+    size: usize,
+    values: Column,
+    sources: &[&Column],
+    runs: &[Run],
+    len: usize,
+) -> PolarsResult<Column>
+    requires lists { All (λ c. type_of c.now ≡
+        of_fixed_size_list (type_of values) size) sources.now }
+    requires formed { All (λ c. IsWellFormed c.now) sources.now }
+    requires fits { All (PickFits (rows_of sources.now)) (expand runs.now) }
+    requires len { length (expand runs.now) ≡ len }
+    requires few { len ≤ max_rows }
+    requires narrow { size ≤ max_rows }
+    requires below { rows values ≡ joined_items size (picked sources.now runs.now) }
+    requires child { IsWellFormed values }
+    ensures rows { IfOk result (λ column. rows column ≡ picked sources.now runs.now) }
+    ensures dtype { IfOk result (λ column. type_of column ≡
+        of_fixed_size_list (type_of values) size) }
+    ensures formed { IfOk result (λ column. IsWellFormed column) }
+    ensures refusal { IfErr result IsOutOfMemory }
+{
+    let values = Box::new(alloc, values)?;
+    let Ok(validity) = collect_validity(alloc, sources, runs, len) else {
+        drop(values);
+        return Err(PolarsError::OutOfMemory);
+    };
+    Ok(Column::FixedSizeList {
+        size,
+        len,
+        values,
+        validity,
+    })
+}
+
+/// Returns the struct rows that runs refer to, over their fields.
+///
+/// # Requires
+/// All sources are well-formed struct columns whose fields have the types of `fields`, and every
+/// run is within the rows of its source. The runs have `len` rows in total, at most 2^32 - 1.
+/// `fields` are well-formed and have the field values of these rows, in order, with nulls for each
+/// null row.
+///
+/// # Errors
+/// `OutOfMemory` if an allocation fails.
+pub fn struct_over(
+    alloc: Global,
+    fields: Vec<Column>,
+    sources: &[&Column],
+    runs: &[Run],
+    len: usize,
+) -> PolarsResult<Column>
+    requires tuples { All (λ c. type_of c.now ≡
+        of_struct (shapes_of (map type_of fields.items))) sources.now }
+    requires formed { All (λ c. IsWellFormed c.now) sources.now }
+    requires fits { All (PickFits (rows_of sources.now)) (expand runs.now) }
+    requires len { length (expand runs.now) ≡ len }
+    requires few { len ≤ max_rows }
+    requires parts { map rows fields.items ≡
+        parts_of (length fields.items) (picked sources.now runs.now) }
+    requires fields { All (IsField len) fields.items }
+    ensures rows { IfOk result (λ column. rows column ≡ picked sources.now runs.now) }
+    ensures dtype { IfOk result (λ column. type_of column ≡
+        of_struct (shapes_of (map type_of fields.items))) }
+    ensures formed { IfOk result (λ column. IsWellFormed column) }
+    ensures refusal { IfErr result IsOutOfMemory }
+{
+    let Ok(validity) = collect_validity(alloc, sources, runs, len) else {
+        drop(fields);
+        return Err(PolarsError::OutOfMemory);
+    };
+    Ok(Column::Struct {
+        len,
+        fields,
+        validity,
+    })
+}

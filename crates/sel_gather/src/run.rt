@@ -1,0 +1,135 @@
+//! Runs of consecutive rows.
+
+ghost use Rattle.std.specs.Prelude.{◌≡◌, ◌≤◌, ◌+◌, ◌++◌, ◌∷◌, [], None, length, IfSome, IfOk, IfErr, OnOk};
+ghost use Rattle.sel_bits.specs.Faults.{IsOutOfMemory};
+ghost use Rattle.sel_bits.specs.Limits.{max_rows};
+ghost use Rattle.sel_gather.specs.Runs.{expand, unrolled};
+
+use crate::plan::{Listed, runs_of_plan};
+use sel_bits::faults::PolarsResult;
+use std::alloc::Global;
+
+/// `len` rows of one source from row `start` on; without a source, `len` nulls.
+#[derive(Clone, Copy, Drop)]
+pub struct Run {
+    pub source: Option<u32>,
+    pub start: u32,
+    pub len: u32,
+}
+
+/// Appends a run, or extends the last run if the two are contiguous; does nothing for an empty run.
+///
+/// # Requires
+/// The runs have at most 2^32 - 1 rows in total, including the new one.
+///
+/// # Errors
+/// `OutOfMemory` if an allocation fails; the runs are unchanged.
+pub fn push_run(runs: &mut Vec<Run>, run: Run) -> PolarsResult<()>
+    requires { length (expand runs.old.items) + run.len ≤ max_rows }
+    ensures picks { OnOk result (expand runs.new.items ≡ expand runs.old.items ++ unrolled run) }
+    ensures unchanged { IfErr result (λ _. runs.new.items ≡ runs.old.items) }
+    ensures refusal { IfErr result IsOutOfMemory }
+{
+    if run.len == 0 {
+        return Ok(());
+    }
+    let count = runs.len();
+    if count > 0 {
+        if let Some(both) = joined(runs[count - 1], run) {
+            runs[count - 1] = both;
+            return Ok(());
+        }
+    }
+    runs.push(run)?;
+    Ok(())
+}
+
+/// Appends a run like [`push_run`], with the last run stored in `last`, which is empty if there is
+/// none. Errors: `OutOfMemory`; the runs and `last` are unchanged.
+#[inline(always)]
+pub(crate) fn put_run(runs: &mut Vec<Run>, last: &mut Run, run: Run) -> PolarsResult<()>
+    requires { length (expand (runs.old.items ++ last.old ∷ [])) + run.len ≤ max_rows }
+    ensures picks { OnOk result (expand (runs.new.items ++ last.new ∷ []) ≡
+        expand (runs.old.items ++ last.old ∷ []) ++ unrolled run) }
+    ensures unchanged { IfErr result (λ _. runs.new.items ≡ runs.old.items) }
+    ensures last_unchanged { IfErr result (λ _. last.new ≡ last.old) }
+    ensures refusal { IfErr result IsOutOfMemory }
+{
+    if run.len == 0 {
+        return Ok(());
+    }
+    if last.len == 0 {
+        *last = run;
+        return Ok(());
+    }
+    if let Some(both) = joined(*last, run) {
+        *last = both;
+        return Ok(());
+    }
+    runs.push(*last)?;
+    *last = run;
+    Ok(())
+}
+
+/// Returns a run of `len` nulls.
+pub fn nulls_of(len: u32) -> Run
+    ensures { result ≡ (record { source = None; start = 0; len = len }) }
+{
+    Run {
+        source: None,
+        start: 0,
+        len,
+    }
+}
+
+// Returns both runs as one if the second continues the first.
+#[inline(always)]
+#[tactic(auto, using(crate::proofs::RunLists::run_rules))]
+fn joined(first: Run, second: Run) -> Option<Run>
+    requires { first.len + second.len ≤ max_rows }
+    ensures { IfSome result (λ both. unrolled both ≡ unrolled first ++ unrolled second) }
+{
+    let len = first.len + second.len;
+    match (first.source, second.source) {
+        (None, None) => Some(Run { len, ..first }),
+        (Some(one), Some(other)) => {
+            let end = first.start as u64 + first.len as u64;
+            if one == other && end == second.start as u64 {
+                Some(Run { len, ..first })
+            } else {
+                None
+            }
+        }
+        _ => None,
+    }
+}
+
+/// Returns the runs of row references; contiguous runs are merged.
+///
+/// # Requires
+/// There are at most 2^32 - 1 row references.
+///
+/// # Errors
+/// `OutOfMemory` if an allocation fails.
+pub fn runs_of_picks(alloc: Global, picks: &[Option<(u32, u32)>]) -> PolarsResult<Vec<Run>>
+    requires { length picks.now ≤ max_rows }
+    ensures picks { IfOk result (λ runs. expand runs.items ≡ picks.now) }
+    ensures refusal { IfErr result IsOutOfMemory }
+{
+    runs_of_plan(alloc, &Listed { picks })
+}
+
+/// Returns the run of one row reference.
+pub fn run_of_pick(pick: Option<(u32, u32)>) -> Run
+    ensures picks { unrolled result ≡ pick ∷ [] }
+    ensures len { result.len ≡ 1 }
+{
+    match pick {
+        None => nulls_of(1),
+        Some((source, start)) => Run {
+            source: Some(source),
+            start,
+            len: 1,
+        },
+    }
+}

@@ -1,7 +1,0 @@
--- A handle may be sent to another thread, with its column.
-use denote.Param.Send.{IsSend}
-use Rattle.sel_handle.proofs.Crossing.{handle_send}
-use Rattle.sel_handle.specs.contracts.handle.Handle.{the_row}
-
-pub send : IsSend the_row
-send = handle_send

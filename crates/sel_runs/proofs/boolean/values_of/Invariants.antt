@@ -1,6 +1,0 @@
-use Rattle.std.proofs.Common.{◌≡◌, take, map, Some}
-use Rattle.std.specs.Option.{option_copied}
-use Rattle.sel_runs.proofs.boolean.values_of.Given as goal
-
-abbrev pub invariant-loop-array : goal.invariant-loop-array
-invariant-loop-array l = map option_copied l.maps.items ≡ map (λ s. Some s.now.values) (take l.array-index l.arrays)

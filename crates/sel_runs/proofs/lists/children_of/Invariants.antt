@@ -1,7 +1,0 @@
--- The children of the sources so far.
-use Rattle.std.proofs.Common.{◌≡◌, map, take}
-use Rattle.sel_runs.specs.Children.{child}
-use Rattle.sel_runs.proofs.lists.children_of.Given as goal
-
-abbrev pub invariant-loop-source : goal.invariant-loop-source
-invariant-loop-source l = map (λ c. c.now) l.found.items ≡ map (λ c. child c.now) (take l.source-index l.sources)

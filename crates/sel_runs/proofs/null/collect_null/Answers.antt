@@ -1,6 +1,0 @@
-use Rattle.sel_runs.specs.Runs.{expand}
-use Rattle.sel_runs.proofs.NullPicks.{null_picks}
-use Rattle.sel_runs.proofs.null.collect_null.Goals as goal
-
-pub returns-clause-rows : goal.returns-clause-rows
-returns-clause-rows c = null_picks c.args.sources.now (expand c.args.runs.now) c.args.len c.requires.alike c.requires.len

@@ -1,9 +1,0 @@
--- The validities so far are those of the sources.
-use Rattle.std.proofs.Common.{map, take}
-use Rattle.std.specs.Option.{option_copied}
-use Rattle.sel_runs.specs.Plans.{AreValidities}
-use Rattle.sel_runs.specs.Sources.{columns_of}
-use Rattle.sel_runs.proofs.validity.validities_of.Given as goal
-
-abbrev pub invariant-loop-source : goal.invariant-loop-source
-invariant-loop-source l = AreValidities (map option_copied l.maps.items) (columns_of (take l.source-index l.sources))

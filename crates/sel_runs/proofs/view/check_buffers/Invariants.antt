@@ -1,6 +1,0 @@
-use Rattle.std.proofs.Common.{◌≡◌, ◌≤◌, length, take}
-use Rattle.std.specs.List.{flat_map}
-use Rattle.sel_runs.proofs.view.check_buffers.Given as goal
-
-abbrev pub invariant-loop-source : goal.invariant-loop-source
-invariant-loop-source l = (l.count ≡ length (flat_map (λ s. s.now.buffers) (take l.source-index l.sources))) × (l.count ≤ 4294967295)

@@ -1,5 +1,0 @@
-use Rattle.std.specs.List.{flat_map}
-use Rattle.sel_runs.proofs.view.collect_views.Given as goal
-
-abbrev pub ghosts-collect_few : goal.ghosts-collect_few
-ghosts-collect_few a = record { buffers = flat_map (λ s. s.now.buffers) a.sources.now }

@@ -1,5 +1,0 @@
-use Rattle.std.proofs.Common.{◌≡◌, ◌++◌, take}
-use Rattle.sel_runs.proofs.view.push_buffers.Given as goal
-
-abbrev pub invariant-loop-buffer : goal.invariant-loop-buffer
-invariant-loop-buffer l = l.joined.items ≡ l.initial.joined.items ++ take l.buffer-index l.buffers

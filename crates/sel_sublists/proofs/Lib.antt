@@ -1,4 +1,0 @@
-pub mod Blocks
-pub mod Offsets
-pub mod Places
-pub mod Units

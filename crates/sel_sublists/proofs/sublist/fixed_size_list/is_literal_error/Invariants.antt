@@ -1,7 +1,0 @@
--- Loop invariant: the lists so far are null.
-use Rattle.std.proofs.Common.{◌≡◌, ◌<◌, ℕ, false}
-use Rattle.sel_arrow.specs.Masked.{valid_at}
-use Rattle.sel_sublists.proofs.sublist.fixed_size_list.is_literal_error.Given as goal
-
-abbrev pub invariant-loop-k : goal.invariant-loop-k
-invariant-loop-k l = (j : ℕ) → j < l.k → valid_at l.arr.validity j ≡ false

@@ -1,7 +1,0 @@
--- Loop invariant: the offsets so far.
-use Rattle.std.proofs.Common.{◌≡◌, map, pos}
-use Rattle.std.specs.List.{range_with_len}
-use Rattle.sel_sublists.proofs.sublist.list.unit_offsets.Given as goal
-
-abbrev pub invariant-loop-offset : goal.invariant-loop-offset
-invariant-loop-offset l = l.offsets.items ≡ map pos (range_with_len 0 l.offset)

@@ -1,3 +1,0 @@
-pub mod Elements
-pub mod Entries
-pub mod Lists

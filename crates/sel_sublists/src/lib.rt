@@ -1,4 +1,0 @@
-//! List element access.
-#![tactic(auto)]
-
-pub mod sublist;

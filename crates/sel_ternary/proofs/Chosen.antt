@@ -1,0 +1,155 @@
+-- If-then-else of lists, part by part.
+use Rattle.std.proofs.Common.{◌≡◌, ◌≢◌, ℕ, zero, suc, ◌+◌, ◌/◌, ◌^◌, ◌<◌, ◌≤◌, ◌∙◌, bit_and, sym, refl, ap, arith, List, [], ◌∷◌, ◌++◌, length, get_or, take, drop, replicate, map, Bool}
+use Rattle.std.specs.Int.{bit_at}
+use Rattle.std.specs.Prelude.{if◌then◌else◌}
+use Rattle.std.proofs.Math.ListN.{set, drop_of_length-le, get_or-map}
+use Rattle.std.proofs.Math.Seq.{take-add, drop-cons, drop-append-add}
+use Rattle.std.proofs.lemmas.Bool.{eq-eqb, ne_eqb}
+use Rattle.std.proofs.lemmas.Nat.Bits.{shr_and_one}
+use Rattle.std.proofs.lemmas.List.{append_assoc, append-nil, drop-drop, length-take, length-replicate, get_or-replicate, set_split, take-append-le, take_all}
+use Rattle.sel_bits.specs.Words.{bits, is_set}
+use Rattle.sel_bits.proofs.Packs.{length_bits, get_bits}
+use Rattle.sel_ternary.specs.Choose.{choose, broadcast_true, broadcast_false, broadcast_both}
+
+-- ---- a broadcast value equals the list that repeats it
+
+pub repeated_then : {A : Type 0} → (ms : List Bool) (x : A) (fs : List A) → broadcast_true ms x fs ≡ choose ms (replicate (length ms) x) fs
+repeated_then [] x fs = refl
+repeated_then (m ∷ ms) x [] = refl
+repeated_then (m ∷ ms) x (f ∷ fs) = ap (λ l. (if m then x else f) ∷ l) (repeated_then ms x fs)
+
+pub repeated_otherwise : {A : Type 0} → (ms : List Bool) (ts : List A) (x : A) → broadcast_false ms ts x ≡ choose ms ts (replicate (length ms) x)
+repeated_otherwise [] ts x = refl
+repeated_otherwise (m ∷ ms) [] x = refl
+repeated_otherwise (m ∷ ms) (t ∷ ts) x = ap (λ l. (if m then t else x) ∷ l) (repeated_otherwise ms ts x)
+
+pub repeated_both : {A : Type 0} → (ms : List Bool) (x y : A) → broadcast_both ms x y ≡ choose ms (replicate (length ms) x) (replicate (length ms) y)
+repeated_both [] x y = refl
+repeated_both (m ∷ ms) x y = ap (λ l. (if m then x else y) ∷ l) (repeated_both ms x y)
+
+-- ---- parts
+
+pub length-choose : {A : Type 0} → (ms : List Bool) (ts fs : List A) → length ts ≡ length ms → length fs ≡ length ms → length (choose ms ts fs) ≡ length ms
+length-choose [] ts fs p q = refl
+length-choose (m ∷ ms) [] fs p q = absurd (omega arith)
+length-choose (m ∷ ms) (t ∷ ts) [] p q = absurd (omega arith)
+length-choose (m ∷ ms) (t ∷ ts) (f ∷ fs) p q = omega (arith, length-choose ms ts fs (omega arith) (omega arith))
+
+pub choose-append : {A : Type 0} → (ms ns : List Bool) (ts us fs gs : List A) → length ts ≡ length ms → length fs ≡ length ms
+    → choose (ms ++ ns) (ts ++ us) (fs ++ gs) ≡ choose ms ts fs ++ choose ns us gs
+choose-append [] ns [] us [] gs p q = refl
+choose-append [] ns [] us (f ∷ fs) gs p q = absurd (omega arith)
+choose-append [] ns (t ∷ ts) us fs gs p q = absurd (omega arith)
+choose-append (m ∷ ms) ns [] us fs gs p q = absurd (omega arith)
+choose-append (m ∷ ms) ns (t ∷ ts) us [] gs p q = absurd (omega arith)
+choose-append (m ∷ ms) ns (t ∷ ts) us (f ∷ fs) gs p q = ap (λ l. (if m then t else f) ∷ l) (choose-append ms ns ts us fs gs (omega arith) (omega arith))
+
+-- The first entries of the output are those of the if-then-else, the others are unchanged.
+pub record IsChosen {A : Type 0} (ms : List Bool) (ts fs base : List A) (at : ℕ) (out : List A) : Type 0 where
+  pub begun : out ≡ choose (take at ms) (take at ts) (take at fs) ++ drop at base
+
+-- The lists are as long as the mask.
+pub record AsLong {A : Type 0} (n : ℕ) (ms : List Bool) (ts fs : List A) : Type 0 where
+  pub mask : length ms ≡ n
+  pub trues : length ts ≡ n
+  pub falses : length fs ≡ n
+
+module _ {A : Type 0} (n : ℕ) (ms : List Bool) (ts fs base : List A) (long : AsLong n ms ts fs) (at : ℕ) (out : List A) (was : IsChosen ms ts fs base at out) where
+  -- The next entries are written.
+  pub chosen_block : (count : ℕ) (new : List A) → at + count ≤ n → new ≡ take at out ++ (choose (take count (drop at ms)) (take count (drop at ts)) (take count (drop at fs)) ++ drop (at + count) out)
+      → IsChosen ms ts fs base (at + count) new
+  chosen_block count new le is =
+      let mask = long.mask in
+      let trues = long.trues in
+      let falses = long.falses in
+      let front = choose (take at ms) (take at ts) (take at fs) in
+      let block = choose (take count (drop at ms)) (take count (drop at ts)) (take count (drop at fs)) in
+      let low : length (take at ts) ≡ length (take at ms) = omega (arith, length-take at ts, length-take at ms) in
+      let lower : length (take at fs) ≡ length (take at ms) = omega (arith, length-take at fs, length-take at ms) in
+      let size : length front ≡ at = omega (arith, length-choose (take at ms) (take at ts) (take at fs) low lower, length-take at ms) in
+      let kept : take at out ≡ front = ap (take at) was.begun ∙ take-append-le at front (drop at base) (omega arith) ∙ take_all at front (omega arith) in
+      let rest : drop (at + count) out ≡ drop (at + count) base =
+      ap (drop (at + count)) was.begun ∙ ap (λ k. drop (k + count) (front ++ drop at base)) (sym size) ∙ drop-append-add front (drop at base) count ∙ drop-drop count at base in
+      let whole : choose (take (at + count) ms) (take (at + count) ts) (take (at + count) fs) ≡ front ++ block =
+      (λ i. choose (take-add at count ms i) (take-add at count ts i) (take-add at count fs i))
+      ∙ choose-append (take at ms) (take count (drop at ms)) (take at ts) (take count (drop at ts)) (take at fs) (take count (drop at fs)) low lower in
+      record { begun = is ∙ (λ i. kept i ++ (block ++ rest i)) ∙ sym (append_assoc front block (drop (at + count) base)) ∙ ap (λ l. l ++ drop (at + count) base) (sym whole) }
+
+  -- All entries are written.
+  pub chosen_all : length base ≡ n → at ≡ n → out ≡ choose ms ts fs
+  chosen_all size all =
+      let mask = long.mask in
+      let trues = long.trues in
+      let falses = long.falses in
+      was.begun
+      ∙ (λ i. choose (take_all at ms (omega arith) i) (take_all at ts (omega arith) i) (take_all at fs (omega arith) i) ++ drop at base)
+      ∙ ap (λ l. choose ms ts fs ++ l) (drop_of_length-le base (omega arith))
+      ∙ append-nil (choose ms ts fs)
+
+-- The one entry of a list at a position.
+one_of : {A : Type 0} → (l : List A) (i : ℕ) (x : A) → i < length l → x ≡ get_or l i x → take 1 (drop i l) ≡ x ∷ []
+one_of l i x lt is = ap (take 1) (drop-cons l i x lt) ∙ ap (λ y. y ∷ []) (sym is)
+
+-- ---- the entries of one word
+
+-- Lists of n entries.
+pub record Rows {A : Type 0} (n : ℕ) (ts fs out : List A) : Type 0 where
+  pub trues : length ts ≡ n
+  pub falses : length fs ≡ n
+  pub places : length out ≡ n
+
+-- One more entry is written, by the bits of a word.
+pub chosen_row : {A : Type 0} → (n mask : ℕ) (ts fs base out : List A) (i : ℕ) (t f x : A) → Rows n ts fs out → i < n → IsChosen (bits n mask) ts fs base i out
+    → t ≡ get_or ts i t → f ≡ get_or fs i f → x ≡ (if is_set mask i then t else f) → IsChosen (bits n mask) ts fs base (i + 1) (set out i x)
+chosen_row n mask ts fs base out i t f x rows lt was t_is f_is x_is =
+    let trues = rows.trues in
+    let falses = rows.falses in
+    let places = rows.places in
+    let many = length_bits n mask in
+    let one_bit : take 1 (drop i (bits n mask)) ≡ is_set mask i ∷ [] = one_of (bits n mask) i (is_set mask i) (omega arith) (sym (get_bits n mask i (is_set mask i) lt)) in
+    let block : choose (take 1 (drop i (bits n mask))) (take 1 (drop i ts)) (take 1 (drop i fs)) ≡ x ∷ [] =
+    (λ j. choose (one_bit j) (one_of ts i t (omega arith) t_is j) (one_of fs i f (omega arith) f_is j)) ∙ ap (λ y. y ∷ []) (sym x_is) in
+    let next : suc i ≡ i + 1 = omega arith in
+    chosen_block n (bits n mask) ts fs base (record { mask = many; trues = trues; falses = falses }) i out was 1 (set out i x) (omega arith)
+    (set_split out i x (omega arith) ∙ ap (λ k. take i out ++ (x ∷ drop k out)) next ∙ ap (λ l. take i out ++ (l ++ drop (i + 1) out)) (sym block))
+
+-- The entry for a bit that a shift moves to the lowest position of its word.
+pub bit_takes_first : {A : Type 0} → (mask i : ℕ) (t f x : A) → bit_and (mask / 2 ^ i) 1 ≡ 1 → x ≡ t → x ≡ (if is_set mask i then t else f)
+bit_takes_first mask i t f x is e = e ∙ ap (λ b. if b then t else f) (sym (eq-eqb (bit_at mask i) 1 (sym (shr_and_one mask i) ∙ is)))
+
+pub bit_takes_second : {A : Type 0} → (mask i : ℕ) (t f x : A) → bit_and (mask / 2 ^ i) 1 ≢ 1 → x ≡ f → x ≡ (if is_set mask i then t else f)
+bit_takes_second mask i t f x is e = e ∙ ap (λ b. if b then t else f) (sym (ne_eqb (bit_at mask i) 1 (λ one. is (shr_and_one mask i ∙ one))))
+
+-- A repeated value, at a position.
+pub repeated_at : {A : Type 0} → (n i : ℕ) (x : A) → i < n → x ≡ get_or (replicate n x) i x
+repeated_at n i x lt = sym (get_or-replicate n i x x lt)
+
+-- All entries are written, by the bits of a word.
+module _ {A : Type 0} (n mask : ℕ) (base out : List A) (i : ℕ) (size : length base ≡ n) (all : i ≡ n) where
+  pub all_rows : (ts fs : List A) → length ts ≡ n → length fs ≡ n → IsChosen (bits n mask) ts fs base i out → out ≡ choose (bits n mask) ts fs
+  all_rows ts fs trues falses was = chosen_all n (bits n mask) ts fs base (record { mask = length_bits n mask; trues = trues; falses = falses }) i out was size all
+
+  pub all_rows_or_one : (ts : List A) (y : A) → length ts ≡ n → IsChosen (bits n mask) ts (replicate n y) base i out → out ≡ broadcast_false (bits n mask) ts y
+  all_rows_or_one ts y trues was =
+      all_rows ts (replicate n y) trues (length-replicate n y) was
+      ∙ sym (repeated_otherwise (bits n mask) ts y ∙ ap (λ k. choose (bits n mask) ts (replicate k y)) (length_bits n mask))
+
+  pub all_rows_of_two : (x y : A) → IsChosen (bits n mask) (replicate n x) (replicate n y) base i out → out ≡ broadcast_both (bits n mask) x y
+  all_rows_of_two x y was =
+      all_rows (replicate n x) (replicate n y) (length-replicate n x) (length-replicate n y) was
+      ∙ sym (repeated_both (bits n mask) x y ∙ ap (λ k. choose (bits n mask) (replicate k x) (replicate k y)) (length_bits n mask))
+
+any_default : {A : Type 0} → (l : List A) (i : ℕ) (d e : A) → i < length l → get_or l i d ≡ get_or l i e
+any_default [] i d e lt = absurd (omega arith)
+any_default (x ∷ l) zero d e lt = refl
+any_default (x ∷ l) (suc i) d e lt = any_default l i d e (omega arith)
+
+-- The same for entries that are read from the lists, those of the second one mapped.
+pub chosen_mapped : {A B : Type 0} → (n mask : ℕ) (f : B → A) (ts : List A) (fs : List B) (base out : List A) (i : ℕ) (d x : A) (e : B) → Rows n ts (map f fs) out → i < n → IsChosen (bits n mask) ts (map f fs) base i out
+    → x ≡ (if is_set mask i then get_or ts i d else f (get_or fs i e)) → IsChosen (bits n mask) ts (map f fs) base (i + 1) (set out i x)
+chosen_mapped n mask f ts fs base out i d x e rows lt was x_is =
+    let trues = rows.trues in
+    let falses = rows.falses in
+    let t = get_or ts i d in
+    let y = f (get_or fs i e) in
+    chosen_row n mask ts (map f fs) base out i t y x rows lt was (any_default ts i d t (omega arith)) (sym (get_or-map f fs i e) ∙ any_default (map f fs) i (f e) y (omega arith)) x_is

@@ -1,0 +1,102 @@
+-- If-then-else of list columns: the limits that the rows exceed, with the columns that are gathered and with the values that are given.
+use Rattle.std.proofs.Common.{◌≡◌, ℕ, ◌≤◌, ◌⊎◌, true, List, [], ◌∷◌, length, Result, Ok, Err, inl, inr, sym, subst, ◌∙◌, arith}
+use Rattle.std.specs.Prelude.{IfErr, IfOk}
+use Rattle.sel_bits.specs.declared.faults.Limit.{Limit}
+use Rattle.sel_bits.specs.declared.faults.PolarsError.{PolarsError}
+use Rattle.sel_arrow.specs.Rows.{rows, type_of, buffers_held, well_formed}
+use Rattle.sel_arrow.specs.Shape.{Shape, of_large_list, of_fixed_size_list}
+use Rattle.sel_arrow.specs.Value.{Value}
+use Rattle.sel_arrow.specs.declared.array_ref.ArrayRef.{ArrayRef}
+use Rattle.sel_arrow.specs.declared.column.Column.{Column}
+use Rattle.sel_arrow.proofs.NestedRows.{length-rows}
+use Rattle.sel_gather.specs.Children.{child, joined_items}
+use Rattle.sel_gather.specs.Need.{exceeded_taken}
+use Rattle.sel_gather.proofs.Below.{refused_more}
+use Rattle.sel_gather.proofs.ListParts.{few_rows}
+use Rattle.sel_gather.proofs.Within.{passes_neither}
+use Rattle.sel_ternary.specs.ListSides.{below, exceeded_below, exceeded_lists, IsBelow}
+use Rattle.sel_ternary.specs.Sides.{Side, IsLimitOrMemory, ExceedsNone, exceeded_flat}
+use Rattle.sel_ternary.proofs.SameNeeds.{Like, block_child, list_child, same_needs}
+
+-- A mask that is as long as a column has at most 2^32 - 1 bits.
+pub few_bits : (c : Column) (n : ℕ) → well_formed c ≡ true → length (rows c) ≡ n → n ≤ 4294967295
+few_bits c n formed long = omega (arith, few_rows c formed, length-rows c, long)
+
+-- ---- the child of lists that are over a column like another one
+
+like_list : (s : Shape) (a b : Column) → IsBelow (of_large_list s) a b → Like s (child a) b
+like_list s a b is =
+    let found = list_child a s is.0 in
+    record { first = found.0; second = is.1; held = found.1 ∙ is.2 }
+
+like_block : (s : Shape) (w : ℕ) (a b : Column) → IsBelow (of_fixed_size_list s w) a b → Like s (child a) b
+like_block s w a b is =
+    let found = block_child a s w is.0 in
+    record { first = found.0; second = is.1; held = found.1 ∙ is.2 }
+
+back : (s : Shape) (a b : Column) → Like s a b → Like s b a
+back s a b like = record { first = like.second; second = like.first; held = sym like.held }
+
+-- Rows exceed the same limits with the lists as with their children.
+taken_below : (type : Shape) (a b c d : Column) → IsBelow type a c → IsBelow type b d → (vs : List Value) (limit : Limit) →
+    exceeded_taken type (a ∷ b ∷ []) vs limit → exceeded_below type (c ∷ d ∷ []) vs limit
+taken_below (of_large_list s) a b c d first second vs limit (inl past) = inl past
+taken_below (of_large_list s) a b c d first second vs limit (inr past) =
+    inr (same_needs s (child a ∷ child b ∷ []) (c ∷ d ∷ []) (like_list s a c first, (like_list s b d second, tt)) (joined_items 0 vs) limit past)
+taken_below (of_fixed_size_list s w) a b c d first second vs limit (inl past) = inl past
+taken_below (of_fixed_size_list s w) a b c d first second vs limit (inr past) =
+    inr (same_needs s (child a ∷ child b ∷ []) (c ∷ d ∷ []) (like_block s w a c first, (like_block s w b d second, tt)) (joined_items w vs) limit past)
+taken_below type a b c d first second vs limit past = absurd first
+
+below_taken : (type : Shape) (a b c d : Column) → IsBelow type a c → IsBelow type b d → (vs : List Value) (limit : Limit) →
+    exceeded_below type (c ∷ d ∷ []) vs limit → exceeded_taken type (a ∷ b ∷ []) vs limit
+below_taken (of_large_list s) a b c d first second vs limit (inl past) = inl past
+below_taken (of_large_list s) a b c d first second vs limit (inr past) =
+    inr (same_needs s (c ∷ d ∷ []) (child a ∷ child b ∷ []) (back s (child a) c (like_list s a c first), (back s (child b) d (like_list s b d second), tt)) (joined_items 0 vs) limit past)
+below_taken (of_fixed_size_list s w) a b c d first second vs limit (inl past) = inl past
+below_taken (of_fixed_size_list s w) a b c d first second vs limit (inr past) =
+    inr (same_needs s (c ∷ d ∷ []) (child a ∷ child b ∷ []) (back s (child a) c (like_block s w a c first), (back s (child b) d (like_block s w b d second), tt)) (joined_items w vs) limit past)
+below_taken type a b c d first second vs limit past = absurd first
+
+-- ---- errors and results
+
+module _ {A C : Type 0} (result : Result A PolarsError) (own : C → Column) (type : Shape) (t f : Side C ArrayRef) (a b : Column) (is : type_of a ≡ type) (other : type_of b ≡ type)
+    (first : IsBelow (type_of a) a (below own t)) (second : IsBelow (type_of b) b (below own f)) (vs ws : List Value) (same : vs ≡ ws) where
+  at_first : IsBelow type a (below own t)
+  at_first = subst (λ s. IsBelow s a (below own t)) is first
+
+  at_second : IsBelow type b (below own f)
+  at_second = subst (λ s. IsBelow s b (below own f)) other second
+
+  pub refused_choice : IfErr result (IsLimitOrMemory (exceeded_taken (type_of a) (a ∷ b ∷ []) vs)) → IfErr result (IsLimitOrMemory (exceeded_lists own type t f ws))
+  refused_choice h =
+      let typed = subst (λ s. IfErr result (IsLimitOrMemory (exceeded_taken s (a ∷ b ∷ []) vs))) is h in
+      refused (subst (λ l. IfErr result (IsLimitOrMemory (exceeded_taken type (a ∷ b ∷ []) l))) same typed)
+    where
+      refused : IfErr result (IsLimitOrMemory (exceeded_taken type (a ∷ b ∷ []) ws)) → IfErr result (IsLimitOrMemory (exceeded_lists own type t f ws))
+      refused = elim result as (λ r. IfErr r (IsLimitOrMemory (exceeded_taken type (a ∷ b ∷ []) ws)) → IfErr r (IsLimitOrMemory (exceeded_lists own type t f ws))) [
+        | Ok x ↦ λ _. tt
+        | Err fault ↦ refused_more (exceeded_taken type (a ∷ b ∷ []) ws) (exceeded_lists own type t f ws) fault
+            (λ limit past. inr (taken_below type a b (below own t) (below own f) at_first at_second ws limit past))
+      ]
+
+  -- A result exceeds no limit if the rows themselves exceed none.
+  pub answered_choice : ExceedsNone (exceeded_flat t f ws) → IfOk result (λ _. ExceedsNone (exceeded_taken (type_of a) (a ∷ b ∷ []) vs)) → IfOk result (λ _. ExceedsNone (exceeded_lists own type t f ws))
+  answered_choice flat h =
+      let typed = subst (λ s. IfOk result (λ _. ExceedsNone (exceeded_taken s (a ∷ b ∷ []) vs))) is h in
+      answered (subst (λ l. IfOk result (λ _. ExceedsNone (exceeded_taken type (a ∷ b ∷ []) l))) same typed)
+    where
+      answered : IfOk result (λ _. ExceedsNone (exceeded_taken type (a ∷ b ∷ []) ws)) → IfOk result (λ _. ExceedsNone (exceeded_lists own type t f ws))
+      answered = elim result as (λ r. IfOk r (λ _. ExceedsNone (exceeded_taken type (a ∷ b ∷ []) ws)) → IfOk r (λ _. ExceedsNone (exceeded_lists own type t f ws))) [
+        | Ok x ↦ λ none. passes_neither (exceeded_flat t f ws) (exceeded_below type (below own t ∷ below own f ∷ []) ws) flat
+            (λ limit past. none limit (below_taken type a b (below own t) (below own f) at_first at_second ws limit past))
+        | Err fault ↦ λ _. tt
+      ]
+
+-- ---- the children of lists
+
+pub lists_below : (lists entries : Column) (s : Shape) → type_of lists ≡ of_large_list s → type_of entries ≡ s → buffers_held lists ≡ buffers_held entries → IsBelow (type_of lists) lists entries
+lists_below lists entries s is same held = subst (λ type. IsBelow type lists entries) (sym is) (is, same, held)
+
+pub blocks_below : (lists entries : Column) (s : Shape) (w : ℕ) → type_of lists ≡ of_fixed_size_list s w → type_of entries ≡ s → buffers_held lists ≡ buffers_held entries → IsBelow (type_of lists) lists entries
+blocks_below lists entries s w is same held = subst (λ type. IsBelow type lists entries) (sym is) (is, same, held)

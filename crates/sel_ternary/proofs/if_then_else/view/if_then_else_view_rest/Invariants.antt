@@ -1,0 +1,8 @@
+use Rattle.std.proofs.Common.{length, map}
+use Rattle.sel_bits.specs.Words.{bits}
+use Rattle.sel_ternary.specs.ViewSides.{raised}
+use Rattle.sel_ternary.proofs.Chosen.{IsChosen}
+use Rattle.sel_ternary.proofs.if_then_else.view.if_then_else_view_rest.Given as goal
+
+abbrev pub invariant-loop-i : goal.invariant-loop-i
+invariant-loop-i l = IsChosen (bits (length l.initial.out) l.mask) l.if_true (map (λ view. raised view l.false_buffer_idx_offset) l.if_false) l.initial.out l.i l.out

@@ -1,0 +1,10 @@
+use Rattle.std.proofs.Common.{sym}
+use Rattle.sel_arrow.specs.Value.{Truth}
+use Rattle.sel_ternary.proofs.Validities.{side_covers, side_long}
+use Rattle.sel_ternary.proofs.if_then_else.word_kernels.BooleanArrayWordKernel.nulled.Goals as goal
+
+pub narrowed_validity-requires : goal.narrowed_validity-requires
+narrowed_validity-requires c =
+    let a = c.args.self in
+    let keep = c.args.keep.now.bits in
+    side_covers keep a.values.bits a.validity _ a.validity_fits (side_long Truth keep a.values.bits a.validity (sym c.requires)) c.as_ref.ensures.value

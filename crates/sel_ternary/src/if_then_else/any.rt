@@ -1,0 +1,410 @@
+//! If-then-else for columns of any type.
+
+ghost use Rattle.std.specs.Prelude.{◌≡◌, ◌≤◌, ◌∷◌, [], length, IfOk, IfErr, IfSome};
+ghost use Rattle.sel_bits.specs.Limits.{max_rows};
+ghost use Rattle.sel_arrow.specs.Rows.{rows, type_of};
+ghost use Rattle.sel_arrow.specs.Value.{Null};
+ghost use Rattle.sel_ternary.specs.Choose.{choose, broadcast_true, broadcast_false, broadcast_both};
+ghost use Rattle.sel_ternary.specs.Chosen.{chosen_rows, first_row, SideFits};
+ghost use Rattle.sel_ternary.specs.ChosenPicks.{bit_pick, chosen_picks, place_on};
+ghost use Rattle.sel_gather.specs.Need.{buffer_count, exceeded_taken, ExceedsNone, IsLimitOrMemory};
+
+use crate::if_then_else::by_words::choose_by_words;
+use sel_arrow::array::Array;
+use sel_arrow::array_ref::ArrayRef;
+use sel_arrow::binview::{BinaryViewArray, MOST_BUFFERS};
+use sel_arrow::boolean::BooleanArray;
+use sel_arrow::column::Column;
+use sel_arrow::primitive::PrimitiveArray;
+use sel_arrow::utf8view::Utf8ViewArray;
+use sel_bits::bitmap::Bitmap;
+use sel_bits::faults::{Limit, PolarsError, PolarsResult};
+use sel_gather::collect::collect_runs;
+use sel_gather::plan::{Places, Walk};
+use sel_gather::planned::collect_plan;
+use sel_gather::run::Run;
+use std::alloc::Global;
+
+/// Returns a column with row k of `if_true` where bit k of `mask` is set, else row k of `if_false`.
+///
+/// # Requires
+/// Both columns have the same type (check with `same_dtype`), and a row for each bit of `mask`.
+///
+/// # Errors
+/// `OutOfMemory`; `SizeLimit` if the result would exceed a limit.
+pub fn if_then_else_any(
+    alloc: Global,
+    mask: &Bitmap,
+    if_true: &ArrayRef,
+    if_false: &ArrayRef,
+) -> PolarsResult<ArrayRef>
+    requires alike { type_of if_true.now.column ≡ type_of if_false.now.column }
+    requires true_side { length (rows if_true.now.column) ≡ length mask.now.bits }
+    requires false_side { length (rows if_false.now.column) ≡ length mask.now.bits }
+    ensures rows { IfOk result (λ chosen. rows chosen.column ≡
+        choose mask.now.bits (rows if_true.now.column) (rows if_false.now.column)) }
+    ensures dtype { IfOk result (λ chosen. type_of chosen.column ≡ type_of if_true.now.column) }
+    ensures within { IfOk result (λ _. ExceedsNone (exceeded_taken (type_of if_true.now.column)
+        (if_true.now.column ∷ if_false.now.column ∷ [])
+        (choose mask.now.bits (rows if_true.now.column) (rows if_false.now.column)))) }
+    ensures refusal { IfErr result (IsLimitOrMemory (exceeded_taken (type_of if_true.now.column)
+        (if_true.now.column ∷ if_false.now.column ∷ [])
+        (choose mask.now.bits (rows if_true.now.column) (rows if_false.now.column)))) }
+{
+    choice(alloc, mask, if_true, if_false, true, true)
+}
+
+/// Returns a column with the row of `if_true` where bit k of `mask` is set, else row k of
+/// `if_false`.
+///
+/// # Requires
+/// Both columns have the same type (check with `same_dtype`). `if_true` has one row, which may be
+/// null, and `if_false` a row for each bit of `mask`.
+///
+/// # Errors
+/// `OutOfMemory`; `SizeLimit` if the result would exceed a limit.
+pub fn if_then_else_any_broadcast_true(
+    alloc: Global,
+    mask: &Bitmap,
+    if_true: &ArrayRef,
+    if_false: &ArrayRef,
+) -> PolarsResult<ArrayRef>
+    requires alike { type_of if_true.now.column ≡ type_of if_false.now.column }
+    requires true_side { length (rows if_true.now.column) ≡ 1 }
+    requires false_side { length (rows if_false.now.column) ≡ length mask.now.bits }
+    ensures rows { IfOk result (λ chosen. rows chosen.column ≡
+        broadcast_true mask.now.bits (first_row (rows if_true.now.column))
+        (rows if_false.now.column)) }
+    ensures dtype { IfOk result (λ chosen. type_of chosen.column ≡ type_of if_true.now.column) }
+    ensures within { IfOk result (λ _. ExceedsNone (exceeded_taken (type_of if_true.now.column)
+        (if_true.now.column ∷ if_false.now.column ∷ [])
+        (broadcast_true mask.now.bits (first_row (rows if_true.now.column))
+        (rows if_false.now.column)))) }
+    ensures refusal { IfErr result (IsLimitOrMemory (exceeded_taken (type_of if_true.now.column)
+        (if_true.now.column ∷ if_false.now.column ∷ [])
+        (broadcast_true mask.now.bits (first_row (rows if_true.now.column))
+        (rows if_false.now.column)))) }
+{
+    choice(alloc, mask, if_true, if_false, false, true)
+}
+
+/// Returns a column with row k of `if_true` where bit k of `mask` is set, else the row of
+/// `if_false`.
+///
+/// # Requires
+/// Both columns have the same type (check with `same_dtype`). `if_true` has a row for each bit of
+/// `mask`, and `if_false` one row, which may be null.
+///
+/// # Errors
+/// `OutOfMemory`; `SizeLimit` if the result would exceed a limit.
+pub fn if_then_else_any_broadcast_false(
+    alloc: Global,
+    mask: &Bitmap,
+    if_true: &ArrayRef,
+    if_false: &ArrayRef,
+) -> PolarsResult<ArrayRef>
+    requires alike { type_of if_true.now.column ≡ type_of if_false.now.column }
+    requires true_side { length (rows if_true.now.column) ≡ length mask.now.bits }
+    requires false_side { length (rows if_false.now.column) ≡ 1 }
+    ensures rows { IfOk result (λ chosen. rows chosen.column ≡
+        broadcast_false mask.now.bits (rows if_true.now.column)
+        (first_row (rows if_false.now.column))) }
+    ensures dtype { IfOk result (λ chosen. type_of chosen.column ≡ type_of if_true.now.column) }
+    ensures within { IfOk result (λ _. ExceedsNone (exceeded_taken (type_of if_true.now.column)
+        (if_true.now.column ∷ if_false.now.column ∷ [])
+        (broadcast_false mask.now.bits (rows if_true.now.column)
+        (first_row (rows if_false.now.column))))) }
+    ensures refusal { IfErr result (IsLimitOrMemory (exceeded_taken (type_of if_true.now.column)
+        (if_true.now.column ∷ if_false.now.column ∷ [])
+        (broadcast_false mask.now.bits (rows if_true.now.column)
+        (first_row (rows if_false.now.column))))) }
+{
+    choice(alloc, mask, if_true, if_false, true, false)
+}
+
+/// Returns a column with the row of `if_true` where bit k of `mask` is set, else that of
+/// `if_false`.
+///
+/// # Requires
+/// Both columns have the same type (check with `same_dtype`) and one row, which may be null. `mask`
+/// has at most 4,294,967,295 bits.
+///
+/// # Errors
+/// `OutOfMemory`; `SizeLimit` if the result would exceed a limit.
+pub fn if_then_else_any_broadcast_both(
+    alloc: Global,
+    mask: &Bitmap,
+    if_true: &ArrayRef,
+    if_false: &ArrayRef,
+) -> PolarsResult<ArrayRef>
+    requires alike { type_of if_true.now.column ≡ type_of if_false.now.column }
+    requires true_side { length (rows if_true.now.column) ≡ 1 }
+    requires false_side { length (rows if_false.now.column) ≡ 1 }
+    requires few { length mask.now.bits ≤ max_rows }
+    ensures rows { IfOk result (λ chosen. rows chosen.column ≡
+        broadcast_both mask.now.bits (first_row (rows if_true.now.column))
+        (first_row (rows if_false.now.column))) }
+    ensures dtype { IfOk result (λ chosen. type_of chosen.column ≡ type_of if_true.now.column) }
+    ensures within { IfOk result (λ _. ExceedsNone (exceeded_taken (type_of if_true.now.column)
+        (if_true.now.column ∷ if_false.now.column ∷ [])
+        (broadcast_both mask.now.bits (first_row (rows if_true.now.column))
+        (first_row (rows if_false.now.column))))) }
+    ensures refusal { IfErr result (IsLimitOrMemory (exceeded_taken (type_of if_true.now.column)
+        (if_true.now.column ∷ if_false.now.column ∷ [])
+        (broadcast_both mask.now.bits (first_row (rows if_true.now.column))
+        (first_row (rows if_false.now.column))))) }
+{
+    choice(alloc, mask, if_true, if_false, false, false)
+}
+
+// Returns the if-then-else by the words of the mask if the type has such a kernel, else by row
+// references. If its flag is false, a column has one row, which is broadcast.
+fn choice(
+    alloc: Global,
+    mask: &Bitmap,
+    if_true: &ArrayRef,
+    if_false: &ArrayRef,
+    true_column: bool,
+    false_column: bool,
+) -> PolarsResult<ArrayRef>
+    requires alike { type_of if_true.now.column ≡ type_of if_false.now.column }
+    requires true_side { SideFits true_column (length (rows if_true.now.column))
+        (length mask.now.bits) }
+    requires false_side { SideFits false_column (length (rows if_false.now.column))
+        (length mask.now.bits) }
+    requires few { length mask.now.bits ≤ max_rows }
+    ensures rows { IfOk result (λ chosen. rows chosen.column ≡
+        chosen_rows true_column false_column mask.now.bits (rows if_true.now.column)
+        (rows if_false.now.column)) }
+    ensures dtype { IfOk result (λ chosen. type_of chosen.column ≡ type_of if_true.now.column) }
+    ensures within { IfOk result (λ _. ExceedsNone (exceeded_taken (type_of if_true.now.column)
+        (if_true.now.column ∷ if_false.now.column ∷ []) (chosen_rows true_column false_column
+        mask.now.bits (rows if_true.now.column) (rows if_false.now.column)))) }
+    ensures refusal { IfErr result (IsLimitOrMemory (exceeded_taken (type_of if_true.now.column)
+        (if_true.now.column ∷ if_false.now.column ∷ []) (chosen_rows true_column false_column
+        mask.now.bits (rows if_true.now.column) (rows if_false.now.column)))) }
+{
+    if !true_column && !false_column && if_true.has_nulls() && if_false.has_nulls() {
+        return null_choice(alloc, mask, if_true, if_false);
+    }
+    let quick = word_choice(alloc, mask, if_true, if_false, true_column, false_column)?;
+    if let Some(chosen) = quick {
+        return Ok(chosen);
+    }
+    picked_choice(alloc, mask, if_true, if_false, true_column, false_column)
+}
+
+// Returns the if-then-else of two null rows, as one run of nulls.
+fn null_choice(
+    alloc: Global,
+    mask: &Bitmap,
+    if_true: &ArrayRef,
+    if_false: &ArrayRef,
+) -> PolarsResult<ArrayRef>
+    requires alike { type_of if_true.now.column ≡ type_of if_false.now.column }
+    requires few { length mask.now.bits ≤ max_rows }
+    ensures rows { IfOk result (λ chosen. rows chosen.column ≡
+        broadcast_both mask.now.bits Null Null) }
+    ensures dtype { IfOk result (λ chosen. type_of chosen.column ≡ type_of if_true.now.column) }
+    ensures within { IfOk result (λ _. ExceedsNone (exceeded_taken (type_of if_true.now.column)
+        (if_true.now.column ∷ if_false.now.column ∷ [])
+        (broadcast_both mask.now.bits Null Null))) }
+    ensures refusal { IfErr result (IsLimitOrMemory (exceeded_taken (type_of if_true.now.column)
+        (if_true.now.column ∷ if_false.now.column ∷ [])
+        (broadcast_both mask.now.bits Null Null))) }
+{
+    let sources = [if_true.as_column(), if_false.as_column()];
+    let run = Run {
+        source: None,
+        start: 0,
+        len: mask.len() as u32,
+    };
+    let column = collect_runs(alloc, &sources, &[run], mask.len())?;
+    Ok(ArrayRef { column })
+}
+
+// Returns the if-then-else by the words of the mask. Returns none if the type has no such kernel.
+fn word_choice(
+    alloc: Global,
+    mask: &Bitmap,
+    if_true: &ArrayRef,
+    if_false: &ArrayRef,
+    true_column: bool,
+    false_column: bool,
+) -> PolarsResult<Option<ArrayRef>>
+    requires alike { type_of if_true.now.column ≡ type_of if_false.now.column }
+    requires true_side { SideFits true_column (length (rows if_true.now.column))
+        (length mask.now.bits) }
+    requires false_side { SideFits false_column (length (rows if_false.now.column))
+        (length mask.now.bits) }
+    requires few { length mask.now.bits ≤ max_rows }
+    ensures rows { IfOk result (λ made. IfSome made (λ chosen. rows chosen.column ≡
+        chosen_rows true_column false_column mask.now.bits (rows if_true.now.column)
+        (rows if_false.now.column))) }
+    ensures dtype { IfOk result (λ made. IfSome made (λ chosen.
+        type_of chosen.column ≡ type_of if_true.now.column)) }
+    ensures within { IfOk result (λ made. IfSome made (λ _. ExceedsNone (exceeded_taken
+        (type_of if_true.now.column) (if_true.now.column ∷ if_false.now.column ∷ [])
+        (chosen_rows true_column false_column mask.now.bits (rows if_true.now.column)
+        (rows if_false.now.column))))) }
+    ensures refusal { IfErr result (IsLimitOrMemory (exceeded_taken (type_of if_true.now.column)
+        (if_true.now.column ∷ if_false.now.column ∷ []) (chosen_rows true_column false_column
+        mask.now.bits (rows if_true.now.column) (rows if_false.now.column)))) }
+{
+    if buffers_in(if_true.as_column()) + buffers_in(if_false.as_column()) > MOST_BUFFERS {
+        return Err(PolarsError::SizeLimit(Limit::Buffers));
+    }
+    let (first, second) = (if_true, if_false);
+    let (columns, others) = (true_column, false_column);
+    match if_true.as_column() {
+        Column::Boolean(_) => {
+            choose_by_words::<BooleanArray>(alloc, mask, first, second, columns, others)
+        }
+        Column::Int8(_) => {
+            choose_by_words::<PrimitiveArray<i8>>(alloc, mask, first, second, columns, others)
+        }
+        Column::Int16(_) => {
+            choose_by_words::<PrimitiveArray<i16>>(alloc, mask, first, second, columns, others)
+        }
+        Column::Int32(_) => {
+            choose_by_words::<PrimitiveArray<i32>>(alloc, mask, first, second, columns, others)
+        }
+        Column::Int64(_) => {
+            choose_by_words::<PrimitiveArray<i64>>(alloc, mask, first, second, columns, others)
+        }
+        Column::Int128(_) => {
+            choose_by_words::<PrimitiveArray<i128>>(alloc, mask, first, second, columns, others)
+        }
+        Column::UInt8(_) => {
+            choose_by_words::<PrimitiveArray<u8>>(alloc, mask, first, second, columns, others)
+        }
+        Column::UInt16(_) => {
+            choose_by_words::<PrimitiveArray<u16>>(alloc, mask, first, second, columns, others)
+        }
+        Column::UInt32(_) => {
+            choose_by_words::<PrimitiveArray<u32>>(alloc, mask, first, second, columns, others)
+        }
+        Column::UInt64(_) => {
+            choose_by_words::<PrimitiveArray<u64>>(alloc, mask, first, second, columns, others)
+        }
+        Column::UInt128(_) => {
+            choose_by_words::<PrimitiveArray<u128>>(alloc, mask, first, second, columns, others)
+        }
+        Column::BinaryView(_) => {
+            choose_by_words::<BinaryViewArray>(alloc, mask, first, second, columns, others)
+        }
+        Column::Utf8View(_) => {
+            choose_by_words::<Utf8ViewArray>(alloc, mask, first, second, columns, others)
+        }
+        _ => Ok(None),
+    }
+}
+
+// Returns the number of data buffers of a view column; 0 for any other column.
+fn buffers_in(column: &Column) -> usize
+    ensures count { result ≡ buffer_count column.now }
+    ensures few { result ≤ max_rows }
+{
+    match column {
+        Column::BinaryView(array) => array.buffers.len(),
+        Column::Utf8View(array) => array.bytes.buffers.len(),
+        _ => 0,
+    }
+}
+
+/// Returns the if-then-else of columns of any type, by row references. If its flag is false, a
+/// column has one row, which is broadcast.
+pub(crate) fn picked_choice(
+    alloc: Global,
+    mask: &Bitmap,
+    if_true: &ArrayRef,
+    if_false: &ArrayRef,
+    true_column: bool,
+    false_column: bool,
+) -> PolarsResult<ArrayRef>
+    requires alike { type_of if_true.now.column ≡ type_of if_false.now.column }
+    requires true_side { SideFits true_column (length (rows if_true.now.column))
+        (length mask.now.bits) }
+    requires false_side { SideFits false_column (length (rows if_false.now.column))
+        (length mask.now.bits) }
+    requires few { length mask.now.bits ≤ max_rows }
+    ensures rows { IfOk result (λ chosen. rows chosen.column ≡
+        chosen_rows true_column false_column mask.now.bits (rows if_true.now.column)
+        (rows if_false.now.column)) }
+    ensures dtype { IfOk result (λ chosen. type_of chosen.column ≡ type_of if_true.now.column) }
+    ensures within { IfOk result (λ _. ExceedsNone (exceeded_taken (type_of if_true.now.column)
+        (if_true.now.column ∷ if_false.now.column ∷ []) (chosen_rows true_column false_column
+        mask.now.bits (rows if_true.now.column) (rows if_false.now.column)))) }
+    ensures refusal { IfErr result (IsLimitOrMemory (exceeded_taken (type_of if_true.now.column)
+        (if_true.now.column ∷ if_false.now.column ∷ []) (chosen_rows true_column false_column
+        mask.now.bits (rows if_true.now.column) (rows if_false.now.column)))) }
+{
+    let sources = [if_true.as_column(), if_false.as_column()];
+    let places = MaskPlaces {
+        mask,
+        true_column,
+        false_column,
+    };
+    let column = collect_plan(alloc, &sources, &Walk { places, at: 0 }, false)?;
+    Ok(ArrayRef { column })
+}
+
+/// The row references of an if-then-else between columns or scalars.
+#[derive(Drop)]
+struct MaskPlaces<'a> {
+    mask: &'a Bitmap,
+    true_column: bool,
+    false_column: bool,
+    ghost few: { length mask.now.bits ≤ max_rows },
+}
+
+impl Places for MaskPlaces<'_> {
+    ghost picks = { λ places. chosen_picks places.true_column places.false_column 0
+        places.mask.now.bits };
+
+    #[inline(always)]
+    fn len(&self) -> usize {
+        self.mask.len()
+    }
+
+    #[inline(always)]
+    fn get(&self, k: usize) -> Option<(u32, u32)> {
+        pick_by(self.mask.get_bit(k), self.true_column, self.false_column, k)
+    }
+
+    #[inline(always)]
+    fn again(&self) -> Self {
+        MaskPlaces {
+            mask: self.mask,
+            true_column: self.true_column,
+            false_column: self.false_column,
+        }
+    }
+
+    #[inline(always)]
+    fn has_nulls(&self) -> bool {
+        false
+    }
+}
+
+// Returns the row reference that bit `i` of the mask gives.
+#[inline(always)]
+fn pick_by(bit: bool, true_column: bool, false_column: bool, i: usize) -> Option<(u32, u32)>
+    requires { i ≤ max_rows }
+    ensures { result ≡ bit_pick true_column false_column bit i }
+{
+    if bit {
+        Some((0, place_of(true_column, i)))
+    } else {
+        Some((1, place_of(false_column, i)))
+    }
+}
+
+// Returns the row that position `i` takes: `i` of a column, 0 of a scalar.
+#[inline(always)]
+fn place_of(is_column: bool, i: usize) -> u32
+    requires { i ≤ max_rows }
+    ensures { result ≡ place_on is_column i }
+{
+    if is_column { i as u32 } else { 0 }
+}
