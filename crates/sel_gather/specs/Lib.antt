@@ -1,6 +1,7 @@
 pub mod Children
 pub mod Cleared
 pub mod Ends
+pub mod Gathers
 pub mod GrownBytes
 pub mod JoinedBytes
 pub mod KeptPicks

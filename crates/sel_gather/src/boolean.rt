@@ -3,7 +3,6 @@
 ghost use Rattle.std.specs.Prelude.{◌≡◌, ◌≤◌, ◌+◌, ◌++◌, Some, All, length, map, take, drop, IfOk, IfErr, OnOk};
 ghost use Rattle.std.specs.Option.{option_copied};
 ghost use Rattle.sel_bits.specs.Faults.{IsOutOfMemory};
-ghost use Rattle.sel_bits.specs.Limits.{max_rows};
 ghost use Rattle.sel_arrow.specs.Columns.{boolean_rows};
 ghost use Rattle.sel_arrow.specs.Masked.{hidden};
 ghost use Rattle.sel_arrow.specs.Rows.{rows, type_of, IsWellFormed};
@@ -12,6 +11,7 @@ ghost use Rattle.sel_arrow.specs.Value.{Null, Truth};
 ghost use Rattle.sel_gather.specs.Picks.{pick, PickFits};
 ghost use Rattle.sel_gather.specs.Runs.{expand};
 ghost use Rattle.sel_gather.specs.Validity.{part_bits};
+ghost use Rattle.sel_gather.specs.Gathers.{MayGather};
 ghost use Rattle.sel_gather.specs.Sources.{picked, rows_of};
 
 use crate::bits::{push_validity, validity_from};
@@ -124,9 +124,7 @@ pub fn collect_boolean<'a>(
     len: usize,
 ) -> PolarsResult<Column>
     requires alike { All (λ c. type_of c.now ≡ of_boolean) sources.now }
-    requires fits { All (PickFits (rows_of sources.now)) (expand runs.now) }
-    requires len { length (expand runs.now) ≡ len }
-    requires few { len ≤ max_rows }
+    requires may { MayGather sources.now (expand runs.now) len }
     ensures rows { IfOk result (λ column. rows column ≡ picked sources.now runs.now) }
     ensures dtype { IfOk result (λ column. type_of column ≡ of_boolean) }
     ensures formed { IfOk result (λ column. IsWellFormed column) }

@@ -11,6 +11,7 @@ ghost use Rattle.sel_gather.specs.Picks.{pick, PickFits};
 ghost use Rattle.sel_gather.specs.Runs.{expand, unrolled};
 ghost use Rattle.sel_gather.specs.Ends.{item_ends};
 ghost use Rattle.sel_gather.specs.Sources.{child_rows, picked, rows_of};
+ghost use Rattle.sel_gather.specs.Gathers.{MayGather};
 ghost use Rattle.sel_gather.specs.RunRows.{run_rows};
 
 use crate::run::{Run, nulls_of, push_run};
@@ -218,10 +219,7 @@ pub fn ends_of(
     len: usize,
 ) -> PolarsResult<Vec<i64>>
     requires lists { All (λ c. is_listing (type_of c.now) ≡ true) sources.now }
-    requires formed { All (λ c. IsWellFormed c.now) sources.now }
-    requires fits { All (PickFits (rows_of sources.now)) (expand runs.now) }
-    requires len { length (expand runs.now) ≡ len }
-    requires few { len ≤ max_rows }
+    requires may { MayGather sources.now (expand runs.now) len }
     requires room { length (joined_items 0 (picked sources.now runs.now)) ≤ max_rows }
     ensures ends { IfOk result (λ ends. ends.items ≡
         map pos (0 ∷ item_ends 0 (picked sources.now runs.now))) }

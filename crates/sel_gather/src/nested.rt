@@ -8,9 +8,10 @@ ghost use Rattle.sel_arrow.specs.Shape.{of_large_list, of_fixed_size_list, of_st
 ghost use Rattle.sel_arrow.specs.Value.{Null};
 ghost use Rattle.sel_gather.specs.Children.{joined_items, parts_of};
 ghost use Rattle.sel_gather.specs.Ends.{item_ends};
-ghost use Rattle.sel_gather.specs.Picks.{pick, PickFits};
+ghost use Rattle.sel_gather.specs.Picks.{pick};
 ghost use Rattle.sel_gather.specs.Runs.{expand};
-ghost use Rattle.sel_gather.specs.Sources.{picked, rows_of};
+ghost use Rattle.sel_gather.specs.Gathers.{MayGather};
+ghost use Rattle.sel_gather.specs.Sources.{picked};
 
 use crate::lists::ends_of;
 use crate::run::Run;
@@ -37,10 +38,7 @@ pub fn lists_over(
     len: usize,
 ) -> PolarsResult<Column>
     requires lists { All (λ c. type_of c.now ≡ of_large_list (type_of values)) sources.now }
-    requires formed { All (λ c. IsWellFormed c.now) sources.now }
-    requires fits { All (PickFits (rows_of sources.now)) (expand runs.now) }
-    requires len { length (expand runs.now) ≡ len }
-    requires few { len ≤ max_rows }
+    requires may { MayGather sources.now (expand runs.now) len }
     requires below { rows values ≡ joined_items 0 (picked sources.now runs.now) }
     requires child { IsWellFormed values }
     ensures rows { IfOk result (λ column. rows column ≡ picked sources.now runs.now) }
@@ -65,10 +63,7 @@ pub(crate) fn lists_with(
     len: usize,
 ) -> PolarsResult<Column>
     requires lists { All (λ c. type_of c.now ≡ of_large_list (type_of values)) sources.now }
-    requires formed { All (λ c. IsWellFormed c.now) sources.now }
-    requires fits { All (PickFits (rows_of sources.now)) (expand runs.now) }
-    requires len { length (expand runs.now) ≡ len }
-    requires few { len ≤ max_rows }
+    requires may { MayGather sources.now (expand runs.now) len }
     requires ends { ends.items ≡ map pos (0 ∷ item_ends 0 (picked sources.now runs.now)) }
     requires below { rows values ≡ joined_items 0 (picked sources.now runs.now) }
     requires child { IsWellFormed values }
@@ -113,10 +108,7 @@ pub fn blocks_over(
 ) -> PolarsResult<Column>
     requires lists { All (λ c. type_of c.now ≡
         of_fixed_size_list (type_of values) size) sources.now }
-    requires formed { All (λ c. IsWellFormed c.now) sources.now }
-    requires fits { All (PickFits (rows_of sources.now)) (expand runs.now) }
-    requires len { length (expand runs.now) ≡ len }
-    requires few { len ≤ max_rows }
+    requires may { MayGather sources.now (expand runs.now) len }
     requires narrow { size ≤ max_rows }
     requires below { rows values ≡ joined_items size (picked sources.now runs.now) }
     requires child { IsWellFormed values }
@@ -158,10 +150,7 @@ pub fn struct_over(
 ) -> PolarsResult<Column>
     requires tuples { All (λ c. type_of c.now ≡
         of_struct (shapes_of (map type_of fields.items))) sources.now }
-    requires formed { All (λ c. IsWellFormed c.now) sources.now }
-    requires fits { All (PickFits (rows_of sources.now)) (expand runs.now) }
-    requires len { length (expand runs.now) ≡ len }
-    requires few { len ≤ max_rows }
+    requires may { MayGather sources.now (expand runs.now) len }
     requires parts { map rows fields.items ≡
         parts_of (length fields.items) (picked sources.now runs.now) }
     requires fields { All (IsField len) fields.items }

@@ -3,13 +3,13 @@
 ghost use Rattle.std.specs.Prelude.{◌≡◌, ◌≤◌, ◌+◌, ◌++◌, All, length, map, take, drop, IfOk, IfErr, OnOk};
 ghost use Rattle.std.specs.Option.{option_copied};
 ghost use Rattle.sel_bits.specs.Faults.{IsOutOfMemory};
-ghost use Rattle.sel_bits.specs.Limits.{max_rows};
 ghost use Rattle.sel_arrow.specs.Masked.{hidden, number_rows};
 ghost use Rattle.sel_arrow.specs.Rows.{rows, type_of, IsWellFormed};
 ghost use Rattle.sel_arrow.specs.Value.{Null, Number};
 ghost use Rattle.sel_gather.specs.Picks.{pick, PickFits};
 ghost use Rattle.sel_gather.specs.Runs.{expand};
 ghost use Rattle.sel_gather.specs.Validity.{part_bits};
+ghost use Rattle.sel_gather.specs.Gathers.{MayGather};
 ghost use Rattle.sel_gather.specs.Sources.{picked, rows_of};
 
 use crate::bits::{push_validity, validity_from};
@@ -128,9 +128,7 @@ pub fn collect_primitive<'a, T: ArrowPrimitive + Drop>(
     len: usize,
 ) -> PolarsResult<Column>
     requires alike { All (λ c. type_of c.now ≡ T.shape) sources.now }
-    requires fits { All (PickFits (rows_of sources.now)) (expand runs.now) }
-    requires len { length (expand runs.now) ≡ len }
-    requires few { len ≤ max_rows }
+    requires may { MayGather sources.now (expand runs.now) len }
     ensures rows { IfOk result (λ column. rows column ≡ picked sources.now runs.now) }
     ensures dtype { IfOk result (λ column. type_of column ≡ T.shape) }
     ensures formed { IfOk result (λ column. IsWellFormed column) }

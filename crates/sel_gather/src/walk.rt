@@ -12,6 +12,7 @@ ghost use Rattle.sel_gather.specs.Need.{ExceedsRows, IsLimitOrMemory, ExceedsNon
 ghost use Rattle.sel_gather.specs.Picks.{pick, PickFits};
 ghost use Rattle.sel_gather.specs.Runs.{expand, unrolled};
 ghost use Rattle.sel_gather.specs.Sources.{child_rows, columns_of, picked, rows_of};
+ghost use Rattle.sel_gather.specs.Gathers.{MayGather};
 ghost use Rattle.sel_gather.specs.RunRows.{run_rows};
 
 use crate::collect::collect_runs;
@@ -170,10 +171,7 @@ pub fn collect_list_runs<'a>(
 ) -> PolarsResult<Column>
     requires some { 0 < length sources.now }
     requires alike { All (λ c. type_of c.now ≡ of_large_list (type_of child.now)) sources.now }
-    requires formed { All (λ c. IsWellFormed c.now) sources.now }
-    requires fits { All (PickFits (rows_of sources.now)) (expand runs.now) }
-    requires len { length (expand runs.now) ≡ len }
-    requires few { len ≤ max_rows }
+    requires may { MayGather sources.now (expand runs.now) len }
     ensures rows { IfOk result (λ column. rows column ≡ picked sources.now runs.now) }
     ensures dtype { IfOk result (λ column. type_of column ≡ of_large_list (type_of child.now)) }
     ensures formed { IfOk result (λ column. IsWellFormed column) }

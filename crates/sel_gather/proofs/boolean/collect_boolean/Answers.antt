@@ -14,7 +14,7 @@ validity_from-requires c =
     let runs = expand c.args.runs.now in
     let sources = ap (map (λ s. boolean_rows s.now)) c.deref.ensures.value ∙ c.in_ok-found.ensures.rows in
     let total = from_none Truth _ _ _ _ runs _ c.in_ok-with_capacity.ensures.value c.in_ok-with_capacity-2.ensures.value sources c.in_ok-values.ensures.rows in
-    counted Truth grown.values grown.validity _ c.args.len grown.lengths total (length-pick Null _ runs ∙ c.requires.len)
+    counted Truth grown.values grown.validity _ c.args.len grown.lengths total (length-pick Null _ runs ∙ c.requires.may.len)
 
 pub invariant_of-result : goal.invariant_of-result
 invariant_of-result c =
@@ -22,9 +22,9 @@ invariant_of-result c =
     let runs = expand c.args.runs.now in
     let sources = ap (map (λ s. boolean_rows s.now)) c.deref.ensures.value ∙ c.in_ok-found.ensures.rows in
     let total = from_none Truth _ _ _ _ runs _ c.in_ok-with_capacity.ensures.value c.in_ok-with_capacity-2.ensures.value sources c.in_ok-values.ensures.rows in
-    let counted_bits = counted Truth grown.values grown.validity _ c.args.len grown.lengths total (length-pick Null _ runs ∙ c.requires.len) in
+    let counted_bits = counted Truth grown.values grown.validity _ c.args.len grown.lengths total (length-pick Null _ runs ∙ c.requires.may.len) in
     let long : length c.in_ok-values-2.values.bits ≡ c.args.len = ap (λ (b : Bits). length b.bits) c.in_ok-values-2.ensures.value ∙ sym grown.lengths ∙ counted_bits in
-    record { rows_fit = omega (arith, long, c.requires.few); validity_fits = subst (Covers c.in_ok-validity.validity) (sym long) c.in_ok-validity.ensures.covers }
+    record { rows_fit = omega (arith, long, c.requires.may.few); validity_fits = subst (Covers c.in_ok-validity.validity) (sym long) c.in_ok-validity.ensures.covers }
 
 pub returns-clause-rows : goal.returns-clause-rows
 returns-clause-rows c =
@@ -32,6 +32,6 @@ returns-clause-rows c =
     let runs = expand c.args.runs.now in
     let sources = ap (map (λ s. boolean_rows s.now)) c.deref.ensures.value ∙ c.in_ok-found.ensures.rows in
     let total = from_none Truth _ _ _ _ runs _ c.in_ok-with_capacity.ensures.value c.in_ok-with_capacity-2.ensures.value sources c.in_ok-values.ensures.rows in
-    let long : length grown.validity ≡ c.args.len = counted Truth grown.values grown.validity _ c.args.len grown.lengths total (length-pick Null _ runs ∙ c.requires.len) in
+    let long : length grown.validity ≡ c.args.len = counted Truth grown.values grown.validity _ c.args.len grown.lengths total (length-pick Null _ runs ∙ c.requires.may.len) in
     let done = finished Truth grown.values c.in_ok-validity.validity grown.validity c.args.len c.in_ok-validity.ensures.bits (sym grown.lengths ∙ long) in
     ap (λ (b : Bits). bool_rows b.bits c.in_ok-validity.validity) c.in_ok-values-2.ensures.value ∙ done ∙ total

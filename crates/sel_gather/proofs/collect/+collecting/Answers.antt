@@ -31,7 +31,7 @@ collect_lists-collect_items-requires t c =
     let s = type_of c.args.child.now in
     let lists : All (λ c. is_listing (type_of c.now) ≡ true) cs = λ k d h. ap is_listing (c.requires.alike k d h) in
     let alike : All (λ c. type_of (child c.now) ≡ s) cs = λ k d h. child_type (get_or cs k d).now s (c.requires.alike k d h) in
-    (omega (arith, c.decreases), (c.requires.child, (lists, (alike, (c.requires.formed, (c.requires.fits, (c.count_items-need.ensures, omega (arith, c.if-need.false))))))))
+    (omega (arith, c.decreases), (c.requires.child, (lists, (alike, (c.requires.may.formed, (c.requires.may.fits, (c.count_items-need.ensures, omega (arith, c.if-need.false))))))))
 
 pub collect_lists-returns-in_err-values-clause-refusal : goal.collect_lists-returns-in_err-values-clause-refusal
 collect_lists-returns-in_err-values-clause-refusal t c =
@@ -47,7 +47,7 @@ collect_blocks-collect_items-requires t c =
     let s = type_of c.args.child.now in
     let lists : All (λ c. is_listing (type_of c.now) ≡ true) cs = λ k d h. ap is_listing (c.requires.alike k d h) in
     let alike : All (λ c. type_of (child c.now) ≡ s) cs = λ k d h. block_child_type (get_or cs k d).now s c.args.size (c.requires.alike k d h) in
-    (omega (arith, c.decreases), (c.requires.child, (lists, (alike, (c.requires.formed, (c.requires.fits, (c.count_items-need.ensures, omega (arith, c.if-need.false))))))))
+    (omega (arith, c.decreases), (c.requires.child, (lists, (alike, (c.requires.may.formed, (c.requires.may.fits, (c.count_items-need.ensures, omega (arith, c.if-need.false))))))))
 
 pub collect_blocks-returns-in_err-values-clause-refusal : goal.collect_blocks-returns-in_err-values-clause-refusal
 collect_blocks-returns-in_err-values-clause-refusal t c =
@@ -75,7 +75,7 @@ collect_items-collect_like-requires t c =
     let runs = ap expand c.deref-2.ensures.value in
     let fits = subst (λ xss. All (PickFits xss) (expand c.deref-2.result.now)) (sym below.rows) (subst (All (PickFits (below_of cs))) (sym runs) c.in_ok-below.ensures.fits) in
     let count = ap length runs ∙ sym (length-pick Null (below_of cs) (expand c.in_ok-below.below.items)) ∙ ap length c.in_ok-below.ensures.items ∙ sym c.requires.need in
-    (omega (arith, c.decreases), (c.requires.first, (below.alike, (below.formed, (fits, (count, c.requires.few))))))
+    (omega (arith, c.decreases), (c.requires.first, (below.alike, record { formed = below.formed; fits = fits; len = count; few = c.requires.few })))
 
 pub collect_items-returns-in_err-values-clause-refusal : goal.collect_items-returns-in_err-values-clause-refusal
 collect_items-returns-in_err-values-clause-refusal t c =
@@ -110,7 +110,7 @@ collect_like-collect_structs-requires t c =
     in
     let has = has_fields c.in-Struct.len fields c.in-Struct.validity (ap well_formed (sym c.in-Struct.is) ∙ c.requires.first) in
     let firsts = subst (All (λ x. IsWellFormed x)) (sym same) (λ k d h. (has.fields k d h).1) in
-    (omega (arith, c.decreases, ap size_of kind), (firsts, ((λ k d h. c.requires.alike k d h ∙ kind), (c.requires.formed, (c.requires.fits, (c.requires.len, c.requires.few))))))
+    (omega (arith, c.decreases, ap size_of kind), (firsts, ((λ k d h. c.requires.alike k d h ∙ kind), c.requires.may)))
 
 pub collect_like-returns-in-Struct-clause-dtype : goal.collect_like-returns-in-Struct-clause-dtype
 collect_like-returns-in-Struct-clause-dtype t c =
@@ -150,14 +150,14 @@ collect_fields-collect_like-requires t c =
     let found = ap (map (λ x. x.now)) c.deref.ensures.value ∙ c.in_ok-columns.ensures.fields in
     let kind : get_or (shape_list ss) j of_null ≡ type_of f = field_kind c.args.firsts.now j f c.loop-j-test.true c.index-firsts-j.is in
     let alike = found_all (field j) (λ x. type_of x ≡ type_of f) xs cs found (λ k d h. field_type (get_or cs k d).now ss j of_null (c.requires.alike k d h) inside ∙ kind) in
-    let formed = found_all (field j) (λ x. well_formed x ≡ true) xs cs found (λ k d h. (field_formed (get_or cs k d).now ss j (c.requires.alike k d h) (c.requires.formed k d h) inside).1) in
+    let formed = found_all (field j) (λ x. well_formed x ≡ true) xs cs found (λ k d h. (field_formed (get_or cs k d).now ss j (c.requires.alike k d h) (c.requires.may.formed k d h) inside).1) in
     let rows_found = found_map (field j) rows xs cs found in
     let runs = ap expand c.deref-in-loop-j.ensures.value ∙ c.in_ok-split.ensures.picks in
-    let there = parts_fit ss j inside cs c.requires.alike c.requires.formed (expand c.args.runs.now) c.requires.fits in
+    let there = parts_fit ss j inside cs c.requires.alike c.requires.may.formed (expand c.args.runs.now) c.requires.may.fits in
     let fits = subst (λ xss. All (PickFits xss) (expand c.deref-in-loop-j.result.now)) (sym rows_found) (subst (All (PickFits (field_rows j cs))) (sym runs) there) in
-    let count = ap length runs ∙ length-map (expand c.args.runs.now) (cleared (rows_of c.args.sources.now)) ∙ c.requires.len in
+    let count = ap length runs ∙ length-map (expand c.args.runs.now) (cleared (rows_of c.args.sources.now)) ∙ c.requires.may.len in
     let first = subst (λ x. IsWellFormed x) (sym c.index-firsts-j.is) (All-get_or (λ x. IsWellFormed x) c.args.firsts.now j f c.loop-j-test.true c.requires.firsts) in
-    (omega (arith, c.decreases, one_size type_of c.args.firsts.now j f c.loop-j-test.true c.index-firsts-j.is), (first, (alike, (formed, (fits, (count, c.requires.few))))))
+    (omega (arith, c.decreases, one_size type_of c.args.firsts.now j f c.loop-j-test.true c.index-firsts-j.is), (first, (alike, record { formed = formed; fits = fits; len = count; few = c.requires.may.few })))
 
 pub collect_fields-returns-in_err-field-clause-refusal : goal.collect_fields-returns-in_err-field-clause-refusal
 collect_fields-returns-in_err-field-clause-refusal t c =
@@ -201,7 +201,7 @@ collect_fields-loop-j-preserved t c =
     c.in_ok-field.ensures.rows ∙ ap (λ xss. pick Null xss (expand c.deref-in-loop-j.result.now)) (found_map (field j) rows xs cs found)
     ∙ ap (λ ps. pick Null (field_rows j cs) ps) (ap expand c.deref-in-loop-j.ensures.value ∙ c.in_ok-split.ensures.picks) ∙ picked_parts ss j inside cs c.requires.alike (expand c.args.runs.now)
     in
-    let long : row_count one ≡ c.args.len = sym (length-rows one) ∙ ap length part ∙ length-map vs (part_at j) ∙ length-pick Null (rows_of c.args.sources.now) (expand c.args.runs.now) ∙ c.requires.len in
+    let long : row_count one ≡ c.args.len = sym (length-rows one) ∙ ap length part ∙ length-map vs (part_at j) ∙ length-pick Null (rows_of c.args.sources.now) (expand c.args.runs.now) ∙ c.requires.may.len in
     let new : c.push.new.self.items ≡ old ++ one ∷ [] = c.in_ok-push.ensures.items in
     let firsts = map type_of c.args.firsts.now in
     let columns = columns_of cs in

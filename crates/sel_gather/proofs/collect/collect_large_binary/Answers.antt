@@ -18,10 +18,10 @@ collect_binary-requires c =
     let live = ap expand c.deref-2.ensures.value ∙ c.in_ok-live.ensures.picks in
     let same = ap (map (λ s. binary_rows s.now)) c.deref.ensures.value ∙ c.in_ok-found.ensures.rows in
     record {
-      fits = subst (λ (yss : List (List Value)). All (PickFits yss) (expand c.deref-2.result.now)) (sym same) (subst (All (PickFits xss)) (sym live) (cleared_fits xss picks c.requires.fits));
+      fits = subst (λ (yss : List (List Value)). All (PickFits yss) (expand c.deref-2.result.now)) (sym same) (subst (All (PickFits xss)) (sym live) (cleared_fits xss picks c.requires.may.fits));
       live = subst (λ (yss : List (List Value)). All (IsLive yss) (expand c.deref-2.result.now)) (sym same) (subst (All (IsLive xss)) (sym live) (cleared_live xss picks));
-      len = ap length live ∙ length-map picks (cleared xss) ∙ c.requires.len;
-      few = c.requires.few;
+      len = ap length live ∙ length-map picks (cleared xss) ∙ c.requires.may.len;
+      few = c.requires.may.few;
     }
 
 pub returns-clause-rows : goal.returns-clause-rows

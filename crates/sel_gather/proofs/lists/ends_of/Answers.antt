@@ -9,7 +9,7 @@ use Rattle.sel_gather.proofs.RunLists.{all_at, run_at}
 use Rattle.sel_gather.proofs.lists.ends_of.Goals as goal
 
 pub push_ends-requires-clause-fits : goal.push_ends-requires-clause-fits
-push_ends-requires-clause-fits c = all_at (PickFits (rows_of c.args.sources.now)) c.args.runs.now c.loop-run.run-index c.loop-run-test.true c.requires.fits
+push_ends-requires-clause-fits c = all_at (PickFits (rows_of c.args.sources.now)) c.args.runs.now c.loop-run.run-index c.loop-run-test.true c.requires.may.fits
 
 pub push_ends-requires-clause-room : goal.push_ends-requires-clause-room
 push_ends-requires-clause-room c = run_items_room 0 (rows_of c.args.sources.now) c.args.runs.now c.loop-run.run-index c.loop-run.end 4294967295 c.loop-run-test.true c.loop-run.invariant.0 c.requires.room

@@ -25,7 +25,7 @@ returns-clause-rows c =
     let below : rows c.in_ok-values.values.value ≡ joined_items 0 vs = ap rows c.in_ok-values.ensures.ok ∙ c.requires.below in
     let offsets : c.in-Ok.offsets ≡ 0 ∷ item_ends 0 vs = same_numbers c.in-Ok.offsets (0 ∷ item_ends 0 vs) (sym c.in-Ok.ensures.value ∙ map_same c.args.ends.items ∙ c.requires.ends) in
     lists_rebuilt vs c.in-Ok.offsets (rows c.in_ok-values.values.value) c.in-Ok-collect_validity.validity c.args.len (picked_lists c.args.sources.now (type_of c.args.values) (expand c.args.runs.now) c.requires.lists)
-    (length-pick Null (rows_of c.args.sources.now) (expand c.args.runs.now) ∙ c.requires.len) offsets below c.in-Ok-collect_validity.ensures.bits
+    (length-pick Null (rows_of c.args.sources.now) (expand c.args.runs.now) ∙ c.requires.may.len) offsets below c.in-Ok-collect_validity.ensures.bits
 
 pub returns-clause-formed : goal.returns-clause-formed
 returns-clause-formed c =
@@ -34,4 +34,4 @@ returns-clause-formed c =
     let formed : well_formed c.in_ok-values.values.value ≡ true = ap well_formed c.in_ok-values.ensures.ok ∙ c.requires.child in
     let offsets : c.in-Ok.offsets ≡ 0 ∷ item_ends 0 vs = same_numbers c.in-Ok.offsets (0 ∷ item_ends 0 vs) (sym c.in-Ok.ensures.value ∙ map_same c.args.ends.items ∙ c.requires.ends) in
     lists_formed c.in-Ok.offsets c.in_ok-values.values.value c.in-Ok-collect_validity.validity
-    (lists_fit vs c.in-Ok.offsets c.in_ok-values.values.value c.in-Ok-collect_validity.validity c.args.len (length-pick Null (rows_of c.args.sources.now) (expand c.args.runs.now) ∙ c.requires.len) c.requires.few offsets below c.in-Ok-collect_validity.ensures.covers formed)
+    (lists_fit vs c.in-Ok.offsets c.in_ok-values.values.value c.in-Ok-collect_validity.validity c.args.len (length-pick Null (rows_of c.args.sources.now) (expand c.args.runs.now) ∙ c.requires.may.len) c.requires.may.few offsets below c.in-Ok-collect_validity.ensures.covers formed)

@@ -25,38 +25,36 @@ children_of-requires c = record { lists = lists_listing (type_of c.args.child.no
 pub collect_runs-requires-clause-some : goal.collect_runs-requires-clause-some
 collect_runs-requires-clause-some c =
     let found = ap (map (λ x. x.now)) c.deref.ensures.value ∙ c.in_ok-children.ensures.children in
-    children_some (type_of c.args.child.now) c.args.sources.now c.deref.result.now found c.requires.alike c.requires.formed c.requires.some
+    children_some (type_of c.args.child.now) c.args.sources.now c.deref.result.now found c.requires.alike c.requires.may.formed c.requires.some
 
 pub collect_runs-requires-clause-alike : goal.collect_runs-requires-clause-alike
 collect_runs-requires-clause-alike c =
     let s = type_of c.args.child.now in
     let found = ap (map (λ x. x.now)) c.deref.ensures.value ∙ c.in_ok-children.ensures.children in
-    let first = children_first s c.args.sources.now c.deref.result.now found c.requires.alike c.requires.formed c.requires.some in
-    λ k d h. (children_recurse s c.args.sources.now c.deref.result.now found c.requires.alike c.requires.formed).alike k d h ∙ sym first
+    let first = children_first s c.args.sources.now c.deref.result.now found c.requires.alike c.requires.may.formed c.requires.some in
+    λ k d h. (children_recurse s c.args.sources.now c.deref.result.now found c.requires.alike c.requires.may.formed).alike k d h ∙ sym first
 
-pub collect_runs-requires-clause-formed : goal.collect_runs-requires-clause-formed
-collect_runs-requires-clause-formed c =
+pub collect_runs-requires-clause-may : goal.collect_runs-requires-clause-may
+collect_runs-requires-clause-may c =
+    let s = type_of c.args.child.now in
     let found = ap (map (λ x. x.now)) c.deref.ensures.value ∙ c.in_ok-children.ensures.children in
-    (children_recurse (type_of c.args.child.now) c.args.sources.now c.deref.result.now found c.requires.alike c.requires.formed).formed
-
-pub collect_runs-requires-clause-fits : goal.collect_runs-requires-clause-fits
-collect_runs-requires-clause-fits c =
-    let found = ap (map (λ x. x.now)) c.deref.ensures.value ∙ c.in_ok-children.ensures.children in
-    children_fit (type_of c.args.child.now) c.args.sources.now c.deref.result.now found c.requires.alike c.requires.formed c.deref-2.result.now c.in_ok-ends.below.items c.deref-2.ensures.value c.in_ok-ends.ensures.fits
-
-pub collect_runs-requires-clause-len : goal.collect_runs-requires-clause-len
-collect_runs-requires-clause-len c = ap (λ rs. length (expand rs)) c.deref-2.ensures.value ∙ c.in_ok-ends.ensures.count
+    record {
+      formed = (children_recurse s c.args.sources.now c.deref.result.now found c.requires.alike c.requires.may.formed).formed;
+      fits = children_fit s c.args.sources.now c.deref.result.now found c.requires.alike c.requires.may.formed c.deref-2.result.now c.in_ok-ends.below.items c.deref-2.ensures.value c.in_ok-ends.ensures.fits;
+      len = ap (λ rs. length (expand rs)) c.deref-2.ensures.value ∙ c.in_ok-ends.ensures.count;
+      few = c.in_ok-ends.ensures.few;
+    }
 
 pub lists_with-requires-clause-lists : goal.lists_with-requires-clause-lists
 lists_with-requires-clause-lists c =
     let found = ap (map (λ x. x.now)) c.deref.ensures.value ∙ c.in_ok-children.ensures.children in
-    let first = children_first (type_of c.args.child.now) c.args.sources.now c.deref.result.now found c.requires.alike c.requires.formed c.requires.some in
+    let first = children_first (type_of c.args.child.now) c.args.sources.now c.deref.result.now found c.requires.alike c.requires.may.formed c.requires.some in
     λ k d h. c.requires.alike k d h ∙ ap of_large_list (sym (c.in_ok-values.ensures.dtype ∙ first))
 
 pub lists_with-requires-clause-below : goal.lists_with-requires-clause-below
 lists_with-requires-clause-below c =
     let found = ap (map (λ x. x.now)) c.deref.ensures.value ∙ c.in_ok-children.ensures.children in
-    c.in_ok-values.ensures.rows ∙ children_picked (type_of c.args.child.now) c.args.sources.now c.deref.result.now found c.requires.alike c.requires.formed c.deref-2.result.now c.in_ok-ends.below.items _ c.deref-2.ensures.value c.in_ok-ends.ensures.items
+    c.in_ok-values.ensures.rows ∙ children_picked (type_of c.args.child.now) c.args.sources.now c.deref.result.now found c.requires.alike c.requires.may.formed c.deref-2.result.now c.in_ok-ends.below.items _ c.deref-2.ensures.value c.in_ok-ends.ensures.items
 
 pub returns-in_err-values-clause-refusal : goal.returns-in_err-values-clause-refusal
 returns-in_err-values-clause-refusal c =
@@ -67,16 +65,16 @@ returns-in_err-values-clause-refusal c =
     let fault = c.in_err-values.field-0.0 in
     let p = err_from_is_err_and c.from_residual-in_err-values.result c.from_residual-in_err-values.ensures.1 in
     let found = ap (map (λ x. x.now)) c.deref.ensures.value ∙ c.in_ok-children.ensures.children in
-    let first = children_first s cs xs found c.requires.alike c.requires.formed c.requires.some in
-    let same = children_picked s cs xs found c.requires.alike c.requires.formed c.deref-2.result.now c.in_ok-ends.below.items items c.deref-2.ensures.value c.in_ok-ends.ensures.items in
-    let here = subst (λ l. IsLimitOrMemory (exceeded_taken s l items) fault) (children_columns s cs xs found c.requires.alike c.requires.formed)
+    let first = children_first s cs xs found c.requires.alike c.requires.may.formed c.requires.some in
+    let same = children_picked s cs xs found c.requires.alike c.requires.may.formed c.deref-2.result.now c.in_ok-ends.below.items items c.deref-2.ensures.value c.in_ok-ends.ensures.items in
+    let here = subst (λ l. IsLimitOrMemory (exceeded_taken s l items) fault) (children_columns s cs xs found c.requires.alike c.requires.may.formed)
     (subst (λ l. IsLimitOrMemory (exceeded_taken s (columns_of xs) l) fault) same (subst (λ t. IsLimitOrMemory (exceeded_taken t (columns_of xs) (picked xs c.deref-2.result.now)) fault) first c.in_err-values.ensures.refusal)) in
     rw (p.1, p.2) (refused_more _ _ fault (λ limit h. inr h) here)
 
 pub returns-clause-dtype : goal.returns-clause-dtype
 returns-clause-dtype c =
     let found = ap (map (λ x. x.now)) c.deref.ensures.value ∙ c.in_ok-children.ensures.children in
-    let first = children_first (type_of c.args.child.now) c.args.sources.now c.deref.result.now found c.requires.alike c.requires.formed c.requires.some in
+    let first = children_first (type_of c.args.child.now) c.args.sources.now c.deref.result.now found c.requires.alike c.requires.may.formed c.requires.some in
     subst (λ s. IfOk c.lists_with.result (λ column. type_of column ≡ of_large_list s)) (c.in_ok-values.ensures.dtype ∙ first) c.lists_with.ensures.dtype
 
 pub returns-clause-within : goal.returns-clause-within
@@ -86,9 +84,9 @@ returns-clause-within c =
     let s = type_of c.args.child.now in
     let items = joined_items 0 (pick Null (rows_of cs) (expand c.args.runs.now)) in
     let found = ap (map (λ x. x.now)) c.deref.ensures.value ∙ c.in_ok-children.ensures.children in
-    let first = children_first s cs xs found c.requires.alike c.requires.formed c.requires.some in
-    let same = children_picked s cs xs found c.requires.alike c.requires.formed c.deref-2.result.now c.in_ok-ends.below.items items c.deref-2.ensures.value c.in_ok-ends.ensures.items in
-    let below = subst (λ l. ExceedsNone (exceeded_taken s l items)) (children_columns s cs xs found c.requires.alike c.requires.formed)
+    let first = children_first s cs xs found c.requires.alike c.requires.may.formed c.requires.some in
+    let same = children_picked s cs xs found c.requires.alike c.requires.may.formed c.deref-2.result.now c.in_ok-ends.below.items items c.deref-2.ensures.value c.in_ok-ends.ensures.items in
+    let below = subst (λ l. ExceedsNone (exceeded_taken s l items)) (children_columns s cs xs found c.requires.alike c.requires.may.formed)
     (subst (λ l. ExceedsNone (exceeded_taken s (columns_of xs) l)) same (subst (λ t. ExceedsNone (exceeded_taken t (columns_of xs) (picked xs c.deref-2.result.now))) first c.in_ok-values.ensures.within)) in
     let long = ap length (sym c.in_ok-ends.ensures.items) in
     IfOk-weaker c.lists_with.result _ _ (λ column same. passes_neither (ExceedsRows (length items)) (exceeded_taken s (map child (columns_of cs)) items) (few_rows_pass (length items) (omega (arith, long, length-pick Null (below_of cs) (expand c.in_ok-ends.below.items), c.in_ok-ends.ensures.count, c.in_ok-ends.ensures.few))) below) c.lists_with.ensures.rows

@@ -34,18 +34,16 @@ collect_runs-requires-clause-alike g c =
     let first = children_first s c.args.sources.now c.deref.result.now found c.requires.alike c.requires.formed c.requires.some in
     λ k d h. (children_recurse s c.args.sources.now c.deref.result.now found c.requires.alike c.requires.formed).alike k d h ∙ sym first
 
-pub collect_runs-requires-clause-formed : goal.collect_runs-requires-clause-formed
-collect_runs-requires-clause-formed g c =
+pub collect_runs-requires-clause-may : goal.collect_runs-requires-clause-may
+collect_runs-requires-clause-may g c =
+    let s = type_of c.args.child.now in
     let found = ap (map (λ x. x.now)) c.deref.ensures.value ∙ c.in_ok-children.ensures.children in
-    (children_recurse (type_of c.args.child.now) c.args.sources.now c.deref.result.now found c.requires.alike c.requires.formed).formed
-
-pub collect_runs-requires-clause-fits : goal.collect_runs-requires-clause-fits
-collect_runs-requires-clause-fits g c =
-    let found = ap (map (λ x. x.now)) c.deref.ensures.value ∙ c.in_ok-children.ensures.children in
-    children_fit (type_of c.args.child.now) c.args.sources.now c.deref.result.now found c.requires.alike c.requires.formed c.deref-2.result.now c.in_ok-ends.below.items c.deref-2.ensures.value c.in_ok-ends.ensures.fits
-
-pub collect_runs-requires-clause-len : goal.collect_runs-requires-clause-len
-collect_runs-requires-clause-len g c = ap (λ rs. length (expand rs)) c.deref-2.ensures.value ∙ c.in_ok-ends.ensures.count
+    record {
+      formed = (children_recurse s c.args.sources.now c.deref.result.now found c.requires.alike c.requires.formed).formed;
+      fits = children_fit s c.args.sources.now c.deref.result.now found c.requires.alike c.requires.formed c.deref-2.result.now c.in_ok-ends.below.items c.deref-2.ensures.value c.in_ok-ends.ensures.fits;
+      len = ap (λ rs. length (expand rs)) c.deref-2.ensures.value ∙ c.in_ok-ends.ensures.count;
+      few = c.in_ok-ends.ensures.few;
+    }
 
 pub lists_of_plan-requires-clause-lists : goal.lists_of_plan-requires-clause-lists
 lists_of_plan-requires-clause-lists g c =

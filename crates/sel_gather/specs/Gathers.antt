@@ -1,0 +1,32 @@
+-- The precondition of gathering rows from several columns, and what each gather returns.
+use Rattle.std.specs.Prelude.{◌≡◌, ◌≤◌, ℕ, All, List, Option, Result, IfErr, IfOk, length}
+use Rattle.std.specs.Borrow.{Bor}
+use Rattle.sel_bits.specs.Limits.{max_rows}
+use Rattle.sel_bits.specs.declared.faults.Limit.{Limit}
+use Rattle.sel_bits.specs.declared.faults.PolarsError.{PolarsError}
+use Rattle.sel_arrow.specs.Rows.{rows, type_of, IsWellFormed}
+use Rattle.sel_arrow.specs.Shape.{Shape}
+use Rattle.sel_arrow.specs.Value.{Value}
+use Rattle.sel_arrow.specs.declared.array_ref.ArrayRef.{ArrayRef}
+use Rattle.sel_arrow.specs.declared.column.Column.{Column}
+use Rattle.sel_gather.specs.Need.{ExceedsNone, IsLimitOrMemory}
+use Rattle.sel_gather.specs.Picks.{PickFits}
+use Rattle.sel_gather.specs.Sources.{rows_of}
+
+-- The sources are well-formed, each reference is null or refers to a row of a source, and there are
+-- `count` of them, no more than a column can have rows.
+pub record MayGather (sources : List (Bor Column)) (picks : List (Option (ℕ × ℕ))) (count : ℕ)
+    : Type 0 where
+  pub formed : All (λ c. IsWellFormed c.now) sources
+  pub fits : All (PickFits (rows_of sources)) picks
+  pub len : length picks ≡ count
+  pub few : count ≤ max_rows
+
+-- A column of this type with these rows, which exceed no limit; or an error: out of memory, or a
+-- limit that they exceed.
+pub record Selects (result : Result ArrayRef PolarsError) (shape : Shape) (values : List Value)
+    (exceeded : Limit → Type 0) : Type 0 where
+  pub rows : IfOk result (λ array. rows array.column ≡ values)
+  pub dtype : IfOk result (λ array. type_of array.column ≡ shape)
+  pub within : IfOk result (λ array. ExceedsNone exceeded)
+  pub refusal : IfErr result (IsLimitOrMemory exceeded)
