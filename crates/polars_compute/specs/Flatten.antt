@@ -1,14 +1,17 @@
 -- Horizontal flatten: its result, its precondition, and the limits that its result exceeds.
 use Rattle.std.specs.Prelude.{ℕ, ◌+◌, ◌*◌, ◌<◌, Bool, true, false, ◌&&◌, ◌||◌, ◌==◌, nat_lt, ◌⊎◌}
-use Rattle.std.specs.Prelude.{List, [], ◌∷◌, ◌++◌, length, map, take, drop, if◌then◌else◌}
+use Rattle.std.specs.Prelude.{List, [], ◌∷◌, ◌++◌, length, map, take, drop, if◌then◌else◌, Result}
 use Rattle.std.specs.List.{flat_map, range_with_len}
 use Rattle.sel_bits.specs.declared.faults.Limit.{Limit}
+use Rattle.sel_bits.specs.declared.faults.PolarsError.{PolarsError}
 use Rattle.sel_arrow.specs.Rows.{rows}
 use Rattle.sel_arrow.specs.Shape.{Shape}
 use Rattle.sel_arrow.specs.Value.{Value}
 use Rattle.sel_arrow.specs.declared.array_ref.ArrayRef.{ArrayRef}
 use Rattle.sel_arrow.specs.declared.column.Column.{Column}
+use Rattle.sel_gather.specs.Gathers.{Selects}
 use Rattle.sel_gather.specs.Need.{ExceedsRows, exceeded_taken}
+use Rattle.sel_gather.specs.Sources.{first_type}
 
 -- The columns of arrays, and the rows of each.
 abbrev pub array_columns : List ArrayRef → List Column
@@ -48,3 +51,11 @@ parts_fit h (xs ∷ xss) (w ∷ ws) = part_fits h (length xs) w && parts_fit h x
 abbrev pub exceeded_flattened : ℕ → Shape → List Column → List Value → Limit → Type 0
 exceeded_flattened h s columns rows limit =
     (0 < h) × (ExceedsRows (length rows) limit ⊎ exceeded_taken s columns rows limit)
+
+-- The result is the horizontal flatten of these arrays to h rows, of the type of the first, which
+-- exceeds no limit; or an error: out of memory, or a limit that the flatten exceeds.
+abbrev pub Flattens : Result ArrayRef PolarsError → List ArrayRef → List ℕ → ℕ → Type 0
+Flattens result arrays ws h =
+    Selects result (first_type (array_columns arrays)) (flatten (array_rows arrays) ws h)
+    (exceeded_flattened h (first_type (array_columns arrays)) (array_columns arrays)
+    (flatten (array_rows arrays) ws h))

@@ -1,12 +1,11 @@
 //! Horizontal flatten: row-wise concatenation of columns.
 
-ghost use Rattle.std.specs.Prelude.{◌≡◌, ◌≤◌, ◌<◌, ◌+◌, ◌*◌, ◌++◌, ◌↔◌, Some, All, length, map, take, drop, IsTrue, IfSome, IfNone, IfOk, IfErr, OnOk};
+ghost use Rattle.std.specs.Prelude.{◌≡◌, ◌≤◌, ◌<◌, ◌+◌, ◌*◌, ◌++◌, ◌↔◌, Some, All, length, map, IsTrue, IfSome, IfNone, IfOk, IfErr};
 ghost use Rattle.sel_bits.specs.Faults.{IsOutOfMemory};
 ghost use Rattle.sel_bits.specs.Limits.{max_rows};
 ghost use Rattle.sel_arrow.specs.Rows.{rows, type_of};
-ghost use Rattle.sel_gather.specs.Need.{IsLimitOrMemory, ExceedsNone};
 ghost use Rattle.sel_gather.specs.Sources.{first_type};
-ghost use Rattle.polars_compute.specs.Flatten.{array_columns, array_rows, flatten, part_fits, parts_fit, exceeded_flattened};
+ghost use Rattle.polars_compute.specs.Flatten.{Flattens, array_columns, array_rows, part_fits, parts_fit};
 ghost use Rattle.polars_compute.specs.Widths.{row_width};
 ghost use Rattle.polars_compute.specs.Lanes.{lane_of as lane_for, lanes_of};
 
@@ -45,16 +44,7 @@ pub fn horizontal_flatten_unchecked(
     requires alike { All (λ a. type_of a.column ≡
         first_type (array_columns arrays.now)) arrays.now }
     requires fit { IsTrue (parts_fit output_height (array_rows arrays.now) widths.now) }
-    ensures rows { IfOk result (λ flat. rows flat.column ≡
-        flatten (array_rows arrays.now) widths.now output_height) }
-    ensures dtype { IfOk result (λ flat. type_of flat.column ≡
-        first_type (array_columns arrays.now)) }
-    ensures within { IfOk result (λ _. ExceedsNone
-        (exceeded_flattened output_height (first_type (array_columns arrays.now))
-        (array_columns arrays.now) (flatten (array_rows arrays.now) widths.now output_height))) }
-    ensures refusal { IfErr result (IsLimitOrMemory
-        (exceeded_flattened output_height (first_type (array_columns arrays.now))
-        (array_columns arrays.now) (flatten (array_rows arrays.now) widths.now output_height))) }
+    ensures { Flattens result arrays.now widths.now output_height }
 {
     if output_height == 0 {
         return arrays[0].sliced(alloc, 0, 0);
@@ -165,16 +155,7 @@ fn collect_flat(
     requires high { 0 < height }
     requires len { len ≡ height * row_width widths.now }
     requires few { len ≤ max_rows }
-    ensures rows { IfOk result (λ flat. rows flat.column ≡
-        flatten (array_rows arrays.now) widths.now height) }
-    ensures dtype { IfOk result (λ flat. type_of flat.column ≡
-        first_type (array_columns arrays.now)) }
-    ensures within { IfOk result (λ _. ExceedsNone
-        (exceeded_flattened height (first_type (array_columns arrays.now))
-        (array_columns arrays.now) (flatten (array_rows arrays.now) widths.now height))) }
-    ensures refusal { IfErr result (IsLimitOrMemory
-        (exceeded_flattened height (first_type (array_columns arrays.now))
-        (array_columns arrays.now) (flatten (array_rows arrays.now) widths.now height))) }
+    ensures { Flattens result arrays.now widths.now height }
 {
     let lanes = lanes_of_parts(alloc, arrays, widths)?;
     let woven = Woven {

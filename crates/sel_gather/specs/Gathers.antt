@@ -9,9 +9,9 @@ use Rattle.sel_arrow.specs.Shape.{Shape}
 use Rattle.sel_arrow.specs.Value.{Value}
 use Rattle.sel_arrow.specs.declared.array_ref.ArrayRef.{ArrayRef}
 use Rattle.sel_arrow.specs.declared.column.Column.{Column}
-use Rattle.sel_gather.specs.Need.{ExceedsNone, IsLimitOrMemory}
+use Rattle.sel_gather.specs.Need.{ExceedsNone, IsLimitOrMemory, exceeded_limits, exceeded_taken}
 use Rattle.sel_gather.specs.Picks.{PickFits}
-use Rattle.sel_gather.specs.Sources.{rows_of}
+use Rattle.sel_gather.specs.Sources.{first_type, rows_of}
 
 -- The sources are well-formed, each reference is null or refers to a row of a source, and there are
 -- `count` of them, no more than a column can have rows.
@@ -30,3 +30,13 @@ pub record Selects (result : Result ArrayRef PolarsError) (shape : Shape) (value
   pub dtype : IfOk result (λ array. type_of array.column ≡ shape)
   pub within : IfOk result (λ array. ExceedsNone exceeded)
   pub refusal : IfErr result (IsLimitOrMemory exceeded)
+
+-- The same for rows of one column of this type. The data buffers of views are those of the column.
+abbrev pub SelectsFrom : Result ArrayRef PolarsError → Shape → List Value → Type 0
+SelectsFrom result shape values = Selects result shape values (exceeded_limits shape values)
+
+-- The same for rows of several columns of one type. The data buffers of views are those of all
+-- columns.
+abbrev pub GathersFrom : Result ArrayRef PolarsError → List Column → List Value → Type 0
+GathersFrom result columns values =
+    Selects result (first_type columns) values (exceeded_taken (first_type columns) columns values)

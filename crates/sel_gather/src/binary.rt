@@ -4,12 +4,12 @@ ghost use Rattle.std.specs.Prelude.{◌≡◌, ◌≤◌, ◌+◌, ◌*◌, ◌�
 ghost use Rattle.sel_bits.specs.Faults.{IsOutOfMemory};
 ghost use Rattle.sel_bits.specs.Limits.{max_rows};
 ghost use Rattle.sel_arrow.specs.Columns.{binary_rows};
-ghost use Rattle.sel_arrow.specs.Value.{Null, validities};
+ghost use Rattle.sel_arrow.specs.Value.{validities};
 ghost use Rattle.sel_gather.specs.Cleared.{IsLive};
 ghost use Rattle.sel_gather.specs.JoinedBytes.{ends_from};
 ghost use Rattle.sel_gather.specs.GrownBytes.{joined_bytes, GrewBy};
 ghost use Rattle.sel_gather.specs.Need.{ExceedsBytes, IsLimitOrMemory, ExceedsNone, bytes_needed};
-ghost use Rattle.sel_gather.specs.Picks.{pick, PickFits};
+ghost use Rattle.sel_gather.specs.Picks.{PickFits};
 ghost use Rattle.sel_gather.specs.Runs.{expand, unrolled};
 ghost use Rattle.sel_gather.specs.Sources.{binaries, picked_bytes};
 ghost use Rattle.sel_gather.specs.RunRows.{run_bytes};

@@ -9,7 +9,7 @@ ghost use Rattle.sel_gather.specs.Children.{child, is_listing, joined_items, par
 ghost use Rattle.sel_gather.specs.Need.{ExceedsBuffers, ExceedsBytes, IsLimitOrMemory, ExceedsNone, buffers_joined, exceeded_in_fields, exceeded_taken};
 ghost use Rattle.sel_gather.specs.Picks.{pick, PickFits};
 ghost use Rattle.sel_gather.specs.Runs.{expand};
-ghost use Rattle.sel_gather.specs.Gathers.{MayGather};
+ghost use Rattle.sel_gather.specs.Gathers.{GathersFrom, MayGather};
 ghost use Rattle.sel_gather.specs.Sources.{columns_of, first_type, picked, rows_of};
 
 use crate::binary::collect_binary;
@@ -52,19 +52,9 @@ pub fn collect_rows<'a>(
 ) -> PolarsResult<ArrayRef>
     requires some { 0 < length sources.now }
     requires alike { All (λ c. type_of c.now ≡ first_type (columns_of sources.now)) sources.now }
-    requires formed { All (λ c. IsWellFormed c.now) sources.now }
-    requires fits { All (PickFits (rows_of sources.now)) picks.now }
-    requires few { length picks.now ≤ max_rows }
-    ensures rows { IfOk result (λ array. rows array.column ≡
-        pick Null (rows_of sources.now) picks.now) }
-    ensures dtype { IfOk result (λ array. type_of array.column ≡
-        first_type (columns_of sources.now)) }
-    ensures within { IfOk result
-        (λ _. ExceedsNone (exceeded_taken (first_type (columns_of sources.now))
-        (columns_of sources.now) (pick Null (rows_of sources.now) picks.now))) }
-    ensures refusal { IfErr result
-        (IsLimitOrMemory (exceeded_taken (first_type (columns_of sources.now))
-        (columns_of sources.now) (pick Null (rows_of sources.now) picks.now))) }
+    requires may { MayGather sources.now picks.now (length picks.now) }
+    ensures { GathersFrom result (columns_of sources.now)
+        (pick Null (rows_of sources.now) picks.now) }
 {
     let column = collect_plan(alloc, sources, &Listed { picks }, false)?;
     Ok(ArrayRef { column })

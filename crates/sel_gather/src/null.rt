@@ -1,11 +1,10 @@
 //! Null columns, collected by runs of rows.
 
-ghost use Rattle.std.specs.Prelude.{◌≡◌, ◌≤◌, All, length, map};
+ghost use Rattle.std.specs.Prelude.{◌≡◌, ◌≤◌, All, length};
 ghost use Rattle.sel_bits.specs.Limits.{max_rows};
 ghost use Rattle.sel_arrow.specs.Rows.{rows, type_of, IsWellFormed};
 ghost use Rattle.sel_arrow.specs.Shape.{of_null};
 ghost use Rattle.sel_arrow.specs.Value.{Null};
-ghost use Rattle.sel_gather.specs.Picks.{pick};
 ghost use Rattle.sel_gather.specs.Runs.{expand};
 ghost use Rattle.sel_gather.specs.Sources.{picked};
 

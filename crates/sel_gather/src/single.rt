@@ -1,10 +1,10 @@
 //! Gathers rows from one column, copied by runs of consecutive rows.
 
-ghost use Rattle.std.specs.Prelude.{◌≡◌, ◌≤◌, ◌∷◌, [], All, length, IfOk, IfErr};
+ghost use Rattle.std.specs.Prelude.{◌≡◌, ◌≤◌, ◌∷◌, [], All, length};
 ghost use Rattle.sel_bits.specs.Limits.{max_rows};
 ghost use Rattle.sel_arrow.specs.Rows.{rows, type_of, IsWellFormed};
 ghost use Rattle.sel_arrow.specs.Value.{Null};
-ghost use Rattle.sel_gather.specs.Need.{IsLimitOrMemory, ExceedsNone, exceeded_limits};
+ghost use Rattle.sel_gather.specs.Gathers.{SelectsFrom};
 ghost use Rattle.sel_gather.specs.Picks.{pick, PickFits};
 ghost use Rattle.sel_gather.specs.Runs.{expand};
 
@@ -39,15 +39,8 @@ pub fn collect_one(
     requires fits { All (PickFits (rows column.now ∷ [])) (expand runs.now) }
     requires len { length (expand runs.now) ≡ len }
     requires few { len ≤ max_rows }
-    ensures rows { IfOk result (λ array. rows array.column ≡
-        pick Null (rows column.now ∷ []) (expand runs.now)) }
-    ensures dtype { IfOk result (λ array. type_of array.column ≡ type_of column.now) }
-    ensures within { IfOk result
-        (λ _. ExceedsNone (exceeded_limits (type_of column.now)
-        (pick Null (rows column.now ∷ []) (expand runs.now)))) }
-    ensures refusal { IfErr result
-        (IsLimitOrMemory (exceeded_limits (type_of column.now)
-        (pick Null (rows column.now ∷ []) (expand runs.now)))) }
+    ensures { SelectsFrom result (type_of column.now)
+        (pick Null (rows column.now ∷ []) (expand runs.now)) }
 {
     let sources = [column];
     if let Column::LargeList { values, .. } = column {
@@ -70,15 +63,8 @@ pub fn collect_one(
 pub fn collect_one_plan<P: Plan>(alloc: Global, column: &Column, plan: &P) -> PolarsResult<ArrayRef>
     requires formed { IsWellFormed column.now }
     requires fits { All (PickFits (rows column.now ∷ [])) (P.picks plan.now) }
-    ensures rows { IfOk result (λ array. rows array.column ≡
-        pick Null (rows column.now ∷ []) (P.picks plan.now)) }
-    ensures dtype { IfOk result (λ array. type_of array.column ≡ type_of column.now) }
-    ensures within { IfOk result
-        (λ _. ExceedsNone (exceeded_limits (type_of column.now)
-        (pick Null (rows column.now ∷ []) (P.picks plan.now)))) }
-    ensures refusal { IfErr result
-        (IsLimitOrMemory (exceeded_limits (type_of column.now)
-        (pick Null (rows column.now ∷ []) (P.picks plan.now)))) }
+    ensures { SelectsFrom result (type_of column.now)
+        (pick Null (rows column.now ∷ []) (P.picks plan.now)) }
 {
     let sources = [column];
     let column = collect_plan(alloc, &sources, plan, false)?;

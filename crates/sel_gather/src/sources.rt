@@ -1,8 +1,8 @@
 //! Runtime checks for the preconditions on runs, row references and their sources.
 
-ghost use Rattle.std.specs.Prelude.{◌≡◌, ◌≤◌, ◌↔◌, All, length, map, IsTrue};
+ghost use Rattle.std.specs.Prelude.{◌≡◌, ◌≤◌, ◌↔◌, All, length, IsTrue};
 ghost use Rattle.sel_bits.specs.Limits.{max_rows};
-ghost use Rattle.sel_arrow.specs.Rows.{rows, type_of, IsWellFormed};
+ghost use Rattle.sel_arrow.specs.Rows.{type_of, IsWellFormed};
 ghost use Rattle.sel_gather.specs.Picks.{PickFits};
 ghost use Rattle.sel_gather.specs.Runs.{expand, unrolled};
 ghost use Rattle.sel_gather.specs.Sources.{columns_of, first_type, rows_of};

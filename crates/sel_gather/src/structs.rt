@@ -3,7 +3,7 @@
 ghost use Rattle.std.specs.Prelude.{◌≡◌, ◌≢◌, ◌≤◌, ◌<◌, ◌+◌, ◌++◌, ◌∷◌, [], All, length, map, IfOk, IfErr, OnOk};
 ghost use Rattle.sel_bits.specs.Faults.{IsOutOfMemory};
 ghost use Rattle.sel_bits.specs.Limits.{max_rows};
-ghost use Rattle.sel_arrow.specs.Rows.{rows, type_of, IsWellFormed};
+ghost use Rattle.sel_arrow.specs.Rows.{type_of, IsWellFormed};
 ghost use Rattle.sel_arrow.specs.Shape.{of_null};
 ghost use Rattle.sel_gather.specs.Children.{field};
 ghost use Rattle.sel_gather.specs.Cleared.{cleared};

@@ -4,10 +4,10 @@ ghost use Rattle.std.specs.Prelude.{◌≡◌, ◌≢◌, ◌++◌, All, length,
 ghost use Rattle.std.specs.Option.{option_copied};
 ghost use Rattle.sel_bits.specs.Faults.{IsOutOfMemory};
 ghost use Rattle.sel_arrow.specs.Masked.{Covers};
-ghost use Rattle.sel_arrow.specs.Rows.{rows, type_of, IsWellFormed};
+ghost use Rattle.sel_arrow.specs.Rows.{type_of, IsWellFormed};
 ghost use Rattle.sel_arrow.specs.Shape.{of_null};
-ghost use Rattle.sel_arrow.specs.Value.{Null, validities};
-ghost use Rattle.sel_gather.specs.Picks.{pick, PickFits};
+ghost use Rattle.sel_arrow.specs.Value.{validities};
+ghost use Rattle.sel_gather.specs.Picks.{PickFits};
 ghost use Rattle.sel_gather.specs.Plans.{AreValidities};
 ghost use Rattle.sel_gather.specs.Runs.{expand, unrolled};
 ghost use Rattle.sel_gather.specs.Validity.{bits_for};

@@ -4,7 +4,7 @@ ghost use Rattle.std.specs.Prelude.{◌≡◌, ◌≢◌, ◌≤◌, ◌<◌, �
 ghost use Rattle.sel_bits.specs.Faults.{IsOutOfMemory};
 ghost use Rattle.sel_bits.specs.Limits.{max_rows};
 ghost use Rattle.sel_arrow.specs.Rows.{rows, type_of, IsWellFormed};
-ghost use Rattle.sel_arrow.specs.Shape.{of_large_list, of_null};
+ghost use Rattle.sel_arrow.specs.Shape.{of_large_list};
 ghost use Rattle.sel_arrow.specs.Value.{Null};
 ghost use Rattle.sel_gather.specs.Children.{is_listing, joined_items};
 ghost use Rattle.sel_gather.specs.Ends.{item_ends};

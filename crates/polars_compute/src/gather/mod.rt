@@ -5,8 +5,9 @@ ghost use Rattle.sel_bits.specs.Limits.{max_rows};
 ghost use Rattle.sel_arrow.specs.Columns.{null_rows, primitive_rows};
 ghost use Rattle.sel_arrow.specs.Rows.{rows, type_of, IsField, IsWellFormed};
 ghost use Rattle.sel_arrow.specs.declared.column.Column.{Struct};
+ghost use Rattle.sel_gather.specs.Gathers.{SelectsFrom};
 ghost use Rattle.polars_compute.specs.Blocks.{blocks_within};
-ghost use Rattle.polars_compute.specs.Need.{IsLimitOrMemory, ExceedsNone, exceeded_limits};
+ghost use Rattle.polars_compute.specs.Need.{IsLimitOrMemory, exceeded_limits};
 ghost use Rattle.sel_arrow.specs.Masked.{number_value};
 ghost use Rattle.sel_arrow.specs.Value.{Null};
 ghost use Rattle.polars_compute.specs.Pick.{is_within, all_within, all_below, take_rows};
@@ -55,13 +56,8 @@ use validity::live_indices;
 /// 9,223,372,036,854,775,807 bytes. `OutOfMemory` if an allocation fails.
 pub fn take_unchecked(alloc: Global, values: &ArrayRef, indices: &IdxArr) -> PolarsResult<ArrayRef>
     requires { IsTrue (all_within (length (rows values.now.column)) (primitive_rows indices.now)) }
-    ensures rows { IfOk result (λ taken. rows taken.column ≡
-        take_rows (rows values.now.column) (primitive_rows indices.now)) }
-    ensures dtype { IfOk result (λ taken. type_of taken.column ≡ type_of values.now.column) }
-    ensures within { IfOk result (λ _. ExceedsNone (exceeded_limits (type_of values.now.column)
-        (take_rows (rows values.now.column) (primitive_rows indices.now)))) }
-    ensures refusal { IfErr result (IsLimitOrMemory (exceeded_limits (type_of values.now.column)
-        (take_rows (rows values.now.column) (primitive_rows indices.now)))) }
+    ensures { SelectsFrom result (type_of values.now.column)
+        (take_rows (rows values.now.column) (primitive_rows indices.now)) }
 {
     let taken = take_any(alloc, values.as_column(), indices)?;
     Ok(taken)

@@ -1,12 +1,13 @@
 //! If-then-else for columns of any type.
 
 ghost use Rattle.std.specs.Prelude.{◌≡◌, ◌≤◌, ◌∷◌, [], length, IfOk, IfErr, IfSome};
-ghost use Rattle.sel_bits.specs.Limits.{max_rows};
+ghost use Rattle.sel_bits.specs.Limits.{max_buffers, max_rows};
 ghost use Rattle.sel_arrow.specs.Rows.{rows, type_of};
 ghost use Rattle.sel_arrow.specs.Value.{Null};
 ghost use Rattle.sel_ternary.specs.Choose.{choose, broadcast_true, broadcast_false, broadcast_both};
 ghost use Rattle.sel_ternary.specs.Chosen.{chosen_rows, first_row, SideFits};
 ghost use Rattle.sel_ternary.specs.ChosenPicks.{bit_pick, chosen_picks, place_on};
+ghost use Rattle.sel_gather.specs.Gathers.{GathersFrom};
 ghost use Rattle.sel_gather.specs.Need.{buffer_count, exceeded_taken, ExceedsNone, IsLimitOrMemory};
 
 use crate::if_then_else::by_words::choose_by_words;
@@ -41,15 +42,8 @@ pub fn if_then_else_any(
     requires alike { type_of if_true.now.column ≡ type_of if_false.now.column }
     requires true_side { length (rows if_true.now.column) ≡ length mask.now.bits }
     requires false_side { length (rows if_false.now.column) ≡ length mask.now.bits }
-    ensures rows { IfOk result (λ chosen. rows chosen.column ≡
-        choose mask.now.bits (rows if_true.now.column) (rows if_false.now.column)) }
-    ensures dtype { IfOk result (λ chosen. type_of chosen.column ≡ type_of if_true.now.column) }
-    ensures within { IfOk result (λ _. ExceedsNone (exceeded_taken (type_of if_true.now.column)
-        (if_true.now.column ∷ if_false.now.column ∷ [])
-        (choose mask.now.bits (rows if_true.now.column) (rows if_false.now.column)))) }
-    ensures refusal { IfErr result (IsLimitOrMemory (exceeded_taken (type_of if_true.now.column)
-        (if_true.now.column ∷ if_false.now.column ∷ [])
-        (choose mask.now.bits (rows if_true.now.column) (rows if_false.now.column)))) }
+    ensures { GathersFrom result (if_true.now.column ∷ if_false.now.column ∷ [])
+        (choose mask.now.bits (rows if_true.now.column) (rows if_false.now.column)) }
 {
     choice(alloc, mask, if_true, if_false, true, true)
 }
@@ -72,18 +66,9 @@ pub fn if_then_else_any_broadcast_true(
     requires alike { type_of if_true.now.column ≡ type_of if_false.now.column }
     requires true_side { length (rows if_true.now.column) ≡ 1 }
     requires false_side { length (rows if_false.now.column) ≡ length mask.now.bits }
-    ensures rows { IfOk result (λ chosen. rows chosen.column ≡
-        broadcast_true mask.now.bits (first_row (rows if_true.now.column))
+    ensures { GathersFrom result (if_true.now.column ∷ if_false.now.column ∷ [])
+        (broadcast_true mask.now.bits (first_row (rows if_true.now.column))
         (rows if_false.now.column)) }
-    ensures dtype { IfOk result (λ chosen. type_of chosen.column ≡ type_of if_true.now.column) }
-    ensures within { IfOk result (λ _. ExceedsNone (exceeded_taken (type_of if_true.now.column)
-        (if_true.now.column ∷ if_false.now.column ∷ [])
-        (broadcast_true mask.now.bits (first_row (rows if_true.now.column))
-        (rows if_false.now.column)))) }
-    ensures refusal { IfErr result (IsLimitOrMemory (exceeded_taken (type_of if_true.now.column)
-        (if_true.now.column ∷ if_false.now.column ∷ [])
-        (broadcast_true mask.now.bits (first_row (rows if_true.now.column))
-        (rows if_false.now.column)))) }
 {
     choice(alloc, mask, if_true, if_false, false, true)
 }
@@ -106,18 +91,9 @@ pub fn if_then_else_any_broadcast_false(
     requires alike { type_of if_true.now.column ≡ type_of if_false.now.column }
     requires true_side { length (rows if_true.now.column) ≡ length mask.now.bits }
     requires false_side { length (rows if_false.now.column) ≡ 1 }
-    ensures rows { IfOk result (λ chosen. rows chosen.column ≡
-        broadcast_false mask.now.bits (rows if_true.now.column)
+    ensures { GathersFrom result (if_true.now.column ∷ if_false.now.column ∷ [])
+        (broadcast_false mask.now.bits (rows if_true.now.column)
         (first_row (rows if_false.now.column))) }
-    ensures dtype { IfOk result (λ chosen. type_of chosen.column ≡ type_of if_true.now.column) }
-    ensures within { IfOk result (λ _. ExceedsNone (exceeded_taken (type_of if_true.now.column)
-        (if_true.now.column ∷ if_false.now.column ∷ [])
-        (broadcast_false mask.now.bits (rows if_true.now.column)
-        (first_row (rows if_false.now.column))))) }
-    ensures refusal { IfErr result (IsLimitOrMemory (exceeded_taken (type_of if_true.now.column)
-        (if_true.now.column ∷ if_false.now.column ∷ [])
-        (broadcast_false mask.now.bits (rows if_true.now.column)
-        (first_row (rows if_false.now.column))))) }
 {
     choice(alloc, mask, if_true, if_false, true, false)
 }
@@ -141,18 +117,9 @@ pub fn if_then_else_any_broadcast_both(
     requires true_side { length (rows if_true.now.column) ≡ 1 }
     requires false_side { length (rows if_false.now.column) ≡ 1 }
     requires few { length mask.now.bits ≤ max_rows }
-    ensures rows { IfOk result (λ chosen. rows chosen.column ≡
-        broadcast_both mask.now.bits (first_row (rows if_true.now.column))
+    ensures { GathersFrom result (if_true.now.column ∷ if_false.now.column ∷ [])
+        (broadcast_both mask.now.bits (first_row (rows if_true.now.column))
         (first_row (rows if_false.now.column))) }
-    ensures dtype { IfOk result (λ chosen. type_of chosen.column ≡ type_of if_true.now.column) }
-    ensures within { IfOk result (λ _. ExceedsNone (exceeded_taken (type_of if_true.now.column)
-        (if_true.now.column ∷ if_false.now.column ∷ [])
-        (broadcast_both mask.now.bits (first_row (rows if_true.now.column))
-        (first_row (rows if_false.now.column))))) }
-    ensures refusal { IfErr result (IsLimitOrMemory (exceeded_taken (type_of if_true.now.column)
-        (if_true.now.column ∷ if_false.now.column ∷ [])
-        (broadcast_both mask.now.bits (first_row (rows if_true.now.column))
-        (first_row (rows if_false.now.column))))) }
 {
     choice(alloc, mask, if_true, if_false, false, false)
 }
@@ -173,16 +140,9 @@ fn choice(
     requires false_side { SideFits false_column (length (rows if_false.now.column))
         (length mask.now.bits) }
     requires few { length mask.now.bits ≤ max_rows }
-    ensures rows { IfOk result (λ chosen. rows chosen.column ≡
-        chosen_rows true_column false_column mask.now.bits (rows if_true.now.column)
+    ensures { GathersFrom result (if_true.now.column ∷ if_false.now.column ∷ [])
+        (chosen_rows true_column false_column mask.now.bits (rows if_true.now.column)
         (rows if_false.now.column)) }
-    ensures dtype { IfOk result (λ chosen. type_of chosen.column ≡ type_of if_true.now.column) }
-    ensures within { IfOk result (λ _. ExceedsNone (exceeded_taken (type_of if_true.now.column)
-        (if_true.now.column ∷ if_false.now.column ∷ []) (chosen_rows true_column false_column
-        mask.now.bits (rows if_true.now.column) (rows if_false.now.column)))) }
-    ensures refusal { IfErr result (IsLimitOrMemory (exceeded_taken (type_of if_true.now.column)
-        (if_true.now.column ∷ if_false.now.column ∷ []) (chosen_rows true_column false_column
-        mask.now.bits (rows if_true.now.column) (rows if_false.now.column)))) }
 {
     if !true_column && !false_column && if_true.has_nulls() && if_false.has_nulls() {
         return null_choice(alloc, mask, if_true, if_false);
@@ -203,15 +163,8 @@ fn null_choice(
 ) -> PolarsResult<ArrayRef>
     requires alike { type_of if_true.now.column ≡ type_of if_false.now.column }
     requires few { length mask.now.bits ≤ max_rows }
-    ensures rows { IfOk result (λ chosen. rows chosen.column ≡
-        broadcast_both mask.now.bits Null Null) }
-    ensures dtype { IfOk result (λ chosen. type_of chosen.column ≡ type_of if_true.now.column) }
-    ensures within { IfOk result (λ _. ExceedsNone (exceeded_taken (type_of if_true.now.column)
-        (if_true.now.column ∷ if_false.now.column ∷ [])
-        (broadcast_both mask.now.bits Null Null))) }
-    ensures refusal { IfErr result (IsLimitOrMemory (exceeded_taken (type_of if_true.now.column)
-        (if_true.now.column ∷ if_false.now.column ∷ [])
-        (broadcast_both mask.now.bits Null Null))) }
+    ensures { GathersFrom result (if_true.now.column ∷ if_false.now.column ∷ [])
+        (broadcast_both mask.now.bits Null Null) }
 {
     let sources = [if_true.as_column(), if_false.as_column()];
     let run = Run {
@@ -303,7 +256,7 @@ fn word_choice(
 // Returns the number of data buffers of a view column; 0 for any other column.
 fn buffers_in(column: &Column) -> usize
     ensures count { result ≡ buffer_count column.now }
-    ensures few { result ≤ max_rows }
+    ensures few { result ≤ max_buffers }
 {
     match column {
         Column::BinaryView(array) => array.buffers.len(),
@@ -328,16 +281,9 @@ pub(crate) fn picked_choice(
     requires false_side { SideFits false_column (length (rows if_false.now.column))
         (length mask.now.bits) }
     requires few { length mask.now.bits ≤ max_rows }
-    ensures rows { IfOk result (λ chosen. rows chosen.column ≡
-        chosen_rows true_column false_column mask.now.bits (rows if_true.now.column)
+    ensures { GathersFrom result (if_true.now.column ∷ if_false.now.column ∷ [])
+        (chosen_rows true_column false_column mask.now.bits (rows if_true.now.column)
         (rows if_false.now.column)) }
-    ensures dtype { IfOk result (λ chosen. type_of chosen.column ≡ type_of if_true.now.column) }
-    ensures within { IfOk result (λ _. ExceedsNone (exceeded_taken (type_of if_true.now.column)
-        (if_true.now.column ∷ if_false.now.column ∷ []) (chosen_rows true_column false_column
-        mask.now.bits (rows if_true.now.column) (rows if_false.now.column)))) }
-    ensures refusal { IfErr result (IsLimitOrMemory (exceeded_taken (type_of if_true.now.column)
-        (if_true.now.column ∷ if_false.now.column ∷ []) (chosen_rows true_column false_column
-        mask.now.bits (rows if_true.now.column) (rows if_false.now.column)))) }
 {
     let sources = [if_true.as_column(), if_false.as_column()];
     let places = MaskPlaces {

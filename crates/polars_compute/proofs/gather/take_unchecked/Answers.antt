@@ -1,4 +1,4 @@
-use Rattle.std.proofs.Common.{◌∙◌, ap}
+use Rattle.std.proofs.Common.{rules, ◌∙◌, ap}
 use Rattle.std.proofs.lemmas.Result.{err_from_is_err_and}
 use Rattle.sel_arrow.specs.Columns.{primitive_rows}
 use Rattle.sel_arrow.specs.Rows.{rows, type_of}
@@ -6,14 +6,26 @@ use Rattle.sel_gather.proofs.Within.{rows_pass}
 use Rattle.polars_compute.specs.Pick.{take_rows}
 use Rattle.polars_compute.proofs.gather.take_unchecked.Goals as goal
 
-pub returns-clause-within : goal.returns-clause-within
-returns-clause-within c =
-    let taken = c.in_ok-taken.taken in
-    let column = c.as_column.ensures.column in
-    rows_pass taken.column (type_of c.args.values.now.column) _ taken.formed (c.in_ok-taken.ensures.dtype ∙ ap type_of column)
-    (c.in_ok-taken.ensures.rows ∙ ap (λ x. take_rows (rows x) (primitive_rows c.args.indices.now)) column)
+pub returns : goal.returns
+returns c =
+    record {
+      rows = search rules;
+      dtype = search rules;
+      within =
+        let taken = c.in_ok-taken.taken in
+        let column = c.as_column.ensures.column in
+        rows_pass taken.column (type_of c.args.values.now.column) _ taken.formed (c.in_ok-taken.ensures.dtype ∙ ap type_of column)
+        (c.in_ok-taken.ensures.rows ∙ ap (λ x. take_rows (rows x) (primitive_rows c.args.indices.now)) column);
+      refusal = search rules;
+    }
 
-pub returns-in_err-taken-clause-refusal : goal.returns-in_err-taken-clause-refusal
-returns-in_err-taken-clause-refusal c =
-    let p = err_from_is_err_and c.from_residual.result c.from_residual.ensures.1 in
-    rw (p.1, p.2, ← c.as_column.ensures.column) c.in_err-taken.ensures.refusal
+pub returns-in_err-taken : goal.returns-in_err-taken
+returns-in_err-taken c =
+    record {
+      rows = search rules;
+      dtype = search rules;
+      within = search rules;
+      refusal =
+        let p = err_from_is_err_and c.from_residual.result c.from_residual.ensures.1 in
+        rw (p.1, p.2, ← c.as_column.ensures.column) c.in_err-taken.ensures.refusal;
+    }

@@ -1,12 +1,18 @@
-use Rattle.std.proofs.Common.{inl, arith, map}
+use Rattle.std.proofs.Common.{rules, inl, arith, map}
 use Rattle.sel_arrow.specs.Rows.{rows}
 use Rattle.sel_arrow.specs.declared.array_ref.ArrayRef.{ArrayRef}
 use Rattle.polars_compute.proofs.Flattening.{flat_length}
 use Rattle.polars_compute.proofs.horizontal_flatten.horizontal_flatten_unchecked.Goals as goal
 
-pub returns-in-None-clause-refusal : goal.returns-in-None-clause-refusal
-returns-in-None-clause-refusal c =
-    let long = flat_length c.args.output_height c.args.output_height (map (λ (a : ArrayRef). rows a.column) c.args.arrays.now) c.args.widths.now (omega arith) c.requires.fit in
-    let some = c.if-output_height-eq0.false in
-    let many = c.in-None.ensures.many in
-    (omega (arith, some), inl (omega (arith, long, many)))
+pub returns-in-None : goal.returns-in-None
+returns-in-None c =
+    record {
+      rows = search rules;
+      dtype = search rules;
+      within = search rules;
+      refusal =
+        let long = flat_length c.args.output_height c.args.output_height (map (λ (a : ArrayRef). rows a.column) c.args.arrays.now) c.args.widths.now (omega arith) c.requires.fit in
+        let some = c.if-output_height-eq0.false in
+        let many = c.in-None.ensures.many in
+        (omega (arith, some), inl (omega (arith, long, many)));
+    }

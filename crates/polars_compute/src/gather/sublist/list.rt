@@ -13,7 +13,7 @@ ghost use Rattle.sel_arrow.specs.Rows.{rows, type_of, IsWellFormed};
 ghost use Rattle.sel_arrow.specs.Shape.{of_large_list, is_list_shape};
 ghost use Rattle.sel_arrow.specs.Value.{Null};
 ghost use Rattle.sel_arrow.specs.declared.column.Column.{LargeList};
-ghost use Rattle.sel_gather.specs.Need.{IsLimitOrMemory, ExceedsNone, exceeded_limits};
+ghost use Rattle.sel_gather.specs.Gathers.{SelectsFrom};
 ghost use Rattle.polars_compute.specs.Elements.{child_pick};
 ghost use Rattle.polars_compute.specs.Lists.{list_get, lacks_place, oob, child_place, places_in, unit_lists};
 
@@ -42,15 +42,8 @@ use std::alloc::Global;
 /// # Errors
 /// `OutOfMemory` if an allocation fails; `SizeLimit` if the result exceeds a limit of its type.
 pub fn sublist_get(alloc: Global, arr: &ListArray<i64>, index: i64) -> PolarsResult<ArrayRef>
-    ensures rows { IfOk result (λ taken. rows taken.column ≡
-        list_get (rows (list_column arr.now)) index) }
-    ensures dtype { IfOk result (λ taken. type_of taken.column ≡ type_of arr.now.values.value) }
-    ensures within { IfOk result
-        (λ _. ExceedsNone (exceeded_limits (type_of arr.now.values.value)
-        (list_get (rows (list_column arr.now)) index))) }
-    ensures refusal { IfErr result
-        (IsLimitOrMemory (exceeded_limits (type_of arr.now.values.value)
-        (list_get (rows (list_column arr.now)) index))) }
+    ensures { SelectsFrom result (type_of arr.now.values.value)
+        (list_get (rows (list_column arr.now)) index) }
 {
     let places = ListPlaces { arr, index };
     let plan = Walk { places, at: 0 };

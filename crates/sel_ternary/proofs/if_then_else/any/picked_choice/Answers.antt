@@ -1,4 +1,4 @@
-use Rattle.std.proofs.Common.{◌≡◌, ◌∙◌, [], ◌∷◌}
+use Rattle.std.proofs.Common.{rules, ◌≡◌, ◌∙◌, [], ◌∷◌}
 use Rattle.std.proofs.lemmas.Result.{err_from_is_err_and}
 use Rattle.sel_arrow.specs.Rows.{rows}
 use Rattle.sel_arrow.specs.Value.{Null}
@@ -13,22 +13,31 @@ collect_plan-requires-clause-fits c =
     rw (c.as_column.ensures.column, c.as_column-2.ensures.column)
     (choice_fits c.args.true_column c.args.false_column c.args.mask.now.bits (rows c.args.if_true.now.column) (rows c.args.if_false.now.column) c.requires.true_side c.requires.false_side)
 
-pub returns-clause-rows : goal.returns-clause-rows
-returns-clause-rows c =
-    let picks = chosen_picks c.args.true_column c.args.false_column 0 c.args.mask.now.bits in
-    let same : pick Null (rows c.as_column.result.now ∷ rows c.as_column-2.result.now ∷ []) picks ≡ chosen_rows c.args.true_column c.args.false_column c.args.mask.now.bits (rows c.args.if_true.now.column) (rows c.args.if_false.now.column) =
-    picked_alike c.as_column.result.now c.as_column-2.result.now c.args.if_true.now.column c.args.if_false.now.column picks c.as_column.ensures.column c.as_column-2.ensures.column
-    ∙ choice_picked c.args.true_column c.args.false_column c.args.mask.now.bits (rows c.args.if_true.now.column) (rows c.args.if_false.now.column) c.requires.true_side c.requires.false_side in
-    c.in_ok-column.ensures.rows ∙ same
+pub returns : goal.returns
+returns c =
+    record {
+      rows =
+        let picks = chosen_picks c.args.true_column c.args.false_column 0 c.args.mask.now.bits in
+        let same : pick Null (rows c.as_column.result.now ∷ rows c.as_column-2.result.now ∷ []) picks ≡ chosen_rows c.args.true_column c.args.false_column c.args.mask.now.bits (rows c.args.if_true.now.column) (rows c.args.if_false.now.column) =
+        picked_alike c.as_column.result.now c.as_column-2.result.now c.args.if_true.now.column c.args.if_false.now.column picks c.as_column.ensures.column c.as_column-2.ensures.column
+        ∙ choice_picked c.args.true_column c.args.false_column c.args.mask.now.bits (rows c.args.if_true.now.column) (rows c.args.if_false.now.column) c.requires.true_side c.requires.false_side in
+        c.in_ok-column.ensures.rows ∙ same;
+      dtype = search rules;
+      within =
+        let picked = choice_picked c.args.true_column c.args.false_column c.args.mask.now.bits (rows c.args.if_true.now.column) (rows c.args.if_false.now.column) c.requires.true_side c.requires.false_side in
+        rw (c.as_column.ensures.column, c.as_column-2.ensures.column, picked) at c.in_ok-column.ensures.within;
+      refusal = search rules;
+    }
 
-pub returns-in_err-column-clause-refusal : goal.returns-in_err-column-clause-refusal
-returns-in_err-column-clause-refusal c =
-    let p = err_from_is_err_and c.from_residual.result c.from_residual.ensures.1 in
-    let picked = choice_picked c.args.true_column c.args.false_column c.args.mask.now.bits (rows c.args.if_true.now.column) (rows c.args.if_false.now.column) c.requires.true_side c.requires.false_side in
-    let refusal = rw (c.as_column.ensures.column, c.as_column-2.ensures.column, picked) at c.in_err-column.ensures.refusal in
-    rw (p.1, p.2) refusal
-
-pub returns-clause-within : goal.returns-clause-within
-returns-clause-within c =
-    let picked = choice_picked c.args.true_column c.args.false_column c.args.mask.now.bits (rows c.args.if_true.now.column) (rows c.args.if_false.now.column) c.requires.true_side c.requires.false_side in
-    rw (c.as_column.ensures.column, c.as_column-2.ensures.column, picked) at c.in_ok-column.ensures.within
+pub returns-in_err-column : goal.returns-in_err-column
+returns-in_err-column c =
+    record {
+      rows = search rules;
+      dtype = search rules;
+      within = search rules;
+      refusal =
+        let p = err_from_is_err_and c.from_residual.result c.from_residual.ensures.1 in
+        let picked = choice_picked c.args.true_column c.args.false_column c.args.mask.now.bits (rows c.args.if_true.now.column) (rows c.args.if_false.now.column) c.requires.true_side c.requires.false_side in
+        let refusal = rw (c.as_column.ensures.column, c.as_column-2.ensures.column, picked) at c.in_err-column.ensures.refusal in
+        rw (p.1, p.2) refusal;
+    }

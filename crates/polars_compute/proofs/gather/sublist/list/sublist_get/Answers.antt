@@ -1,4 +1,4 @@
-use Rattle.std.proofs.Common.{◌∷◌, [], All, map, ◌∙◌, ap, sym, subst, w64, to_z, of_z}
+use Rattle.std.proofs.Common.{rules, ◌∷◌, [], All, map, ◌∙◌, ap, sym, subst, w64, to_z, of_z}
 use Rattle.std.proofs.lemmas.Int.{to_z-of_z}
 use Rattle.std.proofs.lemmas.Result.{IfOk-weaker}
 use Rattle.sel_arrow.specs.Rows.{rows}
@@ -17,30 +17,27 @@ collect_one_plan-requires-clause-fits c =
     let fit = subst (All (PickFits (rows arr.values.value ∷ []))) (sym picks) (lists_fit arr.offsets arr.values arr.validity arr.formed c.args.index) in
     subst (λ column. All (PickFits (rows column ∷ [])) (map child_pick (places_in arr.offsets arr.validity (to_z w64 (of_z w64 c.args.index))))) (sym c.values.ensures.column) fit
 
-pub returns-clause-rows : goal.returns-clause-rows
-returns-clause-rows c =
-    let arr = c.args.arr.now in
-    let shown = to_z-of_z w64 c.args.index c.ranges.index in
-    let picks = ap (λ z. map child_pick (places_in arr.offsets arr.validity z)) shown in
-    let picked = ap (pick Null (rows arr.values.value ∷ [])) picks ∙ lists_got arr.offsets arr.values arr.validity arr.formed c.args.index in
-    let same = ap (λ column. pick Null (rows column ∷ []) (map child_pick (places_in arr.offsets arr.validity (to_z w64 (of_z w64 c.args.index))))) c.values.ensures.column ∙ picked in
-    IfOk-weaker c.collect_one_plan.result _ _ (λ taken is. is ∙ same) c.collect_one_plan.ensures.rows
-
-pub returns-clause-dtype : goal.returns-clause-dtype
-returns-clause-dtype c = rw c.values.ensures.column at c.collect_one_plan.ensures.dtype
-
-pub returns-clause-within : goal.returns-clause-within
-returns-clause-within c =
-    let arr = c.args.arr.now in
-    let shown = to_z-of_z w64 c.args.index c.ranges.index in
-    let picks = ap (λ z. map child_pick (places_in arr.offsets arr.validity z)) shown in
-    let picked = ap (pick Null (rows arr.values.value ∷ [])) picks ∙ lists_got arr.offsets arr.values arr.validity arr.formed c.args.index in
-    rw (c.values.ensures.column, picked) at c.collect_one_plan.ensures.within
-
-pub returns-clause-refusal : goal.returns-clause-refusal
-returns-clause-refusal c =
-    let arr = c.args.arr.now in
-    let shown = to_z-of_z w64 c.args.index c.ranges.index in
-    let picks = ap (λ z. map child_pick (places_in arr.offsets arr.validity z)) shown in
-    let picked = ap (pick Null (rows arr.values.value ∷ [])) picks ∙ lists_got arr.offsets arr.values arr.validity arr.formed c.args.index in
-    rw (c.values.ensures.column, picked) at c.collect_one_plan.ensures.refusal
+pub returns : goal.returns
+returns c =
+    record {
+      rows =
+        let arr = c.args.arr.now in
+        let shown = to_z-of_z w64 c.args.index c.ranges.index in
+        let picks = ap (λ z. map child_pick (places_in arr.offsets arr.validity z)) shown in
+        let picked = ap (pick Null (rows arr.values.value ∷ [])) picks ∙ lists_got arr.offsets arr.values arr.validity arr.formed c.args.index in
+        let same = ap (λ column. pick Null (rows column ∷ []) (map child_pick (places_in arr.offsets arr.validity (to_z w64 (of_z w64 c.args.index))))) c.values.ensures.column ∙ picked in
+        IfOk-weaker c.collect_one_plan.result _ _ (λ taken is. is ∙ same) c.collect_one_plan.ensures.rows;
+      dtype = rw c.values.ensures.column at c.collect_one_plan.ensures.dtype;
+      within =
+        let arr = c.args.arr.now in
+        let shown = to_z-of_z w64 c.args.index c.ranges.index in
+        let picks = ap (λ z. map child_pick (places_in arr.offsets arr.validity z)) shown in
+        let picked = ap (pick Null (rows arr.values.value ∷ [])) picks ∙ lists_got arr.offsets arr.values arr.validity arr.formed c.args.index in
+        rw (c.values.ensures.column, picked) at c.collect_one_plan.ensures.within;
+      refusal =
+        let arr = c.args.arr.now in
+        let shown = to_z-of_z w64 c.args.index c.ranges.index in
+        let picks = ap (λ z. map child_pick (places_in arr.offsets arr.validity z)) shown in
+        let picked = ap (pick Null (rows arr.values.value ∷ [])) picks ∙ lists_got arr.offsets arr.values arr.validity arr.formed c.args.index in
+        rw (c.values.ensures.column, picked) at c.collect_one_plan.ensures.refusal;
+    }
