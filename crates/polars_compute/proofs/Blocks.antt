@@ -21,7 +21,8 @@ use Rattle.sel_gather.specs.Plans.{IsPicked}
 use Rattle.sel_gather.proofs.ItemRuns.{listed_values}
 use Rattle.sel_gather.proofs.ListParts.{OfBlock, block_null, block_row}
 use Rattle.polars_compute.specs.Elements.{element_at, child_pick}
-use Rattle.polars_compute.specs.Entries.{place_of, entry_of, lacks_entry, entry_place, entry_places, fixed_get, is_get_error, at_each, IsGetError}
+use Rattle.polars_compute.specs.Entries.{place_of, entry_of, lacks_entry, fixed_get, is_get_error, at_each, IsGetError}
+use Rattle.polars_compute.specs.Steps.{entry_place, entry_places}
 use Rattle.polars_compute.proofs.Offsets.{below_shifted, map_map, shifted}
 use Rattle.polars_compute.proofs.EntryPlaces.{mapped_at, mapped_count, picked, place_below, place_picked, places_fit, PlaceBelow}
 

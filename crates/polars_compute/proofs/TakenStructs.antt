@@ -17,7 +17,8 @@ use Rattle.sel_arrow.proofs.NestedRows.{length-rows, length-tuple_rows}
 use Rattle.sel_arrow.proofs.Rows.{masked_null, masked_valid}
 use Rattle.sel_arrow.proofs.Trees.{rows-Struct, has_fields, fields_make}
 use Rattle.sel_arrow.proofs.Types.{type_of-Struct}
-use Rattle.sel_gather.specs.Children.{field, part_at, parts_of}
+use Rattle.sel_gather.specs.Children.{field, part_at}
+use Rattle.sel_gather.specs.Steps.{parts_of}
 use Rattle.sel_gather.specs.Validity.{bits_for}
 use Rattle.sel_gather.proofs.Below.{listed_shapes}
 use Rattle.sel_gather.proofs.FieldsOf.{any_default, field_found}

@@ -1,8 +1,6 @@
 -- The blocks of a list at indices.
 use Rattle.std.specs.Prelude.{ℕ, ◌+◌, ◌*◌, pos, negsuc, Bool, true, false, nat_le, List, replicate}
-use Rattle.std.specs.Prelude.{◌++◌}
 use Rattle.std.specs.List.{flat_map, list_all, slice_range}
-use Rattle.sel_bits.specs.Copying.{Copying}
 pub use Rattle.sel_bits.specs.Copying.{IsBeginning}
 use Rattle.sel_arrow.specs.Value.{Value, Number}
 
@@ -25,12 +23,3 @@ is_block_within size n _ = true
 -- Whether each index is null or its block lies within n entries.
 abbrev pub blocks_within : ℕ → ℕ → List Value → Bool
 blocks_within size n indices = list_all (is_block_within size n) indices
-
--- The state of copying after the block at an index is appended.
-abbrev pub after_block_copy : {A : Type 0} → ℕ → A → Copying A → Value → Copying A
-after_block_copy size zero c index =
-    record {
-      source = c.source;
-      items = c.items ++ block_at size zero c.source index;
-      copies = c.copies + 1;
-    }

@@ -1,13 +1,12 @@
 -- Elements of fixed-size lists, with one index for each list.
-use Rattle.std.specs.Prelude.{◌≡◌, ℕ, ◌+◌, ◌*◌, ℤ, Bool, true, false, ◌&&◌, not, List, map, length}
+use Rattle.std.specs.Prelude.{◌≡◌, ℕ, ℤ, Bool, true, false, ◌&&◌, not, List, map, length}
 use Rattle.std.specs.Prelude.{replicate, Option, None, slice_index_or, if◌then◌else◌}
 use Rattle.std.specs.List.{list_any, range_with_len}
-use Rattle.std.specs.Option.{option_map, is_none}
+use Rattle.std.specs.Option.{is_none}
 use Rattle.sel_bits.specs.Place.{place}
 use Rattle.sel_bits.specs.declared.faults.Limit.{Limit}
 use Rattle.sel_bits.specs.declared.faults.PolarsError.{PolarsError}
 use Rattle.sel_bits.specs.declared.faults.PolarsError.TheVariants.{ComputeError}
-use Rattle.sel_arrow.specs.Masked.{valid_at}
 use Rattle.sel_arrow.specs.NestedArrays.{block_column}
 use Rattle.sel_arrow.specs.Rows.{rows, type_of}
 use Rattle.sel_arrow.specs.Value.{Value, Null, Number, Items, listed, is_null}
@@ -66,15 +65,3 @@ abbrev pub IsGetError : Bool → FixedSizeListArray → List Value → PolarsErr
 IsGetError null_on_oob arr indices ComputeError = is_get_error null_on_oob arr indices ≡ true
 IsGetError null_on_oob arr indices fault = (is_get_error null_on_oob arr indices ≡ false)
     × IsLimitOrMemory (exceeded_entries arr indices) fault
-
--- The child row of list k at a position of the list; none if the list is null or there is no
--- position (Arrow columnar format: fixed-size list layout).
-abbrev pub entry_place : FixedSizeListArray → ℕ → Option ℕ → Option ℕ
-entry_place arr k place =
-    if valid_at arr.validity k then option_map (λ i. k * arr.size + i) place else None
-
--- The child row of each list at its index.
-abbrev pub entry_places : FixedSizeListArray → List Value → List (Option ℕ)
-entry_places arr indices =
-    map (λ k. entry_place arr k (place_of arr.size (slice_index_or indices k Null)))
-    (range_with_len 0 arr.len)

@@ -17,6 +17,7 @@ pub mod Reverse
 pub mod Scalar
 pub mod Select
 pub mod SelectRows
+pub mod Steps
 pub mod TakenFields
 pub mod Trim
 pub mod ValidPicks

@@ -11,7 +11,8 @@ use Rattle.sel_arrow.specs.Value.{Value}
 use Rattle.sel_arrow.specs.declared.column.Column.{Column}
 use Rattle.sel_arrow.specs.declared.column.Column.TheVariants.{LargeList', FixedSizeList'}
 use Rattle.sel_arrow.proofs.NestedRows.{has_lists, has_blocks}
-use Rattle.sel_gather.specs.Children.{child, field, is_listing, part_at, parts_of}
+use Rattle.sel_gather.specs.Children.{child, field, is_listing, part_at}
+use Rattle.sel_gather.specs.Steps.{parts_of}
 use Rattle.sel_gather.specs.Need.{IsLimitOrMemory, exceeded_taken, exceeded_in_fields}
 
 -- ---- children

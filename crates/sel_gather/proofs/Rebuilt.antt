@@ -15,7 +15,8 @@ use Rattle.sel_arrow.specs.Value.{Value, Values, no_values, next_value, Null, It
 use Rattle.sel_arrow.specs.declared.column.Column.{Column}
 use Rattle.sel_arrow.proofs.ByteRows.{length-pieces}
 use Rattle.sel_arrow.proofs.NestedRows.{HasLists, HasBlocks, length-rows, length-blocks}
-use Rattle.sel_gather.specs.Children.{items_in, joined_items, part_at, parts_of}
+use Rattle.sel_gather.specs.Children.{items_in, joined_items, part_at}
+use Rattle.sel_gather.specs.Steps.{parts_of}
 use Rattle.sel_gather.specs.Ends.{item_ends}
 use Rattle.sel_gather.specs.Picks.{pick}
 use Rattle.sel_gather.specs.Validity.{bits_for}

@@ -16,7 +16,8 @@ use Rattle.sel_gather.specs.Children.{child, is_listing, joined_items}
 use Rattle.sel_gather.specs.Ends.{item_ends}
 use Rattle.sel_gather.specs.Need.{ExceedsRows}
 use Rattle.sel_gather.specs.Picks.{found, pick, PickFits}
-use Rattle.sel_gather.specs.Plans.{HasBit, AreValidities, bits_found}
+use Rattle.sel_gather.specs.Plans.{HasBit, bits_found}
+use Rattle.sel_gather.specs.Steps.{AreValidities}
 use Rattle.sel_gather.specs.Runs.{expand, unrolled}
 use Rattle.sel_gather.specs.Sources.{columns_of, first_type}
 use Rattle.sel_gather.specs.declared.run.Run.{Run}

@@ -1,6 +1,6 @@
 -- The children of columns, and the values of nested rows.
-use Rattle.std.specs.Prelude.{ℕ, List, [], ◌∷◌, map, Bool, true, false, replicate, slice_index_or}
-use Rattle.std.specs.List.{flat_map, range_with_len}
+use Rattle.std.specs.Prelude.{ℕ, List, [], ◌∷◌, Bool, true, false, replicate, slice_index_or}
+use Rattle.std.specs.List.{flat_map}
 use Rattle.sel_arrow.specs.Shape.{Shape, of_large_list, of_fixed_size_list}
 use Rattle.sel_arrow.specs.Value.{Value, Null, Items, Tuple, listed}
 use Rattle.sel_arrow.specs.declared.column.Column.{Column, Row_of-Column, end_of-Column}
@@ -48,7 +48,3 @@ joined_items width rows = flat_map (items_in width) rows
 abbrev pub part_at : ℕ → Value → Value
 part_at j (Tuple values) = slice_index_or (listed values) j Null
 part_at j value = Null
-
--- The first n values of struct values, field by field.
-abbrev pub parts_of : ℕ → List Value → List (List Value)
-parts_of n rows = map (λ j. map (part_at j) rows) (range_with_len 0 n)

@@ -12,4 +12,5 @@ pub mod Raised
 pub mod RunRows
 pub mod Runs
 pub mod Sources
+pub mod Steps
 pub mod Validity

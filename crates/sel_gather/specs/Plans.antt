@@ -1,12 +1,9 @@
 -- Row references that are computed one by one, and the bits that they refer to.
-use Rattle.std.specs.Prelude.{ℕ, ◌<◌, ⊤, Bool, false, List, [], ◌∷◌, map, length, Option, Some}
+use Rattle.std.specs.Prelude.{ℕ, ◌<◌, ⊤, Bool, false, List, [], map, length, Option, Some}
 use Rattle.std.specs.Prelude.{None, slice_index_or}
 use Rattle.std.specs.Option.{ForSome}
 use Rattle.sel_bits.specs.Bits.{Bits}
 use Rattle.sel_arrow.specs.Masked.{valid_at}
-use Rattle.sel_arrow.specs.Nulls.{IsValidityOf}
-use Rattle.sel_arrow.specs.Rows.{rows, type_of}
-use Rattle.sel_arrow.specs.declared.column.Column.{Column}
 
 -- The row reference is not none.
 abbrev pub IsPicked : Option (ℕ × ℕ) → Type 0
@@ -29,11 +26,3 @@ bit_found maps (Some p) = valid_at (slice_index_or maps p.0 None) p.1
 -- The bits that row references refer to.
 abbrev pub bits_found : List (Option Bits) → List (Option (ℕ × ℕ)) → List Bool
 bits_found maps ps = map (bit_found maps) ps
-
--- Each entry is the validity of the column at the same position (Arrow columnar format: validity
--- bitmaps).
-abbrev pub AreValidities : List (Option Bits) → List Column → Type 0
-AreValidities [] [] = ⊤
-AreValidities (v ∷ vs) (column ∷ columns) =
-    IsValidityOf (type_of column) v (rows column) × AreValidities vs columns
-AreValidities _ _ = ⊥

@@ -8,7 +8,8 @@ use Rattle.sel_arrow.specs.declared.column.Column.{Column}
 use Rattle.sel_gather.specs.Picks.{pick}
 use Rattle.sel_gather.specs.Runs.{unrolled}
 use Rattle.sel_gather.specs.declared.run.Run.{Run}
-use Rattle.sel_gather.specs.Sources.{rows_of, binaries}
+use Rattle.sel_gather.specs.Sources.{rows_of}
+use Rattle.sel_gather.specs.Steps.{binaries}
 
 -- The rows that a run refers to; null if it has no source.
 abbrev pub run_rows : List (Bor Column) → Run → List Value

@@ -1,15 +1,12 @@
 -- The source columns of gathered rows, and the rows gathered from them.
 use Rattle.std.specs.Prelude.{List, [], ◌∷◌, map}
 use Rattle.std.specs.Borrow.{Bor}
-use Rattle.sel_bits.specs.declared.native.NativeType.{Ghosts}
-use Rattle.sel_arrow.specs.Columns.{binary_rows, binview_rows}
+use Rattle.sel_arrow.specs.Columns.{binview_rows}
 use Rattle.sel_arrow.specs.Rows.{rows, type_of}
 use Rattle.sel_arrow.specs.Shape.{Shape, of_null}
 use Rattle.sel_arrow.specs.Value.{Value, Null}
-use Rattle.sel_arrow.specs.declared.binary.BinaryArray.{BinaryArray}
 use Rattle.sel_arrow.specs.declared.binview.BinaryViewArray.{BinaryViewArray}
 use Rattle.sel_arrow.specs.declared.column.Column.{Column}
-use Rattle.sel_gather.specs.Children.{child}
 use Rattle.sel_gather.specs.Picks.{pick}
 use Rattle.sel_gather.specs.Runs.{expand}
 use Rattle.sel_gather.specs.declared.run.Run.{Run}
@@ -27,23 +24,9 @@ columns_of sources = map (λ c. c.now) sources
 abbrev pub rows_of : List (Bor Column) → List (List Value)
 rows_of sources = map (λ c. rows c.now) sources
 
--- The rows of the child of each column.
-abbrev pub child_rows : List (Bor Column) → List (List Value)
-child_rows sources = map (λ c. rows (child c.now)) sources
-
 -- The rows that runs refer to; null for a run without a source.
 abbrev pub picked : List (Bor Column) → List Run → List Value
 picked sources runs = pick Null (rows_of sources) (expand runs)
-
--- The rows of each binary column.
-abbrev pub binaries : {O : Type 0} {type : Ghosts O}
-    → List (Bor (BinaryArray O type)) → List (List Value)
-binaries sources = map (λ s. binary_rows s.now) sources
-
--- The rows of binary columns that runs refer to; null for a run without a source.
-abbrev pub picked_bytes : {O : Type 0} {type : Ghosts O}
-    → List (Bor (BinaryArray O type)) → List Run → List Value
-picked_bytes sources runs = pick Null (binaries sources) (expand runs)
 
 -- The rows of each view column.
 abbrev pub binviews : List (Bor BinaryViewArray) → List (List Value)

@@ -11,7 +11,7 @@ ghost use Rattle.sel_gather.specs.GrownBytes.{joined_bytes, GrewBy};
 ghost use Rattle.sel_gather.specs.Need.{ExceedsBytes, IsLimitOrMemory, ExceedsNone, bytes_needed};
 ghost use Rattle.sel_gather.specs.Picks.{PickFits};
 ghost use Rattle.sel_gather.specs.Runs.{expand, unrolled};
-ghost use Rattle.sel_gather.specs.Sources.{binaries, picked_bytes};
+ghost use Rattle.sel_gather.specs.Steps.{binaries, picked_bytes};
 ghost use Rattle.sel_gather.specs.RunRows.{run_bytes};
 
 use crate::bits::validity_from;

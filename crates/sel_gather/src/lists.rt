@@ -10,7 +10,8 @@ ghost use Rattle.sel_gather.specs.Children.{child, is_listing, items_in, joined_
 ghost use Rattle.sel_gather.specs.Picks.{pick, PickFits};
 ghost use Rattle.sel_gather.specs.Runs.{expand, unrolled};
 ghost use Rattle.sel_gather.specs.Ends.{item_ends};
-ghost use Rattle.sel_gather.specs.Sources.{child_rows, picked, rows_of};
+ghost use Rattle.sel_gather.specs.Sources.{picked, rows_of};
+ghost use Rattle.sel_gather.specs.Steps.{child_rows};
 ghost use Rattle.sel_gather.specs.Gathers.{MayGather};
 ghost use Rattle.sel_gather.specs.RunRows.{run_rows};
 

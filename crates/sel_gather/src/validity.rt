@@ -8,7 +8,7 @@ ghost use Rattle.sel_arrow.specs.Rows.{type_of, IsWellFormed};
 ghost use Rattle.sel_arrow.specs.Shape.{of_null};
 ghost use Rattle.sel_arrow.specs.Value.{validities};
 ghost use Rattle.sel_gather.specs.Picks.{PickFits};
-ghost use Rattle.sel_gather.specs.Plans.{AreValidities};
+ghost use Rattle.sel_gather.specs.Steps.{AreValidities};
 ghost use Rattle.sel_gather.specs.Runs.{expand, unrolled};
 ghost use Rattle.sel_gather.specs.Validity.{bits_for};
 ghost use Rattle.sel_gather.specs.Sources.{columns_of, picked, rows_of};

@@ -11,7 +11,8 @@ ghost use Rattle.sel_gather.specs.Ends.{item_ends};
 ghost use Rattle.sel_gather.specs.Need.{ExceedsRows, IsLimitOrMemory, ExceedsNone, exceeded_taken};
 ghost use Rattle.sel_gather.specs.Picks.{pick, PickFits};
 ghost use Rattle.sel_gather.specs.Runs.{expand, unrolled};
-ghost use Rattle.sel_gather.specs.Sources.{child_rows, columns_of, picked, rows_of};
+ghost use Rattle.sel_gather.specs.Sources.{columns_of, picked, rows_of};
+ghost use Rattle.sel_gather.specs.Steps.{child_rows};
 ghost use Rattle.sel_gather.specs.Gathers.{MayGather};
 ghost use Rattle.sel_gather.specs.RunRows.{run_rows};
 

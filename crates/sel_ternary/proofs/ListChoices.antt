@@ -14,7 +14,8 @@ use Rattle.sel_gather.specs.Need.{exceeded_taken}
 use Rattle.sel_gather.proofs.Below.{refused_more}
 use Rattle.sel_gather.proofs.ListParts.{few_rows}
 use Rattle.sel_gather.proofs.Within.{passes_neither}
-use Rattle.sel_ternary.specs.ListSides.{below, exceeded_below, exceeded_lists, IsBelow}
+use Rattle.sel_ternary.specs.ListSides.{below, exceeded_below, exceeded_lists}
+use Rattle.sel_ternary.specs.Steps.{IsBelow}
 use Rattle.sel_ternary.specs.Sides.{Side, IsLimitOrMemory, ExceedsNone, exceeded_flat}
 use Rattle.sel_ternary.proofs.SameNeeds.{Like, block_child, list_child, same_needs}
 

@@ -3,6 +3,7 @@ pub mod Chosen
 pub mod ChosenPicks
 pub mod ListSides
 pub mod Sides
+pub mod Steps
 pub mod Validity
 pub mod ViewSides
 pub mod WordKernels

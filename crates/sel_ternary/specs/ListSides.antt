@@ -1,8 +1,7 @@
 -- The true and false values of an if-then-else of lists, and the child rows that its result needs.
-use Rattle.std.specs.Prelude.{◌≡◌, List, [], ◌∷◌, length, ◌⊎◌}
+use Rattle.std.specs.Prelude.{List, [], ◌∷◌, length, ◌⊎◌}
 use Rattle.sel_bits.specs.declared.faults.Limit.{Limit}
 use Rattle.sel_bits.specs.declared.native.NativeType.{Ghosts}
-use Rattle.sel_arrow.specs.Rows.{type_of, buffers_held}
 use Rattle.sel_arrow.specs.Shape.{Shape, of_large_list, of_fixed_size_list}
 use Rattle.sel_arrow.specs.Value.{Value}
 use Rattle.sel_arrow.specs.declared.array_ref.ArrayRef.{ArrayRef}
@@ -26,17 +25,6 @@ block_child array = array.values.value
 abbrev pub below : {C : Type 0} → (C → Column) → Side C ArrayRef → Column
 below child (column c) = child c
 below child (scalar s) = s.column
-
--- The column has this type, which is one of lists, and its child has the type and the data buffers
--- of the column of entries.
-abbrev pub IsBelow : Shape → Column → Column → Type 0
-IsBelow (of_large_list s) lists entries =
-    (type_of lists ≡ of_large_list s) × (type_of entries ≡ s) ×
-    (buffers_held lists ≡ buffers_held entries)
-IsBelow (of_fixed_size_list s width) lists entries =
-    (type_of lists ≡ of_fixed_size_list s width) × (type_of entries ≡ s) ×
-    (buffers_held lists ≡ buffers_held entries)
-IsBelow s lists entries = ⊥
 
 -- The limits that rows of this type exceed if they are gathered from these columns: there are too
 -- many of them, or they need too much.

@@ -9,7 +9,8 @@ ghost use Rattle.sel_arrow.specs.Shape.{Shape, is_list_shape, is_block_shape, of
 ghost use Rattle.sel_arrow.specs.declared.column.Column.{Column};
 ghost use Rattle.sel_ternary.specs.Choose.{choose, broadcast_true, broadcast_false, broadcast_both};
 ghost use Rattle.sel_ternary.specs.Chosen.{chosen_rows, SideFits};
-ghost use Rattle.sel_ternary.specs.ListSides.{exceeded_lists, list_child, block_child, IsBelow};
+ghost use Rattle.sel_ternary.specs.ListSides.{exceeded_lists, list_child, block_child};
+ghost use Rattle.sel_ternary.specs.Steps.{IsBelow};
 ghost use Rattle.sel_ternary.specs.Sides.{column, scalar, IsLimitOrMemory, ExceedsNone};
 ghost use Rattle.sel_gather.specs.Need.{exceeded_taken};
 

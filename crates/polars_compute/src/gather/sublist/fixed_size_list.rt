@@ -9,7 +9,8 @@ ghost use Rattle.sel_arrow.specs.Rows.{rows, type_of};
 ghost use Rattle.sel_arrow.specs.Value.{Number};
 ghost use Rattle.polars_compute.specs.Elements.{child_pick};
 ghost use Rattle.sel_gather.specs.Need.{ExceedsNone};
-ghost use Rattle.polars_compute.specs.Entries.{fixed_get, at_each, entry_place, entry_places, is_get_error, place_of, IsGetError, exceeded_entries};
+ghost use Rattle.polars_compute.specs.Entries.{fixed_get, at_each, is_get_error, place_of, IsGetError, exceeded_entries};
+ghost use Rattle.polars_compute.specs.Steps.{entry_place, entry_places};
 
 use crate::gather::sublist::pick_of_place;
 use sel_arrow::array::Array;

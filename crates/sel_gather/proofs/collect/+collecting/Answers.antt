@@ -8,7 +8,8 @@ use Rattle.sel_arrow.specs.Value.{Null}
 use Rattle.sel_arrow.proofs.NestedRows.{length-rows}
 use Rattle.sel_arrow.proofs.Trees.{has_fields}
 use Rattle.sel_arrow.proofs.Types.{type_of-Struct}
-use Rattle.sel_gather.specs.Children.{child, field, is_listing, joined_items, part_at, parts_of}
+use Rattle.sel_gather.specs.Children.{child, field, is_listing, joined_items, part_at}
+use Rattle.sel_gather.specs.Steps.{parts_of}
 use Rattle.sel_gather.specs.Cleared.{cleared}
 use Rattle.sel_gather.specs.Need.{ExceedsRows, IsLimitOrMemory, ExceedsNone, exceeded_taken}
 use Rattle.sel_gather.specs.Picks.{pick, PickFits}

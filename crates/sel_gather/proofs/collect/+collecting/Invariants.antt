@@ -3,7 +3,8 @@ use Rattle.std.proofs.Common.{◌≡◌, ℕ, ◌+◌, ◌*◌, ◌<◌, All, ma
 use Rattle.sel_arrow.specs.Rows.{rows, type_of, IsField}
 use Rattle.sel_arrow.specs.Shape.{of_null, shapes_of}
 use Rattle.sel_arrow.specs.Value.{Null}
-use Rattle.sel_gather.specs.Children.{field, part_at, parts_of}
+use Rattle.sel_gather.specs.Children.{field, part_at}
+use Rattle.sel_gather.specs.Steps.{parts_of}
 use Rattle.sel_gather.specs.Picks.{pick}
 use Rattle.sel_gather.specs.Need.{ExceedsNone, exceeded_taken}
 use Rattle.sel_gather.specs.Runs.{expand}

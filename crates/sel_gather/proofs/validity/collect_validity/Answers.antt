@@ -3,7 +3,7 @@ use Rattle.std.specs.Option.{option_copied}
 use Rattle.std.proofs.lemmas.List.{length-map, map-append}
 use Rattle.sel_arrow.specs.Value.{Null, is_valid, validities}
 use Rattle.sel_gather.specs.Picks.{pick, PickFits}
-use Rattle.sel_gather.specs.Plans.{AreValidities}
+use Rattle.sel_gather.specs.Steps.{AreValidities}
 use Rattle.sel_gather.specs.Runs.{expand, unrolled}
 use Rattle.sel_gather.specs.Sources.{columns_of}
 use Rattle.sel_gather.proofs.Gathers.{all_none, all_there}

@@ -1,7 +1,7 @@
 -- The validities so far are those of the sources.
 use Rattle.std.proofs.Common.{map, take}
 use Rattle.std.specs.Option.{option_copied}
-use Rattle.sel_gather.specs.Plans.{AreValidities}
+use Rattle.sel_gather.specs.Steps.{AreValidities}
 use Rattle.sel_gather.specs.Sources.{columns_of}
 use Rattle.sel_gather.proofs.validity.validities_of.Given as goal
 

@@ -5,7 +5,7 @@ use Rattle.sel_arrow.specs.Rows.{rows}
 use Rattle.sel_arrow.specs.Value.{Null}
 use Rattle.sel_gather.specs.Picks.{pick, PickFits}
 use Rattle.polars_compute.specs.Elements.{child_pick}
-use Rattle.polars_compute.specs.Entries.{entry_places}
+use Rattle.polars_compute.specs.Steps.{entry_places}
 use Rattle.polars_compute.proofs.Blocks.{entries_fit, entries_got, refused_so}
 use Rattle.polars_compute.proofs.gather.sublist.fixed_size_list.sub_fixed_size_list_get.Goals as goal
 
