@@ -15,23 +15,23 @@ returns-in_err-column c =
       dtype = search rules;
       within = search rules;
       refusal =
-        let p = err_from_is_err_and c.from_residual.result c.from_residual.ensures.1 in
-        let picked = null_run (rows c.args.if_true.now.column ∷ rows c.args.if_false.now.column ∷ []) c.len.result ∙ ap (λ n. replicate n Null) c.len.ensures ∙ both_null c.args.mask.now.bits in
-        let refusal = rw (c.as_column.ensures.column, c.as_column-2.ensures.column, picked) at c.in_err-column.ensures.refusal in
-        rw (p.1, p.2) refusal;
+          let p = err_from_is_err_and c.from_residual.result c.from_residual.ensures.1 in
+          let picked = null_run (rows c.args.if_true.now.column ∷ rows c.args.if_false.now.column ∷ []) c.len.result ∙ ap (λ n. replicate n Null) c.len.ensures ∙ both_null c.args.mask.now.bits in
+          let refusal = rw (c.as_column.ensures.column, c.as_column-2.ensures.column, picked) at c.in_err-column.ensures.refusal in
+          rw (p.1, p.2) refusal;
     }
 
 pub returns : goal.returns
 returns c =
     record {
       rows =
-        let run : Run = record { source = None; start = 0; len = c.len.result } in
-        c.in_ok-column.ensures.rows
-        ∙ picked_alike c.as_column.result.now c.as_column-2.result.now c.args.if_true.now.column c.args.if_false.now.column (expand (run ∷ [])) c.as_column.ensures.column c.as_column-2.ensures.column
-        ∙ null_run (rows c.args.if_true.now.column ∷ rows c.args.if_false.now.column ∷ []) c.len.result ∙ ap (λ n. replicate n Null) c.len.ensures ∙ both_null c.args.mask.now.bits;
+          let run : Run = record { source = None; start = 0; len = c.len.result } in
+          c.in_ok-column.ensures.rows
+          ∙ picked_alike c.as_column.result.now c.as_column-2.result.now c.args.if_true.now.column c.args.if_false.now.column (expand (run ∷ [])) c.as_column.ensures.column c.as_column-2.ensures.column
+          ∙ null_run (rows c.args.if_true.now.column ∷ rows c.args.if_false.now.column ∷ []) c.len.result ∙ ap (λ n. replicate n Null) c.len.ensures ∙ both_null c.args.mask.now.bits;
       dtype = search rules;
       within =
-        let picked = null_run (rows c.args.if_true.now.column ∷ rows c.args.if_false.now.column ∷ []) c.len.result ∙ ap (λ n. replicate n Null) c.len.ensures ∙ both_null c.args.mask.now.bits in
-        rw (c.as_column.ensures.column, c.as_column-2.ensures.column, picked) at c.in_ok-column.ensures.within;
+          let picked = null_run (rows c.args.if_true.now.column ∷ rows c.args.if_false.now.column ∷ []) c.len.result ∙ ap (λ n. replicate n Null) c.len.ensures ∙ both_null c.args.mask.now.bits in
+          rw (c.as_column.ensures.column, c.as_column-2.ensures.column, picked) at c.in_ok-column.ensures.within;
       refusal = search rules;
     }

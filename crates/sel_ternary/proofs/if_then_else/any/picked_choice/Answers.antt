@@ -17,15 +17,15 @@ pub returns : goal.returns
 returns c =
     record {
       rows =
-        let picks = chosen_picks c.args.true_column c.args.false_column 0 c.args.mask.now.bits in
-        let same : pick Null (rows c.as_column.result.now ∷ rows c.as_column-2.result.now ∷ []) picks ≡ chosen_rows c.args.true_column c.args.false_column c.args.mask.now.bits (rows c.args.if_true.now.column) (rows c.args.if_false.now.column) =
-        picked_alike c.as_column.result.now c.as_column-2.result.now c.args.if_true.now.column c.args.if_false.now.column picks c.as_column.ensures.column c.as_column-2.ensures.column
-        ∙ choice_picked c.args.true_column c.args.false_column c.args.mask.now.bits (rows c.args.if_true.now.column) (rows c.args.if_false.now.column) c.requires.true_side c.requires.false_side in
-        c.in_ok-column.ensures.rows ∙ same;
+          let picks = chosen_picks c.args.true_column c.args.false_column 0 c.args.mask.now.bits in
+          let same : pick Null (rows c.as_column.result.now ∷ rows c.as_column-2.result.now ∷ []) picks ≡ chosen_rows c.args.true_column c.args.false_column c.args.mask.now.bits (rows c.args.if_true.now.column) (rows c.args.if_false.now.column) =
+          picked_alike c.as_column.result.now c.as_column-2.result.now c.args.if_true.now.column c.args.if_false.now.column picks c.as_column.ensures.column c.as_column-2.ensures.column
+          ∙ choice_picked c.args.true_column c.args.false_column c.args.mask.now.bits (rows c.args.if_true.now.column) (rows c.args.if_false.now.column) c.requires.true_side c.requires.false_side in
+          c.in_ok-column.ensures.rows ∙ same;
       dtype = search rules;
       within =
-        let picked = choice_picked c.args.true_column c.args.false_column c.args.mask.now.bits (rows c.args.if_true.now.column) (rows c.args.if_false.now.column) c.requires.true_side c.requires.false_side in
-        rw (c.as_column.ensures.column, c.as_column-2.ensures.column, picked) at c.in_ok-column.ensures.within;
+          let picked = choice_picked c.args.true_column c.args.false_column c.args.mask.now.bits (rows c.args.if_true.now.column) (rows c.args.if_false.now.column) c.requires.true_side c.requires.false_side in
+          rw (c.as_column.ensures.column, c.as_column-2.ensures.column, picked) at c.in_ok-column.ensures.within;
       refusal = search rules;
     }
 
@@ -36,8 +36,8 @@ returns-in_err-column c =
       dtype = search rules;
       within = search rules;
       refusal =
-        let p = err_from_is_err_and c.from_residual.result c.from_residual.ensures.1 in
-        let picked = choice_picked c.args.true_column c.args.false_column c.args.mask.now.bits (rows c.args.if_true.now.column) (rows c.args.if_false.now.column) c.requires.true_side c.requires.false_side in
-        let refusal = rw (c.as_column.ensures.column, c.as_column-2.ensures.column, picked) at c.in_err-column.ensures.refusal in
-        rw (p.1, p.2) refusal;
+          let p = err_from_is_err_and c.from_residual.result c.from_residual.ensures.1 in
+          let picked = choice_picked c.args.true_column c.args.false_column c.args.mask.now.bits (rows c.args.if_true.now.column) (rows c.args.if_false.now.column) c.requires.true_side c.requires.false_side in
+          let refusal = rw (c.as_column.ensures.column, c.as_column-2.ensures.column, picked) at c.in_err-column.ensures.refusal in
+          rw (p.1, p.2) refusal;
     }

@@ -1,4 +1,4 @@
-use Rattle.std.proofs.Common.{arith, inl, length, sym, ◌∙◌}
+use Rattle.std.proofs.Common.{arith, inl, sym, ◌∙◌}
 use Rattle.sel_arrow.specs.Nested.{list_of}
 use Rattle.sel_arrow.specs.Rows.{rows}
 use Rattle.sel_gather.proofs.Within.{few_rows_pass}
