@@ -6,6 +6,7 @@ use Rattle.std.specs.Option.{option_map, is_none}
 use Rattle.std.proofs.lemmas.List.{get_or-replicate}
 use Rattle.std.proofs.lemmas.List.Folds.{list_any_at, list_any_none}
 use Rattle.std.proofs.lemmas.List.FromFn.{fill_by_all, get_or-range_with_len, get_or-map-range_with_len, length-range_with_len, length-map-range_with_len}
+use Rattle.sel_bits.specs.Limits.{max_rows}
 use Rattle.sel_bits.specs.declared.faults.PolarsError.{PolarsError}
 use Rattle.sel_bits.specs.declared.faults.PolarsError.TheVariants.{OutOfMemory, SizeLimit, ComputeError}
 use Rattle.sel_arrow.specs.Masked.{Covers, valid_at}
@@ -60,7 +61,7 @@ module _ (arr : FixedSizeListArray) where
   pub long_rows : length (rows column) ≡ arr.len
   long_rows = length-rows column
 
-  pub lists_few : arr.len ≤ 4294967295
+  pub lists_few : arr.len ≤ max_rows
   lists_few = (has_blocks arr.size arr.len arr.values.value arr.validity arr.formed).few
 
   pub covered : Covers arr.validity arr.len

@@ -3,6 +3,7 @@ use Rattle.std.proofs.Common.{◌≡◌, ◌<◌, ◌∙◌, ℕ, ℤ, suc, pos,
 use Rattle.std.proofs.lemmas.List.{length-map, get_or-map}
 use Rattle.std.proofs.lemmas.Bool.{lt-ltb}
 use Rattle.std.proofs.lemmas.List.Folds.{list_all-map}
+use Rattle.sel_bits.specs.Limits.{max_rows}
 use Rattle.sel_bits.specs.Bits.{Bits}
 use Rattle.sel_arrow.specs.Value.{Value, Null, Number}
 use Rattle.sel_arrow.specs.Masked.{masked, number_rows, Covers, valid_at}
@@ -23,7 +24,7 @@ row_within {T} number validity xs d k n covers inside within =
     (ap (is_within n) (get_or-map row xs k d Null inside) ∙ within)
 
 -- A 32-bit number is less than any number that exceeds 32 bits.
-pub few_below : (n : ℕ) → (places : List ℕ) → 4294967295 < n → ((k : ℕ) → get_or places k 0 < 4294967296) → all_below n places ≡ true
+pub few_below : (n : ℕ) → (places : List ℕ) → max_rows < n → ((k : ℕ) → get_or places k 0 < 4294967296) → all_below n places ≡ true
 few_below n [] past fit = refl
 few_below n (place ∷ places) past fit =
     rw (lt-ltb place n (omega (arith, past, fit 0))) (few_below n places past (λ k. fit (suc k)))

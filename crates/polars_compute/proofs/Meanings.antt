@@ -4,6 +4,7 @@ use Rattle.std.proofs.Common.{◌≡◌, ◌⊎◌, inl, inr, ℕ, ◌+◌, ◌�
 use Rattle.std.proofs.lemmas.Bool.{cases_lt}
 use Rattle.std.proofs.lemmas.Int.{ints}
 use Rattle.std.proofs.lemmas.List.{length-map}
+use Rattle.sel_bits.specs.Limits.{max_rows}
 use Rattle.sel_bits.specs.declared.faults.Limit.{Limit}
 use Rattle.sel_bits.specs.declared.faults.Limit.TheVariants.{Rows as RowLimit, Bytes as ByteLimit}
 use Rattle.sel_bits.specs.declared.faults.Limit.TheVariants.{Buffers as BufferLimit, ViewBytes as ViewLimit}
@@ -123,7 +124,7 @@ above-append [] bs h k = k
 above-append (so_many_rows n ∷ ks) bs h k = (h.0, above-append ks bs h.1 k)
 above-append (so_many_bytes n ∷ ks) bs h k = (h.0, above-append ks bs h.1 k)
 
-few_items : (n : ℕ) → (4294967295 < n → ⊥) → n ≤ 4294967295
+few_items : (n : ℕ) → (max_rows < n → ⊥) → n ≤ max_rows
 few_items n fits = omega (arith, fits)
 
 few_bytes : (n : ℕ) → (pos 9223372036854775807 <ℤ pos n → ⊥) → n ≤ 9223372036854775807
@@ -135,7 +136,7 @@ few_bytes n fits = by_order (cases_lt 9223372036854775807 n)
 
 mutual
   -- Rows that exceed no limit need no more than the limits.
-  within : (s : Shape) (vs : List Value) → length vs ≤ 4294967295 → ((limit : Limit) → exceeded_limits s vs limit → ⊥) → NoneAbove (need s vs)
+  within : (s : Shape) (vs : List Value) → length vs ≤ max_rows → ((limit : Limit) → exceeded_limits s vs limit → ⊥) → NoneAbove (need s vs)
   within of_large_binary vs few fits = (few, (few_bytes (bytes_needed vs) (fits ByteLimit), tt))
   within (of_large_list s) vs few fits =
       (few, within s (joined_items 0 vs) (few_items (length (joined_items 0 vs)) (λ h. fits RowLimit (inl h))) (λ limit h. fits limit (inr h)))
@@ -144,7 +145,7 @@ mutual
   within (of_struct ss) vs few fits = (few, within_parts ss 0 vs few fits)
   within s vs few fits = (few, tt)
 
-  within_parts : (ss : Shapes) (j : ℕ) (vs : List Value) → length vs ≤ 4294967295 → ((limit : Limit) → exceeded_in_parts ss j vs limit → ⊥) → NoneAbove (need_of_parts ss j vs)
+  within_parts : (ss : Shapes) (j : ℕ) (vs : List Value) → length vs ≤ max_rows → ((limit : Limit) → exceeded_in_parts ss j vs limit → ⊥) → NoneAbove (need_of_parts ss j vs)
   within_parts no_shapes j vs few fits = tt
   within_parts (next_shape s ss) j vs few fits =
       above-append (need s (map (part_at j) vs)) (need_of_parts ss (j + 1) vs)
@@ -167,14 +168,14 @@ above-second [] bs h = h
 above-second (so_many_rows n ∷ ks) bs h = above-second ks bs h.1
 above-second (so_many_bytes n ∷ ks) bs h = above-second ks bs h.1
 
-rows_few : (s : Shape) (vs : List Value) → NoneAbove (need s vs) → length vs ≤ 4294967295
+rows_few : (s : Shape) (vs : List Value) → NoneAbove (need s vs) → length vs ≤ max_rows
 rows_few of_large_binary vs h = h.0
 rows_few (of_large_list s) vs h = h.0
 rows_few (of_fixed_size_list s w) vs h = h.0
 rows_few (of_struct ss) vs h = h.0
 rows_few s vs h = h.0
 
-not_rows : (n : ℕ) (limit : Limit) → n ≤ 4294967295 → ExceedsRows n limit → ⊥
+not_rows : (n : ℕ) (limit : Limit) → n ≤ max_rows → ExceedsRows n limit → ⊥
 not_rows n RowLimit few e = omega (arith, few, e)
 not_rows n ByteLimit few e = e
 not_rows n BufferLimit few e = e

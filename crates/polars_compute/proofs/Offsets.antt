@@ -6,6 +6,7 @@ use Rattle.std.specs.Option.{option_map, is_none, is_some, unwrap_or}
 use Rattle.std.proofs.lemmas.List.{length-map, length-take, length-drop, get_or-map, get_or-take, get_or-drop}
 use Rattle.std.proofs.lemmas.List.Folds.{list_any_at}
 use Rattle.std.proofs.lemmas.List.FromFn.{fill_by_all}
+use Rattle.sel_bits.specs.Limits.{max_rows}
 use Rattle.sel_bits.specs.Bits.{Bits}
 use Rattle.sel_bits.specs.Place.{place}
 use Rattle.sel_arrow.specs.Masked.{hidden, number_value, valid_at}
@@ -108,7 +109,7 @@ module _ (offsets : List ℕ) (values : Box Column Global) (validity : Option Bi
       (length-map (rows column) (element_of index) ∙ length-rows column)
       (λ k h. get_or-map (element_of index) (rows column) k Null Null (inside_rows k h) ∙ sym (element_is k h)))
 
-  pub lists_few : rows_between offsets ≤ 4294967295
+  pub lists_few : rows_between offsets ≤ max_rows
   lists_few = (has_lists offsets values.value validity formed).few
 
   pub lacks_is : (k : ℕ) → k < rows_between offsets → valid_at validity k ≡ true → is_none (place index (count k)) ≡ lacks_place index (get_or (rows column) k Null)

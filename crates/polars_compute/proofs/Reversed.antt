@@ -2,6 +2,7 @@
 use Rattle.std.proofs.Common.{◌≡◌, ℕ, zero, suc, ◌+◌, ◌<◌, ◌≤◌, pos, true, List, [], ◌∷◌, ◌++◌, length, length-append, map, append-nil, get_or, take, reverse, refl, ap, sym, subst, ◌∙◌, arith}
 use mathlib.Core.List.{reverse_aux}
 use Rattle.std.proofs.lemmas.List.{map-append, length-reverse, reverse-append, take_all, take_more}
+use Rattle.sel_bits.specs.Limits.{max_rows}
 use Rattle.sel_arrow.specs.Rows.{rows, type_of, well_formed}
 use Rattle.sel_arrow.specs.Shape.{Shape, Shapes, no_shapes, next_shape, of_large_binary, of_large_list, of_fixed_size_list, of_struct}
 use Rattle.sel_arrow.specs.Value.{Value, Null, Number}
@@ -99,5 +100,5 @@ reversed_needs s xs = reversed_onto s xs [] ∙ ap (need s) (append-nil xs)
 pub reversed_fits : (c : Column) → well_formed c ≡ true → ExceedsNone (exceeded_limits (type_of c) (reverse (rows c)))
 reversed_fits c formed =
     let s = type_of c in
-    let few : length (reverse (rows c)) ≤ 4294967295 = rw length-reverse (let count = few_rows c formed in omega (arith, count, length-rows c)) in
+    let few : length (reverse (rows c)) ≤ max_rows = rw length-reverse (let count = few_rows c formed in omega (arith, count, length-rows c)) in
     (needs_decide s (reverse (rows c)) few).0 (subst NoneAbove (sym (reversed_needs s (rows c))) (needs_fit c formed))

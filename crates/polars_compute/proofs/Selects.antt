@@ -6,6 +6,7 @@ use Rattle.std.specs.List.{list_all}
 use Rattle.std.specs.Option.{option_map}
 use Rattle.std.proofs.lemmas.List.{length-map, length-replicate, drop_all, append-nil, get_or_default, get_or_past, get_or-reverse, length-reverse, length-drop, length-take}
 use Rattle.std.proofs.lemmas.List.Sums.{sum_by-cons, count_by-le-length}
+use Rattle.sel_bits.specs.Limits.{max_rows}
 use Rattle.sel_bits.specs.Bits.{Bits, zip_with, leading_zeros, trailing_zeros}
 use Rattle.sel_bits.proofs.Zeros.{leading_le}
 use Rattle.sel_arrow.specs.Value.{Value, Null, Truth, Number}
@@ -183,7 +184,7 @@ pub kept_null_rows : (column : NullArray) (n : ℕ) (ms : List Bool) → length 
 kept_null_rows column n ms long count =
     ap (λ k. replicate k Null) count ∙ replicate_kept column.length ms (sym (length-replicate column.length Null) ∙ long)
 
-pub few_nulls : (n : ℕ) (ms : List Bool) → n ≤ 4294967295 → length (replicate n Null) ≡ length ms → count_by (λ b. b) ms ≤ 4294967295
+pub few_nulls : (n : ℕ) (ms : List Bool) → n ≤ max_rows → length (replicate n Null) ≡ length ms → count_by (λ b. b) ms ≤ max_rows
 few_nulls n ms few long = omega (arith, count_by-le-length (λ (b : Bool). b) ms, length-replicate n Null, long)
 
 pub ruleset kept_nulls = (kept_null_rows, few_nulls, length-replicate)

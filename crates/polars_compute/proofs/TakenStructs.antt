@@ -5,6 +5,7 @@ use Rattle.std.specs.List.{range_with_len}
 use Rattle.std.proofs.lemmas.Bool.{ltb-true}
 use Rattle.std.proofs.lemmas.List.{length-map, get_or-map, ext_get_or}
 use Rattle.std.proofs.lemmas.List.FromFn.{length-map-range_with_len, get_or-map-range_with_len}
+use Rattle.sel_bits.specs.Limits.{max_rows}
 use Rattle.sel_bits.specs.Bits.{Bits}
 use Rattle.sel_bits.specs.declared.faults.Limit.{Limit}
 use Rattle.sel_arrow.specs.Masked.{hidden, masked, number_rows, Covers, valid_at}
@@ -186,7 +187,7 @@ module _ (n : ℕ) (fields : Vec Column Global) (validity : Option Bits) (formed
       each zero k = rows_tuples whole types kind k
       each (suc i) k = tt
 
-  pub struct_fits : (count : ℕ) (parts : Vec Column Global) (seen : Option Bits) (indices : List Value) → count ≤ 4294967295 → count ≡ length indices →
+  pub struct_fits : (count : ℕ) (parts : Vec Column Global) (seen : Option Bits) (indices : List Value) → count ≤ max_rows → count ≡ length indices →
       All (IsField (length indices)) parts.items → bits_for (length indices) seen ≡ map (valid_pick validity) (map pick_of indices) → well_formed (Struct count parts seen) ≡ true
   struct_fits count parts seen indices few long all valid =
       fields_make count parts seen

@@ -9,6 +9,7 @@ use Rattle.std.proofs.lemmas.List.{map-append, get_or-drop, drop-drop}
 use Rattle.std.proofs.lemmas.List.Elements.{All-append}
 use Rattle.std.proofs.lemmas.List.FromFn.{length-map-range_with_len}
 use Rattle.std.proofs.lemmas.Nat.{mul-le}
+use Rattle.sel_bits.specs.Limits.{max_rows}
 use Rattle.sel_arrow.proofs.Lists.{and_second}
 use Rattle.sel_gather.specs.Picks.{found, pick, PickFits}
 use Rattle.sel_gather.specs.Plans.{IsPicked}
@@ -181,7 +182,7 @@ length-lanes [] (w ∷ ws) long = absurd (omega (arith, long))
 length-lanes (xs ∷ xss) [] long = absurd (omega (arith, long))
 length-lanes (xs ∷ xss) (w ∷ ws) long = ap suc (length-lanes xss ws (omega (arith, long)))
 
-low_lane : (b : Bool) (r h w row : ℕ) → r < h → w ≤ row → h * row ≤ 4294967295 → r * (if b then 0 else w) + w ≤ 4294967295
+low_lane : (b : Bool) (r h w row : ℕ) → r < h → w ≤ row → h * row ≤ max_rows → r * (if b then 0 else w) + w ≤ max_rows
 low_lane true r h w row inside narrow few =
     let none : r * 0 ≡ 0 = omega arith in
     let one : 1 * row ≤ h * row = mul-le 1 row h row (omega (arith, inside)) (omega arith) in
@@ -195,7 +196,7 @@ module _ {A : Type 0} (xss : List (List A)) (ws : List ℕ) (h : ℕ) (fit : par
   pub wide_lanes : All (λ l. 0 < l.width) (lanes_of xss ws)
   wide_lanes = each_lane (λ l. 0 < l.width) xss ws (λ s inside. (part_at h xss ws s fit inside).0)
 
-  pub low_lanes : (r : ℕ) → r < h → h * row_width ws ≤ 4294967295 → All (λ l. r * l.step + l.width ≤ 4294967295) (lanes_of xss ws)
+  pub low_lanes : (r : ℕ) → r < h → h * row_width ws ≤ max_rows → All (λ l. r * l.step + l.width ≤ max_rows) (lanes_of xss ws)
   low_lanes r below few =
-      each_lane (λ l. r * l.step + l.width ≤ 4294967295) xss ws
+      each_lane (λ l. r * l.step + l.width ≤ max_rows) xss ws
       (λ s inside. low_lane (length (get_or xss s []) == get_or ws s 0) r h (get_or ws s 0) (row_width ws) below (let room = width_room ws s inside in omega (arith, room)) few)

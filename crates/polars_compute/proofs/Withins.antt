@@ -3,6 +3,7 @@ use Rattle.std.proofs.Common.{◌≡◌, ℕ, zero, suc, ◌≤◌, ◌<◌, ℤ
 use Rattle.std.proofs.lemmas.List.{length-map, get_or-map}
 use Rattle.std.proofs.lemmas.Int.{ints}
 use Rattle.std.proofs.lemmas.Bool.Decides.{nat_tests}
+use Rattle.sel_bits.specs.Limits.{max_rows}
 use Rattle.sel_bits.specs.Ranges.{IsWithin}
 use Rattle.sel_arrow.specs.Value.{Value, Null, Number}
 use Rattle.polars_compute.specs.Pick.{found, pick_of, take_rows, is_within, all_within}
@@ -11,7 +12,7 @@ below : (i n : ℕ) → is_within n (Number (pos i)) ≡ true → i < n
 below i n e = grind (arith, nat_tests)
 
 -- An index in bounds of at most 2^32 - 1 rows fits a position.
-pub within_fits : (n : ℕ) (z : ℤ) → is_within n (Number z) ≡ true → n ≤ 4294967295 → IsWithin (pos 0) (pos 18446744073709551615) z
+pub within_fits : (n : ℕ) (z : ℤ) → is_within n (Number z) ≡ true → n ≤ max_rows → IsWithin (pos 0) (pos 18446744073709551615) z
 within_fits n (pos i) e h =
     let small : i < n = below i n e in
     record { low = omega (arith, ints); high = omega (arith, ints) }

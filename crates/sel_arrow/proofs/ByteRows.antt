@@ -3,6 +3,7 @@ use Rattle.std.proofs.Common.{◌≡◌, ◌≢◌, ℕ, zero, suc, ◌+◌, ◌
 use Rattle.std.specs.List.{slice_range}
 use Rattle.std.specs.Option.{option_map}
 use Rattle.std.proofs.lemmas.List.{get_or-take, get_or-drop}
+use Rattle.sel_bits.specs.Limits.{max_rows}
 use Rattle.sel_bits.specs.Bits.{Bits}
 use Rattle.sel_bits.specs.Offsets.{IsRising}
 use Rattle.sel_arrow.specs.Masked.{masked, Covers, valid_at, part_of}
@@ -98,7 +99,7 @@ part_rising offsets off len rises h =
 pub rows_in_part : (offsets : List ℕ) (off len : ℕ) → IsRising offsets → off + len ≤ rows_between offsets → rows_between (take (len + 1) (drop off offsets)) ≡ len
 rows_in_part offsets off len rises h = omega (arith, length-part offsets off (len + 1) (omega (arith, rises.some)))
 
-pub part_few : (offsets : List ℕ) (off len : ℕ) → IsRising offsets → off + len ≤ rows_between offsets → rows_between offsets ≤ 4294967295 → rows_between (take (len + 1) (drop off offsets)) ≤ 4294967295
+pub part_few : (offsets : List ℕ) (off len : ℕ) → IsRising offsets → off + len ≤ rows_between offsets → rows_between offsets ≤ max_rows → rows_between (take (len + 1) (drop off offsets)) ≤ max_rows
 part_few offsets off len rises h few = omega (arith, rows_in_part offsets off len rises h)
 
 pub part_last : (offsets : List ℕ) (off len : ℕ) → IsRising offsets → off + len ≤ rows_between offsets → last_offset (take (len + 1) (drop off offsets)) ≤ last_offset offsets

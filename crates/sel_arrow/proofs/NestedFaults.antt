@@ -1,6 +1,7 @@
 -- The rules for columns with children agree with `well_formed`.
 use Rattle.std.proofs.Common.{◌≡◌, ℕ, ◌*◌, Bool, true, false, not, ◌&&◌, nat_le, nat_lt, ◌==◌, List, [], ◌∷◌, length, Option, None, is_some, is_none, refl, ap, sym, ◌∙◌, arith}
 use Rattle.std.proofs.lemmas.Bool.Decides.{nat_tests}
+use Rattle.sel_bits.specs.Limits.{max_rows}
 use Rattle.sel_bits.specs.Bits.{Bits}
 use Rattle.sel_bits.specs.Faults.{first_broken}
 use Rattle.sel_bits.specs.Offsets.{IsRising}
@@ -41,7 +42,7 @@ none_of_four r s t u false false false false = refl
 sound_lists : (offsets : List ℕ) (n : ℕ) (validity : Option Bits) →
     is_none (list_fault offsets n validity) ≡ (is_few (rows_between offsets) && nat_le (last_offset offsets) n && covers validity (rows_between offsets))
 sound_lists offsets n validity =
-    let few = opposite (rows_between offsets) 4294967295 in
+    let few = opposite (rows_between offsets) max_rows in
     let ends = opposite (last_offset offsets) n in
     none_of_three _ _ _ (too_many (rows_between offsets)) (nat_lt n (last_offset offsets)) (validity_differs validity (rows_between offsets))
     ∙ ap (λ b. b && not (nat_lt n (last_offset offsets)) && covers validity (rows_between offsets)) few
@@ -50,8 +51,8 @@ sound_lists offsets n validity =
 sound_blocks : (size len n : ℕ) (validity : Option Bits) →
     is_none (block_fault size len n validity) ≡ (is_few len && is_few size && (n == len * size) && covers validity len)
 sound_blocks size len n validity =
-    let few = opposite len 4294967295 in
-    let narrow = opposite size 4294967295 in
+    let few = opposite len max_rows in
+    let narrow = opposite size max_rows in
     none_of_four _ _ _ _ (too_many len) (too_many size) (not (n == len * size)) (validity_differs validity len)
     ∙ ap (λ b. b && not (too_many size) && not (not (n == len * size)) && covers validity len) few
     ∙ ap (λ b. is_few len && b && not (not (n == len * size)) && covers validity len) narrow
@@ -61,7 +62,7 @@ pub sound_tuples : (len : ℕ) (validity : Option Bits) (t : Bool) → is_some (
 sound_tuples len validity t fault =
     sym (twice t) ∙ ap not (sym fault)
     ∙ none_of_three TooManyRows FieldLength ValidityLength (too_many len) false (validity_differs validity len)
-    ∙ ap (λ b. b && true && covers validity len) (opposite len 4294967295)
+    ∙ ap (λ b. b && true && covers validity len) (opposite len max_rows)
     ∙ ap (λ b. b && covers validity len) (and_true (is_few len))
 
 -- If no rule of structs is broken, each field has the right number of rows.

@@ -3,6 +3,7 @@ use Rattle.std.proofs.Common.{◌≡◌, ◌≢◌, ℕ, ◌≤◌, Bool, true, 
 use Rattle.std.specs.List.{list_all}
 use Rattle.std.proofs.lemmas.Bool.Decides.{nat_tests}
 use Rattle.std.proofs.lemmas.List.Elements.{All-nil, All-cons, All-head, All-tail}
+use Rattle.sel_bits.specs.Limits.{max_rows}
 use Rattle.sel_bits.specs.Bits.{Bits}
 use Rattle.sel_bits.specs.Offsets.{IsRising}
 use Rattle.sel_arrow.specs.Makers.{list_fault, block_fault, struct_length_fault}
@@ -62,7 +63,7 @@ tuples_under len fields old new formed covers =
 
 -- ---- the number of rows, and which are null
 
-pub lists_few : (offsets : List ℕ) (values : Box Column Global) (validity : Option Bits) → well_formed (LargeList offsets values validity) ≡ true → length (rows (LargeList offsets values validity)) ≤ 4294967295
+pub lists_few : (offsets : List ℕ) (values : Box Column Global) (validity : Option Bits) → well_formed (LargeList offsets values validity) ≡ true → length (rows (LargeList offsets values validity)) ≤ max_rows
 lists_few offsets values validity formed = omega (arith, length-list_rows offsets (rows values.value) validity, (has_lists offsets values.value validity formed).few)
 
 pub lists_tell : (offsets : List ℕ) (values : Box Column Global) (validity : Option Bits) → well_formed (LargeList offsets values validity) ≡ true → IsValidityOf (type_of (LargeList offsets values validity)) validity (rows (LargeList offsets values validity))

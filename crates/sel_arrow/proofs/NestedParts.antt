@@ -6,6 +6,7 @@ use Rattle.std.proofs.lemmas.List.{map_more, map_push, get_or-take, get_or-drop,
 use Rattle.std.proofs.lemmas.List.Elements.{All-weaker, All-nil, All-cons, All-head, All-tail}
 use Rattle.std.proofs.lemmas.List.FromFn.{length-map-range_with_len, get_or-map-range_with_len, fill_by_all}
 use Rattle.std.proofs.lemmas.Nat.{mul-le}
+use Rattle.sel_bits.specs.Limits.{max_rows}
 use Rattle.sel_bits.specs.Bits.{Bits}
 use Rattle.sel_arrow.specs.Masked.{masked, part_of, Covers}
 use Rattle.sel_arrow.specs.Nested.{list_of, list_rows, blocks, block_rows, struct_at, struct_rows}
@@ -149,7 +150,7 @@ blocks_within size n values validity off len formed inside =
 pub blocks_fit : (size n : ℕ) (values : Box Column Global) (validity : Option Bits) (k : ℕ) → well_formed (FixedSizeList size n values validity) ≡ true → k ≤ n → k * size < 18446744073709551616
 blocks_fit size n values validity k formed le =
     let has = has_blocks size n values.value validity formed in
-    omega (arith, mul-le k size 4294967295 4294967295 (omega (arith, has.few)) has.narrow)
+    omega (arith, mul-le k size max_rows max_rows (omega (arith, has.few)) has.narrow)
 
 pub blocks_cover : (size n : ℕ) (values : Box Column Global) (validity : Option Bits) (off len : ℕ) → well_formed (FixedSizeList size n values validity) ≡ true → off + len ≤ n → ForSome validity (λ v. off + len ≤ length v.bits)
 blocks_cover size n values validity off len formed inside = part_within validity n off len (has_blocks size n values.value validity formed).covered inside

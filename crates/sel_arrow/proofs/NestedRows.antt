@@ -5,6 +5,7 @@ use Rattle.std.proofs.lemmas.Bool.{leb-true, le-leb}
 use Rattle.std.proofs.lemmas.Bool.Decides.{nat_tests}
 use Rattle.std.proofs.lemmas.List.{length-replicate}
 use Rattle.std.proofs.lemmas.List.FromFn.{length-map-range_with_len}
+use Rattle.sel_bits.specs.Limits.{max_rows}
 use mathlib.Core.Former.{Count}
 use Rattle.sel_bits.specs.Bits.{Bits}
 use Rattle.sel_bits.specs.Offsets.{IsRising}
@@ -121,7 +122,7 @@ is_covers (Some validity) n h = let same = h validity refl in grind (arith, nat_
 -- The properties of a well-formed list column.
 pub record HasLists (offsets : List ℕ) (values : Column) (validity : Option Bits) : Type 0 where
   pub rising : IsRising offsets
-  pub few : rows_between offsets ≤ 4294967295
+  pub few : rows_between offsets ≤ max_rows
   pub ends : last_offset offsets ≤ row_count values
   pub covered : Covers validity (rows_between offsets)
   pub child : well_formed values ≡ true
@@ -139,7 +140,7 @@ has_lists offsets values validity h =
     let two = and_first (a && b) d three in
     record {
       rising = tested_rising offsets (and_first a b two);
-      few = leb-true (rows_between offsets) 4294967295 (and_second a b two);
+      few = leb-true (rows_between offsets) max_rows (and_second a b two);
       ends = leb-true (last_offset offsets) (row_count values) (and_second (a && b) d three);
       covered = covers_is validity (rows_between offsets) (and_second (a && b && d) e four);
       child = and_second (a && b && d && e) f h;
@@ -156,15 +157,15 @@ lists_formed offsets values validity h =
     both (a && b && d && e) f
     (both (a && b && d) e
     (both (a && b) d
-    (both a b (rising_test offsets h.rising) (le-leb (rows_between offsets) 4294967295 h.few))
+    (both a b (rising_test offsets h.rising) (le-leb (rows_between offsets) max_rows h.few))
     (le-leb (last_offset offsets) (row_count values) h.ends))
     (is_covers validity (rows_between offsets) h.covered))
     h.child
 
 -- The properties of a well-formed fixed-size list column.
 pub record HasBlocks (size len : ℕ) (values : Column) (validity : Option Bits) : Type 0 where
-  pub few : len ≤ 4294967295
-  pub narrow : size ≤ 4294967295
+  pub few : len ≤ max_rows
+  pub narrow : size ≤ max_rows
   pub fills : row_count values ≡ len * size
   pub covered : Covers validity len
   pub child : well_formed values ≡ true
@@ -187,8 +188,8 @@ has_blocks size len values validity h =
     let three = and_first (a && b && d) e four in
     let two = and_first (a && b) d three in
     record {
-      few = leb-true len 4294967295 (and_first a b two);
-      narrow = leb-true size 4294967295 (and_second a b two);
+      few = leb-true len max_rows (and_first a b two);
+      narrow = leb-true size max_rows (and_second a b two);
       fills = equal (row_count values) (len * size) (and_second (a && b) d three);
       covered = covers_is validity len (and_second (a && b && d) e four);
       child = and_second (a && b && d && e) f h;
@@ -205,21 +206,21 @@ blocks_formed size len values validity h =
     both (a && b && d && e) f
     (both (a && b && d) e
     (both (a && b) d
-    (both a b (le-leb len 4294967295 h.few) (le-leb size 4294967295 h.narrow))
+    (both a b (le-leb len max_rows h.few) (le-leb size max_rows h.narrow))
     (equals (row_count values) (len * size) h.fills))
     (is_covers validity len h.covered))
     h.child
 
 -- The validity of a well-formed struct column has the right length, and the number of rows is in
 -- bounds.
-pub struct_covered : (len : ℕ) (validity : Option Bits) (fields : Bool) → (is_few len && covers validity len && fields) ≡ true → (len ≤ 4294967295) × Covers validity len × (fields ≡ true)
+pub struct_covered : (len : ℕ) (validity : Option Bits) (fields : Bool) → (is_few len && covers validity len && fields) ≡ true → (len ≤ max_rows) × Covers validity len × (fields ≡ true)
 struct_covered len validity fields h =
     let two = and_first (is_few len && covers validity len) fields h in
-    (leb-true len 4294967295 (and_first (is_few len) (covers validity len) two), covers_is validity len (and_second (is_few len) (covers validity len) two), and_second (is_few len && covers validity len) fields h)
+    (leb-true len max_rows (and_first (is_few len) (covers validity len) two), covers_is validity len (and_second (is_few len) (covers validity len) two), and_second (is_few len && covers validity len) fields h)
 
-pub struct_formed : (len : ℕ) (validity : Option Bits) (fields : Bool) → len ≤ 4294967295 → Covers validity len → fields ≡ true → (is_few len && covers validity len && fields) ≡ true
+pub struct_formed : (len : ℕ) (validity : Option Bits) (fields : Bool) → len ≤ max_rows → Covers validity len → fields ≡ true → (is_few len && covers validity len && fields) ≡ true
 struct_formed len validity fields few covered all =
-    both (is_few len && covers validity len) fields (both (is_few len) (covers validity len) (le-leb len 4294967295 few) (is_covers validity len covered)) all
+    both (is_few len && covers validity len) fields (both (is_few len) (covers validity len) (le-leb len max_rows few) (is_covers validity len covered)) all
 
 -- ---- the same for a column that is equal to one of these
 

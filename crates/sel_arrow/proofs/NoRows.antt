@@ -4,6 +4,7 @@ use Rattle.std.specs.List.{All, list_all}
 use Rattle.std.proofs.lemmas.Bool.Decides.{nat_tests}
 use Rattle.std.proofs.lemmas.List.{map-append, map_more}
 use Rattle.std.proofs.lemmas.List.Elements.{All-head, All-tail}
+use Rattle.sel_bits.specs.Limits.{max_rows}
 use Rattle.sel_bits.specs.Offsets.{IsOffsets, IsRising}
 use Rattle.sel_arrow.specs.DataType.{shape_of, widths_fit}
 use Rattle.sel_arrow.specs.Masked.{covers, is_few}
@@ -43,7 +44,7 @@ none_counted : (column : Column) → rows column ≡ [] → row_count column ≡
 none_counted column none = sym (length-rows column) ∙ ap length none
 
 -- No fixed-size lists, over a child without rows.
-pub blocks_of_none : (size : ℕ) (values : Column) → size ≤ 4294967295 → well_formed values ≡ true → rows values ≡ [] →
+pub blocks_of_none : (size : ℕ) (values : Column) → size ≤ max_rows → well_formed values ≡ true → rows values ≡ [] →
     (is_few 0 && is_few size && (row_count values == 0 * size) && covers None 0 && well_formed values) ≡ true
 blocks_of_none size values narrow formed none =
     blocks_formed size 0 values None

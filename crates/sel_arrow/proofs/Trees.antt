@@ -3,6 +3,7 @@ use Rattle.std.proofs.Common.{◌≡◌, ◌≢◌, ℕ, ◌+◌, ◌≤◌, ◌
 use Rattle.std.proofs.lemmas.Bool.Decides.{nat_tests}
 use Rattle.std.proofs.lemmas.List.{take_all}
 use Rattle.std.proofs.lemmas.List.Elements.{All-nil, All-cons, All-head, All-tail, All-get_or, All-more}
+use Rattle.sel_bits.specs.Limits.{max_rows}
 use Rattle.sel_bits.specs.Bits.{Bits}
 use Rattle.sel_arrow.specs.Makers.{struct_length_fault}
 use Rattle.sel_arrow.specs.Masked.{Covers, covers, is_few}
@@ -55,7 +56,7 @@ formed_fields len (c ∷ cs) h =
 
 -- The properties of a well-formed struct column.
 pub record HasFields (len : ℕ) (cs : List Column) (validity : Option Bits) : Type 0 where
-  pub few : len ≤ 4294967295
+  pub few : len ≤ max_rows
   pub covered : Covers validity len
   pub fields : All (IsField len) cs
 

@@ -8,6 +8,7 @@ use Rattle.std.proofs.KnownBytes.{Appends-trans, Appends-nil, Consumes-trans, Co
 use Rattle.std.proofs.lemmas.List.Splits.{slice_split_none, slice_split_at, length-slice_split}
 use Rattle.std.proofs.lemmas.Bool.{ne_eqb, leb-true}
 use Rattle.std.proofs.Math.Seq.{take-append_seam}
+use Rattle.sel_bits.specs.Limits.{max_rows}
 use Rattle.sel_bench.specs.declared.reading.LineEnd.{LineEnd}
 use Rattle.sel_bench.specs.declared.reading.LineEnd.TheVariants as ending
 use Rattle.sel_bench.specs.declared.run.Done.{Done}
@@ -104,9 +105,9 @@ number_step : (n : ℕ) (b : Bool) (a : Option (List ℕ)) (p : Option ℕ) → 
 number_step n true a p good = refl
 number_step n false a p good = absurd (none_some n None refl (sym good))
 
-pub good_number : (n : ℕ) (line : List ℕ) → first_bad_from n (line ∷ []) ≡ None → n ≤ 4294967295
+pub good_number : (n : ℕ) (line : List ℕ) → first_bad_from n (line ∷ []) ≡ None → n ≤ max_rows
 unfolding first_bad_from
-good_number n line good = leb-true n 4294967295 (number_step n (nat_le n 4294967295) (answer_of_line line) (first_bad_from (n + 1) []) good)
+good_number n line good = leb-true n max_rows (number_step n (nat_le n max_rows) (answer_of_line line) (first_bad_from (n + 1) []) good)
 
 -- ---- a run so far
 

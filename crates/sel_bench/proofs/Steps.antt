@@ -4,6 +4,7 @@ use Rattle.std.specs.Prelude.{◌==◌, nat_le}
 use Rattle.std.specs.Io.KnownBytes.{Consumes, IsAtEnd}
 use Rattle.std.proofs.KnownBytes.{Appends-nil}
 use Rattle.std.proofs.lemmas.Bool.{ne_eqb}
+use Rattle.sel_bits.specs.Limits.{max_rows}
 use Rattle.sel_bench.specs.declared.reading.LineEnd.{LineEnd}
 use Rattle.sel_bench.specs.declared.reading.LineEnd.TheVariants as ending
 use Rattle.sel_bench.specs.declared.run.RunError.{RunError}
@@ -29,7 +30,7 @@ no_answer n false a none = refl
 
 long_is_bad : (n : ℕ) (line : List ℕ) → 1048576 < length line → first_bad_from n (line ∷ []) ≡ Some n
 unfolding first_bad_from
-long_is_bad n line long = no_answer n (nat_le n 4294967295) (answer_of_line line) (too_long line long)
+long_is_bad n line long = no_answer n (nat_le n max_rows) (answer_of_line line) (too_long line long)
 
 pub one_line : (line : List ℕ) → 0 < length line → cond (length line == 0) [] (line ∷ []) ≡ line ∷ []
 one_line line some = ap (λ b. cond b [] (line ∷ [])) (ne_eqb (length line) 0 (λ e. omega arith))

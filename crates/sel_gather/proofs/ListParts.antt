@@ -2,6 +2,7 @@
 use Rattle.std.proofs.Common.{◌≡◌, ℕ, zero, suc, ◌+◌, ◌-◌, ◌*◌, ◌≤◌, ◌<◌, true, false, List, [], length, take, drop, Option, Box, Global, ap, sym, ◌∙◌, arith, get_or}
 use Rattle.std.specs.List.{slice_range}
 use Rattle.std.proofs.lemmas.List.FromFn.{get_or-map-range_with_len}
+use Rattle.sel_bits.specs.Limits.{max_rows}
 use Rattle.sel_bits.specs.Bits.{Bits}
 use Rattle.sel_arrow.specs.Masked.{Covers, valid_at}
 use Rattle.sel_arrow.specs.Nested.{list_of, blocks}
@@ -16,7 +17,7 @@ use Rattle.sel_arrow.proofs.Rows.{null_mapped, valid_mapped}
 use Rattle.sel_gather.specs.Children.{child}
 
 -- The number of rows of a well-formed column is in bounds.
-pub few_rows : (c : Column) → well_formed c ≡ true → row_count c ≤ 4294967295
+pub few_rows : (c : Column) → well_formed c ≡ true → row_count c ≤ max_rows
 few_rows (NullColumn column) h = column.rows_fit
 few_rows (Boolean column) h = column.rows_fit
 few_rows (Int8 column) h = column.rows_fit
@@ -46,7 +47,7 @@ pub record OfList (offsets : List ℕ) (values c : Column) (i : ℕ) : Type 0 wh
   pub row : get_or (rows c) i Null ≡ list_of (take (get_or offsets (i + 1) 0 - get_or offsets i 0) (drop (get_or offsets i 0) (rows (child c))))
   pub ordered : get_or offsets i 0 ≤ get_or offsets (i + 1) 0
   pub inside : get_or offsets (i + 1) 0 ≤ length (rows (child c))
-  pub few : length (rows (child c)) ≤ 4294967295
+  pub few : length (rows (child c)) ≤ max_rows
 
 module _ (c : Column) (offsets : List ℕ) (values : Box Column Global) (validity : Option Bits) (is : c ≡ LargeList offsets values validity) (formed : well_formed c ≡ true) (i : ℕ) (inside : i < length (rows c)) where
   pub list_has : HasLists offsets values.value validity
@@ -81,8 +82,8 @@ module _ (c : Column) (offsets : List ℕ) (values : Box Column Global) (validit
 pub record OfBlock (size : ℕ) (c : Column) (i : ℕ) : Type 0 where
   pub row : get_or (rows c) i Null ≡ list_of (take size (drop (i * size) (rows (child c))))
   pub inside : i * size + size ≤ length (rows (child c))
-  pub few : length (rows (child c)) ≤ 4294967295
-  pub narrow : size ≤ 4294967295
+  pub few : length (rows (child c)) ≤ max_rows
+  pub narrow : size ≤ max_rows
 
 -- List i is within the child rows.
 block_inside : (i n size : ℕ) → i < n → i * size + size ≤ n * size

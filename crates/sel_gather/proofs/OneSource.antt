@@ -1,5 +1,6 @@
 -- Rows gathered from one column: the data buffers of the column alone exceed no limit.
 use Rattle.std.proofs.Common.{◌≡◌, inl, inr, ℕ, suc, ◌+◌, ◌≤◌, ◌<◌, true, ◌&&◌, ◌==◌, List, [], ◌∷◌, length, map, ap, subst, ◌∙◌, arith, get_or}
+use Rattle.sel_bits.specs.Limits.{max_buffers}
 use Rattle.sel_bits.specs.declared.faults.Limit.{Limit}
 use Rattle.sel_bits.specs.declared.faults.Limit.TheVariants.{Rows as RowLimit, Bytes as ByteLimit, Buffers as BufferLimit, ViewBytes}
 use Rattle.sel_arrow.specs.Rows.{row_count, type_of, types_of_each, well_formed, all_well_formed}
@@ -11,7 +12,7 @@ use Rattle.sel_arrow.proofs.NestedRows.{has_lists, has_blocks, struct_covered}
 use Rattle.sel_gather.specs.Children.{columns_in, field, joined_items, part_at}
 use Rattle.sel_gather.specs.Need.{ExceedsBuffers, exceeded_limits, exceeded_in_parts, exceeded_taken, exceeded_in_fields}
 
-few_buffers : (n : ℕ) (limit : Limit) → n ≤ 4294967295 → ExceedsBuffers (n + 0) limit → ⊥
+few_buffers : (n : ℕ) (limit : Limit) → n ≤ max_buffers → ExceedsBuffers (n + 0) limit → ⊥
 few_buffers n RowLimit few h = h
 few_buffers n ByteLimit few h = h
 few_buffers n BufferLimit few h = absurd (omega (arith, few, h))

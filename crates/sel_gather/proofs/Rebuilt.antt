@@ -5,6 +5,7 @@ use Rattle.std.specs.List.{slice_range, range_with_len}
 use Rattle.std.proofs.lemmas.List.{length-map, get_or-map, length-replicate, ext_get_or}
 use Rattle.std.proofs.lemmas.List.FromFn.{length-map-range_with_len, get_or-map-range_with_len}
 use Rattle.std.proofs.lemmas.Grind.{common_steps}
+use Rattle.sel_bits.specs.Limits.{max_rows}
 use Rattle.sel_bits.specs.Bits.{Bits}
 use Rattle.sel_bits.specs.Offsets.{IsRising}
 use Rattle.sel_arrow.specs.Masked.{hidden, Covers}
@@ -138,7 +139,7 @@ lists_rebuilt vs offsets child validity n all long ends below valid =
     ∙ hidden_again IsListed list_of (items_in 0) list_back only_null vs all
 
 -- The parts of the column fit together.
-pub lists_fit : (vs : List Value) (offsets : List ℕ) (values : Column) (validity : Option Bits) (n : ℕ) → length vs ≡ n → n ≤ 4294967295 →
+pub lists_fit : (vs : List Value) (offsets : List ℕ) (values : Column) (validity : Option Bits) (n : ℕ) → length vs ≡ n → n ≤ max_rows →
     offsets ≡ 0 ∷ item_ends 0 vs → rows values ≡ joined_items 0 vs → Covers validity n → well_formed values ≡ true → HasLists offsets values validity
 lists_fit vs offsets values validity n long few ends below covered formed =
     let count : rows_between offsets ≡ n = ap rows_between ends ∙ ends_between vs ∙ long in
@@ -212,7 +213,7 @@ blocks_rebuilt w vs child validity n all long below valid =
     ∙ ap (λ ps. hidden (validities vs) (map list_of ps)) (blocks_of w n vs all long)
     ∙ hidden_again (IsBlock w) list_of (items_in w) (block_back w) only_null vs all
 
-pub blocks_fit : (w : ℕ) (vs : List Value) (values : Column) (validity : Option Bits) (n : ℕ) → ((k : ℕ) → IsBlock w (get_or vs k Null)) → length vs ≡ n → n ≤ 4294967295 → w ≤ 4294967295 →
+pub blocks_fit : (w : ℕ) (vs : List Value) (values : Column) (validity : Option Bits) (n : ℕ) → ((k : ℕ) → IsBlock w (get_or vs k Null)) → length vs ≡ n → n ≤ max_rows → w ≤ max_rows →
     rows values ≡ joined_items w vs → Covers validity n → well_formed values ≡ true → HasBlocks w n values validity
 blocks_fit w vs values validity n all long few narrow below covered formed =
     let size : row_count values ≡ length (joined_items w vs) = sym (length-rows values) ∙ ap length below in

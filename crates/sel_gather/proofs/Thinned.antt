@@ -5,6 +5,7 @@ use Rattle.std.specs.List.{range_with_len, slice_range}
 use Rattle.std.proofs.lemmas.Int.{ints}
 use Rattle.std.proofs.lemmas.List.{drop-drop, get_or-map, length-drop, length-map}
 use Rattle.std.proofs.lemmas.List.FromFn.{fill_by_all}
+use Rattle.sel_bits.specs.Limits.{max_rows}
 use Rattle.sel_bits.specs.Bits.{Bits}
 use Rattle.sel_bits.specs.Offsets.{IsRising}
 use Rattle.sel_bits.specs.declared.faults.Limit.{Limit}
@@ -261,7 +262,7 @@ few_bytes vs ByteLimit few h = absurd (omega (arith, ints, few, h))
 few_bytes vs BufferLimit few h = h
 few_bytes vs ViewBytes few h = h
 
-few_items : (n : ℕ) (limit : Limit) → n ≤ 4294967295 → ExceedsRows n limit → ⊥
+few_items : (n : ℕ) (limit : Limit) → n ≤ max_rows → ExceedsRows n limit → ⊥
 few_items n RowLimit few h = absurd (omega (arith, few, h))
 few_items n ByteLimit few h = h
 few_items n BufferLimit few h = h

@@ -6,6 +6,7 @@ use Rattle.std.proofs.lemmas.Bool.Decides.{nat_tests}
 use Rattle.std.proofs.lemmas.List.{length-map, length-replicate}
 use Rattle.std.proofs.lemmas.List.Splits.{length-slice_split}
 use Rattle.std.proofs.lemmas.List.Sums.{count_by-le-length}
+use Rattle.sel_bits.specs.Limits.{max_rows}
 use Rattle.sel_arrow.specs.Nested.{list_of}
 use Rattle.sel_arrow.specs.Value.{Value, Null, Number, Items, Truth, Bytes, Tuple}
 use Rattle.sel_gather.specs.Children.{items_in, joined_items}
@@ -126,13 +127,13 @@ standing_held w (row ∷ rows) = omega (arith, length-append (items_in w (standi
 
 -- The rows between bars.
 few_between : (row_of_word : List ℕ → Option Value) (count : Value → ℕ) (word : List ℕ) (read : List Value) → ((part : List ℕ) (row : Value) → row_of_word part ≡ Some row → count row ≤ 17 * suc (length part)) →
-    length word ≤ 1048576 → rows_of_bars row_of_word word ≡ Some read → (length read ≤ 4294967295) × (held_by count read ≤ 4294967295)
+    length word ≤ 1048576 → rows_of_bars row_of_word word ≡ Some read → (length read ≤ max_rows) × (held_by count read ≤ max_rows)
 few_between row_of_word count word read each short is = by_test (bytes_eq word (codes ".")) is
   where
     bars : ℕ → Bool
     bars b = b == 124
 
-    by_test : (b : Bool) → cond b (Some []) (all_some (map row_of_word (slice_split bars word))) ≡ Some read → (length read ≤ 4294967295) × (held_by count read ≤ 4294967295)
+    by_test : (b : Bool) → cond b (Some []) (all_some (map row_of_word (slice_split bars word))) ≡ Some read → (length read ≤ max_rows) × (held_by count read ≤ max_rows)
     by_test true made =
         let none : [] ≡ read = cc in
         (omega (arith, sym (ap length none)), omega (arith, sym (ap (held_by count) none)))

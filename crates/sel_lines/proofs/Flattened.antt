@@ -5,6 +5,7 @@ use Rattle.std.specs.List.{All}
 use Rattle.std.proofs.lemmas.Bool.Decides.{Decides-and, Decides-ltb}
 use Rattle.std.proofs.lemmas.List.{length-map}
 use Rattle.std.proofs.lemmas.List.Elements.{All-nil, All-head, All-weaker}
+use Rattle.sel_bits.specs.Limits.{max_rows}
 use mathlib.Core.Logic.{⊎_elim}
 use Rattle.sel_bits.specs.declared.faults.Limit.{Limit}
 use Rattle.sel_bits.specs.declared.faults.Limit.TheVariants.{Rows, Bytes, Buffers, ViewBytes}
@@ -52,25 +53,25 @@ numbers_alike (a ∷ arrays) numbers =
 
 -- ---- more rows than a column can have
 
-many_rows : (n : ℕ) (limit : Limit) → ExceedsRows n limit → 4294967295 < n
+many_rows : (n : ℕ) (limit : Limit) → ExceedsRows n limit → max_rows < n
 many_rows n Rows past = past
 many_rows n Bytes past = absurd past
 many_rows n Buffers past = absurd past
 many_rows n ViewBytes past = absurd past
 
-many_numbers : (h : ℕ) (columns : List Column) (vs : List Value) (limit : Limit) → exceeded_flattened h of_int64 columns vs limit → 4294967295 < length vs
+many_numbers : (h : ℕ) (columns : List Column) (vs : List Value) (limit : Limit) → exceeded_flattened h of_int64 columns vs limit → max_rows < length vs
 many_numbers h columns vs limit past = ⊎_elim (λ many. many_rows (length vs) limit many) (λ never. absurd never) past.1
 
-many_text : (vs : List Value) → 4294967295 < length vs → flat_text vs ≡ codes "size limit rows"
-many_text vs many = ap (λ b. cond b (codes "size limit rows") (column_text vs)) ((Decides-ltb 4294967295 (length vs)).1 many)
+many_text : (vs : List Value) → max_rows < length vs → flat_text vs ≡ codes "size limit rows"
+many_text vs many = ap (λ b. cond b (codes "size limit rows") (column_text vs)) ((Decides-ltb max_rows (length vs)).1 many)
 
-few_text : (vs : List Value) (b : Bool) → nat_lt 4294967295 (length vs) ≡ b → (b ≡ true → ⊥) → flat_text vs ≡ column_text vs
+few_text : (vs : List Value) (b : Bool) → nat_lt max_rows (length vs) ≡ b → (b ≡ true → ⊥) → flat_text vs ≡ column_text vs
 few_text vs true is never = absurd (never refl)
 few_text vs false is never = ap (λ b. cond b (codes "size limit rows") (column_text vs)) is
 
 -- Rows that a column can have.
-pub column_flat_text : (vs : List Value) → length vs ≤ 4294967295 → flat_text vs ≡ column_text vs
-column_flat_text vs few = few_text vs (nat_lt 4294967295 (length vs)) refl (λ t. let many = (Decides-ltb 4294967295 (length vs)).0 t in omega arith)
+pub column_flat_text : (vs : List Value) → length vs ≤ max_rows → flat_text vs ≡ column_text vs
+column_flat_text vs few = few_text vs (nat_lt max_rows (length vs)) refl (λ t. let many = (Decides-ltb max_rows (length vs)).0 t in omega arith)
 
 -- An error other than out of memory has this text.
 pub refused_text : (h : ℕ) (arrays : List ArrayRef) (ws : List ℕ) (fault : PolarsError) → 0 < length arrays → All (λ a. type_of a.column ≡ of_int64) arrays

@@ -3,6 +3,7 @@ use Rattle.std.proofs.Common.{◌≡◌, ◌≤◌, ℕ, ◌*◌, Bool, true, fa
 use Rattle.std.specs.Prelude.{IsTrue, not, nat_lt, ◌&&◌, ◌==◌}
 use Rattle.std.proofs.lemmas.Bool.Decides.{nat_tests}
 use Rattle.std.proofs.lemmas.List.{length-map}
+use Rattle.sel_bits.specs.Limits.{max_buffers, max_rows}
 use Rattle.sel_bits.specs.Bits.{Bits}
 use Rattle.sel_bits.specs.Faults.{first_broken, IsFault, IsFaultOrMemory}
 use Rattle.sel_bits.specs.declared.faults.MakeError.{MakeError}
@@ -33,7 +34,7 @@ memory_alone fault WantOfMemory none is = refl
 
 -- ---- columns without children
 
-few : (n : ℕ) → n ≤ 4294967295 → too_many n ≡ false
+few : (n : ℕ) → n ≤ max_rows → too_many n ≡ false
 few n le = grind (arith, nat_tests, le)
 
 within : (n last : ℕ) → last ≤ n → nat_lt n last ≡ false
@@ -55,7 +56,7 @@ views_sound buffers (v ∷ views) placed =
       views_sound buffers views (and_second (is_placed buffers v) (all_placed buffers views) placed),
     ) refl
 
-pub texts_sound : (views : List View) (buffers : List (List ℕ)) (validity : Bits) (flags : List Bool) → length views ≤ 4294967295 → length buffers ≤ 4294967295 → validity.bits ≡ flags → length flags ≡ length views →
+pub texts_sound : (views : List View) (buffers : List (List ℕ)) (validity : Bits) (flags : List Bool) → length views ≤ max_rows → length buffers ≤ max_buffers → validity.bits ≡ flags → length flags ≡ length views →
     IsTrue (all_placed buffers views) → IsTrue (all_text (hidden flags (map (view_value buffers) views))) → utf8view_fault views buffers (Some validity) ≡ None
 texts_sound views buffers validity flags rows few_buffers shown same placed texts =
     let long : length validity.bits ≡ length views = ap length shown ∙ same in
@@ -64,7 +65,7 @@ texts_sound views buffers validity flags rows few_buffers shown same placed text
 
 -- ---- columns with children
 
-pub list_sound : (read : List Value) (offsets : List ℕ) (n : ℕ) (validity : Bits) → offsets ≡ 0 ∷ item_ends 0 read → n ≡ length (joined_items 0 read) → validity.bits ≡ validities read → length read ≤ 4294967295 →
+pub list_sound : (read : List Value) (offsets : List ℕ) (n : ℕ) (validity : Bits) → offsets ≡ 0 ∷ item_ends 0 read → n ≡ length (joined_items 0 read) → validity.bits ≡ validities read → length read ≤ max_rows →
     list_fault offsets n (Some validity) ≡ None
 list_sound read offsets n validity ends count valid le =
     let between : rows_between offsets ≡ length read = ap rows_between ends ∙ ends_between read in
@@ -72,5 +73,5 @@ list_sound read offsets n validity ends count valid le =
     let long : length validity.bits ≡ rows_between offsets = ap length valid ∙ length-map read is_valid ∙ sym between in
     rw (few (rows_between offsets) (omega (arith, between, le)), within n (last_offset offsets) (omega (arith, last, count)), alike (length validity.bits) (rows_between offsets) long) refl
 
-pub block_sound : (w len n : ℕ) (validity : Bits) → len ≤ 4294967295 → w ≤ 4294967295 → n ≡ len * w → length validity.bits ≡ len → block_fault w len n (Some validity) ≡ None
+pub block_sound : (w len n : ℕ) (validity : Bits) → len ≤ max_rows → w ≤ max_rows → n ≡ len * w → length validity.bits ≡ len → block_fault w len n (Some validity) ≡ None
 block_sound w len n validity rows narrow fills long = rw (few len rows, few w narrow, alike n (len * w) fills, alike (length validity.bits) len long) refl

@@ -1,6 +1,7 @@
 -- If-then-else of list columns: the limits that the rows exceed, with the columns that are gathered and with the values that are given.
 use Rattle.std.proofs.Common.{◌≡◌, ℕ, ◌≤◌, true, List, [], ◌∷◌, length, Result, Ok, Err, inl, inr, sym, subst, ◌∙◌, arith}
 use Rattle.std.specs.Prelude.{IfErr, IfOk}
+use Rattle.sel_bits.specs.Limits.{max_rows}
 use Rattle.sel_bits.specs.declared.faults.Limit.{Limit}
 use Rattle.sel_bits.specs.declared.faults.PolarsError.{PolarsError}
 use Rattle.sel_arrow.specs.Rows.{rows, type_of, buffers_held, well_formed}
@@ -20,7 +21,7 @@ use Rattle.sel_ternary.specs.Sides.{Side, IsLimitOrMemory, ExceedsNone, exceeded
 use Rattle.sel_ternary.proofs.SameNeeds.{Like, block_child, list_child, same_needs}
 
 -- A mask that is as long as a column has at most 2^32 - 1 bits.
-pub few_bits : (c : Column) (n : ℕ) → well_formed c ≡ true → length (rows c) ≡ n → n ≤ 4294967295
+pub few_bits : (c : Column) (n : ℕ) → well_formed c ≡ true → length (rows c) ≡ n → n ≤ max_rows
 few_bits c n formed long = omega (arith, few_rows c formed, length-rows c, long)
 
 -- ---- the child of lists that are over a column like another one

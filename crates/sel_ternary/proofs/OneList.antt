@@ -2,6 +2,7 @@
 use Rattle.std.proofs.Common.{◌≡◌, ℕ, zero, suc, ◌+◌, ◌≤◌, ◌&&◌, ◌==◌, ◌*◌, true, None, List, [], ◌∷◌, length, get_or, refl, ap, sym, ◌∙◌, arith}
 use Rattle.std.specs.Prelude.{nat_le}
 use Rattle.std.proofs.lemmas.List.{append-nil}
+use Rattle.sel_bits.specs.Limits.{max_rows}
 use Rattle.sel_arrow.specs.Masked.{covers, is_few}
 use Rattle.sel_arrow.specs.Nested.{list_of, list_rows, block_rows}
 use Rattle.sel_arrow.specs.Pieces.{rows_between, last_offset, is_rising}
@@ -47,7 +48,7 @@ pub one_block_rows : (w : ℕ) (entries child : List Value) → length entries �
 one_block_rows w entries child long is =
     blocks_rebuilt w (only entries) child None 1 (all_blocks w entries long) refl (is ∙ sym (items_of w entries)) refl
 
-pub one_block_formed : (w : ℕ) (entries : List Value) (values : Column) → length entries ≡ w → w ≤ 4294967295 → rows values ≡ entries → well_formed values ≡ true →
+pub one_block_formed : (w : ℕ) (entries : List Value) (values : Column) → length entries ≡ w → w ≤ max_rows → rows values ≡ entries → well_formed values ≡ true →
     (is_few 1 && is_few w && (row_count values == 1 * w) && covers None 1 && well_formed values) ≡ true
 one_block_formed w entries values long narrow is formed =
     blocks_formed w 1 values None (blocks_fit w (only entries) values None 1 (all_blocks w entries long) refl (omega arith) narrow (is ∙ sym (items_of w entries)) (λ b there. absurd (cc there)) formed)

@@ -4,6 +4,7 @@ use Rattle.std.specs.Prelude.{leb, ltb, ◌==◌}
 use Rattle.std.specs.List.{list_all, slice_range}
 use Rattle.std.proofs.lemmas.Bool.{leb-false, leb-true, le-leb, lt-leb, lt-ltb, eq-eqb}
 use Rattle.std.proofs.lemmas.List.{get_or_append_left, get_or-append-add, length-append, take_all}
+use Rattle.sel_bits.specs.Limits.{max_buffers}
 use Rattle.sel_bits.specs.declared.faults.Limit.{Limit}
 use Rattle.sel_bits.specs.declared.faults.PolarsError.{PolarsError}
 use Rattle.sel_bits.specs.declared.faults.PolarsError.TheVariants.{OutOfMemory, SizeLimit, ComputeError}
@@ -106,7 +107,7 @@ module _ (own before : List (List ℕ)) (views : List View) (placed : list_all (
   back_values = raised_values (before ++ own) own (length before) views (back_behind [] before own) placed
 
 -- Buffer indices can be raised as far as they fit 32 bits.
-pub views_rise : (own : List (List ℕ)) (k : ℕ) (views : List View) → list_all (is_placed own) views ≡ true → k + length own ≤ 4294967295 → all_rise k views ≡ true
+pub views_rise : (own : List (List ℕ)) (k : ℕ) (views : List View) → list_all (is_placed own) views ≡ true → k + length own ≤ max_buffers → all_rise k views ≡ true
 views_rise own k [] placed room = refl
 views_rise own k (view ∷ views) placed room =
     both (can_rise k view) (all_rise k views) (rises view (and_first (is_placed own view) (list_all (is_placed own) views) placed)) (views_rise own k views (and_second (is_placed own view) (list_all (is_placed own) views) placed) room)
@@ -116,7 +117,7 @@ views_rise own k (view ∷ views) placed room =
       where
         decided : (b : Bool) → is_inline view ≡ b → can_rise k view ≡ true
         decided true e = rw e refl
-        decided false e = rw e (le-leb (view.buffer_idx + k) 4294967295 (room_to_raise own view k 4294967295 there room (leb-false view.length 12 e)))
+        decided false e = rw e (le-leb (view.buffer_idx + k) max_buffers (room_to_raise own view k max_buffers there room (leb-false view.length 12 e)))
 
 -- ---- the view of a scalar
 

@@ -2,6 +2,7 @@
 use Rattle.std.proofs.Common.{◌≡◌, ℕ, ◌*◌, ◌<◌, true, List, length, replicate, ap, sym, ◌∙◌, arith}
 use Rattle.std.specs.List.{flat_map, list_all}
 use Rattle.std.proofs.lemmas.Bool.Decides.{nat_tests}
+use Rattle.sel_bits.specs.Limits.{max_rows}
 use Rattle.sel_arrow.specs.Shape.{Shape, of_fixed_size_list, of_null}
 use Rattle.sel_arrow.specs.Value.{Value, Null}
 use Rattle.sel_text.specs.Fits.{fits}
@@ -12,10 +13,10 @@ use Rattle.sel_text.proofs.Making.{all_nulls}
 use Rattle.sel_text.proofs.Refusals.{many_past}
 
 -- Too many child rows exceed a limit.
-pub blocks_many : (b : NullSlots) (s : Shape) (size n : ℕ) (vs : List Value) → list_all (fits (of_fixed_size_list s size)) vs ≡ true → n ≡ length vs → 4294967295 < n * size → exceeds_limit b s (flat_map (block_in size) vs) ≡ true
+pub blocks_many : (b : NullSlots) (s : Shape) (size n : ℕ) (vs : List Value) → list_all (fits (of_fixed_size_list s size)) vs ≡ true → n ≡ length vs → max_rows < n * size → exceeds_limit b s (flat_map (block_in size) vs) ≡ true
 blocks_many b s size n vs fit same many =
     let count = blocks_count s size n vs fit same in
-    let more : 4294967295 < length (flat_map (block_in size) vs) = omega (arith, count, many) in
+    let more : max_rows < length (flat_map (block_in size) vs) = omega (arith, count, many) in
     many_past b s (flat_map (block_in size) vs) (grind (arith, nat_tests, more))
 
 -- Child rows of the null type are as many nulls.
@@ -26,4 +27,4 @@ blocks_null size n vs fit same =
 
 -- The same if their number has more than 64 bits.
 pub blocks_wide : (b : NullSlots) (s : Shape) (size n : ℕ) (vs : List Value) → list_all (fits (of_fixed_size_list s size)) vs ≡ true → n ≡ length vs → (n * size < 18446744073709551616 → ⊥) → exceeds_limit b s (flat_map (block_in size) vs) ≡ true
-blocks_wide b s size n vs fit same wide = let many : 4294967295 < n * size = grind (arith, wide) in blocks_many b s size n vs fit same many
+blocks_wide b s size n vs fit same wide = let many : max_rows < n * size = grind (arith, wide) in blocks_many b s size n vs fit same many

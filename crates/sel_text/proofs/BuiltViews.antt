@@ -5,6 +5,7 @@ use Rattle.std.specs.List.{list_all}
 use Rattle.std.proofs.lemmas.Bool.{leb-true, ltb-true}
 use Rattle.std.proofs.lemmas.Bool.Decides.{nat_tests}
 use Rattle.std.proofs.lemmas.List.{map-append, length-map, take-append-drop}
+use Rattle.sel_bits.specs.Limits.{max_buffer_bytes}
 use Rattle.sel_arrow.specs.Value.{Value, Null, Truth, Number, Bytes, Items, Tuple}
 use Rattle.sel_arrow.specs.Shape.{Shape}
 use Rattle.sel_arrow.specs.Views.{all_placed, inline_bytes, view_of, view_value}
@@ -96,15 +97,15 @@ past_bytes s of beneath items i store p views fit so next past =
     ∙ total-append (stored_bytes beneath (take i items) ++ p ∷ []) (map stored (drop (i + 1) items)) in
     let here = total-append (stored_bytes beneath (take i items)) (p ∷ []) in
     let held = so.held in
-    let many : 4294967295 < length store + length (bytes_behind p) = ltb-true _ _ past in
-    let more : 4294967295 < all_placed_bytes (rows_read items) = omega (arith, all, cut, here, held, many) in
+    let many : max_buffer_bytes < length store + length (bytes_behind p) = ltb-true _ _ past in
+    let more : max_buffer_bytes < all_placed_bytes (rows_read items) = omega (arith, all, cut, here, held, many) in
     grind (arith, nat_tests, more)
 
 -- The rows need no more bytes than the data buffer has.
 pub bytes_within : (s : Shape) → IsOfBytes s → (beneath : NullSlots) (items : List (Bor Item)) (store : List ℕ) (views : List View) → list_all (fits_type s) (rows_read items) ≡ true →
-    Views store views (stored_bytes beneath items) → length store ≤ 4294967295 → exceeds_max (all_placed_bytes (rows_read items)) ≡ false
+    Views store views (stored_bytes beneath items) → length store ≤ max_buffer_bytes → exceeds_max (all_placed_bytes (rows_read items)) ≡ false
 bytes_within s of beneath items store views fit so few =
     let all = all_in_rows s of beneath items fit in
     let held = so.held in
-    let small : all_placed_bytes (rows_read items) ≤ 4294967295 = omega (arith, all, held, few) in
+    let small : all_placed_bytes (rows_read items) ≤ max_buffer_bytes = omega (arith, all, held, few) in
     grind (arith, nat_tests, small)

@@ -7,6 +7,7 @@ use Rattle.std.specs.Str.{is_utf8}
 use Rattle.std.proofs.lemmas.List.Elements.{All-weaker}
 use Rattle.std.proofs.lemmas.List.FromFn.{get_or-map-range_with_len, length-range_with_len, get_or-range_with_len}
 use Rattle.std.proofs.Math.Nat.{mul-le-mul_right}
+use Rattle.sel_bits.specs.Limits.{max_rows}
 use Rattle.sel_bits.specs.Bits.{Bits}
 use Rattle.sel_arrow.specs.Masked.{Covers, valid_at}
 use Rattle.sel_arrow.specs.Nested.{list_of, struct_at, blocks}
@@ -64,7 +65,7 @@ module _ (c : Column) (offsets : List ℕ) (values : Box Column Global) (validit
       let last = has.rising.rising (i + 1) (length offsets - 1) (omega arith) (omega arith) in
       (has.child, step, omega (arith, last, has.ends, length-rows values.value))
 
-  pub list_few : i < 4294967295
+  pub list_few : i < max_rows
   list_few = let few = list_has.few in omega (arith, few, list_inside)
 
 -- ---- fixed-size lists
@@ -104,7 +105,7 @@ module _ (c : Column) (size len : ℕ) (values : Box Column Global) (validity : 
 
   pub block_few : i * size + size < 18446744073709551616
   block_few =
-      let a : len * size ≤ 4294967295 * size = mul-le-mul_right size block_has.few in
+      let a : len * size ≤ max_rows * size = mul-le-mul_right size block_has.few in
       omega (arith, a, block_has.narrow, block_end, block_has.fills, length-rows values.value)
 
 -- ---- structs

@@ -2,6 +2,7 @@
 use Rattle.std.proofs.Common.{◌≡◌, ℕ, ◌≤◌, true, refl, arith}
 use Rattle.std.specs.Prelude.{◌==◌, ◌&&◌, ◌*◌, ◌^◌, nat_lt, nat_le}
 use Rattle.std.proofs.lemmas.Bool.Decides.{nat_tests}
+use Rattle.sel_bits.specs.Limits.{max_rows}
 use Rattle.sel_arrow.specs.Masked.{covers, is_few}
 use Rattle.sel_arrow.specs.Pieces.{is_rising, last_offset, rows_between}
 use Rattle.sel_arrow.specs.Rows.{row_count, type_of, types_of_each, well_formed, all_well_formed}
@@ -11,7 +12,7 @@ use Rattle.sel_arrow.proofs.Lists.{both, and_first, and_second}
 use Rattle.sel_text.specs.Written.{widths_written, all_widths_written}
 
 narrow : (size : ℕ) → is_few size ≡ true → nat_lt size (2 ^ 64) ≡ true
-narrow size few = let small : size ≤ 4294967295 = grind (arith, nat_tests, few) in grind (arith, nat_tests, small)
+narrow size few = let small : size ≤ max_rows = grind (arith, nat_tests, few) in grind (arith, nat_tests, small)
 
 mutual
   pub column_written : (c : Column) → well_formed c ≡ true → widths_written (type_of c) ≡ true

@@ -3,6 +3,7 @@ use Rattle.std.proofs.Common.{◌≡◌, ◌≤◌, ℕ, Bool, true, false, true
 use Rattle.std.specs.Prelude.{◌||◌, ◌==◌, nat_lt, IsTrue, if◌then◌else◌, not, IfErr, IsErrAnd}
 use Rattle.std.specs.List.{flat_map, list_all}
 use Rattle.std.proofs.lemmas.Bool.Decides.{nat_tests}
+use Rattle.sel_bits.specs.Limits.{max_rows}
 use Rattle.sel_bits.specs.Bits.{Bits}
 use Rattle.sel_bits.specs.Faults.{IsFault, IsFaultOrMemory, first_broken}
 use Rattle.sel_bits.specs.declared.faults.MakeError.{MakeError}
@@ -187,7 +188,7 @@ texts_fit [] fit = refl
 texts_fit (row ∷ rows) fit =
     both (is_text row) (all_text rows) (text_fits row (and_first (fits of_utf8_view row) (list_all (fits of_utf8_view) rows) fit)) (texts_fit rows (and_second (fits of_utf8_view row) (list_all (fits of_utf8_view) rows) fit))
 
-few : (n : ℕ) → n ≤ 4294967295 → too_many n ≡ false
+few : (n : ℕ) → n ≤ max_rows → too_many n ≡ false
 few n small = grind (arith, nat_tests, small)
 
 no_view_rule : (many buffers other : Bool) (next : Option Malformed) → many ≡ false → buffers ≡ false → other ≡ false → next ≡ None →

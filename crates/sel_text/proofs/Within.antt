@@ -13,6 +13,7 @@ use Rattle.sel_arrow.specs.declared.column.Column.TheVariants.{Null as NullColum
 use Rattle.sel_arrow.proofs.Lists.{and_first, and_second}
 use Rattle.sel_arrow.proofs.NestedRows.{length-rows, has_blocks}
 use Rattle.std.proofs.lemmas.List.{length-map, length-take, map_more}
+use Rattle.sel_bits.specs.Limits.{max_buffer_bytes, max_rows}
 use Rattle.sel_arrow.specs.DataType.{shape_of}
 use Rattle.sel_arrow.specs.declared.datatype.ArrowDataType.{ArrowDataType}
 use Rattle.sel_arrow.specs.declared.fixed_size_list.FixedSizeListArray.{FixedSizeListArray}
@@ -20,10 +21,10 @@ use Rattle.sel_text.specs.Fits.{fits_number}
 use Rattle.sel_text.specs.Limits.{any_exceeds_limit, exceeds_limit, exceeds_max, part_in}
 use Rattle.sel_text.specs.declared.build.NullSlots.{NullSlots}
 
-few_of : (n : ℕ) → is_few n ≡ true → n ≤ 4294967295
+few_of : (n : ℕ) → is_few n ≡ true → n ≤ max_rows
 few_of n e = grind (arith, nat_tests, e)
 
-count_few : (c : Column) → well_formed c ≡ true → row_count c ≤ 4294967295
+count_few : (c : Column) → well_formed c ≡ true → row_count c ≤ max_rows
 count_few (NullColumn column) formed = column.rows_fit
 count_few (Boolean column) formed = column.rows_fit
 count_few (Int8 column) formed = column.rows_fit
@@ -49,7 +50,7 @@ count_few (FixedSizeList' size len p values validity) formed =
     (and_first (is_few len && is_few size && (row_count values == len * size)) (covers validity len) (and_first _ (well_formed values) formed))))
 count_few (Struct' len n fields validity) formed = few_of len (and_first (is_few len) (covers validity len) (and_first _ (all_well_formed len fields) formed))
 
-not_past : (n : ℕ) → n ≤ 4294967295 → exceeds_max n ≡ false
+not_past : (n : ℕ) → n ≤ max_rows → exceeds_max n ≡ false
 not_past n few = grind (arith, nat_tests, few)
 
 -- The rows of a column are not too many.
@@ -63,7 +64,7 @@ rows_few array vs are =
 pub neither : (a b : Bool) → a ≡ false → b ≡ false → (a || b) ≡ false
 neither a b none other = ap (λ x. x || b) none ∙ other
 
-pub bytes_few : (n : ℕ) → n ≤ 4294967295 → exceeds_max n ≡ false
+pub bytes_few : (n : ℕ) → n ≤ max_buffer_bytes → exceeds_max n ≡ false
 bytes_few n few = not_past n few
 
 -- Rows of an integer type exceed a limit only if they are too many.

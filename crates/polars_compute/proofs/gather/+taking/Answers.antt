@@ -2,6 +2,7 @@ use Rattle.std.proofs.Common.{◌≡◌, ◌≤◌, ◌∙◌, All, pos, ap, sym
 use Rattle.std.proofs.lemmas.List.{length-map}
 use Rattle.std.proofs.lemmas.List.Elements.{All-get_or, All-push}
 use Rattle.std.proofs.lemmas.Result.{err_from_is_err_and}
+use Rattle.sel_bits.specs.Limits.{max_rows}
 use Rattle.sel_arrow.specs.Columns.{primitive_rows}
 use Rattle.sel_arrow.specs.Rows.{rows, type_of, well_formed, IsField}
 use Rattle.sel_arrow.specs.Shape.{shapes_of}
@@ -66,7 +67,7 @@ take_struct-returns-in_err-fields-clause-refusal t c =
 pub take_struct-invariant_of-result : goal.take_struct-invariant_of-result
 take_struct-invariant_of-result t c =
     let indices = c.args.indices.now in
-    let few : c.len.result ≤ 4294967295 = omega (arith, c.len.ensures.len, length-number_rows pos indices.values indices.validity, indices.rows_fit) in
+    let few : c.len.result ≤ max_rows = omega (arith, c.len.ensures.len, length-number_rows pos indices.values indices.validity, indices.rows_fit) in
     let fields = subst (λ l. All (IsField (length l)) c.in_ok-fields.fields.items) (c.in_ok-live.ensures.rows) c.in_ok-fields.ensures.fields in
     let all = subst (λ m. All (IsField m) c.in_ok-fields.fields.items) (length-map (primitive_rows indices) (live_index c.args.validity.now)) fields in
     record {

@@ -1,8 +1,9 @@
 use Rattle.std.proofs.Common.{◌∙◌, sym}
 use Rattle.std.proofs.lemmas.Bool.{lt-ltb}
+use Rattle.sel_bits.specs.Limits.{max_rows}
 use Rattle.polars_compute.proofs.IndexTests.{few_below}
 use Rattle.polars_compute.proofs.gather.idx_slice_in_bounds.Goals as goal
 
 pub returns-then-len : goal.returns-then-len
 returns-then-len c =
-    lt-ltb 4294967295 c.args.len c.if-len.true ∙ sym (few_below c.args.len c.args.indices.now c.if-len.true (λ k. (c.type_inv.indices k).fits))
+    lt-ltb max_rows c.args.len c.if-len.true ∙ sym (few_below c.args.len c.args.indices.now c.if-len.true (λ k. (c.type_inv.indices k).fits))

@@ -2,6 +2,7 @@ use Rattle.std.proofs.Common.{rules, ◌≡◌, ◌∙◌, ◌<◌, ◌≤◌, �
 use Rattle.std.proofs.lemmas.List.{length-map}
 use Rattle.std.proofs.lemmas.Nat.{mul-le}
 use Rattle.std.proofs.lemmas.Result.{err_from_is_err_and}
+use Rattle.sel_bits.specs.Limits.{max_rows}
 use Rattle.sel_arrow.specs.Rows.{rows}
 use Rattle.sel_arrow.specs.Value.{Null}
 use Rattle.sel_arrow.specs.declared.array_ref.ArrayRef.{ArrayRef}
@@ -60,7 +61,7 @@ invariant_of-woven c =
       few = omega (arith, lanes_long, count, wide, c.requires.len, c.requires.few);
       high = omega (arith, high, c.requires.len, c.requires.few);
       wide = subst (All (λ l. 0 < l.width)) (sym lanes) (wide_lanes xss c.args.widths.now c.args.height c.requires.fit);
-      low = subst (All (λ l. (0 + (c.args.height - 1)) * l.step + l.width ≤ 4294967295)) (sym lanes) (low_lanes xss c.args.widths.now c.args.height c.requires.fit (0 + (c.args.height - 1)) below (omega (arith, c.requires.len, c.requires.few)));
+      low = subst (All (λ l. (0 + (c.args.height - 1)) * l.step + l.width ≤ max_rows)) (sym lanes) (low_lanes xss c.args.widths.now c.args.height c.requires.fit (0 + (c.args.height - 1)) below (omega (arith, c.requires.len, c.requires.few)));
       near = omega arith;
       inside = omega arith;
       counted = omega (arith, ap length picks, found, count_picks, c.requires.len);

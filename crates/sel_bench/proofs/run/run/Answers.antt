@@ -1,5 +1,6 @@
 use Rattle.std.proofs.Common.{◌≤◌, ◌∙◌, arith}
 use Rattle.std.proofs.lemmas.Result.{err_from_is_err_and}
+use Rattle.sel_bits.specs.Limits.{max_rows}
 use Rattle.sel_bench.proofs.Progress.{at_start, advance, finish, give_up, good_number}
 use Rattle.sel_bench.proofs.run.run.Goals as goal
 
@@ -9,7 +10,7 @@ lines-init g c = record { within = omega arith; so = at_start _ _; reader_whole 
 pub lines-preserved : goal.lines-preserved
 lines-preserved g c =
     let step = rw c.in_default.is at c.in_ok-done.ensures.step in
-    let below : c.lines.number ≤ 4294967295 = good_number c.lines.number step.line step.ends.1 in
+    let below : c.lines.number ≤ max_rows = good_number c.lines.number step.line step.ends.1 in
     record { within = omega arith; so = advance c.lines.number _ _ _ _ _ _ c.lines.invariant.so step; reader_whole = c.in_ok-done.ensures.input ∙ c.lines.invariant.reader_whole; writer_whole = c.in_ok-done.ensures.output ∙ c.lines.invariant.writer_whole }
 
 pub returns-in-Some-clause-runs : goal.returns-in-Some-clause-runs

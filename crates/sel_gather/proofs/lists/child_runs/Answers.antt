@@ -1,4 +1,5 @@
 use Rattle.std.proofs.Common.{◌∙◌, ap, sym, length}
+use Rattle.sel_bits.specs.Limits.{max_rows}
 use Rattle.sel_arrow.specs.Value.{Null}
 use Rattle.sel_gather.specs.Children.{joined_items}
 use Rattle.sel_gather.specs.Picks.{pick, PickFits}
@@ -13,7 +14,7 @@ push_items-requires-clause-fits c = all_at (PickFits (rows_of c.args.sources.now
 pub push_items-requires-clause-room : goal.push_items-requires-clause-room
 push_items-requires-clause-room c =
     let long = sym (length-pick Null (below_of c.args.sources.now) (expand c.loop-run.below.items)) ∙ ap length c.loop-run.invariant.0 in
-    run_items_room c.args.width (rows_of c.args.sources.now) c.args.runs.now c.loop-run.run-index _ 4294967295 c.loop-run-test.true long c.requires.room
+    run_items_room c.args.width (rows_of c.args.sources.now) c.args.runs.now c.loop-run.run-index _ max_rows c.loop-run-test.true long c.requires.room
 
 pub loop-run-preserved : goal.loop-run-preserved
 loop-run-preserved c = (

@@ -1,4 +1,5 @@
 use Rattle.std.proofs.Common.{◌∙◌, ap, arith, map, pos, ◌∷◌, length, length-append, take}
+use Rattle.sel_bits.specs.Limits.{max_rows}
 use Rattle.sel_arrow.specs.Value.{Null}
 use Rattle.sel_gather.specs.Children.{joined_items}
 use Rattle.sel_gather.specs.Picks.{pick, PickFits}
@@ -12,7 +13,7 @@ pub push_ends-requires-clause-fits : goal.push_ends-requires-clause-fits
 push_ends-requires-clause-fits c = all_at (PickFits (rows_of c.args.sources.now)) c.args.runs.now c.loop-run.run-index c.loop-run-test.true c.requires.may.fits
 
 pub push_ends-requires-clause-room : goal.push_ends-requires-clause-room
-push_ends-requires-clause-room c = run_items_room 0 (rows_of c.args.sources.now) c.args.runs.now c.loop-run.run-index c.loop-run.end 4294967295 c.loop-run-test.true c.loop-run.invariant.0 c.requires.room
+push_ends-requires-clause-room c = run_items_room 0 (rows_of c.args.sources.now) c.args.runs.now c.loop-run.run-index c.loop-run.end max_rows c.loop-run-test.true c.loop-run.invariant.0 c.requires.room
 
 pub loop-run-preserved : goal.loop-run-preserved
 loop-run-preserved c =

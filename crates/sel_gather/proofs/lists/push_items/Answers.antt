@@ -1,4 +1,5 @@
 use Rattle.std.proofs.Common.{◌∙◌, ◌++◌, ap}
+use Rattle.sel_bits.specs.Limits.{max_rows}
 use Rattle.sel_arrow.specs.Value.{Null}
 use Rattle.sel_gather.specs.Children.{joined_items}
 use Rattle.sel_gather.specs.Picks.{pick}
@@ -8,7 +9,7 @@ use Rattle.sel_gather.proofs.lists.push_items.Goals as goal
 
 pub push_run-requires : goal.push_run-requires
 push_run-requires c =
-    items_room c.args.width (below_of c.args.sources.now) (rows_of c.args.sources.now) c.args.below.now.items c.loop-i.below.items c.args.run c.run_of_row.result c.loop-i.i 4294967295 c.loop-i-test.true
+    items_room c.args.width (below_of c.args.sources.now) (rows_of c.args.sources.now) c.args.below.now.items c.loop-i.below.items c.args.run c.run_of_row.result c.loop-i.i max_rows c.loop-i-test.true
     c.loop-i.invariant.0 c.run_of_row.ensures.items c.requires.room
 
 pub loop-i-preserved : goal.loop-i-preserved

@@ -1,6 +1,7 @@
 use Rattle.std.proofs.Common.{◌≡◌, ◌≤◌, length, take}
 use Rattle.std.specs.List.{flat_map}
+use Rattle.sel_bits.specs.Limits.{max_buffers}
 use Rattle.sel_gather.proofs.view.check_buffers.Given as goal
 
 abbrev pub invariant-loop-source : goal.invariant-loop-source
-invariant-loop-source l = (l.count ≡ length (flat_map (λ s. s.now.buffers) (take l.source-index l.sources))) × (l.count ≤ 4294967295)
+invariant-loop-source l = (l.count ≡ length (flat_map (λ s. s.now.buffers) (take l.source-index l.sources))) × (l.count ≤ max_buffers)

@@ -1,6 +1,7 @@
 use Rattle.std.proofs.Common.{◌≡◌, ◌<◌, ◌*◌, ◌||◌, map, length, replicate, true, false, append-nil, refl, sym, ap, subst, ◌∙◌, arith}
 use Rattle.std.specs.List.{flat_map, list_all}
 use Rattle.std.proofs.lemmas.List.{length-map, get_or-map, take_all}
+use Rattle.sel_bits.specs.Limits.{max_rows}
 use Rattle.sel_arrow.specs.DataType.{shape_of}
 use Rattle.sel_arrow.specs.Rows.{rows, row_count, type_of}
 use Rattle.sel_arrow.specs.Shape.{of_null, of_binary_view, of_large_list, of_fixed_size_list, of_struct, shapes_of}
@@ -98,7 +99,7 @@ block_child-returns-in-None t c = λ fit.
 
 pub block_child-returns-then-count-gt-MOST_ROWS : goal.block_child-returns-then-count-gt-MOST_ROWS
 block_child-returns-then-count-gt-MOST_ROWS t c = λ fit.
-    let many : 4294967295 < c.in-Ok.len * c.args.size = subst (λ n. 4294967295 < n) c.in-Some.ensures.1 c.if-count-gt-MOST_ROWS.true in
+    let many : max_rows < c.in-Ok.len * c.args.size = subst (λ n. max_rows < n) c.in-Some.ensures.1 c.if-count-gt-MOST_ROWS.true in
     blocks_many c.args.beneath (shape_of c.args.dtype.now) c.args.size c.in-Ok.len (rows_repeated c.args.items.now) fit c.in-Ok.ensures.count many
 
 pub block_child-returns-in-Null : goal.block_child-returns-in-Null

@@ -1,5 +1,6 @@
 -- Loop invariant: the views and the data buffer of the rows so far, and the rows that are left.
 use Rattle.std.proofs.Common.{◌≡◌, take, drop, length, ◌≤◌}
+use Rattle.sel_bits.specs.Limits.{max_rows}
 use Rattle.sel_text.specs.RowRuns.{all_items, left}
 use Rattle.sel_text.proofs.BuiltViews.{Views}
 use Rattle.sel_text.proofs.Shown.{stored_bytes}
@@ -9,5 +10,5 @@ abbrev pub invariant-loop : goal.invariant-loop
 invariant-loop l = record {
   rows : left l.rows ≡ drop l.counter (all_items l.items);
   views : Views l.data.items l.views.items (stored_bytes l.beneath (take l.counter (all_items l.items)));
-  few : length l.data.items ≤ 4294967295;
+  few : length l.data.items ≤ max_rows;
 }

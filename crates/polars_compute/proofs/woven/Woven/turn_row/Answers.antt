@@ -1,4 +1,5 @@
 use Rattle.std.proofs.Common.{◌≡◌, ◌∙◌, ◌≤◌, ◌+◌, ◌-◌, ◌*◌, All, ap, sym, subst, length, arith}
+use Rattle.sel_bits.specs.Limits.{max_rows}
 use Rattle.polars_compute.specs.Lanes.{left_picks}
 use Rattle.polars_compute.proofs.Weaving.{turn_row, some_below}
 use Rattle.polars_compute.proofs.woven.Woven.turn_row.Goals as goal
@@ -26,7 +27,7 @@ invariant_of-self c =
       few = p.few;
       high = omega (arith, rows, p.high);
       wide = p.wide;
-      low = subst (λ r. All (λ l. r * l.step + l.width ≤ 4294967295) all) rows p.low;
+      low = subst (λ r. All (λ l. r * l.step + l.width ≤ max_rows) all) rows p.low;
       near = p.near;
       inside = omega arith;
       counted = p.counted ∙ ap length (sym picks);

@@ -1,5 +1,6 @@
 use Rattle.std.proofs.Common.{◌<◌, ◌+◌, ◌≤◌, ◌++◌, List, map, length, take, drop, get_or, [], ap, sym, ◌∙◌, arith}
 use Rattle.std.proofs.lemmas.List.{length-map}
+use Rattle.sel_bits.specs.Limits.{max_buffers}
 use Rattle.sel_arrow.specs.Columns.{binview_rows}
 use Rattle.sel_arrow.specs.Masked.{hidden}
 use Rattle.sel_arrow.specs.Value.{Value}
@@ -25,7 +26,7 @@ pub push_part-requires-clause-room : goal.push_part-requires-clause-room
 push_part-requires-clause-room g c =
     let self = c.args.self in
     let there : c.args.source < length self.sources.now = omega (arith, length-map self.sources.now (λ s. binview_rows s.now), c.requires.source) in
-    source_room (λ s. s.now.buffers) self.sources.now g.B.NullSlots.buffers self.starts.now c.args.source c.index-sources-source.result 4294967295 self.joined self.started there c.index-sources-source.is self.few
+    source_room (λ s. s.now.buffers) self.sources.now g.B.NullSlots.buffers self.starts.now c.args.source c.index-sources-source.result max_buffers self.joined self.started there c.index-sources-source.is self.few
 
 pub invariant_of-result : goal.invariant_of-result
 invariant_of-result g c =

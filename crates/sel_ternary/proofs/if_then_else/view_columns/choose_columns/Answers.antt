@@ -1,6 +1,7 @@
 use Rattle.std.proofs.Common.{◌≡◌, ◌∙◌, ◌+◌, ◌≤◌, ◌++◌, length, map, ap, arith}
 use Rattle.std.specs.List.{list_all}
 use Rattle.std.proofs.lemmas.List.{length-append, length-map}
+use Rattle.sel_bits.specs.Limits.{max_buffers}
 use Rattle.sel_arrow.specs.Masked.{masked}
 use Rattle.sel_arrow.specs.Views.{is_placed, view_value}
 use Rattle.sel_arrow.specs.declared.view.View.{View}
@@ -38,7 +39,7 @@ choose_views-requires-clause-false_side c =
 pub choose_views-requires-clause-rises : goal.choose_views-requires-clause-rises
 choose_views-requires-clause-rises c =
     let b = c.args.if_false.now in
-    let room : c.len-before.result + length b.buffers ≤ 4294967295 = omega (arith, c.in_ok-check_limits.ensures.buffers, c.len.ensures) in
+    let room : c.len-before.result + length b.buffers ≤ max_buffers = omega (arith, c.in_ok-check_limits.ensures.buffers, c.len.ensures) in
     ap (all_rise c.len-before.result) c.as_slice-falses.ensures ∙ views_rise b.buffers c.len-before.result b.views b.placed room
 
 pub invariant_of-result : goal.invariant_of-result

@@ -1,4 +1,5 @@
 use Rattle.std.proofs.Common.{◌≡◌, ◌≤◌, length, true, arith, ap, ◌∙◌}
+use Rattle.sel_bits.specs.Limits.{max_rows}
 use Rattle.sel_arrow.specs.Columns.{binary_rows, primitive_rows}
 use Rattle.sel_arrow.specs.Value.{Number}
 use Rattle.sel_arrow.proofs.ByteRows.{length-byte_rows}
@@ -13,7 +14,7 @@ to_usize-requires g c =
     let rows = binary_rows column in
     let indices = primitive_rows c.args.self.now.indices.now in
     let shown = g.I.NativeType.number c.in-Some.index in
-    let few : length rows ≤ 4294967295 = omega (arith, length-byte_rows column.offsets column.values column.validity, column.rows_fit) in
+    let few : length rows ≤ max_rows = omega (arith, length-byte_rows column.offsets column.values column.validity, column.rows_fit) in
     let within : is_within (length rows) (Number shown) ≡ true = within_at (length rows) indices c.args.k (Number shown) c.args.self.now.within (taken_inside rows indices c.args.k c.requires) c.in-Some.ensures in
     within_fits (length rows) shown within few
 
