@@ -11,6 +11,7 @@ pub mod Entries
 pub mod Equalities
 pub mod Escapes
 pub mod Fields
+pub mod FittingRows
 pub mod ItemParts
 pub mod ItemRows
 pub mod Making
@@ -21,10 +22,12 @@ pub mod PartRows
 pub mod Printed
 pub mod Quotes
 pub mod Refusals
+pub mod RoundTrip
 pub mod RowRuns
 pub mod Rows
 pub mod Shown
 pub mod Spelled
+pub mod SpelledRows
 pub mod Spellings
 pub mod Told
 pub mod TypeTexts

@@ -25,7 +25,7 @@ not_false true e = absurd cc
 not_false false e = refl
 
 -- The state after a plain byte.
-abbrev after_plain : Bool → Place
+abbrev pub after_plain : Bool → Place
 after_plain mark = if mark then Between else Word
 
 pick : (mark : Bool) (byte : ℕ) (rest : List ℕ) →

@@ -13,7 +13,7 @@ pub begins : (text : List ℕ) (o : Option (List ℕ)) → option_map (λ more. 
 begins text None = refl
 begins text (Some x) = refl
 
-appended : (a b : List ℕ) (o : Option (List ℕ)) → option_map (λ more. (a ++ b) ++ more) o ≡ option_map (λ more. a ++ more) (option_map (λ more. b ++ more) o)
+pub appended : (a b : List ℕ) (o : Option (List ℕ)) → option_map (λ more. (a ++ b) ++ more) o ≡ option_map (λ more. a ++ more) (option_map (λ more. b ++ more) o)
 appended a b None = refl
 appended a b (Some x) = ap Some (append_assoc a b x)
 

@@ -1,15 +1,17 @@
 -- The values that a column of a type can have.
 use Rattle.std.specs.Prelude.{ℕ, ℤ, ◌^◌, pos, negsuc, Bool, true, false, ◌&&◌, ◌==◌, nat_lt, List}
-use Rattle.std.specs.Prelude.{length}
+use Rattle.std.specs.Prelude.{length, IsTrue}
 use Rattle.std.specs.Int.Signed.{mag}
 use Rattle.std.specs.List.{list_all}
 use Rattle.std.specs.Str.{is_utf8}
+use Rattle.sel_arrow.specs.Rows.{rows, type_of}
 use Rattle.sel_arrow.specs.Shape.{Shape, Shapes, no_shapes, next_shape, of_boolean, of_int8}
 use Rattle.sel_arrow.specs.Shape.{of_int16, of_int32, of_int64, of_int128, of_uint8, of_uint16}
 use Rattle.sel_arrow.specs.Shape.{of_uint32, of_uint64, of_uint128, of_large_binary, of_binary_view}
 use Rattle.sel_arrow.specs.Shape.{of_utf8_view, of_large_list, of_fixed_size_list, is_struct_shape}
 use Rattle.sel_arrow.specs.Value.{Value, Null, Truth, Number, Bytes, Items, Tuple, Values}
 use Rattle.sel_arrow.specs.Value.{no_values, next_value, listed}
+use Rattle.sel_arrow.specs.declared.column.Column.{Column}
 use Rattle.sel_text.specs.Texts.{item_shape, part_shapes}
 
 -- Whether a number is an unsigned integer of `bits` bits.
@@ -32,11 +34,15 @@ fits_number of_uint64 z = fits_unsigned 64 z
 fits_number of_uint128 z = fits_unsigned 128 z
 fits_number shape z = false
 
+-- Whether each number is a byte.
+abbrev pub are_bytes : List ℕ → Bool
+are_bytes bytes = list_all (λ byte. nat_lt byte 256) bytes
+
 -- Whether bytes fit a type: any bytes fit a binary type, UTF-8 fits a string type (Arrow columnar
 -- format: data types).
 abbrev pub fits_bytes : Shape → List ℕ → Bool
-fits_bytes of_large_binary bytes = list_all (λ byte. nat_lt byte 256) bytes
-fits_bytes of_binary_view bytes = list_all (λ byte. nat_lt byte 256) bytes
+fits_bytes of_large_binary bytes = are_bytes bytes
+fits_bytes of_binary_view bytes = are_bytes bytes
 fits_bytes of_utf8_view bytes = is_utf8 bytes
 fits_bytes shape bytes = false
 
@@ -76,3 +82,7 @@ abbrev mutual
   fields_fit (next_shape shape types) no_values = false
   fields_fit (next_shape shape types) (next_value value entries) =
       fits shape value && fields_fit types entries
+
+-- The rows of a column fit its type.
+abbrev pub RowsFit : Column → Type 0
+RowsFit column = IsTrue (list_all (fits (type_of column)) (rows column))

@@ -35,3 +35,9 @@ abbrev pub TypeTextIsSpelled : Type 0
 TypeTextIsSpelled =
     (shape : Shape) → IsTrue (widths_written shape) →
     spelled (type_text shape) ≡ Some (type_text shape)
+
+-- The text of rows that fit their type is its own canonical spelling.
+abbrev pub RowTextIsSpelled : Type 0
+RowTextIsSpelled =
+    (shape : Shape) (rows : List Value) → IsTrue (list_all (fits shape) rows) →
+    spelled (text_of shape rows) ≡ Some (text_of shape rows)

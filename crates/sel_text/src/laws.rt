@@ -1,6 +1,6 @@
 //! Uniqueness of the notation, and that it is read as it is printed.
 
-ghost use Rattle.sel_text.specs.Laws.{ColumnTypesAreWritten, TextDeterminesRows, TextDeterminesType, TypeTextIsSpelled};
+ghost use Rattle.sel_text.specs.Laws.{ColumnTypesAreWritten, RowTextIsSpelled, TextDeterminesRows, TextDeterminesType, TypeTextIsSpelled};
 
 /// Two lists of values that fit the same type are equal if their notations are equal: the type and
 /// the notation of a column determine its rows. Tests that compare notations rely on this.
@@ -25,4 +25,10 @@ pub fn law_column_types_are_written()
 /// type if its list sizes fit in 64 bits.
 pub fn law_type_text_is_spelled()
     ensures { TypeTextIsSpelled }
+{}
+
+/// The text of rows that fit their type is its own canonical spelling: `parse_column` accepts the
+/// output of `print_rows`, unless the column would exceed a size limit or memory is exhausted.
+pub fn law_row_text_is_spelled()
+    ensures { RowTextIsSpelled }
 {}

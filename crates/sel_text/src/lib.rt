@@ -4,6 +4,7 @@
 pub mod build;
 mod cell;
 pub mod equal;
+pub mod fit;
 mod item;
 pub mod laws;
 mod numerals;

@@ -29,6 +29,8 @@ mod odd;
 #[cfg(test)]
 mod parsed;
 #[cfg(test)]
+mod round_trips;
+#[cfg(test)]
 mod runs;
 #[cfg(test)]
 mod select;

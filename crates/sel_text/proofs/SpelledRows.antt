@@ -1,0 +1,242 @@
+-- The text of rows is its own canonical spelling.
+use Rattle.std.proofs.Common.{◌≡◌, ℕ, suc, ℤ, pos, negsuc, ◌+◌, ◌*◌, ◌/◌, ◌%◌, ◌<◌, ◌^◌, Bool, true, false, List, [], ◌∷◌, ◌++◌, length, map, Option, Some, None, refl, ap, sym, ◌∙◌, arith, append_assoc, append-nil}
+use Rattle.std.specs.Prelude.{◌==◌, ⊤, codes, encode_utf8, nat_lt, if◌then◌else◌, option_map, option_and_then}
+use Rattle.std.specs.Char.{digit_char, digit_value, is_digit}
+use Rattle.std.specs.Fmt.{decimal, signed_decimal}
+use Rattle.std.specs.Int.Signed.{mag}
+use Rattle.std.specs.List.{flat_map, join_with_byte, list_all}
+use Rattle.std.proofs.lemmas.Bool.Decides.{nat_tests}
+use Rattle.std.proofs.lemmas.Fmt.{decimal_is_IsNumeral_wide}
+use Rattle.std.proofs.lemmas.Str.{digit_value-digit_char, encode_ascii}
+use Rattle.sel_arrow.specs.Shape.{Shape, Shapes, no_shapes, next_shape, is_struct_shape}
+use Rattle.sel_arrow.specs.Value.{Value, Null, Truth, Number, Bytes, Items, Tuple, Values, no_values, next_value, listed}
+use Rattle.sel_arrow.proofs.Lists.{and_first, and_second}
+use Rattle.sel_text.specs.Fits.{all_fit, fields_fit, fits, fits_count}
+use Rattle.sel_text.specs.Spelling.{escape_at, escape_spelled, is_high, is_low, is_mark, spelled, spelled_from, unit_at, unit_escape}
+use Rattle.sel_text.specs.Texts.{escaped, hex_byte, hex_text, is_text_shape, item_shape, item_texts, part_shapes, part_texts, quoted, text_of, value_text}
+use Rattle.sel_text.specs.declared.spelling.Place.{Place}
+use Rattle.sel_text.specs.declared.spelling.Place.TheVariants.{Word, Prefix, Quoted, Hexadecimal}
+use Rattle.sel_text.proofs.Decoded.{no_quote}
+use Rattle.sel_text.proofs.Ends.{few_digits}
+use Rattle.sel_text.proofs.Spelled.{after_plain, digits_plain, is_plain_byte, step_plain}
+use Rattle.sel_text.proofs.Spellings.{appended, begins}
+use Rattle.sel_text.proofs.Told.{small_number}
+
+-- ---- texts that are spelled as they are
+
+-- From one state to another, a text is spelled as it is.
+record Passes (before after : Place) (text : List ℕ) : Type 0 where
+  passed : (rest : List ℕ) → spelled_from before 0 (text ++ rest) ≡ option_map (λ more. text ++ more) (spelled_from after 0 rest)
+
+none_passes : (place : Place) → Passes place place []
+none_passes place = record { passed = λ rest. sym (begins rest (spelled_from place 0 rest)) }
+
+joined_passes : (p q r : Place) (a b : List ℕ) → Passes p q a → Passes q r b → Passes p r (a ++ b)
+joined_passes p q r a b first second = record {
+  passed = λ rest.
+      ap (spelled_from p 0) (append_assoc a b rest) ∙ first.passed (b ++ rest) ∙ ap (option_map (λ more. a ++ more)) (second.passed rest) ∙ sym (appended a b (spelled_from r 0 rest));
+}
+
+-- Outside of strings and bytes in hexadecimal, a text is spelled as it is.
+abbrev Keeps : List ℕ → Type 0
+Keeps text = (m : Bool) → (after : Bool) × Passes (after_plain m) (after_plain after) text
+
+none_keeps : Keeps []
+none_keeps m = (m, none_passes (after_plain m))
+
+joined_keeps : (a b : List ℕ) → Keeps a → Keeps b → Keeps (a ++ b)
+joined_keeps a b first second m =
+    let one = first m in
+    let two = second one.0 in
+    (two.0, joined_passes (after_plain m) (after_plain one.0) (after_plain two.0) a b one.1 two.1)
+
+plain_keeps : (byte : ℕ) → is_plain_byte byte ≡ true → Keeps (byte ∷ [])
+plain_keeps byte plain m = (is_mark byte, record { passed = λ rest. step_plain m byte rest plain })
+
+plains_keep : (text : List ℕ) → list_all is_plain_byte text ≡ true → Keeps text
+plains_keep [] all = none_keeps
+plains_keep (byte ∷ text) all =
+    joined_keeps (byte ∷ []) text (plain_keeps byte (and_first (is_plain_byte byte) (list_all is_plain_byte text) all)) (plains_keep text (and_second (is_plain_byte byte) (list_all is_plain_byte text) all))
+
+-- ---- strings
+
+-- The bytes of an escape are skipped.
+skipped : (place : Place) (tail rest : List ℕ) → spelled_from place (length tail) (tail ++ rest) ≡ spelled_from place 0 rest
+skipped place [] rest = refl
+skipped place (byte ∷ tail) rest = skipped place tail rest
+
+ascii_spelled : (b : ℕ) → b < 128 → flat_map escaped (encode_utf8 b) ≡ escaped b
+ascii_spelled b low = ap (flat_map escaped) (encode_ascii b low) ∙ append-nil (escaped b)
+
+-- An escape is spelled as it is, if it is that of its character.
+escape_passes : (b : ℕ) (tail : List ℕ) → b < 128 → ((rest : List ℕ) → escape_at (tail ++ rest) ≡ Some (b, length tail)) → escaped b ≡ 92 ∷ tail → Passes Quoted Quoted (92 ∷ tail)
+escape_passes b tail low read is = record {
+  passed = λ rest.
+      ap (λ e. option_and_then (λ (next : Place × ℕ). option_map (λ more. escape_spelled e ++ more) (spelled_from next.0 next.1 (tail ++ rest))) (option_map (λ escape. (Quoted, escape.1)) e)) (read rest)
+      ∙ ap (λ l. option_map (λ more. l ++ more) (spelled_from Quoted (length tail) (tail ++ rest))) (ascii_spelled b low ∙ is)
+      ∙ ap (option_map (λ more. (92 ∷ tail) ++ more)) (skipped Quoted tail rest);
+}
+
+hex_digit : (d : ℕ) → d < 16 → is_digit (digit_char d) 16 ≡ true
+hex_digit d small = let value = digit_value-digit_char d (omega arith) in grind (arith, nat_tests, value, small)
+
+-- The escape of a byte in hexadecimal.
+unit_read : (b : ℕ) (rest : List ℕ) → b < 32 → unit_at (48 ∷ 48 ∷ digit_char (b / 16) ∷ digit_char (b % 16) ∷ rest) ≡ Some b
+unit_read b rest low =
+    let first = hex_digit (b / 16) (omega arith) in
+    let second = hex_digit (b % 16) (omega arith) in
+    let high = digit_value-digit_char (b / 16) (omega arith) in
+    let few = digit_value-digit_char (b % 16) (omega arith) in
+    let value : digit_value 48 * 4096 + digit_value 48 * 256 + digit_value (digit_char (b / 16)) * 16 + digit_value (digit_char (b % 16)) ≡ b = let zero_digit : digit_value 48 ≡ 0 = refl in omega (arith, high, few, zero_digit) in
+    rw (first, second) (ap Some value)
+
+no_surrogate : (b : ℕ) → b < 32 → (is_high b ≡ false) × (is_low b ≡ false)
+no_surrogate b low = (grind (arith, nat_tests, low), grind (arith, nat_tests, low))
+
+unit_kept : (b : ℕ) (rest : List ℕ) → b < 32 → unit_escape rest b ≡ Some (b, 5)
+unit_kept b rest low =
+    let none = no_surrogate b low in
+    let high = none.0 in
+    let few = none.1 in
+    rw (high, few) refl
+
+control_read : (b : ℕ) (rest : List ℕ) → b < 32 → escape_at (117 ∷ 48 ∷ 48 ∷ digit_char (b / 16) ∷ digit_char (b % 16) ∷ rest) ≡ Some (b, 5)
+control_read b rest low =
+    let digits = 48 ∷ 48 ∷ digit_char (b / 16) ∷ digit_char (b % 16) ∷ rest in
+    ap (option_and_then (unit_escape digits)) (unit_read b rest low) ∙ unit_kept b digits low
+
+letter_passes : (b : ℕ) → (b == 34) ≡ false → (b == 92) ≡ false → nat_lt b 32 ≡ false → Passes Quoted Quoted (b ∷ [])
+letter_passes b quote backslash high = record { passed = λ rest. rw (quote, backslash, high) refl }
+
+pick : (P : List ℕ → Type 0) (t : Bool) (x y : List ℕ) → (t ≡ true → P x) → (t ≡ false → P y) → P (if t then x else y)
+pick P true x y f g = f refl
+pick P false x y f g = g refl
+
+byte_passes : (b : ℕ) → Passes Quoted Quoted (escaped b)
+byte_passes b =
+    let P = Passes Quoted Quoted in
+    let short : (n : ℕ) (letter : ℕ) → n < 128 → ((rest : List ℕ) → escape_at (letter ∷ rest) ≡ Some (n, 1)) → escaped n ≡ 92 ∷ letter ∷ [] → P (92 ∷ letter ∷ []) = λ n letter low read is. escape_passes n (letter ∷ []) low read is in
+    pick P (b == 34) _ _ (λ is. short 34 34 (omega arith) (λ rest. refl) refl) (λ n34.
+    pick P (b == 92) _ _ (λ is. short 92 92 (omega arith) (λ rest. refl) refl) (λ n92.
+    pick P (b == 10) _ _ (λ is. short 10 110 (omega arith) (λ rest. refl) refl) (λ n10.
+    pick P (b == 13) _ _ (λ is. short 13 114 (omega arith) (λ rest. refl) refl) (λ n13.
+    pick P (b == 9) _ _ (λ is. short 9 116 (omega arith) (λ rest. refl) refl) (λ n9.
+    pick P (b == 8) _ _ (λ is. short 8 98 (omega arith) (λ rest. refl) refl) (λ n8.
+    pick P (b == 12) _ _ (λ is. short 12 102 (omega arith) (λ rest. refl) refl) (λ n12.
+    pick P (nat_lt b 32) _ _
+    (λ low.
+    let small : b < 32 = grind (arith, nat_tests, low) in
+    escape_passes b (117 ∷ 48 ∷ 48 ∷ hex_byte b) (omega arith) (λ rest. control_read b rest small) (control_escape b n34 n92 n10 n13 n9 n8 n12 low))
+    (λ high. letter_passes b n34 n92 high))))))))
+  where
+    control_escape : (b : ℕ) → (b == 34) ≡ false → (b == 92) ≡ false → (b == 10) ≡ false → (b == 13) ≡ false → (b == 9) ≡ false → (b == 8) ≡ false → (b == 12) ≡ false → nat_lt b 32 ≡ true →
+        escaped b ≡ 92 ∷ 117 ∷ 48 ∷ 48 ∷ hex_byte b
+    control_escape b n34 n92 n10 n13 n9 n8 n12 low = rw (n34, n92, n10, n13, n9, n8, n12, low) refl
+
+string_passes : (bytes : List ℕ) → Passes Quoted Quoted (flat_map escaped bytes)
+string_passes [] = none_passes Quoted
+string_passes (b ∷ bytes) = joined_passes Quoted Quoted Quoted (escaped b) (flat_map escaped bytes) (byte_passes b) (string_passes bytes)
+
+-- A quote ends a string, or begins one.
+end_passes : Passes Quoted Word (34 ∷ [])
+end_passes = record { passed = λ rest. refl }
+
+begin_passes : (m : Bool) → Passes (after_plain m) Quoted (34 ∷ [])
+begin_passes true = record { passed = λ rest. refl }
+begin_passes false = record { passed = λ rest. refl }
+
+string_keeps : (bytes : List ℕ) → Keeps (quoted bytes)
+string_keeps bytes m = (
+  false,
+  joined_passes (after_plain m) Quoted Word (34 ∷ []) (flat_map escaped bytes ++ 34 ∷ []) (begin_passes m) (joined_passes Quoted Quoted Word (flat_map escaped bytes) (34 ∷ []) (string_passes bytes) end_passes),
+)
+
+-- ---- bytes in hexadecimal
+
+digit_passes : (d : ℕ) → Passes Hexadecimal Hexadecimal (digit_char d ∷ [])
+digit_passes d =
+    let other = no_quote d in
+    let is : (digit_char d == 34) ≡ false = grind (arith, nat_tests, other) in
+    record { passed = λ rest. rw is refl }
+
+hex_byte_passes : (b : ℕ) → Passes Hexadecimal Hexadecimal (hex_byte b)
+hex_byte_passes b = joined_passes Hexadecimal Hexadecimal Hexadecimal (digit_char (b / 16) ∷ []) (digit_char (b % 16) ∷ []) (digit_passes (b / 16)) (digit_passes (b % 16))
+
+hex_passes : (bytes : List ℕ) → Passes Hexadecimal Hexadecimal (flat_map hex_byte bytes)
+hex_passes [] = none_passes Hexadecimal
+hex_passes (b ∷ bytes) = joined_passes Hexadecimal Hexadecimal Hexadecimal (hex_byte b) (flat_map hex_byte bytes) (hex_byte_passes b) (hex_passes bytes)
+
+prefix_passes : (m : Bool) → Passes (after_plain m) Prefix (104 ∷ [])
+prefix_passes true = record { passed = λ rest. refl }
+prefix_passes false = record { passed = λ rest. refl }
+
+hex_begins : (m : Bool) → Passes (after_plain m) Hexadecimal (104 ∷ 34 ∷ [])
+hex_begins m = joined_passes (after_plain m) Prefix Hexadecimal (104 ∷ []) (34 ∷ []) (prefix_passes m) (record { passed = λ rest. refl })
+
+hex_ends : Passes Hexadecimal Word (34 ∷ [])
+hex_ends = record { passed = λ rest. refl }
+
+hex_keeps : (bytes : List ℕ) → Keeps (hex_text bytes)
+hex_keeps bytes m = (
+  false,
+  joined_passes (after_plain m) Hexadecimal Word (104 ∷ 34 ∷ []) (flat_map hex_byte bytes ++ 34 ∷ []) (hex_begins m) (joined_passes Hexadecimal Hexadecimal Word (flat_map hex_byte bytes) (34 ∷ []) (hex_passes bytes) hex_ends),
+)
+
+-- ---- values
+
+number_keeps : (z : ℤ) → mag z < 2 ^ 128 → Keeps (signed_decimal z)
+number_keeps (pos n) small = plains_keep (decimal n) (digits_plain (decimal n) ((decimal_is_IsNumeral_wide n (few_digits n (omega (arith, small)))).0.1))
+number_keeps (negsuc n) small =
+    joined_keeps (45 ∷ []) (decimal (suc n)) (plain_keeps 45 refl) (plains_keep (decimal (suc n)) (digits_plain (decimal (suc n)) ((decimal_is_IsNumeral_wide (suc n) (few_digits (suc n) (omega (arith, small)))).0.1)))
+
+bytes_keep : (t : Bool) (bytes : List ℕ) → Keeps (if t then quoted bytes else hex_text bytes)
+bytes_keep true bytes = string_keeps bytes
+bytes_keep false bytes = hex_keeps bytes
+
+truth_keeps : (t : Bool) → Keeps (if t then codes "true" else codes "false")
+truth_keeps true = plains_keep (codes "true") refl
+truth_keeps false = plains_keep (codes "false") refl
+
+-- This is so for each of several texts.
+abbrev EachKeeps : List (List ℕ) → Type 0
+EachKeeps [] = ⊤
+EachKeeps (text ∷ texts) = Keeps text × EachKeeps texts
+
+commas_keep : (texts : List (List ℕ)) → EachKeeps texts → Keeps (join_with_byte 44 texts)
+commas_keep [] each = none_keeps
+commas_keep (x ∷ []) each = each.0
+commas_keep (x ∷ y ∷ texts) each =
+    joined_keeps x (44 ∷ join_with_byte 44 (y ∷ texts)) each.0 (joined_keeps (44 ∷ []) (join_with_byte 44 (y ∷ texts)) (plain_keeps 44 refl) (commas_keep (y ∷ texts) each.1))
+
+between_keeps : (first last : ℕ) (texts : List (List ℕ)) → is_plain_byte first ≡ true → is_plain_byte last ≡ true → EachKeeps texts → Keeps (first ∷ join_with_byte 44 texts ++ last ∷ [])
+between_keeps first last texts begins ends each =
+    joined_keeps (first ∷ []) (join_with_byte 44 texts ++ last ∷ []) (plain_keeps first begins) (joined_keeps (join_with_byte 44 texts) (last ∷ []) (commas_keep texts each) (plain_keeps last ends))
+
+mutual
+  value_keeps : (v : Value) (s : Shape) → fits s v ≡ true → Keeps (value_text s v)
+  value_keeps Null s fit = plains_keep (codes "null") refl
+  value_keeps (Truth t) s fit = truth_keeps t
+  value_keeps (Number z) s fit = number_keeps z (small_number s z fit)
+  value_keeps (Bytes bytes) s fit = bytes_keep (is_text_shape s) bytes
+  value_keeps (Items vs) s fit = between_keeps 91 93 (item_texts (item_shape s) vs) refl refl (items_keep vs (item_shape s) (and_second (fits_count s (length (listed vs))) (all_fit (item_shape s) vs) fit))
+  value_keeps (Tuple vs) s fit = between_keeps 40 41 (part_texts (part_shapes s) vs) refl refl (parts_keep vs (part_shapes s) (and_second (is_struct_shape s) (fields_fit (part_shapes s) vs) fit))
+
+  items_keep : (vs : Values) (s : Shape) → all_fit s vs ≡ true → EachKeeps (item_texts s vs)
+  items_keep no_values s fit = tt
+  items_keep (next_value v vs) s fit = (value_keeps v s (and_first (fits s v) (all_fit s vs) fit), items_keep vs s (and_second (fits s v) (all_fit s vs) fit))
+
+  parts_keep : (vs : Values) (ss : Shapes) → fields_fit ss vs ≡ true → EachKeeps (part_texts ss vs)
+  parts_keep no_values ss fit = tt
+  parts_keep (next_value v vs) no_shapes fit = tt
+  parts_keep (next_value v vs) (next_shape s ss) fit = (value_keeps v s (and_first (fits s v) (fields_fit ss vs) fit), parts_keep vs ss (and_second (fits s v) (fields_fit ss vs) fit))
+
+rows_keep : (s : Shape) (vs : List Value) → list_all (fits s) vs ≡ true → EachKeeps (map (value_text s) vs)
+rows_keep s [] fit = tt
+rows_keep s (v ∷ vs) fit = (value_keeps v s (and_first (fits s v) (list_all (fits s) vs) fit), rows_keep s vs (and_second (fits s v) (list_all (fits s) vs) fit))
+
+-- The text of rows that fit a type is its own canonical spelling.
+pub rows_spelled : (s : Shape) (vs : List Value) → list_all (fits s) vs ≡ true → spelled (text_of s vs) ≡ Some (text_of s vs)
+rows_spelled s vs fit =
+    let text = text_of s vs in
+    let kept = between_keeps 91 93 (map (value_text s) vs) refl refl (rows_keep s vs fit) true in
+    ap spelled (sym (append-nil text)) ∙ kept.1.passed [] ∙ ap Some (append-nil text)

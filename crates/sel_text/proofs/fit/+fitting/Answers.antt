@@ -1,0 +1,43 @@
+use Rattle.std.proofs.Common.{All, rules, subst, sym}
+use Rattle.sel_arrow.specs.declared.column.Column.{the_lemmas}
+use Rattle.std.proofs.lemmas.List.{take_all}
+use Rattle.std.proofs.lemmas.List.Elements.{All-more}
+use Rattle.sel_arrow.specs.Rows.{IsWellFormed}
+use Rattle.sel_text.specs.Fits.{RowsFit}
+use Rattle.sel_text.proofs.FittingRows.{null_column_fits, boolean_column_fits, string_column_fits, binary_column_fits, binview_column_fits, list_column_fits, block_column_fits, struct_column_fits, fields_formed}
+use Rattle.sel_text.proofs.fit.+fitting.Goals as goal
+
+pub law_rows_fit-law_fields_fit-requires : goal.law_rows_fit-law_fields_fit-requires
+law_rows_fit-law_fields_fit-requires t c =
+    (search (rules, the_lemmas), subst (All IsWellFormed) (sym c.deref-in-Struct.ensures.value) (fields_formed _ _ _ _ c.in-Struct.is c.requires))
+
+pub law_rows_fit-returns-in-Null : goal.law_rows_fit-returns-in-Null
+law_rows_fit-returns-in-Null t c = null_column_fits _ _ c.in-Null.is
+
+pub law_rows_fit-returns-in-Boolean : goal.law_rows_fit-returns-in-Boolean
+law_rows_fit-returns-in-Boolean t c = boolean_column_fits _ _ c.in-Boolean.is
+
+pub law_rows_fit-returns-in-Utf8View : goal.law_rows_fit-returns-in-Utf8View
+law_rows_fit-returns-in-Utf8View t c = string_column_fits _ _ c.in-Utf8View.is
+
+pub law_rows_fit-returns-in-LargeBinary : goal.law_rows_fit-returns-in-LargeBinary
+law_rows_fit-returns-in-LargeBinary t c = binary_column_fits _ _ _ c.in-LargeBinary.is c.as_slice.ensures c.law_bytes_fit.ensures
+
+pub law_rows_fit-returns-in-BinaryView : goal.law_rows_fit-returns-in-BinaryView
+law_rows_fit-returns-in-BinaryView t c = binview_column_fits _ _ _ c.in-BinaryView.is c.as_slice-in-BinaryView.ensures c.law_buffers_fit.ensures
+
+pub law_rows_fit-returns-in-LargeList : goal.law_rows_fit-returns-in-LargeList
+law_rows_fit-returns-in-LargeList t c = list_column_fits _ _ _ _ c.in-LargeList.is (subst RowsFit c.deref.ensures c.law_rows_fit.ensures)
+
+pub law_rows_fit-returns-in-FixedSizeList : goal.law_rows_fit-returns-in-FixedSizeList
+law_rows_fit-returns-in-FixedSizeList t c = block_column_fits _ _ _ _ _ c.in-FixedSizeList.is c.requires (subst RowsFit c.deref-in-FixedSizeList.ensures c.law_rows_fit-in-FixedSizeList.ensures)
+
+pub law_rows_fit-returns-in-Struct : goal.law_rows_fit-returns-in-Struct
+law_rows_fit-returns-in-Struct t c = struct_column_fits _ _ _ _ c.in-Struct.is (subst (All RowsFit) c.deref-in-Struct.ensures.value c.law_fields_fit.ensures)
+
+pub law_fields_fit-loop-field-preserved : goal.law_fields_fit-loop-field-preserved
+law_fields_fit-loop-field-preserved t c =
+    All-more RowsFit c.args.fields.now c.loop-field.field-index c.field-item.result c.loop-field-test.true c.loop-field.invariant (subst RowsFit c.field-item.is c.law_rows_fit.ensures)
+
+pub law_fields_fit-returns : goal.law_fields_fit-returns
+law_fields_fit-returns t c = subst (All RowsFit) (take_all c.loop-field.field-index c.args.fields.now c.loop-field-test.false) c.loop-field.invariant
