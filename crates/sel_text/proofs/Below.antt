@@ -19,7 +19,8 @@ use Rattle.sel_arrow.specs.declared.column.Column.{Column}
 use Rattle.sel_arrow.proofs.Lists.{both, and_first, and_second}
 use Rattle.sel_text.specs.Below.{offsets_below}
 use Rattle.sel_text.specs.Fits.{fits, all_fit}
-use Rattle.sel_text.specs.Limits.{block_in, entries_in, ShowsRows}
+use Rattle.sel_text.specs.Limits.{block_in, entries_in}
+use Rattle.sel_text.specs.Steps.{ShowsRows}
 use Rattle.sel_text.specs.declared.build.NullSlots.{NullSlots}
 use Rattle.sel_text.specs.declared.build.NullSlots.TheVariants.{Zeros, Others}
 use Rattle.sel_text.proofs.ItemRows.{values_back}

@@ -9,7 +9,7 @@ use Rattle.sel_arrow.specs.Shape.{Shape, Shapes, no_shapes, next_shape, shapes_o
 use Rattle.sel_arrow.specs.declared.datatype.ArrowDataType.{ArrowDataType}
 use Rattle.sel_arrow.proofs.Lists.{and_first, and_second, both}
 use Rattle.sel_text.specs.Types.{angled, type_text, type_texts}
-use Rattle.sel_text.specs.Limits.{ReportsLimit}
+use Rattle.sel_text.specs.Steps.{ReportsLimit}
 use Rattle.sel_arrow.specs.Depth.{deepest, depth}
 use Rattle.sel_text.specs.Written.{widths_written, all_widths_written}
 use Rattle.sel_text.specs.declared.text_error.Fault.{Fault}

@@ -8,8 +8,9 @@ use Rattle.sel_bits.specs.declared.faults.Malformed.{Malformed}
 use Rattle.sel_bits.specs.declared.faults.MakeError.{MakeError}
 use Rattle.sel_bits.specs.declared.faults.MakeError.TheVariants.{Malformed as Broken, OutOfMemory as WantOfMemory}
 use Rattle.sel_text.specs.Fits.{fits}
-use Rattle.sel_text.specs.Limits.{ReportsLimit}
-use Rattle.sel_text.specs.TextErrors.{make_fault, IsMemoryFault}
+use Rattle.sel_text.specs.Steps.{ReportsLimit}
+use Rattle.sel_text.specs.TextErrors.{make_fault}
+use Rattle.sel_text.specs.Steps.{IsMemoryFault}
 use Rattle.sel_text.specs.declared.text_error.Fault.{Fault}
 use Rattle.sel_text.specs.declared.text_error.Fault.TheVariants.{Syntax, «Type», Limit, OutOfMemory}
 

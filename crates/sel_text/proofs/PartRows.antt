@@ -25,7 +25,8 @@ use Rattle.sel_arrow.proofs.Trees.{rows-Struct}
 use Rattle.sel_arrow.proofs.Types.{type_of-Struct}
 use Rattle.sel_text.specs.Below.{parts_below, HasParts}
 use Rattle.sel_text.specs.Fits.{fits, fields_fit}
-use Rattle.sel_text.specs.Limits.{any_exceeds_limit, part_in, exceeds_limit, ShowsRows}
+use Rattle.sel_text.specs.Limits.{any_exceeds_limit, part_in, exceeds_limit}
+use Rattle.sel_text.specs.Steps.{ShowsRows}
 use Rattle.sel_text.specs.declared.build.NullSlots.{NullSlots}
 use Rattle.sel_text.proofs.ItemRows.{values_back}
 use Rattle.sel_text.proofs.Making.{first_of_three, or_first, or_second}

@@ -7,7 +7,8 @@ use Rattle.sel_arrow.specs.Rows.{rows, type_of}
 use Rattle.sel_arrow.specs.Shape.{Shape, shapes_of}
 use Rattle.sel_arrow.specs.Value.{Value, Null, values_of}
 use Rattle.sel_arrow.specs.declared.column.Column.{Column}
-use Rattle.sel_text.specs.Texts.{value_text, item_texts, item_shape, part_texts, part_shapes, field_text, text_of, parenthesized}
+use Rattle.sel_text.specs.Texts.{value_text, item_texts, item_shape, part_texts, part_shapes, text_of, parenthesized}
+use Rattle.sel_text.specs.Steps.{field_text}
 
 -- ---- parts separated by commas
 

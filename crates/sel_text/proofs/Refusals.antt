@@ -23,8 +23,10 @@ use Rattle.sel_arrow.specs.Columns.{binview_rows}
 use Rattle.sel_arrow.specs.declared.binview.BinaryViewArray.{BinaryViewArray}
 use Rattle.sel_arrow.specs.declared.array_ref.ArrayRef.{ArrayRef}
 use Rattle.sel_text.specs.Fits.{fits}
-use Rattle.sel_text.specs.Limits.{is_view_shape, all_placed_bytes, any_exceeds_limit, block_in, entries_in, exceeds_limit, ReportsLimit, MakesColumn, exceeds_max}
-use Rattle.sel_text.specs.TextErrors.{make_fault, IsMemoryFault}
+use Rattle.sel_text.specs.Limits.{all_placed_bytes, any_exceeds_limit, block_in, entries_in, exceeds_limit, exceeds_max}
+use Rattle.sel_text.specs.Steps.{is_view_shape, ReportsLimit, MakesColumn}
+use Rattle.sel_text.specs.TextErrors.{make_fault}
+use Rattle.sel_text.specs.Steps.{IsMemoryFault}
 use Rattle.sel_text.specs.declared.build.NullSlots.{NullSlots}
 use Rattle.sel_text.specs.declared.text_error.Fault.{Fault}
 use Rattle.sel_text.specs.declared.text_error.Fault.TheVariants.{Syntax, «Type», Limit, OutOfMemory}

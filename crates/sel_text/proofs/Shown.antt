@@ -10,7 +10,7 @@ use Rattle.sel_arrow.specs.Value.{Value, Null, Truth, Number, Bytes, Items, Tupl
 use Rattle.sel_arrow.proofs.Lists.{and_first, and_second}
 use Rattle.sel_text.specs.Fits.{fits, fits_count, fits_number, is_boolean_shape, all_fit, fields_fit}
 use Rattle.sel_text.specs.ItemValues.{item_value, rows_read}
-use Rattle.sel_text.specs.Limits.{ShowsRows, is_view_shape}
+use Rattle.sel_text.specs.Steps.{ShowsRows, is_view_shape}
 use Rattle.sel_text.specs.Stored.{bytes_stored, bool_stored}
 use Rattle.sel_text.specs.Texts.{item_shape, part_shapes}
 use Rattle.sel_text.specs.declared.build.NullSlots.{NullSlots}

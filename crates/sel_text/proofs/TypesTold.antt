@@ -3,7 +3,7 @@ use Rattle.std.proofs.Common.{◌≡◌, ◌≢◌, ℕ, true, true≢false, Lis
 use Rattle.std.specs.Prelude.{codes, ◌==◌, if◌then◌else◌}
 use Rattle.std.specs.Fmt.{decimal}
 use Rattle.sel_arrow.specs.Shape.{Shape, Shapes, no_shapes, of_null, of_boolean, of_int8, of_int16, of_int32, of_int64, of_int128, of_uint8, of_uint16, of_uint32, of_uint64, of_uint128, of_large_binary, of_binary_view, of_utf8_view, of_large_list, of_fixed_size_list, of_struct}
-use Rattle.sel_text.specs.Written.{is_plain}
+use Rattle.sel_text.specs.Steps.{is_plain}
 use Rattle.sel_text.specs.Types.{angled, type_text, type_texts}
 
 -- The type whose text a text begins with, without its children; it is determined by the bytes in

@@ -1,13 +1,14 @@
 pub mod Below
 pub mod Cells
-pub mod Fits
-pub mod Laws
 pub mod Digits
+pub mod Fits
 pub mod ItemValues
+pub mod Laws
 pub mod Limits
 pub mod Readings
 pub mod RowRuns
 pub mod Spelling
+pub mod Steps
 pub mod Stored
 pub mod TextErrors
 pub mod Texts

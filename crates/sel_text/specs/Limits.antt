@@ -1,18 +1,14 @@
 -- The size limits that rows exceed when a column is built from them.
-use Rattle.std.specs.Prelude.{◌≡◌, ⊤, ℕ, ◌+◌, Bool, true, false, ◌||◌, List, [], ◌∷◌, map, length}
-use Rattle.std.specs.Prelude.{replicate, slice_index_or, if◌then◌else◌, nat_le, nat_lt, Result, Ok}
-use Rattle.std.specs.Prelude.{Err}
+use Rattle.std.specs.Prelude.{ℕ, ◌+◌, Bool, false, ◌||◌, List, [], ◌∷◌, map, length}
+use Rattle.std.specs.Prelude.{replicate, slice_index_or, if◌then◌else◌, nat_le, nat_lt}
 use Rattle.std.specs.List.{flat_map}
 use Rattle.sel_bits.specs.Limits.{max_rows}
-use Rattle.sel_arrow.specs.Rows.{rows, type_of}
+use Rattle.sel_arrow.specs.Rows.{rows}
 use Rattle.sel_arrow.specs.Shape.{Shape, Shapes, no_shapes, next_shape, of_binary_view}
 use Rattle.sel_arrow.specs.Shape.{of_utf8_view, of_large_list, of_fixed_size_list, of_struct}
 use Rattle.sel_arrow.specs.Value.{Value, Null, Bytes, Items, Tuple, listed}
-use Rattle.sel_arrow.specs.declared.array_ref.ArrayRef.{ArrayRef}
 use Rattle.sel_text.specs.declared.build.NullSlots.{NullSlots}
 use Rattle.sel_text.specs.declared.build.NullSlots.TheVariants.{Zeros, Others}
-use Rattle.sel_text.specs.declared.text_error.Fault.{Fault}
-use Rattle.sel_text.specs.declared.text_error.Fault.TheVariants.{Limit, OutOfMemory}
 
 -- Whether a number exceeds 4,294,967,295, the limit of the rows of a column, of a list size and of
 -- the bytes of a data buffer.
@@ -71,32 +67,3 @@ abbrev mutual
   any_exceeds_limit beneath (next_shape shape shapes) place rows =
       exceeds_limit beneath shape (map (part_in place) rows)
       || any_exceeds_limit beneath shapes (place + 1) rows
-
--- The error is `Limit`, and a limit is exceeded, or it is `OutOfMemory`.
-abbrev pub ReportsLimit : Bool → Fault → Type 0
-ReportsLimit is_passed Limit = is_passed ≡ true
-ReportsLimit is_passed OutOfMemory = ⊤
-ReportsLimit is_passed fault = ⊥
-
--- The result is a column of the type with these rows, which exceed no limit, `Limit` if the rows
--- exceed one, or `OutOfMemory`.
-abbrev pub MakesColumn : NullSlots → Shape → List Value → Result ArrayRef Fault → Type 0
-MakesColumn beneath shape values (Ok array) =
-    (type_of array.column ≡ shape) × (rows array.column ≡ values)
-    × (exceeds_limit beneath shape values ≡ false)
-MakesColumn beneath shape values (Err fault) =
-    ReportsLimit (exceeds_limit beneath shape values) fault
-
--- The rows are these values, except in null slots: each non-null row equals the value at its
--- position (Arrow columnar format: validity bitmaps).
-abbrev pub ShowsRows : List Value → List Value → Type 0
-ShowsRows [] [] = ⊤
-ShowsRows (Null ∷ rows) (value ∷ values) = ShowsRows rows values
-ShowsRows (row ∷ rows) (value ∷ values) = (row ≡ value) × ShowsRows rows values
-ShowsRows rows values = ⊥
-
--- Whether the type is one of views (Arrow columnar format: variable-size binary view layout).
-abbrev pub is_view_shape : Shape → Bool
-is_view_shape of_binary_view = true
-is_view_shape of_utf8_view = true
-is_view_shape shape = false

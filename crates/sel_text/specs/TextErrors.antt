@@ -31,12 +31,6 @@ IsLimitOrMemoryError Limit = ⊤
 IsLimitOrMemoryError OutOfMemory = ⊤
 IsLimitOrMemoryError error = ⊥
 
--- The fault is an exceeded limit or out of memory.
-abbrev pub IsLimitOrMemoryFault : Fault → Type 0
-IsLimitOrMemoryFault LimitFault = ⊤
-IsLimitOrMemoryFault MemoryFault = ⊤
-IsLimitOrMemoryFault fault = ⊥
-
 -- The fault for an error of a constructor: `OutOfMemory`, or `Limit` for a broken rule.
 abbrev pub make_fault : MakeError → Fault
 make_fault MakeMemory = MemoryFault
@@ -46,8 +40,3 @@ make_fault error = LimitFault
 abbrev pub kernel_fault : PolarsError → Fault
 kernel_fault KernelMemory = MemoryFault
 kernel_fault error = LimitFault
-
--- The fault is out of memory.
-abbrev pub IsMemoryFault : Fault → Type 0
-IsMemoryFault MemoryFault = ⊤
-IsMemoryFault fault = ⊥

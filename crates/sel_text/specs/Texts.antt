@@ -1,15 +1,14 @@
 -- The row text of a column.
 use Rattle.std.specs.Prelude.{ℕ, ◌/◌, ◌%◌, Bool, true, false, List, [], ◌∷◌, ◌++◌, map, codes}
-use Rattle.std.specs.Prelude.{if◌then◌else◌, ◌==◌, nat_lt, slice_index_or}
+use Rattle.std.specs.Prelude.{if◌then◌else◌, ◌==◌, nat_lt}
 use Rattle.std.specs.Char.{digit_char}
 use Rattle.std.specs.Fmt.{signed_decimal}
 use Rattle.std.specs.List.{flat_map, join_with_byte}
-use Rattle.sel_arrow.specs.Rows.{rows, type_of}
+use Rattle.sel_arrow.specs.Rows.{rows}
 use Rattle.sel_arrow.specs.Shape.{Shape, Shapes, no_shapes, next_shape, of_large_list}
 use Rattle.sel_arrow.specs.Shape.{of_fixed_size_list, of_struct, of_utf8_view}
 use Rattle.sel_arrow.specs.Value.{Value, Null, Truth, Number, Bytes, Items, Tuple, Values}
 use Rattle.sel_arrow.specs.Value.{no_values, next_value}
-use Rattle.sel_arrow.specs.declared.column.Column.{Column}
 
 -- A byte as two hexadecimal digits, in lower case.
 abbrev pub hex_byte : ℕ → List ℕ
@@ -93,7 +92,3 @@ abbrev mutual
 -- The row text of rows of this type, as in `[1,null,-3]`.
 abbrev pub text_of : Shape → List Value → List ℕ
 text_of shape rows = bracketed (map (value_text shape) rows)
-
--- The row text of one row of a field.
-abbrev pub field_text : ℕ → Column → List ℕ
-field_text place field = value_text (type_of field) (slice_index_or (rows field) place Null)

@@ -1,5 +1,5 @@
 -- Types whose text can be parsed.
-use Rattle.std.specs.Prelude.{Bool, true, false, ◌&&◌, nat_lt, ◌^◌}
+use Rattle.std.specs.Prelude.{Bool, true, ◌&&◌, nat_lt, ◌^◌}
 use Rattle.sel_arrow.specs.Shape.{Shape, Shapes, no_shapes, next_shape, of_large_list}
 use Rattle.sel_arrow.specs.Shape.{of_fixed_size_list, of_struct}
 
@@ -15,10 +15,3 @@ abbrev mutual
   pub all_widths_written : Shapes → Bool
   all_widths_written no_shapes = true
   all_widths_written (next_shape shape shapes) = widths_written shape && all_widths_written shapes
-
--- Whether a type has no child.
-abbrev pub is_plain : Shape → Bool
-is_plain (of_large_list _) = false
-is_plain (of_fixed_size_list _ _) = false
-is_plain (of_struct _) = false
-is_plain _ = true

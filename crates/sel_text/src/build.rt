@@ -12,10 +12,11 @@ ghost use Rattle.sel_arrow.specs.Value.{Value, Null, Number, is_valid};
 ghost use Rattle.sel_text.specs.Below.{offsets_below, HasParts};
 ghost use Rattle.sel_text.specs.Fits.{fits, fits_number};
 ghost use Rattle.sel_text.specs.ItemValues.{item_value, rows_read};
-ghost use Rattle.sel_text.specs.Limits.{all_placed_bytes, any_exceeds_limit, block_in, entries_in, exceeds_max, is_view_shape, part_in, exceeds_limit, ReportsLimit, MakesColumn, ShowsRows};
+ghost use Rattle.sel_text.specs.Limits.{all_placed_bytes, any_exceeds_limit, block_in, entries_in, exceeds_max, part_in, exceeds_limit};
+ghost use Rattle.sel_text.specs.Steps.{is_view_shape, ReportsLimit, MakesColumn, ShowsRows};
 ghost use Rattle.sel_text.specs.RowRuns.{repeated, rows_repeated};
 ghost use Rattle.sel_text.specs.Stored.{bytes_behind, bytes_stored, bool_stored};
-ghost use Rattle.sel_text.specs.TextErrors.{IsMemoryFault};
+ghost use Rattle.sel_text.specs.Steps.{IsMemoryFault};
 
 use crate::cell::Whole;
 use crate::item::Item;

@@ -10,7 +10,7 @@ ghost use Rattle.sel_text.specs.Digits.{NoDigit};
 ghost use Rattle.sel_text.specs.Fits.{all_fit, fits_number, fields_fit};
 ghost use Rattle.sel_text.specs.Readings.{BeginsWith};
 ghost use Rattle.sel_text.specs.ItemValues.{item_value};
-ghost use Rattle.sel_text.specs.TextErrors.{IsMemoryFault};
+ghost use Rattle.sel_text.specs.Steps.{IsMemoryFault};
 ghost use Rattle.sel_text.specs.Texts.{bracketed, hex_text, item_texts, parenthesized, part_texts, quoted, bool_text};
 
 use crate::cell::Whole;

@@ -7,9 +7,11 @@ ghost use Rattle.sel_arrow.specs.Rows.{rows, type_of};
 ghost use Rattle.sel_arrow.specs.Value.{Value};
 ghost use Rattle.sel_text.specs.Fits.{fits};
 ghost use Rattle.sel_text.specs.ItemValues.{item_value};
-ghost use Rattle.sel_text.specs.Limits.{exceeds_limit, ReportsLimit, MakesColumn};
+ghost use Rattle.sel_text.specs.Limits.{exceeds_limit};
+ghost use Rattle.sel_text.specs.Steps.{ReportsLimit, MakesColumn};
 ghost use Rattle.sel_text.specs.Spelling.{spelled};
-ghost use Rattle.sel_text.specs.TextErrors.{IsLimitOrMemoryError, IsMemoryFault, IsOffsetWithin};
+ghost use Rattle.sel_text.specs.TextErrors.{IsLimitOrMemoryError, IsOffsetWithin};
+ghost use Rattle.sel_text.specs.Steps.{IsMemoryFault};
 ghost use Rattle.sel_text.specs.Texts.{text_of};
 
 use crate::build::{NullSlots, build};

@@ -9,7 +9,8 @@ ghost use Rattle.sel_arrow.specs.Rows.{rows, type_of, IsWellFormed};
 ghost use Rattle.sel_arrow.specs.Shape.{Shape};
 ghost use Rattle.sel_arrow.specs.Value.{Null};
 ghost use Rattle.sel_text.specs.Cells.{cell_value, whole_number, CellFits, CellKind, HasCellRow, is_flat};
-ghost use Rattle.sel_text.specs.Texts.{escaped, field_text, parenthesized, hex_byte, hex_text, quoted, text_of, value_text};
+ghost use Rattle.sel_text.specs.Texts.{escaped, parenthesized, hex_byte, hex_text, quoted, text_of, value_text};
+ghost use Rattle.sel_text.specs.Steps.{field_text};
 
 use crate::cell::{Cell, Whole, cell_at};
 use sel_arrow::binview::bytes_at;

@@ -6,10 +6,11 @@ ghost use Rattle.sel_arrow.specs.DataType.{shape_of};
 ghost use Rattle.sel_text.specs.Spelling.{spelled};
 ghost use Rattle.sel_arrow.specs.Shape.{Shape, Shapes, next_shape, shapes_of, of_struct};
 ghost use Rattle.sel_text.specs.Digits.{NoDigit};
-ghost use Rattle.sel_text.specs.Limits.{ReportsLimit};
+ghost use Rattle.sel_text.specs.Steps.{ReportsLimit};
 ghost use Rattle.sel_text.specs.TextErrors.{IsLimitOrMemoryError, IsOffsetWithin};
 ghost use Rattle.sel_arrow.specs.Depth.{deepest, depth};
-ghost use Rattle.sel_text.specs.Written.{all_widths_written, is_plain, widths_written};
+ghost use Rattle.sel_text.specs.Written.{all_widths_written, widths_written};
+ghost use Rattle.sel_text.specs.Steps.{is_plain};
 ghost use Rattle.sel_text.specs.Types.{angled, type_text, type_texts};
 
 use crate::numerals::{behind, expect, number_of, read_digits};

@@ -3,7 +3,7 @@
 ghost use Rattle.std.specs.Prelude.{◌≡◌, ◌<◌, ◌∷◌, ◌++◌, length, replicate, IfOk, IfErr, OnOk};
 ghost use Rattle.sel_text.specs.ItemValues.{item_value, rows_read};
 ghost use Rattle.sel_text.specs.RowRuns.{all_items, left, rows_repeated};
-ghost use Rattle.sel_text.specs.TextErrors.{IsMemoryFault};
+ghost use Rattle.sel_text.specs.Steps.{IsMemoryFault};
 
 use crate::item::Item;
 use crate::text_error::Fault;

@@ -3,7 +3,7 @@
 ghost use Rattle.std.specs.Prelude.{◌≡◌, ◌<◌, ◌∷◌, ◌++◌, ℕ, List, IfOk, MatchResult, IsTrue, length, nat_lt};
 ghost use Rattle.std.specs.Char.{digit_char};
 ghost use Rattle.std.specs.List.{flat_map, list_all};
-ghost use Rattle.sel_text.specs.TextErrors.{IsMemoryFault};
+ghost use Rattle.sel_text.specs.Steps.{IsMemoryFault};
 ghost use Rattle.sel_text.specs.Texts.{escaped, hex_byte};
 
 use crate::numerals::behind;

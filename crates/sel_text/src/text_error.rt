@@ -1,7 +1,8 @@
 //! Errors of the parser.
 
 ghost use Rattle.std.specs.Prelude.{◌≡◌, ◌≤◌, Some, length};
-ghost use Rattle.sel_text.specs.TextErrors.{parse_error_text, kernel_fault, make_fault, IsLimitOrMemoryFault, IsLimitOrMemoryError, IsOffsetWithin};
+ghost use Rattle.sel_text.specs.TextErrors.{parse_error_text, kernel_fault, make_fault, IsLimitOrMemoryError, IsOffsetWithin};
+ghost use Rattle.sel_text.specs.Steps.{IsLimitOrMemoryFault};
 ghost use Rattle.sel_text.specs.declared.text_error.Fault.TheVariants.{OutOfMemory};
 
 use crate::spelling::place_in;

@@ -12,7 +12,8 @@ use Rattle.sel_text.specs.Below.{HasParts}
 use Rattle.sel_text.specs.Fits.{fits}
 use Rattle.sel_text.specs.ItemValues.{rows_read}
 use Rattle.sel_text.specs.RowRuns.{rows_repeated}
-use Rattle.sel_text.specs.Limits.{all_placed_bytes, any_exceeds_limit, block_in, entries_in, exceeds_max, part_in, exceeds_limit, ReportsLimit, MakesColumn}
+use Rattle.sel_text.specs.Limits.{all_placed_bytes, any_exceeds_limit, block_in, entries_in, exceeds_max, part_in, exceeds_limit}
+use Rattle.sel_text.specs.Steps.{ReportsLimit, MakesColumn}
 use Rattle.sel_text.proofs.Below.{all_below, block_below, blocks_made, blocks_past, list_below, lists_made, lists_past, same_blocks, same_lists}
 use Rattle.sel_text.proofs.Making.{all_nulls, maker_told, or_first, or_second, told_more}
 use Rattle.sel_text.proofs.PartRows.{parts_kept, parts_more, past_at, tuples_made, tuples_past}

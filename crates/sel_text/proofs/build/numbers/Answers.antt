@@ -3,7 +3,7 @@ use Rattle.std.proofs.lemmas.List.{take_all}
 use Rattle.sel_arrow.specs.Masked.{Covers, masked}
 use Rattle.sel_arrow.specs.Value.{Number}
 use Rattle.sel_text.specs.ItemValues.{rows_read}
-use Rattle.sel_text.specs.Limits.{ShowsRows}
+use Rattle.sel_text.specs.Steps.{ShowsRows}
 use Rattle.sel_text.proofs.Refusals.{flat_told, makes_told}
 use Rattle.sel_text.proofs.Shown.{item_fits, rows_count, shown_count, shown_more}
 use Rattle.sel_text.proofs.Within.{numbers_within, rows_few}

@@ -4,7 +4,7 @@ use Rattle.std.specs.List.{list_all}
 use Rattle.sel_arrow.specs.Value.{Number}
 use Rattle.sel_text.specs.Fits.{fits}
 use Rattle.sel_text.specs.ItemValues.{rows_read}
-use Rattle.sel_text.specs.Limits.{ShowsRows}
+use Rattle.sel_text.specs.Steps.{ShowsRows}
 use Rattle.sel_text.specs.RowRuns.{all_items, left, rows_repeated}
 use Rattle.sel_text.proofs.build.numbers.Given as goal
 

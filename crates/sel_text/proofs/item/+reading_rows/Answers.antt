@@ -7,7 +7,7 @@ use Rattle.sel_arrow.specs.Shape.{of_large_list, of_fixed_size_list, of_struct, 
 use Rattle.sel_arrow.specs.Value.{listed}
 use Rattle.sel_arrow.proofs.Types.{struct_shape}
 use Rattle.sel_text.specs.ItemValues.{item_value}
-use Rattle.sel_text.specs.TextErrors.{IsMemoryFault}
+use Rattle.sel_text.specs.Steps.{IsMemoryFault}
 use Rattle.sel_text.specs.declared.text_error.Fault.{Fault}
 use Rattle.sel_text.specs.declared.text_error.Fault.TheVariants.{OutOfMemory}
 use Rattle.sel_text.proofs.Entries.{IsLeft, HasParts, shapes_from, items_opened, no_items, some_items, item_begins, last_item, more_items, less_room, bracket_or_comma, not_ended, parts_opened, part_left, comma_before, part_begins, part_read, parts_end}

@@ -1,7 +1,7 @@
 use Rattle.std.specs.Prelude.{◌≡◌, MatchResult}
 use Rattle.sel_arrow.specs.Value.{Number}
 use Rattle.sel_text.specs.ItemValues.{item_value}
-use Rattle.sel_text.specs.TextErrors.{IsMemoryFault}
+use Rattle.sel_text.specs.Steps.{IsMemoryFault}
 use Rattle.sel_text.proofs.Numbers.{minus_told}
 use Rattle.sel_text.proofs.item.read_number.Goals as goal
 

@@ -5,7 +5,8 @@ use Rattle.sel_arrow.specs.DataType.{shape_of}
 use Rattle.sel_arrow.specs.Value.{values_of}
 use Rattle.sel_text.specs.Fits.{fits}
 use Rattle.sel_text.specs.ItemValues.{item_value}
-use Rattle.sel_text.specs.Limits.{exceeds_limit, MakesColumn}
+use Rattle.sel_text.specs.Limits.{exceeds_limit}
+use Rattle.sel_text.specs.Steps.{MakesColumn}
 use Rattle.sel_text.proofs.Equalities.{list_back}
 use Rattle.sel_text.proofs.Making.{told_wanting}
 use Rattle.sel_text.proofs.Rows.{rows_text}

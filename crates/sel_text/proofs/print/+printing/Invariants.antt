@@ -3,7 +3,8 @@ use Rattle.std.proofs.Common.{◌≡◌, map, take}
 use Rattle.std.specs.Prelude.{string_bytes}
 use Rattle.std.specs.List.{slice_range}
 use Rattle.sel_arrow.specs.Rows.{rows, type_of}
-use Rattle.sel_text.specs.Texts.{field_text, value_text}
+use Rattle.sel_text.specs.Texts.{value_text}
+use Rattle.sel_text.specs.Steps.{field_text}
 use Rattle.sel_text.proofs.Printed.{opened}
 use Rattle.sel_text.proofs.print.+printing.Given as goal
 
