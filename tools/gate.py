@@ -55,11 +55,12 @@ AT_ONCE = 2
 
 @dataclasses.dataclass
 class Result:
-    """The result of a check: whether it passed, how long it took, and what it left out."""
+    """The result of a check: whether it passed, the time and the processor time that it took, in seconds, and what it left out."""
 
     name: str
     passed: bool
     seconds: float
+    processor: float
     left_out: list[str]
 
 
@@ -84,9 +85,10 @@ class Board:
     def table(self) -> bool:
         """Prints the table; returns whether every check passed."""
         width = max(len(result.name) for result in self.results)
-        print(f"\n{'check':{width}}  result  seconds  left out")
+        print(f"\n{'check':{width}}  result  seconds  processor  left out")
         for result in self.results:
-            print(f"{result.name:{width}}  {'passed' if result.passed else 'FAILED'}  {result.seconds:7.0f}  {'; '.join(result.left_out)}")
+            times = f"{result.seconds:7.0f}  {result.processor:9.0f}"
+            print(f"{result.name:{width}}  {'passed' if result.passed else 'FAILED'}  {times}  {'; '.join(result.left_out)}")
         failed = sum(not result.passed for result in self.results)
         elapsed = int(time.monotonic() - BEGUN)
         spent = os.times()
@@ -94,6 +96,13 @@ class Board:
         print(f"elapsed {elapsed // 60} min {elapsed % 60} s, processor time {processor // 60} min {processor % 60} s")
         print(f"{len(self.results) - failed} passed, {failed} failed")
         return failed == 0 and len(self.results) == self.total
+
+
+def ended(ran: subprocess.Popen[str]) -> tuple[int, float]:
+    """Waits for a process; returns its exit status and the processor time of it and of the processes that it waited for."""
+    _, status, usage = os.wait4(ran.pid, 0)
+    ran.returncode = os.waitstatus_to_exitcode(status)
+    return ran.returncode, usage.ru_utime + usage.ru_stime
 
 
 def keeps_proofs() -> bool:
@@ -116,7 +125,7 @@ class Proofs:
         # otherwise libraries that other commands built would replace those that `rt ci` builds
         for kept in (ROOT / "crates").glob("*/out/rlib"):
             shutil.rmtree(kept)
-        status, verdict = 1, ""
+        status, processor, verdict = 1, 0.0, ""
         try:
             with subprocess.Popen(self.command, cwd=ROOT, text=True, errors="replace", stdin=subprocess.DEVNULL,
                                   stdout=subprocess.PIPE, stderr=subprocess.STDOUT) as ran:
@@ -128,9 +137,9 @@ class Proofs:
                         verdicts.keep(found[1], verdict)
                     if found:
                         self.note(found[1], total)
-            status = ran.returncode
+                status, processor = ended(ran)
         finally:
-            self.board.add(Result("proofs", status == 0, time.monotonic() - begun, []))
+            self.board.add(Result("proofs", status == 0, time.monotonic() - begun, processor, []))
             with self.changed:
                 self.status = status
                 self.changed.notify_all()
@@ -159,12 +168,14 @@ def run_check(board: Board, name: str, command: list[str], beside: bool = False)
     begun = time.monotonic()
     board.say(f"{name}: begins")
     prefix = ["nice", "-n", "19"] if beside else []
-    ran = subprocess.run([*prefix, *command], cwd=ROOT, stdout=subprocess.PIPE, stderr=subprocess.STDOUT, stdin=subprocess.DEVNULL,
-                         text=True, errors="replace", check=False)
-    print(ran.stdout, end="", flush=True)
-    left_out = re.findall(r"(?m)^not run: (.*)$", ran.stdout)
-    board.add(Result(name, ran.returncode == 0, time.monotonic() - begun, left_out))
-    return ran.returncode == 0
+    with subprocess.Popen([*prefix, *command], cwd=ROOT, stdout=subprocess.PIPE, stderr=subprocess.STDOUT, stdin=subprocess.DEVNULL,
+                          text=True, errors="replace") as ran:
+        output = ran.stdout.read() if ran.stdout else ""
+        status, processor = ended(ran)
+    print(output, end="", flush=True)
+    left_out = re.findall(r"(?m)^not run: (.*)$", output)
+    board.add(Result(name, status == 0, time.monotonic() - begun, processor, left_out))
+    return status == 0
 
 
 DOCUMENTS = [
