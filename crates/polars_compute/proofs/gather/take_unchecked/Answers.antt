@@ -12,10 +12,10 @@ returns c =
       rows = search rules;
       dtype = search rules;
       within =
-        let taken = c.in_ok-taken.taken in
-        let column = c.as_column.ensures.column in
-        rows_pass taken.column (type_of c.args.values.now.column) _ taken.formed (c.in_ok-taken.ensures.dtype ∙ ap type_of column)
-        (c.in_ok-taken.ensures.rows ∙ ap (λ x. take_rows (rows x) (primitive_rows c.args.indices.now)) column);
+          let taken = c.in_ok-taken.taken in
+          let column = c.as_column.ensures.column in
+          rows_pass taken.column (type_of c.args.values.now.column) _ taken.formed (c.in_ok-taken.ensures.dtype ∙ ap type_of column)
+          (c.in_ok-taken.ensures.rows ∙ ap (λ x. take_rows (rows x) (primitive_rows c.args.indices.now)) column);
       refusal = search rules;
     }
 
@@ -26,6 +26,6 @@ returns-in_err-taken c =
       dtype = search rules;
       within = search rules;
       refusal =
-        let p = err_from_is_err_and c.from_residual.result c.from_residual.ensures.1 in
-        rw (p.1, p.2, ← c.as_column.ensures.column) c.in_err-taken.ensures.refusal;
+          let p = err_from_is_err_and c.from_residual.result c.from_residual.ensures.1 in
+          rw (p.1, p.2, ← c.as_column.ensures.column) c.in_err-taken.ensures.refusal;
     }

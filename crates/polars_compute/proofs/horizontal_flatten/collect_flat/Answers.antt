@@ -99,50 +99,50 @@ returns-in_err-column c =
       dtype = search rules;
       within = search rules;
       refusal =
-        let p = err_from_is_err_and c.from_residual-in_err-column.result c.from_residual-in_err-column.ensures.1 in
-        let xss = map (λ (a : ArrayRef). rows a.column) c.args.arrays.now in
-        let columns = ap (map (λ (x : Bor Column). x.now)) c.deref.ensures.value ∙ c.in_ok-sources.ensures.columns in
-        let lanes = c.as_slice.ensures.value ∙ c.in_ok-lanes.ensures.lanes in
-        let ps = left_picks 0 0 0 0 0 (c.args.height - 1) c.as_slice.result.now in
-        let picks : ps ≡ rows_picks 0 c.args.height (lanes_of xss c.args.widths.now) = ap (left_picks 0 0 0 0 0 (c.args.height - 1)) lanes ∙ left_first 0 0 c.args.height (lanes_of xss c.args.widths.now) c.requires.high in
-        let picked : pick Null (map (λ (x : Bor Column). rows x.now) c.deref.result.now) ps ≡ flatten xss c.args.widths.now c.args.height =
-        ap (λ l. pick Null l ps) (as_sources c.deref.result.now c.args.arrays.now columns c.requires.some c.requires.alike).rows ∙ ap (pick Null xss) picks ∙ rows_woven Null xss c.args.widths.now c.args.height c.requires.fit in
-        let cs = map (λ (a : ArrayRef). a.column) c.args.arrays.now in
-        let vs = flatten xss c.args.widths.now c.args.height in
-        rw (p.1, p.2) (refused_more (exceeded_taken (first_type cs) cs vs) _ c.in_err-column.field-0.0 (λ limit h. (c.requires.high, inr h))
-        (subst (λ ys. IsLimitOrMemory (exceeded_taken (first_type ys) ys vs) c.in_err-column.field-0.0) columns
-        (subst (λ l. IsLimitOrMemory (exceeded_taken (first_type (map (λ (x : Bor Column). x.now) c.deref.result.now)) (map (λ (x : Bor Column). x.now) c.deref.result.now) l) c.in_err-column.field-0.0) picked c.in_err-column.ensures.refusal)));
+          let p = err_from_is_err_and c.from_residual-in_err-column.result c.from_residual-in_err-column.ensures.1 in
+          let xss = map (λ (a : ArrayRef). rows a.column) c.args.arrays.now in
+          let columns = ap (map (λ (x : Bor Column). x.now)) c.deref.ensures.value ∙ c.in_ok-sources.ensures.columns in
+          let lanes = c.as_slice.ensures.value ∙ c.in_ok-lanes.ensures.lanes in
+          let ps = left_picks 0 0 0 0 0 (c.args.height - 1) c.as_slice.result.now in
+          let picks : ps ≡ rows_picks 0 c.args.height (lanes_of xss c.args.widths.now) = ap (left_picks 0 0 0 0 0 (c.args.height - 1)) lanes ∙ left_first 0 0 c.args.height (lanes_of xss c.args.widths.now) c.requires.high in
+          let picked : pick Null (map (λ (x : Bor Column). rows x.now) c.deref.result.now) ps ≡ flatten xss c.args.widths.now c.args.height =
+          ap (λ l. pick Null l ps) (as_sources c.deref.result.now c.args.arrays.now columns c.requires.some c.requires.alike).rows ∙ ap (pick Null xss) picks ∙ rows_woven Null xss c.args.widths.now c.args.height c.requires.fit in
+          let cs = map (λ (a : ArrayRef). a.column) c.args.arrays.now in
+          let vs = flatten xss c.args.widths.now c.args.height in
+          rw (p.1, p.2) (refused_more (exceeded_taken (first_type cs) cs vs) _ c.in_err-column.field-0.0 (λ limit h. (c.requires.high, inr h))
+          (subst (λ ys. IsLimitOrMemory (exceeded_taken (first_type ys) ys vs) c.in_err-column.field-0.0) columns
+          (subst (λ l. IsLimitOrMemory (exceeded_taken (first_type (map (λ (x : Bor Column). x.now) c.deref.result.now)) (map (λ (x : Bor Column). x.now) c.deref.result.now) l) c.in_err-column.field-0.0) picked c.in_err-column.ensures.refusal)));
     }
 
 pub returns : goal.returns
 returns c =
     record {
       rows =
-        let xss = map (λ (a : ArrayRef). rows a.column) c.args.arrays.now in
-        let columns = ap (map (λ (x : Bor Column). x.now)) c.deref.ensures.value ∙ c.in_ok-sources.ensures.columns in
-        let lanes = c.as_slice.ensures.value ∙ c.in_ok-lanes.ensures.lanes in
-        let ps = left_picks 0 0 0 0 0 (c.args.height - 1) c.as_slice.result.now in
-        let picks : ps ≡ rows_picks 0 c.args.height (lanes_of xss c.args.widths.now) = ap (left_picks 0 0 0 0 0 (c.args.height - 1)) lanes ∙ left_first 0 0 c.args.height (lanes_of xss c.args.widths.now) c.requires.high in
-        let picked : pick Null (map (λ (x : Bor Column). rows x.now) c.deref.result.now) ps ≡ flatten xss c.args.widths.now c.args.height =
-        ap (λ l. pick Null l ps) (as_sources c.deref.result.now c.args.arrays.now columns c.requires.some c.requires.alike).rows ∙ ap (pick Null xss) picks ∙ rows_woven Null xss c.args.widths.now c.args.height c.requires.fit in
-        c.in_ok-column.ensures.rows ∙ picked;
+          let xss = map (λ (a : ArrayRef). rows a.column) c.args.arrays.now in
+          let columns = ap (map (λ (x : Bor Column). x.now)) c.deref.ensures.value ∙ c.in_ok-sources.ensures.columns in
+          let lanes = c.as_slice.ensures.value ∙ c.in_ok-lanes.ensures.lanes in
+          let ps = left_picks 0 0 0 0 0 (c.args.height - 1) c.as_slice.result.now in
+          let picks : ps ≡ rows_picks 0 c.args.height (lanes_of xss c.args.widths.now) = ap (left_picks 0 0 0 0 0 (c.args.height - 1)) lanes ∙ left_first 0 0 c.args.height (lanes_of xss c.args.widths.now) c.requires.high in
+          let picked : pick Null (map (λ (x : Bor Column). rows x.now) c.deref.result.now) ps ≡ flatten xss c.args.widths.now c.args.height =
+          ap (λ l. pick Null l ps) (as_sources c.deref.result.now c.args.arrays.now columns c.requires.some c.requires.alike).rows ∙ ap (pick Null xss) picks ∙ rows_woven Null xss c.args.widths.now c.args.height c.requires.fit in
+          c.in_ok-column.ensures.rows ∙ picked;
       dtype =
-        let columns = ap (map (λ (x : Bor Column). x.now)) c.deref.ensures.value ∙ c.in_ok-sources.ensures.columns in
-        c.in_ok-column.ensures.dtype ∙ ap first_type columns;
+          let columns = ap (map (λ (x : Bor Column). x.now)) c.deref.ensures.value ∙ c.in_ok-sources.ensures.columns in
+          c.in_ok-column.ensures.dtype ∙ ap first_type columns;
       within =
-        let xss = map (λ (a : ArrayRef). rows a.column) c.args.arrays.now in
-        let columns = ap (map (λ (x : Bor Column). x.now)) c.deref.ensures.value ∙ c.in_ok-sources.ensures.columns in
-        let lanes = c.as_slice.ensures.value ∙ c.in_ok-lanes.ensures.lanes in
-        let ps = left_picks 0 0 0 0 0 (c.args.height - 1) c.as_slice.result.now in
-        let picks : ps ≡ rows_picks 0 c.args.height (lanes_of xss c.args.widths.now) = ap (left_picks 0 0 0 0 0 (c.args.height - 1)) lanes ∙ left_first 0 0 c.args.height (lanes_of xss c.args.widths.now) c.requires.high in
-        let picked : pick Null (map (λ (x : Bor Column). rows x.now) c.deref.result.now) ps ≡ flatten xss c.args.widths.now c.args.height =
-        ap (λ l. pick Null l ps) (as_sources c.deref.result.now c.args.arrays.now columns c.requires.some c.requires.alike).rows ∙ ap (pick Null xss) picks ∙ rows_woven Null xss c.args.widths.now c.args.height c.requires.fit in
-        let cs = map (λ (a : ArrayRef). a.column) c.args.arrays.now in
-        let vs = flatten xss c.args.widths.now c.args.height in
-        let taken = subst (λ ys. ExceedsNone (exceeded_taken (first_type ys) ys vs)) columns
-        (subst (λ l. ExceedsNone (exceeded_taken (first_type (map (λ (x : Bor Column). x.now) c.deref.result.now)) (map (λ (x : Bor Column). x.now) c.deref.result.now) l)) picked c.in_ok-column.ensures.within) in
-        let long = flat_length c.args.height c.args.height xss c.args.widths.now (omega arith) c.requires.fit in
-        let few = few_rows_pass (length vs) (omega (arith, long, c.requires.len, c.requires.few)) in
-        λ limit past. passes_neither (ExceedsRows (length vs)) (exceeded_taken (first_type cs) cs vs) few taken limit past.1;
+          let xss = map (λ (a : ArrayRef). rows a.column) c.args.arrays.now in
+          let columns = ap (map (λ (x : Bor Column). x.now)) c.deref.ensures.value ∙ c.in_ok-sources.ensures.columns in
+          let lanes = c.as_slice.ensures.value ∙ c.in_ok-lanes.ensures.lanes in
+          let ps = left_picks 0 0 0 0 0 (c.args.height - 1) c.as_slice.result.now in
+          let picks : ps ≡ rows_picks 0 c.args.height (lanes_of xss c.args.widths.now) = ap (left_picks 0 0 0 0 0 (c.args.height - 1)) lanes ∙ left_first 0 0 c.args.height (lanes_of xss c.args.widths.now) c.requires.high in
+          let picked : pick Null (map (λ (x : Bor Column). rows x.now) c.deref.result.now) ps ≡ flatten xss c.args.widths.now c.args.height =
+          ap (λ l. pick Null l ps) (as_sources c.deref.result.now c.args.arrays.now columns c.requires.some c.requires.alike).rows ∙ ap (pick Null xss) picks ∙ rows_woven Null xss c.args.widths.now c.args.height c.requires.fit in
+          let cs = map (λ (a : ArrayRef). a.column) c.args.arrays.now in
+          let vs = flatten xss c.args.widths.now c.args.height in
+          let taken = subst (λ ys. ExceedsNone (exceeded_taken (first_type ys) ys vs)) columns
+          (subst (λ l. ExceedsNone (exceeded_taken (first_type (map (λ (x : Bor Column). x.now) c.deref.result.now)) (map (λ (x : Bor Column). x.now) c.deref.result.now) l)) picked c.in_ok-column.ensures.within) in
+          let long = flat_length c.args.height c.args.height xss c.args.widths.now (omega arith) c.requires.fit in
+          let few = few_rows_pass (length vs) (omega (arith, long, c.requires.len, c.requires.few)) in
+          λ limit past. passes_neither (ExceedsRows (length vs)) (exceeded_taken (first_type cs) cs vs) few taken limit past.1;
       refusal = search rules;
     }

@@ -11,8 +11,8 @@ returns-in-None c =
       dtype = search rules;
       within = search rules;
       refusal =
-        let long = flat_length c.args.output_height c.args.output_height (map (λ (a : ArrayRef). rows a.column) c.args.arrays.now) c.args.widths.now (omega arith) c.requires.fit in
-        let some = c.if-output_height-eq0.false in
-        let many = c.in-None.ensures.many in
-        (omega (arith, some), inl (omega (arith, long, many)));
+          let long = flat_length c.args.output_height c.args.output_height (map (λ (a : ArrayRef). rows a.column) c.args.arrays.now) c.args.widths.now (omega arith) c.requires.fit in
+          let some = c.if-output_height-eq0.false in
+          let many = c.in-None.ensures.many in
+          (omega (arith, some), inl (omega (arith, long, many)));
     }

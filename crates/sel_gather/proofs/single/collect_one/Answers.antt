@@ -19,10 +19,10 @@ returns-in_err-column c =
       dtype = search rules;
       within = search rules;
       refusal =
-        let p = err_from_is_err_and c.from_residual-in_err-column.result c.from_residual-in_err-column.ensures.1 in
-        let column = c.args.column.now in
-        let vs = pick Null (rows column ∷ []) (expand c.args.runs.now) in
-        rw (p.1, p.2) (refused_more _ _ c.in_err-column.field-0.0 (λ limit h. one_source column c.requires.formed vs limit h) c.in_err-column.ensures.refusal);
+          let p = err_from_is_err_and c.from_residual-in_err-column.result c.from_residual-in_err-column.ensures.1 in
+          let column = c.args.column.now in
+          let vs = pick Null (rows column ∷ []) (expand c.args.runs.now) in
+          rw (p.1, p.2) (refused_more _ _ c.in_err-column.field-0.0 (λ limit h. one_source column c.requires.formed vs limit h) c.in_err-column.ensures.refusal);
     }
 
 pub returns : goal.returns
@@ -31,9 +31,9 @@ returns c =
       rows = search rules;
       dtype = search rules;
       within =
-        let column = c.args.column.now in
-        let vs = pick Null (rows column ∷ []) (expand c.args.runs.now) in
-        rows_pass c.in_ok-column.column (type_of column) vs c.in_ok-column.ensures.formed c.in_ok-column.ensures.dtype c.in_ok-column.ensures.rows;
+          let column = c.args.column.now in
+          let vs = pick Null (rows column ∷ []) (expand c.args.runs.now) in
+          rows_pass c.in_ok-column.column (type_of column) vs c.in_ok-column.ensures.formed c.in_ok-column.ensures.dtype c.in_ok-column.ensures.rows;
       refusal = search rules;
     }
 
@@ -44,12 +44,12 @@ returns-in_err-lists c =
       dtype = search rules;
       within = search rules;
       refusal =
-        let p = err_from_is_err_and c.from_residual.result c.from_residual.ensures.1 in
-        let column = c.args.column.now in
-        let typed = ap type_of c.in-LargeList.is ∙ ap (λ (x : Column). of_large_list (type_of x)) (sym c.deref.ensures) in
-        let vs = pick Null (rows column ∷ []) (expand c.args.runs.now) in
-        rw (p.1, p.2) (refused_more _ _ c.in_err-lists.field-0.0
-        (λ limit h. one_source column c.requires.formed vs limit (subst (λ t. exceeded_taken t (column ∷ []) vs limit) (sym typed) h)) c.in_err-lists.ensures.refusal);
+          let p = err_from_is_err_and c.from_residual.result c.from_residual.ensures.1 in
+          let column = c.args.column.now in
+          let typed = ap type_of c.in-LargeList.is ∙ ap (λ (x : Column). of_large_list (type_of x)) (sym c.deref.ensures) in
+          let vs = pick Null (rows column ∷ []) (expand c.args.runs.now) in
+          rw (p.1, p.2) (refused_more _ _ c.in_err-lists.field-0.0
+          (λ limit h. one_source column c.requires.formed vs limit (subst (λ t. exceeded_taken t (column ∷ []) vs limit) (sym typed) h)) c.in_err-lists.ensures.refusal);
     }
 
 pub returns-in-LargeList : goal.returns-in-LargeList
@@ -58,9 +58,9 @@ returns-in-LargeList c =
       rows = search rules;
       dtype = search rules;
       within =
-        let column = c.args.column.now in
-        let typed = ap type_of c.in-LargeList.is ∙ ap (λ (x : Column). of_large_list (type_of x)) (sym c.deref.ensures) in
-        let vs = pick Null (rows column ∷ []) (expand c.args.runs.now) in
-        rows_pass c.in_ok-lists.lists (type_of column) vs c.in_ok-lists.ensures.formed (c.in_ok-lists.ensures.dtype ∙ sym typed) c.in_ok-lists.ensures.rows;
+          let column = c.args.column.now in
+          let typed = ap type_of c.in-LargeList.is ∙ ap (λ (x : Column). of_large_list (type_of x)) (sym c.deref.ensures) in
+          let vs = pick Null (rows column ∷ []) (expand c.args.runs.now) in
+          rows_pass c.in_ok-lists.lists (type_of column) vs c.in_ok-lists.ensures.formed (c.in_ok-lists.ensures.dtype ∙ sym typed) c.in_ok-lists.ensures.rows;
       refusal = search rules;
     }

@@ -15,10 +15,10 @@ returns-in_err-column g c =
       dtype = search rules;
       within = search rules;
       refusal =
-        let p = err_from_is_err_and c.from_residual.result c.from_residual.ensures.1 in
-        let column = c.args.column.now in
-        let vs = pick Null (rows column ∷ []) (g.P.Plan.picks c.args.plan.now) in
-        rw (p.1, p.2) (refused_more _ _ c.in_err-column.field-0.0 (λ limit h. one_source column c.requires.formed vs limit h) c.in_err-column.ensures.refusal);
+          let p = err_from_is_err_and c.from_residual.result c.from_residual.ensures.1 in
+          let column = c.args.column.now in
+          let vs = pick Null (rows column ∷ []) (g.P.Plan.picks c.args.plan.now) in
+          rw (p.1, p.2) (refused_more _ _ c.in_err-column.field-0.0 (λ limit h. one_source column c.requires.formed vs limit h) c.in_err-column.ensures.refusal);
     }
 
 pub returns : goal.returns
@@ -27,8 +27,8 @@ returns g c =
       rows = search rules;
       dtype = search rules;
       within =
-        let column = c.args.column.now in
-        let vs = pick Null (rows column ∷ []) (g.P.Plan.picks c.args.plan.now) in
-        rows_pass c.in_ok-column.column (type_of column) vs c.in_ok-column.ensures.formed c.in_ok-column.ensures.dtype c.in_ok-column.ensures.rows;
+          let column = c.args.column.now in
+          let vs = pick Null (rows column ∷ []) (g.P.Plan.picks c.args.plan.now) in
+          rows_pass c.in_ok-column.column (type_of column) vs c.in_ok-column.ensures.formed c.in_ok-column.ensures.dtype c.in_ok-column.ensures.rows;
       refusal = search rules;
     }

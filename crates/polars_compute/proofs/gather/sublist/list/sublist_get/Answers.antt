@@ -21,23 +21,23 @@ pub returns : goal.returns
 returns c =
     record {
       rows =
-        let arr = c.args.arr.now in
-        let shown = to_z-of_z w64 c.args.index c.ranges.index in
-        let picks = ap (λ z. map child_pick (places_in arr.offsets arr.validity z)) shown in
-        let picked = ap (pick Null (rows arr.values.value ∷ [])) picks ∙ lists_got arr.offsets arr.values arr.validity arr.formed c.args.index in
-        let same = ap (λ column. pick Null (rows column ∷ []) (map child_pick (places_in arr.offsets arr.validity (to_z w64 (of_z w64 c.args.index))))) c.values.ensures.column ∙ picked in
-        IfOk-weaker c.collect_one_plan.result _ _ (λ taken is. is ∙ same) c.collect_one_plan.ensures.rows;
+          let arr = c.args.arr.now in
+          let shown = to_z-of_z w64 c.args.index c.ranges.index in
+          let picks = ap (λ z. map child_pick (places_in arr.offsets arr.validity z)) shown in
+          let picked = ap (pick Null (rows arr.values.value ∷ [])) picks ∙ lists_got arr.offsets arr.values arr.validity arr.formed c.args.index in
+          let same = ap (λ column. pick Null (rows column ∷ []) (map child_pick (places_in arr.offsets arr.validity (to_z w64 (of_z w64 c.args.index))))) c.values.ensures.column ∙ picked in
+          IfOk-weaker c.collect_one_plan.result _ _ (λ taken is. is ∙ same) c.collect_one_plan.ensures.rows;
       dtype = rw c.values.ensures.column at c.collect_one_plan.ensures.dtype;
       within =
-        let arr = c.args.arr.now in
-        let shown = to_z-of_z w64 c.args.index c.ranges.index in
-        let picks = ap (λ z. map child_pick (places_in arr.offsets arr.validity z)) shown in
-        let picked = ap (pick Null (rows arr.values.value ∷ [])) picks ∙ lists_got arr.offsets arr.values arr.validity arr.formed c.args.index in
-        rw (c.values.ensures.column, picked) at c.collect_one_plan.ensures.within;
+          let arr = c.args.arr.now in
+          let shown = to_z-of_z w64 c.args.index c.ranges.index in
+          let picks = ap (λ z. map child_pick (places_in arr.offsets arr.validity z)) shown in
+          let picked = ap (pick Null (rows arr.values.value ∷ [])) picks ∙ lists_got arr.offsets arr.values arr.validity arr.formed c.args.index in
+          rw (c.values.ensures.column, picked) at c.collect_one_plan.ensures.within;
       refusal =
-        let arr = c.args.arr.now in
-        let shown = to_z-of_z w64 c.args.index c.ranges.index in
-        let picks = ap (λ z. map child_pick (places_in arr.offsets arr.validity z)) shown in
-        let picked = ap (pick Null (rows arr.values.value ∷ [])) picks ∙ lists_got arr.offsets arr.values arr.validity arr.formed c.args.index in
-        rw (c.values.ensures.column, picked) at c.collect_one_plan.ensures.refusal;
+          let arr = c.args.arr.now in
+          let shown = to_z-of_z w64 c.args.index c.ranges.index in
+          let picks = ap (λ z. map child_pick (places_in arr.offsets arr.validity z)) shown in
+          let picked = ap (pick Null (rows arr.values.value ∷ [])) picks ∙ lists_got arr.offsets arr.values arr.validity arr.formed c.args.index in
+          rw (c.values.ensures.column, picked) at c.collect_one_plan.ensures.refusal;
     }
