@@ -1,13 +1,11 @@
 //! If-then-else.
 
 ghost use Rattle.std.specs.Prelude.{◌≡◌, ◌++◌, ◌∷◌, length, true, false};
-ghost use Rattle.sel_arrow.specs.Rows.{rows, type_of};
-ghost use Rattle.sel_arrow.specs.Shape.{of_boolean};
 ghost use Rattle.sel_ternary.specs.Choose.{choose, broadcast_true, broadcast_false, broadcast_both};
 ghost use Rattle.sel_ternary.specs.Chosen.{first_row};
-ghost use Rattle.sel_ffi.specs.Status.{ok, out_of_memory, no_column, unsupported_type, type_mismatch, length_mismatch, limit_statuses, held_columns, held_rows, held_type, DemandsBefore, DemandsFirst, HasColumn, IsOneOf, Makes, ReportsLimits};
-ghost use Rattle.sel_gather.specs.Need.{exceeded_taken, ExceedsNone};
+ghost use Rattle.sel_ffi.specs.Status.{held_rows};
 ghost use Rattle.polars_compute.specs.Select.{effective_mask};
+ghost use Rattle.sel_c.specs.Choices.{Chooses};
 
 use sel_calls::choices::choose_handles;
 use sel_ffi::column_ref::ColumnRef;
@@ -30,30 +28,12 @@ pub extern "C" fn sel_if_then_else(
     if_false: &ColumnRef,
     out: &mut Handle,
 ) -> u32
-    ensures rows { Makes result out.old.tree out.new.tree (λ made. rows made.column ≡
-        choose (effective_mask (held_rows mask.now.tree))
-        (held_rows if_true.now.tree) (held_rows if_false.now.tree)) }
-    ensures dtype { Makes result out.old.tree out.new.tree
-        (λ made. type_of made.column ≡ held_type if_true.now.tree) }
-    ensures status { IsOneOf result (ok ∷ out_of_memory ∷ no_column ∷ unsupported_type ∷
-        type_mismatch ∷ length_mismatch ∷ limit_statuses) }
-    ensures column { DemandsFirst result no_column (HasColumn mask.now.tree ×
-        HasColumn if_true.now.tree × HasColumn if_false.now.tree) }
-    ensures kind { DemandsBefore result unsupported_type
-        (type_mismatch ∷ length_mismatch ∷ limit_statuses) (held_type mask.now.tree ≡ of_boolean) }
-    ensures alike { DemandsBefore result type_mismatch (length_mismatch ∷ limit_statuses)
-        (held_type if_true.now.tree ≡ held_type if_false.now.tree) }
-    ensures length { DemandsBefore result length_mismatch limit_statuses
+    ensures { Chooses result mask.now.tree if_true.now.tree if_false.now.tree
+        out.old.tree out.new.tree
         ((length (held_rows if_true.now.tree) ≡ length (held_rows mask.now.tree)) ×
-        (length (held_rows if_false.now.tree) ≡ length (held_rows mask.now.tree))) }
-    ensures limits { ReportsLimits result (exceeded_taken (held_type if_true.now.tree)
-        (held_columns if_true.now.tree ++ held_columns if_false.now.tree)
+        (length (held_rows if_false.now.tree) ≡ length (held_rows mask.now.tree)))
         (choose (effective_mask (held_rows mask.now.tree))
-        (held_rows if_true.now.tree) (held_rows if_false.now.tree))) }
-    ensures within { result ≡ ok → ExceedsNone (exceeded_taken (held_type if_true.now.tree)
-        (held_columns if_true.now.tree ++ held_columns if_false.now.tree)
-        (choose (effective_mask (held_rows mask.now.tree))
-        (held_rows if_true.now.tree) (held_rows if_false.now.tree))) }
+        (held_rows if_true.now.tree) (held_rows if_false.now.tree)) }
 {
     choose_handles(alloc, mask, if_true, if_false, true, true, out)
 }
@@ -73,30 +53,12 @@ pub extern "C" fn sel_if_then_else_broadcast_true(
     if_false: &ColumnRef,
     out: &mut Handle,
 ) -> u32
-    ensures rows { Makes result out.old.tree out.new.tree (λ made. rows made.column ≡
-        broadcast_true (effective_mask (held_rows mask.now.tree))
-        (first_row (held_rows if_true.now.tree)) (held_rows if_false.now.tree)) }
-    ensures dtype { Makes result out.old.tree out.new.tree
-        (λ made. type_of made.column ≡ held_type if_true.now.tree) }
-    ensures status { IsOneOf result (ok ∷ out_of_memory ∷ no_column ∷ unsupported_type ∷
-        type_mismatch ∷ length_mismatch ∷ limit_statuses) }
-    ensures column { DemandsFirst result no_column (HasColumn mask.now.tree ×
-        HasColumn if_true.now.tree × HasColumn if_false.now.tree) }
-    ensures kind { DemandsBefore result unsupported_type
-        (type_mismatch ∷ length_mismatch ∷ limit_statuses) (held_type mask.now.tree ≡ of_boolean) }
-    ensures alike { DemandsBefore result type_mismatch (length_mismatch ∷ limit_statuses)
-        (held_type if_true.now.tree ≡ held_type if_false.now.tree) }
-    ensures length { DemandsBefore result length_mismatch limit_statuses
+    ensures { Chooses result mask.now.tree if_true.now.tree if_false.now.tree
+        out.old.tree out.new.tree
         ((length (held_rows if_true.now.tree) ≡ 1) ×
-        (length (held_rows if_false.now.tree) ≡ length (held_rows mask.now.tree))) }
-    ensures limits { ReportsLimits result (exceeded_taken (held_type if_true.now.tree)
-        (held_columns if_true.now.tree ++ held_columns if_false.now.tree)
+        (length (held_rows if_false.now.tree) ≡ length (held_rows mask.now.tree)))
         (broadcast_true (effective_mask (held_rows mask.now.tree))
-        (first_row (held_rows if_true.now.tree)) (held_rows if_false.now.tree))) }
-    ensures within { result ≡ ok → ExceedsNone (exceeded_taken (held_type if_true.now.tree)
-        (held_columns if_true.now.tree ++ held_columns if_false.now.tree)
-        (broadcast_true (effective_mask (held_rows mask.now.tree))
-        (first_row (held_rows if_true.now.tree)) (held_rows if_false.now.tree))) }
+        (first_row (held_rows if_true.now.tree)) (held_rows if_false.now.tree)) }
 {
     choose_handles(alloc, mask, if_true, if_false, false, true, out)
 }
@@ -117,30 +79,12 @@ pub extern "C" fn sel_if_then_else_broadcast_false(
     if_false: &ColumnRef,
     out: &mut Handle,
 ) -> u32
-    ensures rows { Makes result out.old.tree out.new.tree (λ made. rows made.column ≡
-        broadcast_false (effective_mask (held_rows mask.now.tree))
-        (held_rows if_true.now.tree) (first_row (held_rows if_false.now.tree))) }
-    ensures dtype { Makes result out.old.tree out.new.tree
-        (λ made. type_of made.column ≡ held_type if_true.now.tree) }
-    ensures status { IsOneOf result (ok ∷ out_of_memory ∷ no_column ∷ unsupported_type ∷
-        type_mismatch ∷ length_mismatch ∷ limit_statuses) }
-    ensures column { DemandsFirst result no_column (HasColumn mask.now.tree ×
-        HasColumn if_true.now.tree × HasColumn if_false.now.tree) }
-    ensures kind { DemandsBefore result unsupported_type
-        (type_mismatch ∷ length_mismatch ∷ limit_statuses) (held_type mask.now.tree ≡ of_boolean) }
-    ensures alike { DemandsBefore result type_mismatch (length_mismatch ∷ limit_statuses)
-        (held_type if_true.now.tree ≡ held_type if_false.now.tree) }
-    ensures length { DemandsBefore result length_mismatch limit_statuses
+    ensures { Chooses result mask.now.tree if_true.now.tree if_false.now.tree
+        out.old.tree out.new.tree
         ((length (held_rows if_true.now.tree) ≡ length (held_rows mask.now.tree)) ×
-        (length (held_rows if_false.now.tree) ≡ 1)) }
-    ensures limits { ReportsLimits result (exceeded_taken (held_type if_true.now.tree)
-        (held_columns if_true.now.tree ++ held_columns if_false.now.tree)
+        (length (held_rows if_false.now.tree) ≡ 1))
         (broadcast_false (effective_mask (held_rows mask.now.tree))
-        (held_rows if_true.now.tree) (first_row (held_rows if_false.now.tree)))) }
-    ensures within { result ≡ ok → ExceedsNone (exceeded_taken (held_type if_true.now.tree)
-        (held_columns if_true.now.tree ++ held_columns if_false.now.tree)
-        (broadcast_false (effective_mask (held_rows mask.now.tree))
-        (held_rows if_true.now.tree) (first_row (held_rows if_false.now.tree)))) }
+        (held_rows if_true.now.tree) (first_row (held_rows if_false.now.tree))) }
 {
     choose_handles(alloc, mask, if_true, if_false, true, false, out)
 }
@@ -161,30 +105,12 @@ pub extern "C" fn sel_if_then_else_broadcast_both(
     if_false: &ColumnRef,
     out: &mut Handle,
 ) -> u32
-    ensures rows { Makes result out.old.tree out.new.tree (λ made. rows made.column ≡
-        broadcast_both (effective_mask (held_rows mask.now.tree))
-        (first_row (held_rows if_true.now.tree)) (first_row (held_rows if_false.now.tree))) }
-    ensures dtype { Makes result out.old.tree out.new.tree
-        (λ made. type_of made.column ≡ held_type if_true.now.tree) }
-    ensures status { IsOneOf result (ok ∷ out_of_memory ∷ no_column ∷ unsupported_type ∷
-        type_mismatch ∷ length_mismatch ∷ limit_statuses) }
-    ensures column { DemandsFirst result no_column (HasColumn mask.now.tree ×
-        HasColumn if_true.now.tree × HasColumn if_false.now.tree) }
-    ensures kind { DemandsBefore result unsupported_type
-        (type_mismatch ∷ length_mismatch ∷ limit_statuses) (held_type mask.now.tree ≡ of_boolean) }
-    ensures alike { DemandsBefore result type_mismatch (length_mismatch ∷ limit_statuses)
-        (held_type if_true.now.tree ≡ held_type if_false.now.tree) }
-    ensures length { DemandsBefore result length_mismatch limit_statuses
+    ensures { Chooses result mask.now.tree if_true.now.tree if_false.now.tree
+        out.old.tree out.new.tree
         ((length (held_rows if_true.now.tree) ≡ 1) ×
-        (length (held_rows if_false.now.tree) ≡ 1)) }
-    ensures limits { ReportsLimits result (exceeded_taken (held_type if_true.now.tree)
-        (held_columns if_true.now.tree ++ held_columns if_false.now.tree)
+        (length (held_rows if_false.now.tree) ≡ 1))
         (broadcast_both (effective_mask (held_rows mask.now.tree))
-        (first_row (held_rows if_true.now.tree)) (first_row (held_rows if_false.now.tree)))) }
-    ensures within { result ≡ ok → ExceedsNone (exceeded_taken (held_type if_true.now.tree)
-        (held_columns if_true.now.tree ++ held_columns if_false.now.tree)
-        (broadcast_both (effective_mask (held_rows mask.now.tree))
-        (first_row (held_rows if_true.now.tree)) (first_row (held_rows if_false.now.tree)))) }
+        (first_row (held_rows if_true.now.tree)) (first_row (held_rows if_false.now.tree))) }
 {
     choose_handles(alloc, mask, if_true, if_false, false, false, out)
 }

@@ -3,8 +3,9 @@
 
 ghost use Rattle.std.specs.Prelude.{◌≡◌, ◌≢◌, ◌≤◌, ◌*◌, None, Some};
 ghost use Rattle.sel_bits.specs.Bits.{bits_from, unsliced};
-ghost use Rattle.sel_ffi.specs.Status.{ok, out_of_memory};
-ghost use Rattle.sel_lent.specs.Buffers.{IsBitsOf, IsPartOf};
+ghost use Rattle.sel_ffi.specs.Status.{ok};
+ghost use Rattle.sel_c.specs.Numbers.{GivesBack, Lends};
+ghost use Rattle.sel_lent.specs.Buffers.{IsBitsOf};
 ghost use Rattle.sel_lent.specs.declared.shared_buffer.SharedBuffer.TheVariants.{Bits, Int8, Int16, Int32, Int64, UInt8, UInt16, UInt32, UInt64, Views};
 
 use sel_arrow::view::View;
@@ -33,10 +34,8 @@ pub extern "C" fn sel_buffer_free(alloc: Global, of: &mut BufferHandle)
 /// Returns in `out` a buffer of the values, without a copy. On error `from` keeps them.
 #[unsafe(no_mangle)]
 pub extern "C" fn sel_int8_lend(alloc: Global, from: &mut Int8Memory, out: &mut BufferHandle) -> u32
-    ensures buffer { result ≡ ok → out.new.buffer ≡ Some (Int8 from.old.items) }
-    ensures kept { result ≢ ok → from.new.items ≡ from.old.items }
-    ensures unchanged { result ≢ ok → out.new.buffer ≡ out.old.buffer }
-    ensures status { result ≤ out_of_memory }
+    ensures { Lends result (λ values. Int8 values) from.old.items from.new.items
+        out.old.buffer out.new.buffer }
 {
     let memory = replace(from, Int8Memory::of_lent(Lent::none()));
     match lend(alloc, memory.into_lent(), out) {
@@ -52,10 +51,8 @@ pub extern "C" fn sel_int8_lend(alloc: Global, from: &mut Int8Memory, out: &mut 
 /// empty afterwards. On error `of` is unchanged.
 #[unsafe(no_mangle)]
 pub extern "C" fn sel_int8_back(alloc: Global, of: &mut BufferHandle, out: &mut Int8Memory) -> u32
-    ensures given { result ≡ ok →
-        IsPartOf (λ values. Int8 values) of.old.buffer out.new.items }
-    ensures taken { result ≡ ok → of.new.buffer ≡ None }
-    ensures unchanged { result ≢ ok → of.new.buffer ≡ of.old.buffer }
+    ensures { GivesBack result (λ values. Int8 values) of.old.buffer of.new.buffer
+        out.new.items }
 {
     match give_back::<i8>(alloc, of) {
         None => IN_USE,
@@ -73,10 +70,8 @@ pub extern "C" fn sel_int16_lend(
     from: &mut Int16Memory,
     out: &mut BufferHandle,
 ) -> u32
-    ensures buffer { result ≡ ok → out.new.buffer ≡ Some (Int16 from.old.items) }
-    ensures kept { result ≢ ok → from.new.items ≡ from.old.items }
-    ensures unchanged { result ≢ ok → out.new.buffer ≡ out.old.buffer }
-    ensures status { result ≤ out_of_memory }
+    ensures { Lends result (λ values. Int16 values) from.old.items from.new.items
+        out.old.buffer out.new.buffer }
 {
     let memory = replace(from, Int16Memory::of_lent(Lent::none()));
     match lend(alloc, memory.into_lent(), out) {
@@ -92,10 +87,8 @@ pub extern "C" fn sel_int16_lend(
 /// empty afterwards. On error `of` is unchanged.
 #[unsafe(no_mangle)]
 pub extern "C" fn sel_int16_back(alloc: Global, of: &mut BufferHandle, out: &mut Int16Memory) -> u32
-    ensures given { result ≡ ok →
-        IsPartOf (λ values. Int16 values) of.old.buffer out.new.items }
-    ensures taken { result ≡ ok → of.new.buffer ≡ None }
-    ensures unchanged { result ≢ ok → of.new.buffer ≡ of.old.buffer }
+    ensures { GivesBack result (λ values. Int16 values) of.old.buffer of.new.buffer
+        out.new.items }
 {
     match give_back::<i16>(alloc, of) {
         None => IN_USE,
@@ -113,10 +106,8 @@ pub extern "C" fn sel_int32_lend(
     from: &mut Int32Memory,
     out: &mut BufferHandle,
 ) -> u32
-    ensures buffer { result ≡ ok → out.new.buffer ≡ Some (Int32 from.old.items) }
-    ensures kept { result ≢ ok → from.new.items ≡ from.old.items }
-    ensures unchanged { result ≢ ok → out.new.buffer ≡ out.old.buffer }
-    ensures status { result ≤ out_of_memory }
+    ensures { Lends result (λ values. Int32 values) from.old.items from.new.items
+        out.old.buffer out.new.buffer }
 {
     let memory = replace(from, Int32Memory::of_lent(Lent::none()));
     match lend(alloc, memory.into_lent(), out) {
@@ -132,10 +123,8 @@ pub extern "C" fn sel_int32_lend(
 /// empty afterwards. On error `of` is unchanged.
 #[unsafe(no_mangle)]
 pub extern "C" fn sel_int32_back(alloc: Global, of: &mut BufferHandle, out: &mut Int32Memory) -> u32
-    ensures given { result ≡ ok →
-        IsPartOf (λ values. Int32 values) of.old.buffer out.new.items }
-    ensures taken { result ≡ ok → of.new.buffer ≡ None }
-    ensures unchanged { result ≢ ok → of.new.buffer ≡ of.old.buffer }
+    ensures { GivesBack result (λ values. Int32 values) of.old.buffer of.new.buffer
+        out.new.items }
 {
     match give_back::<i32>(alloc, of) {
         None => IN_USE,
@@ -153,10 +142,8 @@ pub extern "C" fn sel_int64_lend(
     from: &mut Int64Memory,
     out: &mut BufferHandle,
 ) -> u32
-    ensures buffer { result ≡ ok → out.new.buffer ≡ Some (Int64 from.old.items) }
-    ensures kept { result ≢ ok → from.new.items ≡ from.old.items }
-    ensures unchanged { result ≢ ok → out.new.buffer ≡ out.old.buffer }
-    ensures status { result ≤ out_of_memory }
+    ensures { Lends result (λ values. Int64 values) from.old.items from.new.items
+        out.old.buffer out.new.buffer }
 {
     let memory = replace(from, Int64Memory::of_lent(Lent::none()));
     match lend(alloc, memory.into_lent(), out) {
@@ -172,10 +159,8 @@ pub extern "C" fn sel_int64_lend(
 /// empty afterwards. On error `of` is unchanged.
 #[unsafe(no_mangle)]
 pub extern "C" fn sel_int64_back(alloc: Global, of: &mut BufferHandle, out: &mut Int64Memory) -> u32
-    ensures given { result ≡ ok →
-        IsPartOf (λ values. Int64 values) of.old.buffer out.new.items }
-    ensures taken { result ≡ ok → of.new.buffer ≡ None }
-    ensures unchanged { result ≢ ok → of.new.buffer ≡ of.old.buffer }
+    ensures { GivesBack result (λ values. Int64 values) of.old.buffer of.new.buffer
+        out.new.items }
 {
     match give_back::<i64>(alloc, of) {
         None => IN_USE,
@@ -193,10 +178,8 @@ pub extern "C" fn sel_uint8_lend(
     from: &mut UInt8Memory,
     out: &mut BufferHandle,
 ) -> u32
-    ensures buffer { result ≡ ok → out.new.buffer ≡ Some (UInt8 from.old.items) }
-    ensures kept { result ≢ ok → from.new.items ≡ from.old.items }
-    ensures unchanged { result ≢ ok → out.new.buffer ≡ out.old.buffer }
-    ensures status { result ≤ out_of_memory }
+    ensures { Lends result (λ values. UInt8 values) from.old.items from.new.items
+        out.old.buffer out.new.buffer }
 {
     let memory = replace(from, UInt8Memory::of_lent(Lent::none()));
     match lend(alloc, memory.into_lent(), out) {
@@ -212,10 +195,8 @@ pub extern "C" fn sel_uint8_lend(
 /// empty afterwards. On error `of` is unchanged.
 #[unsafe(no_mangle)]
 pub extern "C" fn sel_uint8_back(alloc: Global, of: &mut BufferHandle, out: &mut UInt8Memory) -> u32
-    ensures given { result ≡ ok →
-        IsPartOf (λ values. UInt8 values) of.old.buffer out.new.items }
-    ensures taken { result ≡ ok → of.new.buffer ≡ None }
-    ensures unchanged { result ≢ ok → of.new.buffer ≡ of.old.buffer }
+    ensures { GivesBack result (λ values. UInt8 values) of.old.buffer of.new.buffer
+        out.new.items }
 {
     match give_back::<u8>(alloc, of) {
         None => IN_USE,
@@ -233,10 +214,8 @@ pub extern "C" fn sel_uint16_lend(
     from: &mut UInt16Memory,
     out: &mut BufferHandle,
 ) -> u32
-    ensures buffer { result ≡ ok → out.new.buffer ≡ Some (UInt16 from.old.items) }
-    ensures kept { result ≢ ok → from.new.items ≡ from.old.items }
-    ensures unchanged { result ≢ ok → out.new.buffer ≡ out.old.buffer }
-    ensures status { result ≤ out_of_memory }
+    ensures { Lends result (λ values. UInt16 values) from.old.items from.new.items
+        out.old.buffer out.new.buffer }
 {
     let memory = replace(from, UInt16Memory::of_lent(Lent::none()));
     match lend(alloc, memory.into_lent(), out) {
@@ -256,10 +235,8 @@ pub extern "C" fn sel_uint16_back(
     of: &mut BufferHandle,
     out: &mut UInt16Memory,
 ) -> u32
-    ensures given { result ≡ ok →
-        IsPartOf (λ values. UInt16 values) of.old.buffer out.new.items }
-    ensures taken { result ≡ ok → of.new.buffer ≡ None }
-    ensures unchanged { result ≢ ok → of.new.buffer ≡ of.old.buffer }
+    ensures { GivesBack result (λ values. UInt16 values) of.old.buffer of.new.buffer
+        out.new.items }
 {
     match give_back::<u16>(alloc, of) {
         None => IN_USE,
@@ -277,10 +254,8 @@ pub extern "C" fn sel_uint32_lend(
     from: &mut UInt32Memory,
     out: &mut BufferHandle,
 ) -> u32
-    ensures buffer { result ≡ ok → out.new.buffer ≡ Some (UInt32 from.old.items) }
-    ensures kept { result ≢ ok → from.new.items ≡ from.old.items }
-    ensures unchanged { result ≢ ok → out.new.buffer ≡ out.old.buffer }
-    ensures status { result ≤ out_of_memory }
+    ensures { Lends result (λ values. UInt32 values) from.old.items from.new.items
+        out.old.buffer out.new.buffer }
 {
     let memory = replace(from, UInt32Memory::of_lent(Lent::none()));
     match lend(alloc, memory.into_lent(), out) {
@@ -300,10 +275,8 @@ pub extern "C" fn sel_uint32_back(
     of: &mut BufferHandle,
     out: &mut UInt32Memory,
 ) -> u32
-    ensures given { result ≡ ok →
-        IsPartOf (λ values. UInt32 values) of.old.buffer out.new.items }
-    ensures taken { result ≡ ok → of.new.buffer ≡ None }
-    ensures unchanged { result ≢ ok → of.new.buffer ≡ of.old.buffer }
+    ensures { GivesBack result (λ values. UInt32 values) of.old.buffer of.new.buffer
+        out.new.items }
 {
     match give_back::<u32>(alloc, of) {
         None => IN_USE,
@@ -321,10 +294,8 @@ pub extern "C" fn sel_uint64_lend(
     from: &mut UInt64Memory,
     out: &mut BufferHandle,
 ) -> u32
-    ensures buffer { result ≡ ok → out.new.buffer ≡ Some (UInt64 from.old.items) }
-    ensures kept { result ≢ ok → from.new.items ≡ from.old.items }
-    ensures unchanged { result ≢ ok → out.new.buffer ≡ out.old.buffer }
-    ensures status { result ≤ out_of_memory }
+    ensures { Lends result (λ values. UInt64 values) from.old.items from.new.items
+        out.old.buffer out.new.buffer }
 {
     let memory = replace(from, UInt64Memory::of_lent(Lent::none()));
     match lend(alloc, memory.into_lent(), out) {
@@ -344,10 +315,8 @@ pub extern "C" fn sel_uint64_back(
     of: &mut BufferHandle,
     out: &mut UInt64Memory,
 ) -> u32
-    ensures given { result ≡ ok →
-        IsPartOf (λ values. UInt64 values) of.old.buffer out.new.items }
-    ensures taken { result ≡ ok → of.new.buffer ≡ None }
-    ensures unchanged { result ≢ ok → of.new.buffer ≡ of.old.buffer }
+    ensures { GivesBack result (λ values. UInt64 values) of.old.buffer of.new.buffer
+        out.new.items }
 {
     match give_back::<u64>(alloc, of) {
         None => IN_USE,
@@ -365,10 +334,8 @@ pub extern "C" fn sel_views_lend(
     from: &mut ViewMemory,
     out: &mut BufferHandle,
 ) -> u32
-    ensures buffer { result ≡ ok → out.new.buffer ≡ Some (Views from.old.items) }
-    ensures kept { result ≢ ok → from.new.items ≡ from.old.items }
-    ensures unchanged { result ≢ ok → out.new.buffer ≡ out.old.buffer }
-    ensures status { result ≤ out_of_memory }
+    ensures { Lends result (λ values. Views values) from.old.items from.new.items
+        out.old.buffer out.new.buffer }
 {
     let memory = replace(from, ViewMemory::of_lent(Lent::none()));
     match lend(alloc, memory.into_lent(), out) {
@@ -384,10 +351,8 @@ pub extern "C" fn sel_views_lend(
 /// empty afterwards. On error `of` is unchanged.
 #[unsafe(no_mangle)]
 pub extern "C" fn sel_views_back(alloc: Global, of: &mut BufferHandle, out: &mut ViewMemory) -> u32
-    ensures given { result ≡ ok →
-        IsPartOf (λ values. Views values) of.old.buffer out.new.items }
-    ensures taken { result ≡ ok → of.new.buffer ≡ None }
-    ensures unchanged { result ≢ ok → of.new.buffer ≡ of.old.buffer }
+    ensures { GivesBack result (λ values. Views values) of.old.buffer of.new.buffer
+        out.new.items }
 {
     match give_back::<View>(alloc, of) {
         None => IN_USE,

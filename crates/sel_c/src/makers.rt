@@ -3,12 +3,13 @@
 ghost use Rattle.std.specs.Prelude.{◌≡◌, ◌≤◌, ◌*◌, length, pos, replicate};
 ghost use Rattle.sel_bits.specs.Bits.{bits_from};
 ghost use Rattle.sel_arrow.specs.Makers.{null_fault};
-ghost use Rattle.sel_arrow.specs.Masked.{number_rows, bool_rows};
+ghost use Rattle.sel_arrow.specs.Masked.{bool_rows};
 ghost use Rattle.sel_arrow.specs.Rows.{rows, type_of};
 ghost use Rattle.sel_arrow.specs.Shape.{of_null, of_boolean, of_int8, of_int16, of_int32, of_int64, of_uint8, of_uint16, of_uint32, of_uint64};
 ghost use Rattle.sel_arrow.specs.Value.{Null};
 ghost use Rattle.sel_ffi.specs.Inputs.{validity_in, flat_rules};
 ghost use Rattle.sel_ffi.specs.Status.{length_mismatch, DemandsFirst, Makes, ReportsOnly};
+ghost use Rattle.sel_c.specs.Numbers.{MakesNumbers};
 
 use sel_arrow::array::Array;
 use sel_arrow::null::NullArray;
@@ -78,11 +79,8 @@ pub extern "C" fn sel_int8_new(
     has_bits: bool,
     out: &mut Handle,
 ) -> u32
-    ensures rows { Makes result out.old.tree out.new.tree (λ made. rows made.column ≡
-        number_rows (λ x. x) values.now (validity_in bits.now has_bits (length values.now))) }
-    ensures dtype { Makes result out.old.tree out.new.tree
-        (λ made. type_of made.column ≡ of_int8) }
-    ensures status { ReportsOnly result (flat_rules (length values.now) bits.now has_bits) }
+    ensures { MakesNumbers result out.old.tree out.new.tree of_int8 (λ x. x)
+        values.now bits.now has_bits }
 {
     make_numbers(alloc, values, bits, has_bits, out)
 }
@@ -99,11 +97,8 @@ pub extern "C" fn sel_int16_new(
     has_bits: bool,
     out: &mut Handle,
 ) -> u32
-    ensures rows { Makes result out.old.tree out.new.tree (λ made. rows made.column ≡
-        number_rows (λ x. x) values.now (validity_in bits.now has_bits (length values.now))) }
-    ensures dtype { Makes result out.old.tree out.new.tree
-        (λ made. type_of made.column ≡ of_int16) }
-    ensures status { ReportsOnly result (flat_rules (length values.now) bits.now has_bits) }
+    ensures { MakesNumbers result out.old.tree out.new.tree of_int16 (λ x. x)
+        values.now bits.now has_bits }
 {
     make_numbers(alloc, values, bits, has_bits, out)
 }
@@ -120,11 +115,8 @@ pub extern "C" fn sel_int32_new(
     has_bits: bool,
     out: &mut Handle,
 ) -> u32
-    ensures rows { Makes result out.old.tree out.new.tree (λ made. rows made.column ≡
-        number_rows (λ x. x) values.now (validity_in bits.now has_bits (length values.now))) }
-    ensures dtype { Makes result out.old.tree out.new.tree
-        (λ made. type_of made.column ≡ of_int32) }
-    ensures status { ReportsOnly result (flat_rules (length values.now) bits.now has_bits) }
+    ensures { MakesNumbers result out.old.tree out.new.tree of_int32 (λ x. x)
+        values.now bits.now has_bits }
 {
     make_numbers(alloc, values, bits, has_bits, out)
 }
@@ -141,11 +133,8 @@ pub extern "C" fn sel_int64_new(
     has_bits: bool,
     out: &mut Handle,
 ) -> u32
-    ensures rows { Makes result out.old.tree out.new.tree (λ made. rows made.column ≡
-        number_rows (λ x. x) values.now (validity_in bits.now has_bits (length values.now))) }
-    ensures dtype { Makes result out.old.tree out.new.tree
-        (λ made. type_of made.column ≡ of_int64) }
-    ensures status { ReportsOnly result (flat_rules (length values.now) bits.now has_bits) }
+    ensures { MakesNumbers result out.old.tree out.new.tree of_int64 (λ x. x)
+        values.now bits.now has_bits }
 {
     make_numbers(alloc, values, bits, has_bits, out)
 }
@@ -162,11 +151,8 @@ pub extern "C" fn sel_uint8_new(
     has_bits: bool,
     out: &mut Handle,
 ) -> u32
-    ensures rows { Makes result out.old.tree out.new.tree (λ made. rows made.column ≡
-        number_rows pos values.now (validity_in bits.now has_bits (length values.now))) }
-    ensures dtype { Makes result out.old.tree out.new.tree
-        (λ made. type_of made.column ≡ of_uint8) }
-    ensures status { ReportsOnly result (flat_rules (length values.now) bits.now has_bits) }
+    ensures { MakesNumbers result out.old.tree out.new.tree of_uint8 pos
+        values.now bits.now has_bits }
 {
     make_numbers(alloc, values, bits, has_bits, out)
 }
@@ -183,11 +169,8 @@ pub extern "C" fn sel_uint16_new(
     has_bits: bool,
     out: &mut Handle,
 ) -> u32
-    ensures rows { Makes result out.old.tree out.new.tree (λ made. rows made.column ≡
-        number_rows pos values.now (validity_in bits.now has_bits (length values.now))) }
-    ensures dtype { Makes result out.old.tree out.new.tree
-        (λ made. type_of made.column ≡ of_uint16) }
-    ensures status { ReportsOnly result (flat_rules (length values.now) bits.now has_bits) }
+    ensures { MakesNumbers result out.old.tree out.new.tree of_uint16 pos
+        values.now bits.now has_bits }
 {
     make_numbers(alloc, values, bits, has_bits, out)
 }
@@ -204,11 +187,8 @@ pub extern "C" fn sel_uint32_new(
     has_bits: bool,
     out: &mut Handle,
 ) -> u32
-    ensures rows { Makes result out.old.tree out.new.tree (λ made. rows made.column ≡
-        number_rows pos values.now (validity_in bits.now has_bits (length values.now))) }
-    ensures dtype { Makes result out.old.tree out.new.tree
-        (λ made. type_of made.column ≡ of_uint32) }
-    ensures status { ReportsOnly result (flat_rules (length values.now) bits.now has_bits) }
+    ensures { MakesNumbers result out.old.tree out.new.tree of_uint32 pos
+        values.now bits.now has_bits }
 {
     make_numbers(alloc, values, bits, has_bits, out)
 }
@@ -225,11 +205,8 @@ pub extern "C" fn sel_uint64_new(
     has_bits: bool,
     out: &mut Handle,
 ) -> u32
-    ensures rows { Makes result out.old.tree out.new.tree (λ made. rows made.column ≡
-        number_rows pos values.now (validity_in bits.now has_bits (length values.now))) }
-    ensures dtype { Makes result out.old.tree out.new.tree
-        (λ made. type_of made.column ≡ of_uint64) }
-    ensures status { ReportsOnly result (flat_rules (length values.now) bits.now has_bits) }
+    ensures { MakesNumbers result out.old.tree out.new.tree of_uint64 pos
+        values.now bits.now has_bits }
 {
     make_numbers(alloc, values, bits, has_bits, out)
 }

@@ -7,8 +7,9 @@ ghost use Rattle.sel_arrow.specs.Shape.{of_boolean, of_int8, of_int16, of_int32,
 ghost use Rattle.sel_arrow.specs.Value.{is_null};
 ghost use Rattle.sel_ffi.specs.Inputs.{validity_in};
 ghost use Rattle.sel_ffi.specs.Kinds.{held_kind};
-ghost use Rattle.sel_ffi.specs.Outputs.{Shows, numbers, bools};
+ghost use Rattle.sel_ffi.specs.Outputs.{Shows, bools};
 ghost use Rattle.sel_ffi.specs.Status.{ok, out_of_memory, no_column, unsupported_type, length_mismatch, held_rows, held_type, Demands, DemandsBefore, DemandsFirst, HasColumn, IsOneOf};
+ghost use Rattle.sel_c.specs.Numbers.{CopiesNumbers};
 
 use sel_arrow::array::Array;
 use sel_ffi::column_ref::ColumnRef;
@@ -104,14 +105,7 @@ pub extern "C" fn sel_boolean_values(alloc: Global, of: &ColumnRef, out: &mut [u
 /// SEL_TYPE_INT8. SEL_ERROR_LENGTH_MISMATCH: `out_len` is not the number of rows.
 #[unsafe(no_mangle)]
 pub extern "C" fn sel_int8_values(alloc: Global, of: &ColumnRef, out: &mut [i8]) -> u32
-    ensures values { result ≡ ok → Shows (numbers (λ x. x) out.new) (held_rows of.now.tree) }
-    ensures column { DemandsFirst result no_column (HasColumn of.now.tree) }
-    ensures kind { DemandsBefore result unsupported_type (length_mismatch ∷ [])
-        (held_type of.now.tree ≡ of_int8) }
-    ensures length { Demands result length_mismatch
-        (length out.old ≡ length (held_rows of.now.tree)) }
-    ensures status { IsOneOf result
-        (ok ∷ out_of_memory ∷ no_column ∷ unsupported_type ∷ length_mismatch ∷ []) }
+    ensures { CopiesNumbers result of.now.tree of_int8 (λ x. x) out.old out.new }
 {
     held_numbers_into(alloc, of, out)
 }
@@ -122,14 +116,7 @@ pub extern "C" fn sel_int8_values(alloc: Global, of: &ColumnRef, out: &mut [i8])
 /// SEL_TYPE_INT16. SEL_ERROR_LENGTH_MISMATCH: `out_len` is not the number of rows.
 #[unsafe(no_mangle)]
 pub extern "C" fn sel_int16_values(alloc: Global, of: &ColumnRef, out: &mut [i16]) -> u32
-    ensures values { result ≡ ok → Shows (numbers (λ x. x) out.new) (held_rows of.now.tree) }
-    ensures column { DemandsFirst result no_column (HasColumn of.now.tree) }
-    ensures kind { DemandsBefore result unsupported_type (length_mismatch ∷ [])
-        (held_type of.now.tree ≡ of_int16) }
-    ensures length { Demands result length_mismatch
-        (length out.old ≡ length (held_rows of.now.tree)) }
-    ensures status { IsOneOf result
-        (ok ∷ out_of_memory ∷ no_column ∷ unsupported_type ∷ length_mismatch ∷ []) }
+    ensures { CopiesNumbers result of.now.tree of_int16 (λ x. x) out.old out.new }
 {
     held_numbers_into(alloc, of, out)
 }
@@ -140,14 +127,7 @@ pub extern "C" fn sel_int16_values(alloc: Global, of: &ColumnRef, out: &mut [i16
 /// SEL_TYPE_INT32. SEL_ERROR_LENGTH_MISMATCH: `out_len` is not the number of rows.
 #[unsafe(no_mangle)]
 pub extern "C" fn sel_int32_values(alloc: Global, of: &ColumnRef, out: &mut [i32]) -> u32
-    ensures values { result ≡ ok → Shows (numbers (λ x. x) out.new) (held_rows of.now.tree) }
-    ensures column { DemandsFirst result no_column (HasColumn of.now.tree) }
-    ensures kind { DemandsBefore result unsupported_type (length_mismatch ∷ [])
-        (held_type of.now.tree ≡ of_int32) }
-    ensures length { Demands result length_mismatch
-        (length out.old ≡ length (held_rows of.now.tree)) }
-    ensures status { IsOneOf result
-        (ok ∷ out_of_memory ∷ no_column ∷ unsupported_type ∷ length_mismatch ∷ []) }
+    ensures { CopiesNumbers result of.now.tree of_int32 (λ x. x) out.old out.new }
 {
     held_numbers_into(alloc, of, out)
 }
@@ -158,14 +138,7 @@ pub extern "C" fn sel_int32_values(alloc: Global, of: &ColumnRef, out: &mut [i32
 /// SEL_TYPE_INT64. SEL_ERROR_LENGTH_MISMATCH: `out_len` is not the number of rows.
 #[unsafe(no_mangle)]
 pub extern "C" fn sel_int64_values(alloc: Global, of: &ColumnRef, out: &mut [i64]) -> u32
-    ensures values { result ≡ ok → Shows (numbers (λ x. x) out.new) (held_rows of.now.tree) }
-    ensures column { DemandsFirst result no_column (HasColumn of.now.tree) }
-    ensures kind { DemandsBefore result unsupported_type (length_mismatch ∷ [])
-        (held_type of.now.tree ≡ of_int64) }
-    ensures length { Demands result length_mismatch
-        (length out.old ≡ length (held_rows of.now.tree)) }
-    ensures status { IsOneOf result
-        (ok ∷ out_of_memory ∷ no_column ∷ unsupported_type ∷ length_mismatch ∷ []) }
+    ensures { CopiesNumbers result of.now.tree of_int64 (λ x. x) out.old out.new }
 {
     held_numbers_into(alloc, of, out)
 }
@@ -176,14 +149,7 @@ pub extern "C" fn sel_int64_values(alloc: Global, of: &ColumnRef, out: &mut [i64
 /// SEL_TYPE_UINT8. SEL_ERROR_LENGTH_MISMATCH: `out_len` is not the number of rows.
 #[unsafe(no_mangle)]
 pub extern "C" fn sel_uint8_values(alloc: Global, of: &ColumnRef, out: &mut [u8]) -> u32
-    ensures values { result ≡ ok → Shows (numbers pos out.new) (held_rows of.now.tree) }
-    ensures column { DemandsFirst result no_column (HasColumn of.now.tree) }
-    ensures kind { DemandsBefore result unsupported_type (length_mismatch ∷ [])
-        (held_type of.now.tree ≡ of_uint8) }
-    ensures length { Demands result length_mismatch
-        (length out.old ≡ length (held_rows of.now.tree)) }
-    ensures status { IsOneOf result
-        (ok ∷ out_of_memory ∷ no_column ∷ unsupported_type ∷ length_mismatch ∷ []) }
+    ensures { CopiesNumbers result of.now.tree of_uint8 pos out.old out.new }
 {
     held_numbers_into(alloc, of, out)
 }
@@ -194,14 +160,7 @@ pub extern "C" fn sel_uint8_values(alloc: Global, of: &ColumnRef, out: &mut [u8]
 /// SEL_TYPE_UINT16. SEL_ERROR_LENGTH_MISMATCH: `out_len` is not the number of rows.
 #[unsafe(no_mangle)]
 pub extern "C" fn sel_uint16_values(alloc: Global, of: &ColumnRef, out: &mut [u16]) -> u32
-    ensures values { result ≡ ok → Shows (numbers pos out.new) (held_rows of.now.tree) }
-    ensures column { DemandsFirst result no_column (HasColumn of.now.tree) }
-    ensures kind { DemandsBefore result unsupported_type (length_mismatch ∷ [])
-        (held_type of.now.tree ≡ of_uint16) }
-    ensures length { Demands result length_mismatch
-        (length out.old ≡ length (held_rows of.now.tree)) }
-    ensures status { IsOneOf result
-        (ok ∷ out_of_memory ∷ no_column ∷ unsupported_type ∷ length_mismatch ∷ []) }
+    ensures { CopiesNumbers result of.now.tree of_uint16 pos out.old out.new }
 {
     held_numbers_into(alloc, of, out)
 }
@@ -212,14 +171,7 @@ pub extern "C" fn sel_uint16_values(alloc: Global, of: &ColumnRef, out: &mut [u1
 /// SEL_TYPE_UINT32. SEL_ERROR_LENGTH_MISMATCH: `out_len` is not the number of rows.
 #[unsafe(no_mangle)]
 pub extern "C" fn sel_uint32_values(alloc: Global, of: &ColumnRef, out: &mut [u32]) -> u32
-    ensures values { result ≡ ok → Shows (numbers pos out.new) (held_rows of.now.tree) }
-    ensures column { DemandsFirst result no_column (HasColumn of.now.tree) }
-    ensures kind { DemandsBefore result unsupported_type (length_mismatch ∷ [])
-        (held_type of.now.tree ≡ of_uint32) }
-    ensures length { Demands result length_mismatch
-        (length out.old ≡ length (held_rows of.now.tree)) }
-    ensures status { IsOneOf result
-        (ok ∷ out_of_memory ∷ no_column ∷ unsupported_type ∷ length_mismatch ∷ []) }
+    ensures { CopiesNumbers result of.now.tree of_uint32 pos out.old out.new }
 {
     held_numbers_into(alloc, of, out)
 }
@@ -230,14 +182,7 @@ pub extern "C" fn sel_uint32_values(alloc: Global, of: &ColumnRef, out: &mut [u3
 /// SEL_TYPE_UINT64. SEL_ERROR_LENGTH_MISMATCH: `out_len` is not the number of rows.
 #[unsafe(no_mangle)]
 pub extern "C" fn sel_uint64_values(alloc: Global, of: &ColumnRef, out: &mut [u64]) -> u32
-    ensures values { result ≡ ok → Shows (numbers pos out.new) (held_rows of.now.tree) }
-    ensures column { DemandsFirst result no_column (HasColumn of.now.tree) }
-    ensures kind { DemandsBefore result unsupported_type (length_mismatch ∷ [])
-        (held_type of.now.tree ≡ of_uint64) }
-    ensures length { Demands result length_mismatch
-        (length out.old ≡ length (held_rows of.now.tree)) }
-    ensures status { IsOneOf result
-        (ok ∷ out_of_memory ∷ no_column ∷ unsupported_type ∷ length_mismatch ∷ []) }
+    ensures { CopiesNumbers result of.now.tree of_uint64 pos out.old out.new }
 {
     held_numbers_into(alloc, of, out)
 }
