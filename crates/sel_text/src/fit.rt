@@ -98,8 +98,8 @@ impl FitsShape for u128 {
 /// Shows that the rows of a well-formed column fit its type: each integer is in the range of its
 /// type, each byte is less than 256 and each string is UTF-8, in child columns too.
 ///
-/// Returns nothing. Reads each integer once: a contract knows the range of an integer only where the
-/// program reads it.
+/// Returns nothing. Reads each integer once: a contract knows the range of an integer only where
+/// the program reads it.
 ///
 /// # Requires
 /// The column is well-formed; check with `Column::is_well_formed`.
