@@ -10,9 +10,10 @@ use Rattle.sel_ffi.specs.Status.{length_mismatch, limit_statuses, held_columns, 
 use Rattle.sel_ffi.specs.Status.{DemandsBefore, DemandsFirst, HasColumn, IsOneOf, Makes}
 use Rattle.sel_ffi.specs.Status.{ReportsLimits}
 
--- The column of an if-then-else is made: it has these values and the type of the true side, and
+-- The column of an if-then-else is made: it has these values and the type of the true values, and
 -- exceeds no limit. A status is returned only if its condition does not hold, in this order: there
--- are three columns, the mask is boolean, both sides have one type, and their lengths fit.
+-- are three columns, the mask is boolean, the true and the false values have one type, and their
+-- lengths fit.
 pub record Chooses (code : ℕ) (mask if_true if_false before after : Held) (LengthsFit : Type 0)
     (values : List Value) : Type 0 where
   pub rows : Makes code before after (λ made. rows made.column ≡ values)
