@@ -21,7 +21,7 @@ from ._owner import Owner, from_several
 from ._readers import compacted, is_mostly
 from ._types import Type
 
-__all__ = ["column_again", "reduced"]
+__all__ = ["column_again", "reduced", "size_of_buffers"]
 
 # The bytes of a value in the formats that have values of one size.
 _WIDTHS = {b"c": 1, b"C": 1, b"s": 2, b"S": 2, b"i": 4, b"I": 4, b"l": 8, b"L": 8, b"d:38,0,128": 16, b"w:16": 16}
@@ -130,6 +130,22 @@ def _use(level: _Level) -> tuple[int, int, set[bytes]]:
             spare_below = max(spare_below, below * outside // child.length)
         whole, spare, formats = whole + below, spare + spare_below, formats | formats_below
     return whole, spare, formats
+
+
+def size_of_buffers(column: Owner) -> int:
+    """Returns the bytes of the buffers that the rows are in: of those that Arrow would read, at every level.
+
+    A column with a 128-bit integer of 39 digits, which Arrow cannot represent, counts 16 bytes a row.
+    """
+    try:
+        exported = Exported(column, TypeOwner())
+    except BrokenRule:
+        return 16 * len(column)
+    return _size(_level(exported.array, exported.schema))
+
+
+def _size(level: _Level) -> int:
+    return sum(size or 0 for size in level.sizes) + sum(_size(child) for child in level.children)
 
 
 def _with_offsets(wanted: Type) -> Type:

@@ -178,6 +178,23 @@ class Column(Owner):
         """
         return int(lib.sel_null_count(self))
 
+    @property
+    def nbytes(self) -> int:
+        """The number of bytes of the buffers that the rows are in, which other columns may share.
+
+        A slice counts what its rows need, and all data buffers of views.
+
+        >>> sel.Column([1, 2, 3]).nbytes, sel.Column([1, None, 3]).nbytes
+        (24, 25)
+        """
+        from ._buffers import size_of_buffers
+
+        return size_of_buffers(self)
+
+    def __sizeof__(self) -> int:
+        """Returns the size of the object and of its buffers in bytes, by which `sys.getsizeof` and Dask measure it."""
+        return object.__sizeof__(self) + self.nbytes
+
     def valid(self) -> list[bool]:
         """Returns for each row whether it is valid, that is, not null.
 

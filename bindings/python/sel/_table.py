@@ -96,6 +96,19 @@ class Table:
         """Returns the number of rows."""
         return self._length
 
+    @property
+    def nbytes(self) -> int:
+        """The number of bytes of the buffers that the rows of all columns are in, as `Column.nbytes` counts them.
+
+        >>> sel.Table({"a": [1, 2], "b": [True, False]}).nbytes
+        17
+        """
+        return sum(column.nbytes for column in self._columns)
+
+    def __sizeof__(self) -> int:
+        """Returns the size of the object and of its buffers in bytes, by which `sys.getsizeof` and Dask measure it."""
+        return object.__sizeof__(self) + self.nbytes
+
     def __getitem__(self, key: Any) -> Any:
         """Returns the column with a name, or the rows that a slice, a mask or a sequence of integers selects, as a table.
 

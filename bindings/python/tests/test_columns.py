@@ -4,6 +4,7 @@ from __future__ import annotations
 
 import copy
 import random
+import sys
 import unittest
 
 import model
@@ -28,6 +29,23 @@ class Columns(unittest.TestCase):
             self.assertEqual(column.to_pylist(), rows)
             self.assertEqual(len(column), len(rows))
             self.assertEqual(column.null_count, sum(row is None for row in rows))
+
+    def test_bytes_of_buffers(self) -> None:
+        for text, rows, wanted in table(
+            ("null", [None, None], 0), ("bool", [True] * 9, 2), ("bool", [True, None], 2), ("i8", [], 0), ("i8", [1, 2], 2),
+            ("i64", [1, 2, 3], 24), ("i64", [1, None, 3], 24 + 1), ("u128", [1], 16), ("i128", [2**127 - 1, 0], 32),
+            ("binary", [b"abc", b""], 3 * 8 + 3), ("utf8", ["short", "longer than twelve"], 2 * 16 + 18),
+            ("list<i64>", [[1, 2], None, [3]], 1 + 4 * 8 + 3 * 8), ("fixed<2,i16>", [[1, 2], [3, 4]], 8),
+            ("struct<i64,bool>", [(1, True), None], 1 + (2 * 8 + 1) + (1 + 1)),
+        ):
+            column = Column.from_pylist(rows, text)
+            self.assertEqual(column.nbytes, wanted, (text, rows))
+            self.assertEqual(sys.getsizeof(column) - sys.getsizeof(Column.from_pylist([], "i8")), wanted)
+        column = Column.from_pylist([5, 6, 7, 8], "i32")
+        self.assertEqual((column[1:3].nbytes, column.share().nbytes), (8, 16))
+        pair = sel.Table({"a": column, "b": column})
+        self.assertEqual((pair.nbytes, pair[:1].nbytes), (32, 8))
+        self.assertEqual(sys.getsizeof(pair) - sys.getsizeof(pair[:1]), 24)
 
     def test_random_columns_in_and_out(self) -> None:
         rng = random.Random(1)
