@@ -49,8 +49,9 @@ SETUP = {
     "cmake": "finds it too, for projects that use CMake",
 }
 
-# the number of crates whose mutants are tried at once while the proofs run
+# the number of checks of mutants that run at once while the proofs run, and the most mutants of one check, which uses one processor
 AT_ONCE = 2
+MUTANTS_OF_CHECK = 20
 
 
 @dataclasses.dataclass
@@ -212,17 +213,22 @@ def below(crate: str) -> list[str]:
     return crates_below(crate, {name: used for name, (_, used) in lines().items()})
 
 
-def mutants_by_crate() -> dict[str, list[str]]:
-    """Returns the mutants that tools/mutants.txt lists, by crate; the crates with the fewest dependencies first."""
-    found: dict[str, list[str]] = {}
+def mutants_by_check() -> dict[str, list[str]]:
+    """Returns the mutants that tools/mutants.txt lists, by the name of their check; the crates with the fewest dependencies first."""
+    by_crate: dict[str, list[str]] = {}
     for label in (ROOT / "tools" / "mutants.txt").read_text().split("\n"):
         if label and not label.startswith("#"):
-            found.setdefault(label.partition("/")[0], []).append(label)
-    return dict(sorted(found.items(), key=lambda item: (len(below(item[0])), item[0])))
+            by_crate.setdefault(label.partition("/")[0], []).append(label)
+    found: dict[str, list[str]] = {}
+    for crate, labels in sorted(by_crate.items(), key=lambda item: (len(below(item[0])), item[0])):
+        count = -(-len(labels) // MUTANTS_OF_CHECK)
+        for k in range(count):
+            found[f"mutants of {crate}" + (f", part {k + 1}" if count > 1 else "")] = labels[k::count]
+    return found
 
 
-def try_mutants(board: Board, proofs: Proofs, crate: str, labels: list[str]) -> bool:
-    return proofs.wait_for(below(crate)) and run_check(board, f"mutants of {crate}", ["tools/mutants", *labels], beside=True)
+def try_mutants(board: Board, proofs: Proofs, name: str, labels: list[str]) -> bool:
+    return proofs.wait_for(below(labels[0].partition("/")[0])) and run_check(board, name, ["tools/mutants", *labels], beside=True)
 
 
 def try_library(board: Board, proofs: Proofs) -> bool:
@@ -233,7 +239,7 @@ def try_library(board: Board, proofs: Proofs) -> bool:
 
 
 def run_all(anew: bool) -> int:
-    mutants = mutants_by_crate()
+    mutants = mutants_by_check()
     board = Board(1 + len(DOCUMENTS) + len(mutants) + 1 + len(AFTER_LIBRARY) + len(AFTER_PROOFS))
     setup()
     for name, command in DOCUMENTS:
@@ -243,7 +249,7 @@ def run_all(anew: bool) -> int:
     proofs = Proofs(board, anew)
     with ThreadPoolExecutor(2) as pool, ThreadPoolExecutor(AT_ONCE) as trials:
         waited: list[Future[bool]] = [pool.submit(try_library, board, proofs)]
-        waited += [trials.submit(try_mutants, board, proofs, crate, labels) for crate, labels in mutants.items()]
+        waited += [trials.submit(try_mutants, board, proofs, name, labels) for name, labels in mutants.items()]
         pool.submit(proofs.run)
         if proofs.wait():
             for future in waited:

@@ -8,9 +8,9 @@ ghost use Rattle.sel_arrow.specs.Value.{Null};
 ghost use Rattle.sel_gather.specs.Children.{child, is_listing, joined_items};
 ghost use Rattle.sel_gather.specs.Steps.{parts_of};
 ghost use Rattle.sel_gather.specs.Need.{ExceedsBuffers, ExceedsBytes, IsLimitOrMemory, ExceedsNone, buffers_joined, exceeded_in_fields, exceeded_taken};
-ghost use Rattle.sel_gather.specs.Picks.{pick, PickFits};
+ghost use Rattle.sel_gather.specs.Picks.{PickFits};
 ghost use Rattle.sel_gather.specs.Runs.{expand};
-ghost use Rattle.sel_gather.specs.Gathers.{GathersFrom, MayGather};
+ghost use Rattle.sel_gather.specs.Gathers.{MayGather};
 ghost use Rattle.sel_gather.specs.Sources.{columns_of, first_type, picked, rows_of};
 
 use crate::binary::collect_binary;
@@ -19,47 +19,16 @@ use crate::kinds::{binaries_of, texts_of, views_of};
 use crate::lists::{child_runs, children_of, count_items};
 use crate::nested::{blocks_over, lists_over, struct_over};
 use crate::null::collect_null;
-use crate::plan::Listed;
-use crate::planned::collect_plan;
 use crate::primitive::collect_primitive;
 use crate::run::Run;
 use crate::structs::{fields_at, split_runs};
 use crate::view::collect_views;
-use sel_arrow::array_ref::ArrayRef;
+use crate::walk::walk_runs;
 use sel_arrow::column::Column;
 use sel_arrow::null::NullArray;
 use sel_arrow::utf8view::Utf8ViewArray;
 use sel_bits::faults::{Limit, PolarsError, PolarsResult};
 use std::alloc::Global;
-
-/// Returns the rows of `sources` at the row references `picks`, in order; a null reference gives a
-/// null row.
-///
-/// Reference `(s, i)` refers to row `i` of source `s`.
-///
-/// # Requires
-/// There is at least one source, and all sources have the type of the first (check with
-/// `are_alike`) and are well-formed (check with `are_well_formed`). Every non-null reference refers
-/// to a row of a source, and there are at most 2^32 - 1 references (check with `picks_in_bounds`).
-///
-/// # Errors
-/// `OutOfMemory` if an allocation fails; `SizeLimit` if at some depth the result would have more
-/// than 2^32 - 1 rows (`Limit::Rows`) or 2^63 - 1 value bytes (`Limit::Bytes`), or the sources have
-/// more than 2^32 - 1 data buffers in total (`Limit::Buffers`).
-pub fn collect_rows<'a>(
-    alloc: Global,
-    sources: &'a [&'a Column],
-    picks: &[Option<(u32, u32)>],
-) -> PolarsResult<ArrayRef>
-    requires some { 0 < length sources.now }
-    requires alike { All (λ c. type_of c.now ≡ first_type (columns_of sources.now)) sources.now }
-    requires may { MayGather sources.now picks.now (length picks.now) }
-    ensures { GathersFrom result (columns_of sources.now)
-        (pick Null (rows_of sources.now) picks.now) }
-{
-    let column = collect_plan(alloc, sources, &Listed { picks }, false)?;
-    Ok(ArrayRef { column })
-}
 
 /// Returns the rows of `sources` that `runs` refer to, in order; a run without a source gives null
 /// rows.
@@ -164,12 +133,10 @@ fn collect_lists<'a>(
         (IsLimitOrMemory (exceeded_taken (of_large_list (type_of child.now))
         (columns_of sources.now) (picked sources.now runs.now))) }
 {
-    let need = count_items(sources, runs, 0);
-    if need > u32::MAX as u128 {
-        return Err(PolarsError::SizeLimit(Limit::Rows));
-    }
-    let values = collect_items(alloc, child, sources, runs, 0, need as usize)?;
-    let column = lists_over(alloc, values, sources, runs, len)?;
+    let (ends, below, need) = walk_runs(alloc, sources, runs, len)?;
+    let children = children_of(alloc, sources)?;
+    let values = collect_like(alloc, child, &children, &below, need)?;
+    let column = lists_over(alloc, values, ends, sources, runs, len)?;
     Ok(column)
 }
 

@@ -1,6 +1,6 @@
-//! Offsets and child rows of gathered lists.
+//! Child rows of gathered lists.
 
-ghost use Rattle.std.specs.Prelude.{◌≡◌, ◌≤◌, ◌<◌, ◌+◌, ◌*◌, ◌∷◌, ◌++◌, true, pos, All, length, map, take, drop, slice_index_or, IfSome, IfNone, IfOk, IfErr, OnOk};
+ghost use Rattle.std.specs.Prelude.{◌≡◌, ◌≤◌, ◌<◌, ◌+◌, ◌*◌, ◌++◌, true, All, length, map, take, drop, slice_index_or, IfSome, IfNone, IfOk, IfErr, OnOk};
 ghost use Rattle.sel_bits.specs.Faults.{IsOutOfMemory};
 ghost use Rattle.sel_bits.specs.Limits.{max_rows};
 ghost use Rattle.sel_arrow.specs.Nested.{list_of};
@@ -9,10 +9,8 @@ ghost use Rattle.sel_arrow.specs.Value.{Null};
 ghost use Rattle.sel_gather.specs.Children.{child, is_listing, items_in, joined_items};
 ghost use Rattle.sel_gather.specs.Picks.{pick, PickFits};
 ghost use Rattle.sel_gather.specs.Runs.{expand, unrolled};
-ghost use Rattle.sel_gather.specs.Ends.{item_ends};
 ghost use Rattle.sel_gather.specs.Sources.{picked, rows_of};
 ghost use Rattle.sel_gather.specs.Steps.{child_rows};
-ghost use Rattle.sel_gather.specs.Gathers.{MayGather};
 ghost use Rattle.sel_gather.specs.RunRows.{run_rows};
 
 use crate::run::{Run, nulls_of, push_run};
@@ -202,55 +200,4 @@ fn push_items(below: &mut Vec<Run>, sources: &[&Column], run: Run, width: u32) -
         push_run(below, run_of_row(sources, run, i, width))?;
     }
     Ok(())
-}
-
-/// Returns a 0 followed by the end offset of each list that runs refer to; a null list is empty.
-///
-/// # Requires
-/// All sources are well-formed list or fixed-size list columns, and every run is within the rows of
-/// its source. The runs have `len` lists in total, and these at most 2^32 - 1 child rows; `len` is
-/// at most 2^32 - 1.
-///
-/// # Errors
-/// `OutOfMemory` if an allocation fails.
-pub fn ends_of(
-    alloc: Global,
-    sources: &[&Column],
-    runs: &[Run],
-    len: usize,
-) -> PolarsResult<Vec<i64>>
-    requires lists { All (λ c. is_listing (type_of c.now) ≡ true) sources.now }
-    requires may { MayGather sources.now (expand runs.now) len }
-    requires room { length (joined_items 0 (picked sources.now runs.now)) ≤ max_rows }
-    ensures ends { IfOk result (λ ends. ends.items ≡
-        map pos (0 ∷ item_ends 0 (picked sources.now runs.now))) }
-    ensures refusal { IfErr result IsOutOfMemory }
-{
-    let mut ends = Vec::with_capacity(alloc, len + 1)?;
-    ends.push(0)?;
-    let mut end = 0;
-    for run in runs {
-        end = push_ends(&mut ends, sources, *run, end)?;
-    }
-    Ok(ends)
-}
-
-// Appends the end offsets of the lists of a run, and returns the last one. Errors: `OutOfMemory`.
-fn push_ends(ends: &mut Vec<i64>, sources: &[&Column], run: Run, start: u32) -> PolarsResult<u32>
-    requires lists { All (λ c. is_listing (type_of c.now) ≡ true) sources.now }
-    requires formed { All (λ c. IsWellFormed c.now) sources.now }
-    requires fits { All (PickFits (rows_of sources.now)) (unrolled run) }
-    requires room { start + length (joined_items 0 (run_rows sources.now run)) ≤ max_rows }
-    ensures ends { OnOk result (ends.new.items ≡
-        ends.old.items ++ map pos (item_ends start (run_rows sources.now run))) }
-    ensures last { IfOk result (λ end. end ≡
-        start + length (joined_items 0 (run_rows sources.now run))) }
-    ensures refusal { IfErr result IsOutOfMemory }
-{
-    let mut end = start;
-    for i in 0..run.len {
-        end += run_of_row(sources, run, i, 0).len;
-        ends.push(end as i64)?;
-    }
-    Ok(end)
 }

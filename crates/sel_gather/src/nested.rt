@@ -12,48 +12,24 @@ ghost use Rattle.sel_gather.specs.Runs.{expand};
 ghost use Rattle.sel_gather.specs.Gathers.{MayGather};
 ghost use Rattle.sel_gather.specs.Sources.{picked};
 
-use crate::lists::ends_of;
 use crate::run::Run;
 use crate::validity::collect_validity;
 use sel_arrow::column::Column;
-use sel_bits::faults::{PolarsError, PolarsResult};
+use sel_bits::faults::PolarsResult;
 use sel_bits::offsets::OffsetsBuffer;
 use std::alloc::Global;
 
-/// Returns the lists that runs refer to, over their concatenated items `values`.
+/// Returns the lists that runs refer to, over their offsets `ends` and their concatenated items
+/// `values`.
 ///
 /// # Requires
 /// All sources are well-formed list columns whose child has the type of `values`, and every run is
 /// within the rows of its source. The runs have `len` rows in total, at most 2^32 - 1. `values` is
-/// well-formed and has the items of these lists, in order.
+/// well-formed and has the items of these lists, in order; `ends` has a 0 and the end of each list.
 ///
 /// # Errors
 /// `OutOfMemory` if an allocation fails.
 pub fn lists_over(
-    alloc: Global,
-    values: Column,
-    sources: &[&Column],
-    runs: &[Run],
-    len: usize,
-) -> PolarsResult<Column>
-    requires lists { All (λ c. type_of c.now ≡ of_large_list (type_of values)) sources.now }
-    requires may { MayGather sources.now (expand runs.now) len }
-    requires below { rows values ≡ joined_items 0 (picked sources.now runs.now) }
-    requires child { IsWellFormed values }
-    ensures rows { IfOk result (λ column. rows column ≡ picked sources.now runs.now) }
-    ensures dtype { IfOk result (λ column. type_of column ≡ of_large_list (type_of values)) }
-    ensures formed { IfOk result (λ column. IsWellFormed column) }
-    ensures refusal { IfErr result IsOutOfMemory }
-{
-    let Ok(ends) = ends_of(alloc, sources, runs, len) else {
-        drop(values);
-        return Err(PolarsError::OutOfMemory);
-    };
-    lists_with(alloc, values, ends, sources, runs, len)
-}
-
-/// Returns the lists of [`lists_over`], given their offsets `ends`. Errors: `OutOfMemory`.
-pub(crate) fn lists_with(
     alloc: Global,
     values: Column,
     ends: Vec<i64>,
@@ -72,14 +48,8 @@ pub(crate) fn lists_with(
     ensures refusal { IfErr result IsOutOfMemory }
 {
     let values = Box::new(alloc, values)?;
-    let Ok(offsets) = OffsetsBuffer::of_rising(ends) else {
-        drop(values);
-        return Err(PolarsError::OutOfMemory);
-    };
-    let Ok(validity) = collect_validity(alloc, sources, runs, len) else {
-        drop(values);
-        return Err(PolarsError::OutOfMemory);
-    };
+    let offsets = OffsetsBuffer::of_rising(ends)?;
+    let validity = collect_validity(alloc, sources, runs, len)?;
     Ok(Column::LargeList {
         offsets,
         values,
@@ -118,10 +88,7 @@ pub fn blocks_over(
     ensures refusal { IfErr result IsOutOfMemory }
 {
     let values = Box::new(alloc, values)?;
-    let Ok(validity) = collect_validity(alloc, sources, runs, len) else {
-        drop(values);
-        return Err(PolarsError::OutOfMemory);
-    };
+    let validity = collect_validity(alloc, sources, runs, len)?;
     Ok(Column::FixedSizeList {
         size,
         len,
@@ -159,10 +126,7 @@ pub fn struct_over(
     ensures formed { IfOk result (λ column. IsWellFormed column) }
     ensures refusal { IfErr result IsOutOfMemory }
 {
-    let Ok(validity) = collect_validity(alloc, sources, runs, len) else {
-        drop(fields);
-        return Err(PolarsError::OutOfMemory);
-    };
+    let validity = collect_validity(alloc, sources, runs, len)?;
     Ok(Column::Struct {
         len,
         fields,

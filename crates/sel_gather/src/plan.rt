@@ -191,3 +191,18 @@ pub fn runs_of_plan<P: Plan>(alloc: Global, plan: &P) -> PolarsResult<Vec<Run>>
     }
     Ok(runs)
 }
+
+/// Returns the runs of row references; contiguous runs are merged.
+///
+/// # Requires
+/// There are at most 2^32 - 1 row references.
+///
+/// # Errors
+/// `OutOfMemory` if an allocation fails.
+pub fn runs_of_picks(alloc: Global, picks: &[Option<(u32, u32)>]) -> PolarsResult<Vec<Run>>
+    requires { length picks.now ≤ max_rows }
+    ensures picks { IfOk result (λ runs. expand runs.items ≡ picks.now) }
+    ensures refusal { IfErr result IsOutOfMemory }
+{
+    runs_of_plan(alloc, &Listed { picks })
+}

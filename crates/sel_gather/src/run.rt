@@ -1,13 +1,11 @@
 //! Runs of consecutive rows.
 
-ghost use Rattle.std.specs.Prelude.{◌≡◌, ◌≤◌, ◌+◌, ◌++◌, ◌∷◌, [], None, length, IfSome, IfOk, IfErr, OnOk};
+ghost use Rattle.std.specs.Prelude.{◌≡◌, ◌≤◌, ◌+◌, ◌++◌, ◌∷◌, [], None, length, IfSome, IfErr, OnOk};
 ghost use Rattle.sel_bits.specs.Faults.{IsOutOfMemory};
 ghost use Rattle.sel_bits.specs.Limits.{max_rows};
 ghost use Rattle.sel_gather.specs.Runs.{expand, unrolled};
 
-use crate::plan::{Listed, runs_of_plan};
 use sel_bits::faults::PolarsResult;
-use std::alloc::Global;
 
 /// `len` rows of one source from row `start` on; without a source, `len` nulls.
 #[derive(Clone, Copy, Drop)]
@@ -102,21 +100,6 @@ fn joined(first: Run, second: Run) -> Option<Run>
         }
         _ => None,
     }
-}
-
-/// Returns the runs of row references; contiguous runs are merged.
-///
-/// # Requires
-/// There are at most 2^32 - 1 row references.
-///
-/// # Errors
-/// `OutOfMemory` if an allocation fails.
-pub fn runs_of_picks(alloc: Global, picks: &[Option<(u32, u32)>]) -> PolarsResult<Vec<Run>>
-    requires { length picks.now ≤ max_rows }
-    ensures picks { IfOk result (λ runs. expand runs.items ≡ picks.now) }
-    ensures refusal { IfErr result IsOutOfMemory }
-{
-    runs_of_plan(alloc, &Listed { picks })
 }
 
 /// Returns the run of one row reference.

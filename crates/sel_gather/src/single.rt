@@ -12,7 +12,6 @@ use crate::collect::collect_runs;
 use crate::plan::Plan;
 use crate::planned::collect_plan;
 use crate::run::Run;
-use crate::walk::collect_list_runs;
 use sel_arrow::array_ref::ArrayRef;
 use sel_arrow::column::Column;
 use sel_bits::faults::PolarsResult;
@@ -43,10 +42,6 @@ pub fn collect_one(
         (pick Null (rows column.now ∷ []) (expand runs.now)) }
 {
     let sources = [column];
-    if let Column::LargeList { values, .. } = column {
-        let lists = collect_list_runs(alloc, values, &sources, runs, len)?;
-        return Ok(ArrayRef { column: lists });
-    }
     let column = collect_runs(alloc, &sources, runs, len)?;
     Ok(ArrayRef { column })
 }

@@ -1,121 +1,30 @@
 //! Gathers lists in one pass, without building runs of the list rows.
 
-ghost use Rattle.std.specs.Prelude.{◌≡◌, ◌≢◌, ◌≤◌, ◌<◌, ◌+◌, ◌++◌, ◌∷◌, [], true, pos, All, length, map, IfOk, IfErr, OnOk};
-ghost use Rattle.sel_bits.specs.Faults.{IsOutOfMemory};
+ghost use Rattle.std.specs.Prelude.{◌≡◌, ◌≤◌, ◌<◌, ◌+◌, ◌++◌, ◌∷◌, [], true, pos, All, length, map, IfOk, IfErr, OnOk};
 ghost use Rattle.sel_bits.specs.Limits.{max_rows};
 ghost use Rattle.sel_arrow.specs.Rows.{rows, type_of, IsWellFormed};
-ghost use Rattle.sel_arrow.specs.Shape.{of_large_list};
 ghost use Rattle.sel_arrow.specs.Value.{Null};
 ghost use Rattle.sel_gather.specs.Children.{is_listing, joined_items};
 ghost use Rattle.sel_gather.specs.Ends.{item_ends};
-ghost use Rattle.sel_gather.specs.Need.{ExceedsRows, IsLimitOrMemory, ExceedsNone, exceeded_taken};
+ghost use Rattle.sel_gather.specs.Need.{ExceedsRows, IsLimitOrMemory};
 ghost use Rattle.sel_gather.specs.Picks.{pick, PickFits};
 ghost use Rattle.sel_gather.specs.Runs.{expand, unrolled};
-ghost use Rattle.sel_gather.specs.Sources.{columns_of, picked, rows_of};
+ghost use Rattle.sel_gather.specs.Sources.{picked, rows_of};
 ghost use Rattle.sel_gather.specs.Steps.{child_rows};
-ghost use Rattle.sel_gather.specs.Gathers.{MayGather};
 ghost use Rattle.sel_gather.specs.RunRows.{run_rows};
 
-use crate::collect::collect_runs;
-use crate::gather::gather_validity;
-use crate::lists::{children_of, run_of_row};
-use crate::nested::lists_with;
+use crate::lists::run_of_row;
 use crate::plan::Plan;
 use crate::run::{Run, nulls_of, push_run, put_run};
-use crate::validity::validities_of;
 use sel_arrow::column::Column;
 use sel_bits::faults::{Limit, PolarsError, PolarsResult};
-use sel_bits::offsets::OffsetsBuffer;
 use std::alloc::Global;
-
-/// Returns the lists at the row references of `plan`, in order; a null reference gives a null row.
-///
-/// # Requires
-/// There is at least one source, and all sources are well-formed list columns whose child has the
-/// type of `child`. Every non-null row reference refers to a row of a source.
-///
-/// # Errors
-/// `OutOfMemory` if an allocation fails; `SizeLimit` if the lists would have more than 2^32 - 1
-/// items (`Limit::Rows`), or their items exceed a limit of `collect_rows`.
-pub fn gather_lists<'a, P: Plan>(
-    alloc: Global,
-    child: &Column,
-    sources: &'a [&'a Column],
-    plan: &P,
-) -> PolarsResult<Column>
-    requires some { 0 < length sources.now }
-    requires alike { All (λ c. type_of c.now ≡ of_large_list (type_of child.now)) sources.now }
-    requires formed { All (λ c. IsWellFormed c.now) sources.now }
-    requires fits { All (PickFits (rows_of sources.now)) (P.picks plan.now) }
-    ensures rows { IfOk result (λ column. rows column ≡
-        pick Null (rows_of sources.now) (P.picks plan.now)) }
-    ensures dtype { IfOk result (λ column. type_of column ≡ of_large_list (type_of child.now)) }
-    ensures formed { IfOk result (λ column. IsWellFormed column) }
-    ensures within { IfOk result
-        (λ _. ExceedsNone (exceeded_taken (of_large_list (type_of child.now))
-        (columns_of sources.now) (pick Null (rows_of sources.now) (P.picks plan.now)))) }
-    ensures refusal { IfErr result
-        (IsLimitOrMemory (exceeded_taken (of_large_list (type_of child.now))
-        (columns_of sources.now) (pick Null (rows_of sources.now) (P.picks plan.now)))) }
-{
-    let _ = child;
-    let (ends, below, need) = walk_lists(alloc, sources, plan)?;
-    let children = children_of(alloc, sources)?;
-    let values = collect_runs(alloc, &children, &below, need)?;
-    lists_of_plan(alloc, values, ends, sources, plan)
-}
-
-// Returns the lists at the row references of a plan, given their offsets and items. Errors:
-// `OutOfMemory`.
-fn lists_of_plan<P: Plan>(
-    alloc: Global,
-    values: Column,
-    ends: Vec<i64>,
-    sources: &[&Column],
-    plan: &P,
-) -> PolarsResult<Column>
-    requires lists { All (λ c. type_of c.now ≡ of_large_list (type_of values)) sources.now }
-    requires formed { All (λ c. IsWellFormed c.now) sources.now }
-    requires fits { All (PickFits (rows_of sources.now)) (P.picks plan.now) }
-    requires ends { ends.items ≡
-        map pos (0 ∷ item_ends 0 (pick Null (rows_of sources.now) (P.picks plan.now))) }
-    requires below { rows values ≡
-        joined_items 0 (pick Null (rows_of sources.now) (P.picks plan.now)) }
-    requires child { IsWellFormed values }
-    ensures rows { IfOk result (λ column. rows column ≡
-        pick Null (rows_of sources.now) (P.picks plan.now)) }
-    ensures dtype { IfOk result (λ column. type_of column ≡ of_large_list (type_of values)) }
-    ensures formed { IfOk result (λ column. IsWellFormed column) }
-    ensures refusal { IfErr result IsOutOfMemory }
-{
-    // (there are no more row references than a column may have rows)
-    let _len = plan.len();
-    let values = Box::new(alloc, values)?;
-    let Ok(offsets) = OffsetsBuffer::of_rising(ends) else {
-        drop(values);
-        return Err(PolarsError::OutOfMemory);
-    };
-    let Ok(validities) = validities_of(alloc, sources) else {
-        drop(values);
-        return Err(PolarsError::OutOfMemory);
-    };
-    let maps = validities.as_slice();
-    let Ok(validity) = gather_validity(alloc, plan, maps) else {
-        drop(values);
-        return Err(PolarsError::OutOfMemory);
-    };
-    Ok(Column::LargeList {
-        offsets,
-        values,
-        validity,
-    })
-}
 
 // Returns the offsets of the lists at the row references of a plan, the runs of their items, and
 // the number of items.
 //
 // Errors: `OutOfMemory`; `SizeLimit(Limit::Rows)` if there are more than 2^32 - 1 items.
-fn walk_lists<P: Plan>(
+pub fn walk_lists<P: Plan>(
     alloc: Global,
     sources: &[&Column],
     plan: &P,
@@ -152,49 +61,11 @@ fn walk_lists<P: Plan>(
     Ok((ends, below, end as usize))
 }
 
-/// Returns the lists that `runs` refer to, in order; a run without a source gives null rows.
-///
-/// Reads the lists once, while `collect_runs` reads them once for each of their parts.
-///
-/// # Requires
-/// There is at least one source, and all sources are well-formed list columns whose child has the
-/// type of `child`. Every run is within the rows of its source. The runs have `len` rows in total,
-/// at most 2^32 - 1.
-///
-/// # Errors
-/// Those of [`gather_lists`].
-pub fn collect_list_runs<'a>(
-    alloc: Global,
-    child: &Column,
-    sources: &'a [&'a Column],
-    runs: &[Run],
-    len: usize,
-) -> PolarsResult<Column>
-    requires some { 0 < length sources.now }
-    requires alike { All (λ c. type_of c.now ≡ of_large_list (type_of child.now)) sources.now }
-    requires may { MayGather sources.now (expand runs.now) len }
-    ensures rows { IfOk result (λ column. rows column ≡ picked sources.now runs.now) }
-    ensures dtype { IfOk result (λ column. type_of column ≡ of_large_list (type_of child.now)) }
-    ensures formed { IfOk result (λ column. IsWellFormed column) }
-    ensures within { IfOk result
-        (λ _. ExceedsNone (exceeded_taken (of_large_list (type_of child.now))
-        (columns_of sources.now) (picked sources.now runs.now))) }
-    ensures refusal { IfErr result
-        (IsLimitOrMemory (exceeded_taken (of_large_list (type_of child.now))
-        (columns_of sources.now) (picked sources.now runs.now))) }
-{
-    let _ = child;
-    let (ends, below, need) = walk_runs(alloc, sources, runs, len)?;
-    let children = children_of(alloc, sources)?;
-    let values = collect_runs(alloc, &children, &below, need)?;
-    lists_with(alloc, values, ends, sources, runs, len)
-}
-
 // Returns the offsets of the `len` lists that runs refer to, the runs of their items, and the
 // number of items.
 //
 // Errors: `OutOfMemory`; `SizeLimit(Limit::Rows)` if there are more than 2^32 - 1 items.
-fn walk_runs(
+pub fn walk_runs(
     alloc: Global,
     sources: &[&Column],
     runs: &[Run],

@@ -14,33 +14,62 @@ use Rattle.sel_gather.specs.Cleared.{cleared}
 use Rattle.sel_gather.specs.Need.{ExceedsRows, IsLimitOrMemory, ExceedsNone, exceeded_taken}
 use Rattle.sel_gather.specs.Picks.{pick, PickFits}
 use Rattle.sel_gather.specs.Runs.{expand}
-use Rattle.sel_gather.proofs.Below.{child_type, block_child_type, items_recurse, found_all, found_map, mapped_now, listed_shapes, refused_more, past_at, parts_more, field_kind}
+use Rattle.sel_gather.proofs.Below.{block_child_type, items_recurse, found_all, found_map, mapped_now, listed_shapes, refused_more, past_at, parts_more, field_kind}
 use Rattle.sel_gather.proofs.Depths.{size_of, one_size}
 use Rattle.sel_gather.proofs.ItemRuns.{rows_of, below_of}
 use Rattle.sel_gather.proofs.NullItems.{null_items_in}
 use Rattle.sel_gather.proofs.RunLists.{length-pick}
 use Rattle.sel_gather.proofs.TupleRows.{field_rows, field_type, field_formed, picked_parts, parts_fit}
 use Rattle.sel_gather.specs.Sources.{columns_of, picked}
+use Rattle.sel_gather.proofs.Walks.{children_recurse, children_columns, children_picked, children_fit}
 use Rattle.sel_gather.proofs.Within.{few_rows_pass, fields_pass, one_more_passes, passes_neither}
 use Rattle.sel_gather.proofs.collect.+collecting.Goals as goal
 
 -- ---- lists
 
-pub collect_lists-collect_items-requires : goal.collect_lists-collect_items-requires
-collect_lists-collect_items-requires t c =
-    let cs = c.args.sources.now in
+pub collect_lists-collect_like-requires : goal.collect_lists-collect_like-requires
+collect_lists-collect_like-requires t c =
     let s = type_of c.args.child.now in
-    let lists : All (λ c. is_listing (type_of c.now) ≡ true) cs = λ k d h. ap is_listing (c.requires.alike k d h) in
-    let alike : All (λ c. type_of (child c.now) ≡ s) cs = λ k d h. child_type (get_or cs k d).now s (c.requires.alike k d h) in
-    (omega (arith, c.decreases), (c.requires.child, (lists, (alike, (c.requires.may.formed, (c.requires.may.fits, (c.count_items-need.ensures, omega (arith, c.if-need.false))))))))
+    let cs = c.args.sources.now in
+    let xs = c.deref.result.now in
+    let found = ap (map (λ x. x.now)) c.deref.ensures.value ∙ c.in_ok-children.ensures.children in
+    let below = children_recurse s cs xs found c.requires.alike c.requires.may.formed in
+    let fits = children_fit s cs xs found c.requires.alike c.requires.may.formed c.deref-2.result.now c.in_ok-ends.below.items c.deref-2.ensures.value c.in_ok-ends.ensures.fits in
+    let count = ap (λ rs. length (expand rs)) c.deref-2.ensures.value ∙ c.in_ok-ends.ensures.count in
+    (omega (arith, c.decreases), (c.requires.child, (below.alike, record { formed = below.formed; fits = fits; len = count; few = c.in_ok-ends.ensures.few })))
+
+pub collect_lists-lists_over-requires-clause-below : goal.collect_lists-lists_over-requires-clause-below
+collect_lists-lists_over-requires-clause-below t c =
+    let found = ap (map (λ x. x.now)) c.deref.ensures.value ∙ c.in_ok-children.ensures.children in
+    c.in_ok-values.ensures.rows ∙ children_picked (type_of c.args.child.now) c.args.sources.now c.deref.result.now found c.requires.alike c.requires.may.formed c.deref-2.result.now c.in_ok-ends.below.items _ c.deref-2.ensures.value c.in_ok-ends.ensures.items
 
 pub collect_lists-returns-in_err-values-clause-refusal : goal.collect_lists-returns-in_err-values-clause-refusal
 collect_lists-returns-in_err-values-clause-refusal t c =
-    let items = joined_items 0 (pick Null (rows_of c.args.sources.now) (expand c.args.runs.now)) in
+    let s = type_of c.args.child.now in
+    let cs = c.args.sources.now in
+    let xs = c.deref.result.now in
+    let items = joined_items 0 (picked cs c.args.runs.now) in
     let fault = c.in_err-values.field-0.0 in
-    let p = err_from_is_err_and c.from_residual.result c.from_residual.ensures.1 in
-    let here = subst (λ l. IsLimitOrMemory (exceeded_taken (type_of c.args.child.now) l items) fault) (mapped_now child c.args.sources.now) c.in_err-values.ensures.refusal in
+    let p = err_from_is_err_and c.from_residual-in_err-values.result c.from_residual-in_err-values.ensures.1 in
+    let found = ap (map (λ x. x.now)) c.deref.ensures.value ∙ c.in_ok-children.ensures.children in
+    let same = children_picked s cs xs found c.requires.alike c.requires.may.formed c.deref-2.result.now c.in_ok-ends.below.items items c.deref-2.ensures.value c.in_ok-ends.ensures.items in
+    let here = subst (λ l. IsLimitOrMemory (exceeded_taken s l items) fault) (children_columns s cs xs found c.requires.alike c.requires.may.formed)
+    (subst (λ l. IsLimitOrMemory (exceeded_taken s (columns_of xs) l) fault) same c.in_err-values.ensures.refusal) in
     rw (p.1, p.2) (refused_more _ _ fault (λ limit h. inr h) here)
+
+pub collect_lists-returns-clause-within : goal.collect_lists-returns-clause-within
+collect_lists-returns-clause-within t c =
+    let s = type_of c.args.child.now in
+    let cs = c.args.sources.now in
+    let xs = c.deref.result.now in
+    let items = joined_items 0 (picked cs c.args.runs.now) in
+    let found = ap (map (λ x. x.now)) c.deref.ensures.value ∙ c.in_ok-children.ensures.children in
+    let same = children_picked s cs xs found c.requires.alike c.requires.may.formed c.deref-2.result.now c.in_ok-ends.below.items items c.deref-2.ensures.value c.in_ok-ends.ensures.items in
+    let below = subst (λ l. ExceedsNone (exceeded_taken s l items)) (children_columns s cs xs found c.requires.alike c.requires.may.formed)
+    (subst (λ l. ExceedsNone (exceeded_taken s (columns_of xs) l)) same c.in_ok-values.ensures.within) in
+    let long = ap length (sym c.in_ok-ends.ensures.items) in
+    passes_neither (ExceedsRows (length items)) (exceeded_taken s (map child (columns_of cs)) items)
+    (few_rows_pass (length items) (omega (arith, long, length-pick Null (below_of cs) (expand c.in_ok-ends.below.items), c.in_ok-ends.ensures.count, c.in_ok-ends.ensures.few))) below
 
 pub collect_blocks-collect_items-requires : goal.collect_blocks-collect_items-requires
 collect_blocks-collect_items-requires t c =
@@ -241,14 +270,6 @@ collect_like-returns-in-Utf8View-clause-within t c = rw c.in-Utf8View.is c.colle
 
 pub collect_like-returns-in-FixedSizeList-clause-within : goal.collect_like-returns-in-FixedSizeList-clause-within
 collect_like-returns-in-FixedSizeList-clause-within t c = rw (c.in-FixedSizeList.is, sym c.deref-in-FixedSizeList.ensures) c.collect_blocks.ensures.within
-
-pub collect_lists-returns-clause-within : goal.collect_lists-returns-clause-within
-collect_lists-returns-clause-within t c =
-    let items = joined_items 0 (picked c.args.sources.now c.args.runs.now) in
-    let s = type_of c.args.child.now in
-    let columns = columns_of c.args.sources.now in
-    let below = subst (λ l. ExceedsNone (exceeded_taken s l items)) (mapped_now child c.args.sources.now) c.in_ok-values.ensures.within in
-    passes_neither (ExceedsRows (length items)) (exceeded_taken s (map child columns) items) (few_rows_pass (length items) (omega (arith, c.count_items-need.ensures, c.if-need.false))) below
 
 pub collect_blocks-returns-clause-within : goal.collect_blocks-returns-clause-within
 collect_blocks-returns-clause-within t c =

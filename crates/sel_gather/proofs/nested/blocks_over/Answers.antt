@@ -15,14 +15,14 @@ pub returns-clause-rows : goal.returns-clause-rows
 returns-clause-rows c =
     let vs = pick Null (rows_of c.args.sources.now) (expand c.args.runs.now) in
     let below : rows c.in_ok-values.values.value ≡ joined_items c.args.size vs = ap rows c.in_ok-values.ensures.ok ∙ c.requires.below in
-    blocks_rebuilt c.args.size vs (rows c.in_ok-values.values.value) c.in-Ok.validity c.args.len (picked_blocks c.args.sources.now (type_of c.args.values) c.args.size (expand c.args.runs.now) c.requires.lists c.requires.may.formed)
-    (length-pick Null (rows_of c.args.sources.now) (expand c.args.runs.now) ∙ c.requires.may.len) below c.in-Ok.ensures.bits
+    blocks_rebuilt c.args.size vs (rows c.in_ok-values.values.value) c.in_ok-validity.validity c.args.len (picked_blocks c.args.sources.now (type_of c.args.values) c.args.size (expand c.args.runs.now) c.requires.lists c.requires.may.formed)
+    (length-pick Null (rows_of c.args.sources.now) (expand c.args.runs.now) ∙ c.requires.may.len) below c.in_ok-validity.ensures.bits
 
 pub returns-clause-formed : goal.returns-clause-formed
 returns-clause-formed c =
     let vs = pick Null (rows_of c.args.sources.now) (expand c.args.runs.now) in
     let below : rows c.in_ok-values.values.value ≡ joined_items c.args.size vs = ap rows c.in_ok-values.ensures.ok ∙ c.requires.below in
     let formed : well_formed c.in_ok-values.values.value ≡ true = ap well_formed c.in_ok-values.ensures.ok ∙ c.requires.child in
-    blocks_formed c.args.size c.args.len c.in_ok-values.values.value c.in-Ok.validity
-    (blocks_fit c.args.size vs c.in_ok-values.values.value c.in-Ok.validity c.args.len (picked_blocks c.args.sources.now (type_of c.args.values) c.args.size (expand c.args.runs.now) c.requires.lists c.requires.may.formed)
-    (length-pick Null (rows_of c.args.sources.now) (expand c.args.runs.now) ∙ c.requires.may.len) c.requires.may.few c.requires.narrow below c.in-Ok.ensures.covers formed)
+    blocks_formed c.args.size c.args.len c.in_ok-values.values.value c.in_ok-validity.validity
+    (blocks_fit c.args.size vs c.in_ok-values.values.value c.in_ok-validity.validity c.args.len (picked_blocks c.args.sources.now (type_of c.args.values) c.args.size (expand c.args.runs.now) c.requires.lists c.requires.may.formed)
+    (length-pick Null (rows_of c.args.sources.now) (expand c.args.runs.now) ∙ c.requires.may.len) c.requires.may.few c.requires.narrow below c.in_ok-validity.ensures.covers formed)

@@ -21,14 +21,14 @@ returns-clause-rows c =
     let vs = pick Null xss ps in
     let ss = shapes_of (map type_of c.args.fields.items) in
     let count : length (shape_list ss) ≡ length c.args.fields.items = ap length (listed_shapes (map type_of c.args.fields.items)) ∙ length-map c.args.fields.items type_of in
-    rows-Struct c.args.len c.args.fields c.in-Ok.validity
-    ∙ tuples_rebuilt (length c.args.fields.items) vs (map rows c.args.fields.items) c.in-Ok.validity c.args.len
+    rows-Struct c.args.len c.args.fields c.in_ok-validity.validity
+    ∙ tuples_rebuilt (length c.args.fields.items) vs (map rows c.args.fields.items) c.in_ok-validity.validity c.args.len
     (λ k. subst (λ n. IsTuple n (get_or vs k Null)) count (picked_tuples c.args.sources.now ss ps c.requires.tuples k))
-    (length-pick Null xss ps ∙ c.requires.may.len) c.requires.parts c.in-Ok.ensures.bits
+    (length-pick Null xss ps ∙ c.requires.may.len) c.requires.parts c.in_ok-validity.ensures.bits
 
 pub returns-clause-dtype : goal.returns-clause-dtype
-returns-clause-dtype c = type_of-Struct c.args.len c.args.fields c.in-Ok.validity
+returns-clause-dtype c = type_of-Struct c.args.len c.args.fields c.in_ok-validity.validity
 
 pub returns-clause-formed : goal.returns-clause-formed
 returns-clause-formed c =
-    fields_make c.args.len c.args.fields c.in-Ok.validity (record { few = c.requires.may.few; covered = c.in-Ok.ensures.covers; fields = c.requires.fields })
+    fields_make c.args.len c.args.fields c.in_ok-validity.validity (record { few = c.requires.may.few; covered = c.in_ok-validity.ensures.covers; fields = c.requires.fields })

@@ -1,10 +1,7 @@
-use Rattle.std.proofs.Common.{rules, ◌∙◌, ◌∷◌, [], ap, sym, subst}
+use Rattle.std.proofs.Common.{rules, ◌∷◌, []}
 use Rattle.std.proofs.lemmas.Result.{err_from_is_err_and}
 use Rattle.sel_arrow.specs.Rows.{rows, type_of}
-use Rattle.sel_arrow.specs.Shape.{of_large_list}
 use Rattle.sel_arrow.specs.Value.{Null}
-use Rattle.sel_arrow.specs.declared.column.Column.{Column}
-use Rattle.sel_gather.specs.Need.{exceeded_taken}
 use Rattle.sel_gather.specs.Picks.{pick}
 use Rattle.sel_gather.specs.Runs.{expand}
 use Rattle.sel_gather.proofs.Below.{refused_more}
@@ -19,7 +16,7 @@ returns-in_err-column c =
       dtype = search rules;
       within = search rules;
       refusal =
-          let p = err_from_is_err_and c.from_residual-in_err-column.result c.from_residual-in_err-column.ensures.1 in
+          let p = err_from_is_err_and c.from_residual.result c.from_residual.ensures.1 in
           let column = c.args.column.now in
           let vs = pick Null (rows column ∷ []) (expand c.args.runs.now) in
           rw (p.1, p.2) (refused_more _ _ c.in_err-column.field-0.0 (λ limit h. one_source column c.requires.formed vs limit h) c.in_err-column.ensures.refusal);
@@ -34,33 +31,5 @@ returns c =
           let column = c.args.column.now in
           let vs = pick Null (rows column ∷ []) (expand c.args.runs.now) in
           rows_pass c.in_ok-column.column (type_of column) vs c.in_ok-column.ensures.formed c.in_ok-column.ensures.dtype c.in_ok-column.ensures.rows;
-      refusal = search rules;
-    }
-
-pub returns-in_err-lists : goal.returns-in_err-lists
-returns-in_err-lists c =
-    record {
-      rows = search rules;
-      dtype = search rules;
-      within = search rules;
-      refusal =
-          let p = err_from_is_err_and c.from_residual.result c.from_residual.ensures.1 in
-          let column = c.args.column.now in
-          let typed = ap type_of c.in-LargeList.is ∙ ap (λ (x : Column). of_large_list (type_of x)) (sym c.deref.ensures) in
-          let vs = pick Null (rows column ∷ []) (expand c.args.runs.now) in
-          rw (p.1, p.2) (refused_more _ _ c.in_err-lists.field-0.0
-          (λ limit h. one_source column c.requires.formed vs limit (subst (λ t. exceeded_taken t (column ∷ []) vs limit) (sym typed) h)) c.in_err-lists.ensures.refusal);
-    }
-
-pub returns-in-LargeList : goal.returns-in-LargeList
-returns-in-LargeList c =
-    record {
-      rows = search rules;
-      dtype = search rules;
-      within =
-          let column = c.args.column.now in
-          let typed = ap type_of c.in-LargeList.is ∙ ap (λ (x : Column). of_large_list (type_of x)) (sym c.deref.ensures) in
-          let vs = pick Null (rows column ∷ []) (expand c.args.runs.now) in
-          rows_pass c.in_ok-lists.lists (type_of column) vs c.in_ok-lists.ensures.formed (c.in_ok-lists.ensures.dtype ∙ sym typed) c.in_ok-lists.ensures.rows;
       refusal = search rules;
     }

@@ -14,7 +14,7 @@ use Rattle.sel_gather.proofs.ItemRuns.{rows_of, below_of}
 use Rattle.sel_gather.proofs.RunLists.{length-pick}
 use Rattle.sel_gather.proofs.Walks.{lists_listing, children_recurse, children_some, children_first, children_columns, children_picked, children_fit}
 use Rattle.sel_gather.proofs.Within.{few_rows_pass, passes_neither}
-use Rattle.sel_gather.proofs.walk.gather_lists.Goals as goal
+use Rattle.sel_gather.proofs.planned.gather_lists.Goals as goal
 
 pub walk_lists-requires-clause-lists : goal.walk_lists-requires-clause-lists
 walk_lists-requires-clause-lists g c = lists_listing (type_of c.args.child.now) c.args.sources.now c.requires.alike
