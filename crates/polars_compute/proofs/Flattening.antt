@@ -15,7 +15,7 @@ use Rattle.sel_arrow.specs.Value.{Null}
 use Rattle.sel_gather.specs.Picks.{pick}
 use Rattle.sel_gather.specs.Runs.{unrolled}
 use Rattle.sel_gather.specs.Sources.{first_type}
-use Rattle.sel_gather.specs.declared.run.Run.{Run}
+use Rattle.sel_gather.specs.declared.runs.Run.{Run}
 use Rattle.sel_gather.proofs.RunLists.{pick_run}
 use Rattle.sel_arrow.proofs.Lists.{and_first, and_second}
 use Rattle.sel_arrow.proofs.Rows.{length-part}

@@ -14,7 +14,7 @@ use sel_arrow::array::Array;
 use sel_arrow::array_ref::ArrayRef;
 use sel_arrow::column::Column;
 use sel_bits::faults::{Limit, PolarsError, PolarsResult};
-use sel_gather::planned::collect_plan;
+use sel_gather::gather::collect_plan;
 use std::alloc::Global;
 
 // The average part length from which parts are copied as runs.

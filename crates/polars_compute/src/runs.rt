@@ -13,8 +13,8 @@ use sel_arrow::array::Array;
 use sel_arrow::primitive::IdxArr;
 use sel_bits::bitmap::Bitmap;
 use sel_bits::faults::PolarsResult;
-use sel_gather::plan::Places;
-use sel_gather::run::{Run, push_run};
+use sel_gather::row_refs::Places;
+use sel_gather::runs::{Run, push_run};
 use std::alloc::Global;
 
 /// Returns the maximal runs of true bits in `mask`, in order.

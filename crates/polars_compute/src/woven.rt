@@ -4,8 +4,8 @@ ghost use Rattle.std.specs.Prelude.{◌≡◌, ◌≤◌, ◌<◌, ◌+◌, ◌*
 ghost use Rattle.sel_bits.specs.Limits.{max_rows};
 ghost use Rattle.polars_compute.specs.Lanes.{left_picks};
 
-use sel_gather::plan::Plan;
-use sel_gather::run::Run;
+use sel_gather::row_refs::Plan;
+use sel_gather::runs::Run;
 
 /// The part of one column in each row: in row r, `width` rows from `r * step` on.
 #[derive(Clone, Copy, Drop)]

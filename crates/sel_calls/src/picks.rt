@@ -14,7 +14,7 @@ use sel_arrow::array_ref::ArrayRef;
 use sel_arrow::validity::is_valid_at;
 use sel_bits::bitmap::Bitmap;
 use sel_bits::faults::PolarsResult;
-use sel_gather::plan::Places;
+use sel_gather::row_refs::Places;
 use std::alloc::Global;
 
 /// Row references read from `words` on access, without a copy; null where the validity is false.

@@ -29,8 +29,8 @@ use sel_ffi::status::{
     INDEX_OUT_OF_BOUNDS, LENGTH_MISMATCH, OUT_OF_MEMORY, TOO_MANY_ROWS, TYPE_MISMATCH,
     VALIDITY_LENGTH, put, status_of,
 };
-use sel_gather::plan::Walk;
-use sel_gather::planned::collect_plan;
+use sel_gather::gather::collect_plan;
+use sel_gather::row_refs::Walk;
 use std::alloc::Global;
 
 /// A row reference: a row of one of several columns, both counted from 0.

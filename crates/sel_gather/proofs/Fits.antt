@@ -8,7 +8,7 @@ use Rattle.std.proofs.lemmas.Option.{get_or_from_slice_get}
 use Rattle.std.specs.List.{slice_get}
 use Rattle.sel_arrow.specs.Rows.{rows, type_of}
 use Rattle.sel_arrow.specs.declared.column.Column.{Column}
-use Rattle.sel_gather.specs.declared.run.Run.{Run}
+use Rattle.sel_gather.specs.declared.runs.Run.{Run}
 use Rattle.sel_gather.specs.Picks.{PickFits}
 use Rattle.sel_gather.specs.Runs.{expand, unrolled, picks_of, unrolled_from}
 use Rattle.sel_gather.specs.Sources.{first_type}

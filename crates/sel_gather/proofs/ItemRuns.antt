@@ -11,7 +11,7 @@ use Rattle.sel_gather.specs.Children.{child, items_in, joined_items}
 use Rattle.sel_gather.specs.Ends.{item_ends}
 use Rattle.sel_gather.specs.Picks.{found, pick, PickFits}
 use Rattle.sel_gather.specs.Runs.{expand, unrolled, picks_of}
-use Rattle.sel_gather.specs.declared.run.Run.{Run}
+use Rattle.sel_gather.specs.declared.runs.Run.{Run}
 use Rattle.sel_gather.proofs.Fits.{rows_fit}
 use Rattle.sel_gather.proofs.JoinedRows.{null_row, run_row, run_length}
 use Rattle.sel_gather.proofs.RunLists.{run_there, pick_rows, map_nulls, pick_more, run_at, expand-append, length-pick}

@@ -13,7 +13,7 @@ use Rattle.sel_arrow.specs.Masked.{hidden}
 use Rattle.sel_arrow.specs.Pieces.{pieces, pieces_after, byte_rows, rows_between, last_offset}
 use Rattle.sel_arrow.proofs.ByteRows.{length-pieces}
 use Rattle.sel_gather.specs.declared.binary.Joined.{Joined}
-use Rattle.sel_gather.specs.declared.run.Run.{Run}
+use Rattle.sel_gather.specs.declared.runs.Run.{Run}
 use Rattle.sel_gather.specs.JoinedBytes.{ends_from, IsBytesRow}
 use Rattle.sel_gather.specs.GrownBytes.{bytes_of, joined_bytes, AllBytesRows, GrewBy}
 use Rattle.sel_gather.specs.Need.{byte_count, bytes_needed}

@@ -4,7 +4,7 @@ use Rattle.std.proofs.lemmas.List.{length-map, take-append-le, drop-append-le, t
 use Rattle.std.proofs.lemmas.List.FromFn.{length-map-range_with_len, get_or-map-range_with_len}
 use Rattle.std.proofs.lemmas.List.Elements.{All-append, All-drop, All-get_or, All-head, All-map, All-nil, All-tail, All-take}
 use Rattle.std.specs.List.{range_with_len}
-use Rattle.sel_gather.specs.declared.run.Run.{Run}
+use Rattle.sel_gather.specs.declared.runs.Run.{Run}
 use Rattle.sel_gather.specs.Picks.{found, pick, PickFits}
 use Rattle.sel_gather.specs.Plans.{IsPicked}
 use Rattle.sel_gather.specs.Runs.{expand, unrolled, unrolled_from, picks_of}

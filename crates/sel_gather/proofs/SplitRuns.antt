@@ -14,7 +14,7 @@ use Rattle.sel_gather.specs.KeptPicks.{kept_by}
 use Rattle.sel_gather.specs.Picks.{found, pick, PickFits}
 use Rattle.sel_gather.specs.Runs.{unrolled, picks_of}
 use Rattle.sel_gather.specs.Validity.{part_bits}
-use Rattle.sel_gather.specs.declared.run.Run.{Run}
+use Rattle.sel_gather.specs.declared.runs.Run.{Run}
 use Rattle.sel_gather.proofs.ItemRuns.{rows_of, source_there}
 use Rattle.sel_gather.proofs.RunLists.{run_there, pick_run, pick_nulls}
 

@@ -21,7 +21,7 @@ use Rattle.sel_gather.specs.GrownBytes.{bytes_of, joined_bytes}
 use Rattle.sel_gather.specs.Need.{byte_count, bytes_needed}
 use Rattle.sel_gather.specs.Picks.{found, pick, PickFits}
 use Rattle.sel_gather.specs.Runs.{picks_of, unrolled, unrolled_from}
-use Rattle.sel_gather.specs.declared.run.Run.{Run}
+use Rattle.sel_gather.specs.declared.runs.Run.{Run}
 use Rattle.sel_gather.proofs.Grown.{source_rows}
 use Rattle.sel_gather.proofs.RunLists.{run_there, pick_run}
 use Rattle.sel_gather.proofs.SplitRuns.{null_bits}

@@ -20,7 +20,7 @@ use Rattle.sel_gather.specs.Plans.{HasBit, bits_found}
 use Rattle.sel_gather.specs.Steps.{AreValidities}
 use Rattle.sel_gather.specs.Runs.{expand, unrolled}
 use Rattle.sel_gather.specs.Sources.{columns_of, first_type}
-use Rattle.sel_gather.specs.declared.run.Run.{Run}
+use Rattle.sel_gather.specs.declared.runs.Run.{Run}
 use Rattle.sel_gather.proofs.Below.{Recurses, child_type, items_recurse, mapped_now}
 use Rattle.sel_gather.proofs.Gathers.{left_behind}
 use Rattle.sel_gather.proofs.ItemRuns.{rows_of, below_of, joined-append, ends-append}

@@ -1,7 +1,7 @@
 -- Runs of rows, and their row references.
 use Rattle.std.specs.Prelude.{ℕ, List, [], ◌∷◌, ◌++◌, map, replicate, Option, Some, None}
 use Rattle.std.specs.List.{range_with_len}
-use Rattle.sel_gather.specs.declared.run.Run.{Run}
+use Rattle.sel_gather.specs.declared.runs.Run.{Run}
 
 -- The row references to n consecutive entries of list s, from `start` on.
 abbrev pub picks_of : ℕ → ℕ → ℕ → List (Option (ℕ × ℕ))

@@ -13,7 +13,7 @@ use Rattle.sel_arrow.specs.Nulls.{IsValidityOf}
 use Rattle.sel_gather.specs.Children.{field, part_at, child}
 use Rattle.sel_gather.specs.Picks.{pick}
 use Rattle.sel_gather.specs.Runs.{expand}
-use Rattle.sel_gather.specs.declared.run.Run.{Run}
+use Rattle.sel_gather.specs.declared.runs.Run.{Run}
 
 -- The first n values of struct values, field by field.
 abbrev pub parts_of : ℕ → List Value → List (List Value)

@@ -15,7 +15,7 @@ ghost use Rattle.sel_gather.specs.Steps.{binaries, picked_bytes};
 ghost use Rattle.sel_gather.specs.RunRows.{run_bytes};
 
 use crate::bits::validity_from;
-use crate::run::Run;
+use crate::runs::Run;
 use sel_arrow::binary::BinaryArray;
 use sel_bits::buffer::Buffer;
 use sel_bits::faults::{Limit, PolarsError, PolarsResult};

@@ -15,10 +15,10 @@ ghost use Rattle.sel_gather.specs.Gathers.{MayGather};
 ghost use Rattle.sel_gather.specs.Sources.{picked, rows_of};
 
 use crate::bits::{push_validity, validity_from};
-use crate::gather::{gather_bits, gather_validity};
+use crate::gather_values::{gather_bits, gather_validity};
 use crate::growable::{Growable, extend_runs};
-use crate::plan::Plan;
-use crate::run::Run;
+use crate::row_refs::Plan;
+use crate::runs::Run;
 use sel_arrow::boolean::BooleanArray;
 use sel_arrow::column::Column;
 use sel_bits::bitmap::Bitmap;

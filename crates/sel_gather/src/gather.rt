@@ -1,361 +1,241 @@
-//! Gathers values and bits from several sources, one row reference at a time.
+//! Gathers rows from several columns of one type at the row references of a plan.
+//!
+//! Integers and booleans are gathered one row reference at a time. Lists are read once, and only
+//! the runs of their items are built. For all other types the row references are first converted to
+//! runs, since nested rows are copied by runs too.
 
-ghost use Rattle.std.specs.Prelude.{◌≡◌, ◌≤◌, ◌<◌, ◌+◌, ◌∷◌, ◌++◌, [], ◌↔◌, All, None, false, length, slice_index_or, map, take, drop, vec_len, vec_capacity, IfOk, IfErr, IsTrue};
-ghost use Rattle.std.specs.Option.{ForSome, option_copied};
+ghost use Rattle.std.specs.Prelude.{◌≡◌, ◌<◌, ◌∷◌, All, pos, length, map, IfOk, IfErr};
 ghost use Rattle.sel_bits.specs.Faults.{IsOutOfMemory};
-ghost use Rattle.sel_bits.specs.Words.{word_of};
-ghost use Rattle.sel_arrow.specs.Masked.{Covers, valid_at};
-ghost use Rattle.sel_gather.specs.Picks.{found, pick, PickFits};
-ghost use Rattle.sel_gather.specs.Plans.{HasBit, bit_found, bits_found};
-ghost use Rattle.sel_gather.specs.Validity.{bits_for};
+ghost use Rattle.sel_arrow.specs.Rows.{rows, type_of, IsWellFormed};
+ghost use Rattle.sel_arrow.specs.Shape.{of_large_list};
+ghost use Rattle.sel_arrow.specs.Value.{Null};
+ghost use Rattle.sel_gather.specs.Children.{joined_items};
+ghost use Rattle.sel_gather.specs.Ends.{item_ends};
+ghost use Rattle.sel_gather.specs.Gathers.{GathersFrom, MayGather};
+ghost use Rattle.sel_gather.specs.Need.{IsLimitOrMemory, ExceedsNone, exceeded_taken};
+ghost use Rattle.sel_gather.specs.Picks.{pick, PickFits};
+ghost use Rattle.sel_gather.specs.Sources.{columns_of, first_type, rows_of};
 
-use crate::bits::validity_from;
-use crate::copied::copy_plan;
-use crate::plan::Plan;
-use sel_bits::bitmap::Bitmap;
+use crate::boolean::gather_boolean;
+use crate::copy::collect_runs;
+use crate::gather_values::gather_validity;
+use crate::list_walk::walk_lists;
+use crate::lists::children_of;
+use crate::primitive::gather_primitive;
+use crate::row_refs::{Listed, Plan, runs_of_plan};
+use crate::validity::validities_of;
+use sel_arrow::array_ref::ArrayRef;
+use sel_arrow::column::Column;
 use sel_bits::faults::PolarsResult;
-use sel_bits::packer::{BitPacker, MOST_BITS};
+use sel_bits::offsets::OffsetsBuffer;
 use std::alloc::Global;
 
-/// The values and the validity of a source.
-#[derive(Drop)]
-pub(crate) struct Part<'a, T: Copy> {
-    pub values: &'a [T],
-    pub validity: Option<&'a Bitmap>,
-    pub ghost covers: { Covers (option_copied validity) (length values.now) },
-}
-
-/// Returns the value at each row reference, and `zero` for null references. Errors: `OutOfMemory`.
-pub(crate) fn gather_values<P: Plan, T: Copy + Drop>(
-    alloc: Global,
-    plan: &P,
-    parts: &[Part<T>],
-    zero: T,
-) -> PolarsResult<Vec<T>>
-    requires { All (PickFits (map (λ s. s.values.now) parts.now)) (P.picks plan.now) }
-    ensures values { IfOk result (λ values. values.items ≡
-        pick zero (map (λ s. s.values.now) parts.now) (P.picks plan.now)) }
-    ensures refusal { IfErr result IsOutOfMemory }
-{
-    if plan.is_wide() {
-        return copy_plan(alloc, plan, parts, zero);
-    }
-    if let [part] = parts {
-        return gather_one(alloc, plan, part.values, zero);
-    }
-    let len = plan.len();
-    let mut values = Vec::with_capacity(alloc, len)?;
-    let mut rest = plan.again();
-    for k in 0..len {
-        let pick = rest.next();
-        values.push_reserved(value_of_pick(parts, pick, zero));
-    }
-    Ok(values)
-}
-
-// Returns the value of a single source at each row reference, and `zero` for null references.
-// Errors: `OutOfMemory`.
-fn gather_one<P: Plan, T: Copy + Drop>(
-    alloc: Global,
-    plan: &P,
-    from: &[T],
-    zero: T,
-) -> PolarsResult<Vec<T>>
-    requires { All (PickFits (from.now ∷ [])) (P.picks plan.now) }
-    ensures values { IfOk result (λ values. values.items ≡
-        pick zero (from.now ∷ []) (P.picks plan.now)) }
-    ensures refusal { IfErr result IsOutOfMemory }
-{
-    let len = plan.len();
-    let mut values = Vec::with_capacity(alloc, len)?;
-    let mut rest = plan.again();
-    for k in 0..len {
-        let pick = rest.next();
-        values.push_reserved(value_of_place(from, pick, zero));
-    }
-    Ok(values)
-}
-
-// Returns the value of a single source at a row reference, or `zero` if it is null.
-#[inline(always)]
-fn value_of_place<T: Copy>(values: &[T], pick: Option<(u32, u32)>, zero: T) -> T
-    requires { PickFits (values.now ∷ []) pick }
-    ensures { result ≡ found zero (values.now ∷ []) pick }
-{
-    match pick {
-        None => zero,
-        Some((_, i)) => value_in(values, i as usize),
-    }
-}
-
-// Returns the value at a row reference, or `zero` if it is null.
-#[inline(always)]
-fn value_of_pick<T: Copy + Drop>(parts: &[Part<T>], pick: Option<(u32, u32)>, zero: T) -> T
-    requires { PickFits (map (λ s. s.values.now) parts.now) pick }
-    ensures { result ≡ found zero (map (λ s. s.values.now) parts.now) pick }
-{
-    match pick {
-        None => zero,
-        Some((s, i)) => {
-            let part = &parts[s as usize];
-            value_in(part.values, i as usize)
-        }
-    }
-}
-
-#[inline(always)]
-fn value_in<T: Copy>(values: &[T], i: usize) -> T
-    requires { i < length values.now }
-    ensures { result ≡ slice_index_or values.now i result }
-{
-    values[i]
-}
-
-/// Returns the value at each row reference, `zero` for null references, and the validity of these
-/// rows, none if all are valid.
+/// Returns the rows of `sources` at the row references `picks`, in order; a null reference gives a
+/// null row.
 ///
-/// If some row may be null, evaluates each row reference once for both. Errors: `OutOfMemory`.
-pub(crate) fn gather_parts<P: Plan, T: Copy + Drop>(
-    alloc: Global,
-    plan: &P,
-    parts: &[Part<T>],
-    zero: T,
-) -> PolarsResult<(Vec<T>, Option<Bitmap>)>
-    requires { All (PickFits (map (λ s. s.values.now) parts.now)) (P.picks plan.now) }
-    ensures values { IfOk result (λ rows. rows.0.items ≡
-        pick zero (map (λ s. s.values.now) parts.now) (P.picks plan.now)) }
-    ensures bits { IfOk result (λ rows. bits_for (length (P.picks plan.now)) rows.1 ≡
-        bits_found (map (λ s. option_copied s.validity) parts.now) (P.picks plan.now)) }
-    ensures covers { IfOk result (λ rows. Covers rows.1 (length (P.picks plan.now))) }
-    ensures refusal { IfErr result IsOutOfMemory }
-{
-    if !plan.has_nulls() && !is_any_hidden(parts) {
-        let values = gather_values(alloc, plan, parts, zero)?;
-        return Ok((values, None));
-    }
-    let len = plan.len();
-    let (values, bits) = gather_hidden(alloc, plan, parts, zero)?;
-    let validity = validity_from(bits, len)?;
-    Ok((values, validity))
-}
-
-/// Returns whether some source has a validity bitmap.
-pub(crate) fn is_any_hidden<T: Copy>(parts: &[Part<T>]) -> bool
-    ensures { (result ≡ false) ↔ All (λ s. option_copied s.validity ≡ None) parts.now }
-{
-    parts.iter().any(|part| part.validity.is_some())
-}
-
-// Returns the value and the validity bit at each row reference; `zero` and false for null
-// references. Errors: `OutOfMemory`.
-fn gather_hidden<P: Plan, T: Copy + Drop>(
-    alloc: Global,
-    plan: &P,
-    parts: &[Part<T>],
-    zero: T,
-) -> PolarsResult<(Vec<T>, BitPacker)>
-    requires { All (PickFits (map (λ s. s.values.now) parts.now)) (P.picks plan.now) }
-    ensures values { IfOk result (λ rows. rows.0.items ≡
-        pick zero (map (λ s. s.values.now) parts.now) (P.picks plan.now)) }
-    ensures bits { IfOk result (λ rows. rows.1 ≡
-        bits_found (map (λ s. option_copied s.validity) parts.now) (P.picks plan.now)) }
-    ensures refusal { IfErr result IsOutOfMemory }
-{
-    let len = plan.len();
-    let mut values = Vec::with_capacity(alloc, len)?;
-    let mut bits = BitPacker::with_capacity(alloc, len)?;
-    let mut rest = plan.again();
-    let mut at = 0;
-    while at < len {
-        let count = (len - at).min(MOST_BITS);
-        let word = push_word(&mut values, &mut rest, parts, zero, count);
-        bits.append(word, count as u32)?;
-        at += count;
-    }
-    Ok((values, bits))
-}
-
-// Appends the values at the next `count` row references, consumes these references, and returns
-// their validity bits as one word.
-#[inline(always)]
-fn push_word<P: Plan, T: Copy + Drop>(
-    values: &mut Vec<T>,
-    plan: &mut P,
-    parts: &[Part<T>],
-    zero: T,
-    count: usize,
-) -> u64
-    requires fits { All (PickFits (map (λ s. s.values.now) parts.now)) (P.picks plan.old) }
-    requires inside { count ≤ length (P.picks plan.old) }
-    requires short { count ≤ 64 }
-    requires room { vec_len values.old + count ≤ vec_capacity values.old }
-    ensures values { values.new.items ≡ values.old.items ++
-        pick zero (map (λ s. s.values.now) parts.now) (take count (P.picks plan.old)) }
-    ensures word { result ≡ word_of (take count (bits_found
-        (map (λ s. option_copied s.validity) parts.now) (P.picks plan.old))) }
-    ensures rest { P.picks plan.new ≡ drop count (P.picks plan.old) }
-    ensures len { vec_len values.new ≡ vec_len values.old + count }
-    ensures capacity { vec_capacity values.new ≡ vec_capacity values.old }
-{
-    let mut word = 0;
-    for i in 0..count {
-        let pick = plan.next();
-        let (value, bit) = row_of_pick(parts, pick, zero);
-        values.push_reserved(value);
-        word += u64::from(bit) << i;
-    }
-    word
-}
-
-// Returns the value and the validity bit at a row reference; `zero` and false if it is null.
-#[inline(always)]
-fn row_of_pick<T: Copy + Drop>(parts: &[Part<T>], pick: Option<(u32, u32)>, zero: T) -> (T, bool)
-    requires { PickFits (map (λ s. s.values.now) parts.now) pick }
-    ensures value { result.0 ≡ found zero (map (λ s. s.values.now) parts.now) pick }
-    ensures bit { result.1 ≡ bit_found (map (λ s. option_copied s.validity) parts.now) pick }
-{
-    match pick {
-        None => (zero, false),
-        Some((s, i)) => {
-            let part = &parts[s as usize];
-            let value = value_in(part.values, i as usize);
-            (value, is_valid_in(part.validity, i as usize))
-        }
-    }
-}
-
-/// Returns the validity of the gathered rows, given the validity of each source; none if all rows
-/// are valid. Errors: `OutOfMemory`.
-pub(crate) fn gather_validity<P: Plan>(
-    alloc: Global,
-    plan: &P,
-    maps: &[Option<&Bitmap>],
-) -> PolarsResult<Option<Bitmap>>
-    requires { All (HasBit (map option_copied maps.now)) (P.picks plan.now) }
-    ensures bits { IfOk result (λ validity. bits_for (length (P.picks plan.now)) validity ≡
-        bits_found (map option_copied maps.now) (P.picks plan.now)) }
-    ensures covers { IfOk result (λ validity. Covers validity (length (P.picks plan.now))) }
-    ensures refusal { IfErr result IsOutOfMemory }
-{
-    if !plan.has_nulls() && !is_any_there(maps) {
-        return Ok(None);
-    }
-    let len = plan.len();
-    let bits = gather_bits(alloc, plan, maps)?;
-    let validity = validity_from(bits, len)?;
-    Ok(validity)
-}
-
-/// Returns whether some bitmap is present.
-pub(crate) fn is_any_there(maps: &[Option<&Bitmap>]) -> bool
-    ensures { (result ≡ false) ↔ All (λ map. option_copied map ≡ None) maps.now }
-{
-    maps.iter().any(|map| map.is_some())
-}
-
-/// Returns the bit at each row reference: true if the source has no bitmap, false for null
-/// references.
+/// Reference `(s, i)` refers to row `i` of source `s`.
 ///
 /// # Requires
-/// Every non-null row reference refers to an entry of `maps`, and to a bit of that bitmap if it is
-/// present; check with [`plan_has_bits`].
+/// There is at least one source, and all sources have the type of the first (check with
+/// `are_alike`) and are well-formed (check with `are_well_formed`). Every non-null reference refers
+/// to a row of a source, and there are at most 2^32 - 1 references (check with `picks_in_bounds`).
 ///
 /// # Errors
-/// `OutOfMemory` if an allocation fails.
-pub fn gather_bits<P: Plan>(
+/// `OutOfMemory` if an allocation fails; `SizeLimit` if at some depth the result would have more
+/// than 2^32 - 1 rows (`Limit::Rows`) or 2^63 - 1 value bytes (`Limit::Bytes`), or the sources have
+/// more than 2^32 - 1 data buffers in total (`Limit::Buffers`).
+pub fn collect_rows<'a>(
     alloc: Global,
+    sources: &'a [&'a Column],
+    picks: &[Option<(u32, u32)>],
+) -> PolarsResult<ArrayRef>
+    requires some { 0 < length sources.now }
+    requires alike { All (λ c. type_of c.now ≡ first_type (columns_of sources.now)) sources.now }
+    requires may { MayGather sources.now picks.now (length picks.now) }
+    ensures { GathersFrom result (columns_of sources.now)
+        (pick Null (rows_of sources.now) picks.now) }
+{
+    let column = collect_plan(alloc, sources, &Listed { picks }, false)?;
+    Ok(ArrayRef { column })
+}
+
+/// Returns the rows of `sources` at the row references of `plan`, in order; a null reference gives
+/// a null row.
+///
+/// If `in_runs` is true, copies the rows by runs, which is faster for long runs and gives the same
+/// rows.
+///
+/// # Requires
+/// There is at least one source, and all sources have the type of the first (check with
+/// `are_alike`) and are well-formed (check with `are_well_formed`). Every non-null row reference
+/// refers to a row of a source (check with `plan_in_bounds`).
+///
+/// # Errors
+/// Those of `collect_rows`.
+pub fn collect_plan<'a, P: Plan>(
+    alloc: Global,
+    sources: &'a [&'a Column],
     plan: &P,
-    maps: &[Option<&Bitmap>],
-) -> PolarsResult<BitPacker>
-    requires { All (HasBit (map option_copied maps.now)) (P.picks plan.now) }
-    ensures bits { IfOk result (λ bits. bits ≡
-        bits_found (map option_copied maps.now) (P.picks plan.now)) }
-    ensures refusal { IfErr result IsOutOfMemory }
+    in_runs: bool,
+) -> PolarsResult<Column>
+    requires some { 0 < length sources.now }
+    requires alike { All (λ c. type_of c.now ≡ first_type (columns_of sources.now)) sources.now }
+    requires formed { All (λ c. IsWellFormed c.now) sources.now }
+    requires fits { All (PickFits (rows_of sources.now)) (P.picks plan.now) }
+    ensures rows { IfOk result (λ column. rows column ≡
+        pick Null (rows_of sources.now) (P.picks plan.now)) }
+    ensures dtype { IfOk result (λ column. type_of column ≡
+        first_type (columns_of sources.now)) }
+    ensures formed { IfOk result (λ column. IsWellFormed column) }
+    ensures within { IfOk result
+        (λ _. ExceedsNone (exceeded_taken (first_type (columns_of sources.now))
+        (columns_of sources.now) (pick Null (rows_of sources.now) (P.picks plan.now)))) }
+    ensures refusal { IfErr result
+        (IsLimitOrMemory (exceeded_taken (first_type (columns_of sources.now))
+        (columns_of sources.now) (pick Null (rows_of sources.now) (P.picks plan.now)))) }
+{
+    if in_runs {
+        return collect_listed(alloc, sources, plan);
+    }
+    let first: &Column = sources[0];
+    gather_like(alloc, first, sources, plan)
+}
+
+// Returns the rows for columns of the type of `first`, by row references if the type supports it.
+fn gather_like<'a, P: Plan>(
+    alloc: Global,
+    first: &Column,
+    sources: &'a [&'a Column],
+    plan: &P,
+) -> PolarsResult<Column>
+    requires kind { first_type (columns_of sources.now) ≡ type_of first.now }
+    requires some { 0 < length sources.now }
+    requires alike { All (λ c. type_of c.now ≡ type_of first.now) sources.now }
+    requires formed { All (λ c. IsWellFormed c.now) sources.now }
+    requires fits { All (PickFits (rows_of sources.now)) (P.picks plan.now) }
+    ensures rows { IfOk result (λ column. rows column ≡
+        pick Null (rows_of sources.now) (P.picks plan.now)) }
+    ensures dtype { IfOk result (λ column. type_of column ≡ type_of first.now) }
+    ensures formed { IfOk result (λ column. IsWellFormed column) }
+    ensures within { IfOk result (λ _. ExceedsNone (exceeded_taken (type_of first.now)
+        (columns_of sources.now) (pick Null (rows_of sources.now) (P.picks plan.now)))) }
+    ensures refusal { IfErr result (IsLimitOrMemory (exceeded_taken (type_of first.now)
+        (columns_of sources.now) (pick Null (rows_of sources.now) (P.picks plan.now)))) }
+{
+    match first {
+        Column::Boolean(_) => gather_boolean(alloc, sources, plan),
+        Column::Int8(_) => gather_primitive::<P, i8>(alloc, sources, plan),
+        Column::Int16(_) => gather_primitive::<P, i16>(alloc, sources, plan),
+        Column::Int32(_) => gather_primitive::<P, i32>(alloc, sources, plan),
+        Column::Int64(_) => gather_primitive::<P, i64>(alloc, sources, plan),
+        Column::Int128(_) => gather_primitive::<P, i128>(alloc, sources, plan),
+        Column::UInt8(_) => gather_primitive::<P, u8>(alloc, sources, plan),
+        Column::UInt16(_) => gather_primitive::<P, u16>(alloc, sources, plan),
+        Column::UInt32(_) => gather_primitive::<P, u32>(alloc, sources, plan),
+        Column::UInt64(_) => gather_primitive::<P, u64>(alloc, sources, plan),
+        Column::UInt128(_) => gather_primitive::<P, u128>(alloc, sources, plan),
+        Column::LargeList { values, .. } => gather_lists(alloc, values, sources, plan),
+        _ => collect_listed(alloc, sources, plan),
+    }
+}
+
+// Returns the rows by runs, after converting the row references to runs.
+fn collect_listed<'a, P: Plan>(
+    alloc: Global,
+    sources: &'a [&'a Column],
+    plan: &P,
+) -> PolarsResult<Column>
+    requires some { 0 < length sources.now }
+    requires alike { All (λ c. type_of c.now ≡ first_type (columns_of sources.now)) sources.now }
+    requires formed { All (λ c. IsWellFormed c.now) sources.now }
+    requires fits { All (PickFits (rows_of sources.now)) (P.picks plan.now) }
+    ensures rows { IfOk result (λ column. rows column ≡
+        pick Null (rows_of sources.now) (P.picks plan.now)) }
+    ensures dtype { IfOk result (λ column. type_of column ≡
+        first_type (columns_of sources.now)) }
+    ensures formed { IfOk result (λ column. IsWellFormed column) }
+    ensures within { IfOk result
+        (λ _. ExceedsNone (exceeded_taken (first_type (columns_of sources.now))
+        (columns_of sources.now) (pick Null (rows_of sources.now) (P.picks plan.now)))) }
+    ensures refusal { IfErr result
+        (IsLimitOrMemory (exceeded_taken (first_type (columns_of sources.now))
+        (columns_of sources.now) (pick Null (rows_of sources.now) (P.picks plan.now)))) }
 {
     let len = plan.len();
-    let mut bits = BitPacker::with_capacity(alloc, len)?;
-    let mut rest = plan.again();
-    let mut at = 0;
-    while at < len {
-        let count = (len - at).min(MOST_BITS);
-        bits.append(word_of_picks(&mut rest, maps, count), count as u32)?;
-        at += count;
-    }
-    Ok(bits)
+    let runs = runs_of_plan(alloc, plan)?;
+    collect_runs(alloc, sources, &runs, len)
 }
 
-/// Returns whether every non-null row reference refers to an entry of `maps`, and to a bit of that
-/// bitmap if it is present.
-pub fn plan_has_bits<P: Plan>(maps: &[Option<&Bitmap>], plan: &P) -> bool
-    ensures { IsTrue result ↔ All (HasBit (map option_copied maps.now)) (P.picks plan.now) }
+/// Returns the lists at the row references of `plan`, in order; a null reference gives a null row.
+///
+/// # Requires
+/// There is at least one source, and all sources are well-formed list columns whose child has the
+/// type of `child`. Every non-null row reference refers to a row of a source.
+///
+/// # Errors
+/// `OutOfMemory` if an allocation fails; `SizeLimit` if the lists would have more than 2^32 - 1
+/// items (`Limit::Rows`), or their items exceed a limit of `collect_rows`.
+pub fn gather_lists<'a, P: Plan>(
+    alloc: Global,
+    child: &Column,
+    sources: &'a [&'a Column],
+    plan: &P,
+) -> PolarsResult<Column>
+    requires some { 0 < length sources.now }
+    requires alike { All (λ c. type_of c.now ≡ of_large_list (type_of child.now)) sources.now }
+    requires formed { All (λ c. IsWellFormed c.now) sources.now }
+    requires fits { All (PickFits (rows_of sources.now)) (P.picks plan.now) }
+    ensures rows { IfOk result (λ column. rows column ≡
+        pick Null (rows_of sources.now) (P.picks plan.now)) }
+    ensures dtype { IfOk result (λ column. type_of column ≡ of_large_list (type_of child.now)) }
+    ensures formed { IfOk result (λ column. IsWellFormed column) }
+    ensures within { IfOk result
+        (λ _. ExceedsNone (exceeded_taken (of_large_list (type_of child.now))
+        (columns_of sources.now) (pick Null (rows_of sources.now) (P.picks plan.now)))) }
+    ensures refusal { IfErr result
+        (IsLimitOrMemory (exceeded_taken (of_large_list (type_of child.now))
+        (columns_of sources.now) (pick Null (rows_of sources.now) (P.picks plan.now)))) }
 {
-    let mut rest = plan.again();
-    let mut left = plan.len();
-    while left > 0 {
-        if !has_bit(maps, rest.next()) {
-            return false;
-        }
-        left -= 1;
-    }
-    true
+    let _ = child;
+    let (ends, below, need) = walk_lists(alloc, sources, plan)?;
+    let children = children_of(alloc, sources)?;
+    let values = collect_runs(alloc, &children, &below, need)?;
+    lists_of_plan(alloc, values, ends, sources, plan)
 }
 
-// Returns whether a row reference is null, or refers to an entry of `maps` and to a bit of that
-// bitmap if it is present.
-fn has_bit(maps: &[Option<&Bitmap>], pick: Option<(u32, u32)>) -> bool
-    ensures { IsTrue result ↔ HasBit (map option_copied maps.now) pick }
+// Returns the lists at the row references of a plan, given their offsets and items. Errors:
+// `OutOfMemory`.
+fn lists_of_plan<P: Plan>(
+    alloc: Global,
+    values: Column,
+    ends: Vec<i64>,
+    sources: &[&Column],
+    plan: &P,
+) -> PolarsResult<Column>
+    requires lists { All (λ c. type_of c.now ≡ of_large_list (type_of values)) sources.now }
+    requires formed { All (λ c. IsWellFormed c.now) sources.now }
+    requires fits { All (PickFits (rows_of sources.now)) (P.picks plan.now) }
+    requires ends { ends.items ≡
+        map pos (0 ∷ item_ends 0 (pick Null (rows_of sources.now) (P.picks plan.now))) }
+    requires below { rows values ≡
+        joined_items 0 (pick Null (rows_of sources.now) (P.picks plan.now)) }
+    requires child { IsWellFormed values }
+    ensures rows { IfOk result (λ column. rows column ≡
+        pick Null (rows_of sources.now) (P.picks plan.now)) }
+    ensures dtype { IfOk result (λ column. type_of column ≡ of_large_list (type_of values)) }
+    ensures formed { IfOk result (λ column. IsWellFormed column) }
+    ensures refusal { IfErr result IsOutOfMemory }
 {
-    let Some((source, row)) = pick else {
-        return true;
-    };
-    if source as usize >= maps.len() {
-        return false;
-    }
-    match maps[source as usize] {
-        None => true,
-        Some(bits) => (row as usize) < bits.len(),
-    }
-}
-
-// Consumes the next `count` row references, and returns the bits at them as one word.
-#[inline(always)]
-fn word_of_picks<P: Plan>(plan: &mut P, maps: &[Option<&Bitmap>], count: usize) -> u64
-    requires fits { All (HasBit (map option_copied maps.now)) (P.picks plan.old) }
-    requires inside { count ≤ length (P.picks plan.old) }
-    requires short { count ≤ 64 }
-    ensures word { result ≡ word_of
-        (take count (bits_found (map option_copied maps.now) (P.picks plan.old))) }
-    ensures rest { P.picks plan.new ≡ drop count (P.picks plan.old) }
-{
-    let mut word = 0;
-    for i in 0..count {
-        let pick = plan.next();
-        word += u64::from(bit_of_pick(maps, pick)) << i;
-    }
-    word
-}
-
-// Returns the bit at a row reference: true if the source has no bitmap, false if the reference is
-// null.
-#[inline(always)]
-fn bit_of_pick(maps: &[Option<&Bitmap>], pick: Option<(u32, u32)>) -> bool
-    requires { HasBit (map option_copied maps.now) pick }
-    ensures { result ≡ bit_found (map option_copied maps.now) pick }
-{
-    match pick {
-        None => false,
-        Some((s, i)) => is_valid_in(maps[s as usize], i as usize),
-    }
-}
-
-// Returns whether row `i` is valid.
-#[inline(always)]
-fn is_valid_in(validity: Option<&Bitmap>, i: usize) -> bool
-    requires { ForSome (option_copied validity) (λ v. i < length v.bits) }
-    ensures { result ≡ valid_at (option_copied validity.entry) i }
-{
-    match validity {
-        None => true,
-        Some(bits) => bits.get_bit(i),
-    }
+    // (there are no more row references than a column may have rows)
+    let _len = plan.len();
+    let values = Box::new(alloc, values)?;
+    let offsets = OffsetsBuffer::of_rising(ends)?;
+    let validities = validities_of(alloc, sources)?;
+    let maps = validities.as_slice();
+    let validity = gather_validity(alloc, plan, maps)?;
+    Ok(Column::LargeList {
+        offsets,
+        values,
+        validity,
+    })
 }

@@ -7,7 +7,7 @@ ghost use Rattle.sel_arrow.specs.Value.{Value, Null};
 ghost use Rattle.sel_gather.specs.Picks.{pick, PickFits};
 ghost use Rattle.sel_gather.specs.Runs.{expand, unrolled};
 
-use crate::run::Run;
+use crate::runs::Run;
 use sel_bits::faults::PolarsResult;
 
 /// A column to which rows of given sources and nulls can be appended.

@@ -1,25 +1,30 @@
-//! Gathers rows from several columns, copied by runs of consecutive rows.
+//! Gathers rows from several columns of one type, nested to any depth.
+//!
+//! Which rows: `row_refs` has iterators over row references, `runs` has runs of consecutive rows.
+//! Their rows: `gather` at row references, `copy` by runs, `one_source` from a single column. Each
+//! takes a column apart by its type, and a file for each kind of column (`primitive`, `boolean`,
+//! `binary`, `view`, `lists` and `list_walk`, `structs`, `null`) copies its part.
 #![tactic(auto)]
 
 mod binary;
 pub mod bits;
 mod boolean;
-pub mod collect;
-mod copied;
-mod fill;
+pub mod checks;
+pub mod copy;
+mod copy_values;
 pub mod gather;
+pub mod gather_values;
 mod growable;
-mod kinds;
+mod list_walk;
 mod lists;
 mod nested;
 mod null;
-pub mod plan;
-pub mod planned;
+pub mod one_source;
 mod primitive;
-pub mod run;
-pub mod single;
-pub mod sources;
+mod repeat;
+pub mod row_refs;
+pub mod runs;
 mod structs;
+mod typed_arrays;
 mod validity;
 pub mod view;
-mod walk;

@@ -13,7 +13,7 @@ ghost use Rattle.sel_gather.specs.Sources.{picked, rows_of};
 ghost use Rattle.sel_gather.specs.Steps.{child_rows};
 ghost use Rattle.sel_gather.specs.RunRows.{run_rows};
 
-use crate::run::{Run, nulls_of, push_run};
+use crate::runs::{Run, nulls_of, push_run};
 use sel_arrow::column::Column;
 use sel_arrow::validity::is_valid_at;
 use sel_bits::faults::PolarsResult;

@@ -12,7 +12,7 @@ ghost use Rattle.sel_gather.specs.Runs.{expand};
 ghost use Rattle.sel_gather.specs.Gathers.{MayGather};
 ghost use Rattle.sel_gather.specs.Sources.{picked};
 
-use crate::run::Run;
+use crate::runs::Run;
 use crate::validity::collect_validity;
 use sel_arrow::column::Column;
 use sel_bits::faults::PolarsResult;

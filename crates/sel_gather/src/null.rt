@@ -8,7 +8,7 @@ ghost use Rattle.sel_arrow.specs.Value.{Null};
 ghost use Rattle.sel_gather.specs.Runs.{expand};
 ghost use Rattle.sel_gather.specs.Sources.{picked};
 
-use crate::run::Run;
+use crate::runs::Run;
 use sel_arrow::column::Column;
 use sel_arrow::null::NullArray;
 

@@ -13,12 +13,12 @@ ghost use Rattle.sel_gather.specs.Gathers.{MayGather};
 ghost use Rattle.sel_gather.specs.Sources.{picked, rows_of};
 
 use crate::bits::{push_validity, validity_from};
-use crate::copied::{copy_runs, is_any_null};
-use crate::fill::push_values;
-use crate::gather::{Part, gather_parts, is_any_hidden};
+use crate::copy_values::{copy_runs, is_any_null};
+use crate::gather_values::{Part, gather_parts, is_any_hidden};
 use crate::growable::{Growable, extend_runs};
-use crate::plan::Plan;
-use crate::run::Run;
+use crate::repeat::push_values;
+use crate::row_refs::Plan;
+use crate::runs::Run;
 use sel_arrow::column::Column;
 use sel_arrow::primitive::ArrowPrimitive;
 use sel_bits::buffer::Buffer;

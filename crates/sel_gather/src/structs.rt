@@ -12,7 +12,7 @@ ghost use Rattle.sel_gather.specs.Picks.{PickFits};
 ghost use Rattle.sel_gather.specs.Runs.{expand, unrolled};
 ghost use Rattle.sel_gather.specs.Sources.{rows_of};
 
-use crate::run::{Run, nulls_of, push_run};
+use crate::runs::{Run, nulls_of, push_run};
 use sel_arrow::column::Column;
 use sel_bits::bitmap::Bitmap;
 use sel_bits::faults::PolarsResult;

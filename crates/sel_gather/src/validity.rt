@@ -15,9 +15,9 @@ ghost use Rattle.sel_gather.specs.Sources.{columns_of, picked, rows_of};
 ghost use Rattle.sel_gather.specs.RunRows.{run_rows};
 
 use crate::bits::{push_validity, validity_from};
-use crate::copied::is_any_null;
-use crate::gather::is_any_there;
-use crate::run::Run;
+use crate::copy_values::is_any_null;
+use crate::gather_values::is_any_there;
+use crate::runs::Run;
 use sel_arrow::column::Column;
 use sel_bits::bitmap::Bitmap;
 use sel_bits::faults::PolarsResult;

@@ -16,9 +16,9 @@ ghost use Rattle.sel_gather.specs.Validity.{part_bits};
 ghost use Rattle.sel_gather.specs.Sources.{binviews};
 
 use crate::bits::{push_validity, validity_from};
-use crate::fill::push_values;
 use crate::growable::{Growable, extend_runs};
-use crate::run::Run;
+use crate::repeat::push_values;
+use crate::runs::Run;
 use sel_arrow::binview::{BinaryViewArray, MOST_BUFFERS};
 use sel_arrow::view::{INLINE_BYTES, View};
 use sel_bits::buffer::Buffer;

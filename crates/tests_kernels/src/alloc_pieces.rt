@@ -14,7 +14,7 @@ use sel_bits::buffer::Buffer;
 use sel_bits::faults::{PolarsError, PolarsResult};
 use sel_bits::packer::BitPacker;
 use sel_gather::bits::{push_validity, validity_from};
-use sel_gather::run::{Run, nulls_of, push_run, runs_of_picks};
+use sel_gather::runs::{Run, nulls_of, push_run, runs_of_picks};
 use sel_gather::view::push_buffers;
 use std::alloc::Global;
 use std::test::Fail;

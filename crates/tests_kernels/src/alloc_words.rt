@@ -13,7 +13,7 @@ use sel_arrow::validity::{clone_validity, has_other_length, is_valid_at, sliced_
 use sel_arrow::view::View;
 use sel_bits::bitmap::Bitmap;
 use sel_bits::faults::PolarsResult;
-use sel_gather::run::{nulls_of, run_of_pick};
+use sel_gather::runs::{nulls_of, run_of_pick};
 use sel_gather::view::raised_view;
 use std::alloc::Global;
 use std::test::Fail;

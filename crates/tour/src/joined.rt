@@ -8,7 +8,7 @@ use polars_compute::horizontal_flatten::{flatten_is_safe, horizontal_flatten_unc
 use sel_arrow::array::Array;
 use sel_arrow::array_ref::ArrayRef;
 use sel_arrow::column::Column;
-use sel_gather::sources::{are_alike, are_well_formed};
+use sel_gather::checks::{are_alike, are_well_formed};
 use std::alloc::Global;
 
 /// Prints a horizontal flatten of columns, and rows gathered from two columns.

@@ -33,7 +33,7 @@ use sel_bits::bitmap::Bitmap;
 use sel_bits::buffer::Buffer;
 use sel_bits::faults::{PolarsError, PolarsResult};
 use sel_bits::words::{first_word, whole_word};
-use sel_gather::single::collect_one;
+use sel_gather::one_source::collect_one;
 use std::alloc::Global;
 
 /// Returns the rows of `array` where `mask` is true and valid, in order.

@@ -14,8 +14,8 @@ use sel_arrow::array::Array;
 use sel_arrow::primitive::{IdxArr, PrimitiveArray};
 use sel_bits::bitmap::Bitmap;
 use sel_bits::faults::PolarsResult;
-use sel_gather::gather::gather_bits;
-use sel_gather::plan::Walk;
+use sel_gather::gather_values::gather_bits;
+use sel_gather::row_refs::Walk;
 use std::alloc::Global;
 
 /// Returns the validity of the rows at `indices`: true where the index and its row are valid.

@@ -20,10 +20,10 @@ use sel_arrow::primitive::PrimitiveArray;
 use sel_arrow::utf8view::Utf8ViewArray;
 use sel_bits::bitmap::Bitmap;
 use sel_bits::faults::{Limit, PolarsError, PolarsResult};
-use sel_gather::collect::collect_runs;
-use sel_gather::plan::{Places, Walk};
-use sel_gather::planned::collect_plan;
-use sel_gather::run::Run;
+use sel_gather::copy::collect_runs;
+use sel_gather::gather::collect_plan;
+use sel_gather::row_refs::{Places, Walk};
+use sel_gather::runs::Run;
 use std::alloc::Global;
 
 /// Returns a column with row k of `if_true` where bit k of `mask` is set, else row k of `if_false`.

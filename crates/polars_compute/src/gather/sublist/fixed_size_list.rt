@@ -21,8 +21,8 @@ use sel_arrow::validity::is_valid_at;
 use sel_bits::bitmap::Bitmap;
 use sel_bits::faults::{PolarsError, PolarsResult};
 use sel_bits::number::negative_to_usize;
-use sel_gather::plan::{Places, Walk};
-use sel_gather::single::collect_one_plan;
+use sel_gather::one_source::collect_one_plan;
+use sel_gather::row_refs::{Places, Walk};
 use std::alloc::Global;
 
 /// Returns a column with the element of each list at `index`, which may be null.

@@ -3,7 +3,7 @@ use Rattle.std.proofs.lemmas.List.{length-append}
 use Rattle.sel_bits.specs.Bits.{Bits}
 use Rattle.sel_gather.specs.KeptPicks.{kept_by}
 use Rattle.sel_gather.specs.Runs.{expand, unrolled, unrolled_from}
-use Rattle.sel_gather.specs.declared.run.Run.{Run}
+use Rattle.sel_gather.specs.declared.runs.Run.{Run}
 use Rattle.sel_gather.proofs.KeptBlocks.{Passes, zeros_within, ones_within, passed_left, passed_some, passed_rest, kept_more, kept_count}
 use Rattle.sel_gather.proofs.RunLists.{length-unrolled}
 use Rattle.sel_gather.proofs.structs.push_kept.Goals as goal

@@ -3,7 +3,7 @@ use Rattle.std.proofs.lemmas.Result.{err_from_is_err_and}
 use Rattle.sel_arrow.specs.Rows.{rows}
 use Rattle.sel_arrow.specs.Value.{Null}
 use Rattle.sel_gather.specs.Runs.{expand}
-use Rattle.sel_gather.specs.declared.run.Run.{Run}
+use Rattle.sel_gather.specs.declared.runs.Run.{Run}
 use Rattle.sel_ternary.proofs.ChosenPicks.{picked_alike}
 use Rattle.sel_ternary.proofs.WordKernels.{both_null, null_run}
 use Rattle.sel_ternary.proofs.if_then_else.any.null_choice.Goals as goal

@@ -1,0 +1,301 @@
+use Rattle.std.proofs.Common.{◌≡◌, ◌∙◌, ◌<◌, ◌+◌, ◌++◌, ◌∷◌, [], All, inr, ap, sym, subst, map, length, get_or, take, replicate, arith, true}
+use Rattle.std.proofs.lemmas.List.{length-map, take_all, map_more, map-append}
+use Rattle.std.proofs.lemmas.List.Elements.{All-get_or, All-push}
+use Rattle.std.proofs.lemmas.Result.{err_from_is_err_and}
+use Rattle.sel_arrow.specs.Rows.{rows, row_count, type_of, well_formed, IsField, IsWellFormed}
+use Rattle.sel_arrow.specs.Shape.{of_null, of_struct, shapes_of, shape_list}
+use Rattle.sel_arrow.specs.Value.{Null}
+use Rattle.sel_arrow.proofs.NestedRows.{length-rows}
+use Rattle.sel_arrow.proofs.Trees.{has_fields}
+use Rattle.sel_arrow.proofs.Types.{type_of-Struct}
+use Rattle.sel_gather.specs.Children.{child, field, is_listing, joined_items, part_at}
+use Rattle.sel_gather.specs.Steps.{parts_of}
+use Rattle.sel_gather.specs.Cleared.{cleared}
+use Rattle.sel_gather.specs.Need.{ExceedsRows, IsLimitOrMemory, ExceedsNone, exceeded_taken}
+use Rattle.sel_gather.specs.Picks.{pick, PickFits}
+use Rattle.sel_gather.specs.Runs.{expand}
+use Rattle.sel_gather.proofs.Below.{block_child_type, items_recurse, found_all, found_map, mapped_now, listed_shapes, refused_more, past_at, parts_more, field_kind}
+use Rattle.sel_gather.proofs.Depths.{size_of, one_size}
+use Rattle.sel_gather.proofs.ItemRuns.{rows_of, below_of}
+use Rattle.sel_gather.proofs.NullItems.{null_items_in}
+use Rattle.sel_gather.proofs.RunLists.{length-pick}
+use Rattle.sel_gather.proofs.TupleRows.{field_rows, field_type, field_formed, picked_parts, parts_fit}
+use Rattle.sel_gather.specs.Sources.{columns_of, picked}
+use Rattle.sel_gather.proofs.Walks.{children_recurse, children_columns, children_picked, children_fit}
+use Rattle.sel_gather.proofs.Within.{few_rows_pass, fields_pass, one_more_passes, passes_neither}
+use Rattle.sel_gather.proofs.copy.+collecting.Goals as goal
+
+-- ---- lists
+
+pub collect_lists-collect_like-requires : goal.collect_lists-collect_like-requires
+collect_lists-collect_like-requires t c =
+    let s = type_of c.args.child.now in
+    let cs = c.args.sources.now in
+    let xs = c.deref.result.now in
+    let found = ap (map (λ x. x.now)) c.deref.ensures.value ∙ c.in_ok-children.ensures.children in
+    let below = children_recurse s cs xs found c.requires.alike c.requires.may.formed in
+    let fits = children_fit s cs xs found c.requires.alike c.requires.may.formed c.deref-2.result.now c.in_ok-ends.below.items c.deref-2.ensures.value c.in_ok-ends.ensures.fits in
+    let count = ap (λ rs. length (expand rs)) c.deref-2.ensures.value ∙ c.in_ok-ends.ensures.count in
+    (omega (arith, c.decreases), (c.requires.child, (below.alike, record { formed = below.formed; fits = fits; len = count; few = c.in_ok-ends.ensures.few })))
+
+pub collect_lists-lists_over-requires-clause-below : goal.collect_lists-lists_over-requires-clause-below
+collect_lists-lists_over-requires-clause-below t c =
+    let found = ap (map (λ x. x.now)) c.deref.ensures.value ∙ c.in_ok-children.ensures.children in
+    c.in_ok-values.ensures.rows ∙ children_picked (type_of c.args.child.now) c.args.sources.now c.deref.result.now found c.requires.alike c.requires.may.formed c.deref-2.result.now c.in_ok-ends.below.items _ c.deref-2.ensures.value c.in_ok-ends.ensures.items
+
+pub collect_lists-returns-in_err-values-clause-refusal : goal.collect_lists-returns-in_err-values-clause-refusal
+collect_lists-returns-in_err-values-clause-refusal t c =
+    let s = type_of c.args.child.now in
+    let cs = c.args.sources.now in
+    let xs = c.deref.result.now in
+    let items = joined_items 0 (picked cs c.args.runs.now) in
+    let fault = c.in_err-values.field-0.0 in
+    let p = err_from_is_err_and c.from_residual-in_err-values.result c.from_residual-in_err-values.ensures.1 in
+    let found = ap (map (λ x. x.now)) c.deref.ensures.value ∙ c.in_ok-children.ensures.children in
+    let same = children_picked s cs xs found c.requires.alike c.requires.may.formed c.deref-2.result.now c.in_ok-ends.below.items items c.deref-2.ensures.value c.in_ok-ends.ensures.items in
+    let here = subst (λ l. IsLimitOrMemory (exceeded_taken s l items) fault) (children_columns s cs xs found c.requires.alike c.requires.may.formed)
+    (subst (λ l. IsLimitOrMemory (exceeded_taken s (columns_of xs) l) fault) same c.in_err-values.ensures.refusal) in
+    rw (p.1, p.2) (refused_more _ _ fault (λ limit h. inr h) here)
+
+pub collect_lists-returns-clause-within : goal.collect_lists-returns-clause-within
+collect_lists-returns-clause-within t c =
+    let s = type_of c.args.child.now in
+    let cs = c.args.sources.now in
+    let xs = c.deref.result.now in
+    let items = joined_items 0 (picked cs c.args.runs.now) in
+    let found = ap (map (λ x. x.now)) c.deref.ensures.value ∙ c.in_ok-children.ensures.children in
+    let same = children_picked s cs xs found c.requires.alike c.requires.may.formed c.deref-2.result.now c.in_ok-ends.below.items items c.deref-2.ensures.value c.in_ok-ends.ensures.items in
+    let below = subst (λ l. ExceedsNone (exceeded_taken s l items)) (children_columns s cs xs found c.requires.alike c.requires.may.formed)
+    (subst (λ l. ExceedsNone (exceeded_taken s (columns_of xs) l)) same c.in_ok-values.ensures.within) in
+    let long = ap length (sym c.in_ok-ends.ensures.items) in
+    passes_neither (ExceedsRows (length items)) (exceeded_taken s (map child (columns_of cs)) items)
+    (few_rows_pass (length items) (omega (arith, long, length-pick Null (below_of cs) (expand c.in_ok-ends.below.items), c.in_ok-ends.ensures.count, c.in_ok-ends.ensures.few))) below
+
+pub collect_blocks-collect_items-requires : goal.collect_blocks-collect_items-requires
+collect_blocks-collect_items-requires t c =
+    let cs = c.args.sources.now in
+    let s = type_of c.args.child.now in
+    let lists : All (λ c. is_listing (type_of c.now) ≡ true) cs = λ k d h. ap is_listing (c.requires.alike k d h) in
+    let alike : All (λ c. type_of (child c.now) ≡ s) cs = λ k d h. block_child_type (get_or cs k d).now s c.args.size (c.requires.alike k d h) in
+    (omega (arith, c.decreases), (c.requires.child, (lists, (alike, (c.requires.may.formed, (c.requires.may.fits, (c.count_items-need.ensures, omega (arith, c.if-need.false))))))))
+
+pub collect_blocks-returns-in_err-values-clause-refusal : goal.collect_blocks-returns-in_err-values-clause-refusal
+collect_blocks-returns-in_err-values-clause-refusal t c =
+    let items = joined_items c.args.size (pick Null (rows_of c.args.sources.now) (expand c.args.runs.now)) in
+    let fault = c.in_err-values.field-0.0 in
+    let p = err_from_is_err_and c.from_residual.result c.from_residual.ensures.1 in
+    let here = subst (λ l. IsLimitOrMemory (exceeded_taken (type_of c.args.child.now) l items) fault) (mapped_now child c.args.sources.now) c.in_err-values.ensures.refusal in
+    rw (p.1, p.2) (refused_more _ _ fault (λ limit h. inr h) here)
+
+-- ---- the child rows of lists
+
+pub collect_items-returns-in-Null-clause-rows : goal.collect_items-returns-in-Null-clause-rows
+collect_items-returns-in-Null-clause-rows t c =
+    let cs = c.args.sources.now in
+    let none : type_of c.args.first.now ≡ of_null = ap type_of c.in-Null.is in
+    let nulls : All (λ c. type_of (child c.now) ≡ of_null) cs = λ k d h. c.requires.alike k d h ∙ none in
+    ap (λ n. replicate n Null) c.requires.need ∙ sym (null_items_in c.args.width cs c.requires.lists c.requires.formed nulls (expand c.args.runs.now) c.requires.fits)
+
+pub collect_items-collect_like-requires : goal.collect_items-collect_like-requires
+collect_items-collect_like-requires t c =
+    let cs = c.args.sources.now in
+    let xs = c.deref.result.now in
+    let found = ap (map (λ x. x.now)) c.deref.ensures.value ∙ c.in_ok-children.ensures.children in
+    let below = items_recurse (type_of c.args.first.now) xs cs found c.requires.lists c.requires.alike c.requires.formed in
+    let runs = ap expand c.deref-2.ensures.value in
+    let fits = subst (λ xss. All (PickFits xss) (expand c.deref-2.result.now)) (sym below.rows) (subst (All (PickFits (below_of cs))) (sym runs) c.in_ok-below.ensures.fits) in
+    let count = ap length runs ∙ sym (length-pick Null (below_of cs) (expand c.in_ok-below.below.items)) ∙ ap length c.in_ok-below.ensures.items ∙ sym c.requires.need in
+    (omega (arith, c.decreases), (c.requires.first, (below.alike, record { formed = below.formed; fits = fits; len = count; few = c.requires.few })))
+
+pub collect_items-returns-in_err-values-clause-refusal : goal.collect_items-returns-in_err-values-clause-refusal
+collect_items-returns-in_err-values-clause-refusal t c =
+    let cs = c.args.sources.now in
+    let xs = c.deref.result.now in
+    let s = type_of c.args.first.now in
+    let fault = c.in_err-values.field-0.0 in
+    let p = err_from_is_err_and c.from_residual-in_err-values.result c.from_residual-in_err-values.ensures.1 in
+    let found = ap (map (λ x. x.now)) c.deref.ensures.value ∙ c.in_ok-children.ensures.children in
+    let below = items_recurse s xs cs found c.requires.lists c.requires.alike c.requires.formed in
+    let items = ap (λ xss. pick Null xss (expand c.deref-2.result.now)) below.rows ∙ ap (λ ps. pick Null (below_of cs) ps) (ap expand c.deref-2.ensures.value) ∙ c.in_ok-below.ensures.items in
+    let here = subst (λ l. IsLimitOrMemory (exceeded_taken s l (joined_items c.args.width (pick Null (rows_of cs) (expand c.args.runs.now)))) fault) found
+    (subst (λ l. IsLimitOrMemory (exceeded_taken s (map (λ x. x.now) xs) l) fault) items c.in_err-values.ensures.refusal) in
+    rw (p.1, p.2) here
+
+pub collect_items-returns-clause-rows : goal.collect_items-returns-clause-rows
+collect_items-returns-clause-rows t c =
+    let cs = c.args.sources.now in
+    let xs = c.deref.result.now in
+    let found = ap (map (λ x. x.now)) c.deref.ensures.value ∙ c.in_ok-children.ensures.children in
+    let below = items_recurse (type_of c.args.first.now) xs cs found c.requires.lists c.requires.alike c.requires.formed in
+    c.in_ok-values.ensures.rows ∙ ap (λ xss. pick Null xss (expand c.deref-2.result.now)) below.rows ∙ ap (λ ps. pick Null (below_of cs) ps) (ap expand c.deref-2.ensures.value) ∙ c.in_ok-below.ensures.items
+
+-- ---- struct rows
+
+pub collect_like-collect_structs-requires : goal.collect_like-collect_structs-requires
+collect_like-collect_structs-requires t c =
+    let fields = c.in-Struct.fields in
+    let same = c.deref-in-Struct.ensures.value in
+    let kind : type_of c.args.first.now ≡ of_struct (shapes_of (map type_of c.deref-in-Struct.result.now)) =
+    ap type_of c.in-Struct.is ∙ type_of-Struct c.in-Struct.len fields c.in-Struct.validity ∙ ap (λ l. of_struct (shapes_of (map type_of l))) (sym same)
+    in
+    let has = has_fields c.in-Struct.len fields c.in-Struct.validity (ap well_formed (sym c.in-Struct.is) ∙ c.requires.first) in
+    let firsts = subst (All (λ x. IsWellFormed x)) (sym same) (λ k d h. (has.fields k d h).1) in
+    (omega (arith, c.decreases, ap size_of kind), (firsts, ((λ k d h. c.requires.alike k d h ∙ kind), c.requires.may)))
+
+pub collect_like-returns-in-Struct-clause-dtype : goal.collect_like-returns-in-Struct-clause-dtype
+collect_like-returns-in-Struct-clause-dtype t c =
+    let kind : type_of c.args.first.now ≡ of_struct (shapes_of (map type_of c.deref-in-Struct.result.now)) =
+    ap type_of c.in-Struct.is ∙ type_of-Struct c.in-Struct.len c.in-Struct.fields c.in-Struct.validity ∙ ap (λ l. of_struct (shapes_of (map type_of l))) (sym c.deref-in-Struct.ensures.value)
+    in
+    rw kind c.collect_structs.ensures.dtype
+
+pub collect_like-returns-in-Struct-clause-within : goal.collect_like-returns-in-Struct-clause-within
+collect_like-returns-in-Struct-clause-within t c =
+    let kind : type_of c.args.first.now ≡ of_struct (shapes_of (map type_of c.deref-in-Struct.result.now)) =
+    ap type_of c.in-Struct.is ∙ type_of-Struct c.in-Struct.len c.in-Struct.fields c.in-Struct.validity ∙ ap (λ l. of_struct (shapes_of (map type_of l))) (sym c.deref-in-Struct.ensures.value)
+    in
+    rw kind c.collect_structs.ensures.within
+
+pub collect_like-returns-in-Struct-clause-refusal : goal.collect_like-returns-in-Struct-clause-refusal
+collect_like-returns-in-Struct-clause-refusal t c =
+    let kind : type_of c.args.first.now ≡ of_struct (shapes_of (map type_of c.deref-in-Struct.result.now)) =
+    ap type_of c.in-Struct.is ∙ type_of-Struct c.in-Struct.len c.in-Struct.fields c.in-Struct.validity ∙ ap (λ l. of_struct (shapes_of (map type_of l))) (sym c.deref-in-Struct.ensures.value)
+    in
+    rw kind c.collect_structs.ensures.refusal
+
+pub collect_fields-loop-j-init : goal.collect_fields-loop-j-init
+collect_fields-loop-j-init t c =
+    let none : c.in_ok-fields.fields.items ≡ [] = c.in_ok-fields.ensures.items in
+    record { parts = ap (map rows) none; dtypes = ap (map type_of) none; formed = subst (All (IsField c.args.len)) (sym none) (λ k d h. absurd (omega (arith, h))); within = λ k h limit past. absurd (omega (arith, h)) }
+
+pub collect_fields-collect_like-requires : goal.collect_fields-collect_like-requires
+collect_fields-collect_like-requires t c =
+    let cs = c.args.sources.now in
+    let xs = c.deref.result.now in
+    let j = c.loop-j.j in
+    let ss = shapes_of (map type_of c.args.firsts.now) in
+    let f = c.index-firsts-j.result in
+    let shapes = listed_shapes (map type_of c.args.firsts.now) in
+    let inside : j < length (shape_list ss) = omega (arith, c.loop-j-test.true, ap length shapes, length-map c.args.firsts.now type_of) in
+    let found = ap (map (λ x. x.now)) c.deref.ensures.value ∙ c.in_ok-columns.ensures.fields in
+    let kind : get_or (shape_list ss) j of_null ≡ type_of f = field_kind c.args.firsts.now j f c.loop-j-test.true c.index-firsts-j.is in
+    let alike = found_all (field j) (λ x. type_of x ≡ type_of f) xs cs found (λ k d h. field_type (get_or cs k d).now ss j of_null (c.requires.alike k d h) inside ∙ kind) in
+    let formed = found_all (field j) (λ x. well_formed x ≡ true) xs cs found (λ k d h. (field_formed (get_or cs k d).now ss j (c.requires.alike k d h) (c.requires.may.formed k d h) inside).1) in
+    let rows_found = found_map (field j) rows xs cs found in
+    let runs = ap expand c.deref-in-loop-j.ensures.value ∙ c.in_ok-split.ensures.picks in
+    let there = parts_fit ss j inside cs c.requires.alike c.requires.may.formed (expand c.args.runs.now) c.requires.may.fits in
+    let fits = subst (λ xss. All (PickFits xss) (expand c.deref-in-loop-j.result.now)) (sym rows_found) (subst (All (PickFits (field_rows j cs))) (sym runs) there) in
+    let count = ap length runs ∙ length-map (expand c.args.runs.now) (cleared (rows_of c.args.sources.now)) ∙ c.requires.may.len in
+    let first = subst (λ x. IsWellFormed x) (sym c.index-firsts-j.is) (All-get_or (λ x. IsWellFormed x) c.args.firsts.now j f c.loop-j-test.true c.requires.firsts) in
+    (omega (arith, c.decreases, one_size type_of c.args.firsts.now j f c.loop-j-test.true c.index-firsts-j.is), (first, (alike, record { formed = formed; fits = fits; len = count; few = c.requires.may.few })))
+
+pub collect_fields-returns-in_err-field-clause-refusal : goal.collect_fields-returns-in_err-field-clause-refusal
+collect_fields-returns-in_err-field-clause-refusal t c =
+    let cs = c.args.sources.now in
+    let xs = c.deref.result.now in
+    let j = c.loop-j.j in
+    let firsts = map type_of c.args.firsts.now in
+    let ss = shapes_of firsts in
+    let f = c.index-firsts-j.result in
+    let shapes = listed_shapes firsts in
+    let inside : j < length (shape_list ss) = omega (arith, c.loop-j-test.true, ap length shapes, length-map c.args.firsts.now type_of) in
+    let p = err_from_is_err_and c.from_residual-in_err-field.result c.from_residual-in_err-field.ensures.1 in
+    let found = ap (map (λ x. x.now)) c.deref.ensures.value ∙ c.in_ok-columns.ensures.fields in
+    let kind : get_or (shape_list ss) j of_null ≡ type_of f = field_kind c.args.firsts.now j f c.loop-j-test.true c.index-firsts-j.is in
+    let columns = found ∙ mapped_now (field j) cs in
+    let parts = ap (λ xss. pick Null xss (expand c.deref-in-loop-j.result.now)) (found_map (field j) rows xs cs found)
+    ∙ ap (λ ps. pick Null (field_rows j cs) ps) (ap expand c.deref-in-loop-j.ensures.value ∙ c.in_ok-split.ensures.picks) ∙ picked_parts ss j inside cs c.requires.alike (expand c.args.runs.now) in
+    let vs = pick Null (rows_of c.args.sources.now) (expand c.args.runs.now) in
+    let fault = c.in_err-field.field-0.0 in
+    let one = subst (λ l. IsLimitOrMemory (exceeded_taken (type_of f) l (map (part_at j) vs)) fault) columns
+    (subst (λ l. IsLimitOrMemory (exceeded_taken (type_of f) (map (λ x. x.now) xs) l) fault) parts c.in_err-field.ensures.refusal) in
+    let here = subst (λ s. IsLimitOrMemory (exceeded_taken s (map (field j) (map (λ x. x.now) cs)) (map (part_at j) vs)) fault) (sym kind ∙ ap (λ l. get_or l j of_null) shapes) one in
+    let many : j < length firsts = omega (arith, c.loop-j-test.true, length-map c.args.firsts.now type_of) in
+    let place : 0 + j ≡ j = omega arith in
+    rw (p.1, p.2) (refused_more _ _ fault
+    (λ limit h. past_at firsts 0 j of_null (map (λ x. x.now) cs) vs limit many (subst (λ n. exceeded_taken (get_or firsts j of_null) (map (field n) (map (λ x. x.now) cs)) (map (part_at n) vs) limit) (sym place) h)) here)
+
+pub collect_fields-loop-j-preserved : goal.collect_fields-loop-j-preserved
+collect_fields-loop-j-preserved t c =
+    let cs = c.args.sources.now in
+    let xs = c.deref.result.now in
+    let j = c.loop-j.j in
+    let ss = shapes_of (map type_of c.args.firsts.now) in
+    let shapes = listed_shapes (map type_of c.args.firsts.now) in
+    let inside : j < length (shape_list ss) = omega (arith, c.loop-j-test.true, ap length shapes, length-map c.args.firsts.now type_of) in
+    let found = ap (map (λ x. x.now)) c.deref.ensures.value ∙ c.in_ok-columns.ensures.fields in
+    let vs = pick Null (rows_of c.args.sources.now) (expand c.args.runs.now) in
+    let one = c.in_ok-field.field in
+    let old = c.loop-j.fields.items in
+    let part : rows one ≡ map (part_at j) vs =
+    c.in_ok-field.ensures.rows ∙ ap (λ xss. pick Null xss (expand c.deref-in-loop-j.result.now)) (found_map (field j) rows xs cs found)
+    ∙ ap (λ ps. pick Null (field_rows j cs) ps) (ap expand c.deref-in-loop-j.ensures.value ∙ c.in_ok-split.ensures.picks) ∙ picked_parts ss j inside cs c.requires.alike (expand c.args.runs.now)
+    in
+    let long : row_count one ≡ c.args.len = sym (length-rows one) ∙ ap length part ∙ length-map vs (part_at j) ∙ length-pick Null (rows_of c.args.sources.now) (expand c.args.runs.now) ∙ c.requires.may.len in
+    let new : c.push.new.self.items ≡ old ++ one ∷ [] = c.in_ok-push.ensures.items in
+    let firsts = map type_of c.args.firsts.now in
+    let columns = columns_of cs in
+    let f = c.index-firsts-j.result in
+    let kind : get_or (shape_list ss) j of_null ≡ type_of f = field_kind c.args.firsts.now j f c.loop-j-test.true c.index-firsts-j.is in
+    let taken = subst (λ l. ExceedsNone (exceeded_taken (type_of f) l (map (part_at j) vs))) (found ∙ mapped_now (field j) cs)
+    (subst (λ l. ExceedsNone (exceeded_taken (type_of f) (map (λ x. x.now) xs) l)) (sym c.in_ok-field.ensures.rows ∙ part) c.in_ok-field.ensures.within) in
+    let here = subst (λ s. ExceedsNone (exceeded_taken s (map (field j) columns) (map (part_at j) vs))) (sym kind ∙ ap (λ l. get_or l j of_null) shapes) taken in
+    record {
+      parts = parts_more j vs (map rows old) (map rows c.push.new.self.items) (rows one) c.loop-j.invariant.parts (ap (map rows) new ∙ map-append rows old (one ∷ [])) part;
+      dtypes = ap (map type_of) new ∙ map-append type_of old (one ∷ []) ∙ ap (λ l. l ++ type_of one ∷ []) c.loop-j.invariant.dtypes
+          ∙ ap (λ s. map type_of (take j c.args.firsts.now) ++ s ∷ []) (c.in_ok-field.ensures.dtype ∙ ap type_of c.index-firsts-j.is)
+          ∙ sym (map_more type_of c.args.firsts.now j _ c.loop-j-test.true);
+      formed = subst (All (IsField c.args.len)) (sym new) (All-push (IsField c.args.len) old one c.loop-j.invariant.formed (long, c.in_ok-field.ensures.formed));
+      within = one_more_passes firsts j columns vs c.loop-j.invariant.within here;
+    }
+
+pub collect_fields-returns-clause-parts : goal.collect_fields-returns-clause-parts
+collect_fields-returns-clause-parts t c =
+    let all : c.loop-j.j ≡ length c.args.firsts.now = omega (arith, c.loop-j-test.false, c.loop-j.auto.j-end) in
+    subst (λ n. map rows c.loop-j.fields.items ≡ parts_of n (pick Null (rows_of c.args.sources.now) (expand c.args.runs.now))) all c.loop-j.invariant.parts
+
+pub collect_fields-returns-clause-dtypes : goal.collect_fields-returns-clause-dtypes
+collect_fields-returns-clause-dtypes t c = c.loop-j.invariant.dtypes ∙ ap (map type_of) (take_all c.loop-j.j c.args.firsts.now (omega (arith, c.loop-j-test.false)))
+
+pub collect_fields-returns-clause-formed : goal.collect_fields-returns-clause-formed
+collect_fields-returns-clause-formed t c = c.loop-j.invariant.formed
+
+-- ---- a returned column exceeds no limit
+
+pub collect_like-returns-in-BinaryView-clause-within : goal.collect_like-returns-in-BinaryView-clause-within
+collect_like-returns-in-BinaryView-clause-within t c = rw c.in-BinaryView.is c.collect_binview.ensures.within
+
+pub collect_like-returns-in-Utf8View-clause-within : goal.collect_like-returns-in-Utf8View-clause-within
+collect_like-returns-in-Utf8View-clause-within t c = rw c.in-Utf8View.is c.collect_utf8view.ensures.within
+
+pub collect_like-returns-in-FixedSizeList-clause-within : goal.collect_like-returns-in-FixedSizeList-clause-within
+collect_like-returns-in-FixedSizeList-clause-within t c = rw (c.in-FixedSizeList.is, sym c.deref-in-FixedSizeList.ensures) c.collect_blocks.ensures.within
+
+pub collect_blocks-returns-clause-within : goal.collect_blocks-returns-clause-within
+collect_blocks-returns-clause-within t c =
+    let items = joined_items c.args.size (picked c.args.sources.now c.args.runs.now) in
+    let s = type_of c.args.child.now in
+    let columns = columns_of c.args.sources.now in
+    let below = subst (λ l. ExceedsNone (exceeded_taken s l items)) (mapped_now child c.args.sources.now) c.in_ok-values.ensures.within in
+    passes_neither (ExceedsRows (length items)) (exceeded_taken s (map child columns) items) (few_rows_pass (length items) (omega (arith, c.count_items-need.ensures, c.if-need.false))) below
+
+pub collect_items-returns-clause-within : goal.collect_items-returns-clause-within
+collect_items-returns-clause-within t c =
+    let cs = c.args.sources.now in
+    let xs = c.deref.result.now in
+    let s = type_of c.args.first.now in
+    let found = ap (map (λ x. x.now)) c.deref.ensures.value ∙ c.in_ok-children.ensures.children in
+    let below = items_recurse s xs cs found c.requires.lists c.requires.alike c.requires.formed in
+    let items = ap (λ xss. pick Null xss (expand c.deref-2.result.now)) below.rows ∙ ap (λ ps. pick Null (below_of cs) ps) (ap expand c.deref-2.ensures.value) ∙ c.in_ok-below.ensures.items in
+    subst (λ l. ExceedsNone (exceeded_taken s l (joined_items c.args.width (picked cs c.args.runs.now)))) found
+    (subst (λ l. ExceedsNone (exceeded_taken s (map (λ x. x.now) xs) l)) items c.in_ok-values.ensures.within)
+
+pub collect_fields-returns-clause-within : goal.collect_fields-returns-clause-within
+collect_fields-returns-clause-within t c =
+    let firsts = map type_of c.args.firsts.now in
+    let columns = columns_of c.args.sources.now in
+    let vs = picked c.args.sources.now c.args.runs.now in
+    fields_pass firsts 0 columns vs
+    (λ k below. let place : k ≡ 0 + k = omega arith in
+    subst (λ n. ExceedsNone (exceeded_taken (get_or firsts k of_null) (map (field n) columns) (map (part_at n) vs))) place
+    (c.loop-j.invariant.within k (omega (arith, below, length-map c.args.firsts.now type_of, c.loop-j-test.false))))

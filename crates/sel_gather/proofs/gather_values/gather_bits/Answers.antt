@@ -1,0 +1,31 @@
+use Rattle.std.proofs.Common.{◌≤◌, ◌+◌, length, map, arith}
+use Rattle.std.specs.Option.{option_copied}
+use Rattle.sel_gather.specs.Plans.{HasBit}
+use Rattle.sel_gather.proofs.Gathers.{word_lt, words_more, left_all, left_length, left_behind}
+use Rattle.sel_gather.proofs.gather_values.gather_bits.Goals as goal
+
+pub word_of_picks-requires-clause-fits : goal.word_of_picks-requires-clause-fits
+word_of_picks-requires-clause-fits g c =
+    left_all (HasBit (map option_copied c.args.maps.now)) (g.P.Plan.picks c.args.plan.now) _ c.loop-at.at c.loop-at.invariant.rest c.requires
+
+pub word_of_picks-requires-clause-inside : goal.word_of_picks-requires-clause-inside
+word_of_picks-requires-clause-inside g c =
+    let left = left_length (g.P.Plan.picks c.args.plan.now) (g.P.Plan.picks c.loop-at.rest) c.loop-at.at c.loop-at.invariant.rest (omega (arith, c.len-len.ensures.len, c.loop-at.invariant.within)) in
+    omega (arith, left, c.len-len.ensures.len, c.min-count.ensures)
+
+pub append-requires-clause-fits : goal.append-requires-clause-fits
+append-requires-clause-fits g c =
+    let vs = map option_copied c.args.maps.now in
+    let left = left_length (g.P.Plan.picks c.args.plan.now) (g.P.Plan.picks c.loop-at.rest) c.loop-at.at c.loop-at.invariant.rest (omega (arith, c.len-len.ensures.len, c.loop-at.invariant.within)) in
+    word_lt vs (g.P.Plan.picks c.loop-at.rest) c.min-count.result c.word_of_picks.result (omega (arith, left, c.len-len.ensures.len, c.min-count.ensures)) c.word_of_picks.ensures.word
+
+pub loop-at-preserved : goal.loop-at-preserved
+loop-at-preserved g c =
+    let vs = map option_copied c.args.maps.now in
+    let ps = g.P.Plan.picks c.args.plan.now in
+    let inside : c.loop-at.at + c.min-count.result ≤ length ps = omega (arith, c.len-len.ensures.len, c.min-count.ensures, c.loop-at-test.true) in
+    record {
+      bits = words_more vs ps (g.P.Plan.picks c.loop-at.rest) c.loop-at.bits c.append.new.self c.loop-at.at c.min-count.result c.word_of_picks.result c.loop-at.invariant.rest inside c.word_of_picks.ensures.word c.loop-at.invariant.bits c.in_ok-append.ensures.appended;
+      rest = left_behind ps (g.P.Plan.picks c.loop-at.rest) _ c.loop-at.at c.min-count.result c.loop-at.invariant.rest c.word_of_picks.ensures.rest;
+      within = omega (arith, c.min-count.ensures, c.loop-at-test.true);
+    }

@@ -1,0 +1,14 @@
+use Rattle.std.proofs.Common.{◌≡◌, ◌≤◌, ◌-◌, take, drop, map}
+use Rattle.std.specs.Option.{option_copied}
+use Rattle.sel_gather.specs.Plans.{bits_found}
+use Rattle.sel_gather.proofs.gather_values.gather_bits.Given as goal
+
+abbrev pub invariant-loop-at : goal.invariant-loop-at
+invariant-loop-at g l = record {
+  bits : l.bits ≡ take l.at (bits_found (map option_copied l.maps) (g.P.Plan.picks l.plan));
+  rest : g.P.Plan.picks l.rest ≡ drop l.at (g.P.Plan.picks l.plan);
+  within : l.at ≤ l.len;
+}
+
+abbrev pub decreases-loop-at : goal.decreases-loop-at
+decreases-loop-at g l = l.len - l.at

@@ -1,0 +1,12 @@
+-- The row references so far pass the test.
+use Rattle.std.proofs.Common.{map}
+use Rattle.std.specs.Option.{option_copied}
+use Rattle.sel_gather.specs.Plans.{HasBit}
+use Rattle.sel_gather.proofs.PlanTests.{IsTested}
+use Rattle.sel_gather.proofs.gather_values.plan_has_bits.Given as goal
+
+abbrev pub invariant-loop-left : goal.invariant-loop-left
+invariant-loop-left g l = IsTested (HasBit (map option_copied l.maps)) (g.P.Plan.picks l.plan) (g.P.Plan.picks l.rest) l.left
+
+abbrev pub decreases-loop-left : goal.decreases-loop-left
+decreases-loop-left g l = l.left

@@ -1,7 +1,0 @@
-use Rattle.std.proofs.Common.{◌≡◌, take, map}
-use Rattle.sel_arrow.specs.Columns.{binary_rows}
-use Rattle.sel_arrow.specs.Rows.{rows}
-use Rattle.sel_gather.proofs.kinds.binaries_of.Given as goal
-
-abbrev pub invariant-loop-source : goal.invariant-loop-source
-invariant-loop-source l = map (λ s. binary_rows s.now) l.found.items ≡ map (λ c. rows c.now) (take l.source-index l.sources)

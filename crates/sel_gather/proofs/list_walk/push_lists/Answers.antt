@@ -1,0 +1,54 @@
+use Rattle.std.proofs.Common.{◌≡◌, ◌∙◌, ◌++◌, ◌∷◌, [], ◌+◌, ◌<◌, arith, ap, sym, map, pos, w64, length, length-append, take, refl}
+use Rattle.std.proofs.lemmas.Int.{to_z_pos}
+use Rattle.sel_arrow.specs.Value.{Null}
+use Rattle.sel_gather.specs.Children.{joined_items}
+use Rattle.sel_gather.specs.Ends.{item_ends}
+use Rattle.sel_gather.specs.Picks.{pick}
+use Rattle.sel_gather.specs.Runs.{expand, unrolled}
+use Rattle.sel_gather.proofs.ItemRuns.{rows_of, below_of, counted_row, joined_part, ends_more, items_more, pushed_fit, all_rows}
+use Rattle.sel_gather.proofs.RunLists.{length-pick}
+use Rattle.sel_gather.proofs.list_walk.push_lists.Goals as goal
+
+pub put_run-requires : goal.put_run-requires
+put_run-requires c =
+    let xss = rows_of c.args.sources.now in
+    let yss = below_of c.args.sources.now in
+    let items = joined_items 0 (take c.loop-i.i (pick Null xss (unrolled c.args.run))) in
+    let long = sym (length-pick Null yss (expand (c.loop-i.below.items ++ c.loop-i.last ∷ []))) ∙ ap length c.loop-i.invariant.items ∙ length-append (pick Null yss (expand (c.args.below.now.items ++ c.args.last.now ∷ []))) items in
+    omega (arith, long, length-pick Null yss (expand (c.args.below.now.items ++ c.args.last.now ∷ [])), c.requires.count, c.loop-i.invariant.count)
+
+pub loop-i-preserved : goal.loop-i-preserved
+loop-i-preserved c =
+    let xss = rows_of c.args.sources.now in
+    let yss = below_of c.args.sources.now in
+    let rows = pick Null xss (unrolled c.args.run) in
+    let one = c.run_of_row-one.result in
+    let counted = counted_row 0 yss xss c.args.run one c.loop-i.i _ c.loop-i-test.true c.run_of_row-one.ensures.items refl in
+    let end = c.loop-i.end + one.len in
+    let is : end ≡ c.args.start + length (joined_items 0 (take (c.loop-i.i + 1) rows)) = omega (arith, counted, c.loop-i.invariant.count) in
+    let small : end < 9223372036854775808 = omega arith in
+    record {
+      count = is;
+      ends = ends_more xss c.args.run c.loop-i.i c.args.start end c.args.ends.now.items c.loop-i.ends.items c.push.new.self.items _ c.loop-i-test.true is (to_z_pos w64 end small) c.loop-i.invariant.ends c.in_ok-push.ensures.items;
+      items = items_more 0 yss xss (c.args.below.now.items ++ c.args.last.now ∷ []) (c.loop-i.below.items ++ c.loop-i.last ∷ []) (c.put_run.new.runs.items ++ c.put_run.new.last ∷ []) c.args.run one c.loop-i.i c.loop-i-test.true c.in_ok-put_run.ensures.picks c.loop-i.invariant.items c.run_of_row-one.ensures.items;
+      sound = pushed_fit yss (c.loop-i.below.items ++ c.loop-i.last ∷ []) (c.put_run.new.runs.items ++ c.put_run.new.last ∷ []) one c.in_ok-put_run.ensures.picks c.loop-i.invariant.sound c.run_of_row-one.ensures.fits;
+    }
+
+pub returns-clause-ends : goal.returns-clause-ends
+returns-clause-ends c =
+    c.loop-i.invariant.ends ∙ ap (λ l. c.args.ends.now.items ++ l) (all_rows (λ l. map pos (item_ends c.args.start l)) (rows_of c.args.sources.now) c.args.run c.loop-i.i c.loop-i-test.false)
+
+pub returns-clause-items : goal.returns-clause-items
+returns-clause-items c =
+    c.loop-i.invariant.items ∙ ap (λ l. pick Null (below_of c.args.sources.now) (expand (c.args.below.now.items ++ c.args.last.now ∷ [])) ++ l) (all_rows (joined_items 0) (rows_of c.args.sources.now) c.args.run c.loop-i.i c.loop-i-test.false)
+
+pub returns-clause-end : goal.returns-clause-end
+returns-clause-end c =
+    c.loop-i.invariant.count ∙ all_rows (λ l. c.args.start + length (joined_items 0 l)) (rows_of c.args.sources.now) c.args.run c.loop-i.i c.loop-i-test.false
+
+pub returns-then-one-end-clause-refusal : goal.returns-then-one-end-clause-refusal
+returns-then-one-end-clause-refusal c =
+    let xss = rows_of c.args.sources.now in
+    let rows = pick Null xss (unrolled c.args.run) in
+    let counted = counted_row 0 (below_of c.args.sources.now) xss c.args.run c.run_of_row-one.result c.loop-i.i _ c.loop-i-test.true c.run_of_row-one.ensures.items refl in
+    omega (arith, counted, c.loop-i.invariant.count, joined_part 0 rows (c.loop-i.i + 1), c.if-one-end.true)

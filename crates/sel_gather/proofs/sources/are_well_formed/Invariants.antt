@@ -1,7 +1,0 @@
--- The sources so far are well-formed.
-use Rattle.std.proofs.Common.{All, take}
-use Rattle.sel_arrow.specs.Rows.{IsWellFormed}
-use Rattle.sel_gather.proofs.sources.are_well_formed.Given as goal
-
-abbrev pub invariant-loop-source : goal.invariant-loop-source
-invariant-loop-source l = All (λ c. IsWellFormed c.now) (take l.source-index l.sources)

@@ -1,0 +1,343 @@
+//! Copies rows from several columns of one type, by runs, level by level.
+
+ghost use Rattle.std.specs.Prelude.{◌≡◌, ◌≤◌, ◌<◌, All, length, map, pos, true, IfOk, IfErr};
+ghost use Rattle.sel_bits.specs.Limits.{max_rows};
+ghost use Rattle.sel_arrow.specs.Rows.{rows, type_of, IsField, IsWellFormed};
+ghost use Rattle.sel_arrow.specs.Shape.{of_large_binary, of_binary_view, of_utf8_view, of_large_list, of_fixed_size_list, of_struct, shapes_of};
+ghost use Rattle.sel_arrow.specs.Value.{Null};
+ghost use Rattle.sel_gather.specs.Children.{child, is_listing, joined_items};
+ghost use Rattle.sel_gather.specs.Steps.{parts_of};
+ghost use Rattle.sel_gather.specs.Need.{ExceedsBuffers, ExceedsBytes, IsLimitOrMemory, ExceedsNone, buffers_joined, exceeded_in_fields, exceeded_taken};
+ghost use Rattle.sel_gather.specs.Picks.{PickFits};
+ghost use Rattle.sel_gather.specs.Runs.{expand};
+ghost use Rattle.sel_gather.specs.Gathers.{MayGather};
+ghost use Rattle.sel_gather.specs.Sources.{columns_of, first_type, picked, rows_of};
+
+use crate::binary::collect_binary;
+use crate::boolean::collect_boolean;
+use crate::list_walk::walk_runs;
+use crate::lists::{child_runs, children_of, count_items};
+use crate::nested::{blocks_over, lists_over, struct_over};
+use crate::null::collect_null;
+use crate::primitive::collect_primitive;
+use crate::runs::Run;
+use crate::structs::{fields_at, split_runs};
+use crate::typed_arrays::{binaries_of, texts_of, views_of};
+use crate::view::collect_views;
+use sel_arrow::column::Column;
+use sel_arrow::null::NullArray;
+use sel_arrow::utf8view::Utf8ViewArray;
+use sel_bits::faults::{Limit, PolarsError, PolarsResult};
+use std::alloc::Global;
+
+/// Returns the rows of `sources` that `runs` refer to, in order; a run without a source gives null
+/// rows.
+///
+/// # Requires
+/// There is at least one source, and all sources have the type of the first (check with
+/// `are_alike`) and are well-formed (check with `are_well_formed`). Every run is within the rows of
+/// its source (check with `runs_fit`). The runs have `len` rows in total (`picked_rows`), at most
+/// 2^32 - 1.
+///
+/// # Errors
+/// Those of [`collect_rows`].
+pub fn collect_runs<'a>(
+    alloc: Global,
+    sources: &'a [&'a Column],
+    runs: &[Run],
+    len: usize,
+) -> PolarsResult<Column>
+    requires some { 0 < length sources.now }
+    requires alike { All (λ c. type_of c.now ≡ first_type (columns_of sources.now)) sources.now }
+    requires may { MayGather sources.now (expand runs.now) len }
+    ensures rows { IfOk result (λ column. rows column ≡ picked sources.now runs.now) }
+    ensures dtype { IfOk result (λ column. type_of column ≡
+        first_type (columns_of sources.now)) }
+    ensures formed { IfOk result (λ column. IsWellFormed column) }
+    ensures within { IfOk result
+        (λ _. ExceedsNone (exceeded_taken (first_type (columns_of sources.now))
+        (columns_of sources.now) (picked sources.now runs.now))) }
+    ensures refusal { IfErr result
+        (IsLimitOrMemory (exceeded_taken (first_type (columns_of sources.now))
+        (columns_of sources.now) (picked sources.now runs.now))) }
+{
+    let first: &Column = sources[0];
+    collect_like(alloc, first, sources, runs, len)
+}
+
+// Returns the rows of columns of the type of `first` that runs refer to, `len` in total.
+#[cycle(collecting)]
+fn collect_like<'a>(
+    alloc: Global,
+    first: &Column,
+    sources: &'a [&'a Column],
+    runs: &[Run],
+    len: usize,
+) -> PolarsResult<Column>
+    requires first { IsWellFormed first.now }
+    requires alike { All (λ c. type_of c.now ≡ type_of first.now) sources.now }
+    requires may { MayGather sources.now (expand runs.now) len }
+    ensures rows { IfOk result (λ column. rows column ≡ picked sources.now runs.now) }
+    ensures dtype { IfOk result (λ column. type_of column ≡ type_of first.now) }
+    ensures formed { IfOk result (λ column. IsWellFormed column) }
+    ensures within { IfOk result
+        (λ _. ExceedsNone (exceeded_taken (type_of first.now) (columns_of sources.now)
+        (picked sources.now runs.now))) }
+    ensures refusal { IfErr result
+        (IsLimitOrMemory (exceeded_taken (type_of first.now) (columns_of sources.now)
+        (picked sources.now runs.now))) }
+{
+    match first {
+        Column::Null(_) => Ok(collect_null(sources, runs, len)),
+        Column::Boolean(_) => collect_boolean(alloc, sources, runs, len),
+        Column::Int8(_) => collect_primitive::<i8>(alloc, sources, runs, len),
+        Column::Int16(_) => collect_primitive::<i16>(alloc, sources, runs, len),
+        Column::Int32(_) => collect_primitive::<i32>(alloc, sources, runs, len),
+        Column::Int64(_) => collect_primitive::<i64>(alloc, sources, runs, len),
+        Column::Int128(_) => collect_primitive::<i128>(alloc, sources, runs, len),
+        Column::UInt8(_) => collect_primitive::<u8>(alloc, sources, runs, len),
+        Column::UInt16(_) => collect_primitive::<u16>(alloc, sources, runs, len),
+        Column::UInt32(_) => collect_primitive::<u32>(alloc, sources, runs, len),
+        Column::UInt64(_) => collect_primitive::<u64>(alloc, sources, runs, len),
+        Column::UInt128(_) => collect_primitive::<u128>(alloc, sources, runs, len),
+        Column::LargeBinary(_) => collect_large_binary(alloc, sources, runs, len),
+        Column::BinaryView(_) => collect_binview(alloc, sources, runs, len),
+        Column::Utf8View(_) => collect_utf8view(alloc, sources, runs, len),
+        Column::LargeList { values, .. } => collect_lists(alloc, values, sources, runs, len),
+        Column::FixedSizeList { size, values, .. } => {
+            collect_blocks(alloc, *size, values, sources, runs, len)
+        }
+        Column::Struct { fields, .. } => collect_structs(alloc, fields, sources, runs, len),
+    }
+}
+
+// Returns the lists that runs refer to; `child` has the type of their items.
+#[cycle(collecting)]
+fn collect_lists<'a>(
+    alloc: Global,
+    child: &Column,
+    sources: &'a [&'a Column],
+    runs: &[Run],
+    len: usize,
+) -> PolarsResult<Column>
+    requires child { IsWellFormed child.now }
+    requires alike { All (λ c. type_of c.now ≡ of_large_list (type_of child.now)) sources.now }
+    requires may { MayGather sources.now (expand runs.now) len }
+    ensures rows { IfOk result (λ column. rows column ≡ picked sources.now runs.now) }
+    ensures dtype { IfOk result (λ column. type_of column ≡ of_large_list (type_of child.now)) }
+    ensures formed { IfOk result (λ column. IsWellFormed column) }
+    ensures within { IfOk result
+        (λ _. ExceedsNone (exceeded_taken (of_large_list (type_of child.now))
+        (columns_of sources.now) (picked sources.now runs.now))) }
+    ensures refusal { IfErr result
+        (IsLimitOrMemory (exceeded_taken (of_large_list (type_of child.now))
+        (columns_of sources.now) (picked sources.now runs.now))) }
+{
+    let (ends, below, need) = walk_runs(alloc, sources, runs, len)?;
+    let children = children_of(alloc, sources)?;
+    let values = collect_like(alloc, child, &children, &below, need)?;
+    let column = lists_over(alloc, values, ends, sources, runs, len)?;
+    Ok(column)
+}
+
+// Returns the fixed-size lists that runs refer to; `child` has the type of their items.
+#[cycle(collecting)]
+fn collect_blocks<'a>(
+    alloc: Global,
+    size: usize,
+    child: &Column,
+    sources: &'a [&'a Column],
+    runs: &[Run],
+    len: usize,
+) -> PolarsResult<Column>
+    requires narrow { size ≤ max_rows }
+    requires child { IsWellFormed child.now }
+    requires alike { All (λ c. type_of c.now ≡
+        of_fixed_size_list (type_of child.now) size) sources.now }
+    requires may { MayGather sources.now (expand runs.now) len }
+    ensures rows { IfOk result (λ column. rows column ≡ picked sources.now runs.now) }
+    ensures dtype { IfOk result (λ column. type_of column ≡
+        of_fixed_size_list (type_of child.now) size) }
+    ensures formed { IfOk result (λ column. IsWellFormed column) }
+    ensures within { IfOk result (λ _. ExceedsNone (exceeded_taken (of_fixed_size_list
+        (type_of child.now) size) (columns_of sources.now) (picked sources.now runs.now))) }
+    ensures refusal { IfErr result (IsLimitOrMemory (exceeded_taken (of_fixed_size_list
+        (type_of child.now) size) (columns_of sources.now) (picked sources.now runs.now))) }
+{
+    let need = count_items(sources, runs, size as u32);
+    if need > u32::MAX as u128 {
+        return Err(PolarsError::SizeLimit(Limit::Rows));
+    }
+    let values = collect_items(alloc, child, sources, runs, size as u32, need as usize)?;
+    let column = blocks_over(alloc, size, values, sources, runs, len)?;
+    Ok(column)
+}
+
+// Returns the `need` items of the lists that runs refer to, and `width` nulls for each null list.
+//
+// The items have the type of `first`. For the null type the result is `need` nulls, and no runs are
+// built.
+#[cycle(collecting)]
+fn collect_items<'a>(
+    alloc: Global,
+    first: &Column,
+    sources: &'a [&'a Column],
+    runs: &[Run],
+    width: u32,
+    need: usize,
+) -> PolarsResult<Column>
+    requires first { IsWellFormed first.now }
+    requires lists { All (λ c. is_listing (type_of c.now) ≡ true) sources.now }
+    requires alike { All (λ c. type_of (child c.now) ≡ type_of first.now) sources.now }
+    requires formed { All (λ c. IsWellFormed c.now) sources.now }
+    requires fits { All (PickFits (rows_of sources.now)) (expand runs.now) }
+    requires need { need ≡ length (joined_items width (picked sources.now runs.now)) }
+    requires few { need ≤ max_rows }
+    ensures rows { IfOk result (λ column. rows column ≡
+        joined_items width (picked sources.now runs.now)) }
+    ensures dtype { IfOk result (λ column. type_of column ≡ type_of first.now) }
+    ensures formed { IfOk result (λ column. IsWellFormed column) }
+    ensures within { IfOk result (λ _. ExceedsNone (exceeded_taken (type_of first.now)
+        (map (λ c. child c.now) sources.now) (joined_items width (picked sources.now runs.now)))) }
+    ensures refusal { IfErr result (IsLimitOrMemory (exceeded_taken (type_of first.now)
+        (map (λ c. child c.now) sources.now) (joined_items width (picked sources.now runs.now)))) }
+{
+    if let Column::Null(_) = first {
+        return Ok(Column::Null(NullArray { length: need }));
+    }
+    let below = child_runs(alloc, sources, runs, width)?;
+    let children = children_of(alloc, sources)?;
+    let values = collect_like(alloc, first, &children, &below, need)?;
+    Ok(values)
+}
+
+// Returns the struct rows that runs refer to; `firsts` have the types of their fields.
+#[cycle(collecting)]
+fn collect_structs<'a>(
+    alloc: Global,
+    firsts: &[Column],
+    sources: &'a [&'a Column],
+    runs: &[Run],
+    len: usize,
+) -> PolarsResult<Column>
+    requires firsts { All (λ c. IsWellFormed c) firsts.now }
+    requires alike { All (λ c. type_of c.now ≡
+        of_struct (shapes_of (map type_of firsts.now))) sources.now }
+    requires may { MayGather sources.now (expand runs.now) len }
+    ensures rows { IfOk result (λ column. rows column ≡ picked sources.now runs.now) }
+    ensures dtype { IfOk result (λ column. type_of column ≡
+        of_struct (shapes_of (map type_of firsts.now))) }
+    ensures formed { IfOk result (λ column. IsWellFormed column) }
+    ensures within { IfOk result (λ _. ExceedsNone (exceeded_taken (of_struct (shapes_of
+        (map type_of firsts.now))) (columns_of sources.now) (picked sources.now runs.now))) }
+    ensures refusal { IfErr result (IsLimitOrMemory (exceeded_taken (of_struct (shapes_of
+        (map type_of firsts.now))) (columns_of sources.now) (picked sources.now runs.now))) }
+{
+    let fields = collect_fields(alloc, firsts, sources, runs, len)?;
+    let column = struct_over(alloc, fields, sources, runs, len)?;
+    Ok(column)
+}
+
+// Returns the fields of the struct rows that runs refer to; `firsts` have their types.
+#[cycle(collecting)]
+fn collect_fields<'a>(
+    alloc: Global,
+    firsts: &[Column],
+    sources: &'a [&'a Column],
+    runs: &[Run],
+    len: usize,
+) -> PolarsResult<Vec<Column>>
+    requires firsts { All (λ c. IsWellFormed c) firsts.now }
+    requires alike { All (λ c. type_of c.now ≡
+        of_struct (shapes_of (map type_of firsts.now))) sources.now }
+    requires may { MayGather sources.now (expand runs.now) len }
+    ensures parts { IfOk result (λ fields. map rows fields.items ≡
+        parts_of (length firsts.now) (picked sources.now runs.now)) }
+    ensures dtypes { IfOk result (λ fields. map type_of fields.items ≡ map type_of firsts.now) }
+    ensures formed { IfOk result (λ fields. All (IsField len) fields.items) }
+    ensures within { IfOk result (λ _. ExceedsNone
+        (exceeded_in_fields (shapes_of (map type_of firsts.now)) 0
+        (columns_of sources.now) (picked sources.now runs.now))) }
+    ensures refusal { IfErr result
+        (IsLimitOrMemory (exceeded_in_fields (shapes_of (map type_of firsts.now)) 0
+        (columns_of sources.now) (picked sources.now runs.now))) }
+{
+    let split = split_runs(alloc, sources, runs)?;
+    let count = firsts.len();
+    let mut fields = Vec::with_capacity(alloc, count)?;
+    for j in 0..count {
+        let columns = fields_at(alloc, sources, j)?;
+        let field = collect_like(alloc, &firsts[j], &columns, &split, len)?;
+        fields.push(field)?;
+    }
+    Ok(fields)
+}
+
+/// Returns the rows of binary columns that runs refer to.
+///
+/// First replaces null rows by runs of nulls, since a null slot may have value bytes.
+fn collect_large_binary<'a>(
+    alloc: Global,
+    sources: &'a [&'a Column],
+    runs: &[Run],
+    len: usize,
+) -> PolarsResult<Column>
+    requires alike { All (λ c. type_of c.now ≡ of_large_binary) sources.now }
+    requires may { MayGather sources.now (expand runs.now) len }
+    ensures rows { IfOk result (λ column. rows column ≡ picked sources.now runs.now) }
+    ensures dtype { IfOk result (λ column. type_of column ≡ of_large_binary) }
+    ensures formed { IfOk result (λ column. IsWellFormed column) }
+    ensures within { IfOk result (λ _. ExceedsNone
+        (ExceedsBytes (pos 9223372036854775807) (picked sources.now runs.now))) }
+    ensures refusal { IfErr result (IsLimitOrMemory
+        (ExceedsBytes (pos 9223372036854775807) (picked sources.now runs.now))) }
+{
+    let live = split_runs(alloc, sources, runs)?;
+    let found = binaries_of(alloc, sources)?;
+    let array = collect_binary(alloc, &found, &live, len)?;
+    Ok(Column::LargeBinary(array))
+}
+
+/// Returns the rows of binary view columns that runs refer to.
+fn collect_binview<'a>(
+    alloc: Global,
+    sources: &'a [&'a Column],
+    runs: &[Run],
+    len: usize,
+) -> PolarsResult<Column>
+    requires alike { All (λ c. type_of c.now ≡ of_binary_view) sources.now }
+    requires may { MayGather sources.now (expand runs.now) len }
+    ensures rows { IfOk result (λ column. rows column ≡ picked sources.now runs.now) }
+    ensures dtype { IfOk result (λ column. type_of column ≡ of_binary_view) }
+    ensures formed { IfOk result (λ column. IsWellFormed column) }
+    ensures within { IfOk result (λ _. ExceedsNone
+        (ExceedsBuffers (buffers_joined (columns_of sources.now)))) }
+    ensures refusal { IfErr result (IsLimitOrMemory
+        (ExceedsBuffers (buffers_joined (columns_of sources.now)))) }
+{
+    let found = views_of(alloc, sources)?;
+    let array = collect_views(alloc, &found, runs, len)?;
+    Ok(Column::BinaryView(array))
+}
+
+/// Returns the rows of string view columns that runs refer to.
+fn collect_utf8view<'a>(
+    alloc: Global,
+    sources: &'a [&'a Column],
+    runs: &[Run],
+    len: usize,
+) -> PolarsResult<Column>
+    requires alike { All (λ c. type_of c.now ≡ of_utf8_view) sources.now }
+    requires may { MayGather sources.now (expand runs.now) len }
+    ensures rows { IfOk result (λ column. rows column ≡ picked sources.now runs.now) }
+    ensures dtype { IfOk result (λ column. type_of column ≡ of_utf8_view) }
+    ensures formed { IfOk result (λ column. IsWellFormed column) }
+    ensures within { IfOk result (λ _. ExceedsNone
+        (ExceedsBuffers (buffers_joined (columns_of sources.now)))) }
+    ensures refusal { IfErr result (IsLimitOrMemory
+        (ExceedsBuffers (buffers_joined (columns_of sources.now)))) }
+{
+    let found = texts_of(alloc, sources)?;
+    let bytes = collect_views(alloc, &found, runs, len)?;
+    Ok(Column::Utf8View(Utf8ViewArray { bytes }))
+}

@@ -1,0 +1,123 @@
+//! Values without validity, copied run by run.
+
+ghost use Rattle.std.specs.Prelude.{◌≡◌, ◌↔◌, ◌≤◌, ◌+◌, ◌++◌, All, false, is_none, length, map, take, drop, IfOk, IfErr, OnOk};
+ghost use Rattle.sel_bits.specs.Faults.{IsOutOfMemory};
+ghost use Rattle.sel_bits.specs.Limits.{max_rows};
+ghost use Rattle.sel_gather.specs.Picks.{pick, PickFits};
+ghost use Rattle.sel_gather.specs.Runs.{expand, unrolled};
+
+use crate::gather_values::Part;
+use crate::repeat::push_values;
+use crate::row_refs::Plan;
+use crate::runs::Run;
+use sel_bits::faults::PolarsResult;
+use std::alloc::Global;
+
+// The run length up to which a copy moves this many values, a constant size, and truncates the
+// rest.
+const SHORT_RUN: usize = 8;
+
+/// Returns whether some run has no source.
+pub(crate) fn is_any_null(runs: &[Run]) -> bool
+    ensures { (result ≡ false) ↔ All (λ run. is_none run.source ≡ false) runs.now }
+{
+    runs.iter().any(|run| run.source.is_none())
+}
+
+/// Returns the values that runs refer to, `len` in total, and `zero` for runs without a source.
+/// Errors: `OutOfMemory`.
+pub(crate) fn copy_runs<T: Copy + Drop>(
+    alloc: Global,
+    parts: &[Part<T>],
+    runs: &[Run],
+    zero: T,
+    len: usize,
+) -> PolarsResult<Vec<T>>
+    requires fits { All (PickFits (map (λ s. s.values.now) parts.now)) (expand runs.now) }
+    requires few { length (expand runs.now) ≤ max_rows }
+    ensures values { IfOk result (λ values. values.items ≡
+        pick zero (map (λ s. s.values.now) parts.now) (expand runs.now)) }
+    ensures refusal { IfErr result IsOutOfMemory }
+{
+    // (includes room for the values that are truncated after the last run)
+    let mut values = Vec::with_capacity(alloc, len.saturating_add(SHORT_RUN))?;
+    for run in runs {
+        copy_run(&mut values, parts, *run, zero)?;
+    }
+    Ok(values)
+}
+
+/// Returns the values at the row references of a plan, copied by its runs, and `zero` for null
+/// references. Errors: `OutOfMemory`.
+pub(crate) fn copy_plan<P: Plan, T: Copy + Drop>(
+    alloc: Global,
+    plan: &P,
+    parts: &[Part<T>],
+    zero: T,
+) -> PolarsResult<Vec<T>>
+    requires { All (PickFits (map (λ s. s.values.now) parts.now)) (P.picks plan.now) }
+    ensures values { IfOk result (λ values. values.items ≡
+        pick zero (map (λ s. s.values.now) parts.now) (P.picks plan.now)) }
+    ensures refusal { IfErr result IsOutOfMemory }
+{
+    let len = plan.len();
+    let mut values = Vec::with_capacity(alloc, len + SHORT_RUN)?;
+    let mut rest = plan.again();
+    let mut at = 0;
+    while at < len {
+        let run = rest.next_run();
+        copy_run(&mut values, parts, run, zero)?;
+        at += run.len as usize;
+    }
+    Ok(values)
+}
+
+// Appends the values of a run, or `zero` for each row if it has no source. Errors: `OutOfMemory`.
+#[inline(always)]
+fn copy_run<T: Copy + Drop>(
+    values: &mut Vec<T>,
+    parts: &[Part<T>],
+    run: Run,
+    zero: T,
+) -> PolarsResult<()>
+    requires fits { All (PickFits (map (λ s. s.values.now) parts.now)) (unrolled run) }
+    requires room { length values.old.items + run.len ≤ max_rows }
+    ensures values { OnOk result (values.new.items ≡ values.old.items ++
+        pick zero (map (λ s. s.values.now) parts.now) (unrolled run)) }
+    ensures refusal { IfErr result IsOutOfMemory }
+{
+    if run.len == 0 {
+        return Ok(());
+    }
+    let len = run.len as usize;
+    match run.source {
+        None => push_values(values, zero, len),
+        Some(source) => {
+            let part = &parts[source as usize];
+            copy_part(values, part.values, run.start as usize, len)
+        }
+    }
+}
+
+// Appends the `len` values from `start` on. Errors: `OutOfMemory`.
+#[inline(always)]
+fn copy_part<T: Copy + Drop>(
+    values: &mut Vec<T>,
+    from: &[T],
+    start: usize,
+    len: usize,
+) -> PolarsResult<()>
+    requires { start + len ≤ length from.now }
+    ensures values { OnOk result (values.new.items ≡
+        values.old.items ++ take len (drop start from.now)) }
+    ensures refusal { IfErr result IsOutOfMemory }
+{
+    if len <= SHORT_RUN && from.len() - start >= SHORT_RUN {
+        let before = values.len();
+        values.extend_from_slice(&from[start..start + SHORT_RUN])?;
+        values.truncate(before + len);
+        return Ok(());
+    }
+    values.extend_from_slice(&from[start..start + len])?;
+    Ok(())
+}

@@ -1,0 +1,143 @@
+//! The offsets of gathered lists and the runs of their child rows, in one pass over the lists.
+
+ghost use Rattle.std.specs.Prelude.{◌≡◌, ◌≤◌, ◌<◌, ◌+◌, ◌++◌, ◌∷◌, [], true, pos, All, length, map, IfOk, IfErr, OnOk};
+ghost use Rattle.sel_bits.specs.Limits.{max_rows};
+ghost use Rattle.sel_arrow.specs.Rows.{rows, type_of, IsWellFormed};
+ghost use Rattle.sel_arrow.specs.Value.{Null};
+ghost use Rattle.sel_gather.specs.Children.{is_listing, joined_items};
+ghost use Rattle.sel_gather.specs.Ends.{item_ends};
+ghost use Rattle.sel_gather.specs.Need.{ExceedsRows, IsLimitOrMemory};
+ghost use Rattle.sel_gather.specs.Picks.{pick, PickFits};
+ghost use Rattle.sel_gather.specs.Runs.{expand, unrolled};
+ghost use Rattle.sel_gather.specs.Sources.{picked, rows_of};
+ghost use Rattle.sel_gather.specs.Steps.{child_rows};
+ghost use Rattle.sel_gather.specs.RunRows.{run_rows};
+
+use crate::lists::run_of_row;
+use crate::row_refs::Plan;
+use crate::runs::{Run, nulls_of, push_run, put_run};
+use sel_arrow::column::Column;
+use sel_bits::faults::{Limit, PolarsError, PolarsResult};
+use std::alloc::Global;
+
+// Returns the offsets of the lists at the row references of a plan, the runs of their items, and
+// the number of items.
+//
+// Errors: `OutOfMemory`; `SizeLimit(Limit::Rows)` if there are more than 2^32 - 1 items.
+pub fn walk_lists<P: Plan>(
+    alloc: Global,
+    sources: &[&Column],
+    plan: &P,
+) -> PolarsResult<(Vec<i64>, Vec<Run>, usize)>
+    requires lists { All (λ c. is_listing (type_of c.now) ≡ true) sources.now }
+    requires formed { All (λ c. IsWellFormed c.now) sources.now }
+    requires fits { All (PickFits (rows_of sources.now)) (P.picks plan.now) }
+    ensures ends { IfOk result (λ walk. walk.0.items ≡
+        map pos (0 ∷ item_ends 0 (pick Null (rows_of sources.now) (P.picks plan.now)))) }
+    ensures items { IfOk result (λ walk. pick Null (child_rows sources.now)
+        (expand walk.1.items) ≡
+        joined_items 0 (pick Null (rows_of sources.now) (P.picks plan.now))) }
+    ensures fits { IfOk result (λ walk. All
+        (PickFits (child_rows sources.now)) (expand walk.1.items)) }
+    ensures count { IfOk result (λ walk. length (expand walk.1.items) ≡ walk.2) }
+    ensures few { IfOk result (λ walk. walk.2 ≤ max_rows) }
+    ensures refusal { IfErr result (IsLimitOrMemory (ExceedsRows
+        (length (joined_items 0 (pick Null (rows_of sources.now) (P.picks plan.now)))))) }
+{
+    let len = plan.len();
+    let mut ends = Vec::with_capacity(alloc, len + 1)?;
+    ends.push(0)?;
+    let mut below = Vec::with_capacity(alloc, len)?;
+    let mut rest = plan.again();
+    let mut at = 0;
+    let mut last = nulls_of(0);
+    let mut end = 0;
+    while at < len {
+        let run = rest.next_run();
+        end = push_lists(&mut ends, &mut below, &mut last, sources, run, end)?;
+        at += run.len as usize;
+    }
+    push_run(&mut below, last)?;
+    Ok((ends, below, end as usize))
+}
+
+// Returns the offsets of the `len` lists that runs refer to, the runs of their items, and the
+// number of items.
+//
+// Errors: `OutOfMemory`; `SizeLimit(Limit::Rows)` if there are more than 2^32 - 1 items.
+pub fn walk_runs(
+    alloc: Global,
+    sources: &[&Column],
+    runs: &[Run],
+    len: usize,
+) -> PolarsResult<(Vec<i64>, Vec<Run>, usize)>
+    requires lists { All (λ c. is_listing (type_of c.now) ≡ true) sources.now }
+    requires formed { All (λ c. IsWellFormed c.now) sources.now }
+    requires fits { All (PickFits (rows_of sources.now)) (expand runs.now) }
+    requires few { len ≤ max_rows }
+    ensures ends { IfOk result (λ walk. walk.0.items ≡
+        map pos (0 ∷ item_ends 0 (picked sources.now runs.now))) }
+    ensures items { IfOk result (λ walk. pick Null (child_rows sources.now)
+        (expand walk.1.items) ≡ joined_items 0 (picked sources.now runs.now)) }
+    ensures fits { IfOk result (λ walk. All
+        (PickFits (child_rows sources.now)) (expand walk.1.items)) }
+    ensures count { IfOk result (λ walk. length (expand walk.1.items) ≡ walk.2) }
+    ensures few { IfOk result (λ walk. walk.2 ≤ max_rows) }
+    ensures refusal { IfErr result (IsLimitOrMemory (ExceedsRows
+        (length (joined_items 0 (picked sources.now runs.now))))) }
+{
+    let mut ends = Vec::with_capacity(alloc, len + 1)?;
+    ends.push(0)?;
+    let mut below = Vec::with_capacity(alloc, runs.len())?;
+    let mut last = nulls_of(0);
+    let mut end = 0;
+    for run in runs {
+        end = push_lists(&mut ends, &mut below, &mut last, sources, *run, end)?;
+    }
+    push_run(&mut below, last)?;
+    Ok((ends, below, end as usize))
+}
+
+// Appends the end offsets of the lists of a run and the runs of their items, the last of which is
+// stored in `last`. Returns the last offset.
+//
+// Errors: `OutOfMemory`; `SizeLimit(Limit::Rows)` if it would exceed 2^32 - 1.
+fn push_lists(
+    ends: &mut Vec<i64>,
+    below: &mut Vec<Run>,
+    last: &mut Run,
+    sources: &[&Column],
+    run: Run,
+    start: u32,
+) -> PolarsResult<u32>
+    requires lists { All (λ c. is_listing (type_of c.now) ≡ true) sources.now }
+    requires formed { All (λ c. IsWellFormed c.now) sources.now }
+    requires fits { All (PickFits (rows_of sources.now)) (unrolled run) }
+    requires sound { All (PickFits (child_rows sources.now))
+        (expand (below.old.items ++ last.old ∷ [])) }
+    requires count { length (expand (below.old.items ++ last.old ∷ [])) ≡ start }
+    ensures ends { OnOk result (ends.new.items ≡
+        ends.old.items ++ map pos (item_ends start (run_rows sources.now run))) }
+    ensures items { OnOk result
+        (pick Null (child_rows sources.now) (expand (below.new.items ++ last.new ∷ [])) ≡
+        pick Null (child_rows sources.now) (expand (below.old.items ++ last.old ∷ [])) ++
+        joined_items 0 (run_rows sources.now run)) }
+    ensures sound { OnOk result (All (PickFits (child_rows sources.now))
+        (expand (below.new.items ++ last.new ∷ []))) }
+    ensures end { IfOk result (λ end. end ≡
+        start + length (joined_items 0 (run_rows sources.now run))) }
+    ensures refusal { IfErr result (IsLimitOrMemory (ExceedsRows
+        (start + length (joined_items 0 (run_rows sources.now run))))) }
+{
+    let mut end = start;
+    for i in 0..run.len {
+        let one = run_of_row(sources, run, i, 0);
+        if one.len > u32::MAX - end {
+            return Err(PolarsError::SizeLimit(Limit::Rows));
+        }
+        end += one.len;
+        ends.push(end as i64)?;
+        put_run(below, last, one)?;
+    }
+    Ok(end)
+}
