@@ -2,7 +2,7 @@
 
 ghost use Rattle.std.specs.Prelude.{◌≡◌, ◌≤◌, ◌<◌, ◌+◌, ◌*◌, All, length};
 ghost use Rattle.sel_bits.specs.Limits.{max_rows};
-ghost use Rattle.polars_compute.specs.Lanes.{left_picks};
+ghost use Rattle.polars_compute.specs.Lanes.{left_picks, woven_picks};
 
 use sel_gather::row_refs::Plan;
 use sel_gather::runs::Run;
@@ -43,10 +43,7 @@ impl Woven<'_> {
     #[inline(always)]
     fn ready(&mut self)
         requires { 0 < self.old.left }
-        ensures picks { left_picks self.new.source self.new.at self.new.part self.new.lane
-            self.new.row self.new.below self.new.lanes.now ≡ left_picks self.old.source
-            self.old.at self.old.part self.old.lane self.old.row self.old.below
-            self.old.lanes.now }
+        ensures picks { woven_picks self.new ≡ woven_picks self.old }
         ensures some { 0 < self.new.part }
         ensures left { self.new.left ≡ self.old.left }
     {
@@ -66,10 +63,7 @@ impl Woven<'_> {
     fn turn_lane(&mut self)
         requires done { self.old.part ≡ 0 }
         requires inside { self.old.lane < length self.old.lanes.now }
-        ensures picks { left_picks self.new.source self.new.at self.new.part self.new.lane
-            self.new.row self.new.below self.new.lanes.now ≡ left_picks self.old.source
-            self.old.at self.old.part self.old.lane self.old.row self.old.below
-            self.old.lanes.now }
+        ensures picks { woven_picks self.new ≡ woven_picks self.old }
         ensures some { 0 < self.new.part }
         ensures left { self.new.left ≡ self.old.left }
     {
@@ -86,10 +80,7 @@ impl Woven<'_> {
         requires done { self.old.part ≡ 0 }
         requires end { self.old.lane ≡ length self.old.lanes.now }
         requires some { 0 < self.old.left }
-        ensures picks { left_picks self.new.source self.new.at self.new.part self.new.lane
-            self.new.row self.new.below self.new.lanes.now ≡ left_picks self.old.source
-            self.old.at self.old.part self.old.lane self.old.row self.old.below
-            self.old.lanes.now }
+        ensures picks { woven_picks self.new ≡ woven_picks self.old }
         ensures part { self.new.part ≡ 0 }
         ensures lane { self.new.lane ≡ 0 }
         ensures left { self.new.left ≡ self.old.left }
@@ -101,8 +92,7 @@ impl Woven<'_> {
 }
 
 impl Plan for Woven<'_> {
-    ghost picks = { λ plan. left_picks plan.source plan.at plan.part plan.lane plan.row
-        plan.below plan.lanes.now };
+    ghost picks = { woven_picks };
 
     #[inline(always)]
     fn len(&self) -> usize {

@@ -31,7 +31,7 @@ use sel_arrow::primitive::{ArrowPrimitive, PrimitiveArray};
 use sel_arrow::utf8view::Utf8ViewArray;
 use sel_bits::bitmap::Bitmap;
 use sel_bits::buffer::Buffer;
-use sel_bits::faults::{PolarsError, PolarsResult};
+use sel_bits::faults::PolarsResult;
 use sel_bits::words::{first_word, whole_word};
 use sel_gather::one_source::collect_one;
 use std::alloc::Global;
@@ -259,10 +259,7 @@ fn filter_lists(
     let Some(child) = filter_child(alloc, values, size, mask)? else {
         return filter_runs(alloc, column, mask);
     };
-    let Ok(validity) = filter_validity(alloc, validity.as_ref(), mask) else {
-        drop(child);
-        return Err(PolarsError::OutOfMemory);
-    };
+    let validity = filter_validity(alloc, validity.as_ref(), mask)?;
     let values = Box::new(alloc, child)?;
     let len = mask.set_bits();
     let column = Column::FixedSizeList {

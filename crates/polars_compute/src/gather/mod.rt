@@ -24,8 +24,8 @@ pub mod primitive;
 pub mod sublist;
 mod validity;
 
-use binview::{take_texts, take_views};
 use crate::runs::Taken;
+use binview::{take_texts, take_views};
 pub use fixed_size_list::take_blocks;
 use primitive::take_primitive_unchecked;
 use sel_arrow::array::Array;
@@ -36,10 +36,10 @@ use sel_arrow::primitive::{ArrowPrimitive, IdxArr, PrimitiveArray};
 use sel_bits::bitmap::Bitmap;
 use sel_bits::faults::PolarsResult;
 use sel_bits::native::{Index, NativeType};
-pub use sel_gather::copy::collect_rows;
+pub use sel_gather::checks::picks_in_bounds;
+pub use sel_gather::gather::collect_rows;
 use sel_gather::one_source::collect_one_plan;
 use sel_gather::row_refs::Walk;
-pub use sel_gather::checks::picks_in_bounds;
 use std::alloc::Global;
 use validity::live_indices;
 

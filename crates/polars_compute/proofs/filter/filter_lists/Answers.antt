@@ -27,26 +27,26 @@ filter_validity-requires c =
 
 pub invariant_of-result : goal.invariant_of-result
 invariant_of-result c =
-    let valid = rw c.as_ref.ensures.value at c.in-Ok.ensures.validity in
+    let valid = rw c.as_ref.ensures.value at c.in_ok-validity.ensures.validity in
     let child = c.in-Some.child in
     let made = c.in_ok-child.ensures in
     let boxed = c.in_ok-values.ensures.ok in
     record {
-      formed = list_formed_kept c.args.column.now c.args.size c.set_bits-len.result c.args.values.now c.args.validity.now c.in-Ok.validity c.in_ok-values.values c.args.mask.now.bits c.requires.parts c.requires.formed c.requires.long c.set_bits-len.ensures valid
+      formed = list_formed_kept c.args.column.now c.args.size c.set_bits-len.result c.args.values.now c.args.validity.now c.in_ok-validity.validity c.in_ok-values.values c.args.mask.now.bits c.requires.parts c.requires.formed c.requires.long c.set_bits-len.ensures valid
           (ap row_count boxed ∙ made.count child c.in-Some.is) (ap well_formed boxed ∙ made.formed child c.in-Some.is);
     }
 
 pub returns-clause-rows : goal.returns-clause-rows
 returns-clause-rows c =
-    let valid = rw c.as_ref.ensures.value at c.in-Ok.ensures.validity in
+    let valid = rw c.as_ref.ensures.value at c.in_ok-validity.ensures.validity in
     let child = c.in-Some.child in
     let made = c.in_ok-child.ensures in
     let boxed = c.in_ok-values.ensures.ok in
-    list_rows_kept c.args.column.now c.args.size c.set_bits-len.result c.args.values.now c.args.validity.now c.in-Ok.validity c.in_ok-values.values c.args.mask.now.bits c.requires.parts c.requires.formed c.requires.long c.set_bits-len.ensures valid
+    list_rows_kept c.args.column.now c.args.size c.set_bits-len.result c.args.values.now c.args.validity.now c.in_ok-validity.validity c.in_ok-values.values c.args.mask.now.bits c.requires.parts c.requires.formed c.requires.long c.set_bits-len.ensures valid
     (ap (λ x. blocks c.args.size (count_true c.args.mask.now.bits) (rows x)) boxed ∙ made.blocks child c.in-Some.is)
 
 pub returns-clause-dtype : goal.returns-clause-dtype
 returns-clause-dtype c =
     let child = c.in-Some.child in
     let made = c.in_ok-child.ensures in
-    list_type c.args.column.now c.args.size c.set_bits-len.result c.args.values.now c.args.validity.now c.in-Ok.validity c.in_ok-values.values c.requires.parts (ap type_of c.in_ok-values.ensures.ok ∙ made.dtype child c.in-Some.is)
+    list_type c.args.column.now c.args.size c.set_bits-len.result c.args.values.now c.args.validity.now c.in_ok-validity.validity c.in_ok-values.values c.requires.parts (ap type_of c.in_ok-values.ensures.ok ∙ made.dtype child c.in-Some.is)
