@@ -19,7 +19,7 @@ use Rattle.sel_gather.proofs.RunLists.{pick_rows}
 use Rattle.polars_compute.specs.Flatten.{flatten, flat_row, row_part, part_fits, parts_fit}
 use Rattle.polars_compute.specs.Widths.{row_width}
 use Rattle.polars_compute.specs.Lanes.{lane_of, lanes_of, row_picks, rows_picks, left_picks}
-use Rattle.polars_compute.specs.declared.woven.Lane.{Lane}
+use Rattle.polars_compute.specs.declared.lanes.Lane.{Lane}
 use Rattle.polars_compute.proofs.Flattening.{Parts, part_at, row_inside, many_of, start_at, width_room}
 
 -- ---- the iteration

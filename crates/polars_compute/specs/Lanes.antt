@@ -2,8 +2,7 @@
 use Rattle.std.specs.Prelude.{ℕ, zero, suc, ◌+◌, ◌*◌, ◌==◌, List, [], ◌∷◌, ◌++◌, length, drop}
 use Rattle.std.specs.Prelude.{Option, if◌then◌else◌}
 use Rattle.sel_gather.specs.Runs.{picks_of}
-use Rattle.polars_compute.specs.declared.woven.Lane.{Lane}
-use Rattle.polars_compute.specs.declared.woven.Woven.{Woven}
+use Rattle.polars_compute.specs.declared.lanes.Lane.{Lane}
 
 -- The entries that each row has of a list with n entries: w of them, which are the next w for each
 -- next row, or always the same if n is w.
@@ -31,8 +30,3 @@ rows_picks r (suc n) lanes = row_picks r 0 lanes ++ rows_picks (r + 1) n lanes
 abbrev pub left_picks : ℕ → ℕ → ℕ → ℕ → ℕ → ℕ → List Lane → List (Option (ℕ × ℕ))
 left_picks source at part j r n lanes =
     picks_of source at part ++ (row_picks r j (drop j lanes) ++ rows_picks (r + 1) n lanes)
-
--- The remaining row references of an iterator of a flatten.
-abbrev pub woven_picks : Woven → List (Option (ℕ × ℕ))
-woven_picks woven =
-    left_picks woven.source woven.at woven.part woven.lane woven.row woven.below woven.lanes.now

@@ -6,6 +6,7 @@ pub mod Elements
 pub mod Entries
 pub mod FixedSizeLists
 pub mod Flatten
+pub mod FlattenPicks
 pub mod JoinedBytes
 pub mod Lanes
 pub mod Laws

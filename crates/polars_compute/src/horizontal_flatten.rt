@@ -9,7 +9,7 @@ ghost use Rattle.polars_compute.specs.Flatten.{Flattens, array_columns, array_ro
 ghost use Rattle.polars_compute.specs.Widths.{row_width};
 ghost use Rattle.polars_compute.specs.Lanes.{lane_of as lane_for, lanes_of};
 
-use crate::woven::{Lane, Woven};
+use crate::lanes::{Lane, Woven};
 use sel_arrow::array::Array;
 use sel_arrow::array_ref::ArrayRef;
 use sel_arrow::column::Column;

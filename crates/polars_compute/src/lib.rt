@@ -4,6 +4,7 @@
 pub mod filter;
 pub mod gather;
 pub mod horizontal_flatten;
+mod lanes;
 pub mod laws;
 pub mod propagate_dictionary;
 pub mod reverse;

@@ -2,7 +2,7 @@ use Rattle.std.proofs.Common.{◌≡◌, ◌∙◌, ◌≤◌, ◌+◌, ◌-◌,
 use Rattle.sel_bits.specs.Limits.{max_rows}
 use Rattle.polars_compute.specs.Lanes.{left_picks}
 use Rattle.polars_compute.proofs.Weaving.{turn_row, some_below}
-use Rattle.polars_compute.proofs.woven.Woven.turn_row.Goals as goal
+use Rattle.polars_compute.proofs.lanes.Woven.turn_row.Goals as goal
 
 pub returns-clause-picks : goal.returns-clause-picks
 returns-clause-picks c =
