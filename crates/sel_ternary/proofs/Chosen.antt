@@ -98,6 +98,14 @@ pub record Rows {A : Type 0} (n : ℕ) (ts fs out : List A) : Type 0 where
   pub falses : length fs ≡ n
   pub places : length out ≡ n
 
+-- The if-then-else of one entry, by the bits of a word.
+pub row_block : {A : Type 0} → (n mask : ℕ) (ts fs : List A) (i : ℕ) (t f x : A) → length ts ≡ n → length fs ≡ n → i < n → t ≡ get_or ts i t → f ≡ get_or fs i f → x ≡ (if is_set mask i then t else f)
+    → choose (take 1 (drop i (bits n mask))) (take 1 (drop i ts)) (take 1 (drop i fs)) ≡ x ∷ []
+row_block n mask ts fs i t f x trues falses lt t_is f_is x_is =
+    let many = length_bits n mask in
+    let one_bit : take 1 (drop i (bits n mask)) ≡ is_set mask i ∷ [] = one_of (bits n mask) i (is_set mask i) (omega arith) (sym (get_bits n mask i (is_set mask i) lt)) in
+    (λ j. choose (one_bit j) (one_of ts i t (omega arith) t_is j) (one_of fs i f (omega arith) f_is j)) ∙ ap (λ y. y ∷ []) (sym x_is)
+
 -- One more entry is written, by the bits of a word.
 pub chosen_row : {A : Type 0} → (n mask : ℕ) (ts fs base out : List A) (i : ℕ) (t f x : A) → Rows n ts fs out → i < n → IsChosen (bits n mask) ts fs base i out
     → t ≡ get_or ts i t → f ≡ get_or fs i f → x ≡ (if is_set mask i then t else f) → IsChosen (bits n mask) ts fs base (i + 1) (set out i x)
@@ -105,12 +113,9 @@ chosen_row n mask ts fs base out i t f x rows lt was t_is f_is x_is =
     let trues = rows.trues in
     let falses = rows.falses in
     let places = rows.places in
-    let many = length_bits n mask in
-    let one_bit : take 1 (drop i (bits n mask)) ≡ is_set mask i ∷ [] = one_of (bits n mask) i (is_set mask i) (omega arith) (sym (get_bits n mask i (is_set mask i) lt)) in
-    let block : choose (take 1 (drop i (bits n mask))) (take 1 (drop i ts)) (take 1 (drop i fs)) ≡ x ∷ [] =
-    (λ j. choose (one_bit j) (one_of ts i t (omega arith) t_is j) (one_of fs i f (omega arith) f_is j)) ∙ ap (λ y. y ∷ []) (sym x_is) in
+    let block = row_block n mask ts fs i t f x trues falses lt t_is f_is x_is in
     let next : suc i ≡ i + 1 = omega arith in
-    chosen_block n (bits n mask) ts fs base (record { mask = many; trues = trues; falses = falses }) i out was 1 (set out i x) (omega arith)
+    chosen_block n (bits n mask) ts fs base (record { mask = length_bits n mask; trues = trues; falses = falses }) i out was 1 (set out i x) (omega arith)
     (set_split out i x (omega arith) ∙ ap (λ k. take i out ++ (x ∷ drop k out)) next ∙ ap (λ l. take i out ++ (l ++ drop (i + 1) out)) (sym block))
 
 -- The entry for a bit that a shift moves to the lowest position of its word.

@@ -4,6 +4,7 @@ pub mod Blocks
 pub mod Chosen
 pub mod ChosenPicks
 pub mod JoinedViews
+pub mod Lanes
 pub mod ListChoices
 pub mod OneList
 pub mod Parts

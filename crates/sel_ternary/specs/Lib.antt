@@ -1,6 +1,7 @@
 pub mod Choose
 pub mod Chosen
 pub mod ChosenPicks
+pub mod Lanes
 pub mod ListSides
 pub mod Sides
 pub mod Steps

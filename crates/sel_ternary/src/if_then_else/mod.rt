@@ -17,7 +17,9 @@ pub mod any;
 mod array;
 mod binview;
 mod boolean;
+mod by_lanes;
 mod by_words;
+mod lanes;
 mod list;
 mod lists;
 mod loops;
@@ -29,6 +31,7 @@ pub mod view;
 mod view_columns;
 mod word_kernels;
 
+pub use lanes::ChooseLanes;
 pub use validity::if_then_else_validity;
 
 /// Columns that support if-then-else with a boolean mask. A scalar is broadcast to all rows.

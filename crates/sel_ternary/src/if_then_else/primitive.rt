@@ -3,21 +3,21 @@
 ghost use Rattle.std.specs.Prelude.{length};
 
 use crate::if_then_else::IfThenElseKernel;
-use crate::if_then_else::loops::{
-    choose_one_false, choose_one_true, choose_two, if_then_else_words,
+use crate::if_then_else::by_lanes::{
+    choose_column_or_scalar, choose_columns, choose_scalar_or_column, choose_scalars,
 };
+use crate::if_then_else::lanes::ChooseLanes;
 use crate::if_then_else::validity::if_then_else_validity;
 use sel_arrow::array::Array;
 use sel_arrow::datatype::ArrowDataType;
 use sel_arrow::primitive::{ArrowPrimitive, PrimitiveArray};
 use sel_arrow::validity::MOST_ROWS;
-use sel_bits::aligned_words::AlignedWords;
 use sel_bits::bitmap::Bitmap;
 use sel_bits::buffer::Buffer;
 use sel_bits::faults::{Limit, PolarsError, PolarsResult};
 use std::alloc::Global;
 
-impl<T: ArrowPrimitive> IfThenElseKernel for PrimitiveArray<T> {
+impl<T: ArrowPrimitive + ChooseLanes> IfThenElseKernel for PrimitiveArray<T> {
     ghost use Rattle.std.specs.Prelude.{◌≡◌, ⊤};
     ghost use Rattle.sel_arrow.specs.Value.{Number};
     ghost use Rattle.sel_ternary.specs.Sides.{exceeded_flat};
@@ -38,9 +38,8 @@ impl<T: ArrowPrimitive> IfThenElseKernel for PrimitiveArray<T> {
         if_true: &Self,
         if_false: &Self,
     ) -> PolarsResult<Self> {
-        let mut words = AlignedWords::new(mask);
         let (trues, falses) = (if_true.values.as_slice(), if_false.values.as_slice());
-        let values = if_then_else_words(alloc, &mut words, trues, falses)?;
+        let values = choose_columns(alloc, mask, trues, falses)?;
         let validity = if_then_else_validity(
             alloc,
             mask,
@@ -57,7 +56,7 @@ impl<T: ArrowPrimitive> IfThenElseKernel for PrimitiveArray<T> {
         if_true: &T,
         if_false: &Self,
     ) -> PolarsResult<Self> {
-        let values = choose_one_true(alloc, mask, *if_true, if_false.values.as_slice())?;
+        let values = choose_scalar_or_column(alloc, mask, *if_true, if_false.values.as_slice())?;
         let validity = if_then_else_validity(alloc, mask, None, if_false.validity.as_ref())?;
         let values = Buffer::from_vec(values)?;
         Ok(PrimitiveArray { values, validity })
@@ -69,7 +68,7 @@ impl<T: ArrowPrimitive> IfThenElseKernel for PrimitiveArray<T> {
         if_true: &Self,
         if_false: &T,
     ) -> PolarsResult<Self> {
-        let values = choose_one_false(alloc, mask, if_true.values.as_slice(), *if_false)?;
+        let values = choose_column_or_scalar(alloc, mask, if_true.values.as_slice(), *if_false)?;
         let validity = if_then_else_validity(alloc, mask, if_true.validity.as_ref(), None)?;
         let values = Buffer::from_vec(values)?;
         Ok(PrimitiveArray { values, validity })
@@ -85,7 +84,7 @@ impl<T: ArrowPrimitive> IfThenElseKernel for PrimitiveArray<T> {
         if mask.len() > MOST_ROWS {
             return Err(PolarsError::SizeLimit(Limit::Rows));
         }
-        let values = choose_two(alloc, mask, *if_true, *if_false)?;
+        let values = choose_scalars(alloc, mask, *if_true, *if_false)?;
         let values = Buffer::from_vec(values)?;
         Ok(PrimitiveArray {
             values,

@@ -11,6 +11,7 @@ ghost use Rattle.sel_ternary.specs.Chosen.{first_row};
 
 use crate::if_then_else::IfThenElseKernel;
 use crate::if_then_else::by_words::WordKernel;
+use crate::if_then_else::lanes::ChooseLanes;
 use crate::if_then_else::view_columns::{choose_bytes, choose_bytes_false, choose_bytes_true};
 use sel_arrow::array::Array;
 use sel_arrow::array_ref::ArrayRef;
@@ -24,7 +25,7 @@ use sel_bits::bitmap::Bitmap;
 use sel_bits::faults::PolarsResult;
 use std::alloc::Global;
 
-impl<T: ArrowPrimitive> WordKernel for PrimitiveArray<T> {
+impl<T: ArrowPrimitive + ChooseLanes> WordKernel for PrimitiveArray<T> {
     fn from_any(alloc: Global, column: &ArrayRef) -> PolarsResult<Option<Self>> {
         match column.try_clone(alloc)?.into_primitive::<T>() {
             Ok(array) => Ok(Some(array)),

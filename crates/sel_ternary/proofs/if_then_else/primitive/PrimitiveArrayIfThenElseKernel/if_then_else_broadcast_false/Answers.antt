@@ -5,8 +5,8 @@ use Rattle.sel_ternary.specs.Validity.{chosen_validity}
 use Rattle.sel_ternary.proofs.Validities.{choice_covers, length-choose_or_one, no_validity, rows_choose_or_one, side_covers, side_long}
 use Rattle.sel_ternary.proofs.if_then_else.primitive.PrimitiveArrayIfThenElseKernel.if_then_else_broadcast_false.Goals as goal
 
-pub choose_one_false-requires : goal.choose_one_false-requires
-choose_one_false-requires g c =
+pub choose_column_or_scalar-requires : goal.choose_column_or_scalar-requires
+choose_column_or_scalar-requires g c =
     let a = c.args.if_true.now in
     ap length c.as_slice.ensures ∙ side_long (λ x. Number (g.T.NativeType.number x)) c.args.mask.now.bits a.values a.validity c.requires.true_side
 

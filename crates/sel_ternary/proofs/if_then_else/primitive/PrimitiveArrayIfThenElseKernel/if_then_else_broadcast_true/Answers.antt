@@ -5,8 +5,8 @@ use Rattle.sel_ternary.specs.Validity.{chosen_validity}
 use Rattle.sel_ternary.proofs.Validities.{choice_covers, length-choose_one, no_validity, rows_choose_one, side_covers, side_long}
 use Rattle.sel_ternary.proofs.if_then_else.primitive.PrimitiveArrayIfThenElseKernel.if_then_else_broadcast_true.Goals as goal
 
-pub choose_one_true-requires : goal.choose_one_true-requires
-choose_one_true-requires g c =
+pub choose_scalar_or_column-requires : goal.choose_scalar_or_column-requires
+choose_scalar_or_column-requires g c =
     let b = c.args.if_false.now in
     ap length c.as_slice.ensures ∙ side_long (λ x. Number (g.T.NativeType.number x)) c.args.mask.now.bits b.values b.validity c.requires.false_side
 

@@ -1,0 +1,8 @@
+use Rattle.std.proofs.Common.{length}
+use Rattle.std.specs.Vec.{vec_capacity}
+use Rattle.sel_bits.specs.Words.{bits}
+use Rattle.sel_ternary.proofs.Lanes.{IsFilled, chosen_to}
+use Rattle.sel_ternary.proofs.if_then_else.lanes.push_bits.Given as goal
+
+abbrev pub invariant-loop-i : goal.invariant-loop-i
+invariant-loop-i g l = IsFilled l.initial.out.items (chosen_to (bits (length l.if_true) l.mask) l.if_true l.if_false l.i) (vec_capacity l.initial.out) l.out

@@ -1,0 +1,6 @@
+use Rattle.std.proofs.Common.{◌≡◌, ℕ, ◌<◌, pos, get_or, w64}
+use Rattle.std.specs.Int.{cast_signed, cast_unsigned}
+use Rattle.sel_ternary.proofs.if_then_else.lanes.show_range_64.Given as goal
+
+abbrev pub invariant-loop-i : goal.invariant-loop-i
+invariant-loop-i l = (k : ℕ) → k < l.i → cast_signed w64 (cast_unsigned w64 (get_or l.values k (pos 0))) ≡ get_or l.values k (pos 0)
