@@ -178,7 +178,7 @@ fn unit_offsets(alloc: Global, len: usize) -> PolarsResult<OffsetsBuffer<i64>>
 {
     let mut offsets = Vec::with_capacity(alloc, len + 1)?;
     for offset in 0..len + 1 {
-        offsets.push(offset as i64)?;
+        offsets.push_reserved(offset as i64);
     }
     OffsetsBuffer::of_rising(offsets)
 }
