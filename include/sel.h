@@ -756,8 +756,8 @@ sel_status sel_print_type(const sel_column *of, uint8_t *out, size_t out_len, si
  * or the length if the text ends too soon. SEL_ERROR_ROW_TYPE_MISMATCH: a value in `text` does not fit the type;
  * `at` is the index of the first one. Values are compared with their types as they end, so a list or struct of the
  * wrong length comes after its values. With any other status `at` is unchanged. SEL_ERROR_TEXT_LIMIT: the column
- * exceeds a size limit, or the type has more than 64 levels of children; if the type exceeds it, this is returned
- * before later errors. */
+ * exceeds a size limit, or the type has more than 64 levels of children. A syntax error in the type is returned
+ * first, then that the type exceeds a limit, then errors in `text`. */
 sel_status sel_parse(
     const uint8_t *dtype,
     size_t dtype_len,

@@ -1,12 +1,13 @@
 //! Comparison, printing and parsing.
 
-ghost use Rattle.std.specs.Prelude.{◌≡◌, ◌≤◌, ◌↔◌, List, [], ◌∷◌, Some, false, length, IsTrue};
+ghost use Rattle.std.specs.Prelude.{◌≡◌, ◌≤◌, ◌↔◌, List, [], ◌∷◌, Some, true, false, length, IsTrue};
 ghost use Rattle.sel_arrow.specs.Rows.{rows, type_of};
 ghost use Rattle.sel_arrow.specs.Shape.{Shape};
 ghost use Rattle.sel_arrow.specs.Value.{Value};
 ghost use Rattle.sel_calls.specs.Parsed.{exceeds_parse_limit, IsRowsText, IsTypeText};
 ghost use Rattle.sel_calls.specs.Printed.{filled, held_text, held_type_text};
 ghost use Rattle.sel_ffi.specs.Status.{ok, out_of_memory, no_column, type_syntax, row_syntax, row_type_mismatch, text_limit, held_rows, DemandsFirst, HasColumn, IsOneOf, Makes};
+ghost use Rattle.sel_text.specs.Notation.{is_row_notation, is_type_notation, IsFirstError};
 ghost use Rattle.sel_text.specs.Spelling.{spelled};
 ghost use Rattle.sel_text.specs.Texts.{text_of};
 ghost use Rattle.sel_text.specs.Types.{type_text};
@@ -94,8 +95,8 @@ pub extern "C" fn sel_print_type(
 /// SEL_ERROR_ROW_TYPE_MISMATCH: a value in `text` does not fit the type; `at` is the index of the
 /// first one. Values are compared with their types as they end, so a list or struct of the wrong
 /// length comes after its values. With any other status `at` is unchanged. SEL_ERROR_TEXT_LIMIT:
-/// the column exceeds a size limit, or the type has more than 64 levels of children; if the type
-/// exceeds it, this is returned before later errors.
+/// the column exceeds a size limit, or the type has more than 64 levels of children. A syntax error
+/// in the type is returned first, then that the type exceeds a limit, then errors in `text`.
 #[unsafe(no_mangle)]
 pub extern "C" fn sel_parse(
     alloc: Global,
@@ -121,6 +122,10 @@ pub extern "C" fn sel_parse(
     ensures limit { result ≡ text_limit → (shape : Shape) (values : List Value) →
         IsTypeText shape dtype.now → IsRowsText shape values text.now →
         IsTrue (exceeds_parse_limit shape values) }
+    ensures type_error { result ≡ type_syntax → IsFirstError is_type_notation dtype.now at.new }
+    ensures row_error { result ≡ row_syntax → IsFirstError is_row_notation text.now at.new }
+    ensures misfit { result ≡ row_type_mismatch → is_row_notation text.now ≡ true }
+    ensures type_read { result ≡ text_limit → is_type_notation dtype.now ≡ true }
     ensures type_place { result ≡ type_syntax → at.new ≤ length dtype.now }
     ensures place { IsOneOf result (row_syntax ∷ row_type_mismatch ∷ []) →
         at.new ≤ length text.now }

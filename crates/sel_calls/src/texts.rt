@@ -1,6 +1,6 @@
 //! Columns printed as row text and parsed from it.
 
-ghost use Rattle.std.specs.Prelude.{◌≡◌, ◌≢◌, ◌≤◌, ℕ, List, [], ◌∷◌, Some, false, length, IfOk, IfErr, IfSome, IsTrue};
+ghost use Rattle.std.specs.Prelude.{◌≡◌, ◌≢◌, ◌≤◌, ℕ, List, [], ◌∷◌, Some, true, false, length, IfOk, IfErr, IfSome, IsTrue};
 ghost use Rattle.sel_arrow.specs.DataType.{shape_of};
 ghost use Rattle.sel_arrow.specs.Depth.{depth};
 ghost use Rattle.sel_arrow.specs.Rows.{rows, type_of};
@@ -10,8 +10,9 @@ ghost use Rattle.sel_calls.specs.Parsed.{exceeds_parse_limit, IsRowsText, IsType
 ghost use Rattle.sel_calls.specs.Printed.{filled};
 ghost use Rattle.sel_ffi.specs.Status.{ok, out_of_memory, type_syntax, row_syntax, row_type_mismatch, text_limit, IsOneOf, Makes};
 ghost use Rattle.sel_text.specs.Limits.{exceeds_limit};
+ghost use Rattle.sel_text.specs.Notation.{is_row_notation, is_type_notation, HasFirstError, IsFirstError};
 ghost use Rattle.sel_text.specs.Spelling.{spelled};
-ghost use Rattle.sel_text.specs.TextErrors.{IsLimitOrMemoryError, IsOffsetWithin};
+ghost use Rattle.sel_text.specs.TextErrors.{IsLimitOrMemoryError, IsOffsetWithin, IsRowTextError, IsTypeTextError};
 ghost use Rattle.sel_text.specs.Texts.{text_of};
 ghost use Rattle.sel_text.specs.Types.{type_text};
 ghost use Rattle.sel_text.specs.Written.{widths_written};
@@ -108,6 +109,10 @@ pub fn parse_into(alloc: Global, name: &[u8], text: &[u8], at: &mut usize, out: 
     ensures limit { result ≡ text_limit → (shape : Shape) (values : List Value) →
         IsTypeText shape name.now → IsRowsText shape values text.now →
         IsTrue (exceeds_parse_limit shape values) }
+    ensures type_error { result ≡ type_syntax → IsFirstError is_type_notation name.now at.new }
+    ensures row_error { result ≡ row_syntax → IsFirstError is_row_notation text.now at.new }
+    ensures misfit { result ≡ row_type_mismatch → is_row_notation text.now ≡ true }
+    ensures type_read { result ≡ text_limit → is_type_notation name.now ≡ true }
     ensures type_place { result ≡ type_syntax → at.new ≤ length name.now }
     ensures place { IsOneOf result (row_syntax ∷ row_type_mismatch ∷ []) →
         at.new ≤ length text.now }
@@ -137,16 +142,18 @@ fn read_dtype(alloc: Global, bytes: &[u8]) -> Result<ArrowDataType, TextError>
     ensures text { IfOk result (λ dtype. spelled bytes.now ≡ Some (type_text (shape_of dtype))) }
     ensures narrow { IfOk result (λ dtype. IsTrue (widths_written (shape_of dtype))) }
     ensures levels { IfOk result (λ dtype. depth (shape_of dtype) ≤ 64) }
+    ensures notation { IfOk result (λ _. is_type_notation bytes.now ≡ true) }
     ensures refused { IfErr result (λ error. (shape : Shape) →
         IsTypeText shape bytes.now → IsLimitOrMemoryError error) }
     ensures limit { IfErr result (λ error. error ≡ TextError.Limit →
         (shape : Shape) (values : List Value) → IsTypeText shape bytes.now →
         IsTrue (exceeds_parse_limit shape values)) }
+    ensures syntax { IfErr result (IsTypeTextError bytes.now) }
     ensures place { IfErr result (IsOffsetWithin (length bytes.now)) }
 {
     let text = match str::from_utf8(bytes) {
         Ok(text) => text,
-        Err(fault) => return Err(not_utf8(find_type_error(alloc, bytes), fault.valid_up_to())),
+        Err(_) => return Err(not_utf8_type(find_type_error(alloc, bytes))),
     };
     let dtype = match parse_dtype(alloc, text) {
         Ok(dtype) => dtype,
@@ -175,24 +182,41 @@ fn read_rows(alloc: Global, dtype: &ArrowDataType, bytes: &[u8]) -> Result<Array
     ensures limit { IfErr result (λ error. error ≡ TextError.Limit → (values : List Value) →
         IsRowsText (shape_of dtype.now) values bytes.now →
         IsTrue (exceeds_limit NullSlots.Zeros (shape_of dtype.now) values)) }
+    ensures syntax { IfErr result (IsRowTextError bytes.now) }
     ensures place { IfErr result (IsOffsetWithin (length bytes.now)) }
 {
     match str::from_utf8(bytes) {
         Ok(text) => parse_column(alloc, dtype, text, NullSlots::Zeros),
-        Err(fault) => Err(not_utf8(find_row_error(alloc, bytes), fault.valid_up_to())),
+        Err(fault) => Err(not_utf8_rows(find_row_error(alloc, bytes), fault.valid_up_to())),
     }
 }
 
-/// Returns the error of bytes that are not UTF-8: a syntax error where it was found, else at
-/// `place`.
-fn not_utf8(found: Result<Option<usize>, AllocError>, place: usize) -> TextError
-    ensures within { (count : ℕ) → place ≤ count →
-        IfOk found (λ at. IfSome at (λ at. at ≤ count)) → IsOffsetWithin count result }
+/// Returns the error of a type that is not UTF-8: a syntax error where it was found, else `Limit`.
+fn not_utf8_type(found: Result<Option<usize>, AllocError>) -> TextError
+    ensures syntax { (bytes : List ℕ) → IfOk found (HasFirstError is_type_notation bytes) →
+        IsTypeTextError bytes result }
+    ensures place { (bytes : List ℕ) → IfOk found (HasFirstError is_type_notation bytes) →
+        IsOffsetWithin (length bytes) result }
+{
+    match found {
+        Ok(Some(at)) => TextError::Syntax { at },
+        Ok(None) => TextError::Limit,
+        Err(_) => TextError::OutOfMemory,
+    }
+}
+
+/// Returns the error of row text that is not UTF-8: a syntax error where it was found, else a misfit
+/// at `place`.
+fn not_utf8_rows(found: Result<Option<usize>, AllocError>, place: usize) -> TextError
+    ensures syntax { (bytes : List ℕ) → IfOk found (HasFirstError is_row_notation bytes) →
+        IsRowTextError bytes result }
+    ensures place { (bytes : List ℕ) → IfOk found (HasFirstError is_row_notation bytes) →
+        place ≤ length bytes → IsOffsetWithin (length bytes) result }
     ensures limit { result ≢ TextError.Limit }
 {
     match found {
         Ok(Some(at)) => TextError::Syntax { at },
-        Ok(None) => TextError::Syntax { at: place },
+        Ok(None) => TextError::Type { at: place },
         Err(_) => TextError::OutOfMemory,
     }
 }
@@ -203,6 +227,10 @@ fn type_error_status(fault: TextError, at: &mut usize) -> u32
     ensures short { IsLimitOrMemoryError fault →
         IsOneOf result (out_of_memory ∷ text_limit ∷ []) }
     ensures limit { result ≡ text_limit → fault ≡ TextError.Limit }
+    ensures syntax { (bytes : List ℕ) → IsTypeTextError bytes fault → result ≡ type_syntax →
+        IsFirstError is_type_notation bytes at.new }
+    ensures read { (bytes : List ℕ) → IsTypeTextError bytes fault → result ≡ text_limit →
+        is_type_notation bytes ≡ true }
     ensures place { (count : ℕ) → IsOffsetWithin count fault → result ≡ type_syntax →
         at.new ≤ count }
     ensures no_place { IsOneOf result (out_of_memory ∷ text_limit ∷ []) → at.new ≡ at.old }
@@ -225,6 +253,10 @@ fn rows_error_status(fault: TextError, at: &mut usize) -> u32
     ensures short { IsLimitOrMemoryError fault →
         IsOneOf result (out_of_memory ∷ text_limit ∷ []) }
     ensures limit { result ≡ text_limit → fault ≡ TextError.Limit }
+    ensures syntax { (bytes : List ℕ) → IsRowTextError bytes fault → result ≡ row_syntax →
+        IsFirstError is_row_notation bytes at.new }
+    ensures misfit { (bytes : List ℕ) → IsRowTextError bytes fault →
+        result ≡ row_type_mismatch → is_row_notation bytes ≡ true }
     ensures place { (count : ℕ) → IsOffsetWithin count fault →
         IsOneOf result (row_syntax ∷ row_type_mismatch ∷ []) → at.new ≤ count }
     ensures no_place { IsOneOf result (out_of_memory ∷ text_limit ∷ []) → at.new ≡ at.old }

@@ -37,7 +37,7 @@ pub numeral_is : (n : ℕ) → n < 2 ^ 128 → IsNumeral 10 (decimal n) × (digi
 numeral_is n small = decimal_is_IsNumeral_wide n (few_digits n (omega (arith, small)))
 
 -- A decimal number begins with a zero only if it is zero.
-first_digit : (most n : ℕ) → n ≤ most → 0 < n → n < 10 ^ 64 → 48 < get_or (decimal n) 0 0
+pub first_digit : (most n : ℕ) → n ≤ most → 0 < n → n < 10 ^ 64 → 48 < get_or (decimal n) 0 0
 first_digit zero n few some small = absurd (omega arith)
 first_digit (suc most) n few some small = go (first_digit most (n / 10)) (nat_lt n 10) refl
   where

@@ -1,12 +1,13 @@
 -- Row text determines the rows, the text of a type determines the type, and both are read as they
 -- are printed.
-use Rattle.std.specs.Prelude.{◌≡◌, List, Some, IsTrue}
+use Rattle.std.specs.Prelude.{◌≡◌, ℕ, List, Some, IsTrue}
 use Rattle.std.specs.List.{list_all}
 use Rattle.sel_arrow.specs.Rows.{type_of, IsWellFormed}
 use Rattle.sel_arrow.specs.Shape.{Shape}
 use Rattle.sel_arrow.specs.Value.{Value}
 use Rattle.sel_arrow.specs.declared.column.Column.{Column}
 use Rattle.sel_text.specs.Fits.{fits}
+use Rattle.sel_text.specs.Notation.{is_row_notation, is_type_notation}
 use Rattle.sel_text.specs.Spelling.{spelled}
 use Rattle.sel_text.specs.Texts.{text_of}
 use Rattle.sel_text.specs.Types.{type_text}
@@ -41,3 +42,16 @@ abbrev pub RowTextIsSpelled : Type 0
 RowTextIsSpelled =
     (shape : Shape) (rows : List Value) → IsTrue (list_all (fits shape) rows) →
     spelled (text_of shape rows) ≡ Some (text_of shape rows)
+
+-- A text whose canonical spelling is that of a type whose list sizes are such integers is in the
+-- notation of types.
+abbrev pub TypeTextIsNotation : Type 0
+TypeTextIsNotation =
+    (text : List ℕ) (shape : Shape) → IsTrue (widths_written shape) →
+    spelled text ≡ Some (type_text shape) → IsTrue (is_type_notation text)
+
+-- A text whose canonical spelling is that of rows that fit a type is in the notation of rows.
+abbrev pub RowTextIsNotation : Type 0
+RowTextIsNotation =
+    (text : List ℕ) (shape : Shape) (rows : List Value) → IsTrue (list_all (fits shape) rows) →
+    spelled text ≡ Some (text_of shape rows) → IsTrue (is_row_notation text)

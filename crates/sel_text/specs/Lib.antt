@@ -5,6 +5,7 @@ pub mod Fits
 pub mod ItemValues
 pub mod Laws
 pub mod Limits
+pub mod Notation
 pub mod Readings
 pub mod RowRuns
 pub mod Spelling
@@ -12,5 +13,6 @@ pub mod Steps
 pub mod Stored
 pub mod TextErrors
 pub mod Texts
+pub mod Tokens
 pub mod Types
 pub mod Written

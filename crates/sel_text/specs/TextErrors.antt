@@ -1,10 +1,11 @@
 -- The messages of errors, and the positions that they report.
-use Rattle.std.specs.Prelude.{ℕ, ◌≤◌, ⊤, List, ◌++◌, codes}
+use Rattle.std.specs.Prelude.{◌≡◌, ℕ, ◌≤◌, ⊤, true, List, ◌++◌, codes}
 use Rattle.std.specs.Fmt.{decimal}
 use Rattle.sel_bits.specs.declared.faults.MakeError.{MakeError}
 use Rattle.sel_bits.specs.declared.faults.MakeError.TheVariants.{OutOfMemory as MakeMemory}
 use Rattle.sel_bits.specs.declared.faults.PolarsError.{PolarsError}
 use Rattle.sel_bits.specs.declared.faults.PolarsError.TheVariants.{OutOfMemory as KernelMemory}
+use Rattle.sel_text.specs.Notation.{is_row_notation, is_type_notation, IsFirstError}
 use Rattle.sel_text.specs.declared.text_error.Fault.{Fault}
 use Rattle.sel_text.specs.declared.text_error.Fault.TheVariants.{Limit as LimitFault}
 use Rattle.sel_text.specs.declared.text_error.Fault.TheVariants.{OutOfMemory as MemoryFault}
@@ -24,6 +25,22 @@ abbrev pub IsOffsetWithin : ℕ → TextError → Type 0
 IsOffsetWithin count (Syntax at) = at ≤ count
 IsOffsetWithin count («Type» at) = at ≤ count
 IsOffsetWithin count error = ⊤
+
+-- An error in row text: a syntax error is reported at its position, and a misfit or a limit only if
+-- there is no syntax error.
+abbrev pub IsRowTextError : List ℕ → TextError → Type 0
+IsRowTextError text (Syntax at) = IsFirstError is_row_notation text at
+IsRowTextError text («Type» at) = is_row_notation text ≡ true
+IsRowTextError text Limit = is_row_notation text ≡ true
+IsRowTextError text OutOfMemory = ⊤
+
+-- An error in the text of a type: a syntax error is reported at its position, and a limit only if
+-- there is no syntax error; nothing is a misfit.
+abbrev pub IsTypeTextError : List ℕ → TextError → Type 0
+IsTypeTextError text (Syntax at) = IsFirstError is_type_notation text at
+IsTypeTextError text («Type» at) = ⊥
+IsTypeTextError text Limit = is_type_notation text ≡ true
+IsTypeTextError text OutOfMemory = ⊤
 
 -- The error is an exceeded limit or out of memory, not an error in the text.
 abbrev pub IsLimitOrMemoryError : TextError → Type 0

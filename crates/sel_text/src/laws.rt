@@ -1,6 +1,6 @@
 //! Uniqueness of the notation, and that it is read as it is printed.
 
-ghost use Rattle.sel_text.specs.Laws.{ColumnTypesAreWritten, RowTextIsSpelled, TextDeterminesRows, TextDeterminesType, TypeTextIsSpelled};
+ghost use Rattle.sel_text.specs.Laws.{ColumnTypesAreWritten, RowTextIsSpelled, TextDeterminesRows, TextDeterminesType, RowTextIsNotation, TypeTextIsNotation, TypeTextIsSpelled};
 
 /// Two lists of values that fit the same type are equal if their notations are equal: the type and
 /// the notation of a column determine its rows. Tests that compare notations rely on this.
@@ -31,4 +31,16 @@ pub fn law_type_text_is_spelled()
 /// output of `print_rows`, unless the column would exceed a size limit or memory is exhausted.
 pub fn law_row_text_is_spelled()
     ensures { RowTextIsSpelled }
+{}
+
+/// A text whose canonical spelling is the text of a type is in the notation of types, in which
+/// `find_type_error` finds no error.
+pub fn law_type_text_is_notation()
+    ensures { TypeTextIsNotation }
+{}
+
+/// A text whose canonical spelling is the text of rows that fit their type is in the notation of
+/// rows, in which `find_row_error` finds no error.
+pub fn law_row_text_is_notation()
+    ensures { RowTextIsNotation }
 {}

@@ -7,6 +7,7 @@ pub mod equal;
 pub mod fit;
 mod item;
 pub mod laws;
+mod notation;
 mod numerals;
 pub mod parse;
 pub mod print;

@@ -1,6 +1,6 @@
 //! Parsing of columns.
 
-ghost use Rattle.std.specs.Prelude.{◌≡◌, true, false, List, Some, IfOk, IfErr, IsTrue, length, map};
+ghost use Rattle.std.specs.Prelude.{◌≡◌, ℕ, true, false, List, Some, IfOk, IfErr, IsTrue, length, map};
 ghost use Rattle.std.specs.List.{list_all};
 ghost use Rattle.sel_arrow.specs.DataType.{shape_of};
 ghost use Rattle.sel_arrow.specs.Rows.{rows, type_of};
@@ -8,9 +8,10 @@ ghost use Rattle.sel_arrow.specs.Value.{Value};
 ghost use Rattle.sel_text.specs.Fits.{fits};
 ghost use Rattle.sel_text.specs.ItemValues.{item_value};
 ghost use Rattle.sel_text.specs.Limits.{exceeds_limit};
+ghost use Rattle.sel_text.specs.Notation.{is_row_notation};
 ghost use Rattle.sel_text.specs.Steps.{ReportsLimit, MakesColumn};
 ghost use Rattle.sel_text.specs.Spelling.{spelled};
-ghost use Rattle.sel_text.specs.TextErrors.{IsLimitOrMemoryError, IsOffsetWithin};
+ghost use Rattle.sel_text.specs.TextErrors.{IsLimitOrMemoryError, IsOffsetWithin, IsRowTextError};
 ghost use Rattle.sel_text.specs.Steps.{IsMemoryFault};
 ghost use Rattle.sel_text.specs.Texts.{text_of};
 
@@ -38,6 +39,7 @@ use std::alloc::Global;
 /// position of the first one: values are compared with their types as they end, so a list or struct
 /// value of the wrong length comes after its values. Otherwise `Limit` if the column would exceed a
 /// size limit. `OutOfMemory` if an allocation fails.
+#[tactic(auto, using(crate::proofs::Respelled::rows_respelled))]
 pub fn parse_column(
     alloc: Global,
     dtype: &ArrowDataType,
@@ -59,6 +61,7 @@ pub fn parse_column(
         IsTrue (list_all (fits (shape_of dtype.now)) values) →
         spelled text.now ≡ Some (text_of (shape_of dtype.now) values) →
         IsTrue (exceeds_limit beneath (shape_of dtype.now) values)) }
+    ensures syntax { IfErr result (IsRowTextError text.now) }
     ensures place { IfErr result (IsOffsetWithin (length text.now)) }
 {
     let bytes = match spelling(alloc, text) {
@@ -71,23 +74,29 @@ pub fn parse_column(
     }
 }
 
-/// Returns a syntax error of `text`, with its position, if the text is not that of rows of any type
-/// and `error` is an error of the text; else `error`, as a misfit if it is one of the text.
+/// Returns the error of a text that is not read as rows: a syntax error with its position wherever
+/// there is one, else `error`, as a misfit if it is an error of the text.
 fn located(alloc: Global, text: &str, error: TextError) -> TextError
+    ensures syntax { IsRowTextError text.now result }
     ensures place { IsOffsetWithin (length text.now) error →
         IsOffsetWithin (length text.now) result }
-    ensures short { IsLimitOrMemoryError error → result ≡ error }
+    ensures short { is_row_notation text.now ≡ true → IsLimitOrMemoryError error →
+        IsLimitOrMemoryError result }
     ensures limit { result ≡ TextError.Limit → error ≡ TextError.Limit }
 {
+    if let TextError::OutOfMemory = error {
+        return error;
+    }
+    let place = match find_row_error(alloc, text.as_bytes()) {
+        Ok(place) => place,
+        Err(_) => return TextError::OutOfMemory,
+    };
+    if let Some(at) = place {
+        return TextError::Syntax { at };
+    }
     match error {
-        TextError::Syntax { at } | TextError::Type { at } => {
-            match find_row_error(alloc, text.as_bytes()) {
-                Ok(Some(place)) => TextError::Syntax { at: place },
-                Ok(None) => TextError::Type { at },
-                Err(_) => TextError::OutOfMemory,
-            }
-        }
-        TextError::Limit | TextError::OutOfMemory => error,
+        TextError::Syntax { at } => TextError::Type { at },
+        _ => error,
     }
 }
 

@@ -3,11 +3,12 @@
 ghost use Rattle.std.specs.Prelude.{◌≡◌, ◌≢◌, ◌<◌, ◌≤◌, ◌∷◌, ◌++◌, ◌^◌, ℕ, List, true, IfOk, IfErr, IfSome, IfNone, IsOkAnd, MatchResult, IsTrue, map, length, nat_lt, codes};
 ghost use Rattle.std.specs.Fmt.{decimal};
 ghost use Rattle.sel_arrow.specs.DataType.{shape_of};
+ghost use Rattle.sel_text.specs.Notation.{is_type_notation};
 ghost use Rattle.sel_text.specs.Spelling.{spelled};
 ghost use Rattle.sel_arrow.specs.Shape.{Shape, Shapes, next_shape, shapes_of, of_struct};
 ghost use Rattle.sel_text.specs.Digits.{NoDigit};
 ghost use Rattle.sel_text.specs.Steps.{ReportsLimit};
-ghost use Rattle.sel_text.specs.TextErrors.{IsLimitOrMemoryError, IsOffsetWithin};
+ghost use Rattle.sel_text.specs.TextErrors.{IsLimitOrMemoryError, IsOffsetWithin, IsTypeTextError};
 ghost use Rattle.sel_arrow.specs.Depth.{deepest, depth};
 ghost use Rattle.sel_text.specs.Written.{all_widths_written, widths_written};
 ghost use Rattle.sel_text.specs.Steps.{is_plain};
@@ -30,18 +31,20 @@ pub const DEEPEST: usize = 64;
 ///
 /// # Errors
 /// `Syntax` if `text` is not the notation of a type, with the position of the first byte with which
-/// no such text goes on; `Limit` if the text begins with that of a type up to a list size above
-/// 18,446,744,073,709,551,615, or inside 64 nested types up to anything but a type without children,
-/// whatever comes after; `OutOfMemory` if an allocation fails.
+/// no such text goes on. Otherwise `Limit` if the type is nested more than 64 levels deep or has a
+/// list size above 18,446,744,073,709,551,615. `OutOfMemory` if an allocation fails. Never `Type`.
+#[tactic(auto, using(crate::proofs::Respelled::type_respelled))]
 pub fn parse_dtype(alloc: Global, text: &str) -> Result<ArrowDataType, TextError>
     ensures text { IfOk result (λ dtype. spelled text.now ≡ Some (type_text (shape_of dtype))) }
     ensures levels { IfOk result (λ dtype. depth (shape_of dtype) ≤ 64) }
     ensures widths { IfOk result (λ dtype. IsTrue (widths_written (shape_of dtype))) }
+    ensures notation { IfOk result (λ _. is_type_notation text.now ≡ true) }
     ensures refused { IfErr result (λ error. (shape : Shape) → IsTrue (widths_written shape) →
         spelled text.now ≡ Some (type_text shape) → IsLimitOrMemoryError error) }
     ensures limit { IfErr result (λ error. error ≡ TextError.Limit → (shape : Shape) →
         IsTrue (widths_written shape) → spelled text.now ≡ Some (type_text shape) →
         64 < depth shape) }
+    ensures syntax { IfErr result (IsTypeTextError text.now) }
     ensures place { IfErr result (IsOffsetWithin (length text.now)) }
 {
     let bytes = match spelling(alloc, text) {
@@ -54,23 +57,21 @@ pub fn parse_dtype(alloc: Global, text: &str) -> Result<ArrowDataType, TextError
     }
 }
 
-/// Returns a syntax error of `text` with its position, if `error` is an error of the text; else
-/// `error`.
+/// Returns the error of a text that is not read as a type: a syntax error with its position wherever
+/// there is one, else that of a limit.
 fn located(alloc: Global, text: &str, error: TextError) -> TextError
-    ensures place { IsOffsetWithin (length text.now) error →
-        IsOffsetWithin (length text.now) result }
-    ensures short { IsLimitOrMemoryError error → result ≡ error }
-    ensures limit { result ≡ TextError.Limit → error ≡ TextError.Limit }
+    ensures syntax { IsTypeTextError text.now result }
+    ensures place { IsOffsetWithin (length text.now) result }
+    ensures short { is_type_notation text.now ≡ true → IsLimitOrMemoryError result }
+    ensures limit { result ≡ TextError.Limit → IsLimitOrMemoryError error → error ≡ TextError.Limit }
 {
-    match error {
-        TextError::Syntax { at } | TextError::Type { at } => {
-            match find_type_error(alloc, text.as_bytes()) {
-                Ok(Some(place)) => TextError::Syntax { at: place },
-                Ok(None) => TextError::Syntax { at },
-                Err(_) => TextError::OutOfMemory,
-            }
-        }
-        TextError::Limit | TextError::OutOfMemory => error,
+    if let TextError::OutOfMemory = error {
+        return error;
+    }
+    match find_type_error(alloc, text.as_bytes()) {
+        Ok(Some(at)) => TextError::Syntax { at },
+        Ok(None) => TextError::Limit,
+        Err(_) => TextError::OutOfMemory,
     }
 }
 

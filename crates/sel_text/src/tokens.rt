@@ -1,203 +1,338 @@
-//! Tokens at the front of a text, and the byte at which none continues.
-//!
-//! Each function is given a text that begins like the token. It returns the length of the token, or
-//! as an error the offset of the first byte with which no such token goes on: the length of the text
-//! if it ends too soon.
+//! The bytes inside of words, of names of types and of strings.
 
-/// Finds the end of a word.
-pub(crate) fn word_at(bytes: &[u8], word: &[u8]) -> Result<usize, usize> {
-    for (k, letter) in word.iter().enumerate() {
-        if bytes.get(k) != Some(letter) {
-            return Err(k);
-        }
-    }
-    Ok(word.len())
+ghost use Rattle.std.specs.Prelude.{◌≡◌, ◌==◌};
+ghost use Rattle.sel_text.specs.Tokens.{after_name_byte, after_string_byte, after_word_byte, b_byte, bin_byte, escape_byte, i1_byte, i_byte, is_between, is_hexadecimal, low_first_byte, low_second_byte, text_byte, u_byte, unit_first_byte, unit_second_byte, when};
+
+use crate::notation::Next;
+
+/// The bytes so far of a word of rows.
+#[derive(Clone, Copy)]
+pub(crate) enum Word {
+    N,
+    Nu,
+    Nul,
+    T,
+    Tr,
+    Tru,
+    F,
+    Fa,
+    Fal,
+    Fals,
 }
 
-/// Finds the end of the word of `words` that is at the front. No word begins with another.
-pub(crate) fn one_of(bytes: &[u8], words: &[&[u8]]) -> Result<usize, usize> {
-    let mut longest = 0;
-    for word in words {
-        match word_at(bytes, word) {
-            Ok(count) => return Ok(count),
-            Err(count) => longest = longest.max(count),
+impl Word {
+    /// Returns what may follow a further byte, or `None` if the word does not go on with it.
+    pub(crate) fn next(self, byte: u8) -> Option<Next>
+        ensures { result ≡ after_word_byte self byte }
+    {
+        match self {
+            Word::N => if_byte(byte, b'u', Next::Word(Word::Nu)),
+            Word::Nu => if_byte(byte, b'l', Next::Word(Word::Nul)),
+            Word::Nul => if_byte(byte, b'l', Next::After),
+            Word::T => if_byte(byte, b'r', Next::Word(Word::Tr)),
+            Word::Tr => if_byte(byte, b'u', Next::Word(Word::Tru)),
+            Word::Tru => if_byte(byte, b'e', Next::After),
+            Word::F => if_byte(byte, b'a', Next::Word(Word::Fa)),
+            Word::Fa => if_byte(byte, b'l', Next::Word(Word::Fal)),
+            Word::Fal => if_byte(byte, b's', Next::Word(Word::Fals)),
+            Word::Fals => if_byte(byte, b'e', Next::After),
         }
-    }
-    Err(longest)
-}
-
-/// Finds the end of an integer: `0`, or digits without a leading zero, with or without a `-`.
-pub(crate) fn integer_at(bytes: &[u8]) -> Result<usize, usize> {
-    match bytes.first() {
-        Some(b'0') => Ok(1),
-        Some(b'1'..=b'9') => Ok(digits_end(bytes, 1)),
-        Some(b'-') => match bytes.get(1) {
-            Some(b'1'..=b'9') => Ok(digits_end(bytes, 2)),
-            _ => Err(1),
-        },
-        _ => Err(0),
     }
 }
 
-/// Returns the offset behind the digits from `start` on.
-fn digits_end(bytes: &[u8], start: usize) -> usize {
-    for (k, byte) in bytes.iter().enumerate() {
-        if k >= start {
-            if !byte.is_ascii_digit() {
-                return k;
-            }
-        }
-    }
-    bytes.len()
+/// The bytes so far of the name of a type.
+#[derive(Clone, Copy)]
+pub(crate) enum TypeWord {
+    B,
+    Bo,
+    Boo,
+    Bi,
+    Bin,
+    Bina,
+    Binar,
+    Binv,
+    Binvi,
+    Binvie,
+    F,
+    Fi,
+    Fix,
+    Fixe,
+    I,
+    I1,
+    I12,
+    I3,
+    I6,
+    L,
+    Li,
+    Lis,
+    S,
+    St,
+    Str,
+    Stru,
+    Struc,
+    U,
+    Ut,
+    Utf,
 }
 
-/// Finds the end of bytes in hexadecimal, as `h"00ff"`.
-pub(crate) fn hexadecimal_at(bytes: &[u8]) -> Result<usize, usize> {
-    if bytes.get(1) != Some(&b'"') {
-        return Err(1);
-    }
-    for (k, byte) in bytes.iter().enumerate() {
-        if k >= 2 {
-            match byte {
-                b'0'..=b'9' | b'a'..=b'f' => {}
-                b'"' if k % 2 == 0 => return Ok(k + 1),
-                _ => return Err(k),
-            }
+impl TypeWord {
+    /// Returns what may follow a further byte, or `None` if no name goes on with it.
+    pub(crate) fn next(self, byte: u8) -> Option<Next>
+        ensures { result ≡ after_name_byte self byte }
+    {
+        match self {
+            TypeWord::B => after_b(byte),
+            TypeWord::Bin => after_bin(byte),
+            TypeWord::I => after_i(byte),
+            TypeWord::I1 => after_i1(byte),
+            TypeWord::U => after_u(byte),
+            TypeWord::Bo => if_byte(byte, b'o', Next::TypeWord(TypeWord::Boo)),
+            TypeWord::Boo => if_byte(byte, b'l', Next::After),
+            TypeWord::Bi => if_byte(byte, b'n', Next::TypeWord(TypeWord::Bin)),
+            TypeWord::Bina => if_byte(byte, b'r', Next::TypeWord(TypeWord::Binar)),
+            TypeWord::Binar => if_byte(byte, b'y', Next::After),
+            TypeWord::Binv => if_byte(byte, b'i', Next::TypeWord(TypeWord::Binvi)),
+            TypeWord::Binvi => if_byte(byte, b'e', Next::TypeWord(TypeWord::Binvie)),
+            TypeWord::Binvie => if_byte(byte, b'w', Next::After),
+            TypeWord::F => if_byte(byte, b'i', Next::TypeWord(TypeWord::Fi)),
+            TypeWord::Fi => if_byte(byte, b'x', Next::TypeWord(TypeWord::Fix)),
+            TypeWord::Fix => if_byte(byte, b'e', Next::TypeWord(TypeWord::Fixe)),
+            TypeWord::Fixe => if_byte(byte, b'd', Next::FixedBracket),
+            TypeWord::I12 => if_byte(byte, b'8', Next::After),
+            TypeWord::I3 => if_byte(byte, b'2', Next::After),
+            TypeWord::I6 => if_byte(byte, b'4', Next::After),
+            TypeWord::L => if_byte(byte, b'i', Next::TypeWord(TypeWord::Li)),
+            TypeWord::Li => if_byte(byte, b's', Next::TypeWord(TypeWord::Lis)),
+            TypeWord::Lis => if_byte(byte, b't', Next::ListBracket),
+            TypeWord::S => if_byte(byte, b't', Next::TypeWord(TypeWord::St)),
+            TypeWord::St => if_byte(byte, b'r', Next::TypeWord(TypeWord::Str)),
+            TypeWord::Str => if_byte(byte, b'u', Next::TypeWord(TypeWord::Stru)),
+            TypeWord::Stru => if_byte(byte, b'c', Next::TypeWord(TypeWord::Struc)),
+            TypeWord::Struc => if_byte(byte, b't', Next::StructBracket),
+            TypeWord::Ut => if_byte(byte, b'f', Next::TypeWord(TypeWord::Utf)),
+            TypeWord::Utf => if_byte(byte, b'8', Next::After),
         }
     }
-    Err(bytes.len())
+}
+
+/// Returns what may follow the byte after `b` in the name of a type.
+fn after_b(byte: u8) -> Option<Next>
+    ensures { result ≡ b_byte byte }
+{
+    match byte {
+        b'o' => Some(Next::TypeWord(TypeWord::Bo)),
+        b'i' => Some(Next::TypeWord(TypeWord::Bi)),
+        _ => None,
+    }
+}
+
+/// Returns what may follow the byte after `bin`.
+fn after_bin(byte: u8) -> Option<Next>
+    ensures { result ≡ bin_byte byte }
+{
+    match byte {
+        b'a' => Some(Next::TypeWord(TypeWord::Bina)),
+        b'v' => Some(Next::TypeWord(TypeWord::Binv)),
+        _ => None,
+    }
+}
+
+/// Returns what may follow the byte after `i`.
+fn after_i(byte: u8) -> Option<Next>
+    ensures { result ≡ i_byte byte }
+{
+    match byte {
+        b'8' => Some(Next::After),
+        b'1' => Some(Next::TypeWord(TypeWord::I1)),
+        b'3' => Some(Next::TypeWord(TypeWord::I3)),
+        b'6' => Some(Next::TypeWord(TypeWord::I6)),
+        _ => None,
+    }
+}
+
+/// Returns what may follow the byte after `i1` or `u1`.
+fn after_i1(byte: u8) -> Option<Next>
+    ensures { result ≡ i1_byte byte }
+{
+    match byte {
+        b'6' => Some(Next::After),
+        b'2' => Some(Next::TypeWord(TypeWord::I12)),
+        _ => None,
+    }
+}
+
+/// Returns what may follow the byte after `u`.
+fn after_u(byte: u8) -> Option<Next>
+    ensures { result ≡ u_byte byte }
+{
+    match byte {
+        b't' => Some(Next::TypeWord(TypeWord::Ut)),
+        _ => after_i(byte),
+    }
+}
+
+/// Returns `next` if a byte is the expected one.
+pub(crate) fn if_byte(byte: u8, expected: u8, next: Next) -> Option<Next>
+    ensures { result ≡ when (byte == expected) next }
+{
+    if byte == expected { Some(next) } else { None }
 }
 
 /// What the next byte of a string may be.
 #[derive(Clone, Copy)]
-enum Within {
+pub(crate) enum Within {
     /// A character, an escape, or the closing quote.
     Text,
     /// The letter of an escape.
     Escape,
     /// The first digit of a `\u` escape.
-    First,
+    UnitFirst,
     /// The second digit of a `\u` escape that begins with `d`.
-    Second,
-    /// One of the last digits of a `\u` escape, of which there are so many, and whether the escape
-    /// is the first of a surrogate pair.
-    Digit(u8, bool),
-    /// The backslash, the `u`, or the first or second digit of the second escape of a pair.
-    Backslash,
-    Letter,
+    UnitSecond,
+    /// One of the last three, two or one digits of a `\u` escape.
+    LastThree,
+    LastTwo,
+    LastOne,
+    /// One of the last two digits, or the last one, of the first escape of a surrogate pair.
+    HighTwo,
+    HighOne,
+    /// The backslash, the `u`, and the first two digits of the second escape of a pair.
+    LowBackslash,
+    LowLetter,
     LowFirst,
     LowSecond,
-    /// One of so many further bytes of a character, of which the next is in this range.
-    Character(u8, u8, u8),
-}
-
-/// Finds the end of a string.
-pub(crate) fn string_at(bytes: &[u8]) -> Result<usize, usize> {
-    let mut within = Within::Text;
-    for (k, byte) in bytes.iter().enumerate() {
-        if k >= 1 {
-            if let Within::Text = within {
-                if *byte == b'"' {
-                    return Ok(k + 1);
-                }
-            }
-            match within.next(*byte) {
-                Some(next) => within = next,
-                None => return Err(k),
-            }
-        }
-    }
-    Err(bytes.len())
+    /// The last byte, or one of the last two or three bytes, of a character.
+    ByteOne,
+    ByteTwo,
+    ByteThree,
+    /// The second byte of a character, after a first byte that permits only some.
+    AfterE0,
+    AfterEd,
+    AfterF0,
+    AfterF4,
 }
 
 impl Within {
-    /// Returns what may follow the byte, or `None` if no string goes on with it. The closing quote
-    /// is left to the caller.
-    fn next(self, byte: u8) -> Option<Within> {
+    /// Returns what may follow a further byte, or `None` if no string goes on with it.
+    pub(crate) fn next(self, byte: u8) -> Option<Next>
+        ensures { result ≡ after_string_byte self byte }
+    {
         match self {
             Within::Text => after_text(byte),
             Within::Escape => after_backslash(byte),
-            Within::First => after_first_digit(byte),
-            Within::Second => after_second_digit(byte),
-            Within::Digit(left, pair) => after_digit(byte, left, pair),
-            Within::Backslash if byte == b'\\' => Some(Within::Letter),
-            Within::Letter if byte == b'u' => Some(Within::LowFirst),
-            Within::LowFirst if matches!(byte, b'd' | b'D') => Some(Within::LowSecond),
-            Within::LowSecond if matches!(byte, b'c'..=b'f' | b'C'..=b'F') => {
-                Some(Within::Digit(2, false))
-            }
-            Within::Character(left, low, high) if byte >= low && byte <= high => {
-                Some(after_character(left))
-            }
-            _ => None,
+            Within::UnitFirst => after_unit_first(byte),
+            Within::UnitSecond => after_unit_second(byte),
+            Within::LastThree => if_hexadecimal(byte, Next::Quoted(Within::LastTwo)),
+            Within::LastTwo => if_hexadecimal(byte, Next::Quoted(Within::LastOne)),
+            Within::LastOne => if_hexadecimal(byte, Next::Quoted(Within::Text)),
+            Within::HighTwo => if_hexadecimal(byte, Next::Quoted(Within::HighOne)),
+            Within::HighOne => if_hexadecimal(byte, Next::Quoted(Within::LowBackslash)),
+            Within::LowBackslash => if_byte(byte, b'\\', Next::Quoted(Within::LowLetter)),
+            Within::LowLetter => if_byte(byte, b'u', Next::Quoted(Within::LowFirst)),
+            Within::LowFirst => after_low_first(byte),
+            Within::LowSecond => after_low_second(byte),
+            Within::ByteOne => if_between(byte, 0x80, 0xbf, Next::Quoted(Within::Text)),
+            Within::ByteTwo => if_between(byte, 0x80, 0xbf, Next::Quoted(Within::ByteOne)),
+            Within::ByteThree => if_between(byte, 0x80, 0xbf, Next::Quoted(Within::ByteTwo)),
+            Within::AfterE0 => if_between(byte, 0xa0, 0xbf, Next::Quoted(Within::ByteOne)),
+            Within::AfterEd => if_between(byte, 0x80, 0x9f, Next::Quoted(Within::ByteOne)),
+            Within::AfterF0 => if_between(byte, 0x90, 0xbf, Next::Quoted(Within::ByteTwo)),
+            Within::AfterF4 => if_between(byte, 0x80, 0x8f, Next::Quoted(Within::ByteTwo)),
         }
     }
 }
 
-/// Returns what may follow a byte between quotes: the first byte of a character, or a backslash.
-fn after_text(byte: u8) -> Option<Within> {
+/// Returns `next` if a byte is `low` to `high`.
+pub(crate) fn if_between(byte: u8, low: u8, high: u8, next: Next) -> Option<Next>
+    ensures { result ≡ when (is_between byte low high) next }
+{
+    if byte >= low && byte <= high {
+        Some(next)
+    } else {
+        None
+    }
+}
+
+/// Returns `next` if a byte is a hexadecimal digit, of either case.
+fn if_hexadecimal(byte: u8, next: Next) -> Option<Next>
+    ensures { result ≡ when (is_hexadecimal byte) next }
+{
     match byte {
-        b'\\' => Some(Within::Escape),
-        0x20..=0x7f => Some(Within::Text),
-        0xc2..=0xdf => Some(Within::Character(1, 0x80, 0xbf)),
-        0xe0 => Some(Within::Character(2, 0xa0, 0xbf)),
-        0xed => Some(Within::Character(2, 0x80, 0x9f)),
-        0xe1..=0xef => Some(Within::Character(2, 0x80, 0xbf)),
-        0xf0 => Some(Within::Character(3, 0x90, 0xbf)),
-        0xf1..=0xf3 => Some(Within::Character(3, 0x80, 0xbf)),
-        0xf4 => Some(Within::Character(3, 0x80, 0x8f)),
+        b'0'..=b'9' | b'a'..=b'f' | b'A'..=b'F' => Some(next),
         _ => None,
     }
 }
 
-/// Returns what may follow one of the further bytes of a character, of which there were `left`.
-fn after_character(left: u8) -> Within {
-    if left > 1 {
-        Within::Character(left - 1, 0x80, 0xbf)
-    } else {
-        Within::Text
+/// Returns what may follow a byte between quotes.
+fn after_text(byte: u8) -> Option<Next>
+    ensures { result ≡ text_byte byte }
+{
+    match byte {
+        b'"' => Some(Next::After),
+        b'\\' => Some(Next::Quoted(Within::Escape)),
+        0x20..=0x7f => Some(Next::Quoted(Within::Text)),
+        0xc2..=0xdf => Some(Next::Quoted(Within::ByteOne)),
+        0xe0 => Some(Next::Quoted(Within::AfterE0)),
+        0xed => Some(Next::Quoted(Within::AfterEd)),
+        0xe1..=0xef => Some(Next::Quoted(Within::ByteTwo)),
+        0xf0 => Some(Next::Quoted(Within::AfterF0)),
+        0xf1..=0xf3 => Some(Next::Quoted(Within::ByteThree)),
+        0xf4 => Some(Next::Quoted(Within::AfterF4)),
+        _ => None,
     }
 }
 
 /// Returns what may follow the byte after a backslash.
-fn after_backslash(byte: u8) -> Option<Within> {
+fn after_backslash(byte: u8) -> Option<Next>
+    ensures { result ≡ escape_byte byte }
+{
     match byte {
-        b'"' | b'\\' | b'/' | b'b' | b'f' | b'n' | b'r' | b't' => Some(Within::Text),
-        b'u' => Some(Within::First),
+        b'"' | b'\\' | b'/' | b'b' | b'f' | b'n' | b'r' | b't' => {
+            Some(Next::Quoted(Within::Text))
+        }
+        b'u' => Some(Next::Quoted(Within::UnitFirst)),
         _ => None,
     }
 }
 
 /// Returns what may follow the first digit of a `\u` escape: a surrogate begins with `d`.
-fn after_first_digit(byte: u8) -> Option<Within> {
+fn after_unit_first(byte: u8) -> Option<Next>
+    ensures { result ≡ unit_first_byte byte }
+{
     match byte {
-        b'd' | b'D' => Some(Within::Second),
-        _ if byte.is_ascii_hexdigit() => Some(Within::Digit(3, false)),
-        _ => None,
+        b'd' | b'D' => Some(Next::Quoted(Within::UnitSecond)),
+        _ => if_hexadecimal(byte, Next::Quoted(Within::LastThree)),
     }
 }
 
 /// Returns what may follow the second digit of a `\u` escape that begins with `d`: after 8 to b the
 /// second escape of a pair is needed, and c to f begin no escape alone.
-fn after_second_digit(byte: u8) -> Option<Within> {
+fn after_unit_second(byte: u8) -> Option<Next>
+    ensures { result ≡ unit_second_byte byte }
+{
     match byte {
-        b'0'..=b'7' => Some(Within::Digit(2, false)),
-        b'8' | b'9' | b'a' | b'b' | b'A' | b'B' => Some(Within::Digit(2, true)),
+        b'0'..=b'7' => Some(Next::Quoted(Within::LastTwo)),
+        b'8' | b'9' | b'a' | b'b' | b'A' | b'B' => Some(Next::Quoted(Within::HighTwo)),
         _ => None,
     }
 }
 
-/// Returns what may follow one of the last `left` digits of a `\u` escape.
-fn after_digit(byte: u8, left: u8, pair: bool) -> Option<Within> {
-    if !byte.is_ascii_hexdigit() {
-        return None;
+/// Returns what may follow the first digit of the second escape of a pair.
+fn after_low_first(byte: u8) -> Option<Next>
+    ensures { result ≡ low_first_byte byte }
+{
+    match byte {
+        b'd' | b'D' => Some(Next::Quoted(Within::LowSecond)),
+        _ => None,
     }
-    if left > 1 {
-        return Some(Within::Digit(left - 1, pair));
-    }
-    if pair {
-        Some(Within::Backslash)
-    } else {
-        Some(Within::Text)
+}
+
+/// Returns what may follow the second digit of the second escape of a pair.
+fn after_low_second(byte: u8) -> Option<Next>
+    ensures { result ≡ low_second_byte byte }
+{
+    match byte {
+        b'c'..=b'f' | b'C'..=b'F' => Some(Next::Quoted(Within::LastTwo)),
+        _ => None,
     }
 }

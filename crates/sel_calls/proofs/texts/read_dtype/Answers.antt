@@ -27,3 +27,12 @@ returns-then-not-widths_fit-clause-limit c = λ limit shape values named.
     let same : shape_of c.in-Ok-parse_dtype.dtype ≡ shape = one_spelled c.in-Ok.text.now (shape_of c.in-Ok-parse_dtype.dtype) shape c.in-Ok-parse_dtype.ensures.widths named.0 c.in-Ok-parse_dtype.ensures.text (ap spelled read ∙ named.2) in
     let past = wide_past Zeros c.in-Ok-parse_dtype.dtype (sym c.widths_fit.ensures ∙ c.if-not-widths_fit.true) values in
     or_second (nat_lt 64 (depth shape)) (exceeds_limit Zeros shape values) (subst (λ s. exceeds_limit Zeros s values ≡ true) same past)
+
+pub returns-in-Err-clause-limit : goal.returns-in-Err-clause-limit
+returns-in-Err-clause-limit c = λ limit shape values named. absurd (c.in-Err.ensures.cases.0 (IsUtf8-from_is_utf8 c.args.bytes.now named.1))
+
+pub returns-in-Err-clause-syntax : goal.returns-in-Err-clause-syntax
+returns-in-Err-clause-syntax c = c.not_utf8_type.ensures.syntax c.args.bytes.now c.find_type_error.ensures
+
+pub returns-in-Err-clause-place : goal.returns-in-Err-clause-place
+returns-in-Err-clause-place c = c.not_utf8_type.ensures.place c.args.bytes.now c.find_type_error.ensures

@@ -1,0 +1,253 @@
+-- Escapes of strings in the notation of rows.
+use Rattle.std.proofs.Common.{◌≡◌, ◌≢◌, ◌≤◌, ◌<◌, ℕ, ◌+◌, ◌-◌, ◌*◌, Bool, true, false, List, [], ◌∷◌, drop, refl, ap, sym, ◌∙◌, arith, Some, None, subst}
+use Rattle.std.specs.Prelude.{Option, unwrap_or, option_map, option_and_then, nat_lt, ◌&&◌, ◌==◌, if◌then◌else◌}
+use Rattle.std.specs.Char.{digit_value, is_digit}
+use Rattle.std.proofs.lemmas.Bool.Decides.{nat_tests}
+use lib.Utf8.{scalar}
+use Rattle.sel_text.proofs.StringNotation.{hex_step, inside, leads_byte, leads_none, Leads}
+use Rattle.sel_text.specs.Notation.{goes_on}
+use Rattle.sel_text.specs.Spelling.{escape_at, is_high, is_low, next_unit, paired, short_escape, unit_at, unit_escape}
+use Rattle.sel_text.specs.Tokens.{escape_byte, is_hexadecimal, low_first_byte, low_second_byte, unit_first_byte, unit_second_byte}
+use Rattle.sel_text.specs.declared.notation.Bracket.{Bracket}
+use Rattle.sel_text.specs.declared.notation.Next.TheVariants.{Quoted}
+use Rattle.sel_text.specs.declared.tokens.Within.TheVariants.{Text, Escape, UnitFirst, UnitSecond, LastThree, LastTwo, LastOne, HighTwo, HighOne, LowBackslash, LowLetter, LowFirst, LowSecond}
+
+-- An escape is that of a character, and leads to the next byte of the string.
+abbrev pub Escapes : List ℕ → ℕ → ℕ → Type 0
+Escapes text c n = (scalar c ≡ true) × ((brackets : List Bracket) → goes_on (Quoted Escape) brackets text ≡ goes_on (Quoted Text) brackets (drop n text))
+
+-- ---- escapes of one letter
+
+from_some : (x k c n : ℕ) → ◌≡◌ {A = Option (ℕ × ℕ)} (Some (x, k)) (Some (c, n)) → (x ≡ c) × (k ≡ n)
+from_some x k c n is = (ap (λ (o : Option (ℕ × ℕ)). (unwrap_or o (0, 0)).0) is, ap (λ (o : Option (ℕ × ℕ)). (unwrap_or o (0, 0)).1) is)
+
+from_short : (o : Option ℕ) (c n : ℕ) → option_map {U = ℕ × ℕ} (λ character. (character, 1)) o ≡ Some (c, n) → (o ≡ Some c) × (n ≡ 1)
+from_short None c n is = absurd cc
+from_short (Some x) c n is =
+    let same = from_some x 1 c n is in
+    (ap Some same.0, sym same.1)
+
+short_scalar : (letter c : ℕ) → short_escape letter ≡ Some c → scalar c ≡ true
+short_scalar letter c is = grind (arith, nat_tests, is)
+
+short_byte : (letter c : ℕ) → short_escape letter ≡ Some c → escape_byte letter ≡ Some (Quoted Text)
+short_byte letter c is = grind (arith, nat_tests, is)
+
+short_read : (letter : ℕ) (rest : List ℕ) (c n : ℕ) → option_map {U = ℕ × ℕ} (λ character. (character, 1)) (short_escape letter) ≡ Some (c, n) → Escapes (letter ∷ rest) c n
+short_read letter rest c n is =
+    let parts = from_short (short_escape letter) c n is in
+    (short_scalar letter c parts.0, λ brackets. inside Escape Text brackets letter rest (short_byte letter c parts.0) ∙ ap (λ k. goes_on (Quoted Text) brackets (drop k (letter ∷ rest))) (sym parts.1))
+
+-- ---- `\u` escapes
+
+-- Four hexadecimal digits at the front, and their number.
+record Unit_at (text : List ℕ) (unit : ℕ) : Type 0 where
+  a : ℕ
+  b : ℕ
+  c : ℕ
+  d : ℕ
+  rest : List ℕ
+  text_is : text ≡ a ∷ b ∷ c ∷ d ∷ rest
+  digit_a : digit_value a < 16
+  digit_b : digit_value b < 16
+  digit_c : digit_value c < 16
+  digit_d : digit_value d < 16
+  unit_is : unit ≡ digit_value a * 4096 + digit_value b * 256 + digit_value c * 16 + digit_value d
+
+of_digit : (x : ℕ) → is_digit x 16 ≡ true → digit_value x < 16
+of_digit x is = grind (arith, nat_tests, is)
+
+read_unit : (text : List ℕ) (unit : ℕ) → unit_at text ≡ Some unit → Unit_at text unit
+read_unit [] unit is = absurd cc
+read_unit (a ∷ []) unit is = absurd cc
+read_unit (a ∷ b ∷ []) unit is = absurd cc
+read_unit (a ∷ b ∷ c ∷ []) unit is = absurd cc
+read_unit (a ∷ b ∷ c ∷ d ∷ rest) unit is = go (is_digit a 16) (is_digit b 16) (is_digit c 16) (is_digit d 16) refl refl refl refl is
+  where
+    go : (p q r s : Bool) → is_digit a 16 ≡ p → is_digit b 16 ≡ q → is_digit c 16 ≡ r → is_digit d 16 ≡ s →
+        (if p && q && r && s then Some (digit_value a * 4096 + digit_value b * 256 + digit_value c * 16 + digit_value d) else None) ≡ Some unit → Unit_at (a ∷ b ∷ c ∷ d ∷ rest) unit
+    go true true true true da db dc dd is = record {
+      a = a;
+      b = b;
+      c = c;
+      d = d;
+      rest = rest;
+      text_is = refl;
+      digit_a = of_digit a da;
+      digit_b = of_digit b db;
+      digit_c = of_digit c dc;
+      digit_d = of_digit d dd;
+      unit_is = cc;
+    }
+    go true true true false da db dc dd is = absurd cc
+    go true true false s da db dc dd is = absurd cc
+    go true false r s da db dc dd is = absurd cc
+    go false q r s da db dc dd is = absurd cc
+
+hexadecimal : (x : ℕ) → digit_value x < 16 → is_hexadecimal x ≡ true
+hexadecimal x small = grind (arith, nat_tests, small)
+
+surrogate_first : (x : ℕ) → digit_value x ≡ 13 → unit_first_byte x ≡ Some (Quoted UnitSecond)
+surrogate_first x is = grind (arith, nat_tests, is)
+
+other_first : (x : ℕ) → digit_value x < 16 → digit_value x ≢ 13 → unit_first_byte x ≡ Some (Quoted LastThree)
+other_first x small not = grind (arith, nat_tests, small, not)
+
+low_digit : (x : ℕ) → digit_value x < 8 → unit_second_byte x ≡ Some (Quoted LastTwo)
+low_digit x small = grind (arith, nat_tests, small)
+
+high_second : (x : ℕ) → 8 ≤ digit_value x → digit_value x < 12 → unit_second_byte x ≡ Some (Quoted HighTwo)
+high_second x least most = grind (arith, nat_tests, least, most)
+
+low_first : (x : ℕ) → digit_value x ≡ 13 → low_first_byte x ≡ Some (Quoted LowSecond)
+low_first x is = grind (arith, nat_tests, is)
+
+low_second : (x : ℕ) → 12 ≤ digit_value x → digit_value x < 16 → low_second_byte x ≡ Some (Quoted LastTwo)
+low_second x least most = grind (arith, nat_tests, least, most)
+
+last_two : (c d : ℕ) → digit_value c < 16 → digit_value d < 16 → Leads LastTwo Text (c ∷ d ∷ [])
+last_two c d digit_c digit_d =
+    leads_byte LastTwo LastOne Text c (d ∷ []) (hex_step LastTwo LastOne c refl (hexadecimal c digit_c))
+    (leads_byte LastOne Text Text d [] (hex_step LastOne Text d refl (hexadecimal d digit_d)) (leads_none Text))
+
+-- A unit that is no surrogate.
+plain_unit : (text : List ℕ) (unit : ℕ) → is_high unit ≡ false → is_low unit ≡ false → Unit_at text unit → Escapes (117 ∷ text) unit 5
+plain_unit text unit high low at = (
+  plain_scalar unit high low (omega (arith, at.unit_is, at.digit_a, at.digit_b, at.digit_c, at.digit_d)),
+  λ brackets. inside Escape UnitFirst brackets 117 text refl ∙ rw at.text_is ((digits (digit_value at.a == 13) refl).led brackets at.rest),
+)
+  where
+    plain_scalar : (unit : ℕ) → is_high unit ≡ false → is_low unit ≡ false → unit < 65536 → scalar unit ≡ true
+    plain_scalar unit high low small = grind (arith, nat_tests, high, low, small)
+
+    apart : (unit : ℕ) → is_high unit ≡ false → is_low unit ≡ false → 55296 ≤ unit → 57344 ≤ unit
+    apart unit high low least = grind (arith, nat_tests, high, low, least)
+
+    digits : (t : Bool) → (digit_value at.a == 13) ≡ t → Leads UnitFirst Text (at.a ∷ at.b ∷ at.c ∷ at.d ∷ [])
+    digits true is =
+        let same : digit_value at.a ≡ 13 = grind (arith, nat_tests, is) in
+        let small : digit_value at.b < 8 = second same (nat_lt (digit_value at.b) 8) refl in
+        leads_byte UnitFirst UnitSecond Text at.a _ (surrogate_first at.a same) (leads_byte UnitSecond LastTwo Text at.b _ (low_digit at.b small) (last_two at.c at.d at.digit_c at.digit_d))
+      where
+        second : digit_value at.a ≡ 13 → (t : Bool) → nat_lt (digit_value at.b) 8 ≡ t → digit_value at.b < 8
+        second same true is = grind (arith, nat_tests, is)
+        second same false is =
+            let least : 8 ≤ digit_value at.b = grind (arith, nat_tests, is) in
+            let past = apart unit high low (omega (arith, at.unit_is, same, least)) in
+            absurd (omega (arith, at.unit_is, same, at.digit_b, at.digit_c, at.digit_d, past))
+    digits false is =
+        let not : digit_value at.a ≢ 13 = grind (arith, nat_tests, is) in
+        leads_byte UnitFirst LastThree Text at.a _ (other_first at.a at.digit_a not)
+        (leads_byte LastThree LastTwo Text at.b _ (hex_step LastThree LastTwo at.b refl (hexadecimal at.b at.digit_b)) (last_two at.c at.d at.digit_c at.digit_d))
+
+range_high : (unit : ℕ) → is_high unit ≡ true → (55296 ≤ unit) × (unit < 56320)
+range_high unit is = (grind (arith, nat_tests, is), grind (arith, nat_tests, is))
+
+range_low : (unit : ℕ) → is_low unit ≡ true → (56320 ≤ unit) × (unit < 57344)
+range_low unit is = (grind (arith, nat_tests, is), grind (arith, nat_tests, is))
+
+-- The first escape of a surrogate pair.
+high_leads : (text : List ℕ) (unit : ℕ) → is_high unit ≡ true → (at : Unit_at text unit) → Leads UnitFirst LowBackslash (at.a ∷ at.b ∷ at.c ∷ at.d ∷ [])
+high_leads text unit is at =
+    let range = range_high unit is in
+    let least = range.0 in
+    let most = range.1 in
+    let first : digit_value at.a ≡ 13 = omega (arith, at.unit_is, at.digit_b, at.digit_c, at.digit_d, least, most) in
+    let from : 8 ≤ digit_value at.b = omega (arith, at.unit_is, first, at.digit_c, at.digit_d, least) in
+    let until : digit_value at.b < 12 = omega (arith, at.unit_is, first, most) in
+    leads_byte UnitFirst UnitSecond LowBackslash at.a _ (surrogate_first at.a first) (leads_byte UnitSecond HighTwo LowBackslash at.b _ (high_second at.b from until)
+    (leads_byte HighTwo HighOne LowBackslash at.c _ (hex_step HighTwo HighOne at.c refl (hexadecimal at.c at.digit_c))
+    (leads_byte HighOne LowBackslash LowBackslash at.d [] (hex_step HighOne LowBackslash at.d refl (hexadecimal at.d at.digit_d)) (leads_none LowBackslash))))
+
+-- The second escape of a surrogate pair, after its `\u`.
+low_leads : (text : List ℕ) (unit : ℕ) → is_low unit ≡ true → (at : Unit_at text unit) → Leads LowFirst Text (at.a ∷ at.b ∷ at.c ∷ at.d ∷ [])
+low_leads text unit is at =
+    let range = range_low unit is in
+    let least = range.0 in
+    let most = range.1 in
+    let first : digit_value at.a ≡ 13 = omega (arith, at.unit_is, at.digit_b, at.digit_c, at.digit_d, least, most) in
+    let from : 12 ≤ digit_value at.b = omega (arith, at.unit_is, first, at.digit_c, at.digit_d, least) in
+    leads_byte LowFirst LowSecond Text at.a _ (low_first at.a first) (leads_byte LowSecond LastTwo Text at.b _ (low_second at.b from at.digit_b) (last_two at.c at.d at.digit_c at.digit_d))
+
+-- A second escape.
+record Next_unit (text : List ℕ) (unit : ℕ) : Type 0 where
+  digits : List ℕ
+  text_is : text ≡ 92 ∷ 117 ∷ digits
+  unit_is : unit_at digits ≡ Some unit
+
+read_next : (text : List ℕ) (unit : ℕ) → next_unit text ≡ Some unit → Next_unit text unit
+read_next [] unit is = absurd cc
+read_next (x ∷ []) unit is = absurd cc
+read_next (x ∷ y ∷ rest) unit is = go (x == 92) (y == 117) refl refl is
+  where
+    go : (p q : Bool) → (x == 92) ≡ p → (y == 117) ≡ q → (if p && q then unit_at rest else None) ≡ Some unit → Next_unit (x ∷ y ∷ rest) unit
+    go true true px qy is =
+        let first : x ≡ 92 = grind (arith, nat_tests, px) in
+        let second : y ≡ 117 = grind (arith, nat_tests, qy) in
+        record { digits = rest; text_is = rw (first, second) refl; unit_is = is }
+    go true false px qy is = absurd cc
+    go false q px qy is = absurd cc
+
+pair_scalar : (high low : ℕ) → is_high high ≡ true → is_low low ≡ true → scalar (65536 + (high - 55296) * 1024 + (low - 56320)) ≡ true
+pair_scalar high low first second =
+    let a = range_high high first in
+    let b = range_low low second in
+    let most : 65536 + (high - 55296) * 1024 + (low - 56320) < 1114112 = let x = a.1 in let y = b.1 in omega (arith, x, y) in
+    let least : 57344 ≤ 65536 + (high - 55296) * 1024 + (low - 56320) = omega arith in
+    within (65536 + (high - 55296) * 1024 + (low - 56320)) least most
+  where
+    within : (n : ℕ) → 57344 ≤ n → n < 1114112 → scalar n ≡ true
+    within n least most = grind (arith, nat_tests, least, most)
+
+from_pair : (t : Bool) (x c n : ℕ) → if◌then◌else◌ {A = Option (ℕ × ℕ)} t (Some (x, 11)) None ≡ Some (c, n) → (t ≡ true) × (x ≡ c) × (n ≡ 11)
+from_pair true x c n is =
+    let same = from_some x 11 c n is in
+    (refl, same.0, sym same.1)
+from_pair false x c n is = absurd cc
+
+pair_read : (text : List ℕ) (unit c n : ℕ) → is_high unit ≡ true → Unit_at text unit → option_and_then (paired unit) (next_unit (drop 4 text)) ≡ Some (c, n) → Escapes (117 ∷ text) c n
+pair_read text unit c n high at is = go (next_unit at.rest) refl (ap (λ t. option_and_then (paired unit) (next_unit (drop 4 t))) (sym at.text_is) ∙ is)
+  where
+    go : (o : Option ℕ) → next_unit at.rest ≡ o → option_and_then (paired unit) o ≡ Some (c, n) → Escapes (117 ∷ text) c n
+    go None told is = absurd cc
+    go (Some low) told is =
+        let parts = from_pair (is_low low) (65536 + (unit - 55296) * 1024 + (low - 56320)) c n is in
+        let other = read_next at.rest low told in
+        let digits = read_unit other.digits low other.unit_is in
+        let whole : text ≡ at.a ∷ at.b ∷ at.c ∷ at.d ∷ 92 ∷ 117 ∷ digits.a ∷ digits.b ∷ digits.c ∷ digits.d ∷ digits.rest =
+        at.text_is ∙ ap (λ t. at.a ∷ at.b ∷ at.c ∷ at.d ∷ t) (other.text_is ∙ ap (λ t. 92 ∷ 117 ∷ t) digits.text_is) in (
+          subst (λ x. scalar x ≡ true) parts.1 (pair_scalar unit low high parts.0),
+          λ brackets. rw (whole, parts.2)
+              (inside Escape UnitFirst brackets 117 (at.a ∷ at.b ∷ at.c ∷ at.d ∷ 92 ∷ 117 ∷ digits.a ∷ digits.b ∷ digits.c ∷ digits.d ∷ digits.rest) refl
+              ∙ (high_leads text unit high at).led brackets (92 ∷ 117 ∷ digits.a ∷ digits.b ∷ digits.c ∷ digits.d ∷ digits.rest)
+              ∙ inside LowBackslash LowLetter brackets 92 (117 ∷ digits.a ∷ digits.b ∷ digits.c ∷ digits.d ∷ digits.rest) refl
+              ∙ inside LowLetter LowFirst brackets 117 (digits.a ∷ digits.b ∷ digits.c ∷ digits.d ∷ digits.rest) refl
+              ∙ (low_leads other.digits low parts.0 digits).led brackets digits.rest),
+        )
+
+unit_read : (text : List ℕ) (c n : ℕ) → option_and_then (unit_escape text) (unit_at text) ≡ Some (c, n) → Escapes (117 ∷ text) c n
+unit_read text c n is = go (unit_at text) refl is
+  where
+    go : (o : Option ℕ) → unit_at text ≡ o → option_and_then (unit_escape text) o ≡ Some (c, n) → Escapes (117 ∷ text) c n
+    go None told is = absurd cc
+    go (Some unit) told is = choose (is_high unit) (is_low unit) refl refl is
+      where
+        choose : (h l : Bool) → is_high unit ≡ h → is_low unit ≡ l → (if h then option_and_then (paired unit) (next_unit (drop 4 text)) else if l then None else Some (unit, 5)) ≡ Some (c, n) → Escapes (117 ∷ text) c n
+        choose true l high low is = pair_read text unit c n high (read_unit text unit told) is
+        choose false true high low is = absurd cc
+        choose false false high low is =
+            let same = from_some unit 5 c n is in
+            let character : unit ≡ c = same.0 in
+            let count : 5 ≡ n = same.1 in
+            subst (λ k. Escapes (117 ∷ text) c k) count (subst (λ x. Escapes (117 ∷ text) x 5) character (plain_unit text unit high low (read_unit text unit told)))
+
+-- An escape leads to the next byte of the string.
+pub escape_read : (text : List ℕ) (c n : ℕ) → escape_at text ≡ Some (c, n) → Escapes text c n
+escape_read [] c n is = absurd cc
+escape_read (letter ∷ rest) c n is = go (letter == 117) refl is
+  where
+    go : (t : Bool) → (letter == 117) ≡ t → (if t then option_and_then (unit_escape rest) (unit_at rest) else option_map {U = ℕ × ℕ} (λ character. (character, 1)) (short_escape letter)) ≡ Some (c, n) → Escapes (letter ∷ rest) c n
+    go true told is =
+        let same : letter ≡ 117 = grind (arith, nat_tests, told) in
+        subst (λ x. Escapes (x ∷ rest) c n) (sym same) (unit_read rest c n is)
+    go false told is = short_read letter rest c n is

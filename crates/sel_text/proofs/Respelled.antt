@@ -1,0 +1,913 @@
+-- A text is in the notation if its canonical spelling is: white space between tokens makes no
+-- difference, and neither do escapes.
+use Rattle.std.proofs.Common.{◌≡◌, ◌≤◌, ◌<◌, ℕ, Bool, true, false, List, [], ◌∷◌, ◌++◌, length, length-drop, drop, refl, ap, sym, ◌∙◌, arith, Some, None, subst, inl, inr}
+use Rattle.std.specs.Prelude.{◌⊎◌, option_and_then, encode_utf8, Option, suc, zero, option_map, nat_lt, ◌==◌, not, if◌then◌else◌}
+use Rattle.std.specs.List.{flat_map, list_all}
+use lib.Utf8.{scalar}
+use Rattle.std.proofs.lemmas.Bool.Decides.{nat_tests}
+use Rattle.sel_arrow.specs.Shape.{Shape}
+use Rattle.sel_text.specs.Notation.{after_byte, changed, closes, goes_on, innermost, is_end, is_last, is_some_and, is_row_notation, is_type_notation, kept, name_byte, value_byte}
+use Rattle.sel_text.specs.Tokens.{after_name_byte, after_word_byte, is_between}
+use Rattle.sel_text.specs.Spelling.{escape_at, escape_spelled, is_mark, is_space, place_in_word, spelled, spelled_from}
+use Rattle.sel_text.proofs.Spellings.{begins}
+use Rattle.sel_text.proofs.EscapeNotation.{escape_read}
+use Rattle.sel_text.proofs.RowNotation.{rows_in_notation}
+use Rattle.sel_text.proofs.StringNotation.{letter_leads, starts, Starts}
+use Rattle.sel_text.proofs.TypeNotation.{step_to, type_in_notation}
+use Rattle.sel_arrow.specs.Value.{Value as RowValue}
+use Rattle.sel_text.specs.Fits.{fits}
+use Rattle.sel_text.specs.Texts.{escaped, text_of}
+use Rattle.sel_text.specs.Types.{type_text}
+use Rattle.sel_text.specs.Written.{widths_written}
+use Rattle.sel_text.specs.declared.notation.Bracket.{Bracket}
+use Rattle.sel_text.specs.declared.notation.Bracket.TheVariants.{Square, Round, Child, Fields}
+use Rattle.sel_text.specs.declared.notation.Change.{Change}
+use Rattle.sel_text.specs.declared.notation.Change.TheVariants.{Keep, Open, Close}
+use Rattle.sel_text.specs.declared.notation.Next.{Next}
+use Rattle.sel_text.specs.declared.notation.Next.TheVariants.{Rows, FirstValue, Value, FirstName, Name, ListBracket, FixedBracket, StructBracket, Size, SizeDigit, SizeComma, After, Negative, Digit, HexQuote, HexFirst, HexSecond, Word, TypeWord, Quoted}
+use Rattle.sel_text.specs.declared.spelling.Place.{Place}
+use Rattle.sel_text.specs.declared.spelling.Place.TheVariants.{Between, Gap, Prefix, Word as PlaceWord, Quoted as InString, Hexadecimal as InHex}
+use Rattle.sel_text.specs.declared.tokens.TypeWord.{TypeWord as TypeWordSoFar}
+use Rattle.sel_text.specs.declared.tokens.TypeWord.TheVariants.{B, Bo, Boo, Bi, Bin, Bina, Binar, Binv, Binvi, Binvie, F as FixedF, Fi, Fix, Fixe, I, I1, I12, I3, I6, L, Li, Lis, S, St, Str, Stru, Struc, U, Ut, Utf}
+use Rattle.sel_text.specs.declared.tokens.Within.{Within}
+use Rattle.sel_text.specs.declared.tokens.Within.TheVariants.{Text, Escape, UnitFirst, UnitSecond, LastThree, LastTwo, LastOne, HighTwo, HighOne, LowBackslash, LowLetter, LowFirst, LowSecond, ByteOne, ByteTwo, ByteThree, AfterE0, AfterEd, AfterF0, AfterF4}
+use Rattle.sel_text.specs.declared.tokens.Word.{Word as WordSoFar}
+use Rattle.sel_text.specs.declared.tokens.Word.TheVariants.{N, Nu, Nul, T, Tr, Tru, F as FalseF, Fa, Fal, Fals}
+
+-- ---- what may come next
+
+-- Whether white space may be before the next token.
+abbrev pub is_spaced : Next → Bool
+is_spaced Rows = true
+is_spaced FirstValue = true
+is_spaced Value = true
+is_spaced FirstName = true
+is_spaced Name = true
+is_spaced ListBracket = true
+is_spaced FixedBracket = true
+is_spaced StructBracket = true
+is_spaced Size = true
+is_spaced SizeDigit = false
+is_spaced SizeComma = true
+is_spaced After = true
+is_spaced Negative = false
+is_spaced Digit = false
+is_spaced HexQuote = false
+is_spaced HexFirst = false
+is_spaced HexSecond = false
+is_spaced (Word word) = false
+is_spaced (TypeWord word) = false
+is_spaced (Quoted within) = false
+
+-- Whether the next byte is outside of strings and of bytes in hexadecimal.
+abbrev pub is_unquoted : Next → Bool
+is_unquoted Rows = true
+is_unquoted FirstValue = true
+is_unquoted Value = true
+is_unquoted FirstName = true
+is_unquoted Name = true
+is_unquoted ListBracket = true
+is_unquoted FixedBracket = true
+is_unquoted StructBracket = true
+is_unquoted Size = true
+is_unquoted SizeDigit = true
+is_unquoted SizeComma = true
+is_unquoted After = true
+is_unquoted Negative = true
+is_unquoted Digit = true
+is_unquoted HexQuote = false
+is_unquoted HexFirst = false
+is_unquoted HexSecond = false
+is_unquoted (Word word) = true
+is_unquoted (TypeWord word) = true
+is_unquoted (Quoted within) = false
+
+-- Whether the next byte is a byte of a character of a string.
+abbrev pub is_character : Within → Bool
+is_character Text = true
+is_character Escape = false
+is_character UnitFirst = false
+is_character UnitSecond = false
+is_character LastThree = false
+is_character LastTwo = false
+is_character LastOne = false
+is_character HighTwo = false
+is_character HighOne = false
+is_character LowBackslash = false
+is_character LowLetter = false
+is_character LowFirst = false
+is_character LowSecond = false
+is_character ByteOne = true
+is_character ByteTwo = true
+is_character ByteThree = true
+is_character AfterE0 = true
+is_character AfterEd = true
+is_character AfterF0 = true
+is_character AfterF4 = true
+
+abbrev pub is_in_string : Next → Bool
+is_in_string Rows = false
+is_in_string FirstValue = false
+is_in_string Value = false
+is_in_string FirstName = false
+is_in_string Name = false
+is_in_string ListBracket = false
+is_in_string FixedBracket = false
+is_in_string StructBracket = false
+is_in_string Size = false
+is_in_string SizeDigit = false
+is_in_string SizeComma = false
+is_in_string After = false
+is_in_string Negative = false
+is_in_string Digit = false
+is_in_string HexQuote = false
+is_in_string HexFirst = false
+is_in_string HexSecond = false
+is_in_string (Word word) = false
+is_in_string (TypeWord word) = false
+is_in_string (Quoted within) = is_character within
+
+abbrev pub is_prefix : Next → Bool
+is_prefix Rows = false
+is_prefix FirstValue = false
+is_prefix Value = false
+is_prefix FirstName = false
+is_prefix Name = false
+is_prefix ListBracket = false
+is_prefix FixedBracket = false
+is_prefix StructBracket = false
+is_prefix Size = false
+is_prefix SizeDigit = false
+is_prefix SizeComma = false
+is_prefix After = false
+is_prefix Negative = false
+is_prefix Digit = false
+is_prefix HexQuote = true
+is_prefix HexFirst = false
+is_prefix HexSecond = false
+is_prefix (Word word) = false
+is_prefix (TypeWord word) = false
+is_prefix (Quoted within) = false
+
+abbrev pub is_in_hex : Next → Bool
+is_in_hex Rows = false
+is_in_hex FirstValue = false
+is_in_hex Value = false
+is_in_hex FirstName = false
+is_in_hex Name = false
+is_in_hex ListBracket = false
+is_in_hex FixedBracket = false
+is_in_hex StructBracket = false
+is_in_hex Size = false
+is_in_hex SizeDigit = false
+is_in_hex SizeComma = false
+is_in_hex After = false
+is_in_hex Negative = false
+is_in_hex Digit = false
+is_in_hex HexQuote = false
+is_in_hex HexFirst = true
+is_in_hex HexSecond = true
+is_in_hex (Word word) = false
+is_in_hex (TypeWord word) = false
+is_in_hex (Quoted within) = false
+
+-- What may come next after a lexical state.
+abbrev pub may_follow : Place → Next → Bool
+may_follow Between next = is_spaced next
+may_follow Gap next = is_spaced next
+may_follow PlaceWord next = is_unquoted next
+may_follow Prefix next = is_prefix next
+may_follow InString next = is_in_string next
+may_follow InHex next = is_in_hex next
+
+-- Whether a value, if there is one, passes a test.
+abbrev pub every : {A : Type 0} → (A → Bool) → Option A → Bool
+every test None = true
+every test (Some value) = test value
+
+-- Outside of strings and bytes in hexadecimal, a byte leads to what may follow it.
+abbrev pub leads : ℕ → Next × Change → Bool
+leads byte step =
+    if is_mark byte then is_spaced step.0 else if byte == 34 then is_in_string step.0 else if byte == 104 then is_prefix step.0 else is_unquoted step.0
+
+word_leads : (word : WordSoFar) (top : Option Bracket) (byte : ℕ) → every (leads byte) (after_byte (Word word) top byte) ≡ true
+word_leads N top byte = grind (arith, nat_tests)
+word_leads Nu top byte = grind (arith, nat_tests)
+word_leads Nul top byte = grind (arith, nat_tests)
+word_leads T top byte = grind (arith, nat_tests)
+word_leads Tr top byte = grind (arith, nat_tests)
+word_leads Tru top byte = grind (arith, nat_tests)
+word_leads FalseF top byte = grind (arith, nat_tests)
+word_leads Fa top byte = grind (arith, nat_tests)
+word_leads Fal top byte = grind (arith, nat_tests)
+word_leads Fals top byte = grind (arith, nat_tests)
+
+name_leads : (word : TypeWordSoFar) (top : Option Bracket) (byte : ℕ) → every (leads byte) (after_byte (TypeWord word) top byte) ≡ true
+name_leads B top byte = grind (arith, nat_tests)
+name_leads Bo top byte = grind (arith, nat_tests)
+name_leads Boo top byte = grind (arith, nat_tests)
+name_leads Bi top byte = grind (arith, nat_tests)
+name_leads Bin top byte = grind (arith, nat_tests)
+name_leads Bina top byte = grind (arith, nat_tests)
+name_leads Binar top byte = grind (arith, nat_tests)
+name_leads Binv top byte = grind (arith, nat_tests)
+name_leads Binvi top byte = grind (arith, nat_tests)
+name_leads Binvie top byte = grind (arith, nat_tests)
+name_leads FixedF top byte = grind (arith, nat_tests)
+name_leads Fi top byte = grind (arith, nat_tests)
+name_leads Fix top byte = grind (arith, nat_tests)
+name_leads Fixe top byte = grind (arith, nat_tests)
+name_leads I top byte = grind (arith, nat_tests)
+name_leads I1 top byte = grind (arith, nat_tests)
+name_leads I12 top byte = grind (arith, nat_tests)
+name_leads I3 top byte = grind (arith, nat_tests)
+name_leads I6 top byte = grind (arith, nat_tests)
+name_leads L top byte = grind (arith, nat_tests)
+name_leads Li top byte = grind (arith, nat_tests)
+name_leads Lis top byte = grind (arith, nat_tests)
+name_leads S top byte = grind (arith, nat_tests)
+name_leads St top byte = grind (arith, nat_tests)
+name_leads Str top byte = grind (arith, nat_tests)
+name_leads Stru top byte = grind (arith, nat_tests)
+name_leads Struc top byte = grind (arith, nat_tests)
+name_leads U top byte = grind (arith, nat_tests)
+name_leads Ut top byte = grind (arith, nat_tests)
+name_leads Utf top byte = grind (arith, nat_tests)
+
+every_if : {A : Type 0} (test : A → Bool) (t : Bool) (x y : Option A) → (t ≡ true → every test x ≡ true) → (t ≡ false → every test y ≡ true) → every test (if t then x else y) ≡ true
+every_if test true x y f g = f refl
+every_if test false x y f g = g refl
+
+is_byte : (byte k : ℕ) → (byte == k) ≡ true → byte ≡ k
+is_byte byte k is = grind (arith, nat_tests, is)
+
+at_byte : (byte k : ℕ) (step : Next × Change) → (byte == k) ≡ true → leads k step ≡ true → leads byte step ≡ true
+at_byte byte k step is told = subst (λ c. leads c step ≡ true) (sym (is_byte byte k is)) told
+
+digit_leads : (byte : ℕ) (next : Next) → is_between byte 49 57 ≡ true → is_unquoted next ≡ true → leads byte (next, Keep) ≡ true
+digit_leads byte next is outside =
+    let no_mark : is_mark byte ≡ false = grind (arith, nat_tests, is) in
+    let no_quote : (byte == 34) ≡ false = grind (arith, nat_tests, is) in
+    let no_prefix : (byte == 104) ≡ false = grind (arith, nat_tests, is) in
+    rw (no_mark, no_quote, no_prefix) outside
+
+value_leads : (before : Next) (byte : ℕ) → is_space byte ≡ false → every (leads byte) (value_byte before byte) ≡ true
+value_leads before byte other =
+    let E = every_if (leads byte) in
+    E (is_space byte) _ _ (λ is. let none : true ≡ false = sym is ∙ other in absurd cc) (λ _.
+    E (byte == 91) _ _ (λ is. at_byte byte 91 (FirstValue, Open Square) is refl) (λ _.
+    E (byte == 40) _ _ (λ is. at_byte byte 40 (FirstValue, Open Round) is refl) (λ _.
+    E (byte == 110) _ _ (λ is. at_byte byte 110 (Word N, Keep) is refl) (λ _.
+    E (byte == 116) _ _ (λ is. at_byte byte 116 (Word T, Keep) is refl) (λ _.
+    E (byte == 102) _ _ (λ is. at_byte byte 102 (Word FalseF, Keep) is refl) (λ _.
+    E (byte == 104) _ _ (λ is. at_byte byte 104 (HexQuote, Keep) is refl) (λ _.
+    E (byte == 34) _ _ (λ is. at_byte byte 34 (Quoted Text, Keep) is refl) (λ _.
+    E (byte == 45) _ _ (λ is. at_byte byte 45 (Negative, Keep) is refl) (λ _.
+    E (byte == 48) _ _ (λ is. at_byte byte 48 (After, Keep) is refl) (λ _.
+    E (is_between byte 49 57) _ _ (λ is. digit_leads byte Digit is refl) (λ _. refl)))))))))))
+
+name_byte_leads : (before : Next) (byte : ℕ) → is_space byte ≡ false → every (leads byte) (name_byte before byte) ≡ true
+name_byte_leads before byte other =
+    let E = every_if (leads byte) in
+    E (is_space byte) _ _ (λ is. let none : true ≡ false = sym is ∙ other in absurd cc) (λ _.
+    E (byte == 98) _ _ (λ is. at_byte byte 98 (TypeWord B, Keep) is refl) (λ _.
+    E (byte == 102) _ _ (λ is. at_byte byte 102 (TypeWord FixedF, Keep) is refl) (λ _.
+    E (byte == 105) _ _ (λ is. at_byte byte 105 (TypeWord I, Keep) is refl) (λ _.
+    E (byte == 108) _ _ (λ is. at_byte byte 108 (TypeWord L, Keep) is refl) (λ _.
+    E (byte == 110) _ _ (λ is. at_byte byte 110 (Word N, Keep) is refl) (λ _.
+    E (byte == 115) _ _ (λ is. at_byte byte 115 (TypeWord S, Keep) is refl) (λ _.
+    E (byte == 117) _ _ (λ is. at_byte byte 117 (TypeWord U, Keep) is refl) (λ _. refl))))))))
+
+closing_leads : (top : Option Bracket) (byte : ℕ) → closes top byte ≡ true → leads byte (After, Close) ≡ true
+closing_leads None byte is = absurd cc
+closing_leads (Some Square) byte is = at_byte byte 93 (After, Close) is refl
+closing_leads (Some Round) byte is = at_byte byte 41 (After, Close) is refl
+closing_leads (Some Child) byte is = at_byte byte 62 (After, Close) is refl
+closing_leads (Some Fields) byte is = at_byte byte 62 (After, Close) is refl
+
+byte_leads : (next : Next) (top : Option Bracket) (byte : ℕ) → is_unquoted next ≡ true → is_space byte ≡ false → every (leads byte) (after_byte next top byte) ≡ true
+byte_leads Rows top byte outside other = grind (arith, nat_tests, other)
+byte_leads FirstValue top byte outside other = every_if (leads byte) (closes top byte) _ _ (λ is. closing_leads top byte is) (λ _. value_leads FirstValue byte other)
+byte_leads Value top byte outside other = value_leads Value byte other
+byte_leads FirstName top byte outside other = every_if (leads byte) (closes top byte) _ _ (λ is. closing_leads top byte is) (λ _. name_byte_leads FirstName byte other)
+byte_leads Name top byte outside other = name_byte_leads Name byte other
+byte_leads ListBracket top byte outside other = grind (arith, nat_tests, other)
+byte_leads FixedBracket top byte outside other = grind (arith, nat_tests, other)
+byte_leads StructBracket top byte outside other = grind (arith, nat_tests, other)
+byte_leads Size top byte outside other = grind (arith, nat_tests, other)
+byte_leads SizeDigit top byte outside other = grind (arith, nat_tests, other)
+byte_leads SizeComma top byte outside other = grind (arith, nat_tests, other)
+byte_leads After top byte outside other = grind (arith, nat_tests, other)
+byte_leads Negative top byte outside other = grind (arith, nat_tests, other)
+byte_leads Digit top byte outside other = grind (arith, nat_tests, other)
+byte_leads HexQuote top byte outside other = absurd cc
+byte_leads HexFirst top byte outside other = absurd cc
+byte_leads HexSecond top byte outside other = absurd cc
+byte_leads (Word word) top byte outside other = word_leads word top byte
+byte_leads (TypeWord word) top byte outside other = name_leads word top byte
+byte_leads (Quoted within) top byte outside other = absurd cc
+
+-- In bytes in hexadecimal.
+abbrev pub hex_after : ℕ → Next × Change → Bool
+hex_after byte step = if byte == 34 then is_unquoted step.0 else is_in_hex step.0
+
+hex_leads : (next : Next) (top : Option Bracket) (byte : ℕ) → is_in_hex next ≡ true → every (hex_after byte) (after_byte next top byte) ≡ true
+hex_leads Rows top byte may = absurd cc
+hex_leads FirstValue top byte may = absurd cc
+hex_leads Value top byte may = absurd cc
+hex_leads FirstName top byte may = absurd cc
+hex_leads Name top byte may = absurd cc
+hex_leads ListBracket top byte may = absurd cc
+hex_leads FixedBracket top byte may = absurd cc
+hex_leads StructBracket top byte may = absurd cc
+hex_leads Size top byte may = absurd cc
+hex_leads SizeDigit top byte may = absurd cc
+hex_leads SizeComma top byte may = absurd cc
+hex_leads After top byte may = absurd cc
+hex_leads Negative top byte may = absurd cc
+hex_leads Digit top byte may = absurd cc
+hex_leads HexQuote top byte may = absurd cc
+hex_leads HexFirst top byte may = grind (arith, nat_tests)
+hex_leads HexSecond top byte may = grind (arith, nat_tests)
+hex_leads (Word word) top byte may = absurd cc
+hex_leads (TypeWord word) top byte may = absurd cc
+hex_leads (Quoted within) top byte may = absurd cc
+
+-- In a string, at another byte than a backslash.
+abbrev pub string_after : ℕ → Next × Change → Bool
+string_after byte step = if byte == 34 then is_unquoted step.0 else is_in_string step.0
+
+within_leads : (within : Within) (top : Option Bracket) (byte : ℕ) → is_character within ≡ true → (byte == 92) ≡ false → every (string_after byte) (after_byte (Quoted within) top byte) ≡ true
+within_leads Text top byte may other = grind (arith, nat_tests, other)
+within_leads Escape top byte may other = absurd cc
+within_leads UnitFirst top byte may other = absurd cc
+within_leads UnitSecond top byte may other = absurd cc
+within_leads LastThree top byte may other = absurd cc
+within_leads LastTwo top byte may other = absurd cc
+within_leads LastOne top byte may other = absurd cc
+within_leads HighTwo top byte may other = absurd cc
+within_leads HighOne top byte may other = absurd cc
+within_leads LowBackslash top byte may other = absurd cc
+within_leads LowLetter top byte may other = absurd cc
+within_leads LowFirst top byte may other = absurd cc
+within_leads LowSecond top byte may other = absurd cc
+within_leads ByteOne top byte may other = grind (arith, nat_tests, other)
+within_leads ByteTwo top byte may other = grind (arith, nat_tests, other)
+within_leads ByteThree top byte may other = grind (arith, nat_tests, other)
+within_leads AfterE0 top byte may other = grind (arith, nat_tests, other)
+within_leads AfterEd top byte may other = grind (arith, nat_tests, other)
+within_leads AfterF0 top byte may other = grind (arith, nat_tests, other)
+within_leads AfterF4 top byte may other = grind (arith, nat_tests, other)
+
+string_leads : (next : Next) (top : Option Bracket) (byte : ℕ) → is_in_string next ≡ true → (byte == 92) ≡ false → every (string_after byte) (after_byte next top byte) ≡ true
+string_leads Rows top byte may other = absurd cc
+string_leads FirstValue top byte may other = absurd cc
+string_leads Value top byte may other = absurd cc
+string_leads FirstName top byte may other = absurd cc
+string_leads Name top byte may other = absurd cc
+string_leads ListBracket top byte may other = absurd cc
+string_leads FixedBracket top byte may other = absurd cc
+string_leads StructBracket top byte may other = absurd cc
+string_leads Size top byte may other = absurd cc
+string_leads SizeDigit top byte may other = absurd cc
+string_leads SizeComma top byte may other = absurd cc
+string_leads After top byte may other = absurd cc
+string_leads Negative top byte may other = absurd cc
+string_leads Digit top byte may other = absurd cc
+string_leads HexQuote top byte may other = absurd cc
+string_leads HexFirst top byte may other = absurd cc
+string_leads HexSecond top byte may other = absurd cc
+string_leads (Word word) top byte may other = absurd cc
+string_leads (TypeWord word) top byte may other = absurd cc
+string_leads (Quoted within) top byte may other = within_leads within top byte may other
+
+-- Nothing but the quote follows the `h` of bytes in hexadecimal.
+abbrev pub prefix_after : ℕ → Next × Change → Bool
+prefix_after byte step = if byte == 34 then is_in_hex step.0 else false
+
+prefix_leads : (next : Next) (top : Option Bracket) (byte : ℕ) → is_prefix next ≡ true → every (prefix_after byte) (after_byte next top byte) ≡ true
+prefix_leads Rows top byte may = absurd cc
+prefix_leads FirstValue top byte may = absurd cc
+prefix_leads Value top byte may = absurd cc
+prefix_leads FirstName top byte may = absurd cc
+prefix_leads Name top byte may = absurd cc
+prefix_leads ListBracket top byte may = absurd cc
+prefix_leads FixedBracket top byte may = absurd cc
+prefix_leads StructBracket top byte may = absurd cc
+prefix_leads Size top byte may = absurd cc
+prefix_leads SizeDigit top byte may = absurd cc
+prefix_leads SizeComma top byte may = absurd cc
+prefix_leads After top byte may = absurd cc
+prefix_leads Negative top byte may = absurd cc
+prefix_leads Digit top byte may = absurd cc
+prefix_leads HexQuote top byte may = grind (arith, nat_tests)
+prefix_leads HexFirst top byte may = absurd cc
+prefix_leads HexSecond top byte may = absurd cc
+prefix_leads (Word word) top byte may = absurd cc
+prefix_leads (TypeWord word) top byte may = absurd cc
+prefix_leads (Quoted within) top byte may = absurd cc
+
+space_closes : (top : Option Bracket) (byte : ℕ) → is_space byte ≡ true → closes top byte ≡ false
+space_closes None byte space = refl
+space_closes (Some Square) byte space = grind (arith, nat_tests, space)
+space_closes (Some Round) byte space = grind (arith, nat_tests, space)
+space_closes (Some Child) byte space = grind (arith, nat_tests, space)
+space_closes (Some Fields) byte space = grind (arith, nat_tests, space)
+
+-- White space before a token.
+stays : (next : Next) (top : Option Bracket) (byte : ℕ) → is_spaced next ≡ true → is_space byte ≡ true → after_byte next top byte ≡ Some (next, Keep)
+stays Rows top byte may space = rw space refl
+stays FirstValue top byte may space = rw (space_closes top byte space, space) refl
+stays Value top byte may space = rw space refl
+stays FirstName top byte may space = rw (space_closes top byte space, space) refl
+stays Name top byte may space = rw space refl
+stays ListBracket top byte may space = rw space refl
+stays FixedBracket top byte may space = rw space refl
+stays StructBracket top byte may space = rw space refl
+stays Size top byte may space = rw space refl
+stays SizeDigit top byte may space = absurd cc
+stays SizeComma top byte may space = rw space refl
+stays After top byte may space = rw space refl
+stays Negative top byte may space = absurd cc
+stays Digit top byte may space = absurd cc
+stays HexQuote top byte may space = absurd cc
+stays HexFirst top byte may space = absurd cc
+stays HexSecond top byte may space = absurd cc
+stays (Word word) top byte may space = absurd cc
+stays (TypeWord word) top byte may space = absurd cc
+stays (Quoted within) top byte may space = absurd cc
+
+spaced_unquoted : (next : Next) → is_spaced next ≡ true → is_unquoted next ≡ true
+spaced_unquoted Rows may = refl
+spaced_unquoted FirstValue may = refl
+spaced_unquoted Value may = refl
+spaced_unquoted FirstName may = refl
+spaced_unquoted Name may = refl
+spaced_unquoted ListBracket may = refl
+spaced_unquoted FixedBracket may = refl
+spaced_unquoted StructBracket may = refl
+spaced_unquoted Size may = refl
+spaced_unquoted SizeDigit may = absurd cc
+spaced_unquoted SizeComma may = refl
+spaced_unquoted After may = refl
+spaced_unquoted Negative may = absurd cc
+spaced_unquoted Digit may = absurd cc
+spaced_unquoted HexQuote may = absurd cc
+spaced_unquoted HexFirst may = absurd cc
+spaced_unquoted HexSecond may = absurd cc
+spaced_unquoted (Word word) may = absurd cc
+spaced_unquoted (TypeWord word) may = absurd cc
+spaced_unquoted (Quoted within) may = absurd cc
+
+-- ---- the canonical spelling, byte by byte
+
+space_between : (byte : ℕ) (rest bytes : List ℕ) → is_space byte ≡ true → spelled_from Between 0 (byte ∷ rest) ≡ Some bytes → spelled_from Between 0 rest ≡ Some bytes
+space_between byte rest bytes space is =
+    let same : spelled_from Between 0 (byte ∷ rest) ≡ option_map (λ more. [] ++ more) (spelled_from Between 0 rest) = rw space refl in
+    sym (begins [] (spelled_from Between 0 rest)) ∙ sym same ∙ is
+
+space_gap : (byte : ℕ) (rest bytes : List ℕ) → is_space byte ≡ true → spelled_from Gap 0 (byte ∷ rest) ≡ Some bytes → spelled_from Gap 0 rest ≡ Some bytes
+space_gap byte rest bytes space is =
+    let same : spelled_from Gap 0 (byte ∷ rest) ≡ option_map (λ more. [] ++ more) (spelled_from Gap 0 rest) = rw space refl in
+    sym (begins [] (spelled_from Gap 0 rest)) ∙ sym same ∙ is
+
+space_word : (byte : ℕ) (rest bytes : List ℕ) → is_space byte ≡ true → spelled_from PlaceWord 0 (byte ∷ rest) ≡ Some bytes → spelled_from Gap 0 rest ≡ Some bytes
+space_word byte rest bytes space is =
+    let same : spelled_from PlaceWord 0 (byte ∷ rest) ≡ option_map (λ more. [] ++ more) (spelled_from Gap 0 rest) = rw space refl in
+    sym (begins [] (spelled_from Gap 0 rest)) ∙ sym same ∙ is
+
+space_prefix : (byte : ℕ) (rest bytes : List ℕ) → is_space byte ≡ true → spelled_from Prefix 0 (byte ∷ rest) ≡ Some bytes → spelled_from Gap 0 rest ≡ Some bytes
+space_prefix byte rest bytes space is =
+    let same : spelled_from Prefix 0 (byte ∷ rest) ≡ option_map (λ more. [] ++ more) (spelled_from Gap 0 rest) = rw space refl in
+    sym (begins [] (spelled_from Gap 0 rest)) ∙ sym same ∙ is
+
+from_map : (byte : ℕ) (o : Option (List ℕ)) (bytes : List ℕ) → option_map (λ more. (byte ∷ []) ++ more) o ≡ Some bytes → (more : List ℕ) × (o ≡ Some more) × (bytes ≡ byte ∷ more)
+from_map byte None bytes is = absurd cc
+from_map byte (Some more) bytes is = (more, refl, cc)
+
+-- After a word and white space there is nothing more, or a mark.
+abbrev pub Ended : List ℕ → Type 0
+Ended bytes = (bytes ≡ []) ⊎ ((mark : ℕ) × (more : List ℕ) × (is_mark mark ≡ true) × (bytes ≡ mark ∷ more))
+
+gap_ended : (text bytes : List ℕ) → spelled_from Gap 0 text ≡ Some bytes → Ended bytes
+gap_ended [] bytes is = inl cc
+gap_ended (byte ∷ rest) bytes is = go (gap_ended rest) (is_space byte) refl
+  where
+    go : ((bytes : List ℕ) → spelled_from Gap 0 rest ≡ Some bytes → Ended bytes) → (b : Bool) → is_space byte ≡ b → Ended bytes
+    go later true space = later bytes (space_gap byte rest bytes space is)
+    go later false space = token (is_mark byte) refl
+      where
+        token : (b : Bool) → is_mark byte ≡ b → Ended bytes
+        token true mark =
+            let same : spelled_from Gap 0 (byte ∷ rest) ≡ option_map (λ more. (byte ∷ []) ++ more) (spelled_from Between 0 rest) = rw space (rw mark refl) in
+            let split = from_map byte (spelled_from Between 0 rest) bytes (sym same ∙ is) in
+            inr (byte, split.0, mark, split.2)
+        token false mark =
+            let same : spelled_from Gap 0 (byte ∷ rest) ≡ None = rw space (rw mark refl) in
+            let none : None ≡ Some bytes = sym same ∙ is in
+            absurd cc
+
+unfinished : (next : Next) (brackets : List Bracket) → is_last next ≡ false → is_end next brackets ≡ false
+unfinished next [] last = last
+unfinished next (bracket ∷ brackets) last = refl
+
+-- A token that no mark ends is not ended.
+dead : (next : Next) (brackets : List Bracket) (bytes : List ℕ) → is_last next ≡ false → ((top : Option Bracket) (mark : ℕ) → is_mark mark ≡ true → after_byte next top mark ≡ None) → Ended bytes →
+    goes_on next brackets bytes ≡ false
+dead next brackets bytes last none (inl empty) = ap (goes_on next brackets) empty ∙ unfinished next brackets last
+dead next brackets bytes last none (inr m) =
+    ap (goes_on next brackets) m.3 ∙ ap (is_some_and (λ (step : Next × Change). goes_on step.0 (changed step.1 brackets) m.1)) (none (innermost brackets) m.0 m.2)
+
+-- A number that a mark or the end follows is ended.
+ended : (next behind : Next) (brackets : List Bracket) (bytes : List ℕ) → is_last next ≡ false → ((top : Option Bracket) (mark : ℕ) → is_mark mark ≡ true → after_byte next top mark ≡ after_byte behind top mark) → Ended bytes →
+    goes_on next brackets bytes ≡ true → goes_on behind brackets bytes ≡ true
+ended next behind brackets bytes last same (inl empty) on =
+    let none : true ≡ false = sym on ∙ ap (goes_on next brackets) empty ∙ unfinished next brackets last in
+    absurd cc
+ended next behind brackets bytes last same (inr m) on =
+    ap (goes_on behind brackets) m.3 ∙ ap (is_some_and (λ (step : Next × Change). goes_on step.0 (changed step.1 brackets) m.1)) (sym (same (innermost brackets) m.0 m.2))
+    ∙ sym (ap (goes_on next brackets) m.3) ∙ on
+
+no_digit : (mark : ℕ) → is_mark mark ≡ true → is_between mark 48 57 ≡ false
+no_digit mark is = grind (arith, nat_tests, is)
+
+no_first_digit : (mark : ℕ) → is_mark mark ≡ true → is_between mark 49 57 ≡ false
+no_first_digit mark is = grind (arith, nat_tests, is)
+
+word_dead : (word : WordSoFar) (mark : ℕ) → is_mark mark ≡ true → after_word_byte word mark ≡ None
+word_dead N mark is = grind (arith, nat_tests, is)
+word_dead Nu mark is = grind (arith, nat_tests, is)
+word_dead Nul mark is = grind (arith, nat_tests, is)
+word_dead T mark is = grind (arith, nat_tests, is)
+word_dead Tr mark is = grind (arith, nat_tests, is)
+word_dead Tru mark is = grind (arith, nat_tests, is)
+word_dead FalseF mark is = grind (arith, nat_tests, is)
+word_dead Fa mark is = grind (arith, nat_tests, is)
+word_dead Fal mark is = grind (arith, nat_tests, is)
+word_dead Fals mark is = grind (arith, nat_tests, is)
+
+name_dead : (word : TypeWordSoFar) (mark : ℕ) → is_mark mark ≡ true → after_name_byte word mark ≡ None
+name_dead B mark is = grind (arith, nat_tests, is)
+name_dead Bo mark is = grind (arith, nat_tests, is)
+name_dead Boo mark is = grind (arith, nat_tests, is)
+name_dead Bi mark is = grind (arith, nat_tests, is)
+name_dead Bin mark is = grind (arith, nat_tests, is)
+name_dead Bina mark is = grind (arith, nat_tests, is)
+name_dead Binar mark is = grind (arith, nat_tests, is)
+name_dead Binv mark is = grind (arith, nat_tests, is)
+name_dead Binvi mark is = grind (arith, nat_tests, is)
+name_dead Binvie mark is = grind (arith, nat_tests, is)
+name_dead FixedF mark is = grind (arith, nat_tests, is)
+name_dead Fi mark is = grind (arith, nat_tests, is)
+name_dead Fix mark is = grind (arith, nat_tests, is)
+name_dead Fixe mark is = grind (arith, nat_tests, is)
+name_dead I mark is = grind (arith, nat_tests, is)
+name_dead I1 mark is = grind (arith, nat_tests, is)
+name_dead I12 mark is = grind (arith, nat_tests, is)
+name_dead I3 mark is = grind (arith, nat_tests, is)
+name_dead I6 mark is = grind (arith, nat_tests, is)
+name_dead L mark is = grind (arith, nat_tests, is)
+name_dead Li mark is = grind (arith, nat_tests, is)
+name_dead Lis mark is = grind (arith, nat_tests, is)
+name_dead S mark is = grind (arith, nat_tests, is)
+name_dead St mark is = grind (arith, nat_tests, is)
+name_dead Str mark is = grind (arith, nat_tests, is)
+name_dead Stru mark is = grind (arith, nat_tests, is)
+name_dead Struc mark is = grind (arith, nat_tests, is)
+name_dead U mark is = grind (arith, nat_tests, is)
+name_dead Ut mark is = grind (arith, nat_tests, is)
+name_dead Utf mark is = grind (arith, nat_tests, is)
+
+hex_quote_dead : (top : Option Bracket) (mark : ℕ) → is_mark mark ≡ true → after_byte HexQuote top mark ≡ None
+hex_quote_dead top mark is = grind (arith, nat_tests, is)
+
+-- ---- the same text, spelled in another way
+
+abbrev pub Respelled : List ℕ → Type 0
+Respelled text = (place : Place) (next : Next) (brackets : List Bracket) (bytes : List ℕ) → may_follow place next ≡ true → spelled_from place 0 text ≡ Some bytes →
+    goes_on next brackets bytes ≡ true → goes_on next brackets text ≡ true
+
+-- A byte that is spelled as it is.
+follow : (byte : ℕ) (rest : List ℕ) → Respelled rest → (next : Next) (brackets : List Bracket) (after : Place) (bytes : List ℕ) → option_map (λ more. (byte ∷ []) ++ more) (spelled_from after 0 rest) ≡ Some bytes →
+    goes_on next brackets bytes ≡ true → every (λ (step : Next × Change). may_follow after step.0) (after_byte next (innermost brackets) byte) ≡ true → goes_on next brackets (byte ∷ rest) ≡ true
+follow byte rest later next brackets after bytes is on leads_to =
+    let split = from_map byte (spelled_from after 0 rest) bytes is in
+    go split.0 split.1 (after_byte next (innermost brackets) byte) refl (subst (λ bs. goes_on next brackets bs ≡ true) split.2 on) leads_to
+  where
+    go : (more : List ℕ) → spelled_from after 0 rest ≡ Some more → (step : Option (Next × Change)) → after_byte next (innermost brackets) byte ≡ step →
+        is_some_and (λ (step : Next × Change). goes_on step.0 (changed step.1 brackets) more) step ≡ true → every (λ (step : Next × Change). may_follow after step.0) step ≡ true → goes_on next brackets (byte ∷ rest) ≡ true
+    go more told None is so_far leads_to = absurd cc
+    go more told (Some step) is so_far leads_to = step_to next step.0 step.1 brackets byte rest is ∙ later after step.0 (changed step.1 brackets) more leads_to told so_far
+
+space_no_digit : (byte : ℕ) → is_space byte ≡ true → is_between byte 48 57 ≡ false
+space_no_digit byte space = grind (arith, nat_tests, space)
+
+-- White space after a token that is not ended by its last byte.
+gap : (byte : ℕ) (rest : List ℕ) → Respelled rest → (next : Next) (brackets : List Bracket) (bytes : List ℕ) → is_space byte ≡ true → is_spaced next ≡ false → is_unquoted next ≡ true →
+    spelled_from Gap 0 rest ≡ Some bytes → goes_on next brackets bytes ≡ true → goes_on next brackets (byte ∷ rest) ≡ true
+gap byte rest later Rows brackets bytes space not outside is on = absurd cc
+gap byte rest later FirstValue brackets bytes space not outside is on = absurd cc
+gap byte rest later Value brackets bytes space not outside is on = absurd cc
+gap byte rest later FirstName brackets bytes space not outside is on = absurd cc
+gap byte rest later Name brackets bytes space not outside is on = absurd cc
+gap byte rest later ListBracket brackets bytes space not outside is on = absurd cc
+gap byte rest later FixedBracket brackets bytes space not outside is on = absurd cc
+gap byte rest later StructBracket brackets bytes space not outside is on = absurd cc
+gap byte rest later Size brackets bytes space not outside is on = absurd cc
+gap byte rest later SizeDigit brackets bytes space not outside is on =
+    let number : is_between byte 48 57 ≡ false = space_no_digit byte space in
+    let step : after_byte SizeDigit (innermost brackets) byte ≡ Some (SizeComma, Keep) = rw (number, space) refl in
+    step_to SizeDigit SizeComma Keep brackets byte rest step
+    ∙ later Gap SizeComma brackets bytes refl is (ended SizeDigit SizeComma brackets bytes refl (λ top mark is_token. rw (no_digit mark is_token) refl) (gap_ended rest bytes is) on)
+gap byte rest later SizeComma brackets bytes space not outside is on = absurd cc
+gap byte rest later After brackets bytes space not outside is on = absurd cc
+gap byte rest later Negative brackets bytes space not outside is on =
+    let none : true ≡ false = sym on ∙ dead Negative brackets bytes refl (λ top mark is_token. rw (no_first_digit mark is_token) refl) (gap_ended rest bytes is) in
+    absurd cc
+gap byte rest later Digit brackets bytes space not outside is on =
+    let number : is_between byte 48 57 ≡ false = space_no_digit byte space in
+    let step : after_byte Digit (innermost brackets) byte ≡ Some (After, Keep) = rw (number, space) refl in
+    step_to Digit After Keep brackets byte rest step
+    ∙ later Gap After brackets bytes refl is (ended Digit After brackets bytes refl (λ top mark is_token. rw (no_digit mark is_token) refl) (gap_ended rest bytes is) on)
+gap byte rest later HexQuote brackets bytes space not outside is on = absurd cc
+gap byte rest later HexFirst brackets bytes space not outside is on = absurd cc
+gap byte rest later HexSecond brackets bytes space not outside is on = absurd cc
+gap byte rest later (Word word) brackets bytes space not outside is on =
+    let none : true ≡ false = sym on ∙ dead (Word word) brackets bytes refl (λ top mark is_token. ap kept (word_dead word mark is_token)) (gap_ended rest bytes is) in
+    absurd cc
+gap byte rest later (TypeWord word) brackets bytes space not outside is on =
+    let none : true ≡ false = sym on ∙ dead (TypeWord word) brackets bytes refl (λ top mark is_token. ap kept (name_dead word mark is_token)) (gap_ended rest bytes is) in
+    absurd cc
+gap byte rest later (Quoted within) brackets bytes space not outside is on = absurd cc
+
+-- White space outside of strings.
+spaced_step : (byte : ℕ) (rest : List ℕ) → Respelled rest → (after : Place) (next : Next) (brackets : List Bracket) (bytes : List ℕ) → is_space byte ≡ true →
+    (is_spaced next ≡ true → may_follow after next ≡ true) → (is_spaced next ≡ false → after ≡ Gap) → is_unquoted next ≡ true →
+    spelled_from after 0 rest ≡ Some bytes → goes_on next brackets bytes ≡ true → goes_on next brackets (byte ∷ rest) ≡ true
+spaced_step byte rest later after next brackets bytes space spaced_may gap_is outside told on = go (is_spaced next) refl
+  where
+    go : (b : Bool) → is_spaced next ≡ b → goes_on next brackets (byte ∷ rest) ≡ true
+    go true spaced = step_to next next Keep brackets byte rest (stays next (innermost brackets) byte spaced space) ∙ later after next brackets bytes (spaced_may spaced) told on
+    go false not = gap byte rest later next brackets bytes space not outside (subst (λ place. spelled_from place 0 rest ≡ Some bytes) (gap_is not) told) on
+
+leads_mark : (byte : ℕ) (step : Option (Next × Change)) → is_mark byte ≡ true → every (leads byte) step ≡ true → every (λ (step : Next × Change). may_follow Between step.0) step ≡ true
+leads_mark byte None mark is = refl
+leads_mark byte (Some step) mark is = sym (ap (λ t. if t then is_spaced step.0 else if byte == 34 then is_in_string step.0 else if byte == 104 then is_prefix step.0 else is_unquoted step.0) mark) ∙ is
+
+-- The state after a byte of a word.
+abbrev pub word_place : ℕ → Place
+word_place byte = if byte == 34 then InString else if byte == 104 then Prefix else PlaceWord
+
+word_may : (quote prefix : Bool) (next : Next) → may_follow (if quote then InString else if prefix then Prefix else PlaceWord) next ≡ (if quote then is_in_string next else if prefix then is_prefix next else is_unquoted next)
+word_may true prefix next = refl
+word_may false true next = refl
+word_may false false next = refl
+
+leads_word : (byte : ℕ) (step : Option (Next × Change)) → is_mark byte ≡ false → every (leads byte) step ≡ true → every (λ (step : Next × Change). may_follow (word_place byte) step.0) step ≡ true
+leads_word byte None mark is = refl
+leads_word byte (Some step) mark is =
+    word_may (byte == 34) (byte == 104) step.0 ∙ sym (ap (λ t. if t then is_spaced step.0 else if byte == 34 then is_in_string step.0 else if byte == 104 then is_prefix step.0 else is_unquoted step.0) mark) ∙ is
+
+-- Another byte, outside of strings.
+between_step : (byte : ℕ) (rest : List ℕ) → Respelled rest → (next : Next) (brackets : List Bracket) (bytes : List ℕ) → is_spaced next ≡ true → is_space byte ≡ false → spelled_from Between 0 (byte ∷ rest) ≡ Some bytes →
+    goes_on next brackets bytes ≡ true → goes_on next brackets (byte ∷ rest) ≡ true
+between_step byte rest later next brackets bytes may space is on = go (is_mark byte) refl
+  where
+    leads_to : every (leads byte) (after_byte next (innermost brackets) byte) ≡ true
+    leads_to = byte_leads next (innermost brackets) byte (spaced_unquoted next may) space
+
+    go : (b : Bool) → is_mark byte ≡ b → goes_on next brackets (byte ∷ rest) ≡ true
+    go true mark =
+        let same : spelled_from Between 0 (byte ∷ rest) ≡ option_map (λ more. (byte ∷ []) ++ more) (spelled_from Between 0 rest) = rw space (rw mark refl) in
+        follow byte rest later next brackets Between bytes (sym same ∙ is) on (leads_mark byte (after_byte next (innermost brackets) byte) mark leads_to)
+    go false mark =
+        let same : spelled_from Between 0 (byte ∷ rest) ≡ option_map (λ more. (byte ∷ []) ++ more) (spelled_from (word_place byte) 0 rest) = rw space (rw mark refl) in
+        follow byte rest later next brackets (word_place byte) bytes (sym same ∙ is) on (leads_word byte (after_byte next (innermost brackets) byte) mark leads_to)
+
+word_step : (byte : ℕ) (rest : List ℕ) → Respelled rest → (next : Next) (brackets : List Bracket) (bytes : List ℕ) → is_unquoted next ≡ true → is_space byte ≡ false → spelled_from PlaceWord 0 (byte ∷ rest) ≡ Some bytes →
+    goes_on next brackets bytes ≡ true → goes_on next brackets (byte ∷ rest) ≡ true
+word_step byte rest later next brackets bytes outside space is on = go (is_mark byte) refl
+  where
+    leads_to : every (leads byte) (after_byte next (innermost brackets) byte) ≡ true
+    leads_to = byte_leads next (innermost brackets) byte outside space
+
+    go : (b : Bool) → is_mark byte ≡ b → goes_on next brackets (byte ∷ rest) ≡ true
+    go true mark =
+        let same : spelled_from PlaceWord 0 (byte ∷ rest) ≡ option_map (λ more. (byte ∷ []) ++ more) (spelled_from Between 0 rest) = rw space (rw mark refl) in
+        follow byte rest later next brackets Between bytes (sym same ∙ is) on (leads_mark byte (after_byte next (innermost brackets) byte) mark leads_to)
+    go false mark =
+        let same : spelled_from PlaceWord 0 (byte ∷ rest) ≡ option_map (λ more. (byte ∷ []) ++ more) (spelled_from (word_place byte) 0 rest) = rw space (rw mark refl) in
+        follow byte rest later next brackets (word_place byte) bytes (sym same ∙ is) on (leads_word byte (after_byte next (innermost brackets) byte) mark leads_to)
+
+gap_step : (byte : ℕ) (rest : List ℕ) → Respelled rest → (next : Next) (brackets : List Bracket) (bytes : List ℕ) → is_spaced next ≡ true → is_space byte ≡ false → spelled_from Gap 0 (byte ∷ rest) ≡ Some bytes →
+    goes_on next brackets bytes ≡ true → goes_on next brackets (byte ∷ rest) ≡ true
+gap_step byte rest later next brackets bytes may space is on = go (is_mark byte) refl
+  where
+    leads_to : every (leads byte) (after_byte next (innermost brackets) byte) ≡ true
+    leads_to = byte_leads next (innermost brackets) byte (spaced_unquoted next may) space
+
+    go : (b : Bool) → is_mark byte ≡ b → goes_on next brackets (byte ∷ rest) ≡ true
+    go true mark =
+        let same : spelled_from Gap 0 (byte ∷ rest) ≡ option_map (λ more. (byte ∷ []) ++ more) (spelled_from Between 0 rest) = rw space (rw mark refl) in
+        follow byte rest later next brackets Between bytes (sym same ∙ is) on (leads_mark byte (after_byte next (innermost brackets) byte) mark leads_to)
+    go false mark =
+        let same : spelled_from Gap 0 (byte ∷ rest) ≡ None = rw space (rw mark refl) in
+        let none : None ≡ Some bytes = sym same ∙ is in
+        absurd cc
+
+-- After an `h`.
+prefix_dead : (next : Next) (byte : ℕ) (rest : List ℕ) (brackets : List Bracket) (after : Place) (bytes : List ℕ) → is_prefix next ≡ true → (byte == 34) ≡ false → option_map (λ more. (byte ∷ []) ++ more) (spelled_from after 0 rest) ≡ Some bytes →
+    goes_on next brackets bytes ≡ true → goes_on next brackets (byte ∷ rest) ≡ true
+prefix_dead next byte rest brackets after bytes may other is on =
+    let split = from_map byte (spelled_from after 0 rest) bytes is in
+    go split.0 (after_byte next (innermost brackets) byte) (subst (λ bs. goes_on next brackets bs ≡ true) split.2 on) (prefix_leads next (innermost brackets) byte may)
+  where
+    go : (more : List ℕ) (step : Option (Next × Change)) → is_some_and (λ (step : Next × Change). goes_on step.0 (changed step.1 brackets) more) step ≡ true → every (prefix_after byte) step ≡ true → goes_on next brackets (byte ∷ rest) ≡ true
+    go more None so_far leads_to = absurd cc
+    go more (Some step) so_far leads_to =
+        let none : false ≡ true = sym (ap (λ t. if t then is_in_hex step.0 else false) other) ∙ leads_to in
+        absurd cc
+
+prefix_quote : (byte : ℕ) (step : Option (Next × Change)) → (byte == 34) ≡ true → every (prefix_after byte) step ≡ true → every (λ (step : Next × Change). may_follow InHex step.0) step ≡ true
+prefix_quote byte None quote is = refl
+prefix_quote byte (Some step) quote is = sym (ap (λ t. if t then is_in_hex step.0 else false) quote) ∙ is
+
+quote_no_mark : (byte : ℕ) → (byte == 34) ≡ true → (is_mark byte ≡ false) × (is_space byte ≡ false)
+quote_no_mark byte quote = (grind (arith, nat_tests, quote), grind (arith, nat_tests, quote))
+
+prefix_step : (byte : ℕ) (rest : List ℕ) → Respelled rest → (next : Next) (brackets : List Bracket) (bytes : List ℕ) → is_prefix next ≡ true → spelled_from Prefix 0 (byte ∷ rest) ≡ Some bytes →
+    goes_on next brackets bytes ≡ true → goes_on next brackets (byte ∷ rest) ≡ true
+prefix_step byte rest later next brackets bytes may is on = go (byte == 34) (is_space byte) (is_mark byte) refl refl refl
+  where
+    go : (q s m : Bool) → (byte == 34) ≡ q → is_space byte ≡ s → is_mark byte ≡ m → goes_on next brackets (byte ∷ rest) ≡ true
+    go true s m quote _ _ =
+        let none = quote_no_mark byte quote in
+        let mark = none.0 in
+        let space = none.1 in
+        let same : spelled_from Prefix 0 (byte ∷ rest) ≡ option_map (λ more. (byte ∷ []) ++ more) (spelled_from InHex 0 rest) = rw space (rw mark (rw quote refl)) in
+        follow byte rest later next brackets InHex bytes (sym same ∙ is) on (prefix_quote byte (after_byte next (innermost brackets) byte) quote (prefix_leads next (innermost brackets) byte may))
+    go false true m quote space _ =
+        let none : true ≡ false = sym on ∙ prefix_ended next brackets bytes may (gap_ended rest bytes (space_prefix byte rest bytes space is)) in
+        absurd cc
+      where
+        prefix_ended : (next : Next) (brackets : List Bracket) (bytes : List ℕ) → is_prefix next ≡ true → Ended bytes → goes_on next brackets bytes ≡ false
+        prefix_ended HexQuote brackets bytes may end = dead HexQuote brackets bytes refl hex_quote_dead end
+        prefix_ended next brackets bytes may end = absurd cc
+    go false false true quote space mark =
+        let same : spelled_from Prefix 0 (byte ∷ rest) ≡ option_map (λ more. (byte ∷ []) ++ more) (spelled_from Between 0 rest) = rw space (rw mark refl) in
+        prefix_dead next byte rest brackets Between bytes may quote (sym same ∙ is) on
+    go false false false quote space mark =
+        let same : spelled_from Prefix 0 (byte ∷ rest) ≡ option_map (λ more. (byte ∷ []) ++ more) (spelled_from (place_in_word Prefix byte) 0 rest) = rw space (rw mark refl) in
+        prefix_dead next byte rest brackets (place_in_word Prefix byte) bytes may quote (sym same ∙ is) on
+
+-- In bytes in hexadecimal.
+hex_may : (quote : Bool) (step : Option (Next × Change)) → every (λ (step : Next × Change). if quote then is_unquoted step.0 else is_in_hex step.0) step ≡ true → every (λ (step : Next × Change). may_follow (if quote then PlaceWord else InHex) step.0) step ≡ true
+hex_may quote None is = refl
+hex_may true (Some step) is = is
+hex_may false (Some step) is = is
+
+hex_step : (byte : ℕ) (rest : List ℕ) → Respelled rest → (next : Next) (brackets : List Bracket) (bytes : List ℕ) → is_in_hex next ≡ true → spelled_from InHex 0 (byte ∷ rest) ≡ Some bytes →
+    goes_on next brackets bytes ≡ true → goes_on next brackets (byte ∷ rest) ≡ true
+hex_step byte rest later next brackets bytes may is on =
+    follow byte rest later next brackets (if byte == 34 then PlaceWord else InHex) bytes is on (hex_may (byte == 34) (after_byte next (innermost brackets) byte) (hex_leads next (innermost brackets) byte may))
+
+-- In a string.
+string_may : (quote : Bool) (step : Option (Next × Change)) → every (λ (step : Next × Change). if quote then is_unquoted step.0 else is_in_string step.0) step ≡ true → every (λ (step : Next × Change). may_follow (if quote then PlaceWord else InString) step.0) step ≡ true
+string_may quote None is = refl
+string_may true (Some step) is = is
+string_may false (Some step) is = is
+
+string_step : (byte : ℕ) (rest : List ℕ) → Respelled rest → (next : Next) (brackets : List Bracket) (bytes : List ℕ) → is_in_string next ≡ true → (byte == 92) ≡ false → spelled_from InString 0 (byte ∷ rest) ≡ Some bytes →
+    goes_on next brackets bytes ≡ true → goes_on next brackets (byte ∷ rest) ≡ true
+string_step byte rest later next brackets bytes may other is on = go (byte == 34) (nat_lt byte 32) refl refl
+  where
+    leads_to : every (λ (step : Next × Change). may_follow (if byte == 34 then PlaceWord else InString) step.0) (after_byte next (innermost brackets) byte) ≡ true
+    leads_to = string_may (byte == 34) (after_byte next (innermost brackets) byte) (string_leads next (innermost brackets) byte may other)
+
+    go : (q c : Bool) → (byte == 34) ≡ q → nat_lt byte 32 ≡ c → goes_on next brackets (byte ∷ rest) ≡ true
+    go true c quote _ =
+        let same : spelled_from InString 0 (byte ∷ rest) ≡ option_map (λ more. (byte ∷ []) ++ more) (spelled_from (if byte == 34 then PlaceWord else InString) 0 rest) = rw (other, quote) refl in
+        follow byte rest later next brackets (if byte == 34 then PlaceWord else InString) bytes (sym same ∙ is) on leads_to
+    go false true quote control =
+        let same : spelled_from InString 0 (byte ∷ rest) ≡ None = rw (other, quote, control) refl in
+        let none : None ≡ Some bytes = sym same ∙ is in
+        absurd cc
+    go false false quote control =
+        let same : spelled_from InString 0 (byte ∷ rest) ≡ option_map (λ more. (byte ∷ []) ++ more) (spelled_from (if byte == 34 then PlaceWord else InString) 0 rest) = rw (other, quote, control) refl in
+        follow byte rest later next brackets (if byte == 34 then PlaceWord else InString) bytes (sym same ∙ is) on leads_to
+
+skip : (place : Place) (n : ℕ) (rest : List ℕ) → spelled_from place n rest ≡ spelled_from place 0 (drop n rest)
+skip place zero rest = refl
+skip place (suc n) [] = refl
+skip place (suc n) (byte ∷ rest) = skip place n rest
+
+from_front : (front : List ℕ) (o : Option (List ℕ)) (bytes : List ℕ) → option_map (λ more. front ++ more) o ≡ Some bytes → (more : List ℕ) × (o ≡ Some more) × (bytes ≡ front ++ more)
+from_front front None bytes is = absurd cc
+from_front front (Some more) bytes is = (more, refl, cc)
+
+-- Inside of a character there is no escape.
+no_start : (within : Within) (first : ℕ) → (first < 128) ⊎ (192 ≤ first) → is_character within ≡ true → (top : Option Bracket) → (within ≡ Text) ⊎ (after_byte (Quoted within) top first ≡ None)
+no_start Text first apart may top = inl refl
+no_start Escape first apart may top = absurd cc
+no_start UnitFirst first apart may top = absurd cc
+no_start UnitSecond first apart may top = absurd cc
+no_start LastThree first apart may top = absurd cc
+no_start LastTwo first apart may top = absurd cc
+no_start LastOne first apart may top = absurd cc
+no_start HighTwo first apart may top = absurd cc
+no_start HighOne first apart may top = absurd cc
+no_start LowBackslash first apart may top = absurd cc
+no_start LowLetter first apart may top = absurd cc
+no_start LowFirst first apart may top = absurd cc
+no_start LowSecond first apart may top = absurd cc
+no_start ByteOne first (inl low) may top = inr (grind (arith, nat_tests, low))
+no_start ByteOne first (inr high) may top = inr (grind (arith, nat_tests, high))
+no_start ByteTwo first (inl low) may top = inr (grind (arith, nat_tests, low))
+no_start ByteTwo first (inr high) may top = inr (grind (arith, nat_tests, high))
+no_start ByteThree first (inl low) may top = inr (grind (arith, nat_tests, low))
+no_start ByteThree first (inr high) may top = inr (grind (arith, nat_tests, high))
+no_start AfterE0 first (inl low) may top = inr (grind (arith, nat_tests, low))
+no_start AfterE0 first (inr high) may top = inr (grind (arith, nat_tests, high))
+no_start AfterEd first (inl low) may top = inr (grind (arith, nat_tests, low))
+no_start AfterEd first (inr high) may top = inr (grind (arith, nat_tests, high))
+no_start AfterF0 first (inl low) may top = inr (grind (arith, nat_tests, low))
+no_start AfterF0 first (inr high) may top = inr (grind (arith, nat_tests, high))
+no_start AfterF4 first (inl low) may top = inr (grind (arith, nat_tests, low))
+no_start AfterF4 first (inr high) may top = inr (grind (arith, nat_tests, high))
+
+escaped_read : (rest : List ℕ) → ((k : ℕ) → Respelled (drop k rest)) → (within : Within) (brackets : List Bracket) (bytes : List ℕ) → is_character within ≡ true → (c n : ℕ) → ◌≡◌ {A = Option (ℕ × ℕ)} (escape_at rest) (Some (c, n)) →
+    option_map (λ more. flat_map escaped (encode_utf8 c) ++ more) (spelled_from InString n rest) ≡ Some bytes → goes_on (Quoted within) brackets bytes ≡ true → goes_on (Quoted within) brackets (92 ∷ rest) ≡ true
+escaped_read rest later within brackets bytes may c n escape is on =
+    let split = from_front (flat_map escaped (encode_utf8 c)) (spelled_from InString n rest) bytes is in
+    let whole = escape_read rest c n escape in
+    let start = starts c whole.0 in
+    go split.0 (sym (skip InString n rest) ∙ split.1) (subst (λ bs. goes_on (Quoted within) brackets bs ≡ true) split.2 on) whole.0 (whole.1 brackets) start (no_start within start.0 start.3 may (innermost brackets))
+  where
+    go : (more : List ℕ) → spelled_from InString 0 (drop n rest) ≡ Some more → goes_on (Quoted within) brackets (flat_map escaped (encode_utf8 c) ++ more) ≡ true → scalar c ≡ true →
+        goes_on (Quoted Escape) brackets rest ≡ goes_on (Quoted Text) brackets (drop n rest) → (start : Starts (flat_map escaped (encode_utf8 c))) → (within ≡ Text) ⊎ (after_byte (Quoted within) (innermost brackets) start.0 ≡ None) →
+        goes_on (Quoted within) brackets (92 ∷ rest) ≡ true
+    go more told so_far character leads_to start (inl text) =
+        let before : goes_on (Quoted Text) brackets more ≡ true = sym (letter_leads c character brackets more) ∙ subst (λ w. goes_on (Quoted w) brackets (flat_map escaped (encode_utf8 c) ++ more) ≡ true) text so_far in
+        subst (λ w. goes_on (Quoted w) brackets (92 ∷ rest) ≡ true) (sym text) (leads_to ∙ later n InString (Quoted Text) brackets more refl told before)
+    go more told so_far character leads_to start (inr none) =
+        let stops : goes_on (Quoted within) brackets (flat_map escaped (encode_utf8 c) ++ more) ≡ false =
+        ap (λ text. goes_on (Quoted within) brackets (text ++ more)) start.2 ∙ ap (is_some_and (λ (step : Next × Change). goes_on step.0 (changed step.1 brackets) (start.1 ++ more))) none in
+        let wrong : true ≡ false = sym so_far ∙ stops in
+        absurd cc
+
+escape_step : (rest : List ℕ) → ((k : ℕ) → Respelled (drop k rest)) → (next : Next) (brackets : List Bracket) (bytes : List ℕ) → is_in_string next ≡ true → spelled_from InString 0 (92 ∷ rest) ≡ Some bytes →
+    goes_on next brackets bytes ≡ true → goes_on next brackets (92 ∷ rest) ≡ true
+escape_step rest later (Quoted within) brackets bytes may is on = go (escape_at rest) refl is
+  where
+    go : (o : Option (ℕ × ℕ)) → escape_at rest ≡ o →
+        option_and_then (λ (next : Place × ℕ). option_map (λ more. escape_spelled o ++ more) (spelled_from next.0 next.1 rest)) (option_map {U = Place × ℕ} (λ (escape : ℕ × ℕ). (InString, escape.1)) o) ≡ Some bytes → goes_on (Quoted within) brackets (92 ∷ rest) ≡ true
+    go None escape is = absurd cc
+    go (Some e) escape is = escaped_read rest later within brackets bytes may e.0 e.1 escape is on
+escape_step rest later next brackets bytes may is on = absurd cc
+
+-- ---- the whole text
+
+step : (byte : ℕ) (rest : List ℕ) → ((k : ℕ) → Respelled (drop k rest)) → Respelled (byte ∷ rest)
+step byte rest later Between next brackets bytes may is on = go (is_space byte) refl
+  where
+    go : (b : Bool) → is_space byte ≡ b → goes_on next brackets (byte ∷ rest) ≡ true
+    go true space = spaced_step byte rest (later 0) Between next brackets bytes space (λ spaced. spaced) (λ not. let none : true ≡ false = sym may ∙ not in absurd cc) (spaced_unquoted next may) (space_between byte rest bytes space is) on
+    go false space = between_step byte rest (later 0) next brackets bytes may space is on
+step byte rest later Gap next brackets bytes may is on = go (is_space byte) refl
+  where
+    go : (b : Bool) → is_space byte ≡ b → goes_on next brackets (byte ∷ rest) ≡ true
+    go true space = spaced_step byte rest (later 0) Gap next brackets bytes space (λ spaced. spaced) (λ not. refl) (spaced_unquoted next may) (space_gap byte rest bytes space is) on
+    go false space = gap_step byte rest (later 0) next brackets bytes may space is on
+step byte rest later PlaceWord next brackets bytes may is on = go (is_space byte) refl
+  where
+    go : (b : Bool) → is_space byte ≡ b → goes_on next brackets (byte ∷ rest) ≡ true
+    go true space = spaced_step byte rest (later 0) Gap next brackets bytes space (λ spaced. spaced) (λ not. refl) may (space_word byte rest bytes space is) on
+    go false space = word_step byte rest (later 0) next brackets bytes may space is on
+step byte rest later Prefix next brackets bytes may is on = prefix_step byte rest (later 0) next brackets bytes may is on
+step byte rest later InHex next brackets bytes may is on = hex_step byte rest (later 0) next brackets bytes may is on
+step byte rest later InString next brackets bytes may is on = go (byte == 92) refl
+  where
+    go : (b : Bool) → (byte == 92) ≡ b → goes_on next brackets (byte ∷ rest) ≡ true
+    go true backslash =
+        let same : byte ≡ 92 = grind (arith, nat_tests, backslash) in
+        subst (λ x. goes_on next brackets (x ∷ rest) ≡ true) (sym same) (escape_step rest later next brackets bytes may (subst (λ x. spelled_from InString 0 (x ∷ rest) ≡ Some bytes) same is) on)
+    go false other = string_step byte rest (later 0) next brackets bytes may other is on
+
+bounded : (most : ℕ) (text : List ℕ) → length text ≤ most → Respelled text
+bounded most [] few place next brackets bytes may is on =
+    let empty : bytes ≡ [] = cc in
+    subst (λ bs. goes_on next brackets bs ≡ true) empty on
+bounded zero (byte ∷ rest) few place next brackets bytes may is on = absurd (omega (arith, few))
+bounded (suc most) (byte ∷ rest) few place next brackets bytes may is on =
+    step byte rest (λ k. bounded most (drop k rest) (rw length-drop (omega (arith, few)))) place next brackets bytes may is on
+
+pub respelled : (text : List ℕ) → Respelled text
+respelled text = bounded (length text) text (omega arith)
+
+-- A text whose canonical spelling is that of a type is in the notation.
+pub type_respelled : (text : List ℕ) (s : Shape) → widths_written s ≡ true → spelled text ≡ Some (type_text s) → is_type_notation text ≡ true
+type_respelled text s written is = respelled text Between Name [] (type_text s) refl is (type_in_notation s written)
+
+-- A text whose canonical spelling is that of rows is in the notation.
+pub rows_respelled : (text : List ℕ) (s : Shape) (vs : List RowValue) → list_all (fits s) vs ≡ true → spelled text ≡ Some (text_of s vs) → is_row_notation text ≡ true
+rows_respelled text s vs fit is = respelled text Between Rows [] (text_of s vs) refl is (rows_in_notation s vs fit)

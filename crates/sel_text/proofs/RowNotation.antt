@@ -1,0 +1,298 @@
+-- The text of rows that fit a type is in the notation of rows.
+use Rattle.std.proofs.Common.{◌≡◌, ◌<◌, ℕ, ℤ, pos, negsuc, suc, zero, ◌/◌, ◌%◌, ◌^◌, Bool, true, false, List, [], ◌∷◌, ◌++◌, length, map, get_or, refl, ap, sym, ◌∙◌, append_assoc, append-nil, arith, lit<, Some, subst}
+use Rattle.std.specs.Prelude.{⊤, Option, codes, nat_lt, not, ◌&&◌, ◌==◌, if◌then◌else◌}
+use Rattle.std.specs.Char.{digit_char, digit_value}
+use Rattle.std.specs.Fmt.{decimal, signed_decimal}
+use Rattle.std.specs.Int.Signed.{mag}
+use Rattle.std.specs.List.{flat_map, join_with_byte, list_all}
+use Rattle.std.specs.Str.{IsUtf8}
+use Rattle.std.specs.Str.Parse.{AllDigits}
+use Rattle.std.proofs.lemmas.Bool.Decides.{nat_tests}
+use Rattle.std.proofs.lemmas.Fmt.{decimal_digit, decimal_is_IsNumeral_wide}
+use Rattle.std.proofs.lemmas.Str.{IsUtf8-from_is_utf8}
+use Rattle.sel_arrow.proofs.Lists.{and_first, and_second}
+use Rattle.sel_arrow.specs.Shape.{Shape, Shapes, no_shapes, next_shape, is_struct_shape, of_large_binary, of_binary_view, of_utf8_view}
+use Rattle.sel_arrow.specs.Value.{Value as RowValue, Null, Truth, Number, Bytes, Items, Tuple, Values, no_values, next_value, listed}
+use Rattle.sel_text.proofs.Ends.{few_digits, first_digit}
+use Rattle.sel_text.proofs.StringNotation.{letters_lead}
+use Rattle.sel_text.proofs.Told.{small_number}
+use Rattle.sel_text.proofs.TypeNotation.{step_to}
+use Rattle.sel_text.specs.Fits.{all_fit, are_bytes, fields_fit, fits, fits_bytes, fits_count}
+use Rattle.sel_text.specs.Notation.{after_byte, changed, closes, closing, goes_on, innermost, is_lower, is_row_notation, is_some_and}
+use Rattle.sel_text.specs.Spelling.{is_mark, is_space}
+use Rattle.sel_text.specs.Texts.{bytes_text, escaped, hex_byte, hex_text, item_shape, item_texts, part_shapes, part_texts, quoted, text_of, value_text}
+use Rattle.sel_text.specs.Tokens.{is_between}
+use Rattle.sel_text.specs.declared.notation.Bracket.{Bracket}
+use Rattle.sel_text.specs.declared.notation.Bracket.TheVariants.{Square, Round, Child, Fields}
+use Rattle.sel_text.specs.declared.notation.Change.{Change}
+use Rattle.sel_text.specs.declared.notation.Change.TheVariants.{Keep}
+use Rattle.sel_text.specs.declared.notation.Next.{Next}
+use Rattle.sel_text.specs.declared.notation.Next.TheVariants.{FirstValue, Value, After, Negative, Digit, HexFirst, HexSecond, Quoted}
+use Rattle.sel_text.specs.declared.tokens.Within.TheVariants.{Text}
+
+-- Before a mark, a text is a value. It begins with a byte that is no white space and closes nothing.
+abbrev pub begins_value : ℕ → Bool
+begins_value byte = not (is_space byte) && not (byte == 93) && not (byte == 41) && not (byte == 62)
+
+record Reads (text : List ℕ) : Type 0 where
+  first : ℕ
+  rest : List ℕ
+  text_is : text ≡ first ∷ rest
+  begins : begins_value first ≡ true
+  read : (brackets : List Bracket) (mark : ℕ) (more : List ℕ) → is_mark mark ≡ true → goes_on Value brackets (text ++ (mark ∷ more)) ≡ goes_on After brackets (mark ∷ more)
+
+-- ---- numbers
+
+no_digit : (mark : ℕ) → is_mark mark ≡ true → is_between mark 48 57 ≡ false
+no_digit mark is = grind (arith, nat_tests, is)
+
+digit_between : (c : ℕ) → digit_value c < 10 → is_between c 48 57 ≡ true
+digit_between c small = grind (arith, nat_tests, small)
+
+digits_read : (ds : List ℕ) (brackets : List Bracket) (mark : ℕ) (more : List ℕ) → AllDigits 10 ds → is_mark mark ≡ true → goes_on Digit brackets (ds ++ (mark ∷ more)) ≡ goes_on After brackets (mark ∷ more)
+digits_read [] brackets mark more all is =
+    let same : after_byte Digit (innermost brackets) mark ≡ after_byte After (innermost brackets) mark = rw (no_digit mark is) refl in
+    ap (is_some_and (λ (step : Next × Change). goes_on step.0 (changed step.1 brackets) more)) same
+digits_read (c ∷ ds) brackets mark more all is =
+    let told : after_byte Digit (innermost brackets) c ≡ Some (Digit, Keep) = rw (digit_between c all.0) refl in
+    step_to Digit Digit Keep brackets c (ds ++ (mark ∷ more)) told ∙ digits_read ds brackets mark more all.1 is
+
+whole_step : (c : ℕ) → digit_value c < 10 → 48 < c → (top : Option Bracket) → after_byte Value top c ≡ Some (Digit, Keep)
+whole_step c small some top = grind (arith, nat_tests, small, some)
+
+negative_step : (c : ℕ) → digit_value c < 10 → 48 < c → (top : Option Bracket) → after_byte Negative top c ≡ Some (Digit, Keep)
+negative_step c small some top = grind (arith, nat_tests, small, some)
+
+digit_begins : (c : ℕ) → digit_value c < 10 → begins_value c ≡ true
+digit_begins c small = grind (arith, nat_tests, small)
+
+-- Digits without a leading zero.
+whole_reads : (ds : List ℕ) → 0 < length ds → AllDigits 10 ds → 48 < get_or ds 0 0 → Reads ds
+whole_reads [] some all lead = absurd (omega arith)
+whole_reads (c ∷ ds) some all lead = record {
+  first = c;
+  rest = ds;
+  text_is = refl;
+  begins = digit_begins c all.0;
+  read = λ brackets mark more is. step_to Value Digit Keep brackets c (ds ++ (mark ∷ more)) (whole_step c all.0 lead (innermost brackets)) ∙ digits_read ds brackets mark more all.1 is;
+}
+
+below_reads : (ds : List ℕ) → 0 < length ds → AllDigits 10 ds → 48 < get_or ds 0 0 → Reads (45 ∷ ds)
+below_reads [] some all lead = absurd (omega arith)
+below_reads (c ∷ ds) some all lead = record {
+  first = 45;
+  rest = c ∷ ds;
+  text_is = refl;
+  begins = refl;
+  read = λ brackets mark more is. step_to Negative Digit Keep brackets c (ds ++ (mark ∷ more)) (negative_step c all.0 lead (innermost brackets)) ∙ digits_read ds brackets mark more all.1 is;
+}
+
+zero_reads : Reads (48 ∷ [])
+zero_reads = record { first = 48; rest = []; text_is = refl; begins = refl; read = λ brackets mark more is. refl }
+
+number_reads : (z : ℤ) → mag z < 2 ^ 128 → Reads (signed_decimal z)
+number_reads (pos zero) small = subst Reads (sym (decimal_digit 0 (lit< tt))) zero_reads
+number_reads (pos (suc n)) small =
+    let few = few_digits (suc n) (omega (arith, small)) in
+    let numeral = (decimal_is_IsNumeral_wide (suc n) few).0 in
+    whole_reads (decimal (suc n)) numeral.0 numeral.1 (first_digit (suc n) (suc n) (omega arith) (omega arith) few)
+number_reads (negsuc n) small =
+    let few = few_digits (suc n) (omega (arith, small)) in
+    let numeral = (decimal_is_IsNumeral_wide (suc n) few).0 in
+    below_reads (decimal (suc n)) numeral.0 numeral.1 (first_digit (suc n) (suc n) (omega arith) (omega arith) few)
+
+-- ---- words, strings and bytes in hexadecimal
+
+null_reads : Reads (codes "null")
+null_reads = record { first = 110; rest = 117 ∷ 108 ∷ 108 ∷ []; text_is = refl; begins = refl; read = λ brackets mark more is. refl }
+
+truth_reads : (t : Bool) → Reads (if t then codes "true" else codes "false")
+truth_reads true = record { first = 116; rest = 114 ∷ 117 ∷ 101 ∷ []; text_is = refl; begins = refl; read = λ brackets mark more is. refl }
+truth_reads false = record { first = 102; rest = 97 ∷ 108 ∷ 115 ∷ 101 ∷ []; text_is = refl; begins = refl; read = λ brackets mark more is. refl }
+
+quoted_reads : (bytes : List ℕ) → IsUtf8 bytes → Reads (quoted bytes)
+quoted_reads bytes u = record {
+  first = 34;
+  rest = flat_map escaped bytes ++ 34 ∷ [];
+  text_is = refl;
+  begins = refl;
+  read = λ brackets mark more is.
+      ap (goes_on (Quoted Text) brackets) (append_assoc (flat_map escaped bytes) (34 ∷ []) (mark ∷ more))
+      ∙ ap (λ text. goes_on (Quoted Text) brackets (flat_map escaped text ++ (34 ∷ mark ∷ more))) (sym u.1.1)
+      ∙ letters_lead u.0 u.1.0 brackets (34 ∷ mark ∷ more);
+}
+
+lower_digit : (d : ℕ) → d < 16 → is_lower (digit_char d) ≡ true
+lower_digit d small = grind (arith, nat_tests, small)
+
+lower_first : (d : ℕ) → d < 16 → (top : Option Bracket) → after_byte HexFirst top (digit_char d) ≡ Some (HexSecond, Keep)
+lower_first d small top = grind (arith, nat_tests, small)
+
+lower_second : (d : ℕ) → d < 16 → (top : Option Bracket) → after_byte HexSecond top (digit_char d) ≡ Some (HexFirst, Keep)
+lower_second d small top = rw (lower_digit d small) refl
+
+hex_read : (bytes : List ℕ) (brackets : List Bracket) (more : List ℕ) → are_bytes bytes ≡ true → goes_on HexFirst brackets (flat_map hex_byte bytes ++ (34 ∷ more)) ≡ goes_on After brackets more
+hex_read [] brackets more all = refl
+hex_read (b ∷ bytes) brackets more all =
+    let small : b < 256 = grind (arith, nat_tests, and_first (nat_lt b 256) (are_bytes bytes) all) in
+    step_to HexFirst HexSecond Keep brackets (digit_char (b / 16)) (digit_char (b % 16) ∷ flat_map hex_byte bytes ++ (34 ∷ more)) (lower_first (b / 16) (omega (arith, small)) (innermost brackets))
+    ∙ step_to HexSecond HexFirst Keep brackets (digit_char (b % 16)) (flat_map hex_byte bytes ++ (34 ∷ more)) (lower_second (b % 16) (omega arith) (innermost brackets))
+    ∙ hex_read bytes brackets more (and_second (nat_lt b 256) (are_bytes bytes) all)
+
+hex_reads : (bytes : List ℕ) → are_bytes bytes ≡ true → Reads (hex_text bytes)
+hex_reads bytes all = record {
+  first = 104;
+  rest = 34 ∷ flat_map hex_byte bytes ++ 34 ∷ [];
+  text_is = refl;
+  begins = refl;
+  read = λ brackets mark more is.
+      ap (goes_on HexFirst brackets) (append_assoc (flat_map hex_byte bytes) (34 ∷ []) (mark ∷ more)) ∙ hex_read bytes brackets (mark ∷ more) all;
+}
+
+bytes_read : (s : Shape) (bytes : List ℕ) → fits_bytes s bytes ≡ true → Reads (bytes_text s bytes)
+bytes_read of_large_binary bytes fit = hex_reads bytes fit
+bytes_read of_binary_view bytes fit = hex_reads bytes fit
+bytes_read of_utf8_view bytes fit = quoted_reads bytes (IsUtf8-from_is_utf8 bytes fit)
+bytes_read s bytes fit = absurd cc
+
+-- ---- values in brackets
+
+-- This is so for each of several texts.
+abbrev EachReads : List (List ℕ) → Type 0
+EachReads [] = ⊤
+EachReads (text ∷ texts) = Reads text × EachReads texts
+
+-- Each text after a comma.
+abbrev pub after_commas : List (List ℕ) → List ℕ
+after_commas [] = []
+after_commas (text ∷ texts) = 44 ∷ text ++ after_commas texts
+
+joined : (text : List ℕ) (texts : List (List ℕ)) → join_with_byte 44 (text ∷ texts) ≡ text ++ after_commas texts
+joined text [] = sym (append-nil text)
+joined text (next ∷ texts) = ap (λ more. text ++ (44 ∷ more)) (joined next texts)
+
+-- Brackets of values.
+abbrev pub holds_values : Bracket → Bool
+holds_values Square = true
+holds_values Round = true
+holds_values Child = false
+holds_values Fields = false
+
+closed : (bracket : Bracket) (brackets : List Bracket) (more : List ℕ) → goes_on After (bracket ∷ brackets) (closing bracket ∷ more) ≡ goes_on After brackets more
+closed Square brackets more = refl
+closed Round brackets more = refl
+closed Child brackets more = refl
+closed Fields brackets more = refl
+
+comma : (bracket : Bracket) (brackets : List Bracket) (more : List ℕ) → holds_values bracket ≡ true → goes_on After (bracket ∷ brackets) (44 ∷ more) ≡ goes_on Value (bracket ∷ brackets) more
+comma Square brackets more holds = refl
+comma Round brackets more holds = refl
+comma Child brackets more holds = absurd cc
+comma Fields brackets more holds = absurd cc
+
+closing_mark : (bracket : Bracket) → is_mark (closing bracket) ≡ true
+closing_mark Square = refl
+closing_mark Round = refl
+closing_mark Child = refl
+closing_mark Fields = refl
+
+-- What follows a value begins with a mark.
+marked : (texts : List (List ℕ)) (bracket : Bracket) (more : List ℕ) → (mark : ℕ) × (rest : List ℕ) × (after_commas texts ++ (closing bracket ∷ more) ≡ mark ∷ rest) × (is_mark mark ≡ true)
+marked [] bracket more = (closing bracket, more, refl, closing_mark bracket)
+marked (text ∷ texts) bracket more = (44, (text ++ after_commas texts) ++ (closing bracket ∷ more), refl, refl)
+
+read_before : (text : List ℕ) → Reads text → (brackets : List Bracket) (texts : List (List ℕ)) (bracket : Bracket) (more : List ℕ) →
+    goes_on Value brackets (text ++ (after_commas texts ++ (closing bracket ∷ more))) ≡ goes_on After brackets (after_commas texts ++ (closing bracket ∷ more))
+read_before text reads brackets texts bracket more =
+    let m = marked texts bracket more in
+    ap (λ behind. goes_on Value brackets (text ++ behind)) m.2 ∙ reads.read brackets m.0 m.1 m.3 ∙ ap (goes_on After brackets) (sym m.2)
+
+commas_read : (texts : List (List ℕ)) → EachReads texts → (bracket : Bracket) (brackets : List Bracket) (more : List ℕ) → holds_values bracket ≡ true →
+    goes_on After (bracket ∷ brackets) (after_commas texts ++ (closing bracket ∷ more)) ≡ goes_on After brackets more
+commas_read [] each bracket brackets more holds = closed bracket brackets more
+commas_read (text ∷ texts) each bracket brackets more holds =
+    comma bracket brackets ((text ++ after_commas texts) ++ (closing bracket ∷ more)) holds
+    ∙ ap (goes_on Value (bracket ∷ brackets)) (append_assoc text (after_commas texts) (closing bracket ∷ more))
+    ∙ read_before text each.0 (bracket ∷ brackets) texts bracket more ∙ commas_read texts each.1 bracket brackets more holds
+
+-- The first value after an opening bracket.
+closes_none : (bracket : Bracket) (c : ℕ) → begins_value c ≡ true → closes (Some bracket) c ≡ false
+closes_none Square c begins = grind (arith, nat_tests, begins)
+closes_none Round c begins = grind (arith, nat_tests, begins)
+closes_none Child c begins = grind (arith, nat_tests, begins)
+closes_none Fields c begins = grind (arith, nat_tests, begins)
+
+no_space : (c : ℕ) → begins_value c ≡ true → is_space c ≡ false
+no_space c begins = grind (arith, nat_tests, begins)
+
+first_step : (bracket : Bracket) (c : ℕ) → begins_value c ≡ true → after_byte FirstValue (Some bracket) c ≡ after_byte Value (Some bracket) c
+first_step bracket c begins = rw (closes_none bracket c begins, no_space c begins) refl
+
+first_read : (text : List ℕ) → Reads text → (bracket : Bracket) (brackets : List Bracket) (more : List ℕ) → goes_on FirstValue (bracket ∷ brackets) (text ++ more) ≡ goes_on Value (bracket ∷ brackets) (text ++ more)
+first_read text reads bracket brackets more =
+    ap (λ t. goes_on FirstValue (bracket ∷ brackets) (t ++ more)) reads.text_is
+    ∙ ap (is_some_and (λ (step : Next × Change). goes_on step.0 (changed step.1 (bracket ∷ brackets)) (reads.rest ++ more))) (first_step bracket reads.first reads.begins)
+    ∙ ap (λ t. goes_on Value (bracket ∷ brackets) (t ++ more)) (sym reads.text_is)
+
+all_read : (texts : List (List ℕ)) → EachReads texts → (bracket : Bracket) (brackets : List Bracket) (more : List ℕ) → holds_values bracket ≡ true →
+    goes_on FirstValue (bracket ∷ brackets) (join_with_byte 44 texts ++ (closing bracket ∷ more)) ≡ goes_on After brackets more
+all_read [] each bracket brackets more holds = none bracket holds
+  where
+    none : (bracket : Bracket) → holds_values bracket ≡ true → goes_on FirstValue (bracket ∷ brackets) (closing bracket ∷ more) ≡ goes_on After brackets more
+    none Square holds = refl
+    none Round holds = refl
+    none Child holds = absurd cc
+    none Fields holds = absurd cc
+all_read (text ∷ texts) each bracket brackets more holds =
+    ap (λ t. goes_on FirstValue (bracket ∷ brackets) (t ++ (closing bracket ∷ more))) (joined text texts)
+    ∙ ap (goes_on FirstValue (bracket ∷ brackets)) (append_assoc text (after_commas texts) (closing bracket ∷ more))
+    ∙ first_read text each.0 bracket brackets (after_commas texts ++ (closing bracket ∷ more))
+    ∙ read_before text each.0 (bracket ∷ brackets) texts bracket more ∙ commas_read texts each.1 bracket brackets more holds
+
+list_reads : (texts : List (List ℕ)) → EachReads texts → Reads (91 ∷ join_with_byte 44 texts ++ 93 ∷ [])
+list_reads texts each = record {
+  first = 91;
+  rest = join_with_byte 44 texts ++ 93 ∷ [];
+  text_is = refl;
+  begins = refl;
+  read = λ brackets mark more is.
+      ap (goes_on FirstValue (Square ∷ brackets)) (append_assoc (join_with_byte 44 texts) (93 ∷ []) (mark ∷ more)) ∙ all_read texts each Square brackets (mark ∷ more) refl;
+}
+
+struct_reads : (texts : List (List ℕ)) → EachReads texts → Reads (40 ∷ join_with_byte 44 texts ++ 41 ∷ [])
+struct_reads texts each = record {
+  first = 40;
+  rest = join_with_byte 44 texts ++ 41 ∷ [];
+  text_is = refl;
+  begins = refl;
+  read = λ brackets mark more is.
+      ap (goes_on FirstValue (Round ∷ brackets)) (append_assoc (join_with_byte 44 texts) (41 ∷ []) (mark ∷ more)) ∙ all_read texts each Round brackets (mark ∷ more) refl;
+}
+
+-- ---- values
+
+mutual
+  value_reads : (v : RowValue) (s : Shape) → fits s v ≡ true → Reads (value_text s v)
+  value_reads Null s fit = null_reads
+  value_reads (Truth t) s fit = truth_reads t
+  value_reads (Number z) s fit = number_reads z (small_number s z fit)
+  value_reads (Bytes bytes) s fit = bytes_read s bytes fit
+  value_reads (Items vs) s fit = list_reads (item_texts (item_shape s) vs) (items_read vs (item_shape s) (and_second (fits_count s (length (listed vs))) (all_fit (item_shape s) vs) fit))
+  value_reads (Tuple vs) s fit = struct_reads (part_texts (part_shapes s) vs) (parts_read vs (part_shapes s) (and_second (is_struct_shape s) (fields_fit (part_shapes s) vs) fit))
+
+  items_read : (vs : Values) (s : Shape) → all_fit s vs ≡ true → EachReads (item_texts s vs)
+  items_read no_values s fit = tt
+  items_read (next_value v vs) s fit = (value_reads v s (and_first (fits s v) (all_fit s vs) fit), items_read vs s (and_second (fits s v) (all_fit s vs) fit))
+
+  parts_read : (vs : Values) (ss : Shapes) → fields_fit ss vs ≡ true → EachReads (part_texts ss vs)
+  parts_read no_values ss fit = tt
+  parts_read (next_value v vs) no_shapes fit = tt
+  parts_read (next_value v vs) (next_shape s ss) fit = (value_reads v s (and_first (fits s v) (fields_fit ss vs) fit), parts_read vs ss (and_second (fits s v) (fields_fit ss vs) fit))
+
+rows_read : (s : Shape) (vs : List RowValue) → list_all (fits s) vs ≡ true → EachReads (map (value_text s) vs)
+rows_read s [] fit = tt
+rows_read s (v ∷ vs) fit = (value_reads v s (and_first (fits s v) (list_all (fits s) vs) fit), rows_read s vs (and_second (fits s v) (list_all (fits s) vs) fit))
+
+-- The text of rows is in the notation.
+pub rows_in_notation : (s : Shape) (vs : List RowValue) → list_all (fits s) vs ≡ true → is_row_notation (text_of s vs) ≡ true
+rows_in_notation s vs fit = all_read (map (value_text s) vs) (rows_read s vs fit) Square [] [] refl

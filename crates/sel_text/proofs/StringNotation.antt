@@ -1,0 +1,224 @@
+-- Characters of strings in the notation of rows.
+use Rattle.std.proofs.Common.{◌≡◌, ◌≤◌, ◌<◌, ℕ, ◌+◌, ◌/◌, ◌%◌, Bool, true, false, cond, List, [], ◌∷◌, ◌++◌, refl, ap, sym, ◌∙◌, append_assoc, append-nil, arith, Some, None, subst, inl, inr}
+use Rattle.std.specs.Prelude.{◌⊎◌, option_map, nat_lt, ◌==◌, encode_utf8, if◌then◌else◌}
+use Rattle.std.specs.Char.{digit_char}
+use Rattle.std.specs.List.{flat_map}
+use Rattle.std.proofs.lemmas.Bool.Decides.{nat_tests}
+use Rattle.std.proofs.lemmas.Grind.{flat_map-append}
+use Rattle.std.proofs.lemmas.Str.{encode_ascii}
+use lib.Utf8.{encode, encodes, next, scalar, scalars, scalar_cases}
+use Rattle.sel_arrow.proofs.Lists.{and_first, and_second}
+use Rattle.sel_text.proofs.Escapes.{high_letter}
+use Rattle.sel_text.proofs.TypeNotation.{step_to}
+use Rattle.sel_text.specs.Notation.{goes_on}
+use Rattle.sel_text.specs.Texts.{escaped, hex_byte}
+use Rattle.sel_text.specs.Tokens.{after_string_byte, escape_byte, is_between, is_hexadecimal, text_byte}
+use Rattle.sel_text.specs.declared.notation.Bracket.{Bracket}
+use Rattle.sel_text.specs.declared.notation.Change.TheVariants.{Keep}
+use Rattle.sel_text.specs.declared.notation.Next.{Next}
+use Rattle.sel_text.specs.declared.notation.Next.TheVariants.{Quoted}
+use Rattle.sel_text.specs.declared.tokens.Within.{Within}
+use Rattle.sel_text.specs.declared.tokens.Within.TheVariants.{Text, Escape, UnitFirst, LastThree, LastTwo, LastOne, ByteOne, ByteTwo, ByteThree, AfterE0, AfterEd, AfterF0, AfterF4}
+
+-- A byte of a string leads on.
+pub inside : (within after : Within) (brackets : List Bracket) (byte : ℕ) (more : List ℕ) → after_string_byte within byte ≡ Some (Quoted after) →
+    goes_on (Quoted within) brackets (byte ∷ more) ≡ goes_on (Quoted after) brackets more
+inside within after brackets byte more told = step_to (Quoted within) (Quoted after) Keep brackets byte more (ap (option_map (λ next. (next, Keep))) told)
+
+-- From one place in a string to another.
+pub record Leads (before after : Within) (text : List ℕ) : Type 0 where
+  pub led : (brackets : List Bracket) (more : List ℕ) → goes_on (Quoted before) brackets (text ++ more) ≡ goes_on (Quoted after) brackets more
+
+pub leads_none : (within : Within) → Leads within within []
+leads_none within = record { led = λ brackets more. refl }
+
+pub leads_byte : (before middle after : Within) (byte : ℕ) (text : List ℕ) → after_string_byte before byte ≡ Some (Quoted middle) → Leads middle after text → Leads before after (byte ∷ text)
+leads_byte before middle after byte text told later = record { led = λ brackets more. inside before middle brackets byte (text ++ more) told ∙ later.led brackets more }
+
+hex_digit : (d : ℕ) → d < 16 → is_hexadecimal (digit_char d) ≡ true
+hex_digit d small = grind (arith, nat_tests, small)
+
+when_true : (right : Bool) (next : Next) → right ≡ true → (if right then Some next else None) ≡ Some next
+when_true right next is = rw is refl
+
+pub hex_step : (before after : Within) (digit : ℕ) → after_string_byte before digit ≡ (if is_hexadecimal digit then Some (Quoted after) else None) → is_hexadecimal digit ≡ true → after_string_byte before digit ≡ Some (Quoted after)
+hex_step before after digit is hex = is ∙ when_true (is_hexadecimal digit) (Quoted after) hex
+
+control_leads : (b : ℕ) → b < 32 → Leads Text Text (92 ∷ 117 ∷ 48 ∷ 48 ∷ hex_byte b)
+control_leads b low =
+    leads_byte Text Escape Text 92 _ refl (leads_byte Escape UnitFirst Text 117 _ refl (leads_byte UnitFirst LastThree Text 48 _ refl (leads_byte LastThree LastTwo Text 48 _ refl
+    (leads_byte LastTwo LastOne Text (digit_char (b / 16)) _ (hex_step LastTwo LastOne (digit_char (b / 16)) refl (hex_digit (b / 16) (omega arith)))
+    (leads_byte LastOne Text Text (digit_char (b % 16)) [] (hex_step LastOne Text (digit_char (b % 16)) refl (hex_digit (b % 16) (omega arith))) (leads_none Text))))))
+
+pick : (P : List ℕ → Type 0) (t : Bool) (x y : List ℕ) → (t ≡ true → P x) → (t ≡ false → P y) → P (if t then x else y)
+pick P true x y f g = f refl
+pick P false x y f g = g refl
+
+short : (letter : ℕ) → escape_byte letter ≡ Some (Quoted Text) → Leads Text Text (92 ∷ letter ∷ [])
+short letter told = leads_byte Text Escape Text 92 (letter ∷ []) refl (leads_byte Escape Text Text letter [] told (leads_none Text))
+
+plain_step : (b : ℕ) → (b == 34) ≡ false → (b == 92) ≡ false → nat_lt b 32 ≡ false → b < 128 → text_byte b ≡ Some (Quoted Text)
+plain_step b quote backslash high low = grind (arith, nat_tests, quote, backslash, high, low)
+
+ascii_leads : (b : ℕ) → b < 128 → Leads Text Text (escaped b)
+ascii_leads b low =
+    let P = Leads Text Text in
+    pick P (b == 34) _ _ (λ is. short 34 refl) (λ n34.
+    pick P (b == 92) _ _ (λ is. short 92 refl) (λ n92.
+    pick P (b == 10) _ _ (λ is. short 110 refl) (λ n10.
+    pick P (b == 13) _ _ (λ is. short 114 refl) (λ n13.
+    pick P (b == 9) _ _ (λ is. short 116 refl) (λ n9.
+    pick P (b == 8) _ _ (λ is. short 98 refl) (λ n8.
+    pick P (b == 12) _ _ (λ is. short 102 refl) (λ n12.
+    pick P (nat_lt b 32) _ _
+    (λ control. control_leads b (grind (arith, nat_tests, control)))
+    (λ high. leads_byte Text Text Text b [] (plain_step b n34 n92 high low) (leads_none Text)))))))))
+
+-- ---- characters of several bytes
+
+between : (b low high : ℕ) → low ≤ b → b ≤ high → is_between b low high ≡ true
+between b low high least most = grind (arith, nat_tests, least, most)
+
+between_step : (before after : Within) (b low high : ℕ) → after_string_byte before b ≡ (if is_between b low high then Some (Quoted after) else None) → low ≤ b → b ≤ high → after_string_byte before b ≡ Some (Quoted after)
+between_step before after b low high is least most = is ∙ when_true (is_between b low high) (Quoted after) (between b low high least most)
+
+last_leads : (b : ℕ) → 128 ≤ b → b ≤ 191 → Leads ByteOne Text (b ∷ [])
+last_leads b least most = leads_byte ByteOne Text Text b [] (between_step ByteOne Text b 128 191 refl least most) (leads_none Text)
+
+last_two_lead : (a b : ℕ) → 128 ≤ a → a ≤ 191 → 128 ≤ b → b ≤ 191 → Leads ByteTwo Text (a ∷ b ∷ [])
+last_two_lead a b low_a high_a low_b high_b = leads_byte ByteTwo ByteOne Text a (b ∷ []) (between_step ByteTwo ByteOne a 128 191 refl low_a high_a) (last_leads b low_b high_b)
+
+-- The first byte and the second one lead so.
+abbrev pub Begins : ℕ → ℕ → Within → Type 0
+Begins first second after = (middle : Within) × (text_byte first ≡ Some (Quoted middle)) × (after_string_byte middle second ≡ Some (Quoted after))
+
+three_begin : (first second : ℕ) → 224 ≤ first → first ≤ 239 → 128 ≤ second → second ≤ 191 → (first ≡ 224 → 160 ≤ second) → (first ≡ 237 → second ≤ 159) → Begins first second ByteOne
+three_begin first second least most low high e0 ed = go (first == 224) (first == 237) refl refl
+  where
+    go : (a b : Bool) → (first == 224) ≡ a → (first == 237) ≡ b → Begins first second ByteOne
+    go true b is _ =
+        let same : first ≡ 224 = grind (arith, nat_tests, is) in
+        (AfterE0, rw same refl, between_step AfterE0 ByteOne second 160 191 refl (e0 same) high)
+    go false true not is =
+        let same : first ≡ 237 = grind (arith, nat_tests, is) in
+        (AfterEd, rw same refl, between_step AfterEd ByteOne second 128 159 refl low (ed same))
+    go false false not other =
+        (ByteTwo, grind (arith, nat_tests, not, other, least, most), between_step ByteTwo ByteOne second 128 191 refl low high)
+
+four_begin : (first second : ℕ) → 240 ≤ first → first ≤ 244 → 128 ≤ second → second ≤ 191 → (first ≡ 240 → 144 ≤ second) → (first ≡ 244 → second ≤ 143) → Begins first second ByteTwo
+four_begin first second least most low high f0 f4 = go (first == 240) (first == 244) refl refl
+  where
+    go : (a b : Bool) → (first == 240) ≡ a → (first == 244) ≡ b → Begins first second ByteTwo
+    go true b is _ =
+        let same : first ≡ 240 = grind (arith, nat_tests, is) in
+        (AfterF0, rw same refl, between_step AfterF0 ByteTwo second 144 191 refl (f0 same) high)
+    go false true not is =
+        let same : first ≡ 244 = grind (arith, nat_tests, is) in
+        (AfterF4, rw same refl, between_step AfterF4 ByteTwo second 128 143 refl low (f4 same))
+    go false false not other =
+        (ByteThree, grind (arith, nat_tests, not, other, least, most), between_step ByteThree ByteTwo second 128 191 refl low high)
+
+two_first : (b : ℕ) → 194 ≤ b → b ≤ 223 → text_byte b ≡ Some (Quoted ByteOne)
+two_first b least most = grind (arith, nat_tests, least, most)
+
+two_lead : (c : ℕ) → 128 ≤ c → c < 2048 → Leads Text Text ((192 + c / 64) ∷ next c ∷ [])
+two_lead c least most =
+    leads_byte Text ByteOne Text (192 + c / 64) _ (two_first (192 + c / 64) (omega arith) (omega arith)) (last_leads (next c) (omega arith) (omega arith))
+
+no_surrogate : (c : ℕ) → (c < 55296) ⊎ ((57344 ≤ c) × (c < 1114112)) → 224 + c / 4096 ≡ 237 → next (c / 64) ≤ 159
+no_surrogate c (inl low) ed = omega (arith, low, ed)
+no_surrogate c (inr high) ed = let least = high.0 in omega (arith, least, ed)
+
+three_lead : (c : ℕ) → 2048 ≤ c → c < 65536 → scalar c ≡ true → Leads Text Text ((224 + c / 4096) ∷ next (c / 64) ∷ next c ∷ [])
+three_lead c least most is =
+    let second = next (c / 64) in
+    let begin = three_begin (224 + c / 4096) second (omega arith) (omega arith) (omega arith) (omega arith) (λ e0. omega (arith, e0, least)) (no_surrogate c (scalar_cases c is)) in
+    leads_byte Text begin.0 Text (224 + c / 4096) _ begin.1 (leads_byte begin.0 ByteOne Text second _ begin.2 (last_leads (next c) (omega arith) (omega arith)))
+
+bounded : (c : ℕ) → (c < 55296) ⊎ ((57344 ≤ c) × (c < 1114112)) → c < 1114112
+bounded c (inl low) = omega (arith, low)
+bounded c (inr high) = high.1
+
+four_lead : (c : ℕ) → 65536 ≤ c → scalar c ≡ true → Leads Text Text ((240 + c / 262144) ∷ next (c / 4096) ∷ next (c / 64) ∷ next c ∷ [])
+four_lead c least is =
+    let below : c < 1114112 = bounded c (scalar_cases c is) in
+    let second = next (c / 4096) in
+    let begin = four_begin (240 + c / 262144) second (omega arith) (omega (arith, below)) (omega arith) (omega arith) (λ f0. omega (arith, f0, least)) (λ f4. omega (arith, f4, below)) in
+    leads_byte Text begin.0 Text (240 + c / 262144) _ begin.1 (leads_byte begin.0 ByteTwo Text second _ begin.2 (last_two_lead (next (c / 64)) (next c) (omega arith) (omega arith) (omega arith) (omega arith)))
+
+encode_leads : (c : ℕ) → 128 ≤ c → scalar c ≡ true → Leads Text Text (encode c)
+unfolding encode
+encode_leads c high is = go (nat_lt c 128) (nat_lt c 2048) (nat_lt c 65536) refl refl refl
+  where
+    go : (x y z : Bool) → nat_lt c 128 ≡ x → nat_lt c 2048 ≡ y → nat_lt c 65536 ≡ z →
+        Leads Text Text (cond x (c ∷ []) (cond y ((192 + c / 64) ∷ next c ∷ []) (cond z ((224 + c / 4096) ∷ next (c / 64) ∷ next c ∷ []) ((240 + c / 262144) ∷ next (c / 4096) ∷ next (c / 64) ∷ next c ∷ []))))
+    go true y z low _ _ =
+        let small : c < 128 = grind (arith, nat_tests, low) in
+        absurd (omega (arith, high, small))
+    go false true z _ two _ = two_lead c high (grind (arith, nat_tests, two))
+    go false false true _ two three = three_lead c (grind (arith, nat_tests, two)) (grind (arith, nat_tests, three)) is
+    go false false false _ _ three = four_lead c (grind (arith, nat_tests, three)) is
+
+-- A character as it is printed.
+pub letter_leads : (c : ℕ) → scalar c ≡ true → (brackets : List Bracket) (more : List ℕ) → goes_on (Quoted Text) brackets (flat_map escaped (encode_utf8 c) ++ more) ≡ goes_on (Quoted Text) brackets more
+letter_leads c is brackets more = go (nat_lt c 128) refl
+  where
+    go : (b : Bool) → nat_lt c 128 ≡ b → goes_on (Quoted Text) brackets (flat_map escaped (encode_utf8 c) ++ more) ≡ goes_on (Quoted Text) brackets more
+    go true low =
+        let small : c < 128 = grind (arith, nat_tests, low) in
+        ap (λ text. goes_on (Quoted Text) brackets (text ++ more)) (ap (flat_map escaped) (encode_ascii c small) ∙ append-nil (escaped c)) ∙ (ascii_leads c small).led brackets more
+    go false low =
+        let high : 128 ≤ c = grind (arith, nat_tests, low) in
+        ap (λ text. goes_on (Quoted Text) brackets (text ++ more)) (high_letter c high) ∙ (encode_leads c high is).led brackets more
+
+-- The characters of a string.
+pub letters_lead : (cs : List ℕ) → scalars cs ≡ true → (brackets : List Bracket) (more : List ℕ) → goes_on (Quoted Text) brackets (flat_map escaped (encodes cs) ++ more) ≡ goes_on (Quoted Text) brackets more
+letters_lead [] all brackets more = refl
+letters_lead (c ∷ cs) all brackets more =
+    ap (λ text. goes_on (Quoted Text) brackets (text ++ more)) (flat_map-append escaped (encode c) (encodes cs))
+    ∙ ap (goes_on (Quoted Text) brackets) (append_assoc (flat_map escaped (encode c)) (flat_map escaped (encodes cs)) more)
+    ∙ letter_leads c (and_first (scalar c) (scalars cs) all) brackets (flat_map escaped (encodes cs) ++ more)
+    ∙ letters_lead cs (and_second (scalar c) (scalars cs) all) brackets more
+
+-- ---- the first byte
+
+-- A text has a first byte, which is no further byte of a character.
+abbrev pub Starts : List ℕ → Type 0
+Starts text = (first : ℕ) × (rest : List ℕ) × (text ≡ first ∷ rest) × ((first < 128) ⊎ (192 ≤ first))
+
+ascii_starts : (b : ℕ) → b < 128 → Starts (escaped b)
+ascii_starts b low =
+    let P = Starts in
+    let backslash : (rest : List ℕ) → Starts (92 ∷ rest) = λ rest. (92, rest, refl, inl (omega arith)) in
+    pick P (b == 34) _ _ (λ is. backslash (34 ∷ [])) (λ n34.
+    pick P (b == 92) _ _ (λ is. backslash (92 ∷ [])) (λ n92.
+    pick P (b == 10) _ _ (λ is. backslash (110 ∷ [])) (λ n10.
+    pick P (b == 13) _ _ (λ is. backslash (114 ∷ [])) (λ n13.
+    pick P (b == 9) _ _ (λ is. backslash (116 ∷ [])) (λ n9.
+    pick P (b == 8) _ _ (λ is. backslash (98 ∷ [])) (λ n8.
+    pick P (b == 12) _ _ (λ is. backslash (102 ∷ [])) (λ n12.
+    pick P (nat_lt b 32) _ _ (λ control. backslash (117 ∷ 48 ∷ 48 ∷ hex_byte b)) (λ high. (b, [], refl, inl low)))))))))
+
+encode_starts : (c : ℕ) → 128 ≤ c → Starts (encode c)
+unfolding encode
+encode_starts c high = go (nat_lt c 128) (nat_lt c 2048) (nat_lt c 65536) refl
+  where
+    go : (x y z : Bool) → nat_lt c 128 ≡ x →
+        Starts (cond x (c ∷ []) (cond y ((192 + c / 64) ∷ next c ∷ []) (cond z ((224 + c / 4096) ∷ next (c / 64) ∷ next c ∷ []) ((240 + c / 262144) ∷ next (c / 4096) ∷ next (c / 64) ∷ next c ∷ []))))
+    go true y z low =
+        let small : c < 128 = grind (arith, nat_tests, low) in
+        absurd (omega (arith, high, small))
+    go false true z low = (192 + c / 64, next c ∷ [], refl, inr (omega arith))
+    go false false true low = (224 + c / 4096, next (c / 64) ∷ next c ∷ [], refl, inr (omega arith))
+    go false false false low = (240 + c / 262144, next (c / 4096) ∷ next (c / 64) ∷ next c ∷ [], refl, inr (omega arith))
+
+pub starts : (c : ℕ) → scalar c ≡ true → Starts (flat_map escaped (encode_utf8 c))
+starts c is = go (nat_lt c 128) refl
+  where
+    go : (b : Bool) → nat_lt c 128 ≡ b → Starts (flat_map escaped (encode_utf8 c))
+    go true low =
+        let small : c < 128 = grind (arith, nat_tests, low) in
+        subst Starts (sym (ap (flat_map escaped) (encode_ascii c small) ∙ append-nil (escaped c))) (ascii_starts c small)
+    go false low =
+        let high : 128 ≤ c = grind (arith, nat_tests, low) in
+        subst Starts (sym (high_letter c high)) (encode_starts c high)

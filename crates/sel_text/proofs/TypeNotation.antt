@@ -1,0 +1,136 @@
+-- The text of a type is in the notation of types, also with white space between its tokens.
+use Rattle.std.proofs.Common.{◌≡◌, ◌≢◌, ◌<◌, ℕ, ◌^◌, Bool, true, false, List, [], ◌∷◌, ◌++◌, length, get_or, refl, ap, sym, ◌∙◌, append_assoc, append-nil, arith, Some}
+use Rattle.std.specs.Prelude.{Option, nat_lt, ◌==◌}
+use Rattle.std.specs.Char.{digit_value}
+use Rattle.std.specs.Fmt.{decimal}
+use Rattle.std.specs.List.{join_with_byte}
+use Rattle.std.specs.Str.Parse.{AllDigits}
+use Rattle.std.proofs.lemmas.Bool.Decides.{nat_tests}
+use Rattle.sel_arrow.proofs.Lists.{and_first, and_second}
+use Rattle.sel_arrow.specs.Shape.{Shape, Shapes, no_shapes, next_shape, of_large_list, of_fixed_size_list, of_struct, of_null, of_boolean, of_int8, of_int16, of_int32, of_int64, of_int128, of_uint8, of_uint16, of_uint32, of_uint64, of_uint128, of_large_binary, of_binary_view, of_utf8_view}
+use Rattle.sel_text.proofs.Ends.{numeral_has}
+use Rattle.sel_text.specs.Notation.{after_byte, changed, goes_on, innermost, is_some_and, is_type_notation}
+use Rattle.sel_text.specs.Tokens.{is_between}
+use Rattle.sel_text.specs.Types.{type_text, type_texts}
+use Rattle.sel_text.specs.Written.{widths_written, all_widths_written}
+use Rattle.sel_text.specs.declared.notation.Bracket.{Bracket}
+use Rattle.sel_text.specs.declared.notation.Bracket.TheVariants.{Child, Fields}
+use Rattle.sel_text.specs.declared.notation.Change.{Change}
+use Rattle.sel_text.specs.declared.notation.Change.TheVariants.{Keep}
+use Rattle.sel_text.specs.declared.notation.Next.{Next}
+use Rattle.sel_text.specs.declared.notation.Next.TheVariants.{FirstName, Name, Size, SizeDigit, After}
+
+-- ---- a text of a type is in the notation
+
+-- A byte leads on.
+pub step_to : (next after : Next) (change : Change) (brackets : List Bracket) (byte : ℕ) (more : List ℕ) → after_byte next (innermost brackets) byte ≡ Some (after, change) →
+    goes_on next brackets (byte ∷ more) ≡ goes_on after (changed change brackets) more
+step_to next after change brackets byte more told = ap (is_some_and (λ (step : Next × Change). goes_on step.0 (changed step.1 brackets) more)) told
+
+digit_between : (c : ℕ) → digit_value c < 10 → is_between c 48 57 ≡ true
+digit_between c small = grind (arith, nat_tests, small)
+
+further_digit : (top : Option Bracket) (c : ℕ) → digit_value c < 10 → after_byte SizeDigit top c ≡ Some (SizeDigit, Keep)
+further_digit top c small = rw (digit_between c small) refl
+
+digits_read : (ds more : List ℕ) (brackets : List Bracket) → AllDigits 10 ds → goes_on SizeDigit brackets (ds ++ (44 ∷ more)) ≡ goes_on Name brackets more
+digits_read [] more brackets all = refl
+digits_read (c ∷ ds) more brackets all =
+    step_to SizeDigit SizeDigit Keep brackets c (ds ++ (44 ∷ more)) (further_digit (innermost brackets) c all.0) ∙ digits_read ds more brackets all.1
+
+first_digit : (c : ℕ) → digit_value c < 10 → c ≢ 48 → (top : Option Bracket) → after_byte Size top c ≡ Some (SizeDigit, Keep)
+first_digit c small some top = grind (arith, nat_tests, small)
+
+size_read : (ds more : List ℕ) (brackets : List Bracket) → 0 < length ds → AllDigits 10 ds → (get_or ds 0 0 ≡ 48 → length ds ≡ 1) → goes_on Size brackets (ds ++ (44 ∷ more)) ≡ goes_on Name brackets more
+size_read [] more brackets some all zeros = absurd (omega arith)
+size_read (c ∷ ds) more brackets some all zeros = go (c == 48) refl
+  where
+    go : (b : Bool) → (c == 48) ≡ b → goes_on Size brackets ((c ∷ ds) ++ (44 ∷ more)) ≡ goes_on Name brackets more
+    go true is =
+        let zero_digit : c ≡ 48 = grind (arith, nat_tests, is) in
+        alone ds zero_digit (omega (arith, zeros zero_digit))
+      where
+        alone : (ds : List ℕ) → c ≡ 48 → length ds ≡ 0 → goes_on Size brackets ((c ∷ ds) ++ (44 ∷ more)) ≡ goes_on Name brackets more
+        alone [] zero_digit none = rw zero_digit refl
+        alone (d ∷ ds) zero_digit none = absurd (omega (arith, none))
+    go false is =
+        let some : c ≢ 48 = grind (arith, nat_tests, is) in
+        step_to Size SizeDigit Keep brackets c (ds ++ (44 ∷ more)) (first_digit c all.0 some (innermost brackets)) ∙ digits_read ds more brackets all.1
+
+-- The first type in a bracket of fields.
+first_name : (s : Shape) (brackets : List Bracket) (more : List ℕ) → goes_on FirstName (Fields ∷ brackets) (type_text s ++ more) ≡ goes_on Name (Fields ∷ brackets) (type_text s ++ more)
+first_name (of_large_list s) brackets more = refl
+first_name (of_fixed_size_list s size) brackets more = refl
+first_name (of_struct ss) brackets more = refl
+first_name of_null brackets more = refl
+first_name of_boolean brackets more = refl
+first_name of_int8 brackets more = refl
+first_name of_int16 brackets more = refl
+first_name of_int32 brackets more = refl
+first_name of_int64 brackets more = refl
+first_name of_int128 brackets more = refl
+first_name of_uint8 brackets more = refl
+first_name of_uint16 brackets more = refl
+first_name of_uint32 brackets more = refl
+first_name of_uint64 brackets more = refl
+first_name of_uint128 brackets more = refl
+first_name of_large_binary brackets more = refl
+first_name of_binary_view brackets more = refl
+first_name of_utf8_view brackets more = refl
+
+-- Each type after a comma.
+abbrev pub comma_texts : Shapes → List ℕ
+comma_texts no_shapes = []
+comma_texts (next_shape s ss) = 44 ∷ type_text s ++ comma_texts ss
+
+joined : (s : Shape) (ss : Shapes) → join_with_byte 44 (type_text s ∷ type_texts ss) ≡ type_text s ++ comma_texts ss
+joined s no_shapes = sym (append-nil (type_text s))
+joined s (next_shape t ss) = ap (λ more. type_text s ++ (44 ∷ more)) (joined t ss)
+
+mutual
+  pub type_read : (s : Shape) → widths_written s ≡ true → (brackets : List Bracket) (more : List ℕ) → goes_on Name brackets (type_text s ++ more) ≡ goes_on After brackets more
+  type_read (of_large_list s) written brackets more =
+      ap (goes_on Name (Child ∷ brackets)) (append_assoc (type_text s) (62 ∷ []) more) ∙ type_read s written (Child ∷ brackets) (62 ∷ more)
+  type_read (of_fixed_size_list s size) written brackets more =
+      let narrow : size < 2 ^ 64 = grind (arith, nat_tests, and_first (nat_lt size (2 ^ 64)) (widths_written s) written) in
+      let has = numeral_has size (omega (arith, narrow)) in
+      ap (goes_on Size (Child ∷ brackets)) (append_assoc (decimal size ++ (44 ∷ type_text s)) (62 ∷ []) more ∙ append_assoc (decimal size) (44 ∷ type_text s) (62 ∷ more))
+      ∙ size_read (decimal size) (type_text s ++ (62 ∷ more)) (Child ∷ brackets) has.0 has.1 has.2
+      ∙ type_read s (and_second (nat_lt size (2 ^ 64)) (widths_written s) written) (Child ∷ brackets) (62 ∷ more)
+  type_read (of_struct ss) written brackets more =
+      ap (goes_on FirstName (Fields ∷ brackets)) (append_assoc (join_with_byte 44 (type_texts ss)) (62 ∷ []) more) ∙ types_read ss written brackets more
+  type_read of_null written brackets more = refl
+  type_read of_boolean written brackets more = refl
+  type_read of_int8 written brackets more = refl
+  type_read of_int16 written brackets more = refl
+  type_read of_int32 written brackets more = refl
+  type_read of_int64 written brackets more = refl
+  type_read of_int128 written brackets more = refl
+  type_read of_uint8 written brackets more = refl
+  type_read of_uint16 written brackets more = refl
+  type_read of_uint32 written brackets more = refl
+  type_read of_uint64 written brackets more = refl
+  type_read of_uint128 written brackets more = refl
+  type_read of_large_binary written brackets more = refl
+  type_read of_binary_view written brackets more = refl
+  type_read of_utf8_view written brackets more = refl
+
+  -- Further types, up to the closing bracket.
+  commas_read : (ss : Shapes) → all_widths_written ss ≡ true → (brackets : List Bracket) (more : List ℕ) → goes_on After (Fields ∷ brackets) (comma_texts ss ++ (62 ∷ more)) ≡ goes_on After brackets more
+  commas_read no_shapes written brackets more = refl
+  commas_read (next_shape s ss) written brackets more =
+      ap (goes_on Name (Fields ∷ brackets)) (append_assoc (type_text s) (comma_texts ss) (62 ∷ more))
+      ∙ type_read s (and_first (widths_written s) (all_widths_written ss) written) (Fields ∷ brackets) (comma_texts ss ++ (62 ∷ more))
+      ∙ commas_read ss (and_second (widths_written s) (all_widths_written ss) written) brackets more
+
+  types_read : (ss : Shapes) → all_widths_written ss ≡ true → (brackets : List Bracket) (more : List ℕ) → goes_on FirstName (Fields ∷ brackets) (join_with_byte 44 (type_texts ss) ++ (62 ∷ more)) ≡ goes_on After brackets more
+  types_read no_shapes written brackets more = refl
+  types_read (next_shape s ss) written brackets more =
+      ap (λ text. goes_on FirstName (Fields ∷ brackets) (text ++ (62 ∷ more))) (joined s ss)
+      ∙ ap (goes_on FirstName (Fields ∷ brackets)) (append_assoc (type_text s) (comma_texts ss) (62 ∷ more)) ∙ first_name s brackets (comma_texts ss ++ (62 ∷ more))
+      ∙ type_read s (and_first (widths_written s) (all_widths_written ss) written) (Fields ∷ brackets) (comma_texts ss ++ (62 ∷ more))
+      ∙ commas_read ss (and_second (widths_written s) (all_widths_written ss) written) brackets more
+
+-- The text of a type is in the notation.
+pub type_in_notation : (s : Shape) → widths_written s ≡ true → is_type_notation (type_text s) ≡ true
+type_in_notation s written = ap (goes_on Name []) (sym (append-nil (type_text s))) ∙ type_read s written [] []
