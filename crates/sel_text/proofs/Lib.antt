@@ -16,6 +16,7 @@ pub mod Fields
 pub mod FittingRows
 pub mod ItemParts
 pub mod ItemRows
+pub mod ItemTexts
 pub mod Making
 pub mod Numbers
 pub mod OffsetsBelow

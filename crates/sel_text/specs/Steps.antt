@@ -1,6 +1,7 @@
 -- What functions of this crate state of each other; no public contract has these words.
 use Rattle.std.specs.Prelude.{◌≡◌, ⊤, Bool, true, false, List, [], ◌∷◌, if◌then◌else◌, Result, Ok}
-use Rattle.std.specs.Prelude.{Err, ℕ, slice_index_or}
+use Rattle.std.specs.Prelude.{Err, ℕ, slice_index_or, IsTrue}
+use Rattle.std.specs.List.{list_all}
 use Rattle.sel_arrow.specs.Rows.{rows, type_of}
 use Rattle.sel_arrow.specs.Shape.{Shape, of_binary_view, of_utf8_view, of_large_list}
 use Rattle.sel_arrow.specs.Shape.{of_fixed_size_list, of_struct}
@@ -11,7 +12,8 @@ use Rattle.sel_text.specs.declared.build.NullSlots.{NullSlots}
 use Rattle.sel_text.specs.declared.text_error.Fault.{Fault}
 use Rattle.sel_text.specs.declared.text_error.Fault.TheVariants.{Limit, OutOfMemory}
 use Rattle.sel_text.specs.Limits.{exceeds_limit}
-use Rattle.sel_text.specs.Texts.{value_text}
+use Rattle.sel_text.specs.Texts.{text_of, value_text}
+use Rattle.sel_text.specs.Fits.{fits}
 
 -- The error is `Limit`, and a limit is exceeded, or it is `OutOfMemory`.
 abbrev pub ReportsLimit : Bool → Fault → Type 0
@@ -63,3 +65,8 @@ is_plain (of_large_list _) = false
 is_plain (of_fixed_size_list _ _) = false
 is_plain (of_struct _) = false
 is_plain _ = true
+
+-- The bytes are the text of some rows that fit the type.
+abbrev pub HasRows : Shape → List ℕ → Type 0
+HasRows shape bytes =
+    (values : List Value) × IsTrue (list_all (fits shape) values) × (bytes ≡ text_of shape values)

@@ -1,10 +1,16 @@
 -- The messages of errors, and the positions that they report.
-use Rattle.std.specs.Prelude.{◌≡◌, ℕ, ◌≤◌, ⊤, true, List, ◌++◌, codes}
+use Rattle.std.specs.Prelude.{◌≡◌, ℕ, ◌≤◌, ⊤, true, Some, IsTrue, List, ◌++◌, codes}
 use Rattle.std.specs.Fmt.{decimal}
+use Rattle.std.specs.List.{list_all}
+use Rattle.sel_arrow.specs.Shape.{Shape}
+use Rattle.sel_arrow.specs.Value.{Value}
 use Rattle.sel_bits.specs.declared.faults.MakeError.{MakeError}
 use Rattle.sel_bits.specs.declared.faults.MakeError.TheVariants.{OutOfMemory as MakeMemory}
 use Rattle.sel_bits.specs.declared.faults.PolarsError.{PolarsError}
 use Rattle.sel_bits.specs.declared.faults.PolarsError.TheVariants.{OutOfMemory as KernelMemory}
+use Rattle.sel_text.specs.Fits.{fits}
+use Rattle.sel_text.specs.Spelling.{spelled}
+use Rattle.sel_text.specs.Texts.{text_of}
 use Rattle.sel_text.specs.Notation.{is_row_notation, is_type_notation, IsFirstError}
 use Rattle.sel_text.specs.declared.text_error.Fault.{Fault}
 use Rattle.sel_text.specs.declared.text_error.Fault.TheVariants.{Limit as LimitFault}
@@ -57,3 +63,9 @@ make_fault error = LimitFault
 abbrev pub kernel_fault : PolarsError → Fault
 kernel_fault KernelMemory = MemoryFault
 kernel_fault error = LimitFault
+
+-- A text is that of some rows that fit the type.
+abbrev pub HasFittingRows : Shape → List ℕ → Type 0
+HasFittingRows shape text =
+    (values : List Value) × IsTrue (list_all (fits shape) values)
+    × (spelled text ≡ Some (text_of shape values))

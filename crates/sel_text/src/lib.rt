@@ -6,6 +6,7 @@ mod cell;
 pub mod equal;
 pub mod fit;
 mod item;
+mod item_text;
 pub mod laws;
 mod notation;
 mod numerals;

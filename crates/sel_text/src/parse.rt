@@ -1,6 +1,6 @@
 //! Parsing of columns.
 
-ghost use Rattle.std.specs.Prelude.{◌≡◌, ℕ, true, false, List, Some, IfOk, IfErr, IsTrue, length, map};
+ghost use Rattle.std.specs.Prelude.{◌≡◌, ◌≢◌, ℕ, Bool, true, false, List, Some, IfOk, IfErr, IsTrue, length, map};
 ghost use Rattle.std.specs.List.{list_all};
 ghost use Rattle.sel_arrow.specs.DataType.{shape_of};
 ghost use Rattle.sel_arrow.specs.Rows.{rows, type_of};
@@ -11,12 +11,13 @@ ghost use Rattle.sel_text.specs.Limits.{exceeds_limit};
 ghost use Rattle.sel_text.specs.Notation.{is_row_notation};
 ghost use Rattle.sel_text.specs.Steps.{ReportsLimit, MakesColumn};
 ghost use Rattle.sel_text.specs.Spelling.{spelled};
-ghost use Rattle.sel_text.specs.TextErrors.{IsLimitOrMemoryError, IsOffsetWithin, IsRowTextError};
-ghost use Rattle.sel_text.specs.Steps.{IsMemoryFault};
+ghost use Rattle.sel_text.specs.TextErrors.{HasFittingRows, IsLimitOrMemoryError, IsOffsetWithin, IsRowTextError};
+ghost use Rattle.sel_text.specs.Steps.{HasRows, IsMemoryFault};
 ghost use Rattle.sel_text.specs.Texts.{text_of};
 
 use crate::build::{NullSlots, build};
 use crate::item::{Item, read_items};
+use crate::item_text::have_text;
 use crate::print::print_rows;
 use crate::row_runs::RowRun;
 use crate::spelling::spelling;
@@ -61,6 +62,8 @@ pub fn parse_column(
         IsTrue (list_all (fits (shape_of dtype.now)) values) →
         spelled text.now ≡ Some (text_of (shape_of dtype.now) values) →
         IsTrue (exceeds_limit beneath (shape_of dtype.now) values)) }
+    ensures fit { IfErr result (λ error. error ≡ TextError.Limit →
+        HasFittingRows (shape_of dtype.now) text.now) }
     ensures syntax { IfErr result (IsRowTextError text.now) }
     ensures place { IfErr result (IsOffsetWithin (length text.now)) }
 {
@@ -120,6 +123,8 @@ fn read_whole(
         IsTrue (list_all (fits (shape_of dtype.now)) values) →
         bytes.now ≡ text_of (shape_of dtype.now) values →
         ReportsLimit (exceeds_limit beneath (shape_of dtype.now) values) fault) }
+    ensures fit { IfErr result (λ fault. fault ≡ Fault.Limit →
+        HasRows (shape_of dtype.now) bytes.now) }
 {
     let array = match read_rows(dtype, alloc, bytes, beneath) {
         Ok(array) => array,
@@ -164,25 +169,66 @@ fn has_text(
     }
 }
 
-/// Parses the rows and builds the column.
+/// Parses the rows and builds the column. Fails with `Limit` only if the rows fit the type.
 fn read_rows(
     dtype: &ArrowDataType,
     alloc: Global,
     bytes: &[u8],
     beneath: NullSlots,
 ) -> Result<ArrayRef, Fault>
-    ensures { (values : List Value) → IsTrue (list_all (fits (shape_of dtype.now)) values) →
+    ensures made { (values : List Value) → IsTrue (list_all (fits (shape_of dtype.now)) values) →
         bytes.now ≡ text_of (shape_of dtype.now) values →
         MakesColumn beneath (shape_of dtype.now) values result }
+    ensures fit { IfErr result (λ fault. fault ≡ Fault.Limit →
+        HasRows (shape_of dtype.now) bytes.now) }
 {
     let (items, rest) = match read_items(dtype, alloc, bytes) {
         Ok(read) => read,
-        Err(fault) => return Err(fault),
+        Err(fault) => return Err(no_limit(fault)),
     };
     if !rest.is_empty() {
         return Err(Fault::Syntax(rest.len()));
     }
-    build_rows(dtype, alloc, &items, beneath)
+    match build_rows(dtype, alloc, &items, beneath) {
+        Ok(array) => Ok(array),
+        Err(fault) => Err(of_rows(fault, dtype, alloc, bytes, &items)),
+    }
+}
+
+/// Returns an error of the reader, which has no limits, as it is.
+fn no_limit(fault: Fault) -> Fault
+    ensures limit { result ≢ Fault.Limit }
+    ensures memory { IsMemoryFault fault → IsMemoryFault result }
+{
+    match fault {
+        Fault::Limit => Fault::Syntax(0),
+        _ => fault,
+    }
+}
+
+/// Returns an error of the rows: an exceeded limit is a misfit if they do not fit the type or
+/// `bytes` is not their text.
+fn of_rows(
+    fault: Fault,
+    dtype: &ArrowDataType,
+    alloc: Global,
+    bytes: &[u8],
+    items: &[Item],
+) -> Fault
+    ensures fit { result ≡ Fault.Limit → HasRows (shape_of dtype.now) bytes.now }
+    ensures told { (exceeds : Bool) →
+        IsTrue (list_all (fits (shape_of dtype.now)) (map item_value items.now)) →
+        bytes.now ≡ text_of (shape_of dtype.now) (map item_value items.now) →
+        ReportsLimit exceeds fault → ReportsLimit exceeds result }
+{
+    let Fault::Limit = fault else {
+        return no_limit(fault);
+    };
+    match have_text(dtype, alloc, bytes, items) {
+        Ok(true) => Fault::Limit,
+        Ok(false) => Fault::Type(bytes.len()),
+        Err(_) => Fault::OutOfMemory,
+    }
 }
 
 /// Builds the column of these rows.

@@ -141,7 +141,7 @@ fn push_flat(cell: Cell, text: &mut String) -> Result<(), AllocError>
 }
 
 /// Appends bytes in hexadecimal to `text`.
-fn push_hex(bytes: &[u8], text: &mut String) -> Result<(), AllocError>
+pub(crate) fn push_hex(bytes: &[u8], text: &mut String) -> Result<(), AllocError>
     ensures { OnOk result (string_bytes text.new ≡ string_bytes text.old ++ hex_text bytes.now) }
 {
     text.push_str("h\"")?;
@@ -173,7 +173,7 @@ fn hex_digit(digit: u8) -> char
 }
 
 /// Appends a quoted UTF-8 string to `text`.
-fn push_quoted(bytes: &[u8], text: &mut String) -> Result<(), AllocError>
+pub(crate) fn push_quoted(bytes: &[u8], text: &mut String) -> Result<(), AllocError>
     requires { IsTrue (is_utf8 bytes.now) }
     ensures { OnOk result (string_bytes text.new ≡ string_bytes text.old ++ quoted bytes.now) }
 {

@@ -16,6 +16,7 @@ pub(crate) trait FromWhole: ArrowPrimitive {
     /// Returns the value, or `None` if it does not fit the type.
     fn from_whole(whole: Whole) -> Option<Self>
         ensures number { IfSome result (λ number. Self.number number ≡ whole_number whole) }
+        ensures fit { IfSome result (λ _. fits_number Self.shape (whole_number whole) ≡ true) }
         ensures refused { IfNone result (fits_number Self.shape (whole_number whole) ≡ false) };
 }
 

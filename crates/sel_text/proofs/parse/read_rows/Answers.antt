@@ -1,4 +1,4 @@
-use Rattle.std.proofs.Common.{[], ap, sym, ◌∙◌, length, map, true≢false, subst}
+use Rattle.std.proofs.Common.{Ok, [], ap, sym, ◌∙◌, length, map, true≢false, subst}
 use Rattle.std.specs.Prelude.{◌==◌}
 use Rattle.std.specs.List.{list_all}
 use Rattle.sel_arrow.specs.DataType.{shape_of}
@@ -6,28 +6,39 @@ use Rattle.sel_arrow.specs.Value.{values_of}
 use Rattle.sel_text.specs.Fits.{fits}
 use Rattle.sel_text.specs.ItemValues.{item_value}
 use Rattle.sel_text.specs.Limits.{exceeds_limit}
-use Rattle.sel_text.specs.Steps.{MakesColumn}
+use Rattle.sel_text.specs.Steps.{MakesColumn, ReportsLimit}
+use Rattle.sel_text.specs.Texts.{text_of}
 use Rattle.sel_text.proofs.Equalities.{list_back}
 use Rattle.sel_text.proofs.Making.{told_wanting}
 use Rattle.sel_text.proofs.Rows.{rows_text}
 use Rattle.sel_text.proofs.Told.{all_fits}
 use Rattle.sel_text.proofs.parse.read_rows.Goals as goal
 
-pub returns-in-Err : goal.returns-in-Err
-returns-in-Err c = λ values fit is.
+pub returns-in-Err-clause-made : goal.returns-in-Err-clause-made
+returns-in-Err-clause-made c = λ values fit is.
     let s = shape_of c.args.dtype.now in
-    told_wanting (exceeds_limit c.args.beneath s values) _ (c.in-Err.ensures (values_of values) [] (all_fits s values fit) (rows_text s values _ is))
+    told_wanting (exceeds_limit c.args.beneath s values) _ (c.no_limit.ensures.memory (c.in-Err.ensures (values_of values) [] (all_fits s values fit) (rows_text s values _ is)))
 
-pub returns-then-not-is_empty : goal.returns-then-not-is_empty
-returns-then-not-is_empty c = λ values fit is.
+pub returns-then-not-is_empty-clause-made : goal.returns-then-not-is_empty-clause-made
+returns-then-not-is_empty-clause-made c = λ values fit is.
     let s = shape_of c.args.dtype.now in
     let told = c.in-Ok.ensures (values_of values) [] (all_fits s values fit) (rows_text s values _ is) in
     let long = ap length told.1 in
     true≢false (sym (c.is_empty.ensures ∙ ap (λ n. n == 0) long) ∙ c.if-not-is_empty.true)
 
-pub returns : goal.returns
-returns c = λ values fit is.
+pub returns-in-Ok-build_rows-clause-made : goal.returns-in-Ok-build_rows-clause-made
+returns-in-Ok-build_rows-clause-made c = λ values fit is.
     let s = shape_of c.args.dtype.now in
     let told = c.in-Ok.ensures (values_of values) [] (all_fits s values fit) (rows_text s values _ is) in
     let same = ap (map item_value) c.deref.ensures.value ∙ told.0 ∙ list_back values in
-    subst (λ vs. MakesColumn c.args.beneath s vs c.build_rows.result) same (c.build_rows.ensures (ap (list_all (fits s)) same ∙ fit))
+    subst (λ vs. MakesColumn c.args.beneath s vs (Ok c.in-Ok-build_rows.array)) same (c.in-Ok-build_rows.ensures (ap (list_all (fits s)) same ∙ fit))
+
+pub returns-clause-made : goal.returns-clause-made
+returns-clause-made c = λ values fit is.
+    let s = shape_of c.args.dtype.now in
+    let told = c.in-Ok.ensures (values_of values) [] (all_fits s values fit) (rows_text s values _ is) in
+    let read = told.0 ∙ list_back values in
+    let built = ap (map item_value) c.deref.ensures.value ∙ read in
+    let seen = ap (map item_value) c.deref-in-Err-build_rows.ensures.value ∙ read in
+    let past = subst (λ vs. ReportsLimit (exceeds_limit c.args.beneath s vs) c.in-Err-build_rows.fault) built (c.in-Err-build_rows.ensures (ap (list_all (fits s)) built ∙ fit)) in
+    c.of_rows.ensures.told _ (ap (list_all (fits s)) seen ∙ fit) (is ∙ ap (text_of s) (sym seen)) past
