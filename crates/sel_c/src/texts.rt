@@ -1,14 +1,15 @@
 //! Comparison, printing and parsing.
 
-ghost use Rattle.std.specs.Prelude.{◌≡◌, ◌≤◌, ◌↔◌, List, [], ◌∷◌, Some, true, false, length, IsTrue};
+ghost use Rattle.std.specs.Prelude.{◌≡◌, ◌≤◌, ◌⊎◌, ◌↔◌, List, [], ◌∷◌, Some, true, false, length, IsTrue};
 ghost use Rattle.sel_arrow.specs.Rows.{rows, type_of};
 ghost use Rattle.sel_arrow.specs.Shape.{Shape};
 ghost use Rattle.sel_arrow.specs.Value.{Value};
-ghost use Rattle.sel_calls.specs.Parsed.{exceeds_parse_limit, IsRowsText, IsTypeText};
+ghost use Rattle.sel_calls.specs.Parsed.{exceeds_parse_limit, ExceedsAlways, IsRowsText, IsTypeText};
 ghost use Rattle.sel_calls.specs.Printed.{filled, held_text, held_type_text};
 ghost use Rattle.sel_ffi.specs.Status.{ok, out_of_memory, no_column, type_syntax, row_syntax, row_type_mismatch, text_limit, held_rows, DemandsFirst, HasColumn, IsOneOf, Makes};
 ghost use Rattle.sel_text.specs.Notation.{is_row_notation, is_type_notation, IsFirstError};
 ghost use Rattle.sel_text.specs.Spelling.{spelled};
+ghost use Rattle.sel_text.specs.TextErrors.{HasFittingRows};
 ghost use Rattle.sel_text.specs.Texts.{text_of};
 ghost use Rattle.sel_text.specs.Types.{type_text};
 
@@ -126,6 +127,8 @@ pub extern "C" fn sel_parse(
     ensures row_error { result ≡ row_syntax → IsFirstError is_row_notation text.now at.new }
     ensures misfit { result ≡ row_type_mismatch → is_row_notation text.now ≡ true }
     ensures type_read { result ≡ text_limit → is_type_notation dtype.now ≡ true }
+    ensures fit { result ≡ text_limit → (shape : Shape) → IsTypeText shape dtype.now →
+        ExceedsAlways shape ⊎ HasFittingRows shape text.now }
     ensures type_place { result ≡ type_syntax → at.new ≤ length dtype.now }
     ensures place { IsOneOf result (row_syntax ∷ row_type_mismatch ∷ []) →
         at.new ≤ length text.now }

@@ -27,3 +27,7 @@ IsRowsText shape values bytes =
 -- The type is nested more than 64 levels deep, or a column of the rows exceeds a size limit.
 abbrev pub exceeds_parse_limit : Shape → List Value → Bool
 exceeds_parse_limit shape values = nat_lt 64 (depth shape) || exceeds_limit Zeros shape values
+
+-- Whatever its rows are, a column of the type exceeds a limit.
+abbrev pub ExceedsAlways : Shape → Type 0
+ExceedsAlways shape = (values : List Value) → IsTrue (exceeds_parse_limit shape values)

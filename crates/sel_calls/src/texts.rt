@@ -1,18 +1,18 @@
 //! Columns printed as row text and parsed from it.
 
-ghost use Rattle.std.specs.Prelude.{◌≡◌, ◌≢◌, ◌≤◌, ℕ, List, [], ◌∷◌, Some, true, false, length, IfOk, IfErr, IfSome, IsTrue};
+ghost use Rattle.std.specs.Prelude.{◌≡◌, ◌≢◌, ◌≤◌, ◌⊎◌, ℕ, List, [], ◌∷◌, Some, true, false, length, IfOk, IfErr, IfSome, IsTrue};
 ghost use Rattle.sel_arrow.specs.DataType.{shape_of};
 ghost use Rattle.sel_arrow.specs.Depth.{depth};
 ghost use Rattle.sel_arrow.specs.Rows.{rows, type_of};
 ghost use Rattle.sel_arrow.specs.Shape.{Shape};
 ghost use Rattle.sel_arrow.specs.Value.{Value};
-ghost use Rattle.sel_calls.specs.Parsed.{exceeds_parse_limit, IsRowsText, IsTypeText};
+ghost use Rattle.sel_calls.specs.Parsed.{exceeds_parse_limit, ExceedsAlways, IsRowsText, IsTypeText};
 ghost use Rattle.sel_calls.specs.Printed.{filled};
 ghost use Rattle.sel_ffi.specs.Status.{ok, out_of_memory, type_syntax, row_syntax, row_type_mismatch, text_limit, IsOneOf, Makes};
 ghost use Rattle.sel_text.specs.Limits.{exceeds_limit};
 ghost use Rattle.sel_text.specs.Notation.{is_row_notation, is_type_notation, HasFirstError, IsFirstError};
 ghost use Rattle.sel_text.specs.Spelling.{spelled};
-ghost use Rattle.sel_text.specs.TextErrors.{IsLimitOrMemoryError, IsOffsetWithin, IsRowTextError, IsTypeTextError};
+ghost use Rattle.sel_text.specs.TextErrors.{HasFittingRows, IsLimitOrMemoryError, IsOffsetWithin, IsRowTextError, IsTypeTextError};
 ghost use Rattle.sel_text.specs.Texts.{text_of};
 ghost use Rattle.sel_text.specs.Types.{type_text};
 ghost use Rattle.sel_text.specs.Written.{widths_written};
@@ -113,6 +113,8 @@ pub fn parse_into(alloc: Global, name: &[u8], text: &[u8], at: &mut usize, out: 
     ensures row_error { result ≡ row_syntax → IsFirstError is_row_notation text.now at.new }
     ensures misfit { result ≡ row_type_mismatch → is_row_notation text.now ≡ true }
     ensures type_read { result ≡ text_limit → is_type_notation name.now ≡ true }
+    ensures fit { result ≡ text_limit → (shape : Shape) → IsTypeText shape name.now →
+        ExceedsAlways shape ⊎ HasFittingRows shape text.now }
     ensures type_place { result ≡ type_syntax → at.new ≤ length name.now }
     ensures place { IsOneOf result (row_syntax ∷ row_type_mismatch ∷ []) →
         at.new ≤ length text.now }
@@ -182,6 +184,8 @@ fn read_rows(alloc: Global, dtype: &ArrowDataType, bytes: &[u8]) -> Result<Array
     ensures limit { IfErr result (λ error. error ≡ TextError.Limit → (values : List Value) →
         IsRowsText (shape_of dtype.now) values bytes.now →
         IsTrue (exceeds_limit NullSlots.Zeros (shape_of dtype.now) values)) }
+    ensures fit { IfErr result (λ error. error ≡ TextError.Limit →
+        HasFittingRows (shape_of dtype.now) bytes.now) }
     ensures syntax { IfErr result (IsRowTextError bytes.now) }
     ensures place { IfErr result (IsOffsetWithin (length bytes.now)) }
 {

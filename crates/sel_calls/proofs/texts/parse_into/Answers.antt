@@ -1,9 +1,10 @@
-use Rattle.std.proofs.Common.{◌≡◌, ◌≤◌, true, false, length, sym, ◌∙◌, arith, subst}
+use Rattle.std.proofs.Common.{◌≡◌, ◌≤◌, inl, inr, true, false, length, sym, ◌∙◌, arith, subst}
 use Rattle.std.specs.Prelude.{nat_lt}
 use Rattle.sel_arrow.specs.DataType.{shape_of}
 use Rattle.sel_arrow.specs.Shape.{Shape}
 use Rattle.sel_calls.specs.Parsed.{IsRowsText}
 use Rattle.sel_text.specs.Limits.{exceeds_limit}
+use Rattle.sel_text.specs.TextErrors.{HasFittingRows}
 use Rattle.sel_arrow.specs.Depth.{depth}
 use Rattle.sel_text.specs.declared.build.NullSlots.TheVariants.{Zeros}
 use Rattle.sel_text.proofs.Making.{or_second}
@@ -42,3 +43,11 @@ returns-in-Ok-made-clause-within c = λ is shape values named texts.
     let shallow : nat_lt 64 (depth shape) ≡ false = grind (arith, nat_tests, levels) in
     let fits = c.in-Ok-made.ensures.within values (subst (λ s. IsRowsText s values c.args.text.now) (sym same) texts) in
     neither (nat_lt 64 (depth shape)) (exceeds_limit Zeros shape values) shallow (subst (λ s. exceeds_limit Zeros s values ≡ false) same fits)
+
+pub returns-in-Err-clause-fit : goal.returns-in-Err-clause-fit
+returns-in-Err-clause-fit c = λ limit shape named. inl (λ values. c.in-Err.ensures.limit (c.type_error_status.ensures.limit limit) shape values named)
+
+pub returns-in-Err-made-clause-fit : goal.returns-in-Err-made-clause-fit
+returns-in-Err-made-clause-fit c = λ limit shape named.
+    let same : shape_of c.in-Ok.dtype ≡ shape = one_spelled c.args.name.now (shape_of c.in-Ok.dtype) shape c.in-Ok.ensures.narrow named.0 c.in-Ok.ensures.text named.2 in
+    inr (subst (λ s. HasFittingRows s c.args.text.now) same (c.in-Err-made.ensures.fit (c.rows_error_status.ensures.limit limit)))
