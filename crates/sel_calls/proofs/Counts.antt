@@ -1,5 +1,5 @@
 -- The numbers of rows of cloned columns are those of the handles' columns.
-use Rattle.std.proofs.Common.{◌≡◌, ℕ, List, [], ◌∷◌, length, map, refl, ap, sym, ◌∙◌, None, Some}
+use Rattle.std.proofs.Common.{◌≡◌, List, [], ◌∷◌, length, map, refl, ap, sym, ◌∙◌, None, Some}
 use Rattle.sel_arrow.specs.Rows.{rows, row_count}
 use Rattle.sel_arrow.specs.declared.array_ref.ArrayRef.{ArrayRef}
 use Rattle.sel_arrow.proofs.NestedRows.{length-rows}

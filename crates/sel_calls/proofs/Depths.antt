@@ -1,5 +1,5 @@
 -- Children and elements of a column have at most as many levels as the column.
-use Rattle.std.proofs.Common.{◌≡◌, ◌≤◌, ◌<◌, ℕ, zero, suc, List, [], ◌∷◌, length, map, All, arith}
+use Rattle.std.proofs.Common.{◌≤◌, ◌<◌, ℕ, zero, suc, List, [], ◌∷◌, length, map, All, arith}
 use Rattle.std.specs.Prelude.{slice_index_or}
 use Rattle.sel_arrow.specs.Depth.{depth, deepest}
 use Rattle.sel_arrow.specs.Rows.{type_of, types_of_each}
