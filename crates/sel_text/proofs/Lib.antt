@@ -14,6 +14,7 @@ pub mod EscapeNotation
 pub mod Escapes
 pub mod Fields
 pub mod FittingRows
+pub mod Following
 pub mod ItemParts
 pub mod ItemRows
 pub mod ItemTexts
