@@ -24,7 +24,7 @@ CAUSES = (
     ("take, bytes", "each index is bounds-checked first, and the bytes of each row are appended by a call"),
     ("take", "each index is bounds-checked first; the loop checks none"),
     ("choose, views", "the library is built for any processor of x86-64-v2; where the buffer index of a view of the second column may change, the library tests whether the view is inline"),
-    ("choose, 8 bytes", "16 values are chosen at a time by vector operations, of which a processor of x86-64-v2 does two values at once, the loops' four or eight"),
+    ("choose, 8 bytes", "a vector operation for any processor of x86-64-v2 works on two values, one of the loops, which are compiled for this processor, on more"),
     ("sublist_get", "each row reference is computed by an iterator that serves every type, and validity bits are packed next to the values"),
     ("fixed_get", "each row reference is computed by an iterator that serves every type"),
     ("flatten", "an iterator goes from column to column for each row, while the loop knows their widths"),
