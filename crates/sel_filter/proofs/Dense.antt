@@ -1,19 +1,21 @@
 -- The values of a block that the bits of a word keep.
-use Rattle.std.proofs.Common.{◌≡◌, ℕ, zero, suc, ◌+◌, ◌-◌, ◌*◌, ◌/◌, ◌%◌, ◌^◌, ◌<◌, ◌≤◌, ◌∙◌, sym, refl, ap, arith, List, [], ◌∷◌, ◌++◌, length, take, drop, get_or, set, Bool, true, false, cond, add-zero, zero-add, append-nil, ⊎_elim, append_assoc, subst}
-use Rattle.std.specs.Prelude.{bit_and, count_ones, ◌==◌}
+use Rattle.std.proofs.Common.{◌≡◌, ℕ, zero, suc, ◌+◌, ◌-◌, ◌*◌, ◌/◌, ◌%◌, ◌^◌, ◌<◌, ◌≤◌, ◌∙◌, sym, refl, ap, arith, List, [], ◌∷◌, ◌++◌, length, take, drop, get_or, Bool, true, false, cond, zero-add, append-nil, ⊎_elim, append_assoc, length-append, subst}
+use Rattle.std.specs.Prelude.{bit_and, count_ones, not, ◌==◌}
 use Rattle.std.specs.Int.{bit_at, trailing_zeros, w64}
 use Rattle.std.specs.Int.Bits.{and_step, and_self}
 use Rattle.std.specs.Int.Count.{count_trailing_zeros, ones, under}
+use Rattle.std.proofs.Math.Dec.{eqb-suc-zero}
 use Rattle.std.proofs.Math.Nat.{pow-suc}
 use Rattle.std.proofs.lemmas.Bool.{cases_lt}
-use Rattle.std.proofs.lemmas.Nat.{pow_pos}
-use Rattle.std.proofs.Math.Seq.{take-add, take-append-add, take-append_seam}
-use Rattle.std.proofs.lemmas.Nat.Bits.{bit_at-lt, bit_at_lowest, shr_and_one}
-use Rattle.std.proofs.lemmas.List.{same_lists, length-take, length-drop, take-set, take_more, take_more_set, length-set, take-take, take-append-le, take_all, nil_from_length, get_or_default}
+use Rattle.std.proofs.lemmas.Nat.{and_le_l, pow_pos}
+use Rattle.std.proofs.Math.Seq.{take-add}
+use Rattle.std.proofs.lemmas.Nat.Bits.{bit_at_lowest, shr_and_one}
+use Rattle.std.proofs.lemmas.List.{same_lists, length-take, length-drop, take_more, nil_from_length, get_or_default}
 use Rattle.sel_bits.specs.Bits.{Bits, bits_from}
 use Rattle.sel_bits.specs.Reading.{WordReading, reached, next_bits, next_count}
 use Rattle.sel_bits.specs.Words.{is_set, bits, word_of}
 use Rattle.sel_bits.proofs.Lists.{bits_suc, bits_zero}
+use Rattle.sel_bits.proofs.BitLists.{length_bits_from}
 use Rattle.sel_bits.proofs.Loads.{block_word}
 use Rattle.sel_bits.proofs.Packs.{length_bits, get_bits, bits_split}
 use Rattle.sel_bits.proofs.Padded.{bit_at_word_of, word_of_lt}
@@ -88,16 +90,30 @@ pub few_step : {A : Type 0} → (xs kept all : List A) (m : ℕ) (x : A) → 0 <
 few_step xs kept all m x some fits le is before =
     append_assoc kept (x ∷ []) _ ∙ ap (λ l. kept ++ l) (ap (λ y. y ∷ select xs (bits (length xs) (bit_and m (m - 1)))) is ∙ sym (lowest_kept xs 64 m x some fits le).1) ∙ before
 
+pub few_within : {A : Type 0} → (xs : List A) (m : ℕ) → 0 < m → m < 2 ^ length xs → length xs ≤ 64 → trailing_zeros w64 m < length xs
+few_within [] m some fits le = absurd (omega arith)
+few_within (x ∷ xs) m some fits le = (lowest_kept (x ∷ xs) 64 m x some fits le).0
+
+-- The next set bit is processed, if there is one.
+pub few_second : {A : Type 0} → (xs kept all new : List A) (m : ℕ) (x : A) → m < 2 ^ 64 → length xs ≡ 64 → x ≡ get_or xs (trailing_zeros w64 m % 64) x
+    → new ≡ kept ++ select (x ∷ []) (not (m == 0) ∷ [])
+    → kept ++ select xs (bits (length xs) m) ≡ all → new ++ select xs (bits (length xs) (bit_and m ((m + 18446744073709551615) % 2 ^ 64))) ≡ all
+few_second xs kept all new zero x fits long is pushed before =
+    let none : bit_and 0 ((0 + 18446744073709551615) % 2 ^ 64) ≡ 0 = omega (arith, and_le_l 0 ((0 + 18446744073709551615) % 2 ^ 64)) in
+    (λ i. (pushed ∙ append-nil kept) i ++ select xs (bits (length xs) (none i))) ∙ before
+few_second xs kept all new (suc m) x fits long is pushed before =
+    let small : suc m < 2 ^ length xs = rw long fits in
+    let inside : trailing_zeros w64 (suc m) % 64 ≡ trailing_zeros w64 (suc m) = omega (arith, few_within xs (suc m) (omega arith) small (omega (arith, long)), long) in
+    let less : (suc m + 18446744073709551615) % 2 ^ 64 ≡ suc m - 1 = omega (arith, fits) in
+    (λ i. (pushed ∙ ap (λ b. kept ++ select (x ∷ []) (not b ∷ [])) (eqb-suc-zero m)) i ++ select xs (bits (length xs) (bit_and (suc m) (less i))))
+    ∙ few_step xs kept all (suc m) x (omega arith) small (omega (arith, long)) (is ∙ ap (λ t. get_or xs t x) inside) before
+
 -- One value fewer is left.
 pub few_left : {A : Type 0} → (xs : List A) (m : ℕ) (x : A) → 0 < m → m < 2 ^ length xs → length xs ≤ 64 → length (select xs (bits (length xs) (bit_and m (m - 1)))) + 1 ≡ length (select xs (bits (length xs) m))
 few_left xs m x some fits le = omega (arith, ap length (lowest_kept xs 64 m x some fits le).1)
 
 pub few_room : {A : Type 0} → (xs : List A) (m : ℕ) → length (select xs (bits (length xs) m)) ≤ length xs
 few_room xs m = few_kept xs (bits (length xs) m)
-
-pub few_within : {A : Type 0} → (xs : List A) (m : ℕ) → 0 < m → m < 2 ^ length xs → length xs ≤ 64 → trailing_zeros w64 m < length xs
-few_within [] m some fits le = absurd (omega arith)
-few_within (x ∷ xs) m some fits le = (lowest_kept (x ∷ xs) 64 m x some fits le).0
 
 -- ---- one more position
 
@@ -113,31 +129,22 @@ select_more xs m i b x lt bit is =
     ∙ select-append (take i xs) (bits i m) (x ∷ []) (is_set m i ∷ []) (omega (arith, length-take i xs, length_bits i m))
     ∙ ap (λ y. select (take i xs) (bits i m) ++ select (x ∷ []) ((y == 1) ∷ [])) bit
 
--- A value is written after the kept ones, and counts as kept if its bit is set.
-dense_step : {A : Type 0} → (xs buf : List A) (m i k b : ℕ) (x : A) → i < length xs → k < length buf → bit_at m i ≡ b → b < 2 → x ≡ get_or xs i x
-    → take k buf ≡ select (take i xs) (bits i m) → take (k + b) (set buf k x) ≡ select (take (i + 1) xs) (bits (i + 1) m)
-dense_step xs buf m i k zero x lt room bit small is was = ap (λ n. take n (set buf k x)) (add-zero k) ∙ take-set buf k x ∙ was ∙ sym (select_more xs m i 0 x lt bit is ∙ append-nil _)
-dense_step xs buf m i k (suc zero) x lt room bit small is was = take_more_set buf k x room ∙ ap (λ l. l ++ x ∷ []) was ∙ sym (select_more xs m i 1 x lt bit is)
-dense_step xs buf m i k (suc (suc b)) x lt room bit small is was = absurd (omega arith)
+-- The kept values below position i follow the initial items.
+abbrev pub IsDense : {A : Type 0} → List A → ℕ → List A → List A → ℕ → Type 0
+IsDense xs m old now i = now ≡ old ++ select (take i xs) (bits i m)
 
--- The kept values below position i are at the front of the buffer.
-pub record IsDense {A : Type 0} (xs : List A) (m : ℕ) (buf : List A) (i k : ℕ) : Type 0 where
-  pub room : length xs ≤ length buf
-  pub few : k ≤ i
-  pub kept : take k buf ≡ select (take i xs) (bits i m)
+pub dense_next : {A : Type 0} → (xs : List A) (m : ℕ) (old now next : List A) (i b end : ℕ) (x : A) → i < length xs → bit_at m i ≡ b → x ≡ get_or xs i x → end ≡ i + 1 → next ≡ now ++ select (x ∷ []) ((b == 1) ∷ []) → IsDense xs m old now i → IsDense xs m old next end
+dense_next xs m old now next i b end x lt bit is e pushed was =
+    pushed
+    ∙ ap (λ l. l ++ select (x ∷ []) ((b == 1) ∷ [])) was
+    ∙ append_assoc old _ _
+    ∙ ap (λ l. old ++ l) (sym (select_more xs m i b x lt bit is))
+    ∙ ap (λ k. old ++ select (take k xs) (bits k m)) (sym e)
 
-pub dense_next : {A : Type 0} → (xs : List A) (m : ℕ) (buf : List A) (i k b next : ℕ) (x : A) → i < length xs → bit_at m i ≡ b → x ≡ get_or xs i x → next ≡ i + 1 → IsDense xs m buf i k → IsDense xs m (set buf k x) next (k + b)
-dense_next xs m buf i k b next x lt bit is e was = record {
-  room = omega (arith, was.room, length-set buf k x);
-  few = omega (arith, was.few, bit, bit_at-lt m i, e);
-  kept = rw e (dense_step xs buf m i k b x lt (omega (arith, was.room, was.few)) bit (omega (arith, bit, bit_at-lt m i)) is was.kept);
-}
-
--- After the last position.
-pub dense_count : {A : Type 0} → (xs : List A) (m : ℕ) (buf : List A) (k : ℕ) → m < 2 ^ length xs → IsDense xs m buf (length xs) k → k ≡ count_ones m
-dense_count xs m buf k fits was =
-    let all = ap length was.kept ∙ ap (λ l. length (select l (bits (length xs) m))) (take_all (length xs) xs (omega arith)) ∙ kept_count xs m fits in
-    omega (arith, all, was.few, was.room, length-take k buf)
+-- At most as many values are kept as there are positions.
+pub dense_few : {A : Type 0} → (xs : List A) (m : ℕ) (old now : List A) (i : ℕ) → IsDense xs m old now i → length now ≤ length old + i
+dense_few xs m old now i was =
+    omega (arith, ap length was, length-append old (select (take i xs) (bits i m)), few_kept (take i xs) (bits i m), length-take i xs)
 
 -- Bit j of a word that is shifted down by i.
 pub moved_bit : (m w i j n : ℕ) → w ≡ m / 2 ^ i → n ≡ i + j → bit_at m n ≡ bit_and (w / 2 ^ j) 1
@@ -173,6 +180,20 @@ module _ {A : Type 0} (xs : List A) (ms : List Bool) (at count word : ℕ) (same
       (sym (select-append (take at xs) (take at ms) (take count (drop at xs)) part (omega (arith, same, length-take at xs, length-take at ms)))
       ∙ sym (λ i. select (take-add at count xs i) (take-add at count ms i)))
 
+-- One more block of values is processed.
+pub next_block : {A : Type 0} → (xs : List A) (bytes : List ℕ) (b word : ℕ) (front old new : List A) → 64 * b + 64 ≤ length xs → word ≡ word_of (bits_from (drop (8 * b) bytes) 0 64)
+    → old ≡ front ++ select (take (64 * b) xs) (take (64 * b) (bits_from bytes 0 (length xs)))
+    → new ≡ old ++ select (take (64 * b + 64 - 64 * b) (drop (64 * b) xs)) (bits 64 word)
+    → new ≡ front ++ select (take (64 * (b + 1)) xs) (take (64 * (b + 1)) (bits_from bytes 0 (length xs)))
+next_block xs bytes b word front old new within word_is was appended =
+    let ms = bits_from bytes 0 (length xs) in
+    let at = 64 * b in
+    let whole : 64 ≡ length (take (at + 64 - at) (drop at xs)) = omega (arith, length-take (at + 64 - at) (drop at xs), length-drop at xs, within) in
+    let next : at + 64 ≡ 64 * (b + 1) = omega arith in
+    part_kept xs ms at 64 word (sym (length_bits_from bytes 0 (length xs))) within (word_is ∙ block_word bytes 0 (length xs) b 64 within) front old new was
+    (appended ∙ ap (λ n. old ++ select (take (at + 64 - at) (drop at xs)) (bits n word)) whole)
+    ∙ ap (λ k. front ++ select (take k xs) (take k ms)) next
+
 -- The word of a reader has the bits after those already returned.
 pub read_word : (mask : Bits) (r : WordReading) (at count word : ℕ) → r.source ≡ mask → at ≡ reached r → word ≡ word_of (next_bits r) → count ≡ next_count r → word ≡ word_of (take count (drop at mask.bits))
 read_word mask r at count word source place is_word is_count = is_word ∙ (λ i. word_of (take (sym is_count i) (drop (sym place i) (source i).bits)))
@@ -189,15 +210,3 @@ last_word bytes s n word is =
     ∙ ap (λ k. word_of (take rest (drop k (bits_from bytes s n)))) at
 
 pub ruleset kept_steps = (few_within, none_more, all_set)
-
--- ---- values that are written at the end of a list
-
-pub tail_kept : {A : Type 0} → (old block now new rest more kept : List A) (start k len : ℕ) → start ≡ length old → now ≡ old ++ block → k ≤ length new → start + k ≤ len → take k new ≡ kept
-    → take (start + k) (take len ((take start now ++ (new ++ rest)) ++ more)) ≡ old ++ kept
-tail_kept old block now new rest more kept start k len is_start is_now within room is_kept =
-    let front : take start now ≡ old = ap (λ n. take n now) is_start ∙ ap (take (length old)) is_now ∙ take-append_seam old block in
-    take-take (start + k) len ((take start now ++ (new ++ rest)) ++ more) room
-    ∙ (λ i. take (is_start i + k) ((front i ++ (new ++ rest)) ++ more))
-    ∙ ap (take (length old + k)) (append_assoc old (new ++ rest) more ∙ ap (λ l. old ++ l) (append_assoc new rest more))
-    ∙ take-append-add old (new ++ (rest ++ more)) k
-    ∙ ap (λ l. old ++ l) (take-append-le k new (rest ++ more) within ∙ is_kept)

@@ -12,7 +12,7 @@ use Rattle.sel_filter.proofs.WordRuns.{starts_append, starts_cut, starts_padded,
 use Rattle.sel_filter.proofs.Selects.{select-append}
 use Rattle.sel_filter.proofs.Filtering.{word_fits, word_selects, word_bits, select_more}
 
-select_split : {A : Type 0} (xs : List A) (ms : List Bool) (k : ℕ) → length xs ≡ length ms → select (take k xs) (take k ms) ++ select (drop k xs) (drop k ms) ≡ select xs ms
+pub select_split : {A : Type 0} (xs : List A) (ms : List Bool) (k : ℕ) → length xs ≡ length ms → select (take k xs) (take k ms) ++ select (drop k xs) (drop k ms) ≡ select xs ms
 select_split xs ms k long =
     sym (select-append (take k xs) (take k ms) (drop k xs) (drop k ms) (omega (arith, length-take k xs, length-take k ms)))
     ∙ (λ i. select (take-append-drop k xs i) (take-append-drop k ms i))

@@ -14,13 +14,15 @@ use Rattle.sel_filter.proofs.Selects.{select_none}
 use Rattle.sel_filter.proofs.WordLists.{bits_of_zero}
 use Rattle.sel_filter.proofs.WordRuns.{bits_after, select_skip, select_run, starts_skip, starts_more, starts_false, starts_of_zero}
 
--- The items and what the remaining bits select are the target; the runs in the remaining bits are
--- the copies to come.
-pub record IsRunning {A : Type 0} (source target : List A) (total : ℕ) (items : List A) (copies at rest : ℕ) : Type 0 where
+-- The items and what the remaining bits select are the target.
+pub record IsRunning {A : Type 0} (source target items : List A) (at rest : ℕ) : Type 0 where
   pub within : at ≤ length source
   pub small : rest < 2 ^ (length source - at)
   pub gives : items ++ select (drop at source) (bits (length source - at) rest) ≡ target
-  pub counts : copies + starts_after false (bits (length source - at) rest) ≡ total
+
+-- The runs in the remaining bits are the copies to come.
+abbrev pub CountsRuns : {A : Type 0} → List A → ℕ → ℕ → ℕ → ℕ → Type 0
+CountsRuns source total copies at rest = copies + starts_after false (bits (length source - at) rest) ≡ total
 
 -- The lowest bits of a word are t zeros, then r ones, then a zero.
 pub record IsRun (rest t r : ℕ) : Type 0 where
@@ -29,7 +31,7 @@ pub record IsRun (rest t r : ℕ) : Type 0 where
   pub some : 0 < r
   pub ends : bit_at (rest / 2 ^ t / 2 ^ r) 0 ≡ 0
 
-module _ {A : Type 0} (source target : List A) (total : ℕ) (items : List A) (copies at rest t r : ℕ) (run : IsRun rest t r) (was : IsRunning source target total items copies at rest) where
+module _ {A : Type 0} (source target items : List A) (at rest t r : ℕ) (run : IsRun rest t r) (was : IsRunning source target items at rest) where
   n : ℕ
   n = length source - at
 
@@ -71,7 +73,7 @@ module _ {A : Type 0} (source target : List A) (total : ℕ) (items : List A) (c
       twice : (a b : ℕ) → drop b (drop a source) ≡ drop (a + b) source
       twice a b = drop-drop b a source
 
-  pub running_next : IsRunning source target total (items ++ take r (drop (at + t) source)) (copies + 1) (at + t + r) (rest / 2 ^ t / 2 ^ r)
+  pub running_next : IsRunning source target (items ++ take r (drop (at + t) source)) (at + t + r) (rest / 2 ^ t / 2 ^ r)
   running_next =
       let B = bits (length source - (at + t + r)) (rest / 2 ^ t / 2 ^ r) in
       let wide : length source - at ≡ length source - (at + t + r) + r + t = omega (arith, run_within) in
@@ -79,15 +81,22 @@ module _ {A : Type 0} (source target : List A) (total : ℕ) (items : List A) (c
         within = run_within;
         small = shr_below (rest / 2 ^ t) (length source - (at + t + r)) r (shr_below rest (length source - (at + t + r) + r) t (rw wide at was.small));
         gives = append_assoc items (take r (drop (at + t) source)) (select (drop (at + t + r) source) B) ∙ ap (λ l. items ++ l) (sym selects) ∙ was.gives;
-        counts = omega (arith, was.counts, starts_one);
       }
 
-pub running_last : {A : Type 0} (source target : List A) (total : ℕ) (items : List A) (copies at rest : ℕ) → rest ≡ 0 → IsRunning source target total items copies at rest → (items ≡ target) × (copies ≡ total)
-running_last source target total items copies at rest none was =
-    let e : bits (length source - at) rest ≡ replicate (length source - at) false = ap (bits (length source - at)) none ∙ bits_of_zero (length source - at) in (
-      sym (append-nil items) ∙ ap (λ l. items ++ l) (sym (ap (select (drop at source)) e ∙ select_none (drop at source) (length source - at))) ∙ was.gives,
-      omega (arith, was.counts, ap (λ w. starts_after false (bits (length source - at) w)) none, starts_of_zero (length source - at)),
-    )
+  pub counts_next : (total copies : ℕ) → CountsRuns source total copies at rest → CountsRuns source total (copies + 1) (at + t + r) (rest / 2 ^ t / 2 ^ r)
+  counts_next total copies counted = omega (arith, counted, starts_one)
+
+  pub copies_left : (total copies : ℕ) → CountsRuns source total copies at rest → copies < total
+  copies_left total copies counted = omega (arith, counted, starts_one)
+
+pub running_last : {A : Type 0} (source target items : List A) (at rest : ℕ) → rest ≡ 0 → IsRunning source target items at rest → items ≡ target
+running_last source target items at rest none was =
+    let e : bits (length source - at) rest ≡ replicate (length source - at) false = ap (bits (length source - at)) none ∙ bits_of_zero (length source - at) in
+    sym (append-nil items) ∙ ap (λ l. items ++ l) (sym (ap (select (drop at source)) e ∙ select_none (drop at source) (length source - at))) ∙ was.gives
+
+pub counts_last : {A : Type 0} (source : List A) (total copies at rest : ℕ) → rest ≡ 0 → CountsRuns source total copies at rest → copies ≡ total
+counts_last source total copies at rest none counted =
+    omega (arith, counted, ap (λ w. starts_after false (bits (length source - at) w)) none, starts_of_zero (length source - at))
 
 -- The lowest run of a word that is not 0.
 pub lowest_run : (rest : ℕ) → 0 < rest → rest < 2 ^ 64 → IsRun rest (trailing_zeros w64 rest) (trailing_ones w64 (rest / 2 ^ trailing_zeros w64 rest))
@@ -115,6 +124,3 @@ lowest_run rest some fits =
 -- The code shifts out a run in two steps, since a run can have 64 bits.
 pub shifted_away : (x r : ℕ) → 0 < r → x / 2 ^ (r - 1) / 2 ^ 1 ≡ x / 2 ^ r
 shifted_away x r some = let e : r - 1 + 1 ≡ r = omega arith in shr-shr x (r - 1) 1 ∙ ap (λ j. x / 2 ^ j) e
-
-pub copies_left : {A : Type 0} (source target : List A) (total : ℕ) (items : List A) (copies at rest t r : ℕ) → IsRun rest t r → IsRunning source target total items copies at rest → copies < total
-copies_left source target total items copies at rest t r run was = omega (arith, was.counts, starts_one source target total items copies at rest t r run was)

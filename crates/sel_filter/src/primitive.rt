@@ -7,15 +7,13 @@ ghost use Rattle.sel_bits.specs.Words.{bits};
 ghost use Rattle.sel_filter.specs.Runs.{run_starts, starts_after};
 ghost use Rattle.sel_filter.specs.Select.{select};
 
-use crate::block::{append_blocks, count_runs};
+use crate::block::{SPARE, append_blocks, count_set};
+use crate::scalar::scalar_filter_offset;
 use sel_bits::aligned_words::AlignedWords;
 use sel_bits::bitmap::Bitmap;
 use sel_bits::block_copy::BlockCopy;
 use sel_bits::faults::PolarsResult;
 use std::alloc::Global;
-
-/// The average length of runs, split at word boundaries, from which each run is one copy.
-const LONG_RUN: usize = 32;
 
 /// Returns the values where `mask` is true, in order.
 ///
@@ -29,32 +27,11 @@ pub fn filter_values<T: Copy>(alloc: Global, values: &[T], mask: &Bitmap) -> Pol
     ensures items { IfOk result (λ kept. kept.items ≡ select values.now mask.now.bits) }
     ensures refusal { IfErr result IsOutOfMemory }
 {
-    let (bytes, shift, len) = mask.as_slice();
-    let (count, runs) = count_runs(bytes, shift, len);
-    if runs <= count / LONG_RUN {
-        return filter_by_runs(alloc, values, mask, count);
-    }
-    let mut kept = Vec::new(alloc);
-    append_blocks(values, bytes, shift, count, &mut kept)?;
+    let (bytes, _, _) = mask.as_slice();
+    let mut kept = Vec::with_capacity(alloc, count_set(bytes).saturating_add(SPARE))?;
+    let (rest, rest_bytes) = scalar_filter_offset(values, mask, &mut kept)?;
+    append_blocks(rest, rest_bytes, &mut kept)?;
     Ok(kept)
-}
-
-/// Returns the values where `mask` is true, one copy per run; reserves capacity for `count`.
-fn filter_by_runs<T: Copy>(
-    alloc: Global,
-    values: &[T],
-    mask: &Bitmap,
-    count: usize,
-) -> PolarsResult<Vec<T>>
-    requires { length values.now ≡ length mask.now.bits }
-    ensures items { IfOk result (λ kept. kept.items ≡ select values.now mask.now.bits) }
-    ensures refusal { IfErr result IsOutOfMemory }
-{
-    let mut out = BlockCopy::new(alloc, values);
-    out.reserve(count)?;
-    let mut words = AlignedWords::new(mask);
-    filter_runs(&mut out, &mut words)?;
-    Ok(out.into_vec())
 }
 
 /// Appends the items of the source where `mask` is true, one copy per run of true bits.

@@ -1,12 +1,12 @@
 //! Filters that append the kept values to a vector.
 
-ghost use Rattle.std.specs.Prelude.{◌≡◌, ℕ, ◌+◌, ◌-◌, ◌*◌, ◌/◌, ◌%◌, ◌<◌, ◌≤◌, ◌++◌, length, take, drop, OnOk, IfOk, IfErr, OnErr};
+ghost use Rattle.std.specs.Prelude.{◌≡◌, ◌+◌, ◌-◌, ◌*◌, ◌/◌, ◌<◌, ◌≤◌, ◌++◌, length, take, drop, OnOk, IfOk, IfErr, OnErr};
 ghost use Rattle.sel_bits.specs.Faults.{IsOutOfMemory};
 ghost use Rattle.sel_bits.specs.Bits.{bits_from};
 ghost use Rattle.sel_filter.specs.Select.{select};
 ghost use Rattle.sel_filter.specs.Scalar.{rows_to_boundary};
 
-use crate::block::{append_blocks, count_runs};
+use crate::block::{SPARE, append_blocks, count_set};
 use sel_bits::bitmap::Bitmap;
 use sel_bits::faults::PolarsResult;
 
@@ -62,8 +62,9 @@ pub fn scalar_filter<T: Copy>(values: &[T], mask_bytes: &[u8], out: &mut Vec<T>)
     ensures refusal { IfErr result IsOutOfMemory }
 {
     let start = out.len();
-    let (count, _) = count_runs(mask_bytes, 0, values.len());
-    let kept = append_blocks(values, mask_bytes, 0, count, out);
+    let count = count_set(&mask_bytes[..values.len().div_ceil(8)]);
+    out.reserve(count.saturating_add(SPARE))?;
+    let kept = append_blocks(values, mask_bytes, out);
     if kept.is_err() {
         out.truncate(start);
     }

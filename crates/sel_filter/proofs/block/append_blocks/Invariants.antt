@@ -1,11 +1,8 @@
 -- The kept values of the blocks so far follow the initial items.
-use Rattle.std.proofs.Common.{◌≡◌, ◌≤◌, ◌*◌, ◌++◌, length, take}
+use Rattle.std.proofs.Common.{◌≡◌, ◌*◌, ◌++◌, length, take}
 use Rattle.sel_bits.specs.Bits.{bits_from}
 use Rattle.sel_filter.specs.Select.{select}
 use Rattle.sel_filter.proofs.block.append_blocks.Given as goal
 
 abbrev pub invariant-loop-block : goal.invariant-loop-block
-invariant-loop-block g l = record {
-  within : l.end ≤ length l.out.items;
-  kept : take l.end l.out.items ≡ l.fn.out.items ++ select (take (64 * l.block) l.values) (take (64 * l.block) (bits_from l.bytes l.shift (length l.values)));
-}
+invariant-loop-block g l = l.out.items ≡ l.fn.out.items ++ select (take (64 * l.block) l.values) (take (64 * l.block) (bits_from l.bytes 0 (length l.values)))

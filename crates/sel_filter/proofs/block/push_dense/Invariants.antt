@@ -1,0 +1,12 @@
+-- The kept values of the rounds so far follow the initial items.
+use Rattle.std.proofs.Common.{◌≡◌, ◌*◌, ◌/◌, ◌^◌}
+use Rattle.std.specs.Prelude.{vec_capacity}
+use Rattle.sel_filter.proofs.Dense.{IsDense}
+use Rattle.sel_filter.proofs.block.push_dense.Given as goal
+
+abbrev pub invariant-loop-round : goal.invariant-loop-round
+invariant-loop-round g l = record {
+  left : l.word ≡ l.mask / 2 ^ (4 * l.round);
+  capacity : vec_capacity l.kept ≡ vec_capacity l.fn.out;
+  dense : IsDense l.block l.mask l.fn.out.items l.kept.items (4 * l.round);
+}
