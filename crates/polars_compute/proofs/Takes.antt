@@ -3,13 +3,13 @@ use Rattle.std.proofs.Common.{◌≡◌, All, ℕ, zero, suc, ◌<◌, pos, negs
 use Rattle.std.specs.Prelude.{if◌then◌else◌}
 use Rattle.std.specs.List.{list_all}
 use Rattle.std.specs.Option.{ForSome}
-use Rattle.std.proofs.lemmas.List.{length-map, get_or-map}
+use Rattle.std.proofs.lemmas.List.{get_or_default, length-map, get_or-map}
 use Rattle.std.proofs.lemmas.Bool.{ltb-true}
 use Rattle.sel_bits.specs.Bits.{Bits}
 use Rattle.sel_arrow.specs.Value.{Value, Null, Number}
-use Rattle.sel_arrow.specs.Masked.{hidden, masked, Covers, valid_at}
+use Rattle.sel_arrow.specs.Masked.{hidden, masked, number_rows, Covers, valid_at}
 use Rattle.sel_arrow.proofs.Lists.{all_at}
-use Rattle.sel_arrow.proofs.Rows.{masked_null, masked_valid}
+use Rattle.sel_arrow.proofs.Rows.{masked_null, masked_valid, null_number, valid_number}
 use Rattle.sel_gather.specs.Plans.{HasBit, bits_found}
 use Rattle.sel_gather.specs.Validity.{bits_for}
 use Rattle.polars_compute.specs.Pick.{found, pick, pick_of, take_rows, is_within, all_within}
@@ -168,3 +168,18 @@ named_bits [] (place ∷ places) same = absurd (omega (arith, same))
 named_bits (b ∷ bits) [] same = absurd (omega (arith, same))
 named_bits (true ∷ bits) (place ∷ places) same = ap (λ l. true ∷ l) (named_bits bits places (omega (arith, same)))
 named_bits (false ∷ bits) (place ∷ places) same = ap (λ l. false ∷ l) (named_bits bits places (omega (arith, same)))
+
+-- ---- values at indices that may be null
+
+found_by : {A : Type 0} (b : Bool) (filler : A) (values : List A) (places : List ℕ) (valid : Bits) (k : ℕ) → get_or valid.bits k false ≡ b → k < length places → Covers (Some valid) (length places)
+    → (if b then get_or values (get_or places k 0) filler else filler) ≡ found filler (values ∷ []) (pick_of (get_or (number_rows pos places (Some valid)) k Null))
+found_by true filler values places valid k is lt covers =
+    let place = get_or places k 0 in
+    sym (ap (λ row. found filler (values ∷ []) (pick_of row)) (valid_number pos places (Some valid) k place is lt covers (get_or_default places k 0 place lt)))
+found_by false filler values places valid k is lt covers = sym (ap (λ row. found filler (values ∷ []) (pick_of row)) (null_number pos places (Some valid) k is lt covers))
+
+-- The value at a valid index, or the filler, is what the row of the index refers to.
+pub found_at : {A : Type 0} (filler : A) (values : List A) (places : List ℕ) (valid : Bits) (k : ℕ) → k < length places → length valid.bits ≡ length places
+    → (if get_or valid.bits k false then get_or values (get_or places k 0) filler else filler) ≡ found filler (values ∷ []) (pick_of (get_or (number_rows pos places (Some valid)) k Null))
+found_at filler values places valid k lt long =
+    found_by (get_or valid.bits k false) filler values places valid k refl lt (λ v there. let same : valid ≡ v = cc in ap (λ (b : Bits). length b.bits) (sym same) ∙ long)

@@ -1,5 +1,5 @@
 -- The invariant of the filter that copies runs, over plain variables.
-use Rattle.std.proofs.Common.{◌≡◌, ℕ, ◌+◌, ◌-◌, ◌/◌, ◌^◌, ◌<◌, ◌≤◌, ◌∙◌, sym, ap, arith, List, ◌++◌, length, take, drop, Bool, false, append_assoc, length-append, subst}
+use Rattle.std.proofs.Common.{◌≡◌, ℕ, ◌+◌, ◌-◌, ◌/◌, ◌^◌, ◌<◌, ◌≤◌, ◌∙◌, sym, ap, arith, List, ◌++◌, length, take, drop, false, append_assoc, length-append, subst}
 use Rattle.std.proofs.lemmas.List.{length-take, take-append-drop, take-append-le, take-take, take_all}
 use Rattle.std.proofs.Math.Seq.{take-add, take-append_seam}
 use Rattle.sel_bits.specs.Words.{bits, word_of}
@@ -9,13 +9,8 @@ use Rattle.sel_bits.specs.Bits.{Bits}
 use Rattle.sel_bits.specs.Copying.{Copying, IsBeginning}
 use Rattle.sel_bits.specs.Reading.{WordReading, reached, next_bits, next_count, after_word}
 use Rattle.sel_filter.proofs.WordRuns.{starts_append, starts_cut, starts_padded, starts_half}
-use Rattle.sel_filter.proofs.Selects.{select-append}
+use Rattle.sel_filter.proofs.Selects.{select_split}
 use Rattle.sel_filter.proofs.Filtering.{word_fits, word_selects, word_bits, select_more}
-
-pub select_split : {A : Type 0} (xs : List A) (ms : List Bool) (k : ℕ) → length xs ≡ length ms → select (take k xs) (take k ms) ++ select (drop k xs) (drop k ms) ≡ select xs ms
-select_split xs ms k long =
-    sym (select-append (take k xs) (take k ms) (drop k xs) (drop k ms) (omega (arith, length-take k xs, length-take k ms)))
-    ∙ (λ i. select (take-append-drop k xs i) (take-append-drop k ms i))
 
 -- ---- prefixes
 

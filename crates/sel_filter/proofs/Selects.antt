@@ -1,6 +1,7 @@
 -- The elements that a mask selects.
-use Rattle.std.proofs.Common.{◌≡◌, ℕ, zero, suc, ◌+◌, ◌≤◌, Bool, true, false, List, [], ◌∷◌, ◌++◌, length, replicate, refl, ap, ◌∙◌, arith, cond}
+use Rattle.std.proofs.Common.{◌≡◌, ℕ, zero, suc, ◌+◌, ◌≤◌, Bool, true, false, List, [], ◌∷◌, ◌++◌, length, take, drop, replicate, refl, ap, sym, ◌∙◌, arith, cond}
 use Rattle.std.specs.Prelude.{count_by}
+use Rattle.std.proofs.lemmas.List.{length-take, take-append-drop}
 use Rattle.std.proofs.lemmas.List.Sums.{sum_by-cons, sum_by-append, count_by-le-length}
 use Rattle.sel_bits.specs.Bits.{count_true}
 use Rattle.sel_filter.specs.Select.{select}
@@ -71,3 +72,9 @@ pub select_none : {A : Type 0} → (xs : List A) (k : ℕ) → select xs (replic
 select_none [] k = refl
 select_none (x ∷ xs) zero = refl
 select_none (x ∷ xs) (suc k) = select_none xs k
+
+-- The selected elements of a part and of the rest.
+pub select_split : {A : Type 0} (xs : List A) (ms : List Bool) (k : ℕ) → length xs ≡ length ms → select (take k xs) (take k ms) ++ select (drop k xs) (drop k ms) ≡ select xs ms
+select_split xs ms k long =
+    sym (select-append (take k xs) (take k ms) (drop k xs) (drop k ms) (omega (arith, length-take k xs, length-take k ms)))
+    ∙ (λ i. select (take-append-drop k xs i) (take-append-drop k ms i))

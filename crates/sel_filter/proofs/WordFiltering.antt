@@ -1,14 +1,16 @@
 -- The bits that a mask keeps, word by word at multiples of 64, over plain variables.
-use Rattle.std.proofs.Common.{◌≡◌, ℕ, ◌+◌, ◌*◌, ◌≤◌, ◌∙◌, sym, ap, refl, arith, List, ◌++◌, length, take, drop, Bool, append-nil}
+use Rattle.std.proofs.Common.{◌≡◌, ℕ, ◌+◌, ◌-◌, ◌*◌, ◌/◌, ◌%◌, ◌<◌, ◌≤◌, min, ⊎_elim, ◌∙◌, sym, ap, refl, arith, List, [], ◌++◌, length, take, drop, Bool, append_assoc, append-nil}
 use Rattle.std.proofs.Math.Seq.{take-add}
-use Rattle.std.proofs.lemmas.List.{take_all, length-take}
+use Rattle.std.proofs.lemmas.Bool.{cases_lt}
+use Rattle.std.proofs.lemmas.List.{take_all, length-drop, length-take, nil_from_length}
 use Rattle.sel_bits.specs.Bits.{bits_from}
 use Rattle.sel_bits.specs.Words.{bits, word_of}
-use Rattle.sel_bits.proofs.BitLists.{length_bits_from}
-use Rattle.sel_bits.proofs.Loads.{block_word}
+use Rattle.sel_bits.proofs.BitLists.{bits_from_none, bits_from_part, length_bits_from}
+use Rattle.sel_bits.proofs.Loads.{block_word, from_byte}
+use Rattle.sel_bits.proofs.Zeros.{bits_from_dropped}
 use Rattle.sel_bits.proofs.WordsOf.{length_part}
 use Rattle.sel_filter.specs.Select.{select}
-use Rattle.sel_filter.proofs.Selects.{select-append}
+use Rattle.sel_filter.proofs.Selects.{select-append, select_split}
 use Rattle.sel_filter.proofs.WordSelects.{words_select, select_empty}
 
 module _ (xs ms : List Bool) (vb mb : List ℕ) (vs s n block width marks : ℕ) (xs-is : xs ≡ bits_from vb vs n) (ms-is : ms ≡ bits_from mb s n)
@@ -37,26 +39,72 @@ module _ (xs ms : List Bool) (vb mb : List ℕ) (vs s n block width marks : ℕ)
   marks_word : marks ≡ word_of b
   marks_word = marks-is ∙ block_word mb s n block width within ∙ ap (λ l. word_of (take width (drop at l))) (sym ms-is)
 
-  pub word_more : (kept more : List Bool) (word : ℕ) → word ≡ word_of (bits_from (drop (8 * block) vb) vs width) → kept ≡ select (take (64 * block) xs) (take (64 * block) ms)
-      → more ≡ kept ++ select (bits 64 word) (bits 64 marks) → more ≡ select (take (64 * block + width) xs) (take (64 * block + width) ms)
-  word_more kept more word word-is was is =
+  pub word_more : (front kept more : List Bool) (word : ℕ) → word ≡ word_of (bits_from (drop (8 * block) vb) vs width) → kept ≡ front ++ select (take (64 * block) xs) (take (64 * block) ms)
+      → more ≡ kept ++ select (bits 64 word) (bits 64 marks) → more ≡ front ++ select (take (64 * block + width) xs) (take (64 * block + width) ms)
+  word_more front kept more word word-is was is =
       let word_word : word ≡ word_of a = word-is ∙ block_word vb vs n block width within ∙ ap (λ l. word_of (take width (drop at l))) (sym xs-is) in
       is
       ∙ ap (λ l. kept ++ l) ((λ i. select (bits 64 (word_word i)) (bits 64 (marks_word i))) ∙ words_select a b width length_a length_b few)
       ∙ ap (λ l. l ++ select a b) was
-      ∙ sym (select-append (take at xs) (take at ms) a b (omega (arith, length-take at xs, length-take at ms, length_xs, length_ms)))
-      ∙ (λ i. select (sym (take-add at width xs) i) (sym (take-add at width ms) i))
+      ∙ append_assoc front (select (take at xs) (take at ms)) (select a b)
+      ∙ ap (λ l. front ++ l) (sym (select-append (take at xs) (take at ms) a b (omega (arith, length-take at xs, length-take at ms, length_xs, length_ms))))
+      ∙ (λ i. front ++ select (sym (take-add at width xs) i) (sym (take-add at width ms) i))
 
   -- A word without a set bit.
-  pub word_skipped : (kept : List Bool) → marks ≡ 0 → kept ≡ select (take (64 * block) xs) (take (64 * block) ms) → kept ≡ select (take (64 * block + width) xs) (take (64 * block + width) ms)
-  word_skipped kept none was =
-      word_more kept kept (word_of (bits_from (drop (8 * block) vb) vs width)) refl was
+  pub word_skipped : (front kept : List Bool) → marks ≡ 0 → kept ≡ front ++ select (take (64 * block) xs) (take (64 * block) ms) → kept ≡ front ++ select (take (64 * block + width) xs) (take (64 * block + width) ms)
+  word_skipped front kept none was =
+      word_more front kept kept (word_of (bits_from (drop (8 * block) vb) vs width)) refl was
       (sym (append-nil kept) ∙ ap (λ l. kept ++ l) (sym (select_empty (word_of (bits_from (drop (8 * block) vb) vs width)) marks none)))
 
 -- The rows up to the next word.
-pub next_word : (xs ms kept : List Bool) (block : ℕ) → kept ≡ select (take (64 * block + 64) xs) (take (64 * block + 64) ms) → kept ≡ select (take (64 * (block + 1)) xs) (take (64 * (block + 1)) ms)
-next_word xs ms kept block is = let e : 64 * block + 64 ≡ 64 * (block + 1) = omega arith in is ∙ (λ i. select (take (e i) xs) (take (e i) ms))
+pub next_word : (xs ms front kept : List Bool) (block : ℕ) → kept ≡ front ++ select (take (64 * block + 64) xs) (take (64 * block + 64) ms) → kept ≡ front ++ select (take (64 * (block + 1)) xs) (take (64 * (block + 1)) ms)
+next_word xs ms front kept block is = let e : 64 * block + 64 ≡ 64 * (block + 1) = omega arith in is ∙ (λ i. front ++ select (take (e i) xs) (take (e i) ms))
 
 -- After the last word all bits are filtered.
-pub words_all : (xs ms kept : List Bool) (n : ℕ) → length xs ≤ n → length ms ≤ n → kept ≡ select (take n xs) (take n ms) → kept ≡ select xs ms
-words_all xs ms kept n lx lm was = was ∙ (λ i. select (take_all n xs lx i) (take_all n ms lm i))
+pub words_all : (xs ms front kept : List Bool) (n : ℕ) → length xs ≤ n → length ms ≤ n → kept ≡ front ++ select (take n xs) (take n ms) → kept ≡ front ++ select xs ms
+words_all xs ms front kept n lx lm was = was ∙ (λ i. front ++ select (take_all n xs lx i) (take_all n ms lm i))
+
+-- ---- the rows before a byte boundary of the mask
+
+module _ (vb mb : List ℕ) (vs s n head : ℕ) (few : head ≤ n) where
+  -- The bits of the first words are those of the first rows.
+  pub head_kept : (word marks : ℕ) → head ≤ 64 → word ≡ word_of (bits_from vb vs head) → marks ≡ word_of (bits_from mb s head)
+      → select (bits 64 word) (bits 64 marks) ≡ select (take head (bits_from vb vs n)) (take head (bits_from mb s n))
+  head_kept word marks small word-is marks-is =
+      (λ i. select (bits 64 (word-is i)) (bits 64 (marks-is i)))
+      ∙ words_select (bits_from vb vs head) (bits_from mb s head) head (length_bits_from vb vs head) (length_bits_from mb s head) small
+      ∙ (λ i. select (front vb vs i) (front mb s i))
+    where
+      front : (bytes : List ℕ) (o : ℕ) → bits_from bytes o head ≡ take head (bits_from bytes o n)
+      front bytes o = ap (λ k. bits_from bytes k head) (omega arith) ∙ bits_from_part bytes o n 0 head (omega (arith, few))
+
+  -- The other rows begin at another byte and bit.
+  pub rest_bits : (bytes : List ℕ) (o : ℕ) → bits_from (drop ((o + head) / 8) bytes) ((o + head) % 8) (n - head) ≡ drop head (bits_from bytes o n)
+  rest_bits bytes o =
+      from_byte bytes ((o + head) / 8) ((o + head) % 8) (o + head) (n - head) (omega arith)
+      ∙ bits_from_dropped bytes o n head few
+
+  -- The other rows of the mask begin at a byte.
+  pub rest_mask : s < 8 → head ≡ min n ((8 - s) % 8) → bits_from (drop ((s + head) / 8) mb) 0 (n - head) ≡ drop head (bits_from mb s n)
+  rest_mask small is =
+      ⊎_elim
+      (λ (inside : head < n).
+      from_byte mb ((s + head) / 8) 0 (s + head) (n - head) (omega arith) ∙ bits_from_dropped mb s n head few)
+      (λ (end : n ≤ head).
+      let none : n - head ≡ 0 = omega arith in
+      ap (bits_from (drop ((s + head) / 8) mb) 0) none ∙ bits_from_none (drop ((s + head) / 8) mb)
+      ∙ sym (nil_from_length (drop head (bits_from mb s n)) (omega (arith, length-drop head (bits_from mb s n), length_bits_from mb s n))))
+      (cases_lt head n)
+
+  -- The bits of the first rows, then those of the others.
+  pub rows_kept : (xs ms kept first last : List Bool) (word marks : ℕ) → s < 8 → head ≡ min n ((8 - s) % 8) → xs ≡ bits_from vb vs n → ms ≡ bits_from mb s n → kept ≡ []
+      → word ≡ word_of (bits_from vb vs head) → marks ≡ word_of (bits_from mb s head) → first ≡ kept ++ select (bits 64 word) (bits 64 marks)
+      → last ≡ first ++ select (bits_from (drop ((vs + head) / 8) vb) ((vs + head) % 8) (n - head)) (bits_from (drop ((s + head) / 8) mb) 0 (n - head))
+      → last ≡ select xs ms
+  rows_kept xs ms kept first last word marks small is xs-is ms-is none word-is marks-is begun ended =
+      let a = bits_from vb vs n in
+      let b = bits_from mb s n in
+      ended
+      ∙ (λ i. (begun ∙ ap (λ l. l ++ select (bits 64 word) (bits 64 marks)) none ∙ head_kept word marks (omega (arith, is)) word-is marks-is) i ++ select (rest_bits vb vs i) (rest_mask small is i))
+      ∙ select_split a b head (length_bits_from vb vs n ∙ sym (length_bits_from mb s n))
+      ∙ (λ i. select (sym xs-is i) (sym ms-is i))

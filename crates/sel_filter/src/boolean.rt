@@ -1,8 +1,8 @@
 //! Filters for bitmaps.
 
-ghost use Rattle.std.specs.Prelude.{◌≡◌, ◌+◌, ◌-◌, ◌/◌, ◌^◌, ◌<◌, ◌≤◌, ◌++◌, length, drop, IfOk, IfErr, OnOk};
+ghost use Rattle.std.specs.Prelude.{◌≡◌, ◌+◌, ◌-◌, ◌*◌, ◌/◌, ◌^◌, ◌<◌, ◌≤◌, ◌++◌, length, drop, IfOk, IfErr, OnOk};
 ghost use Rattle.sel_bits.specs.Faults.{IsOutOfMemory};
-ghost use Rattle.sel_bits.specs.Bits.{count_true};
+ghost use Rattle.sel_bits.specs.Bits.{bits_from, count_true};
 ghost use Rattle.sel_bits.specs.Words.{bits};
 ghost use Rattle.sel_filter.specs.Select.{select};
 
@@ -29,7 +29,28 @@ pub fn filter_boolean_kernel(alloc: Global, values: &Bitmap, mask: &Bitmap) -> P
     ensures bits { IfOk result (λ kept. kept.bits ≡ select values.now.bits mask.now.bits) }
     ensures refusal { IfErr result IsOutOfMemory }
 {
-    let count = mask.set_bits();
+    filter_counted_bits(alloc, values, mask, mask.set_bits())
+}
+
+/// Returns the bits of `values` where `mask` is true, in order; `count` is the number of set bits
+/// of `mask`.
+///
+/// # Requires
+/// `values` and `mask` have the same length, and `count` is `mask.set_bits()`.
+///
+/// # Errors
+/// `OutOfMemory` if an allocation fails.
+pub fn filter_counted_bits(
+    alloc: Global,
+    values: &Bitmap,
+    mask: &Bitmap,
+    count: usize,
+) -> PolarsResult<Bitmap>
+    requires long { length values.now.bits ≡ length mask.now.bits }
+    requires count { count ≡ count_true mask.now.bits }
+    ensures bits { IfOk result (λ kept. kept.bits ≡ select values.now.bits mask.now.bits) }
+    ensures refusal { IfErr result IsOutOfMemory }
+{
     if count == 0 {
         return Bitmap::new(alloc);
     }
@@ -40,6 +61,8 @@ pub fn filter_boolean_kernel(alloc: Global, values: &Bitmap, mask: &Bitmap) -> P
 }
 
 /// Returns the bits where `mask` is true, by 64-bit words; `count` is the number of set mask bits.
+///
+/// The rows before a byte boundary of the mask go first, so that its words are read without shifts.
 fn keep_words(alloc: Global, count: usize, values: &Bitmap, mask: &Bitmap) -> PolarsResult<Bitmap>
     requires long { length values.now.bits ≡ length mask.now.bits }
     requires count { count ≡ count_true mask.now.bits }
@@ -49,22 +72,44 @@ fn keep_words(alloc: Global, count: usize, values: &Bitmap, mask: &Bitmap) -> Po
     let (mask_bytes, mask_shift, len) = mask.as_slice();
     let (value_bytes, value_shift, _) = values.as_slice();
     let mut kept = BitPacker::with_capacity(alloc, count)?;
+    let head = len.min((8 - mask_shift) % 8);
+    let marks = first_word(mask_bytes, mask_shift, head);
+    let word = first_word(value_bytes, value_shift, head);
+    append_kept(&mut kept, word, marks)?;
+    let at = value_shift + head;
+    let rest = &value_bytes[at / 8..];
+    let rest_mask = &mask_bytes[(mask_shift + head) / 8..];
+    append_words(&mut kept, rest, at % 8, rest_mask, len - head)?;
+    kept.into_bitmap(count)
+}
+
+/// Appends the bits of `len` rows where the mask is true. Bit `shift` of the first byte of
+/// `value_bytes` and bit 0 of `mask_bytes` belong to the first row.
+fn append_words(
+    kept: &mut BitPacker,
+    value_bytes: &[u8],
+    shift: usize,
+    mask_bytes: &[u8],
+    len: usize,
+) -> PolarsResult<()>
+    requires shift { shift < 8 }
+    requires values { shift + len ≤ 8 * length value_bytes.now }
+    requires mask { len ≤ 8 * length mask_bytes.now }
+    ensures appended { OnOk result (kept.new ≡ kept.old ++
+        select (bits_from value_bytes.now shift len) (bits_from mask_bytes.now 0 len)) }
+    ensures refusal { IfErr result IsOutOfMemory }
+{
     for block in 0..len / 64 {
-        let marks = whole_word(mask_bytes, 8 * block, mask_shift);
+        let marks = whole_word(mask_bytes, 8 * block, 0);
         if marks == 0 {
             continue;
         }
-        append_kept(
-            &mut kept,
-            whole_word(value_bytes, 8 * block, value_shift),
-            marks,
-        )?;
+        append_kept(kept, whole_word(value_bytes, 8 * block, shift), marks)?;
     }
     let done = len / 64 * 8;
-    let marks = first_word(&mask_bytes[done..], mask_shift, len % 64);
-    let word = first_word(&value_bytes[done..], value_shift, len % 64);
-    append_kept(&mut kept, word, marks)?;
-    kept.into_bitmap(count)
+    let marks = first_word(&mask_bytes[done..], 0, len % 64);
+    let word = first_word(&value_bytes[done..], shift, len % 64);
+    append_kept(kept, word, marks)
 }
 
 /// Returns the bits of `values` where `mask` is true, in order, reading each of them once.

@@ -3,11 +3,13 @@
 ghost use Rattle.std.specs.Prelude.{◌≡◌, length, IfOk, IfErr};
 ghost use Rattle.std.specs.Option.{option_copied, option_map};
 ghost use Rattle.sel_bits.specs.Faults.{IsOutOfMemory};
+ghost use Rattle.sel_bits.specs.Bits.{count_true};
 ghost use Rattle.sel_arrow.specs.Masked.{Covers};
 ghost use Rattle.polars_compute.specs.Select.{select};
 
 use sel_bits::bitmap::Bitmap;
 use sel_bits::faults::PolarsResult;
+use sel_filter::boolean::filter_counted_bits;
 pub use sel_filter::boolean::{
     filter_boolean_kernel, filter_boolean_kernel_pext, filter_boolean_kernel_sparse,
     pext64_polyfill, pext64_rounds,
@@ -35,23 +37,26 @@ pub fn filter_bitmap_and_validity(
     ensures refusal { IfErr result IsOutOfMemory }
 {
     let kept = filter_boolean_kernel(alloc, values, mask)?;
-    let kept_validity = filter_validity(alloc, validity, mask)?;
+    let kept_validity = filter_validity(alloc, validity, mask, kept.len())?;
     Ok((kept, kept_validity))
 }
 
-/// Returns the bits of `validity` where `mask` is true, if a validity is given.
+/// Returns the bits of `validity` where `mask` is true, if a validity is given; `count` is the
+/// number of set bits of `mask`.
 pub(crate) fn filter_validity(
     alloc: Global,
     validity: Option<&Bitmap>,
     mask: &Bitmap,
+    count: usize,
 ) -> PolarsResult<Option<Bitmap>>
-    requires { Covers (option_copied validity) (length mask.now.bits) }
+    requires validity { Covers (option_copied validity) (length mask.now.bits) }
+    requires count { count ≡ count_true mask.now.bits }
     ensures validity { IfOk result (λ kept. option_map (λ v. v.bits) kept ≡
         option_map (λ v. select v.bits mask.now.bits) (option_copied validity.entry)) }
     ensures refusal { IfErr result IsOutOfMemory }
 {
     match validity {
         None => Ok(None),
-        Some(bits) => Ok(Some(filter_boolean_kernel(alloc, bits, mask)?)),
+        Some(bits) => Ok(Some(filter_counted_bits(alloc, bits, mask, count)?)),
     }
 }

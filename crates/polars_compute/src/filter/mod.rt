@@ -195,9 +195,9 @@ fn filter_struct(
         type_of (Struct _count fields.now validity.now)) }
     ensures refusal { IfErr result IsOutOfMemory }
 {
-    let validity = filter_validity(alloc, validity.as_ref(), mask)?;
-    let fields = filter_fields(alloc, fields, mask)?;
     let len = mask.set_bits();
+    let validity = filter_validity(alloc, validity.as_ref(), mask, len)?;
+    let fields = filter_fields(alloc, fields, mask)?;
     let column = Column::Struct {
         len,
         fields,
@@ -259,9 +259,9 @@ fn filter_lists(
     let Some(child) = filter_child(alloc, values, size, mask)? else {
         return filter_runs(alloc, column, mask);
     };
-    let validity = filter_validity(alloc, validity.as_ref(), mask)?;
-    let values = Box::new(alloc, child)?;
     let len = mask.set_bits();
+    let validity = filter_validity(alloc, validity.as_ref(), mask, len)?;
+    let values = Box::new(alloc, child)?;
     let column = Column::FixedSizeList {
         size,
         len,

@@ -33,6 +33,6 @@ pub fn filter_values_and_validity<T: Copy>(
     ensures refusal { IfErr result IsOutOfMemory }
 {
     let kept = filter_values(alloc, values, mask)?;
-    let kept_validity = filter_validity(alloc, validity, mask)?;
+    let kept_validity = filter_validity(alloc, validity, mask, kept.len())?;
     Ok((kept, kept_validity))
 }

@@ -1,14 +1,15 @@
 //! Gather for primitive columns.
 
-ghost use Rattle.std.specs.Prelude.{◌≡◌, ◌<◌, All, IsTrue, length, pos, [], ◌∷◌, map, slice_index_or, IfOk, IfErr};
+ghost use Rattle.std.specs.Prelude.{◌≡◌, ◌<◌, All, IsTrue, Some, length, pos, [], ◌∷◌, map, slice_index_or, if◌then◌else◌, IfOk, IfErr};
 ghost use Rattle.sel_bits.specs.Faults.{IsOutOfMemory};
 ghost use Rattle.sel_arrow.specs.Columns.{primitive_rows};
-ghost use Rattle.sel_arrow.specs.Masked.{number_value};
-ghost use Rattle.polars_compute.specs.Pick.{all_within, is_within, take_rows, pick, found, pick_of};
+ghost use Rattle.sel_arrow.specs.Masked.{number_rows};
+ghost use Rattle.polars_compute.specs.Pick.{all_within, take_rows, pick, pick_of};
 
 use crate::gather::validity::take_validity;
 use sel_arrow::array::Array;
 use sel_arrow::primitive::{IdxArr, PrimitiveArray};
+use sel_bits::bitmap::Bitmap;
 use sel_bits::buffer::Buffer;
 use sel_bits::faults::PolarsResult;
 use sel_bits::native::NativeType;
@@ -51,14 +52,11 @@ pub(crate) fn take_values<T: Copy>(
         pick filler (values.now ∷ []) (map pick_of (primitive_rows indices.now))) }
     ensures refusal { IfErr result IsOutOfMemory }
 {
-    if indices.validity.is_none() {
-        return take_places(alloc, values, indices.values.as_slice(), filler);
+    let places = indices.values.as_slice();
+    match &indices.validity {
+        None => take_places(alloc, values, places, filler),
+        Some(valid) => take_valid_places(alloc, values, places, valid, filler),
     }
-    let mut taken = Vec::with_capacity(alloc, indices.len())?;
-    for k in 0..indices.len() {
-        taken.push_reserved(value_at(values, indices.get(k), filler));
-    }
-    Ok(taken)
 }
 
 /// Returns the value at each index.
@@ -80,13 +78,37 @@ fn take_places<T: Copy>(
     Ok(taken)
 }
 
-/// Returns the value at `index`, or `filler` if it is null.
-fn value_at<T: Copy>(values: &[T], index: Option<u32>, filler: T) -> T
-    requires { IsTrue (is_within (length values.now) (number_value pos index)) }
-    ensures { result ≡ found filler (values.now ∷ []) (pick_of (number_value pos index)) }
+/// Returns the value at each index whose bit is set in `valid`, and `filler` for the others.
+fn take_valid_places<T: Copy>(
+    alloc: Global,
+    values: &[T],
+    places: &[u32],
+    valid: &Bitmap,
+    filler: T,
+) -> PolarsResult<Vec<T>>
+    requires { length valid.now.bits ≡ length places.now }
+    ensures items { IfOk result (λ taken. taken.items ≡ pick filler (values.now ∷ [])
+        (map pick_of (number_rows pos places.now (Some valid.now)))) }
+    ensures refusal { IfErr result IsOutOfMemory }
 {
-    match index {
-        None => filler,
-        Some(place) => values[place as usize],
+    let mut taken = Vec::with_capacity(alloc, places.len())?;
+    for k in 0..places.len() {
+        taken.push_reserved(value_if(values, places[k], valid.get_bit(k), filler));
     }
+    Ok(taken)
+}
+
+/// Returns the value at `place` if `valid` is true and `place` is in bounds, otherwise `filler`.
+///
+/// Reads the first value where `valid` is false, so that no branch depends on it.
+#[inline(always)]
+fn value_if<T: Copy>(values: &[T], place: u32, valid: bool, filler: T) -> T
+    ensures { result ≡ (if valid then slice_index_or values.now place filler else filler) }
+{
+    let at = if valid { place as usize } else { 0 };
+    let value = match values.get(at) {
+        Some(value) => *value,
+        None => filler,
+    };
+    if valid { value } else { filler }
 }

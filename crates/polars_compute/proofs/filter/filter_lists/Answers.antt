@@ -20,8 +20,8 @@ filter_child-requires-clause-few c =
 pub filter_runs-requires-clause-few : goal.filter_runs-requires-clause-few
 filter_runs-requires-clause-few c = omega (arith, few_rows c.args.column.now c.requires.formed, length-rows c.args.column.now, c.requires.long)
 
-pub filter_validity-requires : goal.filter_validity-requires
-filter_validity-requires c =
+pub filter_validity-requires-clause-validity : goal.filter_validity-requires-clause-validity
+filter_validity-requires-clause-validity c =
     let has = list_facts c.args.column.now c.args.size c.args.values.now c.args.validity.now c.requires.parts c.requires.formed in
     rw c.as_ref.ensures.value (λ v there. has.covered v there ∙ sym (length-rows c.args.column.now) ∙ c.requires.long)
 

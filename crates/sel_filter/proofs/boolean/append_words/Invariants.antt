@@ -1,0 +1,8 @@
+-- The kept bits of the words so far follow the initial bits.
+use Rattle.std.proofs.Common.{◌≡◌, ◌*◌, ◌++◌, take}
+use Rattle.sel_bits.specs.Bits.{bits_from}
+use Rattle.sel_filter.specs.Select.{select}
+use Rattle.sel_filter.proofs.boolean.append_words.Given as goal
+
+abbrev pub invariant-loop-block : goal.invariant-loop-block
+invariant-loop-block l = l.kept ≡ l.fn.kept ++ select (take (64 * l.block) (bits_from l.value_bytes l.shift l.len)) (take (64 * l.block) (bits_from l.mask_bytes 0 l.len))
