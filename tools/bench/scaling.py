@@ -1,8 +1,8 @@
 #!/usr/bin/env python3
-"""Times a filter of 10 million 64-bit integers on one thread and on four, with and without huge pages.
+"""Times a filter and a take of 8 columns on one thread and on four, with and without huge pages.
 
-tools/bench/scaling.py           prints the section of docs/BENCHMARKS.md
-tools/bench/scaling.py THREADS   prints the best time of a call on so many threads at once, in ms: one process for each setting
+tools/bench/scaling.py                     prints the section of docs/BENCHMARKS.md
+tools/bench/scaling.py OPERATION THREADS   prints the best time of all columns on so many threads, in ms: one process for each setting
 """
 
 from __future__ import annotations
@@ -16,7 +16,8 @@ import time
 from typing import Dict, List
 
 ROOT = pathlib.Path(__file__).resolve().parent.parent.parent
-ROWS, ROUNDS, THREADS = 10_000_000, 25, 4
+ROWS, COLUMNS, ROUNDS, THREADS = 2_000_000, 8, 25, 4
+OPERATIONS = ("filter", "take")
 # what malloc needs to keep freed blocks of any size, so that no page is new
 KEPT = {"MALLOC_MMAP_THRESHOLD_": str(2**32), "MALLOC_TRIM_THRESHOLD_": str(2**33), "MALLOC_TOP_PAD_": str(2**28)}
 SETTINGS: Dict[str, Dict[str, str]] = {
@@ -26,23 +27,29 @@ SETTINGS: Dict[str, Dict[str, str]] = {
 }
 
 
-def best_time(threads: int) -> float:
-    """Returns the best time of calls on so many threads that begin at once, in ms."""
+def best_time(operation: str, threads: int) -> float:
+    """Returns the best time of an operation on all columns, on so many threads that begin at once, in ms."""
     sys.path.insert(0, str(ROOT / "bindings" / "python"))
     import numpy
     import sel
 
-    column = sel.Column.from_numpy(numpy.arange(ROWS, dtype=numpy.int64))
-    mask = sel.Column.from_numpy(numpy.random.default_rng(1).random(ROWS) < 0.5)
+    random = numpy.random.default_rng(1)
+    columns = [sel.Column.from_numpy(random.integers(0, 2**60, ROWS, dtype=numpy.int64)) for _ in range(COLUMNS)]
+    mask = sel.Column.from_numpy(random.random(ROWS) < 0.5)
+    indices = sel.Column.from_numpy(random.integers(0, ROWS, ROWS, dtype=numpy.uint32))
     best = float("inf")
     for _ in range(ROUNDS):
         barrier = threading.Barrier(threads + 1)
 
-        def run() -> None:
+        def run(first: int) -> None:
             barrier.wait()
-            column.filter(mask)
+            for column in columns[first::threads]:
+                if operation == "filter":
+                    column.filter(mask)
+                else:
+                    column.take(indices)
 
-        workers = [threading.Thread(target=run) for _ in range(threads)]
+        workers = [threading.Thread(target=run, args=(first,)) for first in range(threads)]
         for worker in workers:
             worker.start()
         barrier.wait()
@@ -53,28 +60,29 @@ def best_time(threads: int) -> float:
     return best
 
 
-def measured(threads: int, setting: Dict[str, str]) -> float:
+def measured(operation: str, threads: int, setting: Dict[str, str]) -> float:
     """Returns the same of a process of its own, in which memory is set so."""
     env = {**os.environ, "SEL_LIBRARY": str(ROOT / "build" / "libsel.so"), **setting}
-    ran = subprocess.run([sys.executable, __file__, str(threads)], env=env, stdout=subprocess.PIPE, text=True, check=True)
+    ran = subprocess.run([sys.executable, __file__, operation, str(threads)], env=env, stdout=subprocess.PIPE, text=True, check=True)
     return float(ran.stdout)
 
 
 def section() -> List[str]:
     """Returns the lines of the page."""
-    text = ["## Threads and large columns", "", f"A filter of {ROWS:,} 64-bit integers by a random mask of which half is true, called from Python: the best of {ROUNDS} rounds, in ms. "
-            f"With {THREADS} threads each filters the same column at once; the speedup is how many times more rows a second they filter than one thread. A result of this size is "
+    text = ["## Threads and large columns", "", f"A filter of {COLUMNS} columns of {ROWS:,} random 64-bit integers by a random mask of which half is true, and a take of all their rows in random "
+            f"order, called from Python, column by column: the best of {ROUNDS} rounds, in ms. With {THREADS} threads each has {COLUMNS // THREADS} of the columns. A result of this size is "
             "new memory in each call, and each page of it costs a fault, for which threads wait in turn: the library asks for huge pages.", "",
-            f"| memory | 1 thread | {THREADS} threads | speedup |", "|---|---|---|---|"]
-    for name, setting in SETTINGS.items():
-        one, several = measured(1, setting), measured(THREADS, setting)
-        text.append(f"| {name} | {one:.1f} | {several:.1f} | {THREADS * one / several:.2f} |")
+            f"| operation | memory | 1 thread | {THREADS} threads | speedup |", "|---|---|---|---|---|"]
+    for operation in OPERATIONS:
+        for name, setting in SETTINGS.items():
+            one, several = measured(operation, 1, setting), measured(operation, THREADS, setting)
+            text.append(f"| {operation} | {name} | {one:.1f} | {several:.1f} | {one / several:.2f} |")
     return [*text, ""]
 
 
 def main() -> None:
-    if len(sys.argv) == 2:
-        print(best_time(int(sys.argv[1])))
+    if len(sys.argv) == 3 and sys.argv[1] in OPERATIONS:
+        print(best_time(sys.argv[1], int(sys.argv[2])))
     elif len(sys.argv) == 1:
         print("\n".join(section()))
     else:
