@@ -39,7 +39,7 @@ bits_of_word l =
     get_bits (length l) (word_of l) i d low ∙ ap (λ x. x == 1) (bit_at_word_of l i) ∙ test_of_cond (get_or l i false) ∙ sym (get_or_default l i d false low))
 
 -- The number of kept values is the number of set bits.
-kept_count : {A : Type 0} → (xs : List A) (m : ℕ) → m < 2 ^ length xs → length (select xs (bits (length xs) m)) ≡ count_ones m
+pub kept_count : {A : Type 0} → (xs : List A) (m : ℕ) → m < 2 ^ length xs → length (select xs (bits (length xs) m)) ≡ count_ones m
 kept_count xs m fits = length-select xs (bits (length xs) m) (sym (length_bits (length xs) m)) ∙ sym (ones_is (length xs) m fits)
 
 pub none_more : {A : Type 0} → (xs kept : List A) (m : ℕ) → m ≡ 0 → kept ≡ kept ++ select xs (bits (length xs) m)

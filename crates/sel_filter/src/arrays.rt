@@ -1,7 +1,8 @@
 //! Filters for slices of arrays.
 
-ghost use Rattle.std.specs.Prelude.{◌≡◌, ◌≤◌, ◌<◌, ◌^◌, ◌++◌, length, IfOk, IfErr, OnOk};
+ghost use Rattle.std.specs.Prelude.{◌≡◌, ◌≤◌, ◌<◌, ◌^◌, ◌+◌, ◌*◌, ◌++◌, count_ones, length, IfOk, IfErr, OnOk};
 ghost use Rattle.std.specs.List.{flat_map};
+ghost use Rattle.std.specs.Vec.{vec_len, vec_capacity};
 ghost use Rattle.sel_bits.specs.Faults.{IsOutOfMemory};
 ghost use Rattle.sel_bits.specs.Words.{bits};
 ghost use Rattle.sel_filter.specs.Select.{select};
@@ -10,6 +11,7 @@ use sel_bits::bitmap::Bitmap;
 use sel_bits::faults::PolarsResult;
 use sel_bits::words::{first_word, whole_word};
 use std::alloc::Global;
+use std::mem::replace;
 
 /// Returns the items of the arrays where `mask` is true, in order.
 ///
@@ -61,14 +63,51 @@ fn append_arrays<T: Copy, const N: usize>(
         ++ flat_map (λ array. array) (select block.now (bits (length block.now) mask))) }
     ensures refusal { IfErr result IsOutOfMemory }
 {
-    if mask.count_ones() as usize == block.len() {
+    let count = mask.count_ones() as usize;
+    if count == block.len() {
         out.extend_from_slice(block.as_flattened())?;
         return Ok(());
     }
+    out.reserve(count * N)?;
+    push_arrays(block, mask, out);
+    Ok(())
+}
+
+/// Appends the items of the arrays whose bit is set, array by array.
+///
+/// # Requires
+/// `out` has spare capacity for them.
+#[inline(always)]
+fn push_arrays<T: Copy, const N: usize>(block: &[[T; N]], mask: u64, out: &mut Vec<T>)
+    requires block { length block.now ≤ 64 }
+    requires fits { mask < 2 ^ length block.now }
+    requires room { vec_len out.old + count_ones mask * N ≤ vec_capacity out.old }
+    ensures appended { out.new.items ≡ out.old.items
+        ++ flat_map (λ array. array) (select block.now (bits (length block.now) mask)) }
+{
+    // A vector of this function alone, so that its length stays in a register.
+    let alloc = *out.allocator();
+    let mut kept = replace(out, Vec::new(alloc));
     let mut rest = mask;
     while rest != 0 {
-        out.extend_from_slice(&block[rest.trailing_zeros() as usize])?;
+        push_array(&block[rest.trailing_zeros() as usize], &mut kept);
         rest &= rest - 1;
     }
-    Ok(())
+    *out = kept;
+}
+
+/// Appends the items of an array.
+///
+/// # Requires
+/// `out` has spare capacity for them.
+#[inline(always)]
+fn push_array<T: Copy, const N: usize>(array: &[T; N], out: &mut Vec<T>)
+    requires room { vec_len out.old + N ≤ vec_capacity out.old }
+    ensures appended { out.new.items ≡ out.old.items ++ array.now }
+    ensures len { vec_len out.new ≡ vec_len out.old + N }
+    ensures capacity { vec_capacity out.new ≡ vec_capacity out.old }
+{
+    for i in 0..N {
+        out.push_reserved(array[i]);
+    }
 }
