@@ -14,8 +14,8 @@ use sel_ffi::status::{LENGTH_MISMATCH, OK, OUT_OF_MEMORY};
 use sel_lent::buffer_handle::BufferHandle;
 use sel_lent::lending::{give_back, give_back_bits, lend, lend_bits};
 use sel_lent::memory::{
-    Int8Memory, Int16Memory, Int32Memory, Int64Memory, UInt8Memory, UInt16Memory, UInt32Memory,
-    UInt64Memory, ViewMemory,
+    Int8Memory, Int16Memory, Int32Memory, Int64Memory, Memory, UInt8Memory, UInt16Memory,
+    UInt32Memory, UInt64Memory, ViewMemory,
 };
 use std::alloc::Global;
 use std::mem::replace;
