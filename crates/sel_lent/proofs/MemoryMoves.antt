@@ -64,7 +64,7 @@ moves to from = record {
       (seq (assign (place 0 []) (aggregate (copy (place 2 []) ∷ copy (place 3 []) ∷ copy (place 4 []) ∷ []))) return)));
 }
 
--- Nothing is said of a value that was moved.
+-- A contract says nothing about a value that was moved.
 last : {D : Type 0} (e : Exit D) → e ≡ unseen → (d : D) → Last e d
 last e is d = subst (λ (f : Exit _). Last f d) (sym is) tt
 
