@@ -8,20 +8,48 @@ ghost use Rattle.sel_c.specs.Numbers.{GivesBack, Lends};
 ghost use Rattle.sel_lent.specs.Buffers.{IsBitsOf};
 ghost use Rattle.sel_lent.specs.declared.shared_buffer.SharedBuffer.TheVariants.{Bits, Int8, Int16, Int32, Int64, UInt8, UInt16, UInt32, UInt64, Views};
 
-use sel_arrow::view::View;
 use sel_bits::lent::Lent;
 use sel_ffi::status::{LENGTH_MISMATCH, OK, OUT_OF_MEMORY};
 use sel_lent::buffer_handle::BufferHandle;
 use sel_lent::lending::{give_back, give_back_bits, lend, lend_bits};
 use sel_lent::memory::{
-    Int8Memory, Int16Memory, Int32Memory, Int64Memory, UInt8Memory, UInt16Memory, UInt32Memory,
-    UInt64Memory, ViewMemory,
+    Int8Memory, Int16Memory, Int32Memory, Int64Memory, Memory, UInt8Memory, UInt16Memory,
+    UInt32Memory, UInt64Memory, ViewMemory,
 };
 use std::alloc::Global;
 use std::mem::replace;
 
 /// The buffer is in use, or not over lent memory of this type.
 const IN_USE: u32 = 127;
+
+/// Returns in `out` a buffer of the values, without a copy. On error `from` keeps them.
+fn lend_memory<M: Memory>(alloc: Global, from: &mut M, out: &mut BufferHandle) -> u32
+    ensures { Lends result M.Value.shared (M.values from.old) (M.values from.new)
+        out.old.buffer out.new.buffer }
+{
+    let memory = replace(from, M::of_lent(Lent::none()));
+    match lend(alloc, memory.into_lent(), out) {
+        None => OK,
+        Some(lent) => {
+            *from = M::of_lent(lent);
+            OUT_OF_MEMORY
+        }
+    }
+}
+
+/// Returns in `out` the lent memory of the buffer, of which `of` must be the last owner. `of` is
+/// empty afterwards. On error `of` is unchanged.
+fn give_memory_back<M: Memory>(alloc: Global, of: &mut BufferHandle, out: &mut M) -> u32
+    ensures { GivesBack result M.Value.shared of.old.buffer of.new.buffer (M.values out.new) }
+{
+    match give_back(alloc, of) {
+        None => IN_USE,
+        Some(lent) => {
+            *out = M::of_lent(lent);
+            OK
+        }
+    }
+}
 
 /// Empties the handle, and frees one owner of its buffer.
 #[unsafe(no_mangle)]
@@ -37,14 +65,7 @@ pub extern "C" fn sel_int8_lend(alloc: Global, from: &mut Int8Memory, out: &mut 
     ensures { Lends result (λ values. Int8 values) from.old.items from.new.items
         out.old.buffer out.new.buffer }
 {
-    let memory = replace(from, Int8Memory::of_lent(Lent::none()));
-    match lend(alloc, memory.into_lent(), out) {
-        None => OK,
-        Some(lent) => {
-            *from = Int8Memory::of_lent(lent);
-            OUT_OF_MEMORY
-        }
-    }
+    lend_memory(alloc, from, out)
 }
 
 /// Returns in `out` the lent memory of the buffer, of which `of` must be the last owner. `of` is
@@ -54,13 +75,7 @@ pub extern "C" fn sel_int8_back(alloc: Global, of: &mut BufferHandle, out: &mut 
     ensures { GivesBack result (λ values. Int8 values) of.old.buffer of.new.buffer
         out.new.items }
 {
-    match give_back::<i8>(alloc, of) {
-        None => IN_USE,
-        Some(lent) => {
-            *out = Int8Memory::of_lent(lent);
-            OK
-        }
-    }
+    give_memory_back(alloc, of, out)
 }
 
 /// Returns in `out` a buffer of the values, without a copy. On error `from` keeps them.
@@ -73,14 +88,7 @@ pub extern "C" fn sel_int16_lend(
     ensures { Lends result (λ values. Int16 values) from.old.items from.new.items
         out.old.buffer out.new.buffer }
 {
-    let memory = replace(from, Int16Memory::of_lent(Lent::none()));
-    match lend(alloc, memory.into_lent(), out) {
-        None => OK,
-        Some(lent) => {
-            *from = Int16Memory::of_lent(lent);
-            OUT_OF_MEMORY
-        }
-    }
+    lend_memory(alloc, from, out)
 }
 
 /// Returns in `out` the lent memory of the buffer, of which `of` must be the last owner. `of` is
@@ -90,13 +98,7 @@ pub extern "C" fn sel_int16_back(alloc: Global, of: &mut BufferHandle, out: &mut
     ensures { GivesBack result (λ values. Int16 values) of.old.buffer of.new.buffer
         out.new.items }
 {
-    match give_back::<i16>(alloc, of) {
-        None => IN_USE,
-        Some(lent) => {
-            *out = Int16Memory::of_lent(lent);
-            OK
-        }
-    }
+    give_memory_back(alloc, of, out)
 }
 
 /// Returns in `out` a buffer of the values, without a copy. On error `from` keeps them.
@@ -109,14 +111,7 @@ pub extern "C" fn sel_int32_lend(
     ensures { Lends result (λ values. Int32 values) from.old.items from.new.items
         out.old.buffer out.new.buffer }
 {
-    let memory = replace(from, Int32Memory::of_lent(Lent::none()));
-    match lend(alloc, memory.into_lent(), out) {
-        None => OK,
-        Some(lent) => {
-            *from = Int32Memory::of_lent(lent);
-            OUT_OF_MEMORY
-        }
-    }
+    lend_memory(alloc, from, out)
 }
 
 /// Returns in `out` the lent memory of the buffer, of which `of` must be the last owner. `of` is
@@ -126,13 +121,7 @@ pub extern "C" fn sel_int32_back(alloc: Global, of: &mut BufferHandle, out: &mut
     ensures { GivesBack result (λ values. Int32 values) of.old.buffer of.new.buffer
         out.new.items }
 {
-    match give_back::<i32>(alloc, of) {
-        None => IN_USE,
-        Some(lent) => {
-            *out = Int32Memory::of_lent(lent);
-            OK
-        }
-    }
+    give_memory_back(alloc, of, out)
 }
 
 /// Returns in `out` a buffer of the values, without a copy. On error `from` keeps them.
@@ -145,14 +134,7 @@ pub extern "C" fn sel_int64_lend(
     ensures { Lends result (λ values. Int64 values) from.old.items from.new.items
         out.old.buffer out.new.buffer }
 {
-    let memory = replace(from, Int64Memory::of_lent(Lent::none()));
-    match lend(alloc, memory.into_lent(), out) {
-        None => OK,
-        Some(lent) => {
-            *from = Int64Memory::of_lent(lent);
-            OUT_OF_MEMORY
-        }
-    }
+    lend_memory(alloc, from, out)
 }
 
 /// Returns in `out` the lent memory of the buffer, of which `of` must be the last owner. `of` is
@@ -162,13 +144,7 @@ pub extern "C" fn sel_int64_back(alloc: Global, of: &mut BufferHandle, out: &mut
     ensures { GivesBack result (λ values. Int64 values) of.old.buffer of.new.buffer
         out.new.items }
 {
-    match give_back::<i64>(alloc, of) {
-        None => IN_USE,
-        Some(lent) => {
-            *out = Int64Memory::of_lent(lent);
-            OK
-        }
-    }
+    give_memory_back(alloc, of, out)
 }
 
 /// Returns in `out` a buffer of the values, without a copy. On error `from` keeps them.
@@ -181,14 +157,7 @@ pub extern "C" fn sel_uint8_lend(
     ensures { Lends result (λ values. UInt8 values) from.old.items from.new.items
         out.old.buffer out.new.buffer }
 {
-    let memory = replace(from, UInt8Memory::of_lent(Lent::none()));
-    match lend(alloc, memory.into_lent(), out) {
-        None => OK,
-        Some(lent) => {
-            *from = UInt8Memory::of_lent(lent);
-            OUT_OF_MEMORY
-        }
-    }
+    lend_memory(alloc, from, out)
 }
 
 /// Returns in `out` the lent memory of the buffer, of which `of` must be the last owner. `of` is
@@ -198,13 +167,7 @@ pub extern "C" fn sel_uint8_back(alloc: Global, of: &mut BufferHandle, out: &mut
     ensures { GivesBack result (λ values. UInt8 values) of.old.buffer of.new.buffer
         out.new.items }
 {
-    match give_back::<u8>(alloc, of) {
-        None => IN_USE,
-        Some(lent) => {
-            *out = UInt8Memory::of_lent(lent);
-            OK
-        }
-    }
+    give_memory_back(alloc, of, out)
 }
 
 /// Returns in `out` a buffer of the values, without a copy. On error `from` keeps them.
@@ -217,14 +180,7 @@ pub extern "C" fn sel_uint16_lend(
     ensures { Lends result (λ values. UInt16 values) from.old.items from.new.items
         out.old.buffer out.new.buffer }
 {
-    let memory = replace(from, UInt16Memory::of_lent(Lent::none()));
-    match lend(alloc, memory.into_lent(), out) {
-        None => OK,
-        Some(lent) => {
-            *from = UInt16Memory::of_lent(lent);
-            OUT_OF_MEMORY
-        }
-    }
+    lend_memory(alloc, from, out)
 }
 
 /// Returns in `out` the lent memory of the buffer, of which `of` must be the last owner. `of` is
@@ -238,13 +194,7 @@ pub extern "C" fn sel_uint16_back(
     ensures { GivesBack result (λ values. UInt16 values) of.old.buffer of.new.buffer
         out.new.items }
 {
-    match give_back::<u16>(alloc, of) {
-        None => IN_USE,
-        Some(lent) => {
-            *out = UInt16Memory::of_lent(lent);
-            OK
-        }
-    }
+    give_memory_back(alloc, of, out)
 }
 
 /// Returns in `out` a buffer of the values, without a copy. On error `from` keeps them.
@@ -257,14 +207,7 @@ pub extern "C" fn sel_uint32_lend(
     ensures { Lends result (λ values. UInt32 values) from.old.items from.new.items
         out.old.buffer out.new.buffer }
 {
-    let memory = replace(from, UInt32Memory::of_lent(Lent::none()));
-    match lend(alloc, memory.into_lent(), out) {
-        None => OK,
-        Some(lent) => {
-            *from = UInt32Memory::of_lent(lent);
-            OUT_OF_MEMORY
-        }
-    }
+    lend_memory(alloc, from, out)
 }
 
 /// Returns in `out` the lent memory of the buffer, of which `of` must be the last owner. `of` is
@@ -278,13 +221,7 @@ pub extern "C" fn sel_uint32_back(
     ensures { GivesBack result (λ values. UInt32 values) of.old.buffer of.new.buffer
         out.new.items }
 {
-    match give_back::<u32>(alloc, of) {
-        None => IN_USE,
-        Some(lent) => {
-            *out = UInt32Memory::of_lent(lent);
-            OK
-        }
-    }
+    give_memory_back(alloc, of, out)
 }
 
 /// Returns in `out` a buffer of the values, without a copy. On error `from` keeps them.
@@ -297,14 +234,7 @@ pub extern "C" fn sel_uint64_lend(
     ensures { Lends result (λ values. UInt64 values) from.old.items from.new.items
         out.old.buffer out.new.buffer }
 {
-    let memory = replace(from, UInt64Memory::of_lent(Lent::none()));
-    match lend(alloc, memory.into_lent(), out) {
-        None => OK,
-        Some(lent) => {
-            *from = UInt64Memory::of_lent(lent);
-            OUT_OF_MEMORY
-        }
-    }
+    lend_memory(alloc, from, out)
 }
 
 /// Returns in `out` the lent memory of the buffer, of which `of` must be the last owner. `of` is
@@ -318,13 +248,7 @@ pub extern "C" fn sel_uint64_back(
     ensures { GivesBack result (λ values. UInt64 values) of.old.buffer of.new.buffer
         out.new.items }
 {
-    match give_back::<u64>(alloc, of) {
-        None => IN_USE,
-        Some(lent) => {
-            *out = UInt64Memory::of_lent(lent);
-            OK
-        }
-    }
+    give_memory_back(alloc, of, out)
 }
 
 /// Returns in `out` a buffer of the values, without a copy. On error `from` keeps them.
@@ -337,14 +261,7 @@ pub extern "C" fn sel_views_lend(
     ensures { Lends result (λ values. Views values) from.old.items from.new.items
         out.old.buffer out.new.buffer }
 {
-    let memory = replace(from, ViewMemory::of_lent(Lent::none()));
-    match lend(alloc, memory.into_lent(), out) {
-        None => OK,
-        Some(lent) => {
-            *from = ViewMemory::of_lent(lent);
-            OUT_OF_MEMORY
-        }
-    }
+    lend_memory(alloc, from, out)
 }
 
 /// Returns in `out` the lent memory of the buffer, of which `of` must be the last owner. `of` is
@@ -354,13 +271,7 @@ pub extern "C" fn sel_views_back(alloc: Global, of: &mut BufferHandle, out: &mut
     ensures { GivesBack result (λ values. Views values) of.old.buffer of.new.buffer
         out.new.items }
 {
-    match give_back::<View>(alloc, of) {
-        None => IN_USE,
-        Some(lent) => {
-            *out = ViewMemory::of_lent(lent);
-            OK
-        }
-    }
+    give_memory_back(alloc, of, out)
 }
 
 /// Returns in `out` a bitmap of the first `len` bits of the bytes, without a copy. On error `from`

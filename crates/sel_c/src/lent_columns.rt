@@ -1,19 +1,16 @@
 //! Columns over shared buffers, and the buffers of columns. Internal to the C library: its Arrow
 //! interface calls these functions, and no header for programs declares them.
 
-ghost use Rattle.std.specs.Prelude.{◌≡◌, ◌≢◌, ◌*◌, length, map, take, drop, slice_index_or, []};
+ghost use Rattle.std.specs.Prelude.{◌≡◌, ◌≢◌, map, take, drop, slice_index_or, []};
 ghost use Rattle.std.specs.Option.{option_map};
 ghost use Rattle.sel_arrow.specs.Masked.{bool_rows};
-ghost use Rattle.sel_arrow.specs.Nested.{list_rows, block_rows, struct_rows};
+ghost use Rattle.sel_arrow.specs.Nested.{block_rows, struct_rows};
 ghost use Rattle.sel_arrow.specs.Nulls.{IsValidityOf};
-ghost use Rattle.sel_arrow.specs.Pieces.{byte_rows, rows_between};
-ghost use Rattle.sel_arrow.specs.Rows.{rows, type_of};
 ghost use Rattle.sel_arrow.specs.Shape.{of_boolean, of_large_binary, of_binary_view, of_utf8_view, of_large_list, of_fixed_size_list, of_struct, shapes_of};
-ghost use Rattle.sel_arrow.specs.Views.{view_rows};
-ghost use Rattle.sel_ffi.specs.Inputs.{positions};
 ghost use Rattle.sel_ffi.specs.Layout.{held_buffers};
-ghost use Rattle.sel_ffi.specs.Status.{ok, held_rows, held_type, Makes};
-ghost use Rattle.sel_lent.specs.Buffers.{bitmap_of, bits_of, bytes_in, bytes_of, count_over, first_of, integers_of, length_of, of_column, offsets_in, rows_over, type_over, validity_over, values_in, views_of};
+ghost use Rattle.sel_ffi.specs.Status.{ok, held_rows, held_type};
+ghost use Rattle.sel_lent.specs.Buffers.{bitmap_of, bits_of, bytes_in, bytes_of, first_of, length_of, of_column, offsets_in, type_over, validity_over, values_in};
+ghost use Rattle.sel_lent.specs.ColumnsOver.{integer_rows_over, binary_rows_over, list_rows_over, view_rows_over, MakesColumn};
 ghost use Rattle.sel_lent.specs.declared.shared_buffer.SharedBuffer.TheVariants.{UInt8};
 
 use sel_ffi::column_ref::ColumnRef;
@@ -41,11 +38,8 @@ pub extern "C" fn sel_integers_over(
     first: usize,
     out: &mut Handle,
 ) -> u32
-    ensures rows { Makes result out.old.tree out.new.tree (λ made. rows made.column ≡
-        rows_over values.now.buffer
-        (validity_over validity.now.buffer first (count_over values.now.buffer))) }
-    ensures dtype { Makes result out.old.tree out.new.tree
-        (λ made. type_of made.column ≡ type_over values.now.buffer) }
+    ensures { MakesColumn result out.old.tree out.new.tree (type_over values.now.buffer)
+        (integer_rows_over values.now.buffer validity.now.buffer first) }
 {
     integers_over(alloc, values, validity, first, out)
 }
@@ -66,11 +60,9 @@ pub extern "C" fn sel_booleans_over(
     first: usize,
     out: &mut Handle,
 ) -> u32
-    ensures rows { Makes result out.old.tree out.new.tree (λ made. rows made.column ≡
-        bool_rows (take len (drop start (bits_of values.now.buffer)))
+    ensures { MakesColumn result out.old.tree out.new.tree of_boolean
+        (bool_rows (take len (drop start (bits_of values.now.buffer)))
         (validity_over validity.now.buffer first len)) }
-    ensures dtype { Makes result out.old.tree out.new.tree
-        (λ made. type_of made.column ≡ of_boolean) }
 {
     booleans_over(alloc, values, start, len, validity, first, out)
 }
@@ -90,12 +82,8 @@ pub extern "C" fn sel_binary_over(
     first: usize,
     out: &mut Handle,
 ) -> u32
-    ensures rows { Makes result out.old.tree out.new.tree (λ made. rows made.column ≡
-        byte_rows (positions (integers_of offsets.now.buffer)) (bytes_of bytes.now.buffer)
-        (validity_over validity.now.buffer first
-        (rows_between (positions (integers_of offsets.now.buffer))))) }
-    ensures dtype { Makes result out.old.tree out.new.tree
-        (λ made. type_of made.column ≡ of_large_binary) }
+    ensures { MakesColumn result out.old.tree out.new.tree of_large_binary
+        (binary_rows_over offsets.now.buffer bytes.now.buffer validity.now.buffer first) }
 {
     binary_over(alloc, offsets, bytes, validity, first, out)
 }
@@ -116,12 +104,9 @@ pub extern "C" fn sel_list_over(
     first: usize,
     out: &mut Handle,
 ) -> u32
-    ensures rows { Makes result out.old.tree out.new.tree (λ made. rows made.column ≡
-        list_rows (positions (integers_of offsets.now.buffer)) (held_rows child.now.tree)
-        (validity_over validity.now.buffer first
-        (rows_between (positions (integers_of offsets.now.buffer))))) }
-    ensures dtype { Makes result out.old.tree out.new.tree
-        (λ made. type_of made.column ≡ of_large_list (held_type child.now.tree)) }
+    ensures { MakesColumn result out.old.tree out.new.tree
+        (of_large_list (held_type child.now.tree))
+        (list_rows_over offsets.now.buffer (held_rows child.now.tree) validity.now.buffer first) }
 {
     list_over(alloc, offsets, child, validity, first, out)
 }
@@ -141,11 +126,9 @@ pub extern "C" fn sel_fixed_size_list_over(
     first: usize,
     out: &mut Handle,
 ) -> u32
-    ensures rows { Makes result out.old.tree out.new.tree (λ made. rows made.column ≡
-        block_rows width len (held_rows child.now.tree)
-        (validity_over validity.now.buffer first len)) }
-    ensures dtype { Makes result out.old.tree out.new.tree
-        (λ made. type_of made.column ≡ of_fixed_size_list (held_type child.now.tree) width) }
+    ensures { MakesColumn result out.old.tree out.new.tree
+        (of_fixed_size_list (held_type child.now.tree) width) (block_rows width len
+        (held_rows child.now.tree) (validity_over validity.now.buffer first len)) }
 {
     fixed_size_list_over(alloc, width, len, child, validity, first, out)
 }
@@ -164,11 +147,10 @@ pub extern "C" fn sel_struct_over(
     first: usize,
     out: &mut Handle,
 ) -> u32
-    ensures rows { Makes result out.old.tree out.new.tree (λ made. rows made.column ≡
-        struct_rows len (map (λ field. held_rows field.tree) fields.now)
+    ensures { MakesColumn result out.old.tree out.new.tree
+        (of_struct (shapes_of (map (λ field. held_type field.tree) fields.now)))
+        (struct_rows len (map (λ field. held_rows field.tree) fields.now)
         (validity_over validity.now.buffer first len)) }
-    ensures dtype { Makes result out.old.tree out.new.tree (λ made. type_of made.column ≡
-        of_struct (shapes_of (map (λ field. held_type field.tree) fields.now))) }
 {
     struct_over(alloc, len, fields, validity, first, out)
 }
@@ -188,11 +170,9 @@ pub extern "C" fn sel_binary_views_over(
     first: usize,
     out: &mut Handle,
 ) -> u32
-    ensures rows { Makes result out.old.tree out.new.tree (λ made. rows made.column ≡
-        view_rows (views_of views.now.buffer) (map (λ handle. bytes_of handle.buffer) buffers.now)
-        (validity_over validity.now.buffer first (length (views_of views.now.buffer)))) }
-    ensures dtype { Makes result out.old.tree out.new.tree
-        (λ made. type_of made.column ≡ of_binary_view) }
+    ensures { MakesColumn result out.old.tree out.new.tree of_binary_view
+        (view_rows_over views.now.buffer (map (λ handle. bytes_of handle.buffer) buffers.now)
+        validity.now.buffer first) }
 {
     binary_views_over(alloc, views, buffers, validity, first, out)
 }
@@ -212,11 +192,9 @@ pub extern "C" fn sel_string_views_over(
     first: usize,
     out: &mut Handle,
 ) -> u32
-    ensures rows { Makes result out.old.tree out.new.tree (λ made. rows made.column ≡
-        view_rows (views_of views.now.buffer) (map (λ handle. bytes_of handle.buffer) buffers.now)
-        (validity_over validity.now.buffer first (length (views_of views.now.buffer)))) }
-    ensures dtype { Makes result out.old.tree out.new.tree
-        (λ made. type_of made.column ≡ of_utf8_view) }
+    ensures { MakesColumn result out.old.tree out.new.tree of_utf8_view
+        (view_rows_over views.now.buffer (map (λ handle. bytes_of handle.buffer) buffers.now)
+        validity.now.buffer first) }
 {
     string_views_over(alloc, views, buffers, validity, first, out)
 }

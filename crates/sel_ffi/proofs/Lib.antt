@@ -1,11 +1,12 @@
 pub mod Cloned
-pub mod ColumnRefSteps
 pub mod Crossing
 pub mod Depths
 pub mod Emptied
 pub mod HandleSteps
 pub mod LooseSteps
 pub mod Positions
+pub mod RefShared
+pub mod RefSteps
 pub mod Reported
 pub mod Shown
 pub mod Tuples

@@ -1,3 +1,4 @@
 pub mod BufferHandleSteps
-pub mod BufferRefSteps
 pub mod Crossing
+pub mod MemoryMoves
+pub mod MemoryStructs

@@ -1,15 +1,12 @@
 -- What read access to the buffer of a handle owns.
-use base.Fml.{Fml, Share, ftrue, feq, fsep, fex, flft}
+use base.Fml.{Fml, ftrue, feq, fsep, fex}
 use denote.RawPtr.{Ptr, Testable, null_ptr}
 use denote.Struct.Lending.{lent_at}
 use Rattle.std.specs.Prelude.{ℕ, [], ◌∷◌}
 use Rattle.std.specs.declared.option.Option.TheVariants.{None, Some}
+use Rattle.sel_ffi.specs.ColumnRef.{lasts}
 use Rattle.sel_lent.specs.contracts.shared_buffer.SharedBuffer.{the_row}
 use Rattle.sel_lent.specs.Held.{Held}
-
--- A share of the token of lifetime `a`: while it exists, the lifetime does not end.
-abbrev pub lasts : ℕ → Fml
-lasts a = fex Share (λ share. flft (a ∷ []) share)
 
 -- Nothing if the pointer is null; else the buffer there, shared for a lifetime that lasts.
 abbrev pub ref_owns : Ptr → Held → Fml

@@ -3,13 +3,12 @@
 ghost use Rattle.std.specs.Prelude.{◌≡◌, ◌≢◌, ◌≤◌, length, IfOk, IfErr, IfSome, None, map, take, drop};
 ghost use Rattle.sel_arrow.specs.Depth.{depth};
 ghost use Rattle.sel_arrow.specs.Masked.{Covers, number_rows, bool_rows};
-ghost use Rattle.sel_arrow.specs.Nested.{list_rows, block_rows, struct_rows};
-ghost use Rattle.sel_arrow.specs.Pieces.{byte_rows, rows_between};
-ghost use Rattle.sel_arrow.specs.Rows.{rows, type_of};
+ghost use Rattle.sel_arrow.specs.Nested.{block_rows, struct_rows};
 ghost use Rattle.sel_arrow.specs.Shape.{of_boolean, of_large_binary, of_large_list, of_fixed_size_list, of_struct, shapes_of};
 ghost use Rattle.sel_ffi.specs.Inputs.{positions};
-ghost use Rattle.sel_ffi.specs.Status.{ok, held_rows, held_type, Makes};
-ghost use Rattle.sel_lent.specs.Buffers.{bits_of, bytes_of, integers_of, validity_over, rows_over, count_over, type_over};
+ghost use Rattle.sel_ffi.specs.Status.{ok, held_rows, held_type};
+ghost use Rattle.sel_lent.specs.Buffers.{bits_of, integers_of, validity_over, type_over};
+ghost use Rattle.sel_lent.specs.ColumnsOver.{integer_rows_over, binary_rows_over, list_rows_over, MakesColumn};
 
 use crate::buffer_ref::BufferRef;
 use crate::shared_buffer::SharedBuffer;
@@ -72,11 +71,8 @@ fn put_integers<T: ArrowPrimitive>(
     out: &mut Handle,
 ) -> u32
     requires { depth T.shape ≤ 128 }
-    ensures rows { Makes result out.old.tree out.new.tree (λ made. rows made.column ≡
-        number_rows T.number values.now
-        (validity_over validity.now.buffer first (length values.now))) }
-    ensures dtype { Makes result out.old.tree out.new.tree
-        (λ made. type_of made.column ≡ T.shape) }
+    ensures { MakesColumn result out.old.tree out.new.tree T.shape (number_rows T.number
+        values.now (validity_over validity.now.buffer first (length values.now))) }
 {
     let bits = match validity_from(validity, first, values.len()) {
         Ok(bits) => bits,
@@ -103,11 +99,8 @@ pub fn integers_over(
     first: usize,
     out: &mut Handle,
 ) -> u32
-    ensures rows { Makes result out.old.tree out.new.tree (λ made. rows made.column ≡
-        rows_over values.now.buffer
-        (validity_over validity.now.buffer first (count_over values.now.buffer))) }
-    ensures dtype { Makes result out.old.tree out.new.tree
-        (λ made. type_of made.column ≡ type_over values.now.buffer) }
+    ensures { MakesColumn result out.old.tree out.new.tree (type_over values.now.buffer)
+        (integer_rows_over values.now.buffer validity.now.buffer first) }
 {
     let Some(shared) = values.shared() else {
         return UNSUPPORTED_TYPE;
@@ -140,11 +133,9 @@ pub fn booleans_over(
     first: usize,
     out: &mut Handle,
 ) -> u32
-    ensures rows { Makes result out.old.tree out.new.tree (λ made. rows made.column ≡
-        bool_rows (take len (drop start (bits_of values.now.buffer)))
+    ensures { MakesColumn result out.old.tree out.new.tree of_boolean
+        (bool_rows (take len (drop start (bits_of values.now.buffer)))
         (validity_over validity.now.buffer first len)) }
-    ensures dtype { Makes result out.old.tree out.new.tree
-        (λ made. type_of made.column ≡ of_boolean) }
 {
     let Some(SharedBuffer::Bits(values)) = values.shared() else {
         return UNSUPPORTED_TYPE;
@@ -201,12 +192,8 @@ pub fn binary_over(
     first: usize,
     out: &mut Handle,
 ) -> u32
-    ensures rows { Makes result out.old.tree out.new.tree (λ made. rows made.column ≡
-        byte_rows (positions (integers_of offsets.now.buffer)) (bytes_of bytes.now.buffer)
-        (validity_over validity.now.buffer first
-        (rows_between (positions (integers_of offsets.now.buffer))))) }
-    ensures dtype { Makes result out.old.tree out.new.tree
-        (λ made. type_of made.column ≡ of_large_binary) }
+    ensures { MakesColumn result out.old.tree out.new.tree of_large_binary
+        (binary_rows_over offsets.now.buffer bytes.now.buffer validity.now.buffer first) }
 {
     let Some(SharedBuffer::UInt8(bytes)) = bytes.shared() else {
         return UNSUPPORTED_TYPE;
@@ -243,12 +230,9 @@ pub fn list_over(
     first: usize,
     out: &mut Handle,
 ) -> u32
-    ensures rows { Makes result out.old.tree out.new.tree (λ made. rows made.column ≡
-        list_rows (positions (integers_of offsets.now.buffer)) (held_rows child.now.tree)
-        (validity_over validity.now.buffer first
-        (rows_between (positions (integers_of offsets.now.buffer))))) }
-    ensures dtype { Makes result out.old.tree out.new.tree
-        (λ made. type_of made.column ≡ of_large_list (held_type child.now.tree)) }
+    ensures { MakesColumn result out.old.tree out.new.tree
+        (of_large_list (held_type child.now.tree))
+        (list_rows_over offsets.now.buffer (held_rows child.now.tree) validity.now.buffer first) }
 {
     let Some(column) = child.column() else {
         return NO_COLUMN;
@@ -288,11 +272,9 @@ pub fn fixed_size_list_over(
     first: usize,
     out: &mut Handle,
 ) -> u32
-    ensures rows { Makes result out.old.tree out.new.tree (λ made. rows made.column ≡
-        block_rows width len (held_rows child.now.tree)
-        (validity_over validity.now.buffer first len)) }
-    ensures dtype { Makes result out.old.tree out.new.tree
-        (λ made. type_of made.column ≡ of_fixed_size_list (held_type child.now.tree) width) }
+    ensures { MakesColumn result out.old.tree out.new.tree
+        (of_fixed_size_list (held_type child.now.tree) width) (block_rows width len
+        (held_rows child.now.tree) (validity_over validity.now.buffer first len)) }
 {
     let Some(column) = child.column() else {
         return NO_COLUMN;
@@ -328,11 +310,10 @@ pub fn struct_over(
     first: usize,
     out: &mut Handle,
 ) -> u32
-    ensures rows { Makes result out.old.tree out.new.tree (λ made. rows made.column ≡
-        struct_rows len (map (λ field. held_rows field.tree) fields.now)
+    ensures { MakesColumn result out.old.tree out.new.tree
+        (of_struct (shapes_of (map (λ field. held_type field.tree) fields.now)))
+        (struct_rows len (map (λ field. held_rows field.tree) fields.now)
         (validity_over validity.now.buffer first len)) }
-    ensures dtype { Makes result out.old.tree out.new.tree (λ made. type_of made.column ≡
-        of_struct (shapes_of (map (λ field. held_type field.tree) fields.now))) }
 {
     let bits = match validity_from(validity, first, len) {
         Ok(bits) => bits,

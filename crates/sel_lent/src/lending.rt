@@ -6,7 +6,8 @@ ghost use Rattle.sel_lent.specs.Buffers.{IsBitsOf, IsPartOf};
 ghost use Rattle.sel_lent.specs.declared.shared_buffer.SharedBuffer.TheVariants.{Bits};
 
 use crate::buffer_handle::BufferHandle;
-use crate::shared_buffer::{Lendable, SharedBuffer};
+use crate::lendable::Lendable;
+use crate::shared_buffer::SharedBuffer;
 use sel_bits::bitmap::Bitmap;
 use sel_bits::buffer::Buffer;
 use sel_bits::lent::Lent;

@@ -4,6 +4,7 @@
 pub mod buffer_handle;
 pub mod buffer_ref;
 pub mod columns;
+pub mod lendable;
 pub mod lending;
 pub mod memory;
 pub mod parts;

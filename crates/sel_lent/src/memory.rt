@@ -6,9 +6,28 @@ ghost use denote.Builtin.{i8, i16, i32, i64, u8, u16, u32, u64};
 ghost use Rattle.sel_arrow.specs.declared.view.View.{View};
 ghost use Rattle.sel_arrow.specs.contracts.view.View as view;
 
+use crate::lendable::Lendable;
 use sel_arrow::view::View;
 use sel_bits::lent::Lent;
 use std::marker::Model;
+
+/// A struct with the fields of [`Lent`]. There is one for each element type, since a struct that
+/// crosses to C has no type parameters.
+pub trait Memory: Drop {
+    /// The element type.
+    type Value: Lendable;
+
+    /// The values.
+    ghost values: { Self → List Self.Value };
+
+    /// Returns the memory.
+    fn into_lent(self) -> Lent<Self::Value>
+        ensures { result.items ≡ values self };
+
+    /// Returns the memory as C has it.
+    fn of_lent(lent: Lent<Self::Value>) -> Self
+        ensures { values result ≡ lent.items };
+}
 
 /// The `len` 8-bit integers at `at`, in memory with room for `room` of them.
 #[repr(C)]
@@ -26,17 +45,17 @@ impl Model for Int8Memory {
     ghost also_owns = { λ m. lodged i8 m.at m.len m.room m.items };
 }
 
-impl Int8Memory {
-    /// Returns the memory.
-    pub fn into_lent(self) -> Lent<i8>
-        ensures { result.items ≡ self.items }
-    {
+impl Memory for Int8Memory {
+    type Value = i8;
+
+    ghost values = { λ m. m.items };
+
+    fn into_lent(self) -> Lent<i8> {
         let Int8Memory { at, len, room } = self;
         Lent { at, len, room }
     }
 
-    /// Returns the memory as C has it.
-    pub fn of_lent(lent: Lent<i8>) -> Int8Memory
+    fn of_lent(lent: Lent<i8>) -> Int8Memory
         ensures { result.items ≡ lent.items }
     {
         let Lent { at, len, room } = lent;
@@ -60,17 +79,17 @@ impl Model for Int16Memory {
     ghost also_owns = { λ m. lodged i16 m.at m.len m.room m.items };
 }
 
-impl Int16Memory {
-    /// Returns the memory.
-    pub fn into_lent(self) -> Lent<i16>
-        ensures { result.items ≡ self.items }
-    {
+impl Memory for Int16Memory {
+    type Value = i16;
+
+    ghost values = { λ m. m.items };
+
+    fn into_lent(self) -> Lent<i16> {
         let Int16Memory { at, len, room } = self;
         Lent { at, len, room }
     }
 
-    /// Returns the memory as C has it.
-    pub fn of_lent(lent: Lent<i16>) -> Int16Memory
+    fn of_lent(lent: Lent<i16>) -> Int16Memory
         ensures { result.items ≡ lent.items }
     {
         let Lent { at, len, room } = lent;
@@ -94,17 +113,17 @@ impl Model for Int32Memory {
     ghost also_owns = { λ m. lodged i32 m.at m.len m.room m.items };
 }
 
-impl Int32Memory {
-    /// Returns the memory.
-    pub fn into_lent(self) -> Lent<i32>
-        ensures { result.items ≡ self.items }
-    {
+impl Memory for Int32Memory {
+    type Value = i32;
+
+    ghost values = { λ m. m.items };
+
+    fn into_lent(self) -> Lent<i32> {
         let Int32Memory { at, len, room } = self;
         Lent { at, len, room }
     }
 
-    /// Returns the memory as C has it.
-    pub fn of_lent(lent: Lent<i32>) -> Int32Memory
+    fn of_lent(lent: Lent<i32>) -> Int32Memory
         ensures { result.items ≡ lent.items }
     {
         let Lent { at, len, room } = lent;
@@ -128,17 +147,17 @@ impl Model for Int64Memory {
     ghost also_owns = { λ m. lodged i64 m.at m.len m.room m.items };
 }
 
-impl Int64Memory {
-    /// Returns the memory.
-    pub fn into_lent(self) -> Lent<i64>
-        ensures { result.items ≡ self.items }
-    {
+impl Memory for Int64Memory {
+    type Value = i64;
+
+    ghost values = { λ m. m.items };
+
+    fn into_lent(self) -> Lent<i64> {
         let Int64Memory { at, len, room } = self;
         Lent { at, len, room }
     }
 
-    /// Returns the memory as C has it.
-    pub fn of_lent(lent: Lent<i64>) -> Int64Memory
+    fn of_lent(lent: Lent<i64>) -> Int64Memory
         ensures { result.items ≡ lent.items }
     {
         let Lent { at, len, room } = lent;
@@ -162,17 +181,17 @@ impl Model for UInt8Memory {
     ghost also_owns = { λ m. lodged u8 m.at m.len m.room m.items };
 }
 
-impl UInt8Memory {
-    /// Returns the memory.
-    pub fn into_lent(self) -> Lent<u8>
-        ensures { result.items ≡ self.items }
-    {
+impl Memory for UInt8Memory {
+    type Value = u8;
+
+    ghost values = { λ m. m.items };
+
+    fn into_lent(self) -> Lent<u8> {
         let UInt8Memory { at, len, room } = self;
         Lent { at, len, room }
     }
 
-    /// Returns the memory as C has it.
-    pub fn of_lent(lent: Lent<u8>) -> UInt8Memory
+    fn of_lent(lent: Lent<u8>) -> UInt8Memory
         ensures { result.items ≡ lent.items }
     {
         let Lent { at, len, room } = lent;
@@ -196,17 +215,17 @@ impl Model for UInt16Memory {
     ghost also_owns = { λ m. lodged u16 m.at m.len m.room m.items };
 }
 
-impl UInt16Memory {
-    /// Returns the memory.
-    pub fn into_lent(self) -> Lent<u16>
-        ensures { result.items ≡ self.items }
-    {
+impl Memory for UInt16Memory {
+    type Value = u16;
+
+    ghost values = { λ m. m.items };
+
+    fn into_lent(self) -> Lent<u16> {
         let UInt16Memory { at, len, room } = self;
         Lent { at, len, room }
     }
 
-    /// Returns the memory as C has it.
-    pub fn of_lent(lent: Lent<u16>) -> UInt16Memory
+    fn of_lent(lent: Lent<u16>) -> UInt16Memory
         ensures { result.items ≡ lent.items }
     {
         let Lent { at, len, room } = lent;
@@ -230,17 +249,17 @@ impl Model for UInt32Memory {
     ghost also_owns = { λ m. lodged u32 m.at m.len m.room m.items };
 }
 
-impl UInt32Memory {
-    /// Returns the memory.
-    pub fn into_lent(self) -> Lent<u32>
-        ensures { result.items ≡ self.items }
-    {
+impl Memory for UInt32Memory {
+    type Value = u32;
+
+    ghost values = { λ m. m.items };
+
+    fn into_lent(self) -> Lent<u32> {
         let UInt32Memory { at, len, room } = self;
         Lent { at, len, room }
     }
 
-    /// Returns the memory as C has it.
-    pub fn of_lent(lent: Lent<u32>) -> UInt32Memory
+    fn of_lent(lent: Lent<u32>) -> UInt32Memory
         ensures { result.items ≡ lent.items }
     {
         let Lent { at, len, room } = lent;
@@ -264,17 +283,17 @@ impl Model for UInt64Memory {
     ghost also_owns = { λ m. lodged u64 m.at m.len m.room m.items };
 }
 
-impl UInt64Memory {
-    /// Returns the memory.
-    pub fn into_lent(self) -> Lent<u64>
-        ensures { result.items ≡ self.items }
-    {
+impl Memory for UInt64Memory {
+    type Value = u64;
+
+    ghost values = { λ m. m.items };
+
+    fn into_lent(self) -> Lent<u64> {
         let UInt64Memory { at, len, room } = self;
         Lent { at, len, room }
     }
 
-    /// Returns the memory as C has it.
-    pub fn of_lent(lent: Lent<u64>) -> UInt64Memory
+    fn of_lent(lent: Lent<u64>) -> UInt64Memory
         ensures { result.items ≡ lent.items }
     {
         let Lent { at, len, room } = lent;
@@ -298,17 +317,17 @@ impl Model for ViewMemory {
     ghost also_owns = { λ m. lodged view.the_row m.at m.len m.room m.items };
 }
 
-impl ViewMemory {
-    /// Returns the memory.
-    pub fn into_lent(self) -> Lent<View>
-        ensures { result.items ≡ self.items }
-    {
+impl Memory for ViewMemory {
+    type Value = View;
+
+    ghost values = { λ m. m.items };
+
+    fn into_lent(self) -> Lent<View> {
         let ViewMemory { at, len, room } = self;
         Lent { at, len, room }
     }
 
-    /// Returns the memory as C has it.
-    pub fn of_lent(lent: Lent<View>) -> ViewMemory
+    fn of_lent(lent: Lent<View>) -> ViewMemory
         ensures { result.items ≡ lent.items }
     {
         let Lent { at, len, room } = lent;

@@ -9,7 +9,8 @@ ghost use Rattle.sel_lent.specs.Buffers.{bitmap_of, bytes_in, of_column, offsets
 ghost use Rattle.sel_lent.specs.declared.shared_buffer.SharedBuffer.TheVariants.{Bits, Int64, UInt8};
 
 use crate::buffer_handle::BufferHandle;
-use crate::shared_buffer::{Lendable, SharedBuffer};
+use crate::lendable::Lendable;
+use crate::shared_buffer::SharedBuffer;
 use sel_arrow::array::Array;
 use sel_arrow::column::Column;
 use sel_bits::bitmap::Bitmap;

@@ -1,11 +1,10 @@
 //! View columns over shared buffers, without a copy.
 
-ghost use Rattle.std.specs.Prelude.{◌≡◌, ◌≢◌, length, IfOk, IfErr, map};
-ghost use Rattle.sel_arrow.specs.Rows.{rows, type_of};
+ghost use Rattle.std.specs.Prelude.{◌≡◌, ◌≢◌, IfOk, IfErr, map};
 ghost use Rattle.sel_arrow.specs.Shape.{of_binary_view, of_utf8_view};
-ghost use Rattle.sel_arrow.specs.Views.{view_rows};
-ghost use Rattle.sel_ffi.specs.Status.{ok, Makes};
-ghost use Rattle.sel_lent.specs.Buffers.{bytes_of, validity_over, views_of};
+ghost use Rattle.sel_ffi.specs.Status.{ok};
+ghost use Rattle.sel_lent.specs.Buffers.{bytes_of, views_of};
+ghost use Rattle.sel_lent.specs.ColumnsOver.{view_rows_over, MakesColumn};
 
 use crate::buffer_ref::BufferRef;
 use crate::columns::validity_from;
@@ -77,11 +76,9 @@ pub fn binary_views_over(
     first: usize,
     out: &mut Handle,
 ) -> u32
-    ensures rows { Makes result out.old.tree out.new.tree (λ made. rows made.column ≡
-        view_rows (views_of views.now.buffer) (map (λ handle. bytes_of handle.buffer) buffers.now)
-        (validity_over validity.now.buffer first (length (views_of views.now.buffer)))) }
-    ensures dtype { Makes result out.old.tree out.new.tree
-        (λ made. type_of made.column ≡ of_binary_view) }
+    ensures { MakesColumn result out.old.tree out.new.tree of_binary_view
+        (view_rows_over views.now.buffer (map (λ handle. bytes_of handle.buffer) buffers.now)
+        validity.now.buffer first) }
 {
     let views = match views_from(views) {
         Ok(views) => views,
@@ -115,11 +112,9 @@ pub fn string_views_over(
     first: usize,
     out: &mut Handle,
 ) -> u32
-    ensures rows { Makes result out.old.tree out.new.tree (λ made. rows made.column ≡
-        view_rows (views_of views.now.buffer) (map (λ handle. bytes_of handle.buffer) buffers.now)
-        (validity_over validity.now.buffer first (length (views_of views.now.buffer)))) }
-    ensures dtype { Makes result out.old.tree out.new.tree
-        (λ made. type_of made.column ≡ of_utf8_view) }
+    ensures { MakesColumn result out.old.tree out.new.tree of_utf8_view
+        (view_rows_over views.now.buffer (map (λ handle. bytes_of handle.buffer) buffers.now)
+        validity.now.buffer first) }
 {
     let views = match views_from(views) {
         Ok(views) => views,
