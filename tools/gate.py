@@ -245,7 +245,7 @@ def try_library(board: Board, proofs: Proofs) -> bool:
     if not proofs.wait_for(below("sel_c")) or not run_check(board, "C library", ["tools/clib", "--gate"], beside=True):
         return False
     with ThreadPoolExecutor(LIBRARY_AT_ONCE) as pool:
-        return all(list(pool.map(lambda check: run_check(board, *check, beside=True), AFTER_LIBRARY)))
+        return all(list(pool.map(lambda check: run_check(board, check[0], check[1], beside=True), AFTER_LIBRARY)))
 
 
 def run_all(anew: bool) -> int:

@@ -82,9 +82,9 @@ fn pext_equals_extraction_bit_by_bit(rt: HostRuntime) {
 
 // Returns 512 bits, true only at these two positions, which may be equal.
 fn two_of_many(alloc: Global, first: usize, second: usize) -> PolarsResult<Bitmap> {
-    let mut bits = Vec::new(alloc);
-    for i in 0..512 {
-        bits.push(i == first || i == second)?;
+    let mut bits = [false; 512];
+    for (i, bit) in bits.iter_mut().enumerate() {
+        *bit = (i == first) | (i == second);
     }
     Bitmap::from_bools(alloc, &bits)
 }
@@ -169,28 +169,21 @@ fn scalar_filter_offset_of_empty_mask(rt: HostRuntime) {
 }
 
 // Returns 112 bits at bit offset 3, true at even positions.
-fn even_bits(alloc: Global) -> Result<Bitmap, Fail> {
-    let mut values = Vec::new(alloc);
-    for _ in 0..3 {
-        values.push(false)?;
+fn even_bits(alloc: Global) -> PolarsResult<Bitmap> {
+    let mut bits = [false; 115];
+    for (i, bit) in bits.iter_mut().enumerate() {
+        *bit = i % 2 == 1;
     }
-    for i in 0..112 {
-        values.push(i % 2 == 0)?;
-    }
-    let all = Bitmap::from_bools(alloc, &values)?;
-    if all.len() != 115 {
-        return Err(Fail::from("another length"));
-    }
-    Ok(all.sliced(3, 112))
+    Ok(Bitmap::from_bools(alloc, &bits)?.sliced(3, 112))
 }
 
 // Returns 112 bits, true at 0, 1, 2 and from 56 on.
 fn late_bits(alloc: Global) -> PolarsResult<Bitmap> {
-    let mut mask = Vec::new(alloc);
-    for i in 0..112 {
-        mask.push(i < 3 || i >= 56)?;
+    let mut bits = [true; 112];
+    for bit in &mut bits[3..56] {
+        *bit = false;
     }
-    Bitmap::from_bools(alloc, &mask)
+    Bitmap::from_bools(alloc, &bits)
 }
 
 // Returns whether the mask selects the right number of bits, with the right first bits and the
