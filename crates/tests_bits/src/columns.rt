@@ -402,7 +402,10 @@ fn holds_masked<T: ArrowPrimitive + PartialEq>(
     values: &[T; 3],
 ) -> bool {
     column.values().as_slice() == values.as_slice()
-        && has_numbers(column, &[Some(values[0]), None, Some(values[2])])
+        && column.len() == 3
+        && column.get(0) == Some(values[0])
+        && column.get(1).is_none()
+        && column.get(2) == Some(values[2])
 }
 
 /// Returns whether no row is null, and the second row is its number.
