@@ -30,11 +30,8 @@ fn two_runs(alloc: Global) -> PolarsResult<Bitmap>
     ensures { IfOk result (λ bitmap. length bitmap.bits ≡ 168) }
 {
     let mut bits = [false; 168];
-    for bit in &mut bits[..7] {
-        *bit = true;
-    }
-    for bit in &mut bits[56..119] {
-        *bit = true;
+    for (i, bit) in bits.iter_mut().enumerate() {
+        *bit = (i <= 6) | ((i >= 56) & (i <= 118));
     }
     Bitmap::from_bools(alloc, &bits)
 }
