@@ -49,9 +49,12 @@ SETUP = {
     "cmake": "finds it too, for projects that use CMake",
 }
 
-# the number of checks of mutants that run at once while the proofs run, and the most mutants of one check, which uses one processor
+# the number of checks of mutants that run at once while the proofs run; afterwards each processor runs one
 AT_ONCE = 2
-MUTANTS_OF_CHECK = 20
+# the most mutants of one check, which uses one processor: each check proves all that its functions call and the lemmas that they use
+MUTANTS_OF_CHECK = 40
+# the number of checks of the C library that run at once
+LIBRARY_AT_ONCE = 2
 
 
 @dataclasses.dataclass
@@ -204,6 +207,8 @@ AFTER_LIBRARY = [
 AFTER_PROOFS = [
     ("refused allocations", ["tools/refuse/run"]),
     ("program runs", ["tools/runs"]),
+]
+AFTER_BOTH = [
     ("benchmark answers", ["tools/bench/run", "quick"]),
 ]
 
@@ -227,34 +232,42 @@ def mutants_by_check() -> dict[str, list[str]]:
     return found
 
 
-def try_mutants(board: Board, proofs: Proofs, name: str, labels: list[str]) -> bool:
-    return proofs.wait_for(below(labels[0].partition("/")[0])) and run_check(board, name, ["tools/mutants", *labels], beside=True)
+def try_mutants(board: Board, proofs: Proofs, room: threading.Semaphore, name: str, labels: list[str]) -> bool:
+    """Tries some mutants of a crate as soon as the libraries below it are proved and there is room for one more check."""
+    if not proofs.wait_for(below(labels[0].partition("/")[0])):
+        return False
+    with room:
+        return run_check(board, name, ["tools/mutants", *labels], beside=True)
 
 
 def try_library(board: Board, proofs: Proofs) -> bool:
     """Builds and tests the C library and what uses it, as soon as the crates that it depends on are proved."""
     if not proofs.wait_for(below("sel_c")) or not run_check(board, "C library", ["tools/clib", "--gate"], beside=True):
         return False
-    return all([run_check(board, name, command, beside=True) for name, command in AFTER_LIBRARY])
+    with ThreadPoolExecutor(LIBRARY_AT_ONCE) as pool:
+        return all(list(pool.map(lambda check: run_check(board, check[0], check[1], beside=True), AFTER_LIBRARY)))
 
 
 def run_all(anew: bool) -> int:
     mutants = mutants_by_check()
-    board = Board(1 + len(DOCUMENTS) + len(mutants) + 1 + len(AFTER_LIBRARY) + len(AFTER_PROOFS))
+    board = Board(1 + len(DOCUMENTS) + len(mutants) + 1 + len(AFTER_LIBRARY) + len(AFTER_PROOFS) + len(AFTER_BOTH))
     setup()
     for name, command in DOCUMENTS:
         if not run_check(board, name, command):
             board.table()
             return 1
-    proofs = Proofs(board, anew)
-    with ThreadPoolExecutor(2) as pool, ThreadPoolExecutor(AT_ONCE) as trials:
+    proofs, room = Proofs(board, anew), threading.Semaphore(AT_ONCE)
+    with ThreadPoolExecutor(2) as pool, ThreadPoolExecutor(len(mutants)) as trials:
         waited: list[Future[bool]] = [pool.submit(try_library, board, proofs)]
-        waited += [trials.submit(try_mutants, board, proofs, name, labels) for name, labels in mutants.items()]
+        waited += [trials.submit(try_mutants, board, proofs, room, name, labels) for name, labels in mutants.items()]
         pool.submit(proofs.run)
         if proofs.wait():
+            room.release(max(len(os.sched_getaffinity(0)) - AT_ONCE, 1))
+            for name, command in AFTER_PROOFS:
+                run_check(board, name, command)
             for future in waited:
                 future.result()
-            for name, command in AFTER_PROOFS:
+            for name, command in AFTER_BOTH:
                 run_check(board, name, command)
     return 0 if board.table() else 1
 

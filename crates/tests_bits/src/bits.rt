@@ -75,10 +75,10 @@ fn bitmap_as_slice(rt: HostRuntime) -> Result<(), Fail> {
 }
 
 /// Returns whether sixty leading and sixty-six trailing zeros are removed, and three bits remain.
-fn takes_both_ends(mut bitmap: Bitmap) -> bool {
+fn takes_both_ends(bitmap: &mut Bitmap) -> bool {
     bitmap.take_leading_zeros() == 60
         && bitmap.take_trailing_zeros() == 66
-        && has_bits(&bitmap, &[true, false, true])
+        && has_bits(bitmap, &[true, false, true])
 }
 
 #[test]
@@ -86,8 +86,8 @@ fn take_leading_and_trailing_zeros_of_bitmap(rt: HostRuntime) -> Result<(), Fail
     let mut bits = [false; 130];
     bits[61] = true;
     bits[63] = true;
-    let bitmap = Bitmap::from_bools(rt.alloc(), &bits)?.sliced(1, 129);
-    assert!(rt; takes_both_ends(bitmap));
+    let mut bitmap = Bitmap::from_bools(rt.alloc(), &bits)?.sliced(1, 129);
+    assert!(rt; takes_both_ends(&mut bitmap));
     Ok(())
 }
 
@@ -193,17 +193,18 @@ fn packer_appends_empty_slice_and_false_bits(rt: HostRuntime) -> Result<(), Fail
 }
 
 /// Returns whether sixty leading ones are removed, then none, and the three bits after them remain.
-fn takes_the_ones(mut bitmap: Bitmap) -> bool {
+fn takes_the_ones(bitmap: &mut Bitmap) -> bool {
     bitmap.take_leading_ones() == 60
         && bitmap.take_leading_ones() == 0
-        && has_bits(&bitmap, &[false, true, true])
+        && has_bits(bitmap, &[false, true, true])
 }
 
 #[test]
 fn take_leading_ones_of_bitmap(rt: HostRuntime) -> Result<(), Fail> {
     let mut bits = [true; 63];
     bits[60] = false;
-    assert!(rt; takes_the_ones(Bitmap::from_bools(rt.alloc(), &bits)?));
+    let mut some = Bitmap::from_bools(rt.alloc(), &bits)?;
+    assert!(rt; takes_the_ones(&mut some));
     let mut all = Bitmap::new_with_value(rt.alloc(), true, 130)?;
     assert!(rt; all.take_leading_ones() == 130 && all.is_empty());
     let mut none = Bitmap::new(rt.alloc())?;
@@ -233,23 +234,35 @@ fn set_bits_across_words(rt: HostRuntime) -> Result<(), Fail> {
     Ok(())
 }
 
-/// Returns the results of the operations, position by position.
-fn wanted_bits(a: &Bitmap, b: &Bitmap, c: &Bitmap) -> [[bool; 130]; 6]
+/// Returns the result of an operation on single bits: and, or, and with the complement, or with the
+/// complement, the complement, and if-then-else.
+fn wanted_bit(operation: u8, x: bool, y: bool, z: bool) -> bool {
+    match operation {
+        0 => x && y,
+        1 => x || y,
+        2 => x && !y,
+        3 => x || !y,
+        4 => !x,
+        _ => if x { y } else { z },
+    }
+}
+
+/// Returns whether the bits are the results of an operation, position by position.
+fn is_made_by(operation: u8, made: &Bitmap, a: &Bitmap, b: &Bitmap, c: &Bitmap) -> bool
     requires first { length a.now.bits ≡ 130 }
     requires second { length b.now.bits ≡ 130 }
     requires third { length c.now.bits ≡ 130 }
 {
-    let mut wanted = [[false; 130]; 6];
-    for i in 0..130 {
-        let (x, y, z) = (a.get_bit(i), b.get_bit(i), c.get_bit(i));
-        wanted[0][i] = x && y;
-        wanted[1][i] = x || y;
-        wanted[2][i] = x && !y;
-        wanted[3][i] = x || !y;
-        wanted[4][i] = !x;
-        wanted[5][i] = if x { y } else { z };
+    if made.len() != 130 {
+        return false;
     }
-    wanted
+    for i in 0..130 {
+        let wanted = wanted_bit(operation, a.get_bit(i), b.get_bit(i), c.get_bit(i));
+        if made.get_bit(i) != wanted {
+            return false;
+        }
+    }
+    true
 }
 
 /// Returns whether the operations on bitmaps of the same length return what their definitions say.
@@ -258,14 +271,13 @@ fn operations_are(alloc: Global, a: &Bitmap, b: &Bitmap, c: &Bitmap) -> PolarsRe
     requires second { length b.now.bits ≡ 130 }
     requires third { length c.now.bits ≡ 130 }
 {
-    let wanted = wanted_bits(a, b, c);
     Ok(
-        has_bits(&a.and(alloc, b)?, &wanted[0])
-            && has_bits(&a.or(alloc, b)?, &wanted[1])
-            && has_bits(&a.and_not(alloc, b)?, &wanted[2])
-            && has_bits(&a.or_not(alloc, b)?, &wanted[3])
-            && has_bits(&a.not(alloc)?, &wanted[4])
-            && has_bits(&Bitmap::choose(alloc, a, b, c)?, &wanted[5]),
+        is_made_by(0, &a.and(alloc, b)?, a, b, c)
+            && is_made_by(1, &a.or(alloc, b)?, a, b, c)
+            && is_made_by(2, &a.and_not(alloc, b)?, a, b, c)
+            && is_made_by(3, &a.or_not(alloc, b)?, a, b, c)
+            && is_made_by(4, &a.not(alloc)?, a, b, c)
+            && is_made_by(5, &Bitmap::choose(alloc, a, b, c)?, a, b, c),
     )
 }
 

@@ -164,7 +164,10 @@ fn string_views_must_be_utf8(rt: HostRuntime) -> Result<(), Fail> {
 fn is_named(alloc: Global, view: View, text: &str) -> Result<bool, Fail> {
     let buffers = one_buffer(alloc, text.as_bytes())?;
     let column = Utf8ViewArray::try_new(buffer(alloc, &[view])?, buffers, None)?;
-    Ok(column.len() == 1 && has_text(alloc, &column, 0, Some(text))?)
+    let is_single = column.len() == 1;
+    let is_text = has_text(alloc, &column, 0, Some(text));
+    drop(column);
+    Ok(is_single && is_text?)
 }
 
 #[test]
@@ -221,13 +224,25 @@ fn check_column<A: Array + Drop>(
     dtype: &ArrowDataType,
     nulls: (usize, usize),
 ) -> PolarsResult<ArrayRef> {
-    let alloc = rt.alloc();
-    assert!(rt; tells(&column, dtype, nulls.0));
-    assert!(rt; has_own_dtype(alloc, &column)?);
-    assert!(rt; part_tells(alloc, &column, nulls.1)?);
-    assert!(rt; copy_tells(alloc, &column, dtype, nulls.0)?);
-    let copy = column.try_clone(alloc)?;
-    Ok(copy.into_ref())
+    assert!(rt; has_properties(rt.alloc(), &column, dtype, nulls) == Ok(true));
+    let copy = column.try_clone(rt.alloc());
+    drop(column);
+    Ok(copy?.into_ref())
+}
+
+/// Returns whether the properties of the column, its slice and its clone are right.
+fn has_properties<A: Array + Drop>(
+    alloc: Global,
+    column: &A,
+    dtype: &ArrowDataType,
+    nulls: (usize, usize),
+) -> PolarsResult<bool> {
+    Ok(
+        tells(column, dtype, nulls.0)
+            && has_own_dtype(alloc, column)?
+            && part_tells(alloc, column, nulls.1)?
+            && copy_tells(alloc, column, dtype, nulls.0)?,
+    )
 }
 
 /// Checks the same of the column, and of it as a column of any type.
@@ -593,11 +608,20 @@ fn texts_again(erased: ArrayRef) -> Result<Utf8ViewArray, Fail> {
     taken(erased.into_utf8view())
 }
 
-/// Returns the views as a string column.
-fn three_texts(rt: &(impl Abort + Alloc<A = Global>)) -> Result<Utf8ViewArray, Fail> {
-    let column = three_views(rt.alloc())?;
-    assert!(rt; column.is_utf8());
-    Ok(column.to_utf8view_unchecked(rt.alloc())?)
+/// Returns views of strings as a string column.
+fn texts_of(alloc: Global, views: &BinaryViewArray) -> Result<Utf8ViewArray, Fail> {
+    if !views.is_utf8() {
+        return Err(Fail::from("not UTF-8"));
+    }
+    Ok(views.to_utf8view_unchecked(alloc)?)
+}
+
+/// Returns the three views as a string column.
+fn three_texts(alloc: Global) -> Result<Utf8ViewArray, Fail> {
+    let views = three_views(alloc)?;
+    let texts = texts_of(alloc, &views);
+    drop(views);
+    texts
 }
 
 /// Returns whether the rows after the first are a short string and a null.
@@ -643,7 +667,7 @@ fn are_bytes_of_texts(alloc: Global, bytes: &BinaryViewArray) -> PolarsResult<bo
 
 #[test]
 fn string_columns(rt: HostRuntime) -> Result<(), Fail> {
-    let texts = three_texts(&rt)?;
+    let texts = three_texts(rt.alloc())?;
     assert!(rt; texts.views().len() == 3 && texts.data_buffers().len() == 1);
     let erased = check_erased(&rt, texts, &ArrowDataType::Utf8View, (1, 1))?;
     let texts = texts_again(erased)?;
@@ -685,18 +709,31 @@ fn missing_validity(rt: HostRuntime) -> Result<(), Fail> {
     Ok(())
 }
 
-#[test]
-fn columns_from_options(rt: HostRuntime) -> Result<(), Fail> {
-    let alloc = rt.alloc();
+/// Returns whether numbers and a null become a column of them.
+fn are_number_options(alloc: Global) -> Result<bool, Fail> {
     let rows = [Some(5i16), None, Some(-3)];
     let numbers = PrimitiveArray::from_options(alloc, &rows)?;
-    assert!(rt; has_numbers(&numbers, &rows));
-    assert!(rt; numbers.null_count() == 1);
+    Ok(has_numbers(&numbers, &rows) && numbers.null_count() == 1)
+}
+
+/// Returns whether booleans and a null become a column of them.
+fn are_truth_options(alloc: Global) -> Result<bool, Fail> {
     let rows = [None, Some(true), Some(false), Some(true)];
     let truths = BooleanArray::from_options(alloc, &rows)?;
-    assert!(rt; has_truths(&truths, &rows));
-    assert!(rt; truths.null_count() == 1);
+    Ok(has_truths(&truths, &rows) && truths.null_count() == 1)
+}
+
+/// Returns whether no numbers become a column without rows.
+fn are_no_options(alloc: Global) -> Result<bool, Fail> {
     let none: [Option<u128>; 0] = [];
-    assert!(rt; PrimitiveArray::from_options(alloc, &none)?.is_empty());
+    let numbers = PrimitiveArray::from_options(alloc, &none)?;
+    Ok(numbers.is_empty())
+}
+
+#[test]
+fn columns_from_options(rt: HostRuntime) -> Result<(), Fail> {
+    assert!(rt; are_number_options(rt.alloc())?);
+    assert!(rt; are_truth_options(rt.alloc())?);
+    assert!(rt; are_no_options(rt.alloc())?);
     Ok(())
 }

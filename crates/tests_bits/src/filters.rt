@@ -1,7 +1,7 @@
 //! Filters of bits and of values, the extraction of the bits of a word under a mask, and copies of
 //! blocks.
 
-ghost use Rattle.std.specs.Prelude.{◌≡◌, ◌≤◌, length, IfOk};
+ghost use Rattle.std.specs.Prelude.{◌≡◌, length, IfOk};
 
 use crate::fixtures::begins_with;
 use sel_bits::bitmap::Bitmap;
@@ -82,9 +82,9 @@ fn pext_equals_extraction_bit_by_bit(rt: HostRuntime) {
 
 // Returns 512 bits, true only at these two positions, which may be equal.
 fn two_of_many(alloc: Global, first: usize, second: usize) -> PolarsResult<Bitmap> {
-    let mut bits = Vec::new(alloc);
-    for i in 0..512 {
-        bits.push(i == first || i == second)?;
+    let mut bits = [false; 512];
+    for (i, bit) in bits.iter_mut().enumerate() {
+        *bit = (i == first) | (i == second);
     }
     Bitmap::from_bools(alloc, &bits)
 }
@@ -108,11 +108,11 @@ fn filter_two_of_many_bits(rt: HostRuntime) -> Result<(), Fail> {
 
 /// Returns the numbers from 0 to 64.
 fn many_values(alloc: Global) -> PolarsResult<Vec<u64>> {
-    let mut values = Vec::new(alloc);
-    for i in 0..65u64 {
-        values.push(i)?;
+    let mut values = [0u64; 65];
+    for (i, value) in values.iter_mut().enumerate() {
+        *value = i as u64;
     }
-    Ok(values)
+    Ok(Vec::from_slice(alloc, &values)?)
 }
 
 // Returns whether these bytes of mask bits select four values.
@@ -133,19 +133,17 @@ fn scalar_filter_by_mask_bytes(rt: HostRuntime) -> Result<(), Fail> {
     Ok(())
 }
 
-// Returns `len` true bits at bit offset 5.
-fn true_bits(alloc: Global, len: usize) -> PolarsResult<Bitmap>
-    requires { len ≤ 4 }
-    ensures { IfOk result (λ bits. length bits.bits ≡ len) }
+// Returns four true bits at bit offset 5.
+fn true_bits(alloc: Global) -> PolarsResult<Bitmap>
+    ensures { IfOk result (λ bits. length bits.bits ≡ 4) }
 {
-    let bytes = Vec::from_slice(alloc, &[0xFF, 0xFF])?;
-    Ok(Bitmap::from_u8_vec(bytes, 16)?.sliced(5, len))
+    Ok(Bitmap::from_bools(alloc, &[true; 16])?.sliced(5, 4))
 }
 
 #[test]
 fn scalar_filter_offset_up_to_byte_boundary(rt: HostRuntime) -> Result<(), Fail> {
     let alloc = rt.alloc();
-    let mask = true_bits(alloc, 4)?;
+    let mask = true_bits(alloc)?;
     let mut out = Vec::new(alloc);
     let (others, bytes) = scalar_filter_offset(&[10u32, 20, 30, 40], &mask, &mut out)?;
     assert!(rt; out.as_slice() == [10, 20, 30].as_slice());
@@ -156,41 +154,36 @@ fn scalar_filter_offset_up_to_byte_boundary(rt: HostRuntime) -> Result<(), Fail>
     Ok(())
 }
 
-#[test]
-fn scalar_filter_offset_of_empty_mask(rt: HostRuntime) -> Result<(), Fail> {
-    let alloc = rt.alloc();
-    let bytes = Vec::from_slice(alloc, &[0xFF])?;
-    let empty = Bitmap::from_u8_vec(bytes, 8)?.sliced(3, 0);
+// Returns whether a mask without bits, at bit offset 3, selects no numbers and leaves none.
+fn appends_nothing(alloc: Global) -> PolarsResult<bool> {
+    let empty = Bitmap::from_bools(alloc, &[true; 8])?.sliced(3, 0);
     let none: [u32; 0] = [];
     let mut out = Vec::new(alloc);
     let (others, bytes) = scalar_filter_offset(&none, &empty, &mut out)?;
-    assert!(rt; out.is_empty() && others.is_empty() && bytes.is_empty());
-    Ok(())
+    Ok(out.is_empty() && others.is_empty() && bytes.is_empty())
+}
+
+#[test]
+fn scalar_filter_offset_of_empty_mask(rt: HostRuntime) {
+    assert!(rt; appends_nothing(rt.alloc()) == Ok(true));
 }
 
 // Returns 112 bits at bit offset 3, true at even positions.
-fn even_bits(alloc: Global) -> Result<Bitmap, Fail> {
-    let mut values = Vec::new(alloc);
-    for _ in 0..3 {
-        values.push(false)?;
+fn even_bits(alloc: Global) -> PolarsResult<Bitmap> {
+    let mut bits = [false; 115];
+    for (i, bit) in bits.iter_mut().enumerate() {
+        *bit = i % 2 == 1;
     }
-    for i in 0..112 {
-        values.push(i % 2 == 0)?;
-    }
-    let all = Bitmap::from_bools(alloc, &values)?;
-    if all.len() != 115 {
-        return Err(Fail::from("another length"));
-    }
-    Ok(all.sliced(3, 112))
+    Ok(Bitmap::from_bools(alloc, &bits)?.sliced(3, 112))
 }
 
 // Returns 112 bits, true at 0, 1, 2 and from 56 on.
 fn late_bits(alloc: Global) -> PolarsResult<Bitmap> {
-    let mut mask = Vec::new(alloc);
-    for i in 0..112 {
-        mask.push(i < 3 || i >= 56)?;
+    let mut bits = [true; 112];
+    for bit in &mut bits[3..56] {
+        *bit = false;
     }
-    Bitmap::from_bools(alloc, &mask)
+    Bitmap::from_bools(alloc, &bits)
 }
 
 // Returns whether the mask selects the right number of bits, with the right first bits and the
@@ -249,15 +242,19 @@ fn filter_arrays_keeps_whole_arrays(rt: HostRuntime) -> Result<(), Fail> {
     Ok(())
 }
 
-#[test]
-fn block_copy_copies_and_fills(rt: HostRuntime) -> Result<(), Fail> {
+// Returns whether two values are copied and two filled in, each by one copy.
+fn copies_and_fills(alloc: Global) -> PolarsResult<bool> {
     let source = [1u8, 2, 3];
-    let mut out = BlockCopy::new(rt.alloc(), source.as_slice());
-    assert!(rt; out.source_len() == 3 && out.copies() == 0);
+    let mut out = BlockCopy::new(alloc, source.as_slice());
+    let is_empty = out.source_len() == 3 && out.copies() == 0;
     out.reserve(4)?;
     out.copy(1, 2)?;
     out.fill(9, 2)?;
-    assert!(rt; out.copies() == 2);
-    assert!(rt; out.into_vec().as_slice() == [2u8, 3, 9, 9].as_slice());
-    Ok(())
+    let is_counted = out.copies() == 2;
+    Ok(is_empty && is_counted && out.into_vec().as_slice() == [2u8, 3, 9, 9].as_slice())
+}
+
+#[test]
+fn block_copy_copies_and_fills(rt: HostRuntime) {
+    assert!(rt; copies_and_fills(rt.alloc()) == Ok(true));
 }

@@ -31,7 +31,7 @@ fn two_runs(alloc: Global) -> PolarsResult<Bitmap>
 {
     let mut bits = [false; 168];
     for (i, bit) in bits.iter_mut().enumerate() {
-        *bit = i <= 6 || (i >= 56 && i <= 118);
+        *bit = (i <= 6) | ((i >= 56) & (i <= 118));
     }
     Bitmap::from_bools(alloc, &bits)
 }

@@ -7,6 +7,7 @@ use sel_bits::bitmap::Bitmap;
 use sel_bits::block_copy::BlockCopy;
 use sel_bits::blocks::U56Blocks;
 use sel_bits::counted_bits::CountedBits;
+use sel_bits::faults::PolarsResult;
 use sel_filter::boolean::{
     filter_boolean_kernel, filter_boolean_kernel_pext, filter_boolean_kernel_sparse,
 };
@@ -265,25 +266,42 @@ fn filters(alloc: Global, values: &Bitmap, mask: &Bitmap) -> Result<bool, Fail> 
     Ok(has_bits(&by_size, &wanted) && has_bits(&by_blocks, &wanted) && has_bits(&by_bits, &wanted))
 }
 
-// Returns whether a filter of the positions as numbers, and one by runs, select the positions where
-// the mask is true.
-fn keeps_places(alloc: Global, mask: &Bitmap) -> Result<bool, Fail> {
+// Returns the positions less than `len`.
+fn places(alloc: Global, len: usize) -> PolarsResult<Vec<usize>> {
     let mut places = Vec::new(alloc);
-    let mut wanted = Vec::new(alloc);
-    for i in 0..mask.len() {
+    for i in 0..len {
         places.push(i)?;
+    }
+    Ok(places)
+}
+
+// Returns the positions where the mask is true.
+fn true_places(alloc: Global, mask: &Bitmap) -> PolarsResult<Vec<usize>> {
+    let mut places = Vec::new(alloc);
+    for i in 0..mask.len() {
         if mask.get_bit(i) {
-            wanted.push(i)?;
+            places.push(i)?;
         }
     }
-    if places.len() != mask.len() {
+    Ok(places)
+}
+
+// Returns whether a filter of numbers, and one by runs, select these numbers.
+fn keeps(alloc: Global, numbers: &[usize], mask: &Bitmap, wanted: &[usize]) -> PolarsResult<bool> {
+    if numbers.len() != mask.len() {
         return Ok(false);
     }
-    let values = filter_values(alloc, &places, mask)?;
-    let mut out = BlockCopy::new(alloc, places.as_slice());
+    let kept = filter_values(alloc, numbers, mask)?;
+    let mut out = BlockCopy::new(alloc, numbers);
     filter_runs(&mut out, &mut AlignedWords::new(mask))?;
-    let by_runs = out.into_vec();
-    Ok(values.as_slice() == wanted.as_slice() && by_runs.as_slice() == wanted.as_slice())
+    Ok(kept.as_slice() == wanted && out.into_vec().as_slice() == wanted)
+}
+
+// Returns whether both filters of the positions select those where the mask is true.
+fn keeps_places(alloc: Global, mask: &Bitmap) -> PolarsResult<bool> {
+    let places = places(alloc, mask.len())?;
+    let wanted = true_places(alloc, mask)?;
+    keeps(alloc, &places, mask, &wanted)
 }
 
 #[test]

@@ -9,28 +9,21 @@ use std::test::Fail;
 use tests_bits::fixtures::has_bits;
 
 // Returns 112 bits at bit offset 3, true at even positions.
-fn even_bits(alloc: Global) -> Result<Bitmap, Fail> {
-    let mut values = Vec::new(alloc);
-    for _ in 0..3 {
-        values.push(false)?;
+fn even_bits(alloc: Global) -> PolarsResult<Bitmap> {
+    let mut bits = [false; 115];
+    for (i, bit) in bits.iter_mut().enumerate() {
+        *bit = i % 2 == 1;
     }
-    for i in 0..112 {
-        values.push(i % 2 == 0)?;
-    }
-    let all = Bitmap::from_bools(alloc, &values)?;
-    if all.len() != 115 {
-        return Err(Fail::from("another length"));
-    }
-    Ok(all.sliced(3, 112))
+    Ok(Bitmap::from_bools(alloc, &bits)?.sliced(3, 112))
 }
 
 // Returns 112 bits, true at 0, 1, 2 and from 56 on.
 fn late_bits(alloc: Global) -> PolarsResult<Bitmap> {
-    let mut mask = Vec::new(alloc);
-    for i in 0..112 {
-        mask.push(i < 3 || i >= 56)?;
+    let mut bits = [true; 112];
+    for bit in &mut bits[3..56] {
+        *bit = false;
     }
-    Bitmap::from_bools(alloc, &mask)
+    Bitmap::from_bools(alloc, &bits)
 }
 
 // Returns whether the bits are selected with a validity, which is the mask.
@@ -94,11 +87,11 @@ fn filter_bits_with_validity(rt: HostRuntime) -> Result<(), Fail> {
 
 /// Returns the numbers from 0 to 64.
 fn many_values(alloc: Global) -> PolarsResult<Vec<u64>> {
-    let mut values = Vec::new(alloc);
-    for i in 0..65u64 {
-        values.push(i)?;
+    let mut values = [0u64; 65];
+    for (i, value) in values.iter_mut().enumerate() {
+        *value = i as u64;
     }
-    Ok(values)
+    Ok(Vec::from_slice(alloc, &values)?)
 }
 
 // Returns 65 bits, true at 0, 2, 5 and 64.

@@ -4,8 +4,8 @@ ghost use Rattle.std.specs.Prelude.{◌≡◌, ◌==◌, length};
 
 use sel_arrow::array::Array;
 use sel_bits::bitmap::Bitmap;
+use sel_bits::faults::PolarsResult;
 use std::alloc::Global;
-use std::test::Fail;
 
 /// Returns the bit at a position of a long mask.
 pub fn long_bit(i: usize) -> bool {
@@ -14,16 +14,12 @@ pub fn long_bit(i: usize) -> bool {
 
 /// Returns a mask of 135 rows whose first bit is the fourth of its bytes: 61 bits, a word of 64 and
 /// 10 more. Row `i` has the bit of position `i + 3`.
-pub fn long_mask(alloc: Global) -> Result<Bitmap, Fail> {
-    let mut bits = Vec::new(alloc);
-    for i in 0..138 {
-        bits.push(long_bit(i))?;
+pub fn long_mask(alloc: Global) -> PolarsResult<Bitmap> {
+    let mut bits = [false; 138];
+    for (i, bit) in bits.iter_mut().enumerate() {
+        *bit = long_bit(i);
     }
-    let bitmap = Bitmap::from_bools(alloc, &bits)?;
-    if bitmap.len() != 138 {
-        return Err(Fail::from("another length"));
-    }
-    Ok(bitmap.sliced(3, 135))
+    Ok(Bitmap::from_bools(alloc, &bits)?.sliced(3, 135))
 }
 
 /// Returns whether the column is as long as the mask.

@@ -18,10 +18,26 @@ type Part = (&'static str, &'static str, &'static str);
 
 fn columns_of(alloc: Global, parts: &[Part]) -> Result<Vec<ArrayRef>, Fail> {
     let mut columns = Vec::with_capacity(alloc, parts.len())?;
+    let pushed = push_columns(alloc, &mut columns, parts);
+    given(columns, pushed)
+}
+
+fn push_columns(alloc: Global, columns: &mut Vec<ArrayRef>, parts: &[Part]) -> Result<(), Fail> {
     for (dtype, rows, _) in parts {
         columns.push(parsed(alloc, *dtype, *rows)?)?;
     }
-    Ok(columns)
+    Ok(())
+}
+
+// Returns the columns if nothing failed, and drops them else.
+fn given(columns: Vec<ArrayRef>, pushed: Result<(), Fail>) -> Result<Vec<ArrayRef>, Fail> {
+    match pushed {
+        Ok(()) => Ok(columns),
+        Err(fail) => {
+            drop(columns);
+            Err(fail)
+        }
+    }
 }
 
 // Returns the selected rows, if the precondition holds.
@@ -126,13 +142,23 @@ fn select_is_safe_checks_lengths_and_indices(rt: HostRuntime) -> Result<(), Fail
     Ok(())
 }
 
+// Returns one row of a list of 2,147,483,648 nulls.
+fn wide_list(alloc: Global) -> Result<ArrayRef, Fail> {
+    let child = NullArray::try_new(2147483648)?.into_ref();
+    Ok(FixedSizeListArray::try_new(alloc, 2147483648, 1, child, None)?.into_ref())
+}
+
+fn push_number_and_wide_list(alloc: Global, columns: &mut Vec<ArrayRef>) -> Result<(), Fail> {
+    columns.push(parsed(alloc, "i64", "[7]")?)?;
+    columns.push(wide_list(alloc)?)?;
+    Ok(())
+}
+
 // Returns one row of a number, and one row of a list of 2,147,483,648 nulls.
 fn number_and_wide_list(alloc: Global) -> Result<Vec<ArrayRef>, Fail> {
     let mut columns = Vec::with_capacity(alloc, 2)?;
-    columns.push(parsed(alloc, "i64", "[7]")?)?;
-    let child = NullArray::try_new(2147483648)?.into_ref();
-    columns.push(FixedSizeListArray::try_new(alloc, 2147483648, 1, child, None)?.into_ref())?;
-    Ok(columns)
+    let pushed = push_number_and_wide_list(alloc, &mut columns);
+    given(columns, pushed)
 }
 
 #[test]

@@ -13,12 +13,12 @@ use sel_bits::bitmap::Bitmap;
 use sel_bits::block_copy::BlockCopy;
 use sel_bits::buffer::Buffer;
 use sel_bits::faults::{Limit, PolarsError, PolarsResult};
-use sel_bits::native::{Index, Offset};
+use sel_bits::native::Index;
 use sel_bits::offsets::OffsetsBuffer;
 use std::alloc::Global;
 use std::test::Fail;
-use tests_bits::column_fixtures::{column, has_bytes, numbers, validity_of};
-use tests_bits::fixtures::has_bits;
+use tests_bits::column_fixtures::{column, has_bytes, numbers, offsets, validity};
+use tests_bits::fixtures::{buffer, has_bits};
 
 // Returns indices; a null one has the greatest number in its slot.
 fn indices(alloc: Global, rows: &[Option<u32>]) -> Result<IdxArr, Fail> {
@@ -78,52 +78,18 @@ fn take_of_bits_with_null_indices(rt: HostRuntime) -> Result<(), Fail> {
     Ok(())
 }
 
-// Returns the bytes of the rows, with one byte in a null slot.
-fn bytes_of(alloc: Global, rows: &[Option<&[u8]>]) -> PolarsResult<Buffer<u8>> {
-    let mut bytes = Vec::new(alloc);
-    for row in rows {
-        match row {
-            Some(row) => bytes.extend_from_slice(row)?,
-            None => bytes.push(255)?,
-        }
-    }
-    Buffer::from_vec(bytes)
-}
-
-// Returns the offsets of these bytes, as far as the offset type can represent them.
-fn ends_of<O: Offset>(alloc: Global, rows: &[Option<&[u8]>]) -> PolarsResult<Vec<O>> {
-    let mut ends = Vec::new(alloc);
-    let mut end = 0usize;
-    push_end(&mut ends, end)?;
-    for row in rows {
-        let len = match row {
-            Some(row) => row.len(),
-            None => 1,
-        };
-        end = end.saturating_add(len);
-        push_end(&mut ends, end)?;
-    }
-    Ok(ends)
-}
-
-fn push_end<O: Offset>(ends: &mut Vec<O>, end: usize) -> PolarsResult<()> {
-    if let Some(end) = O::from_usize(end) {
-        ends.push(end)?;
-    }
-    Ok(())
-}
-
-// Returns a binary column, with one byte in each null slot.
-fn bytes_column<O: Offset>(alloc: Global, rows: &[Option<&[u8]>]) -> Result<BinaryArray<O>, Fail> {
-    let offsets = OffsetsBuffer::try_from(ends_of(alloc, rows)?)?;
-    let bytes = bytes_of(alloc, rows)?;
-    Ok(BinaryArray::try_new(offsets, bytes, Some(validity_of(alloc, rows)?))?)
+// Returns the rows `a` and `bc`.
+fn two_rows(alloc: Global) -> Result<BinaryArray<i64>, Fail> {
+    let bytes = buffer(alloc, b"abc")?;
+    let validity = validity(alloc, &[true, true])?;
+    Ok(BinaryArray::try_new(offsets(alloc, &[0, 1, 3])?, bytes, validity)?)
 }
 
 // Returns one row of 65,536 bytes.
 fn long_row(alloc: Global) -> Result<BinaryArray<i32>, Fail> {
-    let bytes = vec![in alloc; 97u8; 65_536]?;
-    bytes_column(alloc, &[Some(bytes.as_slice())])
+    let bytes = Buffer::from_vec(vec![in alloc; 97u8; 65_536]?)?;
+    let offsets = OffsetsBuffer::try_from(Vec::from_slice(alloc, &[0i32, 65_536])?)?;
+    Ok(BinaryArray::try_new(offsets, bytes, validity(alloc, &[true])?)?)
 }
 
 // Takes this row `count` times; returns the number of nulls, or none if the limit of bytes is
@@ -149,10 +115,7 @@ fn repeated(alloc: Global, column: &BinaryArray<i32>, count: usize) -> Result<Op
 
 // Returns zeros as indices.
 fn zeros(alloc: Global, count: usize) -> Result<IdxArr, Fail> {
-    let mut numbers = Vec::new(alloc);
-    for _ in 0..count {
-        numbers.push(0u32)?;
-    }
+    let numbers = vec![in alloc; 0u32; count]?;
     Ok(PrimitiveArray::try_new(Buffer::from_vec(numbers)?, None)?)
 }
 
@@ -189,7 +152,7 @@ fn takes_bytes_of_both(alloc: Global, column: &BinaryArray<i64>) -> Result<bool,
 #[test]
 fn take_of_binary(rt: HostRuntime) -> Result<(), Fail> {
     let alloc = rt.alloc();
-    let column = bytes_column::<i64>(alloc, &[Some(b"a"), Some(b"bc")])?;
+    let column = two_rows(alloc)?;
     let are_taken = takes_bytes_of_both(alloc, &column);
     drop(column);
     assert!(rt; are_taken?);

@@ -146,13 +146,13 @@ fn aligned_words_end_at_word_boundaries(rt: HostRuntime) -> Result<(), Fail> {
     Ok(())
 }
 
-// Returns `count` consecutive numbers, from `first` on.
-fn numbers_from(alloc: Global, first: u64, count: usize) -> Result<Vec<u64>, Fail> {
-    let mut numbers = Vec::new(alloc);
-    for i in 0..count {
-        numbers.push(first.wrapping_add(i as u64))?;
+// Returns consecutive numbers, from `first` on.
+fn numbers_from(first: u64) -> [u64; 135] {
+    let mut numbers = [0u64; 135];
+    for (i, number) in numbers.iter_mut().enumerate() {
+        *number = first.wrapping_add(i as u64);
     }
-    Ok(numbers)
+    numbers
 }
 
 // Returns whether each number is the true or the false value, by the long mask.
@@ -168,12 +168,11 @@ fn are_chosen(values: &[u64]) -> bool {
 
 // Returns whether if-then-else by three words of the mask has the right values.
 fn chooses_by_words(alloc: Global, mask: &Bitmap) -> Result<bool, Fail> {
-    let if_true = numbers_from(alloc, 0, 135)?;
-    let if_false = numbers_from(alloc, 1000, 135)?;
-    if if_true.len() != mask.len() || if_false.len() != mask.len() {
+    if mask.len() != 135 {
         return Err(Fail::from("another length"));
     }
     let mut words = AlignedWords::new(mask);
+    let (if_true, if_false) = (numbers_from(0), numbers_from(1000));
     let values = if_then_else_words(alloc, &mut words, &if_true, &if_false)?;
     Ok(are_chosen(&values) && words.words_read() == 3)
 }
