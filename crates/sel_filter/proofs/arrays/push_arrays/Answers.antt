@@ -56,4 +56,4 @@ pub returns : goal.returns
 returns g c =
     let block = c.args.block.now in
     let none = none_more block [] c.loop-rest.rest (omega arith) in
-    record { appended = sym (append-nil c.loop-rest.kept.items) ∙ ap (λ l. c.loop-rest.kept.items ++ flat_map (λ array. array) l) none ∙ c.loop-rest.invariant.kept; }
+    record { appended = sym (append-nil c.loop-rest.kept.items) ∙ ap (λ l. c.loop-rest.kept.items ++ flat_map (λ array. array) l) none ∙ c.loop-rest.invariant.kept }
