@@ -10,6 +10,7 @@ use sel_bits::counted_bits::CountedBits;
 use sel_bits::faults::PolarsResult;
 use sel_filter::boolean::{
     filter_boolean_kernel, filter_boolean_kernel_pext, filter_boolean_kernel_sparse,
+    filter_counted_bits,
 };
 use std::alloc::Global;
 use std::test::Fail;
@@ -122,11 +123,11 @@ fn reads_two(alloc: Global, values: &Bitmap, mask: &Bitmap) -> PolarsResult<bool
     Ok(has_bits(&kept, &[false, true]) && bits.bits_read() == 2 && words.words_read() == 8)
 }
 
-/// Returns whether the kernel that dispatches on the mask selects the same two bits.
+/// Returns whether the kernel that is given the number of set bits selects the same two bits.
 fn keeps_two(alloc: Global, values: &Bitmap, mask: &Bitmap) -> PolarsResult<bool>
     requires { length values.now.bits ≡ length mask.now.bits }
 {
-    let kept = filter_boolean_kernel(alloc, values, mask)?;
+    let kept = filter_counted_bits(alloc, values, mask, mask.set_bits())?;
     Ok(has_bits(&kept, &[false, true]))
 }
 
