@@ -42,9 +42,15 @@ pub record Lends {T : Type 0} (code : ℕ) (shared : List T → SharedBuffer) (o
   pub unchanged : code ≢ ok → after ≡ before
   pub status : code ≤ out_of_memory
 
--- The memory of a handle's buffer is given back, and the handle is empty; on error it is unchanged.
+-- The status where other owners use the buffer, or it is not over lent memory of the type.
+abbrev pub in_use : ℕ
+in_use = 127
+
+-- The memory of a handle's buffer is given back, and the handle is empty; on error it is unchanged,
+-- and the only error is that the buffer is in use.
 pub record GivesBack {T : Type 0} (code : ℕ) (shared : List T → SharedBuffer)
     (before after : lent.Held) (memory : List T) : Type 0 where
   pub given : code ≡ ok → IsPartOf shared before memory
   pub taken : code ≡ ok → after ≡ None
   pub unchanged : code ≢ ok → after ≡ before
+  pub status : IsOneOf code (ok ∷ in_use ∷ [])

@@ -1,10 +1,10 @@
 //! Buffers over lent memory. Internal to the C library: its Arrow interface calls these functions,
 //! and no header for programs declares them.
 
-ghost use Rattle.std.specs.Prelude.{◌≡◌, ◌≢◌, ◌≤◌, ◌*◌, None, Some};
+ghost use Rattle.std.specs.Prelude.{◌≡◌, ◌≢◌, ◌≤◌, ◌+◌, ◌/◌, ◌∷◌, [], length, None, Some};
 ghost use Rattle.sel_bits.specs.Bits.{bits_from, unsliced};
-ghost use Rattle.sel_ffi.specs.Status.{ok};
-ghost use Rattle.sel_c.specs.Numbers.{GivesBack, Lends};
+ghost use Rattle.sel_ffi.specs.Status.{ok, out_of_memory, length_mismatch, Demands, IsOneOf};
+ghost use Rattle.sel_c.specs.Numbers.{in_use, GivesBack, Lends};
 ghost use Rattle.sel_lent.specs.Buffers.{IsBitsOf};
 ghost use Rattle.sel_lent.specs.declared.shared_buffer.SharedBuffer.TheVariants.{Bits, Int8, Int16, Int32, Int64, UInt8, UInt16, UInt32, UInt64, Views};
 
@@ -287,6 +287,8 @@ pub extern "C" fn sel_bits_lend(
         out.new.buffer ≡ Some (Bits (unsliced (bits_from from.old.items 0 len))) }
     ensures kept { result ≢ ok → from.new.items ≡ from.old.items }
     ensures unchanged { result ≢ ok → out.new.buffer ≡ out.old.buffer }
+    ensures length { Demands result length_mismatch ((len + 7) / 8 ≤ length from.old.items) }
+    ensures status { IsOneOf result (ok ∷ out_of_memory ∷ length_mismatch ∷ []) }
 {
     let memory = replace(from, UInt8Memory::of_lent(Lent::none()));
     let (count, bytes) = memory.into_lent().counted();
@@ -310,6 +312,7 @@ pub extern "C" fn sel_bits_back(alloc: Global, of: &mut BufferHandle, out: &mut 
     ensures given { result ≡ ok → IsBitsOf of.old.buffer out.new.items }
     ensures taken { result ≡ ok → of.new.buffer ≡ None }
     ensures unchanged { result ≢ ok → of.new.buffer ≡ of.old.buffer }
+    ensures status { IsOneOf result (ok ∷ in_use ∷ []) }
 {
     match give_back_bits(alloc, of) {
         None => IN_USE,
