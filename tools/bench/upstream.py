@@ -1,10 +1,11 @@
 #!/usr/bin/env python3
 """Times the kernels beside upstream's own, by a program that is not part of this repository.
 
-    tools/bench/upstream.py FOLDER          prints the section of docs/BENCHMARKS.md
-    tools/bench/upstream.py FOLDER --write  writes it into the page, in place of the earlier one; the rest of the page stays as it is
+    tools/bench/upstream.py FOLDER [NEWER]          prints the section of docs/BENCHMARKS.md
+    tools/bench/upstream.py FOLDER [NEWER] --write  writes it into the page, in place of the earlier one; the rest of the page stays as it is
 
-The program is FOLDER/sides or FOLDER/target/release/sides. It makes each result with the C library and with upstream's kernels, both built for the
+FOLDER has the program built for x86-64-v2, as the library is; NEWER, if given, built for x86-64-v3 with the library that `make lib CPU=x86-64-v3`
+makes. The program is FOLDER/sides or FOLDER/target/release/sides. It makes each result with the C library and with upstream's kernels, both built for the
 same processors, compares them, and prints a line for each contender of a case, with tabs between: the case, the rows, the contender (`port`, which
 is this library, `upstream`, `plain` and `tuned` loops, `memcpy` of the same bytes), the best and the median time in ns per row.
 """
@@ -18,7 +19,7 @@ import re
 import statistics
 import subprocess
 import sys
-from typing import Dict, List, NamedTuple
+from typing import Dict, List, NamedTuple, Optional
 
 ROOT = pathlib.Path(__file__).resolve().parent.parent.parent
 PAGE = ROOT / "docs" / "BENCHMARKS.md"
@@ -76,8 +77,10 @@ def ratios(kernel: Kernel, peer: str) -> str:
     return f"{found[0]:.2f} to {found[-1]:.2f} ({statistics.median(found):.2f})" if found else "-"
 
 
-def row(kernel: Kernel) -> str:
+def row(kernel: Kernel, newer: Dict[str, Kernel]) -> str:
     cells = [kernel.name, str(len(kernel.times)), *(ratios(kernel, peer) for peer in ("upstream", "loop", "memcpy"))]
+    if newer:
+        cells.append(ratios(newer[kernel.name], "upstream") if kernel.name in newer else "-")
     return f"| {' | '.join(cells)} |"
 
 
@@ -93,16 +96,25 @@ def slower(found: Times) -> List[str]:
     return lines
 
 
-def section(folder: pathlib.Path) -> List[str]:
-    """Runs the program, and returns the lines of the page."""
+def measured(folder: pathlib.Path) -> Times:
+    """Runs the program of a folder."""
+    return read(subprocess.run([program(folder), ROUNDS], stdout=subprocess.PIPE, text=True, check=True).stdout)
+
+
+def section(folder: pathlib.Path, newer: Optional[pathlib.Path] = None) -> List[str]:
+    """Runs the programs, and returns the lines of the page."""
     before = os.getloadavg()[0]
-    ran = subprocess.run([program(folder), ROUNDS], stdout=subprocess.PIPE, text=True, check=True)
-    found = read(ran.stdout)
+    found = measured(folder)
+    others = measured(newer) if newer else {}
+    by_name = {kernel.name: kernel for kernel in kernels(others)}
+    slow = sum(times["port"] > MOST_RATIO * times["upstream"] for times in others.values())
+    both = [f"Built for x86-64-v3, {slow} of {len(others)} cases do; the last column of the table above has the ratios.", ""] if newer else []
     return [HEADING, "", "The time of this library by that of upstream's kernel, of the best loop in safe Rust (plain or tuned by hand) and of a copy of the same bytes: the least and the greatest ratio of a "
-            "kernel's cases, and the median in parentheses. All are built for the same processors and run in one process, in turn in each round; the best of "
+            "kernel's cases, and the median in parentheses. All are built for the same processors (x86-64-v2) and run in one process, in turn in each round; the best of "
             f"{ROUNDS} rounds counts. `d` is the share of rows that a mask keeps, `o` the offsets of the slices, `n` the rows.", "",
             f"{datetime.date.today().isoformat()}; reported load of the machine (1 is this process): {before:.1f} before, {os.getloadavg()[0]:.1f} after, on {os.cpu_count()} cores.", "",
-            "| kernel | cases | to upstream | to the best loop | to the copy |", "|---|---|---|---|---|", *(row(each) for each in kernels(found)), "", *slower(found), ""]
+            f"| kernel | cases | to upstream | to the best loop | to the copy |{' to upstream, x86-64-v3 |' if newer else ''}", f"|---|---|---|---|---|{'---|' if newer else ''}",
+            *(row(each, by_name) for each in kernels(found)), "", *slower(found), "", *both]
 
 
 def earlier(page: str) -> List[str]:
@@ -118,13 +130,13 @@ def with_section(page: str, lines: List[str]) -> str:
 
 
 def main() -> None:
-    asked = sys.argv[1:]
-    if len(asked) not in (1, 2) or asked[1:] not in ([], ["--write"]):
+    write, folders = sys.argv[-1] == "--write", [pathlib.Path(each) for each in sys.argv[1:] if each != "--write"]
+    if len(folders) not in (1, 2):
         sys.exit(__doc__)
     if hasattr(os, "sched_setaffinity"):
         os.sched_setaffinity(0, {max(os.sched_getaffinity(0))})
-    lines = section(pathlib.Path(asked[0]))
-    if asked[1:]:
+    lines = section(*folders)
+    if write:
         PAGE.write_text(with_section(PAGE.read_text(), lines))
     else:
         print("\n".join(lines))
