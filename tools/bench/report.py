@@ -192,6 +192,7 @@ def write(docs: pathlib.Path, results: list, scale: list, beside: list[str], sec
             "Each result was compared with numpy's before it was timed, and each contender makes the whole result, with its memory. "
             "`loop` is a plain C loop, compiled for this processor; `numpy` is the numpy operation, called from Python, if there is one; `copy` moves as many bytes as any implementation must read and write.", ""]
     text += beside
+    text += (pathlib.Path(__file__).parent / "tried.md").read_text().splitlines()
     text += ["## Summary", "", f"Best times in ns per row at {SUMMARY_ROWS:,} rows; the kernel `choose` is if-then-else.", "", *summary(rows), ""]
     text += ["![Time of a filter by the share of rows kept](bench-density.svg)", "", "![Time of a filter by the number of rows](bench-filter-size.svg)", "",
              "![Time of a take by the number of rows](bench-take-size.svg)", ""]
