@@ -262,7 +262,9 @@ def run_all(anew: bool) -> int:
         waited += [trials.submit(try_mutants, board, proofs, room, name, labels) for name, labels in mutants.items()]
         pool.submit(proofs.run)
         if proofs.wait():
-            room.release(max(len(os.sched_getaffinity(0)) - AT_ONCE, 1))
+            more = len(os.sched_getaffinity(0)) - AT_ONCE
+            if more > 0:
+                room.release(more)
             for name, command in AFTER_PROOFS:
                 run_check(board, name, command)
             for future in waited:
