@@ -178,6 +178,48 @@ static void test_filters(void) {
     sel_free(&out);
 }
 
+static void test_selections(void) {
+    const uint8_t values[1] = {13}, bits[1] = {11};
+    const int64_t kept[2] = {10, 40}, by_bits[3] = {10, 30, 40};
+    size_t len = 77, count = 77;
+    sel_column column = tens(), mask = {0}, out = {0};
+    sel_selection by = {0}, none = {0};
+    IS(sel_selection_new(&mask, &by) == SEL_ERROR_NO_COLUMN && by.at == NULL);
+    IS(sel_filter_selection(&column, &none, &out) == SEL_ERROR_NO_COLUMN);
+    IS(sel_selection_len(&none, &len) == SEL_ERROR_NO_COLUMN && len == 77);
+    IS(sel_selection_count(&none, &count) == SEL_ERROR_NO_COLUMN && count == 77);
+    IS(sel_selection_of_bits(values, 0, 4, &by) == SEL_ERROR_LENGTH_MISMATCH && by.at == NULL);
+    DONE(sel_boolean_new(values, 1, 4, bits, 1, true, &mask));
+    if (column.at != NULL && mask.at != NULL) {
+        IS(sel_selection_new(&column, &by) == SEL_ERROR_UNSUPPORTED_TYPE && by.at == NULL);
+        sel_status status = sel_selection_new(&mask, &by);
+        IS(done(status));
+        if (status == SEL_OK) {
+            IS(sel_selection_len(&by, &len) == SEL_OK && len == 4);
+            IS(sel_selection_count(&by, &count) == SEL_OK && count == 2);
+            IS(sel_filter_selection(&out, &by, &out) == SEL_ERROR_NO_COLUMN);
+            DONE(sel_filter_selection(&column, &by, &out));
+            IS(out.at == NULL || holds(&out, kept, 2));
+            /* the old selection is freed */
+            status = sel_selection_of_bits(values, 1, 3, &by);
+            IS(done(status));
+            IS(sel_filter_selection(&column, &by, &out) == (status == SEL_OK ? SEL_ERROR_LENGTH_MISMATCH : SEL_OK) || refused);
+            status = sel_selection_of_bits(values, 1, 4, &by);
+            IS(done(status));
+            if (status == SEL_OK) {
+                status = sel_filter_selection(&column, &by, &out);
+                IS(done(status) && (status != SEL_OK || holds(&out, by_bits, 3)));
+            }
+        }
+    }
+    sel_selection_free(&by);
+    IS(by.at == NULL);
+    sel_selection_free(&by);
+    sel_free(&column);
+    sel_free(&mask);
+    sel_free(&out);
+}
+
 static void test_takes(void) {
     const uint32_t at[3] = {3, 9, 0};
     const uint8_t bits[1] = {5};
@@ -447,8 +489,8 @@ static void test_short_validities(void) {
 
 static void (*const tests[])(void) = {
     test_nulls, test_booleans, test_int8, test_int16, test_int32, test_int64, test_uint8, test_uint16, test_uint32,
-    test_uint64, test_int128, test_uint128, test_whole, test_filters, test_takes, test_reverse, test_bytes, test_lists, test_structs, test_views,
-    test_choices, test_broadcasts, test_chosen_kinds, test_flattens, test_collected_rows, test_dictionaries, test_equal_rows, test_prints, test_prints_types,
+    test_uint64, test_int128, test_uint128, test_whole, test_filters, test_selections, test_takes, test_reverse, test_bytes, test_lists, test_structs,
+    test_views, test_choices, test_broadcasts, test_chosen_kinds, test_flattens, test_collected_rows, test_dictionaries, test_equal_rows, test_prints, test_prints_types,
     test_parses, test_misread_texts, test_parse_memory, test_flatten_limits, test_list_limits, test_empty_inputs, test_empty_outputs, test_strings,
     test_short_validities,
 };

@@ -259,6 +259,29 @@ static void test_parts(void) {
 
 /* ---- kernels ---- */
 
+/* Filters by the mask and by bits, each prepared. */
+static void test_prepared_masks(void) {
+    const uint8_t flags[1] = {6};
+    size_t len = 77, count = 77;
+    sel_column out = {0};
+    sel_selection by = {0};
+    FAILS(sel_selection_new(deep, &by), SEL_ERROR_UNSUPPORTED_TYPE);
+    sel_status status = sel_selection_new(&mask, &by);
+    IS(done(status));
+    if (status == SEL_OK) {
+        MAKES(sel_filter_selection(deep, &by, &out), MOST, 0, NONE);
+        FAILS(sel_selection_len(&by, &len), SEL_OK);
+        FAILS(sel_selection_count(&by, &count), SEL_OK);
+        IS(len == LEN && count == 2);
+    }
+    status = sel_selection_of_bits(flags, 1, LEN, &by);
+    IS(done(status));
+    if (status == SEL_OK) {
+        MAKES(sel_filter_selection(deep, &by, &out), MOST, 1, NONE);
+    }
+    sel_selection_free(&by);
+}
+
 static void test_selections(void) {
     const uint8_t flags[1] = {6};
     const uint32_t rows[LEN] = {1, 1, 0}, far[1] = {3};
@@ -740,7 +763,7 @@ static void (*const tests[])(void) = {
 
 /* Each of these makes some thousand allocations, of which every 37th is refused; those of Arrow are some ten thousand. */
 static void (*const long_tests[])(void) = {
-    test_parts, test_elements, test_parsing, test_selections, test_choices_of_deep_columns, test_several_columns,
+    test_parts, test_elements, test_parsing, test_selections, test_prepared_masks, test_choices_of_deep_columns, test_several_columns,
 };
 static void (*const longest_tests[])(void) = {test_arrow, test_types_of_levels, test_dictionary_of_levels, test_stream_of_levels};
 enum { STEP = 37, LONG_STEP = 499 };

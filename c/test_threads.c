@@ -46,6 +46,7 @@ static const char *const sources[][2] = {
 enum { COLUMNS = sizeof sources / sizeof *sources };
 
 static sel_column shared[COLUMNS], mask, indices, places, keys, words, lists;
+static sel_selection selection; /* of the rows where the mask is true */
 static sel_type types[COLUMNS], coded; /* of the columns, and of the keys, with the words as their dictionary */
 
 static void stop(const char *what, sel_status status) {
@@ -85,6 +86,7 @@ static void make_columns(void) {
     for (uint32_t i = 0; i < LEN; i++) small[i] = i % 4, each[i] = (int64_t)(i % 3) - 1;
     for (size_t i = 0; i < COLUMNS; i++) make_source(i, &shared[i]), must(sel_type_of_storage(&shared[i], &types[i]));
     must(sel_boolean_new(flags, sizeof flags, LEN, valid, sizeof valid, true, &mask));
+    must(sel_selection_new(&mask, &selection));
     must(sel_uint32_new(rows, TAKEN, valid, sizeof valid, true, &indices));
     must(sel_int64_new(each, LEN, SEL_ALL_VALID, &places));
     must(sel_uint32_new(small, LEN, valid, sizeof valid, true, &keys));
@@ -98,6 +100,7 @@ static void free_columns(void) {
     for (size_t i = 0; i < COLUMNS; i++) sel_free(&shared[i]), sel_type_free(&types[i]);
     sel_type_free(&coded);
     for (size_t i = 0; i < sizeof all / sizeof *all; i++) sel_free(all[i]);
+    sel_selection_free(&selection);
 }
 
 /* ---- what a thread reads, as one number ---- */
@@ -235,6 +238,7 @@ static void select_rows(worker *w, const sel_column *of) {
     MADE(sel_share(of, &out));
     MADE(sel_filter(of, &mask, &out));
     MADE(sel_filter_bits(of, flags, sizeof flags, LEN, &out));
+    MADE(sel_filter_selection(of, &selection, &out));
     MADE(sel_take(of, &indices, &out));
     MADE(sel_take_rows(of, rows, 4, SEL_ALL_VALID, &out));
     MADE(sel_reverse(of, &out));

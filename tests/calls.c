@@ -79,6 +79,17 @@ RUN(filter) {
     return sel_filter(&columns[0], &columns[1], &out->columns[0]);
 }
 
+RUN(filter_selection) {
+    (void)given;
+    sel_selection by = {0};
+    sel_status status = sel_selection_new(&columns[1], &by);
+    if (status == SEL_OK) {
+        status = sel_filter_selection(&columns[0], &by, &out->columns[0]);
+    }
+    sel_selection_free(&by);
+    return status;
+}
+
 RUN(take) {
     (void)given;
     return sel_take(&columns[0], &columns[1], &out->columns[0]);
@@ -208,6 +219,16 @@ RUN(filter_bits) {
     return sel_filter_bits(&columns[0], given->bits, given->bits_len, given->columns[1].len, &out->columns[0]);
 }
 
+RUN(filter_selection_of_bits) {
+    sel_selection by = {0};
+    sel_status status = sel_selection_of_bits(given->bits, given->bits_len, given->columns[1].len, &by);
+    if (status == SEL_OK) {
+        status = sel_filter_selection(&columns[0], &by, &out->columns[0]);
+    }
+    sel_selection_free(&by);
+    return status;
+}
+
 static bool indices_fit(const struct arguments *given) {
     return is_of_kind(given, SEL_TYPE_UINT32);
 }
@@ -222,6 +243,8 @@ const struct call calls[] = {
     {"rows", "tr", RESULT_ROWS, "sel_parse", of_line, run_read_back, NULL, false, false},
     {"filter", "trM", RESULT_ROWS, "sel_filter", of_line, run_filter, NULL, false, false},
     {"filter", "trM", RESULT_ROWS, "sel_filter_bits", of_line, run_filter_bits, mask_has_no_nulls, false, false},
+    {"filter", "trM", RESULT_ROWS, "sel_filter_selection", of_line, run_filter_selection, NULL, false, false},
+    {"filter", "trM", RESULT_ROWS, "sel_filter_selection of bits", of_line, run_filter_selection_of_bits, mask_has_no_nulls, false, false},
     {"take", "trU", RESULT_ROWS, "sel_take", of_line, run_take, NULL, false, false},
     {"take", "trU", RESULT_ROWS, "sel_take_rows", of_line, run_take_rows, indices_fit, false, false},
     {"if_then_else", "tMrr", RESULT_ROWS, "sel_if_then_else", of_line, run_if_then_else, NULL, false, false},

@@ -86,9 +86,29 @@ static bool ends(const struct step *step, const char *call, sel_status status, s
 
 /* ---- one column ---- */
 
+/* Filters by a mask that is prepared, and another column of as many rows by the same. */
+static sel_status filter_by_selection(const struct entry *entry, const sel_column *mask, sel_column *out) {
+    sel_selection by = {0};
+    sel_column again = {0};
+    bool is_equal = false;
+    sel_status status = sel_selection_new(mask, &by);
+    if (status == SEL_OK) {
+        status = sel_filter_selection(&entry->column, &by, out);
+    }
+    if (status == SEL_OK) {
+        status = sel_filter_selection(&entry->column, &by, &again);
+    }
+    if (status == SEL_OK) {
+        status = sel_equal_rows(out, &again, &is_equal);
+    }
+    sel_free(&again);
+    sel_selection_free(&by);
+    return status == SEL_OK && !is_equal ? SEL_ERROR_TYPE_MISMATCH : status;
+}
+
 static bool step_filter(const struct step *step) {
     const struct entry *entry = any_entry(step);
-    bool by_bits = draw_one_in(step->draws, 3), is_short = entry->rows.len > 0 && draw_one_in(step->draws, 30);
+    bool by_bits = draw_one_in(step->draws, 3), by_selection = draw_one_in(step->draws, 2), is_short = entry->rows.len > 0 && draw_one_in(step->draws, 30);
     struct rows mask = draw_mask(step->draws, step->arena, entry->rows.len - is_short, by_bits ? 0 : nulls_by_chance(step));
     struct rows wanted = is_short ? mask : model_filter(step->arena, &entry->rows, &mask);
     sel_column out = {0}, bits = draw_column(step->draws, &mask);
@@ -99,11 +119,13 @@ static bool step_filter(const struct step *step) {
             packed[i / 8] |= (uint8_t)(is_true(&mask.values[i]) << (i % 8));
         }
         status = sel_filter_bits(&entry->column, packed, (mask.len + 7) / 8, mask.len, &out);
+    } else if (by_selection) {
+        status = filter_by_selection(entry, &bits, &out);
     } else {
         status = sel_filter(&entry->column, &bits, &out);
     }
     sel_free(&bits);
-    return ends(step, by_bits ? "sel_filter_bits" : "sel_filter", status, is_short ? SEL_ERROR_LENGTH_MISMATCH : SEL_OK, &out, &wanted);
+    return ends(step, by_bits ? "sel_filter_bits" : by_selection ? "sel_filter_selection" : "sel_filter", status, is_short ? SEL_ERROR_LENGTH_MISMATCH : SEL_OK, &out, &wanted);
 }
 
 /* Takes rows at indices; once in a while an index that is not null is one too large. */

@@ -19,11 +19,12 @@ Column(i64, [31,null,45])
 from ._column import Column, choose, collect_rows, concat, flatten, if_else, propagate_dictionary
 from ._errors import BrokenRule, BrokenText, LimitPassed, OutOfBounds, OutOfMemory, SelError, WrongArgument
 from ._logical import ArrowType
+from ._selection import Selection
 from ._table import Stream, Table
 from ._types import Type, parse_type
 
 __all__ = [
-    "ArrowType", "BrokenRule", "BrokenText", "Column", "LimitPassed", "OutOfBounds", "OutOfMemory", "SelError", "Stream", "Table", "Type", "WrongArgument",
+    "ArrowType", "BrokenRule", "BrokenText", "Column", "LimitPassed", "OutOfBounds", "OutOfMemory", "SelError", "Selection", "Stream", "Table", "Type", "WrongArgument",
     "choose", "collect_rows", "concat", "flatten", "if_else", "parse_type", "propagate_dictionary",
 ]
 __version__ = "0.3.0"

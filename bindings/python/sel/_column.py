@@ -19,6 +19,7 @@ from ._memory import _NOTHING, NO_VALIDITY, unpacked
 from ._names import VALID_NAMES, short_names
 from ._owner import Owner, concatenated, derived, from_several
 from ._readers import printed, rows_of, text_of, validity_bits
+from ._selection import Selection
 from ._statuses import OK, ROW_SYNTAX, ROW_TYPE_MISMATCH, TYPE_MISMATCH, TYPE_SYNTAX
 from ._types import Type, parse_type, type_of_values
 
@@ -389,14 +390,17 @@ class Column(Owner):
 
     # ---- kernels
 
-    def filter(self, mask: Column | Iterable[Boolean | None] | Array) -> Column:
+    def filter(self, mask: Column | Iterable[Boolean | None] | Array | Selection) -> Column:
         """Returns the rows where the mask is true; a null of the mask counts as false.
 
-        Raises TypeError for integers as a mask, and WrongArgument, a TypeError, for a mask of another length.
+        To filter several columns by one mask, pass a `Selection` of it. Raises TypeError for integers as a mask, and WrongArgument,
+        a TypeError, for a mask of another length.
 
         >>> sel.Column([31, None, 27, 45]).filter([True, True, None, True])
         Column(i64, [31,null,45])
         """
+        if isinstance(mask, Selection):
+            return self._like("sel_filter_selection", mask)
         return self._like("sel_filter", mask_of(mask, "mask"))
 
     def take(self, indices: Column | Iterable[SupportsIndex | None] | Array) -> Column:

@@ -21,6 +21,12 @@ class Handle(Structure):
     _fields_ = [("at", c_void_p)]
 
 
+class SelectionHandle(Structure):
+    """`sel_selection`: a mask that the library has prepared."""
+
+    _fields_ = [("at", c_void_p)]
+
+
 class TypeHandle(Structure):
     """`sel_type`: a logical type that the library holds."""
 
@@ -103,11 +109,12 @@ lib, _keeping_lock = _load()
 # Calls that take little time whatever the column is. They keep the lock: while another thread runs Python code, it would take
 # milliseconds to get the lock back.
 _SHORT = ("sel_len", "sel_type_of", "sel_status_string", "sel_share", "sel_child", "sel_field", "sel_field_count", "sel_fixed_size_list_size", "sel_bytes_len",
-          "sel_buffer_count", "sel_buffer_len", "sel_borrow_values")
+          "sel_buffer_count", "sel_buffer_len", "sel_borrow_values", "sel_selection_len", "sel_selection_count")
 for _name in _SHORT:
     setattr(lib, _name, getattr(_keeping_lock, _name))
 
 _COLUMN, _TYPE, _BYTES, _SIZE = POINTER(Handle), POINTER(TypeHandle), c_void_p, c_size_t
+_SELECTION = POINTER(SelectionHandle)
 _ARRAY, _SCHEMA = POINTER(ArrowArray), POINTER(ArrowSchema)
 _BITS = [c_void_p, c_size_t, c_bool]
 
@@ -138,6 +145,10 @@ _CALLS: dict[str, list[Any]] = {
     "sel_field": [_COLUMN, _SIZE, _COLUMN],
     "sel_filter": [_COLUMN, _COLUMN, _COLUMN],
     "sel_filter_bits": [_COLUMN, _BYTES, _SIZE, _SIZE, _COLUMN],
+    "sel_selection_new": [_COLUMN, _SELECTION],
+    "sel_selection_len": [_SELECTION, POINTER(_SIZE)],
+    "sel_selection_count": [_SELECTION, POINTER(_SIZE)],
+    "sel_filter_selection": [_COLUMN, _SELECTION, _COLUMN],
     "sel_take": [_COLUMN, _COLUMN, _COLUMN],
     "sel_take_rows": [_COLUMN, _BYTES, _SIZE, *_BITS, _COLUMN],
     "sel_reverse": [_COLUMN, _COLUMN],
@@ -184,6 +195,7 @@ def _declare() -> None:
     for name, result in (("sel_len", c_size_t), ("sel_type_of", c_uint32), ("sel_null_count", c_size_t), ("sel_free", None)):
         found = getattr(lib, name)
         found.argtypes, found.restype = [_COLUMN], result
+    lib.sel_selection_free.argtypes, lib.sel_selection_free.restype = [_SELECTION], None
     lib.sel_status_string.argtypes, lib.sel_status_string.restype = [c_uint32], c_char_p
     lib.sel_unsupported_format.argtypes, lib.sel_unsupported_format.restype = [_SCHEMA], c_char_p
     lib.sel_type_equal.argtypes, lib.sel_type_equal.restype = [_TYPE, _TYPE], c_bool

@@ -15,6 +15,7 @@ from ._logical import ArrowType, as_logical_of, of_format
 from ._memory import NO_VALIDITY
 from ._owner import Owner, derived, from_several
 from ._readers import text_of
+from ._selection import Selection
 from ._stream import stream_of
 
 if TYPE_CHECKING:
@@ -163,10 +164,10 @@ class Table:
 
     # ---- kernels
 
-    def filter(self, mask: Column | Iterable[Boolean | None] | Array) -> Table:
+    def filter(self, mask: Column | Iterable[Boolean | None] | Array | Selection) -> Table:
         """Returns the rows where the mask is true, as `Column.filter` does. The mask is prepared once for all columns."""
-        prepared = Column._owning(derived(mask_of(mask, "mask"), "sel_share"))
-        return self._each([column.filter(prepared) for column in self._columns], lambda: len(Column([None] * self._length).filter(prepared)))
+        selection = mask if isinstance(mask, Selection) else Selection(mask)
+        return self._each([column.filter(selection) for column in self._columns], lambda: len(Column([None] * self._length).filter(selection)))
 
     def take(self, indices: Column | Iterable[SupportsIndex | None] | Array) -> Table:
         """Returns the rows at the indices, as `Column.take` does.

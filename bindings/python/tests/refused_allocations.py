@@ -153,7 +153,7 @@ class Refused(unittest.TestCase):
         for column, value in columns:
             uses: list[Callable[[], Any]] = [
                 column.to_pylist, lambda: str(column), lambda: repr(column), lambda: column.type, lambda: column[0], lambda: column[::-1], lambda: column.take([0, None]),
-                lambda: column.filter([True, False, True]), column.unit_list, column.decoded, lambda: column.fill_null(value), lambda: pickle.loads(pickle.dumps(column)),
+                lambda: column.filter([True, False, True]), lambda: column.filter(sel.Selection([True, False, True])), column.unit_list, column.decoded, lambda: column.fill_null(value), lambda: pickle.loads(pickle.dumps(column)),
                 lambda: out_of_band(column), lambda: out_of_band(Table({"a": column, "b": column[::-1]})),
                 lambda: sel.if_else([True, False, None], column, value), lambda: sel.if_else([True, False, None], column, column), lambda: sel.concat([column, column]),
                 lambda: column.equals(column), column.__arrow_c_schema__, column.__arrow_c_array__, lambda: Column.from_arrow(column),

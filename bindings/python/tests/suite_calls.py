@@ -237,6 +237,7 @@ CALLS = {
         Use(lambda given, column: Column.parse(given.type, str(column)))]),
     "filter": Call("trM", [
         Use(lambda given, column, mask: column.filter(mask)),
+        Use(lambda given, column, mask: column.filter(sel.Selection(mask))),
         Use(lambda given, column, mask: column.filter(given.columns[1].values), lambda given, expected: given.has_type(1, "bool")),
         Use(lambda given, column, mask: column[mask], _is_mask)]),
     "take": Call("trU", [

@@ -41,7 +41,7 @@ class Tables(unittest.TestCase):
 
     def test_kernels(self) -> None:
         made = Table(ROWS)
-        for found, rows in table((made.filter([True, False, True]), [0, 2]), (made.filter(Column([False, True, None])), [1]), (made.take([2, 0, 0]), [2, 0, 0]), (made[1:], [1, 2]),
+        for found, rows in table((made.filter([True, False, True]), [0, 2]), (made.filter(Column([False, True, None])), [1]), (made.filter(Selection([True, None, True])), [0, 2]), (made.take([2, 0, 0]), [2, 0, 0]), (made[1:], [1, 2]),
                                  (made[[2, 1]], [2, 1]), (made[::-1], [2, 1, 0]), (made.slice(1, 1), [1]), (made[[True, False, False]], [0])):
             self.assertEqual(found.to_pydict(), {name: [values[row] for row in rows] for name, values in ROWS.items()})
             self.assertEqual([str(column.type) for column in found.columns], [str(column.type) for column in made.columns])

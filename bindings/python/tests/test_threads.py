@@ -47,7 +47,7 @@ def on_threads(count: int, use: Callable[[int], Any]) -> list[Any]:
 def results(column: Column, mask: Column, indices: Column) -> list[Any]:
     """Returns the results of the kernels and reads on a column as Python values; most columns are freed in between."""
     found = [
-        column.filter(mask), column.take(indices), column.sliced(3, 100).filter(mask.sliced(3, 100)), column[::-1], column.reverse(), column.unit_list(), column.drop_null(),
+        column.filter(mask), column.filter(sel.Selection(mask)), column.take(indices), column.sliced(3, 100).filter(mask.sliced(3, 100)), column[::-1], column.reverse(), column.unit_list(), column.drop_null(),
         sel.choose(mask, column, column[::-1]), sel.choose(mask, column, column), sel.concat([column, column, column.sliced(5, 20)]),
         sel.collect_rows([column, column], [(0, 1), None, (1, 5)]), column.share(), copy.copy(column), pickle.loads(pickle.dumps(column)), Column(column),
         Column.from_arrow(column), Column.parse(column.type, str(column)),

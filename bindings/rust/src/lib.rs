@@ -41,7 +41,7 @@
 //! `SEL_LIBRARY_DIR` names at build time, or else from the checkout's `build`.
 //!
 //! # Threads
-//! A [`Column`] is `Send` and `Sync`: threads may read the same column at the same time, and move and drop columns that
+//! A [`Column`] and a [`Selection`] are `Send` and `Sync`: threads may read the same column at the same time, and move and drop columns that
 //! share memory. `examples/threads.rs` filters the columns of a batch on several threads.
 //!
 //! No function panics, except that cloning, comparison and formatting cannot return an error: see [`Column`].
@@ -76,6 +76,11 @@
 //! | `sel_offsets` | [`Column::offsets`] |
 //! | `sel_filter` | [`Column::filter`] |
 //! | `sel_filter_bits` | [`Column::filter_bits`] |
+//! | `sel_selection_new` | [`Selection::new`] |
+//! | `sel_selection_of_bits` | [`Selection::from_bits`] |
+//! | `sel_selection_len`, `sel_selection_count` | [`Selection::len`], [`Selection::count`] |
+//! | `sel_filter_selection` | [`Column::filter_selection`] |
+//! | `sel_selection_free` | dropping a [`Selection`] |
 //! | `sel_take` | [`Column::take`] |
 //! | `sel_take_rows` | [`Column::take_rows`] |
 //! | `sel_reverse` | [`Column::reverse`] |
@@ -146,6 +151,7 @@ mod memory;
 mod nested;
 mod number;
 mod raw;
+mod selection;
 mod slices;
 mod stream;
 mod typed;
@@ -163,6 +169,7 @@ pub use kernels::{
 };
 pub use kind::Kind;
 pub use number::Number;
+pub use selection::Selection;
 pub use slices::{Element, Native};
 pub use stream::{export_stream, Batch, StreamReader};
 pub use typed::TypedColumn;

@@ -10,6 +10,17 @@ pub struct Handle {
     pub at: *mut c_void,
 }
 
+/// A handle of a prepared mask: `sel_selection`.
+#[repr(C)]
+pub struct SelectionHandle {
+    pub at: *mut c_void,
+}
+
+impl SelectionHandle {
+    /// A handle without a mask.
+    pub const EMPTY: SelectionHandle = SelectionHandle { at: std::ptr::null_mut() };
+}
+
 impl Handle {
     /// A handle without a column.
     pub const EMPTY: Handle = Handle { at: std::ptr::null_mut() };
@@ -243,6 +254,12 @@ extern "C" {
     pub fn sel_bytes(of: *const Handle, out: *mut u8, out_len: usize) -> u32;
     pub fn sel_filter(of: *const Handle, mask: *const Handle, out: *mut Handle) -> u32;
     pub fn sel_filter_bits(of: *const Handle, mask: *const u8, mask_len: usize, len: usize, out: *mut Handle) -> u32;
+    pub fn sel_selection_new(mask: *const Handle, out: *mut SelectionHandle) -> u32;
+    pub fn sel_selection_of_bits(mask: *const u8, mask_len: usize, len: usize, out: *mut SelectionHandle) -> u32;
+    pub fn sel_selection_len(of: *const SelectionHandle, len: *mut usize) -> u32;
+    pub fn sel_selection_count(of: *const SelectionHandle, count: *mut usize) -> u32;
+    pub fn sel_filter_selection(of: *const Handle, by: *const SelectionHandle, out: *mut Handle) -> u32;
+    pub fn sel_selection_free(of: *mut SelectionHandle);
     pub fn sel_take(of: *const Handle, indices: *const Handle, out: *mut Handle) -> u32;
     pub fn sel_take_rows(
         of: *const Handle,

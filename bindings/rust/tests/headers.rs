@@ -30,6 +30,7 @@ fn rust_type(c_type: &str) -> String {
         "void" => "c_void",
         "sel_column" => "Handle",
         "sel_type" => "TypeHandle",
+        "sel_selection" => "SelectionHandle",
         "sel_stream" => "StreamHandle",
         "sel_next_batch" => "NextBatch",
         "sel_free_context" => "FreeContext",

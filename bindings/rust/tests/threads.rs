@@ -1,6 +1,6 @@
 //! Threads that read the same columns, and columns that are moved to other threads and dropped there.
 
-use sel::{collect_rows, flatten, if_then_else, Column, DataType, Error, Kind};
+use sel::{collect_rows, flatten, if_then_else, Column, DataType, Error, Kind, Selection};
 use std::sync::mpsc::channel;
 use std::sync::{Arc, Barrier};
 use std::thread;
@@ -11,8 +11,9 @@ const ROUNDS: usize = 50;
 fn is_send_sync<T: Send + Sync>() {}
 
 #[test]
-fn columns_and_errors_are_send_and_sync() {
+fn columns_selections_and_errors_are_send_and_sync() {
     is_send_sync::<Column>();
+    is_send_sync::<Selection>();
     is_send_sync::<Error>();
     is_send_sync::<Kind>();
     is_send_sync::<DataType>();
@@ -25,6 +26,7 @@ fn read(column: &Column, mask: &Column) -> Result<String, Error> {
     let all = [
         column.clone(),
         column.filter(mask)?,
+        column.filter_selection(&Selection::new(mask)?)?,
         column.take_rows(&reversed)?,
         column.slice(1, column.len() - 1)?,
         if_then_else(mask, column, column)?,

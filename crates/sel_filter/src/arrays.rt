@@ -13,7 +13,10 @@ use sel_bits::words::{first_word, whole_word};
 use std::alloc::Global;
 use std::mem::replace;
 
-/// Returns the items of the arrays where `mask` is true, in order.
+/// Returns the items of the arrays where `mask` is true, in order; `count` is the number of arrays
+/// to reserve memory for.
+///
+/// The result does not depend on `count`. With the number of true bits, memory is allocated once.
 ///
 /// # Requires
 /// `arrays` and `mask` have the same length, and an array has at most 64 items.
@@ -24,6 +27,7 @@ pub fn filter_arrays<T: Copy, const N: usize>(
     alloc: Global,
     arrays: &[[T; N]],
     mask: &Bitmap,
+    count: usize,
 ) -> PolarsResult<Vec<T>>
     requires lengths { length arrays.now ≡ length mask.now.bits }
     requires small { N ≤ 64 }
@@ -32,7 +36,7 @@ pub fn filter_arrays<T: Copy, const N: usize>(
     ensures refusal { IfErr result IsOutOfMemory }
 {
     let (bytes, shift, len) = mask.as_slice();
-    let mut kept = Vec::with_capacity(alloc, mask.set_bits().saturating_mul(N))?;
+    let mut kept = Vec::with_capacity(alloc, count.saturating_mul(N))?;
     for block in 0..len / 64 {
         let word = whole_word(bytes, 8 * block, shift);
         append_arrays(&arrays[64 * block..64 * block + 64], word, &mut kept)?;

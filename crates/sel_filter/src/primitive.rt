@@ -28,7 +28,30 @@ pub fn filter_values<T: Copy>(alloc: Global, values: &[T], mask: &Bitmap) -> Pol
     ensures refusal { IfErr result IsOutOfMemory }
 {
     let (bytes, _, _) = mask.as_slice();
-    let mut kept = Vec::with_capacity(alloc, count_set(bytes).saturating_add(SPARE))?;
+    filter_counted_values(alloc, values, mask, count_set(bytes))
+}
+
+/// Returns the values where `mask` is true, in order; `count` is the number of values to reserve
+/// memory for.
+///
+/// The result does not depend on `count`. With the number of true bits, memory is allocated once.
+///
+/// # Requires
+/// `values` and `mask` have the same length.
+///
+/// # Errors
+/// `OutOfMemory` if an allocation fails.
+pub fn filter_counted_values<T: Copy>(
+    alloc: Global,
+    values: &[T],
+    mask: &Bitmap,
+    count: usize,
+) -> PolarsResult<Vec<T>>
+    requires { length values.now ≡ length mask.now.bits }
+    ensures items { IfOk result (λ kept. kept.items ≡ select values.now mask.now.bits) }
+    ensures refusal { IfErr result IsOutOfMemory }
+{
+    let mut kept = Vec::with_capacity(alloc, count.saturating_add(SPARE))?;
     let (rest, rest_bytes) = scalar_filter_offset(values, mask, &mut kept)?;
     append_blocks(rest, rest_bytes, &mut kept)?;
     Ok(kept)

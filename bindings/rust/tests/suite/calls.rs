@@ -3,7 +3,7 @@
 use super::arguments::{booleans, indices, Arguments, Field};
 use sel::{
     collect_rows, flatten, if_then_else, if_then_else_broadcast_both, if_then_else_broadcast_false,
-    if_then_else_broadcast_true, propagate_dictionary, Column, DataType, Error,
+    if_then_else_broadcast_true, propagate_dictionary, Column, DataType, Error, Selection,
 };
 
 /// What a function returns.
@@ -122,6 +122,11 @@ fn filter_bits(given: &Arguments, columns: &[Column]) -> Option<Result<Outcome, 
     one(columns[0].filter_bits(&packed, mask.len()))
 }
 
+/// Filters by a mask that is prepared.
+fn filter_selection(columns: &[Column]) -> Result<Column, Error> {
+    columns[0].filter_selection(&Selection::new(&columns[1])?)
+}
+
 /// Takes rows at indices that are no column, if they are `u32`.
 fn take_rows(given: &Arguments, columns: &[Column]) -> Option<Result<Outcome, Error>> {
     if given.columns[1].dtype != DataType::UInt32 {
@@ -187,7 +192,11 @@ pub const CALLS: [Call; 23] = [
         fields: &[Type, Rows, Mask],
         comparison: AllRows,
         result_types: of_line,
-        ways: &[("filter", |_, columns| one(columns[0].filter(&columns[1]))), ("filter_bits", filter_bits)],
+        ways: &[
+            ("filter", |_, columns| one(columns[0].filter(&columns[1]))),
+            ("filter_bits", filter_bits),
+            ("filter_selection", |_, columns| one(filter_selection(columns))),
+        ],
     },
     Call {
         name: "take",

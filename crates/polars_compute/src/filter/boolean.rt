@@ -36,8 +36,27 @@ pub fn filter_bitmap_and_validity(
         option_map (λ v. select v.bits mask.now.bits) (option_copied validity.entry)) }
     ensures refusal { IfErr result IsOutOfMemory }
 {
-    let kept = filter_boolean_kernel(alloc, values, mask)?;
-    let kept_validity = filter_validity(alloc, validity, mask, kept.len())?;
+    filter_counted_booleans(alloc, values, validity, mask, mask.set_bits())
+}
+
+/// Returns what `filter_bitmap_and_validity` does; `count` is the number of set bits of `mask`.
+pub(crate) fn filter_counted_booleans(
+    alloc: Global,
+    values: &Bitmap,
+    validity: Option<&Bitmap>,
+    mask: &Bitmap,
+    count: usize,
+) -> PolarsResult<(Bitmap, Option<Bitmap>)>
+    requires values { length values.now.bits ≡ length mask.now.bits }
+    requires validity { Covers (option_copied validity) (length mask.now.bits) }
+    requires count { count ≡ count_true mask.now.bits }
+    ensures values { IfOk result (λ kept. kept.0.bits ≡ select values.now.bits mask.now.bits) }
+    ensures validity { IfOk result (λ kept. option_map (λ v. v.bits) kept.1 ≡
+        option_map (λ v. select v.bits mask.now.bits) (option_copied validity.entry)) }
+    ensures refusal { IfErr result IsOutOfMemory }
+{
+    let kept = filter_counted_bits(alloc, values, mask, count)?;
+    let kept_validity = filter_validity(alloc, validity, mask, count)?;
     Ok((kept, kept_validity))
 }
 

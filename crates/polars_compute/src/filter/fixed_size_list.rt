@@ -20,7 +20,9 @@ use sel_bits::faults::PolarsResult;
 use sel_filter::arrays::filter_arrays;
 use std::alloc::Global;
 
-/// Returns the values of the lists of `size` values whose bit is set.
+/// Returns the values of the lists of `size` values whose bit is set; `count` is their number.
+///
+/// The result does not depend on `count`, the memory that is reserved does.
 ///
 /// Returns `None` if they are not copied in whole lists: if they are not primitive, if they have a
 /// validity, or if the list size is not one of the common sizes.
@@ -29,6 +31,7 @@ pub(crate) fn filter_child(
     values: &Column,
     size: usize,
     mask: &Bitmap,
+    count: usize,
 ) -> PolarsResult<Option<Column>>
     requires fills { length (rows values.now) ≡ length mask.now.bits * size }
     requires few { length (rows values.now) ≤ max_rows }
@@ -43,16 +46,16 @@ pub(crate) fn filter_child(
     ensures refusal { IfErr result IsOutOfMemory }
 {
     match values {
-        Column::Int8(numbers) => filter_numbers(alloc, numbers, size, mask),
-        Column::Int16(numbers) => filter_numbers(alloc, numbers, size, mask),
-        Column::Int32(numbers) => filter_numbers(alloc, numbers, size, mask),
-        Column::Int64(numbers) => filter_numbers(alloc, numbers, size, mask),
-        Column::Int128(numbers) => filter_numbers(alloc, numbers, size, mask),
-        Column::UInt8(numbers) => filter_numbers(alloc, numbers, size, mask),
-        Column::UInt16(numbers) => filter_numbers(alloc, numbers, size, mask),
-        Column::UInt32(numbers) => filter_numbers(alloc, numbers, size, mask),
-        Column::UInt64(numbers) => filter_numbers(alloc, numbers, size, mask),
-        Column::UInt128(numbers) => filter_numbers(alloc, numbers, size, mask),
+        Column::Int8(numbers) => filter_numbers(alloc, numbers, size, mask, count),
+        Column::Int16(numbers) => filter_numbers(alloc, numbers, size, mask, count),
+        Column::Int32(numbers) => filter_numbers(alloc, numbers, size, mask, count),
+        Column::Int64(numbers) => filter_numbers(alloc, numbers, size, mask, count),
+        Column::Int128(numbers) => filter_numbers(alloc, numbers, size, mask, count),
+        Column::UInt8(numbers) => filter_numbers(alloc, numbers, size, mask, count),
+        Column::UInt16(numbers) => filter_numbers(alloc, numbers, size, mask, count),
+        Column::UInt32(numbers) => filter_numbers(alloc, numbers, size, mask, count),
+        Column::UInt64(numbers) => filter_numbers(alloc, numbers, size, mask, count),
+        Column::UInt128(numbers) => filter_numbers(alloc, numbers, size, mask, count),
         _ => Ok(None),
     }
 }
@@ -63,6 +66,7 @@ fn filter_numbers<T: ArrowPrimitive>(
     numbers: &PrimitiveArray<T>,
     size: usize,
     mask: &Bitmap,
+    count: usize,
 ) -> PolarsResult<Option<Column>>
     requires sized { type_size T.row ≤ 16 }
     requires fills { length (primitive_rows numbers.now) ≡ length mask.now.bits * size }
@@ -81,13 +85,13 @@ fn filter_numbers<T: ArrowPrimitive>(
     }
     let values = numbers.values.as_slice();
     match size {
-        1 => filter_sized::<T, 1>(alloc, values, mask),
-        2 => filter_sized::<T, 2>(alloc, values, mask),
-        3 => filter_sized::<T, 3>(alloc, values, mask),
-        4 => filter_sized::<T, 4>(alloc, values, mask),
-        8 => filter_sized::<T, 8>(alloc, values, mask),
-        16 => filter_sized::<T, 16>(alloc, values, mask),
-        32 => filter_sized::<T, 32>(alloc, values, mask),
+        1 => filter_sized::<T, 1>(alloc, values, mask, count),
+        2 => filter_sized::<T, 2>(alloc, values, mask, count),
+        3 => filter_sized::<T, 3>(alloc, values, mask, count),
+        4 => filter_sized::<T, 4>(alloc, values, mask, count),
+        8 => filter_sized::<T, 8>(alloc, values, mask, count),
+        16 => filter_sized::<T, 16>(alloc, values, mask, count),
+        32 => filter_sized::<T, 32>(alloc, values, mask, count),
         _ => Ok(None),
     }
 }
@@ -97,6 +101,7 @@ fn filter_sized<T: ArrowPrimitive, const N: usize>(
     alloc: Global,
     values: &[T],
     mask: &Bitmap,
+    count: usize,
 ) -> PolarsResult<Option<Column>>
     requires some { 0 < N }
     requires small { N ≤ 64 }
@@ -114,7 +119,7 @@ fn filter_sized<T: ArrowPrimitive, const N: usize>(
     ensures refusal { IfErr result IsOutOfMemory }
 {
     let (lists, _) = values.as_chunks::<N>();
-    let kept = filter_arrays(alloc, lists, mask)?;
+    let kept = filter_arrays(alloc, lists, mask, count)?;
     let values = Buffer::from_vec(kept)?;
     Ok(Some(T::into_column(values, None)))
 }

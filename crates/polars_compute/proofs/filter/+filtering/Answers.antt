@@ -25,26 +25,26 @@ filter_column-filter_struct-requires t c =
 
 pub filter_struct-filter_fields-requires : goal.filter_struct-filter_fields-requires
 filter_struct-filter_fields-requires t c =
-    let has = has_fields c.args._count c.args.fields.now c.args.validity.now c.requires.formed in
+    let has = has_fields c.args._len c.args.fields.now c.args.validity.now c.requires.formed in
     (omega (arith, c.decreases, ap (λ l. sizes_of (shapes_of (map type_of l))) c.deref.ensures.value), subst (All (IsField (length c.args.mask.now.bits))) (sym c.deref.ensures.value) (subst (λ n. All (IsField n) c.args.fields.now.items) c.requires.long has.fields))
 
 pub filter_struct-invariant_of-result : goal.filter_struct-invariant_of-result
 filter_struct-invariant_of-result t c =
     let validity = rw c.as_ref.ensures.value at c.in_ok-validity.ensures.validity in
     record {
-      formed = kept_struct_formed c.args._count c.set_bits-len.result c.args.fields.now c.in_ok-fields.fields c.args.validity.now c.in_ok-validity.validity c.args.mask.now.bits c.requires.formed c.requires.long c.set_bits-len.ensures c.in_ok-fields.ensures.fields validity;
+      formed = kept_struct_formed c.args._len c.args.count c.args.fields.now c.in_ok-fields.fields c.args.validity.now c.in_ok-validity.validity c.args.mask.now.bits c.requires.formed c.requires.long c.requires.count c.in_ok-fields.ensures.fields validity;
     }
 
 pub filter_struct-returns-clause-rows : goal.filter_struct-returns-clause-rows
 filter_struct-returns-clause-rows t c =
     let ms = c.args.mask.now.bits in
     let validity = rw c.as_ref.ensures.value at c.in_ok-validity.ensures.validity in
-    kept_struct_rows c.args._count c.set_bits-len.result c.args.fields.now c.in_ok-fields.fields c.args.validity.now c.in_ok-validity.validity ms c.requires.formed c.requires.long c.set_bits-len.ensures
+    kept_struct_rows c.args._len c.args.count c.args.fields.now c.in_ok-fields.fields c.args.validity.now c.in_ok-validity.validity ms c.requires.formed c.requires.long c.requires.count
     (c.in_ok-fields.ensures.rows ∙ ap (map (kept_of ms)) c.deref.ensures.value) validity
 
 pub filter_struct-returns-clause-dtype : goal.filter_struct-returns-clause-dtype
 filter_struct-returns-clause-dtype t c =
-    tuples_type c.args._count c.set_bits-len.result c.args.fields.now c.in_ok-fields.fields c.args.validity.now c.in_ok-validity.validity (c.in_ok-fields.ensures.dtypes ∙ ap (map type_of) c.deref.ensures.value)
+    tuples_type c.args._len c.args.count c.args.fields.now c.in_ok-fields.fields c.args.validity.now c.in_ok-validity.validity (c.in_ok-fields.ensures.dtypes ∙ ap (map type_of) c.deref.ensures.value)
 
 pub filter_fields-filter_column-requires : goal.filter_fields-filter_column-requires
 filter_fields-filter_column-requires t c =

@@ -32,7 +32,7 @@ invariant_of-result c =
     let made = c.in_ok-child.ensures in
     let boxed = c.in_ok-values.ensures.ok in
     record {
-      formed = list_formed_kept c.args.column.now c.args.size c.set_bits-len.result c.args.values.now c.args.validity.now c.in_ok-validity.validity c.in_ok-values.values c.args.mask.now.bits c.requires.parts c.requires.formed c.requires.long c.set_bits-len.ensures valid
+      formed = list_formed_kept c.args.column.now c.args.size c.args.count c.args.values.now c.args.validity.now c.in_ok-validity.validity c.in_ok-values.values c.args.mask.now.bits c.requires.parts c.requires.formed c.requires.long c.requires.count valid
           (ap row_count boxed ∙ made.count child c.in-Some.is) (ap well_formed boxed ∙ made.formed child c.in-Some.is);
     }
 
@@ -42,11 +42,11 @@ returns-clause-rows c =
     let child = c.in-Some.child in
     let made = c.in_ok-child.ensures in
     let boxed = c.in_ok-values.ensures.ok in
-    list_rows_kept c.args.column.now c.args.size c.set_bits-len.result c.args.values.now c.args.validity.now c.in_ok-validity.validity c.in_ok-values.values c.args.mask.now.bits c.requires.parts c.requires.formed c.requires.long c.set_bits-len.ensures valid
+    list_rows_kept c.args.column.now c.args.size c.args.count c.args.values.now c.args.validity.now c.in_ok-validity.validity c.in_ok-values.values c.args.mask.now.bits c.requires.parts c.requires.formed c.requires.long c.requires.count valid
     (ap (λ x. blocks c.args.size (count_true c.args.mask.now.bits) (rows x)) boxed ∙ made.blocks child c.in-Some.is)
 
 pub returns-clause-dtype : goal.returns-clause-dtype
 returns-clause-dtype c =
     let child = c.in-Some.child in
     let made = c.in_ok-child.ensures in
-    list_type c.args.column.now c.args.size c.set_bits-len.result c.args.values.now c.args.validity.now c.in_ok-validity.validity c.in_ok-values.values c.requires.parts (ap type_of c.in_ok-values.ensures.ok ∙ made.dtype child c.in-Some.is)
+    list_type c.args.column.now c.args.size c.args.count c.args.values.now c.args.validity.now c.in_ok-validity.validity c.in_ok-values.values c.requires.parts (ap type_of c.in_ok-values.ensures.ok ∙ made.dtype child c.in-Some.is)

@@ -21,7 +21,7 @@ collect_one-requires-clause-fits c =
 pub collect_one-requires-clause-len : goal.collect_one-requires-clause-len
 collect_one-requires-clause-len c =
     let runs = ap expand c.deref.ensures.value ∙ c.in_ok-runs.ensures.picks in
-    ap length runs ∙ length-map (kept c.args.mask.now.bits) place_pick ∙ count_kept c.args.mask.now.bits ∙ sym c.set_bits.ensures
+    ap length runs ∙ length-map (kept c.args.mask.now.bits) place_pick ∙ count_kept c.args.mask.now.bits ∙ sym c.requires.count
 
 pub returns-in_err-kept-clause-refusal : goal.returns-in_err-kept-clause-refusal
 returns-in_err-kept-clause-refusal c =

@@ -2,7 +2,7 @@ use Rattle.std.proofs.Common.{◌∙◌, ◌++◌, ap, drop, take}
 use Rattle.sel_filter.specs.Scalar.{rows_to_boundary}
 use Rattle.sel_filter.specs.Select.{select}
 use Rattle.sel_filter.proofs.Selects.{select_split}
-use Rattle.sel_filter.proofs.primitive.filter_values.Goals as goal
+use Rattle.sel_filter.proofs.primitive.filter_counted_values.Goals as goal
 
 pub returns-clause-items : goal.returns-clause-items
 returns-clause-items g c =
