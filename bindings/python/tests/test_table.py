@@ -9,7 +9,7 @@ from typing import Any
 
 import sel
 from cases import table
-from sel import Column, Stream, Table
+from sel import Column, Selection, Stream, Table
 
 DAY = datetime.date(2020, 1, 1)
 ROWS: dict[str, list[Any]] = {"id": [1, 2, 3], "when": [DAY, None, DAY], "name": ["a", "a name of more than twelve bytes", None], "lists": [[0.5], [], None]}

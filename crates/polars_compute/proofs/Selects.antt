@@ -17,8 +17,9 @@ use Rattle.sel_arrow.specs.declared.view.View.{View}
 use Rattle.sel_arrow.specs.declared.null.NullArray.{NullArray}
 use Rattle.sel_arrow.proofs.Rows.{length-number_rows, length-truth_rows}
 use Rattle.sel_arrow.proofs.ViewRows.{length-view_rows}
-use Rattle.sel_filter.proofs.Selects.{few_kept, as_many_kept}
+use Rattle.sel_filter.proofs.Selects.{all_kept, few_kept, as_many_kept, length-select}
 use Rattle.polars_compute.specs.Select.{select, effective_mask, is_true}
+use Rattle.polars_compute.specs.Trim.{KeepsAll, KeepsPart}
 
 both : (a b : Bool) → (a && b) ≡ true → (a ≡ true) × (b ≡ true)
 both true b e = (refl, e)
@@ -223,3 +224,20 @@ in_force-all bits validity is = ap (λ o. effective_mask (bool_rows bits o)) is 
 
 pub length-in_force : (rows : List Value) → length (effective_mask rows) ≡ length rows
 length-in_force rows = length-map rows is_true
+
+-- ---- consecutive rows
+
+-- A mask whose true entries are consecutive selects a part of any rows.
+pub part_kept : (mask : List Bool) (leading : ℕ) (rest : List Bool) → KeepsAll mask leading rest → leading + length rest ≤ length mask → count_by (λ b. b) rest ≡ length rest
+    → KeepsPart mask leading (count_by (λ b. b) mask)
+part_kept mask leading rest keeps within all =
+    let under : (xs : List Value) → length xs ≡ length mask → take (length rest) (drop leading xs) ≡ select xs mask = λ xs long.
+        sym (all_kept (take (length rest) (drop leading xs)) rest (omega (arith, within, long, length-take (length rest) (drop leading xs), length-drop leading xs)) all) ∙ keeps xs long in
+    let nulls = replicate (length mask) Null in
+    let long = length-replicate (length mask) Null in
+    let count : length rest ≡ count_by (λ b. b) mask =
+        omega (arith, within, long, ap length (under nulls long), length-take (length rest) (drop leading nulls), length-drop leading nulls, length-select nulls mask long) in
+    record {
+      within = omega (arith, count, within);
+      part = λ xs long. ap (λ n. take n (drop leading xs)) (sym count) ∙ under xs long;
+    }
