@@ -1,10 +1,10 @@
 -- The rows that a mask selects.
-use Rattle.std.proofs.Common.{◌≡◌, ℕ, zero, suc, ◌+◌, ◌≤◌, ◌<◌, ℤ, Bool, true, false, List, [], ◌∷◌, length, map, drop, get_or, replicate, Option, Some, None, refl, ap, sym, ◌∙◌, arith, ◌-◌, take, ⊎_elim, add-one, cond, ◌&&◌}
+use Rattle.std.proofs.Common.{◌≡◌, ℕ, zero, suc, ◌+◌, ◌≤◌, ◌<◌, ℤ, Bool, true, false, List, [], ◌∷◌, length, map, drop, get_or, replicate, Option, Some, None, refl, ap, sym, subst, ◌∙◌, ◌++◌, arith, ◌-◌, take, ⊎_elim, add-one, cond, ◌&&◌}
 use Rattle.std.specs.Prelude.{if◌then◌else◌, count_by, reverse}
 use Rattle.std.proofs.lemmas.Bool.{cases_lt}
 use Rattle.std.specs.List.{list_all}
 use Rattle.std.specs.Option.{option_map}
-use Rattle.std.proofs.lemmas.List.{length-map, length-replicate, drop_all, append-nil, get_or_default, get_or_past, get_or-reverse, length-reverse, length-drop, length-take}
+use Rattle.std.proofs.lemmas.List.{length-map, length-replicate, drop_all, append-nil, get_or_default, get_or_past, get_or-reverse, length-reverse, length-drop, length-take, take-append-drop}
 use Rattle.std.proofs.lemmas.List.Sums.{sum_by-cons, count_by-le-length}
 use Rattle.sel_bits.specs.Limits.{max_rows}
 use Rattle.sel_bits.specs.Bits.{Bits, zip_with, leading_zeros, trailing_zeros}
@@ -17,9 +17,9 @@ use Rattle.sel_arrow.specs.declared.view.View.{View}
 use Rattle.sel_arrow.specs.declared.null.NullArray.{NullArray}
 use Rattle.sel_arrow.proofs.Rows.{length-number_rows, length-truth_rows}
 use Rattle.sel_arrow.proofs.ViewRows.{length-view_rows}
-use Rattle.sel_filter.proofs.Selects.{all_kept, few_kept, as_many_kept, length-select}
+use Rattle.sel_filter.proofs.Selects.{all_kept, none_kept as nothing_kept, few_kept, as_many_kept, length-select, count_true-append, select_split}
 use Rattle.polars_compute.specs.Select.{select, effective_mask, is_true}
-use Rattle.polars_compute.specs.Trim.{KeepsAll, KeepsPart}
+use Rattle.polars_compute.specs.Trim.{KeepsAll, IsRun}
 
 both : (a b : Bool) → (a && b) ≡ true → (a ≡ true) × (b ≡ true)
 both true b e = (refl, e)
@@ -168,6 +168,12 @@ trimmed_kept {A} xs ms first rest leading trailing count long t =
     ∙ ap (λ n. select (drop n xs) (drop (leading_zeros ms) ms)) t.leads
     ∙ front_dropped xs ms long
 
+-- A trimmed mask is a part of the mask.
+pub trimmed_part : (ms first rest : List Bool) (leading trailing count : ℕ) → IsTrimmed ms first rest leading trailing count → rest ≡ take (length rest) (drop leading ms)
+trimmed_part ms first rest leading trailing count t =
+    let size : length rest ≡ length first - trailing = omega (arith, ap length t.rest-is, length-take (length first - trailing) first) in
+    t.rest-is ∙ ap (take (length first - trailing)) t.first-is ∙ ap (λ n. take n (drop leading ms)) (sym size)
+
 -- ---- nulls
 
 replicate_kept : (n : ℕ) (ms : List Bool) → n ≡ length ms → replicate (count_by (λ b. b) ms) Null ≡ select (replicate n Null) ms
@@ -227,17 +233,41 @@ length-in_force rows = length-map rows is_true
 
 -- ---- consecutive rows
 
--- A mask whose true entries are consecutive selects a part of any rows.
-pub part_kept : (mask : List Bool) (leading : ℕ) (rest : List Bool) → KeepsAll mask leading rest → leading + length rest ≤ length mask → count_by (λ b. b) rest ≡ length rest
-    → KeepsPart mask leading (count_by (λ b. b) mask)
-part_kept mask leading rest keeps within all =
-    let under : (xs : List Value) → length xs ≡ length mask → take (length rest) (drop leading xs) ≡ select xs mask = λ xs long.
-        sym (all_kept (take (length rest) (drop leading xs)) rest (omega (arith, within, long, length-take (length rest) (drop leading xs), length-drop leading xs)) all) ∙ keeps xs long in
+-- A list of true entries.
+all_true : (bs : List Bool) → count_by (λ b. b) bs ≡ length bs → bs ≡ replicate (length bs) true
+all_true [] all = refl
+all_true (true ∷ bs) all = ap (λ l. true ∷ l) (all_true bs (omega (arith, all, sum_by-cons (λ b. cond b 1 0) true bs)))
+all_true (false ∷ bs) all = absurd (omega (arith, all, sum_by-cons (λ b. cond b 1 0) false bs, count_by-le-length (λ (b : Bool). b) bs))
+
+count_all : (n : ℕ) → count_by (λ b. b) (replicate n true) ≡ n
+count_all zero = refl
+count_all (suc n) = omega (arith, count_all n, sum_by-cons (λ b. cond b 1 0) true (replicate n true))
+
+-- A trimmed mask of true entries is a run of the mask, and has all of its true entries.
+pub run_kept : (mask : List Bool) (leading : ℕ) (rest : List Bool) → KeepsAll mask leading rest → leading + length rest ≤ length mask → rest ≡ take (length rest) (drop leading mask)
+    → count_by (λ b. b) rest ≡ length rest → IsRun mask leading (count_by (λ b. b) mask)
+run_kept mask leading rest keeps within part all =
     let nulls = replicate (length mask) Null in
     let long = length-replicate (length mask) Null in
+    let under : take (length rest) (drop leading nulls) ≡ select nulls mask =
+        sym (all_kept (take (length rest) (drop leading nulls)) rest (omega (arith, within, long, length-take (length rest) (drop leading nulls), length-drop leading nulls)) all) ∙ keeps nulls long in
     let count : length rest ≡ count_by (λ b. b) mask =
-        omega (arith, within, long, ap length (under nulls long), length-take (length rest) (drop leading nulls), length-drop leading nulls, length-select nulls mask long) in
-    record {
-      within = omega (arith, count, within);
-      part = λ xs long. ap (λ n. take n (drop leading xs)) (sym count) ∙ under xs long;
-    }
+        omega (arith, within, long, ap length under, length-take (length rest) (drop leading nulls), length-drop leading nulls, length-select nulls mask long) in
+    subst (IsRun mask leading) count (within, sym part ∙ all_true rest all)
+
+-- The rows that a mask of consecutive true entries selects.
+pub run_selected : {A : Type 0} (xs : List A) (mask : List Bool) (first : ℕ) → length xs ≡ length mask → IsRun mask first (count_by (λ b. b) mask)
+    → take (count_by (λ b. b) mask) (drop first xs) ≡ select xs mask
+run_selected {A} xs mask first long run =
+    let n = count_by (λ b. b) mask in
+    let ys = drop first xs in
+    let ms = drop first mask in
+    let equal : length ys ≡ length ms = omega (arith, long, length-drop first xs, length-drop first mask) in
+    let parted : count_by (λ b. b) (take first mask) + count_by (λ b. b) ms ≡ n = sym (count_true-append (take first mask) ms) ∙ ap (count_by (λ b. b)) (take-append-drop first mask) in
+    let inner : count_by (λ b. b) (take n ms) + count_by (λ b. b) (drop n ms) ≡ count_by (λ b. b) ms = sym (count_true-append (take n ms) (drop n ms)) ∙ ap (count_by (λ b. b)) (take-append-drop n ms) in
+    let ones : count_by (λ b. b) (take n ms) ≡ n = ap (count_by (λ b. b)) run.1 ∙ count_all n in
+    let size : length (take n ms) ≡ n = ap length run.1 ∙ length-replicate n true in
+    let before = nothing_kept (take first xs) (take first mask) (omega (arith, long, length-take first xs, length-take first mask)) (omega (arith, parted, inner, ones)) in
+    let behind = nothing_kept (drop n ys) (drop n ms) (omega (arith, equal, length-drop n ys, length-drop n ms)) (omega (arith, parted, inner, ones)) in
+    let middle = all_kept (take n ys) (take n ms) (omega (arith, equal, length-take n ys, length-take n ms)) (ones ∙ sym size) in
+    sym (append-nil (take n ys)) ∙ ap (λ l. l ++ []) (sym middle) ∙ ap (λ l. select (take n ys) (take n ms) ++ l) behind ∙ select_split ys ms n equal ∙ ap (λ l. l ++ select ys ms) before ∙ select_split xs mask first long

@@ -1,5 +1,5 @@
 -- Masks without the false bits at their ends, and masks of consecutive rows.
-use Rattle.std.specs.Prelude.{◌≡◌, ◌≤◌, ◌+◌, ℕ, Bool, List, length, take, drop}
+use Rattle.std.specs.Prelude.{◌≡◌, ◌≤◌, ◌+◌, ℕ, Bool, true, List, length, take, drop, replicate}
 use Rattle.sel_arrow.specs.Value.{Value}
 use Rattle.polars_compute.specs.Select.{select}
 
@@ -10,9 +10,7 @@ KeepsAll mask leading rest =
     (xs : List Value) → length xs ≡ length mask →
     select (take (length rest) (drop leading xs)) rest ≡ select xs mask
 
--- For any rows as long as the mask, filtering them by the mask gives the `count` rows from `first`
--- on, and there are so many.
-pub record KeepsPart (mask : List Bool) (first count : ℕ) : Type 0 where
-  pub within : first + count ≤ length mask
-  pub part : (xs : List Value) → length xs ≡ length mask →
-      take count (drop first xs) ≡ select xs mask
+-- The `count` entries from `first` on are true.
+abbrev pub IsRun : List Bool → ℕ → ℕ → Type 0
+IsRun mask first count =
+    (first + count ≤ length mask) × (take count (drop first mask) ≡ replicate count true)

@@ -58,7 +58,7 @@ pub fn propagate_dictionary_value_nulls(
         Some(validity) => {
             let ranks = ranks_of(alloc, validity)?;
             let keys = take_primitive_unchecked(alloc, &ranks, keys)?;
-            let values = filter_texts(alloc, values, validity)?;
+            let values = filter_texts(alloc, values, validity, validity.set_bits())?;
             Ok((keys, without_validity(values)))
         }
     }

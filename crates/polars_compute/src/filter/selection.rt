@@ -1,12 +1,12 @@
 //! Masks that are prepared once, to filter any number of columns.
 
-ghost use Rattle.std.specs.Prelude.{◌≡◌, ◌≤◌, ◌+◌, length, IfOk, IfErr};
+ghost use Rattle.std.specs.Prelude.{◌≡◌, ◌≤◌, ◌+◌, length, take, drop, IfOk, IfErr};
 ghost use Rattle.std.specs.Option.{ForSome};
 ghost use Rattle.sel_bits.specs.Faults.{IsOutOfMemory};
 ghost use Rattle.sel_bits.specs.Bits.{count_true};
 ghost use Rattle.sel_arrow.specs.Columns.{boolean_rows};
 ghost use Rattle.polars_compute.specs.Select.{effective_mask};
-ghost use Rattle.polars_compute.specs.Trim.{KeepsAll, KeepsPart};
+ghost use Rattle.polars_compute.specs.Trim.{KeepsAll, IsRun};
 
 use sel_arrow::boolean::BooleanArray;
 use sel_bits::bitmap::Bitmap;
@@ -24,7 +24,7 @@ pub struct Selection {
     /// The first kept row if the kept rows are consecutive, else none.
     pub first: Option<usize>,
     pub ghost counted: { count ≡ count_true mask.bits },
-    pub ghost consecutive: { ForSome first (λ at. KeepsPart mask.bits at count) },
+    pub ghost consecutive: { ForSome first (λ at. IsRun mask.bits at count) },
 }
 
 impl Selection {
@@ -69,7 +69,7 @@ impl Selection {
 /// Only speed depends on whether there is a result, and whether rows are shared or copied.
 pub(crate) fn first_kept(mask: &Bitmap) -> PolarsResult<Option<usize>>
     ensures first { IfOk result (λ first. ForSome first (λ at.
-        KeepsPart mask.now.bits at (count_true mask.now.bits))) }
+        IsRun mask.now.bits at (count_true mask.now.bits))) }
     ensures refusal { IfErr result IsOutOfMemory }
 {
     if is_scattered(mask) {
@@ -103,6 +103,8 @@ fn is_scattered(mask: &Bitmap) -> bool {
 /// Returns the number of leading false bits and the mask without the false bits at both ends.
 fn trimmed(mask: &Bitmap) -> PolarsResult<(usize, Bitmap)>
     ensures within { IfOk result (λ part. part.0 + length part.1.bits ≤ length mask.now.bits) }
+    ensures part { IfOk result (λ part.
+        part.1.bits ≡ take (length part.1.bits) (drop part.0 mask.now.bits)) }
     ensures kept { IfOk result (λ part. KeepsAll mask.now.bits part.0 part.1.bits) }
     ensures refusal { IfErr result IsOutOfMemory }
 {

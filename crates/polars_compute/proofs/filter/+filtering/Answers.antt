@@ -21,12 +21,12 @@ filter_column-filter_struct-requires t c =
     let fields = c.in-Struct.fields in
     let validity = c.in-Struct.validity in
     let count = ap length (rows-Struct len fields validity) ∙ length-tuple_rows len (map rows fields.items) validity in
-    (omega (arith, c.decreases, ap size_of (ap type_of c.in-Struct.is ∙ type_of-Struct len fields validity)), (ap well_formed (sym c.in-Struct.is) ∙ c.requires.formed, sym count ∙ ap (λ x. length (rows x)) (sym c.in-Struct.is) ∙ c.requires.long))
+    (omega (arith, c.decreases, ap size_of (ap type_of c.in-Struct.is ∙ type_of-Struct len fields validity)), (ap well_formed (sym c.in-Struct.is) ∙ c.requires.formed, (sym count ∙ ap (λ x. length (rows x)) (sym c.in-Struct.is) ∙ c.requires.long, c.requires.count)))
 
 pub filter_struct-filter_fields-requires : goal.filter_struct-filter_fields-requires
 filter_struct-filter_fields-requires t c =
     let has = has_fields c.args._len c.args.fields.now c.args.validity.now c.requires.formed in
-    (omega (arith, c.decreases, ap (λ l. sizes_of (shapes_of (map type_of l))) c.deref.ensures.value), subst (All (IsField (length c.args.mask.now.bits))) (sym c.deref.ensures.value) (subst (λ n. All (IsField n) c.args.fields.now.items) c.requires.long has.fields))
+    (omega (arith, c.decreases, ap (λ l. sizes_of (shapes_of (map type_of l))) c.deref.ensures.value), (subst (All (IsField (length c.args.mask.now.bits))) (sym c.deref.ensures.value) (subst (λ n. All (IsField n) c.args.fields.now.items) c.requires.long has.fields), c.requires.count))
 
 pub filter_struct-invariant_of-result : goal.filter_struct-invariant_of-result
 filter_struct-invariant_of-result t c =
@@ -50,7 +50,7 @@ pub filter_fields-filter_column-requires : goal.filter_fields-filter_column-requ
 filter_fields-filter_column-requires t c =
     let fits = IsField (length c.args.mask.now.bits) in
     let field = subst fits (sym c.column-item.is) (All-get_or fits c.args.columns.now c.loop-column.column-index c.column-item.result c.loop-column-test.true c.requires.fields) in
-    (omega (arith, c.decreases, one_size type_of c.args.columns.now c.loop-column.column-index c.column-item.result c.loop-column-test.true c.column-item.is), (field.1, length-rows c.column-item.result ∙ field.0))
+    (omega (arith, c.decreases, one_size type_of c.args.columns.now c.loop-column.column-index c.column-item.result c.loop-column-test.true c.column-item.is), (field.1, (length-rows c.column-item.result ∙ field.0, c.requires.count)))
 
 pub filter_fields-loop-column-preserved : goal.filter_fields-loop-column-preserved
 filter_fields-loop-column-preserved t c =

@@ -1,6 +1,6 @@
 use Rattle.std.proofs.Common.{length, ap, refl}
 use Rattle.sel_bits.specs.Bits.{Bits}
-use Rattle.polars_compute.proofs.Selects.{IsTrimmed, trimmed_within, trimmed_kept}
+use Rattle.polars_compute.proofs.Selects.{IsTrimmed, trimmed_within, trimmed_part, trimmed_kept}
 use Rattle.polars_compute.proofs.filter.selection.trimmed.Goals as goal
 use Rattle.polars_compute.proofs.filter.selection.trimmed.Goals.{After-take_trailing_zeros}
 
@@ -17,6 +17,9 @@ is_trimmed c =
 
 pub returns-clause-within : goal.returns-clause-within
 returns-clause-within c = trimmed_within c.args.mask.now.bits _ _ _ _ _ (is_trimmed c)
+
+pub returns-clause-part : goal.returns-clause-part
+returns-clause-part c = trimmed_part c.args.mask.now.bits _ _ _ _ _ (is_trimmed c)
 
 pub returns-clause-kept : goal.returns-clause-kept
 returns-clause-kept c = λ xs long. trimmed_kept xs c.args.mask.now.bits _ _ _ _ _ long (is_trimmed c)
