@@ -2,7 +2,9 @@ pub mod Cloned
 pub mod Crossing
 pub mod Depths
 pub mod Emptied
+pub mod HandleShared
 pub mod HandleSteps
+pub mod Handles
 pub mod LooseSteps
 pub mod Positions
 pub mod RefShared

@@ -40,7 +40,8 @@ use Rattle.core.proofs.cell.Inside.{Good}
 use Rattle.core.proofs.option.Made.{Some-of, none_of}
 use Rattle.std.proofs.raw_atomic.Walks.{proved, leaves}
 use Rattle.std.specs.declared.option.Option.TheVariants.{None, Some}
-use Rattle.sel_ffi.proofs.RefSteps.{owns as has, Data, ref_struct, word, told, opened, parted, either_ref}
+use Rattle.sel_ffi.specs.Owned.{ref_owns}
+use Rattle.sel_ffi.proofs.RefSteps.{Data, ref_struct, word, told, opened, parted, either_ref}
 
 -- The body of the other branch: the address as a `&`, in `Some`.
 abbrev found : Body
@@ -112,7 +113,7 @@ module _ {M : Type 1} {𝓤 : Ura M} (𝓛 : Logic 𝓤) (𝓜 : Model 𝓤 𝓛
       enter ! 𝓣.C 𝓣.Λ fn (vptr b o ∷ []) Post $ alloc_all ! (λ l. pass_all ! refl ((tt, tt), tt) $ let Ev = env fn.locals l in
       -- It is a `&` to the pointer field and a borrow of what the struct owns: null, or a `&` to
       -- the value.
-      use2 𝓛 (later (‵ (hidden_shr Pointer κ (at d, tt) b o) ⊛ (‵ (fbor κ (has R (at d) (held d))) ⊛ ‵ (flft κ qs.0)))) (parted 𝓛 LR S at held d b o κ qs.0) $ await ! tt $ split ! $ move ! (1 ∷ []) $ split ! $
+      use2 𝓛 (later (‵ (hidden_shr Pointer κ (at d, tt) b o) ⊛ (‵ (fbor κ (ref_owns R (at d) (held d))) ⊛ ‵ (flft κ qs.0)))) (parted 𝓛 LR S at held d b o κ qs.0) $ await ! tt $ split ! $ move ! (1 ∷ []) $ split ! $
       either_ref LR ! tt (at d) (held d)
       (λ null empty. move ! (1 ∷ 0 ∷ []) $
       -- The field is read: null.

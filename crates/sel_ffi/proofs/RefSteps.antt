@@ -1,7 +1,7 @@
 -- Read access to what a handle has: a struct of a pointer, with a share of what is there for a
 -- lifetime that lasts. A `&` to the struct gives a `&` to its pointer field and, if there is a value,
 -- a `&` to the value for the same lifetime. Assumes `Logic`.
---     owns, ref_struct    what such a struct owns, as specs/ColumnRef.antt has it of a column, and its type
+--     ref_struct          such a struct
 --     word, Data          its machine value, and the type of its pointer field
 --     told, opened        the pointer field's machine value, and a `&` to that field
 --     parted              a `&` to the struct as a `&` to its pointer field and a borrow of what it owns
@@ -18,6 +18,7 @@ use contract.Monad.{fact, fact_i}
 use types.Logic.{Logic, sem}
 use types.Kit.{Item, Goal, Seq, Soaks, ‵, raw, ◌⊛◌, some as exists, later, ◌$◌, ◌∵◌, !, qed, by, move, keep, drop, use0, use1, use2, split, fsplit, fsplit3, fjoin, fpick, fpack, feq_l, feq_i, pick, assume, suffices, await, updating, now, done}
 use types.Tokens.{bor_open, obor_close, obor_alter, bor_fracture}
+use denote.Exit.{hidden, under}
 use denote.Copied.{Copied, Struct-Copied}
 use denote.Laws.{Is}
 use denote.Memory.{part_at, shared_of, hidden_shr}
@@ -35,18 +36,14 @@ use denote.Struct.Lending.{lent_at, lent_at_shr_laws, in_block_says}
 use denote.Struct.Field.{RawPtr-field}
 use denote.Struct.Owning.{Owning, row, wholly}
 use denote.Struct.OwningLaws.{part_in, part_out}
-use denote.Struct.Struct.{Struct}
+use denote.Struct.Struct.{Struct, exits_of}
 use denote.Param.Laws.{Laws}
 use Rattle.std.specs.declared.option.Option.{Option}
 use Rattle.std.specs.declared.option.Option.TheVariants.{None, Some}
-use Rattle.sel_ffi.specs.ColumnRef.{lasts}
+use Rattle.sel_ffi.specs.Owned.{lasts, ref_owns}
 
 abbrev pub word : Ptr → Val
 word p = vstruct (vcons (ptr_val p) vnil)
-
-abbrev pub owns : (R : RattleType) → Ptr → Option R.Denot → Fml
-owns R p None = feq Ptr p null_ptr
-owns R p (Some x) = fsep (fex (Testable p) (λ _. ftrue)) (fex ℕ (λ a. fsep (lasts a) (lent_at R p x (a ∷ []))))
 
 -- What a struct owns does not read its name.
 module _ (name : Sym) where
@@ -74,9 +71,9 @@ module _ (R : RattleType) (S : Owning) (at : S.D → Ptr) (held : S.D → Option
     D = S.D;
     as_values = λ d. (at d, tt);
     coded = S.coded;
-    heap = λ d. owns R (at d) (held d);
-    exit = S.exit;
-    shr_at = wholly (Data S.name) (λ d. (at d, tt)) (λ d. owns R (at d) (held d));
+    heap = λ d. ref_owns R (at d) (held d);
+    exit = λ k. hidden (under (λ d. (at d, tt)) (exits_of k (RawPtr ∷ [])));
+    shr_at = wholly (Data S.name) (λ d. (at d, tt)) (λ d. ref_owns R (at d) (held d));
   }
 
 -- What is owned can be duplicated, since a share of a lifetime token splits into two.
@@ -87,27 +84,27 @@ module _ {M : Type 1} {𝓤 : Ura M} (𝓛 : Logic 𝓤) {R : RattleType} (LR : 
     abbrev reads : ℕ → Fml
     reads a = fsep (lasts a) (lent_at R p x (a ∷ []))
 
-    made : (may : Testable p) (a : ℕ) (e : Share) → ent 𝓤 (sep 𝓤 (A.lft (a ∷ []) e) (sem 𝓛 (lent_at R p x (a ∷ [])))) (sem 𝓛 (owns R p (Some x)))
+    made : (may : Testable p) (a : ℕ) (e : Share) → ent 𝓤 (sep 𝓤 (A.lft (a ∷ []) e) (sem 𝓛 (lent_at R p x (a ∷ [])))) (sem 𝓛 (ref_owns R p (Some x)))
     made may a e = qed 𝓛 (‵ (flft (a ∷ []) e) ∷ ‵ (lent_at R p x (a ∷ [])) ∷ []) ∵ fpack ! Share (λ s. flft (a ∷ []) s) e $ fjoin ! $ fpack ! ℕ reads a $
         nothing ! $ fpack ! (Testable p) (λ _. ftrue) may $ fjoin ! $ done !
 
-  twice : (p : Ptr) (held : Option R.Denot) → ent 𝓤 (sem 𝓛 (owns R p held)) (sep 𝓤 (sem 𝓛 (owns R p held)) (sem 𝓛 (owns R p held)))
+  twice : (p : Ptr) (held : Option R.Denot) → ent 𝓤 (sem 𝓛 (ref_owns R p held)) (sep 𝓤 (sem 𝓛 (ref_owns R p held)) (sem 𝓛 (ref_owns R p held)))
   twice p None = qed 𝓛 (‵ (feq Ptr p null_ptr) ∷ []) ∵ feq_l ! (λ e. feq_i ! Ptr p null_ptr e $ feq_i ! Ptr p null_ptr e $ done !)
-  twice p (Some x) = qed 𝓛 (‵ (owns R p (Some x)) ∷ []) ∵ fsplit ! $ fpick ! (λ may. drop ! $ fpick ! (λ a. fsplit ! $ fpick ! (λ e.
+  twice p (Some x) = qed 𝓛 (‵ (ref_owns R p (Some x)) ∷ []) ∵ fsplit ! $ fpick ! (λ may. drop ! $ fpick ! (λ a. fsplit ! $ fpick ! (λ e.
       use1 𝓛 (‵ (flft (a ∷ []) (Share.left e)) ⊛ ‵ (flft (a ∷ []) (Share.right e))) (𝓛.lfts.lft_split (a ∷ []) e) $ split ! $ move ! (2 ∷ []) $
       use1 𝓛 (‵ (lent_at R p x (a ∷ [])) ⊛ ‵ (lent_at R p x (a ∷ []))) (contraction 𝓛 (lent_at R p x) (lent_at_shr_laws R LR.shr_laws p x) (a ∷ [])) $ split ! $
-      move ! (2 ∷ 0 ∷ []) $ use2 𝓛 (‵ (owns R p (Some x))) (made p x may a (Share.left e)) $ move ! (2 ∷ 1 ∷ []) $ use2 𝓛 (‵ (owns R p (Some x))) (made p x may a (Share.right e)) $ done !)))
+      move ! (2 ∷ 0 ∷ []) $ use2 𝓛 (‵ (ref_owns R p (Some x))) (made p x may a (Share.left e)) $ move ! (2 ∷ 1 ∷ []) $ use2 𝓛 (‵ (ref_owns R p (Some x))) (made p x may a (Share.right e)) $ done !)))
 
-  owned_Cuts : (p : Ptr) (held : Option R.Denot) → Cuts 𝓛 (λ q. owns R p held)
+  owned_Cuts : (p : Ptr) (held : Option R.Denot) → Cuts 𝓛 (λ q. ref_owns R p held)
   owned_Cuts p held = record {
     cut = λ q q₁ q₂ m. twice p held;
-    join = λ q q₁ q₂ m. qed 𝓛 (‵ (owns R p held) ∷ ‵ (owns R p held) ∷ []) ∵ drop ! $ done !;
+    join = λ q q₁ q₂ m. qed 𝓛 (‵ (ref_owns R p held) ∷ ‵ (ref_owns R p held) ∷ []) ∵ drop ! $ done !;
   }
 
   -- A borrow of what is owned of a value is a `&` to the value for the same lifetime.
   module _ (p : Ptr) (x : R.Denot) (κ : Lft) (q : Share) where
     abbrev Owns : Fml
-    Owns = owns R p (Some x)
+    Owns = ref_owns R p (Some x)
 
     laws : ShrLaws (lent_at R p x)
     laws = lent_at_shr_laws R LR.shr_laws p x
@@ -145,8 +142,8 @@ module _ {M : Type 1} {𝓤 : Ura M} (𝓛 : Logic 𝓤) {R : RattleType} (LR : 
         use2 𝓛 (later (raw (fact 𝓤 (Testable p)) ⊛ (‵ AnyKept ⊛ ‵ (flft κ q)))) token_kept $ await ! tt $ split ! $ move ! (1 ∷ []) $ split ! $
         fpick ! (λ a. fpick ! (λ e. fsplit ! $ use2 𝓛 (later (‵ (lent_at R p x κ))) (reaches a e) $ await ! tt $ move ! (2 ∷ 0 ∷ 1 ∷ []) $ now ! $ done !))
 
-  none_shown : (p : Ptr) (κ : Lft) (q : Share) → ent 𝓤 (sep 𝓤 (A.bor κ (owns R p None)) (A.lft κ q)) (H.⇛ (sep 𝓤 (fact 𝓤 (p ≡ null_ptr)) (A.lft κ q)))
-  none_shown p κ q = qed 𝓛 (‵ (fbor κ (owns R p None)) ∷ ‵ (flft κ q) ∷ []) ∵ updating ! $ bor_open ! tt $ move ! (1 ∷ []) $ feq_l ! (λ e. feq_i ! Ptr p null_ptr e $ move ! (1 ∷ 0 ∷ []) $ obor_close ! tt $ drop ! $
+  none_shown : (p : Ptr) (κ : Lft) (q : Share) → ent 𝓤 (sep 𝓤 (A.bor κ (ref_owns R p None)) (A.lft κ q)) (H.⇛ (sep 𝓤 (fact 𝓤 (p ≡ null_ptr)) (A.lft κ q)))
+  none_shown p κ q = qed 𝓛 (‵ (fbor κ (ref_owns R p None)) ∷ ‵ (flft κ q) ∷ []) ∵ updating ! $ bor_open ! tt $ move ! (1 ∷ []) $ feq_l ! (λ e. feq_i ! Ptr p null_ptr e $ move ! (1 ∷ 0 ∷ []) $ obor_close ! tt $ drop ! $
       use0 𝓛 (raw (fact 𝓤 (p ≡ null_ptr))) (fact_i 𝓤 (p ≡ null_ptr) (emp 𝓤) e) $ now ! $ done !)
 
   module _ (S : Owning) (at : S.D → Ptr) (held : S.D → Option R.Denot) where
@@ -157,9 +154,9 @@ module _ {M : Type 1} {𝓤 : Ura M} (𝓛 : Logic 𝓤) {R : RattleType} (LR : 
     Pointer = Data S.name
 
     row_Cuts : (d : S.D) (b o : ℕ) → Cuts 𝓛 (λ q. part_at Row q d b o)
-    row_Cuts d b o = Cuts-map 𝓛 (λ q. fsep (part_at Pointer q (at d, tt) b o) (owns R (at d) (held d))) (λ q. part_at Row q d b o)
+    row_Cuts d b o = Cuts-map 𝓛 (λ q. fsep (part_at Pointer q (at d, tt) b o) (ref_owns R (at d) (held d))) (λ q. part_at Row q d b o)
         (λ q. part_in 𝓛 (ref_struct R S at held) q d b o) (λ q. part_out 𝓛 (ref_struct R S at held) q d b o)
-        (Cuts-both 𝓛 (λ q. part_at Pointer q (at d, tt) b o) (λ q. owns R (at d) (held d)) ((copied S.name 𝓛).cuts (at d, tt) b o) (owned_Cuts (at d) (held d)))
+        (Cuts-both 𝓛 (λ q. part_at Pointer q (at d, tt) b o) (λ q. ref_owns R (at d) (held d)) ((copied S.name 𝓛).cuts (at d, tt) b o) (owned_Cuts (at d) (held d)))
 
     -- A `&` to the struct is a `&` to its pointer field and a borrow of what it owns.
     module _ (d : S.D) (b o : ℕ) (κ : Lft) (q : Share) where
@@ -167,7 +164,7 @@ module _ {M : Type 1} {𝓤 : Ura M} (𝓛 : Logic 𝓤) {R : RattleType} (LR : 
       Part s = part_at Pointer s (at d, tt) b o
 
       abbrev Held-owns : Fml
-      Held-owns = owns R (at d) (held d)
+      Held-owns = ref_owns R (at d) (held d)
 
       out : (s : Share) → ent 𝓤 (sem 𝓛 (part_at Row s d b o)) (sep 𝓤 (sem 𝓛 (Part s)) (sep 𝓤 (sem 𝓛 Held-owns) (emp 𝓤)))
       out s = qed 𝓛 (‵ (part_at Row s d b o) ∷ []) ∵ use1 𝓛 (‵ (Part s) ⊛ ‵ Held-owns) (part_out 𝓛 (ref_struct R S at held) s d b o) $ split ! $ use0 𝓛 (raw (emp 𝓤)) (id⊢ 𝓤 (emp 𝓤)) $ move ! (1 ∷ 2 ∷ 0 ∷ []) $ done !
@@ -190,7 +187,7 @@ module _ {M : Type 1} {𝓤 : Ura M} {𝓛 : Logic 𝓤} {K : Type 0} {Γ : List
   pub either_ref : K → Soaks G → (p : Ptr) (held : Option R.Denot) {κ : Lft} {q : Share}
       → (p ≡ null_ptr → held ≡ None → Seq K 𝓛 (‵ (flft κ q) ∷ Γ) G)
       → ((b o : ℕ) (x : R.Denot) → p ≡ block_ptr b o → held ≡ Some x → Testable (block_ptr b o) → Seq K 𝓛 (‵ (hidden_shr R κ x b o) ∷ ‵ (flft κ q) ∷ Γ) G)
-      → Seq K 𝓛 (‵ (fbor κ (owns R p held)) ∷ ‵ (flft κ q) ∷ Γ) G
+      → Seq K 𝓛 (‵ (fbor κ (ref_owns R p held)) ∷ ‵ (flft κ q) ∷ Γ) G
   either_ref t z p None {κ} {q} none one = use2 𝓛 (later (raw (fact 𝓤 (p ≡ null_ptr)) ⊛ ‵ (flft κ q))) (none_shown 𝓛 LR p κ q) $ await t z $ split t $ heard t (p ≡ null_ptr) (λ e. none e refl)
   either_ref t z (block_ptr b o) (Some x) {κ} {q} none one =
       use2 𝓛 (later (raw (fact 𝓤 (Testable (block_ptr b o))) ⊛ (‵ (lent_at R (block_ptr b o) x κ) ⊛ ‵ (flft κ q)))) (shown 𝓛 LR (block_ptr b o) x κ q) $ await t z $ split t $ heard t (Testable (block_ptr b o)) (λ may. split t $

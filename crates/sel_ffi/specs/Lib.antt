@@ -1,7 +1,7 @@
-pub mod ColumnRef
 pub mod Held
 pub mod Inputs
 pub mod Kinds
 pub mod Layout
 pub mod Outputs
+pub mod Owned
 pub mod Status

@@ -5,8 +5,9 @@ ghost use Rattle.std.specs.Option.{MatchOption};
 ghost use Rattle.std.specs.declared.option.Option.TheVariants.{None, Some};
 ghost use Rattle.sel_arrow.specs.Depth.{depth};
 ghost use Rattle.sel_arrow.specs.Rows.{type_of};
+ghost use Rattle.sel_ffi.specs.contracts.shared_column.SharedColumn as shared_column;
 ghost use Rattle.sel_ffi.specs.Held.{Held, held_coded};
-ghost use Rattle.sel_ffi.specs.ColumnRef.{ref_owns};
+ghost use Rattle.sel_ffi.specs.Owned.{ref_owns};
 
 use crate::shared_column::SharedColumn;
 use sel_arrow::array_ref::ArrayRef;
@@ -24,7 +25,7 @@ pub struct ColumnRef {
 }
 
 impl Model for ColumnRef {
-    ghost also_owns = { λ r. ref_owns r.at r.tree };
+    ghost also_owns = { λ r. ref_owns shared_column.the_row r.at r.tree };
 }
 
 impl ColumnRef {

@@ -3,7 +3,9 @@
 ghost use Rattle.std.specs.Prelude.{◌≡◌};
 ghost use Rattle.std.specs.Option.{MatchOption};
 ghost use Rattle.std.specs.declared.option.Option.TheVariants.{None, Some};
-ghost use Rattle.sel_ffi.specs.Held.{Held, held_coded, held_owns};
+ghost use Rattle.sel_ffi.specs.contracts.shared_column.SharedColumn as shared_column;
+ghost use Rattle.sel_ffi.specs.Held.{Held, held_coded};
+ghost use Rattle.sel_ffi.specs.Owned.{held_owns};
 
 use crate::loose::Loose;
 use crate::shared_column::SharedColumn;
@@ -23,7 +25,7 @@ pub struct Handle {
 }
 
 impl Model for Handle {
-    ghost also_owns = { λ h. held_owns h.alloc h.at h.tree };
+    ghost also_owns = { λ h. held_owns shared_column.the_row h.alloc h.at h.tree };
 }
 
 impl Handle {

@@ -1,4 +1,3 @@
-pub mod BufferHandleSteps
-pub mod Crossing
+pub mod Handles
 pub mod MemoryMoves
 pub mod MemoryStructs

@@ -1,4 +1,3 @@
-pub mod BufferRef
 pub mod Buffers
 pub mod ColumnsOver
 pub mod Held

@@ -3,7 +3,9 @@
 ghost use Rattle.std.specs.Prelude.{◌≡◌};
 ghost use Rattle.std.specs.Option.{MatchOption};
 ghost use Rattle.std.specs.declared.option.Option.TheVariants.{None, Some};
-ghost use Rattle.sel_lent.specs.Held.{Held, held_coded, held_owns};
+ghost use Rattle.sel_ffi.specs.Owned.{held_owns};
+ghost use Rattle.sel_lent.specs.contracts.shared_buffer.SharedBuffer as shared_buffer;
+ghost use Rattle.sel_lent.specs.Held.{Held, held_coded};
 
 use crate::shared_buffer::SharedBuffer;
 use sel_ffi::loose::Loose;
@@ -23,7 +25,7 @@ pub struct BufferHandle {
 }
 
 impl Model for BufferHandle {
-    ghost also_owns = { λ h. held_owns h.alloc h.at h.buffer };
+    ghost also_owns = { λ h. held_owns shared_buffer.the_row h.alloc h.at h.buffer };
 }
 
 impl BufferHandle {

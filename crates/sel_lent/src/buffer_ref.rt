@@ -3,8 +3,9 @@
 ghost use Rattle.std.specs.Prelude.{◌≡◌};
 ghost use Rattle.std.specs.Option.{MatchOption};
 ghost use Rattle.std.specs.declared.option.Option.TheVariants.{None, Some};
+ghost use Rattle.sel_ffi.specs.Owned.{ref_owns};
+ghost use Rattle.sel_lent.specs.contracts.shared_buffer.SharedBuffer as shared_buffer;
 ghost use Rattle.sel_lent.specs.Held.{Held, held_coded};
-ghost use Rattle.sel_lent.specs.BufferRef.{ref_owns};
 
 use crate::shared_buffer::SharedBuffer;
 use std::marker::Model;
@@ -21,7 +22,7 @@ pub struct BufferRef {
 }
 
 impl Model for BufferRef {
-    ghost also_owns = { λ r. ref_owns r.at r.buffer };
+    ghost also_owns = { λ r. ref_owns shared_buffer.the_row r.at r.buffer };
 }
 
 impl BufferRef {

@@ -1,7 +1,8 @@
 -- A shared handle gives no access, so several threads may share it.
-use denote.Param.Send.{IsSync, part_keyless}
-use Rattle.sel_ffi.proofs.Crossing.{handle_send}
+use denote.Param.Send.{IsSync}
+use Rattle.sel_ffi.proofs.Crossing.{handle_sync, shared_send}
+use Rattle.sel_ffi.proofs.Handles.{columns}
 use Rattle.sel_ffi.specs.contracts.handle.Handle.{the_row}
 
 pub sync : IsSync the_row
-sync = record { shared = λ d b o κ q. part_keyless the_row handle_send q d b o }
+sync = handle_sync columns shared_send

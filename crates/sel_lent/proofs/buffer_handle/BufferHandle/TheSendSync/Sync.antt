@@ -1,7 +1,9 @@
 -- A shared handle gives no access, so several threads may share it.
-use denote.Param.Send.{IsSync, part_keyless}
-use Rattle.sel_lent.proofs.Crossing.{handle_send}
+use denote.Param.Send.{IsSync}
+use Rattle.sel_ffi.proofs.Crossing.{handle_sync}
+use Rattle.sel_lent.proofs.Handles.{buffers}
+use Rattle.sel_lent.proofs.shared_buffer.SharedBuffer.TheSendSync.{the_send}
 use Rattle.sel_lent.specs.contracts.buffer_handle.BufferHandle.{the_row}
 
 pub sync : IsSync the_row
-sync = record { shared = λ d b o κ q. part_keyless the_row handle_send q d b o }
+sync = handle_sync buffers the_send

@@ -1,0 +1,213 @@
+-- The functions of a handle that make it or take it apart.
+--     empty_code, ..                their code
+--     empty, of_loose, into_loose   they meet their contracts. Assumes `Logic`
+use Rattle.std.proofs.Common.{◌≡◌, ℕ, List, [], ◌∷◌, ◌++◌, refl, sym, ap, ◌∙◌, subst, lit<}
+use mir.Syntax.{Sym, Ty, ty_ptr, ty_bool, Body, Fn, Callee, local, value_local, place, field, copy, int, w8, w64, rv_opd, op2, ptr_eq, aggregate, seq, assign, cond, return}
+use mir.Val.{Val, vptr, vcons, vnil}
+use seplogic.Ra.Ura.{Ura}
+use base.Logic.{SProp, ent, id⊢}
+use base.Fml.{ftrue}
+use contract.Monad.{fact}
+use contract.Running.{Running, tables}
+use prog.Model.{Model}
+use prog.Wp.{WpFn, Closed}
+use types.Logic.{Logic, sem}
+use types.Kit.{‵, ◌⊛◌, at_ret, feq_i, ◌$◌, ◌∵◌, !, qed, drop, move, split, fsplit, fjoin, join, suffices, use0, use1, done}
+use types.Match.{live}
+use types.Part.{whole, sub, agg}
+use types.Run.{stop, fld, lit, bin, no_more, and_then, of_opd, first, branches, exec, returns, enter}
+use types.ByLocal.{alloc_all, pass_all, free_all, look_at, get, get_in, sets, sets_last, env}
+use denote.Exit.{yes}
+use denote.Param.{layout}
+use denote.RattleType.{RattleType, owns}
+use denote.RawPtr.{Ptr, block_ptr, null_ptr, ptr_val, tests_null}
+use denote.Signature.{types_at, type_at, plain}
+use denote.Steps.{nothing}
+use denote.Triple.Clauses.{Ended, Clauses, closing}
+use denote.Triple.Spec.{Meets}
+use denote.Triple.Walked.{says, Stays, stay_dropped, walk_of, ends_at, Goes-dropped}
+use Rattle.core.proofs.alloc.Calls.{handle_tells}
+use Rattle.core.proofs.alloc.Shapes.{after}
+use Rattle.core.proofs.cell.Inside.{Good}
+use Rattle.core.proofs.option.Made.{Some-of, none_of}
+use Rattle.std.proofs.raw_atomic.Walks.{proved_at}
+use Rattle.std.proofs.alloc.Global.TheLaws as heap_laws
+use Rattle.std.specs.Option.{MatchOption}
+use Rattle.std.specs.contracts.impls.GlobalAllocator.TheImpl.{ghosts}
+use Rattle.std.specs.contracts.option.Option as option
+use Rattle.std.specs.declared.option.Option.TheVariants.{None, Some}
+use Rattle.std_alloc.proofs.ResultValues.{and_tt}
+use Rattle.sel_ffi.proofs.LooseSteps.{both, Loose, loose_out, loose_in}
+use Rattle.sel_ffi.proofs.HandleSteps.{Owner, Parts, Row, Z, al, handle_ty, ptr_good, loose_good, handle_out, handle_in, either_held}
+
+-- The code of `empty`, by the name of the struct.
+abbrev pub empty_code : Sym → Fn
+empty_code name = record {
+  lifetimes = 0;
+  outlives = [];
+  ty_params = [];
+  givens = 0;
+  params = 1;
+  locals = local (handle_ty name) value_local ∷ local (layout Z) value_local ∷ [];
+  body = seq (assign (place 0 []) (aggregate (int w64 0 ∷ copy (place 1 []) ∷ []))) return;
+}
+
+-- Copies a field of the parameter to a local.
+abbrev copies : ℕ → ℕ → Body
+copies i k = assign (place i []) (rv_opd (copy (place 1 (field k ∷ []))))
+
+module _ (R : RattleType) where
+  abbrev loose_ty : Ty
+  loose_ty = layout (Loose R Z heap_laws.the_row_laws ghosts)
+
+  abbrev option_ty : Ty
+  option_ty = layout (option.the_row (Loose R Z heap_laws.the_row_laws ghosts))
+
+  -- The code of `of_loose`.
+  abbrev pub of_loose_code : Sym → Fn
+  of_loose_code name = record {
+    lifetimes = 0;
+    outlives = [];
+    ty_params = [];
+    givens = 0;
+    params = 1;
+    locals = local (handle_ty name) value_local ∷ local loose_ty value_local ∷ local ty_ptr value_local ∷ local (layout Z) value_local ∷ local ty_ptr value_local ∷ [];
+    body = seq (copies 2 0) (seq (copies 3 1) (seq (assign (place 4 []) (rv_opd (copy (place 2 []))))
+        (seq (assign (place 0 []) (aggregate (copy (place 4 []) ∷ copy (place 3 []) ∷ []))) return)));
+  }
+
+  -- The code of `into_loose`.
+  abbrev pub into_loose_code : Sym → Fn
+  into_loose_code name = record {
+    lifetimes = 0;
+    outlives = [];
+    ty_params = [];
+    givens = 0;
+    params = 1;
+    locals = local option_ty value_local ∷ local (handle_ty name) value_local ∷ local ty_ptr value_local ∷ local (layout Z) value_local ∷ local ty_bool value_local
+        ∷ local option_ty value_local ∷ local ty_ptr value_local ∷ local loose_ty value_local ∷ [];
+    body = seq (copies 2 0) (seq (copies 3 1) (seq (assign (place 4 []) (op2 ptr_eq (copy (place 2 [])) (int w64 0)))
+        (seq (cond (copy (place 4 [])) (assign (place 5 []) (aggregate (int w8 0 ∷ [])))
+        (seq (assign (place 6 []) (rv_opd (copy (place 2 [])))) (seq (assign (place 7 []) (aggregate (copy (place 6 []) ∷ copy (place 3 []) ∷ [])))
+        (assign (place 5 []) (aggregate (int w8 1 ∷ copy (place 7 []) ∷ []))))))
+        (seq (assign (place 0 []) (rv_opd (copy (place 5 [])))) return))));
+  }
+
+module _ {M : Type 1} {𝓤 : Ura M} (𝓛 : Logic 𝓤) (𝓜 : Model 𝓤 𝓛.H) (𝓡 : Running 𝓤 𝓛.H 𝓜) {R : RattleType} (O : Owner R) where
+  open 𝓛 use {H}
+
+  abbrev Handle : RattleType
+  Handle = Row O
+
+  abbrev Boxed : RattleType
+  Boxed = Loose R Z heap_laws.the_row_laws ghosts
+
+  abbrev empty_ended : Ended
+  empty_ended = record {
+    signature = record { lifetimes = 0; outlives = []; params = plain (λ κs. Z) ∷ []; result = plain (λ κs. Handle) };
+    kept = (yes, tt);
+  }
+
+  abbrev empty_clauses : Clauses 𝓤 empty_ended
+  empty_clauses κs a = record {
+    ghost = Unit {0};
+    requires = λ g. sem 𝓛 ftrue;
+    ensures = λ g r e. fact 𝓤 ((O.parts r).1.1 ≡ None);
+  }
+
+  pub empty : (name : Sym) {k : Callee} → Closed 𝓤 H (tables 𝓤 H 𝓜 𝓡 𝓡.env).C (tables 𝓤 H 𝓜 𝓡 𝓡.env).Λ k (empty_code name)
+      → Meets 𝓛 empty_ended.signature ((tables 𝓤 H 𝓜 𝓡 𝓡.env).C k) (closing 𝓛 empty_ended empty_clauses)
+  empty name {k} closed =
+      let 𝓣 = tables 𝓤 H 𝓜 𝓡 𝓡.env in let T = empty_ended in let c = empty_clauses in let fn : Fn = empty_code name in
+      let hs : Stays T.signature.params T.kept = (stay_dropped (plain (λ _. Z)) yes, tt) in
+      proved_at 𝓛 T hs c 𝓜 𝓡 (Goes-dropped 𝓛 0 (plain (λ _. Z)) yes (λ κs x f. refl), tt) k fn closed (λ z are.
+      let a = z.0.3.0 in let Post : Val → SProp 𝓤 = (walk_of 𝓛 T hs c).post z in let Run : List Val → SProp 𝓤 = λ ws. WpFn 𝓤 H 𝓣.C 𝓣.Λ fn ws Post in
+      qed 𝓛 ((‵ ftrue ⊛ ‵ (owns (types_at T.signature.params z.0.0) z.0.3 z.0.4)) ∷ ‵ ftrue ∷ []) ∵ split ! $ drop ! $ fsplit ! $
+      handle_tells al ! a z.0.4.0 (λ h ws fits. let w : Val = both (ptr_val null_ptr) h in
+      move ! (1 ∷ 2 ∷ []) $ drop ! $ drop ! $
+      suffices ! (Run (h ∷ [])) (subst (λ (us : List Val). ent 𝓤 (Run (h ∷ [])) (Run us)) (sym (λ i. ws i ++ [])) (id⊢ 𝓤 (Run (h ∷ [])))) $
+      enter ! 𝓣.C 𝓣.Λ fn (h ∷ []) Post $ alloc_all ! (λ l. pass_all ! refl (fits, tt) $
+      sets ! (agg ! (and_then ! (lit ! tt) (and_then ! (get ! refl) (no_more !)))) refl (ptr_good name null_ptr h fits) $
+      returns ! (look_at ! 0 refl) $ free_all ! refl $ feq_i ! Ptr null_ptr null_ptr refl $
+      handle_in O ! h (null_ptr, (a, None)) $
+      suffices ! _ (ends_at 𝓛 T hs c z w (O.make (null_ptr, (a, None))) (tt, tt) (tt, tt)) $ says ! (ap (λ x. x.1.1) (O.back (null_ptr, (a, None)))) $
+      nothing ! $ nothing ! $ fjoin ! $ join ! $ nothing ! $ join ! $ done !)))
+
+  abbrev of_loose_ended : Ended
+  of_loose_ended = record {
+    signature = record { lifetimes = 0; outlives = []; params = plain (λ κs. Boxed) ∷ []; result = plain (λ κs. Handle) };
+    kept = (yes, tt);
+  }
+
+  abbrev of_loose_clauses : Clauses 𝓤 of_loose_ended
+  of_loose_clauses κs a = record {
+    ghost = Unit {0};
+    requires = λ g. sem 𝓛 ftrue;
+    ensures = λ g r e. fact 𝓤 ((O.parts r).1.1 ≡ Some a.0.value);
+  }
+
+  pub of_loose : (name : Sym) {k : Callee} → Closed 𝓤 H (tables 𝓤 H 𝓜 𝓡 𝓡.env).C (tables 𝓤 H 𝓜 𝓡 𝓡.env).Λ k (of_loose_code R name)
+      → Meets 𝓛 of_loose_ended.signature ((tables 𝓤 H 𝓜 𝓡 𝓡.env).C k) (closing 𝓛 of_loose_ended of_loose_clauses)
+  of_loose name {k} closed =
+      let 𝓣 = tables 𝓤 H 𝓜 𝓡 𝓡.env in let T = of_loose_ended in let c = of_loose_clauses in let fn : Fn = of_loose_code R name in
+      let hs : Stays T.signature.params T.kept = (stay_dropped (plain (λ _. Boxed)) yes, tt) in
+      proved_at 𝓛 T hs c 𝓜 𝓡 (Goes-dropped 𝓛 0 (plain (λ _. Boxed)) yes (λ κs x f. refl), tt) k fn closed (λ z are.
+      let v = z.0.3.0 in let Post : Val → SProp 𝓤 = (walk_of 𝓛 T hs c).post z in let Run : List Val → SProp 𝓤 = λ ws. WpFn 𝓤 H 𝓣.C 𝓣.Λ fn ws Post in
+      qed 𝓛 ((‵ ftrue ⊛ ‵ (owns (types_at T.signature.params z.0.0) z.0.3 z.0.4)) ∷ ‵ ftrue ∷ []) ∵ split ! $ drop ! $ fsplit ! $
+      loose_out R Z heap_laws.the_row_laws ghosts ! v z.0.4.0 (λ b o h e ws fits. let w : Val = both (vptr b o) h in let good = loose_good R b o h fits in
+      move ! (2 ∷ 3 ∷ []) $ drop ! $ drop ! $
+      suffices ! (Run (w ∷ [])) (subst (λ (us : List Val). ent 𝓤 (Run (w ∷ [])) (Run us)) (sym (λ i. ws i ++ [])) (id⊢ 𝓤 (Run (w ∷ [])))) $
+      enter ! 𝓣.C 𝓣.Λ fn (w ∷ []) Post $ alloc_all ! (λ l. pass_all ! refl (good, tt) $
+      sets ! (of_opd ! (get_in ! (fld ! refl (stop !)) (sub ! 0 refl (whole !)))) refl (tt, tt) $ sets ! (of_opd ! (get_in ! (fld ! refl (stop !)) (sub ! 1 refl (whole !)))) refl fits $
+      sets ! (of_opd ! (get ! refl)) refl (tt, tt) $ sets ! (agg ! (and_then ! (get ! refl) (and_then ! (get ! refl) (no_more !)))) refl (ptr_good name (block_ptr b o) h fits) $
+      returns ! (look_at ! 0 refl) $ free_all ! refl $ let x : Parts R = (block_ptr b o, (v.alloc, Some v.value)) in
+      handle_in O ! h x $
+      suffices ! _ (ends_at 𝓛 T hs c z w (O.make x) (tt, tt) (tt, tt)) $ says ! (ap (λ y. y.1.1) (O.back x)) $
+      nothing ! $ nothing ! $ fjoin ! $ join ! $ nothing ! $ join ! $ done !)))
+
+  abbrev into_loose_ended : Ended
+  into_loose_ended = record {
+    signature = record { lifetimes = 0; outlives = []; params = plain (λ κs. Handle) ∷ []; result = plain (λ κs. option.the_row Boxed) };
+    kept = (yes, tt);
+  }
+
+  abbrev into_loose_clauses : Clauses 𝓤 into_loose_ended
+  into_loose_clauses κs a = record {
+    ghost = Unit {0};
+    requires = λ g. sem 𝓛 ftrue;
+    ensures = λ g r e. fact 𝓤 (MatchOption r ((O.parts a.0).1.1 ≡ None) (λ loose. (O.parts a.0).1.1 ≡ Some loose.value));
+  }
+
+  pub into_loose : (name : Sym) {k : Callee} → Closed 𝓤 H (tables 𝓤 H 𝓜 𝓡 𝓡.env).C (tables 𝓤 H 𝓜 𝓡 𝓡.env).Λ k (into_loose_code R name)
+      → Meets 𝓛 into_loose_ended.signature ((tables 𝓤 H 𝓜 𝓡 𝓡.env).C k) (closing 𝓛 into_loose_ended into_loose_clauses)
+  into_loose name {k} closed =
+      let 𝓣 = tables 𝓤 H 𝓜 𝓡 𝓡.env in let T = into_loose_ended in let c = into_loose_clauses in let fn : Fn = into_loose_code R name in let LZ = heap_laws.the_row_laws in
+      let hs : Stays T.signature.params T.kept = (stay_dropped (plain (λ _. Handle)) yes, tt) in
+      proved_at 𝓛 T hs c 𝓜 𝓡 (Goes-dropped 𝓛 0 (plain (λ _. Handle)) yes (λ κs x f. refl), tt) k fn closed (λ z are.
+      let d = z.0.3.0 in let x = O.parts d in let a = x.1.0 in let Post : Val → SProp 𝓤 = (walk_of 𝓛 T hs c).post z in let Run : List Val → SProp 𝓤 = λ ws. WpFn 𝓤 H 𝓣.C 𝓣.Λ fn ws Post in
+      let Out : RattleType = type_at T.signature.result z.0.0 in
+      qed 𝓛 ((‵ ftrue ⊛ ‵ (owns (types_at T.signature.params z.0.0) z.0.3 z.0.4)) ∷ ‵ ftrue ∷ []) ∵ split ! $ drop ! $ fsplit ! $
+      handle_out O ! d z.0.4.0 (λ h ws fits. move ! (2 ∷ 3 ∷ []) $ drop ! $ drop ! $
+      either_held ! R a x.0 x.1.1
+      (λ is is_none. let w : Val = both (ptr_val null_ptr) h in let told = ws ∙ ap (λ (p : Ptr). both (ptr_val p) h ∷ []) is in
+      suffices ! (Run (w ∷ [])) (subst (λ (us : List Val). ent 𝓤 (Run (w ∷ [])) (Run us)) (sym (λ i. told i ++ [])) (id⊢ 𝓤 (Run (w ∷ [])))) $
+      drop ! $ enter ! 𝓣.C 𝓣.Λ fn (w ∷ []) Post $ alloc_all ! (λ l. pass_all ! refl (ptr_good name null_ptr h fits, tt) $
+      sets ! (of_opd ! (get_in ! (fld ! refl (stop !)) (sub ! 0 refl (whole !)))) refl (tt, record { fits = lit< tt }) $ sets ! (of_opd ! (get_in ! (fld ! refl (stop !)) (sub ! 1 refl (whole !)))) refl fits $
+      sets ! (bin ! (get ! refl) (lit ! tt) tt) refl (tt, tt) $ first ! $ branches ! (get ! refl)
+      (λ _. sets_last ! (agg ! (and_then ! (lit ! tt) (no_more !))) refl (tt, (record { fits = lit< tt }, tt)) $ exec ! 𝓣.C 𝓣.Λ (env fn.locals l) (after 4 fn.body) (at_ret (env fn.locals l) Post) $
+      sets ! (of_opd ! (get ! refl)) refl (tt, (record { fits = lit< tt }, tt)) $ returns ! (look_at ! 0 refl) $ free_all ! refl $ use0 𝓛 (‵ (Out.own_val None (live 0 vnil ∷ []))) (none_of 𝓛 Boxed) $
+      suffices ! _ (ends_at 𝓛 T hs c z (live 0 vnil) None (tt, tt) (tt, tt)) $ says ! is_none $
+      nothing ! $ nothing ! $ fjoin ! $ join ! $ nothing ! $ join ! $ done !)
+      (λ wrong. absurd wrong)))
+      (λ b o v is is_some may. let w : Val = both (vptr b o) h in let told = ws ∙ ap (λ (p : Ptr). both (ptr_val p) h ∷ []) is in let typed = loose_good R b o h fits in
+      let v₁ : Val = live 1 (vcons w vnil) in let made : Boxed.Denot = record { at = block_ptr b o; alloc = a; value = v } in let good : Good (layout Out) v₁ = (and_tt _ typed.0, (record { fits = lit< tt }, (typed.1, tt))) in
+      suffices ! (Run (w ∷ [])) (subst (λ (us : List Val). ent 𝓤 (Run (w ∷ [])) (Run us)) (sym (λ i. told i ++ [])) (id⊢ 𝓤 (Run (w ∷ [])))) $
+      enter ! 𝓣.C 𝓣.Λ fn (w ∷ []) Post $ alloc_all ! (λ l. pass_all ! refl (ptr_good name (block_ptr b o) h fits, tt) $
+      sets ! (of_opd ! (get_in ! (fld ! refl (stop !)) (sub ! 0 refl (whole !)))) refl (tt, tt) $ sets ! (of_opd ! (get_in ! (fld ! refl (stop !)) (sub ! 1 refl (whole !)))) refl fits $
+      sets ! (bin ! (get ! refl) (lit ! tt) (tests_null (block_ptr b o) may)) refl (tt, tt) $ first ! $ branches ! (get ! refl)
+      (λ wrong. absurd wrong)
+      (λ _. sets ! (of_opd ! (get ! refl)) refl (tt, tt) $ sets ! (agg ! (and_then ! (get ! refl) (and_then ! (get ! refl) (no_more !)))) refl typed $
+      sets_last ! (agg ! (and_then ! (lit ! tt) (and_then ! (get ! refl) (no_more !)))) refl good $ exec ! 𝓣.C 𝓣.Λ (env fn.locals l) (after 4 fn.body) (at_ret (env fn.locals l) Post) $
+      sets ! (of_opd ! (get ! refl)) refl good $ returns ! (look_at ! 0 refl) $ free_all ! refl $ loose_in R Z LZ ghosts ! b o h a v $ use1 𝓛 (‵ (Out.own_val (Some made) (v₁ ∷ []))) (Some-of 𝓛 Boxed made w) $
+      suffices ! _ (ends_at 𝓛 T hs c z v₁ (Some made) (tt, tt) (tt, tt)) $ says ! is_some $
+      nothing ! $ nothing ! $ fjoin ! $ join ! $ nothing ! $ join ! $ done !)))))
