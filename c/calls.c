@@ -464,6 +464,11 @@ sel_status sel_filter_bits(const sel_column *of, const uint8_t *mask, size_t mas
     return sel_proved_filter_bits(of, input(mask, mask_len), mask_len, len, out);
 }
 
+sel_status sel_proved_selection_of_bits(const uint8_t *mask, size_t mask_len, size_t len, sel_selection *out);
+sel_status sel_selection_of_bits(const uint8_t *mask, size_t mask_len, size_t len, sel_selection *out) {
+    return sel_proved_selection_of_bits(input(mask, mask_len), mask_len, len, out);
+}
+
 sel_status sel_proved_take_rows(
     const sel_column *of,
     const uint32_t *indices,

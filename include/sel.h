@@ -5,6 +5,7 @@
  * be moved but not copied: sel_share makes a second handle to its column. Arrays that are passed in are copied, and no
  * pointer to them is kept. A function that returns a column in `out` frees the column that `out` had before. Columns
  * are never changed; sel_list_new, sel_fixed_size_list_new and sel_struct_new take their children if they succeed.
+ * The same holds for a sel_selection, which sel_selection_free frees.
  *
  * Threads: functions that take a handle by a pointer to const may read the same handle at the same time, from any
  * threads. A function that writes or frees a handle must have it alone; other handles to the same column may be in use.
@@ -44,6 +45,11 @@ extern "C" {
 typedef struct sel_column {
     void *at;
 } sel_column;
+
+/* A handle to the rows that a mask selects, prepared once to filter any number of columns; {0} is an empty handle. */
+typedef struct sel_selection {
+    void *at;
+} sel_selection;
 
 /* A 128-bit integer as two words. */
 typedef struct sel_int128 {
@@ -564,6 +570,33 @@ sel_status sel_filter(const sel_column *of, const sel_column *mask, sel_column *
  * Errors: SEL_ERROR_NO_COLUMN: `of` is empty. SEL_ERROR_LENGTH_MISMATCH: `of` does not have `len` rows, or `mask`
  * has fewer than (len + 7) / 8 bytes. */
 sel_status sel_filter_bits(const sel_column *of, const uint8_t *mask, size_t mask_len, size_t len, sel_column *out);
+
+/* ---- Masks that are prepared once, to filter any number of columns. ---- */
+
+/* Returns in `out` the selection of the rows where the boolean column `mask` is true. A null counts as false.
+ * Errors: SEL_ERROR_NO_COLUMN: `mask` is empty. SEL_ERROR_UNSUPPORTED_TYPE: the type of `mask` is not
+ * SEL_TYPE_BOOLEAN. */
+sel_status sel_selection_new(const sel_column *mask, sel_selection *out);
+
+/* Returns in `out` the selection of the rows whose bit is set in `mask`, which has `len` packed bits.
+ * Errors: SEL_ERROR_LENGTH_MISMATCH: `mask` has fewer than (len + 7) / 8 bytes. */
+sel_status sel_selection_of_bits(const uint8_t *mask, size_t mask_len, size_t len, sel_selection *out);
+
+/* Returns in `len` the number of rows of the columns that `of` can filter.
+ * Errors: SEL_ERROR_NO_COLUMN: `of` is empty. Never returns SEL_ERROR_OUT_OF_MEMORY. */
+sel_status sel_selection_len(const sel_selection *of, size_t *len);
+
+/* Returns in `count` the number of rows that `of` selects.
+ * Errors: SEL_ERROR_NO_COLUMN: `of` is empty. Never returns SEL_ERROR_OUT_OF_MEMORY. */
+sel_status sel_selection_count(const sel_selection *of, size_t *count);
+
+/* Returns in `out` the rows of `of` that `by` selects.
+ * Errors: SEL_ERROR_NO_COLUMN: `of` or `by` is empty. SEL_ERROR_LENGTH_MISMATCH: `of` does not have as many rows as
+ * the mask of `by`. */
+sel_status sel_filter_selection(const sel_column *of, const sel_selection *by, sel_column *out);
+
+/* Frees the selection of `of`, if there is one. `of` is empty afterwards. */
+void sel_selection_free(sel_selection *of);
 
 /* ---- Take (gather). ---- */
 

@@ -250,9 +250,9 @@ run_kept mask leading rest keeps within part all =
     let nulls = replicate (length mask) Null in
     let long = length-replicate (length mask) Null in
     let under : take (length rest) (drop leading nulls) ≡ select nulls mask =
-        sym (all_kept (take (length rest) (drop leading nulls)) rest (omega (arith, within, long, length-take (length rest) (drop leading nulls), length-drop leading nulls)) all) ∙ keeps nulls long in
+    sym (all_kept (take (length rest) (drop leading nulls)) rest (omega (arith, within, long, length-take (length rest) (drop leading nulls), length-drop leading nulls)) all) ∙ keeps nulls long in
     let count : length rest ≡ count_by (λ b. b) mask =
-        omega (arith, within, long, ap length under, length-take (length rest) (drop leading nulls), length-drop leading nulls, length-select nulls mask long) in
+    omega (arith, within, long, ap length under, length-take (length rest) (drop leading nulls), length-drop leading nulls, length-select nulls mask long) in
     subst (IsRun mask leading) count (within, sym part ∙ all_true rest all)
 
 -- The rows that a mask of consecutive true entries selects.

@@ -15,6 +15,7 @@ mod nested_makers;
 mod nested_readers;
 mod readers;
 mod reverse;
+mod selections;
 mod several;
 mod takes;
 mod texts;

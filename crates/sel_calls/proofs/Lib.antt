@@ -3,6 +3,7 @@ pub mod Below
 pub mod Counts
 pub mod Depths
 pub mod Entries
+pub mod Handles
 pub mod Limits
 pub mod Made
 pub mod PickWords

@@ -3,6 +3,7 @@ pub mod Entries
 pub mod Parsed
 pub mod PickLengths
 pub mod Printed
+pub mod Selections
 pub mod Several
 pub mod Types
 pub mod Wides
