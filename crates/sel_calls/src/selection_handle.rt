@@ -12,7 +12,6 @@ use polars_compute::filter::Selection;
 use sel_ffi::loose::Loose;
 use std::alloc::Global;
 use std::marker::Model;
-use std::mem::replace;
 use std::ptr::null_mut;
 
 /// An owned selection, or none if the pointer is null.
@@ -81,15 +80,6 @@ impl SelectionHandle {
             None => None,
             Some(loose) => Some(loose.into_box()),
         }
-    }
-
-    /// Takes the selection out of the handle, which has none afterwards; returns none if it had none.
-    pub fn take(&mut self, alloc: Global) -> Option<Box<Selection>>
-        ensures taken { self.new.selection ≡ None }
-        ensures selection { MatchOption result (self.old.selection ≡ None)
-            (λ selection. self.old.selection ≡ Some selection.value) }
-    {
-        replace(self, SelectionHandle::empty(alloc)).into_box()
     }
 }
 
