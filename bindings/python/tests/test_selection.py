@@ -19,7 +19,9 @@ class Selections(unittest.TestCase):
     def test_a_filter_by_a_prepared_mask(self) -> None:
         """Columns of each type, filtered by one selection, have the rows that the model keeps."""
         draw = random.Random(11)
-        for mask in ([True] * 200, [False] * 200, [50 <= row < 90 for row in range(200)], [draw.choice([True, False, None]) for _ in range(200)], []):
+        masks: list[list[bool | None]] = [
+            [True] * 200, [False] * 200, [50 <= row < 90 for row in range(200)], [draw.choice([True, False, None]) for _ in range(200)], []]
+        for mask in masks:
             selection, count = Selection(mask), len(mask)
             kept = sum(value is True for value in mask)
             self.assertEqual((len(selection), selection.count, repr(selection)), (count, kept, f"Selection({kept} of {count} rows)"))
@@ -53,7 +55,7 @@ class Selections(unittest.TestCase):
 
     def test_errors(self) -> None:
         faults: list[tuple[type[Exception], Callable[[], Any]]] = [
-            (TypeError, lambda: Selection([1, 0])), (sel.WrongArgument, lambda: Selection(Column([1, 0]))), (TypeError, lambda: Selection(None)),  # type: ignore[arg-type]
+            (TypeError, lambda: Selection([1, 0])), (sel.WrongArgument, lambda: Selection(Column([1, 0]))), (TypeError, lambda: Selection(None)),  # type: ignore[arg-type,list-item]
             (sel.WrongArgument, lambda: Column([1]).filter(Selection([True, False]))), (sel.WrongArgument, lambda: Table({"a": [1]}).filter(Selection([]))),
             (sel.WrongArgument, lambda: Table({}).filter(Selection([True]))), (TypeError, lambda: pickle.dumps(Selection([True]))),
             (TypeError, lambda: Column([1]).take(Selection([True]))),  # type: ignore[arg-type]
