@@ -4,7 +4,7 @@ use Rattle.std.specs.Prelude.{if◌then◌else◌, count_by, reverse}
 use Rattle.std.proofs.lemmas.Bool.{cases_lt}
 use Rattle.std.specs.List.{list_all}
 use Rattle.std.specs.Option.{option_map}
-use Rattle.std.proofs.lemmas.List.{length-map, length-replicate, drop_all, append-nil, get_or_default, get_or_past, get_or-reverse, length-reverse, length-drop, length-take, take-append-drop}
+use Rattle.std.proofs.lemmas.List.{length-map, length-replicate, drop_all, append-nil, get_or_default, get_or_past, get_or-reverse, length-reverse, length-drop, length-take, take_all, take-append-drop}
 use Rattle.std.proofs.lemmas.List.Sums.{sum_by-cons, count_by-le-length}
 use Rattle.sel_bits.specs.Limits.{max_rows}
 use Rattle.sel_bits.specs.Bits.{Bits, zip_with, leading_zeros, trailing_zeros}
@@ -254,6 +254,13 @@ run_kept mask leading rest keeps within part all =
     let count : length rest ≡ count_by (λ b. b) mask =
     omega (arith, within, long, ap length under, length-take (length rest) (drop leading nulls), length-drop leading nulls, length-select nulls mask long) in
     subst (IsRun mask leading) count (within, sym part ∙ all_true rest all)
+
+pub run_of_none : (mask : List Bool) (count : ℕ) → count ≡ 0 → IsRun mask 0 count
+run_of_none mask count none = subst (IsRun mask 0) (sym none) (omega arith, refl)
+
+pub run_of_all : (mask : List Bool) (count : ℕ) → count ≡ length mask → count ≡ count_by (λ b. b) mask → IsRun mask 0 count
+run_of_all mask count all counted =
+    subst (IsRun mask 0) (sym all) (omega arith, take_all (length mask) mask (omega arith) ∙ all_true mask (sym counted ∙ all))
 
 -- The rows that a mask of consecutive true entries selects.
 pub run_selected : {A : Type 0} (xs : List A) (mask : List Bool) (first : ℕ) → length xs ≡ length mask → IsRun mask first (count_by (λ b. b) mask)

@@ -79,7 +79,7 @@ pub fn filter_with_bitmap(alloc: Global, array: &ArrayRef, mask: &Bitmap) -> Pol
     ensures refusal { IfErr result IsOutOfMemory }
 {
     let count = mask.set_bits();
-    match first_kept(mask)? {
+    match first_kept(mask, count)? {
         Some(first) => array.sliced(alloc, first, count),
         None => filter_column(alloc, array.as_column(), mask, count),
     }

@@ -52,7 +52,7 @@ impl Selection {
         ensures refusal { IfErr result IsOutOfMemory }
     {
         let count = mask.set_bits();
-        let first = first_kept(&mask)?;
+        let first = first_kept(&mask, count)?;
         Ok(Selection { mask, count, first })
     }
 
@@ -64,14 +64,20 @@ impl Selection {
     }
 }
 
-/// Returns the position of the first true bit if the true bits are consecutive, else none.
+/// Returns the position of the first of the `count` true bits if they are consecutive, else none.
 ///
 /// Only speed depends on whether there is a result, and whether rows are shared or copied.
-pub(crate) fn first_kept(mask: &Bitmap) -> PolarsResult<Option<usize>>
-    ensures first { IfOk result (λ first. ForSome first (λ at.
-        IsRun mask.now.bits at (count_true mask.now.bits))) }
+pub(crate) fn first_kept(mask: &Bitmap, count: usize) -> PolarsResult<Option<usize>>
+    requires { count ≡ count_true mask.now.bits }
+    ensures first { IfOk result (λ first. ForSome first (λ at. IsRun mask.now.bits at count)) }
     ensures refusal { IfErr result IsOutOfMemory }
 {
+    if count == 0 {
+        return Ok(Some(0));
+    }
+    if count == mask.len() {
+        return Ok(Some(0));
+    }
     if is_scattered(mask) {
         return Ok(None);
     }
