@@ -80,11 +80,6 @@ named_at bs filler (place ∷ places) below =
     let here = get_or_default bs place false filler (ltb-true place (length bs) parts.0) in
     (λ i. here i ∷ named_at bs filler places parts.1 i)
 
--- The validity of the rows.
-pub placed_valid : (v : Bits) (places : List ℕ) → bits_at v.bits places ≡ map (valid_pick (Some v)) (map pick_of (map (λ x. Number (pos x)) places))
-placed_valid v [] = refl
-placed_valid v (place ∷ places) = ap (λ l. get_or v.bits place false ∷ l) (placed_valid v places)
-
 -- ---- indices of which some may be null
 
 pub length-taken : (bs : List Bool) (filler : Bool) (rows : List Value) → length (pick filler (bs ∷ []) (map pick_of rows)) ≡ length rows

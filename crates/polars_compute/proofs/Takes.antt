@@ -142,24 +142,11 @@ picked_places values filler (place ∷ places) = ap (λ l. get_or values place f
 
 -- ---- validity bits at indices
 
-has_bit : (validity : Option Bits) (v : Value) → ForSome validity (λ b. is_within (length b.bits) v ≡ true) → HasBit (validity ∷ []) (pick_of v)
-has_bit validity (Number (pos i)) within = (omega arith, λ b there. ltb-true i (length b.bits) (within b there))
-has_bit validity (Number (negsuc i)) within = cc
-has_bit validity v within = cc
-
--- The row references of indices in bounds have a bit in the validity.
-pub picks_have_bits : (validity : Option Bits) (indices : List Value) → ForSome validity (λ v. all_within (length v.bits) indices ≡ true) → All (HasBit (validity ∷ [])) (map pick_of indices)
-picks_have_bits validity indices within =
-    λ k d h.
-    let there : k < length indices = omega (arith, h, length-map indices pick_of) in
-    subst (HasBit (validity ∷ [])) (sym (get_or-map pick_of indices k Null d there))
-    (has_bit validity (get_or indices k Null) (λ v is. all_at (is_within (length v.bits)) indices k Null (within v is) there))
-
--- These bits are the validity of the rows.
-pub found_valid : (validity : Option Bits) (indices : List Value) → bits_found (validity ∷ []) (map pick_of indices) ≡ map (valid_pick validity) (map pick_of indices)
-found_valid validity [] = refl
-found_valid validity (Number (pos i) ∷ indices) = ap (λ l. valid_at validity i ∷ l) (found_valid validity indices)
-found_valid validity (index ∷ indices) = ap (λ l. false ∷ l) (found_valid validity indices)
+-- Bits of a validity at indices, false for a null index, are the validity of the rows.
+pub picked_valid : (v : Bits) (indices : List Value) → pick false (v.bits ∷ []) (map pick_of indices) ≡ map (valid_pick (Some v)) (map pick_of indices)
+picked_valid v [] = refl
+picked_valid v (Number (pos i) ∷ indices) = ap (λ l. get_or v.bits i false ∷ l) (picked_valid v indices)
+picked_valid v (index ∷ indices) = ap (λ l. false ∷ l) (picked_valid v indices)
 
 -- Without a validity of the values, a row is valid if its index is.
 pub named_bits : (bits : List Bool) (places : List ℕ) → length bits ≡ length places → bits ≡ map (valid_pick None) (map pick_of (hidden bits (map (λ x. Number (pos x)) places)))

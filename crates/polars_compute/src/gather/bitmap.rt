@@ -1,14 +1,13 @@
 //! Gather for bitmaps.
 
-ghost use Rattle.std.specs.Prelude.{◌≡◌, ◌+◌, ◌*◌, ◌<◌, ◌≤◌, IsTrue, length, take, drop, pos, [], ◌∷◌, map, false, slice_index_or, IfOk, IfErr};
+ghost use Rattle.std.specs.Prelude.{◌≡◌, ◌+◌, ◌*◌, ◌<◌, ◌≤◌, IsTrue, Some, length, take, drop, pos, [], ◌∷◌, map, false, slice_index_or, if◌then◌else◌, IfOk, IfErr};
 ghost use Rattle.sel_bits.specs.Faults.{IsOutOfMemory};
 ghost use Rattle.sel_bits.specs.Bits.{bits_from};
 ghost use Rattle.sel_bits.specs.Words.{word_of};
 ghost use Rattle.sel_arrow.specs.Columns.{primitive_rows};
-ghost use Rattle.sel_arrow.specs.Masked.{number_value};
-ghost use Rattle.polars_compute.specs.Pick.{all_within, all_below, is_within, pick, found, pick_of, place_pick};
+ghost use Rattle.sel_arrow.specs.Masked.{number_rows};
+ghost use Rattle.polars_compute.specs.Pick.{all_within, all_below, pick, pick_of, place_pick};
 
-use sel_arrow::array::Array;
 use sel_arrow::primitive::IdxArr;
 use sel_bits::bitmap::Bitmap;
 use sel_bits::faults::PolarsResult;
@@ -96,36 +95,77 @@ pub fn take_bitmap_nulls_unchecked(
         (map pick_of (primitive_rows indices.now))) }
     ensures refusal { IfErr result IsOutOfMemory }
 {
-    if indices.validity.is_none() {
-        return take_bitmap_unchecked(alloc, values, indices.values.as_slice());
+    take_bits_or(alloc, values, indices, first_bit(values))
+}
+
+/// Returns the bits of `values` at `indices`, and `filler` for a null index.
+pub(crate) fn take_bits_or(
+    alloc: Global,
+    values: &Bitmap,
+    indices: &IdxArr,
+    filler: bool,
+) -> PolarsResult<Bitmap>
+    requires { IsTrue (all_within (length values.now.bits) (primitive_rows indices.now)) }
+    ensures bits { IfOk result (λ taken. taken.bits ≡
+        pick filler (values.now.bits ∷ []) (map pick_of (primitive_rows indices.now))) }
+    ensures refusal { IfErr result IsOutOfMemory }
+{
+    let places = indices.values.as_slice();
+    match &indices.validity {
+        None => take_bitmap_unchecked(alloc, values, places),
+        Some(valid) => take_valid_bits(alloc, values, places, valid, filler),
     }
-    let count = indices.len();
-    let filler = first_bit(values);
+}
+
+/// Returns the bit of `values` at each index whose bit is set in `valid`, and `filler` for the
+/// others.
+fn take_valid_bits(
+    alloc: Global,
+    values: &Bitmap,
+    places: &[u32],
+    valid: &Bitmap,
+    filler: bool,
+) -> PolarsResult<Bitmap>
+    requires { length valid.now.bits ≡ length places.now }
+    ensures bits { IfOk result (λ taken. taken.bits ≡ pick filler (values.now.bits ∷ [])
+        (map pick_of (number_rows pos places.now (Some valid.now)))) }
+    ensures refusal { IfErr result IsOutOfMemory }
+{
+    let count = places.len();
     let mut taken = BitPacker::with_capacity(alloc, count)?;
     let mut at = 0;
     while at < count {
         let len = (count - at).min(MOST_BITS);
-        taken.append(word_of_rows(values, indices, at, len, filler), len as u32)?;
+        let word = word_of_rows(values, places, valid, at, len, filler);
+        taken.append(word, len as u32)?;
         at += len;
     }
     taken.into_bitmap(count)
 }
 
-/// Packs the bits at `len` indices starting at index `at` into a word; a null index gives `filler`.
+/// Packs the bits at `len` indices starting at index `at` into a word; an index whose bit is not
+/// set in `valid` gives `filler`.
 #[inline]
-fn word_of_rows(values: &Bitmap, indices: &IdxArr, at: usize, len: usize, filler: bool) -> u64
+fn word_of_rows(
+    values: &Bitmap,
+    places: &[u32],
+    valid: &Bitmap,
+    at: usize,
+    len: usize,
+    filler: bool,
+) -> u64
     requires few { len ≤ 64 }
-    requires within { at + len ≤ length (primitive_rows indices.now) }
-    requires inside { IsTrue
-        (all_within (length values.now.bits) (primitive_rows indices.now)) }
+    requires long { length valid.now.bits ≡ length places.now }
+    requires within { at + len ≤ length places.now }
     ensures { result ≡ word_of (take len (drop at (pick filler (values.now.bits ∷ [])
-        (map pick_of (primitive_rows indices.now))))) }
+        (map pick_of (number_rows pos places.now (Some valid.now)))))) }
 {
     // The number of indices fits in `usize`.
-    let _whole = indices.len();
+    let _whole = places.len();
     let mut word = 0;
     for k in 0..len {
-        word += u64::from(bit_at(values, indices.get(at + k), filler)) << k;
+        let bit = bit_if(values, places[at + k], valid.get_bit(at + k), filler);
+        word += u64::from(bit) << k;
     }
     word
 }
@@ -140,14 +180,18 @@ fn first_bit(values: &Bitmap) -> bool
     values.get_bit(0)
 }
 
-/// Returns the bit at `index`, or `filler` if it is null.
-#[inline]
-fn bit_at(values: &Bitmap, index: Option<u32>, filler: bool) -> bool
-    requires { IsTrue (is_within (length values.now.bits) (number_value pos index)) }
-    ensures { result ≡ found filler (values.now.bits ∷ []) (pick_of (number_value pos index)) }
+/// Returns the bit at `place` if `valid` is true and `place` is in bounds, otherwise `filler`.
+///
+/// Reads the first bit where `valid` is false, so that no branch depends on it.
+#[inline(always)]
+fn bit_if(values: &Bitmap, place: u32, valid: bool, filler: bool) -> bool
+    ensures { result ≡ (if valid then slice_index_or values.now.bits place filler else filler) }
 {
-    match index {
-        None => filler,
-        Some(place) => values.get_bit(place as usize),
-    }
+    let at = if valid { place as usize } else { 0 };
+    let bit = if at < values.len() {
+        values.get_bit(at)
+    } else {
+        filler
+    };
+    if valid { bit } else { filler }
 }

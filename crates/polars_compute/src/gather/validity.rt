@@ -8,14 +8,10 @@ ghost use Rattle.sel_gather.specs.Validity.{bits_for};
 ghost use Rattle.polars_compute.specs.Pick.{all_within, pick_of};
 ghost use Rattle.polars_compute.specs.ValidPicks.{live_index, valid_pick};
 
-use crate::gather::bitmap::take_bitmap_unchecked;
-use crate::runs::Taken;
-use sel_arrow::array::Array;
+use crate::gather::bitmap::take_bits_or;
 use sel_arrow::primitive::{IdxArr, PrimitiveArray};
 use sel_bits::bitmap::Bitmap;
 use sel_bits::faults::PolarsResult;
-use sel_gather::gather_values::gather_bits;
-use sel_gather::row_refs::Walk;
 use std::alloc::Global;
 
 /// Returns the validity of the rows at `indices`: true where the index and its row are valid.
@@ -33,39 +29,13 @@ pub(crate) fn take_validity(
         map (valid_pick validity.now) (map pick_of (primitive_rows indices.now))) }
     ensures refusal { IfErr result IsOutOfMemory }
 {
-    if validity.is_none() {
-        return match &indices.validity {
+    match validity {
+        Some(bits) => Ok(Some(take_bits_or(alloc, bits, indices, false)?)),
+        None => match &indices.validity {
             None => Ok(None),
             Some(named) => Ok(Some(named.try_clone()?)),
-        };
+        },
     }
-    let taken = take_bits(alloc, validity, indices)?;
-    Ok(Some(taken))
-}
-
-/// Returns for each index whether it and its row are valid.
-pub(crate) fn take_bits(
-    alloc: Global,
-    validity: &Option<Bitmap>,
-    indices: &IdxArr,
-) -> PolarsResult<Bitmap>
-    requires { ForSome validity.now
-        (λ v. IsTrue (all_within (length v.bits) (primitive_rows indices.now))) }
-    ensures bits { IfOk result (λ taken. taken.bits ≡
-        map (valid_pick validity.now) (map pick_of (primitive_rows indices.now))) }
-    ensures refusal { IfErr result IsOutOfMemory }
-{
-    if let Some(bits) = validity {
-        if indices.validity.is_none() {
-            return take_bitmap_unchecked(alloc, bits, indices.values.as_slice());
-        }
-    }
-    let count = indices.len();
-    let places = Taken { indices };
-    let plan = Walk { places, at: 0 };
-    let maps = [validity.as_ref()];
-    let bits = gather_bits(alloc, &plan, &maps)?;
-    bits.into_bitmap(count)
 }
 
 /// Returns the indices with a null in place of each index of a null row.
