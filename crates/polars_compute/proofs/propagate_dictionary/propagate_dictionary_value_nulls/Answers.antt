@@ -21,8 +21,8 @@ take_primitive_unchecked-requires c =
     let long = length-number_rows pos ranks.values ranks.validity ∙ counts_long ranks.values c.in-Some.validity.now.bits c.in_ok-ranks-in-Some.ensures.values ∙ (ap length (told_validity (view_value c.args.values.now.bytes.buffers) (λ x. refl) c.args.values.now.bytes.validity c.in-Some.validity.now c.args.values.now.bytes.views c.in-Some.ensures.some c.args.values.now.bytes.validity_fits) ∙ length-map (utf8view_rows c.args.values.now) is_valid) in
     rw long c.requires
 
-pub filter_texts-requires : goal.filter_texts-requires
-filter_texts-requires c = sym (ap length (told_validity (view_value c.args.values.now.bytes.buffers) (λ x. refl) c.args.values.now.bytes.validity c.in-Some.validity.now c.args.values.now.bytes.views c.in-Some.ensures.some c.args.values.now.bytes.validity_fits) ∙ length-map (utf8view_rows c.args.values.now) is_valid)
+pub filter_texts-requires-clause-long : goal.filter_texts-requires-clause-long
+filter_texts-requires-clause-long c = sym (ap length (told_validity (view_value c.args.values.now.bytes.buffers) (λ x. refl) c.args.values.now.bytes.validity c.in-Some.validity.now c.args.values.now.bytes.views c.in-Some.ensures.some c.args.values.now.bytes.validity_fits) ∙ length-map (utf8view_rows c.args.values.now) is_valid)
 
 pub without_validity-requires-in-Some : goal.without_validity-requires-in-Some
 without_validity-requires-in-Some c =
