@@ -13,6 +13,7 @@ use sel_arrow::array::Array;
 use sel_arrow::primitive::IdxArr;
 use sel_bits::bitmap::Bitmap;
 use sel_bits::faults::PolarsResult;
+use sel_bits::words::{first_word, whole_word};
 use sel_gather::row_refs::Places;
 use sel_gather::runs::{Run, push_run};
 use std::alloc::Global;
@@ -24,7 +25,7 @@ pub(crate) fn runs_of_mask(alloc: Global, mask: &Bitmap) -> PolarsResult<Vec<Run
         map place_pick (kept mask.now.bits)) }
     ensures refusal { IfErr result IsOutOfMemory }
 {
-    let mut runs = Vec::new(alloc);
+    let mut runs = Vec::with_capacity(alloc, count_runs(mask))?;
     let mut rest = mask.try_clone()?;
     let mut start = 0;
     while !rest.is_empty() {
@@ -35,6 +36,27 @@ pub(crate) fn runs_of_mask(alloc: Global, mask: &Bitmap) -> PolarsResult<Vec<Run
         start += len;
     }
     Ok(runs)
+}
+
+/// Returns the number of maximal runs of true bits in `mask`. Only capacity depends on the result.
+fn count_runs(mask: &Bitmap) -> usize {
+    let (bytes, shift, len) = mask.as_slice();
+    let mut count: usize = 0;
+    let mut before = 0;
+    for block in 0..len / 64 {
+        let word = whole_word(bytes, 8 * block, shift);
+        count = count.wrapping_add(starts_of_runs(word, before).count_ones() as usize);
+        before = word >> 63;
+    }
+    let word = first_word(&bytes[len / 64 * 8..], shift, len % 64);
+    count.wrapping_add(starts_of_runs(word, before).count_ones() as usize)
+}
+
+/// Returns a word whose set bits are the first bits of the runs of set bits in `word`; bit 0 of
+/// `before` is the bit before them.
+#[inline(always)]
+pub(crate) fn starts_of_runs(word: u64, before: u64) -> u64 {
+    word & !((word << 1) | before)
 }
 
 /// Row references into one column, given by indices; a null index refers to no row.

@@ -8,6 +8,7 @@ ghost use Rattle.sel_arrow.specs.Columns.{boolean_rows};
 ghost use Rattle.polars_compute.specs.Select.{effective_mask};
 ghost use Rattle.polars_compute.specs.Trim.{KeepsAll, IsRun};
 
+use crate::runs::starts_of_runs;
 use sel_arrow::boolean::BooleanArray;
 use sel_bits::bitmap::Bitmap;
 use sel_bits::faults::PolarsResult;
@@ -96,14 +97,14 @@ fn is_scattered(mask: &Bitmap) -> bool {
     let mut before = 0;
     for block in 0..len / 64 {
         let word = whole_word(bytes, 8 * block, shift);
-        runs = runs.wrapping_add((word & !((word << 1) | before)).count_ones());
+        runs = runs.wrapping_add(starts_of_runs(word, before).count_ones());
         if runs > 1 {
             return true;
         }
         before = word >> 63;
     }
     let word = first_word(&bytes[len / 64 * 8..], shift, len % 64);
-    runs.wrapping_add((word & !((word << 1) | before)).count_ones()) > 1
+    runs.wrapping_add(starts_of_runs(word, before).count_ones()) > 1
 }
 
 /// Returns the number of leading false bits and the mask without the false bits at both ends.

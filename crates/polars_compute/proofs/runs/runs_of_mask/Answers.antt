@@ -11,7 +11,7 @@ use Rattle.polars_compute.proofs.runs.runs_of_mask.Goals as goal
 
 pub loop-rest-init : goal.loop-rest-init
 loop-rest-init c =
-    let none = c.new-runs.ensures.items in
+    let none = c.in_ok-runs.ensures.items in
     let same = ap (λ (b : Bits). b.bits) c.in_ok-rest.ensures.value in
     record {
       left = omega (arith, ap length same);
