@@ -146,6 +146,7 @@ _CALLS: dict[str, list[Any]] = {
     "sel_filter": [_COLUMN, _COLUMN, _COLUMN],
     "sel_filter_bits": [_COLUMN, _BYTES, _SIZE, _SIZE, _COLUMN],
     "sel_selection_new": [_COLUMN, _SELECTION],
+    "sel_selection_of_bits": [_BYTES, _SIZE, _SIZE, _SELECTION],
     "sel_selection_len": [_SELECTION, POINTER(_SIZE)],
     "sel_selection_count": [_SELECTION, POINTER(_SIZE)],
     "sel_filter_selection": [_COLUMN, _SELECTION, _COLUMN],

@@ -53,6 +53,8 @@ def declared_type(text: str) -> Any:
         return plain[text.split()[0]]
     if "sel_column" in text.split():
         return ctypes.POINTER(_library.Handle)
+    if "sel_selection" in text.split():
+        return ctypes.POINTER(_library.SelectionHandle)
     is_single = name in ("len", "count", "width", "at", "has", "equal") or (name == "out" and text.split()[0] == "bool")
     return ctypes.POINTER(plain[text.split()[0]]) if is_single else c_void_p
 
@@ -148,9 +150,10 @@ class Declarations(unittest.TestCase):
         for path in sorted(PACKAGE.glob("*.py")):
             direct |= set(re.findall(r"\blib\.(sel_\w+)\(", path.read_text()))
         of_types = {"sel_type_free", "sel_type_equal", "sel_type_child_count", "sel_type_name", "sel_type_arrow_format"}
-        self.assertEqual(direct, {"sel_status_string", "sel_free", "sel_type_of", "sel_len", "sel_null_count", "sel_unsupported_format", "sel_stream_export", *of_types})
+        self.assertEqual(direct, {"sel_status_string", "sel_free", "sel_selection_free", "sel_type_of", "sel_len", "sel_null_count", "sel_unsupported_format", "sel_stream_export", *of_types})
+        others = {"sel_unsupported_format": _library._SCHEMA, "sel_selection_free": _library._SELECTION}
         for name in direct - {"sel_status_string", "sel_stream_export"}:
-            expected = _library._TYPE if name in of_types else _library._SCHEMA if name == "sel_unsupported_format" else _library._COLUMN
+            expected = _library._TYPE if name in of_types else others.get(name, _library._COLUMN)
             self.assertEqual(set(getattr(_library.lib, name).argtypes), {expected})
 
     def test_structures_hold_no_integers_of_callers(self) -> None:

@@ -40,9 +40,9 @@ fn run(text: &str) -> Result<usize, String> {
 fn right_lines_pass_in_all_layouts() {
     let lines = [
         ("rows | list<utf8> | [[\"a\",null],null] | [[\"a\",null],null]", 24),
-        ("filter | i64 | [1,null,3] | [true,true,false] | [1,null]", 24),
-        ("filter | i64 | [1,null,3] | [true,null,false] | [1]", 12),
-        ("filter | i64 | [1] | i8 [1] | error unsupported_type", 12),
+        ("filter | i64 | [1,null,3] | [true,true,false] | [1,null]", 36),
+        ("filter | i64 | [1,null,3] | [true,null,false] | [1]", 24),
+        ("filter | i64 | [1] | i8 [1] | error unsupported_type", 24),
         ("take | fixed<2,i8> | [[1,2],null] | [1,null,0] | [null,null,[1,2]]", 24),
         ("child | list<i8> | [[1],null,[2,3]] | [1,2,3]", 6),
         ("field | struct<i8,utf8> | [(1,\"a\"),null] | 1 | [\"a\",null]", 6),
