@@ -21,8 +21,8 @@ gather_bits-requires g c =
     let maps = ap (map option_copied) c.as_slice-values.ensures.value ∙ c.in_ok-truths.ensures.maps in
     subst (λ ms. All (HasBit ms) ps) (sym maps) (truths_fit (λ s. s.now.values) arrays ps fits)
 
-pub gather_validity-requires : goal.gather_validity-requires
-gather_validity-requires g c =
+pub validity_at-requires : goal.validity_at-requires
+validity_at-requires g c =
     let ps = g.P.Plan.picks c.args.plan.now in
     let arrays = c.as_slice-arrays.result.now in
     let sources = ap (map (λ s. boolean_rows s.now)) c.as_slice-arrays.ensures.value ∙ c.in_ok-found.ensures.rows in
