@@ -1,13 +1,16 @@
 //! Gathered boolean columns.
 
-ghost use Rattle.std.specs.Prelude.{◌≡◌, Some, All, map, IfOk, IfErr};
+ghost use Rattle.std.specs.Prelude.{◌≡◌, ◌↔◌, Some, None, All, false, length, map, IfOk, IfErr};
 ghost use Rattle.std.specs.Option.{option_copied};
 ghost use Rattle.sel_bits.specs.Faults.{IsOutOfMemory};
 ghost use Rattle.sel_arrow.specs.Columns.{boolean_rows};
+ghost use Rattle.sel_arrow.specs.Masked.{Covers};
 ghost use Rattle.sel_arrow.specs.Rows.{rows, type_of, IsWellFormed};
 ghost use Rattle.sel_arrow.specs.Shape.{of_boolean};
 ghost use Rattle.sel_arrow.specs.Value.{Null};
 ghost use Rattle.sel_gather.specs.Picks.{pick, PickFits};
+ghost use Rattle.sel_gather.specs.Plans.{HasBit, bits_found};
+ghost use Rattle.sel_gather.specs.Validity.{bits_for};
 ghost use Rattle.sel_gather.specs.Sources.{rows_of};
 
 use crate::gather_values::{gather_bits, validity_at};
@@ -62,9 +65,7 @@ pub fn gather_boolean<'a, P: Plan>(
     let truths = values_of(alloc, arrays)?;
     let values = truths.as_slice();
     let bits = gather_bits(alloc, plan, values)?;
-    let validities = validities_of(alloc, arrays)?;
-    let maps = validities.as_slice();
-    let validity = validity_at(alloc, plan, maps)?;
+    let validity = validity_of(alloc, plan, arrays)?;
     let values = bits.into_bitmap(len)?;
     Ok(Column::Boolean(BooleanArray { values, validity }))
 }
@@ -83,6 +84,33 @@ fn values_of<'a>(
         maps.push(Some(&array.values))?;
     }
     Ok(maps)
+}
+
+// Returns the validity of the gathered rows; none if all are valid. Errors: `OutOfMemory`.
+fn validity_of<P: Plan>(
+    alloc: Global,
+    plan: &P,
+    arrays: &[&BooleanArray],
+) -> PolarsResult<Option<Bitmap>>
+    requires { All (HasBit (map (λ s. s.now.validity) arrays.now)) (P.picks plan.now) }
+    ensures bits { IfOk result (λ validity. bits_for (length (P.picks plan.now)) validity ≡
+        bits_found (map (λ s. s.now.validity) arrays.now) (P.picks plan.now)) }
+    ensures covers { IfOk result (λ validity. Covers validity (length (P.picks plan.now))) }
+    ensures refusal { IfErr result IsOutOfMemory }
+{
+    if !plan.has_nulls() && !has_validity(arrays) {
+        return Ok(None);
+    }
+    let validities = validities_of(alloc, arrays)?;
+    let maps = validities.as_slice();
+    validity_at(alloc, plan, maps)
+}
+
+// Returns whether some source has a validity.
+fn has_validity(arrays: &[&BooleanArray]) -> bool
+    ensures { (result ≡ false) ↔ All (λ s. s.now.validity ≡ None) arrays.now }
+{
+    arrays.iter().any(|array| array.validity.is_some())
 }
 
 // Returns the validity of each source. Errors: `OutOfMemory`.

@@ -140,6 +140,7 @@ fn collect_lists<'a>(
 // Returns the child rows of list columns that runs refer to, `len` in total; `first` has their
 // type.
 #[cycle(collecting)]
+#[inline(always)]
 pub(crate) fn collect_children<'a>(
     alloc: Global,
     first: &Column,

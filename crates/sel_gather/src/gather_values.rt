@@ -26,7 +26,8 @@ pub(crate) struct Part<'a, T: Copy> {
 }
 
 /// Returns the value at each row reference, and `zero` for null references. Errors: `OutOfMemory`.
-pub(crate) fn gather_values<P: Plan, T: Copy + Drop>(
+#[inline(always)]
+fn gather_values<P: Plan, T: Copy + Drop>(
     alloc: Global,
     plan: &P,
     parts: &[Part<T>],
@@ -115,6 +116,7 @@ fn value_in<T: Copy>(values: &[T], i: usize) -> T
 /// rows, none if all are valid.
 ///
 /// If some row may be null, evaluates each row reference once for both. Errors: `OutOfMemory`.
+#[inline(always)]
 pub(crate) fn gather_parts<P: Plan, T: Copy + Drop>(
     alloc: Global,
     plan: &P,

@@ -47,7 +47,7 @@ pub fn walk_lists<P: Plan>(
     let len = plan.len();
     let mut ends = Vec::with_capacity(alloc, len + 1)?;
     ends.push(0)?;
-    let mut below = Vec::with_capacity(alloc, len)?;
+    let mut below = Vec::with_capacity(alloc, plan.run_count())?;
     let mut rest = plan.again();
     let mut at = 0;
     let mut last = nulls_of(0);

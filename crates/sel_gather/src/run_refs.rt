@@ -99,4 +99,9 @@ impl Plan for RunRefs<'_> {
     fn is_wide(&self) -> bool {
         true
     }
+
+    #[inline(always)]
+    fn run_count(&self) -> usize {
+        self.rest.len()
+    }
 }
