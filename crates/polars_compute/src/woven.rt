@@ -116,4 +116,10 @@ impl Plan for Woven<'_> {
     fn is_wide(&self) -> bool {
         self.left as usize / (self.below as usize + 1) > self.lanes.len()
     }
+
+    // Returns the number of parts of all rows, a part being what one lane adds to one row.
+    #[inline(always)]
+    fn run_count(&self) -> usize {
+        (self.below as usize + 1).saturating_mul(self.lanes.len())
+    }
 }

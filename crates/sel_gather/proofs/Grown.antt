@@ -31,14 +31,6 @@ pub part_hidden : {A : Type 0} (f : A → Value) (xs : List A) (validity : Optio
 part_hidden f xs None a n h = hidden_all n (map f (take n (drop a xs))) (length-map (take n (drop a xs)) f ∙ length-part xs a n h) ∙ part-mapped f xs None a n
 part_hidden f xs (Some validity) a n h = part-mapped f xs (Some validity) a n
 
--- The values and the validity after a part of a source is appended.
-pub grown_part : {A : Type 0} (f : A → Value) (old new xs : List A) (bits longer : List Bool) (validity : Option Bits) (a n : ℕ) → length bits ≡ length old → a + n ≤ length xs →
-    new ≡ old ++ take n (drop a xs) → longer ≡ bits ++ part_bits a n validity → hidden longer (map f new) ≡ hidden bits (map f old) ++ take n (drop a (masked validity (map f xs)))
-grown_part f old new xs bits longer validity a n long inside e g =
-    let part = take n (drop a xs) in
-    ap (λ l. hidden l (map f new)) g ∙ ap (λ l. hidden (bits ++ part_bits a n validity) (map f l)) e ∙ ap (λ l. hidden (bits ++ part_bits a n validity) l) (map-append f old part)
-    ∙ hidden-append bits (part_bits a n validity) (map f old) (map f part) (long ∙ sym (length-map old f)) ∙ ap (λ l. hidden bits (map f old) ++ l) (part_hidden f xs validity a n inside)
-
 -- The values and the validity after nulls are appended.
 pub grown_nulls : {A : Type 0} (f : A → Value) (old new : List A) (x : A) (bits longer : List Bool) (n : ℕ) → length bits ≡ length old →
     new ≡ old ++ replicate n x → longer ≡ bits ++ replicate n false → hidden longer (map f new) ≡ hidden bits (map f old) ++ replicate n Null

@@ -1,4 +1,5 @@
 pub mod Below
+pub mod Collected
 pub mod Depths
 pub mod FieldsOf
 pub mod Fits
@@ -13,6 +14,7 @@ pub mod ListParts
 pub mod NullItems
 pub mod NullPicks
 pub mod OneSource
+pub mod PlanRuns
 pub mod PlanTests
 pub mod Raising
 pub mod Rebuilt

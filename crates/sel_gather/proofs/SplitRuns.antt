@@ -1,31 +1,22 @@
 -- Validity bits of gathered rows, and row references to null rows.
-use Rattle.std.proofs.Common.{◌≡◌, ◌≢◌, All, Bor, ℕ, zero, suc, ◌+◌, ◌≤◌, ◌<◌, Bool, true, false, List, [], ◌∷◌, length, take, drop, map, replicate, Option, Some, None, refl, ap, sym, ◌∙◌, arith, get_or}
+use Rattle.std.proofs.Common.{◌≡◌, ◌≢◌, All, Bor, ℕ, zero, suc, ◌+◌, ◌≤◌, ◌<◌, Bool, true, false, List, [], ◌∷◌, length, map, replicate, Option, Some, None, refl, ap, sym, ◌∙◌, arith, get_or}
 use Rattle.std.specs.Prelude.{if◌then◌else◌}
-use Rattle.std.proofs.lemmas.List.{length-map, get_or-map, take-map, drop-map}
+use Rattle.std.proofs.lemmas.List.{length-map, get_or-map}
 use Rattle.sel_bits.specs.Bits.{Bits}
 use Rattle.sel_arrow.specs.Nulls.{IsValidityOf}
 use Rattle.sel_arrow.specs.Rows.{rows}
 use Rattle.sel_arrow.specs.Shape.{Shape, of_null}
 use Rattle.sel_arrow.specs.Value.{Value, Null, is_valid, validities}
 use Rattle.sel_arrow.specs.declared.column.Column.{Column}
-use Rattle.sel_arrow.proofs.Rows.{part-replicate}
 use Rattle.sel_gather.specs.Cleared.{cleared}
 use Rattle.sel_gather.specs.KeptPicks.{kept_by}
 use Rattle.sel_gather.specs.Picks.{found, pick, PickFits}
 use Rattle.sel_gather.specs.Runs.{unrolled, picks_of}
-use Rattle.sel_gather.specs.Validity.{part_bits}
 use Rattle.sel_gather.specs.declared.runs.Run.{Run}
 use Rattle.sel_gather.proofs.ItemRuns.{rows_of, source_there}
-use Rattle.sel_gather.proofs.RunLists.{run_there, pick_run, pick_nulls}
+use Rattle.sel_gather.proofs.RunLists.{run_there, pick_nulls}
 
--- ---- the validity of a part of the rows
-
-told_part : (s : Shape) (v : Option Bits) (vs : List Value) (a n : ℕ) → s ≢ of_null → IsValidityOf s v vs → a + n ≤ length vs → part_bits a n v ≡ validities (take n (drop a vs))
-told_part of_null v vs a n other tells h = absurd (other refl)
-told_part s None vs a n other tells h =
-    part-replicate true (length vs) a n h ∙ ap (λ l. take n (drop a l)) (sym tells) ∙ ap (take n) (drop-map is_valid a vs) ∙ take-map is_valid n (drop a vs)
-told_part s (Some b) vs a n other tells h =
-    ap (λ l. take n (drop a l)) (sym tells) ∙ ap (take n) (drop-map is_valid a vs) ∙ take-map is_valid n (drop a vs)
+-- ---- the validity of the rows
 
 pub told_length : (s : Shape) (v : Option Bits) (vs : List Value) → s ≢ of_null → IsValidityOf s v vs → (b : Bits) → v ≡ Some b → length b.bits ≡ length vs
 told_length of_null v vs other tells b is = absurd (other refl)
@@ -59,15 +50,6 @@ module _ (cs : List (Bor Column)) (r : Run) (s : ℕ) (c : Bor Column) (is : r.s
   split_inside =
       let there = run_there (rows_of cs) r s is some fits in
       omega (arith, there.1, ap length at_source)
-
-  picked_part : pick Null (rows_of cs) (unrolled r) ≡ take r.len (drop r.start (rows c.now))
-  picked_part =
-      let there = run_there (rows_of cs) r s is some fits in
-      pick_run Null (rows_of cs) r s is there.1 ∙ ap (λ l. take r.len (drop r.start l)) at_source
-
-  -- The validity bits of the rows of the run.
-  pub run_bits : (t : Shape) (v : Option Bits) → t ≢ of_null → IsValidityOf t v (rows c.now) → part_bits r.start r.len v ≡ validities (pick Null (rows_of cs) (unrolled r))
-  run_bits t v other tells = told_part t v (rows c.now) r.start r.len other tells split_inside ∙ ap validities (sym picked_part)
 
   found_at : (k : ℕ) → found Null (rows_of cs) (Some (s, k)) ≡ get_or (rows c.now) k Null
   found_at k = ap (λ l. get_or l k Null) at_source

@@ -1,11 +1,14 @@
 -- Gathered lists that are read once.
 use Rattle.std.proofs.Common.{◌≡◌, ◌≢◌, All, Bor, ℤ, pos, ℕ, zero, suc, ◌+◌, ◌≤◌, ◌<◌, true, false, List, [], ◌∷◌, ◌++◌, length, take, drop, map, get_or, Option, Some, None, refl, ap, sym, subst, ◌∙◌, arith, length-append}
 use Rattle.std.specs.Option.{ForSome}
+use Rattle.std.specs.Prelude.{Result}
 use Rattle.std.proofs.Math.Seq.{take-add}
-use Rattle.std.proofs.lemmas.List.{length-map, get_or-map, map-append, take-append-drop, take-append-le, drop-append-le, take_all, drop_all, length-drop, get_or-replicate}
+use Rattle.std.proofs.lemmas.List.{get_or-map, map-append, take-append-drop, take-append-le, drop-append-le, take_all, drop_all, length-drop, get_or-replicate}
 use Rattle.sel_bits.specs.Bits.{Bits}
+use Rattle.sel_bits.specs.Limits.{max_rows}
 use Rattle.sel_bits.specs.declared.faults.Limit.{Limit}
 use Rattle.sel_bits.specs.declared.faults.Limit.TheVariants.{Rows as RowLimit, Bytes as ByteLimit, Buffers as BufferLimit, ViewBytes}
+use Rattle.sel_bits.specs.declared.faults.PolarsError.{PolarsError}
 use Rattle.sel_arrow.specs.Masked.{valid_at}
 use Rattle.sel_arrow.specs.Nulls.{IsValidityOf}
 use Rattle.sel_arrow.specs.Rows.{rows, type_of, IsWellFormed}
@@ -14,12 +17,13 @@ use Rattle.sel_arrow.specs.Value.{Value, Null, is_valid, validities}
 use Rattle.sel_arrow.specs.declared.column.Column.{Column}
 use Rattle.sel_gather.specs.Children.{child, is_listing, joined_items}
 use Rattle.sel_gather.specs.Ends.{item_ends}
+use Rattle.sel_gather.specs.Gathers.{Collects, MayGather}
 use Rattle.sel_gather.specs.Need.{ExceedsRows}
 use Rattle.sel_gather.specs.Picks.{found, pick, PickFits}
 use Rattle.sel_gather.specs.Plans.{HasBit, bits_found}
 use Rattle.sel_gather.specs.Steps.{AreValidities}
-use Rattle.sel_gather.specs.Runs.{expand, unrolled}
-use Rattle.sel_gather.specs.Sources.{columns_of, first_type}
+use Rattle.sel_gather.specs.Runs.{unrolled}
+use Rattle.sel_gather.specs.Sources.{columns_of}
 use Rattle.sel_gather.specs.declared.runs.Run.{Run}
 use Rattle.sel_gather.proofs.Below.{Recurses, child_type, items_recurse, mapped_now}
 use Rattle.sel_gather.proofs.Gathers.{left_behind}
@@ -143,35 +147,41 @@ told_more vs new cs v c told here is = subst (λ l. AreValidities l (cs ++ c ∷
     behind (w ∷ vs) [] told = absurd told
     behind (w ∷ vs) (d ∷ cs) told = (told.0, behind vs cs told.1)
 
--- ---- the type of the first column
+-- The validity of a single source.
+pub one_told : (cs : List (Bor Column)) (c : Bor Column) (v : Option Bits) → 1 ≤ length cs → length cs < 2 → c ≡ get_or cs 0 c → IsValidityOf (type_of c.now) v (rows c.now) → AreValidities (v ∷ []) (columns_of cs)
+one_told [] c v some one is told = absurd (omega (arith, some))
+one_told (x ∷ []) c v some one is told = (subst (λ (y : Bor Column). IsValidityOf (type_of y.now) v (rows y.now)) is told, tt)
+one_told (x ∷ y ∷ cs) c v some one is told = absurd (omega (arith, one))
 
-pub first_is : (s : Shape) (xs : List (Bor Column)) → 0 < length xs → All (λ x. type_of x.now ≡ s) xs → first_type (columns_of xs) ≡ s
-first_is s [] some all = absurd (omega (arith, some))
-first_is s (x ∷ xs) some all = all 0 x (omega arith)
+-- Sources without a validity.
+pub none_told : (cs : List (Bor Column)) → All (λ c. IsValidityOf (type_of c.now) None (rows c.now)) cs → AreValidities (map (λ c. None) cs) (columns_of cs)
+none_told [] none = tt
+none_told (c ∷ cs) none = (none 0 c (omega arith), none_told cs (λ k d h. none (suc k) d (omega (arith, h))))
 
 -- ---- the children of list columns
 
 pub lists_known : (s : Shape) (cs : List (Bor Column)) → All (λ c. type_of c.now ≡ of_large_list s) cs → All (λ c. type_of c.now ≢ of_null) cs
 lists_known s cs alike k d h none = let bad : of_large_list s ≡ of_null = sym (alike k d h) ∙ none in absurd cc
 
+pub lists_child : (s : Shape) (cs : List (Bor Column)) → All (λ c. type_of c.now ≡ of_large_list s) cs → All (λ c. type_of (child c.now) ≡ s) cs
+lists_child s cs alike = λ k d h. child_type (get_or cs k d).now s (alike k d h)
+
 pub lists_listing : (s : Shape) (cs : List (Bor Column)) → All (λ c. type_of c.now ≡ of_large_list s) cs → All (λ c. is_listing (type_of c.now) ≡ true) cs
 lists_listing s cs alike = λ k d h. ap is_listing (alike k d h)
 
-module _ (s : Shape) (cs xs : List (Bor Column)) (found : map (λ x. x.now) xs ≡ map (λ c. child c.now) cs) (alike : All (λ c. type_of c.now ≡ of_large_list s) cs) (formed : All (λ c. IsWellFormed c.now) cs) where
+-- The child of a single column.
+pub one_child : (cs : List (Bor Column)) (c x : Bor Column) → 1 ≤ length cs → length cs < 2 → c ≡ get_or cs 0 c → x.now ≡ child c.now → x.now ∷ [] ≡ map (λ c. child c.now) cs
+one_child [] c x some one is child_is = absurd (omega (arith, some))
+one_child (y ∷ []) c x some one is child_is = ap (λ z. z ∷ []) (child_is ∙ ap (λ (z : Bor Column). child z.now) is)
+one_child (y ∷ z ∷ cs) c x some one is child_is = absurd (omega (arith, one))
+
+module _ (s : Shape) (cs xs : List (Bor Column)) (found : map (λ x. x.now) xs ≡ map (λ c. child c.now) cs) (lists : All (λ c. is_listing (type_of c.now) ≡ true) cs) (alike : All (λ c. type_of (child c.now) ≡ s) cs) (formed : All (λ c. IsWellFormed c.now) cs) where
   pub children_recurse : Recurses s xs (below_of cs)
-  children_recurse = items_recurse s xs cs found (lists_listing s cs alike) (λ k d h. child_type (get_or cs k d).now s (alike k d h)) formed
+  children_recurse = items_recurse s xs cs found lists alike formed
 
-  pub children_some : 0 < length cs → 0 < length xs
-  children_some some = omega (arith, some, ap length found, length-map xs (λ x. x.now), length-map cs (λ c. child c.now))
+  pub children_may : (ps : List (Option (ℕ × ℕ))) (n : ℕ) → All (PickFits (below_of cs)) ps → length ps ≡ n → n ≤ max_rows → MayGather xs ps n
+  children_may ps n fits len few = record { formed = children_recurse.formed; fits = subst (λ xss. All (PickFits xss) ps) (sym children_recurse.rows) fits; len = len; few = few }
 
-  pub children_first : 0 < length cs → first_type (columns_of xs) ≡ s
-  children_first some = first_is s xs (children_some some) children_recurse.alike
-
-  pub children_columns : columns_of xs ≡ map child (columns_of cs)
-  children_columns = found ∙ mapped_now child cs
-
-  pub children_picked : (runs given : List Run) (items : List Value) → runs ≡ given → pick Null (below_of cs) (expand given) ≡ items → pick Null (rows_of xs) (expand runs) ≡ items
-  children_picked runs given items same is = ap (λ xss. pick Null xss (expand runs)) children_recurse.rows ∙ ap (λ rs. pick Null (below_of cs) (expand rs)) same ∙ is
-
-  pub children_fit : (runs given : List Run) → runs ≡ given → All (PickFits (below_of cs)) (expand given) → All (PickFits (rows_of xs)) (expand runs)
-  children_fit runs given same fits = subst (λ xss. All (PickFits xss) (expand runs)) (sym children_recurse.rows) (subst (λ rs. All (PickFits (below_of cs)) (expand rs)) (sym same) fits)
+  pub children_collected : (r : Result Column PolarsError) (ps : List (Option (ℕ × ℕ))) → Collects r s (columns_of xs) (pick Null (rows_of xs) ps) → Collects r s (map child (columns_of cs)) (pick Null (below_of cs) ps)
+  children_collected r ps h =
+      subst (λ columns. Collects r s columns (pick Null (below_of cs) ps)) (found ∙ mapped_now child cs) (subst (λ xss. Collects r s (columns_of xs) (pick Null xss ps)) children_recurse.rows h)

@@ -31,6 +31,16 @@ pub record Selects (result : Result ArrayRef PolarsError) (shape : Shape) (value
   pub within : IfOk result (λ array. ExceedsNone exceeded)
   pub refusal : IfErr result (IsLimitOrMemory exceeded)
 
+-- The same of a column of any type that is well-formed: these rows of these columns of one type,
+-- their own type.
+pub record Collects (result : Result Column PolarsError) (shape : Shape) (columns : List Column)
+    (values : List Value) : Type 0 where
+  pub rows : IfOk result (λ column. rows column ≡ values)
+  pub dtype : IfOk result (λ column. type_of column ≡ shape)
+  pub formed : IfOk result (λ column. IsWellFormed column)
+  pub within : IfOk result (λ column. ExceedsNone (exceeded_taken shape columns values))
+  pub refusal : IfErr result (IsLimitOrMemory (exceeded_taken shape columns values))
+
 -- The same for rows of one column of this type. The data buffers of views are those of the column.
 abbrev pub SelectsFrom : Result ArrayRef PolarsError → Shape → List Value → Type 0
 SelectsFrom result shape values = Selects result shape values (exceeded_limits shape values)

@@ -1,5 +1,5 @@
 -- Row references that are computed one by one, and the bits that they refer to.
-use Rattle.std.specs.Prelude.{ℕ, ◌<◌, ⊤, Bool, false, List, [], map, length, Option, Some}
+use Rattle.std.specs.Prelude.{ℕ, ◌<◌, ◌^◌, ⊤, Bool, false, List, map, length, Option, Some}
 use Rattle.std.specs.Prelude.{None, slice_index_or}
 use Rattle.std.specs.Option.{ForSome}
 use Rattle.sel_bits.specs.Bits.{Bits}
@@ -9,6 +9,10 @@ use Rattle.sel_arrow.specs.Masked.{valid_at}
 abbrev pub IsPicked : Option (ℕ × ℕ) → Type 0
 IsPicked None = ⊥
 IsPicked (Some p) = ⊤
+
+-- The row reference is none, or its position is less than 2^32.
+abbrev pub IsNear : Option (ℕ × ℕ) → Type 0
+IsNear pick = ForSome pick (λ p. p.1 < 2 ^ 32)
 
 -- The row reference is none, or refers to one of these bitmaps and, if that bitmap is present, to
 -- one of its bits.

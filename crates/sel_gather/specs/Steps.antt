@@ -10,7 +10,7 @@ use Rattle.sel_arrow.specs.Rows.{rows, type_of}
 use Rattle.sel_arrow.specs.declared.binary.BinaryArray.{BinaryArray}
 use Rattle.sel_arrow.specs.declared.column.Column.{Column}
 use Rattle.sel_arrow.specs.Nulls.{IsValidityOf}
-use Rattle.sel_gather.specs.Children.{field, part_at, child}
+use Rattle.sel_gather.specs.Children.{part_at, child}
 use Rattle.sel_gather.specs.Picks.{pick}
 use Rattle.sel_gather.specs.Runs.{expand}
 use Rattle.sel_gather.specs.declared.runs.Run.{Run}

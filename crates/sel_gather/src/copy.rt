@@ -1,25 +1,26 @@
 //! Copies rows from several columns of one type, by runs, level by level.
 
-ghost use Rattle.std.specs.Prelude.{◌≡◌, ◌≤◌, ◌<◌, All, length, map, pos, true, IfOk, IfErr};
+ghost use Rattle.std.specs.Prelude.{◌≡◌, ◌≤◌, ◌<◌, All, length, map, true, IfOk, IfErr};
 ghost use Rattle.sel_bits.specs.Limits.{max_rows};
 ghost use Rattle.sel_arrow.specs.Rows.{rows, type_of, IsField, IsWellFormed};
 ghost use Rattle.sel_arrow.specs.Shape.{of_large_binary, of_binary_view, of_utf8_view, of_large_list, of_fixed_size_list, of_struct, shapes_of};
 ghost use Rattle.sel_arrow.specs.Value.{Null};
 ghost use Rattle.sel_gather.specs.Children.{child, is_listing, joined_items};
-ghost use Rattle.sel_gather.specs.Steps.{parts_of};
-ghost use Rattle.sel_gather.specs.Need.{ExceedsBuffers, ExceedsBytes, IsLimitOrMemory, ExceedsNone, buffers_joined, exceeded_in_fields, exceeded_taken};
-ghost use Rattle.sel_gather.specs.Picks.{PickFits};
+ghost use Rattle.sel_gather.specs.Steps.{child_rows, parts_of};
+ghost use Rattle.sel_gather.specs.Need.{IsLimitOrMemory, ExceedsNone, exceeded_in_fields};
+ghost use Rattle.sel_gather.specs.Picks.{pick, PickFits};
 ghost use Rattle.sel_gather.specs.Runs.{expand};
-ghost use Rattle.sel_gather.specs.Gathers.{MayGather};
+ghost use Rattle.sel_gather.specs.Gathers.{Collects, MayGather};
 ghost use Rattle.sel_gather.specs.Sources.{columns_of, first_type, picked, rows_of};
 
 use crate::binary::collect_binary;
-use crate::boolean::collect_boolean;
-use crate::list_walk::walk_runs;
-use crate::lists::{child_runs, children_of, count_items};
+use crate::boolean::gather_boolean;
+use crate::list_walk::walk_lists;
+use crate::lists::{child_of, child_runs, children_of, count_items};
 use crate::nested::{blocks_over, lists_over, struct_over};
 use crate::null::collect_null;
-use crate::primitive::collect_primitive;
+use crate::primitive::gather_primitive;
+use crate::run_refs::RunRefs;
 use crate::runs::Run;
 use crate::structs::{fields_at, split_runs};
 use crate::typed_arrays::{binaries_of, texts_of, views_of};
@@ -50,16 +51,8 @@ pub fn collect_runs<'a>(
     requires some { 0 < length sources.now }
     requires alike { All (λ c. type_of c.now ≡ first_type (columns_of sources.now)) sources.now }
     requires may { MayGather sources.now (expand runs.now) len }
-    ensures rows { IfOk result (λ column. rows column ≡ picked sources.now runs.now) }
-    ensures dtype { IfOk result (λ column. type_of column ≡
-        first_type (columns_of sources.now)) }
-    ensures formed { IfOk result (λ column. IsWellFormed column) }
-    ensures within { IfOk result
-        (λ _. ExceedsNone (exceeded_taken (first_type (columns_of sources.now))
-        (columns_of sources.now) (picked sources.now runs.now))) }
-    ensures refusal { IfErr result
-        (IsLimitOrMemory (exceeded_taken (first_type (columns_of sources.now))
-        (columns_of sources.now) (picked sources.now runs.now))) }
+    ensures { Collects result (first_type (columns_of sources.now)) (columns_of sources.now)
+        (picked sources.now runs.now) }
 {
     let first: &Column = sources[0];
     collect_like(alloc, first, sources, runs, len)
@@ -77,29 +70,31 @@ fn collect_like<'a>(
     requires first { IsWellFormed first.now }
     requires alike { All (λ c. type_of c.now ≡ type_of first.now) sources.now }
     requires may { MayGather sources.now (expand runs.now) len }
-    ensures rows { IfOk result (λ column. rows column ≡ picked sources.now runs.now) }
-    ensures dtype { IfOk result (λ column. type_of column ≡ type_of first.now) }
-    ensures formed { IfOk result (λ column. IsWellFormed column) }
-    ensures within { IfOk result
-        (λ _. ExceedsNone (exceeded_taken (type_of first.now) (columns_of sources.now)
-        (picked sources.now runs.now))) }
-    ensures refusal { IfErr result
-        (IsLimitOrMemory (exceeded_taken (type_of first.now) (columns_of sources.now)
-        (picked sources.now runs.now))) }
+    ensures { Collects result (type_of first.now) (columns_of sources.now)
+        (picked sources.now runs.now) }
 {
+    let plan = &RunRefs {
+        first: Run {
+            source: Some(0),
+            start: 0,
+            len: 0,
+        },
+        rest: runs,
+        left: len,
+    };
     match first {
         Column::Null(_) => Ok(collect_null(sources, runs, len)),
-        Column::Boolean(_) => collect_boolean(alloc, sources, runs, len),
-        Column::Int8(_) => collect_primitive::<i8>(alloc, sources, runs, len),
-        Column::Int16(_) => collect_primitive::<i16>(alloc, sources, runs, len),
-        Column::Int32(_) => collect_primitive::<i32>(alloc, sources, runs, len),
-        Column::Int64(_) => collect_primitive::<i64>(alloc, sources, runs, len),
-        Column::Int128(_) => collect_primitive::<i128>(alloc, sources, runs, len),
-        Column::UInt8(_) => collect_primitive::<u8>(alloc, sources, runs, len),
-        Column::UInt16(_) => collect_primitive::<u16>(alloc, sources, runs, len),
-        Column::UInt32(_) => collect_primitive::<u32>(alloc, sources, runs, len),
-        Column::UInt64(_) => collect_primitive::<u64>(alloc, sources, runs, len),
-        Column::UInt128(_) => collect_primitive::<u128>(alloc, sources, runs, len),
+        Column::Boolean(_) => gather_boolean(alloc, sources, plan),
+        Column::Int8(_) => gather_primitive::<RunRefs, i8>(alloc, sources, plan),
+        Column::Int16(_) => gather_primitive::<RunRefs, i16>(alloc, sources, plan),
+        Column::Int32(_) => gather_primitive::<RunRefs, i32>(alloc, sources, plan),
+        Column::Int64(_) => gather_primitive::<RunRefs, i64>(alloc, sources, plan),
+        Column::Int128(_) => gather_primitive::<RunRefs, i128>(alloc, sources, plan),
+        Column::UInt8(_) => gather_primitive::<RunRefs, u8>(alloc, sources, plan),
+        Column::UInt16(_) => gather_primitive::<RunRefs, u16>(alloc, sources, plan),
+        Column::UInt32(_) => gather_primitive::<RunRefs, u32>(alloc, sources, plan),
+        Column::UInt64(_) => gather_primitive::<RunRefs, u64>(alloc, sources, plan),
+        Column::UInt128(_) => gather_primitive::<RunRefs, u128>(alloc, sources, plan),
         Column::LargeBinary(_) => collect_large_binary(alloc, sources, runs, len),
         Column::BinaryView(_) => collect_binview(alloc, sources, runs, len),
         Column::Utf8View(_) => collect_utf8view(alloc, sources, runs, len),
@@ -123,21 +118,52 @@ fn collect_lists<'a>(
     requires child { IsWellFormed child.now }
     requires alike { All (λ c. type_of c.now ≡ of_large_list (type_of child.now)) sources.now }
     requires may { MayGather sources.now (expand runs.now) len }
-    ensures rows { IfOk result (λ column. rows column ≡ picked sources.now runs.now) }
-    ensures dtype { IfOk result (λ column. type_of column ≡ of_large_list (type_of child.now)) }
-    ensures formed { IfOk result (λ column. IsWellFormed column) }
-    ensures within { IfOk result
-        (λ _. ExceedsNone (exceeded_taken (of_large_list (type_of child.now))
-        (columns_of sources.now) (picked sources.now runs.now))) }
-    ensures refusal { IfErr result
-        (IsLimitOrMemory (exceeded_taken (of_large_list (type_of child.now))
-        (columns_of sources.now) (picked sources.now runs.now))) }
+    ensures { Collects result (of_large_list (type_of child.now)) (columns_of sources.now)
+        (picked sources.now runs.now) }
 {
-    let (ends, below, need) = walk_runs(alloc, sources, runs, len)?;
-    let children = children_of(alloc, sources)?;
-    let values = collect_like(alloc, child, &children, &below, need)?;
-    let column = lists_over(alloc, values, ends, sources, runs, len)?;
+    let plan = RunRefs {
+        first: Run {
+            source: Some(0),
+            start: 0,
+            len: 0,
+        },
+        rest: runs,
+        left: len,
+    };
+    let (ends, below, need) = walk_lists(alloc, sources, &plan)?;
+    let values = collect_children(alloc, child, sources, &below, need)?;
+    drop(below);
+    let column = lists_over(alloc, values, ends, sources, &plan)?;
     Ok(column)
+}
+
+// Returns the child rows of list columns that runs refer to, `len` in total; `first` has their
+// type.
+#[cycle(collecting)]
+#[inline(always)]
+pub(crate) fn collect_children<'a>(
+    alloc: Global,
+    first: &Column,
+    sources: &'a [&'a Column],
+    runs: &[Run],
+    len: usize,
+) -> PolarsResult<Column>
+    requires first { IsWellFormed first.now }
+    requires lists { All (λ c. is_listing (type_of c.now) ≡ true) sources.now }
+    requires alike { All (λ c. type_of (child c.now) ≡ type_of first.now) sources.now }
+    requires formed { All (λ c. IsWellFormed c.now) sources.now }
+    requires fits { All (PickFits (child_rows sources.now)) (expand runs.now) }
+    requires len { length (expand runs.now) ≡ len }
+    requires few { len ≤ max_rows }
+    ensures { Collects result (type_of first.now) (map child (columns_of sources.now))
+        (pick Null (child_rows sources.now) (expand runs.now)) }
+{
+    if let [only] = sources {
+        let children = [child_of(*only)];
+        return collect_like(alloc, first, &children, runs, len);
+    }
+    let children = children_of(alloc, sources)?;
+    collect_like(alloc, first, &children, runs, len)
 }
 
 // Returns the fixed-size lists that runs refer to; `child` has the type of their items.
@@ -155,14 +181,8 @@ fn collect_blocks<'a>(
     requires alike { All (λ c. type_of c.now ≡
         of_fixed_size_list (type_of child.now) size) sources.now }
     requires may { MayGather sources.now (expand runs.now) len }
-    ensures rows { IfOk result (λ column. rows column ≡ picked sources.now runs.now) }
-    ensures dtype { IfOk result (λ column. type_of column ≡
-        of_fixed_size_list (type_of child.now) size) }
-    ensures formed { IfOk result (λ column. IsWellFormed column) }
-    ensures within { IfOk result (λ _. ExceedsNone (exceeded_taken (of_fixed_size_list
-        (type_of child.now) size) (columns_of sources.now) (picked sources.now runs.now))) }
-    ensures refusal { IfErr result (IsLimitOrMemory (exceeded_taken (of_fixed_size_list
-        (type_of child.now) size) (columns_of sources.now) (picked sources.now runs.now))) }
+    ensures { Collects result (of_fixed_size_list (type_of child.now) size) (columns_of sources.now)
+        (picked sources.now runs.now) }
 {
     let need = count_items(sources, runs, size as u32);
     if need > u32::MAX as u128 {
@@ -193,22 +213,14 @@ fn collect_items<'a>(
     requires fits { All (PickFits (rows_of sources.now)) (expand runs.now) }
     requires need { need ≡ length (joined_items width (picked sources.now runs.now)) }
     requires few { need ≤ max_rows }
-    ensures rows { IfOk result (λ column. rows column ≡
-        joined_items width (picked sources.now runs.now)) }
-    ensures dtype { IfOk result (λ column. type_of column ≡ type_of first.now) }
-    ensures formed { IfOk result (λ column. IsWellFormed column) }
-    ensures within { IfOk result (λ _. ExceedsNone (exceeded_taken (type_of first.now)
-        (map (λ c. child c.now) sources.now) (joined_items width (picked sources.now runs.now)))) }
-    ensures refusal { IfErr result (IsLimitOrMemory (exceeded_taken (type_of first.now)
-        (map (λ c. child c.now) sources.now) (joined_items width (picked sources.now runs.now)))) }
+    ensures { Collects result (type_of first.now) (map child (columns_of sources.now))
+        (joined_items width (picked sources.now runs.now)) }
 {
     if let Column::Null(_) = first {
         return Ok(Column::Null(NullArray { length: need }));
     }
     let below = child_runs(alloc, sources, runs, width)?;
-    let children = children_of(alloc, sources)?;
-    let values = collect_like(alloc, first, &children, &below, need)?;
-    Ok(values)
+    collect_children(alloc, first, sources, &below, need)
 }
 
 // Returns the struct rows that runs refer to; `firsts` have the types of their fields.
@@ -224,14 +236,8 @@ fn collect_structs<'a>(
     requires alike { All (λ c. type_of c.now ≡
         of_struct (shapes_of (map type_of firsts.now))) sources.now }
     requires may { MayGather sources.now (expand runs.now) len }
-    ensures rows { IfOk result (λ column. rows column ≡ picked sources.now runs.now) }
-    ensures dtype { IfOk result (λ column. type_of column ≡
-        of_struct (shapes_of (map type_of firsts.now))) }
-    ensures formed { IfOk result (λ column. IsWellFormed column) }
-    ensures within { IfOk result (λ _. ExceedsNone (exceeded_taken (of_struct (shapes_of
-        (map type_of firsts.now))) (columns_of sources.now) (picked sources.now runs.now))) }
-    ensures refusal { IfErr result (IsLimitOrMemory (exceeded_taken (of_struct (shapes_of
-        (map type_of firsts.now))) (columns_of sources.now) (picked sources.now runs.now))) }
+    ensures { Collects result (of_struct (shapes_of (map type_of firsts.now))) (columns_of sources.now)
+        (picked sources.now runs.now) }
 {
     let fields = collect_fields(alloc, firsts, sources, runs, len)?;
     let column = struct_over(alloc, fields, sources, runs, len)?;
@@ -284,13 +290,8 @@ fn collect_large_binary<'a>(
 ) -> PolarsResult<Column>
     requires alike { All (λ c. type_of c.now ≡ of_large_binary) sources.now }
     requires may { MayGather sources.now (expand runs.now) len }
-    ensures rows { IfOk result (λ column. rows column ≡ picked sources.now runs.now) }
-    ensures dtype { IfOk result (λ column. type_of column ≡ of_large_binary) }
-    ensures formed { IfOk result (λ column. IsWellFormed column) }
-    ensures within { IfOk result (λ _. ExceedsNone
-        (ExceedsBytes (pos 9223372036854775807) (picked sources.now runs.now))) }
-    ensures refusal { IfErr result (IsLimitOrMemory
-        (ExceedsBytes (pos 9223372036854775807) (picked sources.now runs.now))) }
+    ensures { Collects result of_large_binary (columns_of sources.now)
+        (picked sources.now runs.now) }
 {
     let live = split_runs(alloc, sources, runs)?;
     let found = binaries_of(alloc, sources)?;
@@ -307,13 +308,8 @@ fn collect_binview<'a>(
 ) -> PolarsResult<Column>
     requires alike { All (λ c. type_of c.now ≡ of_binary_view) sources.now }
     requires may { MayGather sources.now (expand runs.now) len }
-    ensures rows { IfOk result (λ column. rows column ≡ picked sources.now runs.now) }
-    ensures dtype { IfOk result (λ column. type_of column ≡ of_binary_view) }
-    ensures formed { IfOk result (λ column. IsWellFormed column) }
-    ensures within { IfOk result (λ _. ExceedsNone
-        (ExceedsBuffers (buffers_joined (columns_of sources.now)))) }
-    ensures refusal { IfErr result (IsLimitOrMemory
-        (ExceedsBuffers (buffers_joined (columns_of sources.now)))) }
+    ensures { Collects result of_binary_view (columns_of sources.now)
+        (picked sources.now runs.now) }
 {
     let found = views_of(alloc, sources)?;
     let array = collect_views(alloc, &found, runs, len)?;
@@ -329,13 +325,8 @@ fn collect_utf8view<'a>(
 ) -> PolarsResult<Column>
     requires alike { All (λ c. type_of c.now ≡ of_utf8_view) sources.now }
     requires may { MayGather sources.now (expand runs.now) len }
-    ensures rows { IfOk result (λ column. rows column ≡ picked sources.now runs.now) }
-    ensures dtype { IfOk result (λ column. type_of column ≡ of_utf8_view) }
-    ensures formed { IfOk result (λ column. IsWellFormed column) }
-    ensures within { IfOk result (λ _. ExceedsNone
-        (ExceedsBuffers (buffers_joined (columns_of sources.now)))) }
-    ensures refusal { IfErr result (IsLimitOrMemory
-        (ExceedsBuffers (buffers_joined (columns_of sources.now)))) }
+    ensures { Collects result of_utf8_view (columns_of sources.now)
+        (picked sources.now runs.now) }
 {
     let found = texts_of(alloc, sources)?;
     let bytes = collect_views(alloc, &found, runs, len)?;

@@ -1,16 +1,21 @@
-//! Values without validity, copied run by run.
+//! Values and bits, copied run by run.
 
-ghost use Rattle.std.specs.Prelude.{◌≡◌, ◌↔◌, ◌≤◌, ◌+◌, ◌++◌, All, false, is_none, length, map, take, drop, IfOk, IfErr, OnOk};
+ghost use Rattle.std.specs.Prelude.{◌≡◌, ◌↔◌, ◌≤◌, ◌<◌, ◌+◌, ◌++◌, All, false, is_none, length, map, take, drop, IfOk, IfErr, OnOk};
+ghost use Rattle.std.specs.Option.{option_copied};
 ghost use Rattle.sel_bits.specs.Faults.{IsOutOfMemory};
 ghost use Rattle.sel_bits.specs.Limits.{max_rows};
 ghost use Rattle.sel_gather.specs.Picks.{pick, PickFits};
-ghost use Rattle.sel_gather.specs.Runs.{expand, unrolled};
+ghost use Rattle.sel_gather.specs.Plans.{HasBit, bits_found};
+ghost use Rattle.sel_gather.specs.Runs.{unrolled};
 
+use crate::bits::push_validity;
 use crate::gather_values::Part;
 use crate::repeat::push_values;
 use crate::row_refs::Plan;
 use crate::runs::Run;
+use sel_bits::bitmap::Bitmap;
 use sel_bits::faults::PolarsResult;
+use sel_bits::packer::BitPacker;
 use std::alloc::Global;
 
 // The run length up to which a copy moves this many values, a constant size, and truncates the
@@ -22,29 +27,6 @@ pub(crate) fn is_any_null(runs: &[Run]) -> bool
     ensures { (result ≡ false) ↔ All (λ run. is_none run.source ≡ false) runs.now }
 {
     runs.iter().any(|run| run.source.is_none())
-}
-
-/// Returns the values that runs refer to, `len` in total, and `zero` for runs without a source.
-/// Errors: `OutOfMemory`.
-pub(crate) fn copy_runs<T: Copy + Drop>(
-    alloc: Global,
-    parts: &[Part<T>],
-    runs: &[Run],
-    zero: T,
-    len: usize,
-) -> PolarsResult<Vec<T>>
-    requires fits { All (PickFits (map (λ s. s.values.now) parts.now)) (expand runs.now) }
-    requires few { length (expand runs.now) ≤ max_rows }
-    ensures values { IfOk result (λ values. values.items ≡
-        pick zero (map (λ s. s.values.now) parts.now) (expand runs.now)) }
-    ensures refusal { IfErr result IsOutOfMemory }
-{
-    // (includes room for the values that are truncated after the last run)
-    let mut values = Vec::with_capacity(alloc, len.saturating_add(SHORT_RUN))?;
-    for run in runs {
-        copy_run(&mut values, parts, *run, zero)?;
-    }
-    Ok(values)
 }
 
 /// Returns the values at the row references of a plan, copied by its runs, and `zero` for null
@@ -61,6 +43,7 @@ pub(crate) fn copy_plan<P: Plan, T: Copy + Drop>(
     ensures refusal { IfErr result IsOutOfMemory }
 {
     let len = plan.len();
+    // (includes room for the values that are truncated after the last run)
     let mut values = Vec::with_capacity(alloc, len + SHORT_RUN)?;
     let mut rest = plan.again();
     let mut at = 0;
@@ -70,6 +53,46 @@ pub(crate) fn copy_plan<P: Plan, T: Copy + Drop>(
         at += run.len as usize;
     }
     Ok(values)
+}
+
+/// Returns the bits at the row references of a plan, copied by its runs: true if the source has no
+/// bitmap, false for null references. Errors: `OutOfMemory`.
+pub(crate) fn copy_bits<P: Plan>(
+    alloc: Global,
+    plan: &P,
+    maps: &[Option<&Bitmap>],
+) -> PolarsResult<BitPacker>
+    requires { All (HasBit (map option_copied maps.now)) (P.picks plan.now) }
+    ensures bits { IfOk result (λ bits. bits ≡
+        bits_found (map option_copied maps.now) (P.picks plan.now)) }
+    ensures refusal { IfErr result IsOutOfMemory }
+{
+    let len = plan.len();
+    let mut bits = BitPacker::with_capacity(alloc, len)?;
+    let mut rest = plan.again();
+    let mut at = 0;
+    while at < len {
+        let run = rest.next_run();
+        push_bits(&mut bits, maps, run)?;
+        at += run.len as usize;
+    }
+    Ok(bits)
+}
+
+// Appends the bits of a run: true if the source has no bitmap, false if there is no source. Errors:
+// `OutOfMemory`.
+fn push_bits(bits: &mut BitPacker, maps: &[Option<&Bitmap>], run: Run) -> PolarsResult<()>
+    requires fits { All (HasBit (map option_copied maps.now)) (unrolled run) }
+    requires some { 0 < run.len }
+    ensures bits { OnOk result (bits.new ≡
+        bits.old ++ bits_found (map option_copied maps.now) (unrolled run)) }
+    ensures refusal { IfErr result IsOutOfMemory }
+{
+    let (start, len) = (run.start as usize, run.len as usize);
+    match run.source {
+        None => bits.extend_constant(len, false),
+        Some(source) => push_validity(bits, maps[source as usize], start, len),
+    }
 }
 
 // Appends the values of a run, or `zero` for each row if it has no source. Errors: `OutOfMemory`.

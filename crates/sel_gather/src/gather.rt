@@ -4,30 +4,23 @@
 //! the runs of their items are built. For all other types the row references are first converted to
 //! runs, since nested rows are copied by runs too.
 
-ghost use Rattle.std.specs.Prelude.{◌≡◌, ◌<◌, ◌∷◌, All, pos, length, map, IfOk, IfErr};
-ghost use Rattle.sel_bits.specs.Faults.{IsOutOfMemory};
-ghost use Rattle.sel_arrow.specs.Rows.{rows, type_of, IsWellFormed};
+ghost use Rattle.std.specs.Prelude.{◌≡◌, ◌<◌, All, length};
+ghost use Rattle.sel_arrow.specs.Rows.{type_of, IsWellFormed};
 ghost use Rattle.sel_arrow.specs.Shape.{of_large_list};
 ghost use Rattle.sel_arrow.specs.Value.{Null};
-ghost use Rattle.sel_gather.specs.Children.{joined_items};
-ghost use Rattle.sel_gather.specs.Ends.{item_ends};
-ghost use Rattle.sel_gather.specs.Gathers.{GathersFrom, MayGather};
-ghost use Rattle.sel_gather.specs.Need.{IsLimitOrMemory, ExceedsNone, exceeded_taken};
+ghost use Rattle.sel_gather.specs.Gathers.{Collects, GathersFrom, MayGather};
 ghost use Rattle.sel_gather.specs.Picks.{pick, PickFits};
 ghost use Rattle.sel_gather.specs.Sources.{columns_of, first_type, rows_of};
 
 use crate::boolean::gather_boolean;
-use crate::copy::collect_runs;
-use crate::gather_values::gather_validity;
+use crate::copy::{collect_children, collect_runs};
 use crate::list_walk::walk_lists;
-use crate::lists::children_of;
+use crate::nested::lists_over;
 use crate::primitive::gather_primitive;
 use crate::row_refs::{Listed, Plan, runs_of_plan};
-use crate::validity::validities_of;
 use sel_arrow::array_ref::ArrayRef;
 use sel_arrow::column::Column;
 use sel_bits::faults::PolarsResult;
-use sel_bits::offsets::OffsetsBuffer;
 use std::alloc::Global;
 
 /// Returns the rows of `sources` at the row references `picks`, in order; a null reference gives a
@@ -82,17 +75,8 @@ pub fn collect_plan<'a, P: Plan>(
     requires alike { All (λ c. type_of c.now ≡ first_type (columns_of sources.now)) sources.now }
     requires formed { All (λ c. IsWellFormed c.now) sources.now }
     requires fits { All (PickFits (rows_of sources.now)) (P.picks plan.now) }
-    ensures rows { IfOk result (λ column. rows column ≡
-        pick Null (rows_of sources.now) (P.picks plan.now)) }
-    ensures dtype { IfOk result (λ column. type_of column ≡
-        first_type (columns_of sources.now)) }
-    ensures formed { IfOk result (λ column. IsWellFormed column) }
-    ensures within { IfOk result
-        (λ _. ExceedsNone (exceeded_taken (first_type (columns_of sources.now))
-        (columns_of sources.now) (pick Null (rows_of sources.now) (P.picks plan.now)))) }
-    ensures refusal { IfErr result
-        (IsLimitOrMemory (exceeded_taken (first_type (columns_of sources.now))
-        (columns_of sources.now) (pick Null (rows_of sources.now) (P.picks plan.now)))) }
+    ensures { Collects result (first_type (columns_of sources.now))
+        (columns_of sources.now) (pick Null (rows_of sources.now) (P.picks plan.now)) }
 {
     if in_runs {
         return collect_listed(alloc, sources, plan);
@@ -109,18 +93,13 @@ fn gather_like<'a, P: Plan>(
     plan: &P,
 ) -> PolarsResult<Column>
     requires kind { first_type (columns_of sources.now) ≡ type_of first.now }
+    requires first { IsWellFormed first.now }
     requires some { 0 < length sources.now }
     requires alike { All (λ c. type_of c.now ≡ type_of first.now) sources.now }
     requires formed { All (λ c. IsWellFormed c.now) sources.now }
     requires fits { All (PickFits (rows_of sources.now)) (P.picks plan.now) }
-    ensures rows { IfOk result (λ column. rows column ≡
-        pick Null (rows_of sources.now) (P.picks plan.now)) }
-    ensures dtype { IfOk result (λ column. type_of column ≡ type_of first.now) }
-    ensures formed { IfOk result (λ column. IsWellFormed column) }
-    ensures within { IfOk result (λ _. ExceedsNone (exceeded_taken (type_of first.now)
-        (columns_of sources.now) (pick Null (rows_of sources.now) (P.picks plan.now)))) }
-    ensures refusal { IfErr result (IsLimitOrMemory (exceeded_taken (type_of first.now)
-        (columns_of sources.now) (pick Null (rows_of sources.now) (P.picks plan.now)))) }
+    ensures { Collects result (type_of first.now)
+        (columns_of sources.now) (pick Null (rows_of sources.now) (P.picks plan.now)) }
 {
     match first {
         Column::Boolean(_) => gather_boolean(alloc, sources, plan),
@@ -149,17 +128,8 @@ fn collect_listed<'a, P: Plan>(
     requires alike { All (λ c. type_of c.now ≡ first_type (columns_of sources.now)) sources.now }
     requires formed { All (λ c. IsWellFormed c.now) sources.now }
     requires fits { All (PickFits (rows_of sources.now)) (P.picks plan.now) }
-    ensures rows { IfOk result (λ column. rows column ≡
-        pick Null (rows_of sources.now) (P.picks plan.now)) }
-    ensures dtype { IfOk result (λ column. type_of column ≡
-        first_type (columns_of sources.now)) }
-    ensures formed { IfOk result (λ column. IsWellFormed column) }
-    ensures within { IfOk result
-        (λ _. ExceedsNone (exceeded_taken (first_type (columns_of sources.now))
-        (columns_of sources.now) (pick Null (rows_of sources.now) (P.picks plan.now)))) }
-    ensures refusal { IfErr result
-        (IsLimitOrMemory (exceeded_taken (first_type (columns_of sources.now))
-        (columns_of sources.now) (pick Null (rows_of sources.now) (P.picks plan.now)))) }
+    ensures { Collects result (first_type (columns_of sources.now))
+        (columns_of sources.now) (pick Null (rows_of sources.now) (P.picks plan.now)) }
 {
     let len = plan.len();
     let runs = runs_of_plan(alloc, plan)?;
@@ -169,8 +139,8 @@ fn collect_listed<'a, P: Plan>(
 /// Returns the lists at the row references of `plan`, in order; a null reference gives a null row.
 ///
 /// # Requires
-/// There is at least one source, and all sources are well-formed list columns whose child has the
-/// type of `child`. Every non-null row reference refers to a row of a source.
+/// All sources are well-formed list columns whose child has the type of `child`, a well-formed
+/// column. Every non-null row reference refers to a row of a source.
 ///
 /// # Errors
 /// `OutOfMemory` if an allocation fails; `SizeLimit` if the lists would have more than 2^32 - 1
@@ -181,61 +151,16 @@ pub fn gather_lists<'a, P: Plan>(
     sources: &'a [&'a Column],
     plan: &P,
 ) -> PolarsResult<Column>
-    requires some { 0 < length sources.now }
+    requires child { IsWellFormed child.now }
     requires alike { All (λ c. type_of c.now ≡ of_large_list (type_of child.now)) sources.now }
     requires formed { All (λ c. IsWellFormed c.now) sources.now }
     requires fits { All (PickFits (rows_of sources.now)) (P.picks plan.now) }
-    ensures rows { IfOk result (λ column. rows column ≡
-        pick Null (rows_of sources.now) (P.picks plan.now)) }
-    ensures dtype { IfOk result (λ column. type_of column ≡ of_large_list (type_of child.now)) }
-    ensures formed { IfOk result (λ column. IsWellFormed column) }
-    ensures within { IfOk result
-        (λ _. ExceedsNone (exceeded_taken (of_large_list (type_of child.now))
-        (columns_of sources.now) (pick Null (rows_of sources.now) (P.picks plan.now)))) }
-    ensures refusal { IfErr result
-        (IsLimitOrMemory (exceeded_taken (of_large_list (type_of child.now))
-        (columns_of sources.now) (pick Null (rows_of sources.now) (P.picks plan.now)))) }
+    ensures { Collects result (of_large_list (type_of child.now))
+        (columns_of sources.now) (pick Null (rows_of sources.now) (P.picks plan.now)) }
 {
-    let _ = child;
     let (ends, below, need) = walk_lists(alloc, sources, plan)?;
-    let children = children_of(alloc, sources)?;
-    let values = collect_runs(alloc, &children, &below, need)?;
-    lists_of_plan(alloc, values, ends, sources, plan)
-}
-
-// Returns the lists at the row references of a plan, given their offsets and items. Errors:
-// `OutOfMemory`.
-fn lists_of_plan<P: Plan>(
-    alloc: Global,
-    values: Column,
-    ends: Vec<i64>,
-    sources: &[&Column],
-    plan: &P,
-) -> PolarsResult<Column>
-    requires lists { All (λ c. type_of c.now ≡ of_large_list (type_of values)) sources.now }
-    requires formed { All (λ c. IsWellFormed c.now) sources.now }
-    requires fits { All (PickFits (rows_of sources.now)) (P.picks plan.now) }
-    requires ends { ends.items ≡
-        map pos (0 ∷ item_ends 0 (pick Null (rows_of sources.now) (P.picks plan.now))) }
-    requires below { rows values ≡
-        joined_items 0 (pick Null (rows_of sources.now) (P.picks plan.now)) }
-    requires child { IsWellFormed values }
-    ensures rows { IfOk result (λ column. rows column ≡
-        pick Null (rows_of sources.now) (P.picks plan.now)) }
-    ensures dtype { IfOk result (λ column. type_of column ≡ of_large_list (type_of values)) }
-    ensures formed { IfOk result (λ column. IsWellFormed column) }
-    ensures refusal { IfErr result IsOutOfMemory }
-{
-    // (there are no more row references than a column may have rows)
-    let _len = plan.len();
-    let values = Box::new(alloc, values)?;
-    let offsets = OffsetsBuffer::of_rising(ends)?;
-    let validities = validities_of(alloc, sources)?;
-    let maps = validities.as_slice();
-    let validity = gather_validity(alloc, plan, maps)?;
-    Ok(Column::LargeList {
-        offsets,
-        values,
-        validity,
-    })
+    let values = collect_children(alloc, child, sources, &below, need)?;
+    drop(below);
+    let column = lists_over(alloc, values, ends, sources, plan)?;
+    Ok(column)
 }

@@ -10,7 +10,7 @@ ghost use Rattle.sel_gather.specs.Plans.{HasBit, bit_found, bits_found};
 ghost use Rattle.sel_gather.specs.Validity.{bits_for};
 
 use crate::bits::validity_from;
-use crate::copy_values::copy_plan;
+use crate::copy_values::{copy_bits, copy_plan};
 use crate::row_refs::Plan;
 use sel_bits::bitmap::Bitmap;
 use sel_bits::faults::PolarsResult;
@@ -26,7 +26,8 @@ pub(crate) struct Part<'a, T: Copy> {
 }
 
 /// Returns the value at each row reference, and `zero` for null references. Errors: `OutOfMemory`.
-pub(crate) fn gather_values<P: Plan, T: Copy + Drop>(
+#[inline(always)]
+fn gather_values<P: Plan, T: Copy + Drop>(
     alloc: Global,
     plan: &P,
     parts: &[Part<T>],
@@ -115,6 +116,7 @@ fn value_in<T: Copy>(values: &[T], i: usize) -> T
 /// rows, none if all are valid.
 ///
 /// If some row may be null, evaluates each row reference once for both. Errors: `OutOfMemory`.
+#[inline(always)]
 pub(crate) fn gather_parts<P: Plan, T: Copy + Drop>(
     alloc: Global,
     plan: &P,
@@ -161,6 +163,12 @@ fn gather_hidden<P: Plan, T: Copy + Drop>(
         bits_found (map (λ s. option_copied s.validity) parts.now) (P.picks plan.now)) }
     ensures refusal { IfErr result IsOutOfMemory }
 {
+    if plan.is_wide() {
+        let values = copy_plan(alloc, plan, parts, zero)?;
+        let maps = validities_of(alloc, parts)?;
+        let bits = copy_bits(alloc, plan, &maps)?;
+        return Ok((values, bits));
+    }
     let len = plan.len();
     let mut values = Vec::with_capacity(alloc, len)?;
     let mut bits = BitPacker::with_capacity(alloc, len)?;
@@ -173,6 +181,22 @@ fn gather_hidden<P: Plan, T: Copy + Drop>(
         at += count;
     }
     Ok((values, bits))
+}
+
+// Returns the validity of each source. Errors: `OutOfMemory`.
+fn validities_of<'a, T: Copy>(
+    alloc: Global,
+    parts: &[Part<'a, T>],
+) -> PolarsResult<Vec<Option<&'a Bitmap>>>
+    ensures maps { IfOk result (λ maps. map option_copied maps.items ≡
+        map (λ s. option_copied s.validity) parts.now) }
+    ensures refusal { IfErr result IsOutOfMemory }
+{
+    let mut maps = Vec::with_capacity(alloc, parts.len())?;
+    for part in parts {
+        maps.push(part.validity)?;
+    }
+    Ok(maps)
 }
 
 // Appends the values at the next `count` row references, consumes these references, and returns
@@ -226,7 +250,7 @@ fn row_of_pick<T: Copy + Drop>(parts: &[Part<T>], pick: Option<(u32, u32)>, zero
 
 /// Returns the validity of the gathered rows, given the validity of each source; none if all rows
 /// are valid. Errors: `OutOfMemory`.
-pub(crate) fn gather_validity<P: Plan>(
+pub(crate) fn validity_at<P: Plan>(
     alloc: Global,
     plan: &P,
     maps: &[Option<&Bitmap>],
@@ -272,6 +296,9 @@ pub fn gather_bits<P: Plan>(
         bits_found (map option_copied maps.now) (P.picks plan.now)) }
     ensures refusal { IfErr result IsOutOfMemory }
 {
+    if plan.is_wide() {
+        return copy_bits(alloc, plan, maps);
+    }
     let len = plan.len();
     let mut bits = BitPacker::with_capacity(alloc, len)?;
     let mut rest = plan.again();

@@ -23,6 +23,7 @@ pub mod one_source;
 mod primitive;
 mod repeat;
 pub mod row_refs;
+mod run_refs;
 pub mod runs;
 mod structs;
 mod typed_arrays;

@@ -9,7 +9,7 @@ ghost use Rattle.sel_gather.specs.Ends.{item_ends};
 ghost use Rattle.sel_gather.specs.Need.{ExceedsRows, IsLimitOrMemory};
 ghost use Rattle.sel_gather.specs.Picks.{pick, PickFits};
 ghost use Rattle.sel_gather.specs.Runs.{expand, unrolled};
-ghost use Rattle.sel_gather.specs.Sources.{picked, rows_of};
+ghost use Rattle.sel_gather.specs.Sources.{rows_of};
 ghost use Rattle.sel_gather.specs.Steps.{child_rows};
 ghost use Rattle.sel_gather.specs.RunRows.{run_rows};
 
@@ -47,7 +47,7 @@ pub fn walk_lists<P: Plan>(
     let len = plan.len();
     let mut ends = Vec::with_capacity(alloc, len + 1)?;
     ends.push(0)?;
-    let mut below = Vec::with_capacity(alloc, len)?;
+    let mut below = Vec::with_capacity(alloc, plan.run_count())?;
     let mut rest = plan.again();
     let mut at = 0;
     let mut last = nulls_of(0);
@@ -56,43 +56,6 @@ pub fn walk_lists<P: Plan>(
         let run = rest.next_run();
         end = push_lists(&mut ends, &mut below, &mut last, sources, run, end)?;
         at += run.len as usize;
-    }
-    push_run(&mut below, last)?;
-    Ok((ends, below, end as usize))
-}
-
-// Returns the offsets of the `len` lists that runs refer to, the runs of their items, and the
-// number of items.
-//
-// Errors: `OutOfMemory`; `SizeLimit(Limit::Rows)` if there are more than 2^32 - 1 items.
-pub fn walk_runs(
-    alloc: Global,
-    sources: &[&Column],
-    runs: &[Run],
-    len: usize,
-) -> PolarsResult<(Vec<i64>, Vec<Run>, usize)>
-    requires lists { All (λ c. is_listing (type_of c.now) ≡ true) sources.now }
-    requires formed { All (λ c. IsWellFormed c.now) sources.now }
-    requires fits { All (PickFits (rows_of sources.now)) (expand runs.now) }
-    requires few { len ≤ max_rows }
-    ensures ends { IfOk result (λ walk. walk.0.items ≡
-        map pos (0 ∷ item_ends 0 (picked sources.now runs.now))) }
-    ensures items { IfOk result (λ walk. pick Null (child_rows sources.now)
-        (expand walk.1.items) ≡ joined_items 0 (picked sources.now runs.now)) }
-    ensures fits { IfOk result (λ walk. All
-        (PickFits (child_rows sources.now)) (expand walk.1.items)) }
-    ensures count { IfOk result (λ walk. length (expand walk.1.items) ≡ walk.2) }
-    ensures few { IfOk result (λ walk. walk.2 ≤ max_rows) }
-    ensures refusal { IfErr result (IsLimitOrMemory (ExceedsRows
-        (length (joined_items 0 (picked sources.now runs.now))))) }
-{
-    let mut ends = Vec::with_capacity(alloc, len + 1)?;
-    ends.push(0)?;
-    let mut below = Vec::with_capacity(alloc, runs.len())?;
-    let mut last = nulls_of(0);
-    let mut end = 0;
-    for run in runs {
-        end = push_lists(&mut ends, &mut below, &mut last, sources, *run, end)?;
     }
     push_run(&mut below, last)?;
     Ok((ends, below, end as usize))

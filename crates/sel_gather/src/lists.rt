@@ -39,8 +39,8 @@ pub fn children_of<'a>(alloc: Global, sources: &[&'a Column]) -> PolarsResult<Ve
     Ok(found)
 }
 
-// Returns the child of a list column, or the column itself for another type.
-fn child_of<'a>(column: &'a Column) -> &'a Column
+/// Returns the child of a list column, or the column itself for another type.
+pub(crate) fn child_of<'a>(column: &'a Column) -> &'a Column
     ensures { result.now ≡ child column.now }
 {
     match column {

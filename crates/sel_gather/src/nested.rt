@@ -9,47 +9,55 @@ ghost use Rattle.sel_gather.specs.Children.{joined_items};
 ghost use Rattle.sel_gather.specs.Steps.{parts_of};
 ghost use Rattle.sel_gather.specs.Ends.{item_ends};
 ghost use Rattle.sel_gather.specs.Runs.{expand};
+ghost use Rattle.sel_arrow.specs.Value.{Null};
 ghost use Rattle.sel_gather.specs.Gathers.{MayGather};
-ghost use Rattle.sel_gather.specs.Sources.{picked};
+ghost use Rattle.sel_gather.specs.Picks.{pick, PickFits};
+ghost use Rattle.sel_gather.specs.Sources.{picked, rows_of};
 
+use crate::row_refs::Plan;
 use crate::runs::Run;
-use crate::validity::collect_validity;
+use crate::validity::{collect_validity, gather_validity};
 use sel_arrow::column::Column;
 use sel_bits::faults::PolarsResult;
 use sel_bits::offsets::OffsetsBuffer;
 use std::alloc::Global;
 
-/// Returns the lists that runs refer to, over their offsets `ends` and their concatenated items
-/// `values`.
+/// Returns the lists at the row references of a plan, over their offsets `ends` and their
+/// concatenated items `values`.
 ///
 /// # Requires
-/// All sources are well-formed list columns whose child has the type of `values`, and every run is
-/// within the rows of its source. The runs have `len` rows in total, at most 2^32 - 1. `values` is
-/// well-formed and has the items of these lists, in order; `ends` has a 0 and the end of each list.
+/// All sources are well-formed list columns whose child has the type of `values`, and every
+/// non-null row reference refers to a row of a source. `values` is well-formed and has the items of
+/// these lists, in order; `ends` has a 0 and the end of each list.
 ///
 /// # Errors
 /// `OutOfMemory` if an allocation fails.
-pub fn lists_over(
+pub fn lists_over<P: Plan>(
     alloc: Global,
     values: Column,
     ends: Vec<i64>,
     sources: &[&Column],
-    runs: &[Run],
-    len: usize,
+    plan: &P,
 ) -> PolarsResult<Column>
     requires lists { All (λ c. type_of c.now ≡ of_large_list (type_of values)) sources.now }
-    requires may { MayGather sources.now (expand runs.now) len }
-    requires ends { ends.items ≡ map pos (0 ∷ item_ends 0 (picked sources.now runs.now)) }
-    requires below { rows values ≡ joined_items 0 (picked sources.now runs.now) }
+    requires formed { All (λ c. IsWellFormed c.now) sources.now }
+    requires fits { All (PickFits (rows_of sources.now)) (P.picks plan.now) }
+    requires ends { ends.items ≡
+        map pos (0 ∷ item_ends 0 (pick Null (rows_of sources.now) (P.picks plan.now))) }
+    requires below { rows values ≡
+        joined_items 0 (pick Null (rows_of sources.now) (P.picks plan.now)) }
     requires child { IsWellFormed values }
-    ensures rows { IfOk result (λ column. rows column ≡ picked sources.now runs.now) }
+    ensures rows { IfOk result (λ column. rows column ≡
+        pick Null (rows_of sources.now) (P.picks plan.now)) }
     ensures dtype { IfOk result (λ column. type_of column ≡ of_large_list (type_of values)) }
     ensures formed { IfOk result (λ column. IsWellFormed column) }
     ensures refusal { IfErr result IsOutOfMemory }
 {
+    // (there are no more row references than a column may have rows)
+    let _len = plan.len();
     let values = Box::new(alloc, values)?;
     let offsets = OffsetsBuffer::of_rising(ends)?;
-    let validity = collect_validity(alloc, sources, runs, len)?;
+    let validity = gather_validity(alloc, sources, plan)?;
     Ok(Column::LargeList {
         offsets,
         values,

@@ -6,7 +6,7 @@ ghost use Rattle.sel_bits.specs.Limits.{max_rows};
 ghost use Rattle.sel_gather.specs.Plans.{IsPicked};
 ghost use Rattle.sel_gather.specs.Runs.{expand, unrolled};
 
-use crate::runs::{Run, push_run, run_of_pick};
+use crate::runs::{Run, continues, nulls_of, push_run, run_of_pick};
 use sel_bits::faults::PolarsResult;
 use std::alloc::Global;
 
@@ -51,6 +51,11 @@ pub trait Plan: Sized + Drop {
     ///
     /// The result is a hint for speed, which the contract leaves open.
     fn is_wide(&self) -> bool;
+
+    /// Returns about how many runs [`Plan::next_run`] returns until no row reference is left.
+    ///
+    /// The result is a hint for memory, which the contract leaves open.
+    fn run_count(&self) -> usize;
 }
 
 /// An iterator over a slice of row references.
@@ -92,6 +97,11 @@ impl Plan for Listed<'_> {
     #[inline(always)]
     fn is_wide(&self) -> bool {
         false
+    }
+
+    #[inline(always)]
+    fn run_count(&self) -> usize {
+        self.len()
     }
 }
 
@@ -171,6 +181,11 @@ impl<G: Places> Plan for Walk<G> {
     fn is_wide(&self) -> bool {
         false
     }
+
+    #[inline(always)]
+    fn run_count(&self) -> usize {
+        self.len()
+    }
 }
 
 /// Returns the runs of the row references of a plan; contiguous runs are merged.
@@ -181,7 +196,7 @@ pub fn runs_of_plan<P: Plan>(alloc: Global, plan: &P) -> PolarsResult<Vec<Run>>
     ensures picks { IfOk result (λ runs. expand runs.items ≡ P.picks plan.now) }
     ensures refusal { IfErr result IsOutOfMemory }
 {
-    let mut runs = Vec::new(alloc);
+    let mut runs = Vec::with_capacity(alloc, count_runs(plan))?;
     let mut rest = plan.again();
     let mut left = plan.len();
     while left > 0 {
@@ -190,6 +205,25 @@ pub fn runs_of_plan<P: Plan>(alloc: Global, plan: &P) -> PolarsResult<Vec<Run>>
         left -= run.len as usize;
     }
     Ok(runs)
+}
+
+// Returns how many runs the row references of a plan form, or one more.
+//
+// The result is a hint for memory: growth by doubling could take three times as much as the runs.
+fn count_runs<P: Plan>(plan: &P) -> usize {
+    let mut count = 1;
+    let mut last = nulls_of(0);
+    let mut rest = plan.again();
+    let mut left = plan.len();
+    while left > 0 {
+        let run = rest.next_run();
+        if !continues(last, run) {
+            count += 1;
+        }
+        last = run;
+        left -= run.len as usize;
+    }
+    count
 }
 
 /// Returns the runs of row references; contiguous runs are merged.

@@ -102,6 +102,18 @@ fn joined(first: Run, second: Run) -> Option<Run>
     }
 }
 
+/// Returns whether the second run continues the first, as far as their sources and rows tell. The
+/// result is a hint.
+pub(crate) fn continues(first: Run, second: Run) -> bool {
+    match (first.source, second.source) {
+        (None, None) => true,
+        (Some(one), Some(other)) => {
+            one == other && first.start as u64 + first.len as u64 == second.start as u64
+        }
+        _ => false,
+    }
+}
+
 /// Returns the run of one row reference.
 pub fn run_of_pick(pick: Option<(u32, u32)>) -> Run
     ensures picks { unrolled result ≡ pick ∷ [] }

@@ -67,7 +67,7 @@ pub fn split_runs(alloc: Global, sources: &[&Column], runs: &[Run]) -> PolarsRes
         map (cleared (rows_of sources.now)) (expand runs.now)) }
     ensures refusal { IfErr result IsOutOfMemory }
 {
-    let mut split = Vec::new(alloc);
+    let mut split = Vec::with_capacity(alloc, runs.len())?;
     for run in runs {
         push_split(&mut split, sources, *run)?;
     }

@@ -38,6 +38,7 @@ use sel_bits::faults::PolarsResult;
 use sel_bits::native::{Index, NativeType};
 pub use sel_gather::checks::picks_in_bounds;
 pub use sel_gather::gather::collect_rows;
+use sel_gather::gather::gather_lists;
 use sel_gather::one_source::collect_one_plan;
 use sel_gather::row_refs::Walk;
 use std::alloc::Global;
@@ -177,6 +178,11 @@ fn take_lists(alloc: Global, values: &Column, indices: &IdxArr) -> PolarsResult<
     }
     let places = Taken { indices };
     let plan = Walk { places, at: 0 };
+    if let Column::LargeList { values: child, .. } = values {
+        let sources = [values];
+        let column = gather_lists(alloc, child, &sources, &plan)?;
+        return Ok(ArrayRef { column });
+    }
     let taken = collect_one_plan(alloc, values, &plan)?;
     Ok(taken)
 }

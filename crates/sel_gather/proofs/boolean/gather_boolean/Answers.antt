@@ -7,7 +7,6 @@ use Rattle.sel_arrow.specs.Masked.{Covers, hidden, bool_rows}
 use Rattle.sel_arrow.specs.Value.{Null, Truth}
 use Rattle.sel_gather.specs.Picks.{pick, PickFits}
 use Rattle.sel_gather.specs.Plans.{HasBit, bit_found, bits_found}
-use Rattle.sel_gather.specs.Validity.{bits_for}
 use Rattle.sel_gather.proofs.Grown.{finished}
 use Rattle.sel_gather.proofs.Hiding.{values_fit, bits_fit, rows_picked, truths_fit, truths_found}
 use Rattle.sel_gather.proofs.boolean.gather_boolean.Goals as goal
@@ -21,14 +20,13 @@ gather_bits-requires g c =
     let maps = ap (map option_copied) c.as_slice-values.ensures.value ∙ c.in_ok-truths.ensures.maps in
     subst (λ ms. All (HasBit ms) ps) (sym maps) (truths_fit (λ s. s.now.values) arrays ps fits)
 
-pub gather_validity-requires : goal.gather_validity-requires
-gather_validity-requires g c =
+pub validity_of-requires : goal.validity_of-requires
+validity_of-requires g c =
     let ps = g.P.Plan.picks c.args.plan.now in
     let arrays = c.as_slice-arrays.result.now in
     let sources = ap (map (λ s. boolean_rows s.now)) c.as_slice-arrays.ensures.value ∙ c.in_ok-found.ensures.rows in
     let fits = values_fit (λ s. s.now.values.bits) (λ s. s.now.validity) (λ s. s.now.validity_fits) Truth false arrays ps (subst (λ xss. All (PickFits xss) ps) (sym sources) c.requires.fits) in
-    let maps = ap (map option_copied) c.as_slice-maps.ensures.value ∙ c.in_ok-validities.ensures.maps in
-    subst (λ ms. All (HasBit ms) ps) (sym maps) (bits_fit (λ s. s.now.values.bits) (λ s. s.now.validity) (λ s. s.now.validity_fits) Truth false arrays ps fits)
+    bits_fit (λ s. s.now.values.bits) (λ s. s.now.validity) (λ s. s.now.validity_fits) Truth false arrays ps fits
 
 pub into_bitmap-requires : goal.into_bitmap-requires
 into_bitmap-requires g c =
@@ -48,12 +46,10 @@ returns-clause-rows g c =
     let sources = ap (map (λ s. boolean_rows s.now)) c.as_slice-arrays.ensures.value ∙ c.in_ok-found.ensures.rows in
     let fits = values_fit (λ s. s.now.values.bits) (λ s. s.now.validity) (λ s. s.now.validity_fits) Truth false arrays ps (subst (λ xss. All (PickFits xss) ps) (sym sources) c.requires.fits) in
     let truths = ap (map option_copied) c.as_slice-values.ensures.value ∙ c.in_ok-truths.ensures.maps in
-    let maps : map option_copied c.as_slice-maps.result.now ≡ vs = ap (map option_copied) c.as_slice-maps.ensures.value ∙ c.in_ok-validities.ensures.maps in
-    let bits : bits_for (length ps) c.in_ok-validity.validity ≡ bits_found vs ps = c.in_ok-validity.ensures.bits ∙ ap (λ ms. bits_found ms ps) maps in
     let long = ap length c.in_ok-bits.ensures.bits ∙ length-map ps (bit_found (map option_copied c.as_slice-values.result.now)) in
     let values = c.in_ok-bits.ensures.bits ∙ ap (λ ms. bits_found ms ps) truths ∙ truths_found (λ s. s.now.values) arrays ps fits in
     ap (λ (b : Bits). bool_rows b.bits c.in_ok-validity.validity) c.in_ok-values.ensures.value
-    ∙ finished Truth c.in_ok-bits.bits c.in_ok-validity.validity (bits_found vs ps) (length ps) bits long
+    ∙ finished Truth c.in_ok-bits.bits c.in_ok-validity.validity (bits_found vs ps) (length ps) c.in_ok-validity.ensures.bits long
     ∙ ap (λ xs. hidden (bits_found vs ps) (map Truth xs)) values
     ∙ rows_picked (λ s. s.now.values.bits) (λ s. s.now.validity) (λ s. s.now.validity_fits) Truth false arrays ps fits
     ∙ ap (λ xss. pick Null xss ps) sources

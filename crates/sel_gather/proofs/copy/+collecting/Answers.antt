@@ -1,4 +1,4 @@
-use Rattle.std.proofs.Common.{◌≡◌, ◌∙◌, ◌<◌, ◌+◌, ◌++◌, ◌∷◌, [], All, inr, ap, sym, subst, map, length, get_or, take, replicate, arith, true}
+use Rattle.std.proofs.Common.{◌≡◌, ◌∙◌, ◌<◌, ◌+◌, ◌++◌, ◌∷◌, [], All, ap, sym, subst, map, length, get_or, take, replicate, arith, rules, true}
 use Rattle.std.proofs.lemmas.List.{length-map, take_all, map_more, map-append}
 use Rattle.std.proofs.lemmas.List.Elements.{All-get_or, All-push}
 use Rattle.std.proofs.lemmas.Result.{err_from_is_err_and}
@@ -8,68 +8,98 @@ use Rattle.sel_arrow.specs.Value.{Null}
 use Rattle.sel_arrow.proofs.NestedRows.{length-rows}
 use Rattle.sel_arrow.proofs.Trees.{has_fields}
 use Rattle.sel_arrow.proofs.Types.{type_of-Struct}
-use Rattle.sel_gather.specs.Children.{child, field, is_listing, joined_items, part_at}
+use Rattle.sel_gather.specs.Children.{child, field, is_listing, part_at}
 use Rattle.sel_gather.specs.Steps.{parts_of}
 use Rattle.sel_gather.specs.Cleared.{cleared}
-use Rattle.sel_gather.specs.Need.{ExceedsRows, IsLimitOrMemory, ExceedsNone, exceeded_taken}
+use Rattle.sel_gather.specs.Gathers.{Collects}
+use Rattle.sel_gather.specs.Need.{IsLimitOrMemory, ExceedsNone, exceeded_taken}
 use Rattle.sel_gather.specs.Picks.{pick, PickFits}
 use Rattle.sel_gather.specs.Runs.{expand}
-use Rattle.sel_gather.proofs.Below.{block_child_type, items_recurse, found_all, found_map, mapped_now, listed_shapes, refused_more, past_at, parts_more, field_kind}
+use Rattle.sel_gather.proofs.Below.{block_child_type, found_all, found_map, mapped_now, listed_shapes, refused_more, past_at, parts_more, field_kind}
 use Rattle.sel_gather.proofs.Depths.{size_of, one_size}
 use Rattle.sel_gather.proofs.ItemRuns.{rows_of, below_of}
 use Rattle.sel_gather.proofs.NullItems.{null_items_in}
+use Rattle.sel_gather.proofs.PlanRuns.{near_may}
 use Rattle.sel_gather.proofs.RunLists.{length-pick}
 use Rattle.sel_gather.proofs.TupleRows.{field_rows, field_type, field_formed, picked_parts, parts_fit}
 use Rattle.sel_gather.specs.Sources.{columns_of, picked}
-use Rattle.sel_gather.proofs.Walks.{children_recurse, children_columns, children_picked, children_fit}
-use Rattle.sel_gather.proofs.Within.{few_rows_pass, fields_pass, one_more_passes, passes_neither}
+use Rattle.sel_gather.proofs.Walks.{children_collected, children_may, children_recurse, lists_child, lists_listing, one_child}
+use Rattle.sel_gather.proofs.Within.{fields_pass, one_more_passes}
 use Rattle.sel_gather.proofs.copy.+collecting.Goals as goal
+
+-- ---- runs as row references
+
+pub collect_like-invariant_of-plan : goal.collect_like-invariant_of-plan
+collect_like-invariant_of-plan t c = record { count = c.requires.may.len; few = c.requires.may.few; near = near_may c.args.sources.now (expand c.args.runs.now) c.args.len c.requires.may }
+
+pub collect_lists-invariant_of-plan : goal.collect_lists-invariant_of-plan
+collect_lists-invariant_of-plan t c = record { count = c.requires.may.len; few = c.requires.may.few; near = near_may c.args.sources.now (expand c.args.runs.now) c.args.len c.requires.may }
 
 -- ---- lists
 
-pub collect_lists-collect_like-requires : goal.collect_lists-collect_like-requires
-collect_lists-collect_like-requires t c =
+pub collect_lists-collect_children-requires : goal.collect_lists-collect_children-requires
+collect_lists-collect_children-requires t c =
     let s = type_of c.args.child.now in
     let cs = c.args.sources.now in
-    let xs = c.deref.result.now in
-    let found = ap (map (λ x. x.now)) c.deref.ensures.value ∙ c.in_ok-children.ensures.children in
-    let below = children_recurse s cs xs found c.requires.alike c.requires.may.formed in
-    let fits = children_fit s cs xs found c.requires.alike c.requires.may.formed c.deref-2.result.now c.in_ok-ends.below.items c.deref-2.ensures.value c.in_ok-ends.ensures.fits in
-    let count = ap (λ rs. length (expand rs)) c.deref-2.ensures.value ∙ c.in_ok-ends.ensures.count in
-    (omega (arith, c.decreases), (c.requires.child, (below.alike, record { formed = below.formed; fits = fits; len = count; few = c.in_ok-ends.ensures.few })))
+    let runs = ap expand c.deref.ensures.value in
+    let fits = subst (All (PickFits (below_of cs))) (sym runs) c.in_ok-ends.ensures.fits in
+    (omega (arith, c.decreases), (c.requires.child, (lists_listing s cs c.requires.alike, (lists_child s cs c.requires.alike, (c.requires.may.formed, (fits, (ap length runs ∙ c.in_ok-ends.ensures.count, c.in_ok-ends.ensures.few)))))))
 
-pub collect_lists-lists_over-requires-clause-below : goal.collect_lists-lists_over-requires-clause-below
-collect_lists-lists_over-requires-clause-below t c =
-    let found = ap (map (λ x. x.now)) c.deref.ensures.value ∙ c.in_ok-children.ensures.children in
-    c.in_ok-values.ensures.rows ∙ children_picked (type_of c.args.child.now) c.args.sources.now c.deref.result.now found c.requires.alike c.requires.may.formed c.deref-2.result.now c.in_ok-ends.below.items _ c.deref-2.ensures.value c.in_ok-ends.ensures.items
+-- ---- the children of lists
 
-pub collect_lists-returns-in_err-values-clause-refusal : goal.collect_lists-returns-in_err-values-clause-refusal
-collect_lists-returns-in_err-values-clause-refusal t c =
-    let s = type_of c.args.child.now in
+pub collect_children-collect_like-requires : goal.collect_children-collect_like-requires
+collect_children-collect_like-requires t c =
     let cs = c.args.sources.now in
-    let xs = c.deref.result.now in
-    let items = joined_items 0 (picked cs c.args.runs.now) in
-    let fault = c.in_err-values.field-0.0 in
-    let p = err_from_is_err_and c.from_residual-in_err-values.result c.from_residual-in_err-values.ensures.1 in
-    let found = ap (map (λ x. x.now)) c.deref.ensures.value ∙ c.in_ok-children.ensures.children in
-    let same = children_picked s cs xs found c.requires.alike c.requires.may.formed c.deref-2.result.now c.in_ok-ends.below.items items c.deref-2.ensures.value c.in_ok-ends.ensures.items in
-    let here = subst (λ l. IsLimitOrMemory (exceeded_taken s l items) fault) (children_columns s cs xs found c.requires.alike c.requires.may.formed)
-    (subst (λ l. IsLimitOrMemory (exceeded_taken s (columns_of xs) l) fault) same c.in_err-values.ensures.refusal) in
-    rw (p.1, p.2) (refused_more _ _ fault (λ limit h. inr h) here)
+    let s = type_of c.args.first.now in
+    let xs = c.child_of.result ∷ [] in
+    let found = one_child cs c.only-item.result c.child_of.result (omega (arith, c.in-len1.len_at_least)) (omega (arith, c.in-len1.len_below)) c.only-item.is c.child_of.ensures in
+    let below = children_recurse s cs xs found c.requires.lists c.requires.alike c.requires.formed in
+    (omega (arith, c.decreases), (c.requires.first, (below.alike, children_may s cs xs found c.requires.lists c.requires.alike c.requires.formed (expand c.args.runs.now) c.args.len c.requires.fits c.requires.len c.requires.few)))
 
-pub collect_lists-returns-clause-within : goal.collect_lists-returns-clause-within
-collect_lists-returns-clause-within t c =
-    let s = type_of c.args.child.now in
+pub collect_children-returns-in-len1 : goal.collect_children-returns-in-len1
+collect_children-returns-in-len1 t c =
     let cs = c.args.sources.now in
+    let found = one_child cs c.only-item.result c.child_of.result (omega (arith, c.in-len1.len_at_least)) (omega (arith, c.in-len1.len_below)) c.only-item.is c.child_of.ensures in
+    children_collected (type_of c.args.first.now) cs (c.child_of.result ∷ []) found c.requires.lists c.requires.alike c.requires.formed _ (expand c.args.runs.now) c.collect_like.ensures
+
+pub collect_children-collect_like-requires-2 : goal.collect_children-collect_like-requires-2
+collect_children-collect_like-requires-2 t c =
+    let cs = c.args.sources.now in
+    let s = type_of c.args.first.now in
     let xs = c.deref.result.now in
-    let items = joined_items 0 (picked cs c.args.runs.now) in
     let found = ap (map (λ x. x.now)) c.deref.ensures.value ∙ c.in_ok-children.ensures.children in
-    let same = children_picked s cs xs found c.requires.alike c.requires.may.formed c.deref-2.result.now c.in_ok-ends.below.items items c.deref-2.ensures.value c.in_ok-ends.ensures.items in
-    let below = subst (λ l. ExceedsNone (exceeded_taken s l items)) (children_columns s cs xs found c.requires.alike c.requires.may.formed)
-    (subst (λ l. ExceedsNone (exceeded_taken s (columns_of xs) l)) same c.in_ok-values.ensures.within) in
-    let long = ap length (sym c.in_ok-ends.ensures.items) in
-    passes_neither (ExceedsRows (length items)) (exceeded_taken s (map child (columns_of cs)) items)
-    (few_rows_pass (length items) (omega (arith, long, length-pick Null (below_of cs) (expand c.in_ok-ends.below.items), c.in_ok-ends.ensures.count, c.in_ok-ends.ensures.few))) below
+    let below = children_recurse s cs xs found c.requires.lists c.requires.alike c.requires.formed in
+    (omega (arith, c.decreases), (c.requires.first, (below.alike, children_may s cs xs found c.requires.lists c.requires.alike c.requires.formed (expand c.args.runs.now) c.args.len c.requires.fits c.requires.len c.requires.few)))
+
+pub collect_children-returns : goal.collect_children-returns
+collect_children-returns t c =
+    let cs = c.args.sources.now in
+    let found = ap (map (λ x. x.now)) c.deref.ensures.value ∙ c.in_ok-children.ensures.children in
+    children_collected (type_of c.args.first.now) cs c.deref.result.now found c.requires.lists c.requires.alike c.requires.formed _ (expand c.args.runs.now) c.collect_like-2.ensures
+
+-- ---- the child rows of lists
+
+pub collect_items-returns-in-Null : goal.collect_items-returns-in-Null
+collect_items-returns-in-Null t c =
+    let cs = c.args.sources.now in
+    let none : type_of c.args.first.now ≡ of_null = ap type_of c.in-Null.is in
+    let nulls : All (λ c. type_of (child c.now) ≡ of_null) cs = λ k d h. c.requires.alike k d h ∙ none in
+    let items = ap (λ n. replicate n Null) c.requires.need ∙ sym (null_items_in c.args.width cs c.requires.lists c.requires.formed nulls (expand c.args.runs.now) c.requires.fits) in
+    record { rows = items; dtype = sym none; formed = search rules; within = rw none (λ limit h. h); refusal = search rules }
+
+pub collect_items-collect_children-requires : goal.collect_items-collect_children-requires
+collect_items-collect_children-requires t c =
+    let cs = c.args.sources.now in
+    let runs = ap expand c.deref.ensures.value in
+    let fits = subst (All (PickFits (below_of cs))) (sym runs) c.in_ok-below.ensures.fits in
+    let count = ap length runs ∙ sym (length-pick Null (below_of cs) (expand c.in_ok-below.below.items)) ∙ ap length c.in_ok-below.ensures.items ∙ sym c.requires.need in
+    (omega (arith, c.decreases), (c.requires.first, (c.requires.lists, (c.requires.alike, (c.requires.formed, (fits, (count, c.requires.few)))))))
+
+pub collect_items-returns : goal.collect_items-returns
+collect_items-returns t c =
+    let cs = c.args.sources.now in
+    let items = ap (λ rs. pick Null (below_of cs) (expand rs)) c.deref.ensures.value ∙ c.in_ok-below.ensures.items in
+    subst (Collects _ (type_of c.args.first.now) (map child (columns_of cs))) items c.collect_children.ensures
 
 pub collect_blocks-collect_items-requires : goal.collect_blocks-collect_items-requires
 collect_blocks-collect_items-requires t c =
@@ -78,56 +108,6 @@ collect_blocks-collect_items-requires t c =
     let lists : All (λ c. is_listing (type_of c.now) ≡ true) cs = λ k d h. ap is_listing (c.requires.alike k d h) in
     let alike : All (λ c. type_of (child c.now) ≡ s) cs = λ k d h. block_child_type (get_or cs k d).now s c.args.size (c.requires.alike k d h) in
     (omega (arith, c.decreases), (c.requires.child, (lists, (alike, (c.requires.may.formed, (c.requires.may.fits, (c.count_items-need.ensures, omega (arith, c.if-need.false))))))))
-
-pub collect_blocks-returns-in_err-values-clause-refusal : goal.collect_blocks-returns-in_err-values-clause-refusal
-collect_blocks-returns-in_err-values-clause-refusal t c =
-    let items = joined_items c.args.size (pick Null (rows_of c.args.sources.now) (expand c.args.runs.now)) in
-    let fault = c.in_err-values.field-0.0 in
-    let p = err_from_is_err_and c.from_residual.result c.from_residual.ensures.1 in
-    let here = subst (λ l. IsLimitOrMemory (exceeded_taken (type_of c.args.child.now) l items) fault) (mapped_now child c.args.sources.now) c.in_err-values.ensures.refusal in
-    rw (p.1, p.2) (refused_more _ _ fault (λ limit h. inr h) here)
-
--- ---- the child rows of lists
-
-pub collect_items-returns-in-Null-clause-rows : goal.collect_items-returns-in-Null-clause-rows
-collect_items-returns-in-Null-clause-rows t c =
-    let cs = c.args.sources.now in
-    let none : type_of c.args.first.now ≡ of_null = ap type_of c.in-Null.is in
-    let nulls : All (λ c. type_of (child c.now) ≡ of_null) cs = λ k d h. c.requires.alike k d h ∙ none in
-    ap (λ n. replicate n Null) c.requires.need ∙ sym (null_items_in c.args.width cs c.requires.lists c.requires.formed nulls (expand c.args.runs.now) c.requires.fits)
-
-pub collect_items-collect_like-requires : goal.collect_items-collect_like-requires
-collect_items-collect_like-requires t c =
-    let cs = c.args.sources.now in
-    let xs = c.deref.result.now in
-    let found = ap (map (λ x. x.now)) c.deref.ensures.value ∙ c.in_ok-children.ensures.children in
-    let below = items_recurse (type_of c.args.first.now) xs cs found c.requires.lists c.requires.alike c.requires.formed in
-    let runs = ap expand c.deref-2.ensures.value in
-    let fits = subst (λ xss. All (PickFits xss) (expand c.deref-2.result.now)) (sym below.rows) (subst (All (PickFits (below_of cs))) (sym runs) c.in_ok-below.ensures.fits) in
-    let count = ap length runs ∙ sym (length-pick Null (below_of cs) (expand c.in_ok-below.below.items)) ∙ ap length c.in_ok-below.ensures.items ∙ sym c.requires.need in
-    (omega (arith, c.decreases), (c.requires.first, (below.alike, record { formed = below.formed; fits = fits; len = count; few = c.requires.few })))
-
-pub collect_items-returns-in_err-values-clause-refusal : goal.collect_items-returns-in_err-values-clause-refusal
-collect_items-returns-in_err-values-clause-refusal t c =
-    let cs = c.args.sources.now in
-    let xs = c.deref.result.now in
-    let s = type_of c.args.first.now in
-    let fault = c.in_err-values.field-0.0 in
-    let p = err_from_is_err_and c.from_residual-in_err-values.result c.from_residual-in_err-values.ensures.1 in
-    let found = ap (map (λ x. x.now)) c.deref.ensures.value ∙ c.in_ok-children.ensures.children in
-    let below = items_recurse s xs cs found c.requires.lists c.requires.alike c.requires.formed in
-    let items = ap (λ xss. pick Null xss (expand c.deref-2.result.now)) below.rows ∙ ap (λ ps. pick Null (below_of cs) ps) (ap expand c.deref-2.ensures.value) ∙ c.in_ok-below.ensures.items in
-    let here = subst (λ l. IsLimitOrMemory (exceeded_taken s l (joined_items c.args.width (pick Null (rows_of cs) (expand c.args.runs.now)))) fault) found
-    (subst (λ l. IsLimitOrMemory (exceeded_taken s (map (λ x. x.now) xs) l) fault) items c.in_err-values.ensures.refusal) in
-    rw (p.1, p.2) here
-
-pub collect_items-returns-clause-rows : goal.collect_items-returns-clause-rows
-collect_items-returns-clause-rows t c =
-    let cs = c.args.sources.now in
-    let xs = c.deref.result.now in
-    let found = ap (map (λ x. x.now)) c.deref.ensures.value ∙ c.in_ok-children.ensures.children in
-    let below = items_recurse (type_of c.args.first.now) xs cs found c.requires.lists c.requires.alike c.requires.formed in
-    c.in_ok-values.ensures.rows ∙ ap (λ xss. pick Null xss (expand c.deref-2.result.now)) below.rows ∙ ap (λ ps. pick Null (below_of cs) ps) (ap expand c.deref-2.ensures.value) ∙ c.in_ok-below.ensures.items
 
 -- ---- struct rows
 
@@ -142,26 +122,12 @@ collect_like-collect_structs-requires t c =
     let firsts = subst (All (λ x. IsWellFormed x)) (sym same) (λ k d h. (has.fields k d h).1) in
     (omega (arith, c.decreases, ap size_of kind), (firsts, ((λ k d h. c.requires.alike k d h ∙ kind), c.requires.may)))
 
-pub collect_like-returns-in-Struct-clause-dtype : goal.collect_like-returns-in-Struct-clause-dtype
-collect_like-returns-in-Struct-clause-dtype t c =
+pub collect_like-returns-in-Struct : goal.collect_like-returns-in-Struct
+collect_like-returns-in-Struct t c =
     let kind : type_of c.args.first.now ≡ of_struct (shapes_of (map type_of c.deref-in-Struct.result.now)) =
     ap type_of c.in-Struct.is ∙ type_of-Struct c.in-Struct.len c.in-Struct.fields c.in-Struct.validity ∙ ap (λ l. of_struct (shapes_of (map type_of l))) (sym c.deref-in-Struct.ensures.value)
     in
-    rw kind c.collect_structs.ensures.dtype
-
-pub collect_like-returns-in-Struct-clause-within : goal.collect_like-returns-in-Struct-clause-within
-collect_like-returns-in-Struct-clause-within t c =
-    let kind : type_of c.args.first.now ≡ of_struct (shapes_of (map type_of c.deref-in-Struct.result.now)) =
-    ap type_of c.in-Struct.is ∙ type_of-Struct c.in-Struct.len c.in-Struct.fields c.in-Struct.validity ∙ ap (λ l. of_struct (shapes_of (map type_of l))) (sym c.deref-in-Struct.ensures.value)
-    in
-    rw kind c.collect_structs.ensures.within
-
-pub collect_like-returns-in-Struct-clause-refusal : goal.collect_like-returns-in-Struct-clause-refusal
-collect_like-returns-in-Struct-clause-refusal t c =
-    let kind : type_of c.args.first.now ≡ of_struct (shapes_of (map type_of c.deref-in-Struct.result.now)) =
-    ap type_of c.in-Struct.is ∙ type_of-Struct c.in-Struct.len c.in-Struct.fields c.in-Struct.validity ∙ ap (λ l. of_struct (shapes_of (map type_of l))) (sym c.deref-in-Struct.ensures.value)
-    in
-    rw kind c.collect_structs.ensures.refusal
+    rw kind c.collect_structs.ensures
 
 pub collect_fields-loop-j-init : goal.collect_fields-loop-j-init
 collect_fields-loop-j-init t c =
@@ -261,34 +227,6 @@ pub collect_fields-returns-clause-formed : goal.collect_fields-returns-clause-fo
 collect_fields-returns-clause-formed t c = c.loop-j.invariant.formed
 
 -- ---- a returned column exceeds no limit
-
-pub collect_like-returns-in-BinaryView-clause-within : goal.collect_like-returns-in-BinaryView-clause-within
-collect_like-returns-in-BinaryView-clause-within t c = rw c.in-BinaryView.is c.collect_binview.ensures.within
-
-pub collect_like-returns-in-Utf8View-clause-within : goal.collect_like-returns-in-Utf8View-clause-within
-collect_like-returns-in-Utf8View-clause-within t c = rw c.in-Utf8View.is c.collect_utf8view.ensures.within
-
-pub collect_like-returns-in-FixedSizeList-clause-within : goal.collect_like-returns-in-FixedSizeList-clause-within
-collect_like-returns-in-FixedSizeList-clause-within t c = rw (c.in-FixedSizeList.is, sym c.deref-in-FixedSizeList.ensures) c.collect_blocks.ensures.within
-
-pub collect_blocks-returns-clause-within : goal.collect_blocks-returns-clause-within
-collect_blocks-returns-clause-within t c =
-    let items = joined_items c.args.size (picked c.args.sources.now c.args.runs.now) in
-    let s = type_of c.args.child.now in
-    let columns = columns_of c.args.sources.now in
-    let below = subst (λ l. ExceedsNone (exceeded_taken s l items)) (mapped_now child c.args.sources.now) c.in_ok-values.ensures.within in
-    passes_neither (ExceedsRows (length items)) (exceeded_taken s (map child columns) items) (few_rows_pass (length items) (omega (arith, c.count_items-need.ensures, c.if-need.false))) below
-
-pub collect_items-returns-clause-within : goal.collect_items-returns-clause-within
-collect_items-returns-clause-within t c =
-    let cs = c.args.sources.now in
-    let xs = c.deref.result.now in
-    let s = type_of c.args.first.now in
-    let found = ap (map (λ x. x.now)) c.deref.ensures.value ∙ c.in_ok-children.ensures.children in
-    let below = items_recurse s xs cs found c.requires.lists c.requires.alike c.requires.formed in
-    let items = ap (λ xss. pick Null xss (expand c.deref-2.result.now)) below.rows ∙ ap (λ ps. pick Null (below_of cs) ps) (ap expand c.deref-2.ensures.value) ∙ c.in_ok-below.ensures.items in
-    subst (λ l. ExceedsNone (exceeded_taken s l (joined_items c.args.width (picked cs c.args.runs.now)))) found
-    (subst (λ l. ExceedsNone (exceeded_taken s (map (λ x. x.now) xs) l)) items c.in_ok-values.ensures.within)
 
 pub collect_fields-returns-clause-within : goal.collect_fields-returns-clause-within
 collect_fields-returns-clause-within t c =

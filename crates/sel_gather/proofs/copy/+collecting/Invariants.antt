@@ -14,22 +14,25 @@ use Rattle.sel_gather.proofs.ItemRuns.{rows_of}
 use Rattle.sel_gather.proofs.copy.+collecting.Given as goal
 
 abbrev pub decreases-collect_like : goal.decreases-collect_like
-decreases-collect_like l = 3 * size_of (type_of l.first.now) + 1
+decreases-collect_like l = 4 * size_of (type_of l.first.now) + 1
 
 abbrev pub decreases-collect_lists : goal.decreases-collect_lists
-decreases-collect_lists l = 3 * size_of (type_of l.child.now) + 3
+decreases-collect_lists l = 4 * size_of (type_of l.child.now) + 4
+
+abbrev pub decreases-collect_children : goal.decreases-collect_children
+decreases-collect_children l = 4 * size_of (type_of l.first.now) + 2
 
 abbrev pub decreases-collect_blocks : goal.decreases-collect_blocks
-decreases-collect_blocks l = 3 * size_of (type_of l.child.now) + 3
+decreases-collect_blocks l = 4 * size_of (type_of l.child.now) + 4
 
 abbrev pub decreases-collect_items : goal.decreases-collect_items
-decreases-collect_items l = 3 * size_of (type_of l.first.now) + 2
+decreases-collect_items l = 4 * size_of (type_of l.first.now) + 3
 
 abbrev pub decreases-collect_structs : goal.decreases-collect_structs
-decreases-collect_structs l = 3 * sizes_of (shapes_of (map type_of l.firsts.now)) + 3
+decreases-collect_structs l = 4 * sizes_of (shapes_of (map type_of l.firsts.now)) + 3
 
 abbrev pub decreases-collect_fields : goal.decreases-collect_fields
-decreases-collect_fields l = 3 * sizes_of (shapes_of (map type_of l.firsts.now)) + 2
+decreases-collect_fields l = 4 * sizes_of (shapes_of (map type_of l.firsts.now)) + 2
 
 abbrev pub invariant-collect_fields-loop-j : goal.invariant-collect_fields-loop-j
 invariant-collect_fields-loop-j l = record {

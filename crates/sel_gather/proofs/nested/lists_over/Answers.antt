@@ -1,37 +1,43 @@
-use Rattle.std.proofs.Common.{◌≡◌, ◌∙◌, ◌∷◌, true, ap, sym}
+use Rattle.std.proofs.Common.{◌≡◌, ◌∙◌, ◌∷◌, true, ap, sym, length, arith}
 use Rattle.std.specs.Prelude.{ℤ}
 use Rattle.sel_arrow.specs.Rows.{rows, type_of, well_formed}
 use Rattle.sel_arrow.specs.Value.{Null}
-use Rattle.sel_gather.specs.Picks.{pick}
-use Rattle.sel_gather.specs.Runs.{expand}
+use Rattle.sel_arrow.proofs.NestedRows.{lists_formed}
 use Rattle.sel_gather.specs.Children.{joined_items}
 use Rattle.sel_gather.specs.Ends.{item_ends}
-use Rattle.sel_arrow.proofs.NestedRows.{lists_formed}
+use Rattle.sel_gather.specs.Picks.{pick}
 use Rattle.sel_gather.proofs.ItemRuns.{rows_of}
 use Rattle.sel_gather.proofs.JoinedRows.{offsets_of, same_numbers, map_same}
 use Rattle.sel_gather.proofs.Layouts.{picked_lists}
 use Rattle.sel_gather.proofs.Rebuilt.{rising_ends, lists_rebuilt, lists_fit}
 use Rattle.sel_gather.proofs.RunLists.{length-pick}
+use Rattle.sel_gather.proofs.Walks.{lists_known}
 use Rattle.sel_gather.proofs.nested.lists_over.Goals as goal
 
 pub of_rising-requires : goal.of_rising-requires
-of_rising-requires c =
-    let vs = pick Null (rows_of c.args.sources.now) (expand c.args.runs.now) in
+of_rising-requires g c =
+    let vs = pick Null (rows_of c.args.sources.now) (g.P.Plan.picks c.args.plan.now) in
     offsets_of (λ (x : ℤ). x) c.args.ends.items (0 ∷ item_ends 0 vs) (map_same c.args.ends.items ∙ c.requires.ends) (rising_ends vs)
 
+pub gather_validity-requires-clause-known : goal.gather_validity-requires-clause-known
+gather_validity-requires-clause-known g c = lists_known (type_of c.args.values) c.args.sources.now c.requires.lists
+
 pub returns-clause-rows : goal.returns-clause-rows
-returns-clause-rows c =
-    let vs = pick Null (rows_of c.args.sources.now) (expand c.args.runs.now) in
+returns-clause-rows g c =
+    let cs = c.args.sources.now in
+    let ps = g.P.Plan.picks c.args.plan.now in
+    let vs = pick Null (rows_of cs) ps in
     let below : rows c.in_ok-values.values.value ≡ joined_items 0 vs = ap rows c.in_ok-values.ensures.ok ∙ c.requires.below in
     let offsets : c.in_ok-offsets.offsets ≡ 0 ∷ item_ends 0 vs = same_numbers c.in_ok-offsets.offsets (0 ∷ item_ends 0 vs) (sym c.in_ok-offsets.ensures.value ∙ map_same c.args.ends.items ∙ c.requires.ends) in
-    lists_rebuilt vs c.in_ok-offsets.offsets (rows c.in_ok-values.values.value) c.in_ok-validity.validity c.args.len (picked_lists c.args.sources.now (type_of c.args.values) (expand c.args.runs.now) c.requires.lists)
-    (length-pick Null (rows_of c.args.sources.now) (expand c.args.runs.now) ∙ c.requires.may.len) offsets below c.in_ok-validity.ensures.bits
+    lists_rebuilt vs c.in_ok-offsets.offsets (rows c.in_ok-values.values.value) c.in_ok-validity.validity (length ps) (picked_lists cs (type_of c.args.values) ps c.requires.lists) (length-pick Null (rows_of cs) ps) offsets below c.in_ok-validity.ensures.bits
 
 pub returns-clause-formed : goal.returns-clause-formed
-returns-clause-formed c =
-    let vs = pick Null (rows_of c.args.sources.now) (expand c.args.runs.now) in
+returns-clause-formed g c =
+    let cs = c.args.sources.now in
+    let ps = g.P.Plan.picks c.args.plan.now in
+    let vs = pick Null (rows_of cs) ps in
     let below : rows c.in_ok-values.values.value ≡ joined_items 0 vs = ap rows c.in_ok-values.ensures.ok ∙ c.requires.below in
     let formed : well_formed c.in_ok-values.values.value ≡ true = ap well_formed c.in_ok-values.ensures.ok ∙ c.requires.child in
     let offsets : c.in_ok-offsets.offsets ≡ 0 ∷ item_ends 0 vs = same_numbers c.in_ok-offsets.offsets (0 ∷ item_ends 0 vs) (sym c.in_ok-offsets.ensures.value ∙ map_same c.args.ends.items ∙ c.requires.ends) in
     lists_formed c.in_ok-offsets.offsets c.in_ok-values.values.value c.in_ok-validity.validity
-    (lists_fit vs c.in_ok-offsets.offsets c.in_ok-values.values.value c.in_ok-validity.validity c.args.len (length-pick Null (rows_of c.args.sources.now) (expand c.args.runs.now) ∙ c.requires.may.len) c.requires.may.few offsets below c.in_ok-validity.ensures.covers formed)
+    (lists_fit vs c.in_ok-offsets.offsets c.in_ok-values.values.value c.in_ok-validity.validity (length ps) (length-pick Null (rows_of cs) ps) (omega (arith, c.len-len.ensures.len, c.len-len.ensures.few)) offsets below c.in_ok-validity.ensures.covers formed)

@@ -1,0 +1,84 @@
+-- The row references of runs, one by one and as an iterator, and the bits at them.
+use Rattle.std.proofs.Common.{◌≡◌, All, Bor, ℕ, zero, suc, ◌+◌, ◌-◌, ◌%◌, ◌^◌, ◌<◌, ◌≤◌, false, List, [], ◌∷◌, ◌++◌, length, take, replicate, get_or, Option, Some, None, refl, ap, sym, subst, ◌∙◌, arith}
+use Rattle.std.specs.Option.{ForSome}
+use Rattle.std.proofs.lemmas.List.{drop_more}
+use Rattle.std.proofs.lemmas.List.Elements.{All-get_or}
+use Rattle.std.proofs.lemmas.List.FromFn.{length-map-range_with_len, get_or-map-range_with_len}
+use Rattle.sel_bits.specs.Bits.{Bits}
+use Rattle.sel_arrow.specs.Masked.{valid_at}
+use Rattle.sel_arrow.specs.Rows.{IsWellFormed}
+use Rattle.sel_arrow.specs.declared.column.Column.{Column}
+use Rattle.sel_arrow.proofs.NestedRows.{length-rows}
+use Rattle.sel_gather.specs.Gathers.{MayGather}
+use Rattle.sel_gather.specs.Picks.{PickFits}
+use Rattle.sel_gather.specs.Plans.{HasBit, IsNear, bits_found}
+use Rattle.sel_gather.specs.Runs.{unrolled, unrolled_from, picks_of}
+use Rattle.sel_gather.specs.Validity.{part_bits}
+use Rattle.sel_gather.specs.declared.runs.Run.{Run}
+use Rattle.sel_gather.proofs.ItemRuns.{rows_of}
+use Rattle.sel_gather.proofs.ListParts.{few_rows}
+use Rattle.sel_gather.proofs.RunLists.{All-left}
+
+first_pick : (s a b n : ℕ) → All IsNear (picks_of s a (suc n)) → b ≡ (a + 1) % 2 ^ 32 → picks_of s a (suc n) ≡ Some (s, a) ∷ picks_of s b n
+first_pick s a b zero near e = refl
+first_pick s a b (suc n) near e =
+    let there : a + 1 < 2 ^ 32 = near 1 None (omega arith) (s, a + 1) refl in
+    let same : a + 1 ≡ b = omega (arith, e, there) in
+    ap (λ x. Some (s, a) ∷ picks_of s x (suc n)) same
+
+abbrev pub first_of : Option ℕ → ℕ → Option (ℕ × ℕ)
+first_of None a = None
+first_of (Some s) a = Some (s, a)
+
+-- The first row reference of a run, and those after it.
+pub next_pick : (o : Option ℕ) (a n : ℕ) (rest : List (Option (ℕ × ℕ))) → 0 < n → All IsNear (unrolled_from o a n ++ rest) → unrolled_from o a n ≡ first_of o a ∷ unrolled_from o ((a + 1) % 2 ^ 32) (n - 1)
+next_pick o a zero rest some near = absurd (omega (arith, some))
+next_pick None a (suc n) rest some near = let less : n ≡ suc n - 1 = omega arith in ap (λ m. None ∷ replicate m None) less
+next_pick (Some s) a (suc n) rest some near =
+    let less : n ≡ suc n - 1 = omega arith in
+    first_pick s a ((a + 1) % 2 ^ 32) n (All-left IsNear (picks_of s a (suc n)) rest near) refl ∙ ap (λ m. Some (s, a) ∷ picks_of s ((a + 1) % 2 ^ 32) m) less
+
+near_at : (cs : List (Bor Column)) (s i : ℕ) → All (λ c. IsWellFormed c.now) cs → i < length (get_or (rows_of cs) s []) → i < 2 ^ 32
+near_at [] s i formed h = absurd (omega (arith, h))
+near_at (c ∷ cs) zero i formed h = omega (arith, h, length-rows c.now, few_rows c.now (formed 0 c (omega arith)))
+near_at (c ∷ cs) (suc s) i formed h = near_at cs s i (λ k d below. formed (suc k) d (omega (arith, below))) h
+
+-- Row references to rows of well-formed columns.
+pub near_may : (cs : List (Bor Column)) (ps : List (Option (ℕ × ℕ))) (n : ℕ) → MayGather cs ps n → All IsNear ps
+near_may cs ps n may k d h p is = near_at cs p.0 p.1 may.formed (subst (PickFits (rows_of cs)) is (may.fits k d h))
+
+-- ---- the bits of a run
+
+bits_there : (vs : List (Option Bits)) (s a n : ℕ) → 0 < n → All (HasBit vs) (picks_of s a n) → (s < length vs) × ForSome (get_or vs s None) (λ v. a + n ≤ length v.bits)
+bits_there vs s a n some fits =
+    let long = length-map-range_with_len (λ i. let p : Option (ℕ × ℕ) = Some (s, i) in p) a n in
+    let last = All-get_or (HasBit vs) (picks_of s a n) (n - 1) None (omega (arith, long)) fits in
+    let place : get_or (picks_of s a n) (n - 1) None ≡ Some (s, a + (n - 1)) = get_or-map-range_with_len (λ i. Some (s, i)) a n (n - 1) (a + (n - 1)) None (omega arith) refl in
+    let here : HasBit vs (Some (s, a + (n - 1))) = subst (HasBit vs) place last in
+    (here.0, λ v is. omega (arith, here.1 v is))
+
+bits_run : (vs : List (Option Bits)) (s : ℕ) (v : Option Bits) → get_or vs s None ≡ v → (a n : ℕ) → ForSome v (λ b. a + n ≤ length b.bits) → part_bits a n v ≡ bits_found vs (picks_of s a n)
+bits_run vs s None is a zero fits = refl
+bits_run vs s None is a (suc n) fits = (λ i. valid_at (sym is i) a ∷ bits_run vs s None is (a + 1) n (λ b e. absurd cc) i)
+bits_run vs s (Some b) is a zero fits = refl
+bits_run vs s (Some b) is a (suc n) fits =
+    let inside = fits b refl in
+    let next : part_bits (a + 1) n (Some b) ≡ bits_found vs (picks_of s (a + 1) n) =
+    bits_run vs s (Some b) is (a + 1) n (λ c e. let same : b ≡ c = cc in omega (arith, inside, ap (λ (x : Bits). length x.bits) same))
+    in
+    ap (take (suc n)) (drop_more b.bits a false (omega (arith, inside))) ∙ (λ i. valid_at (sym is i) a ∷ next i)
+
+pub null_found : (vs : List (Option Bits)) (r : Run) → r.source ≡ None → replicate r.len false ≡ bits_found vs (unrolled r)
+null_found vs r is = rw is (each r.len)
+  where
+    each : (n : ℕ) → replicate n false ≡ bits_found vs (replicate n None)
+    each zero = refl
+    each (suc n) = ap (λ l. false ∷ l) (each n)
+
+-- The bits of a run with a source.
+module _ (vs : List (Option Bits)) (r : Run) (s : ℕ) (is : r.source ≡ Some s) (some : 0 < r.len) (fits : All (HasBit vs) (unrolled r)) where
+  pub run_there : (s < length vs) × ForSome (get_or vs s None) (λ v. r.start + r.len ≤ length v.bits)
+  run_there = bits_there vs s r.start r.len some (subst (λ o. All (HasBit vs) (unrolled_from o r.start r.len)) is fits)
+
+  pub run_found : part_bits r.start r.len (get_or vs s None) ≡ bits_found vs (unrolled r)
+  run_found = rw is (bits_run vs s (get_or vs s None) refl r.start r.len run_there.1)

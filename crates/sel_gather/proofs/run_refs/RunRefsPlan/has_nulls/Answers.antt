@@ -1,0 +1,10 @@
+use Rattle.std.proofs.Common.{◌≡◌, ◌∷◌, ap, is_none, false}
+use Rattle.std.proofs.lemmas.List.Elements.{All-cons}
+use Rattle.sel_gather.specs.declared.runs.Run.{Run}
+use Rattle.sel_gather.proofs.RunLists.{named_picked}
+use Rattle.sel_gather.proofs.run_refs.RunRefsPlan.has_nulls.Goals as goal
+
+pub returns-in-Some : goal.returns-in-Some
+returns-in-Some c =
+    let refs = c.args.self.now in
+    λ e. named_picked (refs.first ∷ refs.rest.now) (All-cons (λ (r : Run). is_none r.source ≡ false) refs.first refs.rest.now (ap is_none c.in-Some.is) (c.is_any_null.ensures.0 e))

@@ -1,0 +1,19 @@
+use Rattle.std.proofs.Common.{arith, length-append}
+use Rattle.sel_gather.specs.Plans.{IsNear}
+use Rattle.sel_gather.specs.Runs.{expand, unrolled}
+use Rattle.sel_gather.proofs.RunLists.{All-right, length-unrolled}
+use Rattle.sel_gather.proofs.run_refs.RunRefsPlan.next_run.Goals as goal
+
+pub overflow_sub-self : goal.overflow_sub-self
+overflow_sub-self c =
+    let p = c.ready.new.self in
+    omega (arith, p.count, length-append (unrolled p.first) (expand p.rest.now), length-unrolled p.first)
+
+pub invariant_of-self : goal.invariant_of-self
+invariant_of-self c =
+    let p = c.ready.new.self in
+    record {
+      count = omega (arith, p.count, length-append (unrolled p.first) (expand p.rest.now), length-unrolled p.first);
+      few = omega (arith, p.few);
+      near = All-right IsNear (unrolled p.first) (expand p.rest.now) p.near;
+    }
