@@ -4,4 +4,5 @@ pub mod Inputs
 pub mod Kinds
 pub mod Layout
 pub mod Outputs
+pub mod Parts
 pub mod Status
