@@ -22,5 +22,3 @@ pub get-error : (status : ℕ) (null_on_oob : Bool) (arr : FixedSizeListArray) (
 get-error status null_on_oob arr indices OutOfMemory number refusal = inl number
 get-error status null_on_oob arr indices (SizeLimit limit) number refusal = inr (inr (refusal.0, inr (inr (limit, number, refusal.1))))
 get-error status null_on_oob arr indices ComputeError number refusal = inr (inl (number, λ inside. absurd (cc (refusal, inside))))
-
-pub ruleset errors = get-error

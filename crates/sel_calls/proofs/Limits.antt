@@ -1,10 +1,9 @@
 -- The statuses of calls.
-use Rattle.std.proofs.Common.{◌≡◌, ℕ, zero, suc, ◌<◌, ◌≤◌, List, [], ◌∷◌, inl, inr, refl, subst, sym, ◌∙◌, arith}
+use Rattle.std.proofs.Common.{◌≡◌, ℕ, zero, suc, ◌≤◌, List, [], ◌∷◌, inl, inr, refl, arith}
 use Rattle.sel_bits.specs.declared.faults.Limit.{Limit}
-use Rattle.sel_bits.specs.declared.faults.Limit.TheVariants.{Rows, Bytes, Buffers, ViewBytes}
 use Rattle.sel_bits.specs.declared.faults.PolarsError.{PolarsError}
 use Rattle.sel_bits.specs.declared.faults.PolarsError.TheVariants.{OutOfMemory, SizeLimit, ComputeError}
-use Rattle.sel_ffi.specs.Status.{error_status, ok, out_of_memory, limit_status, ReturnsFirst}
+use Rattle.sel_ffi.specs.Status.{error_status, ok, out_of_memory, ReturnsFirst}
 use Rattle.sel_calls.specs.Returns.{IsOkOrLimit}
 use Rattle.sel_gather.specs.Need.{ExceedsNone, IsLimitOrMemory}
 
@@ -47,5 +46,3 @@ returns-more status (c ∷ cs) A B more (inr (inr rest)) = inr (inr (rest.0, ret
 pub limit-more : (status : ℕ) (E F : Limit → Type 0) → ((limit : Limit) → E limit → F limit) → ((limit : Limit) → F limit → E limit) → IsOkOrLimit status E → IsOkOrLimit status F
 limit-more status E F more back (inl fits) = inl (fits.0, λ limit past. fits.1 limit (back limit past))
 limit-more status E F more back (inr past) = inr (past.0, past.1, more past.0 past.2)
-
-pub ruleset statuses = (returns-error, returns-put)

@@ -1,4 +1,4 @@
-use Rattle.std.proofs.Common.{Some, subst, sym, w64, ℤ, to_z, of_z}
+use Rattle.std.proofs.Common.{Some, subst, sym, w64, ℤ}
 use Rattle.std.proofs.lemmas.Int.{to_z-of_z}
 use Rattle.sel_ffi.specs.Held.{Held}
 use Rattle.sel_calls.specs.Elements.{GetsListElements}

@@ -1,4 +1,4 @@
-use Rattle.std.proofs.Common.{◌≡◌, [], subst, w64, ℤ, to_z, of_z}
+use Rattle.std.proofs.Common.{[], subst, w64, ℤ, to_z, of_z}
 use Rattle.std.proofs.lemmas.Int.{to_z-of_z}
 use Rattle.sel_arrow.specs.NestedArrays.{list_column}
 use Rattle.sel_arrow.specs.Rows.{rows, type_of}

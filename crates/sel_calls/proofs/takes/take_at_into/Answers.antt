@@ -1,4 +1,4 @@
-use Rattle.std.proofs.Common.{◌≡◌, ◌∙◌, [], ap, arith, length, IsTrue, subst}
+use Rattle.std.proofs.Common.{◌∙◌, [], ap, arith, length, IsTrue}
 use Rattle.sel_arrow.specs.Columns.{primitive_rows}
 use Rattle.sel_arrow.specs.Rows.{rows, type_of}
 use Rattle.sel_ffi.specs.Status.{index_out_of_bounds}
