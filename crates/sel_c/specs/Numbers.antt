@@ -5,10 +5,7 @@ use Rattle.sel_arrow.specs.Rows.{rows, type_of}
 use Rattle.sel_arrow.specs.Shape.{Shape}
 use Rattle.sel_ffi.specs.Held.{Held}
 use Rattle.sel_ffi.specs.Inputs.{flat_rules, validity_in}
-use Rattle.sel_ffi.specs.Outputs.{Shows, numbers}
-use Rattle.sel_ffi.specs.Status.{ok, out_of_memory, no_column, unsupported_type, length_mismatch}
-use Rattle.sel_ffi.specs.Status.{held_rows, held_type, Demands, DemandsBefore, DemandsFirst}
-use Rattle.sel_ffi.specs.Status.{HasColumn, IsOneOf, Makes, ReportsOnly}
+use Rattle.sel_ffi.specs.Status.{ok, out_of_memory, IsOneOf, Makes, ReportsOnly}
 use Rattle.sel_lent.specs.Buffers.{IsPartOf}
 use Rattle.sel_lent.specs.Held as lent
 use Rattle.sel_lent.specs.declared.shared_buffer.SharedBuffer.{SharedBuffer}
@@ -21,17 +18,6 @@ pub record MakesNumbers {T : Type 0} (code : ℕ) (before after : Held) (shape :
       number_rows number values (validity_in bits has_bits (length values)))
   pub dtype : Makes code before after (λ made. type_of made.column ≡ shape)
   pub status : ReportsOnly code (flat_rules (length values) bits has_bits)
-
--- The values of a column of this type are copied: the values are its rows, except in null slots,
--- and a status is returned only if its condition does not hold, in this order.
-pub record CopiesNumbers {T : Type 0} (code : ℕ) (held : Held) (shape : Shape) (number : T → ℤ)
-    (before after : List T) : Type 0 where
-  pub values : code ≡ ok → Shows (numbers number after) (held_rows held)
-  pub column : DemandsFirst code no_column (HasColumn held)
-  pub kind : DemandsBefore code unsupported_type (length_mismatch ∷ []) (held_type held ≡ shape)
-  pub count : Demands code length_mismatch (length before ≡ length (held_rows held))
-  pub status : IsOneOf code
-      (ok ∷ out_of_memory ∷ no_column ∷ unsupported_type ∷ length_mismatch ∷ [])
 
 -- Memory of these values becomes a buffer of a handle; on error it and the handle are unchanged,
 -- and the only error is out of memory.

@@ -5,7 +5,7 @@ ghost use Rattle.sel_ternary.specs.Choose.{choose, broadcast_true, broadcast_fal
 ghost use Rattle.sel_ternary.specs.Chosen.{first_row};
 ghost use Rattle.sel_ffi.specs.Status.{held_rows};
 ghost use Rattle.polars_compute.specs.Select.{effective_mask};
-ghost use Rattle.sel_c.specs.Choices.{Chooses};
+ghost use Rattle.sel_calls.specs.Choices.{Chooses};
 
 use sel_calls::choices::choose_handles;
 use sel_ffi::column_ref::ColumnRef;

@@ -1,11 +1,6 @@
 //! Filter.
 
-ghost use Rattle.std.specs.Prelude.{◌≡◌, ◌≤◌, ◌*◌, [], ◌∷◌, length};
-ghost use Rattle.sel_bits.specs.Bits.{bits_from};
-ghost use Rattle.sel_arrow.specs.Rows.{rows, type_of};
-ghost use Rattle.sel_arrow.specs.Shape.{of_boolean};
-ghost use Rattle.sel_ffi.specs.Status.{ok, out_of_memory, no_column, unsupported_type, length_mismatch, held_rows, held_type, Demands, DemandsBefore, DemandsFirst, HasColumn, IsOneOf, Makes};
-ghost use Rattle.polars_compute.specs.Select.{select, effective_mask};
+ghost use Rattle.sel_calls.specs.Filters.{Filters, FiltersByBits};
 
 use sel_calls::filters::{filter_bits_into, filter_into};
 use sel_ffi::column_ref::ColumnRef;
@@ -26,18 +21,7 @@ pub extern "C" fn sel_filter(
     mask: &ColumnRef,
     out: &mut Handle,
 ) -> u32
-    ensures rows { Makes result out.old.tree out.new.tree (λ made. rows made.column ≡
-        select (held_rows of.now.tree) (effective_mask (held_rows mask.now.tree))) }
-    ensures dtype { Makes result out.old.tree out.new.tree
-        (λ made. type_of made.column ≡ held_type of.now.tree) }
-    ensures column { DemandsFirst result no_column
-        (HasColumn of.now.tree × HasColumn mask.now.tree) }
-    ensures kind { DemandsBefore result unsupported_type (length_mismatch ∷ [])
-        (held_type mask.now.tree ≡ of_boolean) }
-    ensures length { Demands result length_mismatch
-        (length (held_rows of.now.tree) ≡ length (held_rows mask.now.tree)) }
-    ensures status { IsOneOf result
-        (ok ∷ out_of_memory ∷ no_column ∷ unsupported_type ∷ length_mismatch ∷ []) }
+    ensures { Filters result of.now.tree mask.now.tree out.old.tree out.new.tree }
 {
     let Some(column) = of.column() else {
         return NO_COLUMN;
@@ -60,15 +44,7 @@ pub extern "C" fn sel_filter_bits(
     len: usize,
     out: &mut Handle,
 ) -> u32
-    ensures rows { Makes result out.old.tree out.new.tree (λ made. rows made.column ≡
-        select (held_rows of.now.tree) (bits_from mask.now 0 len)) }
-    ensures dtype { Makes result out.old.tree out.new.tree
-        (λ made. type_of made.column ≡ held_type of.now.tree) }
-    ensures column { DemandsFirst result no_column (HasColumn of.now.tree) }
-    ensures length { Demands result length_mismatch
-        ((len ≡ length (held_rows of.now.tree)) × (len ≤ 8 * length mask.now)) }
-    ensures status { IsOneOf result (ok ∷ out_of_memory ∷ no_column ∷ length_mismatch ∷
-        []) }
+    ensures { FiltersByBits result of.now.tree out.old.tree out.new.tree mask.now len }
 {
     let Some(column) = of.column() else {
         return NO_COLUMN;

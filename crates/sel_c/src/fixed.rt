@@ -1,11 +1,6 @@
 //! Fixed-size list element access.
 
-ghost use Rattle.std.specs.Prelude.{◌≡◌, ◌∷◌, false, IsTrue};
-ghost use Rattle.sel_arrow.specs.Rows.{rows, type_of};
-ghost use Rattle.sel_arrow.specs.Shape.{is_block_shape};
-ghost use Rattle.sel_calls.specs.Entries.{entries_at, index_is_error, exceeded_entries_at};
-ghost use Rattle.sel_calls.specs.Types.{entry_type};
-ghost use Rattle.sel_ffi.specs.Status.{ok, out_of_memory, no_column, unsupported_type, list_index_out_of_bounds, limit_statuses, held_rows, held_type, DemandsBefore, DemandsFirst, HasColumn, IsOneOf, Makes, ReportsLimits};
+ghost use Rattle.sel_calls.specs.Elements.{GetsFixedEntries};
 
 use sel_calls::fixed::fixed_get_into;
 use sel_ffi::column_ref::ColumnRef;
@@ -29,21 +24,7 @@ pub extern "C" fn sel_fixed_size_list_get(
     null_on_oob: bool,
     out: &mut Handle,
 ) -> u32
-    ensures rows { Makes result out.old.tree out.new.tree (λ made. rows made.column ≡
-        entries_at (held_rows of.now.tree) (held_type of.now.tree) index) }
-    ensures dtype { Makes result out.old.tree out.new.tree
-        (λ made. type_of made.column ≡ entry_type (held_type of.now.tree)) }
-    ensures status { IsOneOf result
-        (ok ∷ out_of_memory ∷ no_column ∷ unsupported_type ∷ list_index_out_of_bounds ∷
-        limit_statuses) }
-    ensures column { DemandsFirst result no_column (HasColumn of.now.tree) }
-    ensures kind { DemandsBefore result unsupported_type
-        (list_index_out_of_bounds ∷ limit_statuses)
-        (IsTrue (is_block_shape (held_type of.now.tree))) }
-    ensures bounds { DemandsBefore result list_index_out_of_bounds limit_statuses
-        (index_is_error null_on_oob (held_rows of.now.tree) (held_type of.now.tree) index ≡ false) }
-    ensures limits { ReportsLimits result
-        (exceeded_entries_at (held_rows of.now.tree) (held_type of.now.tree) index) }
+    ensures { GetsFixedEntries result of.now.tree index null_on_oob out.old.tree out.new.tree }
 {
     let Some(column) = of.column() else {
         return NO_COLUMN;

@@ -1,11 +1,6 @@
 //! Fixed-size list element access with an index for each row.
 
-ghost use Rattle.std.specs.Prelude.{◌≡◌, ◌∷◌, length, false, IsTrue};
-ghost use Rattle.sel_arrow.specs.Rows.{rows, type_of};
-ghost use Rattle.sel_arrow.specs.Shape.{of_int64, is_block_shape};
-ghost use Rattle.sel_calls.specs.Entries.{entries_at_each, any_index_is_error, exceeded_entries_at_each};
-ghost use Rattle.sel_calls.specs.Types.{entry_type};
-ghost use Rattle.sel_ffi.specs.Status.{ok, out_of_memory, no_column, unsupported_type, length_mismatch, list_index_out_of_bounds, limit_statuses, held_rows, held_type, DemandsBefore, DemandsFirst, HasColumn, IsOneOf, Makes, ReportsLimits};
+ghost use Rattle.sel_calls.specs.Elements.{GetsFixedEntriesEach};
 
 use sel_calls::fixed_each::fixed_get_each_into;
 use sel_ffi::column_ref::ColumnRef;
@@ -31,28 +26,8 @@ pub extern "C" fn sel_fixed_size_list_get_each(
     null_on_oob: bool,
     out: &mut Handle,
 ) -> u32
-    ensures rows { Makes result out.old.tree out.new.tree (λ made. rows made.column ≡
-        entries_at_each (held_rows of.now.tree) (held_type of.now.tree)
-        (held_rows indices.now.tree)) }
-    ensures dtype { Makes result out.old.tree out.new.tree
-        (λ made. type_of made.column ≡ entry_type (held_type of.now.tree)) }
-    ensures status { IsOneOf result (ok ∷ out_of_memory ∷ no_column ∷ unsupported_type ∷
-        length_mismatch ∷ list_index_out_of_bounds ∷ limit_statuses) }
-    ensures column { DemandsFirst result no_column
-        (HasColumn of.now.tree × HasColumn indices.now.tree) }
-    ensures kind { DemandsBefore result unsupported_type
-        (length_mismatch ∷ list_index_out_of_bounds ∷ limit_statuses)
-        (IsTrue (is_block_shape (held_type of.now.tree)) ×
-        (held_type indices.now.tree ≡ of_int64)) }
-    ensures length { DemandsBefore result length_mismatch
-        (list_index_out_of_bounds ∷ limit_statuses)
-        (length (held_rows indices.now.tree) ≡ length (held_rows of.now.tree)) }
-    ensures bounds { DemandsBefore result list_index_out_of_bounds limit_statuses
-        (any_index_is_error null_on_oob (held_rows of.now.tree) (held_type of.now.tree)
-        (held_rows indices.now.tree) ≡ false) }
-    ensures limits { ReportsLimits result
-        (exceeded_entries_at_each (held_rows of.now.tree) (held_type of.now.tree)
-        (held_rows indices.now.tree)) }
+    ensures { GetsFixedEntriesEach result of.now.tree indices.now.tree null_on_oob
+        out.old.tree out.new.tree }
 {
     let Some(column) = of.column() else {
         return NO_COLUMN;

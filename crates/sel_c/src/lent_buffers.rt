@@ -3,7 +3,7 @@
 
 ghost use Rattle.std.specs.Prelude.{◌≡◌, ◌≢◌, ◌≤◌, ◌+◌, ◌/◌, ◌∷◌, [], length, None, Some};
 ghost use Rattle.sel_bits.specs.Bits.{bits_from, unsliced};
-ghost use Rattle.sel_ffi.specs.Status.{ok, out_of_memory, length_mismatch, Demands, IsOneOf};
+ghost use Rattle.sel_ffi.specs.Status.{ok, length_mismatch, IsOneOf, ReturnsFirst};
 ghost use Rattle.sel_c.specs.Numbers.{in_use, GivesBack, Lends};
 ghost use Rattle.sel_lent.specs.Buffers.{IsBitsOf};
 ghost use Rattle.sel_lent.specs.declared.shared_buffer.SharedBuffer.TheVariants.{Bits, Int8, Int16, Int32, Int64, UInt8, UInt16, UInt32, UInt64, Views};
@@ -287,8 +287,8 @@ pub extern "C" fn sel_bits_lend(
         out.new.buffer ≡ Some (Bits (unsliced (bits_from from.old.items 0 len))) }
     ensures kept { result ≢ ok → from.new.items ≡ from.old.items }
     ensures unchanged { result ≢ ok → out.new.buffer ≡ out.old.buffer }
-    ensures length { Demands result length_mismatch ((len + 7) / 8 ≤ length from.old.items) }
-    ensures status { IsOneOf result (ok ∷ out_of_memory ∷ length_mismatch ∷ []) }
+    ensures checks { ReturnsFirst result
+        ((length_mismatch, (len + 7) / 8 ≤ length from.old.items) ∷ []) (result ≡ ok) }
 {
     let memory = replace(from, UInt8Memory::of_lent(Lent::none()));
     let (count, bytes) = memory.into_lent().counted();

@@ -1,13 +1,12 @@
 //! List element access.
 
-ghost use Rattle.std.specs.Prelude.{◌≡◌, ◌≢◌, ◌<◌, ◌∷◌, [], IsTrue};
+ghost use Rattle.std.specs.Prelude.{◌≡◌, ◌<◌, [], ◌∷◌};
 ghost use Rattle.sel_arrow.specs.Depth.{depth};
-ghost use Rattle.sel_arrow.specs.Rows.{rows, type_of};
-ghost use Rattle.sel_arrow.specs.Shape.{of_large_list, is_list_shape};
-ghost use Rattle.sel_calls.specs.Types.{entry_type};
-ghost use Rattle.sel_ffi.specs.Status.{ok, out_of_memory, no_column, unsupported_type, too_deep, limit_statuses, held_rows, held_type, Demands, DemandsBefore, DemandsFirst, HasColumn, IsOneOf, Makes, ReportsLimits};
-ghost use Rattle.sel_gather.specs.Need.{exceeded_limits};
-ghost use Rattle.polars_compute.specs.Lists.{list_get, oob, unit_lists};
+ghost use Rattle.sel_arrow.specs.Shape.{of_large_list};
+ghost use Rattle.sel_calls.specs.Elements.{FindsOutOfBounds, GetsListElements};
+ghost use Rattle.sel_calls.specs.Returns.{ReturnsColumn};
+ghost use Rattle.sel_ffi.specs.Status.{ok, no_column, too_deep, held_rows, held_type, HasColumn};
+ghost use Rattle.polars_compute.specs.Lists.{unit_lists};
 
 use polars_compute::gather::sublist::list::array_to_unit_list;
 use sel_arrow::array::Array;
@@ -25,17 +24,7 @@ use std::alloc::Global;
 /// SEL_TYPE_LIST. SEL_ERROR_ROW_LIMIT, SEL_ERROR_OFFSET_LIMIT: the result exceeds a size limit.
 #[unsafe(no_mangle)]
 pub extern "C" fn sel_list_get(alloc: Global, of: &ColumnRef, index: i64, out: &mut Handle) -> u32
-    ensures rows { Makes result out.old.tree out.new.tree
-        (λ made. rows made.column ≡ list_get (held_rows of.now.tree) index) }
-    ensures dtype { Makes result out.old.tree out.new.tree
-        (λ made. type_of made.column ≡ entry_type (held_type of.now.tree)) }
-    ensures status { IsOneOf result (ok ∷ out_of_memory ∷ no_column ∷ unsupported_type ∷
-        limit_statuses) }
-    ensures column { DemandsFirst result no_column (HasColumn of.now.tree) }
-    ensures kind { DemandsBefore result unsupported_type limit_statuses
-        (IsTrue (is_list_shape (held_type of.now.tree))) }
-    ensures limits { ReportsLimits result (exceeded_limits (entry_type (held_type of.now.tree))
-        (list_get (held_rows of.now.tree) index)) }
+    ensures { GetsListElements result of.now.tree index out.old.tree out.new.tree }
 {
     let Some(column) = of.column() else {
         return NO_COLUMN;
@@ -50,12 +39,7 @@ pub extern "C" fn sel_list_get(alloc: Global, of: &ColumnRef, index: i64, out: &
 /// SEL_TYPE_LIST.
 #[unsafe(no_mangle)]
 pub extern "C" fn sel_list_index_is_oob(of: &ColumnRef, index: i64, out: &mut bool) -> u32
-    ensures found { result ≡ ok → out.new ≡ oob (held_rows of.now.tree) index }
-    ensures unchanged { result ≢ ok → out.new ≡ out.old }
-    ensures status { IsOneOf result (ok ∷ no_column ∷ unsupported_type ∷ []) }
-    ensures column { DemandsFirst result no_column (HasColumn of.now.tree) }
-    ensures kind { Demands result unsupported_type
-        (IsTrue (is_list_shape (held_type of.now.tree))) }
+    ensures { FindsOutOfBounds result of.now.tree index out.old out.new }
 {
     let Some(column) = of.column() else {
         return NO_COLUMN;
@@ -68,13 +52,9 @@ pub extern "C" fn sel_list_index_is_oob(of: &ColumnRef, index: i64, out: &mut bo
 /// Errors: SEL_ERROR_NO_COLUMN: `of` is empty. SEL_ERROR_TOO_DEEP: `of` has 128 levels.
 #[unsafe(no_mangle)]
 pub extern "C" fn sel_unit_list(alloc: Global, of: &ColumnRef, out: &mut Handle) -> u32
-    ensures rows { Makes result out.old.tree out.new.tree
-        (λ made. rows made.column ≡ unit_lists (held_rows of.now.tree)) }
-    ensures dtype { Makes result out.old.tree out.new.tree
-        (λ made. type_of made.column ≡ of_large_list (held_type of.now.tree)) }
-    ensures status { IsOneOf result (ok ∷ out_of_memory ∷ no_column ∷ too_deep ∷ []) }
-    ensures column { DemandsFirst result no_column (HasColumn of.now.tree) }
-    ensures deep { Demands result too_deep (depth (held_type of.now.tree) < 128) }
+    ensures { ReturnsColumn result out.old.tree out.new.tree (unit_lists (held_rows of.now.tree))
+        (of_large_list (held_type of.now.tree)) ((no_column, HasColumn of.now.tree) ∷
+        (too_deep, depth (held_type of.now.tree) < 128) ∷ []) (result ≡ ok) }
 {
     let Some(column) = of.column() else {
         return NO_COLUMN;

@@ -1,6 +1,6 @@
 //! Columns from arrays of values, which are copied.
 
-ghost use Rattle.std.specs.Prelude.{◌≡◌, ◌≤◌, ◌*◌, length, pos, replicate};
+ghost use Rattle.std.specs.Prelude.{◌≡◌, ◌≢◌, ◌≤◌, ◌*◌, [], ◌∷◌, length, pos, replicate};
 ghost use Rattle.sel_bits.specs.Bits.{bits_from};
 ghost use Rattle.sel_arrow.specs.Makers.{null_fault};
 ghost use Rattle.sel_arrow.specs.Masked.{bool_rows};
@@ -8,7 +8,7 @@ ghost use Rattle.sel_arrow.specs.Rows.{rows, type_of};
 ghost use Rattle.sel_arrow.specs.Shape.{of_null, of_boolean, of_int8, of_int16, of_int32, of_int64, of_uint8, of_uint16, of_uint32, of_uint64};
 ghost use Rattle.sel_arrow.specs.Value.{Null};
 ghost use Rattle.sel_ffi.specs.Inputs.{validity_in, flat_rules};
-ghost use Rattle.sel_ffi.specs.Status.{length_mismatch, DemandsFirst, Makes, ReportsOnly};
+ghost use Rattle.sel_ffi.specs.Status.{length_mismatch, Makes, ReportsOnly, ReturnsFirst};
 ghost use Rattle.sel_c.specs.Numbers.{MakesNumbers};
 
 use sel_arrow::array::Array;
@@ -54,7 +54,8 @@ pub extern "C" fn sel_boolean_new(
         bool_rows (bits_from values.now 0 len) (validity_in bits.now has_bits len)) }
     ensures dtype { Makes result out.old.tree out.new.tree
         (λ made. type_of made.column ≡ of_boolean) }
-    ensures length { DemandsFirst result length_mismatch (len ≤ 8 * length values.now) }
+    ensures checks { ReturnsFirst result ((length_mismatch, len ≤ 8 * length values.now) ∷ [])
+        (result ≢ length_mismatch) }
     ensures status { len ≤ 8 * length values.now →
         ReportsOnly result (flat_rules len bits.now has_bits) }
 {

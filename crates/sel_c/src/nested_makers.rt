@@ -1,13 +1,13 @@
 //! Binary, list and struct columns, from offsets and child columns.
 
-ghost use Rattle.std.specs.Prelude.{◌≡◌, ◌≢◌, ◌≤◌, ◌<◌, ◌⊎◌, All, None, map};
+ghost use Rattle.std.specs.Prelude.{◌≡◌, ◌≢◌, ◌≤◌, ◌<◌, ◌⊎◌, [], ◌∷◌, All, None, map};
 ghost use Rattle.sel_arrow.specs.Depth.{depth, deepest};
 ghost use Rattle.sel_arrow.specs.Nested.{list_rows, block_rows, struct_rows};
 ghost use Rattle.sel_arrow.specs.Pieces.{byte_rows, rows_between};
 ghost use Rattle.sel_arrow.specs.Rows.{rows, type_of};
 ghost use Rattle.sel_arrow.specs.Shape.{of_large_binary, of_large_list, of_fixed_size_list, of_struct, shapes_of};
 ghost use Rattle.sel_ffi.specs.Inputs.{positions, validity_in, binary_rules, list_rules, block_rules, struct_rules};
-ghost use Rattle.sel_ffi.specs.Status.{ok, out_of_memory, no_column, too_deep, held_count, held_rows, held_type, DemandsFirst, HasColumn, Makes, ReportsExactly};
+ghost use Rattle.sel_ffi.specs.Status.{ok, out_of_memory, no_column, too_deep, held_count, held_rows, held_type, HasColumn, Makes, ReportsExactly, ReturnsFirst};
 
 use sel_ffi::handle::Handle;
 use sel_ffi::nested::binary_of;
@@ -64,7 +64,8 @@ pub extern "C" fn sel_list_new(
         (validity_in bits.now has_bits (rows_between (positions offsets.now)))) }
     ensures dtype { Makes result out.old.tree out.new.tree
         (λ made. type_of made.column ≡ of_large_list (held_type child.old.tree)) }
-    ensures column { DemandsFirst result no_column (HasColumn child.old.tree) }
+    ensures checks { ReturnsFirst result ((no_column, HasColumn child.old.tree) ∷ [])
+        (result ≢ no_column) }
     ensures deep { 128 ≤ depth (held_type child.old.tree) → result ≡ too_deep }
     ensures status { HasColumn child.old.tree → depth (held_type child.old.tree) < 128 →
         ReportsExactly result (list_rules offsets.now (held_count child.old.tree) bits.now
@@ -103,7 +104,8 @@ pub extern "C" fn sel_fixed_size_list_new(
         block_rows width len (held_rows child.old.tree) (validity_in bits.now has_bits len)) }
     ensures dtype { Makes result out.old.tree out.new.tree
         (λ made. type_of made.column ≡ of_fixed_size_list (held_type child.old.tree) width) }
-    ensures column { DemandsFirst result no_column (HasColumn child.old.tree) }
+    ensures checks { ReturnsFirst result ((no_column, HasColumn child.old.tree) ∷ [])
+        (result ≢ no_column) }
     ensures deep { 128 ≤ depth (held_type child.old.tree) → result ≡ too_deep }
     ensures status { HasColumn child.old.tree → depth (held_type child.old.tree) < 128 →
         ReportsExactly result (block_rules width len (held_count child.old.tree) bits.now
@@ -142,8 +144,8 @@ pub extern "C" fn sel_struct_new(
         (map (λ field. held_rows field.tree) fields.old) (validity_in bits.now has_bits len)) }
     ensures dtype { Makes result out.old.tree out.new.tree (λ made. type_of made.column ≡
         of_struct (shapes_of (map (λ field. held_type field.tree) fields.old))) }
-    ensures column { DemandsFirst result no_column
-        (All (λ field. HasColumn field.tree) fields.old) }
+    ensures checks { ReturnsFirst result
+        ((no_column, All (λ field. HasColumn field.tree) fields.old) ∷ []) (result ≢ no_column) }
     ensures deep { All (λ field. HasColumn field.tree) fields.old →
         128 ≤ deepest (shapes_of (map (λ field. held_type field.tree) fields.old)) →
         (result ≡ too_deep) ⊎ (result ≡ out_of_memory) }

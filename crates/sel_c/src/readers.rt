@@ -1,15 +1,11 @@
 //! Properties and values of a column.
 
-ghost use Rattle.std.specs.Prelude.{◌≡◌, ◌≢◌, ◌+◌, ◌/◌, [], ◌∷◌, length, pos, count_by, true, false};
-ghost use Rattle.sel_bits.specs.Bits.{bits_from};
-ghost use Rattle.sel_arrow.specs.Nulls.{IsValidityOf};
-ghost use Rattle.sel_arrow.specs.Shape.{of_boolean, of_int8, of_int16, of_int32, of_int64, of_uint8, of_uint16, of_uint32, of_uint64};
+ghost use Rattle.std.specs.Prelude.{◌≡◌, length, pos, count_by};
+ghost use Rattle.sel_arrow.specs.Shape.{of_int8, of_int16, of_int32, of_int64, of_uint8, of_uint16, of_uint32, of_uint64};
 ghost use Rattle.sel_arrow.specs.Value.{is_null};
-ghost use Rattle.sel_ffi.specs.Inputs.{validity_in};
 ghost use Rattle.sel_ffi.specs.Kinds.{held_kind};
-ghost use Rattle.sel_ffi.specs.Outputs.{Shows, bools};
-ghost use Rattle.sel_ffi.specs.Status.{ok, out_of_memory, no_column, unsupported_type, length_mismatch, held_rows, held_type, Demands, DemandsBefore, DemandsFirst, HasColumn, IsOneOf};
-ghost use Rattle.sel_c.specs.Numbers.{CopiesNumbers};
+ghost use Rattle.sel_ffi.specs.Outputs.{CopiesBooleans, CopiesNumbers, CopiesValidity};
+ghost use Rattle.sel_ffi.specs.Status.{held_rows};
 
 use sel_arrow::array::Array;
 use sel_ffi::column_ref::ColumnRef;
@@ -60,16 +56,7 @@ pub extern "C" fn sel_type_of(of: &ColumnRef) -> u32
 /// 7) / 8.
 #[unsafe(no_mangle)]
 pub extern "C" fn sel_validity(alloc: Global, of: &ColumnRef, out: &mut [u8], has: &mut bool) -> u32
-    ensures validity { result ≡ ok → IsValidityOf (held_type of.now.tree)
-        (validity_in out.new has.new (length (held_rows of.now.tree))) (held_rows of.now.tree) }
-    ensures unchanged { result ≡ ok → has.new ≡ false → out.new ≡ out.old }
-    ensures fits { result ≡ ok → has.new ≡ true →
-        length out.old ≡ (length (held_rows of.now.tree) + 7) / 8 }
-    ensures column { DemandsFirst result no_column (HasColumn of.now.tree) }
-    ensures length { result ≡ length_mismatch →
-        length out.old ≢ (length (held_rows of.now.tree) + 7) / 8 }
-    ensures status { IsOneOf result (ok ∷ out_of_memory ∷ no_column ∷ length_mismatch ∷
-        []) }
+    ensures { CopiesValidity result of.now.tree out.old out.new has.new }
 {
     let Some(column) = of.column() else {
         return NO_COLUMN;
@@ -83,15 +70,7 @@ pub extern "C" fn sel_validity(alloc: Global, of: &ColumnRef, out: &mut [u8], ha
 /// SEL_TYPE_BOOLEAN. SEL_ERROR_LENGTH_MISMATCH: `out_len` is not (rows + 7) / 8.
 #[unsafe(no_mangle)]
 pub extern "C" fn sel_boolean_values(alloc: Global, of: &ColumnRef, out: &mut [u8]) -> u32
-    ensures values { result ≡ ok → Shows
-        (bools (bits_from out.new 0 (length (held_rows of.now.tree)))) (held_rows of.now.tree) }
-    ensures column { DemandsFirst result no_column (HasColumn of.now.tree) }
-    ensures kind { DemandsBefore result unsupported_type (length_mismatch ∷ [])
-        (held_type of.now.tree ≡ of_boolean) }
-    ensures length { Demands result length_mismatch
-        (length out.old ≡ (length (held_rows of.now.tree) + 7) / 8) }
-    ensures status { IsOneOf result
-        (ok ∷ out_of_memory ∷ no_column ∷ unsupported_type ∷ length_mismatch ∷ []) }
+    ensures { CopiesBooleans result of.now.tree out.old out.new }
 {
     let Some(column) = of.column() else {
         return NO_COLUMN;

@@ -1,8 +1,8 @@
 //! Reversal.
 
 ghost use Rattle.std.specs.Prelude.{◌≡◌, ◌∷◌, [], reverse};
-ghost use Rattle.sel_arrow.specs.Rows.{rows, type_of};
-ghost use Rattle.sel_ffi.specs.Status.{ok, out_of_memory, no_column, held_rows, held_type, DemandsFirst, HasColumn, IsOneOf, Makes};
+ghost use Rattle.sel_calls.specs.Returns.{ReturnsColumn};
+ghost use Rattle.sel_ffi.specs.Status.{ok, no_column, held_rows, held_type, HasColumn};
 
 use polars_compute::reverse::reverse;
 use sel_ffi::column_ref::ColumnRef;
@@ -15,12 +15,8 @@ use std::alloc::Global;
 /// Errors: SEL_ERROR_NO_COLUMN: `of` is empty.
 #[unsafe(no_mangle)]
 pub extern "C" fn sel_reverse(alloc: Global, of: &ColumnRef, out: &mut Handle) -> u32
-    ensures rows { Makes result out.old.tree out.new.tree
-        (λ made. rows made.column ≡ reverse (held_rows of.now.tree)) }
-    ensures dtype { Makes result out.old.tree out.new.tree
-        (λ made. type_of made.column ≡ held_type of.now.tree) }
-    ensures status { IsOneOf result (ok ∷ out_of_memory ∷ no_column ∷ []) }
-    ensures column { DemandsFirst result no_column (HasColumn of.now.tree) }
+    ensures { ReturnsColumn result out.old.tree out.new.tree (reverse (held_rows of.now.tree))
+        (held_type of.now.tree) ((no_column, HasColumn of.now.tree) ∷ []) (result ≡ ok) }
 {
     let Some(column) = of.column() else {
         return NO_COLUMN;

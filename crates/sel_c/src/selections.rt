@@ -1,12 +1,10 @@
 //! Masks that are prepared once, to filter any number of columns.
 
-ghost use Rattle.std.specs.Prelude.{◌≡◌, ◌≤◌, ◌*◌, [], ◌∷◌, length, None};
-ghost use Rattle.sel_bits.specs.Bits.{bits_from, count_true};
-ghost use Rattle.sel_arrow.specs.Rows.{rows, type_of};
-ghost use Rattle.sel_arrow.specs.Shape.{of_boolean};
-ghost use Rattle.sel_calls.specs.Selections.{Prepares, HasSelection, held_mask};
-ghost use Rattle.sel_ffi.specs.Status.{ok, out_of_memory, no_column, unsupported_type, length_mismatch, held_rows, held_type, Demands, DemandsFirst, HasColumn, IsOneOf, Makes};
-ghost use Rattle.polars_compute.specs.Select.{select, effective_mask};
+ghost use Rattle.std.specs.Prelude.{◌≡◌, [], ◌∷◌, length, None};
+ghost use Rattle.sel_bits.specs.Bits.{count_true};
+ghost use Rattle.sel_calls.specs.Returns.{ReturnsValue};
+ghost use Rattle.sel_calls.specs.Selections.{PreparesColumn, PreparesBits, FiltersBySelection, HasSelection, held_mask};
+ghost use Rattle.sel_ffi.specs.Status.{no_column};
 
 use sel_calls::selection_handle::SelectionHandle;
 use sel_calls::selection_ref::SelectionRef;
@@ -27,11 +25,7 @@ pub extern "C" fn sel_selection_new(
     mask: &ColumnRef,
     out: &mut SelectionHandle,
 ) -> u32
-    ensures selection { Prepares result out.old.selection out.new.selection
-        (λ made. made.mask.bits ≡ effective_mask (held_rows mask.now.tree)) }
-    ensures column { DemandsFirst result no_column (HasColumn mask.now.tree) }
-    ensures kind { Demands result unsupported_type (held_type mask.now.tree ≡ of_boolean) }
-    ensures status { IsOneOf result (ok ∷ out_of_memory ∷ no_column ∷ unsupported_type ∷ []) }
+    ensures { PreparesColumn result mask.now.tree out.old.selection out.new.selection }
 {
     let Some(by) = mask.column() else {
         return NO_COLUMN;
@@ -50,10 +44,7 @@ pub extern "C" fn sel_selection_of_bits(
     len: usize,
     out: &mut SelectionHandle,
 ) -> u32
-    ensures selection { Prepares result out.old.selection out.new.selection
-        (λ made. made.mask.bits ≡ bits_from mask.now 0 len) }
-    ensures length { Demands result length_mismatch (len ≤ 8 * length mask.now) }
-    ensures status { IsOneOf result (ok ∷ out_of_memory ∷ length_mismatch ∷ []) }
+    ensures { PreparesBits result mask.now len out.old.selection out.new.selection }
 {
     selection_of_bits_into(alloc, mask, len, out)
 }
@@ -63,10 +54,8 @@ pub extern "C" fn sel_selection_of_bits(
 /// Errors: SEL_ERROR_NO_COLUMN: `of` is empty. Never returns SEL_ERROR_OUT_OF_MEMORY.
 #[unsafe(no_mangle)]
 pub extern "C" fn sel_selection_len(of: &SelectionRef, len: &mut usize) -> u32
-    ensures len { result ≡ ok → len.new ≡ length (held_mask of.now.selection) }
-    ensures unchanged { result ≡ no_column → len.new ≡ len.old }
-    ensures column { DemandsFirst result no_column (HasSelection of.now.selection) }
-    ensures status { IsOneOf result (ok ∷ no_column ∷ []) }
+    ensures { ReturnsValue result len.old len.new (length (held_mask of.now.selection))
+        ((no_column, HasSelection of.now.selection) ∷ []) }
 {
     let Some(selection) = of.selection() else {
         return NO_COLUMN;
@@ -80,10 +69,8 @@ pub extern "C" fn sel_selection_len(of: &SelectionRef, len: &mut usize) -> u32
 /// Errors: SEL_ERROR_NO_COLUMN: `of` is empty. Never returns SEL_ERROR_OUT_OF_MEMORY.
 #[unsafe(no_mangle)]
 pub extern "C" fn sel_selection_count(of: &SelectionRef, count: &mut usize) -> u32
-    ensures count { result ≡ ok → count.new ≡ count_true (held_mask of.now.selection) }
-    ensures unchanged { result ≡ no_column → count.new ≡ count.old }
-    ensures column { DemandsFirst result no_column (HasSelection of.now.selection) }
-    ensures status { IsOneOf result (ok ∷ no_column ∷ []) }
+    ensures { ReturnsValue result count.old count.new (count_true (held_mask of.now.selection))
+        ((no_column, HasSelection of.now.selection) ∷ []) }
 {
     let Some(selection) = of.selection() else {
         return NO_COLUMN;
@@ -103,16 +90,7 @@ pub extern "C" fn sel_filter_selection(
     by: &SelectionRef,
     out: &mut Handle,
 ) -> u32
-    ensures rows { Makes result out.old.tree out.new.tree (λ made. rows made.column ≡
-        select (held_rows of.now.tree) (held_mask by.now.selection)) }
-    ensures dtype { Makes result out.old.tree out.new.tree
-        (λ made. type_of made.column ≡ held_type of.now.tree) }
-    ensures column { DemandsFirst result no_column
-        (HasColumn of.now.tree × HasSelection by.now.selection) }
-    ensures length { Demands result length_mismatch
-        (length (held_rows of.now.tree) ≡ length (held_mask by.now.selection)) }
-    ensures status { IsOneOf result (ok ∷ out_of_memory ∷ no_column ∷ length_mismatch ∷
-        []) }
+    ensures { FiltersBySelection result of.now.tree by.now.selection out.old.tree out.new.tree }
 {
     let Some(column) = of.column() else {
         return NO_COLUMN;

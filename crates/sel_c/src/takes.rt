@@ -1,15 +1,6 @@
 //! Take (gather).
 
-ghost use Rattle.std.specs.Prelude.{◌≡◌, ◌≤◌, ◌∷◌, false, length, pos, IsTrue};
-ghost use Rattle.sel_bits.specs.Limits.{max_rows};
-ghost use Rattle.sel_bits.specs.declared.faults.Malformed.TheVariants.{TooManyRows, ValidityLength};
-ghost use Rattle.sel_arrow.specs.Masked.{number_rows};
-ghost use Rattle.sel_arrow.specs.Rows.{rows, type_of};
-ghost use Rattle.sel_arrow.specs.Shape.{of_uint32};
-ghost use Rattle.sel_ffi.specs.Inputs.{lacks_bits, validity_in};
-ghost use Rattle.sel_ffi.specs.Status.{ok, out_of_memory, no_column, unsupported_type, index_out_of_bounds, rule_status, limit_statuses, held_rows, held_type, DemandsBefore, DemandsFirst, HasColumn, IsOneOf, Makes, ReportsLimits};
-ghost use Rattle.sel_gather.specs.Need.{exceeded_limits};
-ghost use Rattle.polars_compute.specs.Pick.{all_within, take_rows};
+ghost use Rattle.sel_calls.specs.Takes.{Takes, TakesAt};
 
 use sel_calls::takes::{take_into, take_rows_into};
 use sel_ffi::column_ref::ColumnRef;
@@ -29,20 +20,7 @@ pub extern "C" fn sel_take(
     indices: &ColumnRef,
     out: &mut Handle,
 ) -> u32
-    ensures rows { Makes result out.old.tree out.new.tree (λ made. rows made.column ≡
-        take_rows (held_rows of.now.tree) (held_rows indices.now.tree)) }
-    ensures dtype { Makes result out.old.tree out.new.tree
-        (λ made. type_of made.column ≡ held_type of.now.tree) }
-    ensures status { IsOneOf result
-        (ok ∷ out_of_memory ∷ no_column ∷ unsupported_type ∷ index_out_of_bounds ∷ limit_statuses) }
-    ensures column { DemandsFirst result no_column
-        (HasColumn of.now.tree × HasColumn indices.now.tree) }
-    ensures kind { DemandsBefore result unsupported_type (index_out_of_bounds ∷ limit_statuses)
-        (held_type indices.now.tree ≡ of_uint32) }
-    ensures bounds { DemandsBefore result index_out_of_bounds limit_statuses
-        (IsTrue (all_within (length (held_rows of.now.tree)) (held_rows indices.now.tree))) }
-    ensures limits { ReportsLimits result (exceeded_limits (held_type of.now.tree)
-        (take_rows (held_rows of.now.tree) (held_rows indices.now.tree))) }
+    ensures { Takes result of.now.tree indices.now.tree out.old.tree out.new.tree }
 {
     let Some(column) = of.column() else {
         return NO_COLUMN;
@@ -69,27 +47,8 @@ pub extern "C" fn sel_take_rows(
     has_bits: bool,
     out: &mut Handle,
 ) -> u32
-    ensures rows { Makes result out.old.tree out.new.tree (λ made. rows made.column ≡
-        take_rows (held_rows of.now.tree)
-        (number_rows pos indices.now (validity_in bits.now has_bits (length indices.now)))) }
-    ensures dtype { Makes result out.old.tree out.new.tree
-        (λ made. type_of made.column ≡ held_type of.now.tree) }
-    ensures status { IsOneOf result (ok ∷ out_of_memory ∷ no_column ∷
-        rule_status TooManyRows ∷ rule_status ValidityLength ∷ index_out_of_bounds ∷
-        limit_statuses) }
-    ensures column { DemandsFirst result no_column (HasColumn of.now.tree) }
-    ensures few { DemandsBefore result (rule_status TooManyRows)
-        (rule_status ValidityLength ∷ index_out_of_bounds ∷ limit_statuses)
-        (length indices.now ≤ max_rows) }
-    ensures validity { DemandsBefore result (rule_status ValidityLength)
-        (index_out_of_bounds ∷ limit_statuses)
-        (lacks_bits bits.now has_bits (length indices.now) ≡ false) }
-    ensures bounds { DemandsBefore result index_out_of_bounds limit_statuses
-        (IsTrue (all_within (length (held_rows of.now.tree))
-        (number_rows pos indices.now (validity_in bits.now has_bits (length indices.now))))) }
-    ensures limits { ReportsLimits result (exceeded_limits (held_type of.now.tree)
-        (take_rows (held_rows of.now.tree)
-        (number_rows pos indices.now (validity_in bits.now has_bits (length indices.now))))) }
+    ensures { TakesAt result of.now.tree indices.now bits.now has_bits
+        out.old.tree out.new.tree }
 {
     let Some(column) = of.column() else {
         return NO_COLUMN;

@@ -1,17 +1,9 @@
 //! Comparison, printing and parsing.
 
-ghost use Rattle.std.specs.Prelude.{◌≡◌, ◌≤◌, ◌⊎◌, ◌↔◌, List, [], ◌∷◌, Some, true, false, length, IsTrue};
-ghost use Rattle.sel_arrow.specs.Rows.{rows, type_of};
-ghost use Rattle.sel_arrow.specs.Shape.{Shape};
-ghost use Rattle.sel_arrow.specs.Value.{Value};
-ghost use Rattle.sel_calls.specs.Parsed.{exceeds_parse_limit, ExceedsAlways, IsRowsText, IsTypeText};
-ghost use Rattle.sel_calls.specs.Printed.{filled, held_text, held_type_text};
-ghost use Rattle.sel_ffi.specs.Status.{ok, out_of_memory, no_column, type_syntax, row_syntax, row_type_mismatch, text_limit, held_rows, DemandsFirst, HasColumn, IsOneOf, Makes};
-ghost use Rattle.sel_text.specs.Notation.{is_row_notation, is_type_notation, IsFirstError};
-ghost use Rattle.sel_text.specs.Spelling.{spelled};
-ghost use Rattle.sel_text.specs.TextErrors.{HasFittingRows};
-ghost use Rattle.sel_text.specs.Texts.{text_of};
-ghost use Rattle.sel_text.specs.Types.{type_text};
+ghost use Rattle.std.specs.Prelude.{◌≡◌, ◌≢◌, ◌↔◌, [], ◌∷◌, IsTrue};
+ghost use Rattle.sel_calls.specs.Parsed.{Parses};
+ghost use Rattle.sel_calls.specs.Printed.{held_text, held_type_text, Prints};
+ghost use Rattle.sel_ffi.specs.Status.{ok, out_of_memory, no_column, held_rows, HasColumn, ReturnsFirst};
 
 use sel_calls::texts::{parse_into, print_into, print_type_into};
 use sel_ffi::column_ref::ColumnRef;
@@ -29,9 +21,9 @@ use std::alloc::Global;
 pub extern "C" fn sel_equal_rows(of: &ColumnRef, other: &ColumnRef, equal: &mut bool) -> u32
     ensures told { result ≡ ok →
         (IsTrue equal.new ↔ (held_rows of.now.tree ≡ held_rows other.now.tree)) }
-    ensures column { DemandsFirst result no_column
-        (HasColumn of.now.tree × HasColumn other.now.tree) }
-    ensures status { IsOneOf result (ok ∷ no_column ∷ []) }
+    ensures checks { ReturnsFirst result
+        ((no_column, HasColumn of.now.tree × HasColumn other.now.tree) ∷ []) (result ≡ ok) }
+    ensures memory { result ≢ out_of_memory }
 {
     let Some(first) = of.column() else {
         return NO_COLUMN;
@@ -50,10 +42,7 @@ pub extern "C" fn sel_equal_rows(of: &ColumnRef, other: &ColumnRef, equal: &mut 
 /// Errors: SEL_ERROR_NO_COLUMN: `of` is empty.
 #[unsafe(no_mangle)]
 pub extern "C" fn sel_print(alloc: Global, of: &ColumnRef, out: &mut [u8], len: &mut usize) -> u32
-    ensures text { result ≡ ok → out.new ≡ filled (held_text of.now.tree) out.old }
-    ensures len { result ≡ ok → len.new ≡ length (held_text of.now.tree) }
-    ensures column { DemandsFirst result no_column (HasColumn of.now.tree) }
-    ensures status { IsOneOf result (ok ∷ out_of_memory ∷ no_column ∷ []) }
+    ensures { Prints result of.now.tree (held_text of.now.tree) out.old out.new len.new }
 {
     let Some(column) = of.column() else {
         return NO_COLUMN;
@@ -73,10 +62,7 @@ pub extern "C" fn sel_print_type(
     out: &mut [u8],
     len: &mut usize,
 ) -> u32
-    ensures text { result ≡ ok → out.new ≡ filled (held_type_text of.now.tree) out.old }
-    ensures len { result ≡ ok → len.new ≡ length (held_type_text of.now.tree) }
-    ensures column { DemandsFirst result no_column (HasColumn of.now.tree) }
-    ensures status { IsOneOf result (ok ∷ out_of_memory ∷ no_column ∷ []) }
+    ensures { Prints result of.now.tree (held_type_text of.now.tree) out.old out.new len.new }
 {
     let Some(column) = of.column() else {
         return NO_COLUMN;
@@ -106,36 +92,7 @@ pub extern "C" fn sel_parse(
     at: &mut usize,
     out: &mut Handle,
 ) -> u32
-    ensures dtype { Makes result out.old.tree out.new.tree
-        (λ made. spelled dtype.now ≡ Some (type_text (type_of made.column))) }
-    ensures rows { Makes result out.old.tree out.new.tree
-        (λ made. spelled text.now ≡ Some (text_of (type_of made.column) (rows made.column))) }
-    ensures named { result ≡ type_syntax → (shape : Shape) → IsTypeText shape dtype.now →
-        ⊥ }
-    ensures typed { IsOneOf result (row_syntax ∷ row_type_mismatch ∷ []) →
-        (shape : Shape) × (spelled dtype.now ≡ Some (type_text shape)) }
-    ensures within { result ≡ ok → (shape : Shape) (values : List Value) →
-        IsTypeText shape dtype.now → IsRowsText shape values text.now →
-        exceeds_parse_limit shape values ≡ false }
-    ensures accepted { (shape : Shape) (values : List Value) →
-        IsTypeText shape dtype.now → IsRowsText shape values text.now →
-        IsOneOf result (ok ∷ out_of_memory ∷ text_limit ∷ []) }
-    ensures limit { result ≡ text_limit → (shape : Shape) (values : List Value) →
-        IsTypeText shape dtype.now → IsRowsText shape values text.now →
-        IsTrue (exceeds_parse_limit shape values) }
-    ensures type_error { result ≡ type_syntax → IsFirstError is_type_notation dtype.now at.new }
-    ensures row_error { result ≡ row_syntax → IsFirstError is_row_notation text.now at.new }
-    ensures misfit { result ≡ row_type_mismatch → is_row_notation text.now ≡ true }
-    ensures type_read { result ≡ text_limit → is_type_notation dtype.now ≡ true }
-    ensures fit { result ≡ text_limit → (shape : Shape) → IsTypeText shape dtype.now →
-        ExceedsAlways shape ⊎ HasFittingRows shape text.now }
-    ensures type_place { result ≡ type_syntax → at.new ≤ length dtype.now }
-    ensures place { IsOneOf result (row_syntax ∷ row_type_mismatch ∷ []) →
-        at.new ≤ length text.now }
-    ensures no_place { IsOneOf result (ok ∷ out_of_memory ∷ text_limit ∷ []) → at.new ≡
-        at.old }
-    ensures status { IsOneOf result
-        (ok ∷ out_of_memory ∷ type_syntax ∷ row_syntax ∷ row_type_mismatch ∷ text_limit ∷ []) }
+    ensures { Parses result dtype.now text.now at.old at.new out.old.tree out.new.tree }
 {
     parse_into(alloc, dtype, text, at, out)
 }

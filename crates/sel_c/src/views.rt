@@ -1,13 +1,12 @@
 //! Binary and string columns of views.
 
-ghost use Rattle.std.specs.Prelude.{◌≡◌, ◌≢◌, None, Some, [], ◌∷◌, length, map, slice_get};
-ghost use Rattle.std.specs.Option.{option_map};
+ghost use Rattle.std.specs.Prelude.{◌≡◌, length, map};
 ghost use Rattle.sel_arrow.specs.Rows.{rows, type_of};
 ghost use Rattle.sel_arrow.specs.Shape.{of_binary_view, of_utf8_view};
 ghost use Rattle.sel_arrow.specs.Views.{view_rows};
 ghost use Rattle.sel_ffi.specs.Inputs.{validity_in, views_in, binview_rules, utf8view_rules};
-ghost use Rattle.sel_ffi.specs.Layout.{held_buffers, held_views};
-ghost use Rattle.sel_ffi.specs.Status.{ok, no_column, unsupported_type, length_mismatch, index_out_of_bounds, Demands, DemandsBefore, DemandsFirst, HasColumn, IsOneOf, Makes, ReportsExactly};
+ghost use Rattle.sel_ffi.specs.Parts.{CopiesBuffer, CopiesViews, CountsBuffer, CountsBuffers};
+ghost use Rattle.sel_ffi.specs.Status.{Makes, ReportsExactly};
 
 use sel_ffi::column_ref::ColumnRef;
 use sel_ffi::handle::Handle;
@@ -80,20 +79,12 @@ pub extern "C" fn sel_string_view_new(
 /// number of rows.
 #[unsafe(no_mangle)]
 pub extern "C" fn sel_views(of: &ColumnRef, out: &mut [ViewWords]) -> u32
-    ensures views { result ≡ ok → Some (views_in out.new) ≡ held_views of.now.tree }
-    ensures column { DemandsFirst result no_column (HasColumn of.now.tree) }
-    ensures kind { HasColumn of.now.tree →
-        DemandsBefore result unsupported_type (length_mismatch ∷ [])
-        (held_views of.now.tree ≢ None) }
-    ensures length { result ≡ length_mismatch →
-        Some (length out.old) ≢ option_map length (held_views of.now.tree) }
-    ensures status { IsOneOf result (ok ∷ no_column ∷ unsupported_type ∷ length_mismatch ∷
-        []) }
+    ensures { CopiesViews result of.now.tree out.old out.new }
 {
     let Some(column) = of.column() else {
         return NO_COLUMN;
     };
-    views_into(column.as_column(), out)
+    views_into(column, out)
 }
 
 /// Returns in `count` the number of data buffers of a view column.
@@ -102,17 +93,12 @@ pub extern "C" fn sel_views(of: &ColumnRef, out: &mut [ViewWords]) -> u32
 /// SEL_TYPE_BINARY_VIEW or SEL_TYPE_STRING_VIEW.
 #[unsafe(no_mangle)]
 pub extern "C" fn sel_buffer_count(of: &ColumnRef, count: &mut usize) -> u32
-    ensures count { result ≡ ok → Some count.new ≡
-        option_map length (held_buffers of.now.tree) }
-    ensures column { DemandsFirst result no_column (HasColumn of.now.tree) }
-    ensures kind { HasColumn of.now.tree →
-        Demands result unsupported_type (held_views of.now.tree ≢ None) }
-    ensures status { IsOneOf result (ok ∷ no_column ∷ unsupported_type ∷ []) }
+    ensures { CountsBuffers result of.now.tree count.new }
 {
     let Some(column) = of.column() else {
         return NO_COLUMN;
     };
-    buffer_count_into(column.as_column(), count)
+    buffer_count_into(column, count)
 }
 
 /// Returns in `len` the number of bytes of data buffer `i`, counted from 0.
@@ -122,22 +108,12 @@ pub extern "C" fn sel_buffer_count(of: &ColumnRef, count: &mut usize) -> u32
 /// buffer `i`.
 #[unsafe(no_mangle)]
 pub extern "C" fn sel_buffer_len(of: &ColumnRef, i: usize, len: &mut usize) -> u32
-    ensures len { result ≡ ok → option_map
-        (λ buffers. option_map length (slice_get buffers i)) (held_buffers of.now.tree) ≡
-        Some (Some len.new) }
-    ensures column { DemandsFirst result no_column (HasColumn of.now.tree) }
-    ensures kind { HasColumn of.now.tree →
-        DemandsBefore result unsupported_type (index_out_of_bounds ∷ [])
-        (held_views of.now.tree ≢ None) }
-    ensures bounds { result ≡ index_out_of_bounds →
-        option_map (λ buffers. slice_get buffers i) (held_buffers of.now.tree) ≡ Some None }
-    ensures status { IsOneOf result (ok ∷ no_column ∷ unsupported_type ∷
-        index_out_of_bounds ∷ []) }
+    ensures { CountsBuffer result of.now.tree i len.new }
 {
     let Some(column) = of.column() else {
         return NO_COLUMN;
     };
-    buffer_len_into(column.as_column(), i, len)
+    buffer_len_into(column, i, len)
 }
 
 /// Copies the bytes of data buffer `i`, counted from 0, to `out`.
@@ -147,23 +123,10 @@ pub extern "C" fn sel_buffer_len(of: &ColumnRef, i: usize, len: &mut usize) -> u
 /// buffer `i`. SEL_ERROR_LENGTH_MISMATCH: `out_len` is not the length of the buffer.
 #[unsafe(no_mangle)]
 pub extern "C" fn sel_buffer(of: &ColumnRef, i: usize, out: &mut [u8]) -> u32
-    ensures bytes { result ≡ ok → option_map (λ buffers. slice_get buffers i)
-        (held_buffers of.now.tree) ≡ Some (Some out.new) }
-    ensures column { DemandsFirst result no_column (HasColumn of.now.tree) }
-    ensures kind { HasColumn of.now.tree →
-        DemandsBefore result unsupported_type (index_out_of_bounds ∷ length_mismatch ∷ [])
-        (held_views of.now.tree ≢ None) }
-    ensures bounds { result ≡ index_out_of_bounds →
-        option_map (λ buffers. slice_get buffers i) (held_buffers of.now.tree) ≡ Some None }
-    ensures length { result ≡ length_mismatch → option_map (λ buffers. option_map length
-        (slice_get buffers i)) (held_buffers of.now.tree) ≢ Some (Some (length out.old)) }
-    ensures inside { result ≡ length_mismatch →
-        option_map (λ buffers. slice_get buffers i) (held_buffers of.now.tree) ≢ Some None }
-    ensures status { IsOneOf result
-        (ok ∷ no_column ∷ unsupported_type ∷ length_mismatch ∷ index_out_of_bounds ∷ []) }
+    ensures { CopiesBuffer result of.now.tree i out.old out.new }
 {
     let Some(column) = of.column() else {
         return NO_COLUMN;
     };
-    buffer_into(column.as_column(), i, out)
+    buffer_into(column, i, out)
 }

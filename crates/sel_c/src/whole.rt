@@ -1,8 +1,8 @@
 //! Columns: slice, share, free.
 
 ghost use Rattle.std.specs.Prelude.{◌≡◌, ◌≤◌, ◌+◌, [], ◌∷◌, length, take, drop, None};
-ghost use Rattle.sel_arrow.specs.Rows.{rows, type_of};
-ghost use Rattle.sel_ffi.specs.Status.{ok, out_of_memory, no_column, index_out_of_bounds, held_rows, held_type, Demands, DemandsFirst, HasColumn, IsOneOf, Makes};
+ghost use Rattle.sel_calls.specs.Returns.{ReturnsColumn};
+ghost use Rattle.sel_ffi.specs.Status.{ok, no_column, index_out_of_bounds, held_rows, held_type, HasColumn};
 
 use sel_arrow::array::Array;
 use sel_ffi::column_ref::ColumnRef;
@@ -23,15 +23,10 @@ pub extern "C" fn sel_slice(
     len: usize,
     out: &mut Handle,
 ) -> u32
-    ensures rows { Makes result out.old.tree out.new.tree
-        (λ made. rows made.column ≡ take len (drop off (held_rows of.now.tree))) }
-    ensures dtype { Makes result out.old.tree out.new.tree
-        (λ made. type_of made.column ≡ held_type of.now.tree) }
-    ensures column { DemandsFirst result no_column (HasColumn of.now.tree) }
-    ensures bounds { Demands result index_out_of_bounds
-        (off + len ≤ length (held_rows of.now.tree)) }
-    ensures status { IsOneOf result (ok ∷ out_of_memory ∷ no_column ∷ index_out_of_bounds ∷
-        []) }
+    ensures { ReturnsColumn result out.old.tree out.new.tree
+        (take len (drop off (held_rows of.now.tree))) (held_type of.now.tree)
+        ((no_column, HasColumn of.now.tree) ∷
+        (index_out_of_bounds, off + len ≤ length (held_rows of.now.tree)) ∷ []) (result ≡ ok) }
 {
     let Some(column) = of.column() else {
         return NO_COLUMN;
@@ -51,12 +46,8 @@ pub extern "C" fn sel_slice(
 /// Errors: SEL_ERROR_NO_COLUMN: `of` is empty.
 #[unsafe(no_mangle)]
 pub extern "C" fn sel_share(alloc: Global, of: &ColumnRef, out: &mut Handle) -> u32
-    ensures rows { Makes result out.old.tree out.new.tree
-        (λ made. rows made.column ≡ held_rows of.now.tree) }
-    ensures dtype { Makes result out.old.tree out.new.tree
-        (λ made. type_of made.column ≡ held_type of.now.tree) }
-    ensures column { DemandsFirst result no_column (HasColumn of.now.tree) }
-    ensures status { IsOneOf result (ok ∷ out_of_memory ∷ no_column ∷ []) }
+    ensures { ReturnsColumn result out.old.tree out.new.tree (held_rows of.now.tree)
+        (held_type of.now.tree) ((no_column, HasColumn of.now.tree) ∷ []) (result ≡ ok) }
 {
     let Some(shared) = of.shared() else {
         return NO_COLUMN;

@@ -1,13 +1,13 @@
 //! Columns of 128-bit integers, passed as two words each.
 
-ghost use Rattle.std.specs.Prelude.{◌≡◌, [], ◌∷◌, length};
+ghost use Rattle.std.specs.Prelude.{◌≡◌, length};
 ghost use Rattle.sel_arrow.specs.Masked.{number_rows};
 ghost use Rattle.sel_arrow.specs.Rows.{rows, type_of};
 ghost use Rattle.sel_arrow.specs.Shape.{of_int128, of_uint128};
 ghost use Rattle.sel_calls.specs.Wides.{signed_wide, unsigned_wide};
 ghost use Rattle.sel_ffi.specs.Inputs.{validity_in, flat_rules};
-ghost use Rattle.sel_ffi.specs.Outputs.{Shows, numbers};
-ghost use Rattle.sel_ffi.specs.Status.{ok, out_of_memory, no_column, unsupported_type, length_mismatch, held_rows, held_type, Demands, DemandsBefore, DemandsFirst, HasColumn, IsOneOf, Makes, ReportsExactly};
+ghost use Rattle.sel_ffi.specs.Outputs.{CopiesNumbers};
+ghost use Rattle.sel_ffi.specs.Status.{Makes, ReportsExactly};
 
 use sel_arrow::primitive::ArrowPrimitive;
 use sel_calls::wides::{Wide, wides_into, wides_of};
@@ -46,15 +46,7 @@ pub extern "C" fn sel_int128_new(
 /// SEL_TYPE_INT128. SEL_ERROR_LENGTH_MISMATCH: `out_len` is not the number of rows.
 #[unsafe(no_mangle)]
 pub extern "C" fn sel_int128_values(alloc: Global, of: &ColumnRef, out: &mut [Wide]) -> u32
-    ensures values { result ≡ ok → Shows (numbers signed_wide out.new)
-        (held_rows of.now.tree) }
-    ensures column { DemandsFirst result no_column (HasColumn of.now.tree) }
-    ensures kind { DemandsBefore result unsupported_type (length_mismatch ∷ [])
-        (held_type of.now.tree ≡ of_int128) }
-    ensures length { Demands result length_mismatch
-        (length out.old ≡ length (held_rows of.now.tree)) }
-    ensures status { IsOneOf result
-        (ok ∷ out_of_memory ∷ no_column ∷ unsupported_type ∷ length_mismatch ∷ []) }
+    ensures { CopiesNumbers result of.now.tree of_int128 signed_wide out.old out.new }
 {
     let Some(column) = of.column() else {
         return NO_COLUMN;
@@ -92,15 +84,7 @@ pub extern "C" fn sel_uint128_new(
 /// SEL_TYPE_UINT128. SEL_ERROR_LENGTH_MISMATCH: `out_len` is not the number of rows.
 #[unsafe(no_mangle)]
 pub extern "C" fn sel_uint128_values(alloc: Global, of: &ColumnRef, out: &mut [Wide]) -> u32
-    ensures values { result ≡ ok → Shows (numbers unsigned_wide out.new)
-        (held_rows of.now.tree) }
-    ensures column { DemandsFirst result no_column (HasColumn of.now.tree) }
-    ensures kind { DemandsBefore result unsupported_type (length_mismatch ∷ [])
-        (held_type of.now.tree ≡ of_uint128) }
-    ensures length { Demands result length_mismatch
-        (length out.old ≡ length (held_rows of.now.tree)) }
-    ensures status { IsOneOf result
-        (ok ∷ out_of_memory ∷ no_column ∷ unsupported_type ∷ length_mismatch ∷ []) }
+    ensures { CopiesNumbers result of.now.tree of_uint128 unsigned_wide out.old out.new }
 {
     let Some(column) = of.column() else {
         return NO_COLUMN;

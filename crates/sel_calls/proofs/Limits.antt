@@ -1,44 +1,48 @@
--- The statuses of limits are distinct.
-use Rattle.std.proofs.Common.{◌≡◌, ℕ, ◌<◌, ◌≤◌, refl, subst, sym, ◌∙◌, arith}
+-- The statuses of calls.
+use Rattle.std.proofs.Common.{◌≡◌, ℕ, zero, suc, ◌≤◌, List, [], ◌∷◌, inl, inr, refl, arith}
 use Rattle.sel_bits.specs.declared.faults.Limit.{Limit}
-use Rattle.sel_bits.specs.declared.faults.Limit.TheVariants.{Rows, Bytes, Buffers, ViewBytes}
 use Rattle.sel_bits.specs.declared.faults.PolarsError.{PolarsError}
 use Rattle.sel_bits.specs.declared.faults.PolarsError.TheVariants.{OutOfMemory, SizeLimit, ComputeError}
-use Rattle.sel_ffi.specs.Status.{error_status, limit_status, ReportsLimits}
-use Rattle.sel_gather.specs.Need.{IsLimitOrMemory}
+use Rattle.sel_ffi.specs.Status.{error_status, ok, out_of_memory, ReturnsFirst}
+use Rattle.sel_calls.specs.Returns.{IsOkOrLimit}
+use Rattle.sel_gather.specs.Need.{ExceedsNone, IsLimitOrMemory}
 
-pub limit_high : (limit : Limit) → 8 ≤ limit_status limit
-limit_high Rows = omega arith
-limit_high Bytes = omega arith
-limit_high Buffers = omega arith
-limit_high ViewBytes = omega arith
+-- A kernel's error is out of memory or an exceeded limit, so a call returns its status after all checks.
+pub returns-error : (status : ℕ) (Past : Limit → Type 0) (fault : PolarsError) → status ≡ error_status fault → IsLimitOrMemory Past fault → ReturnsFirst status [] (IsOkOrLimit status Past)
+returns-error status Past OutOfMemory is past = inl is
+returns-error status Past (SizeLimit limit) is past = inr (inr (limit, is, past))
+returns-error status Past ComputeError is past = absurd past
 
--- A status less than 8 is not that of a limit.
-pub tells-none : (status : ℕ) (Past : Limit → Type 0) → status < 8 → ReportsLimits status Past
-tells-none status Past low limit same = let high = limit_high limit in absurd (omega (arith, same, low, high))
+-- A result that exceeds no limit is stored, unless memory runs out.
+pub returns-put : (status : ℕ) (Past : Limit → Type 0) → status ≤ out_of_memory → ExceedsNone Past → ReturnsFirst status [] (IsOkOrLimit status Past)
+returns-put zero Past low none = inr (inl (refl, none))
+returns-put (suc n) Past low none = inl (omega (arith, low))
 
-apart : (limit other : Limit) → limit_status limit ≡ limit_status other → limit ≡ other
-apart Rows Rows same = refl
-apart Rows Bytes same = absurd (omega (arith, same))
-apart Rows Buffers same = absurd (omega (arith, same))
-apart Rows ViewBytes same = absurd (omega (arith, same))
-apart Bytes Rows same = absurd (omega (arith, same))
-apart Bytes Bytes same = refl
-apart Bytes Buffers same = absurd (omega (arith, same))
-apart Bytes ViewBytes same = absurd (omega (arith, same))
-apart Buffers Rows same = absurd (omega (arith, same))
-apart Buffers Bytes same = absurd (omega (arith, same))
-apart Buffers Buffers same = refl
-apart Buffers ViewBytes same = absurd (omega (arith, same))
-apart ViewBytes Rows same = absurd (omega (arith, same))
-apart ViewBytes Bytes same = absurd (omega (arith, same))
-apart ViewBytes Buffers same = absurd (omega (arith, same))
-apart ViewBytes ViewBytes same = refl
+-- A call returns success or out of memory.
+pub returns-low : (status : ℕ) → status ≤ out_of_memory → ReturnsFirst status [] (status ≡ ok)
+returns-low zero low = inr refl
+returns-low (suc n) low = inl (omega (arith, low))
 
--- An error for an exceeded limit has the status of this limit.
-pub tells-passed : (status : ℕ) (Past : Limit → Type 0) (fault : PolarsError) → status ≡ error_status fault → IsLimitOrMemory Past fault → ReportsLimits status Past
-tells-passed status Past OutOfMemory is past other same = tells-none status Past (omega (arith, is)) other same
-tells-passed status Past (SizeLimit limit) is past other same = subst Past (apart limit other (sym is ∙ same)) past
-tells-passed status Past ComputeError is past other same = absurd past
+-- A call's other conditions hold where the first one is known to.
+pub without-first : (status code : ℕ) (Right : Type 0) (conditions : List (ℕ × Type 0)) (AllHold : Type 0) → Right → ReturnsFirst status ((code, Right) ∷ conditions) AllHold → ReturnsFirst status conditions AllHold
+without-first status code Right [] AllHold right (inl memory) = inl memory
+without-first status code Right (next ∷ conditions) AllHold right (inl memory) = inl memory
+without-first status code Right conditions AllHold right (inr (inl fails)) = absurd (fails.1 right)
+without-first status code Right conditions AllHold right (inr (inr rest)) = rest.1
 
-pub ruleset limits = (tells-none, tells-passed)
+abbrev pub all_of : List (ℕ × Type 0) → Type 0
+all_of [] = Unit {0}
+all_of (check ∷ checks) = check.1 × all_of checks
+
+-- Where all conditions hold, another fact follows from what holds then.
+pub returns-more : (status : ℕ) (conditions : List (ℕ × Type 0)) (A B : Type 0) → (all_of conditions → A → B) → ReturnsFirst status conditions A → ReturnsFirst status conditions B
+returns-more status [] A B more (inl memory) = inl memory
+returns-more status [] A B more (inr a) = inr (more tt a)
+returns-more status (c ∷ cs) A B more (inl memory) = inl memory
+returns-more status (c ∷ cs) A B more (inr (inl fails)) = inr (inl fails)
+returns-more status (c ∷ cs) A B more (inr (inr rest)) = inr (inr (rest.0, returns-more status cs A B (λ all. more (rest.0, all)) rest.1))
+
+-- The same limits, stated in another way.
+pub limit-more : (status : ℕ) (E F : Limit → Type 0) → ((limit : Limit) → E limit → F limit) → ((limit : Limit) → F limit → E limit) → IsOkOrLimit status E → IsOkOrLimit status F
+limit-more status E F more back (inl fits) = inl (fits.0, λ limit past. fits.1 limit (back limit past))
+limit-more status E F more back (inr past) = inr (past.0, past.1, more past.0 past.2)

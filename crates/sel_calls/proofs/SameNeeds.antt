@@ -1,5 +1,5 @@
 -- The limits that rows exceed with the columns of handles, and with clones of them.
-use Rattle.std.proofs.Common.{◌≡◌, inl, inr, ℕ, suc, ◌⊎◌, All, Option, None, Some, List, [], ◌∷◌, ◌++◌, map, refl, sym, ap, subst, ◌∙◌, arith}
+use Rattle.std.proofs.Common.{◌≡◌, ◌<◌, inl, inr, ℕ, suc, ◌⊎◌, All, Bool, None, Some, IsTrue, List, [], ◌∷◌, ◌++◌, length, map, refl, sym, ap, subst, ◌∙◌, arith}
 use Rattle.std.specs.List.{flat_map}
 use Rattle.std.proofs.lemmas.List.Elements.{All-map}
 use Rattle.std.proofs.lemmas.Simd.{map-map}
@@ -10,14 +10,17 @@ use Rattle.sel_arrow.specs.Value.{Value, Null}
 use Rattle.sel_arrow.specs.declared.array_ref.ArrayRef.{ArrayRef}
 use Rattle.sel_arrow.specs.declared.column.Column.{Column}
 use Rattle.sel_ternary.proofs.SameNeeds.{AllLike, likes, same_needs, turned}
-use Rattle.polars_compute.specs.Flatten.{flatten, exceeded_flattened}
+use Rattle.polars_compute.specs.Flatten.{flatten, parts_fit, exceeded_flattened}
 use Rattle.sel_ffi.specs.Held.{Held}
-use Rattle.sel_ffi.specs.Status.{held_buffer_lists, held_columns, held_rows, held_type, HasColumn, ReportsLimits}
+use Rattle.sel_ffi.specs.Status.{held_buffer_lists, held_columns, held_rows, held_type, length_mismatch, type_mismatch, index_out_of_bounds, HasColumn}
 use Rattle.sel_ffi.specs.declared.column_ref.ColumnRef.{ColumnRef}
-use Rattle.sel_gather.specs.Need.{exceeded_taken, ExceedsNone}
-use Rattle.sel_gather.specs.Picks.{pick}
-use Rattle.sel_calls.specs.Several.{first_shape, AreAlike}
+use Rattle.sel_gather.specs.Need.{exceeded_taken}
+use Rattle.sel_gather.specs.Picks.{pick, PickFits}
+use Rattle.sel_calls.specs.Returns.{IsOkOrLimit}
+use Rattle.sel_calls.specs.Several.{first_shape, picks_conditions, picks_in, AreAlike, CollectsRows, FlattensColumns}
+use Rattle.sel_calls.specs.declared.several.PickWords.{PickWords}
 use Rattle.sel_calls.proofs.Alike.{alike_columns, first_same}
+use Rattle.sel_calls.proofs.Limits.{limit-more, returns-more}
 
 type_told : (t : Held) → HasColumn t → (cs : List Column) → map type_of (held_columns t ++ cs) ≡ held_type t ∷ map type_of cs
 type_told None has cs = absurd has
@@ -56,7 +59,7 @@ module _ (s : Shape) (arrays : List ArrayRef) (hs : List ColumnRef) (alike : All
   held_needs vs limit past =
       same_needs s (flat_map (λ h. held_columns h.tree) hs) (map (λ a. a.column) arrays) (turned s (map (λ a. a.column) arrays) (flat_map (λ h. held_columns h.tree) hs) like_handles) vs limit past
 
--- ---- limit statuses, with the clones and with the columns of the handles
+-- ---- results of calls, with the clones and with the columns of the handles
 
 alike_at : (arrays : List ArrayRef) → AreAlike (map (λ a. type_of a.column) arrays) → All (λ a. type_of a.column ≡ first_shape (map (λ x. type_of x.column) arrays)) arrays
 alike_at arrays alike k d below = alike_columns arrays alike k d below ∙ sym (first_same arrays)
@@ -65,63 +68,42 @@ either : {P Q R : Type 0} → (Q → R) → P ⊎ Q → P ⊎ R
 either more (inl p) = inl p
 either more (inr q) = inr (more q)
 
--- Of the horizontal flatten.
-pub flat_limits : (status h : ℕ) (arrays : List ArrayRef) (hs : List ColumnRef) (ws : List ℕ) → All (λ h. HasColumn h.tree) hs →
-    map (λ a. rows a.column) arrays ≡ map (λ h. held_rows h.tree) hs → map (λ a. type_of a.column) arrays ≡ map (λ h. held_type h.tree) hs → map (λ a. buffers_held a.column) arrays ≡ map (λ h. held_buffer_lists h.tree) hs →
-    ReportsLimits status (λ limit. AreAlike (map (λ a. type_of a.column) arrays)) →
-    ReportsLimits status (exceeded_flattened h (first_shape (map (λ a. type_of a.column) arrays)) (map (λ a. a.column) arrays) (flatten (map (λ a. rows a.column) arrays) ws h)) →
-    ReportsLimits status (exceeded_flattened h (first_shape (map (λ h. held_type h.tree) hs)) (flat_map (λ h. held_columns h.tree) hs) (flatten (map (λ h. held_rows h.tree) hs) ws h))
-flat_limits status h arrays hs ws full same types held alike limits limit is =
-    let own = flat_map (λ (h : ColumnRef). held_columns h.tree) hs in
-    let s = first_shape (map (λ (a : ArrayRef). type_of a.column) arrays) in
-    let vs = flatten (map (λ (a : ArrayRef). rows a.column) arrays) ws h in
-    let past = limits limit is in
-    let more : exceeded_taken s (map (λ (a : ArrayRef). a.column) arrays) vs limit → exceeded_taken s own vs limit = shared_needs s arrays hs (alike_at arrays (alike limit is)) full types held vs limit in
-    subst (λ (xss : List (List Value)). exceeded_flattened h (first_shape (map (λ (h : ColumnRef). held_type h.tree) hs)) own (flatten xss ws h) limit) same
-    (subst (λ (ts : List Shape). exceeded_flattened h (first_shape ts) own vs limit) types (past.0, either more past.1))
+module _ (code : ℕ) (arrays : List ArrayRef) (hs : List ColumnRef) (before after : Held) (full : All (λ h. HasColumn h.tree) hs) (same : map (λ a. rows a.column) arrays ≡ map (λ h. held_rows h.tree) hs)
+    (types : map (λ a. type_of a.column) arrays ≡ map (λ h. held_type h.tree) hs) (held : map (λ a. buffers_held a.column) arrays ≡ map (λ h. held_buffer_lists h.tree) hs) where
+  -- Of the horizontal flatten.
+  pub flat_held : (ws : List ℕ) (h : ℕ) → FlattensColumns code (map (λ a. rows a.column) arrays) (map (λ a. type_of a.column) arrays) (map (λ a. a.column) arrays) ws h [] before after →
+      FlattensColumns code (map (λ h. held_rows h.tree) hs) (map (λ h. held_type h.tree) hs) (flat_map (λ h. held_columns h.tree) hs) ws h [] before after
+  flat_held ws h told =
+      let own = flat_map (λ (h : ColumnRef). held_columns h.tree) hs in
+      let cs = map (λ (a : ArrayRef). a.column) arrays in
+      let ts = map (λ (a : ArrayRef). type_of a.column) arrays in
+      let xss = map (λ (a : ArrayRef). rows a.column) arrays in
+      let s = first_shape ts in
+      let vs = flatten xss ws h in
+      let checks = returns-more code ((type_mismatch, AreAlike ts) ∷ (length_mismatch, (0 < length ts) × IsTrue (parts_fit h xss ws)) ∷ []) (IsOkOrLimit code (exceeded_flattened h s cs vs)) (IsOkOrLimit code (exceeded_flattened h s own vs))
+      (λ all. limit-more code (exceeded_flattened h s cs vs) (exceeded_flattened h s own vs)
+      (λ limit past. (past.0, either (shared_needs s arrays hs (alike_at arrays all.0) full types held vs limit) past.1))
+      (λ limit past. (past.0, either (held_needs s arrays hs (alike_at arrays all.0) full types held vs limit) past.1)))
+      told.checks in
+      subst (λ (xs : List (List Value)). FlattensColumns code xs (map (λ (h : ColumnRef). held_type h.tree) hs) own ws h [] before after) same
+      (subst (λ (ss : List Shape). FlattensColumns code xss ss own ws h [] before after) types (record { rows = told.rows; dtype = told.dtype; checks = checks }))
 
--- Of gathered rows.
-pub pick_limits : (status : ℕ) (arrays : List ArrayRef) (hs : List ColumnRef) (ps : List (Option (ℕ × ℕ))) → All (λ h. HasColumn h.tree) hs →
-    map (λ a. rows a.column) arrays ≡ map (λ h. held_rows h.tree) hs → map (λ a. type_of a.column) arrays ≡ map (λ h. held_type h.tree) hs → map (λ a. buffers_held a.column) arrays ≡ map (λ h. held_buffer_lists h.tree) hs →
-    ReportsLimits status (λ limit. AreAlike (map (λ a. type_of a.column) arrays)) →
-    ReportsLimits status (exceeded_taken (first_shape (map (λ a. type_of a.column) arrays)) (map (λ a. a.column) arrays) (pick Null (map (λ a. rows a.column) arrays) ps)) →
-    ReportsLimits status (exceeded_taken (first_shape (map (λ h. held_type h.tree) hs)) (flat_map (λ h. held_columns h.tree) hs) (pick Null (map (λ h. held_rows h.tree) hs) ps))
-pick_limits status arrays hs ps full same types held alike limits limit is =
-    let own = flat_map (λ (h : ColumnRef). held_columns h.tree) hs in
-    let s = first_shape (map (λ (a : ArrayRef). type_of a.column) arrays) in
-    let vs = pick Null (map (λ (a : ArrayRef). rows a.column) arrays) ps in
-    subst (λ (xss : List (List Value)). exceeded_taken (first_shape (map (λ (h : ColumnRef). held_type h.tree) hs)) own (pick Null xss ps) limit) same
-    (subst (λ (ts : List Shape). exceeded_taken (first_shape ts) own vs limit) types
-    (shared_needs s arrays hs (alike_at arrays (alike limit is)) full types held vs limit (limits limit is)))
-
--- ---- results exceed no limit, with the clones and with the columns of the handles
-
--- Of the horizontal flatten.
-pub flat_within : (h : ℕ) (arrays : List ArrayRef) (hs : List ColumnRef) (ws : List ℕ) → All (λ h. HasColumn h.tree) hs →
-    map (λ a. rows a.column) arrays ≡ map (λ h. held_rows h.tree) hs → map (λ a. type_of a.column) arrays ≡ map (λ h. held_type h.tree) hs → map (λ a. buffers_held a.column) arrays ≡ map (λ h. held_buffer_lists h.tree) hs →
-    AreAlike (map (λ a. type_of a.column) arrays) →
-    ExceedsNone (exceeded_flattened h (first_shape (map (λ a. type_of a.column) arrays)) (map (λ a. a.column) arrays) (flatten (map (λ a. rows a.column) arrays) ws h)) →
-    ExceedsNone (exceeded_flattened h (first_shape (map (λ h. held_type h.tree) hs)) (flat_map (λ h. held_columns h.tree) hs) (flatten (map (λ h. held_rows h.tree) hs) ws h))
-flat_within h arrays hs ws full same types held alike none limit past =
-    let own = flat_map (λ (h : ColumnRef). held_columns h.tree) hs in
-    let s = first_shape (map (λ (a : ArrayRef). type_of a.column) arrays) in
-    let vs = flatten (map (λ (a : ArrayRef). rows a.column) arrays) ws h in
-    let here : exceeded_flattened h s own vs limit =
-    subst (λ (xss : List (List Value)). exceeded_flattened h s own (flatten xss ws h) limit) (sym same)
-    (subst (λ (ts : List Shape). exceeded_flattened h (first_shape ts) own (flatten (map (λ (h : ColumnRef). held_rows h.tree) hs) ws h) limit) (sym types) past) in
-    none limit (here.0, either (held_needs s arrays hs (alike_at arrays alike) full types held vs limit) here.1)
-
--- Of gathered rows.
-pub pick_within : (arrays : List ArrayRef) (hs : List ColumnRef) (ps : List (Option (ℕ × ℕ))) → All (λ h. HasColumn h.tree) hs →
-    map (λ a. rows a.column) arrays ≡ map (λ h. held_rows h.tree) hs → map (λ a. type_of a.column) arrays ≡ map (λ h. held_type h.tree) hs → map (λ a. buffers_held a.column) arrays ≡ map (λ h. held_buffer_lists h.tree) hs →
-    AreAlike (map (λ a. type_of a.column) arrays) →
-    ExceedsNone (exceeded_taken (first_shape (map (λ a. type_of a.column) arrays)) (map (λ a. a.column) arrays) (pick Null (map (λ a. rows a.column) arrays) ps)) →
-    ExceedsNone (exceeded_taken (first_shape (map (λ h. held_type h.tree) hs)) (flat_map (λ h. held_columns h.tree) hs) (pick Null (map (λ h. held_rows h.tree) hs) ps))
-pick_within arrays hs ps full same types held alike none limit past =
-    let own = flat_map (λ (h : ColumnRef). held_columns h.tree) hs in
-    let s = first_shape (map (λ (a : ArrayRef). type_of a.column) arrays) in
-    let vs = pick Null (map (λ (a : ArrayRef). rows a.column) arrays) ps in
-    let here : exceeded_taken s own vs limit =
-    subst (λ (xss : List (List Value)). exceeded_taken s own (pick Null xss ps) limit) (sym same)
-    (subst (λ (ts : List Shape). exceeded_taken (first_shape ts) own (pick Null (map (λ (h : ColumnRef). held_rows h.tree) hs) ps) limit) (sym types) past) in
-    none limit (held_needs s arrays hs (alike_at arrays alike) full types held vs limit here)
+  -- Of gathered rows.
+  pub pick_held : (words : List PickWords) (bits : List ℕ) (has_bits : Bool) →
+      CollectsRows code (map (λ a. rows a.column) arrays) (map (λ a. type_of a.column) arrays) (map (λ a. a.column) arrays) (picks_in words bits has_bits) (picks_conditions words bits has_bits) before after →
+      CollectsRows code (map (λ h. held_rows h.tree) hs) (map (λ h. held_type h.tree) hs) (flat_map (λ h. held_columns h.tree) hs) (picks_in words bits has_bits) (picks_conditions words bits has_bits) before after
+  pick_held words bits has_bits told =
+      let own = flat_map (λ (h : ColumnRef). held_columns h.tree) hs in
+      let cs = map (λ (a : ArrayRef). a.column) arrays in
+      let ts = map (λ (a : ArrayRef). type_of a.column) arrays in
+      let xss = map (λ (a : ArrayRef). rows a.column) arrays in
+      let s = first_shape ts in
+      let ps = picks_in words bits has_bits in
+      let vs = pick Null xss ps in
+      let checks = returns-more code (picks_conditions words bits has_bits ++ (length_mismatch, 0 < length ts) ∷ (type_mismatch, AreAlike ts) ∷ (index_out_of_bounds, All (PickFits xss) ps) ∷ []) (IsOkOrLimit code (exceeded_taken s cs vs)) (IsOkOrLimit code (exceeded_taken s own vs))
+      (λ all. limit-more code (exceeded_taken s cs vs) (exceeded_taken s own vs)
+      (λ limit. shared_needs s arrays hs (alike_at arrays all.1.1.1.0) full types held vs limit)
+      (λ limit. held_needs s arrays hs (alike_at arrays all.1.1.1.0) full types held vs limit))
+      told.checks in
+      subst (λ (xs : List (List Value)). CollectsRows code xs (map (λ (h : ColumnRef). held_type h.tree) hs) own ps (picks_conditions words bits has_bits) before after) same
+      (subst (λ (ss : List Shape). CollectsRows code xss ss own ps (picks_conditions words bits has_bits) before after) types (record { rows = told.rows; dtype = told.dtype; checks = checks }))

@@ -1,11 +1,10 @@
 //! List children and struct fields as columns, which share the buffers of their parent.
 
-ghost use Rattle.std.specs.Prelude.{◌≡◌, ◌∷◌, ◌≢◌, ◌<◌, ◌≤◌, length, IfSome, IfNone, IsTrue, true, false, []};
+ghost use Rattle.std.specs.Prelude.{◌≡◌, ◌<◌, ◌≤◌, length, IfSome, IfNone, true, false, [], Some};
 ghost use Rattle.sel_arrow.specs.Depth.{depth};
-ghost use Rattle.sel_arrow.specs.Rows.{rows, type_of, IsWellFormed};
-ghost use Rattle.sel_arrow.specs.Shape.{is_block_shape, is_struct_shape};
-ghost use Rattle.sel_calls.specs.Types.{width_of};
-ghost use Rattle.sel_ffi.specs.Status.{ok, out_of_memory, no_column, unsupported_type, index_out_of_bounds, Demands, IsOneOf, Makes};
+ghost use Rattle.sel_arrow.specs.Rows.{type_of, IsWellFormed};
+ghost use Rattle.sel_arrow.specs.Shape.{is_struct_shape};
+ghost use Rattle.sel_calls.specs.Below.{ReturnsChild, ReturnsField, ReturnsFieldCount, ReturnsListSize};
 ghost use Rattle.sel_gather.specs.Children.{child, field, fields_of, is_listing};
 
 use sel_arrow::array_ref::ArrayRef;
@@ -19,14 +18,7 @@ use std::alloc::Global;
 /// Errors: `UNSUPPORTED_TYPE` if the column has another type; `OUT_OF_MEMORY`.
 pub fn child_into(alloc: Global, column: &ArrayRef, out: &mut Handle) -> u32
     requires { depth (type_of column.now.column) ≤ 128 }
-    ensures rows { Makes result out.old.tree out.new.tree
-        (λ made. rows made.column ≡ rows (child column.now.column)) }
-    ensures dtype { Makes result out.old.tree out.new.tree
-        (λ made. type_of made.column ≡ type_of (child column.now.column)) }
-    ensures status { IsOneOf result (ok ∷ out_of_memory ∷ unsupported_type ∷ []) }
-    ensures column { result ≢ no_column }
-    ensures kind { Demands result unsupported_type
-        (IsTrue (is_listing (type_of column.now.column))) }
+    ensures { ReturnsChild result (Some column.now) out.old.tree out.new.tree }
 {
     let Some(entries) = child_of(column) else {
         return UNSUPPORTED_TYPE;
@@ -55,13 +47,10 @@ fn child_of(column: &ArrayRef) -> Option<&Column>
 /// Writes the list size of a fixed-size list column to `width`.
 ///
 /// Errors: `UNSUPPORTED_TYPE` if the column has another type.
-pub fn width_into(column: &Column, width: &mut usize) -> u32
-    ensures width { result ≡ ok → width.new ≡ width_of (type_of column.now) }
-    ensures status { IsOneOf result (ok ∷ unsupported_type ∷ []) }
-    ensures column { result ≢ no_column }
-    ensures kind { Demands result unsupported_type (IsTrue (is_block_shape (type_of column.now))) }
+pub fn width_into(column: &ArrayRef, width: &mut usize) -> u32
+    ensures { ReturnsListSize result (Some column.now) width.old width.new }
 {
-    match column {
+    match column.as_column() {
         Column::FixedSizeList { size, .. } => {
             *width = *size;
             OK
@@ -74,11 +63,7 @@ pub fn width_into(column: &Column, width: &mut usize) -> u32
 ///
 /// Errors: `UNSUPPORTED_TYPE` if the column has another type.
 pub fn field_count_into(column: &ArrayRef, count: &mut usize) -> u32
-    ensures count { result ≡ ok → count.new ≡ length (fields_of column.now.column) }
-    ensures status { IsOneOf result (ok ∷ unsupported_type ∷ []) }
-    ensures column { result ≢ no_column }
-    ensures kind { Demands result unsupported_type
-        (IsTrue (is_struct_shape (type_of column.now.column))) }
+    ensures { ReturnsFieldCount result (Some column.now) count.old count.new }
 {
     let Some(fields) = struct_fields(column) else {
         return UNSUPPORTED_TYPE;
@@ -108,13 +93,7 @@ fn struct_fields(column: &ArrayRef) -> Option<&[Column]>
 #[tactic(auto, using(crate::proofs::Below::below))]
 pub fn field_into(alloc: Global, column: &ArrayRef, i: usize, out: &mut Handle) -> u32
     requires { depth (type_of column.now.column) ≤ 128 }
-    ensures rows { Makes result out.old.tree out.new.tree
-        (λ made. rows made.column ≡ rows (field i column.now.column)) }
-    ensures dtype { Makes result out.old.tree out.new.tree
-        (λ made. type_of made.column ≡ type_of (field i column.now.column)) }
-    ensures status { IsOneOf result (ok ∷ out_of_memory ∷ index_out_of_bounds ∷ []) }
-    ensures column { result ≢ no_column }
-    ensures bounds { Demands result index_out_of_bounds (i < length (fields_of column.now.column)) }
+    ensures { ReturnsField result (Some column.now) i out.old.tree out.new.tree }
 {
     let Some(part) = field_of(column, i) else {
         return INDEX_OUT_OF_BOUNDS;

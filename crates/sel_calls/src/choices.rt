@@ -1,13 +1,14 @@
 //! If-then-else between two columns or scalars by a boolean mask.
 
-ghost use Rattle.std.specs.Prelude.{◌≡◌, ◌≢◌, ◌≤◌, ◌++◌, ◌∷◌, [], length, true, false, IfOk, IfErr};
+ghost use Rattle.std.specs.Prelude.{◌≡◌, ◌≢◌, ◌≤◌, ◌∷◌, [], length, true, false, IfOk, IfErr, Some};
 ghost use Rattle.sel_bits.specs.Limits.{max_rows};
 ghost use Rattle.sel_arrow.specs.Columns.{boolean_rows};
 ghost use Rattle.sel_arrow.specs.Depth.{depth};
 ghost use Rattle.sel_arrow.specs.Rows.{rows, type_of};
 ghost use Rattle.sel_arrow.specs.Shape.{of_boolean};
 ghost use Rattle.sel_ternary.specs.Chosen.{chosen_rows, SideFits};
-ghost use Rattle.sel_ffi.specs.Status.{ok, out_of_memory, no_column, unsupported_type, type_mismatch, length_mismatch, limit_statuses, held_columns, held_rows, held_type, DemandsBefore, DemandsFirst, HasColumn, IsOneOf, Makes, ReportsLimits};
+ghost use Rattle.sel_calls.specs.Choices.{ChoosesFrom};
+ghost use Rattle.sel_ffi.specs.Status.{out_of_memory, unsupported_type, IsOneOf};
 ghost use Rattle.sel_gather.specs.Need.{exceeded_taken, ExceedsNone, IsLimitOrMemory};
 ghost use Rattle.polars_compute.specs.Select.{effective_mask};
 
@@ -47,32 +48,8 @@ pub fn choose_handles(
     false_column: bool,
     out: &mut Handle,
 ) -> u32
-    ensures rows { Makes result out.old.tree out.new.tree (λ made. rows made.column ≡
-        chosen_rows true_column false_column (effective_mask (held_rows mask.now.tree))
-        (held_rows if_true.now.tree) (held_rows if_false.now.tree)) }
-    ensures dtype { Makes result out.old.tree out.new.tree
-        (λ made. type_of made.column ≡ held_type if_true.now.tree) }
-    ensures status { IsOneOf result (ok ∷ out_of_memory ∷ no_column ∷ unsupported_type ∷
-        type_mismatch ∷ length_mismatch ∷ limit_statuses) }
-    ensures column { DemandsFirst result no_column (HasColumn mask.now.tree ×
-        HasColumn if_true.now.tree × HasColumn if_false.now.tree) }
-    ensures kind { DemandsBefore result unsupported_type
-        (type_mismatch ∷ length_mismatch ∷ limit_statuses) (held_type mask.now.tree ≡ of_boolean) }
-    ensures alike { DemandsBefore result type_mismatch (length_mismatch ∷ limit_statuses)
-        (held_type if_true.now.tree ≡ held_type if_false.now.tree) }
-    ensures length { DemandsBefore result length_mismatch limit_statuses (
-        SideFits true_column (length (held_rows if_true.now.tree))
-        (length (held_rows mask.now.tree)) ×
-        SideFits false_column (length (held_rows if_false.now.tree))
-        (length (held_rows mask.now.tree))) }
-    ensures limits { ReportsLimits result (exceeded_taken (held_type if_true.now.tree)
-        (held_columns if_true.now.tree ++ held_columns if_false.now.tree)
-        (chosen_rows true_column false_column (effective_mask (held_rows mask.now.tree))
-        (held_rows if_true.now.tree) (held_rows if_false.now.tree))) }
-    ensures within { result ≡ ok → ExceedsNone (exceeded_taken (held_type if_true.now.tree)
-        (held_columns if_true.now.tree ++ held_columns if_false.now.tree)
-        (chosen_rows true_column false_column (effective_mask (held_rows mask.now.tree))
-        (held_rows if_true.now.tree) (held_rows if_false.now.tree))) }
+    ensures { ChoosesFrom result mask.now.tree if_true.now.tree if_false.now.tree
+        true_column false_column out.old.tree out.new.tree }
 {
     let Some(by) = mask.column() else {
         return NO_COLUMN;
@@ -96,30 +73,8 @@ fn choose_into(
     out: &mut Handle,
 ) -> u32
     requires { depth (type_of if_true.now.column) ≤ 128 }
-    ensures rows { Makes result out.old.tree out.new.tree (λ made. rows made.column ≡
-        chosen_rows true_column false_column (effective_mask (rows mask.now.column))
-        (rows if_true.now.column) (rows if_false.now.column)) }
-    ensures dtype { Makes result out.old.tree out.new.tree
-        (λ made. type_of made.column ≡ type_of if_true.now.column) }
-    ensures column { result ≢ no_column }
-    ensures status { IsOneOf result
-        (ok ∷ out_of_memory ∷ unsupported_type ∷ type_mismatch ∷ length_mismatch ∷ limit_statuses) }
-    ensures kind { DemandsBefore result unsupported_type
-        (type_mismatch ∷ length_mismatch ∷ limit_statuses) (type_of mask.now.column ≡ of_boolean) }
-    ensures alike { DemandsBefore result type_mismatch (length_mismatch ∷ limit_statuses)
-        (type_of if_true.now.column ≡ type_of if_false.now.column) }
-    ensures length { DemandsBefore result length_mismatch limit_statuses (
-        SideFits true_column (length (rows if_true.now.column)) (length (rows mask.now.column)) ×
-        SideFits false_column (length (rows if_false.now.column))
-        (length (rows mask.now.column))) }
-    ensures limits { ReportsLimits result (exceeded_taken (type_of if_true.now.column)
-        (if_true.now.column ∷ if_false.now.column ∷ [])
-        (chosen_rows true_column false_column (effective_mask (rows mask.now.column))
-        (rows if_true.now.column) (rows if_false.now.column))) }
-    ensures within { result ≡ ok → ExceedsNone (exceeded_taken (type_of if_true.now.column)
-        (if_true.now.column ∷ if_false.now.column ∷ [])
-        (chosen_rows true_column false_column (effective_mask (rows mask.now.column))
-        (rows if_true.now.column) (rows if_false.now.column))) }
+    ensures { ChoosesFrom result (Some mask.now) (Some if_true.now) (Some if_false.now)
+        true_column false_column out.old.tree out.new.tree }
 {
     let bits = match bits_of_mask(alloc, mask) {
         Ok(bits) => bits,

@@ -1,13 +1,12 @@
 //! Dictionaries: keys into string values.
 
-ghost use Rattle.std.specs.Prelude.{◌≡◌, ◌≢◌, ◌≤◌, [], ◌∷◌, length, IfSome, IsTrue};
+ghost use Rattle.std.specs.Prelude.{◌≡◌, ◌≤◌, [], ◌∷◌, IfSome, Some};
 ghost use Rattle.sel_arrow.specs.Columns.{primitive_rows, utf8view_rows};
 ghost use Rattle.sel_arrow.specs.Depth.{depth};
 ghost use Rattle.sel_arrow.specs.Rows.{rows, type_of};
-ghost use Rattle.sel_arrow.specs.Shape.{of_uint32, of_utf8_view};
-ghost use Rattle.sel_ffi.specs.Status.{ok, out_of_memory, no_column, unsupported_type, index_out_of_bounds, Demands, DemandsBefore, IsOneOf, Makes};
-ghost use Rattle.polars_compute.specs.Dictionary.{propagated_keys, valid_values};
-ghost use Rattle.polars_compute.specs.Pick.{all_within};
+ghost use Rattle.sel_arrow.specs.Shape.{of_utf8_view};
+ghost use Rattle.sel_calls.specs.Dictionaries.{Propagates, PropagatesNulls};
+ghost use Rattle.sel_ffi.specs.Status.{out_of_memory, unsupported_type, Makes};
 
 use polars_compute::propagate_dictionary::{keys_in_bounds, propagate_dictionary_value_nulls};
 use sel_arrow::array::Array;
@@ -34,21 +33,8 @@ pub fn propagate_columns_into(
     out_keys: &mut Handle,
     out_values: &mut Handle,
 ) -> u32
-    ensures keys { Makes result out_keys.old.tree out_keys.new.tree (λ made. rows made.column ≡
-        propagated_keys (rows keys.now.column) (rows values.now.column)) }
-    ensures values { Makes result out_values.old.tree out_values.new.tree
-        (λ made. rows made.column ≡ valid_values (rows values.now.column)) }
-    ensures key_dtype { Makes result out_keys.old.tree out_keys.new.tree
-        (λ made. type_of made.column ≡ of_uint32) }
-    ensures value_dtype { Makes result out_values.old.tree out_values.new.tree
-        (λ made. type_of made.column ≡ of_utf8_view) }
-    ensures column { result ≢ no_column }
-    ensures kind { DemandsBefore result unsupported_type (index_out_of_bounds ∷ [])
-        ((type_of keys.now.column ≡ of_uint32) × (type_of values.now.column ≡ of_utf8_view)) }
-    ensures bounds { Demands result index_out_of_bounds
-        (IsTrue (all_within (length (rows values.now.column)) (rows keys.now.column))) }
-    ensures status { IsOneOf result
-        (ok ∷ out_of_memory ∷ unsupported_type ∷ index_out_of_bounds ∷ []) }
+    ensures { PropagatesNulls result (Some keys.now) (Some values.now)
+        out_keys.old.tree out_keys.new.tree out_values.old.tree out_values.new.tree }
 {
     let Ok(copy) = keys.try_clone(alloc) else {
         return OUT_OF_MEMORY;
@@ -70,21 +56,9 @@ fn propagate_keys_into(
     out_keys: &mut Handle,
     out_values: &mut Handle,
 ) -> u32
-    ensures keys { Makes result out_keys.old.tree out_keys.new.tree (λ made. rows made.column ≡
-        propagated_keys (primitive_rows keys.now) (rows values.now.column)) }
-    ensures values { Makes result out_values.old.tree out_values.new.tree
-        (λ made. rows made.column ≡ valid_values (rows values.now.column)) }
-    ensures key_dtype { Makes result out_keys.old.tree out_keys.new.tree
-        (λ made. type_of made.column ≡ of_uint32) }
-    ensures value_dtype { Makes result out_values.old.tree out_values.new.tree
-        (λ made. type_of made.column ≡ of_utf8_view) }
-    ensures column { result ≢ no_column }
-    ensures kind { DemandsBefore result unsupported_type (index_out_of_bounds ∷ [])
-        (type_of values.now.column ≡ of_utf8_view) }
-    ensures bounds { Demands result index_out_of_bounds
-        (IsTrue (all_within (length (rows values.now.column)) (primitive_rows keys.now))) }
-    ensures status { IsOneOf result
-        (ok ∷ out_of_memory ∷ unsupported_type ∷ index_out_of_bounds ∷ []) }
+    ensures { Propagates result (primitive_rows keys.now) (rows values.now.column)
+        ((unsupported_type, type_of values.now.column ≡ of_utf8_view) ∷ [])
+        out_keys.old.tree out_keys.new.tree out_values.old.tree out_values.new.tree }
 {
     let Ok(copy) = values.try_clone(alloc) else {
         return OUT_OF_MEMORY;
@@ -106,18 +80,8 @@ fn propagate_texts_into(
     out_keys: &mut Handle,
     out_values: &mut Handle,
 ) -> u32
-    ensures keys { Makes result out_keys.old.tree out_keys.new.tree (λ made. rows made.column ≡
-        propagated_keys (primitive_rows keys.now) (utf8view_rows values.now)) }
-    ensures values { Makes result out_values.old.tree out_values.new.tree
-        (λ made. rows made.column ≡ valid_values (utf8view_rows values.now)) }
-    ensures key_dtype { Makes result out_keys.old.tree out_keys.new.tree
-        (λ made. type_of made.column ≡ of_uint32) }
-    ensures value_dtype { Makes result out_values.old.tree out_values.new.tree
-        (λ made. type_of made.column ≡ of_utf8_view) }
-    ensures own { (result ≢ no_column) × (result ≢ unsupported_type) }
-    ensures bounds { Demands result index_out_of_bounds
-        (IsTrue (all_within (length (utf8view_rows values.now)) (primitive_rows keys.now))) }
-    ensures status { IsOneOf result (ok ∷ out_of_memory ∷ index_out_of_bounds ∷ []) }
+    ensures { Propagates result (primitive_rows keys.now) (utf8view_rows values.now) []
+        out_keys.old.tree out_keys.new.tree out_values.old.tree out_values.new.tree }
 {
     if !keys_in_bounds(keys, values.len()) {
         return INDEX_OUT_OF_BOUNDS;

@@ -1,12 +1,12 @@
 //! Filters: the rows that a mask selects.
 
-ghost use Rattle.std.specs.Prelude.{◌≡◌, ◌≢◌, ◌≤◌, ◌*◌, [], ◌∷◌, length};
-ghost use Rattle.sel_bits.specs.Bits.{bits_from};
+ghost use Rattle.std.specs.Prelude.{◌≡◌, ◌≤◌, [], ◌∷◌, length, Some};
 ghost use Rattle.sel_arrow.specs.Columns.{boolean_rows};
 ghost use Rattle.sel_arrow.specs.Depth.{depth};
 ghost use Rattle.sel_arrow.specs.Rows.{rows, type_of};
-ghost use Rattle.sel_arrow.specs.Shape.{of_boolean};
-ghost use Rattle.sel_ffi.specs.Status.{ok, out_of_memory, no_column, unsupported_type, length_mismatch, Demands, DemandsBefore, IsOneOf, Makes};
+ghost use Rattle.sel_calls.specs.Filters.{Filters, FiltersByBits};
+ghost use Rattle.sel_calls.specs.Returns.{ReturnsColumn};
+ghost use Rattle.sel_ffi.specs.Status.{ok, length_mismatch};
 ghost use Rattle.polars_compute.specs.Select.{select, effective_mask};
 
 use polars_compute::filter::{filter, filter_with_bitmap};
@@ -25,17 +25,7 @@ use std::alloc::Global;
 /// column have different numbers of rows; `OUT_OF_MEMORY`.
 pub fn filter_into(alloc: Global, column: &ArrayRef, mask: &ArrayRef, out: &mut Handle) -> u32
     requires { depth (type_of column.now.column) ≤ 128 }
-    ensures rows { Makes result out.old.tree out.new.tree (λ made. rows made.column ≡
-        select (rows column.now.column) (effective_mask (rows mask.now.column))) }
-    ensures dtype { Makes result out.old.tree out.new.tree
-        (λ made. type_of made.column ≡ type_of column.now.column) }
-    ensures kind { DemandsBefore result unsupported_type (length_mismatch ∷ [])
-        (type_of mask.now.column ≡ of_boolean) }
-    ensures length { Demands result length_mismatch
-        (length (rows column.now.column) ≡ length (rows mask.now.column)) }
-    ensures status { IsOneOf result
-        (ok ∷ out_of_memory ∷ no_column ∷ unsupported_type ∷ length_mismatch ∷ []) }
-    ensures column { result ≢ no_column }
+    ensures { Filters result (Some column.now) (Some mask.now) out.old.tree out.new.tree }
 {
     match mask.as_column() {
         Column::Boolean(truths) => filter_by(alloc, column, truths, out),
@@ -46,14 +36,12 @@ pub fn filter_into(alloc: Global, column: &ArrayRef, mask: &ArrayRef, out: &mut 
 // Stores in `out` the rows of `column` where `mask` is true and valid.
 fn filter_by(alloc: Global, column: &ArrayRef, mask: &BooleanArray, out: &mut Handle) -> u32
     requires { depth (type_of column.now.column) ≤ 128 }
-    ensures rows { Makes result out.old.tree out.new.tree (λ made. rows made.column ≡
-        select (rows column.now.column) (effective_mask (boolean_rows mask.now))) }
-    ensures dtype { Makes result out.old.tree out.new.tree
-        (λ made. type_of made.column ≡ type_of column.now.column) }
-    ensures length { Demands result length_mismatch
-        (length (rows column.now.column) ≡ length (boolean_rows mask.now)) }
-    ensures status { IsOneOf result (ok ∷ out_of_memory ∷ length_mismatch ∷ []) }
-    ensures own { (result ≢ no_column) × (result ≢ unsupported_type) }
+    ensures { ReturnsColumn result out.old.tree out.new.tree
+        (select (rows column.now.column) (effective_mask (boolean_rows mask.now)))
+        (type_of column.now.column) ((
+          length_mismatch,
+          length (rows column.now.column) ≡ length (boolean_rows mask.now),
+        ) ∷ []) (result ≡ ok) }
 {
     if column.len() != mask.len() {
         return LENGTH_MISMATCH;
@@ -76,15 +64,7 @@ pub fn filter_bits_into(
     out: &mut Handle,
 ) -> u32
     requires { depth (type_of column.now.column) ≤ 128 }
-    ensures rows { Makes result out.old.tree out.new.tree (λ made. rows made.column ≡
-        select (rows column.now.column) (bits_from mask.now 0 len)) }
-    ensures dtype { Makes result out.old.tree out.new.tree
-        (λ made. type_of made.column ≡ type_of column.now.column) }
-    ensures length { Demands result length_mismatch
-        ((len ≡ length (rows column.now.column)) × (len ≤ 8 * length mask.now)) }
-    ensures status { IsOneOf result (ok ∷ out_of_memory ∷ no_column ∷ length_mismatch ∷
-        []) }
-    ensures column { result ≢ no_column }
+    ensures { FiltersByBits result (Some column.now) out.old.tree out.new.tree mask.now len }
 {
     if column.len() != len || mask.len() < len.div_ceil(8) {
         return LENGTH_MISMATCH;

@@ -1,13 +1,10 @@
 //! Element access for fixed-size lists, at one index.
 
-ghost use Rattle.std.specs.Prelude.{◌≡◌, ◌∷◌, ◌≢◌, false, IsTrue, ◌≤◌};
-ghost use Rattle.sel_arrow.specs.NestedArrays.{block_column};
+ghost use Rattle.std.specs.Prelude.{◌≤◌, [], Some};
 ghost use Rattle.sel_arrow.specs.Depth.{depth};
+ghost use Rattle.sel_arrow.specs.NestedArrays.{block_column};
 ghost use Rattle.sel_arrow.specs.Rows.{rows, type_of};
-ghost use Rattle.sel_arrow.specs.Shape.{is_block_shape};
-ghost use Rattle.sel_calls.specs.Entries.{entries_at, index_is_error, exceeded_entries_at};
-ghost use Rattle.sel_calls.specs.Types.{entry_type};
-ghost use Rattle.sel_ffi.specs.Status.{ok, out_of_memory, no_column, unsupported_type, list_index_out_of_bounds, limit_statuses, DemandsBefore, IsOneOf, Makes, ReportsLimits};
+ghost use Rattle.sel_calls.specs.Elements.{GetsEntries, GetsFixedEntries};
 
 use polars_compute::gather::sublist::fixed_size_list::sub_fixed_size_list_get_literal;
 use sel_arrow::array::Array;
@@ -32,21 +29,8 @@ pub fn fixed_get_into(
     out: &mut Handle,
 ) -> u32
     requires { depth (type_of column.now.column) ≤ 128 }
-    ensures rows { Makes result out.old.tree out.new.tree (λ made. rows made.column ≡
-        entries_at (rows column.now.column) (type_of column.now.column) index) }
-    ensures dtype { Makes result out.old.tree out.new.tree
-        (λ made. type_of made.column ≡ entry_type (type_of column.now.column)) }
-    ensures column { result ≢ no_column }
-    ensures status { IsOneOf result
-        (ok ∷ out_of_memory ∷ unsupported_type ∷ list_index_out_of_bounds ∷ limit_statuses) }
-    ensures kind { DemandsBefore result unsupported_type
-        (list_index_out_of_bounds ∷ limit_statuses)
-        (IsTrue (is_block_shape (type_of column.now.column))) }
-    ensures bounds { DemandsBefore result list_index_out_of_bounds limit_statuses
-        (index_is_error null_on_oob (rows column.now.column) (type_of column.now.column) index
-        ≡ false) }
-    ensures limits { ReportsLimits result
-        (exceeded_entries_at (rows column.now.column) (type_of column.now.column) index) }
+    ensures { GetsFixedEntries result (Some column.now) index null_on_oob
+        out.old.tree out.new.tree }
 {
     let Ok(copy) = column.try_clone(alloc) else {
         return OUT_OF_MEMORY;
@@ -71,18 +55,8 @@ fn entry_into(
     out: &mut Handle,
 ) -> u32
     requires { depth (type_of (block_column lists.now)) ≤ 128 }
-    ensures rows { Makes result out.old.tree out.new.tree (λ made. rows made.column ≡
-        entries_at (rows (block_column lists.now)) (type_of (block_column lists.now)) index) }
-    ensures dtype { Makes result out.old.tree out.new.tree
-        (λ made. type_of made.column ≡ entry_type (type_of (block_column lists.now))) }
-    ensures own { (result ≢ no_column) × (result ≢ unsupported_type) }
-    ensures status { IsOneOf result
-        (ok ∷ out_of_memory ∷ list_index_out_of_bounds ∷ limit_statuses) }
-    ensures bounds { DemandsBefore result list_index_out_of_bounds limit_statuses
-        (index_is_error null_on_oob (rows (block_column lists.now))
-        (type_of (block_column lists.now)) index ≡ false) }
-    ensures limits { ReportsLimits result (exceeded_entries_at
-        (rows (block_column lists.now)) (type_of (block_column lists.now)) index) }
+    ensures { GetsEntries result (rows (block_column lists.now)) (type_of (block_column lists.now))
+        index null_on_oob [] out.old.tree out.new.tree }
 {
     match sub_fixed_size_list_get_literal(alloc, lists, index, null_on_oob) {
         Ok(taken) => put(alloc, taken, out),

@@ -1,14 +1,13 @@
 //! Element access for fixed-size lists, at an index for each list.
 
-ghost use Rattle.std.specs.Prelude.{◌≡◌, ◌∷◌, ◌≢◌, length, false, IsTrue, ◌≤◌};
+ghost use Rattle.std.specs.Prelude.{◌≤◌, [], ◌∷◌, Some, IsTrue};
 ghost use Rattle.sel_arrow.specs.Columns.{primitive_rows};
-ghost use Rattle.sel_arrow.specs.NestedArrays.{block_column};
 ghost use Rattle.sel_arrow.specs.Depth.{depth};
+ghost use Rattle.sel_arrow.specs.NestedArrays.{block_column};
 ghost use Rattle.sel_arrow.specs.Rows.{rows, type_of};
-ghost use Rattle.sel_arrow.specs.Shape.{of_int64, is_block_shape};
-ghost use Rattle.sel_calls.specs.Entries.{entries_at_each, any_index_is_error, exceeded_entries_at_each};
-ghost use Rattle.sel_calls.specs.Types.{entry_type};
-ghost use Rattle.sel_ffi.specs.Status.{ok, out_of_memory, no_column, unsupported_type, length_mismatch, list_index_out_of_bounds, limit_statuses, DemandsBefore, IsOneOf, Makes, ReportsLimits};
+ghost use Rattle.sel_arrow.specs.Shape.{is_block_shape};
+ghost use Rattle.sel_calls.specs.Elements.{GetsEntriesEach, GetsFixedEntriesEach};
+ghost use Rattle.sel_ffi.specs.Status.{unsupported_type};
 
 use polars_compute::gather::sublist::fixed_size_list::sub_fixed_size_list_get;
 use sel_arrow::array::Array;
@@ -36,27 +35,8 @@ pub fn fixed_get_each_into(
     out: &mut Handle,
 ) -> u32
     requires { depth (type_of column.now.column) ≤ 128 }
-    ensures rows { Makes result out.old.tree out.new.tree (λ made. rows made.column ≡
-        entries_at_each (rows column.now.column) (type_of column.now.column)
-        (rows indices.now.column)) }
-    ensures dtype { Makes result out.old.tree out.new.tree
-        (λ made. type_of made.column ≡ entry_type (type_of column.now.column)) }
-    ensures column { result ≢ no_column }
-    ensures status { IsOneOf result (ok ∷ out_of_memory ∷ unsupported_type ∷
-        length_mismatch ∷ list_index_out_of_bounds ∷ limit_statuses) }
-    ensures kind { DemandsBefore result unsupported_type
-        (length_mismatch ∷ list_index_out_of_bounds ∷ limit_statuses)
-        (IsTrue (is_block_shape (type_of column.now.column)) ×
-        (type_of indices.now.column ≡ of_int64)) }
-    ensures length { DemandsBefore result length_mismatch
-        (list_index_out_of_bounds ∷ limit_statuses)
-        (length (rows indices.now.column) ≡ length (rows column.now.column)) }
-    ensures bounds { DemandsBefore result list_index_out_of_bounds limit_statuses
-        (any_index_is_error null_on_oob (rows column.now.column) (type_of column.now.column)
-        (rows indices.now.column) ≡ false) }
-    ensures limits { ReportsLimits result
-        (exceeded_entries_at_each (rows column.now.column) (type_of column.now.column)
-        (rows indices.now.column)) }
+    ensures { GetsFixedEntriesEach result (Some column.now) (Some indices.now) null_on_oob
+        out.old.tree out.new.tree }
 {
     let Ok(copy) = indices.try_clone(alloc) else {
         return OUT_OF_MEMORY;
@@ -79,26 +59,10 @@ fn entries_of_column_into(
     out: &mut Handle,
 ) -> u32
     requires { depth (type_of column.now.column) ≤ 128 }
-    ensures rows { Makes result out.old.tree out.new.tree (λ made. rows made.column ≡
-        entries_at_each (rows column.now.column) (type_of column.now.column)
-        (primitive_rows indices.now)) }
-    ensures dtype { Makes result out.old.tree out.new.tree
-        (λ made. type_of made.column ≡ entry_type (type_of column.now.column)) }
-    ensures column { result ≢ no_column }
-    ensures status { IsOneOf result (ok ∷ out_of_memory ∷ unsupported_type ∷
-        length_mismatch ∷ list_index_out_of_bounds ∷ limit_statuses) }
-    ensures kind { DemandsBefore result unsupported_type
-        (length_mismatch ∷ list_index_out_of_bounds ∷ limit_statuses)
-        (IsTrue (is_block_shape (type_of column.now.column))) }
-    ensures length { DemandsBefore result length_mismatch
-        (list_index_out_of_bounds ∷ limit_statuses)
-        (length (primitive_rows indices.now) ≡ length (rows column.now.column)) }
-    ensures bounds { DemandsBefore result list_index_out_of_bounds limit_statuses
-        (any_index_is_error null_on_oob (rows column.now.column) (type_of column.now.column)
-        (primitive_rows indices.now) ≡ false) }
-    ensures limits { ReportsLimits result
-        (exceeded_entries_at_each (rows column.now.column) (type_of column.now.column)
-        (primitive_rows indices.now)) }
+    ensures { GetsEntriesEach result (rows column.now.column) (type_of column.now.column)
+        (primitive_rows indices.now) null_on_oob
+        ((unsupported_type, IsTrue (is_block_shape (type_of column.now.column))) ∷ [])
+        out.old.tree out.new.tree }
 {
     let Ok(copy) = column.try_clone(alloc) else {
         return OUT_OF_MEMORY;
@@ -123,23 +87,9 @@ fn entries_into(
     out: &mut Handle,
 ) -> u32
     requires { depth (type_of (block_column lists.now)) ≤ 128 }
-    ensures rows { Makes result out.old.tree out.new.tree (λ made. rows made.column ≡
-        entries_at_each (rows (block_column lists.now)) (type_of (block_column lists.now))
-        (primitive_rows indices.now)) }
-    ensures dtype { Makes result out.old.tree out.new.tree
-        (λ made. type_of made.column ≡ entry_type (type_of (block_column lists.now))) }
-    ensures own { (result ≢ no_column) × (result ≢ unsupported_type) }
-    ensures status { IsOneOf result
-        (ok ∷ out_of_memory ∷ length_mismatch ∷ list_index_out_of_bounds ∷ limit_statuses) }
-    ensures length { DemandsBefore result length_mismatch
-        (list_index_out_of_bounds ∷ limit_statuses)
-        (length (primitive_rows indices.now) ≡ length (rows (block_column lists.now))) }
-    ensures bounds { DemandsBefore result list_index_out_of_bounds limit_statuses
-        (any_index_is_error null_on_oob (rows (block_column lists.now))
-        (type_of (block_column lists.now)) (primitive_rows indices.now) ≡ false) }
-    ensures limits { ReportsLimits result (exceeded_entries_at_each
-        (rows (block_column lists.now)) (type_of (block_column lists.now))
-        (primitive_rows indices.now)) }
+    ensures { GetsEntriesEach result (rows (block_column lists.now))
+        (type_of (block_column lists.now)) (primitive_rows indices.now) null_on_oob []
+        out.old.tree out.new.tree }
 {
     if indices.len() != lists.len() {
         return LENGTH_MISMATCH;

@@ -1,14 +1,10 @@
 //! Element access for lists with 64-bit offsets.
 
-ghost use Rattle.std.specs.Prelude.{◌≡◌, ◌∷◌, [], ◌≢◌, IsTrue, ◌≤◌};
-ghost use Rattle.sel_arrow.specs.NestedArrays.{list_column};
+ghost use Rattle.std.specs.Prelude.{◌≤◌, [], Some};
 ghost use Rattle.sel_arrow.specs.Depth.{depth};
+ghost use Rattle.sel_arrow.specs.NestedArrays.{list_column};
 ghost use Rattle.sel_arrow.specs.Rows.{rows, type_of};
-ghost use Rattle.sel_arrow.specs.Shape.{is_list_shape};
-ghost use Rattle.sel_calls.specs.Types.{entry_type};
-ghost use Rattle.sel_ffi.specs.Status.{ok, out_of_memory, no_column, unsupported_type, limit_statuses, Demands, DemandsBefore, IsOneOf, Makes, ReportsLimits};
-ghost use Rattle.sel_gather.specs.Need.{exceeded_limits};
-ghost use Rattle.polars_compute.specs.Lists.{list_get, oob};
+ghost use Rattle.sel_calls.specs.Elements.{FindsOutOfBounds, GetsElements, GetsListElements};
 
 use polars_compute::gather::sublist::list::{column_index_is_oob, sublist_get};
 use sel_arrow::array::Array;
@@ -25,16 +21,7 @@ use std::alloc::Global;
 /// `_LIMIT` status if the result would exceed a limit.
 pub fn sublist_get_into(alloc: Global, column: &ArrayRef, index: i64, out: &mut Handle) -> u32
     requires { depth (type_of column.now.column) ≤ 128 }
-    ensures rows { Makes result out.old.tree out.new.tree
-        (λ made. rows made.column ≡ list_get (rows column.now.column) index) }
-    ensures dtype { Makes result out.old.tree out.new.tree
-        (λ made. type_of made.column ≡ entry_type (type_of column.now.column)) }
-    ensures column { result ≢ no_column }
-    ensures status { IsOneOf result (ok ∷ out_of_memory ∷ unsupported_type ∷ limit_statuses) }
-    ensures kind { DemandsBefore result unsupported_type limit_statuses
-        (IsTrue (is_list_shape (type_of column.now.column))) }
-    ensures limits { ReportsLimits result (exceeded_limits (entry_type (type_of column.now.column))
-        (list_get (rows column.now.column) index)) }
+    ensures { GetsListElements result (Some column.now) index out.old.tree out.new.tree }
 {
     let Ok(copy) = column.try_clone(alloc) else {
         return OUT_OF_MEMORY;
@@ -53,15 +40,8 @@ pub fn sublist_get_into(alloc: Global, column: &ArrayRef, index: i64, out: &mut 
 
 fn element_into(alloc: Global, lists: &ListArray<i64>, index: i64, out: &mut Handle) -> u32
     requires { depth (type_of (list_column lists.now)) ≤ 128 }
-    ensures rows { Makes result out.old.tree out.new.tree
-        (λ made. rows made.column ≡ list_get (rows (list_column lists.now)) index) }
-    ensures dtype { Makes result out.old.tree out.new.tree
-        (λ made. type_of made.column ≡ entry_type (type_of (list_column lists.now))) }
-    ensures own { (result ≢ no_column) × (result ≢ unsupported_type) }
-    ensures status { IsOneOf result (ok ∷ out_of_memory ∷ limit_statuses) }
-    ensures limits { ReportsLimits result
-        (exceeded_limits (entry_type (type_of (list_column lists.now)))
-        (list_get (rows (list_column lists.now)) index)) }
+    ensures { GetsElements result (rows (list_column lists.now)) (type_of (list_column lists.now))
+        index [] out.old.tree out.new.tree }
 {
     match sublist_get(alloc, lists, index) {
         Ok(taken) => put(alloc, taken, out),
@@ -74,11 +54,7 @@ fn element_into(alloc: Global, lists: &ListArray<i64>, index: i64, out: &mut Han
 /// Errors: `UNSUPPORTED_TYPE` if the column is not a list with 64-bit offsets; `out` is then
 /// unchanged.
 pub fn index_is_oob_into(column: &ArrayRef, index: i64, out: &mut bool) -> u32
-    ensures found { result ≡ ok → out.new ≡ oob (rows column.now.column) index }
-    ensures unchanged { result ≢ ok → out.new ≡ out.old }
-    ensures status { IsOneOf result (ok ∷ unsupported_type ∷ []) }
-    ensures kind { Demands result unsupported_type
-        (IsTrue (is_list_shape (type_of column.now.column))) }
+    ensures { FindsOutOfBounds result (Some column.now) index out.old out.new }
 {
     let Some(found) = column_index_is_oob(column, index) else {
         return UNSUPPORTED_TYPE;

@@ -1,13 +1,9 @@
 //! Filters by masks that are prepared once.
 
-ghost use Rattle.std.specs.Prelude.{◌≡◌, ◌≢◌, ◌≤◌, ◌*◌, [], ◌∷◌, length, IfOk, IfErr};
-ghost use Rattle.sel_bits.specs.Bits.{bits_from};
+ghost use Rattle.std.specs.Prelude.{◌≡◌, ◌≤◌, [], Some};
 ghost use Rattle.sel_arrow.specs.Depth.{depth};
-ghost use Rattle.sel_arrow.specs.Rows.{rows, type_of};
-ghost use Rattle.sel_arrow.specs.Shape.{of_boolean};
-ghost use Rattle.sel_calls.specs.Selections.{Prepares};
-ghost use Rattle.sel_ffi.specs.Status.{ok, out_of_memory, no_column, unsupported_type, length_mismatch, Demands, IsOneOf, Makes};
-ghost use Rattle.polars_compute.specs.Select.{select, effective_mask};
+ghost use Rattle.sel_arrow.specs.Rows.{type_of};
+ghost use Rattle.sel_calls.specs.Selections.{Prepares, PreparesColumn, PreparesBits, FiltersBySelection};
 
 use crate::selection_handle::SelectionHandle;
 use polars_compute::filter::{Selection, filter_selected};
@@ -23,10 +19,7 @@ use std::alloc::Global;
 ///
 /// Errors: `UNSUPPORTED_TYPE` if the mask is not boolean; `OUT_OF_MEMORY`.
 pub fn selection_into(alloc: Global, mask: &ArrayRef, out: &mut SelectionHandle) -> u32
-    ensures selection { Prepares result out.old.selection out.new.selection
-        (λ made. made.mask.bits ≡ effective_mask (rows mask.now.column)) }
-    ensures kind { Demands result unsupported_type (type_of mask.now.column ≡ of_boolean) }
-    ensures status { IsOneOf result (ok ∷ out_of_memory ∷ unsupported_type ∷ []) }
+    ensures { PreparesColumn result (Some mask.now) out.old.selection out.new.selection }
 {
     match mask.as_column() {
         Column::Boolean(truths) => match Selection::new(alloc, truths) {
@@ -47,10 +40,7 @@ pub fn selection_of_bits_into(
     len: usize,
     out: &mut SelectionHandle,
 ) -> u32
-    ensures selection { Prepares result out.old.selection out.new.selection
-        (λ made. made.mask.bits ≡ bits_from mask.now 0 len) }
-    ensures length { Demands result length_mismatch (len ≤ 8 * length mask.now) }
-    ensures status { IsOneOf result (ok ∷ out_of_memory ∷ length_mismatch ∷ []) }
+    ensures { PreparesBits result mask.now len out.old.selection out.new.selection }
 {
     if mask.len() < len.div_ceil(8) {
         return LENGTH_MISMATCH;
@@ -71,9 +61,7 @@ pub fn selection_of_bits_into(
 ///
 /// Errors: `OUT_OF_MEMORY`; then `out` is unchanged and `selection` is freed.
 pub fn put_selection(alloc: Global, selection: Selection, out: &mut SelectionHandle) -> u32
-    ensures selection { Prepares result out.old.selection out.new.selection
-        (λ made. made ≡ selection) }
-    ensures status { result ≤ out_of_memory }
+    ensures { Prepares result out.old.selection out.new.selection selection.mask.bits [] }
 {
     match Box::new(alloc, selection) {
         Ok(boxed) => {
@@ -98,15 +86,8 @@ pub fn filter_selected_into(
     out: &mut Handle,
 ) -> u32
     requires { depth (type_of column.now.column) ≤ 128 }
-    ensures rows { Makes result out.old.tree out.new.tree (λ made. rows made.column ≡
-        select (rows column.now.column) selection.now.mask.bits) }
-    ensures dtype { Makes result out.old.tree out.new.tree
-        (λ made. type_of made.column ≡ type_of column.now.column) }
-    ensures length { Demands result length_mismatch
-        (length (rows column.now.column) ≡ length selection.now.mask.bits) }
-    ensures status { IsOneOf result (ok ∷ out_of_memory ∷ no_column ∷ length_mismatch ∷
-        []) }
-    ensures column { result ≢ no_column }
+    ensures { FiltersBySelection result (Some column.now) (Some selection.now)
+        out.old.tree out.new.tree }
 {
     if column.len() != selection.len() {
         return LENGTH_MISMATCH;

@@ -1,19 +1,13 @@
 //! Several columns: horizontal flatten, and gathered rows.
 
-ghost use Rattle.std.specs.Prelude.{◌≡◌, ◌≢◌, ◌≤◌, ◌<◌, ◌∷◌, ◌↔◌, All, false, length, map, IsTrue, IfOk, IfErr};
+ghost use Rattle.std.specs.Prelude.{◌≡◌, ◌≤◌, ◌↔◌, [], All, length, map, IsTrue, IfOk, IfErr};
 ghost use Rattle.sel_bits.specs.Faults.{IsOutOfMemory};
 ghost use Rattle.sel_bits.specs.Limits.{max_rows};
-ghost use Rattle.sel_bits.specs.declared.faults.Malformed.TheVariants.{TooManyRows, ValidityLength};
-ghost use Rattle.sel_arrow.specs.Masked.{Covers};
 ghost use Rattle.sel_arrow.specs.Depth.{depth};
+ghost use Rattle.sel_arrow.specs.Masked.{Covers};
 ghost use Rattle.sel_arrow.specs.Rows.{rows, type_of};
-ghost use Rattle.sel_arrow.specs.Value.{Null};
-ghost use Rattle.sel_calls.specs.Several.{first_shape, picks_from, picks_in, AreAlike};
-ghost use Rattle.polars_compute.specs.Flatten.{array_columns, flatten, parts_fit, exceeded_flattened};
-ghost use Rattle.sel_ffi.specs.Inputs.{lacks_bits};
-ghost use Rattle.sel_ffi.specs.Status.{ok, out_of_memory, no_column, type_mismatch, length_mismatch, index_out_of_bounds, rule_status, limit_statuses, DemandsBefore, IsOneOf, Makes, ReportsLimits};
-ghost use Rattle.sel_gather.specs.Need.{exceeded_taken, ExceedsNone};
-ghost use Rattle.sel_gather.specs.Picks.{pick, PickFits};
+ghost use Rattle.sel_calls.specs.Several.{picks_conditions, picks_from, picks_in, AreAlike, CollectsRows, FlattensColumns};
+ghost use Rattle.polars_compute.specs.Flatten.{array_columns};
 
 use crate::picks::{WordPlaces, are_in_bounds, lengths_of};
 use polars_compute::horizontal_flatten::{flatten_is_safe, horizontal_flatten_unchecked};
@@ -60,28 +54,9 @@ pub fn flatten_into(
     out: &mut Handle,
 ) -> u32
     requires { All (λ array. depth (type_of array.column) ≤ 128) arrays.now }
-    ensures rows { Makes result out.old.tree out.new.tree (λ made. rows made.column ≡
-        flatten (map (λ array. rows array.column) arrays.now) widths.now height) }
-    ensures dtype { Makes result out.old.tree out.new.tree (λ made. type_of made.column ≡
-        first_shape (map (λ array. type_of array.column) arrays.now)) }
-    ensures column { result ≢ no_column }
-    ensures status { IsOneOf result
-        (ok ∷ out_of_memory ∷ type_mismatch ∷ length_mismatch ∷ limit_statuses) }
-    ensures alike { DemandsBefore result type_mismatch (length_mismatch ∷ limit_statuses)
-        (AreAlike (map (λ array. type_of array.column) arrays.now)) }
-    ensures length { DemandsBefore result length_mismatch limit_statuses
-        ((0 < length arrays.now) × IsTrue
-        (parts_fit height (map (λ array. rows array.column) arrays.now) widths.now)) }
-    ensures one_type { ReportsLimits result
-        (λ _. AreAlike (map (λ array. type_of array.column) arrays.now)) }
-    ensures limits { ReportsLimits result
-        (exceeded_flattened height (first_shape (map (λ array. type_of array.column) arrays.now))
-        (array_columns arrays.now)
-        (flatten (map (λ array. rows array.column) arrays.now) widths.now height)) }
-    ensures within { result ≡ ok → ExceedsNone
-        (exceeded_flattened height (first_shape (map (λ array. type_of array.column) arrays.now))
-        (array_columns arrays.now)
-        (flatten (map (λ array. rows array.column) arrays.now) widths.now height)) }
+    ensures { FlattensColumns result (map (λ array. rows array.column) arrays.now)
+        (map (λ array. type_of array.column) arrays.now) (array_columns arrays.now)
+        widths.now height [] out.old.tree out.new.tree }
 {
     if !are_alike(arrays) {
         return TYPE_MISMATCH;
@@ -126,38 +101,10 @@ pub fn collect_into(
     out: &mut Handle,
 ) -> u32
     requires { All (λ array. depth (type_of array.column) ≤ 128) arrays.now }
-    ensures rows { Makes result out.old.tree out.new.tree (λ made. rows made.column ≡
-        pick Null (map (λ array. rows array.column) arrays.now)
-        (picks_in words.now bits.now has_bits)) }
-    ensures dtype { Makes result out.old.tree out.new.tree (λ made. type_of made.column ≡
-        first_shape (map (λ array. type_of array.column) arrays.now)) }
-    ensures column { result ≢ no_column }
-    ensures status { IsOneOf result (ok ∷ out_of_memory ∷ rule_status TooManyRows ∷
-        rule_status ValidityLength ∷ length_mismatch ∷ type_mismatch ∷ index_out_of_bounds ∷
-        limit_statuses) }
-    ensures few { DemandsBefore result (rule_status TooManyRows) (rule_status ValidityLength ∷
-        length_mismatch ∷ type_mismatch ∷ index_out_of_bounds ∷ limit_statuses)
-        (length words.now ≤ max_rows) }
-    ensures validity { DemandsBefore result (rule_status ValidityLength)
-        (length_mismatch ∷ type_mismatch ∷ index_out_of_bounds ∷ limit_statuses)
-        (lacks_bits bits.now has_bits (length words.now) ≡ false) }
-    ensures some { DemandsBefore result length_mismatch
-        (type_mismatch ∷ index_out_of_bounds ∷ limit_statuses) (0 < length arrays.now) }
-    ensures alike { DemandsBefore result type_mismatch (index_out_of_bounds ∷ limit_statuses)
-        (AreAlike (map (λ array. type_of array.column) arrays.now)) }
-    ensures bounds { DemandsBefore result index_out_of_bounds limit_statuses
-        (All (PickFits (map (λ array. rows array.column) arrays.now))
-        (picks_in words.now bits.now has_bits)) }
-    ensures one_type { ReportsLimits result
-        (λ _. AreAlike (map (λ array. type_of array.column) arrays.now)) }
-    ensures limits { ReportsLimits result
-        (exceeded_taken (first_shape (map (λ array. type_of array.column) arrays.now))
-        (array_columns arrays.now) (pick Null (map (λ array. rows array.column) arrays.now)
-        (picks_in words.now bits.now has_bits))) }
-    ensures within { result ≡ ok → ExceedsNone
-        (exceeded_taken (first_shape (map (λ array. type_of array.column) arrays.now))
-        (array_columns arrays.now) (pick Null (map (λ array. rows array.column) arrays.now)
-        (picks_in words.now bits.now has_bits))) }
+    ensures { CollectsRows result (map (λ array. rows array.column) arrays.now)
+        (map (λ array. type_of array.column) arrays.now) (array_columns arrays.now)
+        (picks_in words.now bits.now has_bits) (picks_conditions words.now bits.now has_bits)
+        out.old.tree out.new.tree }
 {
     if words.len() > MOST_ROWS {
         return TOO_MANY_ROWS;
@@ -181,35 +128,9 @@ fn collect_picks_into(
     requires depth { All (λ array. depth (type_of array.column) ≤ 128) arrays.now }
     requires few { length words.now ≤ max_rows }
     requires covers { Covers validity.now (length words.now) }
-    ensures rows { Makes result out.old.tree out.new.tree (λ made. rows made.column ≡
-        pick Null (map (λ array. rows array.column) arrays.now)
-        (picks_from 0 validity.now words.now)) }
-    ensures dtype { Makes result out.old.tree out.new.tree (λ made. type_of made.column ≡
-        first_shape (map (λ array. type_of array.column) arrays.now)) }
-    ensures own { (result ≢ no_column) × (result ≢ rule_status TooManyRows) ×
-        (result ≢ rule_status ValidityLength) }
-    ensures status { IsOneOf result
-        (ok ∷ out_of_memory ∷ length_mismatch ∷ type_mismatch ∷ index_out_of_bounds ∷
-        limit_statuses) }
-    ensures some { DemandsBefore result length_mismatch
-        (type_mismatch ∷ index_out_of_bounds ∷ limit_statuses) (0 < length arrays.now) }
-    ensures alike { DemandsBefore result type_mismatch (index_out_of_bounds ∷ limit_statuses)
-        (AreAlike (map (λ array. type_of array.column) arrays.now)) }
-    ensures bounds { DemandsBefore result index_out_of_bounds limit_statuses
-        (All (PickFits (map (λ array. rows array.column) arrays.now))
-        (picks_from 0 validity.now words.now)) }
-    ensures one_type { ReportsLimits result
-        (λ _. AreAlike (map (λ array. type_of array.column) arrays.now)) }
-    ensures limits { ReportsLimits result
-        (exceeded_taken (first_shape (map (λ array. type_of array.column) arrays.now))
-        (array_columns arrays.now)
-        (pick Null (map (λ array. rows array.column) arrays.now)
-        (picks_from 0 validity.now words.now))) }
-    ensures within { result ≡ ok → ExceedsNone
-        (exceeded_taken (first_shape (map (λ array. type_of array.column) arrays.now))
-        (array_columns arrays.now)
-        (pick Null (map (λ array. rows array.column) arrays.now)
-        (picks_from 0 validity.now words.now))) }
+    ensures { CollectsRows result (map (λ array. rows array.column) arrays.now)
+        (map (λ array. type_of array.column) arrays.now) (array_columns arrays.now)
+        (picks_from 0 validity.now words.now) [] out.old.tree out.new.tree }
 {
     if arrays.is_empty() {
         return LENGTH_MISMATCH;

@@ -6,8 +6,8 @@ ghost use Rattle.sel_arrow.specs.Depth.{depth};
 ghost use Rattle.sel_arrow.specs.Rows.{rows, type_of};
 ghost use Rattle.sel_arrow.specs.Shape.{Shape};
 ghost use Rattle.sel_arrow.specs.Value.{Value};
-ghost use Rattle.sel_calls.specs.Parsed.{exceeds_parse_limit, ExceedsAlways, IsRowsText, IsTypeText};
-ghost use Rattle.sel_calls.specs.Printed.{filled};
+ghost use Rattle.sel_calls.specs.Parsed.{exceeds_parse_limit, ExceedsAlways, IsRowsText, IsTypeText, Parses};
+ghost use Rattle.sel_calls.specs.Printed.{filled, Prints};
 ghost use Rattle.sel_ffi.specs.Status.{ok, out_of_memory, type_syntax, row_syntax, row_type_mismatch, text_limit, IsOneOf, Makes};
 ghost use Rattle.sel_text.specs.Limits.{exceeds_limit};
 ghost use Rattle.sel_text.specs.Notation.{is_row_notation, is_type_notation, HasFirstError, IsFirstError};
@@ -38,11 +38,8 @@ use std::str;
 ///
 /// Errors: `OUT_OF_MEMORY`.
 pub fn print_into(alloc: Global, column: &ArrayRef, out: &mut [u8], len: &mut usize) -> u32
-    ensures text { result ≡ ok → out.new ≡
-        filled (text_of (type_of column.now.column) (rows column.now.column)) out.old }
-    ensures len { result ≡ ok → len.new ≡
-        length (text_of (type_of column.now.column) (rows column.now.column)) }
-    ensures status { IsOneOf result (ok ∷ out_of_memory ∷ []) }
+    ensures { Prints result (Some column.now)
+        (text_of (type_of column.now.column) (rows column.now.column)) out.old out.new len.new }
 {
     let Ok(text) = print_rows(alloc, column.as_column()) else {
         return OUT_OF_MEMORY;
@@ -58,10 +55,8 @@ pub fn print_into(alloc: Global, column: &ArrayRef, out: &mut [u8], len: &mut us
 ///
 /// Errors: `OUT_OF_MEMORY`.
 pub fn print_type_into(alloc: Global, column: &ArrayRef, out: &mut [u8], len: &mut usize) -> u32
-    ensures text { result ≡ ok → out.new ≡
-        filled (type_text (type_of column.now.column)) out.old }
-    ensures len { result ≡ ok → len.new ≡ length (type_text (type_of column.now.column)) }
-    ensures status { IsOneOf result (ok ∷ out_of_memory ∷ []) }
+    ensures { Prints result (Some column.now) (type_text (type_of column.now.column))
+        out.old out.new len.new }
 {
     let Ok(dtype) = column.as_column().dtype(alloc) else {
         return OUT_OF_MEMORY;
@@ -92,36 +87,7 @@ fn fill(text: &[u8], out: &mut [u8])
 /// position in `text`; `TEXT_LIMIT` if the type or the rows exceed a size limit, or the type is
 /// nested more than 64 levels deep; `OUT_OF_MEMORY`. On error `out` is unchanged.
 pub fn parse_into(alloc: Global, name: &[u8], text: &[u8], at: &mut usize, out: &mut Handle) -> u32
-    ensures dtype { Makes result out.old.tree out.new.tree
-        (λ made. spelled name.now ≡ Some (type_text (type_of made.column))) }
-    ensures rows { Makes result out.old.tree out.new.tree
-        (λ made. spelled text.now ≡ Some (text_of (type_of made.column) (rows made.column))) }
-    ensures named { result ≡ type_syntax → (shape : Shape) → IsTypeText shape name.now →
-        ⊥ }
-    ensures typed { IsOneOf result (row_syntax ∷ row_type_mismatch ∷ []) →
-        (shape : Shape) × (spelled name.now ≡ Some (type_text shape)) }
-    ensures within { result ≡ ok → (shape : Shape) (values : List Value) →
-        IsTypeText shape name.now → IsRowsText shape values text.now →
-        exceeds_parse_limit shape values ≡ false }
-    ensures accepted { (shape : Shape) (values : List Value) →
-        IsTypeText shape name.now → IsRowsText shape values text.now →
-        IsOneOf result (ok ∷ out_of_memory ∷ text_limit ∷ []) }
-    ensures limit { result ≡ text_limit → (shape : Shape) (values : List Value) →
-        IsTypeText shape name.now → IsRowsText shape values text.now →
-        IsTrue (exceeds_parse_limit shape values) }
-    ensures type_error { result ≡ type_syntax → IsFirstError is_type_notation name.now at.new }
-    ensures row_error { result ≡ row_syntax → IsFirstError is_row_notation text.now at.new }
-    ensures misfit { result ≡ row_type_mismatch → is_row_notation text.now ≡ true }
-    ensures type_read { result ≡ text_limit → is_type_notation name.now ≡ true }
-    ensures fit { result ≡ text_limit → (shape : Shape) → IsTypeText shape name.now →
-        ExceedsAlways shape ⊎ HasFittingRows shape text.now }
-    ensures type_place { result ≡ type_syntax → at.new ≤ length name.now }
-    ensures place { IsOneOf result (row_syntax ∷ row_type_mismatch ∷ []) →
-        at.new ≤ length text.now }
-    ensures no_place { IsOneOf result (ok ∷ out_of_memory ∷ text_limit ∷ []) → at.new ≡
-        at.old }
-    ensures status { IsOneOf result
-        (ok ∷ out_of_memory ∷ type_syntax ∷ row_syntax ∷ row_type_mismatch ∷ text_limit ∷ []) }
+    ensures { Parses result name.now text.now at.old at.new out.old.tree out.new.tree }
 {
     let dtype = match read_dtype(alloc, name) {
         Ok(dtype) => dtype,

@@ -1,12 +1,11 @@
 //! Columns of 128-bit integers, exchanged as two 64-bit words each.
 
-ghost use Rattle.std.specs.Prelude.{◌≡◌, ◌≢◌, [], ◌∷◌, ℤ, length, map, None, IfOk, IfErr};
+ghost use Rattle.std.specs.Prelude.{◌≡◌, ℤ, length, map, None, Some, IfOk, IfErr};
 ghost use Rattle.sel_arrow.specs.Masked.{number_rows};
 ghost use Rattle.sel_arrow.specs.Rows.{rows, type_of};
 ghost use Rattle.sel_calls.specs.Wides.{joined, signed_wide, unsigned_wide};
 ghost use Rattle.sel_ffi.specs.Inputs.{validity_in, flat_rules, IsRuleOrMemory};
-ghost use Rattle.sel_ffi.specs.Outputs.{Shows, numbers};
-ghost use Rattle.sel_ffi.specs.Status.{ok, out_of_memory, no_column, unsupported_type, length_mismatch, Demands, DemandsBefore, IsOneOf};
+ghost use Rattle.sel_ffi.specs.Outputs.{CopiesNumbers};
 
 use sel_arrow::array::Array;
 use sel_arrow::array_ref::ArrayRef;
@@ -147,15 +146,7 @@ pub fn wides_of<T: InWords>(
 /// length of `out` is not the number of rows; `OUT_OF_MEMORY`.
 #[tactic(auto, using(crate::proofs::Shown::words))]
 pub fn wides_into<T: InWords>(alloc: Global, column: &ArrayRef, out: &mut [Wide]) -> u32
-    ensures values { result ≡ ok → Shows (numbers T.shown_by out.new)
-        (rows column.now.column) }
-    ensures kind { DemandsBefore result unsupported_type (length_mismatch ∷ [])
-        (type_of column.now.column ≡ T.shape) }
-    ensures length { Demands result length_mismatch
-        (length out.old ≡ length (rows column.now.column)) }
-    ensures status { IsOneOf result
-        (ok ∷ out_of_memory ∷ no_column ∷ unsupported_type ∷ length_mismatch ∷ []) }
-    ensures column { result ≢ no_column }
+    ensures { CopiesNumbers result (Some column.now) T.shape T.shown_by out.old out.new }
 {
     let Ok(copy) = column.try_clone(alloc) else {
         return OUT_OF_MEMORY;

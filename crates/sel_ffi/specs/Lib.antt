@@ -4,4 +4,5 @@ pub mod Kinds
 pub mod Layout
 pub mod Outputs
 pub mod Owned
+pub mod Parts
 pub mod Status

@@ -1,5 +1,6 @@
 -- Status codes, and what calls with a status guarantee.
 use Rattle.std.specs.Prelude.{◌≡◌, ◌≢◌, ◌≤◌, ℕ, ◌==◌, cond, List, Option, None, Some, [], ◌∷◌, true}
+use Rattle.std.specs.Prelude.{◌⊎◌}
 use Rattle.std.specs.List.{list_any}
 use Rattle.std.specs.Option.{IsSomeAnd}
 use Rattle.sel_bits.specs.declared.faults.Limit.{Limit}
@@ -76,12 +77,6 @@ limit_status limit.Bytes = 9
 limit_status limit.Buffers = 10
 limit_status limit.ViewBytes = 11
 
--- The statuses of all limits.
-abbrev pub limit_statuses : List ℕ
-limit_statuses =
-    limit_status limit.Rows ∷ limit_status limit.Bytes ∷ limit_status limit.Buffers
-    ∷ limit_status limit.ViewBytes ∷ []
-
 -- The status of a kernel's error.
 abbrev pub error_status : PolarsError → ℕ
 error_status error.OutOfMemory = out_of_memory
@@ -127,25 +122,17 @@ abbrev pub held_type : Held → Shape
 held_type None = of_null
 held_type (Some column) = type_of column.column
 
--- Success implies the condition, and the status implies that it does not hold.
-abbrev pub Demands : ℕ → ℕ → Type 0 → Type 0
-Demands status code Right = (status ≡ ok → Right) × (status ≡ code → Right → ⊥)
-
--- The condition that is checked first: any other status but out of memory implies that it holds,
--- and its own status that it does not.
-abbrev pub DemandsFirst : ℕ → ℕ → Type 0 → Type 0
-DemandsFirst status code Right =
-    (status ≢ out_of_memory → status ≢ code → Right) × (status ≡ code → Right → ⊥)
+-- The status is out of memory, or that of the first condition in the list that does not hold, or,
+-- if all of them hold, one that the last argument allows.
+abbrev pub ReturnsFirst : ℕ → List (ℕ × Type 0) → Type 0 → Type 0
+ReturnsFirst status [] AllHold = (status ≡ out_of_memory) ⊎ AllHold
+ReturnsFirst status (check ∷ checks) AllHold =
+    (status ≡ out_of_memory) ⊎ ((status ≡ check.0) × (check.1 → ⊥))
+    ⊎ (check.1 × ReturnsFirst status checks AllHold)
 
 -- The status is one of these.
 abbrev pub IsOneOf : ℕ → List ℕ → Type 0
 IsOneOf status codes = list_any (λ code. code == status) codes ≡ true
-
--- A condition that is checked before others: success, or one of these other statuses, implies that
--- it holds, and its own status that it does not.
-abbrev pub DemandsBefore : ℕ → ℕ → List ℕ → Type 0 → Type 0
-DemandsBefore status code others Right =
-    (IsOneOf status (ok ∷ others) → Right) × (status ≡ code → Right → ⊥)
 
 -- The handle has a column.
 abbrev pub HasColumn : Held → Type 0

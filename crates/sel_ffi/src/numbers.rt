@@ -5,8 +5,8 @@ ghost use Rattle.sel_arrow.specs.Depth.{depth};
 ghost use Rattle.sel_arrow.specs.Masked.{number_rows};
 ghost use Rattle.sel_arrow.specs.Rows.{rows, type_of};
 ghost use Rattle.sel_ffi.specs.Inputs.{validity_in, flat_rules};
-ghost use Rattle.sel_ffi.specs.Outputs.{Shows, numbers};
-ghost use Rattle.sel_ffi.specs.Status.{ok, out_of_memory, no_column, unsupported_type, length_mismatch, held_rows, held_type, Demands, DemandsBefore, DemandsFirst, HasColumn, IsOneOf, Makes, ReportsOnly};
+ghost use Rattle.sel_ffi.specs.Outputs.{CopiesNumbers};
+ghost use Rattle.sel_ffi.specs.Status.{Makes, ReportsOnly};
 
 use crate::column_ref::ColumnRef;
 use crate::handle::Handle;
@@ -49,14 +49,7 @@ pub fn make_numbers<T: ArrowPrimitive>(
 /// Errors: `NO_COLUMN` if the handle has no column; `UNSUPPORTED_TYPE` if its type is not that of
 /// `T`; `LENGTH_MISMATCH` if the length of `out` is not the number of rows; `OUT_OF_MEMORY`.
 pub fn held_numbers_into<T: ArrowPrimitive>(alloc: Global, of: &ColumnRef, out: &mut [T]) -> u32
-    ensures values { result ≡ ok → Shows (numbers T.number out.new) (held_rows of.now.tree) }
-    ensures column { DemandsFirst result no_column (HasColumn of.now.tree) }
-    ensures kind { DemandsBefore result unsupported_type (length_mismatch ∷ [])
-        (held_type of.now.tree ≡ T.shape) }
-    ensures length { Demands result length_mismatch
-        (length out.old ≡ length (held_rows of.now.tree)) }
-    ensures status { IsOneOf result
-        (ok ∷ out_of_memory ∷ no_column ∷ unsupported_type ∷ length_mismatch ∷ []) }
+    ensures { CopiesNumbers result of.now.tree T.shape T.number out.old out.new }
 {
     let Some(column) = of.column() else {
         return NO_COLUMN;

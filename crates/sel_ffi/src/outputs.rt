@@ -1,13 +1,9 @@
 //! Values and validity of columns, copied into slices of callers.
 
-ghost use Rattle.std.specs.Prelude.{◌≡◌, ◌≢◌, ◌+◌, ◌/◌, ◌%◌, length, [], ◌∷◌, true, false, IfOk};
+ghost use Rattle.std.specs.Prelude.{◌≡◌, ◌≢◌, ◌+◌, ◌/◌, ◌%◌, length, [], ◌∷◌, true, false, IfOk, Some};
 ghost use Rattle.sel_bits.specs.Bits.{bits_from};
-ghost use Rattle.sel_arrow.specs.Nulls.{IsValidityOf};
-ghost use Rattle.sel_arrow.specs.Rows.{rows, type_of};
-ghost use Rattle.sel_arrow.specs.Shape.{of_boolean};
-ghost use Rattle.sel_ffi.specs.Inputs.{validity_in};
-ghost use Rattle.sel_ffi.specs.Outputs.{Shows, numbers, bools};
-ghost use Rattle.sel_ffi.specs.Status.{ok, out_of_memory, no_column, unsupported_type, length_mismatch, Demands, DemandsBefore, IsOneOf};
+ghost use Rattle.sel_ffi.specs.Outputs.{CopiesBooleans, CopiesNumbers, CopiesValidity};
+ghost use Rattle.sel_ffi.specs.Status.{ok, length_mismatch, ReturnsFirst};
 
 use crate::status::{LENGTH_MISMATCH, OK, OUT_OF_MEMORY, UNSUPPORTED_TYPE};
 use sel_arrow::array::Array;
@@ -24,14 +20,7 @@ use std::alloc::Global;
 /// length of `out` is not the number of rows; `OUT_OF_MEMORY`.
 #[tactic(auto, using(crate::proofs::Shown::shows))]
 pub fn numbers_into<T: ArrowPrimitive>(alloc: Global, column: &ArrayRef, out: &mut [T]) -> u32
-    ensures values { result ≡ ok → Shows (numbers T.number out.new) (rows column.now.column) }
-    ensures kind { DemandsBefore result unsupported_type (length_mismatch ∷ [])
-        (type_of column.now.column ≡ T.shape) }
-    ensures length { Demands result length_mismatch
-        (length out.old ≡ length (rows column.now.column)) }
-    ensures status { IsOneOf result
-        (ok ∷ out_of_memory ∷ no_column ∷ unsupported_type ∷ length_mismatch ∷ []) }
-    ensures column { result ≢ no_column }
+    ensures { CopiesNumbers result (Some column.now) T.shape T.number out.old out.new }
 {
     let Ok(copy) = column.try_clone(alloc) else {
         return OUT_OF_MEMORY;
@@ -59,9 +48,8 @@ pub fn numbers_into<T: ArrowPrimitive>(alloc: Global, column: &ArrayRef, out: &m
 pub fn bits_into(alloc: Global, bits: &Bitmap, out: &mut [u8]) -> u32
     ensures bits { result ≡ ok → bits_from out.new 0 (length bits.now.bits) ≡
         bits.now.bits }
-    ensures length { Demands result length_mismatch
-        (length out.old ≡ (length bits.now.bits + 7) / 8) }
-    ensures status { IsOneOf result (ok ∷ out_of_memory ∷ length_mismatch ∷ []) }
+    ensures checks { ReturnsFirst result
+        ((length_mismatch, length out.old ≡ (length bits.now.bits + 7) / 8) ∷ []) (result ≡ ok) }
 {
     if out.len() != bits.len().div_ceil(8) {
         return LENGTH_MISMATCH;
@@ -97,16 +85,7 @@ fn moved_to_front(alloc: Global, bits: &Bitmap) -> PolarsResult<Bitmap>
 /// Errors: `LENGTH_MISMATCH` if there is a validity and `out` does not have one byte for each eight
 /// rows, rounded up; `OUT_OF_MEMORY`.
 pub fn validity_into(alloc: Global, column: &ArrayRef, out: &mut [u8], has: &mut bool) -> u32
-    ensures validity { result ≡ ok → IsValidityOf (type_of column.now.column)
-        (validity_in out.new has.new (length (rows column.now.column))) (rows column.now.column) }
-    ensures unchanged { has.new ≡ false → out.new ≡ out.old }
-    ensures fits { result ≡ ok → has.new ≡ true →
-        length out.old ≡ (length (rows column.now.column) + 7) / 8 }
-    ensures length { result ≡ length_mismatch →
-        length out.old ≢ (length (rows column.now.column) + 7) / 8 }
-    ensures status { IsOneOf result (ok ∷ out_of_memory ∷ no_column ∷ length_mismatch ∷
-        []) }
-    ensures column { result ≢ no_column }
+    ensures { CopiesValidity result (Some column.now) out.old out.new has.new }
 {
     match column.validity() {
         None => {
@@ -126,15 +105,7 @@ pub fn validity_into(alloc: Global, column: &ArrayRef, out: &mut [u8], has: &mut
 /// have one byte for each eight rows, rounded up; `OUT_OF_MEMORY`.
 #[tactic(auto, using(crate::proofs::Shown::shows))]
 pub fn booleans_into(alloc: Global, column: &ArrayRef, out: &mut [u8]) -> u32
-    ensures values { result ≡ ok → Shows
-        (bools (bits_from out.new 0 (length (rows column.now.column)))) (rows column.now.column) }
-    ensures kind { DemandsBefore result unsupported_type (length_mismatch ∷ [])
-        (type_of column.now.column ≡ of_boolean) }
-    ensures length { Demands result length_mismatch
-        (length out.old ≡ (length (rows column.now.column) + 7) / 8) }
-    ensures status { IsOneOf result
-        (ok ∷ out_of_memory ∷ no_column ∷ unsupported_type ∷ length_mismatch ∷ []) }
-    ensures column { result ≢ no_column }
+    ensures { CopiesBooleans result (Some column.now) out.old out.new }
 {
     let Ok(copy) = column.try_clone(alloc) else {
         return OUT_OF_MEMORY;

@@ -1,12 +1,12 @@
 //! Offsets and bytes of columns, copied into slices of callers.
 
-ghost use Rattle.std.specs.Prelude.{◌≡◌, ◌≢◌, length, Some, None, [], ◌∷◌};
-ghost use Rattle.std.specs.Option.{option_copied, option_map};
+ghost use Rattle.std.specs.Prelude.{◌≡◌, Some};
+ghost use Rattle.std.specs.Option.{option_copied};
 ghost use Rattle.sel_ffi.specs.Layout.{offsets_in, bytes_in};
-ghost use Rattle.sel_ffi.specs.Inputs.{positions};
-ghost use Rattle.sel_ffi.specs.Status.{ok, unsupported_type, length_mismatch, Demands, DemandsBefore, IsOneOf};
+ghost use Rattle.sel_ffi.specs.Parts.{CopiesBytes, CopiesOffsets, CountsBytes};
 
 use crate::status::{LENGTH_MISMATCH, OK, UNSUPPORTED_TYPE};
+use sel_arrow::array_ref::ArrayRef;
 use sel_arrow::column::Column;
 use sel_bits::offsets::OffsetsBuffer;
 
@@ -36,15 +36,10 @@ fn bytes_of_column(column: &Column) -> Option<&[u8]>
 /// Errors: `UNSUPPORTED_TYPE` if the column is neither binary nor a list with 64-bit offsets;
 /// `LENGTH_MISMATCH` if the length of `out` is not the number of offsets.
 #[tactic(auto, using(crate::proofs::Positions::shown))]
-pub fn offsets_into(column: &Column, out: &mut [i64]) -> u32
-    ensures offsets { result ≡ ok → Some (positions out.new) ≡ offsets_in column.now }
-    ensures kind { DemandsBefore result unsupported_type (length_mismatch ∷ [])
-        (offsets_in column.now ≢ None) }
-    ensures length { result ≡ length_mismatch →
-        Some (length out.old) ≢ option_map length (offsets_in column.now) }
-    ensures status { IsOneOf result (ok ∷ unsupported_type ∷ length_mismatch ∷ []) }
+pub fn offsets_into(column: &ArrayRef, out: &mut [i64]) -> u32
+    ensures { CopiesOffsets result (Some column.now) out.old out.new }
 {
-    let Some(offsets) = offsets_of_column(column) else {
+    let Some(offsets) = offsets_of_column(column.as_column()) else {
         return UNSUPPORTED_TYPE;
     };
     let numbers = offsets.as_slice();
@@ -59,15 +54,10 @@ pub fn offsets_into(column: &Column, out: &mut [i64]) -> u32
 ///
 /// Errors: `UNSUPPORTED_TYPE` if the column is not binary with 64-bit offsets; `LENGTH_MISMATCH` if
 /// the length of `out` is not the number of bytes.
-pub fn bytes_into(column: &Column, out: &mut [u8]) -> u32
-    ensures bytes { result ≡ ok → Some out.new ≡ bytes_in column.now }
-    ensures kind { DemandsBefore result unsupported_type (length_mismatch ∷ [])
-        (bytes_in column.now ≢ None) }
-    ensures length { result ≡ length_mismatch →
-        Some (length out.old) ≢ option_map length (bytes_in column.now) }
-    ensures status { IsOneOf result (ok ∷ unsupported_type ∷ length_mismatch ∷ []) }
+pub fn bytes_into(column: &ArrayRef, out: &mut [u8]) -> u32
+    ensures { CopiesBytes result (Some column.now) out.old out.new }
 {
-    let Some(bytes) = bytes_of_column(column) else {
+    let Some(bytes) = bytes_of_column(column.as_column()) else {
         return UNSUPPORTED_TYPE;
     };
     if out.len() != bytes.len() {
@@ -80,12 +70,10 @@ pub fn bytes_into(column: &Column, out: &mut [u8]) -> u32
 /// Writes the number of bytes to `out`.
 ///
 /// Errors: `UNSUPPORTED_TYPE` if the column is not binary with 64-bit offsets.
-pub fn bytes_len_into(column: &Column, out: &mut usize) -> u32
-    ensures bytes { result ≡ ok → Some out.new ≡ option_map length (bytes_in column.now) }
-    ensures kind { Demands result unsupported_type (bytes_in column.now ≢ None) }
-    ensures status { IsOneOf result (ok ∷ unsupported_type ∷ []) }
+pub fn bytes_len_into(column: &ArrayRef, out: &mut usize) -> u32
+    ensures { CountsBytes result (Some column.now) out.new }
 {
-    let Some(bytes) = bytes_of_column(column) else {
+    let Some(bytes) = bytes_of_column(column.as_column()) else {
         return UNSUPPORTED_TYPE;
     };
     *out = bytes.len();

@@ -1,13 +1,14 @@
 //! Views and data buffers of columns, copied into slices of callers.
 
-ghost use Rattle.std.specs.Prelude.{◌≡◌, ◌≢◌, ◌<◌, None, Some, [], ◌∷◌, length, slice_get, take, map};
-ghost use Rattle.std.specs.Option.{option_copied, option_map};
+ghost use Rattle.std.specs.Prelude.{◌≡◌, Some, length};
+ghost use Rattle.std.specs.Option.{option_copied};
 ghost use Rattle.sel_ffi.specs.Inputs.{views_in};
 ghost use Rattle.sel_ffi.specs.Layout.{views_of};
-ghost use Rattle.sel_ffi.specs.Status.{ok, unsupported_type, length_mismatch, index_out_of_bounds, Demands, DemandsBefore, IsOneOf};
+ghost use Rattle.sel_ffi.specs.Parts.{CopiesBuffer, CopiesViews, CountsBuffer, CountsBuffers};
 
 use crate::status::{INDEX_OUT_OF_BOUNDS, LENGTH_MISMATCH, OK, UNSUPPORTED_TYPE};
 use crate::views::ViewWords;
+use sel_arrow::array_ref::ArrayRef;
 use sel_arrow::binview::BinaryViewArray;
 use sel_arrow::column::Column;
 use sel_arrow::view::View;
@@ -27,16 +28,10 @@ fn view_array_in(column: &Column) -> Option<&BinaryViewArray>
 ///
 /// Errors: `UNSUPPORTED_TYPE` if the column is not a view column; `LENGTH_MISMATCH` if the length
 /// of `out` is not the number of views.
-pub fn views_into(column: &Column, out: &mut [ViewWords]) -> u32
-    ensures views { result ≡ ok →
-        Some (views_in out.new) ≡ option_map (λ array. array.views) (views_of column.now) }
-    ensures kind { DemandsBefore result unsupported_type (length_mismatch ∷ [])
-        (views_of column.now ≢ None) }
-    ensures length { result ≡ length_mismatch →
-        Some (length out.old) ≢ option_map (λ array. length array.views) (views_of column.now) }
-    ensures status { IsOneOf result (ok ∷ unsupported_type ∷ length_mismatch ∷ []) }
+pub fn views_into(column: &ArrayRef, out: &mut [ViewWords]) -> u32
+    ensures { CopiesViews result (Some column.now) out.old out.new }
 {
-    let Some(array) = view_array_in(column) else {
+    let Some(array) = view_array_in(column.as_column()) else {
         return UNSUPPORTED_TYPE;
     };
     let views = array.views.as_slice();
@@ -67,13 +62,10 @@ fn write_views(views: &[View], out: &mut [ViewWords])
 /// Writes the number of data buffers to `count`.
 ///
 /// Errors: `UNSUPPORTED_TYPE` if the column is not a view column.
-pub fn buffer_count_into(column: &Column, count: &mut usize) -> u32
-    ensures count { result ≡ ok →
-        Some count.new ≡ option_map (λ array. length array.buffers) (views_of column.now) }
-    ensures kind { Demands result unsupported_type (views_of column.now ≢ None) }
-    ensures status { IsOneOf result (ok ∷ unsupported_type ∷ []) }
+pub fn buffer_count_into(column: &ArrayRef, count: &mut usize) -> u32
+    ensures { CountsBuffers result (Some column.now) count.new }
 {
-    let Some(array) = view_array_in(column) else {
+    let Some(array) = view_array_in(column.as_column()) else {
         return UNSUPPORTED_TYPE;
     };
     *count = array.buffers.len();
@@ -84,16 +76,10 @@ pub fn buffer_count_into(column: &Column, count: &mut usize) -> u32
 ///
 /// Errors: `UNSUPPORTED_TYPE` if the column is not a view column; `INDEX_OUT_OF_BOUNDS` if there is
 /// no data buffer `i`.
-pub fn buffer_len_into(column: &Column, i: usize, len: &mut usize) -> u32
-    ensures len { result ≡ ok → option_map (λ array. option_map length
-        (slice_get array.buffers i)) (views_of column.now) ≡ Some (Some len.new) }
-    ensures kind { DemandsBefore result unsupported_type (index_out_of_bounds ∷ [])
-        (views_of column.now ≢ None) }
-    ensures bounds { result ≡ index_out_of_bounds →
-        option_map (λ array. slice_get array.buffers i) (views_of column.now) ≡ Some None }
-    ensures status { IsOneOf result (ok ∷ unsupported_type ∷ index_out_of_bounds ∷ []) }
+pub fn buffer_len_into(column: &ArrayRef, i: usize, len: &mut usize) -> u32
+    ensures { CountsBuffer result (Some column.now) i len.new }
 {
-    let Some(array) = view_array_in(column) else {
+    let Some(array) = view_array_in(column.as_column()) else {
         return UNSUPPORTED_TYPE;
     };
     let buffers = array.buffers.as_slice();
@@ -108,21 +94,10 @@ pub fn buffer_len_into(column: &Column, i: usize, len: &mut usize) -> u32
 ///
 /// Errors: `UNSUPPORTED_TYPE` if the column is not a view column; `INDEX_OUT_OF_BOUNDS` if there is
 /// no data buffer `i`; `LENGTH_MISMATCH` if the length of `out` is not the number of its bytes.
-pub fn buffer_into(column: &Column, i: usize, out: &mut [u8]) -> u32
-    ensures bytes { result ≡ ok → option_map (λ array. slice_get array.buffers i)
-        (views_of column.now) ≡ Some (Some out.new) }
-    ensures kind { DemandsBefore result unsupported_type
-        (index_out_of_bounds ∷ length_mismatch ∷ []) (views_of column.now ≢ None) }
-    ensures bounds { result ≡ index_out_of_bounds →
-        option_map (λ array. slice_get array.buffers i) (views_of column.now) ≡ Some None }
-    ensures length { result ≡ length_mismatch → option_map (λ array. option_map length
-        (slice_get array.buffers i)) (views_of column.now) ≢ Some (Some (length out.old)) }
-    ensures inside { result ≡ length_mismatch →
-        option_map (λ array. slice_get array.buffers i) (views_of column.now) ≢ Some None }
-    ensures status { IsOneOf result
-        (ok ∷ unsupported_type ∷ length_mismatch ∷ index_out_of_bounds ∷ []) }
+pub fn buffer_into(column: &ArrayRef, i: usize, out: &mut [u8]) -> u32
+    ensures { CopiesBuffer result (Some column.now) i out.old out.new }
 {
-    let Some(array) = view_array_in(column) else {
+    let Some(array) = view_array_in(column.as_column()) else {
         return UNSUPPORTED_TYPE;
     };
     let buffers = array.buffers.as_slice();

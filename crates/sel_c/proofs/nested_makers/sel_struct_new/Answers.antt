@@ -1,4 +1,4 @@
-use Rattle.std.proofs.Common.{◌≡◌, ◌<◌, ℕ, List, map, subst, sym}
+use Rattle.std.proofs.Common.{◌<◌, ℕ, List, subst, sym}
 use Rattle.sel_arrow.specs.Depth.{deepest}
 use Rattle.sel_arrow.specs.Shape.{Shape, shapes_of}
 use Rattle.sel_ffi.specs.Inputs.{struct_rules}

@@ -1,29 +1,13 @@
-use Rattle.std.proofs.Common.{List, ◌∷◌, ℕ, ap, map, refl, subst, sym, ◌∙◌}
+use Rattle.std.proofs.Common.{ap, inr, map, ◌∙◌}
 use Rattle.sel_arrow.specs.Rows.{rows, type_of, buffers_held}
-use Rattle.sel_arrow.specs.Shape.{Shape}
 use Rattle.sel_arrow.specs.declared.array_ref.ArrayRef.{ArrayRef}
-use Rattle.sel_ffi.specs.Status.{limit_statuses, ok, type_mismatch, length_mismatch, DemandsBefore, IsOneOf}
-use Rattle.sel_calls.specs.Several.{AreAlike}
-use Rattle.sel_calls.proofs.SameNeeds.{flat_limits, flat_within}
+use Rattle.sel_calls.proofs.SameNeeds.{flat_held}
 use Rattle.sel_c.proofs.several.sel_flatten.Goals as goal
 
-pub returns-in-Ok-clause-alike : goal.returns-in-Ok-clause-alike
-returns-in-Ok-clause-alike c =
-    subst (λ (types : List Shape). DemandsBefore c.flatten_into-status.result type_mismatch (length_mismatch ∷ limit_statuses) (AreAlike types)) (ap (map (λ (x : ArrayRef). type_of x.column)) c.deref.ensures.value ∙ c.in-Ok.ensures.dtypes) c.flatten_into-status.ensures.alike
-
-pub returns-in-Ok-clause-limits : goal.returns-in-Ok-clause-limits
-returns-in-Ok-clause-limits c =
-    flat_limits c.flatten_into-status.result c.args.height c.deref.result.now c.args.columns.now c.args.widths.now c.in-Ok.ensures.full
+pub returns-in-Ok : goal.returns-in-Ok
+returns-in-Ok c =
+    let told = flat_held c.flatten_into-status.result c.deref.result.now c.args.columns.now c.args.out.now.tree c.flatten_into-status.new.out.tree c.in-Ok.ensures.full
     (ap (map (λ (x : ArrayRef). rows x.column)) c.deref.ensures.value ∙ c.in-Ok.ensures.rows)
     (ap (map (λ (x : ArrayRef). type_of x.column)) c.deref.ensures.value ∙ c.in-Ok.ensures.dtypes)
-    (ap (map (λ (x : ArrayRef). buffers_held x.column)) c.deref.ensures.value ∙ c.in-Ok.ensures.buffers)
-    c.flatten_into-status.ensures.one_type c.flatten_into-status.ensures.limits
-
-pub returns-in-Ok-clause-within : goal.returns-in-Ok-clause-within
-returns-in-Ok-clause-within c = λ is.
-    let one = subst (λ (n : ℕ). IsOneOf n (ok ∷ length_mismatch ∷ limit_statuses)) (sym is) refl in
-    flat_within c.args.height c.deref.result.now c.args.columns.now c.args.widths.now c.in-Ok.ensures.full
-    (ap (map (λ (x : ArrayRef). rows x.column)) c.deref.ensures.value ∙ c.in-Ok.ensures.rows)
-    (ap (map (λ (x : ArrayRef). type_of x.column)) c.deref.ensures.value ∙ c.in-Ok.ensures.dtypes)
-    (ap (map (λ (x : ArrayRef). buffers_held x.column)) c.deref.ensures.value ∙ c.in-Ok.ensures.buffers)
-    (c.flatten_into-status.ensures.alike.0 one) (c.flatten_into-status.ensures.within is)
+    (ap (map (λ (x : ArrayRef). buffers_held x.column)) c.deref.ensures.value ∙ c.in-Ok.ensures.buffers) c.args.widths.now c.args.height c.flatten_into-status.ensures in
+    record { rows = told.rows; dtype = told.dtype; checks = inr (inr (c.in-Ok.ensures.full, told.checks)) }

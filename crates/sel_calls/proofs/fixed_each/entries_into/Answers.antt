@@ -1,12 +1,13 @@
+use Rattle.std.proofs.Common.{◌≡◌, inr, length, rules}
 use Rattle.sel_arrow.specs.Columns.{primitive_rows}
-use Rattle.sel_calls.proofs.Entries.{get-limits, get-inside, get-bounds}
+use Rattle.sel_arrow.specs.NestedArrays.{block_column}
+use Rattle.sel_arrow.specs.Rows.{rows}
+use Rattle.sel_calls.proofs.Entries.{get-error}
+use Rattle.sel_calls.proofs.Made.{returns-none}
 use Rattle.sel_calls.proofs.fixed_each.entries_into.Goals as goal
 
-pub returns-in-Err-clause-bounds : goal.returns-in-Err-clause-bounds
-returns-in-Err-clause-bounds c = (
-  get-inside c.status_of.result c.args.null_on_oob c.args.lists.now (primitive_rows c.args.indices.now) c.in-Err.fault c.status_of.ensures.number c.in-Err.ensures.refusal,
-  get-bounds c.status_of.result c.args.null_on_oob c.args.lists.now (primitive_rows c.args.indices.now) c.in-Err.fault c.status_of.ensures.number c.in-Err.ensures.refusal,
-)
-
-pub returns-in-Err-clause-limits : goal.returns-in-Err-clause-limits
-returns-in-Err-clause-limits c = get-limits c.status_of.result c.args.null_on_oob c.args.lists.now (primitive_rows c.args.indices.now) c.in-Err.fault c.status_of.ensures.number c.in-Err.ensures.refusal
+pub returns-in-Err : goal.returns-in-Err
+returns-in-Err c =
+    let as_many : length (primitive_rows c.args.indices.now) ≡ length (rows (block_column c.args.lists.now)) = search rules in
+    let first = get-error c.status_of.result c.args.null_on_oob c.args.lists.now (primitive_rows c.args.indices.now) c.in-Err.fault c.status_of.ensures.number c.in-Err.ensures.refusal in
+    returns-none c.status_of.result c.args.out.now.tree _ _ _ _ c.status_of.ensures.own.0 (inr (inr (as_many, first)))

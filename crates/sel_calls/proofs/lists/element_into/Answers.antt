@@ -1,21 +1,26 @@
-use Rattle.std.proofs.Common.{◌≡◌, ◌∙◌, ap, subst, w64, ℤ, to_z, of_z}
+use Rattle.std.proofs.Common.{[], subst, w64, ℤ, to_z, of_z}
 use Rattle.std.proofs.lemmas.Int.{to_z-of_z}
 use Rattle.sel_arrow.specs.NestedArrays.{list_column}
 use Rattle.sel_arrow.specs.Rows.{rows, type_of}
-use Rattle.sel_gather.specs.Need.{exceeded_limits, IsLimitOrMemory}
+use Rattle.sel_gather.specs.Need.{exceeded_limits}
 use Rattle.polars_compute.specs.Lists.{list_get}
-use Rattle.sel_calls.proofs.Limits.{tells-passed}
-use Rattle.sel_calls.proofs.Made.{makes-put}
+use Rattle.sel_calls.specs.Elements.{GetsElements}
+use Rattle.sel_calls.proofs.Made.{returns-failed, returns-made}
 use Rattle.sel_calls.proofs.lists.element_into.Goals as goal
 
-pub returns-in-Ok-clause-rows : goal.returns-in-Ok-clause-rows
-returns-in-Ok-clause-rows c =
-    let same : to_z w64 (of_z w64 c.args.index) ≡ c.args.index = to_z-of_z w64 c.args.index c.ranges.index in
-    makes-put c.put.result c.args.out.now.tree c.put.new.out.tree c.in-Ok.taken (λ made. rows made.column ≡ list_get (rows (list_column c.args.lists.now)) c.args.index) c.put.ensures.column
-    (c.in-Ok.ensures.rows ∙ ap (λ i. list_get (rows (list_column c.args.lists.now)) i) same)
+pub returns-in-Ok : goal.returns-in-Ok
+returns-in-Ok c =
+    let lists = list_column c.args.lists.now in
+    let shape = type_of c.args.lists.now.values.value in
+    let told = c.in-Ok.ensures in
+    let vs = list_get (rows lists) (to_z w64 (of_z w64 c.args.index)) in
+    subst (λ (i : ℤ). GetsElements c.put.result (rows lists) (type_of lists) i [] c.args.out.now.tree c.put.new.out.tree) (to_z-of_z w64 c.args.index c.ranges.index)
+    (returns-made c.put.result c.args.out.now.tree c.put.new.out.tree c.in-Ok.taken vs shape (exceeded_limits shape vs) c.put.ensures.column c.put.ensures.status told.rows told.dtype told.within)
 
-pub returns-in-Err-clause-limits : goal.returns-in-Err-clause-limits
-returns-in-Err-clause-limits c =
-    let same : to_z w64 (of_z w64 c.args.index) ≡ c.args.index = to_z-of_z w64 c.args.index c.ranges.index in
-    tells-passed c.status_of.result (exceeded_limits (type_of c.args.lists.now.values.value) (list_get (rows (list_column c.args.lists.now)) c.args.index)) c.in-Err.fault c.status_of.ensures.number
-    (subst (λ (i : ℤ). IsLimitOrMemory (exceeded_limits (type_of c.args.lists.now.values.value) (list_get (rows (list_column c.args.lists.now)) i)) c.in-Err.fault) same c.in-Err.ensures.refusal)
+pub returns-in-Err : goal.returns-in-Err
+returns-in-Err c =
+    let lists = list_column c.args.lists.now in
+    let shape = type_of c.args.lists.now.values.value in
+    let vs = list_get (rows lists) (to_z w64 (of_z w64 c.args.index)) in
+    subst (λ (i : ℤ). GetsElements c.status_of.result (rows lists) (type_of lists) i [] c.args.out.now.tree c.args.out.now.tree) (to_z-of_z w64 c.args.index c.ranges.index)
+    (returns-failed c.status_of.result c.args.out.now.tree vs shape (exceeded_limits shape vs) c.in-Err.fault c.status_of.ensures.own.0 c.status_of.ensures.number c.in-Err.ensures.refusal)

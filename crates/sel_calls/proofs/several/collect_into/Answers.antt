@@ -1,18 +1,19 @@
-use Rattle.std.proofs.Common.{◌≡◌, Option, map, subst}
+use Rattle.std.proofs.Common.{◌≡◌, ◌≤◌, Option, [], false, inr, length, map, rules, subst}
 use Rattle.sel_bits.specs.Bits.{Bits}
+use Rattle.sel_bits.specs.Limits.{max_rows}
 use Rattle.sel_arrow.specs.Rows.{rows, type_of}
-use Rattle.sel_arrow.specs.Value.{Null}
 use Rattle.sel_arrow.specs.declared.array_ref.ArrayRef.{ArrayRef}
-use Rattle.sel_ffi.specs.Status.{ok}
-use Rattle.sel_gather.specs.Need.{exceeded_taken, ExceedsNone}
-use Rattle.sel_gather.specs.Picks.{pick}
-use Rattle.sel_calls.specs.Several.{first_shape, picks_from}
+use Rattle.sel_ffi.specs.Inputs.{lacks_bits}
+use Rattle.sel_calls.specs.Several.{picks_from, CollectsRows}
 use Rattle.sel_calls.proofs.several.collect_into.Goals as goal
 
-pub returns-clause-within : goal.returns-clause-within
-returns-clause-within c =
+pub returns : goal.returns
+returns c =
     let columns = map (λ (a : ArrayRef). a.column) c.args.arrays.now in
-    let s = first_shape (map (λ (a : ArrayRef). type_of a.column) c.args.arrays.now) in
-    let xss = map (λ (a : ArrayRef). rows a.column) c.args.arrays.now in
-    subst (λ (v : Option Bits). c.collect_picks_into.result ≡ ok → ExceedsNone (exceeded_taken s columns (pick Null xss (picks_from 0 v c.args.words.now))))
-    c.in-Ok.ensures.value c.collect_picks_into.ensures.within
+    let types = map (λ (a : ArrayRef). type_of a.column) c.args.arrays.now in
+    let sources = map (λ (a : ArrayRef). rows a.column) c.args.arrays.now in
+    let few : length c.args.words.now ≤ max_rows = search rules in
+    let enough : lacks_bits c.args.bits.now c.args.has_bits (length c.args.words.now) ≡ false = search rules in
+    let told = subst (λ (v : Option Bits). CollectsRows c.collect_picks_into.result sources types columns (picks_from 0 v c.args.words.now) [] c.args.out.now.tree c.collect_picks_into.new.out.tree)
+    c.in-Ok.ensures.value c.collect_picks_into.ensures in
+    record { rows = told.rows; dtype = told.dtype; checks = inr (inr (few, inr (inr (enough, told.checks)))) }
