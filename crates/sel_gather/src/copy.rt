@@ -236,8 +236,8 @@ fn collect_structs<'a>(
     requires alike { All (λ c. type_of c.now ≡
         of_struct (shapes_of (map type_of firsts.now))) sources.now }
     requires may { MayGather sources.now (expand runs.now) len }
-    ensures { Collects result (of_struct (shapes_of (map type_of firsts.now))) (columns_of sources.now)
-        (picked sources.now runs.now) }
+    ensures { Collects result (of_struct (shapes_of (map type_of firsts.now)))
+        (columns_of sources.now) (picked sources.now runs.now) }
 {
     let fields = collect_fields(alloc, firsts, sources, runs, len)?;
     let column = struct_over(alloc, fields, sources, runs, len)?;
