@@ -237,7 +237,7 @@ fn filter_arrays_keeps_whole_arrays(rt: HostRuntime) -> Result<(), Fail> {
     if arrays.len() != mask.len() {
         return Err(Fail::from("lengths do not match"));
     }
-    let kept = filter_arrays(rt.alloc(), &arrays, &mask)?;
+    let kept = filter_arrays(rt.alloc(), &arrays, &mask, mask.set_bits())?;
     assert!(rt; kept.as_slice() == [1u8, 2, 3, 7, 8, 9].as_slice());
     Ok(())
 }
