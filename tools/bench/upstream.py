@@ -57,12 +57,16 @@ def read(output: str) -> Times:
     return {case: times for case, times in found.items() if times.get("port", 0) > 0 and times.get("upstream", 0) > 0}
 
 
+def kernel_of(case: str) -> str:
+    """Returns the name of a case without its density, offsets and number of rows."""
+    return re.sub(r" (random|runs)? ?d=[0-9.]+| o=[0-9,]+| n=\d+| \(\d\)", "", case)
+
+
 def kernels(found: Times) -> List[Kernel]:
     """Returns the cases by kernel, in the order of the program."""
     by_name: Dict[str, List[Dict[str, float]]] = {}
     for case, times in found.items():
-        name = re.sub(r" (random|runs)? ?d=[0-9.]+| o=[0-9,]+| n=\d+| \(\d\)", "", case)
-        by_name.setdefault(name, []).append(times)
+        by_name.setdefault(kernel_of(case), []).append(times)
     return [Kernel(name, times) for name, times in by_name.items()]
 
 
