@@ -26,7 +26,7 @@ static lease *leases;
 static pthread_mutex_t lock = PTHREAD_MUTEX_INITIALIZER;
 static atomic_size_t lease_count;
 
-/* The calls of sel_free since the last sweep, and the number of leases up to which each call sweeps. */
+/* The calls that freed an owner since the last sweep, and the number of leases up to which each call sweeps. */
 static atomic_size_t frees;
 enum { LEASES_AT_ONCE = 64 };
 
@@ -212,12 +212,22 @@ void sel_sweep(void) {
     }
 }
 
-void sel_free(sel_column *of) {
-    sel_proved_free(of);
+/* Sweeps after an owner was freed. A sweep asks for each lease: with many of them, not at each call. */
+static void sweep_in_turn(void) {
     size_t count = atomic_load(&lease_count);
     if (count == 0) return;
-    /* a sweep asks for each lease: with many of them, not at each call */
     if (atomic_fetch_add(&frees, 1) < count / LEASES_AT_ONCE) return;
     atomic_store(&frees, 0);
     sel_sweep();
+}
+
+void sel_free(sel_column *of) {
+    sel_proved_free(of);
+    sweep_in_turn();
+}
+
+/* The mask of a selection may be lent memory. */
+void sel_selection_free(sel_selection *of) {
+    sel_proved_selection_free(of);
+    sweep_in_turn();
 }

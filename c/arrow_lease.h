@@ -2,7 +2,7 @@
  *
  * A producer's array is moved into an origin. Each of its buffers that a column uses is lent once: a lease keeps one owner of it.
  * The library counts all owners, and gives the memory back when the lease's is the last one. When the last lease of an origin
- * has ended, the array is released. A sweep, at sel_free and at the release of an exported array, asks for each lease. */
+ * has ended, the array is released. A sweep, at sel_free, at sel_selection_free and at the release of an exported array, asks for each lease. */
 #ifndef SEL_ARROW_LEASE_H
 #define SEL_ARROW_LEASE_H
 
@@ -60,6 +60,7 @@ sel_status sel_data_of(const sel_column *of, size_t i, lent_buffer *out);
 sel_status sel_buffer_show(const lent_buffer *of, const void **at, size_t *len, size_t *first);
 
 void sel_proved_free(sel_column *of);
+void sel_proved_selection_free(sel_selection *of);
 
 /* ---- loans: the leases of one import, until it succeeds */
 

@@ -426,6 +426,30 @@ static void values_are_borrowed(void) {
     }
 }
 
+/* A selection that was prepared from an imported mask is its last owner. */
+static void selections_keep_their_mask(void) {
+    static const uint8_t values[2] = {0x12, 0x34};
+    static const int8_t numbers[16] = {0, 1, 2, 3, 4, 5, 6, 7, 8, 9, 10, 11, 12, 13, 14, 15}, wanted[5] = {1, 4, 10, 12, 13};
+    producer p;
+    sel_column mask = {0}, column = {0}, kept = {0};
+    sel_selection by = {0};
+    begin(&p);
+    add(&p, "b", 16, 0, 0, 2, NULL, put(&p, values, sizeof values), NULL);
+    if (!import(&p, &mask)) return;
+    if (works(sel_selection_new(&mask, &by))) {
+        sel_free(&mask);
+        IS(p.releases == 0);
+        int8_t read[5] = {0};
+        if (works(sel_int8_new(numbers, 16, SEL_ALL_VALID, &column)) && works(sel_filter_selection(&column, &by, &kept)) && works(sel_int8_values(&kept, read, 5)))
+            IS(memcmp(read, wanted, sizeof read) == 0);
+        sel_free(&column);
+        sel_free(&kept);
+        IS(p.releases == 0);
+        sel_selection_free(&by);
+    } else sel_free(&mask);
+    IS(p.releases == 1);
+}
+
 /* Columns of other types have no values to borrow, and errors change nothing. */
 static void other_types_are_not_borrowed(void) {
     static const char *const types[] = {"null", "bool", "i128", "u128", "binary", "binview", "utf8", "list<i64>", "fixed<1,i64>", "struct<i64>"};
@@ -466,7 +490,8 @@ int main(void) {
     static void (*const tests[])(void) = {integers_keep_their_addresses, booleans_keep_their_addresses, bytes_keep_their_addresses,
                                           views_keep_their_addresses, empty_arrays_are_released, failed_imports_lend_nothing,
                                           arrays_are_released_apart, round_trips_end, strings_share_their_bytes,
-                                          nested_arrays_keep_their_addresses, values_are_borrowed, other_types_are_not_borrowed};
+                                          nested_arrays_keep_their_addresses, values_are_borrowed, other_types_are_not_borrowed,
+                                          selections_keep_their_mask};
     static void (*const orders[])(void) = {owners_are_freed_in_each_order};
     run_tests(tests, sizeof tests / sizeof *tests, 1);
     run_tests(orders, 1, 97);
