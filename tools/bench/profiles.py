@@ -18,7 +18,8 @@ from typing import Dict, List, Set, Tuple
 import upstream
 
 ROOT = pathlib.Path(__file__).resolve().parent.parent.parent
-ROUNDS = "400"
+# the rounds of a case, and those of the run that shows what only prepares it
+ROUNDS, FEW_ROUNDS = "400", "1"
 # the shares of the library's samples that are listed: at least this, and at most so many
 LEAST_SHARE, MOST_LISTED = 0.05, 4
 
@@ -39,21 +40,22 @@ def worst_cases(found: upstream.Times) -> List[Tuple[float, str]]:
     return sorted(worst.values(), reverse=True)
 
 
-def samples(program: pathlib.Path, case: str) -> Dict[str, float]:
-    """Returns the share of samples of each function, by its name in the program, while the case is repeated."""
+def samples(program: pathlib.Path, case: str, rounds: str) -> Dict[str, int]:
+    """Returns the samples of each function, by its name in the program, while the case is repeated."""
     with tempfile.TemporaryDirectory() as folder:
         data = f"{folder}/data"
-        subprocess.run(["perf", "record", "-q", "-F", "5000", "-o", data, program, ROUNDS, case], stdout=subprocess.DEVNULL, stderr=subprocess.DEVNULL, check=True)
-        shown = subprocess.run(["perf", "report", "-i", data, "--stdio", "--no-children", "--no-demangle", "--sort", "symbol"],
+        subprocess.run(["perf", "record", "-q", "-F", "5000", "-o", data, program, rounds, case], stdout=subprocess.DEVNULL, stderr=subprocess.DEVNULL, check=True)
+        shown = subprocess.run(["perf", "report", "-i", data, "--stdio", "--no-children", "--no-demangle", "-n", "--sort", "symbol"],
                                stdout=subprocess.PIPE, stderr=subprocess.DEVNULL, text=True, check=True).stdout
-    return {name: float(share) for share, name in re.findall(r"(?m)^ +([0-9.]+)% +\[[.k]\] (\S+)", shown)}
+    return {name: int(count) for count, name in re.findall(r"(?m)^ +[0-9.]+% +([0-9]+) +\[[.k]\] (\S+)", shown)}
 
 
 def row(program: pathlib.Path, library: Set[str], ratio: float, case: str) -> str:
-    found = {name: share for name, share in samples(program, case).items() if name in library}
-    total = sum(found.values()) or 1.0
-    parts = sorted(((share / total, name) for name, share in found.items()), reverse=True)[:MOST_LISTED]
-    told = ", ".join(f"`{name}` {share:.0%}" for share, name in parts if share >= LEAST_SHARE)
+    before = samples(program, case, FEW_ROUNDS)
+    found = {name: max(count - before.get(name, 0), 0) for name, count in samples(program, case, ROUNDS).items() if name in library}
+    total = sum(found.values()) or 1
+    parts = sorted(((count / total, name) for name, count in found.items()), reverse=True)[:MOST_LISTED]
+    told = ", ".join(f"`{name.partition('::<')[0]}` {share:.0%}" for share, name in parts if share >= LEAST_SHARE)
     return f"| {case} | {ratio:.2f} | {told} |"
 
 

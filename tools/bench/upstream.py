@@ -5,7 +5,7 @@
     tools/bench/upstream.py FOLDER [NEWER] --write  writes it into the page, in place of the earlier one; the rest of the page stays as it is
 
 FOLDER has the program built for x86-64-v2, as the library is; NEWER, if given, built for x86-64-v3 with the library that `make lib CPU=x86-64-v3`
-makes. The program is FOLDER/sides or FOLDER/target/release/sides. It makes each result with the C library and with upstream's kernels, both built for the
+makes. The program is FOLDER/sides or FOLDER/target/release/sides. It makes each result with the C library, filters by a prepared mask, and with upstream's kernels, both built for the
 same processors, compares them, times each contender after three untimed calls, and prints a line for each contender of a case, with tabs between: the case, the
 rows, the contender (`port`, which is this library, `upstream`, `plain` and `tuned` loops, `memcpy` of the same bytes), the best and the median
 time in ns per row.
@@ -116,7 +116,8 @@ def section(folder: pathlib.Path, newer: Optional[pathlib.Path] = None) -> List[
     both = [f"Built for x86-64-v3, {slow} of {len(others)} cases do; the last column of the table above has the ratios.", ""] if newer else []
     return [HEADING, "", "The time of this library by that of upstream's kernel, of the best loop in safe Rust (plain or tuned by hand) and of a copy of the same bytes: the least and the greatest ratio of a "
             "kernel's cases, and the median in parentheses. All are built for the same processors (x86-64-v2) and run in one process, in turn in each round, each after three "
-            f"untimed calls, since this library's values are not in the memory that the other contenders share; the best of {ROUNDS} rounds counts. `d` is the share of rows that a mask keeps, `o` the offsets of the slices, `n` the rows.", "",
+            f"untimed calls, since this library's values are not in the memory that the other contenders share; the best of {ROUNDS} rounds counts. Filters take a mask that is prepared "
+            "(`sel_filter_selection`), since a mask of upstream keeps the number of its true bits after the first call. `d` is the share of rows that a mask keeps, `o` the offsets of the slices, `n` the rows.", "",
             f"{datetime.date.today().isoformat()}; reported load of the machine (1 is this process): {before:.1f} before, {os.getloadavg()[0]:.1f} after, on {os.cpu_count()} cores.", "",
             f"| kernel | cases | to upstream | to the best loop | to the copy |{' to upstream, x86-64-v3 |' if newer else ''}", f"|---|---|---|---|---|{'---|' if newer else ''}",
             *(row(each, by_name) for each in kernels(found)), "", *slower(found), "", *both]
