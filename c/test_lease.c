@@ -396,7 +396,20 @@ static void borrows(const sel_column *column, size_t count, const void *at) {
     else IS(len == count && (count > 0 ? values == at : values != NULL));
 }
 
-/* Borrowed values are the producer's: those of imports with an offset, of shares and of slices; of a filter they are new. */
+/* A filter that keeps consecutive rows copies nothing: the values of its result, by the bits and by a selection, are the column's. */
+static void kept_runs_are_borrowed(const sel_column *column, const char *at, size_t size) {
+    static const uint8_t rows_3_to_11[2] = {0xf8, 0x0f};
+    sel_column part = {0};
+    sel_selection by = {0};
+    if (works(sel_filter_bits(column, rows_3_to_11, 2, 16, &part))) borrows(&part, 9, at + 3 * size);
+    sel_free(&part);
+    if (works(sel_selection_of_bits(rows_3_to_11, 2, 16, &by)) && works(sel_filter_selection(column, &by, &part))) borrows(&part, 9, at + 3 * size);
+    sel_free(&part);
+    sel_selection_free(&by);
+}
+
+/* Borrowed values are the producer's: those of imports with an offset, of shares, of slices and of consecutive rows that a filter keeps; of another
+ * filter they are new. */
 static void values_are_borrowed(void) {
     static const uint8_t all_but_4[2] = {0xef, 0xff};
     for (size_t kind = 0; kind < KINDS; kind++) {
@@ -409,6 +422,7 @@ static void values_are_borrowed(void) {
         borrows(&column, 16, at);
         for (size_t first = 0; first <= 16; first++)
             if (works(sel_slice(&column, first, 16 - first, &part))) borrows(&part, 16 - first, at + first * size);
+        kept_runs_are_borrowed(&column, at, size);
         if (works(sel_filter_bits(&column, all_but_4, 2, 16, &part))) {
             const void *values = NULL;
             size_t len = 0;

@@ -30,11 +30,19 @@ void *__wrap_malloc(size_t size) { return counted(__real_malloc(size)); }
 
 void *__wrap_calloc(size_t count, size_t size) { return counted(__real_calloc(count, size)); }
 
+/* A block that moves is in use twice until it is copied; one that grows or shrinks in place is not. */
 void *__wrap_realloc(void *block, size_t size) {
     size_t before = malloc_usable_size(block);
-    void *moved = counted(__real_realloc(block, size));
-    in_use -= before;
-    return moved;
+    uintptr_t from = (uintptr_t)block;
+    void *grown = __real_realloc(block, size);
+    if (grown == NULL) {
+        return NULL;
+    }
+    bool has_moved = (uintptr_t)grown != from;
+    in_use -= has_moved ? 0 : before;
+    counted(grown);
+    in_use -= has_moved ? before : 0;
+    return grown;
 }
 
 void __wrap_free(void *block) {
@@ -51,6 +59,16 @@ static void must(sel_status status) {
     }
 }
 
+/* Memory of `count` times `size` bytes, all 0. */
+static void *room(size_t count, size_t size) {
+    void *block = calloc(count, size);
+    if (block == NULL) {
+        fprintf(stderr, "out of memory\n");
+        exit(1);
+    }
+    return block;
+}
+
 static uint32_t next(void) {
     static uint64_t state = 7;
     state = state * 6364136223846793005u + 1442695040888963407u;
@@ -59,7 +77,7 @@ static uint32_t next(void) {
 
 /* One bit for each of some rows; `of` of ten are set. */
 static uint8_t *bits(size_t rows, uint32_t of) {
-    uint8_t *made_bits = calloc(rows / 8 + 1, 1);
+    uint8_t *made_bits = room(rows / 8 + 1, 1);
     for (size_t i = 0; i < rows; i += 1) {
         made_bits[i / 8] |= (uint8_t)((next() % 10 < of) << (i % 8));
     }
@@ -67,7 +85,7 @@ static uint8_t *bits(size_t rows, uint32_t of) {
 }
 
 static void numbers(size_t rows, bool has_nulls, sel_column *out) {
-    int64_t *values = malloc(rows * sizeof *values);
+    int64_t *values = room(rows, sizeof *values);
     uint8_t *valid = bits(rows, 8);
     for (size_t i = 0; i < rows; i += 1) {
         values[i] = next();
@@ -79,7 +97,7 @@ static void numbers(size_t rows, bool has_nulls, sel_column *out) {
 
 /* Lists of ITEMS rows each of a column, which is taken. */
 static void lists(size_t rows, bool has_nulls, sel_column *child, sel_column *out) {
-    int64_t *offsets = malloc((rows + 1) * sizeof *offsets);
+    int64_t *offsets = room(rows + 1, sizeof *offsets);
     uint8_t *valid = bits(rows, 8);
     for (size_t i = 0; i <= rows; i += 1) {
         offsets[i] = (int64_t)(i * ITEMS);
@@ -90,12 +108,12 @@ static void lists(size_t rows, bool has_nulls, sel_column *child, sel_column *ou
 }
 
 static void words(size_t rows, bool are_views, sel_column *out) {
-    sel_bytes_ref *refs = malloc(rows * sizeof *refs);
-    int64_t *offsets = malloc((rows + 1) * sizeof *offsets);
-    uint8_t *bytes = malloc(rows * 20);
+    sel_bytes_ref *refs = room(rows, sizeof *refs);
+    int64_t *offsets = room(rows + 1, sizeof *offsets);
+    uint8_t *bytes = room(rows, 20);
     memset(bytes, 'x', rows * 20);
     if (are_views) {
-        sel_view *views = malloc(rows * sizeof *views);
+        sel_view *views = room(rows, sizeof *views);
         for (size_t i = 0; i < rows; i += 1) {
             views[i] = (sel_view){20, 0x78787878, 0, (uint32_t)(20 * i)};
         }
@@ -183,7 +201,7 @@ static const struct {
 
 int main(void) {
     uint8_t *flags = bits(ROWS, 5);
-    uint32_t *places = malloc(ROWS * sizeof *places);
+    uint32_t *places = room(ROWS, sizeof *places);
     for (size_t i = 0; i < ROWS; i += 1) {
         places[i] = next() % ROWS;
     }

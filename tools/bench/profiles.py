@@ -55,8 +55,8 @@ def row(program: pathlib.Path, library: Set[str], ratio: float, case: str) -> st
     found = {name: max(count - before.get(name, 0), 0) for name, count in samples(program, case, ROUNDS).items() if name in library}
     total = sum(found.values()) or 1
     parts = sorted(((count / total, name) for name, count in found.items()), reverse=True)[:MOST_LISTED]
-    told = ", ".join(f"`{name.partition('::<')[0]}` {share:.0%}" for share, name in parts if share >= LEAST_SHARE)
-    return f"| {case} | {ratio:.2f} | {told} |"
+    shares = ", ".join(f"`{name.partition('::<')[0]}` {share:.0%}" for share, name in parts if share >= LEAST_SHARE)
+    return f"| {case} | {ratio:.2f} | {shares} |"
 
 
 def section(folder: pathlib.Path) -> List[str]:
