@@ -1,16 +1,6 @@
 -- Rows of binary with offsets.
-use Rattle.std.proofs.Common.{◌≡◌, ◌≢◌, ℕ, zero, suc, ◌+◌, ◌-◌, ◌≤◌, ◌<◌, true, false, List, [], ◌∷◌, length, take, drop, map, Option, refl, ap, ◌∙◌, arith, get_or, add-one}
-use Rattle.std.specs.List.{slice_range}
-use Rattle.std.specs.Option.{option_map}
-use Rattle.std.proofs.lemmas.List.{get_or-take, get_or-drop}
-use Rattle.sel_bits.specs.Limits.{max_rows}
-use Rattle.sel_bits.specs.Bits.{Bits}
-use Rattle.sel_bits.specs.Offsets.{IsRising}
-use Rattle.sel_arrow.specs.Masked.{masked, Covers, valid_at, part_of}
-use Rattle.sel_arrow.specs.Nulls.{IsValidityOf}
-use Rattle.sel_arrow.specs.Pieces.{byte_rows, last_offset, pieces, pieces_after, rows_between}
-use Rattle.sel_arrow.specs.Shape.{Shape, of_null}
-use Rattle.sel_arrow.specs.Value.{Null, Bytes}
+use Rattle.std.proofs.Common.{◌≡◌, ◌≢◌, ℕ, zero, suc, ◌+◌, ◌-◌, ◌≤◌, ◌<◌, true, false, List, [], ◌∷◌, length, take, drop, map, Option, refl, ap, ◌∙◌, arith, get_or, add-one, get_or-take, get_or-drop}
+use Rattle.sel_arrow.proofs.Common.{slice_range, option_map, max_rows, Bits, IsRising, masked, Covers, valid_at, part_of, IsValidityOf, byte_rows, last_offset, pieces, pieces_after, rows_between, Shape, of_null, Null, Bytes}
 use Rattle.sel_arrow.proofs.Rows.{length-mapped, null_mapped, valid_mapped, tells-mapped, part-mapped, length-part, part_covers, part_within}
 
 -- ---- pieces of a list

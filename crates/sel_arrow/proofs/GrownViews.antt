@@ -1,12 +1,7 @@
 -- Views into one data buffer to which bytes are appended.
-use Rattle.std.proofs.Common.{◌≡◌, ℕ, zero, suc, ◌+◌, ◌-◌, ◌≤◌, Bool, true, false, ◌&&◌, cond, List, [], ◌∷◌, ◌++◌, length, drop, map, get_or, arith, refl, ap, sym, subst, ◌∙◌, length-append, length-drop}
-use Rattle.std.specs.Prelude.{leb, ltb, ◌==◌}
-use Rattle.std.specs.List.{slice_range}
-use Rattle.std.proofs.lemmas.Bool.{leb-true, le-leb, ltb-true, eq-eqb}
-use Rattle.std.proofs.lemmas.List.{map-append, take_all, take-append-le, drop-append-le}
+use Rattle.std.proofs.Common.{◌≡◌, ℕ, zero, suc, ◌+◌, ◌-◌, ◌≤◌, Bool, true, false, ◌&&◌, cond, List, [], ◌∷◌, ◌++◌, length, drop, map, get_or, arith, refl, ap, sym, subst, ◌∙◌, length-append, length-drop, leb, ltb, ◌==◌, leb-true, le-leb, ltb-true, eq-eqb}
+use Rattle.sel_arrow.proofs.Common.{slice_range, map-append, take_all, take-append-le, drop-append-le, list_all-append, Bytes}
 use Rattle.std.proofs.Math.Seq.{drop-append_seam}
-use Rattle.std.proofs.lemmas.List.Folds.{list_all-append}
-use Rattle.sel_arrow.specs.Value.{Bytes}
 use Rattle.sel_arrow.specs.Views.{all_placed, inline_bytes, is_inline, is_placed, view_of, view_value, word_at}
 use Rattle.sel_arrow.specs.declared.view.View.{View}
 use Rattle.sel_arrow.proofs.Lists.{both, and_first, and_second}

@@ -1,4 +1,5 @@
 pub mod ByteRows
+pub mod Common
 pub mod Crossing
 pub mod GrownViews
 pub mod Lists

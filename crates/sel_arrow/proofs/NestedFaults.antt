@@ -1,17 +1,9 @@
 -- The rules for columns with children agree with `well_formed`.
 use Rattle.std.proofs.Common.{◌≡◌, ℕ, ◌*◌, Bool, true, false, not, ◌&&◌, nat_le, nat_lt, ◌==◌, List, [], ◌∷◌, length, Option, None, is_some, is_none, refl, ap, sym, ◌∙◌, arith}
-use Rattle.std.proofs.lemmas.Bool.Decides.{nat_tests}
-use Rattle.sel_bits.specs.Limits.{max_rows}
-use Rattle.sel_bits.specs.Bits.{Bits}
+use Rattle.sel_arrow.proofs.Common.{nat_tests, max_rows, Bits, IsRising, list_fault, block_fault, struct_length_fault, covers, is_few, too_many, validity_differs, rows_between, last_offset, is_rising, rows, row_count, well_formed, Column}
 use Rattle.sel_bits.specs.Faults.{first_broken}
-use Rattle.sel_bits.specs.Offsets.{IsRising}
 use Rattle.sel_bits.specs.declared.faults.Malformed.{Malformed}
 use Rattle.sel_bits.specs.declared.faults.Malformed.TheVariants.{TooManyRows, FieldLength, ValidityLength}
-use Rattle.sel_arrow.specs.Makers.{list_fault, block_fault, struct_length_fault}
-use Rattle.sel_arrow.specs.Masked.{covers, is_few, too_many, validity_differs}
-use Rattle.sel_arrow.specs.Pieces.{rows_between, last_offset, is_rising}
-use Rattle.sel_arrow.specs.Rows.{rows, row_count, well_formed}
-use Rattle.sel_arrow.specs.declared.column.Column.{Column}
 use Rattle.sel_arrow.proofs.Lists.{and_first, and_second}
 use Rattle.sel_arrow.proofs.NestedRows.{length-rows, rising_test}
 

@@ -1,16 +1,6 @@
 -- Columns with children, from parts that break no rule, and with a replaced validity.
-use Rattle.std.proofs.Common.{◌≡◌, ◌≢◌, ℕ, ◌≤◌, Bool, true, false, ◌==◌, List, [], ◌∷◌, length, map, Option, None, is_some, All, Vec, Box, Global, refl, ap, sym, subst, ◌∙◌, arith}
-use Rattle.std.specs.List.{list_all}
-use Rattle.std.proofs.lemmas.Bool.Decides.{nat_tests}
-use Rattle.std.proofs.lemmas.List.Elements.{All-nil, All-cons, All-head, All-tail}
-use Rattle.sel_bits.specs.Limits.{max_rows}
-use Rattle.sel_bits.specs.Bits.{Bits}
-use Rattle.sel_bits.specs.Offsets.{IsRising}
-use Rattle.sel_arrow.specs.Makers.{list_fault, block_fault, struct_length_fault}
-use Rattle.sel_arrow.specs.Masked.{Covers}
-use Rattle.sel_arrow.specs.Nulls.{IsValidityOf}
-use Rattle.sel_arrow.specs.Rows.{rows, row_count, type_of, well_formed, IsField, IsWellFormed}
-use Rattle.sel_arrow.specs.declared.column.Column.{Column, LargeList, FixedSizeList, Struct}
+use Rattle.std.proofs.Common.{◌≡◌, ◌≢◌, ℕ, Bool, true, false, ◌==◌, List, [], ◌∷◌, length, map, Option, None, is_some, All, Vec, Box, Global, refl, ap, sym, subst, ◌∙◌, arith}
+use Rattle.sel_arrow.proofs.Common.{list_all, nat_tests, All-nil, All-cons, All-head, All-tail, Bits, IsRising, list_fault, block_fault, struct_length_fault, Covers, IsValidityOf, rows, row_count, type_of, well_formed, IsField, IsWellFormed, Column, LargeList, FixedSizeList, Struct}
 use Rattle.sel_arrow.proofs.Lists.{and_first, and_second}
 use Rattle.sel_arrow.proofs.NestedFaults.{list_test, block_test, tuple_fit}
 use Rattle.sel_arrow.proofs.NestedRows.{length-rows, length-list_rows, length-block_rows, length-tuple_rows, has_lists, lists_formed, has_blocks, blocks_formed, list_tells, block_tells, struct_tells}
@@ -62,9 +52,6 @@ tuples_under len fields old new formed covers =
     fields_make len fields new (record { few = has.few; covered = subst (Covers new) count covers; fields = has.fields })
 
 -- ---- the number of rows, and which are null
-
-pub lists_few : (offsets : List ℕ) (values : Box Column Global) (validity : Option Bits) → well_formed (LargeList offsets values validity) ≡ true → length (rows (LargeList offsets values validity)) ≤ max_rows
-lists_few offsets values validity formed = omega (arith, length-list_rows offsets (rows values.value) validity, (has_lists offsets values.value validity formed).few)
 
 pub lists_tell : (offsets : List ℕ) (values : Box Column Global) (validity : Option Bits) → well_formed (LargeList offsets values validity) ≡ true → IsValidityOf (type_of (LargeList offsets values validity)) validity (rows (LargeList offsets values validity))
 lists_tell offsets values validity formed = list_tells (LargeList offsets values validity) offsets values validity refl formed

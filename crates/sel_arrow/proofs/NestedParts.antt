@@ -1,20 +1,8 @@
 -- Slices and copies of columns with children.
 use Rattle.std.proofs.Common.{◌≡◌, ℕ, ◌+◌, ◌-◌, ◌*◌, ◌≤◌, ◌<◌, true, List, [], ◌∷◌, ◌++◌, length, take, drop, map, get_or, Option, All, Vec, Box, Global, refl, ap, sym, subst, ◌∙◌, arith, suc, suc-mul, add-mul}
-use Rattle.std.specs.List.{flat_map, range_with_len, slice_range}
-use Rattle.std.specs.Option.{ForSome, option_map}
-use Rattle.std.proofs.lemmas.List.{map_more, map_push, get_or-take, get_or-drop, take-take, drop-drop, drop-take}
-use Rattle.std.proofs.lemmas.List.Elements.{All-weaker, All-nil, All-cons, All-head, All-tail}
+use Rattle.sel_arrow.proofs.Common.{flat_map, range_with_len, slice_range, ForSome, option_map, map_more, map_push, get_or-take, get_or-drop, take-take, drop-drop, drop-take, All-weaker, All-nil, All-cons, All-head, All-tail, max_rows, Bits, masked, part_of, Covers, list_of, list_rows, blocks, block_rows, struct_at, struct_rows, pieces, rows_between, rows, row_count, buffers_held, type_of, well_formed, IsField, IsWellFormed, of_struct, shapes_of, Value, Null, Tuple, values_of, Column, LargeList, FixedSizeList, Struct}
 use Rattle.std.proofs.lemmas.List.FromFn.{length-map-range_with_len, get_or-map-range_with_len, fill_by_all}
 use Rattle.std.proofs.lemmas.Nat.{mul-le}
-use Rattle.sel_bits.specs.Limits.{max_rows}
-use Rattle.sel_bits.specs.Bits.{Bits}
-use Rattle.sel_arrow.specs.Masked.{masked, part_of, Covers}
-use Rattle.sel_arrow.specs.Nested.{list_of, list_rows, blocks, block_rows, struct_at, struct_rows}
-use Rattle.sel_arrow.specs.Pieces.{pieces, rows_between}
-use Rattle.sel_arrow.specs.Rows.{rows, row_count, buffers_held, type_of, well_formed, IsField, IsWellFormed}
-use Rattle.sel_arrow.specs.Shape.{of_struct, shapes_of}
-use Rattle.sel_arrow.specs.Value.{Value, Null, Tuple, values_of}
-use Rattle.sel_arrow.specs.declared.column.Column.{Column, LargeList, FixedSizeList, Struct}
 use Rattle.sel_arrow.proofs.ByteRows.{part-pieces, part_rising, part_few, part_last, part_covered}
 use Rattle.sel_arrow.proofs.NestedRows.{length-rows, length-list_rows, length-block_rows, length-tuple_rows, has_lists, lists_formed, has_blocks, blocks_formed}
 use Rattle.sel_arrow.proofs.Rows.{part-mapped, part-masked, length-part, part_covers, part_within}

@@ -1,22 +1,8 @@
 -- Rows of columns with children, and the properties of well-formed columns.
-use Rattle.std.proofs.Common.{◌≡◌, ◌≢◌, ℕ, zero, suc, ◌+◌, ◌*◌, ◌≤◌, ◌<◌, Bool, true, ◌&&◌, nat_le, ◌==◌, List, [], ◌∷◌, length, Option, Some, None, refl, ap, sym, ◌∙◌, arith, get_or, Vec, Box, Global, subst}
-use Rattle.std.specs.List.{range_with_len, slice_range}
-use Rattle.std.proofs.lemmas.Bool.{leb-true, le-leb}
-use Rattle.std.proofs.lemmas.Bool.Decides.{nat_tests}
-use Rattle.std.proofs.lemmas.List.{length-replicate}
+use Rattle.std.proofs.Common.{◌≡◌, ◌≢◌, ℕ, zero, suc, ◌+◌, ◌*◌, ◌≤◌, ◌<◌, Bool, true, ◌&&◌, nat_le, ◌==◌, List, [], ◌∷◌, length, Option, Some, None, refl, ap, sym, ◌∙◌, arith, get_or, Vec, Box, Global, subst, leb-true, le-leb}
+use Rattle.sel_arrow.proofs.Common.{range_with_len, slice_range, nat_tests, length-replicate, max_rows, Bits, IsRising, Value, Null, Covers, covers, is_few, list_of, list_rows, blocks, block_rows, struct_at, struct_rows, IsValidityOf, pieces, rows_between, last_offset, is_rising, rises_from, rows, rows_of_each, row_count, type_of, types_of_each, well_formed, all_well_formed, Shape, Shapes, of_null, of_large_list, of_fixed_size_list, of_struct, Column, LargeList, FixedSizeList, Struct, Row_of-Column, end_of-Column}
 use Rattle.std.proofs.lemmas.List.FromFn.{length-map-range_with_len}
-use Rattle.sel_bits.specs.Limits.{max_rows}
 use mathlib.Core.Former.{Count}
-use Rattle.sel_bits.specs.Bits.{Bits}
-use Rattle.sel_bits.specs.Offsets.{IsRising}
-use Rattle.sel_arrow.specs.Value.{Value, Null}
-use Rattle.sel_arrow.specs.Masked.{Covers, covers, is_few}
-use Rattle.sel_arrow.specs.Nested.{list_of, list_rows, blocks, block_rows, struct_at, struct_rows}
-use Rattle.sel_arrow.specs.Nulls.{IsValidityOf}
-use Rattle.sel_arrow.specs.Pieces.{pieces, rows_between, last_offset, is_rising, rises_from}
-use Rattle.sel_arrow.specs.Rows.{rows, rows_of_each, row_count, type_of, types_of_each, well_formed, all_well_formed}
-use Rattle.sel_arrow.specs.Shape.{Shape, Shapes, of_null, of_large_list, of_fixed_size_list, of_struct}
-use Rattle.sel_arrow.specs.declared.column.Column.{Column, LargeList, FixedSizeList, Struct, Row_of-Column, end_of-Column}
 use Rattle.sel_arrow.specs.declared.column.Column.TheVariants.{Null as NullColumn, Boolean, Int8, Int16, Int32, Int64, Int128, UInt8, UInt16, UInt32, UInt64, UInt128, LargeBinary, BinaryView, Utf8View, LargeList', FixedSizeList', Struct'}
 use Rattle.sel_arrow.proofs.ByteRows.{length-pieces, length-byte_rows}
 use Rattle.sel_arrow.proofs.Lists.{both, and_first, and_second}

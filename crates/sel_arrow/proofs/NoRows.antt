@@ -1,15 +1,6 @@
 -- Columns without rows.
 use Rattle.std.proofs.Common.{◌≡◌, ℕ, pos, ◌+◌, ◌≤◌, ◌<◌, ◌*◌, true, ◌&&◌, ◌==◌, List, [], ◌∷◌, ◌++◌, map, length, take, get_or, None, Vec, Global, refl, ap, sym, ◌∙◌, arith}
-use Rattle.std.specs.List.{All, list_all}
-use Rattle.std.proofs.lemmas.Bool.Decides.{nat_tests}
-use Rattle.std.proofs.lemmas.List.{map-append, map_more}
-use Rattle.std.proofs.lemmas.List.Elements.{All-head, All-tail}
-use Rattle.sel_bits.specs.Limits.{max_rows}
-use Rattle.sel_bits.specs.Offsets.{IsOffsets, IsRising}
-use Rattle.sel_arrow.specs.DataType.{shape_of, widths_fit}
-use Rattle.sel_arrow.specs.Masked.{covers, is_few}
-use Rattle.sel_arrow.specs.Rows.{rows, row_count, type_of, well_formed, all_well_formed, IsField}
-use Rattle.sel_arrow.specs.declared.column.Column.{Column, Struct as StructColumn, Row_of-Column, end_of-Column, more_of-Column, items-the_row-Column, items_hidden-the_row-Column-0}
+use Rattle.sel_arrow.proofs.Common.{All, list_all, nat_tests, map-append, map_more, All-head, All-tail, max_rows, IsOffsets, IsRising, shape_of, widths_fit, covers, is_few, rows, row_count, type_of, well_formed, all_well_formed, IsField, Column, Struct as StructColumn, Row_of-Column, end_of-Column, more_of-Column, items-the_row-Column, items_hidden-the_row-Column-0}
 use Rattle.sel_arrow.specs.declared.datatype.ArrowDataType.{ArrowDataType, Struct}
 use Rattle.sel_arrow.proofs.Lists.{both}
 use Rattle.sel_arrow.proofs.NestedRows.{length-rows, blocks_formed}

@@ -1,11 +1,7 @@
 -- The number of null rows, from the validity.
-use Rattle.std.proofs.Common.{◌≡◌, ◌≢◌, ℕ, zero, suc, ◌+◌, true, false, List, [], ◌∷◌, length, Option, Some, None, replicate, refl, ap, sym, ◌∙◌, arith, subst, cond}
-use Rattle.std.specs.Prelude.{count_by, not}
+use Rattle.std.proofs.Common.{◌≡◌, ◌≢◌, ℕ, zero, suc, ◌+◌, true, false, List, [], ◌∷◌, length, Option, Some, None, replicate, refl, ap, sym, ◌∙◌, arith, subst, cond, count_by, not}
 use Rattle.std.proofs.lemmas.List.Sums.{sum_by-cons}
-use Rattle.sel_bits.specs.Bits.{Bits}
-use Rattle.sel_arrow.specs.Value.{Value, is_valid, is_null, validities}
-use Rattle.sel_arrow.specs.Shape.{Shape, of_null}
-use Rattle.sel_arrow.specs.Nulls.{IsValidityOf}
+use Rattle.sel_arrow.proofs.Common.{Bits, Value, is_valid, is_null, validities, Shape, of_null, IsValidityOf}
 
 -- The number of null rows is the number of false entries of their validity.
 nulls_of : (vs : List Value) → count_by is_null vs ≡ count_by not (validities vs)

@@ -1,15 +1,6 @@
 -- Optional values as values with a validity.
-use Rattle.std.proofs.Common.{◌≡◌, ℤ, refl, ap, List, [], ◌∷◌, ◌++◌, map, take, get_or, length, ◌<◌, ◌+◌, ◌∙◌, sym, ℕ, Bool, false, Option, Some, None}
-use Rattle.std.specs.Prelude.{is_some, unwrap_or}
-use Rattle.std.proofs.lemmas.List.{take_more, map-append}
-use Rattle.sel_arrow.specs.Masked.{hidden, number_value, bool_value}
-use Rattle.sel_arrow.specs.Value.{Null, Number, Truth}
-
--- One more row.
-pub mapped_more : {X Y : Type 0} (f : X → Y) (rows : List X) (i : ℕ) (d : X) (ys : List Y) (y : Y) → i < length rows
-    → ys ≡ map f (take i rows) → y ≡ f (get_or rows i d) → ys ++ (y ∷ []) ≡ map f (take (i + 1) rows)
-mapped_more f rows i d ys y lt before here =
-    (λ k. before k ++ (here k ∷ [])) ∙ sym (ap (map f) (take_more rows i d lt) ∙ map-append f (take i rows) (get_or rows i d ∷ []))
+use Rattle.std.proofs.Common.{◌≡◌, ℤ, refl, ap, List, [], ◌∷◌, map, Bool, false, Option, Some, None, is_some, unwrap_or}
+use Rattle.sel_arrow.proofs.Common.{hidden, number_value, bool_value, Null, Number, Truth}
 
 pub number_options : {T : Type 0} (number : T → ℤ) (least : T) (rows : List (Option T))
     → hidden (map is_some rows) (map (λ x. Number (number x)) (map (λ row. unwrap_or row least) rows)) ≡ map (number_value number) rows

@@ -1,13 +1,6 @@
 -- Rows under a validity.
-use Rattle.std.proofs.Common.{◌≡◌, ◌≢◌, ℕ, zero, suc, ◌+◌, ◌≤◌, ◌<◌, ℤ, Bool, true, false, List, [], ◌∷◌, length, take, drop, map, Option, Some, None, replicate, refl, ap, sym, ◌∙◌, arith, get_or, length-take, length-drop}
-use Rattle.std.specs.Prelude.{if◌then◌else◌}
-use Rattle.std.specs.Option.{ForSome, option_map}
-use Rattle.std.proofs.lemmas.List.{length-map, get_or-map, take-map, drop-map, length-replicate}
-use Rattle.sel_bits.specs.Bits.{Bits}
-use Rattle.sel_arrow.specs.Value.{Value, Null, Truth, Number, is_valid, validities}
-use Rattle.sel_arrow.specs.Masked.{hidden, masked, number_rows, bool_rows, Covers, valid_at, part_of}
-use Rattle.sel_arrow.specs.Shape.{Shape, of_null}
-use Rattle.sel_arrow.specs.Nulls.{IsValidityOf}
+use Rattle.std.proofs.Common.{◌≡◌, ◌≢◌, ℕ, zero, suc, ◌+◌, ◌≤◌, ◌<◌, ℤ, Bool, true, false, List, [], ◌∷◌, length, take, drop, map, Option, Some, None, replicate, refl, ap, sym, ◌∙◌, arith, get_or, length-take, length-drop, if◌then◌else◌}
+use Rattle.sel_arrow.proofs.Common.{ForSome, option_map, length-map, get_or-map, take-map, drop-map, length-replicate, Bits, Value, Null, Truth, Number, is_valid, validities, hidden, masked, number_rows, bool_rows, Covers, valid_at, part_of, Shape, of_null, IsValidityOf}
 
 -- ---- values under a list of booleans
 

@@ -1,11 +1,10 @@
 -- Rows that are strings.
-use Rattle.std.proofs.Common.{◌≡◌, ℕ, ◌<◌, Bool, true, false, List, length, take, drop, refl, ◌∙◌, ap, get_or}
-use Rattle.std.specs.Prelude.{IsTrue}
+use Rattle.std.proofs.Common.{◌≡◌, ℕ, ◌<◌, Bool, true, false, List, length, take, drop, refl, ◌∙◌, ap, get_or, IsTrue}
 use Rattle.std.specs.Str.{IsUtf8, is_utf8}
 use Rattle.std.proofs.lemmas.Str.{IsUtf8-from_is_utf8, is_utf8-from_IsUtf8}
 use Rattle.sel_arrow.specs.Texts.{all_text, is_text}
 use Rattle.sel_arrow.specs.Value.{Value, Null, Bytes}
-use Rattle.sel_arrow.proofs.Lists.{all_at, all_of_them, all_part, none_at}
+use Rattle.sel_arrow.proofs.Lists.{all_at, all_of_them, all_part}
 
 -- ---- whether bytes are UTF-8
 
@@ -31,9 +30,6 @@ pub utf8_row : (rows : List Value) (i : ℕ) (bytes : List ℕ) → Bytes bytes 
 utf8_row rows i bytes is texts h = IsUtf8-from_is_utf8 bytes (ap is_text is ∙ all_at is_text rows i Null texts h)
 
 pub ruleset text_columns = (part_text, utf8_row)
-
-pub no_text : (rows : List Value) (i : ℕ) → i < length rows → is_text (get_or rows i Null) ≡ false → all_text rows ≡ false
-no_text rows i h here = none_at is_text rows i Null h here
 
 pub all_texts : (rows : List Value) (n : ℕ) → IsTrue (all_text (take n rows)) → n ≡ length rows → all_text rows ≡ true
 all_texts rows n texts h = all_of_them is_text rows n texts h

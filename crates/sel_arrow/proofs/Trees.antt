@@ -1,15 +1,6 @@
 -- The definitions for a struct column, in terms of the list of its fields.
-use Rattle.std.proofs.Common.{◌≡◌, ◌≢◌, ℕ, ◌+◌, ◌≤◌, ◌<◌, Bool, true, false, ◌&&◌, ◌==◌, not, All, List, [], ◌∷◌, length, take, get_or, map, Option, is_some, Vec, Global, refl, ap, sym, subst, ◌∙◌, arith}
-use Rattle.std.proofs.lemmas.Bool.Decides.{nat_tests}
-use Rattle.std.proofs.lemmas.List.{take_all}
-use Rattle.std.proofs.lemmas.List.Elements.{All-nil, All-cons, All-head, All-tail, All-get_or, All-more}
-use Rattle.sel_bits.specs.Limits.{max_rows}
-use Rattle.sel_bits.specs.Bits.{Bits}
-use Rattle.sel_arrow.specs.Makers.{struct_length_fault}
-use Rattle.sel_arrow.specs.Masked.{Covers, covers, is_few}
-use Rattle.sel_arrow.specs.Nested.{struct_rows}
-use Rattle.sel_arrow.specs.Rows.{rows, rows_of_each, row_count, well_formed, all_well_formed, IsField}
-use Rattle.sel_arrow.specs.declared.column.Column.{Column, Struct, Row_of-Column, end_of-Column, more_of-Column, items-the_row-Column, items_hidden-the_row-Column-0}
+use Rattle.std.proofs.Common.{◌≡◌, ◌≢◌, ℕ, ◌+◌, ◌≤◌, ◌<◌, Bool, true, false, ◌&&◌, ◌==◌, not, All, List, [], ◌∷◌, length, take, get_or, map, Option, is_some, Vec, Global, refl, ap, sym, subst, ◌∙◌, arith, take_all}
+use Rattle.sel_arrow.proofs.Common.{nat_tests, All-nil, All-cons, All-head, All-tail, All-get_or, All-more, max_rows, Bits, struct_length_fault, Covers, covers, is_few, struct_rows, rows, rows_of_each, row_count, well_formed, all_well_formed, IsField, Column, Struct, Row_of-Column, end_of-Column, more_of-Column, items-the_row-Column, items_hidden-the_row-Column-0}
 use Rattle.sel_arrow.proofs.Lists.{both, and_first, and_second}
 use Rattle.sel_arrow.proofs.NestedFaults.{and_true, sound_tuples}
 use Rattle.sel_arrow.proofs.NestedRows.{row_of, length-rows, struct_covered, struct_formed}

@@ -1,17 +1,17 @@
 -- The types of columns with children.
-use Rattle.std.proofs.Common.{◌≡◌, true, false, true≢false, ℕ, ◌+◌, ◌<◌, ◌&&◌, List, [], ◌∷◌, ◌++◌, length, take, map, Option, Vec, Global, refl, sym, ap, subst, ◌∙◌, arith, get_or}
-use Rattle.std.specs.Prelude.{◌↔◌, IsTrue}
+use Rattle.std.proofs.Common.{◌≡◌, ℕ, ◌+◌, ◌<◌, ◌&&◌, List, [], ◌∷◌, ◌++◌, length, take, map, Option, Vec, Global, refl, sym, ap, ◌∙◌, arith, get_or}
+use Rattle.std.specs.Prelude.{◌↔◌}
 use Rattle.std.specs.List.{flat_map, list_all}
 use Rattle.std.proofs.lemmas.List.{length-map, get_or-map, map_more, take_all}
 use mathlib.Core.Former.{Count}
 use Rattle.sel_bits.specs.Bits.{Bits}
 use Rattle.sel_arrow.specs.DataType.{shape_of, shapes_of_each, widths_fit, all_widths_fit}
 use Rattle.sel_arrow.specs.Rows.{type_of, types_of_each, buffers_held, buffers_of_each}
-use Rattle.sel_arrow.specs.Shape.{Shape, next_shape, of_struct, shapes_of, shape_list, of_null, of_boolean, of_int8, of_int16, of_int32, of_int64, of_int128, of_uint8, of_uint16, of_uint32, of_uint64, of_uint128, of_large_binary, of_binary_view, of_utf8_view}
+use Rattle.sel_arrow.specs.Shape.{Shape, next_shape, of_struct, shapes_of, shape_list}
 use Rattle.sel_arrow.specs.declared.column.Column.{Column, Struct as StructColumn, Row_of-Column, end_of-Column, more_of-Column, items-the_row-Column, items_hidden-the_row-Column-0}
 use Rattle.sel_arrow.specs.declared.column.Column.TheVariants.{Struct' as StructColumn'}
 use Rattle.sel_arrow.specs.declared.datatype.ArrowDataType.{ArrowDataType, Struct, Row_of-ArrowDataType, end_of-ArrowDataType, more_of-ArrowDataType, items-the_row-ArrowDataType, items_hidden-the_row-ArrowDataType-0}
-use Rattle.sel_arrow.specs.declared.datatype.ArrowDataType.TheVariants.{Null as NullType, Boolean as BooleanType, Int8 as Int8Type, Int16 as Int16Type, Int32 as Int32Type, Int64 as Int64Type, Int128 as Int128Type, UInt8 as UInt8Type, UInt16 as UInt16Type, UInt32 as UInt32Type, UInt64 as UInt64Type, UInt128 as UInt128Type, LargeBinary as LargeBinaryType, BinaryView as BinaryViewType, Utf8View as Utf8ViewType, LargeList' as LargeListType', FixedSizeList' as FixedSizeListType', Struct'}
+use Rattle.sel_arrow.specs.declared.datatype.ArrowDataType.TheVariants.{Struct'}
 
 -- ---- the definitions in terms of the list of fields
 
@@ -82,59 +82,6 @@ one_struct ss ts e = sym (list_of_shapes ss) ∙ ap fields_of e ∙ list_of_shap
 pub by_fields : {P : Type 0} (s t : Shape) (ss ts : List Shape) → s ≡ of_struct (shapes_of ss) → t ≡ of_struct (shapes_of ts) → (P ↔ (ss ≡ ts)) → (P ↔ (s ≡ t))
 by_fields s t ss ts is of same =
     (λ p. is ∙ ap (λ l. of_struct (shapes_of l)) (same.0 p) ∙ sym of, λ e. same.1 (one_struct ss ts (sym is ∙ e ∙ of)))
-
--- ---- the type of a column without children
-
-pub one_type : (s t u : Shape) → s ≡ u → t ≡ u → (IsTrue true ↔ (s ≡ t))
-one_type s t u is of = (λ p. is ∙ sym of, λ e. refl)
-
-pub other_type : (s t : Shape) → (s ≡ t → ⊥) → (IsTrue false ↔ (s ≡ t))
-other_type s t differ = (λ h. absurd (true≢false (sym h)), λ e. absurd (differ e))
-
--- The only type without children that has this layout.
-abbrev pub IsNamed : Shape → ArrowDataType → Type 0
-IsNamed of_null dtype = dtype ≡ NullType
-IsNamed of_boolean dtype = dtype ≡ BooleanType
-IsNamed of_int8 dtype = dtype ≡ Int8Type
-IsNamed of_int16 dtype = dtype ≡ Int16Type
-IsNamed of_int32 dtype = dtype ≡ Int32Type
-IsNamed of_int64 dtype = dtype ≡ Int64Type
-IsNamed of_int128 dtype = dtype ≡ Int128Type
-IsNamed of_uint8 dtype = dtype ≡ UInt8Type
-IsNamed of_uint16 dtype = dtype ≡ UInt16Type
-IsNamed of_uint32 dtype = dtype ≡ UInt32Type
-IsNamed of_uint64 dtype = dtype ≡ UInt64Type
-IsNamed of_uint128 dtype = dtype ≡ UInt128Type
-IsNamed of_large_binary dtype = dtype ≡ LargeBinaryType
-IsNamed of_binary_view dtype = dtype ≡ BinaryViewType
-IsNamed of_utf8_view dtype = dtype ≡ Utf8ViewType
-IsNamed shape dtype = Unit
-
-named : (dtype : ArrowDataType) → IsNamed (shape_of dtype) dtype
-named NullType = refl
-named BooleanType = refl
-named Int8Type = refl
-named Int16Type = refl
-named Int32Type = refl
-named Int64Type = refl
-named Int128Type = refl
-named UInt8Type = refl
-named UInt16Type = refl
-named UInt32Type = refl
-named UInt64Type = refl
-named UInt128Type = refl
-named LargeBinaryType = refl
-named BinaryViewType = refl
-named Utf8ViewType = refl
-named (LargeListType' p child) = tt
-named (FixedSizeListType' p child size) = tt
-named (Struct' n fields) = tt
-
-pub dtype_named : {shape : Shape} (dtype : ArrowDataType) → shape_of dtype ≡ shape → IsNamed shape dtype
-dtype_named dtype is = subst (λ shape. IsNamed shape dtype) is (named dtype)
-
-pub leaf_same : {P : Type 0} (s t u : Shape) → s ≡ t → (P ↔ (u ≡ t)) → (P ↔ (s ≡ u))
-leaf_same s t u is told = (λ p. is ∙ sym (told.0 p), λ e. told.1 (sym e ∙ is))
 
 -- ---- two lists whose elements have the same images
 

@@ -1,17 +1,10 @@
 -- Rows of views.
-use Rattle.std.proofs.Common.{◌≡◌, ◌≢◌, ℕ, ◌<◌, Bool, true, false, ◌&&◌, List, [], ◌∷◌, length, take, drop, Option, Some, None, is_none, refl, get_or}
-use Rattle.std.specs.Prelude.{IsTrue, not}
-use Rattle.std.specs.Option.{option_map}
-use Rattle.sel_bits.specs.Bits.{Bits}
+use Rattle.std.proofs.Common.{◌≡◌, ◌≢◌, ℕ, ◌<◌, Bool, true, false, ◌&&◌, List, [], ◌∷◌, length, take, drop, Option, Some, None, is_none, refl, get_or, IsTrue, not}
+use Rattle.sel_arrow.proofs.Common.{option_map, Bits, or_else, view_fault, views_fault, Covers, valid_at, part_of, IsValidityOf, Shape, of_null, Null, Bytes}
 use Rattle.sel_bits.specs.Faults.{first_broken}
 use Rattle.sel_bits.specs.declared.faults.Malformed.{Malformed}
 use Rattle.sel_bits.specs.declared.faults.Malformed.TheVariants.{ViewRange, ViewPrefix}
 use Rattle.sel_arrow.specs.declared.view.View.{View}
-use Rattle.sel_arrow.specs.Makers.{or_else, view_fault, views_fault}
-use Rattle.sel_arrow.specs.Masked.{Covers, valid_at, part_of}
-use Rattle.sel_arrow.specs.Nulls.{IsValidityOf}
-use Rattle.sel_arrow.specs.Shape.{Shape, of_null}
-use Rattle.sel_arrow.specs.Value.{Null, Bytes}
 use Rattle.sel_arrow.specs.Views.{all_placed, has_prefix, is_in_range, is_placed, view_bytes, view_rows, view_value}
 use Rattle.sel_arrow.proofs.Lists.{both, all_at, all_part}
 use Rattle.sel_arrow.proofs.Rows.{length-mapped, null_mapped, valid_mapped, tells-mapped, part-mapped, length-part, part_covers, part_within}

@@ -1,6 +1,8 @@
 pub mod Columns
 pub mod DataType
 pub mod Depth
+pub mod Empty
+pub mod Made
 pub mod Makers
 pub mod Masked
 pub mod Nested

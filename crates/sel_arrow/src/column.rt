@@ -5,6 +5,7 @@ ghost use Rattle.std.specs.Option.{option_copied};
 ghost use Rattle.sel_bits.specs.Faults.{IsOutOfMemory};
 ghost use Rattle.sel_bits.specs.Limits.{max_rows};
 ghost use Rattle.sel_arrow.specs.DataType.{shape_of};
+ghost use Rattle.sel_arrow.specs.Made.{MakesRows};
 ghost use Rattle.sel_arrow.specs.Nulls.{IsValidityOf};
 ghost use Rattle.sel_arrow.specs.Rows.{rows, type_of, well_formed, IsField, IsWellFormed, buffers_held};
 
@@ -62,28 +63,49 @@ pub enum Column {
     },
 }
 
+/// Matches a column: `$each` for integers of every width, whose array is `$numbers`, and an arm for
+/// each other column.
+#[macro_export]
+macro_rules! match_numbers {
+    ($column:expr, $numbers:ident => $each:expr, $($others:tt)+) => {
+        match $column {
+            Column::Int8($numbers) => $each,
+            Column::Int16($numbers) => $each,
+            Column::Int32($numbers) => $each,
+            Column::Int64($numbers) => $each,
+            Column::Int128($numbers) => $each,
+            Column::UInt8($numbers) => $each,
+            Column::UInt16($numbers) => $each,
+            Column::UInt32($numbers) => $each,
+            Column::UInt64($numbers) => $each,
+            Column::UInt128($numbers) => $each,
+            $($others)+
+        }
+    };
+}
+
+/// Matches a column: `$each` for columns without children, whose array is `$array`, and an arm for
+/// each other column.
+macro_rules! match_column {
+    ($column:expr, $array:ident => $each:expr, $($nested:tt)+) => {
+        match_numbers! { $column, $array => $each,
+            Column::Null($array) => $each,
+            Column::Boolean($array) => $each,
+            Column::LargeBinary($array) => $each,
+            Column::BinaryView($array) => $each,
+            Column::Utf8View($array) => $each,
+            $($nested)+
+        }
+    };
+}
+
 impl Column {
     /// Returns the number of rows, at most 4,294,967,295 if the column is well-formed.
     pub fn len(&self) -> usize
         ensures len { result ≡ length (rows self.now) }
         ensures few { IsWellFormed self.now → result ≤ max_rows }
     {
-        match self {
-            Column::Null(column) => column.len(),
-            Column::Boolean(column) => column.len(),
-            Column::Int8(column) => column.len(),
-            Column::Int16(column) => column.len(),
-            Column::Int32(column) => column.len(),
-            Column::Int64(column) => column.len(),
-            Column::Int128(column) => column.len(),
-            Column::UInt8(column) => column.len(),
-            Column::UInt16(column) => column.len(),
-            Column::UInt32(column) => column.len(),
-            Column::UInt64(column) => column.len(),
-            Column::UInt128(column) => column.len(),
-            Column::LargeBinary(column) => column.len(),
-            Column::BinaryView(column) => column.len(),
-            Column::Utf8View(column) => column.len(),
+        match_column! { self, column => column.len(),
             Column::LargeList { offsets, .. } => offsets.len_proxy(),
             Column::FixedSizeList { len, .. } => *len,
             Column::Struct { len, .. } => *len,
@@ -99,22 +121,7 @@ impl Column {
         requires { IsWellFormed self.now }
         ensures { IsValidityOf (type_of self.now) (option_copied result) (rows self.now) }
     {
-        match self {
-            Column::Null(column) => column.validity(),
-            Column::Boolean(column) => column.validity(),
-            Column::Int8(column) => column.validity(),
-            Column::Int16(column) => column.validity(),
-            Column::Int32(column) => column.validity(),
-            Column::Int64(column) => column.validity(),
-            Column::Int128(column) => column.validity(),
-            Column::UInt8(column) => column.validity(),
-            Column::UInt16(column) => column.validity(),
-            Column::UInt32(column) => column.validity(),
-            Column::UInt64(column) => column.validity(),
-            Column::UInt128(column) => column.validity(),
-            Column::LargeBinary(column) => column.validity(),
-            Column::BinaryView(column) => column.validity(),
-            Column::Utf8View(column) => column.validity(),
+        match_column! { self, column => column.validity(),
             Column::LargeList { validity, .. } => validity.as_ref(),
             Column::FixedSizeList { validity, .. } => validity.as_ref(),
             Column::Struct { validity, .. } => validity.as_ref(),
@@ -159,22 +166,7 @@ impl Column {
     pub fn has_dtype(&self, dtype: &ArrowDataType) -> bool
         ensures { IsTrue result ↔ (type_of self.now ≡ shape_of dtype.now) }
     {
-        match self {
-            Column::Null(_) => matches!(dtype, ArrowDataType::Null),
-            Column::Boolean(_) => matches!(dtype, ArrowDataType::Boolean),
-            Column::Int8(_) => matches!(dtype, ArrowDataType::Int8),
-            Column::Int16(_) => matches!(dtype, ArrowDataType::Int16),
-            Column::Int32(_) => matches!(dtype, ArrowDataType::Int32),
-            Column::Int64(_) => matches!(dtype, ArrowDataType::Int64),
-            Column::Int128(_) => matches!(dtype, ArrowDataType::Int128),
-            Column::UInt8(_) => matches!(dtype, ArrowDataType::UInt8),
-            Column::UInt16(_) => matches!(dtype, ArrowDataType::UInt16),
-            Column::UInt32(_) => matches!(dtype, ArrowDataType::UInt32),
-            Column::UInt64(_) => matches!(dtype, ArrowDataType::UInt64),
-            Column::UInt128(_) => matches!(dtype, ArrowDataType::UInt128),
-            Column::LargeBinary(_) => matches!(dtype, ArrowDataType::LargeBinary),
-            Column::BinaryView(_) => matches!(dtype, ArrowDataType::BinaryView),
-            Column::Utf8View(_) => matches!(dtype, ArrowDataType::Utf8View),
+        match_column! { self, column => column.has_dtype(dtype),
             Column::LargeList { values, .. } => match dtype {
                 ArrowDataType::LargeList(child) => values.has_dtype(child),
                 _ => false,
@@ -198,21 +190,21 @@ impl Column {
         ensures { IsTrue result ↔ (type_of self.now ≡ type_of other.now) }
     {
         match self {
-            Column::Null(_) => other.has_dtype(&ArrowDataType::Null),
-            Column::Boolean(_) => other.has_dtype(&ArrowDataType::Boolean),
-            Column::Int8(_) => other.has_dtype(&ArrowDataType::Int8),
-            Column::Int16(_) => other.has_dtype(&ArrowDataType::Int16),
-            Column::Int32(_) => other.has_dtype(&ArrowDataType::Int32),
-            Column::Int64(_) => other.has_dtype(&ArrowDataType::Int64),
-            Column::Int128(_) => other.has_dtype(&ArrowDataType::Int128),
-            Column::UInt8(_) => other.has_dtype(&ArrowDataType::UInt8),
-            Column::UInt16(_) => other.has_dtype(&ArrowDataType::UInt16),
-            Column::UInt32(_) => other.has_dtype(&ArrowDataType::UInt32),
-            Column::UInt64(_) => other.has_dtype(&ArrowDataType::UInt64),
-            Column::UInt128(_) => other.has_dtype(&ArrowDataType::UInt128),
-            Column::LargeBinary(_) => other.has_dtype(&ArrowDataType::LargeBinary),
-            Column::BinaryView(_) => other.has_dtype(&ArrowDataType::BinaryView),
-            Column::Utf8View(_) => other.has_dtype(&ArrowDataType::Utf8View),
+            Column::Null(_) => is_type_of(&ArrowDataType::Null, other),
+            Column::Boolean(_) => is_type_of(&ArrowDataType::Boolean, other),
+            Column::Int8(_) => is_type_of(&ArrowDataType::Int8, other),
+            Column::Int16(_) => is_type_of(&ArrowDataType::Int16, other),
+            Column::Int32(_) => is_type_of(&ArrowDataType::Int32, other),
+            Column::Int64(_) => is_type_of(&ArrowDataType::Int64, other),
+            Column::Int128(_) => is_type_of(&ArrowDataType::Int128, other),
+            Column::UInt8(_) => is_type_of(&ArrowDataType::UInt8, other),
+            Column::UInt16(_) => is_type_of(&ArrowDataType::UInt16, other),
+            Column::UInt32(_) => is_type_of(&ArrowDataType::UInt32, other),
+            Column::UInt64(_) => is_type_of(&ArrowDataType::UInt64, other),
+            Column::UInt128(_) => is_type_of(&ArrowDataType::UInt128, other),
+            Column::LargeBinary(_) => is_type_of(&ArrowDataType::LargeBinary, other),
+            Column::BinaryView(_) => is_type_of(&ArrowDataType::BinaryView, other),
+            Column::Utf8View(_) => is_type_of(&ArrowDataType::Utf8View, other),
             Column::LargeList { values, .. } => match other {
                 Column::LargeList { values: others, .. } => values.same_dtype(others),
                 _ => false,
@@ -241,22 +233,7 @@ impl Column {
         ensures dtype { IfOk result (λ dtype. shape_of dtype ≡ type_of self.now) }
         ensures refusal { IfErr result IsOutOfMemory }
     {
-        match self {
-            Column::Null(_) => Ok(ArrowDataType::Null),
-            Column::Boolean(_) => Ok(ArrowDataType::Boolean),
-            Column::Int8(_) => Ok(ArrowDataType::Int8),
-            Column::Int16(_) => Ok(ArrowDataType::Int16),
-            Column::Int32(_) => Ok(ArrowDataType::Int32),
-            Column::Int64(_) => Ok(ArrowDataType::Int64),
-            Column::Int128(_) => Ok(ArrowDataType::Int128),
-            Column::UInt8(_) => Ok(ArrowDataType::UInt8),
-            Column::UInt16(_) => Ok(ArrowDataType::UInt16),
-            Column::UInt32(_) => Ok(ArrowDataType::UInt32),
-            Column::UInt64(_) => Ok(ArrowDataType::UInt64),
-            Column::UInt128(_) => Ok(ArrowDataType::UInt128),
-            Column::LargeBinary(_) => Ok(ArrowDataType::LargeBinary),
-            Column::BinaryView(_) => Ok(ArrowDataType::BinaryView),
-            Column::Utf8View(_) => Ok(ArrowDataType::Utf8View),
+        match_column! { self, column => column.dtype(alloc),
             Column::LargeList { values, .. } => {
                 let child = Box::new(alloc, values.dtype(alloc)?)?;
                 Ok(ArrowDataType::LargeList(child))
@@ -284,28 +261,10 @@ impl Column {
     pub fn sliced(&self, alloc: Global, off: usize, len: usize) -> PolarsResult<Column>
         requires formed { IsWellFormed self.now }
         requires inside { off + len ≤ length (rows self.now) }
-        ensures rows { IfOk result (λ part. rows part ≡ take len (drop off (rows self.now))) }
-        ensures dtype { IfOk result (λ part. type_of part ≡ type_of self.now) }
-        ensures buffers { IfOk result (λ part. buffers_held part ≡ buffers_held self.now) }
-        ensures formed { IfOk result (λ part. IsWellFormed part) }
-        ensures refusal { IfErr result IsOutOfMemory }
+        ensures { MakesRows result (take len (drop off (rows self.now)))
+            (type_of self.now) (buffers_held self.now) }
     {
-        match self {
-            Column::Null(column) => part_of(column, alloc, off, len),
-            Column::Boolean(column) => part_of(column, alloc, off, len),
-            Column::Int8(column) => part_of(column, alloc, off, len),
-            Column::Int16(column) => part_of(column, alloc, off, len),
-            Column::Int32(column) => part_of(column, alloc, off, len),
-            Column::Int64(column) => part_of(column, alloc, off, len),
-            Column::Int128(column) => part_of(column, alloc, off, len),
-            Column::UInt8(column) => part_of(column, alloc, off, len),
-            Column::UInt16(column) => part_of(column, alloc, off, len),
-            Column::UInt32(column) => part_of(column, alloc, off, len),
-            Column::UInt64(column) => part_of(column, alloc, off, len),
-            Column::UInt128(column) => part_of(column, alloc, off, len),
-            Column::LargeBinary(column) => part_of(column, alloc, off, len),
-            Column::BinaryView(column) => part_of(column, alloc, off, len),
-            Column::Utf8View(column) => part_of(column, alloc, off, len),
+        match_column! { self, column => part_of(column, alloc, off, len),
             Column::LargeList {
                 offsets,
                 values,
@@ -346,28 +305,9 @@ impl Column {
     #[cycle(copying)]
     pub fn try_clone(&self, alloc: Global) -> PolarsResult<Column>
         requires { IsWellFormed self.now }
-        ensures rows { IfOk result (λ copy. rows copy ≡ rows self.now) }
-        ensures dtype { IfOk result (λ copy. type_of copy ≡ type_of self.now) }
-        ensures buffers { IfOk result (λ copy. buffers_held copy ≡ buffers_held self.now) }
-        ensures formed { IfOk result (λ copy. IsWellFormed copy) }
-        ensures refusal { IfErr result IsOutOfMemory }
+        ensures { MakesRows result (rows self.now) (type_of self.now) (buffers_held self.now) }
     {
-        match self {
-            Column::Null(column) => copy_of(column, alloc),
-            Column::Boolean(column) => copy_of(column, alloc),
-            Column::Int8(column) => copy_of(column, alloc),
-            Column::Int16(column) => copy_of(column, alloc),
-            Column::Int32(column) => copy_of(column, alloc),
-            Column::Int64(column) => copy_of(column, alloc),
-            Column::Int128(column) => copy_of(column, alloc),
-            Column::UInt8(column) => copy_of(column, alloc),
-            Column::UInt16(column) => copy_of(column, alloc),
-            Column::UInt32(column) => copy_of(column, alloc),
-            Column::UInt64(column) => copy_of(column, alloc),
-            Column::UInt128(column) => copy_of(column, alloc),
-            Column::LargeBinary(column) => copy_of(column, alloc),
-            Column::BinaryView(column) => copy_of(column, alloc),
-            Column::Utf8View(column) => copy_of(column, alloc),
+        match_column! { self, column => copy_of(column, alloc),
             Column::LargeList {
                 offsets,
                 values,
@@ -388,6 +328,13 @@ impl Column {
             } => Ok(StructArray::copy_of(*len, fields, validity, alloc)?.into_column()),
         }
     }
+}
+
+/// Returns whether `dtype` is the type of the column.
+fn is_type_of(dtype: &ArrowDataType, column: &Column) -> bool
+    ensures { IsTrue result ↔ (shape_of dtype.now ≡ type_of column.now) }
+{
+    column.has_dtype(dtype)
 }
 
 /// Returns whether there are as many columns as types, and each column has the type at its
@@ -447,11 +394,8 @@ fn part_of<A: Array + Drop>(
     len: usize,
 ) -> PolarsResult<Column>
     requires inside { off + len ≤ length (A.rows column.now) }
-    ensures rows { IfOk result (λ part. rows part ≡ take len (drop off (A.rows column.now))) }
-    ensures dtype { IfOk result (λ part. type_of part ≡ A.shape column.now) }
-    ensures buffers { IfOk result (λ part. buffers_held part ≡ A.held column.now) }
-    ensures formed { IfOk result (λ part. IsWellFormed part) }
-    ensures refusal { IfErr result IsOutOfMemory }
+    ensures { MakesRows result (take len (drop off (A.rows column.now)))
+        (A.shape column.now) (A.held column.now) }
 {
     let ArrayRef { column } = column.sliced(alloc, off, len)?.into_ref();
     Ok(column)
@@ -459,11 +403,7 @@ fn part_of<A: Array + Drop>(
 
 /// Returns a copy of a column of one type as a `Column`. Fails only with `OutOfMemory`.
 fn copy_of<A: Array + Drop>(column: &A, alloc: Global) -> PolarsResult<Column>
-    ensures rows { IfOk result (λ copy. rows copy ≡ A.rows column.now) }
-    ensures dtype { IfOk result (λ copy. type_of copy ≡ A.shape column.now) }
-    ensures buffers { IfOk result (λ copy. buffers_held copy ≡ A.held column.now) }
-    ensures formed { IfOk result (λ copy. IsWellFormed copy) }
-    ensures refusal { IfErr result IsOutOfMemory }
+    ensures { MakesRows result (A.rows column.now) (A.shape column.now) (A.held column.now) }
 {
     let ArrayRef { column } = column.try_clone(alloc)?.into_ref();
     Ok(column)

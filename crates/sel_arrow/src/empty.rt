@@ -6,6 +6,7 @@ ghost use Rattle.sel_bits.specs.Faults.{IsOutOfMemory};
 ghost use Rattle.sel_bits.specs.Limits.{max_rows};
 ghost use Rattle.sel_arrow.specs.Columns.{binview_rows};
 ghost use Rattle.sel_arrow.specs.DataType.{shape_of, widths_fit};
+ghost use Rattle.sel_arrow.specs.Empty.{MakesEmpty};
 ghost use Rattle.sel_arrow.specs.Rows.{rows, type_of, IsField, IsWellFormed};
 ghost use Rattle.sel_arrow.specs.Shape.{of_boolean, of_large_binary, of_binary_view, of_utf8_view, of_large_list, of_fixed_size_list, of_struct, shapes_of};
 
@@ -45,10 +46,7 @@ pub fn new_empty_array(alloc: Global, dtype: &ArrowDataType) -> PolarsResult<Arr
 #[cycle(empty_column)]
 fn empty_column(alloc: Global, dtype: &ArrowDataType) -> PolarsResult<Column>
     requires { IsTrue (widths_fit dtype.now) }
-    ensures rows { IfOk result (λ column. rows column ≡ []) }
-    ensures dtype { IfOk result (λ column. type_of column ≡ shape_of dtype.now) }
-    ensures formed { IfOk result (λ column. IsWellFormed column) }
-    ensures refusal { IfErr result IsOutOfMemory }
+    ensures { MakesEmpty result (shape_of dtype.now) }
 {
     match dtype {
         ArrowDataType::Null => Ok(Column::Null(NullArray { length: 0 })),
@@ -98,10 +96,7 @@ fn empty_columns(alloc: Global, dtypes: &[ArrowDataType]) -> PolarsResult<Vec<Co
 fn no_lists(alloc: Global, offsets: OffsetsBuffer<i64>, child: Column) -> PolarsResult<Column>
     requires alone { offsets ≡ 0 ∷ [] }
     requires formed { IsWellFormed child }
-    ensures rows { IfOk result (λ column. rows column ≡ []) }
-    ensures dtype { IfOk result (λ column. type_of column ≡ of_large_list (type_of child)) }
-    ensures formed { IfOk result (λ column. IsWellFormed column) }
-    ensures refusal { IfErr result IsOutOfMemory }
+    ensures { MakesEmpty result (of_large_list (type_of child)) }
 {
     let values = Box::new(alloc, child)?;
     Ok(Column::LargeList {
@@ -117,11 +112,7 @@ fn no_blocks(alloc: Global, size: usize, child: Column) -> PolarsResult<Column>
     requires narrow { size ≤ max_rows }
     requires formed { IsWellFormed child }
     requires empty { rows child ≡ [] }
-    ensures rows { IfOk result (λ column. rows column ≡ []) }
-    ensures dtype { IfOk result (λ column. type_of column ≡
-        of_fixed_size_list (type_of child) size) }
-    ensures formed { IfOk result (λ column. IsWellFormed column) }
-    ensures refusal { IfErr result IsOutOfMemory }
+    ensures { MakesEmpty result (of_fixed_size_list (type_of child) size) }
 {
     let values = Box::new(alloc, child)?;
     Ok(Column::FixedSizeList {
@@ -148,10 +139,7 @@ fn no_struct_rows(fields: Vec<Column>) -> Column
 
 /// Returns a primitive column without rows. Fails only with `OutOfMemory`.
 fn empty_numbers<T: ArrowPrimitive>(alloc: Global) -> PolarsResult<Column>
-    ensures rows { IfOk result (λ column. rows column ≡ []) }
-    ensures dtype { IfOk result (λ column. type_of column ≡ T.shape) }
-    ensures formed { IfOk result (λ column. IsWellFormed column) }
-    ensures refusal { IfErr result IsOutOfMemory }
+    ensures { MakesEmpty result T.shape }
 {
     let values = Buffer::from_vec(Vec::new(alloc))?;
     Ok(T::into_column(values, None))
@@ -159,10 +147,7 @@ fn empty_numbers<T: ArrowPrimitive>(alloc: Global) -> PolarsResult<Column>
 
 /// Returns a boolean column without rows. Fails only with `OutOfMemory`.
 fn empty_booleans(alloc: Global) -> PolarsResult<Column>
-    ensures rows { IfOk result (λ column. rows column ≡ []) }
-    ensures dtype { IfOk result (λ column. type_of column ≡ of_boolean) }
-    ensures formed { IfOk result (λ column. IsWellFormed column) }
-    ensures refusal { IfErr result IsOutOfMemory }
+    ensures { MakesEmpty result of_boolean }
 {
     let values = Bitmap::new(alloc)?;
     Ok(Column::Boolean(BooleanArray {
@@ -184,10 +169,7 @@ fn first_offset(alloc: Global) -> PolarsResult<OffsetsBuffer<i64>>
 /// Returns a binary column without rows. Fails only with `OutOfMemory`.
 #[tactic(auto, using(crate::proofs::NoRows::no_bytes))]
 fn empty_bytes(alloc: Global) -> PolarsResult<Column>
-    ensures rows { IfOk result (λ column. rows column ≡ []) }
-    ensures dtype { IfOk result (λ column. type_of column ≡ of_large_binary) }
-    ensures formed { IfOk result (λ column. IsWellFormed column) }
-    ensures refusal { IfErr result IsOutOfMemory }
+    ensures { MakesEmpty result of_large_binary }
 {
     let offsets = first_offset(alloc)?;
     let values = Buffer::from_vec(Vec::new(alloc))?;
@@ -214,20 +196,14 @@ fn empty_views(alloc: Global) -> PolarsResult<BinaryViewArray>
 
 /// Returns a binary view column without rows. Fails only with `OutOfMemory`.
 fn empty_binary_views(alloc: Global) -> PolarsResult<Column>
-    ensures rows { IfOk result (λ column. rows column ≡ []) }
-    ensures dtype { IfOk result (λ column. type_of column ≡ of_binary_view) }
-    ensures formed { IfOk result (λ column. IsWellFormed column) }
-    ensures refusal { IfErr result IsOutOfMemory }
+    ensures { MakesEmpty result of_binary_view }
 {
     Ok(Column::BinaryView(empty_views(alloc)?))
 }
 
 /// Returns a string view column without rows. Fails only with `OutOfMemory`.
 fn empty_texts(alloc: Global) -> PolarsResult<Column>
-    ensures rows { IfOk result (λ column. rows column ≡ []) }
-    ensures dtype { IfOk result (λ column. type_of column ≡ of_utf8_view) }
-    ensures formed { IfOk result (λ column. IsWellFormed column) }
-    ensures refusal { IfErr result IsOutOfMemory }
+    ensures { MakesEmpty result of_utf8_view }
 {
     let bytes = empty_views(alloc)?;
     Ok(Column::Utf8View(Utf8ViewArray { bytes }))

@@ -10,6 +10,7 @@ pub mod column;
 pub mod datatype;
 pub mod empty;
 pub mod fixed_size_list;
+pub mod from_column;
 pub mod list;
 pub mod native_columns;
 pub mod null;

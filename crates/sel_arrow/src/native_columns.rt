@@ -10,6 +10,29 @@ use crate::primitive::{ArrowPrimitive, PrimitiveArray};
 use sel_bits::bitmap::Bitmap;
 use sel_bits::buffer::Buffer;
 
+/// Returns references to the values and the validity of a variant, or `None` if it is another.
+macro_rules! values_of {
+    ($variant:ident, $column:ident) => {
+        match $column {
+            Column::$variant(array) => Some((array.values.as_slice(), array.validity.as_ref())),
+            _ => None,
+        }
+    };
+}
+
+/// Returns the values and the validity of a variant, or the column as it was if it is another.
+macro_rules! parts_of {
+    ($variant:ident, $column:ident) => {
+        match $column {
+            Column::$variant(array) => {
+                let PrimitiveArray { values, validity } = array;
+                Ok((values, validity))
+            }
+            other => Err(other),
+        }
+    };
+}
+
 impl ArrowPrimitive for i8 {
     ghost use Rattle.sel_arrow.specs.Rows.{rows, buffers_held, type_of, IsWellFormed};
     ghost use Rattle.sel_arrow.specs.Shape.{of_int8};
@@ -38,20 +61,11 @@ impl ArrowPrimitive for i8 {
     }
 
     fn of_column(column: &Column) -> Option<(&[i8], Option<&Bitmap>)> {
-        match column {
-            Column::Int8(array) => Some((array.values.as_slice(), array.validity.as_ref())),
-            _ => None,
-        }
+        values_of!(Int8, column)
     }
 
     fn from_column(column: Column) -> Result<(Buffer<i8>, Option<Bitmap>), Column> {
-        match column {
-            Column::Int8(array) => {
-                let PrimitiveArray { values, validity } = array;
-                Ok((values, validity))
-            }
-            other => Err(other),
-        }
+        parts_of!(Int8, column)
     }
 }
 
@@ -83,20 +97,11 @@ impl ArrowPrimitive for i16 {
     }
 
     fn of_column(column: &Column) -> Option<(&[i16], Option<&Bitmap>)> {
-        match column {
-            Column::Int16(array) => Some((array.values.as_slice(), array.validity.as_ref())),
-            _ => None,
-        }
+        values_of!(Int16, column)
     }
 
     fn from_column(column: Column) -> Result<(Buffer<i16>, Option<Bitmap>), Column> {
-        match column {
-            Column::Int16(array) => {
-                let PrimitiveArray { values, validity } = array;
-                Ok((values, validity))
-            }
-            other => Err(other),
-        }
+        parts_of!(Int16, column)
     }
 }
 
@@ -128,20 +133,11 @@ impl ArrowPrimitive for i32 {
     }
 
     fn of_column(column: &Column) -> Option<(&[i32], Option<&Bitmap>)> {
-        match column {
-            Column::Int32(array) => Some((array.values.as_slice(), array.validity.as_ref())),
-            _ => None,
-        }
+        values_of!(Int32, column)
     }
 
     fn from_column(column: Column) -> Result<(Buffer<i32>, Option<Bitmap>), Column> {
-        match column {
-            Column::Int32(array) => {
-                let PrimitiveArray { values, validity } = array;
-                Ok((values, validity))
-            }
-            other => Err(other),
-        }
+        parts_of!(Int32, column)
     }
 }
 
@@ -173,20 +169,11 @@ impl ArrowPrimitive for i64 {
     }
 
     fn of_column(column: &Column) -> Option<(&[i64], Option<&Bitmap>)> {
-        match column {
-            Column::Int64(array) => Some((array.values.as_slice(), array.validity.as_ref())),
-            _ => None,
-        }
+        values_of!(Int64, column)
     }
 
     fn from_column(column: Column) -> Result<(Buffer<i64>, Option<Bitmap>), Column> {
-        match column {
-            Column::Int64(array) => {
-                let PrimitiveArray { values, validity } = array;
-                Ok((values, validity))
-            }
-            other => Err(other),
-        }
+        parts_of!(Int64, column)
     }
 }
 
@@ -218,20 +205,11 @@ impl ArrowPrimitive for i128 {
     }
 
     fn of_column(column: &Column) -> Option<(&[i128], Option<&Bitmap>)> {
-        match column {
-            Column::Int128(array) => Some((array.values.as_slice(), array.validity.as_ref())),
-            _ => None,
-        }
+        values_of!(Int128, column)
     }
 
     fn from_column(column: Column) -> Result<(Buffer<i128>, Option<Bitmap>), Column> {
-        match column {
-            Column::Int128(array) => {
-                let PrimitiveArray { values, validity } = array;
-                Ok((values, validity))
-            }
-            other => Err(other),
-        }
+        parts_of!(Int128, column)
     }
 }
 
@@ -263,20 +241,11 @@ impl ArrowPrimitive for u8 {
     }
 
     fn of_column(column: &Column) -> Option<(&[u8], Option<&Bitmap>)> {
-        match column {
-            Column::UInt8(array) => Some((array.values.as_slice(), array.validity.as_ref())),
-            _ => None,
-        }
+        values_of!(UInt8, column)
     }
 
     fn from_column(column: Column) -> Result<(Buffer<u8>, Option<Bitmap>), Column> {
-        match column {
-            Column::UInt8(array) => {
-                let PrimitiveArray { values, validity } = array;
-                Ok((values, validity))
-            }
-            other => Err(other),
-        }
+        parts_of!(UInt8, column)
     }
 }
 
@@ -308,20 +277,11 @@ impl ArrowPrimitive for u16 {
     }
 
     fn of_column(column: &Column) -> Option<(&[u16], Option<&Bitmap>)> {
-        match column {
-            Column::UInt16(array) => Some((array.values.as_slice(), array.validity.as_ref())),
-            _ => None,
-        }
+        values_of!(UInt16, column)
     }
 
     fn from_column(column: Column) -> Result<(Buffer<u16>, Option<Bitmap>), Column> {
-        match column {
-            Column::UInt16(array) => {
-                let PrimitiveArray { values, validity } = array;
-                Ok((values, validity))
-            }
-            other => Err(other),
-        }
+        parts_of!(UInt16, column)
     }
 }
 
@@ -353,20 +313,11 @@ impl ArrowPrimitive for u32 {
     }
 
     fn of_column(column: &Column) -> Option<(&[u32], Option<&Bitmap>)> {
-        match column {
-            Column::UInt32(array) => Some((array.values.as_slice(), array.validity.as_ref())),
-            _ => None,
-        }
+        values_of!(UInt32, column)
     }
 
     fn from_column(column: Column) -> Result<(Buffer<u32>, Option<Bitmap>), Column> {
-        match column {
-            Column::UInt32(array) => {
-                let PrimitiveArray { values, validity } = array;
-                Ok((values, validity))
-            }
-            other => Err(other),
-        }
+        parts_of!(UInt32, column)
     }
 }
 
@@ -398,20 +349,11 @@ impl ArrowPrimitive for u64 {
     }
 
     fn of_column(column: &Column) -> Option<(&[u64], Option<&Bitmap>)> {
-        match column {
-            Column::UInt64(array) => Some((array.values.as_slice(), array.validity.as_ref())),
-            _ => None,
-        }
+        values_of!(UInt64, column)
     }
 
     fn from_column(column: Column) -> Result<(Buffer<u64>, Option<Bitmap>), Column> {
-        match column {
-            Column::UInt64(array) => {
-                let PrimitiveArray { values, validity } = array;
-                Ok((values, validity))
-            }
-            other => Err(other),
-        }
+        parts_of!(UInt64, column)
     }
 }
 
@@ -443,19 +385,10 @@ impl ArrowPrimitive for u128 {
     }
 
     fn of_column(column: &Column) -> Option<(&[u128], Option<&Bitmap>)> {
-        match column {
-            Column::UInt128(array) => Some((array.values.as_slice(), array.validity.as_ref())),
-            _ => None,
-        }
+        values_of!(UInt128, column)
     }
 
     fn from_column(column: Column) -> Result<(Buffer<u128>, Option<Bitmap>), Column> {
-        match column {
-            Column::UInt128(array) => {
-                let PrimitiveArray { values, validity } = array;
-                Ok((values, validity))
-            }
-            other => Err(other),
-        }
+        parts_of!(UInt128, column)
     }
 }

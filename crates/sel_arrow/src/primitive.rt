@@ -174,6 +174,7 @@ pub trait ArrowPrimitive: NativeType {
         ensures few { IfOk result (λ parts. length parts.0 ≤ max_rows) }
         ensures covers { IfOk result (λ parts. Covers parts.1 (length parts.0)) }
         ensures dtype { IfOk result (λ _. type_of column ≡ shape) }
+        ensures buffers { IfOk result (λ _. buffers_held column ≡ []) }
         ensures back { IfErr result (λ back. back ≡ column) }
         ensures other { IfErr result (λ _. type_of column ≢ shape) };
 

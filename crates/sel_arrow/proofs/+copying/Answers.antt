@@ -43,96 +43,6 @@ pub structure::StructArray::copy_of-copies_of-requires : goal.structure::StructA
 structure::StructArray::copy_of-copies_of-requires t c =
     (search rules, subst (All IsWellFormed) (sym c.deref.ensures.value) (fields_formed_each c.args.len c.args.fields.now c.args.validity.now c.requires))
 
-pub column::Column::try_clone-returns-in-Null : goal.column::Column::try_clone-returns-in-Null
-column::Column::try_clone-returns-in-Null t c =
-    let copy = c.copy_of.ensures in
-    let is = c.in-Null.is in
-    record { rows = rw is copy.rows; dtype = rw is copy.dtype; buffers = rw is copy.buffers; formed = copy.formed; refusal = copy.refusal }
-
-pub column::Column::try_clone-returns-in-Boolean : goal.column::Column::try_clone-returns-in-Boolean
-column::Column::try_clone-returns-in-Boolean t c =
-    let copy = c.copy_of-in-Boolean.ensures in
-    let is = c.in-Boolean.is in
-    record { rows = rw is copy.rows; dtype = rw is copy.dtype; buffers = rw is copy.buffers; formed = copy.formed; refusal = copy.refusal }
-
-pub column::Column::try_clone-returns-in-Int8 : goal.column::Column::try_clone-returns-in-Int8
-column::Column::try_clone-returns-in-Int8 t c =
-    let copy = c.copy_of-in-Int8.ensures in
-    let is = c.in-Int8.is in
-    record { rows = rw is copy.rows; dtype = rw is copy.dtype; buffers = rw is copy.buffers; formed = copy.formed; refusal = copy.refusal }
-
-pub column::Column::try_clone-returns-in-Int16 : goal.column::Column::try_clone-returns-in-Int16
-column::Column::try_clone-returns-in-Int16 t c =
-    let copy = c.copy_of-in-Int16.ensures in
-    let is = c.in-Int16.is in
-    record { rows = rw is copy.rows; dtype = rw is copy.dtype; buffers = rw is copy.buffers; formed = copy.formed; refusal = copy.refusal }
-
-pub column::Column::try_clone-returns-in-Int32 : goal.column::Column::try_clone-returns-in-Int32
-column::Column::try_clone-returns-in-Int32 t c =
-    let copy = c.copy_of-in-Int32.ensures in
-    let is = c.in-Int32.is in
-    record { rows = rw is copy.rows; dtype = rw is copy.dtype; buffers = rw is copy.buffers; formed = copy.formed; refusal = copy.refusal }
-
-pub column::Column::try_clone-returns-in-Int64 : goal.column::Column::try_clone-returns-in-Int64
-column::Column::try_clone-returns-in-Int64 t c =
-    let copy = c.copy_of-in-Int64.ensures in
-    let is = c.in-Int64.is in
-    record { rows = rw is copy.rows; dtype = rw is copy.dtype; buffers = rw is copy.buffers; formed = copy.formed; refusal = copy.refusal }
-
-pub column::Column::try_clone-returns-in-Int128 : goal.column::Column::try_clone-returns-in-Int128
-column::Column::try_clone-returns-in-Int128 t c =
-    let copy = c.copy_of-in-Int128.ensures in
-    let is = c.in-Int128.is in
-    record { rows = rw is copy.rows; dtype = rw is copy.dtype; buffers = rw is copy.buffers; formed = copy.formed; refusal = copy.refusal }
-
-pub column::Column::try_clone-returns-in-UInt8 : goal.column::Column::try_clone-returns-in-UInt8
-column::Column::try_clone-returns-in-UInt8 t c =
-    let copy = c.copy_of-in-UInt8.ensures in
-    let is = c.in-UInt8.is in
-    record { rows = rw is copy.rows; dtype = rw is copy.dtype; buffers = rw is copy.buffers; formed = copy.formed; refusal = copy.refusal }
-
-pub column::Column::try_clone-returns-in-UInt16 : goal.column::Column::try_clone-returns-in-UInt16
-column::Column::try_clone-returns-in-UInt16 t c =
-    let copy = c.copy_of-in-UInt16.ensures in
-    let is = c.in-UInt16.is in
-    record { rows = rw is copy.rows; dtype = rw is copy.dtype; buffers = rw is copy.buffers; formed = copy.formed; refusal = copy.refusal }
-
-pub column::Column::try_clone-returns-in-UInt32 : goal.column::Column::try_clone-returns-in-UInt32
-column::Column::try_clone-returns-in-UInt32 t c =
-    let copy = c.copy_of-in-UInt32.ensures in
-    let is = c.in-UInt32.is in
-    record { rows = rw is copy.rows; dtype = rw is copy.dtype; buffers = rw is copy.buffers; formed = copy.formed; refusal = copy.refusal }
-
-pub column::Column::try_clone-returns-in-UInt64 : goal.column::Column::try_clone-returns-in-UInt64
-column::Column::try_clone-returns-in-UInt64 t c =
-    let copy = c.copy_of-in-UInt64.ensures in
-    let is = c.in-UInt64.is in
-    record { rows = rw is copy.rows; dtype = rw is copy.dtype; buffers = rw is copy.buffers; formed = copy.formed; refusal = copy.refusal }
-
-pub column::Column::try_clone-returns-in-UInt128 : goal.column::Column::try_clone-returns-in-UInt128
-column::Column::try_clone-returns-in-UInt128 t c =
-    let copy = c.copy_of-in-UInt128.ensures in
-    let is = c.in-UInt128.is in
-    record { rows = rw is copy.rows; dtype = rw is copy.dtype; buffers = rw is copy.buffers; formed = copy.formed; refusal = copy.refusal }
-
-pub column::Column::try_clone-returns-in-LargeBinary : goal.column::Column::try_clone-returns-in-LargeBinary
-column::Column::try_clone-returns-in-LargeBinary t c =
-    let copy = c.copy_of-in-LargeBinary.ensures in
-    let is = c.in-LargeBinary.is in
-    record { rows = rw is copy.rows; dtype = rw is copy.dtype; buffers = rw is copy.buffers; formed = copy.formed; refusal = copy.refusal }
-
-pub column::Column::try_clone-returns-in-BinaryView : goal.column::Column::try_clone-returns-in-BinaryView
-column::Column::try_clone-returns-in-BinaryView t c =
-    let copy = c.copy_of-in-BinaryView.ensures in
-    let is = c.in-BinaryView.is in
-    record { rows = rw is copy.rows; dtype = rw is copy.dtype; buffers = rw is copy.buffers; formed = copy.formed; refusal = copy.refusal }
-
-pub column::Column::try_clone-returns-in-Utf8View : goal.column::Column::try_clone-returns-in-Utf8View
-column::Column::try_clone-returns-in-Utf8View t c =
-    let copy = c.copy_of-in-Utf8View.ensures in
-    let is = c.in-Utf8View.is in
-    record { rows = rw is copy.rows; dtype = rw is copy.dtype; buffers = rw is copy.buffers; formed = copy.formed; refusal = copy.refusal }
-
 pub list::ListArray+i64::copy_of-returns-clause-rows : goal.list::ListArray+i64::copy_of-returns-clause-rows
 list::ListArray+i64::copy_of-returns-clause-rows t c =
     lists_copied_rows c.args.offsets.now c.in_ok-offsets.offsets c.args.values.now c.in_ok-values.values c.args.validity.now c.in_ok-validity.validity c.in_ok-offsets.ensures.value
@@ -171,47 +81,41 @@ structure::copies_of-loop-column-preserved t c =
       formed = subst (All IsWellFormed) (sym pushed) (All-push IsWellFormed c.loop-column.copies.items copy.field-0 c.loop-column.invariant.formed copy.ensures.formed);
     }
 
-pub column::Column::try_clone-returns-in_ok-copy_of-in-LargeList-clause-rows :
-    goal.column::Column::try_clone-returns-in_ok-copy_of-in-LargeList-clause-rows
-column::Column::try_clone-returns-in_ok-copy_of-in-LargeList-clause-rows t c =
-    rw c.in-LargeList.is (ap rows c.into_column.ensures.column ∙ c.in_ok-copy_of-in-LargeList.ensures.rows)
+pub column::Column::try_clone-returns-in_ok-copy_of-in-LargeList :
+    goal.column::Column::try_clone-returns-in_ok-copy_of-in-LargeList
+column::Column::try_clone-returns-in_ok-copy_of-in-LargeList t c =
+    let made = c.into_column.ensures in
+    let copy = c.in_ok-copy_of-in-LargeList.ensures in
+    record {
+      rows = rw c.in-LargeList.is (ap rows made.column ∙ copy.rows);
+      dtype = rw c.in-LargeList.is (ap type_of made.column ∙ copy.dtype);
+      buffers = rw c.in-LargeList.is (ap buffers_held made.column ∙ copy.buffers);
+      formed = search rules;
+      refusal = tt;
+    }
 
-pub column::Column::try_clone-returns-in_ok-copy_of-in-LargeList-clause-dtype :
-    goal.column::Column::try_clone-returns-in_ok-copy_of-in-LargeList-clause-dtype
-column::Column::try_clone-returns-in_ok-copy_of-in-LargeList-clause-dtype t c =
-    rw c.in-LargeList.is (ap type_of c.into_column.ensures.column ∙ c.in_ok-copy_of-in-LargeList.ensures.dtype)
+pub column::Column::try_clone-returns-in_ok-copy_of-in-FixedSizeList :
+    goal.column::Column::try_clone-returns-in_ok-copy_of-in-FixedSizeList
+column::Column::try_clone-returns-in_ok-copy_of-in-FixedSizeList t c =
+    let made = c.into_column-in-FixedSizeList.ensures in
+    let copy = c.in_ok-copy_of-in-FixedSizeList.ensures in
+    record {
+      rows = rw c.in-FixedSizeList.is (ap rows made.column ∙ copy.rows);
+      dtype = rw c.in-FixedSizeList.is (ap type_of made.column ∙ copy.dtype);
+      buffers = rw c.in-FixedSizeList.is (ap buffers_held made.column ∙ copy.buffers);
+      formed = search rules;
+      refusal = tt;
+    }
 
-pub column::Column::try_clone-returns-in_ok-copy_of-in-LargeList-clause-buffers :
-    goal.column::Column::try_clone-returns-in_ok-copy_of-in-LargeList-clause-buffers
-column::Column::try_clone-returns-in_ok-copy_of-in-LargeList-clause-buffers t c =
-    rw c.in-LargeList.is (ap buffers_held c.into_column.ensures.column ∙ c.in_ok-copy_of-in-LargeList.ensures.buffers)
-
-pub column::Column::try_clone-returns-in_ok-copy_of-in-FixedSizeList-clause-rows :
-    goal.column::Column::try_clone-returns-in_ok-copy_of-in-FixedSizeList-clause-rows
-column::Column::try_clone-returns-in_ok-copy_of-in-FixedSizeList-clause-rows t c =
-    rw c.in-FixedSizeList.is (ap rows c.into_column-in-FixedSizeList.ensures.column ∙ c.in_ok-copy_of-in-FixedSizeList.ensures.rows)
-
-pub column::Column::try_clone-returns-in_ok-copy_of-in-FixedSizeList-clause-dtype :
-    goal.column::Column::try_clone-returns-in_ok-copy_of-in-FixedSizeList-clause-dtype
-column::Column::try_clone-returns-in_ok-copy_of-in-FixedSizeList-clause-dtype t c =
-    rw c.in-FixedSizeList.is (ap type_of c.into_column-in-FixedSizeList.ensures.column ∙ c.in_ok-copy_of-in-FixedSizeList.ensures.dtype)
-
-pub column::Column::try_clone-returns-in_ok-copy_of-in-FixedSizeList-clause-buffers :
-    goal.column::Column::try_clone-returns-in_ok-copy_of-in-FixedSizeList-clause-buffers
-column::Column::try_clone-returns-in_ok-copy_of-in-FixedSizeList-clause-buffers t c =
-    rw c.in-FixedSizeList.is (ap buffers_held c.into_column-in-FixedSizeList.ensures.column ∙ c.in_ok-copy_of-in-FixedSizeList.ensures.buffers)
-
-pub column::Column::try_clone-returns-in_ok-copy_of-in-Struct-clause-rows :
-    goal.column::Column::try_clone-returns-in_ok-copy_of-in-Struct-clause-rows
-column::Column::try_clone-returns-in_ok-copy_of-in-Struct-clause-rows t c =
-    rw c.in-Struct.is (ap rows c.into_column-in-Struct.ensures.column ∙ c.in_ok-copy_of-in-Struct.ensures.rows)
-
-pub column::Column::try_clone-returns-in_ok-copy_of-in-Struct-clause-dtype :
-    goal.column::Column::try_clone-returns-in_ok-copy_of-in-Struct-clause-dtype
-column::Column::try_clone-returns-in_ok-copy_of-in-Struct-clause-dtype t c =
-    rw c.in-Struct.is (ap type_of c.into_column-in-Struct.ensures.column ∙ c.in_ok-copy_of-in-Struct.ensures.dtype)
-
-pub column::Column::try_clone-returns-in_ok-copy_of-in-Struct-clause-buffers :
-    goal.column::Column::try_clone-returns-in_ok-copy_of-in-Struct-clause-buffers
-column::Column::try_clone-returns-in_ok-copy_of-in-Struct-clause-buffers t c =
-    rw c.in-Struct.is (ap buffers_held c.into_column-in-Struct.ensures.column ∙ c.in_ok-copy_of-in-Struct.ensures.buffers)
+pub column::Column::try_clone-returns-in_ok-copy_of-in-Struct :
+    goal.column::Column::try_clone-returns-in_ok-copy_of-in-Struct
+column::Column::try_clone-returns-in_ok-copy_of-in-Struct t c =
+    let made = c.into_column-in-Struct.ensures in
+    let copy = c.in_ok-copy_of-in-Struct.ensures in
+    record {
+      rows = rw c.in-Struct.is (ap rows made.column ∙ copy.rows);
+      dtype = rw c.in-Struct.is (ap type_of made.column ∙ copy.dtype);
+      buffers = rw c.in-Struct.is (ap buffers_held made.column ∙ copy.buffers);
+      formed = search rules;
+      refusal = tt;
+    }

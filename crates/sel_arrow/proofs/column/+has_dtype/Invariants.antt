@@ -1,6 +1,5 @@
 use Rattle.std.proofs.Common.{◌≡◌, map, take}
-use Rattle.sel_arrow.specs.DataType.{shape_of}
-use Rattle.sel_arrow.specs.Rows.{type_of}
+use Rattle.sel_arrow.proofs.Common.{shape_of, type_of}
 use Rattle.sel_arrow.proofs.column.+has_dtype.Given as goal
 
 -- The columns so far have the given types.

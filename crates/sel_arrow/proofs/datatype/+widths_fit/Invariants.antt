@@ -1,6 +1,5 @@
 use Rattle.std.proofs.Common.{◌≡◌, true, take}
-use Rattle.std.specs.List.{list_all}
-use Rattle.sel_arrow.specs.DataType.{widths_fit}
+use Rattle.sel_arrow.proofs.Common.{list_all, widths_fit}
 use Rattle.sel_arrow.proofs.datatype.+widths_fit.Given as goal
 
 -- The list sizes in the types so far are in bounds.

@@ -1,7 +1,5 @@
 use Rattle.std.proofs.Common.{◌≡◌, map, take}
-use Rattle.std.specs.List.{All}
-use Rattle.sel_arrow.specs.DataType.{shape_of}
-use Rattle.sel_arrow.specs.Rows.{type_of, IsField}
+use Rattle.sel_arrow.proofs.Common.{All, shape_of, type_of, IsField}
 use Rattle.sel_arrow.proofs.empty.+empty_column.Given as goal
 
 -- The columns so far have the given types and no rows.

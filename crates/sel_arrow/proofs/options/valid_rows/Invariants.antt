@@ -1,6 +1,5 @@
 -- The validity of the rows so far.
-use Rattle.std.proofs.Common.{◌≡◌, map, take}
-use Rattle.std.specs.Prelude.{is_some}
+use Rattle.std.proofs.Common.{◌≡◌, map, take, is_some}
 use Rattle.sel_arrow.proofs.options.valid_rows.Given as goal
 
 abbrev pub invariant-loop-row : goal.invariant-loop-row

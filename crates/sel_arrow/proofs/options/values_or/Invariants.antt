@@ -1,6 +1,5 @@
 -- The rows so far, with `hidden` for each missing one.
-use Rattle.std.proofs.Common.{◌≡◌, map, take}
-use Rattle.std.specs.Prelude.{unwrap_or}
+use Rattle.std.proofs.Common.{◌≡◌, map, take, unwrap_or}
 use Rattle.sel_arrow.proofs.options.values_or.Given as goal
 
 abbrev pub invariant-loop-row : goal.invariant-loop-row

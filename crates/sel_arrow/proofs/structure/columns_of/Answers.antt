@@ -1,11 +1,7 @@
-use Rattle.std.proofs.Common.{◌≡◌, ◌∙◌, ap, sym, subst, map, All, List, get_or}
+use Rattle.std.proofs.Common.{◌≡◌, ◌∙◌, ap, sym, subst, map, All, List, get_or, map-id}
 use Rattle.std.proofs.lemmas.Iterator.Adapters.{YieldsList-from_vec}
 use Rattle.std.proofs.lemmas.Iterator.Consumers.{YieldsList-end}
-use Rattle.std.proofs.lemmas.List.{map-id}
-use Rattle.std.proofs.lemmas.List.Elements.{All-map}
-use Rattle.sel_arrow.specs.Rows.{IsWellFormed}
-use Rattle.sel_arrow.specs.declared.array_ref.ArrayRef.{ArrayRef}
-use Rattle.sel_arrow.specs.declared.column.Column.{Column}
+use Rattle.sel_arrow.proofs.Common.{All-map, IsWellFormed, ArrayRef, Column}
 use Rattle.sel_arrow.proofs.structure.columns_of.Goals as goal
 
 -- The loop visits all arrays.

@@ -1,6 +1,5 @@
 use Rattle.std.proofs.Common.{◌≡◌, ◌==◌, ◌∙◌, ap, sym, length, arith}
-use Rattle.sel_arrow.specs.Rows.{row_count}
-use Rattle.sel_arrow.specs.declared.array_ref.ArrayRef.{ArrayRef}
+use Rattle.sel_arrow.proofs.Common.{row_count, ArrayRef}
 use Rattle.sel_arrow.proofs.Lists.{all_more, all_of_them, none_at}
 use Rattle.sel_arrow.proofs.NestedMakers.{count_fits, count_differs}
 use Rattle.sel_arrow.proofs.structure.have_rows.Goals as goal

@@ -1,7 +1,6 @@
 -- The columns so far have `len` rows.
 use Rattle.std.proofs.Common.{◌≡◌, ◌==◌, true, take}
-use Rattle.std.specs.List.{list_all}
-use Rattle.sel_arrow.specs.Rows.{row_count}
+use Rattle.sel_arrow.proofs.Common.{list_all, row_count}
 use Rattle.sel_arrow.proofs.structure.have_rows.Given as goal
 
 abbrev pub invariant-loop-column : goal.invariant-loop-column

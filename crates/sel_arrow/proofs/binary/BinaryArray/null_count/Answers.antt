@@ -1,6 +1,5 @@
 use Rattle.std.proofs.Common.{sym}
-use Rattle.sel_arrow.specs.Columns.{binary_rows}
-use Rattle.sel_arrow.specs.Shape.{of_large_binary}
+use Rattle.sel_arrow.proofs.Common.{binary_rows, of_large_binary}
 use Rattle.sel_arrow.proofs.NullCounts.{nulls_none}
 use Rattle.sel_arrow.proofs.binary.BinaryArray.null_count.Goals as goal
 

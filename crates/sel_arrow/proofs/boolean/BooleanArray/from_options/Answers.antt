@@ -1,7 +1,5 @@
 use Rattle.std.proofs.Common.{◌∙◌, ap, map}
-use Rattle.sel_bits.specs.Bits.{Bits}
-use Rattle.sel_arrow.specs.Masked.{hidden}
-use Rattle.sel_arrow.specs.Value.{Truth}
+use Rattle.sel_arrow.proofs.Common.{Bits, hidden, Truth}
 use Rattle.sel_arrow.proofs.RowOptions.{truth_options}
 use Rattle.sel_arrow.proofs.boolean.BooleanArray.from_options.Goals as goal
 

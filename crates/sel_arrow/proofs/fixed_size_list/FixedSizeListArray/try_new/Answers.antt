@@ -1,6 +1,5 @@
 use Rattle.std.proofs.Common.{ap, sym, ◌∙◌, length}
-use Rattle.sel_arrow.specs.Makers.{block_fault}
-use Rattle.sel_arrow.specs.Rows.{rows, well_formed}
+use Rattle.sel_arrow.proofs.Common.{block_fault, rows, well_formed}
 use Rattle.sel_arrow.proofs.NestedMakers.{blocks_make}
 use Rattle.sel_arrow.proofs.NestedRows.{length-rows}
 use Rattle.sel_arrow.proofs.fixed_size_list.FixedSizeListArray.try_new.Goals as goal

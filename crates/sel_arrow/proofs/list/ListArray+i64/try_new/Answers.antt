@@ -1,6 +1,5 @@
 use Rattle.std.proofs.Common.{ap, sym, ◌∙◌, length}
-use Rattle.sel_arrow.specs.Makers.{list_fault}
-use Rattle.sel_arrow.specs.Rows.{rows, well_formed}
+use Rattle.sel_arrow.proofs.Common.{list_fault, rows, well_formed}
 use Rattle.sel_arrow.proofs.NestedMakers.{lists_make}
 use Rattle.sel_arrow.proofs.NestedRows.{length-rows}
 use Rattle.sel_arrow.proofs.list.ListArray+i64.try_new.Goals as goal

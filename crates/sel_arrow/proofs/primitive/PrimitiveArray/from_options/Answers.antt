@@ -1,6 +1,5 @@
 use Rattle.std.proofs.Common.{◌∙◌, map}
-use Rattle.sel_arrow.specs.Masked.{hidden}
-use Rattle.sel_arrow.specs.Value.{Number}
+use Rattle.sel_arrow.proofs.Common.{hidden, Number}
 use Rattle.sel_arrow.proofs.RowOptions.{number_options}
 use Rattle.sel_arrow.proofs.primitive.PrimitiveArray.from_options.Goals as goal
 

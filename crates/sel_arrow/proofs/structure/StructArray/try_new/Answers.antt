@@ -1,10 +1,5 @@
 use Rattle.std.proofs.Common.{◌≡◌, ◌==◌, ◌∙◌, ap, sym, map, Bool, List, ℕ}
-use Rattle.std.specs.List.{list_all}
-use Rattle.std.proofs.lemmas.List.Folds.{list_all-map}
-use Rattle.sel_arrow.specs.Makers.{struct_length_fault}
-use Rattle.sel_arrow.specs.Rows.{row_count}
-use Rattle.sel_arrow.specs.declared.array_ref.ArrayRef.{ArrayRef}
-use Rattle.sel_arrow.specs.declared.column.Column.{Column}
+use Rattle.sel_arrow.proofs.Common.{list_all, list_all-map, struct_length_fault, row_count, ArrayRef, Column}
 use Rattle.sel_arrow.proofs.NestedMakers.{tuples_make}
 use Rattle.sel_arrow.proofs.structure.StructArray.try_new.Goals as goal
 
