@@ -3,9 +3,11 @@ pub mod Collected
 pub mod Depths
 pub mod FieldsOf
 pub mod Fits
+pub mod FlatItems
 pub mod Gathers
 pub mod Grown
 pub mod Hiding
+pub mod ItemPicks
 pub mod ItemRuns
 pub mod JoinedRows
 pub mod KeptBlocks

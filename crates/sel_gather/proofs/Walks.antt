@@ -12,7 +12,7 @@ use Rattle.sel_bits.specs.declared.faults.PolarsError.{PolarsError}
 use Rattle.sel_arrow.specs.Masked.{valid_at}
 use Rattle.sel_arrow.specs.Nulls.{IsValidityOf}
 use Rattle.sel_arrow.specs.Rows.{rows, type_of, IsWellFormed}
-use Rattle.sel_arrow.specs.Shape.{Shape, of_null, of_large_list}
+use Rattle.sel_arrow.specs.Shape.{Shape, of_null, of_fixed_size_list, of_large_list}
 use Rattle.sel_arrow.specs.Value.{Value, Null, is_valid, validities}
 use Rattle.sel_arrow.specs.declared.column.Column.{Column}
 use Rattle.sel_gather.specs.Children.{child, is_listing, joined_items}
@@ -25,7 +25,7 @@ use Rattle.sel_gather.specs.Steps.{AreValidities}
 use Rattle.sel_gather.specs.Runs.{unrolled}
 use Rattle.sel_gather.specs.Sources.{columns_of}
 use Rattle.sel_gather.specs.declared.runs.Run.{Run}
-use Rattle.sel_gather.proofs.Below.{Recurses, child_type, items_recurse, mapped_now}
+use Rattle.sel_gather.proofs.Below.{Recurses, block_child_type, child_type, items_recurse, mapped_now}
 use Rattle.sel_gather.proofs.Gathers.{left_behind}
 use Rattle.sel_gather.proofs.ItemRuns.{rows_of, below_of, joined-append, ends-append}
 use Rattle.sel_gather.proofs.RunLists.{All-left, length-unrolled}
@@ -162,6 +162,15 @@ none_told (c ∷ cs) none = (none 0 c (omega arith), none_told cs (λ k d h. non
 
 pub lists_known : (s : Shape) (cs : List (Bor Column)) → All (λ c. type_of c.now ≡ of_large_list s) cs → All (λ c. type_of c.now ≢ of_null) cs
 lists_known s cs alike k d h none = let bad : of_large_list s ≡ of_null = sym (alike k d h) ∙ none in absurd cc
+
+pub blocks_known : (s : Shape) (w : ℕ) (cs : List (Bor Column)) → All (λ c. type_of c.now ≡ of_fixed_size_list s w) cs → All (λ c. type_of c.now ≢ of_null) cs
+blocks_known s w cs alike k d h none = let bad : of_fixed_size_list s w ≡ of_null = sym (alike k d h) ∙ none in absurd cc
+
+pub blocks_child : (s : Shape) (w : ℕ) (cs : List (Bor Column)) → All (λ c. type_of c.now ≡ of_fixed_size_list s w) cs → All (λ c. type_of (child c.now) ≡ s) cs
+blocks_child s w cs alike = λ k d h. block_child_type (get_or cs k d).now s w (alike k d h)
+
+pub blocks_listing : (s : Shape) (w : ℕ) (cs : List (Bor Column)) → All (λ c. type_of c.now ≡ of_fixed_size_list s w) cs → All (λ c. is_listing (type_of c.now) ≡ true) cs
+blocks_listing s w cs alike = λ k d h. ap is_listing (alike k d h)
 
 pub lists_child : (s : Shape) (cs : List (Bor Column)) → All (λ c. type_of c.now ≡ of_large_list s) cs → All (λ c. type_of (child c.now) ≡ s) cs
 lists_child s cs alike = λ k d h. child_type (get_or cs k d).now s (alike k d h)

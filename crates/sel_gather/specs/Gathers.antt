@@ -1,5 +1,6 @@
 -- The precondition of gathering rows from several columns, and what each gather returns.
-use Rattle.std.specs.Prelude.{◌≡◌, ◌≤◌, ℕ, All, List, Option, Result, IfErr, IfOk, length}
+use Rattle.std.specs.Prelude.{◌≡◌, ◌≤◌, ℕ, All, List, Option, Result, IfErr, IfOk, IfSome}
+use Rattle.std.specs.Prelude.{length}
 use Rattle.std.specs.Borrow.{Bor}
 use Rattle.sel_bits.specs.Limits.{max_rows}
 use Rattle.sel_bits.specs.declared.faults.Limit.{Limit}
@@ -39,6 +40,16 @@ pub record Collects (result : Result Column PolarsError) (shape : Shape) (column
   pub dtype : IfOk result (λ column. type_of column ≡ shape)
   pub formed : IfOk result (λ column. IsWellFormed column)
   pub within : IfOk result (λ column. ExceedsNone (exceeded_taken shape columns values))
+  pub refusal : IfErr result (IsLimitOrMemory (exceeded_taken shape columns values))
+
+-- The same, or no column.
+pub record CollectsSome (result : Result (Option Column) PolarsError) (shape : Shape)
+    (columns : List Column) (values : List Value) : Type 0 where
+  pub rows : IfOk result (λ made. IfSome made (λ column. rows column ≡ values))
+  pub dtype : IfOk result (λ made. IfSome made (λ column. type_of column ≡ shape))
+  pub formed : IfOk result (λ made. IfSome made (λ column. IsWellFormed column))
+  pub within : IfOk result
+      (λ made. IfSome made (λ column. ExceedsNone (exceeded_taken shape columns values)))
   pub refusal : IfErr result (IsLimitOrMemory (exceeded_taken shape columns values))
 
 -- The same for rows of one column of this type. The data buffers of views are those of the column.

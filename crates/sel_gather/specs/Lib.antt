@@ -3,6 +3,7 @@ pub mod Cleared
 pub mod Ends
 pub mod Gathers
 pub mod GrownBytes
+pub mod ItemPicks
 pub mod JoinedBytes
 pub mod KeptPicks
 pub mod Need

@@ -189,7 +189,16 @@ fn collect_blocks<'a>(
         return Err(PolarsError::SizeLimit(Limit::Rows));
     }
     let values = collect_items(alloc, child, sources, runs, size as u32, need as usize)?;
-    let column = blocks_over(alloc, size, values, sources, runs, len)?;
+    let plan = RunRefs {
+        first: Run {
+            source: Some(0),
+            start: 0,
+            len: 0,
+        },
+        rest: runs,
+        left: len,
+    };
+    let column = blocks_over(alloc, size, values, sources, &plan)?;
     Ok(column)
 }
 

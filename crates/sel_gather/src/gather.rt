@@ -1,12 +1,13 @@
 //! Gathers rows from several columns of one type at the row references of a plan.
 //!
-//! Integers and booleans are gathered one row reference at a time. Lists are read once, and only
-//! the runs of their items are built. For all other types the row references are first converted to
-//! runs, since nested rows are copied by runs too.
+//! Integers and booleans are gathered one row reference at a time, and fixed-size lists of them list
+//! by list. Lists are read once, and only the runs of their items are built. For all other types the
+//! row references are first converted to runs, since nested rows are copied by runs too.
 
-ghost use Rattle.std.specs.Prelude.{◌≡◌, ◌<◌, All, length};
+ghost use Rattle.std.specs.Prelude.{◌≡◌, ◌≤◌, ◌<◌, All, length};
+ghost use Rattle.sel_bits.specs.Limits.{max_rows};
 ghost use Rattle.sel_arrow.specs.Rows.{type_of, IsWellFormed};
-ghost use Rattle.sel_arrow.specs.Shape.{of_large_list};
+ghost use Rattle.sel_arrow.specs.Shape.{of_fixed_size_list, of_large_list};
 ghost use Rattle.sel_arrow.specs.Value.{Null};
 ghost use Rattle.sel_gather.specs.Gathers.{Collects, GathersFrom, MayGather};
 ghost use Rattle.sel_gather.specs.Picks.{pick, PickFits};
@@ -14,6 +15,7 @@ ghost use Rattle.sel_gather.specs.Sources.{columns_of, first_type, rows_of};
 
 use crate::boolean::gather_boolean;
 use crate::copy::{collect_children, collect_runs};
+use crate::flat_lists::{gather_flat_blocks, gather_flat_lists};
 use crate::list_walk::walk_lists;
 use crate::nested::lists_over;
 use crate::primitive::gather_primitive;
@@ -85,6 +87,74 @@ pub fn collect_plan<'a, P: Plan>(
     gather_like(alloc, first, sources, plan)
 }
 
+/// Returns the same rows as [`collect_plan`], for row references that rise within each source.
+///
+/// Lists of integers or booleans are read twice, so that the runs of their items need no memory. In
+/// a random order that would take longer.
+///
+/// # Requires
+/// What `collect_plan` requires. That the row references rise is not required, but faster.
+///
+/// # Errors
+/// Those of `collect_rows`.
+pub fn collect_rising<'a, P: Plan>(
+    alloc: Global,
+    sources: &'a [&'a Column],
+    plan: &P,
+) -> PolarsResult<Column>
+    requires some { 0 < length sources.now }
+    requires alike { All (λ c. type_of c.now ≡ first_type (columns_of sources.now)) sources.now }
+    requires formed { All (λ c. IsWellFormed c.now) sources.now }
+    requires fits { All (PickFits (rows_of sources.now)) (P.picks plan.now) }
+    ensures { Collects result (first_type (columns_of sources.now))
+        (columns_of sources.now) (pick Null (rows_of sources.now) (P.picks plan.now)) }
+{
+    let first: &Column = sources[0];
+    gather_rising(alloc, first, sources, plan)
+}
+
+// Returns the rows for columns of the type of `first`, by row references that rise.
+fn gather_rising<'a, P: Plan>(
+    alloc: Global,
+    first: &Column,
+    sources: &'a [&'a Column],
+    plan: &P,
+) -> PolarsResult<Column>
+    requires kind { first_type (columns_of sources.now) ≡ type_of first.now }
+    requires first { IsWellFormed first.now }
+    requires some { 0 < length sources.now }
+    requires alike { All (λ c. type_of c.now ≡ type_of first.now) sources.now }
+    requires formed { All (λ c. IsWellFormed c.now) sources.now }
+    requires fits { All (PickFits (rows_of sources.now)) (P.picks plan.now) }
+    ensures { Collects result (type_of first.now)
+        (columns_of sources.now) (pick Null (rows_of sources.now) (P.picks plan.now)) }
+{
+    match first {
+        Column::LargeList { values, .. } => gather_rising_lists(alloc, values, sources, plan),
+        _ => gather_like(alloc, first, sources, plan),
+    }
+}
+
+// Returns the lists at row references that rise; `child` has the type of their items.
+fn gather_rising_lists<'a, P: Plan>(
+    alloc: Global,
+    child: &Column,
+    sources: &'a [&'a Column],
+    plan: &P,
+) -> PolarsResult<Column>
+    requires child { IsWellFormed child.now }
+    requires alike { All (λ c. type_of c.now ≡ of_large_list (type_of child.now)) sources.now }
+    requires formed { All (λ c. IsWellFormed c.now) sources.now }
+    requires fits { All (PickFits (rows_of sources.now)) (P.picks plan.now) }
+    ensures { Collects result (of_large_list (type_of child.now))
+        (columns_of sources.now) (pick Null (rows_of sources.now) (P.picks plan.now)) }
+{
+    if let Some(column) = gather_flat_lists(alloc, child, sources, plan)? {
+        return Ok(column);
+    }
+    gather_lists(alloc, child, sources, plan)
+}
+
 // Returns the rows for columns of the type of `first`, by row references if the type supports it.
 fn gather_like<'a, P: Plan>(
     alloc: Global,
@@ -114,6 +184,9 @@ fn gather_like<'a, P: Plan>(
         Column::UInt64(_) => gather_primitive::<P, u64>(alloc, sources, plan),
         Column::UInt128(_) => gather_primitive::<P, u128>(alloc, sources, plan),
         Column::LargeList { values, .. } => gather_lists(alloc, values, sources, plan),
+        Column::FixedSizeList { size, values, .. } => {
+            gather_blocks(alloc, *size, values, sources, plan)
+        }
         _ => collect_listed(alloc, sources, plan),
     }
 }
@@ -163,4 +236,31 @@ pub fn gather_lists<'a, P: Plan>(
     drop(below);
     let column = lists_over(alloc, values, ends, sources, plan)?;
     Ok(column)
+}
+
+// Returns the fixed-size lists at the row references of `plan`; `child` has the type of their
+// items.
+fn gather_blocks<'a, P: Plan>(
+    alloc: Global,
+    size: usize,
+    child: &Column,
+    sources: &'a [&'a Column],
+    plan: &P,
+) -> PolarsResult<Column>
+    requires narrow { size ≤ max_rows }
+    requires kind { first_type (columns_of sources.now) ≡
+        of_fixed_size_list (type_of child.now) size }
+    requires child { IsWellFormed child.now }
+    requires some { 0 < length sources.now }
+    requires alike { All (λ c. type_of c.now ≡
+        of_fixed_size_list (type_of child.now) size) sources.now }
+    requires formed { All (λ c. IsWellFormed c.now) sources.now }
+    requires fits { All (PickFits (rows_of sources.now)) (P.picks plan.now) }
+    ensures { Collects result (of_fixed_size_list (type_of child.now) size)
+        (columns_of sources.now) (pick Null (rows_of sources.now) (P.picks plan.now)) }
+{
+    if let Some(column) = gather_flat_blocks(alloc, size, child, sources, plan)? {
+        return Ok(column);
+    }
+    collect_listed(alloc, sources, plan)
 }

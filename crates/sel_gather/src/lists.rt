@@ -7,6 +7,7 @@ ghost use Rattle.sel_arrow.specs.Nested.{list_of};
 ghost use Rattle.sel_arrow.specs.Rows.{rows, type_of, IsWellFormed};
 ghost use Rattle.sel_arrow.specs.Value.{Null};
 ghost use Rattle.sel_gather.specs.Children.{child, is_listing, items_in, joined_items};
+ghost use Rattle.sel_gather.specs.ItemPicks.{item_picks, part_of};
 ghost use Rattle.sel_gather.specs.Picks.{pick, PickFits};
 ghost use Rattle.sel_gather.specs.Runs.{expand, unrolled};
 ghost use Rattle.sel_gather.specs.Sources.{picked, rows_of};
@@ -56,6 +57,7 @@ fn part_of_row(column: &Column, i: usize) -> Option<(u32, u32)>
     requires lists { is_listing (type_of column.now) ≡ true }
     requires formed { IsWellFormed column.now }
     requires inside { i < length (rows column.now) }
+    ensures part { result ≡ part_of column.now i }
     ensures null { IfNone result (slice_index_or (rows column.now) i Null ≡ Null) }
     ensures row { IfSome result (λ part. slice_index_or (rows column.now) i Null ≡
         list_of (take part.1 (drop part.0 (rows (child column.now))))) }
@@ -80,6 +82,32 @@ fn part_of_row(column: &Column, i: usize) -> Option<(u32, u32)>
             Some(((i * *size) as u32, *size as u32))
         }
         _ => unreachable!(),
+    }
+}
+
+/// Returns the run of the items of the list that a row reference refers to; `width` nulls if the
+/// reference or the list is null.
+///
+/// # Requires
+/// All sources are well-formed list or fixed-size list columns, and a reference that is not null
+/// refers to a row of a source.
+#[inline(always)]
+pub(crate) fn run_of_list(sources: &[&Column], pick: Option<(u32, u32)>, width: u32) -> Run
+    requires lists { All (λ c. is_listing (type_of c.now) ≡ true) sources.now }
+    requires formed { All (λ c. IsWellFormed c.now) sources.now }
+    requires fits { PickFits (rows_of sources.now) pick }
+    ensures { unrolled result ≡ item_picks sources.now width pick }
+{
+    let Some((source, row)) = pick else {
+        return nulls_of(width);
+    };
+    match part_of_row(sources[source as usize], row as usize) {
+        None => nulls_of(width),
+        Some((start, len)) => Run {
+            source: Some(source),
+            start,
+            len,
+        },
     }
 }
 

@@ -65,38 +65,42 @@ pub fn lists_over<P: Plan>(
     })
 }
 
-/// Returns the fixed-size lists that runs refer to, over their concatenated items `values`.
+/// Returns the fixed-size lists at the row references of a plan, over their concatenated items
+/// `values`.
 ///
 /// # Requires
 /// All sources are well-formed fixed-size list columns with list size `size`, at most 2^32 - 1,
-/// whose child has the type of `values`, and every run is within the rows of its source. The runs
-/// have `len` rows in total, at most 2^32 - 1. `values` is well-formed and has the items of these
-/// lists, in order, with `size` nulls for each null list.
+/// whose child has the type of `values`, and every non-null row reference refers to a row of a
+/// source. `values` is well-formed and has the items of these lists, in order, with `size` nulls
+/// for each null list.
 ///
 /// # Errors
 /// `OutOfMemory` if an allocation fails.
-pub fn blocks_over(
+pub fn blocks_over<P: Plan>(
     alloc: Global,
     size: usize,
     values: Column,
     sources: &[&Column],
-    runs: &[Run],
-    len: usize,
+    plan: &P,
 ) -> PolarsResult<Column>
     requires lists { All (λ c. type_of c.now ≡
         of_fixed_size_list (type_of values) size) sources.now }
-    requires may { MayGather sources.now (expand runs.now) len }
+    requires formed { All (λ c. IsWellFormed c.now) sources.now }
+    requires fits { All (PickFits (rows_of sources.now)) (P.picks plan.now) }
     requires narrow { size ≤ max_rows }
-    requires below { rows values ≡ joined_items size (picked sources.now runs.now) }
+    requires below { rows values ≡
+        joined_items size (pick Null (rows_of sources.now) (P.picks plan.now)) }
     requires child { IsWellFormed values }
-    ensures rows { IfOk result (λ column. rows column ≡ picked sources.now runs.now) }
+    ensures rows { IfOk result (λ column. rows column ≡
+        pick Null (rows_of sources.now) (P.picks plan.now)) }
     ensures dtype { IfOk result (λ column. type_of column ≡
         of_fixed_size_list (type_of values) size) }
     ensures formed { IfOk result (λ column. IsWellFormed column) }
     ensures refusal { IfErr result IsOutOfMemory }
 {
+    let len = plan.len();
     let values = Box::new(alloc, values)?;
-    let validity = collect_validity(alloc, sources, runs, len)?;
+    let validity = gather_validity(alloc, sources, plan)?;
     Ok(Column::FixedSizeList {
         size,
         len,

@@ -88,8 +88,8 @@ pub fn gather_validity<P: Plan>(
     validity_at(alloc, plan, &maps)
 }
 
-// Returns whether some source has a validity.
-fn has_validity(sources: &[&Column]) -> bool
+/// Returns whether some source has a validity.
+pub(crate) fn has_validity(sources: &[&Column]) -> bool
     requires { All (λ c. IsWellFormed c.now) sources.now }
     ensures { result ≡ false →
         All (λ c. IsValidityOf (type_of c.now) None (rows c.now)) sources.now }

@@ -35,6 +35,9 @@ collect_like-invariant_of-plan t c = record { count = c.requires.may.len; few = 
 pub collect_lists-invariant_of-plan : goal.collect_lists-invariant_of-plan
 collect_lists-invariant_of-plan t c = record { count = c.requires.may.len; few = c.requires.may.few; near = near_may c.args.sources.now (expand c.args.runs.now) c.args.len c.requires.may }
 
+pub collect_blocks-invariant_of-plan : goal.collect_blocks-invariant_of-plan
+collect_blocks-invariant_of-plan t c = record { count = c.requires.may.len; few = c.requires.may.few; near = near_may c.args.sources.now (expand c.args.runs.now) c.args.len c.requires.may }
+
 -- ---- lists
 
 pub collect_lists-collect_children-requires : goal.collect_lists-collect_children-requires

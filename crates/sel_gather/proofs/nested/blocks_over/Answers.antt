@@ -1,28 +1,36 @@
-use Rattle.std.proofs.Common.{◌≡◌, ◌∙◌, true, ap}
+use Rattle.std.proofs.Common.{◌≡◌, ◌∙◌, true, ap, arith, length}
 use Rattle.sel_arrow.specs.Rows.{rows, type_of, well_formed}
 use Rattle.sel_arrow.specs.Value.{Null}
 use Rattle.sel_gather.specs.Picks.{pick}
-use Rattle.sel_gather.specs.Runs.{expand}
 use Rattle.sel_gather.specs.Children.{joined_items}
 use Rattle.sel_arrow.proofs.NestedRows.{blocks_formed}
 use Rattle.sel_gather.proofs.ItemRuns.{rows_of}
 use Rattle.sel_gather.proofs.Layouts.{picked_blocks}
 use Rattle.sel_gather.proofs.Rebuilt.{blocks_rebuilt, blocks_fit}
 use Rattle.sel_gather.proofs.RunLists.{length-pick}
+use Rattle.sel_gather.proofs.Walks.{blocks_known}
 use Rattle.sel_gather.proofs.nested.blocks_over.Goals as goal
 
+pub gather_validity-requires-clause-known : goal.gather_validity-requires-clause-known
+gather_validity-requires-clause-known g c = blocks_known (type_of c.args.values) c.args.size c.args.sources.now c.requires.lists
+
 pub returns-clause-rows : goal.returns-clause-rows
-returns-clause-rows c =
-    let vs = pick Null (rows_of c.args.sources.now) (expand c.args.runs.now) in
+returns-clause-rows g c =
+    let ps = g.P.Plan.picks c.args.plan.now in
+    let vs = pick Null (rows_of c.args.sources.now) ps in
     let below : rows c.in_ok-values.values.value ≡ joined_items c.args.size vs = ap rows c.in_ok-values.ensures.ok ∙ c.requires.below in
-    blocks_rebuilt c.args.size vs (rows c.in_ok-values.values.value) c.in_ok-validity.validity c.args.len (picked_blocks c.args.sources.now (type_of c.args.values) c.args.size (expand c.args.runs.now) c.requires.lists c.requires.may.formed)
-    (length-pick Null (rows_of c.args.sources.now) (expand c.args.runs.now) ∙ c.requires.may.len) below c.in_ok-validity.ensures.bits
+    let long : length vs ≡ c.len-len.result = omega (arith, length-pick Null (rows_of c.args.sources.now) ps, c.len-len.ensures.len) in
+    let bits = c.in_ok-validity.ensures.bits in
+    blocks_rebuilt c.args.size vs (rows c.in_ok-values.values.value) c.in_ok-validity.validity c.len-len.result (picked_blocks c.args.sources.now (type_of c.args.values) c.args.size ps c.requires.lists c.requires.formed)
+    long below (rw c.len-len.ensures.len bits)
 
 pub returns-clause-formed : goal.returns-clause-formed
-returns-clause-formed c =
-    let vs = pick Null (rows_of c.args.sources.now) (expand c.args.runs.now) in
+returns-clause-formed g c =
+    let ps = g.P.Plan.picks c.args.plan.now in
+    let vs = pick Null (rows_of c.args.sources.now) ps in
     let below : rows c.in_ok-values.values.value ≡ joined_items c.args.size vs = ap rows c.in_ok-values.ensures.ok ∙ c.requires.below in
     let formed : well_formed c.in_ok-values.values.value ≡ true = ap well_formed c.in_ok-values.ensures.ok ∙ c.requires.child in
-    blocks_formed c.args.size c.args.len c.in_ok-values.values.value c.in_ok-validity.validity
-    (blocks_fit c.args.size vs c.in_ok-values.values.value c.in_ok-validity.validity c.args.len (picked_blocks c.args.sources.now (type_of c.args.values) c.args.size (expand c.args.runs.now) c.requires.lists c.requires.may.formed)
-    (length-pick Null (rows_of c.args.sources.now) (expand c.args.runs.now) ∙ c.requires.may.len) c.requires.may.few c.requires.narrow below c.in_ok-validity.ensures.covers formed)
+    let long : length vs ≡ c.len-len.result = omega (arith, length-pick Null (rows_of c.args.sources.now) ps, c.len-len.ensures.len) in
+    blocks_formed c.args.size c.len-len.result c.in_ok-values.values.value c.in_ok-validity.validity
+    (blocks_fit c.args.size vs c.in_ok-values.values.value c.in_ok-validity.validity c.len-len.result (picked_blocks c.args.sources.now (type_of c.args.values) c.args.size ps c.requires.lists c.requires.formed)
+    long (omega (arith, c.len-len.ensures.len, c.len-len.ensures.few)) c.requires.narrow below (rw c.len-len.ensures.len c.in_ok-validity.ensures.covers) formed)
